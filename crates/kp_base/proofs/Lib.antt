@@ -1,0 +1,5 @@
+pub mod Decimals
+pub mod KeyOrder
+pub mod Maps
+pub mod Pieces
+pub mod Printed

@@ -1,0 +1,4 @@
+pub mod Dotted
+pub mod Grammar
+pub mod Keys
+pub mod Net

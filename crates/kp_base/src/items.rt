@@ -1,0 +1,74 @@
+//! Lists that contracts see as lists.
+ghost use Rattle.std.specs.Prelude.{◌≡◌, [], ◌∷◌, ◌++◌, OnOk, OnErr, IfErr};
+
+use crate::memory::{Copied, NoMemory};
+use std::alloc::Global;
+use std::marker::Model;
+
+/// A list that grows at its end.
+#[derive(Drop)]
+pub struct Items<T> {
+    inner: Vec<T>,
+}
+
+impl<T> Model for Items<T> {
+    ghost use Rattle.std.specs.Prelude.{List};
+
+    ghost Value = { List T };
+
+    ghost view = { λ v. v.inner.items };
+}
+
+impl<T> Items<T> {
+    /// The empty list.
+    pub fn new(alloc: Global) -> Items<T>
+        ensures { result ≡ [] }
+    {
+        Items {
+            inner: Vec::new(alloc),
+        }
+    }
+
+    /// The elements.
+    pub fn as_slice(&self) -> &[T]
+        ensures { result.now ≡ self.now }
+    {
+        self.inner.as_slice()
+    }
+
+    /// Adds an element at the end, or hands it back where memory is out.
+    pub fn push(&mut self, item: T) -> Result<(), (NoMemory, T)>
+        ensures ok { OnOk result (self.new ≡ self.old ++ item ∷ []) }
+        ensures err { OnErr result (self.new ≡ self.old) }
+        ensures back { IfErr result (λ e. e.1 ≡ item) }
+    {
+        match self.inner.push(item) {
+            Ok(()) => Ok(()),
+            Err(refused) => Err((NoMemory, refused.value)),
+        }
+    }
+
+    /// The list of a vector's elements.
+    pub fn from_vec(items: Vec<T>) -> Items<T>
+        ensures { result ≡ items.items }
+    {
+        Items { inner: items }
+    }
+
+    /// The vector of the elements.
+    pub fn into_vec(self) -> Vec<T>
+        ensures { result.items ≡ self }
+    {
+        self.inner
+    }
+}
+
+impl<T: Copied> Copied for Items<T> {
+    fn copy(&self, alloc: Global) -> Result<Items<T>, NoMemory> {
+        let mut copies = Vec::new(alloc);
+        for item in self.as_slice() {
+            copies.push(item.copy(alloc)?)?;
+        }
+        Ok(Items::from_vec(copies))
+    }
+}

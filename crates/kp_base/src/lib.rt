@@ -1,0 +1,31 @@
+//! Values that every crate of the proxy speaks of: text, lists, addresses, ranges, keys and the
+//! configuration of a node.
+#![tactic(auto)]
+
+mod address;
+mod config;
+mod dotted;
+mod grammar;
+mod items;
+mod key;
+mod memory;
+mod number;
+mod port;
+mod range;
+mod split;
+mod steps;
+#[cfg(test)]
+mod tests;
+mod text;
+
+pub use address::{Address, BadAddress, Family};
+pub use config::Config;
+pub use dotted::printed_addresses_are_read;
+pub use grammar::{is_label_value, is_name, is_port_name};
+pub use items::Items;
+pub use key::{Endpoint, ObjectKey, Pair, PortKey};
+pub use memory::{Copied, NoMemory};
+pub use port::{PortNo, Proto};
+pub use range::{BadCidr, Cidr};
+pub use steps::Steps;
+pub use text::Text;

@@ -1,0 +1,20 @@
+//! Texts cut at a byte.
+ghost use Rattle.std.specs.Prelude.{◌≡◌, ◌==◌, option_map, position};
+ghost use Rattle.kp_base.specs.Dotted as spec;
+
+/// What stands before the first such byte and behind it, where there is one.
+pub fn split_once(text: &[u8], byte: u8) -> Option<(&[u8], &[u8])>
+    ensures { option_map (λ p. (p.0.now, p.1.now)) result ≡ spec.split_once byte text.now }
+{
+    let at = position_of(text, byte)?;
+    let (before, rest) = text.split_at(at);
+    let (_, behind) = rest.split_at(1);
+    Some((before, behind))
+}
+
+/// The first place of the byte.
+fn position_of(text: &[u8], byte: u8) -> Option<usize>
+    ensures { result ≡ position (λ b. b == byte) text.now }
+{
+    text.iter().position(|b| *b == byte)
+}
