@@ -1,0 +1,3 @@
+pub mod ChainBytes
+pub mod ChainOrder
+pub mod RuleEquality

@@ -1,0 +1,70 @@
+//! What the proxy knows of Services and their ports.
+ghost use Rattle.std.specs.Prelude.{◌≡◌, IfOk};
+
+use crate::lists::Lists;
+use crate::service::{Policy, Service};
+use crate::slice::{Slice, Wanted};
+use kp_base::{Address, Cidr, Copied, Items, NoMemory, PortKey, PortNo};
+use std::alloc::Global;
+
+/// A Service and what its endpoints are taken from: the endpoints that the controller wants for it, and slices.
+#[derive(Drop)]
+pub struct ServiceSources {
+    pub service: Service,
+    pub wanted: Items<Wanted>,
+    pub slices: Items<Slice>,
+}
+
+/// One Service port in one address family, as kube-proxy's service port info: its destinations, its policies
+/// and its endpoints.
+#[derive(Drop)]
+pub struct PortInfo {
+    pub key: PortKey,
+    /// The port of the cluster address, the external and the load-balancer addresses.
+    pub number: PortNo,
+    /// The cluster address.
+    pub address: Address,
+    /// The external addresses, each once.
+    pub external: Items<Address>,
+    /// The load-balancer addresses that count, each once.
+    pub balancer: Items<Address>,
+    /// The node port, where it counts.
+    pub node_port: Option<PortNo>,
+    /// The source ranges of the load balancer, each once, where there is a restriction.
+    pub ranges: Option<Items<Cidr>>,
+    /// The timeout of session affinity by client address, in seconds, where it is on.
+    pub affinity: Option<u32>,
+    /// The internal traffic policy.
+    pub internal: Policy,
+    /// The external traffic policy.
+    pub outer: Policy,
+    pub lists: Lists,
+}
+
+impl Copied for ServiceSources {
+    fn copy(&self, alloc: Global) -> Result<ServiceSources, NoMemory> {
+        Ok(ServiceSources {
+            service: self.service.copy(alloc)?,
+            wanted: self.wanted.copy(alloc)?,
+            slices: self.slices.copy(alloc)?,
+        })
+    }
+}
+
+impl Copied for PortInfo {
+    fn copy(&self, alloc: Global) -> Result<PortInfo, NoMemory> {
+        Ok(PortInfo {
+            key: self.key.copy(alloc)?,
+            number: self.number,
+            address: self.address,
+            external: self.external.copy(alloc)?,
+            balancer: self.balancer.copy(alloc)?,
+            node_port: self.node_port,
+            ranges: self.ranges.copy(alloc)?,
+            affinity: self.affinity,
+            internal: self.internal,
+            outer: self.outer,
+            lists: self.lists.copy(alloc)?,
+        })
+    }
+}

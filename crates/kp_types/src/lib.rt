@@ -1,0 +1,31 @@
+//! The data that definitions and crates share: objects of the cluster, endpoints, chains and rules, packets
+//! and what becomes of them.
+#![tactic(auto)]
+
+mod chain;
+mod decision;
+mod event;
+mod info;
+mod lists;
+mod packet;
+mod pod;
+mod rule;
+mod service;
+mod slice;
+#[cfg(test)]
+mod tests;
+mod verdict;
+mod walk;
+
+pub use chain::{ChainAt, ChainKey, ChainName, Clash, PortChain, TableName};
+pub use decision::{ChosenBy, Decision, DoorKind, ListKind, Reason};
+pub use event::{Event, Kind, Object};
+pub use info::{PortInfo, ServiceSources};
+pub use lists::{Candidate, Lists};
+pub use packet::{Origin, Packet};
+pub use pod::{ContainerPort, Node, Pod};
+pub use rule::{Batch, ChainText, Edit, Match, Rule, Target};
+pub use service::{ClusterAddress, Policy, Service, ServiceKind, ServicePort, TargetPort};
+pub use slice::{AddressType, Slice, SliceEndpoint, SlicePort, Wanted};
+pub use verdict::{Answer, Pass, Trail, Verdict};
+pub use walk::Ending;

@@ -1,0 +1,72 @@
+//! Pods and Nodes (Kubernetes API, Pod v1 and Node v1).
+ghost use Rattle.std.specs.Prelude.{◌≡◌, IfOk};
+
+use kp_base::{Address, Copied, Items, NoMemory, ObjectKey, Pair, PortNo, Proto, Text};
+use std::alloc::Global;
+
+/// One entry of a container's `ports`.
+#[derive(Drop)]
+pub struct ContainerPort {
+    pub name: Text,
+    pub proto: Proto,
+    pub port: PortNo,
+}
+
+/// A Pod.
+#[derive(Drop)]
+pub struct Pod {
+    pub key: ObjectKey,
+    /// The labels, in byte order of the keys.
+    pub labels: Items<Pair>,
+    /// Whether `metadata.deletionTimestamp` is set.
+    pub deleting: bool,
+    pub node: Option<Text>,
+    /// The ports of all containers, in their order.
+    pub ports: Items<ContainerPort>,
+    /// Whether the phase is Succeeded or Failed.
+    pub finished: bool,
+    pub address: Option<Address>,
+    /// Whether the first condition of type Ready is True.
+    pub ready: bool,
+}
+
+/// A Node.
+#[derive(Drop)]
+pub struct Node {
+    pub name: Text,
+    pub zone: Option<Text>,
+}
+
+impl Copied for ContainerPort {
+    fn copy(&self, alloc: Global) -> Result<ContainerPort, NoMemory> {
+        Ok(ContainerPort {
+            name: self.name.copy(alloc)?,
+            proto: self.proto,
+            port: self.port,
+        })
+    }
+}
+
+impl Copied for Pod {
+    fn copy(&self, alloc: Global) -> Result<Pod, NoMemory> {
+        Ok(Pod {
+            key: self.key.copy(alloc)?,
+            labels: self.labels.copy(alloc)?,
+            deleting: self.deleting,
+            node: self.node.copy(alloc)?,
+            ports: self.ports.copy(alloc)?,
+            finished: self.finished,
+            address: self.address,
+            ready: self.ready,
+        })
+    }
+}
+
+impl Copied for Node {
+    fn copy(&self, alloc: Global) -> Result<Node, NoMemory> {
+        Ok(Node {
+            name: self.name.copy(alloc)?,
+            zone: self.zone.copy(alloc)?,
+        })
+    }
+}

@@ -1,0 +1,116 @@
+//! Services (Kubernetes API, Service v1).
+ghost use Rattle.std.specs.Prelude.{◌≡◌, IfOk, true};
+ghost use Rattle.kp_types.specs.Ports.{distinct_ports};
+
+use kp_base::{Address, Cidr, Copied, Items, NoMemory, ObjectKey, Pair, PortNo, Proto, Text};
+use std::alloc::Global;
+
+/// `spec.type`.
+#[derive(Clone, Copy, Debug, PartialEq, Eq)]
+pub enum ServiceKind {
+    ClusterIp,
+    NodePort,
+    LoadBalancer,
+    ExternalName,
+}
+
+/// A traffic policy: endpoints of the whole cluster, or those of this node.
+#[derive(Clone, Copy, Debug, PartialEq, Eq)]
+pub enum Policy {
+    Cluster,
+    Local,
+}
+
+/// `spec.clusterIP`: absent, `None`, or an address.
+#[derive(Clone, Copy, Debug, PartialEq, Eq)]
+pub enum ClusterAddress {
+    Absent,
+    Headless,
+    At(Address),
+}
+
+/// `spec.ports[i].targetPort`: a number, or the name of a container port.
+#[derive(Drop)]
+pub enum TargetPort {
+    Number(PortNo),
+    Named(Text),
+}
+
+/// One entry of `spec.ports`.
+#[derive(Drop)]
+pub struct ServicePort {
+    pub name: Text,
+    pub proto: Proto,
+    pub port: PortNo,
+    pub target: TargetPort,
+    pub node_port: Option<PortNo>,
+}
+
+/// A Service. No two of its ports have the same name and protocol.
+#[derive(Drop)]
+pub struct Service {
+    pub key: ObjectKey,
+    pub kind: ServiceKind,
+    pub cluster: ClusterAddress,
+    pub ports: Items<ServicePort>,
+    /// The pairs of `spec.selector`, in byte order of the keys.
+    pub selector: Items<Pair>,
+    /// `spec.externalIPs`.
+    pub external: Items<Address>,
+    /// The timeout of session affinity by client address, in seconds, where it is on.
+    pub affinity: Option<u32>,
+    /// `spec.internalTrafficPolicy`.
+    pub internal: Policy,
+    /// `spec.externalTrafficPolicy`.
+    pub outer: Policy,
+    /// `spec.publishNotReadyAddresses`.
+    pub publish_not_ready: bool,
+    /// `spec.loadBalancerSourceRanges`, where the list isn't empty.
+    pub ranges: Option<Items<Cidr>>,
+    /// `spec.trafficDistribution` is `PreferClose`.
+    pub same_zone: bool,
+    /// The addresses of `status.loadBalancer.ingress`.
+    pub balancer: Items<Address>,
+    pub ghost distinct: { distinct_ports ports ≡ true },
+}
+
+impl Copied for TargetPort {
+    fn copy(&self, alloc: Global) -> Result<TargetPort, NoMemory> {
+        match self {
+            TargetPort::Number(port) => Ok(TargetPort::Number(*port)),
+            TargetPort::Named(name) => Ok(TargetPort::Named(name.copy(alloc)?)),
+        }
+    }
+}
+
+impl Copied for ServicePort {
+    fn copy(&self, alloc: Global) -> Result<ServicePort, NoMemory> {
+        Ok(ServicePort {
+            name: self.name.copy(alloc)?,
+            proto: self.proto,
+            port: self.port,
+            target: self.target.copy(alloc)?,
+            node_port: self.node_port,
+        })
+    }
+}
+
+impl Copied for Service {
+    fn copy(&self, alloc: Global) -> Result<Service, NoMemory> {
+        Ok(Service {
+            key: self.key.copy(alloc)?,
+            kind: self.kind,
+            cluster: self.cluster,
+            ports: self.ports.copy(alloc)?,
+            selector: self.selector.copy(alloc)?,
+            external: self.external.copy(alloc)?,
+            affinity: self.affinity,
+            internal: self.internal,
+            outer: self.outer,
+            publish_not_ready: self.publish_not_ready,
+            ranges: self.ranges.copy(alloc)?,
+            same_zone: self.same_zone,
+            balancer: self.balancer.copy(alloc)?,
+        })
+    }
+}

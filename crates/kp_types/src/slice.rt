@@ -1,0 +1,104 @@
+//! EndpointSlices (Kubernetes API, EndpointSlice discovery.k8s.io/v1).
+ghost use Rattle.std.specs.Prelude.{◌≡◌, IfOk};
+
+use kp_base::{Address, Copied, Items, NoMemory, ObjectKey, PortNo, Proto, Text};
+use std::alloc::Global;
+
+/// `addressType`.
+#[derive(Clone, Copy, Debug, PartialEq, Eq)]
+pub enum AddressType {
+    Ipv4,
+    Ipv6,
+    Fqdn,
+}
+
+/// One entry of a slice's `ports`.
+#[derive(PartialEq, Eq, Drop)]
+pub struct SlicePort {
+    pub name: Text,
+    pub proto: Proto,
+    pub port: Option<PortNo>,
+}
+
+/// One entry of a slice's `endpoints`, with the defaults of its conditions filled in.
+#[derive(Drop)]
+pub struct SliceEndpoint {
+    pub address: Option<Address>,
+    pub ready: bool,
+    pub serving: bool,
+    pub terminating: bool,
+    pub node: Option<Text>,
+    pub zone: Option<Text>,
+    /// The zones of `hints.forZones`.
+    pub hints: Items<Text>,
+    pub pod: Option<ObjectKey>,
+}
+
+/// An EndpointSlice.
+#[derive(Drop)]
+pub struct Slice {
+    pub key: ObjectKey,
+    /// The Service that the label `kubernetes.io/service-name` names.
+    pub service: Option<Text>,
+    /// Whether the EndpointSlice controller manages it.
+    pub managed: bool,
+    pub family: AddressType,
+    pub ports: Items<SlicePort>,
+    pub endpoints: Items<SliceEndpoint>,
+}
+
+/// An endpoint that the controller wants in the slices of a Service: its pod, its resolved ports and its entry.
+#[derive(Drop)]
+pub struct Wanted {
+    pub pod: ObjectKey,
+    pub ports: Items<SlicePort>,
+    pub entry: SliceEndpoint,
+}
+
+impl Copied for SlicePort {
+    fn copy(&self, alloc: Global) -> Result<SlicePort, NoMemory> {
+        Ok(SlicePort {
+            name: self.name.copy(alloc)?,
+            proto: self.proto,
+            port: self.port,
+        })
+    }
+}
+
+impl Copied for SliceEndpoint {
+    fn copy(&self, alloc: Global) -> Result<SliceEndpoint, NoMemory> {
+        Ok(SliceEndpoint {
+            address: self.address,
+            ready: self.ready,
+            serving: self.serving,
+            terminating: self.terminating,
+            node: self.node.copy(alloc)?,
+            zone: self.zone.copy(alloc)?,
+            hints: self.hints.copy(alloc)?,
+            pod: self.pod.copy(alloc)?,
+        })
+    }
+}
+
+impl Copied for Slice {
+    fn copy(&self, alloc: Global) -> Result<Slice, NoMemory> {
+        Ok(Slice {
+            key: self.key.copy(alloc)?,
+            service: self.service.copy(alloc)?,
+            managed: self.managed,
+            family: self.family,
+            ports: self.ports.copy(alloc)?,
+            endpoints: self.endpoints.copy(alloc)?,
+        })
+    }
+}
+
+impl Copied for Wanted {
+    fn copy(&self, alloc: Global) -> Result<Wanted, NoMemory> {
+        Ok(Wanted {
+            pod: self.pod.copy(alloc)?,
+            ports: self.ports.copy(alloc)?,
+            entry: self.entry.copy(alloc)?,
+        })
+    }
+}
