@@ -1,0 +1,4 @@
+pub mod ComeLemmas
+pub mod HandedOut
+pub mod LineLemmas
+pub mod Told

@@ -1,0 +1,59 @@
+-- Sources and sinks in memory (this project's choice), which tests hand to the program: they cut
+-- what they give and take into pieces, and fail where they are told to.
+use Rattle.std.specs.Prelude.{◌≡◌, ℕ, ◌+◌, ◌-◌, ◌^◌, ◌↔◌, min, Bool, true, if◌then◌else◌, List, [], Option, None, Some, Result, is_err, IsErr, Contains}
+
+-- the calls, from 1, that are to fail, and how many there were and how many of them failed
+pub record FaultPlan : Type 0 where
+  pub fails : List ℕ
+  pub calls : ℕ
+  pub faults : ℕ
+
+-- one more, or the end of the type
+abbrev pub one_more : ℕ → ℕ
+one_more count = min (count + 1) (2 ^ 64 - 1)
+
+-- the plan that no call has met yet
+abbrev pub fresh_plan : List ℕ → FaultPlan
+fresh_plan fails = record { fails = fails; calls = 0; faults = 0 }
+
+-- the call is counted, and fails exactly where it is one of those that are to fail
+pub record Meets {T E : Type 0} (result : Result T E) (old new : FaultPlan) : Type 0 where
+  pub same : new.fails ≡ old.fails
+  pub called : new.calls ≡ one_more old.calls
+  pub failed : IsErr result ↔ Contains old.fails new.calls
+  pub counted : new.faults ≡ (if is_err result then one_more old.faults else old.faults)
+
+-- a source: the bytes that are left, and the most that one read gives
+pub record SourceParts : Type 0 where
+  pub left : List ℕ
+  pub piece : ℕ
+
+-- a sink: the bytes that it keeps, whether they are all that was written, how many of them were
+-- flushed, and the most that one write takes
+pub record SinkParts : Type 0 where
+  pub kept : List ℕ
+  pub complete : Bool
+  pub flushed : ℕ
+  pub piece : ℕ
+
+-- what was written to the sink, unless memory was refused for some of it
+abbrev pub told_bytes : SinkParts → Option (List ℕ)
+told_bytes sink = if sink.complete then Some sink.kept else None
+
+-- how much of it was flushed
+abbrev pub told_flushed : SinkParts → Option ℕ
+told_flushed sink = if sink.complete then Some sink.flushed else None
+
+-- a sink that nothing was written to
+abbrev pub fresh_sink : ℕ → SinkParts
+fresh_sink piece = record { kept = []; complete = true; flushed = 0; piece = piece }
+
+-- a source that fails by plan
+pub record PlannedSource : Type 0 where
+  pub source : SourceParts
+  pub plan : FaultPlan
+
+-- a sink that fails by plan
+pub record PlannedSink : Type 0 where
+  pub sink : SinkParts
+  pub plan : FaultPlan

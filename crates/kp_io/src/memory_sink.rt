@@ -1,0 +1,90 @@
+//! A sink in memory that fails by plan.
+ghost use Rattle.std.specs.Prelude.{◌≡◌, ◌≤◌, [], min, length, IfOk, OnOk, OnErr};
+ghost use Rattle.kp_io.specs.Faults.{HasCause};
+ghost use Rattle.kp_io.specs.Memory.{told_bytes, told_flushed, fresh_sink, fresh_plan, Meets};
+ghost use Rattle.kp_io.specs.Told.{Grows, TakesFront, FlushesOn, IsFlushed};
+
+use crate::fault_plan::Plan;
+use crate::sink::Sink;
+use crate::source::Failed;
+use crate::sure_sink::SureSink;
+use kp_base::Items;
+use std::alloc::Global;
+use std::marker::Model;
+
+/// A sink that keeps what is written in memory, takes at most so many bytes in a write, and whose
+/// writes and flushes fail by plan. They are counted together. Where it is refused memory it takes
+/// the bytes all the same, and from then on tells no content.
+#[derive(Drop)]
+pub struct MemorySink {
+    sink: SureSink,
+    plan: Plan,
+}
+
+impl Model for MemorySink {
+    ghost use Rattle.kp_io.specs.Memory.{PlannedSink, told_bytes, told_flushed};
+    ghost use Rattle.kp_io.specs.Told.{IsWithin};
+
+    ghost Value = { PlannedSink };
+
+    ghost view = { λ s. record { sink = s.sink; plan = s.plan } };
+
+    ghost invariant = { λ s. IsWithin (told_flushed s.sink) (told_bytes s.sink) };
+}
+
+impl MemorySink {
+    /// A sink that nothing was written to, whose calls of these numbers, from 1, fail.
+    pub fn new(alloc: Global, piece: u64, fails: Items<u64>) -> MemorySink
+        requires { 1 ≤ piece }
+        ensures sink { result.sink ≡ fresh_sink piece }
+        ensures plan { result.plan ≡ fresh_plan fails }
+    {
+        MemorySink {
+            sink: SureSink::new(alloc, piece),
+            plan: Plan::new(fails),
+        }
+    }
+
+    /// The bytes that were written, where the sink tells its content.
+    pub fn written(&self) -> &[u8]
+        ensures { result.now ≡ self.now.sink.kept }
+    {
+        self.sink.written()
+    }
+}
+
+impl Sink for MemorySink {
+    ghost written = { λ s. told_bytes s.sink };
+
+    ghost flushed = { λ s. told_flushed s.sink };
+
+    ghost faults = { λ s. s.plan.faults };
+
+    fn write(&mut self, bytes: &[u8]) -> Result<usize, Failed>
+        ensures bytes { TakesFront result bytes.now
+            (told_bytes self.old.sink) (told_bytes self.new.sink) }
+        ensures flushed { FlushesOn (told_flushed self.old.sink) (told_flushed self.new.sink)
+            (told_bytes self.new.sink) }
+        ensures cause { HasCause self.old.plan.faults self.new.plan.faults result }
+        ensures planned { Meets result self.old.plan self.new.plan }
+        ensures count { IfOk result (λ n. n ≡ min self.old.sink.piece (length bytes.now)) }
+        ensures same { OnErr result (self.new.sink ≡ self.old.sink) }
+    {
+        self.plan.meet()?;
+        self.sink.write(bytes)
+    }
+
+    fn flush(&mut self) -> Result<(), Failed>
+        ensures whole { OnOk result
+            (IsFlushed (told_flushed self.new.sink) (told_bytes self.new.sink)) }
+        ensures kept { Grows (told_bytes self.old.sink) (told_bytes self.new.sink) [] }
+        ensures flushed { FlushesOn (told_flushed self.old.sink) (told_flushed self.new.sink)
+            (told_bytes self.new.sink) }
+        ensures cause { HasCause self.old.plan.faults self.new.plan.faults result }
+        ensures planned { Meets result self.old.plan self.new.plan }
+        ensures same { OnErr result (self.new.sink ≡ self.old.sink) }
+    {
+        self.plan.meet()?;
+        self.sink.flush()
+    }
+}

@@ -1,0 +1,62 @@
+//! A source in memory that fails by plan.
+ghost use Rattle.std.specs.Prelude.{◌≡◌, ◌≤◌, Some, min, length, IfOk, OnErr};
+ghost use Rattle.std.specs.Io.{ReadsAtMost};
+ghost use Rattle.std.specs.Io.KnownBytes.{ReadConsumes};
+ghost use Rattle.kp_io.specs.Faults.{HasCause};
+ghost use Rattle.kp_io.specs.Memory.{fresh_plan, Meets};
+
+use crate::fault_plan::Plan;
+use crate::source::{Failed, Source};
+use crate::sure_source::SureSource;
+use kp_base::Items;
+use std::marker::Model;
+
+/// Bytes in memory, of which a read gives at most so many, and reads that fail by plan.
+#[derive(Drop)]
+pub struct MemorySource {
+    source: SureSource,
+    plan: Plan,
+}
+
+impl Model for MemorySource {
+    ghost use Rattle.kp_io.specs.Memory.{PlannedSource};
+
+    ghost Value = { PlannedSource };
+
+    ghost view = { λ s. record { source = s.source; plan = s.plan } };
+}
+
+impl MemorySource {
+    /// A source of these bytes, whose calls of these numbers, from 1, fail.
+    pub fn new(bytes: Items<u8>, piece: u64, fails: Items<u64>) -> MemorySource
+        requires { 1 ≤ piece }
+        ensures left { result.source.left ≡ bytes }
+        ensures piece { result.source.piece ≡ piece }
+        ensures plan { result.plan ≡ fresh_plan fails }
+    {
+        MemorySource {
+            source: SureSource::new(bytes, piece),
+            plan: Plan::new(fails),
+        }
+    }
+}
+
+impl Source for MemorySource {
+    ghost left = { λ s. Some s.source.left };
+
+    ghost faults = { λ s. s.plan.faults };
+
+    fn read(&mut self, buf: &mut [u8]) -> Result<usize, Failed>
+        ensures bound { ReadsAtMost result buf.new }
+        ensures bytes { ReadConsumes
+            (Some self.old.source.left) (Some self.new.source.left) result buf.new }
+        ensures cause { HasCause self.old.plan.faults self.new.plan.faults result }
+        ensures planned { Meets result self.old.plan self.new.plan }
+        ensures count { IfOk result (λ n. n
+            ≡ min self.old.source.piece (min (length buf.old) (length self.old.source.left))) }
+        ensures piece { self.new.source.piece ≡ self.old.source.piece }
+    {
+        self.plan.meet()?;
+        self.source.read(buf)
+    }
+}

@@ -1,0 +1,119 @@
+//! The real ends: std's readers and writers. What they give and take is the outside, of which
+//! nothing is told; their failures are counted.
+ghost use Rattle.std.specs.Prelude.{◌≡◌, ◌≤◌, None, take, IfOk};
+ghost use Rattle.std.specs.Io.KnownBytes.{Appends, Keeps};
+ghost use Rattle.kp_io.specs.Faults.{Rose, HasCause};
+ghost use Rattle.kp_io.specs.Told.{TakesFront};
+
+use crate::sink::Sink;
+use crate::source::{Failed, Source};
+use std::io::{Read, Write};
+use std::marker::Model;
+
+/// A source over a reader of std. It tells what its reader tells: of a file or a terminal, nothing.
+#[derive(Drop)]
+pub struct RealSource<R> {
+    reader: R,
+    faults: u64,
+}
+
+impl<R> Model for RealSource<R> {
+    ghost use Rattle.kp_io.specs.Real.{Counted};
+
+    ghost Value = { Counted R };
+
+    ghost view = { λ s. record { inner = s.reader; faults = s.faults } };
+}
+
+impl<R: Read> RealSource<R> {
+    /// A source that gives what the reader gives.
+    pub fn new(reader: R) -> RealSource<R>
+        ensures reader { result.inner ≡ reader }
+        ensures faults { result.faults ≡ 0 }
+    {
+        RealSource { reader, faults: 0 }
+    }
+}
+
+impl<R: Read> Source for RealSource<R> {
+    ghost left = { λ s. R.remaining s.inner };
+
+    ghost faults = { λ s. s.faults };
+
+    fn read(&mut self, buf: &mut [u8]) -> Result<usize, Failed> {
+        match self.reader.read(buf) {
+            Ok(count) => Ok(count),
+            Err(_) => {
+                self.faults = self.faults.saturating_add(1);
+                Err(Failed)
+            }
+        }
+    }
+}
+
+/// A sink over a writer of std, of whose content it tells nothing. Hand it a writer with a buffer,
+/// so that many small writes are cheap.
+#[derive(Drop)]
+pub struct RealSink<W> {
+    writer: W,
+    faults: u64,
+}
+
+impl<W> Model for RealSink<W> {
+    ghost use Rattle.kp_io.specs.Real.{Counted};
+
+    ghost Value = { Counted W };
+
+    ghost view = { λ s. record { inner = s.writer; faults = s.faults } };
+}
+
+impl<W: Write> RealSink<W> {
+    /// A sink that hands on what is written to the writer.
+    pub fn new(writer: W) -> RealSink<W>
+        ensures writer { result.inner ≡ writer }
+        ensures faults { result.faults ≡ 0 }
+    {
+        RealSink { writer, faults: 0 }
+    }
+
+    /// Counts a failure.
+    fn fail(&mut self) -> Failed
+        ensures inner { self.new.inner ≡ self.old.inner }
+        ensures rose { Rose self.old.faults self.new.faults }
+        ensures later { self.old.faults ≤ self.new.faults }
+    {
+        self.faults = self.faults.saturating_add(1);
+        Failed
+    }
+}
+
+impl<W: Write> Sink for RealSink<W> {
+    ghost written = { λ s. None };
+
+    ghost flushed = { λ s. None };
+
+    ghost faults = { λ s. s.faults };
+
+    fn write(&mut self, bytes: &[u8]) -> Result<usize, Failed>
+        ensures bytes { TakesFront result bytes.now None None }
+        ensures cause { HasCause self.old.faults self.new.faults result }
+        ensures passed { IfOk result (λ n.
+            Appends (W.contents self.old.inner) (W.contents self.new.inner) (take n bytes.now)) }
+    {
+        match self.writer.write(bytes) {
+            Ok(0) if !bytes.is_empty() => Err(self.fail()),
+            Ok(count) => Ok(count),
+            Err(_) => Err(self.fail()),
+        }
+    }
+
+    fn flush(&mut self) -> Result<(), Failed>
+        ensures cause { HasCause self.old.faults self.new.faults result }
+        ensures passed { Keeps (W.contents self.old.inner) (W.contents self.new.inner) }
+    {
+        match self.writer.flush() {
+            Ok(()) => Ok(()),
+            Err(_) => Err(self.fail()),
+        }
+    }
+}

@@ -1,0 +1,95 @@
+//! A sink in memory that never fails.
+ghost use Rattle.std.specs.Prelude.{◌≡◌, ◌≤◌, Ok, [], min, length, OnOk};
+ghost use Rattle.kp_io.specs.Faults.{HasCause};
+ghost use Rattle.kp_io.specs.Memory.{told_bytes, told_flushed, fresh_sink};
+ghost use Rattle.kp_io.specs.Told.{Grows, TakesFront, FlushesOn, IsFlushed};
+
+use crate::sink::Sink;
+use crate::source::Failed;
+use std::alloc::Global;
+use std::marker::Model;
+
+/// A sink that keeps what is written in memory, and takes at most so many bytes in a write. Where
+/// it is refused memory it takes the bytes all the same, and from then on tells no content.
+#[derive(Drop)]
+pub struct SureSink {
+    kept: Vec<u8>,
+    complete: bool,
+    flushed: usize,
+    piece: u64,
+}
+
+impl Model for SureSink {
+    ghost use Rattle.std.specs.Prelude.{◌≤◌, vec_len};
+    ghost use Rattle.kp_io.specs.Memory.{SinkParts};
+
+    ghost Value = { SinkParts };
+
+    ghost view = { λ s. record {
+      kept = s.kept.items;
+      complete = s.complete;
+      flushed = s.flushed;
+      piece = s.piece;
+    } };
+
+    ghost invariant = { λ s. (s.flushed ≤ vec_len s.kept) × (1 ≤ s.piece) };
+}
+
+impl SureSink {
+    /// A sink that nothing was written to.
+    pub fn new(alloc: Global, piece: u64) -> SureSink
+        requires { 1 ≤ piece }
+        ensures { result ≡ fresh_sink piece }
+    {
+        SureSink {
+            kept: Vec::new(alloc),
+            complete: true,
+            flushed: 0,
+            piece,
+        }
+    }
+
+    /// The bytes that were written, where the sink tells its content.
+    pub fn written(&self) -> &[u8]
+        ensures { result.now ≡ self.now.kept }
+    {
+        &self.kept
+    }
+}
+
+impl Sink for SureSink {
+    ghost written = { told_bytes };
+
+    ghost flushed = { told_flushed };
+
+    ghost faults = { λ s. 0 };
+
+    fn write(&mut self, bytes: &[u8]) -> Result<usize, Failed>
+        ensures bytes { TakesFront result bytes.now (told_bytes self.old) (told_bytes self.new) }
+        ensures flushed { FlushesOn (told_flushed self.old) (told_flushed self.new)
+            (told_bytes self.new) }
+        ensures cause { HasCause 0 0 result }
+        ensures sure { result ≡ Ok (min self.old.piece (length bytes.now)) }
+        ensures piece { self.new.piece ≡ self.old.piece }
+    {
+        let count = bytes.len().min(self.piece as usize);
+        let (taken, _) = bytes.split_at(count);
+        if self.kept.extend_from_slice(taken).is_err() {
+            self.complete = false;
+        }
+        Ok(count)
+    }
+
+    fn flush(&mut self) -> Result<(), Failed>
+        ensures whole { OnOk result (IsFlushed (told_flushed self.new) (told_bytes self.new)) }
+        ensures kept { Grows (told_bytes self.old) (told_bytes self.new) [] }
+        ensures flushed { FlushesOn (told_flushed self.old) (told_flushed self.new)
+            (told_bytes self.new) }
+        ensures cause { HasCause 0 0 result }
+        ensures sure { result ≡ Ok tt }
+        ensures piece { self.new.piece ≡ self.old.piece }
+    {
+        self.flushed = self.kept.len();
+        Ok(())
+    }
+}

@@ -1,0 +1,66 @@
+//! A source in memory that never fails.
+ghost use Rattle.std.specs.Prelude.{◌≡◌, ◌≤◌, Ok, Some, min, length};
+ghost use Rattle.std.specs.Io.{ReadsAtMost};
+ghost use Rattle.std.specs.Io.KnownBytes.{ReadConsumes};
+ghost use Rattle.kp_io.specs.Faults.{HasCause};
+
+use crate::source::{Failed, Source};
+use kp_base::Items;
+use std::marker::Model;
+
+/// Bytes in memory, of which a read gives at most so many.
+#[derive(Drop)]
+pub struct SureSource {
+    bytes: Items<u8>,
+    position: usize,
+    piece: u64,
+}
+
+impl Model for SureSource {
+    ghost use Rattle.std.specs.Prelude.{◌≤◌, length, drop};
+    ghost use Rattle.kp_io.specs.Memory.{SourceParts};
+
+    ghost Value = { SourceParts };
+
+    ghost view = { λ s. record { left = drop s.position s.bytes; piece = s.piece } };
+
+    ghost invariant = { λ s. (s.position ≤ length s.bytes) × (1 ≤ s.piece) };
+}
+
+impl SureSource {
+    /// A source of these bytes.
+    pub fn new(bytes: Items<u8>, piece: u64) -> SureSource
+        requires { 1 ≤ piece }
+        ensures left { result.left ≡ bytes }
+        ensures piece { result.piece ≡ piece }
+    {
+        SureSource {
+            bytes,
+            position: 0,
+            piece,
+        }
+    }
+}
+
+impl Source for SureSource {
+    ghost left = { λ s. Some s.left };
+
+    ghost faults = { λ s. 0 };
+
+    fn read(&mut self, buf: &mut [u8]) -> Result<usize, Failed>
+        ensures bound { ReadsAtMost result buf.new }
+        ensures bytes { ReadConsumes (Some self.old.left) (Some self.new.left) result buf.new }
+        ensures cause { HasCause 0 0 result }
+        ensures sure { result
+            ≡ Ok (min self.old.piece (min (length buf.old) (length self.old.left))) }
+        ensures piece { self.new.piece ≡ self.old.piece }
+    {
+        let (_, left) = self.bytes.as_slice().split_at(self.position);
+        let count = left.len().min(buf.len()).min(self.piece as usize);
+        let (given, _) = left.split_at(count);
+        let (front, _) = buf.split_at_mut(count);
+        front.copy_from_slice(given);
+        self.position += count;
+        Ok(count)
+    }
+}
