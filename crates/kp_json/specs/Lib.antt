@@ -1,0 +1,5 @@
+pub mod Answers
+pub mod Paths
+pub mod Places
+pub mod Trees
+pub mod Views
