@@ -1,0 +1,4 @@
+pub mod AddressText
+pub mod Draws
+pub mod Names
+pub mod Recent
