@@ -1,0 +1,6 @@
+pub mod Desired
+pub mod Entries
+pub mod Lists
+pub mod Objects
+pub mod Order
+pub mod PortInfo
