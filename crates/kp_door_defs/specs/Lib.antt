@@ -1,0 +1,5 @@
+pub mod Choice
+pub mod Decision
+pub mod Doors
+pub mod Filter
+pub mod Marks
