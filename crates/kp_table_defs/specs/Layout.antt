@@ -1,0 +1,297 @@
+-- The layout of the chains: which rules stand in which chain (kube-proxy's iptables mode; Kubernetes
+-- documents on virtual IPs). Names of chains come from a function of what a chain is for. The layout of the
+-- fixed chains is this project's choice.
+use Rattle.std.specs.Prelude.{ℕ, suc, ◌==◌, ◌&&◌, ◌||◌, Bool, true, false, List, [], ◌∷◌, ◌++◌, map, not, cond, codes, length, Option, Some, None, is_some}
+use Rattle.std.specs.List.{filter, flat_map, list_any}
+use Rattle.kp_base.specs.Net.{AddressParts, RangeParts, single_range, loopback_range, same_address}
+use Rattle.kp_base.specs.declared.address.Family.{Family}
+use Rattle.kp_base.specs.declared.address.Family.TheVariants.{V4, V6}
+use Rattle.kp_base.specs.declared.key.Endpoint.{Endpoint}
+use Rattle.kp_base.specs.declared.config.Config.{Config}
+use Rattle.kp_types.specs.Rules.{rule_of}
+use Rattle.kp_types.specs.declared.chain.TableName.{TableName}
+use Rattle.kp_types.specs.declared.chain.TableName.TheVariants.{Nat, Filter}
+use Rattle.kp_types.specs.declared.chain.ChainAt.{ChainAt}
+use Rattle.kp_types.specs.declared.chain.ChainKey.{ChainKey}
+use Rattle.kp_types.specs.declared.chain.ChainKey.TheVariants as key
+use Rattle.kp_types.specs.declared.chain.PortChain.{PortChain}
+use Rattle.kp_types.specs.declared.chain.PortChain.TheVariants.{Svc, Svl, Ext, Fw}
+use Rattle.kp_types.specs.declared.rule.Match.{Match}
+use Rattle.kp_types.specs.declared.rule.Match.TheVariants as match
+use Rattle.kp_types.specs.declared.rule.Target.{Target}
+use Rattle.kp_types.specs.declared.rule.Target.TheVariants as target
+use Rattle.kp_types.specs.declared.rule.Rule.{Rule}
+use Rattle.kp_types.specs.declared.service.Policy.{Policy}
+use Rattle.kp_types.specs.declared.service.Policy.TheVariants.{Cluster, Local}
+use Rattle.kp_choice_defs.specs.Draws.{probability_of}
+use Rattle.kp_object_defs.specs.Desired.{is_empty}
+use Rattle.kp_object_defs.specs.Lists.{is_local_policy}
+use Rattle.kp_object_defs.specs.PortInfo.{PortInfo, is_accessible, internal_list, external_list}
+
+-- the name of a chain by what it is for
+abbrev pub Naming : Type 0
+Naming = ChainKey → List ℕ
+
+-- ---- Names
+
+-- the chain that marks packets for masquerading
+abbrev pub mark_masq : List ℕ
+mark_masq = codes "KUBE-MARK-MASQ"
+
+-- the shared chains
+abbrev pub kube_services : List ℕ
+kube_services = codes "KUBE-SERVICES"
+
+abbrev pub kube_node_ports : List ℕ
+kube_node_ports = codes "KUBE-NODEPORTS"
+
+abbrev pub kube_postrouting : List ℕ
+kube_postrouting = codes "KUBE-POSTROUTING"
+
+abbrev pub kube_external_services : List ℕ
+kube_external_services = codes "KUBE-EXTERNAL-SERVICES"
+
+abbrev pub kube_forward : List ℕ
+kube_forward = codes "KUBE-FORWARD"
+
+abbrev pub kube_proxy_firewall : List ℕ
+kube_proxy_firewall = codes "KUBE-PROXY-FIREWALL"
+
+-- the chain of a port, of a kind
+abbrev pub port_chain : Naming → PortInfo → PortChain → List ℕ
+port_chain name_of i kind = name_of (key.Port kind i.key)
+
+-- the chain of an endpoint of a port
+abbrev pub endpoint_chain : Naming → PortInfo → Endpoint → List ℕ
+endpoint_chain name_of i e = name_of (key.Sep i.key e)
+
+-- the kind of chain that chooses among a policy's endpoints
+abbrev pub chain_of_policy : Policy → PortChain
+chain_of_policy Cluster = Svc
+chain_of_policy Local = Svl
+
+-- ---- Rules
+
+-- a jump for all packets
+abbrev pub jump_to : List ℕ → Rule
+jump_to chain = rule_of [] (target.Jump chain)
+
+-- a rule for the packets to an address of a port
+abbrev pub rule_at : PortInfo → Target → AddressParts → Rule
+rule_at i t a = rule_of (match.Dst (single_range a) false ∷ match.Port i.key.proto i.number ∷ []) t
+
+-- the rules of a list, each but the last with a chance of one among those that are left
+abbrev pub chance : ℕ → Target → Rule
+chance n t = rule_of (match.Statistic (probability_of n) ∷ []) t
+
+abbrev pub choice_rules : (Endpoint → List ℕ) → List Endpoint → List Rule
+choice_rules name [] = []
+choice_rules name (e ∷ []) = jump_to (name e) ∷ []
+choice_rules name (e ∷ f ∷ es) =
+    chance (suc (suc (length es))) (target.Jump (name e)) ∷ choice_rules name (f ∷ es)
+
+-- under session affinity, a source that was seen lately goes where it went before
+abbrev pub affinity_rules : (Endpoint → List ℕ) → Option ℕ → List Endpoint → List Rule
+affinity_rules name None es = []
+affinity_rules name (Some seconds) es =
+    map (λ e. rule_of (match.Seen (name e) seconds ∷ []) (target.Jump (name e))) es
+
+-- the rule that marks packets to the cluster address
+abbrev pub mark_rules : Bool → Option RangeParts → PortInfo → List Rule
+mark_rules true cluster i = rule_at i (target.Jump mark_masq) i.address ∷ []
+mark_rules false None i = []
+mark_rules false (Some cluster) i =
+    rule_of (match.Src cluster true ∷ match.Dst (single_range i.address) false ∷ match.Port i.key.proto i.number ∷ [])
+    (target.Jump mark_masq) ∷ []
+
+-- rules that stand in a chain under a condition
+abbrev pub rules_if : Bool → List Rule → List Rule
+rules_if true rules = rules
+rules_if false rules = []
+
+-- the chain that chooses among the endpoints of a policy; that of the internal policy marks
+abbrev pub list_rules : Naming → Config → PortInfo → Bool → List Endpoint → List Rule
+list_rules name_of config i is_internal es =
+    rules_if is_internal (mark_rules config.masquerade_all config.cluster i)
+    ++ affinity_rules (endpoint_chain name_of i) i.affinity es ++ choice_rules (endpoint_chain name_of i) es
+
+-- the match that puts the source into an endpoint's recent list, under session affinity
+abbrev pub set_seen : List ℕ → Option ℕ → List Match
+set_seen name None = []
+set_seen name (Some seconds) = match.SetSeen name ∷ []
+
+-- the chain of an endpoint
+abbrev pub endpoint_rules : Naming → PortInfo → Endpoint → List Rule
+endpoint_rules name_of i e =
+    rule_of (match.Src (single_range e.address) false ∷ []) (target.Jump mark_masq)
+    ∷ rule_of (match.Proto i.key.proto ∷ set_seen (endpoint_chain name_of i e) i.affinity) (target.Dnat e) ∷ []
+
+-- packets of the cluster's range go to all endpoints
+abbrev pub pod_rules : Option RangeParts → List ℕ → List Rule
+pod_rules None svc = []
+pod_rules (Some cluster) svc = rule_of (match.Src cluster false ∷ []) (target.Jump svc) ∷ []
+
+-- the chain of what comes in from outside, by the external traffic policy
+abbrev pub external_rules : Naming → Config → PortInfo → Policy → List Rule
+external_rules name_of config i Cluster = jump_to mark_masq ∷ jump_to (port_chain name_of i Svc) ∷ []
+external_rules name_of config i Local =
+    pod_rules config.cluster (port_chain name_of i Svc)
+    ++ rule_of (match.SrcLocal ∷ []) (target.Jump mark_masq)
+    ∷ rule_of (match.SrcLocal ∷ []) (target.Jump (port_chain name_of i Svc))
+    ∷ rules_if (not (is_empty i.lists.local)) (jump_to (port_chain name_of i Svl) ∷ [])
+
+-- the chain of a load balancer's source ranges
+abbrev pub firewall_rules : Naming → PortInfo → List RangeParts → List Rule
+firewall_rules name_of i ranges =
+    map (λ r. rule_of (match.Src r false ∷ []) (target.Jump (port_chain name_of i Ext))) ranges
+
+-- ---- Blocks of one port in the shared chains
+
+-- a load-balancer address goes through the source ranges, where there are any
+abbrev pub balancer_chain : Option (List RangeParts) → PortChain
+balancer_chain None = Ext
+balancer_chain (Some ranges) = Fw
+
+-- in KUBE-SERVICES of nat
+abbrev pub service_block : Naming → PortInfo → List Rule
+service_block name_of i =
+    rules_if (not (is_empty (internal_list i)))
+    (rule_at i (target.Jump (port_chain name_of i (chain_of_policy i.internal))) i.address ∷ [])
+    ++ rules_if i.lists.has_any
+    (map (rule_at i (target.Jump (port_chain name_of i Ext))) i.external
+    ++ map (rule_at i (target.Jump (port_chain name_of i (balancer_chain i.ranges)))) i.balancer)
+
+-- a node port's rule
+abbrev pub node_port_rules : PortInfo → Target → Option ℕ → List Rule
+node_port_rules i t None = []
+node_port_rules i t (Some n) = rule_of (match.Port i.key.proto n ∷ []) t ∷ []
+
+-- in KUBE-NODEPORTS of nat
+abbrev pub node_port_block : Naming → PortInfo → List Rule
+node_port_block name_of i =
+    rules_if i.lists.has_any (node_port_rules i (target.Jump (port_chain name_of i Ext)) i.node_port)
+
+-- the port has source ranges, a load-balancer address and endpoints
+abbrev pub has_firewall : PortInfo → Bool
+has_firewall i = is_some i.ranges && (not (is_empty i.balancer) && i.lists.has_any)
+
+-- in KUBE-PROXY-FIREWALL of filter
+abbrev pub firewall_block : PortInfo → List Rule
+firewall_block i = rules_if (has_firewall i) (map (rule_at i target.Drop) i.balancer)
+
+-- packets without endpoints are rejected where there are none at all, and else dropped
+abbrev pub refusal_target : Bool → Target
+refusal_target true = target.Drop
+refusal_target false = target.Reject
+
+-- the node's own addresses but loopback
+abbrev pub own_addresses : Family → List Match
+own_addresses family = match.Dst (loopback_range family) true ∷ match.DstLocal ∷ []
+
+-- the filter's rule of a node port
+abbrev pub node_port_refusal : Family → PortInfo → Target → Option ℕ → List Rule
+node_port_refusal family i t None = []
+node_port_refusal family i t (Some n) = rule_of (own_addresses family ++ match.Port i.key.proto n ∷ []) t ∷ []
+
+-- in KUBE-EXTERNAL-SERVICES of filter
+abbrev pub external_block : Family → PortInfo → List Rule
+external_block family i =
+    rules_if (is_empty (external_list i))
+    (map (rule_at i (refusal_target i.lists.has_any)) i.external
+    ++ map (rule_at i (refusal_target i.lists.has_any)) i.balancer
+    ++ node_port_refusal family i (refusal_target i.lists.has_any) i.node_port)
+
+-- in KUBE-SERVICES of filter
+abbrev pub refusal_block : PortInfo → List Rule
+refusal_block i =
+    rules_if (is_empty (internal_list i)) (rule_at i (refusal_target i.lists.has_any) i.address ∷ [])
+
+-- ---- Chains
+
+-- the tables of a family; those of IPv6 aren't written yet
+abbrev pub nat_table : Family → TableName
+nat_table V4 = Nat
+nat_table V6 = Nat
+
+abbrev pub filter_table : Family → TableName
+filter_table V4 = Filter
+filter_table V6 = Filter
+
+-- a chain of a table, and its rules
+abbrev pub row : TableName → List ℕ → List Rule → ChainAt × List Rule
+row table chain rules = (record { table = table; chain = chain }, rules)
+
+-- the fixed chains of nat, with these rules for node ports and for Services
+abbrev pub nat_rows_with : Family → List Rule → List Rule → List (ChainAt × List Rule)
+nat_rows_with family node_ports services =
+    row (nat_table family) (codes "PREROUTING") (jump_to kube_services ∷ [])
+    ∷ row (nat_table family) (codes "INPUT") []
+    ∷ row (nat_table family) (codes "OUTPUT") (jump_to kube_services ∷ [])
+    ∷ row (nat_table family) (codes "POSTROUTING") (jump_to kube_postrouting ∷ [])
+    ∷ row (nat_table family) mark_masq (rule_of [] target.SetMark ∷ [])
+    ∷ row (nat_table family) kube_postrouting
+    (rule_of (match.Marked true ∷ []) target.Return ∷ rule_of [] target.FlipMark ∷ rule_of [] target.Masquerade ∷ [])
+    ∷ row (nat_table family) kube_node_ports node_ports
+    ∷ row (nat_table family) kube_services (services ++ rule_of (own_addresses family) (target.Jump kube_node_ports) ∷ [])
+    ∷ []
+
+-- the shared chains of nat, with the blocks of all ports
+abbrev pub nat_rows : Family → Naming → List PortInfo → List (ChainAt × List Rule)
+nat_rows family name_of infos =
+    nat_rows_with family (flat_map (node_port_block name_of) infos) (flat_map (service_block name_of) infos)
+
+-- the fixed chains of filter, with these rules of the firewall, for what comes in from outside and for Services
+abbrev pub filter_rows_with : Family → List Rule → List Rule → List Rule → List (ChainAt × List Rule)
+filter_rows_with family firewall external services =
+    row (filter_table family) (codes "INPUT") (jump_to kube_proxy_firewall ∷ jump_to kube_external_services ∷ [])
+    ∷ row (filter_table family) (codes "FORWARD")
+    (jump_to kube_proxy_firewall ∷ jump_to kube_external_services ∷ jump_to kube_services ∷ jump_to kube_forward ∷ [])
+    ∷ row (filter_table family) (codes "OUTPUT") (jump_to kube_proxy_firewall ∷ jump_to kube_services ∷ [])
+    ∷ row (filter_table family) kube_forward (rule_of (match.Marked false ∷ []) target.Accept ∷ [])
+    ∷ row (filter_table family) kube_proxy_firewall firewall
+    ∷ row (filter_table family) kube_external_services external
+    ∷ row (filter_table family) kube_services services
+    ∷ []
+
+-- the shared chains of filter, with the blocks of all ports
+abbrev pub filter_rows : Family → List PortInfo → List (ChainAt × List Rule)
+filter_rows family infos =
+    filter_rows_with family (flat_map firewall_block infos) (flat_map (external_block family) infos) (flat_map refusal_block infos)
+
+-- rows that are written under a condition
+abbrev pub rows_if : Bool → List (ChainAt × List Rule) → List (ChainAt × List Rule)
+rows_if true rows = rows
+rows_if false rows = []
+
+-- an endpoint is in a list
+abbrev pub has_endpoint : List Endpoint → Endpoint → Bool
+has_endpoint es e = list_any (λ f. same_address f.address e.address && (f.port == e.port)) es
+
+-- the endpoints of either list, once each
+abbrev pub all_endpoints : PortInfo → List Endpoint
+all_endpoints i = i.lists.cluster ++ filter (λ e. not (has_endpoint i.lists.cluster e)) i.lists.local
+
+-- the rules of a port's firewall chain
+abbrev pub firewall_chain_rules : Naming → PortInfo → Option (List RangeParts) → List Rule
+firewall_chain_rules name_of i None = []
+firewall_chain_rules name_of i (Some ranges) = firewall_rules name_of i ranges
+
+-- the chains of one port
+abbrev pub port_rows : Family → Naming → Config → PortInfo → List (ChainAt × List Rule)
+port_rows family name_of config i =
+    rows_if (not (is_empty i.lists.cluster))
+    (row (nat_table family) (port_chain name_of i Svc)
+    (list_rules name_of config i (not (is_local_policy i.internal)) i.lists.cluster) ∷ [])
+    ++ rows_if (not (is_empty i.lists.local))
+    (row (nat_table family) (port_chain name_of i Svl)
+    (list_rules name_of config i (is_local_policy i.internal) i.lists.local) ∷ [])
+    ++ rows_if (is_accessible i && i.lists.has_any)
+    (row (nat_table family) (port_chain name_of i Ext) (external_rules name_of config i i.outer) ∷ [])
+    ++ rows_if (has_firewall i)
+    (row (nat_table family) (port_chain name_of i Fw) (firewall_chain_rules name_of i i.ranges) ∷ [])
+    ++ map (λ e. row (nat_table family) (endpoint_chain name_of i e) (endpoint_rules name_of i e)) (all_endpoints i)
+
+-- all chains of a family
+abbrev pub rows_of : Family → Naming → Config → List PortInfo → List (ChainAt × List Rule)
+rows_of family name_of config infos =
+    nat_rows family name_of infos ++ filter_rows family infos ++ flat_map (port_rows family name_of config) infos
