@@ -1,0 +1,109 @@
+-- What a look-up finds in the full table.
+use Rattle.std.proofs.Common.{◌≡◌, suc, zero, Bool, true, false, cond, List, [], ◌∷◌, ◌++◌, Contains, Option, Some, bytes_eq, codes, refl, sym, ap, ◌∙◌, arith, true≢false, le_of_suc-le-suc}
+use Rattle.std.specs.declared.cmp.Ordering.{Ordering}
+use Rattle.std.specs.declared.cmp.Ordering.TheVariants.{Less, Equal, Greater}
+use Rattle.std.specs.Ordering.{nat_cmp, eq_by_cmp, is_eq, ordering_then}
+use Rattle.std.specs.Cmp.{eq_by_cmp_equiv}
+use Rattle.std.specs.Cmp.Lexicographic.{texts_ties}
+use Rattle.std.specs.FinMap.{find, get, get-from_entries}
+use Rattle.std.specs.List.{list_any}
+use Rattle.std.proofs.lemmas.Bool.{or_parts}
+use Rattle.kp_base.specs.Keys.{text_cmp}
+use Rattle.kp_base.specs.declared.address.Family.TheVariants.{V4}
+use Rattle.kp_base.specs.declared.config.Config.{Config}
+use Rattle.kp_types.specs.Places.{chain_cmp, table_place}
+use Rattle.kp_types.proofs.ChainOrder.{chain_total, chain_exact}
+use Rattle.kp_types.specs.declared.chain.TableName.{TableName}
+use Rattle.kp_types.specs.declared.chain.TableName.TheVariants.{Nat, Filter}
+use Rattle.kp_types.specs.declared.chain.ChainAt.{ChainAt}
+use Rattle.kp_types.specs.declared.rule.Rule.{Rule}
+use Rattle.kp_object_defs.specs.PortInfo.{PortInfo}
+use Rattle.kp_table_defs.specs.Layout.{Naming, mark_masq, kube_postrouting, kube_node_ports, kube_services, kube_forward, kube_proxy_firewall, kube_external_services, rows_of}
+use Rattle.kp_table_defs.specs.Rebuild.{full_chains}
+use Rattle.kp_walk_laws.proofs.Outcomes.{first_in, later_in}
+use Rattle.kp_walk_laws.proofs.FirstHook.{FindsNat}
+use Rattle.kp_walk_laws.proofs.FilterChains.{FindsFilter}
+
+abbrev table_cmp : TableName → TableName → Ordering
+table_cmp a b = nat_cmp (table_place a) (table_place b)
+
+-- ---- Rows
+
+-- a row is for a place
+abbrev pub Row : Type 0
+Row = ChainAt × List Rule
+
+pub is_eq_true : (o : Ordering) → is_eq o ≡ true → o ≡ Equal
+is_eq_true Less h = absurd (cc)
+is_eq_true Equal h = refl
+is_eq_true Greater h = absurd (cc)
+
+then_false : (a b : Ordering) → is_eq b ≡ false → is_eq (ordering_then a b) ≡ false
+then_false Less b h = refl
+then_false Equal b h = h
+then_false Greater b h = refl
+
+-- a place of another name is another place
+other_place : (q at : ChainAt) → bytes_eq q.chain at.chain ≡ false → eq_by_cmp chain_cmp q at ≡ false
+other_place q at h = then_false (table_cmp q.table at.table) (text_cmp q.chain at.chain) (sym (texts_ties q.chain at.chain) ∙ h)
+
+-- a look-up passes over rows of other names
+pub pass_over : (q : ChainAt) (rows more : List Row) → list_any (λ r. bytes_eq q.chain r.0.chain) rows ≡ false → find chain_cmp q (rows ++ more) ≡ find chain_cmp q more
+pass_over q [] more h = refl
+pass_over q (r ∷ rows) more h =
+    let parts = or_parts (bytes_eq q.chain r.0.chain) (list_any (λ s. bytes_eq q.chain s.0.chain) rows) h in
+    ap (λ b. cond b (Some r.1) (find chain_cmp q (rows ++ more))) (other_place q r.0 parts.0) ∙ pass_over q rows more parts.1
+
+-- a place is itself
+same_place : (q : ChainAt) → eq_by_cmp chain_cmp q q ≡ true
+same_place q = (eq_by_cmp_equiv chain_total).refl q
+
+-- a row behind the first, which is for another place
+behind_other : (q : ChainAt) (rules : List Rule) (r : Row) (rows : List Row) → eq_by_cmp chain_cmp q r.0 ≡ false → Contains (r ∷ rows) (q, rules) → Contains rows (q, rules)
+behind_other q rules r rows other (zero, l, e) = absurd (true≢false (sym (same_place q) ∙ ap (λ (s : Row). eq_by_cmp chain_cmp q s.0) (sym e) ∙ other))
+behind_other q rules r rows other (suc k, l, e) = (k, le_of_suc-le-suc l, e)
+
+agreed_by : (q : ChainAt) (rules : List Rule) (r : Row) (found : Option (List Rule)) → (r.0 ≡ q → r.1 ≡ rules) → (b : Bool) → eq_by_cmp chain_cmp q r.0 ≡ b → (b ≡ false → found ≡ Some rules) → cond b (Some r.1) found ≡ Some rules
+agreed_by q rules r found here true t later = ap (λ rs. Some rs) (here (sym (chain_exact q r.0 (is_eq_true (chain_cmp q r.0) t))))
+agreed_by q rules r found here false t later = later refl
+
+-- where all rows of a place have the same rules, a look-up finds these
+pub agreed : (q : ChainAt) (rules : List Rule) (rows : List Row) → Contains rows (q, rules) → ((r : Row) → Contains rows r → r.0 ≡ q → r.1 ≡ rules) → find chain_cmp q rows ≡ Some rules
+agreed q rules [] (k, l, e) h = absurd (omega arith)
+agreed q rules (r ∷ rows) stands h =
+    agreed_by q rules r (find chain_cmp q rows) (h r (first_in r rows)) (eq_by_cmp chain_cmp q r.0) refl
+    (λ other. agreed q rules rows (behind_other q rules r rows other stands) (λ s c. h s (later_in s r rows c)))
+
+-- ---- Fixed chains
+
+module _ (name_of : Naming) (config : Config) (infos : List PortInfo) where
+  -- a look-up in the full table
+  abbrev pub look_up : ChainAt → Option (List Rule)
+  look_up q = get (full_chains V4 name_of config infos) q
+
+  pub in_rows : (q : ChainAt) → look_up q ≡ find chain_cmp q (rows_of V4 name_of config infos)
+  in_rows q = get-from_entries chain_total (rows_of V4 name_of config infos) q
+
+  -- the shared chains of nat are found
+  pub finds_nat : FindsNat name_of infos look_up
+  finds_nat = record {
+    prerouting = in_rows (record { table = Nat; chain = codes "PREROUTING" });
+    output = in_rows (record { table = Nat; chain = codes "OUTPUT" });
+    postrouting = in_rows (record { table = Nat; chain = codes "POSTROUTING" });
+    mark = in_rows (record { table = Nat; chain = mark_masq });
+    masquerade = in_rows (record { table = Nat; chain = kube_postrouting });
+    node_ports = in_rows (record { table = Nat; chain = kube_node_ports });
+    services = in_rows (record { table = Nat; chain = kube_services });
+  }
+
+  -- and those of filter
+  pub finds_filter : FindsFilter infos look_up
+  finds_filter = record {
+    input = in_rows (record { table = Filter; chain = codes "INPUT" });
+    forward = in_rows (record { table = Filter; chain = codes "FORWARD" });
+    output = in_rows (record { table = Filter; chain = codes "OUTPUT" });
+    marked = in_rows (record { table = Filter; chain = kube_forward });
+    firewall = in_rows (record { table = Filter; chain = kube_proxy_firewall });
+    external = in_rows (record { table = Filter; chain = kube_external_services });
+    services = in_rows (record { table = Filter; chain = kube_services });
+  }

@@ -1,0 +1,107 @@
+-- Hexadecimal digits tell numbers apart, and so stand-in names tell the chains of one port apart.
+use Rattle.std.proofs.Common.{inl, inr, ◌≡◌, ◌≢◌, ℕ, suc, zero, ◌*◌, ◌/◌, ◌%◌, ◌^◌, ◌<◌, ◌≤◌, true, false, ◌&&◌, List, [], ◌∷◌, ◌++◌, length, get_or, Contains, codes, refl, sym, ap, ap₂, ◌∙◌, arith, add-one, pow-suc}
+use Rattle.std.specs.List.{list_all}
+use Rattle.std.proofs.lemmas.Bool.Decides.{nat_tests}
+use Rattle.std.proofs.lemmas.Bool.{and_from}
+use Rattle.std.proofs.lemmas.List.{same_from_push, append_cancel_left, length_push}
+use Rattle.std.proofs.lemmas.List.Folds.{list_all-append}
+use Rattle.kp_base.specs.declared.key.Endpoint.{Endpoint}
+use Rattle.kp_types.specs.Chains.{is_chain_byte}
+use Rattle.kp_types.specs.declared.chain.ChainKey.{ChainKey}
+use Rattle.kp_types.specs.declared.chain.ChainKey.TheVariants.{Port, Sep}
+use Rattle.kp_types.specs.declared.chain.PortChain.TheVariants.{Svc, Svl, Ext, Fw}
+use Rattle.kp_object_defs.specs.PortInfo.{PortInfo}
+use Rattle.kp_walk_laws.specs.Laws.{is_fixed_name, IsSmall, StandInApart, StandInNames}
+use Rattle.kp_walk_laws.proofs.Members.{none_in, in_cases}
+use Rattle.kp_table_defs.specs.StandIn.{hex_digit, hex_text, stand_in_name}
+
+-- a digit tells its number
+digit_exact : (c d : ℕ) → c < 16 → d < 16 → hex_digit c ≡ hex_digit d → c ≡ d
+digit_exact c d hc hd h = grind (arith, nat_tests)
+
+-- a digit is a byte of a chain's name
+digit_in_name : (d : ℕ) → d < 16 → is_chain_byte (hex_digit d) ≡ true
+digit_in_name d h = grind (arith, nat_tests)
+
+length_hex : (width n : ℕ) → length (hex_text width n) ≡ width
+length_hex zero n = refl
+length_hex (suc width) n = length_push (hex_text width (n / 16)) (hex_digit (n % 16)) ∙ add-one (length (hex_text width (n / 16))) ∙ ap suc (length_hex width (n / 16))
+
+fewer : (n p : ℕ) → n < p * 16 → n / 16 < p
+fewer n p h = omega arith
+
+-- so many digits tell all numbers apart that have no more
+hex_exact : (width m n : ℕ) → m < 16 ^ width → n < 16 ^ width → hex_text width m ≡ hex_text width n → m ≡ n
+hex_exact zero m n hm hn h = omega arith
+hex_exact (suc width) m n hm hn h =
+    let parts = same_from_push (hex_text width (m / 16)) (hex_text width (n / 16)) (hex_digit (m % 16)) (hex_digit (n % 16)) h in
+    let high : m / 16 ≡ n / 16 = hex_exact width (m / 16) (n / 16) (fewer m (16 ^ width) (rw pow-suc at hm)) (fewer n (16 ^ width) (rw pow-suc at hn)) parts.0 in
+    let low : m % 16 ≡ n % 16 = digit_exact (m % 16) (n % 16) (omega arith) (omega arith) parts.1 in
+    omega arith
+
+-- lists of one length that begin two equal ones are equal, and so is the rest
+same_halves : (xs us ys vs : List ℕ) → length xs ≡ length us → xs ++ ys ≡ us ++ vs → (xs ≡ us) × (ys ≡ vs)
+same_halves [] [] ys vs long h = (refl, h)
+same_halves [] (u ∷ us) ys vs long h = absurd (omega arith)
+same_halves (x ∷ xs) [] ys vs long h = absurd (omega arith)
+same_halves (x ∷ xs) (u ∷ us) ys vs long h =
+    let head : x ≡ u = cc in
+    let rest : xs ++ ys ≡ us ++ vs = cc in
+    let halves = same_halves xs us ys vs (omega arith) rest in
+    (ap₂ (λ a b. a ∷ b) head halves.0, halves.1)
+
+-- endpoints of one stand-in name are one
+endpoint_exact : (f g : Endpoint) → IsSmall f → IsSmall g → codes "KUBE-SEP-" ++ (hex_text 8 f.address.number ++ hex_text 4 f.port) ≡ codes "KUBE-SEP-" ++ (hex_text 8 g.address.number ++ hex_text 4 g.port) → f ≡ g
+endpoint_exact f g hf hg h =
+    let digits = append_cancel_left (codes "KUBE-SEP-") (hex_text 8 f.address.number ++ hex_text 4 f.port) (hex_text 8 g.address.number ++ hex_text 4 g.port) h in
+    let halves = same_halves (hex_text 8 f.address.number) (hex_text 8 g.address.number) (hex_text 4 f.port) (hex_text 4 g.port) (length_hex 8 f.address.number ∙ sym (length_hex 8 g.address.number)) digits in
+    let family : f.address.family ≡ g.address.family = hf.family ∙ sym hg.family in
+    let number : f.address.number ≡ g.address.number = hex_exact 8 f.address.number g.address.number hf.number hg.number halves.0 in
+    let port : f.port ≡ g.port = hex_exact 4 f.port g.port hf.port hg.port halves.1 in
+    λ i. record { address = record { family = family i; number = number i }; port = port i }
+
+-- no stand-in name is a fixed chain's
+unfixed : (k : ChainKey) → is_fixed_name (stand_in_name k) ≡ false
+unfixed (Port Svc port) = refl
+unfixed (Port Svl port) = refl
+unfixed (Port Ext port) = refl
+unfixed (Port Fw port) = refl
+unfixed (Sep port e) = refl
+
+-- a list of at most one element has only that one
+only_one : (infos : List PortInfo) → length infos ≤ 1 → (i j : PortInfo) → Contains infos i → Contains infos j → i ≡ j
+only_one [] few i j ci cj = absurd (none_in i ci)
+only_one (x ∷ []) few i j ci cj = sym (is_first x i ci) ∙ is_first x j cj
+  where
+    is_first : (x i : PortInfo) → Contains (x ∷ []) i → x ≡ i
+    is_first x i c = elim (in_cases i x [] c) [ inl e ↦ e | inr d ↦ absurd (none_in i d) ]
+only_one (x ∷ y ∷ more) few i j ci cj = absurd (omega arith)
+
+-- the names of a list's chain and of an endpoint's differ at their seventh byte
+other_kind : (digits : List ℕ) → codes "KUBE-SVC-" ≢ codes "KUBE-SEP-" ++ digits
+other_kind digits h = let byte : ◌≡◌ {A = ℕ} 86 69 = ap (λ l. get_or l 6 0) h in omega arith
+
+pub stand_in_apart_by : StandInApart
+stand_in_apart_by infos few small = record {
+  made = unfixed;
+  ports = λ i j ci cj same. only_one infos few i j ci cj;
+  kinds = λ i j f ci cj cf. other_kind (hex_text 8 f.address.number ++ hex_text 4 f.port);
+  endpoints = λ i j f g ci cj cf cg same. (only_one infos few i j ci cj, endpoint_exact f g (small i f ci cf) (small j g cj cg) same);
+}
+
+all_hex : (width n : ℕ) → list_all is_chain_byte (hex_text width n) ≡ true
+all_hex zero n = refl
+all_hex (suc width) n =
+    list_all-append is_chain_byte (hex_text width (n / 16)) (hex_digit (n % 16) ∷ [])
+    ∙ and_from (list_all is_chain_byte (hex_text width (n / 16))) (is_chain_byte (hex_digit (n % 16)) && true) (all_hex width (n / 16))
+    (and_from (is_chain_byte (hex_digit (n % 16))) true (digit_in_name (n % 16) (omega arith)) refl)
+
+pub stand_in_names_by : StandInNames
+stand_in_names_by (Port Svc port) = refl
+stand_in_names_by (Port Svl port) = refl
+stand_in_names_by (Port Ext port) = refl
+stand_in_names_by (Port Fw port) = refl
+stand_in_names_by (Sep port e) =
+    let bytes = list_all-append is_chain_byte (hex_text 8 e.address.number) (hex_text 4 e.port)
+    ∙ and_from (list_all is_chain_byte (hex_text 8 e.address.number)) (list_all is_chain_byte (hex_text 4 e.port)) (all_hex 8 e.address.number) (all_hex 4 e.port) in
+    ap (λ b. b && true) bytes

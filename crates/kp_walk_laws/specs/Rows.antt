@@ -1,0 +1,123 @@
+-- Worked examples of walks: on a node with the address 10.0.0.9, in a cluster whose pods have addresses in
+-- 10.244.0.0/16, a Service has the cluster address 10.0.0.1 and the port 80 of TCP, and its endpoints are pods.
+use Rattle.std.specs.Prelude.{◌≡◌, ℕ, ◌+◌, ◌*◌, ◌^◌, true, false, List, [], ◌∷◌, not, codes, Some, None}
+use Rattle.std.specs.FinMap as map
+use Rattle.std.proofs.Common.{lit≤}
+use Rattle.kp_base.specs.Net.{AddressParts, v4_address}
+use Rattle.kp_base.specs.declared.address.Family.TheVariants.{V4}
+use Rattle.kp_base.specs.declared.port.Proto.{Proto}
+use Rattle.kp_base.specs.declared.port.Proto.TheVariants.{Tcp, Udp}
+use Rattle.kp_base.specs.declared.key.Endpoint.{Endpoint}
+use Rattle.kp_base.specs.declared.config.Config.{Config}
+use Rattle.kp_types.specs.Places.{chain_cmp}
+use Rattle.kp_types.specs.declared.packet.Packet.{Packet}
+use Rattle.kp_types.specs.declared.packet.Origin.TheVariants.{Wire}
+use Rattle.kp_types.specs.declared.service.Policy.TheVariants.{Cluster}
+use Rattle.kp_types.specs.declared.verdict.Verdict.{Verdict}
+use Rattle.kp_types.specs.declared.verdict.Verdict.TheVariants.{To, Rejected, LeftAlone}
+use Rattle.kp_choice_defs.specs.Draws.{draw_of_list}
+use Rattle.kp_choice_defs.specs.Recent.{RecentParts}
+use Rattle.kp_object_defs.specs.Desired.{is_empty}
+use Rattle.kp_object_defs.specs.PortInfo.{PortInfo}
+use Rattle.kp_table_defs.specs.Layout.{rows_of}
+use Rattle.kp_table_defs.specs.StandIn.{stand_in_name}
+use Rattle.kp_table_defs.specs.Walk.{walk_of}
+
+-- the address 10.0.0.0 + n
+abbrev pub host : ℕ → AddressParts
+host n = v4_address (10 * 2 ^ 24 + n)
+
+-- the address of the n-th pod of the node's range
+abbrev pub pod : ℕ → AddressParts
+pod n = v4_address (10 * 2 ^ 24 + 244 * 2 ^ 16 + n)
+
+-- the node
+abbrev pub config : Config
+config = record {
+  node = codes "node";
+  addresses = host 9 ∷ [];
+  cluster = Some (record { base = pod 0; bits = 16 });
+  masquerade_all = false;
+  controller = false;
+  max_per_slice = 100;
+  max_events = 100;
+  recent_size = 100;
+  name_length = 16;
+  slice_from = lit≤ tt;
+  slice_to = lit≤ tt;
+  events_from = lit≤ tt;
+  events_to = lit≤ tt;
+  recent_from = lit≤ tt;
+  recent_to = lit≤ tt;
+  name_to = lit≤ tt;
+}
+
+-- the n-th pod as an endpoint
+abbrev pub endpoint_at : ℕ → Endpoint
+endpoint_at n = record { address = pod n; port = 8080 }
+
+-- the Service's port, with these endpoints
+abbrev pub port_with : List Endpoint → PortInfo
+port_with es = record {
+  key = record { object = record { namespace = codes "default"; name = codes "web" }; port_name = codes "http"; proto = Tcp };
+  number = 80;
+  address = host 1;
+  external = [];
+  balancer = [];
+  node_port = None;
+  ranges = None;
+  affinity = None;
+  internal = Cluster;
+  outer = Cluster;
+  lists = record { cluster = es; local = []; has_any = not (is_empty es) };
+}
+
+-- recent lists of no source
+abbrev pub no_lists : RecentParts
+no_lists = record { size = 100; parts = map.empty }
+
+-- a packet from the network to the Service
+abbrev pub packet_from : AddressParts → Proto → Packet
+packet_from source proto = record { from = Wire; source = source; target = host 1; proto = proto; port = 80; now = 0 }
+
+-- the verdict of the walk of a packet with these draws, where the Service has these endpoints
+abbrev pub verdict_on : List Endpoint → Packet → List ℕ → Verdict
+verdict_on endpoints packet draws =
+    (walk_of (λ q. map.find chain_cmp q (rows_of V4 stand_in_name config (port_with endpoints ∷ []))) config.addresses
+    packet (draw_of_list draws) no_lists).verdict
+
+-- three endpoints
+abbrev pub three : List Endpoint
+three = endpoint_at 1 ∷ endpoint_at 2 ∷ endpoint_at 3 ∷ []
+
+-- a packet of a pod goes to the one endpoint, whatever is drawn
+abbrev pub OneEndpoint : Type 0
+OneEndpoint = verdict_on (endpoint_at 1 ∷ []) (packet_from (pod 5) Tcp) [] ≡ To (endpoint_at 1) false
+
+-- the first of three has one third of the draws
+abbrev pub FirstOfThree : Type 0
+FirstOfThree = verdict_on three (packet_from (pod 5) Tcp) (715827882 ∷ []) ≡ To (endpoint_at 1) false
+
+-- the second has one half of those that are left
+abbrev pub SecondOfThree : Type 0
+SecondOfThree = verdict_on three (packet_from (pod 5) Tcp) (715827883 ∷ 1073741823 ∷ []) ≡ To (endpoint_at 2) false
+
+-- and the third has the rest
+abbrev pub ThirdOfThree : Type 0
+ThirdOfThree = verdict_on three (packet_from (pod 5) Tcp) (715827883 ∷ 1073741824 ∷ []) ≡ To (endpoint_at 3) false
+
+-- what an endpoint sends to itself is masqueraded
+abbrev pub ToItself : Type 0
+ToItself = verdict_on three (packet_from (pod 1) Tcp) (0 ∷ []) ≡ To (endpoint_at 1) true
+
+-- and so is what comes from outside the cluster
+abbrev pub FromOutside : Type 0
+FromOutside = verdict_on three (packet_from (host 5) Tcp) (0 ∷ []) ≡ To (endpoint_at 1) true
+
+-- without endpoints a packet is rejected
+abbrev pub NoEndpoints : Type 0
+NoEndpoints = verdict_on [] (packet_from (pod 5) Tcp) [] ≡ Rejected
+
+-- a packet of another protocol is no Service's
+abbrev pub OtherProtocol : Type 0
+OtherProtocol = verdict_on three (packet_from (pod 5) Udp) (0 ∷ []) ≡ LeftAlone
