@@ -1,0 +1,13 @@
+//! Random numbers of the statistic match, and the selection of an endpoint by them.
+#![tactic(auto)]
+
+mod draws;
+pub mod laws;
+mod source;
+mod statistic;
+#[cfg(test)]
+mod tests;
+
+pub use draws::{draw_of_list, draw_of_seed};
+pub use source::DrawSource;
+pub use statistic::{probability, probability_text, threshold};
