@@ -1,0 +1,9 @@
+//! The lines that the program prints.
+#![tactic(auto)]
+
+mod address;
+#[cfg(test)]
+mod tests;
+mod text;
+
+pub use text::{answer_text, refusal_text, sync_text};

@@ -1,0 +1,32 @@
+-- What the reader of JSON answers, as the definition of the value that bytes are.
+use Rattle.std.proofs.Common.{◌≡◌, ℕ, List, Bool, true, false, cond, ap, refl, ◌∙◌}
+use Rattle.std.specs.Prelude.{Option, Some, None, IsUtf8}
+use Rattle.std.specs.Str.{is_utf8}
+use Rattle.std.proofs.lemmas.Str.{IsUtf8-from_is_utf8, is_utf8-from_IsUtf8}
+use Rattle.serde_json.specs.Data.{Data}
+use Rattle.serde_json.specs.Read.{read}
+use Rattle.std.specs.Prelude.{Result, Err}
+use Rattle.serde_json.specs.Errors.{IsMemory}
+use Rattle.serde_json.specs.declared.error.Error.{Error}
+use Rattle.kp_text_defs.specs.Forms.{json_of}
+use Rattle.kp_script.specs.Lines.{Parses, IsJsonFault}
+use Rattle.kp_script.specs.declared.line.LineFault.{LineFault}
+use Rattle.kp_script.specs.declared.line.LineFault.TheVariants.{BadJson, NotBuilt, NoMemory}
+
+-- text that is read
+pub json_read : (bs : List ℕ) (d : Data) → IsUtf8 bs → read bs ≡ Some d → json_of bs ≡ Some d
+json_read bs d utf8 h = ap (λ b. cond b (read bs) None) (is_utf8-from_IsUtf8 bs utf8) ∙ h
+
+by_test : (bs : List ℕ) (b : Bool) → is_utf8 bs ≡ b → (IsUtf8 bs → read bs ≡ None) → cond b (read bs) None ≡ None
+by_test bs true e h = h (IsUtf8-from_is_utf8 bs e)
+by_test bs false e h = refl
+
+-- bytes that are no text, or text that isn't read
+pub json_none : (bs : List ℕ) → (IsUtf8 bs → read bs ≡ None) → json_of bs ≡ None
+json_none bs h = by_test bs (is_utf8 bs) refl h
+
+-- why the reader gave no value
+pub refused : (error : Error) (bs : List ℕ) (f : LineFault) → IsJsonFault error f → (¬ (IsMemory error) → IsUtf8 bs → read bs ≡ None) → Parses (Err f) bs
+refused error bs NoMemory h k = tt
+refused error bs BadJson h k = json_none bs (k h)
+refused error bs NotBuilt h k = absurd h
