@@ -1,0 +1,5 @@
+//! Worked examples: whole inputs and what the program writes for them.
+#![tactic(auto)]
+
+#[cfg(test)]
+mod tests;

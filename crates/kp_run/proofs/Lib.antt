@@ -1,0 +1,3 @@
+pub mod ComeLemmas
+pub mod ObjectLemmas
+pub mod StateLemmas
