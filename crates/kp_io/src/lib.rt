@@ -3,12 +3,12 @@
 #![tactic(auto)]
 
 mod chunk;
-mod fault_plan;
 mod gather;
 mod line_reader;
 mod memory_sink;
 mod memory_source;
 mod next_line;
+mod plan;
 mod real;
 mod sink;
 mod source;

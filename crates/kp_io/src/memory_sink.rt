@@ -4,7 +4,7 @@ ghost use Rattle.kp_io.specs.Faults.{HasCause};
 ghost use Rattle.kp_io.specs.Memory.{told_bytes, told_flushed, fresh_sink, fresh_plan, Meets};
 ghost use Rattle.kp_io.specs.Told.{Grows, TakesFront, FlushesOn, IsFlushed};
 
-use crate::fault_plan::Plan;
+use crate::plan::Plan;
 use crate::sink::Sink;
 use crate::source::Failed;
 use crate::sure_sink::SureSink;

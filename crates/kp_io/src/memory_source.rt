@@ -5,7 +5,7 @@ ghost use Rattle.std.specs.Io.KnownBytes.{ReadConsumes};
 ghost use Rattle.kp_io.specs.Faults.{HasCause};
 ghost use Rattle.kp_io.specs.Memory.{fresh_plan, Meets};
 
-use crate::fault_plan::Plan;
+use crate::plan::Plan;
 use crate::source::{Failed, Source};
 use crate::sure_source::SureSource;
 use kp_base::Items;

@@ -1,6 +1,6 @@
 -- What a replay has written, and how it ends.
-use Rattle.std.specs.Prelude.{◌≡◌, ◌≤◌, ◌<◌, ◌+◌, ℕ, Bool, true, false, List, take, length, Option, Some, None, IfSome, ⊤, ◌⊎◌}
-use Rattle.kp_io.specs.Told.{Grows, FromTold, IsFlushed}
+use Rattle.std.specs.Prelude.{◌≡◌, ◌<◌, ℕ, Bool, true, false, List, length, Option, IfSome, ⊤, ◌⊎◌}
+use Rattle.kp_io.specs.Told.{Grows, IsFlushed}
 use Rattle.kp_io.specs.Lines.{lines_of}
 use Rattle.kp_io.specs.Reader.{HandedOut}
 use Rattle.kp_io.specs.Faults.{Rose}
@@ -13,17 +13,6 @@ use Rattle.kp_run.specs.declared.state.Replay.{Replay}
 use Rattle.kp_run.specs.declared.status.Status.{Status}
 use Rattle.kp_run.specs.declared.status.Status.TheVariants.{Done, NoMemory, Usage, LinesRefused, ReadFault, WriteFault, InputTooLong}
 use Rattle.kp_run.specs.State.{Stands}
-
--- a sink grew by the front of a text
-abbrev pub IsPrefixOf : List ℕ → Option (List ℕ) → Option (List ℕ) → Type 0
-IsPrefixOf text before now = (n : ℕ) × Grows before now (take n text)
-
--- lines were handed out from the front of an input, and a sink grew by the front of their text
-pub record WritesFront (input written now : Option (List ℕ)) : Type 0 where
-  pub lines : List (List ℕ)
-  pub rest : Option (List ℕ)
-  pub handed : HandedOut lines input rest
-  pub front : IsPrefixOf (replay_of lines).text written now
 
 -- How far the program has come: the lines that were handed out, the replay of these lines, where the program
 -- stands, and what it has written.

@@ -1,4 +1,4 @@
-use Rattle.std.proofs.Common.{◌≡◌, ◌+◌, ◌-◌, ◌≤◌, ◌++◌, ◌∷◌, List, [], ℕ, length}
+use Rattle.std.proofs.Common.{◌+◌, ◌-◌, ◌≤◌, ◌++◌, ◌∷◌, List, [], ℕ}
 use Rattle.std.specs.List.{flat_map}
 use Rattle.kp_io.specs.Reader.{HandedOut, to_come}
 use Rattle.kp_io.specs.Told.{Grows}
