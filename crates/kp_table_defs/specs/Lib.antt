@@ -2,6 +2,7 @@ pub mod Edits
 pub mod Layout
 pub mod Matching
 pub mod Plain
+pub mod RankedWalk
 pub mod Ranks
 pub mod Rebuild
 pub mod StandIn

@@ -77,3 +77,12 @@ is_ranked_chain chains (at, rules) = jumps_go_on chains at.table (rank_of at) ru
 -- whether all chains of a table are so
 abbrev pub is_ranked : Chains → Bool
 is_ranked chains = list_all (is_ranked_chain chains) (finite.entries chains)
+
+-- whether a table has all its built-in chains
+abbrev pub has_built_in : Chains → TableName → Bool
+has_built_in chains table =
+    list_all (λ chain. is_some (finite.get chains (record { table = table; chain = chain }))) (built_in_chains table)
+
+-- whether both tables do
+abbrev pub has_built_in_chains : Chains → Bool
+has_built_in_chains chains = has_built_in chains Nat && has_built_in chains Filter

@@ -1,0 +1,6 @@
+mod ChangeLists
+mod ChangesLead
+mod MapPlaces
+mod PlaceOrder
+mod RankedPlaces
+mod RankedWalk

@@ -1,0 +1,28 @@
+use Rattle.std.proofs.Common.{sym, ap, ◌∙◌, subst}
+use Rattle.std.specs.FinMap as finite
+use Rattle.std.specs.List.Sorted.{IsStrictlySortedBy}
+use Rattle.kp_base.proofs.Maps.{removed}
+use Rattle.kp_types.specs.Places.{chain_cmp}
+use Rattle.kp_types.proofs.ChainOrder.{chain_total, chain_exact, chain_ties}
+use Rattle.kp_rules.specs.Order.{without_place}
+use Rattle.kp_rules.proofs.MapPlaces.{keys-remove, keys-sorted}
+use Rattle.kp_rules.proofs.chain_map.ChainMap.remove.Goals as goal
+
+pub remove-requires : goal.remove-requires
+remove-requires c = subst (IsStrictlySortedBy chain_cmp) (sym c.self.invariant) (keys-sorted (finite.from_entries c.self.inside.rules.entries))
+
+pub invariant_of-self : goal.invariant_of-self
+invariant_of-self c =
+    let now = removed chain_total chain_ties chain_exact c.self.inside.rules.entries c.swap_remove.new.self.entries c.args.at.now c.swap_remove.ensures.updates.0 in
+    c.remove.ensures ∙ ap (without_place c.args.at.now) c.self.invariant
+    ∙ sym (ap finite.keys now ∙ keys-remove (finite.from_entries c.self.inside.rules.entries) c.args.at.now)
+
+pub returns-then-is_some-clause-chains : goal.returns-then-is_some-clause-chains
+returns-then-is_some-clause-chains c =
+    removed chain_total chain_ties chain_exact c.self.inside.rules.entries c.swap_remove.new.self.entries c.args.at.now c.swap_remove.ensures.updates.0
+    ∙ ap (λ m. finite.remove m.chains c.args.at.now) c.self.view_is
+
+pub returns-else-is_some-clause-chains : goal.returns-else-is_some-clause-chains
+returns-else-is_some-clause-chains c =
+    removed chain_total chain_ties chain_exact c.self.inside.rules.entries c.swap_remove.new.self.entries c.args.at.now c.swap_remove.ensures.updates.0
+    ∙ ap (λ m. finite.remove m.chains c.args.at.now) c.self.view_is

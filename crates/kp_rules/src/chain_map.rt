@@ -1,0 +1,101 @@
+//! Chains by place: a hash table finds a chain, and a tree has the places in order.
+ghost use Rattle.std.specs.Prelude.{◌≡◌, ◌+◌, ◌<◌, ◌≤◌, slice_get, OnOk};
+ghost use Rattle.std.specs.FinMap as finite;
+ghost use Rattle.std.specs.Option.{option_copied};
+
+use crate::new_chain::NewChain;
+use crate::places::Places;
+use indexmap::IndexMap;
+use kp_base::{Items, NoMemory};
+use kp_types::{ChainAt, Rule};
+use std::alloc::Global;
+use std::marker::Model;
+
+/// Chains by place. Contracts see a finite map, and how many new chains can be written with no more memory.
+#[derive(Drop)]
+pub struct ChainMap {
+    rules: IndexMap<ChainAt, Items<Rule>>,
+    places: Places,
+}
+
+impl Model for ChainMap {
+    ghost use Rattle.std.specs.Prelude.{◌≡◌};
+    ghost use Rattle.std.specs.FinMap as finite;
+    ghost use Rattle.indexmap.specs.IndexMap.{spare};
+    ghost use Rattle.kp_types.specs.Places.{chain_cmp};
+    ghost use Rattle.kp_rules.specs.Roomy.{RoomyChains, roomy_code};
+
+    ghost Value = { RoomyChains };
+
+    ghost coded = { roomy_code };
+
+    ghost view = { λ m. record { chains = finite.from_entries {R = chain_cmp} m.rules.entries; room = spare m.rules } };
+
+    ghost invariant = { λ m. m.places ≡ finite.keys (finite.from_entries {R = chain_cmp} m.rules.entries) };
+}
+
+impl ChainMap {
+    /// No chains.
+    pub fn new(alloc: Global) -> ChainMap
+        ensures { result.chains ≡ finite.empty }
+    {
+        ChainMap {
+            rules: IndexMap::new(alloc),
+            places: Places::empty(),
+        }
+    }
+
+    /// The rules of a chain.
+    pub fn get(&self, at: &ChainAt) -> Option<&Items<Rule>>
+        ensures { option_copied result ≡ finite.get self.now.chains at.now }
+    {
+        self.rules.get(at)
+    }
+
+    /// The places of the chains.
+    pub fn places(&self) -> &Places
+        ensures { result.now ≡ finite.keys self.now.chains }
+    {
+        &self.places
+    }
+
+    /// The place at an index, in order.
+    pub fn place(&self, i: u64) -> Option<&ChainAt>
+        ensures { option_copied result ≡ slice_get (finite.keys self.now.chains) i }
+    {
+        self.places.get(i)
+    }
+
+    /// Makes room for this many new chains.
+    pub fn reserve(&mut self, additional: usize) -> Result<(), NoMemory>
+        ensures room { OnOk result (additional ≤ self.new.room) }
+        ensures chains { self.new.chains ≡ self.old.chains }
+    {
+        self.rules.reserve(additional)?;
+        Ok(())
+    }
+
+    /// Writes a chain. It takes no memory.
+    pub fn write(&mut self, chain: NewChain)
+        requires { 0 < self.old.room }
+        ensures chains { self.new.chains ≡ finite.insert self.old.chains chain.at chain.rules }
+        ensures room { self.old.room ≤ self.new.room + 1 }
+    {
+        let NewChain { at, rules, one } = chain;
+        let known = self.rules.len();
+        let _ = self.rules.insert(at.same(), rules);
+        if self.rules.len() > known {
+            self.places.insert(&at, one);
+        }
+    }
+
+    /// Removes a chain, if it is there.
+    pub fn remove(&mut self, at: &ChainAt)
+        ensures chains { self.new.chains ≡ finite.remove self.old.chains at.now }
+        ensures room { self.old.room ≤ self.new.room }
+    {
+        if self.rules.swap_remove(at).is_some() {
+            self.places.remove(at);
+        }
+    }
+}

@@ -1,0 +1,20 @@
+//! Laws of the definitions that tables rest on, for all tables. Each is a call that does nothing.
+ghost use Rattle.kp_table_defs.specs.Edits.{ChangesLeadOver, SameRulesAreEqual};
+ghost use Rattle.kp_table_defs.specs.RankedWalk.{RankedWalksEnd};
+
+/// The changes from one table to another, made in the first, give the chains of the second.
+#[tactic(auto, using(crate::proofs::ChangesLead::changes_lead))]
+pub fn changes_lead_over()
+    ensures { ChangesLeadOver }
+{}
+
+/// The test by which rules are compared tells whether they are equal.
+#[tactic(auto, using(crate::proofs::ChangesLead::same_rules_exact))]
+pub fn same_rules_are_equal()
+    ensures { SameRulesAreEqual }
+{}
+
+/// No walk of a hook gets stuck on a ranked table that has its built-in chains.
+pub fn ranked_walks_end()
+    ensures { RankedWalksEnd }
+{}

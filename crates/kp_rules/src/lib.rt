@@ -1,0 +1,17 @@
+//! Tables of chains of rules, edits of a table, and the edits that lead from one table to another.
+#![tactic(auto)]
+
+mod chain_map;
+mod changes;
+pub mod laws;
+mod new_chain;
+mod places;
+mod ranks;
+mod ready;
+mod table;
+#[cfg(test)]
+mod tests;
+
+pub use changes::changed;
+pub use kp_types::{Batch, ChainAt, ChainName, ChainText, Edit, Match, Rule, TableName, Target};
+pub use table::Table;

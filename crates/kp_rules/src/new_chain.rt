@@ -1,0 +1,27 @@
+//! A chain that is to be written.
+ghost use Rattle.std.specs.Prelude.{◌≡◌, [], ◌∷◌, IfOk};
+
+use crate::places::Places;
+use kp_base::{Items, NoMemory};
+use kp_types::{ChainAt, Rule};
+use std::alloc::Global;
+
+/// A chain to be written, with the memory for its place.
+#[derive(Drop)]
+pub struct NewChain {
+    pub at: ChainAt,
+    pub rules: Items<Rule>,
+    pub one: Places,
+    ghost placed: { one ≡ at ∷ [] },
+}
+
+impl NewChain {
+    /// A chain with these rules.
+    pub fn new(alloc: Global, at: ChainAt, rules: Items<Rule>) -> Result<NewChain, NoMemory>
+        ensures at { IfOk result (λ c. c.at ≡ at) }
+        ensures rules { IfOk result (λ c. c.rules ≡ rules) }
+    {
+        let one = Places::one(alloc, at.same())?;
+        Ok(NewChain { at, rules, one })
+    }
+}

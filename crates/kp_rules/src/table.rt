@@ -1,0 +1,108 @@
+//! The chains of one node's tables, and how often they were edited.
+ghost use Rattle.std.specs.Prelude.{◌≡◌, slice_get, IfOk, OnOk, OnErr};
+ghost use Rattle.std.specs.FinMap as finite;
+ghost use Rattle.std.specs.Option.{option_copied};
+ghost use Rattle.kp_table_defs.specs.Edits.{table_after_batch};
+ghost use Rattle.kp_table_defs.specs.Ranks as Ranks;
+
+use crate::chain_map::ChainMap;
+use crate::new_chain::NewChain;
+use crate::places::Places;
+use crate::ranks::are_ranked;
+use crate::ready::{make_all, ready_edits};
+use kp_base::{Items, NoMemory};
+use kp_types::{Batch, ChainAt, Rule};
+use std::alloc::Global;
+use std::marker::Model;
+
+/// The tables: a finite map from places to lists of rules, and how many batches were applied.
+#[derive(Drop)]
+pub struct Table {
+    alloc: Global,
+    chains: ChainMap,
+    syncs: u64,
+}
+
+impl Model for Table {
+    ghost use Rattle.kp_table_defs.specs.Rebuild.{TableParts};
+    ghost use Rattle.kp_rules.specs.Roomy.{table_code};
+
+    ghost Value = { TableParts };
+
+    ghost coded = { table_code };
+
+    ghost view = { λ t. record { chains = t.chains.chains; syncs = t.syncs } };
+}
+
+impl Table {
+    /// The table without chains, with a count of 0.
+    pub fn bare(alloc: Global) -> Result<Table, NoMemory>
+        ensures { IfOk result (λ t. t ≡ record { chains = finite.empty; syncs = 0 }) }
+    {
+        Ok(Table {
+            alloc,
+            chains: ChainMap::new(alloc),
+            syncs: 0,
+        })
+    }
+
+    /// How many batches were applied. The count stands still at its type's end.
+    pub fn syncs(&self) -> u64
+        ensures { result ≡ self.now.syncs }
+    {
+        self.syncs
+    }
+
+    /// The rules of a chain, if there is one at this place.
+    pub fn chain(&self, at: &ChainAt) -> Option<&Items<Rule>>
+        ensures { option_copied result ≡ finite.get self.now.chains at.now }
+    {
+        self.chains.get(at)
+    }
+
+    /// The place at an index, from 0, among those that have a chain: nat before filter, and then by the bytes
+    /// of the name.
+    pub fn place(&self, i: u64) -> Option<&ChainAt>
+        ensures { option_copied result ≡ slice_get (finite.keys self.now.chains) i }
+    {
+        self.chains.place(i)
+    }
+
+    /// Whether each chain has a rank and each jump goes to a chain of its table that there is and that has a
+    /// greater rank. It looks at each rule.
+    pub fn is_ranked(&self) -> bool
+        ensures { result ≡ Ranks.is_ranked self.now.chains }
+    {
+        are_ranked(self, self.places())
+    }
+
+    /// The places that have a chain.
+    pub(crate) fn places(&self) -> &Places
+        ensures { result.now ≡ finite.keys self.now.chains }
+    {
+        self.chains.places()
+    }
+
+    /// Writes a chain, in place of its old rules where there is one, and leaves the count.
+    pub fn put(&mut self, at: ChainAt, rules: Items<Rule>) -> Result<(), NoMemory>
+        ensures ok { OnOk result (self.new ≡ record self.old { chains = finite.insert self.old.chains at rules }) }
+        ensures err { OnErr result (self.new ≡ self.old) }
+    {
+        let chain = NewChain::new(self.alloc, at, rules)?;
+        self.chains.reserve(1)?;
+        self.chains.write(chain);
+        Ok(())
+    }
+
+    /// Makes the edits of a batch, in their order, and counts it.
+    pub fn apply(&mut self, batch: &Batch) -> Result<(), NoMemory>
+        ensures ok { OnOk result (self.new ≡ table_after_batch self.old batch.now.edits) }
+        ensures err { OnErr result (self.new ≡ self.old) }
+    {
+        let edits = ready_edits(self.alloc, batch.edits.as_slice())?;
+        self.chains.reserve(edits.len())?;
+        make_all(edits, &mut self.chains);
+        self.syncs = self.syncs.saturating_add(1);
+        Ok(())
+    }
+}
