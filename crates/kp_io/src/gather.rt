@@ -1,7 +1,7 @@
 //! The search for the end of a line, from one read of the source to the next.
 ghost use Rattle.std.specs.Prelude.{◌≡◌, ◌+◌, ◌≤◌, ◌++◌, List, ℕ, Ok, true, false, length};
 ghost use Rattle.std.specs.List.{list_any, position};
-ghost use Rattle.std.specs.Io.KnownBytes.{prepend_known};
+ghost use Rattle.std.specs.Io.KnownBytes.{prepend_known, IsAtEnd};
 ghost use Rattle.kp_io.specs.Lines.{is_line_feed};
 ghost use Rattle.kp_io.specs.Gather.{Moves, Gathers, feeds_of};
 ghost use Rattle.kp_io.specs.Reader.{TakesInput, HasReadCause};
@@ -63,6 +63,7 @@ pub(crate) fn gather_line<S: Source>(
     ensures cause { HasReadCause result (S.faults source.old) (S.faults source.new)
         (gathered.new.items ++ chunk.new) }
     ensures unasked { list_any is_line_feed chunk.old ≡ true → source.new ≡ source.old }
+    ensures ended { result ≡ Ok false → IsAtEnd (S.left source.new) }
 {
     loop {
         if gather(gathered, chunk)? {

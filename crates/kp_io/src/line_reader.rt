@@ -1,5 +1,6 @@
 //! A reader of lines.
 ghost use Rattle.std.specs.Prelude.{◌≡◌, Ok, true, false, IfOk};
+ghost use Rattle.std.specs.Io.KnownBytes.{IsAtEnd};
 ghost use Rattle.std.specs.List.{list_any};
 ghost use Rattle.kp_io.specs.Lines.{is_line_feed};
 
@@ -80,6 +81,7 @@ impl LineReader {
         ensures input { TakesInput result self.old.taken self.new.taken
             (S.left source.old) (S.left source.new) }
         ensures bounded { IsBounded self.new }
+        ensures ended { self.old.ended ≡ false → self.new.ended ≡ true → IsAtEnd (S.left source.new) }
         ensures unasked { answers_unasked self.old ≡ true → source.new ≡ source.old }
         ensures cause { HasReadCause result (S.faults source.old) (S.faults source.new) self.new.held }
     {
