@@ -1,0 +1,2 @@
+pub mod PlainTables
+pub mod Steps

@@ -1,0 +1,5 @@
+pub mod Answers
+pub mod Flow
+pub mod Journeys
+pub mod Progress
+pub mod Surroundings

@@ -1,0 +1,16 @@
+-- What a walk may ask: chains by their places, the node's addresses, and the draws.
+use Rattle.std.specs.Prelude.{List, Option}
+use Rattle.std.specs.FinMap.{get}
+use Rattle.kp_types.specs.declared.chain.ChainAt.{ChainAt}
+use Rattle.kp_types.specs.declared.rule.Rule.{Rule}
+use Rattle.kp_choice_defs.specs.Draws.{draw_of_list}
+use Rattle.kp_table_defs.specs.Matching as walk
+use Rattle.kp_walker.specs.declared.hook.Surroundings.{Surroundings}
+
+-- what matches may ask
+abbrev pub surroundings_of : Surroundings → walk.Surroundings
+surroundings_of around = record { node_addresses = around.node.now; draws = draw_of_list around.draws.now }
+
+-- the look-up of chains
+abbrev pub lookup_of : Surroundings → ChainAt → Option (List Rule)
+lookup_of around = get around.chains.now.chains

@@ -1,0 +1,17 @@
+//! The walk of a packet through the rules of a table.
+#![tactic(auto)]
+
+mod chains;
+mod flow;
+mod hook;
+mod hooks;
+mod journey;
+mod local;
+mod matching;
+mod progress;
+#[cfg(test)]
+mod tests;
+mod walking;
+
+pub use kp_types::{Answer, Origin, Packet, Pass, Trail, Verdict};
+pub use walking::walk;

@@ -1,0 +1,5 @@
+pub mod Fixed
+pub mod Laws
+pub mod Plain
+pub mod PortRows
+pub mod Rows
