@@ -18,7 +18,17 @@ const SERVICE_OTHER: &str =
 const SLICE_TWO: &str =
     r#"{"apiVersion":"discovery.k8s.io/v1","kind":"EndpointSlice","metadata":{"name":"web-x","labels":{"kubernetes.io/service-name":"web"}},"addressType":"IPv4","ports":[{"port":8080}],"endpoints":[{"addresses":["10.244.1.2"],"nodeName":"n1"},{"addresses":["10.244.2.3"],"nodeName":"n2"}]}"#;
 
+const SLICE_THREE: &str =
+    r#"{"apiVersion":"discovery.k8s.io/v1","kind":"EndpointSlice","metadata":{"name":"web-x","labels":{"kubernetes.io/service-name":"web"}},"addressType":"IPv4","ports":[{"port":8080}],"endpoints":[{"addresses":["10.244.1.2"],"nodeName":"n1"},{"addresses":["10.244.2.3"],"nodeName":"n2"},{"addresses":["10.244.3.4"],"nodeName":"n3"}]}"#;
+
+const SLICE_ONE: &str =
+    r#"{"apiVersion":"discovery.k8s.io/v1","kind":"EndpointSlice","metadata":{"name":"web-x","labels":{"kubernetes.io/service-name":"web"}},"addressType":"IPv4","ports":[{"port":8080}],"endpoints":[{"addresses":["10.244.1.2"],"nodeName":"n1"}]}"#;
+
 const SYNC: &str = r#"{"op":"sync"}"#;
+
+/// From a pod that is no endpoint to the Service, with the draw 0.
+const PACKET: &str =
+    r#"{"op":"packet","src":"10.244.9.9","dst":"10.96.0.10","dport":80,"draws":[0]}"#;
 
 /// The bytes of lines, each with a line feed.
 fn input(alloc: Global, lines: &[&str]) -> Result<Items<u8>, AllocError> {
@@ -56,41 +66,87 @@ fn check(
 }
 
 #[test]
-fn inputs_have_their_texts(rt: HostRuntime) -> Result<(), Fail> {
-    check(&rt, rt.alloc(), &[], "", Status::Done)?;
-    check(
-        &rt,
-        rt.alloc(),
-        &[CONFIG, SERVICE_WEB, SLICE_TWO],
+fn a_packet_reaches_the_first_endpoint(rt: HostRuntime) -> Result<(), Fail> {
+    let lines = [CONFIG, SERVICE_WEB, SLICE_TWO, SYNC, PACKET];
+    let want = "sync 1: events 2, written 4, removed 0\npacket 5 at 1: to 10.244.1.2:8080\n";
+    check(&rt, rt.alloc(), &lines, want, Status::Done)?;
+    check(&rt, rt.alloc(), &[], "", Status::Done)
+}
+
+#[test]
+fn draws_choose_by_thresholds(rt: HostRuntime) -> Result<(), Fail> {
+    let lines = [
+        CONFIG,
+        SERVICE_WEB,
+        SLICE_THREE,
+        SYNC,
+        r#"{"op":"packet","src":"10.244.9.9","dst":"10.96.0.10","dport":80,"draws":[715827882]}"#,
+        r#"{"op":"packet","src":"10.244.9.9","dst":"10.96.0.10","dport":80,"draws":[715827883,1073741823]}"#,
+        r#"{"op":"packet","src":"10.244.9.9","dst":"10.96.0.10","dport":80,"draws":[715827883,1073741824]}"#,
+        r#"{"op":"packet","src":"10.244.9.9","dst":"10.96.0.10","dport":80,"draws":[]}"#,
+    ];
+    let want =
+        "sync 1: events 2, written 5, removed 0\npacket 5 at 1: to 10.244.1.2:8080\npacket 6 at 1: to 10.244.2.3:8080\npacket 7 at 1: to 10.244.3.4:8080\npacket 8 at 1: to 10.244.3.4:8080\n";
+    check(&rt, rt.alloc(), &lines, want, Status::Done)
+}
+
+#[test]
+fn sources_decide_the_masquerade(rt: HostRuntime) -> Result<(), Fail> {
+    let lines = [
+        CONFIG,
+        SERVICE_WEB,
+        SLICE_TWO,
+        SYNC,
+        r#"{"op":"packet","src":"10.244.1.2","dst":"10.96.0.10","dport":80,"draws":[0]}"#,
+        r#"{"op":"packet","src":"192.0.2.7","dst":"10.96.0.10","dport":80,"draws":[0]}"#,
+        r#"{"op":"packet","src":"10.244.9.9","dst":"10.96.0.10","dport":81,"draws":[0]}"#,
+    ];
+    let want =
+        "sync 1: events 2, written 4, removed 0\npacket 5 at 1: to 10.244.1.2:8080 masked\npacket 6 at 1: to 10.244.1.2:8080 masked\npacket 7 at 1: left alone\n";
+    check(&rt, rt.alloc(), &lines, want, Status::Done)
+}
+
+#[test]
+fn packets_are_answered_from_the_last_sync(rt: HostRuntime) -> Result<(), Fail> {
+    let lines = [
+        PACKET,
+        SERVICE_WEB,
+        PACKET,
+        SYNC,
+        PACKET,
+        SLICE_TWO,
+        SYNC,
+        SLICE_ONE,
+        PACKET,
+        SYNC,
+        SLICE_TWO,
+        SLICE_ONE,
+        SYNC,
+    ];
+    let want =
+        "packet 1 at 0: left alone\npacket 3 at 0: left alone\nsync 1: events 1, written 1, removed 0\npacket 5 at 1: rejected\nsync 2: events 1, written 5, removed 0\npacket 9 at 2: to 10.244.1.2:8080\nsync 3: events 1, written 1, removed 1\nsync 4: events 2, written 0, removed 0\n";
+    check(&rt, rt.alloc(), &lines, want, Status::Done)
+}
+
+#[test]
+fn lines_are_refused(rt: HostRuntime) -> Result<(), Fail> {
+    let lines = [
         "",
-        Status::Done,
-    )?;
-    let sync = "line 2: refused: not built yet\n";
-    check(&rt, rt.alloc(), &[CONFIG, SYNC], sync, Status::LinesRefused)?;
-    let late = "line 2: refused: not built yet\nline 3: refused: not built yet\n";
-    check(
-        &rt,
-        rt.alloc(),
-        &["", SYNC, CONFIG],
-        late,
-        Status::LinesRefused,
-    )?;
-    let second = "line 2: refused: not built yet\n";
-    check(
-        &rt,
-        rt.alloc(),
-        &[SERVICE_WEB, SERVICE_OTHER],
-        second,
-        Status::LinesRefused,
-    )?;
-    let broken = "line 2: refused: bad json\n";
-    check(
-        &rt,
-        rt.alloc(),
-        &[SERVICE_WEB, r#"{"op":"packet","#],
-        broken,
-        Status::LinesRefused,
-    )
+        SERVICE_WEB,
+        CONFIG,
+        SERVICE_OTHER,
+        r#"{"op":"packet","#,
+        SLICE_TWO,
+        r#"{"op":"show","what":"nat"}"#,
+        SYNC,
+    ];
+    let want =
+        "line 3: refused: not built yet\nline 4: refused: not built yet\nline 5: refused: bad json\nline 7: refused: not built yet\nsync 1: events 2, written 4, removed 0\n";
+    check(&rt, rt.alloc(), &lines, want, Status::LinesRefused)?;
+    let show = r#"{"op":"show","what":"nat"}"#;
+    let lines = [CONFIG, SERVICE_WEB, SLICE_TWO, SYNC, show];
+    let want = "sync 1: events 2, written 4, removed 0\nline 5: refused: not built yet\n";
+    check(&rt, rt.alloc(), &lines, want, Status::LinesRefused)
 }
 
 #[test]
@@ -119,7 +175,7 @@ fn faults_have_their_statuses(rt: HostRuntime) -> Result<(), Fail> {
     assert_eq!(rt; found, Status::ReadFault);
     assert_eq!(rt; sink.written(), b"".as_slice());
     let first = Items::from_vec([1].to_vec(alloc)?);
-    let mut source = SureSource::new(input(alloc, &[SYNC])?, 7);
+    let mut source = SureSource::new(input(alloc, &[SERVICE_WEB, SYNC])?, 7);
     let mut sink = MemorySink::new(alloc, 5, first);
     let found = run(alloc, words.as_slice(), &mut source, &mut sink);
     assert_eq!(rt; found, Status::WriteFault);

@@ -1,17 +1,21 @@
 -- How far the program has come, from one line to the next.
-use Rattle.std.proofs.Common.{◌≡◌, ◌+◌, ◌<◌, length, arith, ℕ, suc, List, [], ◌∷◌, ◌++◌, ap, sym, refl, ◌∙◌, subst, add-one}
-use Rattle.std.specs.Prelude.{Option, Some, None, IfSome}
+use Rattle.std.proofs.Common.{◌≡◌, ◌+◌, ◌^◌, ◌<◌, ◌≤◌, length, arith, ℕ, suc, List, [], ◌∷◌, ◌++◌, take, drop, ap, sym, refl, ◌∙◌, subst, add-one, append-nil, append_assoc, take-append-drop}
+use Rattle.std.specs.Prelude.{Option, Some, None, IfSome, Result, OnErr, Bool, true, false, ◌||◌}
+use Rattle.std.specs.Io.KnownBytes.{IsAtEnd}
+use Rattle.std.proofs.Math.Seq.{take-append_seam}
 use Rattle.std.specs.List.{fold}
 use Rattle.std.proofs.lemmas.List.Sums.{fold-append}
 use Rattle.kp_io.specs.Told.{Grows, FromTold}
 use Rattle.kp_io.specs.Lines.{LosesLine, lines_of}
-use Rattle.kp_io.specs.Reader.{fresh_reader, to_come, HandedOut}
+use Rattle.kp_io.specs.Reader.{ReaderState, fresh_reader, to_come, HandedOut, answers_unasked}
 use Rattle.kp_io.proofs.HandedOut.{handed_none, handed_line, handed_all}
 use Rattle.kp_io.proofs.Told.{Grows-nil, Grows-trans, FromTold-trans}
-use Rattle.kp_run_defs.specs.Replay.{ReplayState, Replayed, initial, nothing_yet, replay_line, replay_of, with_step, line_step}
+use Rattle.kp_run_defs.specs.Replay.{ReplayState, Replayed, initial, nothing_yet, replay_line, replay_of, line_step}
 use Rattle.kp_run.specs.declared.state.Replay.{Replay}
 use Rattle.kp_run.specs.State.{Stands}
-use Rattle.kp_run.specs.Outcome.{Come, TakesLine, WritesAll}
+use Rattle.kp_io.specs.declared.next_line.TheConstants.{INPUT_LIMIT}
+use Rattle.kp_run.specs.State.{IsReady}
+use Rattle.kp_run.specs.Outcome.{Come, TakesLine, WritesAll, WritesFront, GrowsFront}
 
 -- before the first line
 pub come_none : (r : Replay) (left written : Option (List ℕ)) → Stands r initial → Come r 0 left (to_come fresh_reader left) written written
@@ -35,18 +39,78 @@ come_more r new n number bytes left rest after written now later come one loses 
       counted = ap (λ p. p.number) (one_more come.lines bytes) ∙ same;
     }
 
-finished : (r : Replay) (left written now : Option (List ℕ)) (lines : List (List ℕ)) → Stands r (replay_of lines).state → Grows written now (replay_of lines).text → IfSome left (λ text. lines_of text ≡ lines) → IfSome left (λ text. WritesAll r.refused text written now)
-finished r None written now lines st grown all = tt
-finished r (Some text) written now lines st grown all =
+finished : (limit taken : ℕ) (r : Replay) (left end written now : Option (List ℕ)) (lines : List (List ℕ)) → limit ≡ INPUT_LIMIT → Stands r (replay_of lines).state → Grows written now (replay_of lines).text → IfSome left (λ text. lines_of text ≡ lines)
+    → FromTold (λ xs ys. length xs ≡ length ys + taken) left end → IsAtEnd end → taken ≤ limit → IfSome left (λ text. WritesAll r.refused text written now)
+finished limit taken r None end written now lines same st grown all took ended short = tt
+finished limit taken r (Some text) None written now lines same st grown all took ended short = absurd took
+finished limit taken r (Some text) (Some ys) written now lines same st grown all took ended short =
     record {
       grown = subst (λ ls. Grows written now (replay_of ls).text) (sym all) grown;
       told = subst (λ ls. r.refused ≡ (replay_of ls).state.refused) (sym all) st.refused;
+      short = subst (λ l. length text ≤ l) same (omega (arith, took, ap length ended, short));
     }
 
 -- at the end
-pub come_all : (r : Replay) (n : ℕ) (left rest after written now : Option (List ℕ)) → Come r n left rest written now → FromTold (λ text end. (text ≡ []) × (end ≡ [])) rest after → IfSome left (λ text. WritesAll r.refused text written now)
-come_all r n left rest after written now come ended =
-    finished r left written now come.lines come.stands come.grown (handed_all come.lines left rest after come.handed ended)
+pub come_all : (r : Replay) (n taken : ℕ) (left rest after end written now : Option (List ℕ)) → Come r n left rest written now → FromTold (λ text rest. (text ≡ []) × (rest ≡ [])) rest after
+    → FromTold (λ xs ys. length xs ≡ length ys + taken) left end → IsAtEnd end → taken ≤ INPUT_LIMIT → IfSome left (λ text. WritesAll r.refused text written now)
+come_all r n taken left rest after end written now come ended took is_end short =
+    finished INPUT_LIMIT taken r left end written now come.lines refl come.stands come.grown (handed_all come.lines left rest after come.handed ended) took is_end short
+
+-- what was written is a front of a text that begins with it
+pub front_is : (whole x rest : List ℕ) (written now : Option (List ℕ)) → whole ≡ x ++ rest → Grows written now x → GrowsFront written now whole
+front_is whole x rest written now e grown = (length x, subst (Grows written now) (sym (ap (take (length x)) e ∙ take-append_seam x rest)) grown)
+
+-- more lines only add to the text
+text_grows : (p : Replayed) (ls : List (List ℕ)) → (ys : List ℕ) × ((fold replay_line p ls).text ≡ p.text ++ ys)
+text_grows p [] = ([], sym (append-nil p.text))
+text_grows p (l ∷ ls) =
+    let step = line_step (suc p.number) l p.state in
+    let more = text_grows (replay_line p l) ls in
+    (step.text ++ more.0, more.1 ∙ append_assoc p.text step.text more.0)
+
+all_text : (lines more : List (List ℕ)) → (ys : List ℕ) × ((replay_of (lines ++ more)).text ≡ (replay_of lines).text ++ ys)
+all_text lines more =
+    let grows = text_grows (replay_of lines) more in
+    (grows.0, ap (λ p. p.text) (fold-append replay_line nothing_yet lines more) ∙ grows.1)
+
+-- the text of the lines that were handed out is a front of the whole
+front_of : (lines : List (List ℕ)) (left rest written now : Option (List ℕ)) → HandedOut lines left rest → Grows written now (replay_of lines).text → WritesFront left written now
+front_of lines None rest written now handed grown = tt
+front_of lines (Some text) None written now handed grown = absurd handed
+front_of lines (Some text) (Some ys) written now handed grown =
+    let all = all_text lines (lines_of ys) in
+    front_is (replay_of (lines_of text)).text (replay_of lines).text all.0 written now (ap (λ ls. (replay_of ls).text) handed ∙ all.1) grown
+
+-- before a line
+pub come_front : (r : Replay) (n : ℕ) (left rest written now : Option (List ℕ)) → Come r n left rest written now → WritesFront left written now
+come_front r n left rest written now come = front_of come.lines left rest written now come.handed come.grown
+
+part_is : (a b z : List ℕ) (k : ℕ) → (a ++ b) ++ z ≡ (a ++ take k b) ++ (drop k b ++ z)
+part_is a b z k =
+    ap (λ x. (a ++ x) ++ z) (sym (take-append-drop k b))
+    ∙ ap (λ x. x ++ z) (sym (append_assoc a (take k b) (drop k b)))
+    ∙ append_assoc (a ++ take k b) (drop k b) z
+
+part_of : (lines : List (List ℕ)) (bytes : List ℕ) (left after written now later : Option (List ℕ)) → HandedOut (lines ++ bytes ∷ []) left after → Grows written now (replay_of lines).text
+    → GrowsFront now later (line_step (suc (replay_of lines).number) bytes (replay_of lines).state).text → WritesFront left written later
+part_of lines bytes None after written now later handed grown front = tt
+part_of lines bytes (Some text) None written now later handed grown front = absurd handed
+part_of lines bytes (Some text) (Some ys) written now later handed grown front =
+    let p = replay_of lines in
+    let step = line_step (suc p.number) bytes p.state in
+    let all = all_text (lines ++ bytes ∷ []) (lines_of ys) in
+    front_is (replay_of (lines_of text)).text (p.text ++ take front.0 step.text) (drop front.0 step.text ++ all.0) written later
+    (ap (λ ls. (replay_of ls).text) handed ∙ all.1 ∙ ap (λ q. q.text ++ all.0) (one_more lines bytes) ∙ part_is p.text step.text all.0 front.0)
+    (Grows-trans written now later p.text (take front.0 step.text) grown front.1)
+
+-- within a line
+pub come_part : (r : Replay) (n number : ℕ) (bytes : List ℕ) (left rest after written now later : Option (List ℕ)) → Come r n left rest written now → number ≡ n + 1 → FromTold (LosesLine bytes) rest after
+    → ((s : ReplayState) → Stands r s → GrowsFront now later (line_step number bytes s).text) → WritesFront left written later
+come_part r n number bytes left rest after written now later come one loses front =
+    let p = replay_of come.lines in
+    let same : number ≡ suc p.number = one ∙ add-one n ∙ ap suc (sym come.counted) in
+    part_of come.lines bytes left after written now later (handed_line come.lines bytes left rest after come.handed loses) come.grown
+    (subst (λ k. GrowsFront now later (line_step k bytes p.state).text) same (front p.state come.stands))
 
 -- nothing was taken yet
 pub taken_none : (left : Option (List ℕ)) → FromTold (λ xs ys. length xs ≡ length ys + 0) left left
@@ -63,3 +127,24 @@ pub too_long : (limit : ℕ) (a c : Option (List ℕ)) (new : ℕ) → FromTold 
 too_long limit None c new p h = tt
 too_long limit (Some xs) None new p h = absurd p
 too_long limit (Some xs) (Some ys) new p h = omega arith
+
+-- the program is ready for the next line
+pub come_ready : (r : Replay) (n number : ℕ) (left rest written now : Option (List ℕ)) → Come r n left rest written now → r.syncs ≤ n → number ≡ n + 1 → number < 2 ^ 64 → IsReady r
+come_ready r n number left rest written now come syncs one fits = record { plain = come.stands.table.plain; covers = come.stands.covers; syncs = omega (arith, syncs, one, fits) }
+
+-- a front of one text is a front of the same text
+pub front_as : {T E : Type 0} (result : Result T E) (written now : Option (List ℕ)) (x y : List ℕ) → x ≡ y → OnErr result (GrowsFront written now x) → OnErr result (GrowsFront written now y)
+front_as result written now x y e front = subst (λ t. OnErr result (GrowsFront written now t)) e front
+
+any_or : (b c e : Bool) → e ≡ true → (b || (e || c)) ≡ true
+any_or true c e h = refl
+any_or false c e h = ap (λ x. x || c) h
+
+-- the reader answers unasked behind the end
+pub ended_unasked : (reader : ReaderState) → reader.ended ≡ true → answers_unasked reader ≡ true
+ended_unasked reader h = any_or _ _ reader.ended h
+
+-- by whether the source had ended
+pub by_end : (P : Type 0) (ended : Bool) → (ended ≡ true → P) → (ended ≡ false → P) → P
+by_end P true f g = f refl
+by_end P false f g = g refl

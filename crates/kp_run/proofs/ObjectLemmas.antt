@@ -13,7 +13,8 @@ use Rattle.kp_base.proofs.KeyOrder.{key_total, key_exact}
 use Rattle.kp_text_defs.specs.declared.line.PlainService.{PlainService}
 use Rattle.kp_text_defs.specs.declared.line.PlainSlice.{PlainSlice}
 use Rattle.kp_text_defs.specs.FirstLines.{plain_service, plain_slice, default_key}
-use Rattle.kp_run.specs.Objects.{services_with, slices_with, service_named, slice_named}
+use Rattle.kp_writer.specs.Plain.{services_with, slices_with}
+use Rattle.kp_run.specs.Objects.{service_named, slice_named}
 
 module _ (X : Type 0) where
   no_entries : finite.entries (finite.empty {X = X} {R = key_cmp}) ≡ []

@@ -1,3 +1,5 @@
+pub mod Codes
 pub mod Objects
 pub mod Outcome
+pub mod Printed
 pub mod State

@@ -1,35 +1,71 @@
--- What the program keeps of a replay's state: the objects of the events, and how many events there were.
-use Rattle.std.specs.Prelude.{◌≡◌, ◌≤◌, ◌&&◌, nat_lt, Bool, ℕ, List, [], length, Option, Some, None}
+-- What the program keeps of a replay's state: the objects of the events, how many events there were, and the
+-- table of those that the last sync covers.
+use Rattle.std.specs.Prelude.{◌≡◌, ◌≤◌, ◌<◌, ◌^◌, ◌-◌, ◌&&◌, nat_lt, Bool, true, ℕ, List, [], length, Option, Some, ⊤}
+use Rattle.std.specs.FinMap.{get}
+use Rattle.kp_base.specs.declared.address.Family.TheVariants.{V4}
+use Rattle.kp_base.specs.declared.config.Config.{Config}
 use Rattle.kp_types.specs.declared.event.Event.TheVariants.{Apply}
 use Rattle.kp_types.specs.declared.event.Object.TheVariants as object
-use Rattle.kp_object_defs.specs.Objects.{objects_after}
-use Rattle.kp_text_defs.specs.declared.refusal.Refusal.{Refusal}
+use Rattle.kp_object_defs.specs.Objects.{Objects}
+use Rattle.kp_table_defs.specs.Plain.{HasNoRecent}
+use Rattle.kp_table_defs.specs.Rebuild.{TableParts, full_table}
+use Rattle.kp_table_defs.specs.StandIn.{stand_in_name}
+use Rattle.kp_text_defs.specs.declared.line.FirstLine.{FirstLine}
+use Rattle.kp_text_defs.specs.declared.line.FirstLine.TheVariants as line
 use Rattle.kp_text_defs.specs.declared.line.PlainService.{PlainService}
 use Rattle.kp_text_defs.specs.declared.line.PlainSlice.{PlainSlice}
 use Rattle.kp_text_defs.specs.FirstLines.{plain_service, plain_slice}
-use Rattle.kp_text_defs.specs.Printed.{refusal_text}
-use Rattle.kp_run_defs.specs.Replay.{ReplayState, Stepped, event_step, services_named, slices_named, has_room, objects_now}
-use Rattle.kp_run.specs.Objects.{objects_with, service_named, slice_named}
+use Rattle.kp_run_defs.specs.Replay.{ReplayState, Stepped, event_step, services_named, slices_named, has_room, objects_now, objects_covered}
+use Rattle.kp_writer.specs.Plain.{objects_with, IsSmallSlice}
+use Rattle.kp_run.specs.Objects.{service_named, slice_named}
+use Rattle.kp_run.specs.Printed.{printed_text}
+use Rattle.kp_run.specs.declared.printed.Printed.{Printed}
 use Rattle.kp_run.specs.declared.state.Replay.{Replay}
+
+-- the table is the full one of these objects, which are those of one Service and one slice at most, and no rule of it
+-- asks a recent list
+pub record IsTableOf (table : TableParts) (config : Config) (o : Objects) : Type 0 where
+  pub service : Option PlainService
+  pub slice : Option PlainSlice
+  pub small : IsSmallSlice slice
+  pub objects : o ≡ objects_with service slice
+  pub full : table ≡ full_table V4 stand_in_name config (objects_with service slice)
+  pub plain : HasNoRecent (get table.chains)
 
 -- the program stands where the replay does
 pub record Stands (r : Replay) (s : ReplayState) : Type 0 where
   pub fresh : r.fresh ≡ s.fresh
   pub config : r.config ≡ s.config
-  pub objects : objects_after s.events ≡ objects_with r.service r.slice
+  pub objects : objects_now s ≡ objects_with r.service r.slice
+  pub small : IsSmallSlice r.slice
   pub events : r.events ≡ length s.events
   pub room : r.events ≤ 1000000
+  pub covered : r.covered ≡ s.covered
+  pub covers : r.covered ≤ r.events
+  pub unread : s.fresh ≡ true → s.events ≡ []
+  pub syncs : r.syncs ≡ s.syncs
+  pub table : IsTableOf r.table s.config (objects_covered s)
   pub refused : r.refused ≡ s.refused
 
--- the line that a refusal prints, if there is one
-abbrev pub refusal_line : ℕ → Option Refusal → List ℕ
-refusal_line number None = []
-refusal_line number (Some refusal) = refusal_text number refusal
+-- what the program's steps rest on: no rule asks a recent list, the last sync covers no more than all events, and
+-- one more sync can be counted
+pub record IsReady (r : Replay) : Type 0 where
+  pub plain : HasNoRecent (get r.table.chains)
+  pub covers : r.covered ≤ r.events
+  pub syncs : r.syncs < 2 ^ 64 - 1
 
 -- the program takes a line as the replay does
-pub record Steps (r : Replay) (number : ℕ) (refusal : Option Refusal) (step : Stepped) : Type 0 where
-  pub text : refusal_line number refusal ≡ step.text
+pub record Steps (r : Replay) (number : ℕ) (printed : Printed) (step : Stepped) : Type 0 where
+  pub text : printed_text number printed ≡ step.text
   pub state : Stands r step.state
+
+-- a line's numbers are such as its text can write
+abbrev pub IsSmallLine : FirstLine → Type 0
+IsSmallLine (line.Config config) = ⊤
+IsSmallLine (line.Service service) = ⊤
+IsSmallLine (line.Slice slice) = IsSmallSlice (Some slice)
+IsSmallLine line.Sync = ⊤
+IsSmallLine (line.Packet packet) = ⊤
 
 -- a Service line
 abbrev pub service_step : ℕ → PlainService → ReplayState → Stepped

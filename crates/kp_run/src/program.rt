@@ -16,9 +16,10 @@ pub fn run<S: Source, K: Sink>(
     source: &mut S,
     sink: &mut K,
 ) -> Status
-    ensures { outcome.Runs (words_fit (map string_bytes words.now)) result (S.left source.old)
+    ensures ends { outcome.Runs (words_fit (map string_bytes words.now)) result (S.left source.old)
         (K.written sink.old) (K.written sink.new) (K.flushed sink.new)
         (S.faults source.old) (S.faults source.new) (K.faults sink.old) (K.faults sink.new) }
+    ensures unread { words_fit (map string_bytes words.now) ≡ false → source.new ≡ source.old }
 {
     if do_words_fit(words) {
         replay_one(alloc, source, sink)

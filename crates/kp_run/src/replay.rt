@@ -1,20 +1,20 @@
 //! A replay of lines.
-ghost use Rattle.std.specs.Prelude.{◌≡◌, ◌≤◌, ℕ, [], Err, IfSome, IfOk, OnOk};
+ghost use Rattle.std.specs.Prelude.{◌≡◌, ◌≤◌, ◌+◌, ℕ, [], Err, IfSome, IfOk, OnOk, OnErr};
 ghost use Rattle.kp_io.specs.Faults.{Rose};
 ghost use Rattle.kp_io.specs.Told.{Grows, IsFlushed};
 ghost use Rattle.kp_io.specs.Reader.{fresh_reader};
 ghost use Rattle.kp_io.specs.declared.next_line.LineFault.{LineFault};
 ghost use Rattle.kp_run_defs.specs.Replay as spec;
+ghost use Rattle.kp_run.specs.Printed as spec_printed;
 ghost use Rattle.kp_run.specs.State as state;
 ghost use Rattle.kp_run.specs.Outcome as outcome;
 ghost use Rattle.kp_run.specs.declared.replay.Stop.{Stop};
 
+use crate::printed::{Printed, printed_text};
 use crate::state::Replay;
 use crate::status::Status;
 use kp_base::NoMemory;
 use kp_io::{Failed, LineFault, LineReader, NextLine, Sink, Source, write_whole};
-use kp_report::refusal_text;
-use kp_text_defs::Refusal;
 use std::alloc::Global;
 
 /// Why a replay stopped before the end of its input.
@@ -25,30 +25,30 @@ enum Stop {
     Read(LineFault),
 }
 
-/// Writes the line of a refusal, if there is one.
-fn write_refusal<K: Sink>(
+/// Writes what a line prints.
+fn write_printed<K: Sink>(
     alloc: Global,
     number: u64,
-    refusal: Option<Refusal>,
+    printed: &Printed,
     sink: &mut K,
 ) -> Result<(), Stop>
     ensures whole { OnOk result (Grows (K.written sink.old) (K.written sink.new)
-        (state.refusal_line number refusal)) }
+        (spec_printed.printed_text number printed.now)) }
+    ensures front { OnErr result (outcome.GrowsFront (K.written sink.old) (K.written sink.new)
+        (spec_printed.printed_text number printed.now)) }
     ensures later { K.faults sink.old ≤ K.faults sink.new }
     ensures write { result ≡ Err Stop.Write → Rose (K.faults sink.old) (K.faults sink.new) }
     ensures read { (fault : LineFault) → result ≡ Err (Stop.Read fault) → ⊥ }
 {
-    match refusal {
-        None => write_text(sink, b""),
-        Some(refusal) => match refusal_text(alloc, number, refusal) {
-            Err(NoMemory) => Err(Stop::NoMemory),
-            Ok(text) => write_text(sink, text.as_bytes()),
-        },
+    match printed_text(alloc, number, printed) {
+        Ok(text) => write_text(sink, text.as_bytes()),
+        Err(NoMemory) => Err(Stop::NoMemory),
     }
 }
 
 fn write_text<K: Sink>(sink: &mut K, text: &[u8]) -> Result<(), Stop>
     ensures whole { OnOk result (Grows (K.written sink.old) (K.written sink.new) text.now) }
+    ensures front { OnErr result (outcome.GrowsFront (K.written sink.old) (K.written sink.new) text.now) }
     ensures later { K.faults sink.old ≤ K.faults sink.new }
     ensures write { result ≡ Err Stop.Write → Rose (K.faults sink.old) (K.faults sink.new) }
     ensures other { (stop : Stop) → result ≡ Err stop → stop ≡ Stop.Write }
@@ -67,15 +67,19 @@ fn replay_line<K: Sink>(
     bytes: &[u8],
     sink: &mut K,
 ) -> Result<(), Stop>
+    requires { state.IsReady replay.old }
     ensures whole { (s : spec.ReplayState) → state.Stands replay.old s → OnOk result
         (outcome.TakesLine replay.old replay.new number bytes.now s (K.written sink.old) (K.written sink.new)) }
+    ensures front { (s : spec.ReplayState) → state.Stands replay.old s → OnErr result
+        (outcome.GrowsFront (K.written sink.old) (K.written sink.new) (spec.line_step number bytes.now s).text) }
+    ensures syncs { replay.new.syncs ≤ replay.old.syncs + 1 }
     ensures later { K.faults sink.old ≤ K.faults sink.new }
     ensures write { result ≡ Err Stop.Write → Rose (K.faults sink.old) (K.faults sink.new) }
     ensures read { (fault : LineFault) → result ≡ Err (Stop.Read fault) → ⊥ }
 {
     match replay.take_line(alloc, bytes) {
-        Ok(refusal) => write_refusal(alloc, number, refusal, sink),
-        Err(_) => Err(Stop::NoMemory),
+        Ok(printed) => write_printed(alloc, number, &printed, sink),
+        Err(NoMemory) => Err(Stop::NoMemory),
     }
 }
 
@@ -89,6 +93,7 @@ fn replay_lines<S: Source, K: Sink>(
 ) -> Result<(), Stop>
     requires fresh { reader.old ≡ fresh_reader }
     requires start { state.Stands replay.old spec.initial }
+    ensures front { outcome.WritesFront (S.left source.old) (K.written sink.old) (K.written sink.new) }
     ensures all { OnOk result (IfSome (S.left source.old)
         (λ text. outcome.WritesAll replay.new.refused text (K.written sink.old) (K.written sink.new))) }
     ensures later { K.faults sink.old ≤ K.faults sink.new }
@@ -118,9 +123,10 @@ pub fn replay_one<S: Source, K: Sink>(alloc: Global, source: &mut S, sink: &mut 
 {
     match replay_all(alloc, source, sink) {
         Ok(refused) => flushed(sink, if_refused(refused)),
-        Err(Stop::NoMemory) => Status::NoMemory,
+        Err(Stop::NoMemory | Stop::Read(LineFault::NoMemory)) => Status::NoMemory,
         Err(Stop::Write) => Status::WriteFault,
-        Err(Stop::Read(fault)) => flushed(sink, read_status(fault)),
+        Err(Stop::Read(LineFault::ReadFault)) => flushed(sink, Status::ReadFault),
+        Err(Stop::Read(LineFault::InputTooLong)) => flushed(sink, Status::InputTooLong),
     }
 }
 
@@ -131,16 +137,6 @@ fn if_refused(refused: bool) -> Status
         Status::LinesRefused
     } else {
         Status::Done
-    }
-}
-
-fn read_status(fault: LineFault) -> Status
-    ensures { result ≡ outcome.status_of fault }
-{
-    match fault {
-        LineFault::ReadFault => Status::ReadFault,
-        LineFault::InputTooLong => Status::InputTooLong,
-        LineFault::NoMemory => Status::NoMemory,
     }
 }
 
@@ -159,6 +155,7 @@ fn flushed<K: Sink>(sink: &mut K, status: Status) -> Status
 
 /// Replays all lines, and answers whether one was refused.
 fn replay_all<S: Source, K: Sink>(alloc: Global, source: &mut S, sink: &mut K) -> Result<bool, Stop>
+    ensures front { outcome.WritesFront (S.left source.old) (K.written sink.old) (K.written sink.new) }
     ensures all { IfOk result (λ refused. IfSome (S.left source.old)
         (λ text. outcome.WritesAll refused text (K.written sink.old) (K.written sink.new))) }
     ensures later { K.faults sink.old ≤ K.faults sink.new }

@@ -1,9 +1,12 @@
 //! Where a replay stands.
-ghost use Rattle.std.specs.Prelude.{◌≡◌, ℕ, IfOk};
+ghost use Rattle.std.specs.Prelude.{◌≡◌, ◌≤◌, ◌+◌, ℕ, [], true, false, Some, IfOk};
 ghost use Rattle.kp_run_defs.specs.Replay as spec;
 ghost use Rattle.kp_run.specs.Objects.{service_named, slice_named};
 
+use crate::plain_table::plain_table;
+use crate::printed::Printed;
 use kp_base::{Config, NoMemory, Text};
+use kp_rules::Table;
 use kp_script::{FirstLine, LineFault, default_config, read_line};
 use kp_text_defs::{PlainService, PlainSlice, Refusal};
 use std::alloc::Global;
@@ -11,7 +14,8 @@ use std::alloc::Global;
 /// The most events that are accepted.
 const MOST_EVENTS: u64 = 1_000_000;
 
-/// Where a replay stands: its configuration, the objects of the accepted events, and how many there were.
+/// Where a replay stands: its configuration, the objects of the accepted events and how many there were, the
+/// table of those that the last sync covers, and how many syncs there were.
 #[derive(Drop)]
 pub(crate) struct Replay {
     pub(crate) fresh: bool,
@@ -19,90 +23,116 @@ pub(crate) struct Replay {
     pub(crate) service: Option<PlainService>,
     pub(crate) slice: Option<PlainSlice>,
     pub(crate) events: u64,
+    pub(crate) covered: u64,
+    pub(crate) syncs: u64,
+    pub(crate) table: Table,
     pub(crate) refused: bool,
 }
 
 impl Replay {
-    ghost use Rattle.kp_run.specs.State.{Stands, Steps, service_step, slice_step, accepts_service, accepts_slice};
+    ghost use Rattle.kp_writer.specs.Plain.{IsSmallSlice};
+    ghost use Rattle.kp_run.specs.State.{Stands, Steps, IsReady, IsSmallLine};
+    ghost use Rattle.kp_run.specs.State.{service_step, slice_step, accepts_service, accepts_slice};
 
     /// Before the first line.
     pub(crate) fn new(alloc: Global) -> Result<Replay, NoMemory>
         ensures { IfOk result (λ r. Stands r spec.initial) }
     {
+        let config = default_config(alloc)?;
+        let table = plain_table(alloc, &config, None, None)?;
         Ok(Replay {
             fresh: true,
-            config: default_config(alloc)?,
+            config,
             service: None,
             slice: None,
             events: 0,
+            covered: 0,
+            syncs: 0,
+            table,
             refused: false,
         })
     }
 
-    /// Takes a line. Answers why it is refused, if it is.
-    pub(crate) fn take_line(
-        &mut self,
-        alloc: Global,
-        bytes: &[u8],
-    ) -> Result<Option<Refusal>, NoMemory>
-        ensures { IfOk result (λ r. (s : spec.ReplayState) → Stands self.old s
-            → (number : ℕ) → Steps self.new number r (spec.line_step number bytes.now s)) }
+    /// Takes a line. Answers what it prints.
+    pub(crate) fn take_line(&mut self, alloc: Global, bytes: &[u8]) -> Result<Printed, NoMemory>
+        requires { IsReady self.old }
+        ensures steps { IfOk result (λ p. (s : spec.ReplayState) → Stands self.old s
+            → (number : ℕ) → Steps self.new number p (spec.line_step number bytes.now s)) }
+        ensures syncs { self.new.syncs ≤ self.old.syncs + 1 }
     {
         if is_blank(bytes) {
-            return Ok(None);
+            return Ok(Printed::Nothing);
         }
         let first = self.fresh;
         self.fresh = false;
         match read_line(alloc, bytes) {
-            Ok(line) => Ok(self.take_form(first, line)),
+            Ok(line) => self.take_form(alloc, first, line),
             Err(LineFault::BadJson) => Ok(self.refuse(Refusal::BadJson)),
             Err(LineFault::NotBuilt) => Ok(self.refuse(Refusal::NotBuilt)),
             Err(LineFault::NoMemory) => Err(NoMemory),
         }
     }
 
-    fn refuse(&mut self, refusal: Refusal) -> Option<Refusal>
-        ensures { (s : spec.ReplayState) → Stands self.old s
+    fn refuse(&mut self, refusal: Refusal) -> Printed
+        ensures steps { (s : spec.ReplayState) → Stands self.old s
             → (number : ℕ) → Steps self.new number result (spec.refuse number refusal s) }
+        ensures syncs { self.new.syncs ≡ self.old.syncs }
     {
         self.refused = true;
-        Some(refusal)
+        Printed::Refused(refusal)
     }
 
-    fn take_form(&mut self, first: bool, line: FirstLine) -> Option<Refusal>
-        ensures { (s : spec.ReplayState) → Stands self.old s
-            → (number : ℕ) → Steps self.new number result (spec.form_step number first line s) }
+    fn take_form(
+        &mut self,
+        alloc: Global,
+        first: bool,
+        line: FirstLine,
+    ) -> Result<Printed, NoMemory>
+        requires { IsReady self.old }
+        ensures steps { IfOk result (λ p. (s : spec.ReplayState) → Stands self.old s
+            → s.fresh ≡ false → (first ≡ true → s.events ≡ []) → IsSmallLine line
+            → (number : ℕ) → Steps self.new number p (spec.form_step number first line s)) }
+        ensures syncs { self.new.syncs ≤ self.old.syncs + 1 }
     {
         match line {
-            FirstLine::Config(config) => self.take_config(first, config),
-            FirstLine::Service(service) => self.take_service(service),
-            FirstLine::Slice(slice) => self.take_slice(slice),
-            FirstLine::Sync => self.refuse(Refusal::NotBuilt),
-            FirstLine::Packet(_) => self.refuse(Refusal::NotBuilt),
+            FirstLine::Config(config) => self.take_config(alloc, first, config),
+            FirstLine::Service(service) => Ok(self.take_service(service)),
+            FirstLine::Slice(slice) => Ok(self.take_slice(slice)),
+            FirstLine::Sync => self.sync(alloc),
+            FirstLine::Packet(packet) => Ok(self.answer(&packet)),
         }
     }
 
-    fn take_config(&mut self, first: bool, config: Config) -> Option<Refusal>
-        ensures { (s : spec.ReplayState) → Stands self.old s
-            → (number : ℕ) → Steps self.new number result (spec.config_step number config first s) }
+    fn take_config(
+        &mut self,
+        alloc: Global,
+        first: bool,
+        config: Config,
+    ) -> Result<Printed, NoMemory>
+        ensures steps { IfOk result (λ p. (s : spec.ReplayState) → Stands self.old s
+            → s.fresh ≡ false → (first ≡ true → s.events ≡ [])
+            → (number : ℕ) → Steps self.new number p (spec.config_step number config first s)) }
+        ensures syncs { self.new.syncs ≡ self.old.syncs }
     {
-        if first {
-            self.config = config;
-            return None;
+        if !first {
+            return Ok(self.refuse(Refusal::NotBuilt));
         }
-        self.refuse(Refusal::NotBuilt)
+        self.table = plain_table(alloc, &config, None, None)?;
+        self.config = config;
+        Ok(Printed::Nothing)
     }
 
-    fn take_service(&mut self, service: PlainService) -> Option<Refusal>
-        ensures { (s : spec.ReplayState) → Stands self.old s
+    fn take_service(&mut self, service: PlainService) -> Printed
+        ensures steps { (s : spec.ReplayState) → Stands self.old s → s.fresh ≡ false
             → (number : ℕ) → Steps self.new number result (service_step number service s) }
+        ensures syncs { self.new.syncs ≡ self.old.syncs }
     {
         if !self.accepts_service(&service.name) {
             return self.refuse(Refusal::NotBuilt);
         }
         self.service = Some(service);
         self.events += 1;
-        None
+        Printed::Nothing
     }
 
     fn accepts_service(&self, name: &Text) -> bool
@@ -117,16 +147,17 @@ impl Replay {
         is_slice_named(&self.slice, name) && self.events < MOST_EVENTS
     }
 
-    fn take_slice(&mut self, slice: PlainSlice) -> Option<Refusal>
-        ensures { (s : spec.ReplayState) → Stands self.old s
+    fn take_slice(&mut self, slice: PlainSlice) -> Printed
+        ensures steps { (s : spec.ReplayState) → Stands self.old s → s.fresh ≡ false → IsSmallSlice (Some slice)
             → (number : ℕ) → Steps self.new number result (slice_step number slice s) }
+        ensures syncs { self.new.syncs ≡ self.old.syncs }
     {
         if !self.accepts_slice(&slice.name) {
             return self.refuse(Refusal::NotBuilt);
         }
         self.slice = Some(slice);
         self.events += 1;
-        None
+        Printed::Nothing
     }
 }
 

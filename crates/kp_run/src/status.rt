@@ -1,4 +1,6 @@
 //! How a run ends.
+ghost use Rattle.std.specs.Prelude.{◌≡◌};
+ghost use Rattle.kp_run.specs.Codes.{code_of};
 
 /// How a run ends; the program's exit status is the place from 0.
 #[derive(Clone, Copy, Debug, PartialEq, Eq)]
@@ -21,7 +23,9 @@ pub enum Status {
 
 impl Status {
     /// The exit status.
-    pub fn code(self) -> u8 {
+    pub fn code(self) -> u8
+        ensures { result ≡ code_of self }
+    {
         match self {
             Status::Done => 0,
             Status::NoMemory => 1,

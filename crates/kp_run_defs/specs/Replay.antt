@@ -143,8 +143,8 @@ form_step number first (line.Service service) s =
 form_step number first (line.Slice slice) s =
     event_step number (Apply (object.EndpointSlice (plain_slice slice)))
     (slices_named slice.name (objects_now s) && has_room s) s
-form_step number first line.Sync s = refuse number NotBuilt s
-form_step number first (line.Packet p) s = refuse number NotBuilt s
+form_step number first line.Sync s = sync_step s
+form_step number first (line.Packet p) s = packet_step number p s
 
 -- a line that is JSON, by its form
 abbrev pub json_step : ℕ → Bool → Option FirstLine → ReplayState → Stepped

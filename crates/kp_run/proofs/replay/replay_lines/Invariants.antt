@@ -1,4 +1,5 @@
-use Rattle.std.proofs.Common.{◌≡◌, ◌+◌, ◌-◌, ◌≤◌, length}
+use Rattle.std.proofs.Common.{◌≡◌, ◌+◌, ◌-◌, ◌≤◌, length, true}
+use Rattle.std.specs.Io.KnownBytes.{IsAtEnd}
 use Rattle.kp_io.specs.Reader.{to_come}
 use Rattle.kp_io.specs.Told.{FromTold}
 use Rattle.kp_io.specs.declared.chunk.TheConstants.{BUFFER_SIZE}
@@ -11,6 +12,8 @@ abbrev pub invariant-lines : goal.invariant-lines
 invariant-lines g l = record {
   come : Come l.replay l.reader.number (g.S.Source.left l.initial.source) (to_come l.reader (g.S.Source.left l.source)) (g.K.Sink.written l.initial.sink) (g.K.Sink.written l.sink);
   taken : FromTold (λ xs ys. length xs ≡ length ys + l.reader.taken) (g.S.Source.left l.initial.source) (g.S.Source.left l.source);
+  ended : l.reader.ended ≡ true → IsAtEnd (g.S.Source.left l.source);
+  syncs : l.replay.syncs ≤ l.reader.number;
   read : g.S.Source.faults l.initial.source ≤ g.S.Source.faults l.source;
   wrote : g.K.Sink.faults l.initial.sink ≤ g.K.Sink.faults l.sink;
 }
