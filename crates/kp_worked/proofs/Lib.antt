@@ -1,0 +1,4 @@
+pub mod MapLists
+pub mod Changes
+pub mod Remembered
+pub mod Events

@@ -1,0 +1,12 @@
+pub mod Setting
+pub mod Decisions
+pub mod Lists
+pub mod Wanted
+pub mod Masquerades
+pub mod Choices
+pub mod Counts
+pub mod Affinity
+pub mod Names
+pub mod Chains
+pub mod Walks
+pub mod Events
