@@ -76,11 +76,15 @@ expected p found = ok_or found (fault_at WrongType p.path)
 abbrev pub present_member : List ℕ → Data → Option Data
 present_member name d = option_and_then not_null (get name d)
 
+-- the member of this name, unless it is absent or null; none where there is no object
+abbrev pub member_at : Place → List ℕ → Option Place
+member_at p name = option_map (member_place p name) (present_member name p.value)
+
 -- the member of this name in an object, unless it is absent or null
 abbrev pub field_at : Place → List ℕ → Result (Option Place) BadField
 field_at p name = do
   _ms ← expected p (as_object p.value)
-  Ok (option_map (member_place p name) (present_member name p.value))
+  Ok (member_at p name)
 
 -- the member of this name in an object, which has to be there
 abbrev pub needed_at : Place → List ℕ → Result Place BadField

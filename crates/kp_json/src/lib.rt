@@ -2,6 +2,7 @@
 //! told by its kind of fault and its path from the root.
 #![tactic(auto)]
 
+mod elements;
 mod fault;
 mod members;
 mod path;
@@ -11,6 +12,7 @@ mod spot;
 mod tests;
 mod tree;
 
+pub use elements::Elements;
 pub use fault::{BadField, FieldFault, JsonFault, Why};
 pub use members::Members;
 pub use path::PathText;

@@ -1,11 +1,13 @@
 //! Positions in a tree.
-ghost use Rattle.std.specs.Prelude.{◌≡◌, ◌<◌, ◌^◌, Ok, Some, length, option_map, slice_get, IfOk};
+ghost use Rattle.std.specs.Prelude.{◌≡◌, ◌<◌, ◌≤◌, ◌^◌, Ok, Some, length, is_some, option_map, slice_get, IfOk};
+ghost use Rattle.serde_json.specs.Find.{as_object, as_str};
 ghost use Rattle.serde_json.specs.View.{view};
 ghost use Rattle.kp_json.specs.Answers.{Gives, IsFault, fault_at, too_many_at};
-ghost use Rattle.kp_json.specs.Paths.{way_path, member_path};
-ghost use Rattle.kp_json.specs.Places.{field_at, needed_at, text_at, flag_at, whole_at, list_len_at, member_len_at, members_at, elements_of, members_of, present_member, member_place, item_place};
-ghost use Rattle.kp_json.specs.Views.{place_of, named_place, members_left};
+ghost use Rattle.kp_json.specs.Paths.{way_path, member_path, item_path};
+ghost use Rattle.kp_json.specs.Places.{field_at, needed_at, text_at, flag_at, whole_at, list_len_at, member_len_at, members_at, elements_at, elements_of, members_of, present_member, member_at, member_place, item_place};
+ghost use Rattle.kp_json.specs.Views.{place_of, named_place, elements_left, members_left};
 
+use crate::elements::Elements;
 use crate::fault::{BadField, FieldFault, Why};
 use crate::members::Members;
 use crate::path::{PathText, Way};
@@ -27,24 +29,49 @@ impl<'a> Spot<'a> {
         Spot { value, way }
     }
 
-    /// The member of this name, unless it is absent or null.
+    /// Whether an object is here.
+    pub fn is_object(&self) -> bool
+        ensures { result ≡ is_some (as_object (place_of self.now).value) }
+    {
+        self.value.is_object()
+    }
+
+    /// The member of this name, unless it is absent or null. Where no object is here, it is absent.
+    pub fn get(&'a self, name: &'a str) -> Option<Spot<'a>>
+        ensures { option_map place_of result ≡ member_at (place_of self.now) name.now }
+    {
+        match present_member(self.value, name) {
+            Some(value) => Some(self.member_spot(name, value)),
+            None => None,
+        }
+    }
+
+    /// The member of this name in the object here, unless it is absent or null.
     pub fn field(&'a self, alloc: Global, name: &'a str) -> Result<Option<Spot<'a>>, FieldFault>
         ensures { Gives (option_map place_of) result (field_at (place_of self.now) name.now) }
     {
         match self.value.as_object() {
-            Some(_) => Ok(self.member_named(name)),
+            Some(_) => Ok(self.get(name)),
             None => Err(self.bad(alloc, Why::WrongType)),
         }
     }
 
     /// The member of this name, which has to be there.
     pub fn needed(&'a self, alloc: Global, name: &'a str) -> Result<Spot<'a>, FieldFault>
-        ensures { Gives place_of result (needed_at (place_of self.now) name.now) }
+        ensures place { Gives place_of result (needed_at (place_of self.now) name.now) }
+        ensures there { IfOk result (λ s. field_at (place_of self.now) name.now ≡ Ok (Some (place_of s))) }
     {
         match self.field(alloc, name)? {
             Some(spot) => Ok(spot),
             None => Err(self.missing(alloc, name)),
         }
+    }
+
+    /// The text here, if there is one.
+    pub fn as_text(&self) -> Option<&'a str>
+        ensures { option_map (λ t. t.now) result ≡ as_str (place_of self.now).value }
+    {
+        self.value.as_str()
     }
 
     /// The text here, as a slice of the tree.
@@ -77,7 +104,8 @@ impl<'a> Spot<'a> {
 
     /// The whole number here.
     pub fn whole_at(&self, alloc: Global, least: u64, most: u64) -> Result<u64, FieldFault>
-        ensures { Gives (λ n. n) result (whole_at (place_of self.now) least most) }
+        ensures number { Gives (λ n. n) result (whole_at (place_of self.now) least most) }
+        ensures bounds { IfOk result (λ n. (least ≤ n) × (n ≤ most)) }
     {
         match self.value.as_u64() {
             None => Err(self.bad(alloc, Why::WrongType)),
@@ -107,9 +135,21 @@ impl<'a> Spot<'a> {
         Ok(self.element(i).unwrap())
     }
 
+    /// The elements of the list here, in order.
+    pub fn elements(&'a self, alloc: Global) -> Result<Elements<'a>, FieldFault>
+        ensures all { Gives elements_left result (elements_at (place_of self.now)) }
+        ensures these { IfOk result (λ e. elements_left e ≡ elements_of (place_of self.now)) }
+    {
+        match self.value.as_array() {
+            Some(items) => Ok(Elements::new(items.as_slice(), &self.way)),
+            None => Err(self.bad(alloc, Why::WrongType)),
+        }
+    }
+
     /// The members of the object here that are not null, by bytes of their names.
     pub fn members(&'a self, alloc: Global) -> Result<Members<'a>, FieldFault>
         ensures all { Gives members_left result (members_at (place_of self.now)) }
+        ensures these { IfOk result (λ m. members_left m ≡ members_of (place_of self.now)) }
         ensures fits { IfOk result (λ m. length (members_left m) < 2 ^ 63) }
     {
         match self.value.as_object() {
@@ -157,18 +197,15 @@ impl<'a> Spot<'a> {
         self.way.path(alloc)
     }
 
-    fn member_named(&'a self, name: &'a str) -> Option<Spot<'a>>
-        ensures { option_map place_of result
-            ≡ option_map (member_place (place_of self.now) name.now)
-            (present_member name.now (place_of self.now).value) }
+    /// The fault of an element that isn't there.
+    pub fn missing_item(&'a self, alloc: Global, i: u64) -> FieldFault
+        ensures { IsFault result (fault_at Why.Missing (item_path (place_of self.now).path i)) }
     {
-        match present_member(self.value, name) {
-            Some(value) => Some(self.member_spot(name, value)),
-            None => None,
-        }
+        fault_of(alloc, &Way::Item(&self.way, i), Why::Missing, 0)
     }
 
-    fn missing(&'a self, alloc: Global, name: &'a str) -> FieldFault
+    /// The fault of a member that isn't there.
+    pub fn missing(&'a self, alloc: Global, name: &'a str) -> FieldFault
         ensures { IsFault result
             (fault_at Why.Missing (member_path (place_of self.now).path name.now)) }
     {

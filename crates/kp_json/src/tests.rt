@@ -152,6 +152,30 @@ fn elements_and_members_come_in_order_with_their_paths(rt: HostRuntime) -> Resul
     Ok(())
 }
 
+#[test]
+fn elements_are_walked_and_members_are_got(rt: HostRuntime) -> Result<(), Fail> {
+    let alloc = rt.alloc();
+    let tree = read_tree(alloc, OBJECT.as_bytes())?;
+    let root = tree.root();
+    let list = root.needed(alloc, "list")?;
+    let mut paths = String::new(alloc);
+    for item in list.elements(alloc)? {
+        paths.push_str(item.path(alloc)?.as_str())?;
+        paths.push_str(";")?;
+    }
+    assert_eq!(rt; paths.as_str(), "list[0];list[1];list[2];");
+    let missing = told(alloc, Err(list.missing_item(alloc, 3)))?;
+    assert_eq!(rt; missing.as_str(), "Missing list[3] 0");
+    assert!(rt; root.is_object() && !list.is_object());
+    assert!(rt; list.get("text").is_none() && root.get("none").is_none());
+    match root.get("text") {
+        Some(text) => assert!(rt; text.as_text() == Some("t")),
+        None => assert!(rt; false),
+    }
+    assert!(rt; list.as_text().is_none());
+    Ok(())
+}
+
 fn nested(alloc: Global, levels: u64) -> Result<String, AllocError> {
     let mut text = String::new(alloc);
     for _ in 0..levels {

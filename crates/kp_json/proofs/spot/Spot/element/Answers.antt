@@ -1,7 +1,7 @@
 use Rattle.std.proofs.Common.{Some, option_map, sym, ap, ◌∙◌}
 use Rattle.kp_json.specs.Places.{item_place}
 use Rattle.kp_json.specs.Views.{place_of}
-use Rattle.kp_json.proofs.Elements.{element_at}
+use Rattle.kp_json.proofs.ListPlaces.{element_at}
 use Rattle.kp_json.proofs.spot.Spot.element.Goals as goal
 
 pub returns-in-Some : goal.returns-in-Some

@@ -1,6 +1,6 @@
 use Rattle.kp_json.specs.Places.{elements_of}
 use Rattle.kp_json.specs.Views.{place_of}
-use Rattle.kp_json.proofs.Elements.{is_there_as}
+use Rattle.kp_json.proofs.ListPlaces.{is_there_as}
 use Rattle.kp_json.proofs.spot.Spot.item.Goals as goal
 
 pub unwrap-requires : goal.unwrap-requires

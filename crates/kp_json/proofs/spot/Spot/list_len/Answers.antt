@@ -1,6 +1,6 @@
 use Rattle.std.proofs.Common.{Ok, sym, ap, ◌∙◌, length}
 use Rattle.kp_json.specs.Views.{place_of}
-use Rattle.kp_json.proofs.Elements.{list_len_found, length-places}
+use Rattle.kp_json.proofs.ListPlaces.{list_len_found, length-places}
 use Rattle.kp_json.proofs.spot.Spot.list_len.Goals as goal
 
 -- there are as many places as elements of the vector

@@ -1,5 +1,5 @@
 -- The elements of a list and the members of an object, as the code holds them and as contracts see them.
-use Rattle.std.proofs.Common.{◌≡◌, ℕ, ◌+◌, ◌<◌, ◌≤◌, zero, suc, List, [], ◌∷◌, length, map, filter, Bool, true, false, not, cond, Option, Some, None, IsSome, option_map, slice_get, String, Global, string_bytes, Ok, refl, ap, ◌∙◌, sym, arith, add-zero}
+use Rattle.std.proofs.Common.{◌≡◌, ℕ, ◌+◌, ◌<◌, ◌≤◌, zero, suc, List, [], ◌∷◌, length, map, filter, Bool, true, false, not, cond, Option, Some, None, IsSome, option_map, slice_get, drop, String, Global, string_bytes, Ok, refl, ap, ◌∙◌, sym, arith, add-zero}
 use Rattle.std.proofs.lemmas.List.{length-map}
 use Rattle.std.proofs.lemmas.List.Filters.{length-filter_both}
 use Rattle.std.proofs.lemmas.List.FromFn.{length-enumerate_from}
@@ -10,8 +10,9 @@ use Rattle.serde_json.specs.Find.{at, get_item, as_array, as_object}
 use Rattle.serde_json.specs.View.{view, items_view, members_view}
 use Rattle.serde_json.specs.declared.value.Value.{Value}
 use Rattle.kp_json.specs.Paths.{way_path}
-use Rattle.kp_json.specs.Places.{Place, is_present, item_list, member_list, places_of_items, places_of_members, elements_of, item_place, member_place, list_len_at, members_at}
-use Rattle.kp_json.specs.Views.{entry_member, members_left}
+use Rattle.kp_json.specs.Places.{Place, is_present, item_list, member_list, places_of_items, places_of_members, elements_of, members_of, item_place, member_place, list_len_at, elements_at, members_at}
+use Rattle.kp_json.specs.Views.{entry_member, numbered_element, members_left, elements_left}
+use Rattle.kp_json.specs.declared.elements.Elements.{Elements}
 use Rattle.kp_json.specs.declared.members.Members.{Members}
 
 length-item_list : (vs : List Value) → length (item_list (items_view vs)) ≡ length vs
@@ -93,3 +94,23 @@ length-members_left m es rest =
     let kept : length (filter (λ e. is_present (view e.1)) es) ≤ length es =
     omega (arith, length-filter_both (λ (e : String Global × Value). is_present (view e.1)) (λ e. not (is_present (view e.1))) (λ e. refl) es) in
     rw (length-map (filter (λ e. is_present (view e.1)) m.rest) (entry_member (way_path m.way.now)), rest) kept
+
+places_from_items : (p : Place) (n : ℕ) (vs : List Value) → map (λ e. item_place p e.0 e.1) (enumerate_from n (item_list (items_view vs))) ≡ map (numbered_element p.path) (enumerate_from n vs)
+places_from_items p n [] = refl
+places_from_items p n (v ∷ vs) = ap (λ ps. numbered_element p.path (n, v) ∷ ps) (places_from_items p (n + 1) vs)
+
+-- the elements that are left where a list begins are all
+pub all_elements_left : (p : Place) (e : Elements) (vs : List Value) → e.items.now ≡ vs → e.index ≡ 0 → way_path e.way.now ≡ p.path → places_of_items p (items_view vs) ≡ elements_left e
+all_elements_left p e vs items index way =
+    places_from_items p 0 vs ∙ sym (λ i. map (numbered_element (way i)) (enumerate_from (index i) (drop (index i) (items i))))
+
+-- the elements of the list that is found
+pub elements_found : (p : Place) (ds : Items) → as_array p.value ≡ Some ds → elements_at p ≡ Ok (places_of_items p ds)
+elements_found p ds found = rw found
+
+-- the elements and the members that are found, where a list or an object is known to be there
+pub elements_of_found : (p : Place) (ds : Items) → as_array p.value ≡ Some ds → elements_of p ≡ places_of_items p ds
+elements_of_found p ds found = rw found
+
+pub members_of_found : (p : Place) (ms : json.Members) → as_object p.value ≡ Some ms → members_of p ≡ places_of_members p ms
+members_of_found p ms found = rw found

@@ -1,0 +1,66 @@
+//! Addresses and ranges.
+ghost use Rattle.std.specs.Prelude.{◌≡◌};
+ghost use Rattle.kp_json.specs.Views.{place_of};
+ghost use Rattle.kp_event_defs.specs.Fields.{is_other_family, address_at, address_in, range_at};
+ghost use Rattle.kp_event_defs.specs.Reads.{Reads};
+ghost use Rattle.kp_event_defs.specs.Rows.{optional, address_text, range_text, field_fault, form_fault};
+
+use kp_base::{Address, Cidr};
+use kp_json::{FieldFault, Spot, Why};
+use std::alloc::Global;
+
+/// Whether a text is of another address family, and so passed over: it has a colon.
+pub fn is_other_family(text: &str) -> bool
+    ensures { result ≡ is_other_family text.now }
+{
+    text.as_bytes().contains(&b':')
+}
+
+/// The address here. One of another family is passed over.
+pub fn address_here(alloc: Global, spot: &Spot<'_>) -> Result<Option<Address>, FieldFault>
+    ensures { Reads (λ a. a) result (form_fault address_text (place_of spot.now))
+        (address_at (place_of spot.now)) }
+{
+    let text = spot.str_at(alloc)?;
+    if is_other_family(text) {
+        return Ok(None);
+    }
+    match Address::parse(text.as_bytes()) {
+        Ok(address) => Ok(Some(address)),
+        Err(_) => Err(spot.bad(alloc, Why::BadAddress)),
+    }
+}
+
+/// The address of a member that may be absent. One of another family is passed over.
+pub fn address_field<'a>(
+    alloc: Global,
+    spot: &'a Spot<'a>,
+    name: &'a str,
+) -> Result<Option<Address>, FieldFault>
+    ensures { Reads (λ a. a) result
+        (field_fault name.now optional address_text (place_of spot.now))
+        (address_in name.now (place_of spot.now)) }
+{
+    match spot.field(alloc, name)? {
+        None => Ok(None),
+        Some(member) => match member.as_text() {
+            Some(text) if text.is_empty() => Ok(None),
+            _ => address_here(alloc, &member),
+        },
+    }
+}
+
+/// The range here. One of another family is passed over.
+pub fn range_here(alloc: Global, spot: &Spot<'_>) -> Result<Option<Cidr>, FieldFault>
+    ensures { Reads (λ r. r) result (form_fault range_text (place_of spot.now))
+        (range_at (place_of spot.now)) }
+{
+    let text = spot.str_at(alloc)?;
+    if is_other_family(text) {
+        return Ok(None);
+    }
+    match Cidr::parse(text.as_bytes()) {
+        Ok(range) => Ok(Some(range)),
+        Err(_) => Err(spot.bad(alloc, Why::BadCidr)),
+    }
+}
