@@ -1,0 +1,3 @@
+pub mod PortSteps
+pub mod SeenOrder
+pub mod ServiceMade

@@ -1,0 +1,6 @@
+use Rattle.kp_json.specs.Views.{place_of}
+use Rattle.kp_slice.proofs.SliceMade.{read_gives}
+use Rattle.kp_slice.proofs.slice.slice_of.Goals as goal
+
+pub returns : goal.returns
+returns c = read_gives (place_of c.args.spot.now) c.read.result c.read.ensures

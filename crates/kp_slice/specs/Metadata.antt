@@ -1,0 +1,25 @@
+-- What is read of a slice's metadata.
+use Rattle.std.specs.Prelude.{codes}
+use Rattle.kp_json.specs.Places.{Place}
+use Rattle.kp_event_defs.specs.Fields.{inner, text_in, is_text, key_from}
+use Rattle.kp_slice.specs.declared.metadata.Metadata.{Metadata}
+use Rattle.kp_slice.specs.declared.metadata.Labels.{Labels}
+
+-- the labels
+abbrev pub labels_from : Place → Labels
+labels_from p = record {
+  service = text_in (codes "kubernetes.io/service-name") p;
+  managed = is_text (codes "endpointslice-controller.k8s.io") (text_in (codes "endpointslice.kubernetes.io/managed-by") p);
+}
+
+-- the metadata
+abbrev pub metadata_from : Place → Metadata
+metadata_from p = record {
+  key = key_from p;
+  service = (labels_from (inner (codes "labels") p)).service;
+  managed = (labels_from (inner (codes "labels") p)).managed;
+}
+
+-- the metadata of an object
+abbrev pub metadata_at : Place → Metadata
+metadata_at p = metadata_from (inner (codes "metadata") p)

@@ -1,0 +1,11 @@
+//! EndpointSlices are read from JSON.
+#![tactic(auto)]
+
+mod endpoint;
+mod metadata;
+mod slice;
+#[cfg(test)]
+mod tests;
+
+pub use kp_types::{AddressType, Slice, SliceEndpoint, SlicePort, Wanted};
+pub use slice::slice_of;
