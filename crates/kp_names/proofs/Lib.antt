@@ -1,0 +1,6 @@
+pub mod Clashes
+pub mod Feeding
+pub mod NameBytes
+pub mod Quanta
+pub mod SameKeys
+pub mod TextsApart

@@ -1,0 +1,4 @@
+pub mod Places
+pub mod Prefix
+pub mod Quantum
+pub mod Written

@@ -1,0 +1,22 @@
+//! Why names are refused.
+use kp_base::NoMemory;
+use kp_types::Clash;
+
+/// Why names were refused.
+#[derive(Drop)]
+pub enum NameFault {
+    /// Two different chains have one name.
+    ChainClash(Clash),
+    NoMemory,
+}
+
+impl From<NoMemory> for NameFault {
+    ghost use Rattle.std.specs.Prelude.{◌≡◌};
+    ghost use Rattle.kp_names.specs.declared.fault.NameFault.TheVariants.{NoMemory};
+
+    ghost from_gives = { λ _ fault. fault ≡ NoMemory };
+
+    fn from(_error: NoMemory) -> NameFault {
+        NameFault::NoMemory
+    }
+}
