@@ -32,7 +32,7 @@ impl Model for Namer {
 }
 
 impl Namer {
-    /// A namer that takes so many characters.
+    /// A namer that takes so many characters, 0 to 16. kube-proxy takes 16.
     pub fn new(length: u8) -> Namer
         requires { length ≤ 16 }
         ensures { result ≡ length }
@@ -40,7 +40,8 @@ impl Namer {
         Namer { length }
     }
 
-    /// The name of a Service port's chain of this kind.
+    /// The name of a Service port's chain of this kind: its prefix, and the first characters of the base 32
+    /// (RFC 4648) of the SHA-256 of `namespace/name:port` and the protocol in lower case. It takes no memory.
     pub fn port_chain_name(&self, kind: PortChain, port: &PortKey) -> ChainName
         ensures { result ≡ spec.port_chain_name self.now kind port.now }
     {
@@ -49,7 +50,8 @@ impl Namer {
         name(prefix(kind), &hasher.finalize(), self.length)
     }
 
-    /// The name of the chain of an endpoint of a Service port.
+    /// The name of the chain of an endpoint of a Service port. The text that is hashed ends in `address:port`.
+    /// It takes no memory.
     pub fn endpoint_chain_name(&self, port: &PortKey, endpoint: &Endpoint) -> ChainName
         ensures { result ≡ spec.endpoint_chain_name self.now port.now endpoint.now }
     {
