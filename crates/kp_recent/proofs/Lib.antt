@@ -1,0 +1,6 @@
+pub mod Falling
+pub mod Parts
+pub mod Put
+pub mod Shown
+pub mod Sources
+pub mod Turn
