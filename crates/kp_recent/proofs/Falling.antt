@@ -1,5 +1,5 @@
 -- Parts whose moments fall: what stays so, and that only the last of them can be too old.
-use Rattle.std.proofs.Common.{◌≡◌, ℕ, zero, suc, ◌-◌, ◌<◌, ◌≤◌, Bool, true, false, cond, [], ◌∷◌, ◌++◌, take, length, filter, Some, None, refl, ap, sym, ◌∙◌, subst, append-nil, arith}
+use Rattle.std.proofs.Common.{◌≡◌, ℕ, zero, suc, ◌-◌, ◌≤◌, Bool, true, false, cond, [], ◌∷◌, ◌++◌, take, length, filter, Some, None, refl, ap, sym, ◌∙◌, subst, append-nil, arith}
 use Rattle.std.specs.Prelude.{slice_get}
 use Rattle.std.specs.Map.{remove_entry}
 use Rattle.std.proofs.lemmas.Bool.Decides.{nat_tests}
@@ -130,8 +130,3 @@ module _ (now seconds : ℕ) where
       ∙ ap (λ xs. recent_pairs now seconds (take (length ss - 1) ss) ++ xs) (sym (gone_last s w))
       ∙ sym (filter-append (λ t. is_recent now seconds t.1) (take (length ss - 1) ss) (s ∷ []))
       ∙ ap (recent_pairs now seconds) (sym (last_is ss s at))
-
--- a part with a last source is not empty
-pub some_last : (ss : Pairs) (s : AddressParts × ℕ) → last_entry ss ≡ Some s → 0 < length ss
-some_last [] s at = absurd (none-some s at)
-some_last (t ∷ ss) s at = omega arith
