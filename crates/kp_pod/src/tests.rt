@@ -115,6 +115,42 @@ fn pods_are_read(rt: HostRuntime) -> Result<(), Fail> {
             "WrongType spec.containers[0].ports[0].protocol 0",
         ),
         (
+            r#"{"metadata":{"name":"p"},"spec":{"nodeName":5}}"#,
+            "WrongType spec.nodeName 0",
+        ),
+        (
+            r#"{"metadata":{"name":"p"},"spec":{"containers":[{"ports":5}]}}"#,
+            "WrongType spec.containers[0].ports 0",
+        ),
+        (
+            r#"{"metadata":{"name":"p"},"spec":{"containers":[{"ports":[5]}]}}"#,
+            "WrongType spec.containers[0].ports[0] 0",
+        ),
+        (
+            r#"{"metadata":{"name":"p"},"spec":{"containers":[{"ports":[{"name":5,"containerPort":1}]}]}}"#,
+            "WrongType spec.containers[0].ports[0].name 0",
+        ),
+        (
+            r#"{"metadata":{"name":"p"},"spec":{"containers":[{"ports":[{"containerPort":"1"}]}]}}"#,
+            "WrongType spec.containers[0].ports[0].containerPort 0",
+        ),
+        (
+            r#"{"metadata":{"name":"p"},"spec":{"containers":[{"ports":[{"protocol":"tcp"}]}]}}"#,
+            "OutOfRange spec.containers[0].ports[0].protocol 0",
+        ),
+        (
+            r#"{"metadata":{"name":"p"},"status":5}"#,
+            "WrongType status 0",
+        ),
+        (
+            r#"{"metadata":{"name":"p"},"status":{"podIP":5}}"#,
+            "WrongType status.podIP 0",
+        ),
+        (
+            r#"{"metadata":{"name":"p"},"status":{"conditions":[5]}}"#,
+            "WrongType status.conditions[0] 0",
+        ),
+        (
             r#"{"metadata":{"name":"p"},"status":{"phase":5}}"#,
             "WrongType status.phase 0",
         ),

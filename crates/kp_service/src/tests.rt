@@ -224,6 +224,35 @@ fn the_first_fault_of_a_specification_is_told(rt: HostRuntime) -> Result<(), Fai
             "BadCidr spec.loadBalancerSourceRanges[0] 0",
         ),
         (
+            r#""ports":[{"protocol":5}]"#,
+            "WrongType spec.ports[0].protocol 0",
+        ),
+        (
+            r#""ports":[{"port":1,"targetPort":-1}]"#,
+            "WrongType spec.ports[0].targetPort 0",
+        ),
+        (r#""sessionAffinity":1"#, "WrongType spec.sessionAffinity 0"),
+        (
+            r#""sessionAffinityConfig":{"clientIP":{"timeoutSeconds":"1"}}"#,
+            "WrongType spec.sessionAffinityConfig.clientIP.timeoutSeconds 0",
+        ),
+        (
+            r#""internalTrafficPolicy":1"#,
+            "WrongType spec.internalTrafficPolicy 0",
+        ),
+        (
+            r#""externalTrafficPolicy":"All""#,
+            "OutOfRange spec.externalTrafficPolicy 0",
+        ),
+        (
+            r#""loadBalancerSourceRanges":{}"#,
+            "WrongType spec.loadBalancerSourceRanges 0",
+        ),
+        (
+            r#""loadBalancerSourceRanges":[5]"#,
+            "WrongType spec.loadBalancerSourceRanges[0] 0",
+        ),
+        (
             r#""trafficDistribution":1"#,
             "WrongType spec.trafficDistribution 0",
         ),
@@ -256,6 +285,26 @@ fn services_are_read(rt: HostRuntime) -> Result<(), Fail> {
         (
             r#"{"metadata":{"name":"web","namespace":"A"}}"#,
             "BadName metadata.namespace 0",
+        ),
+        (
+            r#"{"metadata":{"name":"web","namespace":5},"spec":{}}"#,
+            "WrongType metadata.namespace 0",
+        ),
+        (
+            r#"{"metadata":{"name":"web"},"spec":{},"status":{"loadBalancer":5}}"#,
+            "WrongType status.loadBalancer 0",
+        ),
+        (
+            r#"{"metadata":{"name":"web"},"spec":{},"status":{"loadBalancer":{"ingress":{}}}}"#,
+            "WrongType status.loadBalancer.ingress 0",
+        ),
+        (
+            r#"{"metadata":{"name":"web"},"spec":{},"status":{"loadBalancer":{"ingress":[5]}}}"#,
+            "WrongType status.loadBalancer.ingress[0] 0",
+        ),
+        (
+            r#"{"metadata":{"name":"web"},"spec":{"sessionAffinity":"ClientIP","sessionAffinityConfig":{"clientIP":{"timeoutSeconds":1}}}}"#,
+            "default/web ClusterIp absent Some(1) Cluster Cluster false false; external; balancer",
         ),
         (r#"{"metadata":{"name":"web"}}"#, "Missing spec 0"),
         (

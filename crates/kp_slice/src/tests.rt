@@ -157,6 +157,42 @@ fn the_first_fault_of_a_slice_is_told(rt: HostRuntime) -> Result<(), Fail> {
             r#""endpoints":[{"addresses":["1.2.3.4"]},{"addresses":["x"]},{}],"ports":5"#,
             "BadAddress endpoints[1].addresses[0] 0",
         ),
+        (
+            r#""endpoints":[{"addresses":["1.2.3.4"],"conditions":{"ready":1}}]"#,
+            "WrongType endpoints[0].conditions.ready 0",
+        ),
+        (
+            r#""endpoints":[{"addresses":["1.2.3.4"],"nodeName":5}]"#,
+            "WrongType endpoints[0].nodeName 0",
+        ),
+        (
+            r#""endpoints":[{"addresses":["1.2.3.4"],"zone":5}]"#,
+            "WrongType endpoints[0].zone 0",
+        ),
+        (
+            r#""endpoints":[{"addresses":["1.2.3.4"],"hints":5}]"#,
+            "WrongType endpoints[0].hints 0",
+        ),
+        (
+            r#""endpoints":[{"addresses":["1.2.3.4"],"hints":{"forZones":5}}]"#,
+            "WrongType endpoints[0].hints.forZones 0",
+        ),
+        (
+            r#""endpoints":[{"addresses":["1.2.3.4"],"hints":{"forZones":[5]}}]"#,
+            "WrongType endpoints[0].hints.forZones[0] 0",
+        ),
+        (
+            r#""endpoints":[{"addresses":["1.2.3.4"],"targetRef":5}]"#,
+            "WrongType endpoints[0].targetRef 0",
+        ),
+        (r#""ports":{}"#, "WrongType ports 0"),
+        (r#""ports":[5]"#, "WrongType ports[0] 0"),
+        (r#""ports":[{"name":5}]"#, "WrongType ports[0].name 0"),
+        (
+            r#""ports":[{"protocol":5}]"#,
+            "WrongType ports[0].protocol 0",
+        ),
+        (r#""ports":[{"port":"1"}]"#, "WrongType ports[0].port 0"),
         (r#""ports":[{"port":0}]"#, "OutOfRange ports[0].port 0"),
         (r#""ports":[{"port":65536}]"#, "OutOfRange ports[0].port 0"),
         (r#""ports":[{"name":"a_b"}]"#, "BadName ports[0].name 0"),
