@@ -1,7 +1,7 @@
 -- The endpoints that the EndpointSlice controller wants for a Service, of its Pods (Kubernetes documents on
 -- Services and EndpointSlices; KEP-752, KEP-1669; same-zone hints after the documents on traffic
 -- distribution). Which pods are passed over is this project's choice where the documents are silent.
-use Rattle.std.specs.Prelude.{ℕ, ◌&&◌, ◌||◌, Bool, true, false, List, [], ◌∷◌, not, cond, bytes_eq, length, ◌==◌, Option, Some, None, option_map, option_and_then, map}
+use Rattle.std.specs.Prelude.{ℕ, ◌&&◌, ◌||◌, Bool, true, false, List, [], ◌∷◌, not, cond, bytes_eq, Option, Some, None, option_map, option_and_then, reverse}
 use Rattle.std.specs.List.{list_any, list_all, find, filter, filter_map}
 use Rattle.std.specs.FinMap as finite
 use Rattle.kp_base.specs.Net.{AddressParts, same_family}
@@ -23,7 +23,7 @@ use Rattle.kp_types.specs.declared.slice.Wanted.{Wanted}
 use Rattle.kp_types.specs.declared.pod.Pod.{Pod}
 use Rattle.kp_types.specs.declared.pod.Node.{Node}
 use Rattle.kp_object_defs.specs.Objects.{Objects, zone_of}
-use Rattle.kp_object_defs.specs.Order.{in_order, values_of}
+use Rattle.kp_object_defs.specs.Order.{by_key, values_of}
 
 -- a list is empty
 abbrev pub is_empty : {A : Type 0} → List A → Bool
@@ -96,29 +96,34 @@ abbrev pub with_ports : Pod → SliceEndpoint → List SlicePort → Option Want
 with_ports pod entry [] = None
 with_ports pod entry (p ∷ ps) = Some (record { pod = pod.key; ports = p ∷ ps; entry = entry })
 
--- the endpoint that a Service wants of a selected pod: none of a pod that has finished, has no address of the
--- family or resolves no port
-abbrev pub desired_of : Family → (List ℕ → Option (List ℕ)) → Service → Pod → Option Wanted
-desired_of family zone_at s pod =
+-- the endpoint that a Service wants of a selected pod, whose node has this zone: none of a pod that has
+-- finished, has no address of the family or resolves no port
+abbrev pub desired_in_zone : Family → Service → Pod → Option (List ℕ) → Option Wanted
+desired_in_zone family s pod zone =
     cond pod.finished None
-    (option_and_then (λ a. with_ports pod (entry_of s pod (option_and_then zone_at pod.node) a) (resolved_ports s pod))
+    (option_and_then (λ a. with_ports pod (entry_of s pod zone a) (resolved_ports s pod))
     (option_and_then (address_in family) pod.address))
+
+-- the endpoint that a Service wants of a selected pod, with the zones of nodes
+abbrev pub desired_of : Family → (List ℕ → Option (List ℕ)) → Service → Pod → Option Wanted
+desired_of family zone_at s pod = desired_in_zone family s pod (option_and_then zone_at pod.node)
 
 -- the endpoints that a Service wants of pods, in their order
 abbrev pub desired_from : Family → (List ℕ → Option (List ℕ)) → Service → List Pod → List Wanted
 desired_from family zone_at s pods = filter_map (desired_of family zone_at s) (filter (selects s) pods)
 
--- the zone of the first node of this name among nodes, if it has one
+-- the zone of the node of this name among nodes, if it has one; of nodes of one name the last counts
 abbrev pub zone_among : List Node → List ℕ → Option (List ℕ)
-zone_among nodes name = option_and_then (λ n. n.zone) (find (λ n. bytes_eq n.name name) nodes)
+zone_among nodes name = option_and_then (λ n. n.zone) (find (λ n. bytes_eq n.name name) (reverse nodes))
 
--- wanted endpoints in order of their pods
-abbrev pub in_pod_order : List Wanted → List Wanted
-in_pod_order wanted = values_of (in_order key_cmp (map (λ w. (w.pod, w)) wanted))
+-- pods in order of their names; of pods of one name the last counts
+abbrev pub in_name_order : List Pod → List Pod
+in_name_order pods = values_of (by_key key_cmp (λ p. p.key) pods)
 
 -- the endpoints that a Service wants of pods, on nodes, each in any order: in order of the pods' names
 abbrev pub desired_among : Family → Service → List Pod → List Node → List Wanted
-desired_among family s pods nodes = in_pod_order (desired_from family (zone_among nodes) s pods)
+desired_among family s pods nodes =
+    filter_map (desired_of family (zone_among nodes) s) (in_name_order (filter (selects s) pods))
 
 -- the endpoints that the controller wants for a Service, in order of the pods' names
 abbrev pub desired_endpoints_of : Family → Objects → Service → List Wanted

@@ -1,17 +1,16 @@
 -- The endpoints of one Service port, each address and port once (Kubernetes documents on EndpointSlices,
 -- "Duplicate endpoints"; kube-proxy's EndpointSliceCache). Which of several entries of one address and port
 -- counts, and the order, are this project's choice.
-use Rattle.std.specs.Prelude.{ℕ, ◌==◌, ◌&&◌, Bool, true, false, List, [], ◌∷◌, ◌++◌, map, reverse, not, cond, bytes_eq, Option, Some, None, option_map, option_and_then, slice_get}
+use Rattle.std.specs.Prelude.{ℕ, ◌&&◌, Bool, true, false, List, [], ◌∷◌, ◌++◌, map, reverse, not, cond, bytes_eq, Option, Some, None, option_map, option_and_then, slice_get}
 use Rattle.std.specs.List.{filter, filter_map, flat_map}
 use Rattle.std.specs.FinMap as finite
-use Rattle.kp_base.specs.Net.{AddressParts}
+use Rattle.kp_base.specs.Net.{AddressParts, same_family}
 use Rattle.kp_base.specs.Keys.{endpoint_cmp}
 use Rattle.kp_base.specs.declared.address.Family.{Family}
 use Rattle.kp_base.specs.declared.address.Family.TheVariants.{V4, V6}
 use Rattle.kp_base.specs.declared.port.Proto.{Proto}
 use Rattle.kp_base.specs.declared.key.ObjectKey.{ObjectKey}
 use Rattle.kp_base.specs.declared.key.PortKey.{PortKey}
-use Rattle.kp_base.specs.declared.key.Endpoint.{Endpoint}
 use Rattle.kp_base.specs.declared.config.Config.{Config}
 use Rattle.kp_types.specs.Ports.{same_proto}
 use Rattle.kp_types.specs.declared.service.Service.{Service}
@@ -104,6 +103,15 @@ unmanaged slices = filter (λ s. not s.managed) slices
 abbrev pub counted_once : List Candidate → List Candidate
 counted_once cs =
     values_of (in_order endpoint_cmp (map (λ c. (c.endpoint, c)) (reverse (filter (λ c. c.local) cs) ++ cs)))
+
+-- a candidate is of this family
+abbrev pub is_of_family : Family → Candidate → Bool
+is_of_family family c = same_family c.endpoint.address.family family
+
+-- the family of a port's candidates, of which all have the same; without any it doesn't matter
+abbrev pub family_among : List Candidate → Family
+family_among [] = V4
+family_among (c ∷ cs) = c.endpoint.address.family
 
 -- what the endpoints of a Service are taken from: the wanted ones and slices that others made, where the
 -- controller makes slices for it, or else all its slices

@@ -22,10 +22,14 @@ is_serving_terminating c = c.serving && c.terminating
 abbrev pub hints_zone : List ℕ → Candidate → Bool
 hints_zone zone c = list_any (λ z. bytes_eq z zone) c.hints
 
+-- it has a hint
+abbrev pub has_hint : Candidate → Bool
+has_hint c = not (is_empty c.hints)
+
 -- the hints of ready endpoints apply in a zone: each has one, and one hints this zone
 abbrev pub hints_apply : Option (List ℕ) → List Candidate → Bool
 hints_apply None ready = false
-hints_apply (Some zone) ready = list_all (λ c. not (is_empty c.hints)) ready && list_any (hints_zone zone) ready
+hints_apply (Some zone) ready = list_all has_hint ready && list_any (hints_zone zone) ready
 
 -- the endpoints that hint a zone, or all where there is none
 abbrev pub in_zone : Option (List ℕ) → List Candidate → List Candidate

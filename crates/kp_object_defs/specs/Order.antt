@@ -1,5 +1,6 @@
 -- Lists in the order of keys.
-use Rattle.std.specs.Prelude.{List, [], ◌∷◌, map}
+use Rattle.std.specs.Prelude.{Bool, List, [], ◌∷◌, map, not, reverse}
+use Rattle.std.specs.List.{filter}
 use Rattle.std.specs.declared.cmp.Ordering.{Ordering}
 use Rattle.std.specs.FinMap.{put}
 
@@ -12,6 +13,16 @@ in_order R (e ∷ es) = put R e.0 e.1 (in_order R es)
 abbrev pub values_of : {K X : Type 0} → List (K × X) → List X
 values_of es = map (λ e. e.1) es
 
+-- Elements by their keys, in order. Of elements with one key the last counts, as a later apply of an object
+-- takes the place of an earlier one.
+abbrev pub by_key : {K X : Type 0} → (K → K → Ordering) → (X → K) → List X → List (K × X)
+by_key R key xs = in_order R (reverse (map (λ x. (key x, x)) xs))
+
 -- the elements once each, in order
 abbrev pub distinct_in_order : {K : Type 0} → (K → K → Ordering) → List K → List K
 distinct_in_order R ks = map (λ e. e.0) (in_order R (map (λ k. (k, k)) ks))
+
+-- the elements that don't stand earlier in the list
+abbrev pub first_places : {A : Type 0} → (A → A → Bool) → List A → List A
+first_places same [] = []
+first_places same (x ∷ xs) = x ∷ filter (λ y. not (same x y)) (first_places same xs)

@@ -1,8 +1,8 @@
 -- What the proxy knows of one Service port, as kube-proxy's service port info: its destinations, its policies
 -- and its endpoints (Kubernetes documents on Services). Only Services with a cluster address take part.
 -- Addresses and ranges that stand twice in one list count once, at their first place.
-use Rattle.std.specs.Prelude.{ℕ, ◌==◌, ◌&&◌, ◌||◌, Bool, true, false, List, [], ◌∷◌, map, not, cond, Option, Some, None, option_map, option_and_then, is_some}
-use Rattle.std.specs.List.{list_any, filter, filter_map, flat_map}
+use Rattle.std.specs.Prelude.{ℕ, ◌==◌, ◌&&◌, ◌||◌, Bool, true, false, List, [], ◌∷◌, map, not, cond, Option, Some, None, option_map, is_some}
+use Rattle.std.specs.List.{filter, filter_map, flat_map}
 use Rattle.std.specs.FinMap as finite
 use Rattle.kp_base.specs.Net.{AddressParts, RangeParts, same_address, same_family}
 use Rattle.kp_base.specs.Keys.{port_key_cmp}
@@ -16,21 +16,15 @@ use Rattle.kp_types.specs.declared.service.ServiceKind.TheVariants.{ClusterIp, N
 use Rattle.kp_types.specs.declared.service.ServicePort.{ServicePort}
 use Rattle.kp_types.specs.declared.service.ClusterAddress.{ClusterAddress}
 use Rattle.kp_types.specs.declared.service.ClusterAddress.TheVariants.{Absent, Headless, At}
-use Rattle.kp_types.specs.declared.service.Policy.{Policy}
 use Rattle.kp_types.specs.declared.lists.Candidate.{Candidate}
 use Rattle.kp_types.specs.declared.lists.Lists.{Lists}
 use Rattle.kp_types.specs.declared.info.ServiceSources.{ServiceSources}
 pub use Rattle.kp_types.specs.declared.info.PortInfo.{PortInfo}
 use Rattle.kp_object_defs.specs.Objects.{Objects, zone_of}
-use Rattle.kp_object_defs.specs.Order.{in_order, values_of}
+use Rattle.kp_object_defs.specs.Order.{by_key, values_of, first_places}
 use Rattle.kp_object_defs.specs.Desired.{is_empty, is_external_name, address_in}
 use Rattle.kp_object_defs.specs.Entries.{sources_of, entries_from}
 use Rattle.kp_object_defs.specs.Lists.{lists_from, list_by_policy}
-
--- the elements that don't stand earlier in the list
-abbrev pub first_places : {A : Type 0} → (A → A → Bool) → List A → List A
-first_places same [] = []
-first_places same (x ∷ xs) = x ∷ filter (λ y. not (same x y)) (first_places same xs)
 
 -- whether two ranges are one
 abbrev pub same_range : RangeParts → RangeParts → Bool
@@ -122,13 +116,17 @@ info_of family node zone (sources, p) =
     (info_from family sources.service p zone (entries_from family node sources (port_key_of sources.service p)))
     (cluster_address_in family sources.service)
 
--- the ports of a Service with their names
-abbrev pub named_ports : ServiceSources → List (PortKey × (ServiceSources × ServicePort))
-named_ports sources = map (λ p. (port_key_of sources.service p, (sources, p))) sources.service.ports
+-- a Service with each of its ports
+abbrev pub ports_of : ServiceSources → List (ServiceSources × ServicePort)
+ports_of sources = map (λ p. (sources, p)) sources.service.ports
+
+-- the name of a port of a Service
+abbrev pub name_of_port : ServiceSources × ServicePort → PortKey
+name_of_port (sources, p) = port_key_of sources.service p
 
 -- the ports of Services, in order of their names
 abbrev pub service_ports : List ServiceSources → List (ServiceSources × ServicePort)
-service_ports services = values_of (in_order port_key_cmp (flat_map named_ports services))
+service_ports services = values_of (by_key port_key_cmp name_of_port (flat_map ports_of services))
 
 -- what the proxy knows of the ports of Services, in order, on a node in a zone
 abbrev pub infos_from : Family → List ℕ → Option (List ℕ) → List ServiceSources → List PortInfo

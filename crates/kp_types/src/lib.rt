@@ -26,6 +26,6 @@ pub use packet::{Origin, Packet};
 pub use pod::{ContainerPort, Node, Pod};
 pub use rule::{Batch, ChainText, Edit, Match, Rule, Target};
 pub use service::{ClusterAddress, Policy, Service, ServiceKind, ServicePort, TargetPort};
-pub use slice::{AddressType, Slice, SliceEndpoint, SlicePort, Wanted};
+pub use slice::{AddressType, Packed, Slice, SliceEndpoint, SlicePort, Wanted};
 pub use verdict::{Answer, Pass, Trail, Verdict};
 pub use walk::Ending;

@@ -13,7 +13,7 @@ pub enum AddressType {
 }
 
 /// One entry of a slice's `ports`.
-#[derive(PartialEq, Eq, Drop)]
+#[derive(PartialEq, Eq, Hash, Drop)]
 pub struct SlicePort {
     pub name: Text,
     pub proto: Proto,
@@ -53,6 +53,16 @@ pub struct Wanted {
     pub pod: ObjectKey,
     pub ports: Items<SlicePort>,
     pub entry: SliceEndpoint,
+}
+
+/// A Service's slices after packing, in order of their names, and the names of the slices that are new, that were
+/// there and differ, and that are gone.
+#[derive(Drop)]
+pub struct Packed {
+    pub slices: Items<Slice>,
+    pub created: Items<Text>,
+    pub updated: Items<Text>,
+    pub deleted: Items<Text>,
 }
 
 impl Copied for SlicePort {
@@ -99,6 +109,17 @@ impl Copied for Wanted {
             pod: self.pod.copy(alloc)?,
             ports: self.ports.copy(alloc)?,
             entry: self.entry.copy(alloc)?,
+        })
+    }
+}
+
+impl Copied for Packed {
+    fn copy(&self, alloc: Global) -> Result<Packed, NoMemory> {
+        Ok(Packed {
+            slices: self.slices.copy(alloc)?,
+            created: self.created.copy(alloc)?,
+            updated: self.updated.copy(alloc)?,
+            deleted: self.deleted.copy(alloc)?,
         })
     }
 }

@@ -1,11 +1,12 @@
 -- The ports of plain Services answer at their cluster addresses alone.
-use Rattle.std.proofs.Common.{◌≡◌, ◌⊎◌, inl, inr, Bool, true, false, not, cond, ℕ, List, [], ◌∷◌, map, Contains, Option, Some, None, option_map, filter_map, flat_map, refl, sym, ap, subst, ◌∙◌}
+use Rattle.std.proofs.Common.{◌≡◌, ◌⊎◌, inl, inr, Bool, true, false, not, cond, ℕ, List, [], ◌∷◌, map, reverse, Contains, Option, Some, None, option_map, filter_map, flat_map, refl, sym, ap, subst, ◌∙◌}
 use Rattle.std.specs.declared.cmp.Ordering.{Ordering}
 use Rattle.std.specs.declared.cmp.Ordering.TheVariants.{Less, Equal, Greater}
 use Rattle.std.specs.FinMap.{put, values}
 use Rattle.std.specs.FinMap.Entries.{by_order}
 use Rattle.std.specs.List.{cons_option}
 use Rattle.std.proofs.lemmas.Option.{same_Some}
+use Rattle.std.proofs.lemmas.List.Sorted.{Contains-permutation, IsPermutation-sym, IsPermutation-reverse}
 use Rattle.kp_base.specs.Keys.{port_key_cmp}
 use Rattle.kp_base.specs.Net.{AddressParts}
 use Rattle.kp_base.specs.declared.address.Family.{Family}
@@ -21,7 +22,7 @@ use Rattle.kp_object_defs.specs.Entries.{sources_of, entries_from}
 use Rattle.kp_object_defs.specs.Lists.{lists_from, cluster_endpoints}
 use Rattle.kp_object_defs.specs.Objects.{Objects, zone_of}
 use Rattle.kp_object_defs.specs.Order.{in_order}
-use Rattle.kp_object_defs.specs.PortInfo.{addresses_in, has_balancer, has_node_port, is_reachable, restriction_in, balancer_in, node_port_of, port_key_of, info_from, info_of, named_ports, service_ports, cluster_address_in, lists_of, is_reachable_in}
+use Rattle.kp_object_defs.specs.PortInfo.{addresses_in, has_balancer, has_node_port, is_reachable, restriction_in, balancer_in, node_port_of, port_key_of, info_from, info_of, ports_of, name_of_port, service_ports, cluster_address_in, lists_of, is_reachable_in}
 use Rattle.kp_walk_laws.specs.Laws.{IsClusterOnly, IsPlainService, PlainPorts}
 use Rattle.kp_walk_laws.proofs.Members.{none_in, in_cases, from_map, from_flat_map}
 use Rattle.kp_walk_laws.proofs.Outcomes.{first_in, later_in}
@@ -117,11 +118,11 @@ service_by false x y h = refl
 sources_service : (family : Family) (config : Config) (o : Objects) (s : Service) → (sources_of family config o s).service ≡ s
 sources_service family config o s = service_by (is_reconciled config s) _ _ refl
 
--- a port of a plain Service, by its entry
-of_plain : (sources : ServiceSources) (p : ServicePort) (named entry : PortKey × (ServiceSources × ServicePort)) (sp : ServiceSources × ServicePort)
-    → (port_key_of sources.service p, (sources, p)) ≡ named → named.1 ≡ entry.1 → entry.1 ≡ sp → IsPlainService sources.service → IsPlainService sp.0.service
-of_plain sources p named entry sp name same is plain =
-    subst (λ (q : ServiceSources × ServicePort). IsPlainService q.0.service) (ap (λ (e : PortKey × (ServiceSources × ServicePort)). e.1) name ∙ same ∙ is) plain
+-- a port of a plain Service
+of_plain : (sources : ServiceSources) (p : ServicePort) (named entry : PortKey × (ServiceSources × ServicePort)) (own sp : ServiceSources × ServicePort)
+    → (sources, p) ≡ own → (name_of_port own, own) ≡ named → named.1 ≡ entry.1 → entry.1 ≡ sp → IsPlainService sources.service → IsPlainService sp.0.service
+of_plain sources p named entry own sp of name same is plain =
+    subst (λ (q : ServiceSources × ServicePort). IsPlainService q.0.service) (of ∙ ap (λ (e : PortKey × (ServiceSources × ServicePort)). e.1) name ∙ same ∙ is) plain
 
 module _ (family : Family) (config : Config) (o : Objects) (plain : (s : Service) → Contains (values o.services) s → IsPlainService s) where
   plain_sources : (sources : ServiceSources) → Contains (map (sources_of family config o) (values o.services)) sources → IsPlainService sources.service
@@ -132,11 +133,15 @@ module _ (family : Family) (config : Config) (o : Objects) (plain : (s : Service
   plain_port : (sp : ServiceSources × ServicePort) → Contains (service_ports (map (sources_of family config o) (values o.services))) sp → IsPlainService sp.0.service
   plain_port sp c =
       let services : List ServiceSources = map (sources_of family config o) (values o.services) in
-      let (entry, in_entries, is) = from_map (λ (e : PortKey × (ServiceSources × ServicePort)). e.1) sp (in_order port_key_cmp (flat_map named_ports services)) c in
-      let (named, in_named, same) = from_in_order port_key_cmp (flat_map named_ports services) entry in_entries in
-      let (sources, in_services, of_it) = from_flat_map named_ports named services in_named in
-      let (p, in_its, name) = from_map (λ p. (port_key_of sources.service p, (sources, p))) named sources.service.ports of_it in
-      of_plain sources p named entry sp name same is (plain_sources sources in_services)
+      let ports : List (ServiceSources × ServicePort) = flat_map ports_of services in
+      let named_ports : List (PortKey × (ServiceSources × ServicePort)) = map (λ q. (name_of_port q, q)) ports in
+      let (entry, in_entries, is) = from_map (λ (e : PortKey × (ServiceSources × ServicePort)). e.1) sp (in_order port_key_cmp (reverse named_ports)) c in
+      let (named, in_reversed, same) = from_in_order port_key_cmp (reverse named_ports) entry in_entries in
+      let in_named : Contains named_ports named = Contains-permutation (reverse named_ports) named_ports named (IsPermutation-sym _ _ (IsPermutation-reverse named_ports)) in_reversed in
+      let (own, in_ports, name) = from_map (λ q. (name_of_port q, q)) named ports in_named in
+      let (sources, in_services, of_it) = from_flat_map ports_of own services in_ports in
+      let (p, in_its, of) = from_map (λ p. (sources, p)) own sources.service.ports of_it in
+      of_plain sources p named entry own sp of name same is (plain_sources sources in_services)
 
 pub plain_ports_by : PlainPorts
 plain_ports_by family config o plain i c =

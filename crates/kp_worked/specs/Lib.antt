@@ -7,6 +7,7 @@ pub mod Choices
 pub mod Counts
 pub mod Affinity
 pub mod Names
+pub mod Packing
 pub mod Chains
 pub mod Walks
 pub mod Events

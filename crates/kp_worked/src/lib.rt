@@ -11,6 +11,7 @@ ghost use Rattle.kp_worked.specs.Decisions as decisions;
 ghost use Rattle.kp_worked.specs.Lists as lists;
 ghost use Rattle.kp_worked.specs.Masquerades as masquerades;
 ghost use Rattle.kp_worked.specs.Names as names;
+ghost use Rattle.kp_worked.specs.Packing as packing;
 ghost use Rattle.kp_worked.specs.Walks as walks;
 ghost use Rattle.kp_worked.specs.Wanted as wanted;
 
@@ -220,4 +221,17 @@ pub fn worked_events()
     ensures pods_and_slice { events.PodsAndSlice }
     ensures pod_not_ready { events.PodNotReady }
     ensures pod_finished { events.PodFinished }
+{}
+
+/// Slices packed into new ones.
+pub fn worked_packing()
+    ensures new { packing.NewSlices }
+    ensures nearly_full { packing.NearlyFull }
+    ensures changed { packing.ChangedIsFilled }
+    ensures fullest { packing.FullestTakes }
+    ensures emptied { packing.EmptiedIsDeleted }
+    ensures taken { packing.TakenNames }
+    ensures groups { packing.Groups }
+    ensures state { packing.ChangedState }
+    ensures unchanged { packing.Unchanged }
 {}
