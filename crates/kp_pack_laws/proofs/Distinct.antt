@@ -1,0 +1,150 @@
+-- Lists of which no two elements are the same, by a test that is true at equal elements alone.
+use Rattle.std.proofs.Common.{◌≡◌, ℕ, ◌+◌, ◌≤◌, Bool, true, false, cond, not, ◌||◌, List, [], ◌∷◌, ◌++◌, map, take, length, suc, zero, refl, ap, subst, ◌∙◌, true≢false, arith}
+use Rattle.std.specs.List.{filter, list_any, AllByRecursion, IsDistinct}
+use Rattle.std.specs.Cmp.{IsEquivalence}
+use Rattle.std.proofs.lemmas.Bool.{false≢true, or_parts, or_from, and_parts}
+use Rattle.std.proofs.lemmas.Map.Views.{any-filter_same}
+use Rattle.kp_object_defs.specs.Order.{first_places}
+use Rattle.kp_object_defs.specs.PackingLaws.{are_distinct}
+use Rattle.kp_pack_laws.proofs.Shuffles.{all_filter, all_pass}
+
+is_false : (b : Bool) → not b ≡ true → b ≡ false
+is_false true h = absurd (false≢true h)
+is_false false h = refl
+
+pub is_not : (b : Bool) → b ≡ false → not b ≡ true
+is_not true h = absurd (true≢false h)
+is_not false h = refl
+
+module _ {X : Type 0} (p : X → Bool) where
+  pub none_pass : (xs : List X) → list_any p xs ≡ false → AllByRecursion (λ x. p x ≡ false) xs
+  none_pass [] h = tt
+  none_pass (x ∷ xs) h = let parts = or_parts (p x) (list_any p xs) h in (parts.0, none_pass xs parts.1)
+
+  pub any_of_none : (xs : List X) → AllByRecursion (λ x. p x ≡ false) xs → list_any p xs ≡ false
+  any_of_none [] all = refl
+  any_of_none (x ∷ xs) all = or_from (p x) (list_any p xs) all.0 (any_of_none xs all.1)
+
+module _ {X : Type 0} (same : X → X → Bool) where
+  pub distinct_from_test : (xs : List X) → are_distinct same xs ≡ true → IsDistinct same xs
+  unfolding IsDistinct
+  distinct_from_test [] h = tt
+  distinct_from_test (x ∷ xs) h =
+      let parts = and_parts (not (list_any (same x) xs)) (are_distinct same xs) h in
+      (none_pass (same x) xs (is_false _ parts.0), distinct_from_test xs parts.1)
+
+  pub distinct_filter : (p : X → Bool) (xs : List X) → IsDistinct same xs → IsDistinct same (filter p xs)
+  unfolding IsDistinct
+  distinct_filter p [] d = tt
+  distinct_filter p (x ∷ xs) d = by (p x) (all_filter (λ y. same x y ≡ false) p xs d.0) (distinct_filter p xs d.1)
+    where
+      by : (b : Bool) → AllByRecursion (λ y. same x y ≡ false) (filter p xs) → IsDistinct same (filter p xs) → IsDistinct same (cond b (x ∷ filter p xs) (filter p xs))
+      by true apart rest = (apart, rest)
+      by false apart rest = rest
+
+  pub apart_mapped : {Y : Type 0} (k : X) (h : Y → X) (p : Y → Bool) (ys : List Y) → AllByRecursion (λ y. same k y ≡ false) (map h ys) → AllByRecursion (λ y. same k y ≡ false) (map h (filter p ys))
+  apart_mapped k h p [] all = tt
+  apart_mapped k h p (y ∷ ys) all = by (p y) (apart_mapped k h p ys all.1)
+    where
+      by : (b : Bool) → AllByRecursion (λ z. same k z ≡ false) (map h (filter p ys)) → AllByRecursion (λ z. same k z ≡ false) (map h (cond b (y ∷ filter p ys) (filter p ys)))
+      by true rest = (all.0, rest)
+      by false rest = rest
+
+  -- what a filter leaves of elements whose names differ
+  pub distinct_mapped : {Y : Type 0} (h : Y → X) (p : Y → Bool) (ys : List Y) → IsDistinct same (map h ys) → IsDistinct same (map h (filter p ys))
+  unfolding IsDistinct
+  distinct_mapped h p [] d = tt
+  distinct_mapped h p (y ∷ ys) d = by (p y) (apart_mapped (h y) h p ys d.0) (distinct_mapped h p ys d.1)
+    where
+      by : (b : Bool) → AllByRecursion (λ z. same (h y) z ≡ false) (map h (filter p ys)) → IsDistinct same (map h (filter p ys)) → IsDistinct same (map h (cond b (y ∷ filter p ys) (filter p ys)))
+      by true apart rest = (apart, rest)
+      by false apart rest = rest
+
+  apart_joined : (k : X) (xs ys : List X) → AllByRecursion (λ y. same k y ≡ false) xs → AllByRecursion (λ y. same k y ≡ false) ys → AllByRecursion (λ y. same k y ≡ false) (xs ++ ys)
+  apart_joined k [] ys a b = b
+  apart_joined k (x ∷ xs) ys a b = (a.0, apart_joined k xs ys a.1 b)
+
+  pub distinct_joined : (xs ys : List X) → IsDistinct same xs → IsDistinct same ys → AllByRecursion (λ x. AllByRecursion (λ y. same x y ≡ false) ys) xs → IsDistinct same (xs ++ ys)
+  unfolding IsDistinct
+  distinct_joined [] ys a b apart = b
+  distinct_joined (x ∷ xs) ys a b apart = (apart_joined x xs ys a.0 apart.0, distinct_joined xs ys a.1 b apart.1)
+
+  pub all_taken : (P : X → Type 0) (n : ℕ) (xs : List X) → AllByRecursion P xs → AllByRecursion P (take n xs)
+  all_taken P zero xs all = tt
+  all_taken P (suc n) [] all = tt
+  all_taken P (suc n) (x ∷ xs) all = (all.0, all_taken P n xs all.1)
+
+  pub distinct_taken : (n : ℕ) (xs : List X) → IsDistinct same xs → IsDistinct same (take n xs)
+  unfolding IsDistinct
+  distinct_taken zero xs d = tt
+  distinct_taken (suc n) [] d = tt
+  distinct_taken (suc n) (x ∷ xs) d = (all_taken (λ y. same x y ≡ false) n xs d.0, distinct_taken n xs d.1)
+
+-- ---- by a test that is true at equal elements alone
+
+module _ {X : Type 0} (same : X → X → Bool) (laws : IsEquivalence same) (exact : (x y : X) → same x y ≡ true → x ≡ y) where
+  -- elements in their first places differ
+  pub first_places_differ : (xs : List X) → IsDistinct same (first_places same xs)
+  unfolding IsDistinct
+  first_places_differ [] = tt
+  first_places_differ (x ∷ xs) = (apart (first_places same xs), distinct_filter same (λ y. not (same x y)) (first_places same xs) (first_places_differ xs))
+    where
+      by : (y : X) (ys : List X) (b : Bool) → same x y ≡ b → AllByRecursion (λ z. same x z ≡ false) (filter (λ z. not (same x z)) ys)
+          → AllByRecursion (λ z. same x z ≡ false) (cond (not b) (y ∷ filter (λ z. not (same x z)) ys) (filter (λ z. not (same x z)) ys))
+      by y ys true e rest = rest
+      by y ys false e rest = (e, rest)
+
+      apart : (ys : List X) → AllByRecursion (λ z. same x z ≡ false) (filter (λ z. not (same x z)) ys)
+      apart [] = tt
+      apart (y ∷ ys) = by y ys (same x y) refl (apart ys)
+
+  -- and each element has one there
+  step : (k x : X) (xs : List X) → list_any (same k) (first_places same xs) ≡ list_any (same k) xs → (b : Bool) → same k x ≡ b
+      → (b || list_any (same k) (filter (λ y. not (same x y)) (first_places same xs))) ≡ (b || list_any (same k) xs)
+  step k x xs rest true e = refl
+  step k x xs rest false e =
+      any-filter_same (same k) (λ y. not (same x y)) true (λ y t. is_not _ (subst (λ z. same x z ≡ false) (exact k y t) (laws.symm x k ∙ e))) (first_places same xs) ∙ rest
+
+  pub first_places_find : (k : X) (xs : List X) → list_any (same k) (first_places same xs) ≡ list_any (same k) xs
+  first_places_find k [] = refl
+  first_places_find k (x ∷ xs) = step k x xs (first_places_find k xs) (same k x) refl
+
+  -- of elements that differ one at most is as another
+  others : (x : X) (xs : List X) → AllByRecursion (λ y. same x y ≡ false) xs → AllByRecursion (λ y. not (same y x) ≡ true) xs
+  others x [] all = tt
+  others x (y ∷ ys) all = (is_not _ (laws.symm y x ∙ all.0), others x ys all.1)
+
+  pub one_at_most : (k : X) (xs : List X) → IsDistinct same xs → length xs ≤ 1 + length (filter (λ y. not (same y k)) xs)
+  unfolding IsDistinct
+  one_at_most k [] d = omega arith
+  one_at_most k (x ∷ xs) d = by (same x k) refl (one_at_most k xs d.1)
+    where
+      by : (b : Bool) → same x k ≡ b → length xs ≤ 1 + length (filter (λ y. not (same y k)) xs)
+          → suc (length xs) ≤ 1 + length (cond (not b) (x ∷ filter (λ y. not (same y k)) xs) (filter (λ y. not (same y k)) xs))
+      by true e rest =
+          let all = all_pass (λ y. not (same y k)) xs (subst (λ z. AllByRecursion (λ y. not (same y z) ≡ true) xs) (exact x k e) (others x xs d.0)) in
+          omega (arith, ap length all)
+      by false e rest = omega (arith, rest)
+
+  two_filters : (p q : X → Bool) (xs : List X) → filter (λ x. not (q x)) (filter (λ x. not (p x)) xs) ≡ filter (λ x. not (p x || q x)) xs
+  two_filters p q [] = refl
+  two_filters p q (x ∷ xs) = by (p x) (q x) refl (two_filters p q xs)
+    where
+      by : (b c : Bool) → q x ≡ c → filter (λ y. not (q y)) (filter (λ y. not (p y)) xs) ≡ filter (λ y. not (p y || q y)) xs
+          → filter (λ y. not (q y)) (cond (not b) (x ∷ filter (λ y. not (p y)) xs) (filter (λ y. not (p y)) xs)) ≡ cond (not (b || c)) (x ∷ filter (λ y. not (p y || q y)) xs) (filter (λ y. not (p y || q y)) xs)
+      by true c e rest = rest
+      by false true e rest = ap (λ b. cond (not b) (x ∷ filter (λ y. not (q y)) (filter (λ y. not (p y)) xs)) (filter (λ y. not (q y)) (filter (λ y. not (p y)) xs))) e ∙ rest
+      by false false e rest = ap (λ b. cond (not b) (x ∷ filter (λ y. not (q y)) (filter (λ y. not (p y)) xs)) (filter (λ y. not (q y)) (filter (λ y. not (p y)) xs))) e ∙ ap (λ ys. x ∷ ys) rest
+
+  -- of elements that differ as many at most are in a list as it is long
+  pub enough_others : (ks xs : List X) → IsDistinct same xs → length xs ≤ length ks + length (filter (λ x. not (list_any (same x) ks)) xs)
+  enough_others [] xs d =
+      omega (arith, ap length (all_pass (λ x. not (list_any (same x) [])) xs (everything xs)))
+    where
+      everything : (ys : List X) → AllByRecursion (λ y. true ≡ true) ys
+      everything [] = tt
+      everything (y ∷ ys) = (refl, everything ys)
+  enough_others (k ∷ ks) xs d =
+      let less = filter (λ y. not (same y k)) xs in
+      let rest = enough_others ks less (distinct_filter same (λ y. not (same y k)) xs d) in
+      omega (arith, rest, one_at_most k xs d, ap length (two_filters (λ x. same x k) (λ x. list_any (same x) ks) xs))

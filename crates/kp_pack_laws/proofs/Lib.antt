@@ -1,0 +1,10 @@
+pub mod Shuffles
+pub mod Distinct
+pub mod Groups
+pub mod Ordered
+pub mod Ports
+pub mod Names
+pub mod Keeping
+pub mod Placing
+pub mod Packs
+pub mod Theorem

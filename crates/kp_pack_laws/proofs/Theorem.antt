@@ -1,0 +1,163 @@
+-- Packing places each wanted endpoint once, in slices with different names.
+use Rattle.std.proofs.Common.{◌≡◌, ℕ, ◌+◌, ◌^◌, ◌<◌, ◌≤◌, Bool, true, false, not, cond, List, [], ◌∷◌, ◌++◌, map, length, bytes_eq, refl, sym, ap, subst, ◌∙◌, arith, IsPermutation}
+use Rattle.std.specs.List.{filter, flat_map, list_any, AllByRecursion, IsDistinct}
+use Rattle.std.specs.Ordering.{eq_by_cmp}
+use Rattle.std.specs.Cmp.Lexicographic.{texts_ties, nat_list_eq_equiv}
+use Rattle.std.proofs.lemmas.Bool.{false≢true, and_parts, false_from_ne_true}
+use Rattle.std.proofs.lemmas.Grind.{flat_map-append}
+use Rattle.std.proofs.lemmas.List.{map-append, length-map}
+use Rattle.std.proofs.lemmas.List.Elements.{All-from_recursion, recursion_from_All}
+use Rattle.std.proofs.lemmas.List.Sorted.{IsPermutation-map, All-permutation}
+use Rattle.std.proofs.lemmas.Map.Keys.{IsDistinct-IsPermutation}
+use Rattle.std.proofs.lemmas.Slice.Eq.{bytes_eq-Decides}
+use Rattle.kp_base.specs.Keys.{text_cmp}
+use Rattle.kp_base.specs.declared.address.Family.{Family}
+use Rattle.kp_base.specs.declared.key.ObjectKey.{ObjectKey}
+use Rattle.kp_base.proofs.KeyOrder.{text_total}
+use Rattle.kp_types.specs.declared.slice.SliceEndpoint.{SliceEndpoint}
+use Rattle.kp_types.specs.declared.slice.Slice.{Slice}
+use Rattle.kp_types.specs.declared.slice.Wanted.{Wanted}
+use Rattle.kp_object_defs.specs.Desired.{is_empty}
+use Rattle.kp_object_defs.specs.Packing.{Filling, NewSlice, sorted_ports, pack_groups, new_slices, in_slice_order, filled_slice, stays}
+use Rattle.kp_object_defs.specs.PackingLaws.{are_taken, entries_with_ports, wanted_with_ports, IsPackingOf, PackingPlacesEach}
+use Rattle.kp_pack_laws.proofs.Shuffles.{same_list, turned, and_then, mapped_twice, pieces_of_map, all_filter, passing, all_weaker, all_joined, all_mapped, all_unmapped, all_both}
+use Rattle.kp_pack_laws.proofs.Distinct.{distinct_from_test, distinct_mapped, distinct_joined}
+use Rattle.kp_pack_laws.proofs.Ordered.{by_key_pieces, by_key_keeps}
+use Rattle.kp_pack_laws.proofs.Names.{new_names_differ, new_names_free, new_pieces, new_all}
+use Rattle.kp_pack_laws.proofs.Keeping.{AreWithin, slices_of}
+use Rattle.kp_pack_laws.proofs.Packs.{Entry, entries_of_filling, entries_of_new, all_fillings, all_made, packed_entries, packed_all, packed_differ, packed_within, made_within, made_few}
+
+-- ---- slices in order of their names
+
+abbrev name_of : Slice → List ℕ
+name_of s = s.key.name
+
+abbrev Differ : List Slice → Type 0
+Differ slices = IsDistinct bytes_eq (map name_of slices)
+
+by_order_of_texts : (names : List (List ℕ)) → IsDistinct bytes_eq names → IsDistinct (eq_by_cmp text_cmp) names
+by_order_of_texts names d = subst (λ (same : List ℕ → List ℕ → Bool). IsDistinct same names) (λ i x y. texts_ties x y i) d
+
+ordered_keeps : (slices : List Slice) → Differ slices → IsPermutation (in_slice_order slices) slices
+ordered_keeps slices d = by_key_keeps text_total name_of slices (by_order_of_texts (map name_of slices) d)
+
+ordered_entries : (slices : List Slice) → Differ slices → IsPermutation (entries_with_ports (in_slice_order slices)) (entries_with_ports slices)
+ordered_entries slices d = by_key_pieces text_total (λ s. map (λ e. (sorted_ports s.ports, e)) s.endpoints) name_of slices (by_order_of_texts (map name_of slices) d)
+
+ordered_all : (P : Slice → Type 0) (slices : List Slice) → Differ slices → AllByRecursion P slices → AllByRecursion P (in_slice_order slices)
+ordered_all P slices d all = recursion_from_All P _ (All-permutation P slices (in_slice_order slices) (turned (ordered_keeps slices d)) (All-from_recursion P slices all))
+
+ordered_differ : (slices : List Slice) → Differ slices → Differ (in_slice_order slices)
+ordered_differ slices d = IsDistinct-IsPermutation bytes_eq nat_list_eq_equiv.symm _ _ (IsPermutation-map name_of _ _ (turned (ordered_keeps slices d))) d
+
+-- ---- slices that stay
+
+abbrev stayed : List Filling → List Slice
+stayed fs = map filled_slice (filter stays fs)
+
+-- those that don't have nothing
+stayed_entries : (fs : List Filling) → entries_with_ports (stayed fs) ≡ flat_map entries_of_filling fs
+stayed_entries fs = pieces_of_map (λ s. map (λ e. (sorted_ports s.ports, e)) s.endpoints) filled_slice (filter stays fs) ∙ some_have fs
+  where
+    by : (f : Filling) (rest all : List Entry) (es : List SliceEndpoint) → f.endpoints ≡ es → rest ≡ all → cond (not (is_empty es)) (entries_of_filling f ++ rest) rest ≡ entries_of_filling f ++ all
+    by f rest all [] e h = h ∙ ap (λ es. map (λ e. (sorted_ports f.slice.ports, e)) es ++ all) (sym e)
+    by f rest all (x ∷ es) e h = ap (λ l. entries_of_filling f ++ l) h
+
+    inside : (f : Filling) (gs : List Filling) (b : Bool) → flat_map entries_of_filling (cond b (f ∷ gs) gs) ≡ cond b (entries_of_filling f ++ flat_map entries_of_filling gs) (flat_map entries_of_filling gs)
+    inside f gs true = refl
+    inside f gs false = refl
+
+    some_have : (gs : List Filling) → flat_map entries_of_filling (filter stays gs) ≡ flat_map entries_of_filling gs
+    some_have [] = refl
+    some_have (g ∷ gs) = inside g (filter stays gs) (stays g) ∙ by g _ _ g.endpoints refl (some_have gs)
+
+stayed_names : (fs : List Filling) → map name_of (stayed fs) ≡ map (λ f. f.slice.key.name) (filter stays fs)
+stayed_names fs = mapped_twice name_of filled_slice (filter stays fs)
+
+stayed_differ : (fs : List Filling) → Differ (slices_of fs) → Differ (stayed fs)
+stayed_differ fs d =
+    subst (IsDistinct bytes_eq) (sym (stayed_names fs))
+    (distinct_mapped bytes_eq (λ f. f.slice.key.name) stays fs (subst (IsDistinct bytes_eq) (mapped_twice name_of (λ f. f.slice) fs) d))
+
+some_endpoints : (es : List SliceEndpoint) → not (is_empty es) ≡ true → 1 ≤ length es
+some_endpoints [] h = absurd (false≢true h)
+some_endpoints (e ∷ es) h = omega arith
+
+stayed_sizes : (most : ℕ) (fs : List Filling) → AreWithin most fs → AllByRecursion (λ s. (1 ≤ length s.endpoints) × (length s.endpoints ≤ most)) (stayed fs)
+stayed_sizes most fs le =
+    all_mapped (λ s. (1 ≤ length s.endpoints) × (length s.endpoints ≤ most)) filled_slice (filter stays fs)
+    (all_both (λ f. 1 ≤ length f.endpoints) (λ f. length f.endpoints ≤ most) (filter stays fs)
+    (all_weaker (λ f. stays f ≡ true) (λ f. 1 ≤ length f.endpoints) (λ f. some_endpoints f.endpoints) (filter stays fs) (passing stays fs))
+    (all_filter (λ f. length f.endpoints ≤ most) stays fs le))
+
+-- ---- names
+
+taken_each : (taken : List (List ℕ)) (slices : List Slice) → are_taken taken slices ≡ true → AllByRecursion (λ s. list_any (bytes_eq s.key.name) taken ≡ true) slices
+taken_each taken [] h = tt
+taken_each taken (s ∷ slices) h = let p = and_parts (list_any (bytes_eq s.key.name) taken) (are_taken taken slices) h in (p.0, taken_each taken slices p.1)
+
+stayed_taken : (taken : List (List ℕ)) (fs : List Filling) → AllByRecursion (λ s. list_any (bytes_eq s.key.name) taken ≡ true) (slices_of fs) → AllByRecursion (λ name. list_any (bytes_eq name) taken ≡ true) (map name_of (stayed fs))
+stayed_taken taken fs all =
+    let T = λ (name : List ℕ). list_any (bytes_eq name) taken ≡ true in
+    subst (AllByRecursion T) (sym (stayed_names fs))
+    (all_mapped T (λ f. f.slice.key.name) (filter stays fs) (all_filter (λ f. T f.slice.key.name) stays fs (all_unmapped (λ s. T s.key.name) (λ f. f.slice) fs all)))
+
+clash : (b : Bool) → b ≡ true → not b ≡ true → ⊥
+clash true h k = false≢true k
+clash false h k = false≢true h
+
+-- a name that is taken isn't a free one
+apart : (taken names free : List (List ℕ)) → AllByRecursion (λ name. list_any (bytes_eq name) taken ≡ true) names → AllByRecursion (λ name. not (list_any (bytes_eq name) taken) ≡ true) free
+    → AllByRecursion (λ x. AllByRecursion (λ y. bytes_eq x y ≡ false) free) names
+apart taken names free a b =
+    all_weaker (λ x. list_any (bytes_eq x) taken ≡ true) (λ x. AllByRecursion (λ y. bytes_eq x y ≡ false) free)
+    (λ x is. all_weaker (λ y. not (list_any (bytes_eq y) taken) ≡ true) (λ y. bytes_eq x y ≡ false)
+    (λ y isnt. false_from_ne_true (bytes_eq x y) (λ e. clash (list_any (bytes_eq y) taken) (subst (λ n. list_any (bytes_eq n) taken ≡ true) ((bytes_eq-Decides x y).0 e) is) isnt)) free b) names a
+
+-- ---- all slices
+
+module _ (family : Family) (service : ObjectKey) (taken : List (List ℕ)) where
+  abbrev all_slices : List Filling → List NewSlice → List Slice
+  all_slices fs made = stayed fs ++ new_slices family service taken made
+
+  all_differ : (fs : List Filling) (made : List NewSlice) → length taken + length made < 10 ^ 64 → Differ (slices_of fs) → AllByRecursion (λ s. list_any (bytes_eq s.key.name) taken ≡ true) (slices_of fs) → Differ (all_slices fs made)
+  all_differ fs made small d are =
+      subst (IsDistinct bytes_eq) (sym (map-append name_of (stayed fs) (new_slices family service taken made)))
+      (distinct_joined bytes_eq (map name_of (stayed fs)) (map name_of (new_slices family service taken made)) (stayed_differ fs d) (new_names_differ family service taken made small)
+      (apart taken (map name_of (stayed fs)) (map name_of (new_slices family service taken made)) (stayed_taken taken fs are) (new_names_free family service taken made small)))
+
+  all_entries : (fs : List Filling) (made : List NewSlice) → length taken + length made < 10 ^ 64 → entries_with_ports (all_slices fs made) ≡ flat_map entries_of_filling fs ++ flat_map entries_of_new made
+  all_entries fs made small =
+      flat_map-append (λ s. map (λ e. (sorted_ports s.ports, e)) s.endpoints) (stayed fs) (new_slices family service taken made)
+      ∙ (λ i. stayed_entries fs i ++ new_pieces family service taken made small (λ s. map (λ e. (sorted_ports s.ports, e)) s.endpoints) entries_of_new
+      (λ name m. mapped_twice (λ e. (sorted_ports m.ports, e)) (λ w. w.entry) m.wanted) i)
+
+  all_sizes : (most : ℕ) (fs : List Filling) (made : List NewSlice) → AreWithin most fs → AllByRecursion (λ m. (1 ≤ length m.wanted) × (length m.wanted ≤ most)) made
+      → AllByRecursion (λ s. (1 ≤ length s.endpoints) × (length s.endpoints ≤ most)) (all_slices fs made)
+  all_sizes most fs made le sizes =
+      all_joined (λ s. (1 ≤ length s.endpoints) × (length s.endpoints ≤ most)) (stayed fs) (new_slices family service taken made) (stayed_sizes most fs le)
+      (new_all family service (λ m. (1 ≤ length m.wanted) × (length m.wanted ≤ most)) (λ s. (1 ≤ length s.endpoints) × (length s.endpoints ≤ most))
+      (λ name m h. let long = length-map m.wanted (λ w. w.entry) in (omega (arith, h), omega (arith, h))) taken made sizes)
+
+  packing_of : (most : ℕ) (wanted : List Wanted) (fs : List Filling) (made : List NewSlice) → length taken + length made < 10 ^ 64 → Differ (slices_of fs)
+      → AllByRecursion (λ s. list_any (bytes_eq s.key.name) taken ≡ true) (slices_of fs) → AreWithin most fs → AllByRecursion (λ m. (1 ≤ length m.wanted) × (length m.wanted ≤ most)) made
+      → IsPermutation (flat_map entries_of_filling fs ++ flat_map entries_of_new made) (wanted_with_ports wanted) → IsPackingOf most wanted (in_slice_order (all_slices fs made))
+  packing_of most wanted fs made small d are le sizes same =
+      let differ = all_differ fs made small d are in
+      let both = ordered_all (λ s. (1 ≤ length s.endpoints) × (length s.endpoints ≤ most)) (all_slices fs made) differ (all_sizes most fs made le sizes) in
+      record {
+        placed = and_then (ordered_entries (all_slices fs made) differ) (and_then (same_list (all_entries fs made small)) same);
+        some = All-from_recursion (λ s. 1 ≤ length s.endpoints) _ (all_weaker (λ s. (1 ≤ length s.endpoints) × (length s.endpoints ≤ most)) (λ s. 1 ≤ length s.endpoints) (λ s h. h.0) _ both);
+        bounded = All-from_recursion (λ s. length s.endpoints ≤ most) _ (all_weaker (λ s. (1 ≤ length s.endpoints) × (length s.endpoints ≤ most)) (λ s. length s.endpoints ≤ most) (λ s h. h.1) _ both);
+      }
+
+pub packing_places_each : PackingPlacesEach
+packing_places_each family service before wanted most taken some small own are =
+    let slices = in_slice_order before in
+    let packs = pack_groups most slices wanted in
+    let differ = distinct_from_test bytes_eq (map name_of before) own in
+    let each = ordered_all (λ s. list_any (bytes_eq s.key.name) taken ≡ true) before differ (taken_each taken before are) in
+    packing_of family service taken most wanted (all_fillings packs) (all_made packs) (omega (arith, made_few most some slices wanted))
+    (packed_differ most some slices wanted (ordered_differ before differ))
+    (packed_all most some slices wanted (λ s. list_any (bytes_eq s.key.name) taken ≡ true) each)
+    (packed_within most some slices wanted) (made_within most some slices wanted) (packed_entries most some slices wanted)
