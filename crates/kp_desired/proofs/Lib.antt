@@ -1,0 +1,5 @@
+pub mod LabelIndex
+pub mod NodeNames
+pub mod PodNames
+pub mod PortNumbers
+pub mod Steps

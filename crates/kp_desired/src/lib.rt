@@ -1,0 +1,13 @@
+//! The endpoints that the EndpointSlice controller wants for a Service.
+#![tactic(auto)]
+
+mod order;
+mod ports;
+mod selection;
+#[cfg(test)]
+mod tests;
+mod wanted;
+mod zones;
+
+pub use selection::selects;
+pub use wanted::desired_endpoints;
