@@ -1,0 +1,6 @@
+pub mod Addresses
+pub mod Counting
+pub mod Families
+pub mod Filtered
+pub mod OneFamily
+pub mod Steps

@@ -1,0 +1,12 @@
+//! The endpoints of a Service port, each address and port once, and the lists that it may send to.
+#![tactic(auto)]
+
+mod entries;
+mod lists;
+mod reach;
+#[cfg(test)]
+mod tests;
+mod topology;
+
+pub use entries::candidates;
+pub use lists::categorise;
