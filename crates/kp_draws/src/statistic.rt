@@ -34,9 +34,9 @@ pub fn threshold(p: u64) -> u32
     rounded as u32
 }
 
-/// The probability as a rule prints it: a digit, a dot and ten digits.
+/// The probability as a rule prints it: a digit, a dot and ten digits. Digits above the first are left out, which
+/// no probability has.
 pub fn probability_text(p: u64) -> ArrayString<12>
-    requires { p ≤ 10 ^ 10 }
     ensures { result.bytes ≡ probability_text_of p }
 {
     let mut text = ArrayString::new();
