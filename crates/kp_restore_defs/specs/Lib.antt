@@ -1,0 +1,4 @@
+pub mod BatchText
+pub mod FirstBadLine
+pub mod RuleText
+pub mod TableText
