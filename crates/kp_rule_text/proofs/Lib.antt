@@ -1,0 +1,10 @@
+pub mod AddressWords
+pub mod Cuts
+pub mod Digits
+pub mod FamilyWords
+pub mod Joined
+pub mod Matches
+pub mod Probabilities
+pub mod Rules
+pub mod Targets
+pub mod Words

@@ -1,0 +1,16 @@
+//! Rules as `iptables-restore` takes them: one line for each (iptables(8), iptables-extensions(8)).
+#![tactic(auto)]
+
+mod chosen;
+pub mod laws;
+mod print;
+mod read;
+mod split;
+mod target;
+#[cfg(test)]
+mod tests;
+mod text;
+mod word;
+
+pub use print::push_rule;
+pub use read::read_rule;
