@@ -1,0 +1,121 @@
+-- The texts of lines: no line feed stands in one, and different lines have different texts.
+use Rattle.std.proofs.Common.{◌≡◌, ℕ, ◌==◌, true, false, List, [], ◌∷◌, ◌++◌, codes, drop, refl, sym, ap, ◌∙◌, arith}
+use Rattle.std.specs.List.{list_all}
+use Rattle.std.proofs.lemmas.Bool.{and_parts}
+use Rattle.std.proofs.lemmas.Bool.Decides.{nat_tests}
+use Rattle.kp_base.specs.declared.address.Family.{Family}
+use Rattle.kp_types.specs.Chains.{is_chain_byte}
+use Rattle.kp_types.specs.declared.chain.TableName.{TableName}
+use Rattle.kp_types.specs.declared.chain.TableName.TheVariants.{Nat, Filter}
+use Rattle.kp_restore.specs.declared.line.Line.{Line}
+use Rattle.kp_restore.specs.declared.line.Line.TheVariants.{Section, BuiltIn, Declared, Ruled, Removed, Commit}
+use Rattle.kp_restore.specs.Lines.{line_text, is_canonical_line}
+use Rattle.kp_restore.specs.Pieces.{no_line_feed}
+use Rattle.kp_rule_text.proofs.Rules.{lines_differ}
+use Rattle.kp_restore.proofs.RuleLines.{name_bytes, name_plain, both_plain, rule_plain}
+
+-- ---- No line feed
+
+pub line_plain : (family : Family) (l : Line) → is_canonical_line family l ≡ true → no_line_feed (line_text l) ≡ true
+line_plain family (Section Nat) h = refl
+line_plain family (Section Filter) h = refl
+line_plain family (BuiltIn chain) h = both_plain chain (codes " ACCEPT [0:0]") (name_plain chain h) refl
+line_plain family (Declared chain) h = both_plain chain (codes " - [0:0]") (name_plain chain h) refl
+line_plain family (Ruled chain rule) h = rule_plain family chain rule (and_parts _ _ h).0 (and_parts _ _ h).1
+line_plain family (Removed chain) h = name_plain chain h
+line_plain family Commit h = refl
+
+-- ---- Different lines
+
+apart : (m n : ℕ) → (m == n) ≡ false → m ≡ n → ⊥
+apart m n h e = grind (arith, nat_tests)
+
+-- what stands before the first space, and behind it
+cut_at_space : (a b : List ℕ) (x y : List ℕ) → list_all is_chain_byte a ≡ true → list_all is_chain_byte b ≡ true → a ++ 32 ∷ x ≡ b ++ 32 ∷ y → (a ≡ b) × (x ≡ y)
+cut_at_space [] [] x y g h e = (refl, cc)
+cut_at_space [] (b ∷ bs) x y g h e = let k : 32 ≡ b = cc in absurd (let n = (and_parts _ _ h).0 in let t = ap is_chain_byte k ∙ n in cc)
+cut_at_space (a ∷ as') [] x y g h e = let k : a ≡ 32 = cc in absurd (let n = (and_parts _ _ g).0 in let t = ap is_chain_byte (sym k) ∙ n in cc)
+cut_at_space (a ∷ as') (b ∷ bs) x y g h e =
+    let first : a ≡ b = cc in
+    let rest = cut_at_space as' bs x y (and_parts _ _ g).1 (and_parts _ _ h).1 (cc) in
+    (λ i. first i ∷ rest.0 i, rest.1)
+
+first_of_text : List ℕ → ℕ
+first_of_text [] = 0
+first_of_text (b ∷ bs) = b
+
+-- the first byte of a line
+kind : Line → ℕ
+kind (Section table) = 42
+kind (BuiltIn chain) = 58
+kind (Declared chain) = 58
+kind (Ruled chain rule) = 45
+kind (Removed chain) = 45
+kind Commit = 67
+
+first_kind : (l : Line) → first_of_text (line_text l) ≡ kind l
+unfolding first_of_text kind
+first_kind (Section Nat) = refl
+first_kind (Section Filter) = refl
+first_kind (BuiltIn chain) = refl
+first_kind (Declared chain) = refl
+first_kind (Ruled chain rule) = refl
+first_kind (Removed chain) = refl
+first_kind Commit = refl
+
+same_kind : (l m : Line) → line_text l ≡ line_text m → kind l ≡ kind m
+same_kind l m e = sym (first_kind l) ∙ ap first_of_text e ∙ first_kind m
+
+second_of_text : List ℕ → ℕ
+second_of_text [] = 0
+second_of_text (b ∷ bs) = first_of_text bs
+
+section_exact : (a b : TableName) → line_text (Section a) ≡ line_text (Section b) → a ≡ b
+unfolding second_of_text first_of_text
+section_exact Nat Nat e = refl
+section_exact Nat Filter e = absurd (apart _ _ refl (ap second_of_text e))
+section_exact Filter Nat e = absurd (apart _ _ refl (ap second_of_text e))
+section_exact Filter Filter e = refl
+
+pub line_exact : (family : Family) (l m : Line) → is_canonical_line family l ≡ true → is_canonical_line family m ≡ true → line_text l ≡ line_text m → l ≡ m
+unfolding kind second_of_text first_of_text
+line_exact family (Section a) (Section b) g h e = ap (λ t. Section t) (section_exact a b e)
+line_exact family (BuiltIn a) (BuiltIn b) g h e = ap (λ n. BuiltIn n) (cut_at_space a b (codes "ACCEPT [0:0]") (codes "ACCEPT [0:0]") (name_bytes a g) (name_bytes b h) (ap (drop 1) e)).0
+line_exact family (Declared a) (Declared b) g h e = ap (λ n. Declared n) (cut_at_space a b (codes "- [0:0]") (codes "- [0:0]") (name_bytes a g) (name_bytes b h) (ap (drop 1) e)).0
+line_exact family (BuiltIn a) (Declared b) g h e = absurd (apart _ _ refl (ap first_of_text (cut_at_space a b (codes "ACCEPT [0:0]") (codes "- [0:0]") (name_bytes a g) (name_bytes b h) (ap (drop 1) e)).1))
+line_exact family (Declared a) (BuiltIn b) g h e = absurd (apart _ _ refl (ap first_of_text (cut_at_space a b (codes "- [0:0]") (codes "ACCEPT [0:0]") (name_bytes a g) (name_bytes b h) (ap (drop 1) e)).1))
+line_exact family (Ruled a r) (Ruled b s) g h e =
+    let p = and_parts _ _ g in
+    let q = and_parts _ _ h in
+    let same = lines_differ family a b r s p.0 q.0 p.1 q.1 e in
+    λ i. Ruled (same.0 i) (same.1 i)
+line_exact family (Removed a) (Removed b) g h e = ap (λ n. Removed n) (ap (drop 3) e)
+line_exact family Commit Commit g h e = refl
+line_exact family (Ruled a r) (Removed b) g h e = absurd (apart _ _ refl (ap second_of_text e))
+line_exact family (Removed a) (Ruled b s) g h e = absurd (apart _ _ refl (ap second_of_text e))
+line_exact family (Section a) (BuiltIn b) g h e = absurd (apart _ _ refl (same_kind (Section a) (BuiltIn b) e))
+line_exact family (Section a) (Declared b) g h e = absurd (apart _ _ refl (same_kind (Section a) (Declared b) e))
+line_exact family (Section a) (Ruled b s) g h e = absurd (apart _ _ refl (same_kind (Section a) (Ruled b s) e))
+line_exact family (Section a) (Removed b) g h e = absurd (apart _ _ refl (same_kind (Section a) (Removed b) e))
+line_exact family (Section a) Commit g h e = absurd (apart _ _ refl (same_kind (Section a) Commit e))
+line_exact family (BuiltIn a) (Section b) g h e = absurd (apart _ _ refl (same_kind (BuiltIn a) (Section b) e))
+line_exact family (BuiltIn a) (Ruled b s) g h e = absurd (apart _ _ refl (same_kind (BuiltIn a) (Ruled b s) e))
+line_exact family (BuiltIn a) (Removed b) g h e = absurd (apart _ _ refl (same_kind (BuiltIn a) (Removed b) e))
+line_exact family (BuiltIn a) Commit g h e = absurd (apart _ _ refl (same_kind (BuiltIn a) Commit e))
+line_exact family (Declared a) (Section b) g h e = absurd (apart _ _ refl (same_kind (Declared a) (Section b) e))
+line_exact family (Declared a) (Ruled b s) g h e = absurd (apart _ _ refl (same_kind (Declared a) (Ruled b s) e))
+line_exact family (Declared a) (Removed b) g h e = absurd (apart _ _ refl (same_kind (Declared a) (Removed b) e))
+line_exact family (Declared a) Commit g h e = absurd (apart _ _ refl (same_kind (Declared a) Commit e))
+line_exact family (Ruled a r) (Section b) g h e = absurd (apart _ _ refl (same_kind (Ruled a r) (Section b) e))
+line_exact family (Ruled a r) (BuiltIn b) g h e = absurd (apart _ _ refl (same_kind (Ruled a r) (BuiltIn b) e))
+line_exact family (Ruled a r) (Declared b) g h e = absurd (apart _ _ refl (same_kind (Ruled a r) (Declared b) e))
+line_exact family (Ruled a r) Commit g h e = absurd (apart _ _ refl (same_kind (Ruled a r) Commit e))
+line_exact family (Removed a) (Section b) g h e = absurd (apart _ _ refl (same_kind (Removed a) (Section b) e))
+line_exact family (Removed a) (BuiltIn b) g h e = absurd (apart _ _ refl (same_kind (Removed a) (BuiltIn b) e))
+line_exact family (Removed a) (Declared b) g h e = absurd (apart _ _ refl (same_kind (Removed a) (Declared b) e))
+line_exact family (Removed a) Commit g h e = absurd (apart _ _ refl (same_kind (Removed a) Commit e))
+line_exact family Commit (Section b) g h e = absurd (apart _ _ refl (same_kind Commit (Section b) e))
+line_exact family Commit (BuiltIn b) g h e = absurd (apart _ _ refl (same_kind Commit (BuiltIn b) e))
+line_exact family Commit (Declared b) g h e = absurd (apart _ _ refl (same_kind Commit (Declared b) e))
+line_exact family Commit (Ruled b s) g h e = absurd (apart _ _ refl (same_kind Commit (Ruled b s) e))
+line_exact family Commit (Removed b) g h e = absurd (apart _ _ refl (same_kind Commit (Removed b) e))

@@ -1,0 +1,191 @@
+-- No line feed stands in the line of a canonical rule.
+use Rattle.std.proofs.Common.{◌≡◌, ℕ, ◌*◌, ◌/◌, ◌%◌, ◌^◌, ◌<◌, ◌==◌, Bool, true, false, not, nat_le, nat_lt, List, [], ◌∷◌, ◌++◌, map, take, drop, bytes_eq, codes, decimal, refl, ◌∙◌, inl, inr, zero, suc, lit<, arith}
+use Rattle.std.specs.List.{list_all, flat_map, All}
+use Rattle.std.specs.Net.Addr.{octets_of}
+use Rattle.std.specs.Net.Text.{dotted_text, ipv4_text, ipv6_text, hex_groups_text}
+use Rattle.std.proofs.lemmas.Bool.{and_parts, and_from, cond_both}
+use Rattle.std.proofs.lemmas.Bool.Decides.{nat_tests}
+use Rattle.std.proofs.lemmas.List.Elements.{All-head, All-tail}
+use Rattle.std.proofs.lemmas.List.Folds.{list_all-append}
+use Rattle.std.proofs.NetLemmas.Texts.{AllSegments}
+use Rattle.std.proofs.NetLemmas.Alphabet.{IsHexOrColon, All-hex_groups_text}
+use Rattle.kp_base.specs.Dotted.{is_digit}
+use Rattle.kp_base.specs.Net.{RangeParts, width}
+use Rattle.kp_base.specs.declared.address.Family.{Family}
+use Rattle.kp_base.specs.declared.address.Family.TheVariants.{V4, V6}
+use Rattle.kp_base.specs.declared.key.Endpoint.{Endpoint}
+use Rattle.kp_base.specs.declared.port.Proto.{Proto}
+use Rattle.kp_base.specs.declared.port.Proto.TheVariants.{Tcp, Udp, Sctp}
+use Rattle.kp_types.specs.Chains.{is_chain_byte, is_chain_name}
+use Rattle.kp_types.specs.declared.rule.Match.{Match}
+use Rattle.kp_types.specs.declared.rule.Match.TheVariants as match
+use Rattle.kp_types.specs.declared.rule.Target.{Target}
+use Rattle.kp_types.specs.declared.rule.Target.TheVariants as target
+use Rattle.kp_types.specs.declared.rule.Rule.{Rule}
+use Rattle.kp_choice_defs.specs.AddressText.{octet_at, segments_of, number_text, address_text, host_text, endpoint_text}
+use Rattle.kp_choice_defs.specs.Draws.{digit_at, probability_text_of}
+use Rattle.kp_restore_defs.specs.RuleText.{joined, range_text, proto_word, not_words, match_words, target_words, rule_line, is_canonical_range, is_port_number, is_canonical_endpoint, is_canonical_match, is_canonical_target, is_canonical_rule}
+use Rattle.kp_rule_text.proofs.AddressWords.{dotted_bytes, is_dotted_byte}
+use Rattle.kp_rule_text.proofs.Words.{number_digits, port_digits}
+use Rattle.kp_restore.specs.Pieces.{no_line_feed}
+
+-- ---- Bytes
+
+abbrev no_feed : ℕ → Bool
+no_feed b = not (b == 10)
+
+pub each : (p q : ℕ → Bool) → ((b : ℕ) → p b ≡ true → q b ≡ true) → (bs : List ℕ) → list_all p bs ≡ true → list_all q bs ≡ true
+each p q f [] h = refl
+each p q f (b ∷ bs) h = let r = and_parts _ _ h in and_from _ _ (f b r.0) (each p q f bs r.1)
+
+chain_byte : (b : ℕ) → is_chain_byte b ≡ true → no_feed b ≡ true
+chain_byte b h = grind (arith, nat_tests)
+
+digit_byte : (b : ℕ) → is_digit b ≡ true → no_feed b ≡ true
+digit_byte b h = grind (arith, nat_tests)
+
+dotted_byte : (b : ℕ) → is_dotted_byte b ≡ true → no_feed b ≡ true
+dotted_byte b h = grind (arith, nat_tests)
+
+hex_byte : (b : ℕ) → IsHexOrColon b → no_feed b ≡ true
+hex_byte b (inl h) = grind (arith, nat_tests)
+hex_byte b (inr h) = grind (arith, nat_tests)
+
+pub name_bytes : (name : List ℕ) → is_chain_name name ≡ true → list_all is_chain_byte name ≡ true
+name_bytes name h = (and_parts _ _ (and_parts _ _ h).0).1
+
+pub name_plain : (name : List ℕ) → is_chain_name name ≡ true → no_line_feed name ≡ true
+name_plain name h = each is_chain_byte no_feed chain_byte name (name_bytes name h)
+
+pub both_plain : (a b : List ℕ) → no_line_feed a ≡ true → no_line_feed b ≡ true → no_line_feed (a ++ b) ≡ true
+both_plain a b g h = list_all-append no_feed a b ∙ and_from _ _ g h
+
+number_plain : (most n : ℕ) → most < 2 ^ 64 → nat_le n most ≡ true → no_line_feed (decimal n) ≡ true
+number_plain most n small h = each is_digit no_feed digit_byte (decimal n) (number_digits most small n h)
+
+port_plain : (n : ℕ) → is_port_number n ≡ true → no_line_feed (decimal n) ≡ true
+port_plain n h = each is_digit no_feed digit_byte (decimal n) (port_digits n h)
+
+-- ---- Addresses
+
+dotted_plain : (a b c d : ℕ) → a < 256 → b < 256 → c < 256 → d < 256 → no_line_feed (dotted_text a b c d) ≡ true
+dotted_plain a b c d la lb lc ld = each is_dotted_byte no_feed dotted_byte (dotted_text a b c d) (dotted_bytes a b c d la lb lc ld)
+
+all_plain : (bs : List ℕ) → All IsHexOrColon bs → no_line_feed bs ≡ true
+all_plain [] h = refl
+all_plain (b ∷ bs) h = and_from _ _ (hex_byte b (All-head IsHexOrColon b bs h)) (all_plain bs (All-tail IsHexOrColon b bs h))
+
+low_groups : (n : ℕ) (places : List ℕ) → AllSegments (map (λ place. n / 2 ^ (16 * place) % 2 ^ 16) places)
+low_groups n [] k = lit< tt
+low_groups n (place ∷ places) zero = omega arith
+low_groups n (place ∷ places) (suc k) = low_groups n places k
+
+high_byte : (s : ℕ) → s % 2 ^ 16 / 256 < 256
+high_byte s = omega arith
+
+low_byte : (s : ℕ) → s % 2 ^ 16 % 256 < 256
+low_byte s = omega arith
+
+octet_low : (n : ℕ) → n % 2 ^ 8 < 256
+octet_low n = omega arith
+
+pub address_plain : (family : Family) (n : ℕ) → no_line_feed (number_text family n) ≡ true
+unfolding ipv6_text
+address_plain V4 n = dotted_plain (octet_at n 3) (octet_at n 2) (octet_at n 1) (octet_at n 0) (octet_low _) (octet_low _) (octet_low _) (octet_low _)
+address_plain V6 n =
+    cond_both (bytes_eq (take 6 (segments_of n)) (0 ∷ 0 ∷ 0 ∷ 0 ∷ 0 ∷ 65535 ∷ [])) (codes "::ffff:" ++ ipv4_text (octets_of (drop 6 (segments_of n)))) (hex_groups_text (segments_of n)) (λ text. no_line_feed text ≡ true)
+    (λ mapped. both_plain (codes "::ffff:") (dotted_text (n / 2 ^ 16 % 2 ^ 16 / 256) (n / 2 ^ 16 % 2 ^ 16 % 256) (n / 1 % 2 ^ 16 / 256) (n / 1 % 2 ^ 16 % 256)) refl (dotted_plain _ _ _ _ (high_byte (n / 2 ^ 16)) (low_byte (n / 2 ^ 16)) (high_byte (n / 1)) (low_byte (n / 1))))
+    (λ other. all_plain (hex_groups_text (segments_of n)) (All-hex_groups_text (segments_of n) (low_groups n (7 ∷ 6 ∷ 5 ∷ 4 ∷ 3 ∷ 2 ∷ 1 ∷ 0 ∷ []))))
+
+width_low : (family : Family) → width family < 2 ^ 64
+width_low V4 = omega arith
+width_low V6 = omega arith
+
+range_plain : (family : Family) (r : RangeParts) → is_canonical_range family r ≡ true → no_line_feed (range_text r) ≡ true
+range_plain family r h =
+    both_plain (address_text r.base) (47 ∷ decimal r.bits) (address_plain r.base.family r.base.number)
+    (number_plain (width family) r.bits (width_low family) (and_parts _ _ (and_parts _ _ h).1).0)
+
+host_plain : (family : Family) (text : List ℕ) → no_line_feed text ≡ true → no_line_feed (host_text family text) ≡ true
+host_plain V4 text h = h
+host_plain V6 text h = both_plain (codes "[" ++ text) (codes "]") h refl
+
+endpoint_plain : (family : Family) (e : Endpoint) → is_canonical_endpoint family e ≡ true → no_line_feed (endpoint_text e) ≡ true
+endpoint_plain family e h =
+    both_plain (host_text e.address.family (address_text e.address) ++ codes ":") (decimal e.port)
+    (both_plain (host_text e.address.family (address_text e.address)) (codes ":") (host_plain e.address.family (address_text e.address) (address_plain e.address.family e.address.number)) refl)
+    (port_plain e.port (and_parts _ _ h).1)
+
+-- ---- Words
+
+-- a digit of a probability
+digit_plain : (p place : ℕ) → no_feed (digit_at p place) ≡ true
+digit_plain p place = grind (arith, nat_tests)
+
+digits_plain : (p : ℕ) (places : List ℕ) → no_line_feed (map (digit_at p) places) ≡ true
+digits_plain p [] = refl
+digits_plain p (place ∷ places) = and_from _ _ (digit_plain p place) (digits_plain p places)
+
+probability_plain : (p : ℕ) → no_line_feed (probability_text_of p) ≡ true
+probability_plain p = and_from _ _ (digit_plain p 10) (digits_plain p (9 ∷ 8 ∷ 7 ∷ 6 ∷ 5 ∷ 4 ∷ 3 ∷ 2 ∷ 1 ∷ 0 ∷ []))
+
+abbrev words_plain : List (List ℕ) → Bool
+words_plain words = list_all no_line_feed words
+
+proto_plain : (proto : Proto) → no_line_feed (proto_word proto) ≡ true
+proto_plain Tcp = refl
+proto_plain Udp = refl
+proto_plain Sctp = refl
+
+seconds_low : (seconds : ℕ) → nat_lt seconds (2 ^ 32) ≡ true → nat_le seconds 4294967295 ≡ true
+seconds_low seconds h = grind (arith, nat_tests)
+
+words_behind : (xs ys : List (List ℕ)) → words_plain xs ≡ true → words_plain ys ≡ true → words_plain (xs ++ ys) ≡ true
+words_behind xs ys g h = list_all-append no_line_feed xs ys ∙ and_from _ _ g h
+
+not_plain : (negated : Bool) → words_plain (not_words negated) ≡ true
+not_plain true = refl
+not_plain false = refl
+
+match_plain : (family : Family) (m : Match) → is_canonical_match family m ≡ true → words_plain (match_words m) ≡ true
+match_plain family (match.Src range negated) h = words_behind (not_words negated) (codes "-s" ∷ range_text range ∷ []) (not_plain negated) (and_from _ _ (range_plain family range h) refl)
+match_plain family (match.Dst range negated) h = words_behind (not_words negated) (codes "-d" ∷ range_text range ∷ []) (not_plain negated) (and_from _ _ (range_plain family range h) refl)
+match_plain family (match.Proto proto) h = and_from _ _ (proto_plain proto) refl
+match_plain family (match.Port proto port) h = and_from _ _ (proto_plain proto) (and_from _ _ (proto_plain proto) (and_from _ _ (port_plain port h) refl))
+match_plain family match.SrcLocal h = refl
+match_plain family match.DstLocal h = refl
+match_plain family (match.Marked true) h = refl
+match_plain family (match.Marked false) h = refl
+match_plain family (match.Statistic p) h = and_from _ _ (probability_plain p) refl
+match_plain family (match.Seen list seconds) h =
+    let q = and_parts _ _ h in
+    and_from _ _ (name_plain list q.0) (and_from _ _ (number_plain 4294967295 seconds (omega arith) (seconds_low seconds q.1)) refl)
+match_plain family (match.SetSeen list) h = and_from _ _ (name_plain list h) refl
+
+target_plain : (family : Family) (t : Target) → is_canonical_target family t ≡ true → words_plain (target_words t) ≡ true
+target_plain family (target.Jump chain) h = and_from _ _ (name_plain chain h) refl
+target_plain family target.Return h = refl
+target_plain family target.Accept h = refl
+target_plain family target.Drop h = refl
+target_plain family target.Reject h = refl
+target_plain family target.SetMark h = refl
+target_plain family target.FlipMark h = refl
+target_plain family (target.Dnat endpoint) h = and_from _ _ (endpoint_plain family endpoint h) refl
+target_plain family target.Masquerade h = refl
+
+matches_plain : (family : Family) (ms : List Match) → list_all (is_canonical_match family) ms ≡ true → words_plain (flat_map match_words ms) ≡ true
+matches_plain family [] h = refl
+matches_plain family (m ∷ ms) h = let q = and_parts _ _ h in words_behind (match_words m) (flat_map match_words ms) (match_plain family m q.0) (matches_plain family ms q.1)
+
+-- ---- Lines
+
+joined_plain : (words : List (List ℕ)) → words_plain words ≡ true → no_line_feed (joined words) ≡ true
+joined_plain [] h = refl
+joined_plain (w ∷ []) h = (and_parts _ _ h).0
+joined_plain (w ∷ v ∷ ws) h = let q = and_parts _ _ h in both_plain w (32 ∷ joined (v ∷ ws)) q.0 (joined_plain (v ∷ ws) q.1)
+
+pub rule_plain : (family : Family) (chain : List ℕ) (rule : Rule) → is_chain_name chain ≡ true → is_canonical_rule family rule ≡ true → no_line_feed (rule_line chain rule) ≡ true
+rule_plain family chain rule n h =
+    let q = and_parts _ _ (and_parts _ _ h).1 in
+    joined_plain (codes "-A" ∷ chain ∷ flat_map match_words rule.matches.items ++ target_words rule.target)
+    (and_from _ _ (name_plain chain n) (words_behind (flat_map match_words rule.matches.items) (target_words rule.target) (matches_plain family rule.matches.items q.0) (target_plain family rule.target q.1)))

@@ -1,0 +1,215 @@
+-- The text of a table's section, piece by piece.
+use Rattle.std.proofs.Common.{◌≡◌, ℕ, ◌+◌, ◌<◌, ◌≤◌, length, take, get_or, arith, inl, inr, ◌==◌, ◌&&◌, Bool, true, false, cond, not, List, [], ◌∷◌, ◌++◌, map, codes, Option, Some, None, option_map, is_some, refl, sym, ap, ◌∙◌, append_assoc}
+use Rattle.std.specs.FinMap.{entries, keys, get}
+use Rattle.std.specs.List.{slice_get, filter, filter_map, flat_map, cons_option, AllByRecursion}
+use Rattle.std.proofs.lemmas.Grind.{flat_map-append}
+use Rattle.std.proofs.lemmas.Bool.{cases_lt}
+use Rattle.std.proofs.lemmas.List.{append-nil, take_more, take_all}
+use Rattle.std.proofs.lemmas.List.Elements.{filter-append}
+use Rattle.std.proofs.lemmas.Option.{none-some, slice_get_within, slice_get-get_or, get_or_from_slice_get}
+use Rattle.kp_types.specs.Places.{table_place}
+use Rattle.kp_types.specs.declared.chain.TableName.{TableName}
+use Rattle.kp_types.specs.declared.chain.TableName.TheVariants.{Nat, Filter}
+use Rattle.kp_types.specs.declared.chain.ChainAt.{ChainAt}
+use Rattle.kp_types.specs.declared.rule.Rule.{Rule}
+use Rattle.kp_table_defs.specs.Rebuild.{Chains}
+use Rattle.kp_table_defs.specs.Edits.{chains_in}
+use Rattle.kp_table_defs.specs.Ranks.{built_in_chains, is_built_in}
+use Rattle.kp_restore_defs.specs.RuleText.{rule_line}
+use Rattle.kp_restore_defs.specs.TableText.{text_of_lines, table_line, commit_line, built_in_line, declared_line, Row, row_at, built_in_rows, other_rows, row_lines, section_of, section_text_of, table_text_of, section_lines}
+use Rattle.kp_restore.proofs.Found.{Entries, entries_found}
+use Rattle.kp_restore.specs.Printed.{ended, place, if_there, built_in_places, is_other, other_places, chain_text, rules_text, rules_at}
+
+-- the text of two lists of lines
+pub lines-append : (a b : List (List ℕ)) → text_of_lines (a ++ b) ≡ text_of_lines a ++ text_of_lines b
+lines-append a b = flat_map-append ended a b
+
+-- ---- built-in chains
+
+abbrev built_in_text : ChainAt → List ℕ
+built_in_text = chain_text (codes " ACCEPT [0:0]")
+
+built_in_line_step : (table : TableName) (name : List ℕ) (ps : List ChainAt) (rows : List Row) → flat_map built_in_text ps ≡ text_of_lines (map (λ row. built_in_line row.0) rows) → (o : Option (List Rule))
+    → flat_map built_in_text (cond (is_some o) (place table name ∷ []) [] ++ ps) ≡ text_of_lines (map (λ row. built_in_line row.0) (cons_option (option_map (λ rules. (name, rules)) o) rows))
+built_in_line_step table name ps rows h None = h
+built_in_line_step table name ps rows h (Some rules) = ap (λ l. ended (built_in_line name) ++ l) h
+
+built_in_lines_are : (chains : Chains) (table : TableName) (names : List (List ℕ)) → flat_map built_in_text (flat_map (λ name. if_there chains (place table name)) names) ≡ text_of_lines (map (λ row. built_in_line row.0) (filter_map (row_at chains table) names))
+built_in_lines_are chains table [] = refl
+built_in_lines_are chains table (name ∷ names) =
+    built_in_line_step table name (flat_map (λ name. if_there chains (place table name)) names) (filter_map (row_at chains table) names) (built_in_lines_are chains table names) (get chains (place table name))
+
+built_in_rules_step : (chains : Chains) (table : TableName) (name : List ℕ) (ps : List ChainAt) (rows : List Row) → flat_map (rules_at chains) ps ≡ text_of_lines (flat_map row_lines rows) → (o : Option (List Rule)) → get chains (place table name) ≡ o
+    → flat_map (rules_at chains) (cond (is_some o) (place table name ∷ []) [] ++ ps) ≡ text_of_lines (flat_map row_lines (cons_option (option_map (λ rules. (name, rules)) o) rows))
+built_in_rules_step chains table name ps rows h None e = h
+built_in_rules_step chains table name ps rows h (Some rules) e =
+    (λ i. rules_text name (e i) ++ h i) ∙ sym (lines-append (map (rule_line name) rules) (flat_map row_lines rows))
+
+built_in_rules_are : (chains : Chains) (table : TableName) (names : List (List ℕ)) → flat_map (rules_at chains) (flat_map (λ name. if_there chains (place table name)) names) ≡ text_of_lines (flat_map row_lines (filter_map (row_at chains table) names))
+built_in_rules_are chains table [] = refl
+built_in_rules_are chains table (name ∷ names) =
+    built_in_rules_step chains table name (flat_map (λ name. if_there chains (place table name)) names) (filter_map (row_at chains table) names) (built_in_rules_are chains table names) (get chains (place table name)) refl
+
+-- ---- the other chains
+
+module _ (table : TableName) where
+  abbrev is_here : ChainAt × List Rule → Bool
+  is_here e = table_place e.0.table == table_place table
+
+  abbrev is_free : ChainAt × List Rule → Bool
+  is_free e = not (is_built_in table e.0.chain)
+
+  kept : (b : Bool) (e : ChainAt × List Rule) (es : Entries) → cond b (e.0 ∷ map (λ e. e.0) es) (map (λ e. e.0) es) ≡ map (λ e. e.0) (cond b (e ∷ es) es)
+  kept true e es = refl
+  kept false e es = refl
+
+  kept_both : (a : Bool) (e : ChainAt × List Rule) (es : Entries) → cond (a && is_free e) (e.0 ∷ map (λ e. e.0) (filter is_free es)) (map (λ e. e.0) (filter is_free es)) ≡ map (λ e. e.0) (filter is_free (cond a (e ∷ es) es))
+  kept_both true e es = kept (is_free e) e (filter is_free es)
+  kept_both false e es = refl
+
+  other_keys : (es : Entries) → filter (is_other table) (map (λ e. e.0) es) ≡ map (λ e. e.0) (filter is_free (filter is_here es))
+  other_keys [] = refl
+  other_keys (e ∷ es) = ap (λ ks. cond (is_here e && is_free e) (e.0 ∷ ks) ks) (other_keys es) ∙ kept_both (is_here e) e (filter is_here es)
+
+abbrev other_text : ChainAt → List ℕ
+other_text = chain_text (codes " - [0:0]")
+
+abbrev row_of : ChainAt × List Rule → Row
+row_of e = (e.0.chain, e.1)
+
+other_lines_are : (es : Entries) → flat_map other_text (map (λ e. e.0) es) ≡ text_of_lines (map (λ row. declared_line row.0) (map row_of es))
+other_lines_are [] = refl
+other_lines_are (e ∷ es) = ap (λ l. ended (declared_line e.0.chain) ++ l) (other_lines_are es)
+
+other_rules_are : (chains : Chains) (es : Entries) → AllByRecursion (λ e. get chains e.0 ≡ Some e.1) es → flat_map (rules_at chains) (map (λ e. e.0) es) ≡ text_of_lines (flat_map row_lines (map row_of es))
+other_rules_are chains [] h = refl
+other_rules_are chains (e ∷ es) h =
+    (λ i. rules_text e.0.chain (h.0 i) ++ other_rules_are chains es h.1 i) ∙ sym (lines-append (map (rule_line e.0.chain) e.1) (flat_map row_lines (map row_of es)))
+
+all_kept : (P : ChainAt × List Rule → Type 0) (b : Bool) (e : ChainAt × List Rule) (es : Entries) → P e → AllByRecursion P es → AllByRecursion P (cond b (e ∷ es) es)
+all_kept P true e es p h = (p, h)
+all_kept P false e es p h = h
+
+all_filter : (P : ChainAt × List Rule → Type 0) (test : ChainAt × List Rule → Bool) (es : Entries) → AllByRecursion P es → AllByRecursion P (filter test es)
+all_filter P test [] h = tt
+all_filter P test (e ∷ es) h = all_kept P (test e) e (filter test es) h.0 (all_filter P test es h.1)
+
+-- ---- a section
+
+module _ (chains : Chains) (table : TableName) where
+  abbrev free_entries : Entries
+  free_entries = filter (is_free table) (chains_in table chains)
+
+  others_are : other_places chains table ≡ map (λ e. e.0) free_entries
+  others_are = other_keys table (entries chains)
+
+  free_found : AllByRecursion (λ e. get chains e.0 ≡ Some e.1) free_entries
+  free_found =
+      all_filter (λ e. get chains e.0 ≡ Some e.1) (is_free table) (chains_in table chains) (all_filter (λ e. get chains e.0 ≡ Some e.1) (is_here table) (entries chains) (entries_found chains))
+
+  -- the pieces of a section's text
+  abbrev pub pieces : List ℕ
+  pieces =
+      ended (table_line table)
+      ++ (flat_map built_in_text (built_in_places chains table)
+      ++ (flat_map other_text (other_places chains table)
+      ++ (flat_map (rules_at chains) (built_in_places chains table)
+      ++ (flat_map (rules_at chains) (other_places chains table) ++ ended commit_line))))
+
+  section_parts : (b o : List Row) → text_of_lines (section_of table b o)
+      ≡ ended (table_line table)
+      ++ (text_of_lines (map (λ row. built_in_line row.0) b)
+      ++ (text_of_lines (map (λ row. declared_line row.0) o)
+      ++ (text_of_lines (flat_map row_lines b)
+      ++ (text_of_lines (flat_map row_lines o) ++ ended commit_line))))
+  section_parts b o =
+      let bl = map (λ (row : Row). built_in_line row.0) b in
+      let ol = map (λ (row : Row). declared_line row.0) o in
+      let br = flat_map row_lines b in
+      let os = flat_map row_lines o in
+      let all : text_of_lines (section_of table b o) ≡ ended (table_line table) ++ text_of_lines (bl ++ (ol ++ ((br ++ os) ++ commit_line ∷ []))) =
+      ap text_of_lines (ap (λ rs. table_line table ∷ bl ++ ol ++ rs ++ commit_line ∷ []) (flat_map-append row_lines b o) ∙ ap (λ l. table_line table ∷ l) (append_assoc (bl ++ ol) (br ++ os) (commit_line ∷ []) ∙ append_assoc bl ol ((br ++ os) ++ commit_line ∷ []))) in
+      all
+      ∙ ap (λ l. ended (table_line table) ++ l)
+      (lines-append bl (ol ++ ((br ++ os) ++ commit_line ∷ []))
+      ∙ ap (λ l. text_of_lines bl ++ l)
+      (lines-append ol ((br ++ os) ++ commit_line ∷ [])
+      ∙ ap (λ l. text_of_lines ol ++ l)
+      (ap text_of_lines (append_assoc br os (commit_line ∷ []))
+      ∙ lines-append br (os ++ commit_line ∷ [])
+      ∙ ap (λ l. text_of_lines br ++ l) (lines-append os (commit_line ∷ []) ∙ ap (λ l. text_of_lines os ++ l) (append-nil (ended commit_line))))))
+
+  pub section_is : section_text_of chains table ≡ pieces
+  section_is =
+      section_parts (built_in_rows chains table) (other_rows chains table)
+      ∙ (λ i. ended (table_line table)
+      ++ (sym (built_in_lines_are chains table (built_in_chains table)) i
+      ++ (sym (ap (flat_map other_text) others_are ∙ other_lines_are free_entries) i
+      ++ (sym (built_in_rules_are chains table (built_in_chains table)) i
+      ++ (sym (ap (flat_map (rules_at chains)) others_are ∙ other_rules_are chains free_entries free_found) i ++ ended commit_line)))))
+
+-- bytes that are added behind others
+pub added : (old mid new a b : List ℕ) → mid ≡ old ++ a → new ≡ mid ++ b → new ≡ old ++ (a ++ b)
+added old mid new a b p q = q ∙ ap (λ l. l ++ b) p ∙ append_assoc old a b
+
+-- a section whose pieces are added one after the other
+pub section_added : (chains : Chains) (table : TableName) (bs os : List ChainAt) (old s1 s2 s3 s4 s5 new : List ℕ) → bs ≡ built_in_places chains table → os ≡ other_places chains table
+    → s1 ≡ old ++ ended (table_line table) → s2 ≡ s1 ++ flat_map (chain_text (codes " ACCEPT [0:0]")) bs → s3 ≡ s2 ++ flat_map (chain_text (codes " - [0:0]")) os
+    → s4 ≡ s3 ++ flat_map (rules_at chains) bs → s5 ≡ s4 ++ flat_map (rules_at chains) os → new ≡ s5 ++ ended commit_line → new ≡ old ++ section_text_of chains table
+section_added chains table bs os old s1 s2 s3 s4 s5 new p q a b c d e f =
+    let rb = flat_map (rules_at chains) bs in
+    let ro = flat_map (rules_at chains) os in
+    let lb = flat_map built_in_text bs in
+    let lo = flat_map other_text os in
+    added old s1 new (ended (table_line table)) (lb ++ (lo ++ (rb ++ (ro ++ ended commit_line)))) a
+    (added s1 s2 new lb (lo ++ (rb ++ (ro ++ ended commit_line))) b
+    (added s2 s3 new lo (rb ++ (ro ++ ended commit_line)) c (added s3 s4 new rb (ro ++ ended commit_line) d (added s4 s5 new ro (ended commit_line) e f))))
+    ∙ (λ i. old ++ (ended (table_line table) ++ (flat_map built_in_text (p i) ++ (flat_map other_text (q i) ++ (flat_map (rules_at chains) (p i) ++ (flat_map (rules_at chains) (q i) ++ ended commit_line))))))
+    ∙ ap (λ l. old ++ l) (sym (section_is chains table))
+
+-- ---- places
+
+places_joined : (old mid new a b : List ChainAt) → mid ≡ old ++ a → new ≡ mid ++ b → new ≡ old ++ (a ++ b)
+places_joined old mid new a b p q = q ∙ ap (λ l. l ++ b) p ∙ append_assoc old a b
+
+-- one more place
+pub places_more : (table : TableName) (ks : List ChainAt) (i : ℕ) (at : ChainAt) → Some at ≡ slice_get ks i → filter (is_other table) (take (i + 1) ks) ≡ filter (is_other table) (take i ks) ++ filter (is_other table) (at ∷ [])
+places_more table ks i at found =
+    ap (filter (is_other table)) (take_more ks i at (slice_get_within ks i at (sym found)))
+    ∙ filter-append (is_other table) (take i ks) (get_or ks i at ∷ [])
+    ∙ ap (λ k. filter (is_other table) (take i ks) ++ filter (is_other table) (k ∷ [])) (get_or_from_slice_get ks i at at (sym found))
+
+pub place_within : (ks : List ChainAt) (i : ℕ) (at : ChainAt) → Some at ≡ slice_get ks i → i + 1 ≤ length ks
+place_within ks i at found = let inside = slice_get_within ks i at (sym found) in omega (arith, inside)
+
+-- no place is left
+pub places_end : (table : TableName) (ks : List ChainAt) (i : ℕ) → i ≤ length ks → None ≡ slice_get ks i → filter (is_other table) (take i ks) ≡ filter (is_other table) ks
+places_end table ks i within none =
+    elim (cases_lt i (length ks)) [
+      | inl inside ↦ absurd (none-some (get_or ks i (place table [])) (none ∙ slice_get-get_or ks i (place table []) inside))
+      | inr past ↦ ap (filter (is_other table)) (take_all i ks past)
+    ]
+
+-- the places of the built-in chains, one after the other
+pub nat_added : (chains : Chains) (old s1 s2 s3 new : List ChainAt) → s1 ≡ old ++ if_there chains (place Nat (codes "PREROUTING")) → s2 ≡ s1 ++ if_there chains (place Nat (codes "INPUT")) → s3 ≡ s2 ++ if_there chains (place Nat (codes "OUTPUT"))
+    → new ≡ s3 ++ if_there chains (place Nat (codes "POSTROUTING")) → new ≡ old ++ built_in_places chains Nat
+nat_added chains old s1 s2 s3 new a b c d =
+    let A = if_there chains (place Nat (codes "PREROUTING")) in
+    let B = if_there chains (place Nat (codes "INPUT")) in
+    let C = if_there chains (place Nat (codes "OUTPUT")) in
+    let D = if_there chains (place Nat (codes "POSTROUTING")) in
+    places_joined old s1 new A (B ++ (C ++ D)) a (places_joined s1 s2 new B (C ++ D) b (places_joined s2 s3 new C D c d))
+    ∙ ap (λ l. old ++ (A ++ (B ++ (C ++ l)))) (sym (append-nil D))
+
+pub filter_added : (chains : Chains) (old s1 s2 new : List ChainAt) → s1 ≡ old ++ if_there chains (place Filter (codes "INPUT")) → s2 ≡ s1 ++ if_there chains (place Filter (codes "FORWARD")) → new ≡ s2 ++ if_there chains (place Filter (codes "OUTPUT"))
+    → new ≡ old ++ built_in_places chains Filter
+filter_added chains old s1 s2 new a b c =
+    let A = if_there chains (place Filter (codes "INPUT")) in
+    let B = if_there chains (place Filter (codes "FORWARD")) in
+    let C = if_there chains (place Filter (codes "OUTPUT")) in
+    places_joined old s1 new A (B ++ C) a (places_joined s1 s2 new B C b c) ∙ ap (λ l. old ++ (A ++ (B ++ l))) (sym (append-nil C))
+
+-- both sections
+pub table_added : (chains : Chains) (old s1 new : List ℕ) → s1 ≡ old ++ section_text_of chains Nat → new ≡ s1 ++ section_text_of chains Filter → new ≡ old ++ table_text_of chains
+table_added chains old s1 new p q =
+    added old s1 new (section_text_of chains Nat) (section_text_of chains Filter) p q ∙ ap (λ l. old ++ l) (sym (lines-append (section_lines chains Nat) (section_lines chains Filter)))

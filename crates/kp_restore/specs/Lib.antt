@@ -1,0 +1,7 @@
+pub mod BatchSteps
+pub mod Lines
+pub mod Machine
+pub mod Pieces
+pub mod Printed
+pub mod PrintedEdits
+pub mod TableSteps

@@ -1,0 +1,392 @@
+//! What is read of a batch so far, and what a further line makes of it.
+ghost use Rattle.std.specs.Prelude.{◌≡◌, ◌∷◌, ◌++◌, [], IfOk, OnOk, slice_get, length, ◌-◌};
+ghost use Rattle.kp_restore.specs.BatchSteps as spec;
+
+use crate::built_in::is_built_in;
+use crate::line::Line;
+use crate::row::{Left, Row};
+use kp_base::{Items, NoMemory};
+use kp_types::{ChainAt, ChainName, Edit, Rule, TableName};
+use std::alloc::Global;
+
+/// What the lines of a section say.
+#[derive(Clone, Copy, Drop)]
+pub(crate) enum Part {
+    /// Chains are declared.
+    Declaring,
+    /// Their rules are read.
+    Ruling,
+    /// Chains are removed.
+    Removing,
+}
+
+/// Where the text of a batch is.
+#[derive(Drop)]
+pub(crate) enum BatchPhase {
+    /// No section is open; the last one was this.
+    Between {
+        last: Option<TableName>,
+    },
+    /// A section is open. The last line spoke of the chains up to these that are left, or of the first of these.
+    Within {
+        section: TableName,
+        part: Part,
+        passed: Items<Row>,
+        left: Left,
+    },
+}
+
+/// What is read of a batch so far.
+#[derive(Drop)]
+pub(crate) struct BatchReader {
+    pub edits: Items<Edit>,
+    pub phase: BatchPhase,
+}
+
+impl BatchReader {
+    /// Nothing is read.
+    pub fn new(alloc: Global) -> BatchReader
+        ensures { result ≡ spec.start }
+    {
+        BatchReader {
+            edits: Items::new(alloc),
+            phase: BatchPhase::Between { last: None },
+        }
+    }
+
+    /// What is read with one more line, or nothing where no text of a batch has the line here.
+    pub fn step(self, alloc: Global, line: Line) -> Result<Option<BatchReader>, NoMemory>
+        ensures { IfOk result (λ next. next ≡ spec.step self line) }
+    {
+        let BatchReader { edits, phase } = self;
+        match phase {
+            BatchPhase::Between { last } => Ok(opened(alloc, edits, last, line)),
+            BatchPhase::Within {
+                section,
+                part,
+                passed,
+                left,
+            } => within(alloc, edits, section, part, passed, left, line),
+        }
+    }
+}
+
+/// The first line of a section.
+fn opened(
+    alloc: Global,
+    edits: Items<Edit>,
+    last: Option<TableName>,
+    line: Line,
+) -> Option<BatchReader>
+    ensures { result ≡ spec.opened edits last line }
+{
+    match line {
+        Line::Section(section) if may_open(last, section) => Some(BatchReader {
+            edits,
+            phase: BatchPhase::Within {
+                section,
+                part: Part::Declaring,
+                passed: Items::new(alloc),
+                left: Left::none(alloc),
+            },
+        }),
+        _ => None,
+    }
+}
+
+/// Whether a section may stand behind the last one.
+fn may_open(last: Option<TableName>, section: TableName) -> bool
+    ensures { result ≡ spec.may_open last section }
+{
+    match (last, section) {
+        (None, _) => true,
+        (Some(TableName::Nat), TableName::Filter) => true,
+        (Some(_), _) => false,
+    }
+}
+
+/// A line within a section.
+fn within(
+    alloc: Global,
+    edits: Items<Edit>,
+    section: TableName,
+    part: Part,
+    passed: Items<Row>,
+    left: Left,
+    line: Line,
+) -> Result<Option<BatchReader>, NoMemory>
+    ensures { IfOk result (λ next. next ≡ spec.within edits section part passed left line) }
+{
+    match line {
+        Line::Declared(chain) => declared(alloc, edits, section, part, passed, chain),
+        Line::Ruled(chain, rule) => { ruled_in(edits, section, part, passed, left, chain, rule) }
+        Line::Removed(chain) => removed_in(edits, section, part, passed, left, chain),
+        Line::Commit => {
+            let (_, rows) = left.rewound(passed)?;
+            committed(alloc, edits, section, rows)
+        }
+        _ => Ok(None),
+    }
+}
+
+/// A further chain, where the declarations aren't over.
+fn declared(
+    alloc: Global,
+    edits: Items<Edit>,
+    section: TableName,
+    part: Part,
+    rows: Items<Row>,
+    chain: ChainName,
+) -> Result<Option<BatchReader>, NoMemory>
+    ensures { IfOk result (λ next. next ≡ spec.declared edits section part rows chain) }
+{
+    match part {
+        Part::Declaring if may_follow(section, rows.as_slice(), &chain) => {
+            let row = Row {
+                chain,
+                rules: Items::new(alloc),
+                removed: false,
+            };
+            let passed = with_last(rows, row)?;
+            Ok(Some(BatchReader {
+                edits,
+                phase: BatchPhase::Within {
+                    section,
+                    part: Part::Declaring,
+                    passed,
+                    left: Left::none(alloc),
+                },
+            }))
+        }
+        _ => Ok(None),
+    }
+}
+
+/// Whether a chain may be declared behind these.
+fn may_follow(section: TableName, rows: &[Row], chain: &ChainName) -> bool
+    ensures { result ≡ spec.may_follow section rows.now chain.now }
+{
+    if is_built_in(section, chain.as_str()) {
+        return false;
+    }
+    match rows.last() {
+        None => true,
+        Some(last) => last.chain < *chain,
+    }
+}
+
+/// A rule, where no chain is removed so far.
+fn ruled_in(
+    edits: Items<Edit>,
+    section: TableName,
+    part: Part,
+    passed: Items<Row>,
+    left: Left,
+    chain: ChainName,
+    rule: Rule,
+) -> Result<Option<BatchReader>, NoMemory>
+    ensures { IfOk result (λ next. next ≡ spec.ruled_in edits section part passed left chain rule) }
+{
+    match part {
+        Part::Declaring => {
+            let (passed, left) = left.rewound(passed)?;
+            ruled(edits, section, passed, left, chain, rule)
+        }
+        Part::Ruling => ruled(edits, section, passed, left, chain, rule),
+        Part::Removing => Ok(None),
+    }
+}
+
+/// A rule of a chain that is left.
+fn ruled(
+    edits: Items<Edit>,
+    section: TableName,
+    passed: Items<Row>,
+    mut left: Left,
+    chain: ChainName,
+    rule: Rule,
+) -> Result<Option<BatchReader>, NoMemory>
+    ensures { IfOk result (λ next. next ≡ spec.ruled edits section passed left chain rule) }
+{
+    let mut passed = passed.into_vec();
+    while let Some(row) = left.pop() {
+        if row.chain == chain {
+            left.put(with_rule(row, rule)?)?;
+            return Ok(Some(BatchReader {
+                edits,
+                phase: BatchPhase::Within {
+                    section,
+                    part: Part::Ruling,
+                    passed: Items::from_vec(passed),
+                    left,
+                },
+            }));
+        }
+        passed.push(row)?;
+    }
+    Ok(None)
+}
+
+/// A chain with one more rule.
+fn with_rule(row: Row, rule: Rule) -> Result<Row, NoMemory>
+    ensures { IfOk result (λ more. more ≡ spec.with_rule row rule) }
+{
+    let Row {
+        chain,
+        rules,
+        removed,
+    } = row;
+    let rules = with_last(rules, rule)?;
+    Ok(Row {
+        chain,
+        rules,
+        removed,
+    })
+}
+
+/// A remove: the first one is sought among all chains.
+fn removed_in(
+    edits: Items<Edit>,
+    section: TableName,
+    part: Part,
+    passed: Items<Row>,
+    left: Left,
+    chain: ChainName,
+) -> Result<Option<BatchReader>, NoMemory>
+    ensures { IfOk result (λ next. next ≡ spec.removed_in edits section part passed left chain) }
+{
+    match part {
+        Part::Removing => removed(edits, section, passed, left, chain),
+        Part::Declaring | Part::Ruling => {
+            let (passed, left) = left.rewound(passed)?;
+            removed(edits, section, passed, left, chain)
+        }
+    }
+}
+
+/// The remove of a chain that is left, if it has no rules.
+fn removed(
+    edits: Items<Edit>,
+    section: TableName,
+    passed: Items<Row>,
+    mut left: Left,
+    chain: ChainName,
+) -> Result<Option<BatchReader>, NoMemory>
+    ensures { IfOk result (λ next. next ≡ spec.removed_from edits section passed left chain) }
+{
+    let mut passed = passed.into_vec();
+    while let Some(row) = left.pop() {
+        if row.chain == chain {
+            let passed = Items::from_vec(passed);
+            return with_removed(edits, section, passed, row, left);
+        }
+        passed.push(row)?;
+    }
+    Ok(None)
+}
+
+/// A chain that is removed, if it has no rules.
+fn with_removed(
+    edits: Items<Edit>,
+    section: TableName,
+    passed: Items<Row>,
+    row: Row,
+    left: Left,
+) -> Result<Option<BatchReader>, NoMemory>
+    ensures { IfOk result (λ next. next ≡ spec.with_removed edits section passed row left) }
+{
+    let Row { chain, rules, .. } = row;
+    if !rules.as_slice().is_empty() {
+        return Ok(None);
+    }
+    let row = Row {
+        chain,
+        rules,
+        removed: true,
+    };
+    let passed = with_last(passed, row)?;
+    Ok(Some(BatchReader {
+        edits,
+        phase: BatchPhase::Within {
+            section,
+            part: Part::Removing,
+            passed,
+            left,
+        },
+    }))
+}
+
+/// The end of a section, which has at least one chain.
+fn committed(
+    alloc: Global,
+    edits: Items<Edit>,
+    section: TableName,
+    left: Left,
+) -> Result<Option<BatchReader>, NoMemory>
+    ensures { IfOk result (λ next. next ≡ spec.committed edits section left) }
+{
+    if left.is_empty() {
+        return Ok(None);
+    }
+    let edits = with_edits(alloc, edits, section, left)?;
+    Ok(Some(BatchReader {
+        edits,
+        phase: BatchPhase::Between {
+            last: Some(section),
+        },
+    }))
+}
+
+/// The edits with those of a section behind them: first its writes, and then its removes.
+fn with_edits(
+    alloc: Global,
+    edits: Items<Edit>,
+    section: TableName,
+    mut left: Left,
+) -> Result<Items<Edit>, NoMemory>
+    ensures { IfOk result (λ all. all ≡ edits ++ spec.edits_of section left) }
+{
+    let mut edits = edits.into_vec();
+    let mut removes = Vec::new(alloc);
+    while let Some(row) = left.pop() {
+        add_edit(section, row, &mut edits, &mut removes)?;
+    }
+    edits.append(&mut removes)?;
+    Ok(Items::from_vec(edits))
+}
+
+/// Adds the edit of a chain to the writes or to the removes.
+fn add_edit(
+    section: TableName,
+    row: Row,
+    writes: &mut Vec<Edit>,
+    removes: &mut Vec<Edit>,
+) -> Result<(), NoMemory>
+    ensures writes { OnOk result (writes.new.items ≡ writes.old.items ++ spec.written section row) }
+    ensures removes { OnOk result (removes.new.items ≡ removes.old.items ++ spec.removed section row) }
+{
+    let Row {
+        chain,
+        rules,
+        removed,
+    } = row;
+    let at = ChainAt {
+        table: section,
+        chain,
+    };
+    if removed {
+        removes.push(Edit::Remove { at })?;
+    } else {
+        writes.push(Edit::Write { at, rules })?;
+    }
+    Ok(())
+}
+
+/// The items with one more behind them.
+fn with_last<T: Drop>(items: Items<T>, item: T) -> Result<Items<T>, NoMemory>
+    ensures { IfOk result (λ all. all ≡ items ++ item ∷ []) }
+{
+    let mut items = items.into_vec();
+    items.push(item)?;
+    Ok(Items::from_vec(items))
+}

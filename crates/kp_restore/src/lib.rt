@@ -1,0 +1,30 @@
+//! The text that `iptables-restore` loads, both ways: tables and edits are printed, and read back from exactly
+//! these texts.
+#![tactic(auto)]
+
+mod batch_print;
+mod batch_read;
+mod batch_reader;
+#[cfg(test)]
+mod batch_tests;
+mod built_in;
+pub mod laws;
+mod line;
+mod pieces;
+mod places;
+mod print;
+#[cfg(test)]
+mod print_tests;
+mod queue;
+mod read;
+mod row;
+mod table_reader;
+#[cfg(test)]
+mod tests;
+
+pub use batch_print::batch_text;
+pub use batch_read::read_batch;
+pub use kp_rules::Table;
+pub use kp_types::Batch;
+pub use print::{section_text, table_text};
+pub use read::{TextFault, read_table};

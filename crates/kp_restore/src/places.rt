@@ -1,0 +1,121 @@
+//! The places of a table's chains, in the order of its text.
+ghost use Rattle.std.specs.Prelude.{◌≡◌, [], ◌∷◌, ◌++◌, IfOk, OnOk, true};
+ghost use Rattle.std.specs.List.{filter};
+ghost use Rattle.kp_types.specs.Chains.{is_chain_name};
+ghost use Rattle.kp_types.specs.declared.chain.TableName.TheVariants as table_name;
+ghost use Rattle.kp_table_defs.specs.Ranks as ranks;
+ghost use Rattle.kp_restore.specs.Printed as spec;
+
+use kp_base::{Items, NoMemory};
+use kp_rules::Table;
+use kp_types::{ChainAt, ChainName, TableName};
+use std::alloc::Global;
+
+/// The places of the built-in chains that there are, in their order.
+pub(crate) fn built_in_places(
+    alloc: Global,
+    table: &Table,
+    which: TableName,
+) -> Result<Items<ChainAt>, NoMemory>
+    ensures { IfOk result (λ places. places ≡ spec.built_in_places table.now.chains which) }
+{
+    let mut places = Vec::new(alloc);
+    add_built_in(table, which, &mut places)?;
+    Ok(Items::from_vec(places))
+}
+
+/// Adds the places of a table's built-in chains.
+fn add_built_in(table: &Table, which: TableName, places: &mut Vec<ChainAt>) -> Result<(), NoMemory>
+    ensures { OnOk result (places.new.items
+        ≡ places.old.items ++ spec.built_in_places table.now.chains which) }
+{
+    match which {
+        TableName::Nat => add_nat(table, places),
+        TableName::Filter => add_filter(table, places),
+    }
+}
+
+/// Adds the places of the built-in chains of the nat table.
+fn add_nat(table: &Table, places: &mut Vec<ChainAt>) -> Result<(), NoMemory>
+    ensures { OnOk result (places.new.items
+        ≡ places.old.items ++ spec.built_in_places table.now.chains table_name.Nat) }
+{
+    add_if_there(table, place(TableName::Nat, "PREROUTING"), places)?;
+    add_if_there(table, place(TableName::Nat, "INPUT"), places)?;
+    add_if_there(table, place(TableName::Nat, "OUTPUT"), places)?;
+    add_if_there(table, place(TableName::Nat, "POSTROUTING"), places)
+}
+
+/// Adds the places of the built-in chains of the filter table.
+fn add_filter(table: &Table, places: &mut Vec<ChainAt>) -> Result<(), NoMemory>
+    ensures { OnOk result (places.new.items
+        ≡ places.old.items ++ spec.built_in_places table.now.chains table_name.Filter) }
+{
+    add_if_there(table, place(TableName::Filter, "INPUT"), places)?;
+    add_if_there(table, place(TableName::Filter, "FORWARD"), places)?;
+    add_if_there(table, place(TableName::Filter, "OUTPUT"), places)
+}
+
+/// The place of a chain.
+fn place(table: TableName, name: &str) -> ChainAt
+    requires { is_chain_name name.now ≡ true }
+    ensures { result ≡ spec.place table name.now }
+{
+    ChainAt {
+        table,
+        chain: ChainName::new(name),
+    }
+}
+
+/// Adds a place that has a chain.
+fn add_if_there(table: &Table, at: ChainAt, places: &mut Vec<ChainAt>) -> Result<(), NoMemory>
+    ensures { OnOk result (places.new.items
+        ≡ places.old.items ++ spec.if_there table.now.chains at) }
+{
+    if table.chain(&at).is_some() {
+        places.push(at)?;
+    }
+    Ok(())
+}
+
+/// The places of the other chains, by the bytes of their names.
+pub(crate) fn other_places(
+    alloc: Global,
+    table: &Table,
+    which: TableName,
+) -> Result<Items<ChainAt>, NoMemory>
+    ensures { IfOk result (λ places. places ≡ spec.other_places table.now.chains which) }
+{
+    let mut places = Vec::new(alloc);
+    for i in 0..u64::MAX {
+        let Some(at) = table.place(i) else {
+            return Ok(Items::from_vec(places));
+        };
+        add_if_other(at, which, &mut places)?;
+    }
+    // no memory holds as many chains
+    Err(NoMemory)
+}
+
+/// Adds a place of a table whose chain isn't built in.
+fn add_if_other(at: &ChainAt, which: TableName, places: &mut Vec<ChainAt>) -> Result<(), NoMemory>
+    ensures { OnOk result (places.new.items
+        ≡ places.old.items ++ filter (spec.is_other which) (at.now ∷ [])) }
+{
+    if at.table == which && !is_built_in(which, at.chain.as_str()) {
+        places.push(at.same())?;
+    }
+    Ok(())
+}
+
+/// Whether a table has a built-in chain of this name.
+fn is_built_in(table: TableName, name: &str) -> bool
+    ensures { result ≡ ranks.is_built_in table name.now }
+{
+    match table {
+        TableName::Nat => {
+            name == "PREROUTING" || name == "INPUT" || name == "OUTPUT" || name == "POSTROUTING"
+        }
+        TableName::Filter => name == "INPUT" || name == "FORWARD" || name == "OUTPUT",
+    }
+}
