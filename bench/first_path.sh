@@ -22,18 +22,7 @@ awk -v packets="$packets" 'BEGIN {
 }' >"$input"
 lines=$(wc -l <"$input")
 
-# the seconds that a command takes on the input
-seconds() {
-    local start end
-    start=$(date +%s%N)
-    "$@" <"$input" >"$work/output"
-    end=$(date +%s%N)
-    awk -v ns=$((end - start)) 'BEGIN { printf "%.3f", ns / 1e9 }'
-}
-
-rate() {
-    awk -v lines="$lines" -v seconds="$1" 'BEGIN { printf "%d", lines / seconds }'
-}
+. bench/timing.sh
 
 ./kproxy replay <<<'' || true
 ours=$(seconds ./kproxy replay)

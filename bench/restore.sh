@@ -5,7 +5,7 @@ set -eu
 cd "$(dirname "$0")/.."
 work=$(mktemp -d)
 trap 'rm -rf "$work"' EXIT
-table=$work/table
+input=$work/input
 
 awk 'BEGIN {
     n = 10000
@@ -27,23 +27,18 @@ awk 'BEGIN {
         printf "-A KUBE-SVC-%016d -j KUBE-SEP-%016d\n", i, i
     }
     print "COMMIT\n*filter\n:INPUT ACCEPT [0:0]\n:FORWARD ACCEPT [0:0]\n:OUTPUT ACCEPT [0:0]\nCOMMIT"
-}' >"$table"
-lines=$(wc -l <"$table")
+}' >"$input"
+lines=$(wc -l <"$input")
 
-# the lines a second of a command on the table
-rate() {
-    local start end
-    start=$(date +%s%N)
-    "$@" <"$table" >"$work/printed"
-    end=$(date +%s%N)
-    awk -v lines="$lines" -v ns=$((end - start)) 'BEGIN { printf "%d", lines / (ns / 1e9) }'
-}
+. bench/timing.sh
 
 (cd crates/kp_restore_echo && rt run <stdin >/dev/null)
-echo "kp_restore_echo, read and printed: $lines lines, $(rate crates/kp_restore_echo/out/kp_restore_echo) lines a second"
-cmp "$table" "$work/printed"
+ours=$(seconds crates/kp_restore_echo/out/kp_restore_echo)
+echo "kp_restore_echo, read and printed: $lines lines, $(rate "$ours") lines a second"
+cmp "$input" "$work/output"
 for variant in nft legacy; do
     if command -v "iptables-$variant-restore" >/dev/null && unshare -n true 2>/dev/null; then
-        echo "iptables-$variant-restore --test: $(rate unshare -n "iptables-$variant-restore" --test) lines a second"
+        theirs=$(seconds unshare -n "iptables-$variant-restore" --test)
+        echo "iptables-$variant-restore --test: $(rate "$theirs") lines a second"
     fi
 done
