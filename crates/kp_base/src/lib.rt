@@ -27,5 +27,6 @@ pub use key::{Endpoint, ObjectKey, Pair, PortKey};
 pub use memory::{Copied, NoMemory};
 pub use port::{PortNo, Proto};
 pub use range::{BadCidr, Cidr};
+pub use split::split_once;
 pub use steps::Steps;
 pub use text::Text;

@@ -1,8 +1,8 @@
 -- Rows of a section give edits in order, and are found again in them.
-use Rattle.std.proofs.Common.{◌≡◌, ℕ, Bool, true, false, cond, not, ◌&&◌, ◌||◌, ◌==◌, List, [], ◌∷◌, ◌++◌, bytes_eq, refl, sym, ap, subst, ◌∙◌}
+use Rattle.std.proofs.Common.{◌≡◌, ℕ, Bool, true, false, cond, not, ◌&&◌, ◌||◌, ◌==◌, List, [], ◌∷◌, ◌++◌, bytes_eq, refl, sym, ap, ◌∙◌}
 use Rattle.std.specs.Ordering.{nat_cmp, is_lt, ordering_then}
 use Rattle.std.specs.declared.cmp.Ordering.{Ordering}
-use Rattle.std.specs.declared.cmp.Ordering.TheVariants.{Less, Equal, Greater}
+use Rattle.std.specs.declared.cmp.Ordering.TheVariants.{Less}
 use Rattle.std.specs.FinMap.Entries.{by_order}
 use Rattle.std.specs.List.{list_all, list_any, flat_map, filter}
 use Rattle.std.proofs.lemmas.Bool.{and_parts, and_from, false≢true}
@@ -15,13 +15,12 @@ use Rattle.kp_types.specs.Places.{table_place}
 use Rattle.kp_types.specs.declared.chain.TableName.{TableName}
 use Rattle.kp_types.specs.declared.chain.TableName.TheVariants.{Nat, Filter}
 use Rattle.kp_types.specs.declared.chain.ChainAt.{ChainAt}
-use Rattle.kp_types.specs.declared.rule.Rule.{Rule}
 use Rattle.kp_types.specs.declared.rule.Edit.{Edit}
-use Rattle.kp_types.specs.declared.rule.Edit.TheVariants.{Write, Remove}
+use Rattle.kp_types.specs.declared.rule.Edit.TheVariants.{Remove}
 use Rattle.kp_object_defs.specs.Desired.{is_empty}
 use Rattle.kp_table_defs.specs.Ranks.{is_built_in}
 use Rattle.kp_restore_defs.specs.RuleText.{is_canonical_rule}
-use Rattle.kp_restore_defs.specs.BatchText.{place_of, edits_in, edit_cmp, are_in_order, is_same_place, edit_each_once, kind_place, has_canonical_rules, is_canonical_edit, is_canonical_batch}
+use Rattle.kp_restore_defs.specs.BatchText.{place_of, edits_in, edit_cmp, are_in_order, is_same_place, edit_each_once, kind_place, is_canonical_edit, is_canonical_batch}
 use Rattle.kp_restore.specs.BatchSteps.{written, removed, edits_of}
 use Rattle.kp_restore.specs.declared.row.Row.{Row}
 use Rattle.kp_restore.proofs.BatchOrder.{less_differs, less_differs_turned, less_turned}

@@ -1,5 +1,5 @@
 -- The chains of a section in order, with what its edits say of each.
-use Rattle.std.proofs.Common.{◌≡◌, ℕ, Bool, true, false, cond, not, ◌&&◌, ◌||◌, ◌==◌, List, [], ◌∷◌, ◌++◌, map, bytes_eq, refl, sym, ap, subst, ◌∙◌, append_assoc}
+use Rattle.std.proofs.Common.{◌≡◌, ℕ, Bool, true, false, cond, not, ◌&&◌, ◌||◌, ◌==◌, List, [], ◌∷◌, ◌++◌, bytes_eq, refl, sym, ap, subst, ◌∙◌}
 use Rattle.std.specs.Ordering.{nat_cmp, is_lt, ordering_then}
 use Rattle.std.specs.Cmp.{nat_cmp_total}
 use Rattle.std.specs.declared.cmp.Ordering.{Ordering}
@@ -8,7 +8,6 @@ use Rattle.std.specs.FinMap.Entries.{by_order}
 use Rattle.std.specs.List.{list_all, list_any, flat_map}
 use Rattle.std.proofs.lemmas.Bool.{and_parts, and_from, false≢true, eqb-true}
 use Rattle.std.proofs.lemmas.Cmp.{tied_itself}
-use Rattle.std.proofs.lemmas.List.{append-nil}
 use Rattle.std.proofs.lemmas.List.Folds.{list_all-append}
 use Rattle.kp_base.specs.Keys.{text_cmp}
 use Rattle.kp_types.specs.Places.{table_place}
@@ -23,7 +22,7 @@ use Rattle.kp_table_defs.specs.Ranks.{is_built_in}
 use Rattle.kp_restore_defs.specs.BatchText.{place_of, edit_cmp, are_in_order, is_same_place, edit_each_once}
 use Rattle.kp_restore.specs.BatchSteps.{written, removed, edits_of}
 use Rattle.kp_restore.specs.declared.row.Row.{Row}
-use Rattle.kp_restore.proofs.BatchOrder.{is_less, same_name, name_itself, tied_names, less_through, greater_turned, less_turned, less_differs}
+use Rattle.kp_restore.proofs.BatchOrder.{is_less, name_itself, tied_names, less_through, greater_turned}
 
 -- ---- Tests of all elements
 

@@ -1,6 +1,5 @@
 -- What the reader of batches takes begins the lines of a batch.
 use Rattle.std.proofs.Common.{◌≡◌, ℕ, ◌-◌, Bool, true, false, cond, not, ◌&&◌, ◌||◌, List, [], ◌∷◌, ◌++◌, map, length, bytes_eq, slice_get, Option, Some, None, refl, sym, ap, subst, ◌∙◌, append_assoc, option_and_then}
-use Rattle.std.specs.Ordering.{is_lt}
 use Rattle.std.specs.List.{list_all, flat_map}
 use Rattle.std.proofs.lemmas.Bool.{and_parts, and_from, false≢true}
 use Rattle.std.proofs.lemmas.List.{append-nil, map-append}
@@ -12,7 +11,7 @@ use Rattle.kp_types.specs.declared.rule.Rule.{Rule}
 use Rattle.kp_types.specs.declared.rule.Edit.{Edit}
 use Rattle.kp_object_defs.specs.Desired.{is_empty}
 use Rattle.kp_table_defs.specs.Ranks.{is_built_in}
-use Rattle.kp_restore.specs.BatchSteps.{edits_of, start, may_open, opened, fresh, is_behind, may_follow, declared, with_rule, ruled, ruled_in, with_removed, removed_from, removed_in, committed, within, step_in, step}
+use Rattle.kp_restore.specs.BatchSteps.{edits_of, start, may_open, opened, fresh, is_behind, may_follow, declared, with_rule, ruled, ruled_in, with_removed, removed_from, removed_in, committed, step_in, step}
 use Rattle.kp_restore.specs.Machine.{run}
 use Rattle.kp_restore.specs.declared.line.Line.{Line}
 use Rattle.kp_restore.specs.declared.line.Line.TheVariants as line

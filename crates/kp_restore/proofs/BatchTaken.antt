@@ -1,9 +1,9 @@
 -- The reader of batches takes the lines of each section.
-use Rattle.std.proofs.Common.{◌≡◌, ℕ, ◌-◌, suc, Bool, true, false, cond, not, ◌&&◌, ◌||◌, List, [], ◌∷◌, ◌++◌, map, length, bytes_eq, slice_get, Option, Some, None, refl, sym, ap, subst, ◌∙◌, append_assoc, arith, option_and_then}
+use Rattle.std.proofs.Common.{◌≡◌, ℕ, ◌-◌, suc, Bool, true, false, cond, not, ◌||◌, List, [], ◌∷◌, ◌++◌, map, length, bytes_eq, slice_get, Option, Some, None, refl, sym, ap, subst, ◌∙◌, append_assoc, arith, option_and_then}
 use Rattle.std.specs.Ordering.{is_lt}
 use Rattle.std.specs.List.{list_all, flat_map}
 use Rattle.std.proofs.lemmas.Bool.{and_parts, and_from, false≢true}
-use Rattle.std.proofs.lemmas.List.{append-nil, map-append}
+use Rattle.std.proofs.lemmas.List.{append-nil}
 use Rattle.std.proofs.lemmas.List.Folds.{list_all-append}
 use Rattle.kp_base.specs.Keys.{text_cmp}
 use Rattle.kp_types.specs.declared.chain.TableName.{TableName}
@@ -11,7 +11,7 @@ use Rattle.kp_types.specs.declared.rule.Rule.{Rule}
 use Rattle.kp_types.specs.declared.rule.Edit.{Edit}
 use Rattle.kp_object_defs.specs.Desired.{is_empty}
 use Rattle.kp_table_defs.specs.Ranks.{is_built_in}
-use Rattle.kp_restore.specs.BatchSteps.{edits_of, may_open, fresh, is_behind, may_follow, with_rule, ruled, with_removed, removed_from, committed, step}
+use Rattle.kp_restore.specs.BatchSteps.{edits_of, may_open, fresh, is_behind, with_rule, ruled, with_removed, removed_from, committed, step}
 use Rattle.kp_restore.specs.Machine.{run}
 use Rattle.kp_restore.specs.declared.line.Line.{Line}
 use Rattle.kp_restore.specs.declared.line.Line.TheVariants as line
@@ -21,8 +21,7 @@ use Rattle.kp_restore.specs.declared.batch_reader.BatchPhase.TheVariants.{Betwee
 use Rattle.kp_restore.specs.declared.batch_reader.BatchReader.{BatchReader}
 use Rattle.kp_restore.proofs.Machine.{run_on}
 use Rattle.kp_restore.proofs.BatchOrder.{name_itself, less_differs}
-use Rattle.kp_restore.proofs.BatchRows.{all_from, is_below, rising, fits}
-use Rattle.kp_restore.proofs.BatchEdits.{no_items}
+use Rattle.kp_restore.proofs.BatchRows.{is_below, rising, fits}
 use Rattle.kp_restore.proofs.BatchParts.{declared_part, rule_parts, removed_part, section_parts}
 
 -- ---- Runs

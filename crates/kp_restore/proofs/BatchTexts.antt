@@ -1,12 +1,11 @@
 -- The reader of batches takes the texts of batches, and no others.
-use Rattle.std.proofs.Common.{◌≡◌, Bool, true, false, cond, not, ◌&&◌, ◌||◌, ◌==◌, List, [], ◌∷◌, ◌++◌, map, codes, Option, Some, None, refl, sym, ap, subst, ◌∙◌, option_and_then}
+use Rattle.std.proofs.Common.{◌≡◌, true, false, cond, not, ◌&&◌, ◌||◌, List, [], ◌∷◌, ◌++◌, map, codes, Option, Some, None, refl, sym, ap, subst, ◌∙◌, option_and_then}
 use Rattle.std.specs.List.{list_all}
 use Rattle.std.proofs.lemmas.Bool.{and_parts, and_from, false≢true}
 use Rattle.std.proofs.lemmas.List.{append-nil, map-append}
 use Rattle.std.proofs.lemmas.List.Folds.{list_all-append}
 use Rattle.kp_base.specs.declared.address.Family.{Family}
 use Rattle.kp_types.specs.Chains.{is_chain_name}
-use Rattle.kp_types.specs.Places.{table_place}
 use Rattle.kp_types.specs.declared.chain.TableName.{TableName}
 use Rattle.kp_types.specs.declared.chain.TableName.TheVariants.{Nat, Filter}
 use Rattle.kp_types.specs.declared.rule.Edit.{Edit}
@@ -14,7 +13,7 @@ use Rattle.kp_types.specs.declared.rule.Edit.TheVariants.{Write, Remove}
 use Rattle.kp_object_defs.specs.Desired.{is_empty}
 use Rattle.kp_table_defs.specs.Ranks.{is_built_in}
 use Rattle.kp_restore_defs.specs.RuleText.{is_canonical_rule}
-use Rattle.kp_restore_defs.specs.BatchText.{place_of, edits_in, are_in_order, edit_each_once, has_canonical_rules, is_canonical_edit, is_canonical_batch, section_if_edited, batch_lines, BatchTextsDiffer}
+use Rattle.kp_restore_defs.specs.BatchText.{edits_in, are_in_order, edit_each_once, is_canonical_edit, is_canonical_batch, batch_lines, BatchTextsDiffer}
 use Rattle.kp_restore.specs.Lines.{is_canonical_line, line_text}
 use Rattle.kp_restore.specs.Machine.{run}
 use Rattle.kp_restore.specs.BatchSteps.{edits_of, may_open, step, start, is_between, IsEnd, value}
@@ -32,7 +31,7 @@ use Rattle.kp_restore.proofs.BatchRows.{all_both, row_of, rows_of, rising, fits,
 use Rattle.kp_restore.proofs.BatchEdits.{is_good, rows_again, canonical_batch, all_filter, all_kept, order_filter, once_filter, nat_part, filter_part, both_parts}
 use Rattle.kp_restore.proofs.BatchParts.{parts_if, batch_parts, if_printed, good_if, if_good}
 use Rattle.kp_restore.proofs.BatchTaken.{section_run}
-use Rattle.kp_restore.proofs.BatchSound.{IsSection, PartHolds, InSection, Behind, Tells, no_rows, told}
+use Rattle.kp_restore.proofs.BatchSound.{IsSection, PartHolds, Behind, Tells, no_rows, told}
 
 -- ---- The sections of a canonical batch
 

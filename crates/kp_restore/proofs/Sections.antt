@@ -1,9 +1,8 @@
 -- The text of a table's section, piece by piece.
-use Rattle.std.proofs.Common.{◌≡◌, ℕ, ◌+◌, ◌<◌, ◌≤◌, length, take, get_or, arith, inl, inr, ◌==◌, ◌&&◌, Bool, true, false, cond, not, List, [], ◌∷◌, ◌++◌, map, codes, Option, Some, None, option_map, is_some, refl, sym, ap, ◌∙◌, append_assoc}
-use Rattle.std.specs.FinMap.{entries, keys, get}
+use Rattle.std.proofs.Common.{◌≡◌, ℕ, ◌+◌, ◌<◌, ◌≤◌, length, take, get_or, ◌==◌, ◌&&◌, Bool, true, false, cond, not, List, [], ◌∷◌, ◌++◌, map, codes, Option, Some, None, option_map, is_some, refl, sym, ap, ◌∙◌, append_assoc}
+use Rattle.std.specs.FinMap.{entries, get}
 use Rattle.std.specs.List.{slice_get, filter, filter_map, flat_map, cons_option, AllByRecursion}
 use Rattle.std.proofs.lemmas.Grind.{flat_map-append}
-use Rattle.std.proofs.lemmas.Bool.{cases_lt}
 use Rattle.std.proofs.lemmas.List.{append-nil, take_more, take_all}
 use Rattle.std.proofs.lemmas.List.Elements.{filter-append}
 use Rattle.std.proofs.lemmas.Option.{none-some, slice_get_within, slice_get-get_or, get_or_from_slice_get}
@@ -179,16 +178,13 @@ places_more table ks i at found =
     ∙ filter-append (is_other table) (take i ks) (get_or ks i at ∷ [])
     ∙ ap (λ k. filter (is_other table) (take i ks) ++ filter (is_other table) (k ∷ [])) (get_or_from_slice_get ks i at at (sym found))
 
-pub place_within : (ks : List ChainAt) (i : ℕ) (at : ChainAt) → Some at ≡ slice_get ks i → i + 1 ≤ length ks
-place_within ks i at found = let inside = slice_get_within ks i at (sym found) in omega (arith, inside)
+-- a place within the table is found
+pub places_same : (table : TableName) (ks : List ChainAt) (i : ℕ) → i < length ks → None ≡ slice_get ks i → filter (is_other table) (take (i + 1) ks) ≡ filter (is_other table) (take i ks)
+places_same table ks i inside none = absurd (none-some (get_or ks i (place table [])) (none ∙ slice_get-get_or ks i (place table []) inside))
 
 -- no place is left
-pub places_end : (table : TableName) (ks : List ChainAt) (i : ℕ) → i ≤ length ks → None ≡ slice_get ks i → filter (is_other table) (take i ks) ≡ filter (is_other table) ks
-places_end table ks i within none =
-    elim (cases_lt i (length ks)) [
-      | inl inside ↦ absurd (none-some (get_or ks i (place table [])) (none ∙ slice_get-get_or ks i (place table []) inside))
-      | inr past ↦ ap (filter (is_other table)) (take_all i ks past)
-    ]
+pub places_end : (table : TableName) (ks : List ChainAt) (i : ℕ) → length ks ≤ i → filter (is_other table) (take i ks) ≡ filter (is_other table) ks
+places_end table ks i past = ap (filter (is_other table)) (take_all i ks past)
 
 -- the places of the built-in chains, one after the other
 pub nat_added : (chains : Chains) (old s1 s2 s3 new : List ChainAt) → s1 ≡ old ++ if_there chains (place Nat (codes "PREROUTING")) → s2 ≡ s1 ++ if_there chains (place Nat (codes "INPUT")) → s3 ≡ s2 ++ if_there chains (place Nat (codes "OUTPUT"))

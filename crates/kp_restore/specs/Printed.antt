@@ -1,5 +1,5 @@
 -- The text of a table by the places of its chains.
-use Rattle.std.specs.Prelude.{ℕ, ◌==◌, ◌&&◌, Bool, List, [], ◌∷◌, ◌++◌, map, not, cond, codes, Option, Some, None, is_some}
+use Rattle.std.specs.Prelude.{ℕ, ◌==◌, ◌&&◌, Bool, List, [], ◌∷◌, ◌++◌, map, not, cond, Option, Some, None, is_some}
 use Rattle.std.specs.List.{filter, flat_map}
 use Rattle.std.specs.FinMap as finite
 use Rattle.kp_types.specs.Places.{table_place}

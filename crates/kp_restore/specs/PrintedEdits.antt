@@ -1,5 +1,5 @@
 -- The text of edits, edit by edit.
-use Rattle.std.specs.Prelude.{ℕ, ◌==◌, Bool, List, [], ◌∷◌, ◌++◌, map, cond, codes}
+use Rattle.std.specs.Prelude.{ℕ, ◌==◌, Bool, List, [], map, cond}
 use Rattle.std.specs.BTreeSet.{insert_key}
 use Rattle.kp_base.specs.Keys.{text_cmp}
 use Rattle.kp_types.specs.Places.{table_place}

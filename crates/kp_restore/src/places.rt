@@ -87,14 +87,12 @@ pub(crate) fn other_places(
     ensures { IfOk result (λ places. places ≡ spec.other_places table.now.chains which) }
 {
     let mut places = Vec::new(alloc);
-    for i in 0..u64::MAX {
-        let Some(at) = table.place(i) else {
-            return Ok(Items::from_vec(places));
-        };
-        add_if_other(at, which, &mut places)?;
+    for i in 0..table.count() {
+        if let Some(at) = table.place(i) {
+            add_if_other(at, which, &mut places)?;
+        }
     }
-    // no memory holds as many chains
-    Err(NoMemory)
+    Ok(Items::from_vec(places))
 }
 
 /// Adds a place of a table whose chain isn't built in.

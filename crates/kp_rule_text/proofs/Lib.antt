@@ -3,7 +3,7 @@ pub mod Cuts
 pub mod Digits
 pub mod FamilyWords
 pub mod Joined
-pub mod Matches
+pub mod MatchWords
 pub mod Probabilities
 pub mod Rules
 pub mod Targets

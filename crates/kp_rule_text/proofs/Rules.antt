@@ -24,7 +24,7 @@ use Rattle.kp_rule_text.proofs.Cuts.{strip_is, cut_is, cut_front}
 use Rattle.kp_rule_text.proofs.Joined.{line_is}
 use Rattle.kp_rule_text.proofs.Words.{if_then, of_some, is_word_byte, names}
 use Rattle.kp_rule_text.proofs.AddressWords.{if_map}
-use Rattle.kp_rule_text.proofs.Matches.{IsFound, match_found, HasNoPort, match_read}
+use Rattle.kp_rule_text.proofs.MatchWords.{IsFound, match_found, HasNoPort, match_read}
 use Rattle.kp_rule_text.proofs.Targets.{target_found, target_read}
 
 -- ---- matches that are read

@@ -1,8 +1,8 @@
 //! Rules as `iptables-restore` takes them: one line for each (iptables(8), iptables-extensions(8)).
 #![tactic(auto)]
 
-mod chosen;
 pub mod laws;
+mod matches;
 mod print;
 mod read;
 mod split;

@@ -6,11 +6,12 @@ ghost use Rattle.kp_types.specs.declared.rule.Rule as declared;
 ghost use Rattle.kp_restore_defs.specs.RuleText.{rule_line, is_canonical_rule};
 ghost use Rattle.kp_rule_text.specs.Reading as spec;
 
-use crate::chosen::next_match;
-use crate::split::{split_once, strip};
+use crate::matches::next_match;
+use crate::split::strip;
 use crate::target::read_target;
 use crate::word::name_word;
 use arrayvec::ArrayVec;
+use kp_base::split_once;
 use kp_types::{ChainName, Match, Rule};
 
 /// The chain and the rule whose line this is, if it is one: the words are those of iptables(8) and

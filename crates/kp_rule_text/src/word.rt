@@ -6,10 +6,9 @@ ghost use Rattle.kp_choice_defs.specs.Draws.{probability_text_of};
 ghost use Rattle.kp_restore_defs.specs.RuleText.{range_text};
 ghost use Rattle.kp_rule_text.specs.WordReading as spec;
 
-use crate::split::split_once;
 use crate::text::{push_number, v4_text};
 use itoa::Buffer;
-use kp_base::{Address, Cidr, Endpoint, PortNo};
+use kp_base::{Address, Cidr, Endpoint, PortNo, split_once};
 use kp_draws::probability_text;
 use kp_types::ChainName;
 

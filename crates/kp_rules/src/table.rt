@@ -1,5 +1,5 @@
 //! The chains of one node's tables, and how often they were edited.
-ghost use Rattle.std.specs.Prelude.{◌≡◌, slice_get, IfOk, OnOk, OnErr};
+ghost use Rattle.std.specs.Prelude.{◌≡◌, length, slice_get, IfOk, OnOk, OnErr};
 ghost use Rattle.std.specs.FinMap as finite;
 ghost use Rattle.std.specs.Option.{option_copied};
 ghost use Rattle.kp_table_defs.specs.Edits.{table_after_batch};
@@ -58,6 +58,13 @@ impl Table {
         ensures { option_copied result ≡ finite.get self.now.chains at.now }
     {
         self.chains.get(at)
+    }
+
+    /// How many places have a chain.
+    pub fn count(&self) -> u64
+        ensures { result ≡ length (finite.keys self.now.chains) }
+    {
+        self.chains.places().count()
     }
 
     /// The place at an index, from 0, among those that have a chain: nat before filter, and then by the bytes

@@ -1,6 +1,5 @@
-use Rattle.std.proofs.Common.{◌+◌, ◌-◌, drop, ap, ◌∙◌, sym, arith}
-use Rattle.kp_restore.specs.PrintedEdits.{with_name, edited_names}
-use Rattle.kp_restore.proofs.EditSections.{names_before, edit_before}
+use Rattle.std.proofs.Common.{◌∙◌, arith}
+use Rattle.kp_restore.proofs.EditSections.{edit_before}
 use Rattle.kp_restore.proofs.batch_print.names_of.Goals as goal
 
 -- the name of the edit before those

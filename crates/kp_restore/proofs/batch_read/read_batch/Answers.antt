@@ -1,4 +1,4 @@
-use Rattle.std.proofs.Common.{rules, ◌≡◌, ℕ, ◌+◌, ◌∷◌, ◌++◌, [], Err, Option, Some, None, IfSome, true, sym, refl, ap, subst, ◌∙◌, arith, length, length-append}
+use Rattle.std.proofs.Common.{rules, ◌≡◌, ℕ, ◌+◌, ◌∷◌, ◌++◌, [], Err, Option, Some, None, IfSome, true, sym, refl, ap, subst, arith, length, length-append}
 use Rattle.std.specs.Option as option
 use Rattle.kp_base.specs.declared.address.Family.TheVariants.{V4}
 use Rattle.kp_types.specs.declared.rule.Batch.{Batch}
@@ -7,7 +7,7 @@ use Rattle.kp_restore_defs.specs.FirstBadLine.{IsFirstBadLine}
 use Rattle.kp_restore.specs.declared.read.TextFault.{TextFault}
 use Rattle.kp_restore.specs.declared.read.TextFault.TheVariants.{BadText}
 use Rattle.std.specs.declared.result.Result.{Result}
-use Rattle.std.proofs.Common.{Ok, IfOk, List}
+use Rattle.std.proofs.Common.{IfOk, List}
 use Rattle.kp_types.specs.declared.rule.Edit.{Edit}
 use Rattle.kp_restore.specs.Lines.{is_canonical_line, line_text}
 use Rattle.kp_restore.specs.BatchSteps.{step, start, IsEnd}

@@ -1,4 +1,4 @@
-use Rattle.std.proofs.Common.{◌++◌, codes, string_bytes, sym, ap, ◌∙◌}
+use Rattle.std.proofs.Common.{◌++◌, codes, string_bytes, ap, ◌∙◌}
 use Rattle.std.specs.List.{flat_map}
 use Rattle.std.proofs.lemmas.Result.{on_ok_weaker}
 use Rattle.kp_restore.specs.Printed.{ended, chain_text, rules_at}

@@ -3,9 +3,9 @@ ghost use Rattle.std.specs.Prelude.{◌≡◌, option_map};
 ghost use Rattle.kp_base.specs.declared.address.Family.TheVariants.{V4};
 ghost use Rattle.kp_rule_text.specs.Reading as spec;
 
-use crate::split::{split_once, strip};
+use crate::split::strip;
 use crate::word::{name_word, port_word, probability_word, range_word, seconds_word};
-use kp_base::Proto;
+use kp_base::{Proto, split_once};
 use kp_types::{ChainName, Match};
 
 /// The match at the front, and what stands behind it and its space.
