@@ -14,8 +14,6 @@ mod port;
 mod range;
 mod split;
 mod steps;
-#[cfg(test)]
-mod tests;
 mod text;
 
 pub use address::{Address, BadAddress, Family};

@@ -4,8 +4,6 @@
 mod entries;
 mod lists;
 mod reach;
-#[cfg(test)]
-mod tests;
 mod topology;
 
 pub use entries::candidates;

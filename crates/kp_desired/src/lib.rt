@@ -4,8 +4,6 @@
 mod order;
 mod ports;
 mod selection;
-#[cfg(test)]
-mod tests;
 mod wanted;
 mod zones;
 

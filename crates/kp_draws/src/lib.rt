@@ -5,8 +5,6 @@ mod draws;
 pub mod laws;
 mod source;
 mod statistic;
-#[cfg(test)]
-mod tests;
 
 pub use draws::{draw_of_list, draw_of_seed};
 pub use source::DrawSource;

@@ -6,8 +6,6 @@ mod fault;
 mod journal;
 mod kind;
 mod object;
-#[cfg(test)]
-mod tests;
 
 pub use event::event_of;
 pub use fault::EventFault;

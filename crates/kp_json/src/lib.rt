@@ -8,8 +8,6 @@ mod members;
 mod path;
 mod quote;
 mod spot;
-#[cfg(test)]
-mod tests;
 mod tree;
 
 pub use elements::Elements;

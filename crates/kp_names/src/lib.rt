@@ -8,8 +8,6 @@ mod fault;
 pub mod laws;
 mod namer;
 mod namesakes;
-#[cfg(test)]
-mod tests;
 mod text;
 
 pub use fault::NameFault;

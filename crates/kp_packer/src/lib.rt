@@ -11,8 +11,6 @@ mod order;
 mod packing;
 mod place;
 mod ports;
-#[cfg(test)]
-mod tests;
 
 pub use kp_types::{Packed, Slice, SliceEndpoint, SlicePort, Wanted};
 pub use packing::pack;

@@ -5,8 +5,6 @@ mod node;
 mod pod;
 mod spec;
 mod status;
-#[cfg(test)]
-mod tests;
 
 pub use kp_types::{ContainerPort, Node, Pod};
 pub use node::node_of;

@@ -4,7 +4,5 @@
 mod key;
 mod lists;
 mod part;
-#[cfg(test)]
-mod tests;
 
 pub use lists::RecentLists;

@@ -2,8 +2,6 @@
 #![tactic(auto)]
 
 mod address;
-#[cfg(test)]
-mod tests;
 mod text;
 
 pub use text::{answer_text, refusal_text, sync_text};

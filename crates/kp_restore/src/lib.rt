@@ -5,22 +5,16 @@
 mod batch_print;
 mod batch_read;
 mod batch_reader;
-#[cfg(test)]
-mod batch_tests;
 mod built_in;
 pub mod laws;
 mod line;
 mod pieces;
 mod places;
 mod print;
-#[cfg(test)]
-mod print_tests;
 mod queue;
 mod read;
 mod row;
 mod table_reader;
-#[cfg(test)]
-mod tests;
 
 pub use batch_print::batch_text;
 pub use batch_read::read_batch;

@@ -7,8 +7,6 @@ mod print;
 mod read;
 mod split;
 mod target;
-#[cfg(test)]
-mod tests;
 mod text;
 mod word;
 

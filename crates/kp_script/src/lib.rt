@@ -6,8 +6,6 @@ mod fields;
 mod forms;
 mod line;
 mod objects;
-#[cfg(test)]
-mod tests;
 
 pub use commands::default_config;
 pub use kp_text_defs::{FirstLine, PacketForm};

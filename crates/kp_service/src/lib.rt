@@ -7,8 +7,6 @@ mod choices;
 mod port;
 mod seen;
 mod service;
-#[cfg(test)]
-mod tests;
 
 pub use kp_types::{ClusterAddress, Policy, Service, ServiceKind, ServicePort, TargetPort};
 pub use service::service_of;

@@ -4,8 +4,6 @@
 mod endpoint;
 mod metadata;
 mod slice;
-#[cfg(test)]
-mod tests;
 
 pub use kp_types::{AddressType, Slice, SliceEndpoint, SlicePort, Wanted};
 pub use slice::slice_of;

@@ -12,8 +12,6 @@ mod pod;
 mod rule;
 mod service;
 mod slice;
-#[cfg(test)]
-mod tests;
 mod verdict;
 mod walk;
 

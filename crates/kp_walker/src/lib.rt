@@ -9,8 +9,6 @@ mod journey;
 mod local;
 mod matching;
 mod progress;
-#[cfg(test)]
-mod tests;
 mod walking;
 
 pub use kp_types::{Answer, Origin, Packet, Pass, Trail, Verdict};

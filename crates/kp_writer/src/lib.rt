@@ -8,7 +8,5 @@ mod names;
 mod port;
 mod rows;
 mod table;
-#[cfg(test)]
-mod tests;
 
 pub use table::full_table;

@@ -1,0 +1,9 @@
+//! Tests of kp_draws, kp_names and kp_recent.
+#![tactic(auto)]
+
+#[cfg(test)]
+mod draws;
+#[cfg(test)]
+mod names;
+#[cfg(test)]
+mod recent;

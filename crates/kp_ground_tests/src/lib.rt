@@ -1,0 +1,9 @@
+//! Tests of kp_base, kp_types, kp_io and kp_json.
+#![tactic(auto)]
+
+#[cfg(test)]
+mod base;
+#[cfg(test)]
+mod json;
+#[cfg(test)]
+mod types;

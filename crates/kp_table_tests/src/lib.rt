@@ -1,0 +1,9 @@
+//! Tests of kp_rules, kp_walker and kp_writer.
+#![tactic(auto)]
+
+#[cfg(test)]
+mod rules;
+#[cfg(test)]
+mod walker;
+#[cfg(test)]
+mod writer;

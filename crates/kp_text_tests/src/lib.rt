@@ -1,0 +1,7 @@
+//! Tests of kp_script and kp_report.
+#![tactic(auto)]
+
+#[cfg(test)]
+mod report;
+#[cfg(test)]
+mod script;
