@@ -235,6 +235,21 @@ fn lists_go_by_policy(rt: HostRuntime) -> Result<(), Fail> {
     Ok(())
 }
 
+/// The lists of a Service that has no endpoints.
+fn empty_lists(alloc: Global) -> Result<Lists, Fail> {
+    let service = service(alloc, ClusterIp, Cluster, Cluster)?;
+    let port = service_port(alloc)?;
+    Ok(categorise(alloc, &service, &port, &Items::new(alloc), None)?)
+}
+
+#[test]
+fn without_endpoints_the_lists_are_empty(rt: HostRuntime) -> Result<(), Fail> {
+    let found = empty_lists(rt.alloc())?;
+    assert!(rt; are_hosts(&found.cluster, &[])? && are_hosts(&found.local, &[])?);
+    assert!(rt; !found.has_any);
+    Ok(())
+}
+
 /// An endpoint of a host on a node in a state.
 fn slice_endpoint(alloc: Global, host: u8, node: &str, state: &str) -> Result<SliceEndpoint, Fail> {
     Ok(SliceEndpoint {
@@ -278,7 +293,7 @@ fn slice(alloc: Global, family: AddressType, rows: &[(u8, &str, &str)]) -> Resul
     })
 }
 
-const SLICES: [(AddressType, &[(u8, &str, &str)]); 3] = [
+const SLICES: [(AddressType, &[(u8, &str, &str)]); 4] = [
     (
         AddressType::Ipv4,
         &[
@@ -298,6 +313,7 @@ const SLICES: [(AddressType, &[(u8, &str, &str)]); 3] = [
             (5, "n1", "s"),
         ],
     ),
+    (AddressType::Ipv6, &[(8, "n1", "r")]),
     (AddressType::Fqdn, &[(9, "n1", "r")]),
 ];
 
