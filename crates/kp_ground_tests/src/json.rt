@@ -163,6 +163,7 @@ fn what_is_no_whole_number_is_refused(rt: HostRuntime) -> Result<(), Fail> {
 fn numbers(alloc: Global, list: &Spot<'_>) -> Result<String, Fail> {
     let mut numbers = String::new(alloc);
     for i in 0..list.list_len(alloc)? {
+        // lent again for each turn, which the borrow checker asks for
         let item = (&*list).item(alloc, i)?;
         let number = told(alloc, whole_of(alloc, &item, 0, 99))?;
         numbers.push_str(number.as_str())?;

@@ -1,4 +1,4 @@
-//! Tests of kp_base, kp_types, kp_io and kp_json.
+//! Tests of kp_base, kp_types and kp_json.
 #![tactic(auto)]
 
 #[cfg(test)]
