@@ -9,7 +9,7 @@ use Rattle.kp_base.specs.Keys.{port_key_cmp}
 use Rattle.kp_base.specs.declared.address.Family.{Family}
 use Rattle.kp_base.specs.declared.key.PortKey.{PortKey}
 use Rattle.kp_base.specs.declared.key.Endpoint.{Endpoint}
-use Rattle.kp_base.specs.declared.config.Config.{Config}
+use Rattle.kp_types.specs.Setting.{FamilyConfig}
 use Rattle.kp_types.specs.declared.service.Service.{Service}
 use Rattle.kp_types.specs.declared.service.ServiceKind.{ServiceKind}
 use Rattle.kp_types.specs.declared.service.ServiceKind.TheVariants.{ClusterIp, NodePort, LoadBalancer, ExternalName}
@@ -133,7 +133,7 @@ abbrev pub infos_from : Family → List ℕ → Option (List ℕ) → List Servi
 infos_from family node zone services = filter_map (info_of family node zone) (service_ports services)
 
 -- what the proxy knows of all ports, in their order
-abbrev pub port_infos : Family → Config → Objects → List PortInfo
+abbrev pub port_infos : Family → FamilyConfig → Objects → List PortInfo
 port_infos family config o =
     infos_from family config.node (zone_of o config.node) (map (sources_of family config o) (finite.values o.services))
 

@@ -1,6 +1,7 @@
 pub mod Edits
 pub mod Layout
 pub mod Matching
+pub mod Parts
 pub mod Plain
 pub mod RankedWalk
 pub mod Ranks
