@@ -1,0 +1,3 @@
+mod Found
+pub mod PortOrder
+pub mod PortRows

@@ -1,0 +1,30 @@
+-- Laws of the full table: it is what each Service port contributes, joined in order between the fixed rules.
+use Rattle.std.specs.Prelude.{◌≡◌, true, List, map}
+use Rattle.std.specs.FinMap.{is_sorted}
+use Rattle.kp_base.specs.Keys.{port_key_cmp}
+use Rattle.kp_base.specs.declared.address.Family.{Family}
+use Rattle.kp_types.specs.Setting.{FamilyConfig, Setting}
+use Rattle.kp_object_defs.specs.Objects.{Objects}
+use Rattle.kp_object_defs.specs.PortInfo.{PortInfo, port_infos}
+use Rattle.kp_table_defs.specs.Parts.{rules_by_port, rules_of_objects, table_of_ports}
+use Rattle.kp_table_defs.specs.Rebuild.{full_chains, full_table}
+
+-- ports in the order of their names, each once
+abbrev pub AreInOrder : List PortInfo → Type 0
+AreInOrder infos = is_sorted port_key_cmp (map (λ i. (i.key, i)) infos) ≡ true
+
+-- What is known of the ports of some objects is in order.
+abbrev pub PortsAreInOrder : Type 0
+PortsAreInOrder = (family : Family) (config : FamilyConfig) (o : Objects) → AreInOrder (port_infos family config o)
+
+-- The contributions of ports make their full table.
+abbrev pub PortsMakeTheTable : Type 0
+PortsMakeTheTable =
+    (setting : Setting) (infos : List PortInfo) → AreInOrder infos
+    → table_of_ports setting.family (rules_by_port setting infos) ≡ full_chains setting infos
+
+-- The contributions of the ports of some objects make the full table of the objects.
+abbrev pub PortsOfObjectsMakeTheTable : Type 0
+PortsOfObjectsMakeTheTable =
+    (setting : Setting) (o : Objects)
+    → table_of_ports setting.family (rules_of_objects setting o) ≡ (full_table setting o).chains
