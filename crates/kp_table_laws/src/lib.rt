@@ -1,7 +1,7 @@
 //! Laws of the full table over the definitions alone. Each is the contract of a function that does nothing.
 #![tactic(auto)]
 
-ghost use Rattle.kp_table_laws.specs.Laws.{PortsAreInOrder, PortsMakeTheTable, PortsOfObjectsMakeTheTable};
+ghost use Rattle.kp_table_laws.specs.Laws.{PortsAreInOrder, PortsMakeTheTable, PortsOfObjectsMakeTheTable, TraversalIsWalk};
 
 /// What is known of the ports of some objects stands in the order of the ports' names, each once.
 #[tactic(auto, using(crate::proofs::PortOrder::ports_are_in_order))]
@@ -19,4 +19,11 @@ pub fn ports_make_the_table()
 #[tactic(auto, using(crate::proofs::PortRows::ports_of_objects_make_the_table))]
 pub fn ports_of_objects_make_the_table()
     ensures { PortsOfObjectsMakeTheTable }
+{}
+
+/// The traversal of rules as a relation is their walk with a bound on jumps, whatever the bound, where that isn't
+/// stuck.
+#[tactic(auto, using(crate::proofs::Traversed::traversal_is_walk))]
+pub fn traversal_is_walk()
+    ensures { TraversalIsWalk }
 {}
