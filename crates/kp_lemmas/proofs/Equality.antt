@@ -25,7 +25,7 @@ two_fields P Q p q x y h =
     λ i. (p x.0 y.0 both.0 i, (q x.1.0 y.1.0 both.1 i, tt))
 
 -- the test of each variant is exact
-pub AreExact : (Fss : List (List Field)) → Each Bool Fss → Type 0
+unfoldable pub AreExact : (Fss : List (List Field)) → Each Bool Fss → Type 0
 AreExact [] each = Unit {0}
 AreExact (Fs ∷ Fss) each = IsExact each.0 × AreExact Fss each.1
 
