@@ -1,5 +1,6 @@
--- Exact tests of lists, of pairs of fields, and of enums.
-use Rattle.std.proofs.Common.{◌≡◌, List, [], ◌∷◌, Bool, true, false, ◌&&◌, refl, ap, inl, inr}
+-- Exact tests of lists, of values that may be missing, of fields, and of enums.
+use Rattle.std.proofs.Common.{◌≡◌, List, [], ◌∷◌, Bool, true, false, ◌&&◌, Option, Some, None, refl, ap, inl, inr}
+use Rattle.std.specs.Option.{option_eq}
 use Rattle.std.proofs.lemmas.Bool.{false≢true, and_parts}
 use lib.Pointwise.{pointwise}
 use denote.Enum.Compared.{Each, by}
@@ -14,6 +15,13 @@ lists_exact test e [] (y ∷ ys) h = absurd (false≢true h)
 lists_exact test e (x ∷ xs) [] h = absurd (false≢true h)
 lists_exact test e (x ∷ xs) (y ∷ ys) h =
     let p = and_parts _ _ h in λ i. e x y p.0 i ∷ lists_exact test e xs ys p.1 i
+
+-- values that may be missing
+pub options_exact : {X : Type 0} (test : X → X → Bool) → IsExact test → IsExact (option_eq test)
+options_exact test e None None h = refl
+options_exact test e None (Some y) h = absurd (false≢true h)
+options_exact test e (Some x) None h = absurd (false≢true h)
+options_exact test e (Some x) (Some y) h = ap Some (e x y h)
 
 -- the fields of a variant that has one, and of one that has two
 pub one_field : {A : Type 0} (P : A → A → Bool) → IsExact P → (x y : A × Unit {0}) → P x.0 y.0 ≡ true → x ≡ y
