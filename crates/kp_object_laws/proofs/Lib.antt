@@ -1,0 +1,4 @@
+mod Members
+mod OwnEntries
+mod OwnKeys
+mod Wanted
