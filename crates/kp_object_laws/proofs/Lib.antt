@@ -1,4 +1,6 @@
+mod Lists
 mod Members
 mod OwnEntries
 mod OwnKeys
-mod Wanted
+mod Usable
+pub mod Wanted

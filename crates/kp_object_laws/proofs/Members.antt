@@ -1,5 +1,5 @@
 -- Elements of lists that are made of others.
-use Rattle.std.proofs.Common.{◌≡◌, ◌⊎◌, inl, inr, Bool, true, false, cond, refl, sym, ap, subst, ◌∙◌, suc, zero, List, [], ◌∷◌, reverse, Contains, filter, arith, le_of_suc-le-suc, suc-le-suc, zero-lt-suc}
+use Rattle.std.proofs.Common.{◌≡◌, ◌⊎◌, inl, inr, Bool, true, false, cond, refl, sym, ap, subst, ◌∙◌, suc, zero, List, [], ◌∷◌, map, reverse, Contains, filter, arith, le_of_suc-le-suc, suc-le-suc, zero-lt-suc}
 use Rattle.std.proofs.lemmas.List.Sorted.{Contains-permutation, IsPermutation-sym, IsPermutation-reverse}
 use Rattle.kp_object_laws.specs.ObjectLaws.{HaveSameElements}
 
@@ -54,3 +54,17 @@ same_filtered p xs ys same x =
 pub same_reversed : {A : Type 0} (xs ys : List A) → HaveSameElements xs ys → HaveSameElements (reverse xs) ys
 same_reversed xs ys same x =
     (λ c. (same x).0 (Contains-permutation (reverse xs) xs x (IsPermutation-sym xs (reverse xs) (IsPermutation-reverse xs)) c), λ c. Contains-permutation xs (reverse xs) x (IsPermutation-reverse xs) ((same x).1 c))
+
+-- an element's value is in the mapped list
+pub in_map : {A B : Type 0} (f : A → B) (x : A) (xs : List A) → Contains xs x → Contains (map f xs) (f x)
+in_map f x [] c = absurd (none_in x c)
+in_map f x (y ∷ ys) c = elim (in_cases x y ys c) [ inl e ↦ subst (λ z. Contains (map f (y ∷ ys)) (f z)) e (first_in (f y) (map f ys)) | inr d ↦ later_in (f x) (f y) (map f ys) (in_map f x ys d) ]
+
+-- and each value there is an element's
+pub from_map : {A B : Type 0} (f : A → B) (z : B) (xs : List A) → Contains (map f xs) z → (x : A) × Contains xs x × (f x ≡ z)
+from_map f z [] c = absurd (none_in z c)
+from_map f z (y ∷ ys) c =
+    elim (in_cases z (f y) (map f ys) c) [
+      | inl e ↦ (y, first_in y ys, e)
+      | inr d ↦ let (x, in_ys, is) = from_map f z ys d in (x, later_in x y ys in_ys, is)
+    ]

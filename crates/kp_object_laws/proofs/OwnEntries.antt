@@ -171,6 +171,10 @@ module _ {K X : Type 0} {R : K → K → Ordering} (total : IsTotalOrder R) (exa
   own_by_key : (xs : List X) → AreOwn (by_key R key xs)
   own_by_key xs = own_in_order (reverse (owned key xs)) (subst AreOwn (map-reverse (λ x. (key x, x)) xs) (own_owned (reverse xs)))
 
+  -- the first element of each key is taken, in order
+  pub first_in_order : (xs : List X) → is_sorted R (owned key (values_of (in_order R (owned key xs)))) ≡ true
+  first_in_order xs = ap (is_sorted R) (owned_values (in_order R (owned key xs)) (own_in_order (owned key xs) (own_owned xs))) ∙ sorted-in_order total (owned key xs)
+
   -- elements by their keys are in order
   pub by_key_in_order : (xs : List X) → is_sorted R (owned key (values_of (by_key R key xs))) ≡ true
   by_key_in_order xs = ap (is_sorted R) (owned_values (by_key R key xs) (own_by_key xs)) ∙ sorted-in_order total (reverse (owned key xs))

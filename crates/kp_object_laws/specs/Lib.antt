@@ -1,1 +1,2 @@
 pub mod ObjectLaws
+pub mod ListLaws

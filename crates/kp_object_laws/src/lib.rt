@@ -1,7 +1,9 @@
-//! The laws of objects: each stands under its own key, and what the controller wants of them doesn't depend on the
-//! order in which they are given. Each law is a clause of a function that does nothing.
+//! The laws of objects: each stands under its own key, what the controller wants of them doesn't depend on the order
+//! in which they are given, and the lists of a Service port are made of its endpoints in order. Each law is a clause
+//! of a function that does nothing.
 #![tactic(auto)]
 
+ghost use Rattle.kp_object_laws.specs.ListLaws as lists;
 ghost use Rattle.kp_object_laws.specs.ObjectLaws as objects;
 
 /// Each object stands under its own key, after any events.
@@ -17,4 +19,19 @@ pub fn wanted_endpoints()
     ensures of_objects { objects.WantedOfObjects }
     ensures own_pods { objects.WantedOfOwnPods }
     ensures desired { objects.DesiredOfOwnPods }
+{}
+
+/// The endpoints of a Service port stand in order of address and port, each once.
+pub fn endpoints_in_order()
+    ensures counted { lists.CountedInOrder }
+    ensures entries { lists.EntriesInOrder }
+{}
+
+/// The lists of a Service port have usable endpoints alone, in order, and are empty only where none is usable.
+pub fn lists_of_usable()
+    ensures among { lists.ListsAmongUsable }
+    ensures in_order { lists.ListsInOrder }
+    ensures none { lists.NoneUsable }
+    ensures cluster { lists.ClusterListEmpty }
+    ensures local { lists.LocalListEmpty }
 {}
