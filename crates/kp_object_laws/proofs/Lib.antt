@@ -1,4 +1,4 @@
-mod Lists
+pub mod Lists
 mod Members
 mod OwnEntries
 mod OwnKeys
