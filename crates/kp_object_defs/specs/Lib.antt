@@ -6,4 +6,5 @@ pub mod Order
 pub mod OwnKeys
 pub mod Packing
 pub mod PackingLaws
+pub mod PortByKey
 pub mod PortInfo

@@ -1,6 +1,7 @@
 pub mod Lists
 mod Members
-mod OwnEntries
+pub mod OwnEntries
 mod OwnKeys
+mod PortByKey
 mod Usable
 pub mod Wanted

@@ -1,5 +1,6 @@
 -- Elements of lists that are made of others.
-use Rattle.std.proofs.Common.{◌≡◌, ◌⊎◌, inl, inr, Bool, true, false, cond, refl, sym, ap, subst, ◌∙◌, suc, zero, List, [], ◌∷◌, map, reverse, Contains, filter, arith, le_of_suc-le-suc, suc-le-suc, zero-lt-suc}
+use Rattle.std.proofs.Common.{◌≡◌, ◌⊎◌, inl, inr, Bool, true, false, cond, refl, sym, ap, subst, ◌∙◌, suc, zero, List, [], ◌∷◌, map, reverse, Contains, filter, flat_map, arith, le_of_suc-le-suc, suc-le-suc, zero-lt-suc}
+use Rattle.std.proofs.lemmas.List.Elements.{Contains-append_cases}
 use Rattle.std.proofs.lemmas.List.Sorted.{Contains-permutation, IsPermutation-sym, IsPermutation-reverse}
 use Rattle.kp_object_laws.specs.ObjectLaws.{HaveSameElements}
 
@@ -67,4 +68,13 @@ from_map f z (y ∷ ys) c =
     elim (in_cases z (f y) (map f ys) c) [
       | inl e ↦ (y, first_in y ys, e)
       | inr d ↦ let (x, in_ys, is) = from_map f z ys d in (x, later_in x y ys in_ys, is)
+    ]
+
+-- each element of pieces together is in the piece of an element
+pub from_flat_map : {A B : Type 0} (f : A → List B) (z : B) (xs : List A) → Contains (flat_map f xs) z → (x : A) × Contains xs x × Contains (f x) z
+from_flat_map f z [] c = absurd (none_in z c)
+from_flat_map f z (y ∷ ys) c =
+    elim (Contains-append_cases (f y) (flat_map f ys) z c) [
+      | inl d ↦ (y, first_in y ys, d)
+      | inr d ↦ let (x, in_ys, is) = from_flat_map f z ys d in (x, later_in x y ys in_ys, is)
     ]

@@ -6,8 +6,12 @@ use Rattle.std.specs.FinMap.{find, put, is_sorted, IsAntisymmetric}
 use Rattle.std.specs.FinMap.Entries.{below_all, by_order, same_entries}
 use Rattle.std.proofs.lemmas.Bool.{and_from, and_parts}
 use Rattle.std.proofs.lemmas.Option.{same_Some}
-use Rattle.kp_object_defs.specs.Order.{in_order, by_key, values_of}
-use Rattle.kp_object_defs.proofs.InOrder.{find-in_order, sorted-in_order, map-reverse}
+use Rattle.std.proofs.lemmas.List.Sorted.{Contains-permutation, IsPermutation-sym, IsPermutation-reverse}
+use Rattle.std.specs.BTreeSet.{insert_key}
+use Rattle.kp_lemmas.proofs.Entries.{put_keys}
+use Rattle.kp_lemmas.proofs.Orders.{one_from_tie, tie_of_itself, less_from_test}
+use Rattle.kp_object_defs.specs.Order.{in_order, by_key, values_of, distinct_in_order}
+use Rattle.kp_object_defs.proofs.InOrder.{find-in_order, sorted-in_order, same_order, map-reverse}
 use Rattle.kp_object_laws.specs.ObjectLaws.{HaveSameElements}
 use Rattle.kp_object_laws.proofs.Members.{first_in, later_in, none_in, in_cases, same_reversed}
 
@@ -15,30 +19,16 @@ use Rattle.kp_object_laws.proofs.Members.{first_in, later_in, none_in, in_cases,
 holds : {b : Bool} → b ≡ true → T b
 holds e = subst T (sym e) tt
 
-is_Equal : (o : Ordering) → is_eq o ≡ true → o ≡ Equal
-is_Equal Less h = absurd (cc)
-is_Equal Equal h = refl
-is_Equal Greater h = absurd (cc)
-
-pub is_Less : (o : Ordering) → is_lt o ≡ true → o ≡ Less
-is_Less Less h = refl
-is_Less Equal h = absurd (cc)
-is_Less Greater h = absurd (cc)
-
 -- elements by their own keys
 abbrev pub owned : {K X : Type 0} → (X → K) → List X → List (K × X)
 owned key xs = map (λ x. (key x, x)) xs
 
 module _ {K X : Type 0} {R : K → K → Ordering} (total : IsTotalOrder R) (exact : IsAntisymmetric R) (key : X → K) where
-  -- keys that tie are one
-  pub one_key : (a b : K) → eq_by_cmp R a b ≡ true → a ≡ b
-  one_key a b h = exact a b (is_Equal (R a b) h)
-
   -- ---- Look-ups
 
   found_by : (k : K) (y : X) (ys : List X) (x : X) → (find R k (owned key ys) ≡ Some x → Contains ys x × (key x ≡ k)) → (b : Bool) → eq_by_cmp R k (key y) ≡ b
       → cond b (Some y) (find R k (owned key ys)) ≡ Some x → Contains (y ∷ ys) x × (key x ≡ k)
-  found_by k y ys x rest true e h = let same : y ≡ x = same_Some y x h in (subst (Contains (y ∷ ys)) same (first_in y ys), sym (one_key k (key y) e ∙ ap key same))
+  found_by k y ys x rest true e h = let same : y ≡ x = same_Some y x h in (subst (Contains (y ∷ ys)) same (first_in y ys), sym (one_from_tie exact k (key y) e ∙ ap key same))
   found_by k y ys x rest false e h = let (c, is) = rest h in (later_in x y ys c, is)
 
   -- what is found is an element with the key
@@ -47,7 +37,7 @@ module _ {K X : Type 0} {R : K → K → Ordering} (total : IsTotalOrder R) (exa
   found_in k (y ∷ ys) x h = found_by k y ys x (found_in k ys x) (eq_by_cmp R k (key y)) refl h
 
   tied_key : (k l : K) → l ≡ k → eq_by_cmp R k l ≡ true
-  tied_key k l e = ap (λ m. is_eq (R m l)) (sym e) ∙ ap is_eq (tied_itself total l)
+  tied_key k l e = ap (λ m. is_eq (R m l)) (sym e) ∙ tie_of_itself total l
 
   some_by : (k : K) (y : X) (ys : List X) (x : X) → key x ≡ k → Contains (y ∷ ys) x → (Contains ys x → (z : X) × (find R k (owned key ys) ≡ Some z)) → (b : Bool) → eq_by_cmp R k (key y) ≡ b
       → (z : X) × (cond b (Some y) (find R k (owned key ys)) ≡ Some z)
@@ -96,7 +86,7 @@ module _ {K X : Type 0} {R : K → K → Ordering} (total : IsTotalOrder R) (exa
   below_in k (y ∷ ys) x h c =
       let parts = and_parts (is_lt (R k (key y))) (below_all R k (owned key ys)) h in
       elim (in_cases x y ys c) [
-        | inl e ↦ subst (λ z. R k (key z) ≡ Less) e (is_Less (R k (key y)) parts.0)
+        | inl e ↦ subst (λ z. R k (key z) ≡ Less) e (less_from_test (R k (key y)) parts.0)
         | inr d ↦ below_in k ys x parts.1 d
       ]
 
@@ -117,6 +107,13 @@ module _ {K X : Type 0} {R : K → K → Ordering} (total : IsTotalOrder R) (exa
               | inr f ↦ in_order_apart zs parts.1 x y e f same
             ]
       ]
+
+  -- each element of a list in order is found by its key
+  pub found_itself : (xs : List X) → is_sorted R (owned key xs) ≡ true → (x : X) → Contains xs x → find R (key x) (owned key xs) ≡ Some x
+  found_itself xs h x c =
+      let (z, found) = found_some (key x) xs x c refl in
+      let (d, same) = found_in (key x) xs z found in
+      found ∙ ap Some (in_order_apart xs h z x d c same)
 
   below_filter : (p : X → Bool) (k : K) (xs : List X) → below_all R k (owned key xs) ≡ true → below_all R k (owned key (filter p xs)) ≡ true
   below_filter p k [] h = refl
@@ -175,6 +172,12 @@ module _ {K X : Type 0} {R : K → K → Ordering} (total : IsTotalOrder R) (exa
   pub first_in_order : (xs : List X) → is_sorted R (owned key (values_of (in_order R (owned key xs)))) ≡ true
   first_in_order xs = ap (is_sorted R) (owned_values (in_order R (owned key xs)) (own_in_order (owned key xs) (own_owned xs))) ∙ sorted-in_order total (owned key xs)
 
+  -- each entry of elements by their keys is of an element
+  pub of_element : (xs : List X) (e : K × X) → find R e.0 (by_key R key xs) ≡ Some e.1 → Contains xs e.1 × (key e.1 ≡ e.0)
+  of_element xs e h =
+      let (c, is) = found_in e.0 (reverse xs) e.1 (ap (find R e.0) (map-reverse (λ x. (key x, x)) xs) ∙ sym (find-in_order total e.0 (reverse (owned key xs))) ∙ h) in
+      (Contains-permutation (reverse xs) xs e.1 (IsPermutation-sym xs (reverse xs) (IsPermutation-reverse xs)) c, is)
+
   -- elements by their keys are in order
   pub by_key_in_order : (xs : List X) → is_sorted R (owned key (values_of (by_key R key xs))) ≡ true
   by_key_in_order xs = ap (is_sorted R) (owned_values (by_key R key xs) (own_by_key xs)) ∙ sorted-in_order total (reverse (owned key xs))
@@ -195,7 +198,7 @@ module _ {K X : Type 0} {R : K → K → Ordering} (total : IsTotalOrder R) (exa
   missing k [] h = refl
   missing k (e ∷ es) h =
       let parts = and_parts (is_lt (R k e.0)) (below_all R k es) h in
-      ap (λ o. cond (is_eq o) (Some e.1) (find R k es)) (is_Less (R k e.0) parts.0) ∙ missing k es parts.1
+      ap (λ o. cond (is_eq o) (Some e.1) (find R k es)) (less_from_test (R k e.0) parts.0) ∙ missing k es parts.1
 
   -- what is found at a key has it
   abbrev pub FoundOwn : List (K × X) → Type 0
@@ -205,7 +208,7 @@ module _ {K X : Type 0} {R : K → K → Ordering} (total : IsTotalOrder R) (exa
   found_later e es below own k x h = own k x (by (eq_by_cmp R k e.0) refl)
     where
       by : (b : Bool) → eq_by_cmp R k e.0 ≡ b → cond b (Some e.1) (find R k es) ≡ Some x
-      by true p = let none : find R k es ≡ None = ap (λ m. find R m es) (one_key k e.0 p) ∙ missing e.0 es below in absurd (cc)
+      by true p = let none : find R k es ≡ None = ap (λ m. find R m es) (one_from_tie exact k e.0 p) ∙ missing e.0 es below in absurd (cc)
       by false p = h
 
   -- entries in order under what is found are under their own keys
@@ -214,3 +217,43 @@ module _ {K X : Type 0} {R : K → K → Ordering} (total : IsTotalOrder R) (exa
   own_entries (e ∷ es) h own =
       let parts = and_parts (below_all R e.0 es) (is_sorted R es) h in
       (sym (own e.0 e.1 (ap (λ b. cond b (Some e.1) (find R e.0 es)) (tied_key e.0 e.0 refl))), own_entries es parts.1 (found_later e es parts.0 own))
+
+-- ---- The keys of lists in order
+
+module _ {K : Type 0} (R : K → K → Ordering) where
+  -- keys in order
+  keys_in_order : List K → List K
+  keys_in_order [] = []
+  keys_in_order (k ∷ ks) = insert_key R (keys_in_order ks) k
+
+  keys_of_order : {X : Type 0} (es : List (K × X)) → map (λ e. e.0) (in_order R es) ≡ keys_in_order (map (λ e. e.0) es)
+  unfolding keys_in_order
+  keys_of_order [] = refl
+  keys_of_order (e ∷ es) = put_keys R e.0 e.1 (in_order R es) ∙ ap (λ ks. insert_key R ks e.0) (keys_of_order es)
+
+  -- they are the same for entries with the same keys
+  pub same_keys : {X Y : Type 0} (es : List (K × X)) (fs : List (K × Y)) → map (λ e. e.0) es ≡ map (λ f. f.0) fs → map (λ e. e.0) (in_order R es) ≡ map (λ f. f.0) (in_order R fs)
+  same_keys es fs same = keys_of_order es ∙ ap keys_in_order same ∙ sym (keys_of_order fs)
+
+module _ {K X : Type 0} {R : K → K → Ordering} (total : IsTotalOrder R) (exact : IsAntisymmetric R) (key : X → K) where
+  keys_of_owned : (xs : List X) → map (λ e. e.0) (owned key xs) ≡ map key xs
+  keys_of_owned [] = refl
+  keys_of_owned (x ∷ xs) = ap (λ ks. key x ∷ ks) (keys_of_owned xs)
+
+  keys_by_themselves : (ks : List K) → map (λ e. e.0) (owned (λ k. k) ks) ≡ ks
+  keys_by_themselves [] = refl
+  keys_by_themselves (k ∷ ks) = ap (λ rest. k ∷ rest) (keys_by_themselves ks)
+
+  reversed_keys : (ks : List K) → in_order R (owned (λ k. k) (reverse ks)) ≡ in_order R (owned (λ k. k) ks)
+  reversed_keys ks =
+      same_order total exact (owned (λ k. k) (reverse ks)) (owned (λ k. k) ks)
+      (same_found total exact (λ k. k) (reverse ks) ks (same_reversed ks ks (λ x. (λ c. c, λ c. c))) (λ x y c d e. e))
+
+  -- the keys of elements in order are the elements' keys, once each in order
+  pub keys_of_elements : (xs : List X) → map (λ e. e.0) (by_key R key xs) ≡ distinct_in_order R (map key xs)
+  keys_of_elements xs =
+      same_keys R (reverse (owned key xs)) (owned (λ k. k) (reverse (map key xs)))
+      (sym (ap (map (λ e. e.0)) (map-reverse (λ x. (key x, x)) xs))
+      ∙ keys_of_owned (reverse xs) ∙ map-reverse key xs
+      ∙ sym (keys_by_themselves (reverse (map key xs))))
+      ∙ ap (map (λ e. e.0)) (reversed_keys (map key xs))

@@ -1,10 +1,12 @@
 -- Each object stands under its own key, after any events.
-use Rattle.std.proofs.Common.{◌≡◌, Bool, true, false, cond, List, [], ◌∷◌, Some, None, refl, sym, ap, ◌∙◌, T}
+use Rattle.std.proofs.Common.{◌≡◌, Bool, true, false, cond, List, [], ◌∷◌, Some, None, refl, sym, ap, ◌∙◌}
 use Rattle.std.specs.List.{fold}
 use Rattle.std.specs.Ordering.{eq_by_cmp}
 use Rattle.std.specs.FinMap as finite
 use Rattle.std.specs.FinMap.{get, get-entries, get-empty, get-insert, get-remove, entries, entries_sorted, is_sorted, find}
 use Rattle.std.proofs.lemmas.Option.{same_Some}
+use Rattle.kp_lemmas.proofs.Booleans.{true_from_fact}
+use Rattle.kp_lemmas.proofs.Orders.{one_from_tie}
 use Rattle.kp_base.specs.Keys.{key_cmp}
 use Rattle.kp_base.specs.declared.key.ObjectKey.{ObjectKey}
 use Rattle.kp_base.proofs.KeyOrder.{key_total, key_exact}
@@ -15,11 +17,7 @@ use Rattle.kp_types.specs.declared.event.Object.TheVariants as object
 use Rattle.kp_object_defs.specs.Objects.{Objects, no_objects, objects_step, node_key}
 use Rattle.kp_object_defs.specs.OwnKeys.{IsUnderOwnKeys, AreUnderOwnKeys}
 use Rattle.kp_object_laws.specs.ObjectLaws.{OwnKeysAtFirst, OwnKeysAfterEvent, OwnKeysAfterEvents}
-use Rattle.kp_object_laws.proofs.OwnEntries.{owned, own_entries, owned_values, one_key}
-
-is_true : (b : Bool) → T b → b ≡ true
-is_true true h = refl
-is_true false h = absurd h
+use Rattle.kp_object_laws.proofs.OwnEntries.{owned, own_entries, owned_values}
 
 -- ---- One map
 
@@ -28,7 +26,7 @@ module _ {X : Type 0} (key_of : X → ObjectKey) where
   of_none key x h = let none : get (finite.empty {X = X} {R = key_cmp}) key ≡ None = get-empty key_cmp key in absurd (cc)
 
   inserted_by : (m : finite.FinMap key_cmp X) (v : X) → IsUnderOwnKeys key_of m → (key : ObjectKey) (x : X) (b : Bool) → eq_by_cmp key_cmp key (key_of v) ≡ b → cond b (Some v) (get m key) ≡ Some x → key_of x ≡ key
-  inserted_by m v own key x true e h = ap key_of (sym (same_Some v x h)) ∙ sym (one_key key_total key_exact key_of key (key_of v) e)
+  inserted_by m v own key x true e h = ap key_of (sym (same_Some v x h)) ∙ sym (one_from_tie key_exact key (key_of v) e)
   inserted_by m v own key x false e h = own key x h
 
   of_inserted : (m : finite.FinMap key_cmp X) (v : X) → IsUnderOwnKeys key_of m → IsUnderOwnKeys key_of (finite.insert m (key_of v) v)
@@ -70,7 +68,7 @@ module _ {X : Type 0} (key_of : X → ObjectKey) (m : finite.FinMap key_cmp X) (
   found_own es is k x h = own k x (get-entries m k ∙ ap (find key_cmp k) is ∙ h)
 
   entries_in_order : is_sorted key_cmp (entries m) ≡ true
-  entries_in_order = is_true (is_sorted key_cmp (entries m)) (entries_sorted m)
+  entries_in_order = true_from_fact (is_sorted key_cmp (entries m)) (entries_sorted m)
 
   -- are its entries, by their own keys
   pub owned_entries : owned key_of (finite.values m) ≡ entries m

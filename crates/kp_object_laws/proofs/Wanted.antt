@@ -8,6 +8,7 @@ use Rattle.std.specs.FinMap as finite
 use Rattle.std.specs.FinMap.{find, is_sorted}
 use Rattle.std.specs.FinMap.Entries.{below_all}
 use Rattle.std.proofs.lemmas.Bool.{and_from, and_parts, or_from}
+use Rattle.kp_lemmas.proofs.Orders.{less_from_test}
 use Rattle.kp_base.specs.Keys.{key_cmp}
 use Rattle.kp_base.specs.Net.{AddressParts}
 use Rattle.kp_base.specs.declared.address.Family.{Family}
@@ -26,7 +27,7 @@ use Rattle.kp_object_defs.specs.Packing.{same_object}
 use Rattle.kp_object_defs.specs.PackingLaws.{have_own_pods}
 use Rattle.kp_object_laws.specs.ObjectLaws.{HaveSameElements, WantedOfObjects, WantedOfOwnPods, DesiredOfOwnPods}
 use Rattle.kp_object_laws.proofs.Members.{same_filtered, same_reversed}
-use Rattle.kp_object_laws.proofs.OwnEntries.{owned, is_Less, put_in_order, by_key_in_order, same_found, filter_in_order, in_order_apart}
+use Rattle.kp_object_laws.proofs.OwnEntries.{owned, put_in_order, by_key_in_order, same_found, filter_in_order, in_order_apart}
 use Rattle.kp_object_laws.proofs.OwnKeys.{values_in_order, found_in_values}
 
 -- ---- Zones
@@ -93,7 +94,7 @@ module _ (made : Pod → Option Wanted) (of_own : (pod : Pod) → IsOfPod pod.ke
       let rest = later_pods key ps parts.1 in
       elim (made p) as (λ o. IsOfPod p.key o → list_any (same_object key) (map (λ w. w.pod) (cons_option o (filter_map made ps))) ≡ false) [
         | None ↦ λ own. rest
-        | Some w ↦ λ own. or_from (same_object key w.pod) _ (other_object key p.key w.pod (is_Less (key_cmp key p.key) parts.0) own) rest
+        | Some w ↦ λ own. or_from (same_object key w.pod) _ (other_object key p.key w.pod (less_from_test (key_cmp key p.key) parts.0) own) rest
       ] (of_own p)
 
   own_pods : (pods : List Pod) → is_sorted key_cmp (owned (λ p. p.key) pods) ≡ true → have_own_pods (filter_map made pods) ≡ true

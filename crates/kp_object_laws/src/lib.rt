@@ -5,6 +5,7 @@
 
 ghost use Rattle.kp_object_laws.specs.ListLaws as lists;
 ghost use Rattle.kp_object_laws.specs.ObjectLaws as objects;
+ghost use Rattle.kp_object_laws.specs.PortLaws as ports;
 
 /// Each object stands under its own key, after any events.
 pub fn own_keys()
@@ -34,4 +35,11 @@ pub fn lists_of_usable()
     ensures none { lists.NoneUsable }
     ensures cluster { lists.ClusterListEmpty }
     ensures local { lists.LocalListEmpty }
+{}
+
+/// A Service port is found by its name, and what is known of all ports is what is found by their names in order.
+pub fn ports_by_key()
+    ensures named { ports.PortIsNamed }
+    ensures key { ports.InfoHasKey }
+    ensures all { ports.InfosByKeys }
 {}
