@@ -77,7 +77,8 @@ module _ {X : Type 0} (same : X → X → Bool) where
   distinct_joined (x ∷ xs) ys a b apart = (apart_joined x xs ys a.0 apart.0, distinct_joined xs ys a.1 b apart.1)
 
   distinct_parts : (xs ys : List X) → IsDistinct same (xs ++ ys)
-      → IsDistinct same xs × IsDistinct same ys × AllByRecursion (λ x. AllByRecursion (λ y. same x y ≡ false) ys) xs
+      → IsDistinct same xs × IsDistinct same ys
+      × AllByRecursion (λ x. AllByRecursion (λ y. same x y ≡ false) ys) xs
   unfolding IsDistinct
   distinct_parts [] ys d = (tt, d, tt)
   distinct_parts (x ∷ xs) ys d =
@@ -86,10 +87,12 @@ module _ {X : Type 0} (same : X → X → Bool) where
       ((apart.0, rest.0), rest.1, (apart.1, rest.2))
 
   module _ {Y : Type 0} (f : Y → List X) (p : Y → Bool) where
-    all_filtered : (P : X → Type 0) (ys : List Y) → AllByRecursion P (flat_map f ys) → AllByRecursion P (flat_map f (filter p ys))
+    all_filtered : (P : X → Type 0) (ys : List Y) → AllByRecursion P (flat_map f ys)
+        → AllByRecursion P (flat_map f (filter p ys))
     all_filtered P [] all = tt
     all_filtered P (y ∷ ys) all =
-        let parts = all_split P (f y) (flat_map f ys) all in by (p y) parts.0 (all_filtered P ys parts.1)
+        let parts = all_split P (f y) (flat_map f ys) all in
+        by (p y) parts.0 (all_filtered P ys parts.1)
       where
         by : (b : Bool) → AllByRecursion P (f y) → AllByRecursion P (flat_map f (filter p ys))
             → AllByRecursion P (flat_map f (cond b (y ∷ filter p ys) (filter p ys)))
@@ -97,7 +100,8 @@ module _ {X : Type 0} (same : X → X → Bool) where
         by false own rest = rest
 
     -- the pieces of some elements, where those of all differ
-    pub distinct_filtered : (ys : List Y) → IsDistinct same (flat_map f ys) → IsDistinct same (flat_map f (filter p ys))
+    pub distinct_filtered : (ys : List Y) → IsDistinct same (flat_map f ys)
+        → IsDistinct same (flat_map f (filter p ys))
     distinct_filtered [] d = d
     distinct_filtered (y ∷ ys) d =
         let parts = distinct_parts (f y) (flat_map f ys) d in
@@ -105,7 +109,8 @@ module _ {X : Type 0} (same : X → X → Bool) where
         (all_weaker _ _ (λ x apart. all_filtered (λ z. same x z ≡ false) ys apart) (f y) parts.2)
       where
         by : (b : Bool) → IsDistinct same (f y) → IsDistinct same (flat_map f (filter p ys))
-            → AllByRecursion (λ x. AllByRecursion (λ z. same x z ≡ false) (flat_map f (filter p ys))) (f y)
+            → AllByRecursion (λ x. AllByRecursion (λ z. same x z ≡ false)
+            (flat_map f (filter p ys))) (f y)
             → IsDistinct same (flat_map f (cond b (y ∷ filter p ys) (filter p ys)))
         by true own rest apart = distinct_joined (f y) (flat_map f (filter p ys)) own rest apart
         by false own rest apart = rest

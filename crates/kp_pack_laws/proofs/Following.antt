@@ -31,13 +31,16 @@ use Rattle.kp_pack_laws.proofs.Theorem.{name_of, ordered_differ, ordered_all, st
 
 -- ---- tests of all elements
 
-test_all : {X : Type 0} (p : X → Bool) (xs : List X) → AllByRecursion (λ x. p x ≡ true) xs → list_all p xs ≡ true
+test_all : {X : Type 0} (p : X → Bool) (xs : List X) → AllByRecursion (λ x. p x ≡ true) xs
+    → list_all p xs ≡ true
 test_all p [] all = refl
 test_all p (x ∷ xs) all = and_from (p x) (list_all p xs) all.0 (test_all p xs all.1)
 
-each_of : {X : Type 0} (p : X → Bool) (xs : List X) → list_all p xs ≡ true → AllByRecursion (λ x. p x ≡ true) xs
+each_of : {X : Type 0} (p : X → Bool) (xs : List X) → list_all p xs ≡ true
+    → AllByRecursion (λ x. p x ≡ true) xs
 each_of p [] h = tt
-each_of p (x ∷ xs) h = let parts = and_parts (p x) (list_all p xs) h in (parts.0, each_of p xs parts.1)
+each_of p (x ∷ xs) h =
+    let parts = and_parts (p x) (list_all p xs) h in (parts.0, each_of p xs parts.1)
 
 -- ---- names in order
 
@@ -48,19 +51,22 @@ module _ {K X : Type 0} (R : K → K → Ordering) (P : K → Type 0) where
   keys_put k v (e ∷ es) own all = by (R k e.0) (keys_put k v es own all.1)
     where
       by : (o : Ordering) → AllByRecursion P (map (λ e. e.0) (put R k v es))
-          → AllByRecursion P (map (λ e. e.0) (by_order o ((k, v) ∷ e ∷ es) ((e.0, v) ∷ es) (e ∷ put R k v es)))
+          → AllByRecursion P (map (λ e. e.0)
+          (by_order o ((k, v) ∷ e ∷ es) ((e.0, v) ∷ es) (e ∷ put R k v es)))
       by Less rest = (own, all)
       by Equal rest = all
       by Greater rest = (all.0, rest)
 
-  keys_in_order : (es : List (K × X)) → AllByRecursion P (map (λ e. e.0) es) → AllByRecursion P (map (λ e. e.0) (in_order R es))
+  keys_in_order : (es : List (K × X)) → AllByRecursion P (map (λ e. e.0) es)
+      → AllByRecursion P (map (λ e. e.0) (in_order R es))
   keys_in_order [] all = tt
   keys_in_order (e ∷ es) all = keys_put e.0 e.1 (in_order R es) all.0 (keys_in_order es all.1)
 
 keys_are : {K : Type 0} (ks : List K) → map {A = K × K} (λ e. e.0) (map (λ k. (k, k)) ks) ≡ ks
 keys_are {K = K} ks = mapped_twice {Y = K × K} (λ e. e.0) (λ k. (k, k)) ks ∙ same_itself ks
 
-all_distinct : {K : Type 0} (R : K → K → Ordering) (P : K → Type 0) (ks : List K) → AllByRecursion P ks
+all_distinct : {K : Type 0} (R : K → K → Ordering) (P : K → Type 0) (ks : List K)
+    → AllByRecursion P ks
     → AllByRecursion P (distinct_in_order R ks)
 all_distinct R P ks all =
     keys_in_order R P (map (λ k. (k, k)) ks) (subst (AllByRecursion P) (sym (keys_are ks)) all)
@@ -91,11 +97,13 @@ new_managed family service name m =
     (type_same family)
 
 -- what holds of a slice with whatever endpoints holds of it as it became
-stayed_all : (P : Slice → Type 0) → ((f : Filling) → P f.slice → P (filled_slice f)) → (fs : List Filling)
+stayed_all : (P : Slice → Type 0) → ((f : Filling) → P f.slice → P (filled_slice f))
+    → (fs : List Filling)
     → AllByRecursion P (slices_of fs) → AllByRecursion P (stayed fs)
 stayed_all P keeps fs all =
     all_mapped P filled_slice (filter stays fs)
-    (all_weaker _ _ keeps (filter stays fs) (all_filter (λ f. P f.slice) stays fs (all_unmapped P (λ f. f.slice) fs all)))
+    (all_weaker _ _ keeps (filter stays fs)
+    (all_filter (λ f. P f.slice) stays fs (all_unmapped P (λ f. f.slice) fs all)))
 
 -- ---- the law
 
@@ -111,11 +119,15 @@ packing_goes_on family service before wanted most taken some small managed own a
     let known = λ (name : List ℕ). list_any (bytes_eq name) (taken ++ slice_names news) ≡ true in
     let all_managed = all_joined Managed (stayed fs) news
     (stayed_all Managed (λ f h. h) fs
-    (filled_all family service before wanted most taken some small own are Managed (each_of _ before managed)))
-    (new_all family service (λ m. Unit {0}) Managed (λ name m h. new_managed family service name m) taken made (all_of _ (λ m. tt) made)) in
+    (filled_all family service before wanted most taken some small own are Managed
+    (each_of _ before managed)))
+    (new_all family service (λ m. Unit {0}) Managed
+    (λ name m h. new_managed family service name m) taken made (all_of _ (λ m. tt) made)) in
     let old_known = all_unmapped known name_of (stayed fs)
-    (all_weaker _ known (λ name h. list_any-append (bytes_eq name) taken (slice_names news) ∙ or_left _ _ h) _
-    (stayed_taken taken fs (filled_taken family service before wanted most taken some small own are))) in
+    (all_weaker _ known (λ name h. list_any-append (bytes_eq name) taken (slice_names news)
+    ∙ or_left _ _ h) _
+    (stayed_taken taken fs
+    (filled_taken family service before wanted most taken some small own are))) in
     let new_known = all_unmapped known name_of news
     (all_weaker _ known (λ name h. list_any-append (bytes_eq name) taken (slice_names news)
     ∙ or_right (list_any (bytes_eq name) taken) _ (in_names name (map name_of news) ∙ h)) _
@@ -124,9 +136,12 @@ packing_goes_on family service before wanted most taken some small managed own a
       managed = test_all _ _ (ordered_all Managed placed differ all_managed);
       names = test_from_distinct bytes_eq _ (ordered_differ placed differ);
       fresh = test_all (λ name. not (list_any (bytes_eq name) taken)) _
-          (all_distinct text_cmp _ (map name_of news) (new_names_free family service taken made few));
+          (all_distinct text_cmp _ (map name_of news)
+          (new_names_free family service taken made few));
       known = test_all (λ s. list_any (bytes_eq s.key.name) (taken ++ slice_names news)) _
-          (ordered_all (λ s. known s.key.name) placed differ (all_joined (λ s. known s.key.name) (stayed fs) news old_known new_known));
+          (ordered_all (λ s. known s.key.name) placed differ
+          (all_joined (λ s. known s.key.name) (stayed fs) news old_known new_known));
       pods = λ pods named. test_from_distinct _ _
-          (pods_once most wanted _ pods named (is_packing family service before wanted most taken some small own are));
+          (pods_once most wanted _ pods named
+          (is_packing family service before wanted most taken some small own are));
     }

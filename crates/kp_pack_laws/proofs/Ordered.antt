@@ -67,24 +67,30 @@ module _ {K X : Type 0} {R : K → K → Ordering} (total : IsTotalOrder R) wher
       let missed = λ (k : K) (apart : eq_by_cmp R e.0 k ≡ false) (is : eq_by_cmp R q k ≡ true).
       laws.congr q k e.0 is ∙ laws.symm k e.0 ∙ apart in (
         λ h. ap (λ b. cond b (Some e.1) (find R q es)) h,
-        all_weaker _ _ (λ f known is. ap (λ b. cond b (Some e.1) (find R q es)) (missed f.0 known.0 is) ∙ known.1 is) es
+        all_weaker _ _ (λ f known is. ap (λ b. cond b (Some e.1) (find R q es))
+            (missed f.0 known.0 is) ∙ known.1 is) es
             (all_both _ _ es others (each_found q es d.1)),
       )
 
-  found_alike : (q : K) (o : Option X) (es : List (K × X)) → AllByRecursion (λ e. eq_by_cmp R q e.0 ≡ true → o ≡ Some e.1) es
+  found_alike : (q : K) (o : Option X) (es : List (K × X))
+      → AllByRecursion (λ e. eq_by_cmp R q e.0 ≡ true → o ≡ Some e.1) es
       → (AllByRecursion (λ e. eq_by_cmp R q e.0 ≡ false) es → o ≡ None) → find R q es ≡ o
   found_alike q o [] all none = sym (none tt)
-  found_alike q o (e ∷ es) all none = by (eq_by_cmp R q e.0) refl (λ h. found_alike q o es all.1 (λ rest. none (h, rest)))
+  found_alike q o (e ∷ es) all none =
+      by (eq_by_cmp R q e.0) refl (λ h. found_alike q o es all.1 (λ rest. none (h, rest)))
     where
-      by : (b : Bool) → eq_by_cmp R q e.0 ≡ b → (eq_by_cmp R q e.0 ≡ false → find R q es ≡ o) → cond b (Some e.1) (find R q es) ≡ o
+      by : (b : Bool) → eq_by_cmp R q e.0 ≡ b → (eq_by_cmp R q e.0 ≡ false → find R q es ≡ o)
+          → cond b (Some e.1) (find R q es) ≡ o
       by true h rest = sym (all.0 h)
       by false h rest = rest h
 
-  find_permuted : (q : K) {es fs : List (K × X)} → IsPermutation es fs → IsDistinct (eq_by_cmp R) (map (λ e. e.0) fs)
+  find_permuted : (q : K) {es fs : List (K × X)} → IsPermutation es fs
+      → IsDistinct (eq_by_cmp R) (map (λ e. e.0) fs)
       → find R q es ≡ find R q fs
   find_permuted q {es = es} {fs = fs} same d =
       found_alike q (find R q fs) es (all_permuted _ (turned same) (each_found q fs d))
-      (λ none. not_found total (λ (v : X). v ∷ []) q fs (all_mapped _ (λ e. e.0) fs (all_permuted _ same none)))
+      (λ none. not_found total (λ (v : X). v ∷ []) q fs
+      (all_mapped _ (λ e. e.0) fs (all_permuted _ same none)))
 
   -- they have one order, whatever it was before
   pub by_key_permuted : IsAntisymmetric R → (key : X → K) {xs ys : List X} → IsPermutation xs ys
@@ -92,11 +98,15 @@ module _ {K X : Type 0} {R : K → K → Ordering} (total : IsTotalOrder R) wher
   by_key_permuted exact key {xs = xs} {ys = ys} same d =
       let named : List X → List (K × X) = λ l. map (λ x. (key x, x)) l in
       let reversed = and_then (turned (IsPermutation-reverse (named xs)))
-      (and_then (IsPermutation-map {X = K × X} (λ x. (key x, x)) xs ys same) (IsPermutation-reverse (named ys))) in
-      let differ = IsDistinct-IsPermutation (eq_by_cmp R) (eq_by_cmp_equiv total).symm (map key ys) (reverse (map key ys))
+      (and_then (IsPermutation-map {X = K × X} (λ x. (key x, x)) xs ys same)
+      (IsPermutation-reverse (named ys))) in
+      let differ =
+      IsDistinct-IsPermutation (eq_by_cmp R) (eq_by_cmp_equiv total).symm (map key ys)
+      (reverse (map key ys))
       (IsPermutation-reverse (map key ys)) d in
       same_order total exact (reverse (named xs)) (reverse (named ys))
-      (λ q. find_permuted q reversed (subst (IsDistinct (eq_by_cmp R)) (sym (keys_are total (λ (v : X). v ∷ []) key ys)) differ))
+      (λ q. find_permuted q reversed
+      (subst (IsDistinct (eq_by_cmp R)) (sym (keys_are total (λ (v : X). v ∷ []) key ys)) differ))
 
 -- with each element as a piece
 pub single : {X : Type 0} (xs : List X) → flat_map (λ x. x ∷ []) xs ≡ xs

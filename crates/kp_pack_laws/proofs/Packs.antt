@@ -79,11 +79,16 @@ groups_sorted wanted =
     (all_mapped (λ group. sorted_ports group ≡ group) (λ w. sorted_ports w.ports) wanted (all_of _ (λ w. sorted_twice w.ports) wanted))
 
 -- each wanted endpoint is in a group
-pub all_in_groups : (wanted : List Wanted) → AllByRecursion (λ w. list_any (same_ports (sorted_ports w.ports)) (groups_of wanted) ≡ true) wanted
+pub all_in_groups : (wanted : List Wanted)
+    → AllByRecursion (λ w. list_any (same_ports (sorted_ports w.ports))
+    (groups_of wanted) ≡ true) wanted
 all_in_groups wanted =
     let keys = map (λ w. sorted_ports w.ports) wanted in
     all_unmapped (λ k. list_any (same_ports k) (first_places same_ports keys) ≡ true) (λ w. sorted_ports w.ports) wanted
-    (all_weaker (λ k. list_any (same_ports k) keys ≡ true) (λ k. list_any (same_ports k) (first_places same_ports keys) ≡ true) (λ k h. first_places_find same_ports ports_equiv ports_exact k keys ∙ h) keys (each_there same_ports ports_equiv keys))
+    (all_weaker (λ k. list_any (same_ports k) keys ≡ true)
+    (λ k. list_any (same_ports k) (first_places same_ports keys) ≡ true)
+    (λ k h. first_places_find same_ports ports_equiv ports_exact k keys ∙ h) keys
+    (each_there same_ports ports_equiv keys))
 
 -- the groups have the wanted endpoints
 pub wanted_in_groups : (wanted : List Wanted) → IsPermutation (flat_map (λ group. map entry_of (filter (λ w. is_in_group group w.ports) wanted)) (groups_of wanted)) (wanted_with_ports wanted)

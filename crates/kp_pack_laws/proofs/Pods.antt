@@ -1,4 +1,4 @@
--- Pods of entries: their test is exact, and slices that have the wanted endpoints have each pod once.
+-- Pods of entries: their test is exact, and slices of the wanted endpoints have each pod once.
 use Rattle.std.proofs.Common.{◌≡◌, ℕ, Bool, true, false, ◌&&◌, List, [], ◌∷◌, map, Option, Some, None, bytes_eq, refl, sym, ap, subst, ◌∙◌, IsPermutation}
 use Rattle.std.specs.List.{flat_map, AllByRecursion, IsDistinct}
 use Rattle.std.specs.Cmp.Lexicographic.{nat_list_eq_equiv}
@@ -68,7 +68,8 @@ are_named (w ∷ ws) h =
 abbrev pub ArePodsApart : List Wanted → Type 0
 ArePodsApart ws = IsDistinct same_object (map (λ w. w.pod) ws)
 
-named_apart : (pod : Option ObjectKey) (own : ObjectKey) (ws : List Wanted) → pod ≡ Some own → AreNamed ws
+named_apart : (pod : Option ObjectKey) (own : ObjectKey) (ws : List Wanted) → pod ≡ Some own
+    → AreNamed ws
     → AllByRecursion (λ p. same_object own p ≡ false) (map (λ w. w.pod) ws)
     → AllByRecursion (λ p. same_pod pod p ≡ false) (map (λ w. w.entry.pod) ws)
 named_apart pod own [] is named apart = tt
@@ -86,14 +87,17 @@ wanted_once (w ∷ ws) named apart =
 abbrev pub pods_of : List Slice → List (Option ObjectKey)
 pods_of slices = map (λ e. e.pod) (flat_map (λ s. s.endpoints) slices)
 
-tagged_pods : (slices : List Slice) → map (λ t. t.1.pod) (entries_with_ports slices) ≡ pods_of slices
+tagged_pods : (slices : List Slice)
+    → map (λ t. t.1.pod) (entries_with_ports slices) ≡ pods_of slices
 tagged_pods slices =
     mapped_pieces (λ t. t.1.pod) (λ s. map (λ e. (sorted_ports s.ports, e)) s.endpoints) slices
     ∙ same_pieces _ (λ s. map (λ e. e.pod) s.endpoints) slices
-    (all_of _ (λ s. mapped_twice (λ t. t.1.pod) (λ e. (sorted_ports s.ports, e)) s.endpoints) slices)
+    (all_of _ (λ s. mapped_twice (λ t. t.1.pod)
+    (λ e. (sorted_ports s.ports, e)) s.endpoints) slices)
     ∙ sym (mapped_pieces (λ e. e.pod) (λ s. s.endpoints) slices)
 
-pub pods_once : (most : ℕ) (wanted : List Wanted) (slices : List Slice) → have_own_pods wanted ≡ true
+pub pods_once : (most : ℕ) (wanted : List Wanted) (slices : List Slice)
+    → have_own_pods wanted ≡ true
     → entries_name_pods wanted ≡ true → IsPackingOf most wanted slices
     → IsDistinct same_pod (pods_of slices)
 pods_once most wanted slices own named packing =

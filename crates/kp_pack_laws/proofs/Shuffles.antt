@@ -122,8 +122,10 @@ pub all_split : {X : Type 0} (P : X → Type 0) (xs ys : List X) → AllByRecurs
 all_split P [] ys all = (tt, all)
 all_split P (x ∷ xs) ys all = let parts = all_split P xs ys all.1 in ((all.0, parts.0), parts.1)
 
-pub all_permuted : {X : Type 0} (P : X → Type 0) {xs ys : List X} → IsPermutation xs ys → AllByRecursion P xs → AllByRecursion P ys
-all_permuted P same all = recursion_from_All P _ (All-permutation P _ _ same (All-from_recursion P _ all))
+pub all_permuted : {X : Type 0} (P : X → Type 0) {xs ys : List X} → IsPermutation xs ys
+    → AllByRecursion P xs → AllByRecursion P ys
+all_permuted P same all =
+    recursion_from_All P _ (All-permutation P _ _ same (All-from_recursion P _ all))
 
 pub all_mapped : {X Y : Type 0} (P : Y → Type 0) (f : X → Y) (xs : List X) → AllByRecursion (λ x. P (f x)) xs → AllByRecursion P (map f xs)
 all_mapped P f [] all = tt

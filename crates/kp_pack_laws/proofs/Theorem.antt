@@ -39,24 +39,30 @@ Differ slices = IsDistinct bytes_eq (map name_of slices)
 by_order_of_texts : (names : List (List ℕ)) → IsDistinct bytes_eq names → IsDistinct (eq_by_cmp text_cmp) names
 by_order_of_texts names d = subst (λ (same : List ℕ → List ℕ → Bool). IsDistinct same names) (λ i x y. texts_ties x y i) d
 
-pub ordered_keeps : (slices : List Slice) → Differ slices → IsPermutation (in_slice_order slices) slices
+pub ordered_keeps : (slices : List Slice) → Differ slices
+    → IsPermutation (in_slice_order slices) slices
 ordered_keeps slices d = by_key_keeps text_total name_of slices (by_order_of_texts (map name_of slices) d)
 
-pub ordered_entries : (slices : List Slice) → Differ slices → IsPermutation (entries_with_ports (in_slice_order slices)) (entries_with_ports slices)
+pub ordered_entries : (slices : List Slice) → Differ slices
+    → IsPermutation (entries_with_ports (in_slice_order slices)) (entries_with_ports slices)
 ordered_entries slices d = by_key_pieces text_total (λ s. map (λ e. (sorted_ports s.ports, e)) s.endpoints) name_of slices (by_order_of_texts (map name_of slices) d)
 
-pub ordered_all : (P : Slice → Type 0) (slices : List Slice) → Differ slices → AllByRecursion P slices → AllByRecursion P (in_slice_order slices)
+pub ordered_all : (P : Slice → Type 0) (slices : List Slice) → Differ slices
+    → AllByRecursion P slices → AllByRecursion P (in_slice_order slices)
 ordered_all P slices d all = all_permuted P (turned (ordered_keeps slices d)) all
 
 pub ordered_differ : (slices : List Slice) → Differ slices → Differ (in_slice_order slices)
 ordered_differ slices d = IsDistinct-IsPermutation bytes_eq nat_list_eq_equiv.symm _ _ (IsPermutation-map name_of _ _ (turned (ordered_keeps slices d))) d
 
 -- slices that only change their places
-pub ordered_same : (xs ys : List Slice) → IsPermutation xs ys → Differ ys → in_slice_order xs ≡ in_slice_order ys
+pub ordered_same : (xs ys : List Slice) → IsPermutation xs ys → Differ ys
+    → in_slice_order xs ≡ in_slice_order ys
 ordered_same xs ys same d =
-    ap values_of (by_key_permuted text_total text_exact name_of same (by_order_of_texts (map name_of ys) d))
+    ap values_of (by_key_permuted text_total text_exact name_of same
+    (by_order_of_texts (map name_of ys) d))
 
-pub ordered_twice : (slices : List Slice) → Differ slices → in_slice_order (in_slice_order slices) ≡ in_slice_order slices
+pub ordered_twice : (slices : List Slice) → Differ slices
+    → in_slice_order (in_slice_order slices) ≡ in_slice_order slices
 ordered_twice slices d = ordered_same (in_slice_order slices) slices (ordered_keeps slices d) d
 
 -- ---- slices that stay
@@ -101,11 +107,14 @@ stayed_sizes most fs le =
 
 -- ---- names
 
-pub taken_each : (taken : List (List ℕ)) (slices : List Slice) → are_taken taken slices ≡ true → AllByRecursion (λ s. list_any (bytes_eq s.key.name) taken ≡ true) slices
+pub taken_each : (taken : List (List ℕ)) (slices : List Slice) → are_taken taken slices ≡ true
+    → AllByRecursion (λ s. list_any (bytes_eq s.key.name) taken ≡ true) slices
 taken_each taken [] h = tt
 taken_each taken (s ∷ slices) h = let p = and_parts (list_any (bytes_eq s.key.name) taken) (are_taken taken slices) h in (p.0, taken_each taken slices p.1)
 
-pub stayed_taken : (taken : List (List ℕ)) (fs : List Filling) → AllByRecursion (λ s. list_any (bytes_eq s.key.name) taken ≡ true) (slices_of fs) → AllByRecursion (λ name. list_any (bytes_eq name) taken ≡ true) (map name_of (stayed fs))
+pub stayed_taken : (taken : List (List ℕ)) (fs : List Filling)
+    → AllByRecursion (λ s. list_any (bytes_eq s.key.name) taken ≡ true) (slices_of fs)
+    → AllByRecursion (λ name. list_any (bytes_eq name) taken ≡ true) (map name_of (stayed fs))
 stayed_taken taken fs all =
     let T = λ (name : List ℕ). list_any (bytes_eq name) taken ≡ true in
     subst (AllByRecursion T) (sym (stayed_names fs))
@@ -162,8 +171,8 @@ module _ (family : Family) (service : ObjectKey) (taken : List (List ℕ)) where
 
 -- ---- the slices after packing
 
-module _ (family : Family) (service : ObjectKey) (before : List Slice) (wanted : List Wanted) (most : ℕ)
-    (taken : List (List ℕ)) where
+module _ (family : Family) (service : ObjectKey) (before : List Slice) (wanted : List Wanted)
+    (most : ℕ) (taken : List (List ℕ)) where
   -- what all groups became
   abbrev pub packs : List Packing
   packs = pack_groups most (in_slice_order before) wanted
@@ -172,7 +181,8 @@ module _ (family : Family) (service : ObjectKey) (before : List Slice) (wanted :
   abbrev pub placed_slices : List Slice
   placed_slices = all_slices family service taken (all_fillings packs) (all_made packs)
 
-  module _ (some : 1 ≤ most) (small : length taken + length wanted < 10 ^ 64) (own : have_own_names before ≡ true)
+  module _ (some : 1 ≤ most) (small : length taken + length wanted < 10 ^ 64)
+      (own : have_own_names before ≡ true)
       (are : are_taken taken before ≡ true) where
     pub few_made : length taken + length (all_made packs) < 10 ^ 64
     few_made = omega (arith, small, made_few most some (in_slice_order before) wanted)
@@ -180,22 +190,30 @@ module _ (family : Family) (service : ObjectKey) (before : List Slice) (wanted :
     before_differ : Differ before
     before_differ = distinct_from_test bytes_eq (map name_of before) own
 
-    pub filled_all : (P : Slice → Type 0) → AllByRecursion P before → AllByRecursion P (slices_of (all_fillings packs))
-    filled_all P all = packed_all most some (in_slice_order before) wanted P (ordered_all P before before_differ all)
+    pub filled_all : (P : Slice → Type 0) → AllByRecursion P before
+        → AllByRecursion P (slices_of (all_fillings packs))
+    filled_all P all =
+        packed_all most some (in_slice_order before) wanted P
+        (ordered_all P before before_differ all)
 
-    pub filled_taken : AllByRecursion (λ s. list_any (bytes_eq s.key.name) taken ≡ true) (slices_of (all_fillings packs))
+    pub filled_taken : AllByRecursion (λ s. list_any (bytes_eq s.key.name) taken ≡ true)
+        (slices_of (all_fillings packs))
     filled_taken = filled_all _ (taken_each taken before are)
 
     filled_differ : Differ (slices_of (all_fillings packs))
-    filled_differ = packed_differ most some (in_slice_order before) wanted (ordered_differ before before_differ)
+    filled_differ =
+        packed_differ most some (in_slice_order before) wanted (ordered_differ before before_differ)
 
     pub placed_differ : Differ placed_slices
     placed_differ =
-        all_differ family service taken (all_fillings packs) (all_made packs) few_made filled_differ filled_taken
+        all_differ family service taken (all_fillings packs)
+        (all_made packs) few_made filled_differ filled_taken
 
-    pub is_packing : IsPackingOf most wanted (packed_slices family service before wanted most taken).slices
+    pub is_packing : IsPackingOf most wanted
+        (packed_slices family service before wanted most taken).slices
     is_packing =
-        packing_of family service taken most wanted (all_fillings packs) (all_made packs) few_made filled_differ
+        packing_of family service taken most wanted (all_fillings packs)
+        (all_made packs) few_made filled_differ
         filled_taken (packed_within most some (in_slice_order before) wanted)
         (made_within most some (in_slice_order before) wanted)
         (packed_entries most some (in_slice_order before) wanted)

@@ -1,4 +1,4 @@
-//! The laws of packing endpoints into slices, for all slices and all endpoints that are wanted. Each is the
+//! The laws of packing endpoints into slices, for all slices and all wanted endpoints. Each is the
 //! contract of a function that does nothing.
 #![tactic(auto)]
 
