@@ -11,3 +11,4 @@ pub mod Packing
 pub mod Chains
 pub mod Walks
 pub mod Events
+pub mod Families
