@@ -11,7 +11,7 @@ use Rattle.kp_base.specs.Keys.{port_key_cmp}
 use Rattle.kp_base.specs.Net.{AddressParts}
 use Rattle.kp_base.specs.declared.address.Family.{Family}
 use Rattle.kp_base.specs.declared.key.PortKey.{PortKey}
-use Rattle.kp_base.specs.declared.config.Config.{Config}
+use Rattle.kp_types.specs.Setting.{FamilyConfig}
 use Rattle.kp_types.specs.declared.info.ServiceSources.{ServiceSources}
 use Rattle.kp_types.specs.declared.lists.Candidate.{Candidate}
 use Rattle.kp_types.specs.declared.service.Service.{Service}
@@ -115,7 +115,7 @@ service_by true x y h = h
 service_by false x y h = refl
 
 -- what a Service's endpoints are taken from tells the Service
-sources_service : (family : Family) (config : Config) (o : Objects) (s : Service) → (sources_of family config o s).service ≡ s
+sources_service : (family : Family) (config : FamilyConfig) (o : Objects) (s : Service) → (sources_of family config o s).service ≡ s
 sources_service family config o s = service_by (is_reconciled config s) _ _ refl
 
 -- a port of a plain Service
@@ -124,7 +124,7 @@ of_plain : (sources : ServiceSources) (p : ServicePort) (named entry : PortKey �
 of_plain sources p named entry own sp of name same is plain =
     subst (λ (q : ServiceSources × ServicePort). IsPlainService q.0.service) (of ∙ ap (λ (e : PortKey × (ServiceSources × ServicePort)). e.1) name ∙ same ∙ is) plain
 
-module _ (family : Family) (config : Config) (o : Objects) (plain : (s : Service) → Contains (values o.services) s → IsPlainService s) where
+module _ (family : Family) (config : FamilyConfig) (o : Objects) (plain : (s : Service) → Contains (values o.services) s → IsPlainService s) where
   plain_sources : (sources : ServiceSources) → Contains (map (sources_of family config o) (values o.services)) sources → IsPlainService sources.service
   plain_sources sources c =
       let (s, in_values, from) = from_map (sources_of family config o) sources (values o.services) c in

@@ -5,7 +5,7 @@ use Rattle.kp_walk_laws.proofs.PortLookups.{finds_port}
 use Rattle.kp_walk_laws.proofs.Decides.{walk_agrees}
 
 pub walk_decides_by : WalkDecides
-walk_decides_by name_of config infos packet draws lists plain apart =
-    let same = walk_agrees name_of config infos packet draws lists (look_up name_of config infos) (finds_nat name_of config infos) (finds_filter name_of config infos)
-    (λ i c. (plain i c, finds_port name_of config infos plain apart i c)) in
+walk_decides_by setting infos packet draws lists by_draws plain apart =
+    let same = walk_agrees setting infos packet draws lists (look_up setting infos) by_draws (finds_nat setting infos) (finds_filter setting infos)
+    (λ i c. (plain i c, finds_port setting infos plain apart i c)) in
     record { verdict = same.0; lists = same.1 }

@@ -7,8 +7,8 @@ use Rattle.kp_base.specs.declared.key.PortKey.{PortKey}
 use Rattle.kp_base.specs.declared.key.Endpoint.{Endpoint}
 use Rattle.kp_base.specs.declared.address.Family.{Family}
 use Rattle.kp_base.specs.declared.address.Family.TheVariants.{V4}
-use Rattle.kp_base.specs.declared.config.Config.{Config}
 use Rattle.kp_types.specs.Chains.{is_chain_name}
+use Rattle.kp_types.specs.Setting.{FamilyConfig, Naming, Setting}
 use Rattle.kp_types.specs.declared.chain.ChainKey.{ChainKey}
 use Rattle.kp_types.specs.declared.chain.ChainKey.TheVariants as key
 use Rattle.kp_types.specs.declared.chain.TableName.{TableName}
@@ -20,11 +20,12 @@ use Rattle.kp_types.specs.declared.service.ServiceKind.TheVariants.{ClusterIp}
 use Rattle.kp_types.specs.declared.service.Policy.TheVariants.{Cluster}
 use Rattle.kp_choice_defs.specs.Names.{port_chain_prefix}
 use Rattle.kp_choice_defs.specs.Recent.{RecentParts}
+use Rattle.kp_choice_defs.specs.Settings.{pick_by_draws}
 use Rattle.kp_object_defs.specs.Desired.{is_empty}
 use Rattle.kp_object_defs.specs.Objects.{Objects}
 use Rattle.kp_object_defs.specs.PortInfo.{PortInfo, port_infos}
 use Rattle.kp_door_defs.specs.Decision.{Decided, decision_from}
-use Rattle.kp_table_defs.specs.Layout.{Naming, mark_masq, kube_services, kube_node_ports, kube_postrouting, kube_external_services, kube_forward, kube_proxy_firewall}
+use Rattle.kp_table_defs.specs.Layout.{mark_masq, kube_services, kube_node_ports, kube_postrouting, kube_external_services, kube_forward, kube_proxy_firewall}
 use Rattle.kp_table_defs.specs.Plain.{HasNoRecent}
 use Rattle.kp_table_defs.specs.Ranks.{built_in_chains, is_ranked}
 use Rattle.kp_table_defs.specs.StandIn.{stand_in_name}
@@ -77,10 +78,10 @@ pub record Agree (w : Walked) (d : Decided) : Type 0 where
 -- Walking the full table decides each packet as the objects do.
 abbrev pub WalkDecides : Type 0
 WalkDecides =
-    (name_of : Naming) (config : Config) (infos : List PortInfo) (packet : Packet) (draws : ℕ → ℕ) (lists : RecentParts)
-    → ((i : PortInfo) → Contains infos i → IsClusterOnly i) → AreApart name_of infos
-    → Agree (walk_of (λ q. get (full_chains V4 name_of config infos) q) config.addresses packet draws lists)
-    (decision_from name_of config infos packet draws lists)
+    (setting : Setting) (infos : List PortInfo) (packet : Packet) (draws : ℕ → ℕ) (lists : RecentParts)
+    → setting.pick ≡ pick_by_draws → ((i : PortInfo) → Contains infos i → IsClusterOnly i) → AreApart setting.name_of infos
+    → Agree (walk_of (λ q. get (full_chains setting infos) q) setting.config.addresses packet draws lists)
+    (decision_from setting infos packet draws lists)
 
 -- an endpoint of IPv4, whose numbers are those that an address and a port may have
 pub record IsSmall (f : Endpoint) : Type 0 where
@@ -101,8 +102,8 @@ StandInNames = (k : ChainKey) → is_chain_name (stand_in_name k) ≡ true
 -- Without session affinity no rule of the full table asks or changes a recent list.
 abbrev pub FullTablePlain : Type 0
 FullTablePlain =
-    (name_of : Naming) (config : Config) (infos : List PortInfo) → ((i : PortInfo) → Contains infos i → i.affinity ≡ None)
-    → HasNoRecent (λ q. get (full_chains V4 name_of config infos) q)
+    (setting : Setting) (infos : List PortInfo) → ((i : PortInfo) → Contains infos i → i.affinity ≡ None)
+    → HasNoRecent (λ q. get (full_chains setting infos) q)
 
 -- a Service of type ClusterIP with no external address, source range or session affinity, whose traffic
 -- policies are Cluster
@@ -117,7 +118,7 @@ pub record IsPlainService (s : Service) : Type 0 where
 -- The ports of such Services answer at their cluster addresses alone.
 abbrev pub PlainPorts : Type 0
 PlainPorts =
-    (family : Family) (config : Config) (o : Objects) → ((s : Service) → Contains (values o.services) s → IsPlainService s)
+    (family : Family) (config : FamilyConfig) (o : Objects) → ((s : Service) → Contains (values o.services) s → IsPlainService s)
     → (i : PortInfo) → Contains (port_infos family config o) i → IsClusterOnly i
 
 -- the names of the chains of ports and endpoints begin as kube-proxy's do
@@ -136,5 +137,5 @@ pub record IsSound (chains : Chains) : Type 0 where
 
 abbrev pub FullTableRanked : Type 0
 FullTableRanked =
-    (name_of : Naming) (config : Config) (infos : List PortInfo) → ((i : PortInfo) → Contains infos i → IsClusterOnly i)
-    → AreApart name_of infos → IsPrefixed name_of → IsSound (full_chains V4 name_of config infos)
+    (setting : Setting) (infos : List PortInfo) → ((i : PortInfo) → Contains infos i → IsClusterOnly i)
+    → AreApart setting.name_of infos → IsPrefixed setting.name_of → IsSound (full_chains setting infos)
