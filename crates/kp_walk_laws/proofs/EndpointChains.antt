@@ -1,6 +1,6 @@
 -- What the chain of an endpoint does: it marks a packet that comes from the endpoint itself, and translates.
 use Rattle.std.proofs.Common.{◌≡◌, ℕ, suc, Bool, true, false, List, [], ◌∷◌, Option, Some, None, refl, ap, ◌∙◌}
-use Rattle.kp_base.specs.Net.{AddressParts, same_address, single_range}
+use Rattle.kp_base.specs.Net.{same_address, single_range}
 use Rattle.kp_base.specs.declared.key.Endpoint.{Endpoint}
 use Rattle.kp_types.specs.Setting.{Setting}
 use Rattle.kp_types.specs.Rules.{rule_of}

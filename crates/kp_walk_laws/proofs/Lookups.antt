@@ -1,13 +1,15 @@
 -- What a look-up finds in the full table.
-use Rattle.std.proofs.Common.{◌≡◌, suc, zero, Bool, true, false, cond, List, [], ◌∷◌, ◌++◌, Contains, Option, Some, bytes_eq, codes, flat_map, refl, sym, ap, ap₂, ◌∙◌, arith, true≢false, le_of_suc-le-suc}
+use Rattle.std.proofs.Common.{◌≡◌, suc, zero, Bool, true, false, cond, List, [], ◌∷◌, ◌++◌, Contains, Option, Some, bytes_eq, codes, flat_map, is_some, map, refl, sym, ap, ap₂, ◌∙◌, arith, true≢false, le_of_suc-le-suc}
 use Rattle.std.specs.declared.cmp.Ordering.{Ordering}
 use Rattle.std.specs.declared.cmp.Ordering.TheVariants.{Less, Equal, Greater}
 use Rattle.std.specs.Ordering.{nat_cmp, eq_by_cmp, is_eq, ordering_then}
 use Rattle.std.specs.Cmp.{eq_by_cmp_equiv}
 use Rattle.std.specs.Cmp.Lexicographic.{texts_ties}
 use Rattle.std.specs.FinMap.{find, get, get-from_entries}
+use Rattle.std.specs.FinMap.Entries.{is_some-find}
 use Rattle.std.specs.List.{list_any}
 use Rattle.std.proofs.lemmas.Bool.{or_parts}
+use Rattle.std.proofs.lemmas.Map.Views.{list_any-from_Contains}
 use Rattle.kp_base.specs.Keys.{text_cmp}
 use Rattle.kp_base.specs.declared.address.Family.{Family}
 use Rattle.kp_base.specs.declared.address.Family.TheVariants.{V4, V6}
@@ -24,6 +26,7 @@ use Rattle.kp_types.specs.declared.rule.Target.TheVariants as target
 use Rattle.kp_object_defs.specs.PortInfo.{PortInfo}
 use Rattle.kp_table_defs.specs.Layout.{row, jump_to, own_addresses, mark_masq, kube_postrouting, kube_node_ports, kube_services, kube_forward, kube_proxy_firewall, kube_external_services, service_block, node_port_block, firewall_block, external_block, refusal_block, nat_rows_with, filter_rows_with, port_rows, rows_of}
 use Rattle.kp_table_defs.specs.Rebuild.{full_chains}
+use Rattle.kp_walk_laws.proofs.Members.{in_map}
 use Rattle.kp_walk_laws.proofs.Outcomes.{first_in, later_in}
 use Rattle.kp_walk_laws.proofs.FirstHook.{FindsNat}
 use Rattle.kp_walk_laws.proofs.FilterChains.{FindsFilter}
@@ -143,6 +146,13 @@ module _ (setting : Setting) (infos : List PortInfo) where
 
   pub in_rows : (q : ChainAt) → look_up q ≡ find chain_cmp q (fixed_nat ++ fixed_filter ++ flat_map (port_rows setting) infos)
   in_rows q = get-from_entries chain_total (rows_of setting infos) q ∙ ap (find chain_cmp q) rows_written
+
+  -- a look-up of a place that has a row finds rules
+  pub is_found : (q : ChainAt) (rules : List Rule) → Contains (rows_of setting infos) (q, rules) → is_some (look_up q) ≡ true
+  is_found q rules c =
+      ap is_some (get-from_entries chain_total (rows_of setting infos) q)
+      ∙ is_some-find chain_cmp q (rows_of setting infos)
+      ∙ list_any-from_Contains (eq_by_cmp_equiv chain_total) q (map (λ r. r.0) (rows_of setting infos)) (in_map (λ r. r.0) (q, rules) (rows_of setting infos) c)
 
   -- the shared chains of nat are found
   pub finds_nat : FindsNat setting infos look_up

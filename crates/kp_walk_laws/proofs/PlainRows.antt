@@ -13,7 +13,6 @@ use Rattle.kp_types.specs.Places.{chain_cmp}
 use Rattle.kp_types.proofs.ChainOrder.{chain_total}
 use Rattle.kp_types.specs.Rules.{rule_of}
 use Rattle.kp_types.specs.declared.chain.ChainAt.{ChainAt}
-use Rattle.kp_types.specs.declared.chain.TableName.TheVariants.{Nat}
 use Rattle.kp_types.specs.declared.chain.PortChain.TheVariants.{Svc, Svl, Ext, Fw}
 use Rattle.kp_types.specs.declared.rule.Rule.{Rule}
 use Rattle.kp_types.specs.declared.rule.Match.TheVariants as match

@@ -4,7 +4,6 @@ use Rattle.kp_base.specs.Net.{AddressParts}
 use Rattle.kp_base.specs.declared.key.Endpoint.{Endpoint}
 use Rattle.kp_base.specs.declared.key.PortKey.{PortKey}
 use Rattle.kp_types.specs.Setting.{FamilyConfig, Pick, Setting}
-use Rattle.kp_types.specs.declared.chain.PortChain.TheVariants.{Svc}
 use Rattle.kp_types.specs.declared.packet.Packet.{Packet}
 use Rattle.kp_types.specs.declared.walk.Ending.TheVariants as ending
 use Rattle.kp_choice_defs.specs.Draws.{draw_at, draw_matches, probability_of, selected_index}
@@ -15,7 +14,7 @@ use Rattle.kp_door_defs.specs.Choice.{Chosen, chosen_endpoint, drawn_as, drawn_a
 use Rattle.kp_door_defs.specs.Decision.{Translation, translation_at, choice_at}
 use Rattle.kp_door_defs.specs.Doors.{Door, offer_of}
 use Rattle.kp_door_defs.specs.Marks.{is_marked}
-use Rattle.kp_table_defs.specs.Layout.{port_chain, endpoint_chain}
+use Rattle.kp_table_defs.specs.Layout.{port_chain, endpoint_chain, chain_of_policy}
 use Rattle.kp_table_defs.specs.Matching.{WalkState, Surroundings}
 use Rattle.kp_table_defs.specs.Walk.{Outcome}
 use Rattle.kp_table_defs.specs.Walk.Outcome.{Ended, Stuck}
@@ -91,7 +90,7 @@ abbrev pub translating : Setting → Surroundings → WalkState → Option Trans
 translating setting e s None = Stuck
 translating setting e s (Some t) =
     Ended (ending.Dnat t.chosen.endpoint)
-    (port_chain setting t.door.info Svc ∷ endpoint_chain setting t.door.info t.chosen.endpoint ∷ [])
+    (port_chain setting t.door.info (chain_of_policy t.door.info.internal) ∷ endpoint_chain setting t.door.info t.chosen.endpoint ∷ [])
     (translated_state setting.config e s t)
 
 -- what a door does that takes a packet
