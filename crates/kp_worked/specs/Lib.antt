@@ -12,3 +12,4 @@ pub mod Chains
 pub mod Walks
 pub mod Events
 pub mod SourceRanges
+pub mod Families

@@ -8,6 +8,7 @@ ghost use Rattle.kp_worked.specs.Choices as choices;
 ghost use Rattle.kp_worked.specs.Counts as counts;
 ghost use Rattle.kp_worked.specs.Events as events;
 ghost use Rattle.kp_worked.specs.Decisions as decisions;
+ghost use Rattle.kp_worked.specs.Families as families;
 ghost use Rattle.kp_worked.specs.Lists as lists;
 ghost use Rattle.kp_worked.specs.Masquerades as masquerades;
 ghost use Rattle.kp_worked.specs.Names as names;
@@ -132,6 +133,15 @@ pub fn worked_masquerades()
     ensures node_port { masquerades.ThroughNodePort }
     ensures local { masquerades.LocalKeepsSource }
     ensures node { masquerades.ToNode }
+{}
+
+/// The configuration as a family sees it.
+pub fn worked_families()
+    ensures own { families.OwnRange }
+    ensures other { families.OtherRange }
+    ensures addresses { families.AllAddresses }
+    ensures source { families.KeepsSource }
+    ensures mark { families.NoMark }
 {}
 
 /// Probabilities and draws.
