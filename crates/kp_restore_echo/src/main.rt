@@ -1,5 +1,5 @@
-//! Reads a table as `iptables-restore` takes it, and prints it again. A text that isn't a table's ends with status 1,
-//! and its first bad line is told.
+//! Reads a table as `iptables-restore` takes it, and prints it again. A text that isn't a table's
+//! ends with status 1, and its first bad line is told.
 #![tactic(auto)]
 
 use kp_restore::{TextFault, read_table, table_text};
