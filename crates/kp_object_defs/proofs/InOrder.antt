@@ -11,15 +11,12 @@ use Rattle.std.specs.BTreeMap.{insert_entry, is_at}
 use Rattle.std.specs.Map.{lookup}
 use Rattle.std.specs.Map.Iter.{deref_pair}
 use Rattle.std.proofs.lemmas.List.{map-append, reverse-append, take_more}
+use Rattle.kp_lemmas.proofs.Booleans.{true_from_fact}
 use Rattle.kp_object_defs.specs.Order.{in_order, by_key}
 
 -- a test that holds, as a fact
 holds : {b : Bool} → b ≡ true → T b
 holds e = subst T (sym e) tt
-
-is_true : (b : Bool) → T b → b ≡ true
-is_true true h = refl
-is_true false h = absurd h
 
 -- the first answer, or else the second
 abbrev pub first_some : {X : Type 0} → Option X → Option X → Option X
@@ -121,7 +118,7 @@ module _ {K X : Type 0} {R : K → K → Ordering} (total : IsTotalOrder R) wher
   -- entries in order are sorted
   pub sorted-in_order : (es : List (K × X)) → is_sorted R (in_order R es) ≡ true
   sorted-in_order [] = refl
-  sorted-in_order (e ∷ es) = is_true _ (is_sorted-put R total e.0 e.1 (in_order R es) (holds (sorted-in_order es)))
+  sorted-in_order (e ∷ es) = true_from_fact _ (is_sorted-put R total e.0 e.1 (in_order R es) (holds (sorted-in_order es)))
 
   -- entries that answer alike have one order
   pub same_order : IsAntisymmetric R → (es fs : List (K × X)) → ((q : K) → find R q es ≡ find R q fs) → in_order R es ≡ in_order R fs
