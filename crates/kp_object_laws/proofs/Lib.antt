@@ -1,7 +1,7 @@
 pub mod Lists
-mod Members
 pub mod OwnEntries
 mod OwnKeys
 mod PortByKey
-mod Usable
+mod SameElements
+pub mod Usable
 pub mod Wanted
