@@ -22,10 +22,12 @@ use Rattle.kp_choice_defs.specs.Recent.{RecentParts}
 use Rattle.kp_choice_defs.specs.Settings.{setting_of}
 use Rattle.kp_object_defs.specs.Desired.{is_empty}
 use Rattle.kp_object_defs.specs.PortInfo.{PortInfo}
+use Rattle.kp_door_defs.specs.Decision.{decision_from}
 use Rattle.kp_table_defs.specs.Layout.{rows_of}
-use Rattle.kp_table_defs.specs.Rebuild.{needed_keys}
+use Rattle.kp_table_defs.specs.Rebuild.{full_chains, needed_keys}
 use Rattle.kp_table_defs.specs.StandIn.{stand_in_setting}
 use Rattle.kp_table_defs.specs.Walk.{walk_of}
+use Rattle.kp_walk_laws.specs.Laws.{Agree}
 
 -- the address 10.0.0.0 + n
 abbrev pub host : ℕ → AddressParts
@@ -156,6 +158,13 @@ FirstOfTwo = verdict_in prefixes two_ports (packet_to 1 (pod 5) Tcp) [] ≡ To (
 -- and the other one rejects
 abbrev pub SecondOfTwo : Type 0
 SecondOfTwo = verdict_in prefixes two_ports (packet_to 2 (pod 5) Tcp) [] ≡ Rejected
+
+-- and so each packet is decided as the objects do
+abbrev pub TwoDecided : Type 0
+TwoDecided =
+    (packet : Packet) (draws : ℕ → ℕ) (lists : RecentParts)
+    → Agree (walk_of (λ q. map.get (full_chains prefixes two_ports) q) config.addresses packet draws lists)
+    (decision_from prefixes two_ports packet draws lists)
 
 -- With endpoints behind both, the lists clash.
 abbrev pub TwoClashed : Type 0

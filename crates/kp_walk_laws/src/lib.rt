@@ -3,7 +3,7 @@
 #![tactic(auto)]
 
 ghost use Rattle.kp_walk_laws.specs.Laws.{WalkDecides, WalkDecidesObjects, PortKeysOnce, StandInApart, StandInNames, FullTablePlain, FullTableRanked, StandInPrefixed, HashedPrefixed, PlainPorts};
-ghost use Rattle.kp_walk_laws.specs.Rows.{OneEndpoint, FirstOfThree, SecondOfThree, ThirdOfThree, ToItself, FromOutside, NoEndpoints, OtherProtocol, TwoUnclashed, FirstOfTwo, SecondOfTwo, TwoClashed};
+ghost use Rattle.kp_walk_laws.specs.Rows.{OneEndpoint, FirstOfThree, SecondOfThree, ThirdOfThree, ToItself, FromOutside, NoEndpoints, OtherProtocol, TwoUnclashed, FirstOfTwo, SecondOfTwo, TwoDecided, TwoClashed};
 
 /// Walking the full table of Service ports that answer at their cluster address alone gives each packet
 /// the verdict that the objects give it, and leaves the recent lists that they leave, where no two chains that
@@ -75,9 +75,11 @@ pub fn worked_walks()
 {}
 
 /// Walks over two Services, one of them without endpoints, whose chains have prefixes for names.
+#[tactic(auto, using(crate::proofs::TwoPorts::two_decided_by))]
 pub fn worked_prefixes()
     ensures unclashed { TwoUnclashed }
     ensures first { FirstOfTwo }
     ensures second { SecondOfTwo }
+    ensures decided { TwoDecided }
     ensures clashed { TwoClashed }
 {}
