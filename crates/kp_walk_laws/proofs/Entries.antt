@@ -65,13 +65,13 @@ module _ {K X : Type 0} {R : K → K → Ordering} (total : IsTotalOrder R) wher
       let parts = both_facts (below_all R g.0 es) (is_sorted R es) h in
       elim (in_cases e g es ce) [
         | inl d ↦ elim (in_cases f g es cf) [
-            | inl t ↦ sym d ∙ t
-            | inr c ↦ absurd (not_below total g.0 f.0 (ap (λ (p : K × X). p.0) d ∙ same) (below_less g.0 es f parts.0 c))
-          ]
+          | inl t ↦ sym d ∙ t
+          | inr c ↦ absurd (not_below total g.0 f.0 (ap (λ (p : K × X). p.0) d ∙ same) (below_less g.0 es f parts.0 c))
+        ]
         | inr c ↦ elim (in_cases f g es cf) [
-            | inl t ↦ absurd (not_below total g.0 e.0 (ap (λ (p : K × X). p.0) t ∙ sym same) (below_less g.0 es e parts.0 c))
-            | inr d ↦ one_sorted es parts.1 e f c d same
-          ]
+          | inl t ↦ absurd (not_below total g.0 e.0 (ap (λ (p : K × X). p.0) t ∙ sym same) (below_less g.0 es e parts.0 c))
+          | inr d ↦ one_sorted es parts.1 e f c d same
+        ]
       ]
 
   -- entries in order have each key once

@@ -157,13 +157,13 @@ module _ (name : ChainKey → List ℕ) where
       let parts = no_clash_parts name k (find (is_clash name k) ks) (first_clash name ks) h in
       elim (in_cases a k ks ca) [
         | inl e ↦ elim (in_cases b k ks cb) [
-            | inl f ↦ sym e ∙ f
-            | inr d ↦ sym e ∙ no_clash_behind k b (not_found (is_clash name k) ks parts.0 b d) (ap name e ∙ same)
-          ]
+          | inl f ↦ sym e ∙ f
+          | inr d ↦ sym e ∙ no_clash_behind k b (not_found (is_clash name k) ks parts.0 b d) (ap name e ∙ same)
+        ]
         | inr c ↦ elim (in_cases b k ks cb) [
-            | inl f ↦ sym (no_clash_behind k a (not_found (is_clash name k) ks parts.0 a c) (ap name f ∙ sym same)) ∙ f
-            | inr d ↦ one_of_name ks parts.1 a b c d same
-          ]
+          | inl f ↦ sym (no_clash_behind k a (not_found (is_clash name k) ks parts.0 a c) (ap name f ∙ sym same)) ∙ f
+          | inr d ↦ one_of_name ks parts.1 a b c d same
+        ]
       ]
 
   no_clash_ahead : (k b : ChainKey) → (name k ≡ name b → k ≡ b) → (named : Bool) → bytes_eq (name k) (name b) ≡ named → is_clash name k b ≡ false

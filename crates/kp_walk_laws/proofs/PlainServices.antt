@@ -77,7 +77,7 @@ module _ (services : List ServiceSources) where
   port_entry sp c =
       let (entry, in_entries, is) = from_map (λ (e : PortKey × (ServiceSources × ServicePort)). e.1) sp (in_order port_key_cmp (reverse named_ports)) c in
       let in_named : Contains named_ports entry = Contains-permutation (reverse named_ports) named_ports entry (IsPermutation-sym _ _ (IsPermutation-reverse named_ports))
-          (from_in_order port_key_cmp port_key_exact (reverse named_ports) entry in_entries) in
+      (from_in_order port_key_cmp port_key_exact (reverse named_ports) entry in_entries) in
       let (own, in_ports, name) = from_map (λ q. (name_of_port q, q)) entry ports in_named in
       let same : own ≡ sp = ap (λ (e : PortKey × (ServiceSources × ServicePort)). e.1) name ∙ is in (
         subst (Contains (in_order port_key_cmp (reverse named_ports))) (sym name ∙ ap (λ q. (name_of_port q, q)) same) in_entries,
@@ -110,7 +110,7 @@ module _ (family : Family) (config : FamilyConfig) (o : Objects) where
       let (tp, in_others, made_too) = info_port j cj in
       let name : name_of_port sp ≡ name_of_port tp = ap (λ (k : PortInfo). k.key) (info_made i sp made).1 ∙ same ∙ ap (λ (k : PortInfo). k.key) (sym (info_made j tp made_too).1) in
       let one : (name_of_port sp, sp) ≡ (name_of_port tp, tp) = one_entry port_key_total (reverse (named_ports services)) (name_of_port sp, sp) (name_of_port tp, tp)
-          (port_entry services sp in_ports).0 (port_entry services tp in_others).0 name in
+      (port_entry services sp in_ports).0 (port_entry services tp in_others).0 name in
       same_Some i j (sym made ∙ ap (λ (e : PortKey × (ServiceSources × ServicePort)). info_of family config.node zone e.1) one ∙ made_too)
 
   module _ (plain : (s : Service) → Contains (values o.services) s → IsPlainService s) where

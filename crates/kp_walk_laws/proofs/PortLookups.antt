@@ -60,9 +60,9 @@ module _ (f : PortChain → List ChainKey) (k : ChainKey) where
       elim (Contains-append_cases (f Svc ++ f Svl ++ f Ext) (f Fw) k c) [
         | inr d ↦ (Fw, d)
         | inl three ↦ elim (Contains-append_cases (f Svc ++ f Svl) (f Ext) k three) [
-            | inr d ↦ (Ext, d)
-            | inl two ↦ elim (Contains-append_cases (f Svc) (f Svl) k two) [ inr d ↦ (Svl, d) | inl d ↦ (Svc, d) ]
-          ]
+          | inr d ↦ (Ext, d)
+          | inl two ↦ elim (Contains-append_cases (f Svc) (f Svl) k two) [ inr d ↦ (Svl, d) | inl d ↦ (Svc, d) ]
+        ]
       ]
 
 -- a key under a condition
@@ -299,7 +299,7 @@ module _ (setting : Setting) (infos : List PortInfo) (prefixed : IsPrefixed sett
         let (j, cj, in_j) = from_flat_map (port_rows setting) r infos d in
         let (l, cl, is) = row_key setting j r in_j in
         let one : l ≡ k = one_of_name setting.name_of (needed_keys infos) apart l k (own_needed infos j cj l cl) (own_needed infos i c k ck)
-            (ap (λ (s : Row). s.0.chain) is ∙ ap (λ (q : ChainAt). q.chain) same) in
+        (ap (λ (s : Row). s.0.chain) is ∙ ap (λ (q : ChainAt). q.chain) same) in
         let port : j ≡ i = own j i cj c (sym (key_port j l cl) ∙ ap port_of one ∙ key_port i k ck) in
         ap (λ (s : Row). s.1) (sym is) ∙ ap₂ (λ p m. key_rules setting p m) port one
 

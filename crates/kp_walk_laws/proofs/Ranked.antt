@@ -138,8 +138,8 @@ module _ (setting : Setting) (infos : List PortInfo) (prefixed : IsPrefixed sett
   goes i c k ck rank above =
       let q : ChainAt = record { table = Nat; chain = setting.name_of k } in
       let stands : Contains (rows_of setting infos) (row_of setting i k) =
-          Contains-append_right (nat_rows setting infos ++ filter_rows setting.family infos) (flat_map (port_rows setting) infos) (row_of setting i k)
-          (in_flat_map (port_rows setting) i (row_of setting i k) infos c (row_stands setting i k ck)) in
+      Contains-append_right (nat_rows setting infos ++ filter_rows setting.family infos) (flat_map (port_rows setting) infos) (row_of setting i k)
+      (in_flat_map (port_rows setting) i (row_of setting i k) infos c (row_stands setting i k ck)) in
       jump_on table Nat rank (key_rank k) (setting.name_of k) (is_found setting infos q (key_rules setting i k) stands) (made_rank k) above
 
   marks : (rank : ℕ) → nat_lt rank 7 ≡ true → goes_on table Nat rank (target.Jump mark_masq) ≡ true
