@@ -5,7 +5,7 @@ use kp_base::{Address, Copied, Items, NoMemory, ObjectKey, Pair, PortNo, Proto, 
 use std::alloc::Global;
 
 /// One entry of a container's `ports`.
-#[derive(Drop)]
+#[derive(PartialEq, Eq, Drop)]
 pub struct ContainerPort {
     pub name: Text,
     pub proto: Proto,
@@ -13,7 +13,7 @@ pub struct ContainerPort {
 }
 
 /// A Pod.
-#[derive(Drop)]
+#[derive(PartialEq, Eq, Drop)]
 pub struct Pod {
     pub key: ObjectKey,
     /// The labels, in byte order of the keys.
@@ -31,7 +31,7 @@ pub struct Pod {
 }
 
 /// A Node.
-#[derive(Drop)]
+#[derive(PartialEq, Eq, Drop)]
 pub struct Node {
     pub name: Text,
     pub zone: Option<Text>,

@@ -30,14 +30,14 @@ pub enum ClusterAddress {
 }
 
 /// `spec.ports[i].targetPort`: a number, or the name of a container port.
-#[derive(Drop)]
+#[derive(PartialEq, Eq, Drop)]
 pub enum TargetPort {
     Number(PortNo),
     Named(Text),
 }
 
 /// One entry of `spec.ports`.
-#[derive(Drop)]
+#[derive(PartialEq, Eq, Drop)]
 pub struct ServicePort {
     pub name: Text,
     pub proto: Proto,
@@ -47,7 +47,7 @@ pub struct ServicePort {
 }
 
 /// A Service. No two of its ports have the same name and protocol.
-#[derive(Drop)]
+#[derive(PartialEq, Eq, Drop)]
 pub struct Service {
     pub key: ObjectKey,
     pub kind: ServiceKind,
