@@ -1,5 +1,6 @@
 -- What the rules do that choose among endpoints: they go where the draws say.
 use Rattle.std.proofs.Common.{◌≡◌, ℕ, suc, zero, ◌+◌, ◌-◌, ◌^◌, min, Bool, true, false, List, [], ◌∷◌, length, Contains, slice_get, Option, Some, None, if◌then◌else◌, refl, ap, ◌∙◌, arith}
+use Rattle.kp_lemmas.proofs.Elements.{first_in, later_in}
 use Rattle.kp_base.specs.declared.key.Endpoint.{Endpoint}
 use Rattle.kp_types.specs.declared.rule.Target.TheVariants as target
 use Rattle.kp_choice_defs.specs.Draws.{draw_at, draw_matches, probability_of, selected_index}
@@ -7,7 +8,7 @@ use Rattle.kp_table_defs.specs.Matching.{WalkState, Surroundings, tried_as, with
 use Rattle.kp_table_defs.specs.Layout.{chance, choice_rules}
 use Rattle.kp_table_defs.specs.Walk.{Outcome, and_then, target_if, matched_outcome, rule_outcome, rules_outcome}
 use Rattle.kp_table_defs.specs.Walk.Outcome.{Next}
-use Rattle.kp_walk_laws.proofs.Outcomes.{IsLast, and_then_next, first_in, later_in}
+use Rattle.kp_walk_laws.proofs.Outcomes.{IsLast, and_then_next}
 
 -- how many draws were used once one of n was chosen, where this many were used before
 abbrev pub used_after : (ℕ → ℕ) → ℕ → ℕ → ℕ

@@ -1,15 +1,15 @@
 -- Entries in the order of their keys: those of a list, each key once.
-use Rattle.std.proofs.Common.{◌≡◌, ◌⊎◌, inl, inr, Bool, true, false, ◌&&◌, List, [], ◌∷◌, Contains, refl, sym, ap, subst, ◌∙◌, T}
+use Rattle.std.proofs.Common.{◌≡◌, ◌⊎◌, inl, inr, List, [], ◌∷◌, Contains, refl, sym, ap, subst, ◌∙◌, T}
 use Rattle.std.specs.declared.cmp.Ordering.{Ordering}
 use Rattle.std.specs.declared.cmp.Ordering.TheVariants.{Less, Equal, Greater}
 use Rattle.std.specs.Ordering.{is_lt}
 use Rattle.std.specs.Cmp.{IsTotalOrder, tied_itself}
-use Rattle.std.specs.FinMap.{IsAntisymmetric, entries, empty, from_entries, put, entries-insert, len-entries, len-empty}
+use Rattle.std.specs.FinMap.{IsAntisymmetric, entries, from_entries, put, entries-insert}
 use Rattle.std.specs.FinMap.Entries.{by_order, below_all, is_sorted, is_sorted-put}
-use Rattle.std.proofs.lemmas.List.{nil_from_length}
+use Rattle.kp_lemmas.proofs.Booleans.{both_facts}
+use Rattle.kp_lemmas.proofs.Entries.{empty_entries}
+use Rattle.kp_lemmas.proofs.Elements.{first_in, later_in, none_in, in_cases}
 use Rattle.kp_object_defs.specs.Order.{in_order}
-use Rattle.kp_walk_laws.proofs.Outcomes.{first_in, later_in}
-use Rattle.kp_walk_laws.proofs.Members.{none_in, in_cases}
 
 module _ {K X : Type 0} (R : K → K → Ordering) (exact : IsAntisymmetric R) where
   put_row : (k : K) (v : X) (e : K × X) (es more : List (K × X)) (f : K × X) → (Contains more f → ((k, v) ≡ f) ⊎ Contains es f)
@@ -36,17 +36,13 @@ module _ {K X : Type 0} (R : K → K → Ordering) (exact : IsAntisymmetric R) w
         | inr d ↦ later_in f e es (from_in_order es f d)
       ]
 
-both_facts : (a b : Bool) → T (a && b) → T a × T b
-both_facts true b h = (tt, h)
-both_facts false b h = absurd h
-
 not_below : {K : Type 0} {R : K → K → Ordering} → IsTotalOrder R → (j k : K) → j ≡ k → T (is_lt (R j k)) → ⊥
 not_below {R} total j k same h = subst (λ o. T (is_lt o)) (ap (λ i. R i k) same ∙ tied_itself total k) h
 
 module _ {K X : Type 0} {R : K → K → Ordering} (total : IsTotalOrder R) where
   -- the entries of a map of entries stand in order
   pub entries_in_order : (es : List (K × X)) → entries (from_entries {R = R} es) ≡ in_order R es
-  entries_in_order [] = nil_from_length (entries (empty {X = X} {R = R})) (sym (len-entries (empty {X = X} {R = R})) ∙ len-empty R X)
+  entries_in_order [] = empty_entries R
   entries_in_order (e ∷ es) = entries-insert total (from_entries es) e.0 e.1 ∙ ap (put R e.0 e.1) (entries_in_order es)
 
   sorted_in_order : (es : List (K × X)) → T (is_sorted R (in_order R es))

@@ -2,7 +2,7 @@
 use Rattle.std.proofs.Common.{◌≡◌, suc, zero, Bool, true, false, cond, List, [], ◌∷◌, ◌++◌, Contains, Option, Some, bytes_eq, codes, flat_map, is_some, map, refl, sym, ap, ap₂, ◌∙◌, arith, true≢false, le_of_suc-le-suc}
 use Rattle.std.specs.declared.cmp.Ordering.{Ordering}
 use Rattle.std.specs.declared.cmp.Ordering.TheVariants.{Less, Equal, Greater}
-use Rattle.std.specs.Ordering.{nat_cmp, eq_by_cmp, is_eq, ordering_then}
+use Rattle.std.specs.Ordering.{eq_by_cmp, is_eq, ordering_then}
 use Rattle.std.specs.Cmp.{eq_by_cmp_equiv}
 use Rattle.std.specs.Cmp.Lexicographic.{texts_ties}
 use Rattle.std.specs.FinMap.{find, get, get-from_entries}
@@ -10,13 +10,14 @@ use Rattle.std.specs.FinMap.Entries.{is_some-find}
 use Rattle.std.specs.List.{list_any}
 use Rattle.std.proofs.lemmas.Bool.{or_parts}
 use Rattle.std.proofs.lemmas.Map.Views.{list_any-from_Contains}
+use Rattle.kp_lemmas.proofs.Orders.{equal_from_test, tie_of_itself}
+use Rattle.kp_lemmas.proofs.Elements.{first_in, later_in, in_map}
 use Rattle.kp_base.specs.Keys.{text_cmp}
 use Rattle.kp_base.specs.declared.address.Family.{Family}
 use Rattle.kp_base.specs.declared.address.Family.TheVariants.{V4, V6}
 use Rattle.kp_types.specs.Setting.{Setting}
-use Rattle.kp_types.specs.Places.{chain_cmp, table_place}
+use Rattle.kp_types.specs.Places.{chain_cmp, table_cmp}
 use Rattle.kp_types.proofs.ChainOrder.{chain_total, chain_exact}
-use Rattle.kp_types.specs.declared.chain.TableName.{TableName}
 use Rattle.kp_types.specs.declared.chain.TableName.TheVariants.{Nat, Filter}
 use Rattle.kp_types.specs.declared.chain.ChainAt.{ChainAt}
 use Rattle.kp_types.specs.Rules.{rule_of}
@@ -26,24 +27,14 @@ use Rattle.kp_types.specs.declared.rule.Target.TheVariants as target
 use Rattle.kp_object_defs.specs.PortInfo.{PortInfo}
 use Rattle.kp_table_defs.specs.Layout.{row, jump_to, own_addresses, mark_masq, kube_postrouting, kube_node_ports, kube_services, kube_forward, kube_proxy_firewall, kube_external_services, service_block, node_port_block, firewall_block, external_block, refusal_block, nat_rows_with, filter_rows_with, port_rows, rows_of}
 use Rattle.kp_table_defs.specs.Rebuild.{full_chains}
-use Rattle.kp_walk_laws.proofs.Members.{in_map}
-use Rattle.kp_walk_laws.proofs.Outcomes.{first_in, later_in}
 use Rattle.kp_walk_laws.proofs.FirstHook.{FindsNat}
 use Rattle.kp_walk_laws.proofs.FilterChains.{FindsFilter}
-
-abbrev table_cmp : TableName → TableName → Ordering
-table_cmp a b = nat_cmp (table_place a) (table_place b)
 
 -- ---- Rows
 
 -- a row is for a place
 abbrev pub Row : Type 0
 Row = ChainAt × List Rule
-
-pub is_eq_true : (o : Ordering) → is_eq o ≡ true → o ≡ Equal
-is_eq_true Less h = absurd (cc)
-is_eq_true Equal h = refl
-is_eq_true Greater h = absurd (cc)
 
 then_false : (a b : Ordering) → is_eq b ≡ false → is_eq (ordering_then a b) ≡ false
 then_false Less b h = refl
@@ -61,17 +52,13 @@ pass_over q (r ∷ rows) more h =
     let parts = or_parts (bytes_eq q.chain r.0.chain) (list_any (λ s. bytes_eq q.chain s.0.chain) rows) h in
     ap (λ b. cond b (Some r.1) (find chain_cmp q (rows ++ more))) (other_place q r.0 parts.0) ∙ pass_over q rows more parts.1
 
--- a place is itself
-same_place : (q : ChainAt) → eq_by_cmp chain_cmp q q ≡ true
-same_place q = (eq_by_cmp_equiv chain_total).refl q
-
 -- a row behind the first, which is for another place
 behind_other : (q : ChainAt) (rules : List Rule) (r : Row) (rows : List Row) → eq_by_cmp chain_cmp q r.0 ≡ false → Contains (r ∷ rows) (q, rules) → Contains rows (q, rules)
-behind_other q rules r rows other (zero, l, e) = absurd (true≢false (sym (same_place q) ∙ ap (λ (s : Row). eq_by_cmp chain_cmp q s.0) (sym e) ∙ other))
+behind_other q rules r rows other (zero, l, e) = absurd (true≢false (sym (tie_of_itself chain_total q) ∙ ap (λ (s : Row). eq_by_cmp chain_cmp q s.0) (sym e) ∙ other))
 behind_other q rules r rows other (suc k, l, e) = (k, le_of_suc-le-suc l, e)
 
 agreed_by : (q : ChainAt) (rules : List Rule) (r : Row) (found : Option (List Rule)) → (r.0 ≡ q → r.1 ≡ rules) → (b : Bool) → eq_by_cmp chain_cmp q r.0 ≡ b → (b ≡ false → found ≡ Some rules) → cond b (Some r.1) found ≡ Some rules
-agreed_by q rules r found here true t later = ap (λ rs. Some rs) (here (sym (chain_exact q r.0 (is_eq_true (chain_cmp q r.0) t))))
+agreed_by q rules r found here true t later = ap (λ rs. Some rs) (here (sym (chain_exact q r.0 (equal_from_test (chain_cmp q r.0) t))))
 agreed_by q rules r found here false t later = later refl
 
 -- where all rows of a place have the same rules, a look-up finds these

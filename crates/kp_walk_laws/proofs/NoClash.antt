@@ -5,12 +5,12 @@ use Rattle.std.specs.Str.{bytes_eq}
 use Rattle.std.proofs.lemmas.Bool.{and_from, and_parts, eqb-true}
 use Rattle.std.proofs.lemmas.Bool.Decides.{nat_tests}
 use Rattle.std.proofs.lemmas.Slice.Eq.{bytes_eq-Decides}
+use Rattle.kp_lemmas.proofs.Elements.{first_in, later_in, none_in, in_cases}
+use Rattle.kp_base.proofs.SameParts.{same_address_exact, same_proto_exact}
 use Rattle.kp_base.specs.Keys.{proto_place}
 use Rattle.kp_base.specs.Net.{same_address, same_family}
 use Rattle.kp_base.specs.declared.address.Family.{Family}
 use Rattle.kp_base.specs.declared.address.Family.TheVariants.{V4, V6}
-use Rattle.kp_base.specs.declared.port.Proto.{Proto}
-use Rattle.kp_base.specs.declared.port.Proto.TheVariants.{Sctp, Tcp, Udp}
 use Rattle.kp_base.specs.declared.key.PortKey.{PortKey}
 use Rattle.kp_base.specs.declared.key.Endpoint.{Endpoint}
 use Rattle.kp_types.specs.Ports.{same_proto}
@@ -20,13 +20,8 @@ use Rattle.kp_types.specs.declared.chain.Clash.{Clash}
 use Rattle.kp_types.specs.declared.chain.PortChain.{PortChain}
 use Rattle.kp_types.specs.declared.chain.PortChain.TheVariants.{Svc, Svl, Ext, Fw}
 use Rattle.kp_choice_defs.specs.Names.{port_chain_place, same_port_key, same_endpoint, same_chain_key, is_clash, clash_or, first_clash}
-use Rattle.kp_walk_laws.proofs.Members.{none_in, in_cases}
-use Rattle.kp_walk_laws.proofs.Outcomes.{first_in, later_in}
 
 -- ---- The test of keys tells all keys apart
-
-same_text : (a b : List ℕ) → bytes_eq a b ≡ true → a ≡ b
-same_text a b h = (bytes_eq-Decides a b).0 h
 
 -- the kind at a place
 abbrev kind_at : ℕ → PortChain
@@ -44,23 +39,6 @@ kind_there Fw = refl
 one_kind : (a b : PortChain) → (port_chain_place a == port_chain_place b) ≡ true → a ≡ b
 one_kind a b h = sym (kind_there a) ∙ ap kind_at (eqb-true (port_chain_place a) (port_chain_place b) h) ∙ kind_there b
 
-one_family : (a b : Family) → same_family a b ≡ true → a ≡ b
-one_family V4 V4 h = refl
-one_family V4 V6 h = absurd (cc)
-one_family V6 V4 h = absurd (cc)
-one_family V6 V6 h = refl
-
-one_proto : (a b : Proto) → same_proto a b ≡ true → a ≡ b
-one_proto Sctp Sctp h = refl
-one_proto Sctp Tcp h = absurd (cc)
-one_proto Sctp Udp h = absurd (cc)
-one_proto Tcp Sctp h = absurd (cc)
-one_proto Tcp Tcp h = refl
-one_proto Tcp Udp h = absurd (cc)
-one_proto Udp Sctp h = absurd (cc)
-one_proto Udp Tcp h = absurd (cc)
-one_proto Udp Udp h = refl
-
 one_port_key : (a b : PortKey) → same_port_key a b ≡ true → a ≡ b
 one_port_key a b h =
     let ports = and_parts (bytes_eq a.object.namespace b.object.namespace && bytes_eq a.object.name b.object.name && bytes_eq a.port_name b.port_name) (same_proto a.proto b.proto) h in
@@ -68,25 +46,18 @@ one_port_key a b h =
     let objects = and_parts (bytes_eq a.object.namespace b.object.namespace) (bytes_eq a.object.name b.object.name) names.0 in
     λ i. record {
       object = record {
-        namespace = same_text a.object.namespace b.object.namespace objects.0 i;
-        name = same_text a.object.name b.object.name objects.1 i;
+        namespace = (bytes_eq-Decides a.object.namespace b.object.namespace).0 objects.0 i;
+        name = (bytes_eq-Decides a.object.name b.object.name).0 objects.1 i;
       };
-      port_name = same_text a.port_name b.port_name names.1 i;
-      proto = one_proto a.proto b.proto ports.1 i;
+      port_name = (bytes_eq-Decides a.port_name b.port_name).0 names.1 i;
+      proto = same_proto_exact a.proto b.proto ports.1 i;
     }
 
 -- the test of endpoints tells all apart
 pub one_endpoint : (a b : Endpoint) → same_endpoint a b ≡ true → a ≡ b
 one_endpoint a b h =
     let parts = and_parts (same_address a.address b.address) (a.port == b.port) h in
-    let address = and_parts (same_family a.address.family b.address.family) (a.address.number == b.address.number) parts.0 in
-    λ i. record {
-      address = record {
-        family = one_family a.address.family b.address.family address.0 i;
-        number = eqb-true a.address.number b.address.number address.1 i;
-      };
-      port = eqb-true a.port b.port parts.1 i;
-    }
+    λ i. record { address = same_address_exact a.address b.address parts.0 i; port = eqb-true a.port b.port parts.1 i }
 
 one_key : (a b : ChainKey) → same_chain_key a b ≡ true → a ≡ b
 one_key (Port kind a) (Port other b) h =

@@ -1,22 +1,15 @@
 -- Rules one after the other, and the first of them that ends a walk.
-use Rattle.std.proofs.Common.{◌≡◌, ℕ, suc, Bool, true, false, cond, List, [], ◌∷◌, ◌++◌, map, Contains, Option, Some, None, option_map, flat_map, refl, sym, ap, subst, ◌∙◌, zero-lt-suc, suc-le-suc}
+use Rattle.std.proofs.Common.{◌≡◌, ℕ, Bool, true, false, cond, List, [], ◌∷◌, ◌++◌, map, Contains, Option, Some, None, option_map, flat_map, refl, sym, ap, subst, ◌∙◌}
 use Rattle.std.specs.List.{find}
 use Rattle.std.specs.Option.{option_or}
 use Rattle.std.proofs.lemmas.List.Folds.{find-append}
 use Rattle.std.proofs.lemmas.Option.{same_Some}
+pub use Rattle.kp_lemmas.proofs.Elements.{first_in, later_in}
 use Rattle.kp_types.specs.declared.rule.Rule.{Rule}
 use Rattle.kp_types.specs.declared.walk.Ending.{Ending}
 use Rattle.kp_table_defs.specs.Matching.{WalkState, Surroundings}
 use Rattle.kp_table_defs.specs.Walk.{Outcome, and_then, rule_outcome, rules_outcome}
 use Rattle.kp_table_defs.specs.Walk.Outcome.{Next, Left, Ended, Stuck}
-
--- the first element of a list is in it
-pub first_in : {A : Type 0} (x : A) (xs : List A) → Contains (x ∷ xs) x
-first_in x xs = (0, zero-lt-suc _, refl)
-
--- what is behind the first element is in the list
-pub later_in : {A : Type 0} (x y : A) (xs : List A) → Contains xs x → Contains (y ∷ xs) x
-later_in x y xs (k, l, e) = (suc k, suc-le-suc l, e)
 
 -- three steps in a row
 pub and_then_assoc : (o : Outcome) (f g : WalkState → Outcome) → and_then (and_then o f) g ≡ and_then o (λ s. and_then (f s) g)

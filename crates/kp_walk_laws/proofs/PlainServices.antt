@@ -5,6 +5,7 @@ use Rattle.std.specs.FinMap.{values}
 use Rattle.std.specs.List.{cons_option}
 use Rattle.std.proofs.lemmas.Option.{same_Some}
 use Rattle.std.proofs.lemmas.List.Sorted.{Contains-permutation, IsPermutation-sym, IsPermutation-reverse}
+use Rattle.kp_lemmas.proofs.Elements.{first_in, later_in, none_in, in_cases, from_map, from_flat_map}
 use Rattle.kp_base.specs.Keys.{port_key_cmp}
 use Rattle.kp_base.proofs.KeyOrder.{port_key_total, port_key_exact}
 use Rattle.kp_base.specs.Net.{AddressParts}
@@ -22,8 +23,6 @@ use Rattle.kp_object_defs.specs.Order.{in_order}
 use Rattle.kp_object_defs.specs.PortInfo.{PortInfo, port_infos, addresses_in, has_balancer, has_node_port, port_key_of, info_from, info_of, ports_of, name_of_port, service_ports, cluster_address_in}
 use Rattle.kp_walk_laws.specs.Laws.{IsClusterOnly, HaveOwnKeys, IsPlainService, PlainPorts, PortKeysOnce}
 use Rattle.kp_walk_laws.proofs.Entries.{from_in_order, one_entry}
-use Rattle.kp_walk_laws.proofs.Members.{none_in, in_cases, from_map, from_flat_map}
-use Rattle.kp_walk_laws.proofs.Outcomes.{first_in, later_in}
 
 -- ---- One port
 

@@ -1,5 +1,5 @@
 -- What a look-up in the full table finds of ports: the rules of each chain that they need.
-use Rattle.std.proofs.Common.{◌≡◌, inl, inr, Bool, true, false, not, cond, List, [], ◌∷◌, ◌++◌, map, Contains, Some, None, flat_map, bytes_eq, refl, sym, ap, ap₂, subst, ◌∙◌}
+use Rattle.std.proofs.Common.{◌≡◌, inl, inr, Bool, true, false, not, List, [], ◌∷◌, ◌++◌, map, Contains, Some, None, flat_map, bytes_eq, refl, sym, ap, ap₂, subst, ◌∙◌}
 use Rattle.std.specs.FinMap.{IsAntisymmetric, find, put}
 use Rattle.std.specs.FinMap.Entries.{by_order}
 use Rattle.std.specs.List.{filter, list_any}
@@ -9,6 +9,7 @@ use Rattle.std.proofs.lemmas.List.{map-append}
 use Rattle.std.proofs.lemmas.List.Elements.{Contains-append_left, Contains-append_right, Contains-append_cases}
 use Rattle.std.proofs.lemmas.Map.Views.{Contains-from_any}
 use Rattle.std.proofs.lemmas.Simd.{map-map}
+use Rattle.kp_lemmas.proofs.Elements.{first_in, later_in, none_in, in_cases, in_map, from_map, in_flat_map, from_flat_map, in_filter, from_filter}
 use Rattle.kp_base.specs.Keys.{endpoint_cmp}
 use Rattle.kp_base.proofs.KeyOrder.{endpoint_exact}
 use Rattle.kp_base.specs.declared.address.Family.{Family}
@@ -37,9 +38,7 @@ use Rattle.kp_table_defs.specs.Rebuild.{needs, port_keys, endpoint_keys, needed_
 use Rattle.kp_walk_laws.specs.Laws.{HaveOwnKeys, IsPrefixed}
 use Rattle.kp_walk_laws.proofs.Entries.{from_in_order}
 use Rattle.kp_walk_laws.proofs.Lookups.{Row, look_up, fixed_nat, fixed_filter, in_rows, pass_over, agreed}
-use Rattle.kp_walk_laws.proofs.Members.{none_in, in_cases, in_map, from_map, in_flat_map, from_flat_map}
 use Rattle.kp_walk_laws.proofs.NoClash.{one_endpoint, one_of_name}
-use Rattle.kp_walk_laws.proofs.Outcomes.{first_in, later_in}
 use Rattle.kp_walk_laws.proofs.Services.{FindsPort}
 
 -- ---- The chains of one port
@@ -170,23 +169,6 @@ own_endpoint i e c =
 key_port : (i : PortInfo) (k : ChainKey) → Contains (own_keys i) k → port_of k ≡ i.key
 key_port i k c = key_cases (λ l. port_of l ≡ i.key) i (λ kind h. refl) (λ e h. refl) k c
 
-passing_in : {X : Type 0} (x : X) (b : Bool) (xs : List X) → b ≡ true → Contains (cond b (x ∷ xs) xs) x
-passing_in x true xs h = first_in x xs
-passing_in x false xs h = absurd (cc)
-
-behind_in : {X : Type 0} (x y : X) (b : Bool) (xs : List X) → Contains xs x → Contains (cond b (y ∷ xs) xs) x
-behind_in x y true xs c = later_in x y xs c
-behind_in x y false xs c = c
-
--- an element that passes is left by a filter
-in_filter : {X : Type 0} (p : X → Bool) (x : X) (xs : List X) → Contains xs x → p x ≡ true → Contains (filter p xs) x
-in_filter p x [] c h = absurd (none_in x c)
-in_filter p x (y ∷ ys) c h =
-    elim (in_cases x y ys c) [
-      | inl e ↦ subst (λ z. Contains (filter p (y ∷ ys)) z) e (passing_in y (p y) (filter p ys) (ap p e ∙ h))
-      | inr d ↦ behind_in x y (p y) (filter p ys) (in_filter p x ys d h)
-    ]
-
 local_by : (i : PortInfo) (f : Endpoint) → Contains i.lists.local f → (b : Bool) → has_endpoint i.lists.cluster f ≡ b → Contains (all_endpoints i) f
 local_by i f c true h =
     Contains-append_left i.lists.cluster (filter (λ e. not (has_endpoint i.lists.cluster e)) i.lists.local) f
@@ -245,15 +227,6 @@ own_needed infos i c =
     (in_flat_map endpoint_keys i (key.Sep i.key e) infos c
     (in_map (key.Sep i.key) e (distinct_in_order endpoint_cmp (all_endpoints i)) (in_distinct endpoint_cmp endpoint_exact (all_endpoints i) e h))))
 
-from_filter_by : {X : Type 0} (b : Bool) (x y : X) (xs ys : List X) → (Contains ys x → Contains xs x) → Contains (cond b (y ∷ ys) ys) x → Contains (y ∷ xs) x
-from_filter_by true x y xs ys h c = elim (in_cases x y ys c) [ inl e ↦ subst (Contains (y ∷ xs)) e (first_in y xs) | inr d ↦ later_in x y xs (h d) ]
-from_filter_by false x y xs ys h c = later_in x y xs (h c)
-
--- what a filter leaves is in the list
-from_filter : {X : Type 0} (p : X → Bool) (x : X) (xs : List X) → Contains (filter p xs) x → Contains xs x
-from_filter p x [] c = absurd (none_in x c)
-from_filter p x (y ∷ ys) c = from_filter_by (p y) x y ys (filter p ys) (from_filter p x ys) c
-
 -- each element in order is an element
 from_distinct : (es : List Endpoint) (e : Endpoint) → Contains (distinct_in_order endpoint_cmp es) e → Contains es e
 from_distinct es e c =
@@ -268,7 +241,7 @@ needed_cases infos P ports endpoints k c =
     elim (Contains-append_cases (of_kinds (λ kind. port_keys kind infos)) (flat_map endpoint_keys infos) k c) [
       | inl d ↦ let (kind, in_it) = from_kinds (λ kind. port_keys kind infos) k d in
           let (i, passes, is) = from_map (λ i. key.Port kind i.key) k (filter (needs kind) infos) in_it in
-          subst P is (ports kind i (from_filter (needs kind) i infos passes))
+          subst P is (ports kind i (from_filter (needs kind) i infos passes).0)
       | inr d ↦ let (i, ci, in_its) = from_flat_map endpoint_keys k infos d in
           let (e, stands, is) = from_map (key.Sep i.key) k (distinct_in_order endpoint_cmp (all_endpoints i)) in_its in
           subst P is (endpoints i e ci (from_distinct (all_endpoints i) e stands))

@@ -4,6 +4,8 @@ use Rattle.std.specs.FinMap.{entries, get}
 use Rattle.std.specs.List.{list_all}
 use Rattle.std.proofs.lemmas.Bool.{and_from}
 use Rattle.std.proofs.lemmas.List.Elements.{Contains-append_right}
+use Rattle.kp_lemmas.proofs.Elements.{first_in, later_in, in_flat_map, all_from, from_all, all_map, all_flat_map}
+use Rattle.kp_lemmas.proofs.ListFacts.{test_append}
 use Rattle.kp_base.specs.Net.{AddressParts, RangeParts}
 use Rattle.kp_base.specs.declared.key.Endpoint.{Endpoint}
 use Rattle.kp_base.specs.declared.address.Family.{Family}
@@ -34,8 +36,6 @@ use Rattle.kp_table_defs.specs.Rebuild.{Chains, full_chains, needs}
 use Rattle.kp_table_defs.specs.StandIn.{hex_text}
 use Rattle.kp_walk_laws.specs.Laws.{IsClusterOnly, IsPrefixed, StandInPrefixed, HashedPrefixed, FullTableRanked}
 use Rattle.kp_walk_laws.proofs.Entries.{from_in_order, entries_in_order}
-use Rattle.kp_walk_laws.proofs.Outcomes.{first_in, later_in}
-use Rattle.kp_walk_laws.proofs.Members.{in_flat_map, all_append, all_map, all_flat_map, all_from, from_all}
 use Rattle.kp_walk_laws.proofs.ListChains.{and_false, plain_list}
 use Rattle.kp_walk_laws.proofs.Lookups.{Row, look_up, fixed_nat, fixed_filter, rows_written, in_rows, is_found, finds_nat, finds_filter}
 use Rattle.kp_walk_laws.proofs.FirstHook.{FindsNat}
@@ -93,8 +93,8 @@ module _ (chains : Chains) where
       let goes : Rule → Bool = λ r. goes_on chains Filter 1 r.target in
       let refuses : (addresses : List AddressParts) → GoOn Filter 1 (map (rule_at i t) addresses) = λ addresses. all_map goes (rule_at i t) addresses (λ a c. refusal_on Filter 1 i.lists.has_any) in
       on_if Filter 1 (is_empty (external_list i)) (map (rule_at i t) i.external ++ map (rule_at i t) i.balancer ++ node_port_refusal family i t i.node_port)
-      (λ _. all_append goes (map (rule_at i t) i.external ++ map (rule_at i t) i.balancer) (node_port_refusal family i t i.node_port)
-      (all_append goes (map (rule_at i t) i.external) (map (rule_at i t) i.balancer) (refuses i.external) (refuses i.balancer))
+      (λ _. test_append goes (map (rule_at i t) i.external ++ map (rule_at i t) i.balancer) (node_port_refusal family i t i.node_port)
+      (test_append goes (map (rule_at i t) i.external) (map (rule_at i t) i.balancer) (refuses i.external) (refuses i.balancer))
       (node_refusal_on family i i.lists.has_any i.node_port))
 
   rejects_on : (i : PortInfo) → GoOn Filter 1 (refusal_block i)
@@ -151,7 +151,7 @@ module _ (setting : Setting) (infos : List PortInfo) (prefixed : IsPrefixed sett
       let rules : List Rule = mark_rules setting.config.masquerade_all setting.config.cluster i in
       let es : List Endpoint = list_by_policy p i.lists in
       subst (GoOn table Nat 5) (sym (plain_list setting i internal es (plain i c).affinity))
-      (all_append (λ r. goes_on table Nat 5 r.target) (rules_if internal rules) (choice_rules (endpoint_chain setting i) es)
+      (test_append (λ r. goes_on table Nat 5 r.target) (rules_if internal rules) (choice_rules (endpoint_chain setting i) es)
       (on_if table Nat 5 internal rules (λ _. marks_on table Nat 5 setting.config.masquerade_all setting.config.cluster i (marks 5 refl)))
       (choice_on table Nat 5 (endpoint_chain setting i) es (λ f d. goes i c (key.Sep i.key f) (own_endpoint i f (in_either i p f d)) 5 refl)))
 
@@ -181,7 +181,7 @@ module _ (setting : Setting) (infos : List PortInfo) (prefixed : IsPrefixed sett
   module _ (finds : FindsNat setting infos (look_up setting infos)) where
     services_ranked : GoOn table Nat 1 (flat_map (service_block setting) infos ++ rule_of (own_addresses setting.family) (target.Jump kube_node_ports) ∷ [])
     services_ranked =
-        all_append (λ r. goes_on table Nat 1 r.target) (flat_map (service_block setting) infos) (rule_of (own_addresses setting.family) (target.Jump kube_node_ports) ∷ [])
+        test_append (λ r. goes_on table Nat 1 r.target) (flat_map (service_block setting) infos) (rule_of (own_addresses setting.family) (target.Jump kube_node_ports) ∷ [])
         (all_flat_map (λ r. goes_on table Nat 1 r.target) (service_block setting) infos service_on)
         (one_on table Nat 1 (rule_of (own_addresses setting.family) (target.Jump kube_node_ports)) (jump_on table Nat 1 2 kube_node_ports (ap is_some finds.node_ports) refl refl))
 
@@ -240,8 +240,8 @@ module _ (setting : Setting) (infos : List PortInfo) (prefixed : IsPrefixed sett
   rows_ranked : list_all (is_ranked_chain table) (rows_of setting infos) ≡ true
   rows_ranked =
       ap (list_all (is_ranked_chain table)) (rows_written setting infos)
-      ∙ all_append (is_ranked_chain table) (fixed_nat setting infos ++ fixed_filter setting infos) (flat_map (port_rows setting) infos)
-      (all_append (is_ranked_chain table) (fixed_nat setting infos) (fixed_filter setting infos) (nat_ranked (finds_nat setting infos)) (filter_ranked (finds_filter setting infos)))
+      ∙ test_append (is_ranked_chain table) (fixed_nat setting infos ++ fixed_filter setting infos) (flat_map (port_rows setting) infos)
+      (test_append (is_ranked_chain table) (fixed_nat setting infos) (fixed_filter setting infos) (nat_ranked (finds_nat setting infos)) (filter_ranked (finds_filter setting infos)))
       (all_flat_map (is_ranked_chain table) (port_rows setting) infos (λ i c. all_from (is_ranked_chain table) (port_rows setting i) (port_ranked i c)))
 
   table_ranked : is_ranked table ≡ true

@@ -2,6 +2,7 @@
 use Rattle.std.proofs.Common.{◌≡◌, ℕ, suc, ◌-◌, ◌^◌, ◌==◌, min, Bool, true, false, not, cond, ◌&&◌, ◌||◌, List, [], ◌∷◌, ◌++◌, length, Contains, slice_get, Option, Some, None, is_some, option_map, map, append-nil, flat_map, refl, sym, ap, ap₂, subst, ◌∙◌}
 use Rattle.std.specs.List.{find}
 use Rattle.std.proofs.lemmas.Bool.{and_parts}
+use Rattle.kp_lemmas.proofs.Elements.{first_in, later_in}
 use Rattle.kp_base.specs.Net.{same_address, single_range, range_contains, loopback_range, is_local_address}
 use Rattle.kp_base.specs.declared.key.Endpoint.{Endpoint}
 use Rattle.kp_types.specs.Setting.{FamilyConfig, Pick, Setting}
@@ -31,7 +32,7 @@ use Rattle.kp_table_defs.specs.Layout.{mark_masq, kube_node_ports, port_chain, r
 use Rattle.kp_table_defs.specs.Walk.{Outcome, found_outcome, returned_from, target_if, rule_outcome, rules_outcome, chain_outcome}
 use Rattle.kp_table_defs.specs.Walk.Outcome.{Next, Ended}
 use Rattle.kp_walk_laws.specs.Laws.{IsClusterOnly}
-use Rattle.kp_walk_laws.proofs.Outcomes.{FindIn, IsRuleOf, find_in_one, find_in_each, find_in_append, or_next, and_then_next, first_in, later_in}
+use Rattle.kp_walk_laws.proofs.Outcomes.{FindIn, IsRuleOf, find_in_one, find_in_each, find_in_append, or_next, and_then_next}
 use Rattle.kp_walk_laws.proofs.Matches.{packet_of, rule_if, door_tried, tried_alone, tried_before}
 use Rattle.kp_walk_laws.proofs.EndpointChains.{marked_if, marked_source, seen_if, sent_by}
 use Rattle.kp_walk_laws.proofs.ChoiceRules.{used_after, outcome_at, with_used}

@@ -5,6 +5,7 @@ use Rattle.std.proofs.lemmas.Bool.Decides.{nat_tests}
 use Rattle.std.proofs.lemmas.Bool.{and_from}
 use Rattle.std.proofs.lemmas.List.{same_from_push, append_cancel_left, length_push}
 use Rattle.std.proofs.lemmas.List.Folds.{list_all-append}
+use Rattle.kp_lemmas.proofs.Elements.{none_in, in_cases}
 use Rattle.kp_base.specs.declared.key.Endpoint.{Endpoint}
 use Rattle.kp_types.specs.Chains.{is_chain_byte}
 use Rattle.kp_types.specs.declared.chain.ChainKey.TheVariants.{Port, Sep}
@@ -13,7 +14,6 @@ use Rattle.kp_types.specs.declared.chain.PortChain.TheVariants.{Svc, Svl, Ext, F
 use Rattle.kp_choice_defs.specs.Names.{port_chain_prefix}
 use Rattle.kp_object_defs.specs.PortInfo.{PortInfo}
 use Rattle.kp_walk_laws.specs.Laws.{IsSmall, StandInApart, StandInNames}
-use Rattle.kp_walk_laws.proofs.Members.{none_in, in_cases}
 use Rattle.kp_walk_laws.proofs.NoClash.{no_clash}
 use Rattle.kp_walk_laws.proofs.PortLookups.{needed_cases}
 use Rattle.kp_table_defs.specs.Rebuild.{needed_keys}
