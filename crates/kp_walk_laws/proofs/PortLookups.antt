@@ -38,7 +38,8 @@ use Rattle.kp_table_defs.specs.Rebuild.{needs, port_keys, endpoint_keys, needed_
 use Rattle.kp_walk_laws.specs.Laws.{HaveOwnKeys, IsPrefixed}
 use Rattle.kp_walk_laws.proofs.Entries.{from_in_order}
 use Rattle.kp_walk_laws.proofs.Lookups.{Row, look_up, fixed_nat, fixed_filter, in_rows, pass_over, agreed}
-use Rattle.kp_walk_laws.proofs.NoClash.{one_endpoint, one_of_name}
+use Rattle.kp_choice_defs.proofs.ChainKeys.{one_endpoint}
+use Rattle.kp_walk_laws.proofs.NoClash.{one_of_name}
 use Rattle.kp_walk_laws.proofs.Services.{FindsPort}
 
 -- ---- The chains of one port
