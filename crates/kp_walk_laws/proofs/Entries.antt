@@ -1,11 +1,11 @@
--- Entries in the order of their keys: those of a list, each key once.
+-- Entries in the order of their keys: those of a list, and each key once.
 use Rattle.std.proofs.Common.{◌≡◌, ◌⊎◌, inl, inr, List, [], ◌∷◌, Contains, refl, sym, ap, subst, ◌∙◌, T}
 use Rattle.std.specs.declared.cmp.Ordering.{Ordering}
 use Rattle.std.specs.declared.cmp.Ordering.TheVariants.{Less, Equal, Greater}
 use Rattle.std.specs.Ordering.{is_lt}
 use Rattle.std.specs.Cmp.{IsTotalOrder, tied_itself}
 use Rattle.std.specs.FinMap.{IsAntisymmetric, entries, from_entries, put, entries-insert}
-use Rattle.std.specs.FinMap.Entries.{by_order, below_all, is_sorted, is_sorted-put}
+use Rattle.std.specs.FinMap.Entries.{by_order, below_all, is_sorted}
 use Rattle.kp_lemmas.proofs.Booleans.{both_facts}
 use Rattle.kp_lemmas.proofs.Entries.{empty_entries}
 use Rattle.kp_lemmas.proofs.Elements.{first_in, later_in, none_in, in_cases}
@@ -45,17 +45,14 @@ module _ {K X : Type 0} {R : K → K → Ordering} (total : IsTotalOrder R) wher
   entries_in_order [] = empty_entries R
   entries_in_order (e ∷ es) = entries-insert total (from_entries es) e.0 e.1 ∙ ap (put R e.0 e.1) (entries_in_order es)
 
-  sorted_in_order : (es : List (K × X)) → T (is_sorted R (in_order R es))
-  sorted_in_order [] = tt
-  sorted_in_order (e ∷ es) = is_sorted-put R total e.0 e.1 (in_order R es) (sorted_in_order es)
-
   below_less : (k : K) (es : List (K × X)) (f : K × X) → T (below_all R k es) → Contains es f → T (is_lt (R k f.0))
   below_less k [] f h c = absurd (none_in f c)
   below_less k (e ∷ es) f h c =
       let parts = both_facts (is_lt (R k e.0)) (below_all R k es) h in
       elim (in_cases f e es c) [ inl d ↦ subst (λ (g : K × X). T (is_lt (R k g.0))) d parts.0 | inr d ↦ below_less k es f parts.1 d ]
 
-  one_sorted : (es : List (K × X)) → T (is_sorted R es) → (e f : K × X) → Contains es e → Contains es f → e.0 ≡ f.0 → e ≡ f
+  -- sorted entries have each key once
+  pub one_sorted : (es : List (K × X)) → T (is_sorted R es) → (e f : K × X) → Contains es e → Contains es f → e.0 ≡ f.0 → e ≡ f
   one_sorted [] h e f ce cf same = absurd (none_in e ce)
   one_sorted (g ∷ es) h e f ce cf same =
       let parts = both_facts (below_all R g.0 es) (is_sorted R es) h in
@@ -69,7 +66,3 @@ module _ {K X : Type 0} {R : K → K → Ordering} (total : IsTotalOrder R) wher
           | inr d ↦ one_sorted es parts.1 e f c d same
         ]
       ]
-
-  -- entries in order have each key once
-  pub one_entry : (es : List (K × X)) (e f : K × X) → Contains (in_order R es) e → Contains (in_order R es) f → e.0 ≡ f.0 → e ≡ f
-  one_entry es = one_sorted (in_order R es) (sorted_in_order es)
