@@ -1,5 +1,5 @@
--- The laws of the walk over the full table. For now they speak of Service ports that answer at their cluster
--- address alone.
+-- The laws of the walk over the full table. For now they speak of Service ports that answer at
+-- their cluster address alone.
 use Rattle.std.specs.Prelude.{◌≡◌, ℕ, ◌^◌, ◌<◌, ◌≤◌, true, List, [], ◌++◌, codes, length, None}
 use Rattle.std.specs.List.{Contains}
 use Rattle.std.specs.FinMap.{get, values}
@@ -52,20 +52,23 @@ pub record Agree (w : Walked) (d : Decided) : Type 0 where
   pub verdict : w.verdict ≡ d.verdict
   pub lists : w.lists ≡ d.lists
 
--- Walking the full table decides each packet as the objects do, where no two chains that are needed have one
--- name.
+-- Walking the full table decides each packet as the objects do, where no two chains that are needed
+-- have one name.
 abbrev pub WalkDecides : Type 0
 WalkDecides =
-    (setting : Setting) (infos : List PortInfo) (packet : Packet) (draws : ℕ → ℕ) (lists : RecentParts)
+    (setting : Setting) (infos : List PortInfo) (packet : Packet) (draws : ℕ → ℕ)
+    (lists : RecentParts)
     → setting.pick ≡ pick_by_draws → IsPrefixed setting.name_of → HaveOwnKeys infos
     → ((i : PortInfo) → Contains infos i → IsClusterOnly i)
     → first_clash setting.name_of (needed_keys infos) ≡ None
-    → Agree (walk_of (λ q. get (full_chains setting infos) q) setting.config.addresses packet draws lists)
+    → Agree
+    (walk_of (λ q. get (full_chains setting infos) q) setting.config.addresses packet draws lists)
     (decision_from setting infos packet draws lists)
 
 -- The ports of some objects have keys of their own.
 abbrev pub PortKeysOnce : Type 0
-PortKeysOnce = (family : Family) (config : FamilyConfig) (o : Objects) → HaveOwnKeys (port_infos family config o)
+PortKeysOnce =
+    (family : Family) (config : FamilyConfig) (o : Objects) → HaveOwnKeys (port_infos family config o)
 
 -- So over objects a clash is all that can be in the way.
 abbrev pub WalkDecidesObjects : Type 0
@@ -74,7 +77,8 @@ WalkDecidesObjects =
     → setting.pick ≡ pick_by_draws → IsPrefixed setting.name_of
     → ((i : PortInfo) → Contains (port_infos setting.family setting.config o) i → IsClusterOnly i)
     → clash_of setting o ≡ None
-    → Agree (walk_of (λ q. get (full_table setting o).chains q) setting.config.addresses packet draws lists)
+    → Agree
+    (walk_of (λ q. get (full_table setting o).chains q) setting.config.addresses packet draws lists)
     (decision_of setting o packet draws lists)
 
 -- an endpoint of IPv4, whose numbers are those that an address and a port may have
@@ -97,7 +101,8 @@ StandInNames = (k : ChainKey) → is_chain_name (stand_in_name k) ≡ true
 -- Without session affinity no rule of the full table asks or changes a recent list.
 abbrev pub FullTablePlain : Type 0
 FullTablePlain =
-    (setting : Setting) (infos : List PortInfo) → ((i : PortInfo) → Contains infos i → i.affinity ≡ None)
+    (setting : Setting) (infos : List PortInfo)
+    → ((i : PortInfo) → Contains infos i → i.affinity ≡ None)
     → HasNoRecent (λ q. get (full_chains setting infos) q)
 
 -- a Service of type ClusterIP with no external address or session affinity
@@ -121,7 +126,8 @@ StandInPrefixed = IsPrefixed stand_in_name
 abbrev pub HashedPrefixed : Type 0
 HashedPrefixed = (length : ℕ) → IsPrefixed (chain_name length)
 
--- Each jump of the full table goes to a chain that it has, of a greater rank, and it has the built-in chains.
+-- Each jump of the full table goes to a chain that it has, of a greater rank, and it has the
+-- built-in chains.
 pub record IsSound (chains : Chains) : Type 0 where
   pub ranked : is_ranked chains ≡ true
   pub built_in : (table : TableName) → has_built_in chains table ≡ true

@@ -1,5 +1,6 @@
--- Worked examples of walks: on a node with the address 10.0.0.9, in a cluster whose pods have addresses in
--- 10.244.0.0/16, a Service has the cluster address 10.0.0.1 and the port 80 of TCP, and its endpoints are pods.
+-- Worked examples of walks: on a node with the address 10.0.0.9, in a cluster whose pods have
+-- addresses in 10.244.0.0/16, a Service has the cluster address 10.0.0.1 and the port 80 of TCP,
+-- and its endpoints are pods.
 use Rattle.std.specs.Prelude.{◌≡◌, ℕ, ◌+◌, ◌*◌, ◌^◌, true, false, List, [], ◌∷◌, not, codes, Some, None, is_some}
 use Rattle.std.specs.FinMap as map
 use Rattle.std.proofs.Common.{lit≤}
@@ -65,7 +66,11 @@ endpoint_at n = record { address = pod n; port = 8080 }
 -- a port of a Service of this name, at the address 10.0.0.0 + n, with these endpoints
 abbrev pub port_of : List ℕ → ℕ → List Endpoint → PortInfo
 port_of name n es = record {
-  key = record { object = record { namespace = codes "default"; name = name }; port_name = codes "http"; proto = Tcp };
+  key = record {
+    object = record { namespace = codes "default"; name = name };
+    port_name = codes "http";
+    proto = Tcp;
+  };
   number = 80;
   address = host n;
   external = [];
@@ -88,7 +93,8 @@ no_lists = record { size = 100; parts = map.empty }
 
 -- a packet from the network to the address 10.0.0.0 + n
 abbrev pub packet_to : ℕ → AddressParts → Proto → Packet
-packet_to n source proto = record { from = Wire; source = source; target = host n; proto = proto; port = 80; now = 0 }
+packet_to n source proto =
+    record { from = Wire; source = source; target = host n; proto = proto; port = 80; now = 0 }
 
 -- a packet from the network to the Service
 abbrev pub packet_from : AddressParts → Proto → Packet
@@ -102,7 +108,8 @@ verdict_in setting infos packet draws =
 
 -- the verdict where the Service has these endpoints
 abbrev pub verdict_on : List Endpoint → Packet → List ℕ → Verdict
-verdict_on endpoints packet draws = verdict_in (stand_in_setting V4 config) (port_with endpoints ∷ []) packet draws
+verdict_on endpoints packet draws =
+    verdict_in (stand_in_setting V4 config) (port_with endpoints ∷ []) packet draws
 
 -- three endpoints
 abbrev pub three : List Endpoint
@@ -110,19 +117,25 @@ three = endpoint_at 1 ∷ endpoint_at 2 ∷ endpoint_at 3 ∷ []
 
 -- a packet of a pod goes to the one endpoint, whatever is drawn
 abbrev pub OneEndpoint : Type 0
-OneEndpoint = verdict_on (endpoint_at 1 ∷ []) (packet_from (pod 5) Tcp) [] ≡ To (endpoint_at 1) false
+OneEndpoint =
+    verdict_on (endpoint_at 1 ∷ []) (packet_from (pod 5) Tcp) [] ≡ To (endpoint_at 1) false
 
 -- the first of three has one third of the draws
 abbrev pub FirstOfThree : Type 0
-FirstOfThree = verdict_on three (packet_from (pod 5) Tcp) (715827882 ∷ []) ≡ To (endpoint_at 1) false
+FirstOfThree =
+    verdict_on three (packet_from (pod 5) Tcp) (715827882 ∷ []) ≡ To (endpoint_at 1) false
 
 -- the second has one half of those that are left
 abbrev pub SecondOfThree : Type 0
-SecondOfThree = verdict_on three (packet_from (pod 5) Tcp) (715827883 ∷ 1073741823 ∷ []) ≡ To (endpoint_at 2) false
+SecondOfThree =
+    verdict_on three (packet_from (pod 5) Tcp) (715827883 ∷ 1073741823 ∷ [])
+    ≡ To (endpoint_at 2) false
 
 -- and the third has the rest
 abbrev pub ThirdOfThree : Type 0
-ThirdOfThree = verdict_on three (packet_from (pod 5) Tcp) (715827883 ∷ 1073741824 ∷ []) ≡ To (endpoint_at 3) false
+ThirdOfThree =
+    verdict_on three (packet_from (pod 5) Tcp) (715827883 ∷ 1073741824 ∷ [])
+    ≡ To (endpoint_at 3) false
 
 -- what an endpoint sends to itself is masqueraded
 abbrev pub ToItself : Type 0
@@ -140,8 +153,8 @@ NoEndpoints = verdict_on [] (packet_from (pod 5) Tcp) [] ≡ Rejected
 abbrev pub OtherProtocol : Type 0
 OtherProtocol = verdict_on three (packet_from (pod 5) Udp) (0 ∷ []) ≡ LeftAlone
 
--- Two Services, one of them without endpoints, where names are prefixes alone: the lists of both would have one
--- name, but only one of them is needed, and so nothing clashes.
+-- Two Services, one of them without endpoints, where names are prefixes alone: the lists of both
+-- would have one name, but only one of them is needed, and so nothing clashes.
 abbrev pub prefixes : Setting
 prefixes = setting_of V4 (record config { name_length = 0; name_to = lit≤ tt })
 
@@ -163,11 +176,13 @@ SecondOfTwo = verdict_in prefixes two_ports (packet_to 2 (pod 5) Tcp) [] ≡ Rej
 abbrev pub TwoDecided : Type 0
 TwoDecided =
     (packet : Packet) (draws : ℕ → ℕ) (lists : RecentParts)
-    → Agree (walk_of (λ q. map.get (full_chains prefixes two_ports) q) config.addresses packet draws lists)
+    → Agree
+    (walk_of (λ q. map.get (full_chains prefixes two_ports) q) config.addresses packet draws lists)
     (decision_from prefixes two_ports packet draws lists)
 
 -- With endpoints behind both, the lists clash.
 abbrev pub TwoClashed : Type 0
 TwoClashed =
     is_some (first_clash prefixes.name_of
-    (needed_keys (port_with (endpoint_at 1 ∷ []) ∷ port_of (codes "api") 2 (endpoint_at 2 ∷ []) ∷ []))) ≡ true
+    (needed_keys
+    (port_with (endpoint_at 1 ∷ []) ∷ port_of (codes "api") 2 (endpoint_at 2 ∷ []) ∷ []))) ≡ true

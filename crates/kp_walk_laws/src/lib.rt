@@ -1,13 +1,14 @@
-//! Laws of the walk over the full table: where walking its rules sends a packet, the objects say that it goes.
+//! Laws of the walk over the full table: where walking its rules sends a packet, the objects say
+//! that it goes.
 //! Each law is the contract of a function that does nothing.
 #![tactic(auto)]
 
 ghost use Rattle.kp_walk_laws.specs.Laws.{WalkDecides, WalkDecidesObjects, PortKeysOnce, StandInApart, StandInNames, FullTablePlain, FullTableRanked, StandInPrefixed, HashedPrefixed, PlainPorts};
 ghost use Rattle.kp_walk_laws.specs.Rows.{OneEndpoint, FirstOfThree, SecondOfThree, ThirdOfThree, ToItself, FromOutside, NoEndpoints, OtherProtocol, TwoUnclashed, FirstOfTwo, SecondOfTwo, TwoDecided, TwoClashed};
 
-/// Walking the full table of Service ports that answer at their cluster address alone gives each packet
-/// the verdict that the objects give it, and leaves the recent lists that they leave, where no two chains that
-/// are needed have one name.
+/// Walking the full table of Service ports that answer at their cluster address alone gives each
+/// packet the verdict that the objects give it, and leaves the recent lists that they leave, where
+/// no two chains that are needed have one name.
 #[tactic(auto, using(crate::proofs::Theorem::walk_decides_by))]
 pub fn walk_decides()
     ensures { WalkDecides }
