@@ -65,9 +65,11 @@ sources_service : (family : Family) (config : FamilyConfig) (o : Objects) (s : S
 sources_service family config o s = service_by (is_reconciled config s) _ _ refl
 
 module _ (services : List ServiceSources) where
+  -- their ports
   abbrev ports : List (ServiceSources × ServicePort)
   ports = flat_map ports_of services
 
+  -- each under its name
   abbrev named_ports : List (PortKey × (ServiceSources × ServicePort))
   named_ports = map (λ q. (name_of_port q, q)) ports
 
@@ -81,9 +83,11 @@ module _ (services : List ServiceSources) where
       subst (Contains ports) (ap (λ (e : PortKey × (ServiceSources × ServicePort)). e.1) name ∙ is) in_ports
 
 module _ (family : Family) (config : FamilyConfig) (o : Objects) where
+  -- what the endpoints of all Services are taken from
   abbrev services : List ServiceSources
   services = map (sources_of family config o) (values o.services)
 
+  -- the zone of the node
   abbrev zone : Option (List ℕ)
   zone = zone_of o config.node
 

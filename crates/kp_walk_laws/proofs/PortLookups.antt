@@ -95,6 +95,7 @@ key_rules setting i (key.Sep port e) = endpoint_rules setting i e
 abbrev pub row_in : TableName → Setting → PortInfo → ChainKey → Row
 row_in table setting i k = row table (setting.name_of k) (key_rules setting i k)
 
+-- in nat
 abbrev pub row_of : Setting → PortInfo → ChainKey → Row
 row_of setting i k = row_in Nat setting i k
 
@@ -184,6 +185,7 @@ in_either i Cluster f c = Contains-append_left i.lists.cluster (filter (λ e. no
 in_either i Local f c = local_by i f c (has_endpoint i.lists.cluster f) refl
 
 module _ {K : Type 0} (R : K → K → Ordering) (exact : IsAntisymmetric R) where
+  -- the keys of entries
   abbrev keys : List (K × K) → List K
   keys es = map (λ e. e.0) es
 

@@ -118,9 +118,11 @@ no_firewall : (i : PortInfo) → IsClusterOnly i → needs Fw i ≡ false
 no_firewall i h = ap (λ b. is_some i.ranges && (not (is_empty b) && i.lists.has_any)) h.balancer ∙ sym (and_false (is_some i.ranges))
 
 module _ (setting : Setting) (infos : List PortInfo) (prefixed : IsPrefixed setting.name_of) (plain : (i : PortInfo) → Contains infos i → IsClusterOnly i) where
+  -- the full table
   abbrev table : Chains
   table = full_chains setting infos
 
+  -- a row has a rank, and its jumps go on
   abbrev IsRankedRow : Row → Type 0
   IsRankedRow r = is_ranked_chain table r ≡ true
 
@@ -248,6 +250,7 @@ module _ (setting : Setting) (infos : List PortInfo) (prefixed : IsPrefixed sett
   table_ranked =
       all_from (is_ranked_chain table) (entries table) (λ r c. from_all (is_ranked_chain table) (rows_of setting infos) rows_ranked r (from_in_order chain_cmp chain_exact (rows_of setting infos) r (subst (λ es. Contains es r) (entries_in_order chain_total (rows_of setting infos)) c)))
 
+  -- the full table has a chain
   abbrev has : TableName → List ℕ → Bool
   has at chain = is_some (get table (record { table = at; chain = chain }))
 
@@ -263,8 +266,10 @@ module _ (setting : Setting) (infos : List PortInfo) (prefixed : IsPrefixed sett
       (and_from (has Filter (codes "OUTPUT")) true (ap is_some (in_rows setting infos (record { table = Filter; chain = codes "OUTPUT" }))) refl))
 
 pub full_table_ranked_by : FullTableRanked
-full_table_ranked_by setting infos prefixed plain =
-    record { ranked = table_ranked setting infos prefixed plain; built_in = built_in setting infos prefixed plain }
+full_table_ranked_by setting infos prefixed plain = record {
+  ranked = table_ranked setting infos prefixed plain;
+  built_in = built_in setting infos prefixed plain;
+}
 
 pub stand_in_prefixed_by : StandInPrefixed
 stand_in_prefixed_by = record {

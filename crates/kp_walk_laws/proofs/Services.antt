@@ -57,6 +57,7 @@ pub record FindsList (setting : Setting) (at : ChainAt → Option (List Rule)) (
   pub list : not (is_empty es) ≡ true → at (record { table = Nat; chain = port_chain setting i (chain_of_policy i.internal) }) ≡ Some (list_rules setting i true es)
   pub endpoints : (f : Endpoint) → Contains es f → at (record { table = Nat; chain = endpoint_chain setting i f }) ≡ Some (endpoint_rules setting i f)
 
+-- the chains of the internal policy
 abbrev pub FindsPort : Setting → (ChainAt → Option (List Rule)) → PortInfo → Type 0
 FindsPort setting at i = FindsList setting at i (internal_list i)
 
@@ -96,12 +97,15 @@ chosen_at d o c = option_map (λ c. record { door = d; offer = o; chosen = c }) 
 module _ (setting : Setting) (by_draws : setting.pick ≡ pick_by_draws) (e : Surroundings) (at : ChainAt → Option (List Rule))
     (mark : at (record { table = Nat; chain = mark_masq }) ≡ Some (rule_of [] target.SetMark ∷ [])) (n : ℕ) (s : WalkState) (fresh : s.used ≡ 0) where
   module _ (i : PortInfo) (plain : i.affinity ≡ None) where
+    -- what the port offers at its cluster address
     abbrev offer : Offer
     offer = offer_by_policy i i.internal
 
+    -- the door there
     abbrev the_door : Door
     the_door = door_at door.Cluster i i.address
 
+    -- and its chain
     abbrev chain : List ℕ
     chain = port_chain setting i (chain_of_policy i.internal)
 

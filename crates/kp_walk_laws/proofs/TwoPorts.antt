@@ -8,9 +8,11 @@ use Rattle.kp_walk_laws.specs.Rows.{TwoDecided, endpoint_at, port_of, port_with,
 use Rattle.kp_walk_laws.proofs.Ranked.{hashed_prefixed_by}
 use Rattle.kp_walk_laws.proofs.Theorem.{walk_decides_by}
 
+-- the port with an endpoint
 abbrev first : PortInfo
 first = port_with (endpoint_at 1 ∷ [])
 
+-- and the one without
 abbrev second : PortInfo
 second = port_of (codes "api") 2 []
 

@@ -7,8 +7,9 @@ use Rattle.kp_base.specs.declared.key.PortKey.{PortKey}
 use Rattle.kp_base.specs.declared.key.Endpoint.{Endpoint}
 use Rattle.kp_base.specs.declared.address.Family.{Family}
 use Rattle.kp_base.specs.declared.address.Family.TheVariants.{V4}
+use Rattle.kp_base.specs.declared.config.Config.{Config}
 use Rattle.kp_types.specs.Chains.{is_chain_name}
-use Rattle.kp_types.specs.Setting.{FamilyConfig, Naming, Setting}
+use Rattle.kp_types.specs.Setting.{FamilyConfig, Naming, Setting, config_for}
 use Rattle.kp_types.specs.declared.chain.ChainKey.{ChainKey}
 use Rattle.kp_types.specs.declared.chain.ChainKey.TheVariants as key
 use Rattle.kp_types.specs.declared.chain.TableName.{TableName}
@@ -18,7 +19,7 @@ use Rattle.kp_types.specs.declared.service.Service.{Service}
 use Rattle.kp_types.specs.declared.service.ServiceKind.TheVariants.{ClusterIp}
 use Rattle.kp_choice_defs.specs.Names.{chain_name, first_clash, port_chain_prefix}
 use Rattle.kp_choice_defs.specs.Recent.{RecentParts}
-use Rattle.kp_choice_defs.specs.Settings.{pick_by_draws}
+use Rattle.kp_choice_defs.specs.Settings.{pick_by_draws, setting_of}
 use Rattle.kp_object_defs.specs.Objects.{Objects}
 use Rattle.kp_object_defs.specs.PortInfo.{PortInfo, port_infos}
 use Rattle.kp_door_defs.specs.Decision.{Decided, decision_from, decision_of}
@@ -80,6 +81,18 @@ WalkDecidesObjects =
     → Agree
     (walk_of (λ q. get (full_table setting o).chains q) setting.config.addresses packet draws lists)
     (decision_of setting o packet draws lists)
+
+-- Under the product's names and picks nothing else is asked.
+abbrev pub ProductDecides : Type 0
+ProductDecides =
+    (family : Family) (config : Config) (o : Objects) (packet : Packet) (draws : ℕ → ℕ)
+    (lists : RecentParts)
+    → ((i : PortInfo) → Contains (port_infos family (config_for family config) o) i → IsClusterOnly i)
+    → clash_of (setting_of family config) o ≡ None
+    → Agree
+    (walk_of (λ q. get (full_table (setting_of family config) o).chains q) config.addresses packet
+    draws lists)
+    (decision_of (setting_of family config) o packet draws lists)
 
 -- an endpoint of IPv4, whose numbers are those that an address and a port may have
 pub record IsSmall (f : Endpoint) : Type 0 where

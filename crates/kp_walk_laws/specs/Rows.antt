@@ -93,8 +93,14 @@ no_lists = record { size = 100; parts = map.empty }
 
 -- a packet from the network to the address 10.0.0.0 + n
 abbrev pub packet_to : ℕ → AddressParts → Proto → Packet
-packet_to n source proto =
-    record { from = Wire; source = source; target = host n; proto = proto; port = 80; now = 0 }
+packet_to n source proto = record {
+  from = Wire;
+  source = source;
+  target = host n;
+  proto = proto;
+  port = 80;
+  now = 0;
+}
 
 -- a packet from the network to the Service
 abbrev pub packet_from : AddressParts → Proto → Packet
@@ -153,14 +159,15 @@ NoEndpoints = verdict_on [] (packet_from (pod 5) Tcp) [] ≡ Rejected
 abbrev pub OtherProtocol : Type 0
 OtherProtocol = verdict_on three (packet_from (pod 5) Udp) (0 ∷ []) ≡ LeftAlone
 
--- Two Services, one of them without endpoints, where names are prefixes alone: the lists of both
--- would have one name, but only one of them is needed, and so nothing clashes.
+-- the setting of a configuration under which names are prefixes alone
 abbrev pub prefixes : Setting
 prefixes = setting_of V4 (record config { name_length = 0; name_to = lit≤ tt })
 
+-- two Services, one of them without endpoints
 abbrev pub two_ports : List PortInfo
 two_ports = port_with (endpoint_at 1 ∷ []) ∷ port_of (codes "api") 2 [] ∷ []
 
+-- The lists of both would have one name, but only one is needed, and so nothing clashes:
 abbrev pub TwoUnclashed : Type 0
 TwoUnclashed = first_clash prefixes.name_of (needed_keys two_ports) ≡ None
 

@@ -3,7 +3,7 @@
 //! Each law is the contract of a function that does nothing.
 #![tactic(auto)]
 
-ghost use Rattle.kp_walk_laws.specs.Laws.{WalkDecides, WalkDecidesObjects, PortKeysOnce, StandInApart, StandInNames, FullTablePlain, FullTableRanked, StandInPrefixed, HashedPrefixed, PlainPorts};
+ghost use Rattle.kp_walk_laws.specs.Laws.{WalkDecides, WalkDecidesObjects, ProductDecides, PortKeysOnce, StandInApart, StandInNames, FullTablePlain, FullTableRanked, StandInPrefixed, HashedPrefixed, PlainPorts};
 ghost use Rattle.kp_walk_laws.specs.Rows.{OneEndpoint, FirstOfThree, SecondOfThree, ThirdOfThree, ToItself, FromOutside, NoEndpoints, OtherProtocol, TwoUnclashed, FirstOfTwo, SecondOfTwo, TwoDecided, TwoClashed};
 
 /// Walking the full table of Service ports that answer at their cluster address alone gives each
@@ -17,6 +17,11 @@ pub fn walk_decides()
 /// So it does over objects, whose ports have keys of their own.
 pub fn walk_decides_objects()
     ensures { WalkDecidesObjects }
+{}
+
+/// And under the product's names and picks nothing else is asked.
+pub fn product_decides()
+    ensures { ProductDecides }
 {}
 
 /// The ports of some objects have keys of their own.
