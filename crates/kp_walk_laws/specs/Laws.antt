@@ -69,7 +69,8 @@ WalkDecides =
 -- The ports of some objects have keys of their own.
 abbrev pub PortKeysOnce : Type 0
 PortKeysOnce =
-    (family : Family) (config : FamilyConfig) (o : Objects) → HaveOwnKeys (port_infos family config o)
+    (family : Family) (config : FamilyConfig) (o : Objects)
+    → HaveOwnKeys (port_infos family config o)
 
 -- So over objects a clash is all that can be in the way.
 abbrev pub WalkDecidesObjects : Type 0
@@ -87,7 +88,8 @@ abbrev pub ProductDecides : Type 0
 ProductDecides =
     (family : Family) (config : Config) (o : Objects) (packet : Packet) (draws : ℕ → ℕ)
     (lists : RecentParts)
-    → ((i : PortInfo) → Contains (port_infos family (config_for family config) o) i → IsClusterOnly i)
+    → ((i : PortInfo)
+    → Contains (port_infos family (config_for family config) o) i → IsClusterOnly i)
     → clash_of (setting_of family config) o ≡ None
     → Agree
     (walk_of (λ q. get (full_table (setting_of family config) o).chains q) config.addresses packet
