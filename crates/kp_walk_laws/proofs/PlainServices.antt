@@ -1,5 +1,5 @@
--- The ports of some objects have keys of their own, and those of plain Services answer at their cluster
--- addresses alone.
+-- The ports of some objects have keys of their own, and those of plain Services answer at their
+-- cluster addresses alone.
 use Rattle.std.proofs.Common.{◌≡◌, inl, inr, Bool, true, false, cond, ℕ, List, [], ◌∷◌, map, reverse, Contains, Option, Some, None, option_map, filter_map, flat_map, refl, sym, ap, subst, ◌∙◌, T}
 use Rattle.std.specs.FinMap.{values}
 use Rattle.std.specs.List.{cons_option}
@@ -29,7 +29,8 @@ use Rattle.kp_walk_laws.proofs.Entries.{from_in_order, one_sorted}
 
 module _ (family : Family) (s : Service) (plain : IsPlainService s) (p : ServicePort) where
   -- a port of a plain Service
-  plain_info : (zone : Option (List ℕ)) (entries : List Candidate) (address : AddressParts) → IsClusterOnly (info_from family s p zone entries address)
+  plain_info : (zone : Option (List ℕ)) (entries : List Candidate) (address : AddressParts)
+      → IsClusterOnly (info_from family s p zone entries address)
   plain_info zone entries address = record {
     external = ap (addresses_in family) plain.external;
     balancer = ap (λ k. cond (has_balancer k) (addresses_in family s.balancer) []) plain.kind;
@@ -39,8 +40,11 @@ module _ (family : Family) (s : Service) (plain : IsPlainService s) (p : Service
 
 -- ---- All ports
 
-from_filter_by : {A B : Type 0} (h : A → Option B) (y : B) (x : A) (xs : List A) (more : List B) → (Contains more y → (w : A) × Contains xs w × (h w ≡ Some y)) → (o : Option B) → h x ≡ o → Contains (cons_option o more) y → (w : A) × Contains (x ∷ xs) w × (h w ≡ Some y)
-from_filter_by h y x xs more later None e c = let (w, d, same) = later c in (w, later_in w x xs d, same)
+from_filter_by : {A B : Type 0} (h : A → Option B) (y : B) (x : A) (xs : List A) (more : List B)
+    → (Contains more y → (w : A) × Contains xs w × (h w ≡ Some y)) → (o : Option B) → h x ≡ o
+    → Contains (cons_option o more) y → (w : A) × Contains (x ∷ xs) w × (h w ≡ Some y)
+from_filter_by h y x xs more later None e c = let (w, d, same) =
+    later c in (w, later_in w x xs d, same)
 from_filter_by h y x xs more later (Some z) e c =
     elim (in_cases y z more c) [
       | inl d ↦ (x, first_in x xs, e ∙ ap (λ v. Some v) d)
@@ -48,20 +52,25 @@ from_filter_by h y x xs more later (Some z) e c =
     ]
 
 -- what a filter with a function leaves comes of an element
-from_filter_map : {A B : Type 0} (h : A → Option B) (y : B) (xs : List A) → Contains (filter_map h xs) y → (x : A) × Contains xs x × (h x ≡ Some y)
+from_filter_map : {A B : Type 0} (h : A → Option B) (y : B) (xs : List A)
+    → Contains (filter_map h xs) y → (x : A) × Contains xs x × (h x ≡ Some y)
 from_filter_map h y [] c = absurd (none_in y c)
-from_filter_map h y (x ∷ xs) c = from_filter_by h y x xs (filter_map h xs) (from_filter_map h y xs) (h x) refl c
+from_filter_map h y (x ∷ xs) c =
+    from_filter_by h y x xs (filter_map h xs) (from_filter_map h y xs) (h x) refl c
 
-from_option_map : {A B : Type 0} (f : A → B) (o : Option A) (y : B) → option_map f o ≡ Some y → (x : A) × (f x ≡ y)
+from_option_map : {A B : Type 0} (f : A → B) (o : Option A) (y : B) → option_map f o ≡ Some y
+    → (x : A) × (f x ≡ y)
 from_option_map f None y h = absurd (cc)
 from_option_map f (Some x) y h = (x, same_Some (f x) y h)
 
-service_by : (b : Bool) (x y : ServiceSources) → x.service ≡ y.service → (cond b x y).service ≡ y.service
+service_by : (b : Bool) (x y : ServiceSources) → x.service ≡ y.service
+    → (cond b x y).service ≡ y.service
 service_by true x y h = h
 service_by false x y h = refl
 
 -- what a Service's endpoints are taken from tells the Service
-sources_service : (family : Family) (config : FamilyConfig) (o : Objects) (s : Service) → (sources_of family config o s).service ≡ s
+sources_service : (family : Family) (config : FamilyConfig) (o : Objects) (s : Service)
+    → (sources_of family config o s).service ≡ s
 sources_service family config o s = service_by (is_reconciled config s) _ _ refl
 
 module _ (services : List ServiceSources) where
@@ -74,13 +83,19 @@ module _ (services : List ServiceSources) where
   named_ports = map (λ q. (name_of_port q, q)) ports
 
   -- a port of Services in order is a Service's
-  port_in : (sp : ServiceSources × ServicePort) → Contains (service_ports services) sp → Contains ports sp
+  port_in : (sp : ServiceSources × ServicePort) → Contains (service_ports services) sp
+      → Contains ports sp
   port_in sp c =
-      let (entry, in_entries, is) = from_map (λ (e : PortKey × (ServiceSources × ServicePort)). e.1) sp (in_order port_key_cmp (reverse named_ports)) c in
-      let in_named : Contains named_ports entry = Contains-permutation (reverse named_ports) named_ports entry (IsPermutation-sym _ _ (IsPermutation-reverse named_ports))
+      let (entry, in_entries, is) =
+      from_map (λ (e : PortKey × (ServiceSources × ServicePort)). e.1) sp
+      (in_order port_key_cmp (reverse named_ports)) c in
+      let in_named : Contains named_ports entry =
+      Contains-permutation (reverse named_ports) named_ports entry
+      (IsPermutation-sym _ _ (IsPermutation-reverse named_ports))
       (from_in_order port_key_cmp port_key_exact (reverse named_ports) entry in_entries) in
       let (own, in_ports, name) = from_map (λ q. (name_of_port q, q)) entry ports in_named in
-      subst (Contains ports) (ap (λ (e : PortKey × (ServiceSources × ServicePort)). e.1) name ∙ is) in_ports
+      subst (Contains ports) (ap (λ (e : PortKey × (ServiceSources × ServicePort)). e.1) name ∙ is)
+      in_ports
 
 module _ (family : Family) (config : FamilyConfig) (o : Objects) where
   -- what the endpoints of all Services are taken from
@@ -92,23 +107,33 @@ module _ (family : Family) (config : FamilyConfig) (o : Objects) where
   zone = zone_of o config.node
 
   module _ (plain : (s : Service) → Contains (values o.services) s → IsPlainService s) where
-    plain_sources : (sources : ServiceSources) → Contains services sources → IsPlainService sources.service
+    plain_sources : (sources : ServiceSources) → Contains services sources
+        → IsPlainService sources.service
     plain_sources sources c =
-        let (s, in_values, from) = from_map (sources_of family config o) sources (values o.services) c in
-        subst IsPlainService (sym (sources_service family config o s) ∙ ap (λ (t : ServiceSources). t.service) from) (plain s in_values)
+        let (s, in_values, from) =
+        from_map (sources_of family config o) sources (values o.services) c in
+        subst IsPlainService (sym (sources_service family config o s)
+        ∙ ap (λ (t : ServiceSources). t.service) from) (plain s in_values)
 
-    plain_port : (sp : ServiceSources × ServicePort) → Contains (service_ports services) sp → IsPlainService sp.0.service
+    plain_port : (sp : ServiceSources × ServicePort) → Contains (service_ports services) sp
+        → IsPlainService sp.0.service
     plain_port sp c =
-        let (sources, in_services, of_it) = from_flat_map ports_of sp services (port_in services sp c) in
+        let (sources, in_services, of_it) =
+        from_flat_map ports_of sp services (port_in services sp c) in
         let (p, in_its, of) = from_map (λ p. (sources, p)) sp sources.service.ports of_it in
-        subst (λ (q : ServiceSources × ServicePort). IsPlainService q.0.service) of (plain_sources sources in_services)
+        subst (λ (q : ServiceSources × ServicePort). IsPlainService q.0.service) of
+        (plain_sources sources in_services)
 
     cluster_only : (i : PortInfo) → Contains (port_infos family config o) i → IsClusterOnly i
     cluster_only i c =
-        let (sp, in_ports, made) = from_filter_map (info_of family config.node zone) i (service_ports services) c in
-        let entries : List Candidate = entries_from family config.node sp.0 (port_key_of sp.0.service sp.1) in
-        let (address, is) = from_option_map (info_from family sp.0.service sp.1 zone entries) (cluster_address_in family sp.0.service) i made in
-        subst IsClusterOnly is (plain_info family sp.0.service (plain_port sp in_ports) sp.1 zone entries address)
+        let (sp, in_ports, made) =
+        from_filter_map (info_of family config.node zone) i (service_ports services) c in
+        let entries : List Candidate =
+        entries_from family config.node sp.0 (port_key_of sp.0.service sp.1) in
+        let (address, is) = from_option_map (info_from family sp.0.service sp.1 zone entries)
+        (cluster_address_in family sp.0.service) i made in
+        subst IsClusterOnly is (plain_info family sp.0.service
+        (plain_port sp in_ports) sp.1 zone entries address)
 
 pub plain_ports_by : PlainPorts
 plain_ports_by family config o plain i c = cluster_only family config o plain i c
@@ -118,5 +143,6 @@ port_keys_once_by family config o i j ci cj same =
     let infos : List PortInfo = port_infos family config o in
     let named : PortInfo → PortKey × PortInfo = λ k. (k.key, k) in
     ap (λ (e : PortKey × PortInfo). e.1)
-    (one_sorted port_key_total (map named infos) (subst T (sym (ports_are_in_order family config o)) tt)
+    (one_sorted port_key_total (map named infos)
+    (subst T (sym (ports_are_in_order family config o)) tt)
     (named i) (named j) (in_map named i infos ci) (in_map named j infos cj) same)

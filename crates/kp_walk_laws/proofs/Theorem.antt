@@ -11,7 +11,8 @@ use Rattle.kp_walk_laws.proofs.PlainServices.{port_keys_once_by}
 
 pub walk_decides_by : WalkDecides
 walk_decides_by setting infos packet draws lists by_draws prefixed own plain apart =
-    let same = walk_agrees setting infos packet draws lists (look_up setting infos) by_draws (finds_nat setting infos) (finds_filter setting infos)
+    let same = walk_agrees setting infos packet draws lists (look_up setting infos) by_draws
+    (finds_nat setting infos) (finds_filter setting infos)
     (λ i c. (plain i c, finds_port setting infos prefixed own apart i c)) in record {
       verdict = same.0;
       lists = same.1;
@@ -19,7 +20,8 @@ walk_decides_by setting infos packet draws lists by_draws prefixed own plain apa
 
 pub walk_decides_objects_by : WalkDecidesObjects
 walk_decides_objects_by setting o packet draws lists by_draws prefixed plain apart =
-    walk_decides_by setting (port_infos setting.family setting.config o) packet draws lists by_draws prefixed
+    walk_decides_by setting (port_infos setting.family setting.config o) packet draws lists by_draws
+    prefixed
     (port_keys_once_by setting.family setting.config o) plain apart
 
 pub product_decides_by : ProductDecides

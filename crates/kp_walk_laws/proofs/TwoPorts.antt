@@ -30,13 +30,17 @@ of_two P x y z p q c =
 two_keys : HaveOwnKeys two_ports
 two_keys i j ci cj =
     of_two (λ x. x.key ≡ j.key → x ≡ j) first second i
-    (of_two (λ y. first.key ≡ y.key → first ≡ y) first second j (λ h. refl) (λ h. absurd (other_key h)) cj)
-    (of_two (λ y. second.key ≡ y.key → second ≡ y) first second j (λ h. absurd (other_key (sym h))) (λ h. refl) cj) ci
+    (of_two (λ y. first.key ≡ y.key → first ≡ y) first second j (λ h. refl)
+    (λ h. absurd (other_key h)) cj)
+    (of_two (λ y. second.key ≡ y.key → second ≡ y) first second j (λ h. absurd (other_key (sym h)))
+    (λ h. refl) cj) ci
 
 plain_port : (name : List ℕ) (n : ℕ) (es : List Endpoint) → IsClusterOnly (port_of name n es)
-plain_port name n es = record { external = refl; balancer = refl; node_port = refl; affinity = refl }
+plain_port name n es =
+    record { external = refl; balancer = refl; node_port = refl; affinity = refl }
 
 pub two_decided_by : TwoDecided
 two_decided_by packet draws lists =
     walk_decides_by prefixes two_ports packet draws lists refl (hashed_prefixed_by 0) two_keys
-    (λ i c. of_two IsClusterOnly first second i (plain_port (codes "web") 1 (endpoint_at 1 ∷ [])) (plain_port (codes "api") 2 []) c) refl
+    (λ i c. of_two IsClusterOnly first second i (plain_port (codes "web") 1 (endpoint_at 1 ∷ []))
+    (plain_port (codes "api") 2 []) c) refl
