@@ -49,12 +49,16 @@ impl Copied for ContainerPort {
 
 impl Copied for Pod {
     fn copy(&self, alloc: Global) -> Result<Pod, NoMemory> {
+        let labels = self.labels.copy(alloc)?;
+        let ports = self.ports.copy(alloc)?;
+        let node = self.node.copy(alloc)?;
+        let key = self.key.copy(alloc)?;
         Ok(Pod {
-            key: self.key.copy(alloc)?,
-            labels: self.labels.copy(alloc)?,
+            key,
+            labels,
             deleting: self.deleting,
-            node: self.node.copy(alloc)?,
-            ports: self.ports.copy(alloc)?,
+            node,
+            ports,
             finished: self.finished,
             address: self.address,
             ready: self.ready,
