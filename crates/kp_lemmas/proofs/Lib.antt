@@ -3,5 +3,6 @@ pub mod Elements
 pub mod Entries
 pub mod Equality
 pub mod ListFacts
+pub mod Members
 pub mod Numbers
 pub mod Orders

@@ -1,8 +1,8 @@
 -- Elements of lists that are made of others.
-use Rattle.std.proofs.Common.{◌≡◌, ◌⊎◌, inl, inr, Bool, true, false, cond, refl, sym, ap, subst, ◌∙◌, suc, zero, List, [], ◌∷◌, map, reverse, Contains, filter, flat_map, arith, le_of_suc-le-suc, suc-le-suc, zero-lt-suc}
-use Rattle.std.proofs.lemmas.List.Elements.{Contains-append_cases}
-use Rattle.std.proofs.lemmas.List.Sorted.{Contains-permutation, IsPermutation-sym, IsPermutation-reverse}
-use Rattle.kp_object_laws.specs.ObjectLaws.{HaveSameElements}
+use Rattle.std.proofs.Common.{◌≡◌, ◌⊎◌, inl, inr, Bool, true, false, cond, refl, sym, ap, subst, ◌∙◌, suc, zero, List, [], ◌∷◌, map, Contains, filter, flat_map, arith, le_of_suc-le-suc, suc-le-suc, zero-lt-suc}
+use Rattle.std.specs.List.{list_all, list_any}
+use Rattle.std.proofs.lemmas.Bool.{and_from, and_parts, or_parts, or_left, or_right}
+use Rattle.std.proofs.lemmas.List.Elements.{Contains-append_left, Contains-append_right, Contains-append_cases}
 
 -- the first element is in the list
 pub first_in : {A : Type 0} (x : A) (xs : List A) → Contains (x ∷ xs) x
@@ -46,16 +46,6 @@ pub from_filter : {A : Type 0} (p : A → Bool) (x : A) (xs : List A) → Contai
 from_filter p x [] c = absurd (none_in x c)
 from_filter p x (y ∷ ys) c = from_filter_by p x y ys (from_filter p x ys) (p y) refl c
 
--- lists of the same elements, of which those that pass are taken
-pub same_filtered : {A : Type 0} (p : A → Bool) (xs ys : List A) → HaveSameElements xs ys → HaveSameElements (filter p xs) (filter p ys)
-same_filtered p xs ys same x =
-    (λ c. let (d, passes) = from_filter p x xs c in in_filter p x ys ((same x).0 d) passes, λ c. let (d, passes) = from_filter p x ys c in in_filter p x xs ((same x).1 d) passes)
-
--- a reversed list has the same elements
-pub same_reversed : {A : Type 0} (xs ys : List A) → HaveSameElements xs ys → HaveSameElements (reverse xs) ys
-same_reversed xs ys same x =
-    (λ c. (same x).0 (Contains-permutation (reverse xs) xs x (IsPermutation-sym xs (reverse xs) (IsPermutation-reverse xs)) c), λ c. Contains-permutation xs (reverse xs) x (IsPermutation-reverse xs) ((same x).1 c))
-
 -- an element's value is in the mapped list
 pub in_map : {A B : Type 0} (f : A → B) (x : A) (xs : List A) → Contains xs x → Contains (map f xs) (f x)
 in_map f x [] c = absurd (none_in x c)
@@ -78,3 +68,49 @@ from_flat_map f z (y ∷ ys) c =
       | inl d ↦ (y, first_in y ys, d)
       | inr d ↦ let (x, in_ys, is) = from_flat_map f z ys d in (x, later_in x y ys in_ys, is)
     ]
+
+-- an element of a piece is in the pieces together
+pub in_flat_map : {A B : Type 0} (f : A → List B) (x : A) (z : B) (xs : List A) → Contains xs x → Contains (f x) z → Contains (flat_map f xs) z
+in_flat_map f x z [] c d = absurd (none_in x c)
+in_flat_map f x z (y ∷ ys) c d =
+    elim (in_cases x y ys c) [
+      | inl e ↦ Contains-append_left (f y) (flat_map f ys) z (subst (λ w. Contains (f w) z) (sym e) d)
+      | inr k ↦ Contains-append_right (f y) (flat_map f ys) z (in_flat_map f x z ys k d)
+    ]
+
+-- where no element passes, an element doesn't
+pub none_passes : {A : Type 0} (test : A → Bool) (x : A) (xs : List A) → list_any test xs ≡ false → Contains xs x → test x ≡ false
+none_passes test x [] h c = absurd (none_in x c)
+none_passes test x (y ∷ ys) h c =
+    let parts = or_parts (test y) (list_any test ys) h in
+    elim (in_cases x y ys c) [ inl e ↦ ap test (sym e) ∙ parts.0 | inr d ↦ none_passes test x ys parts.1 d ]
+
+-- where an element passes, some does
+pub any_from : {A : Type 0} (test : A → Bool) (x : A) (xs : List A) → Contains xs x → test x ≡ true → list_any test xs ≡ true
+any_from test x [] c h = absurd (none_in x c)
+any_from test x (y ∷ ys) c h =
+    elim (in_cases x y ys c) [
+      | inl e ↦ or_left (test y) (list_any test ys) (ap test e ∙ h)
+      | inr d ↦ or_right (test y) (list_any test ys) (any_from test x ys d h)
+    ]
+
+-- what holds of all elements is a test of the list
+pub all_from : {A : Type 0} (test : A → Bool) (xs : List A) → ((x : A) → Contains xs x → test x ≡ true) → list_all test xs ≡ true
+all_from test [] h = refl
+all_from test (x ∷ xs) h = and_from (test x) (list_all test xs) (h x (first_in x xs)) (all_from test xs (λ y c. h y (later_in y x xs c)))
+
+-- and what a test says of all elements it says of each
+pub from_all : {A : Type 0} (test : A → Bool) (xs : List A) → list_all test xs ≡ true → (x : A) → Contains xs x → test x ≡ true
+from_all test [] h x c = absurd (none_in x c)
+from_all test (y ∷ xs) h x c =
+    let parts = and_parts (test y) (list_all test xs) h in
+    elim (in_cases x y xs c) [ inl e ↦ ap test (sym e) ∙ parts.0 | inr d ↦ from_all test xs parts.1 x d ]
+
+-- those that pass all pass
+pub filter_passes : {A : Type 0} (test : A → Bool) (xs : List A) → list_all test (filter test xs) ≡ true
+filter_passes test xs = all_from test (filter test xs) (λ x c. (from_filter test x xs c).1)
+
+-- a list without elements is empty
+pub without_elements : {A : Type 0} (xs : List A) → ((x : A) → Contains xs x → ⊥) → xs ≡ []
+without_elements [] h = refl
+without_elements (x ∷ xs) h = absurd (h x (first_in x xs))
