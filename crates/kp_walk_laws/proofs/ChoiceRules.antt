@@ -1,6 +1,6 @@
 -- What the rules do that choose among endpoints: they go where the draws say.
 use Rattle.std.proofs.Common.{◌≡◌, ℕ, suc, zero, ◌+◌, ◌-◌, ◌^◌, min, Bool, true, false, List, [], ◌∷◌, length, Contains, slice_get, Option, Some, None, if◌then◌else◌, refl, ap, ◌∙◌, arith}
-use Rattle.kp_lemmas.proofs.Elements.{first_in, later_in}
+use Rattle.kp_lemmas.proofs.Members.{first_in, later_in}
 use Rattle.kp_base.specs.declared.key.Endpoint.{Endpoint}
 use Rattle.kp_types.specs.declared.rule.Target.TheVariants as target
 use Rattle.kp_choice_defs.specs.Draws.{draw_at, draw_matches, probability_of, selected_index}

@@ -8,7 +8,7 @@ use Rattle.std.specs.FinMap.{IsAntisymmetric, entries, from_entries, put, entrie
 use Rattle.std.specs.FinMap.Entries.{by_order, below_all, is_sorted}
 use Rattle.kp_lemmas.proofs.Booleans.{both_facts}
 use Rattle.kp_lemmas.proofs.Entries.{empty_entries}
-use Rattle.kp_lemmas.proofs.Elements.{first_in, later_in, none_in, in_cases}
+use Rattle.kp_lemmas.proofs.Members.{first_in, later_in, none_in, in_cases}
 use Rattle.kp_object_defs.specs.Order.{in_order}
 
 module _ {K X : Type 0} (R : K → K → Ordering) (exact : IsAntisymmetric R) where

@@ -11,7 +11,7 @@ use Rattle.std.specs.List.{list_any}
 use Rattle.std.proofs.lemmas.Bool.{or_parts}
 use Rattle.std.proofs.lemmas.Map.Views.{list_any-from_Contains}
 use Rattle.kp_lemmas.proofs.Orders.{equal_from_test, tie_of_itself}
-use Rattle.kp_lemmas.proofs.Elements.{first_in, later_in, in_map}
+use Rattle.kp_lemmas.proofs.Members.{first_in, later_in, in_map}
 use Rattle.kp_base.specs.Keys.{text_cmp}
 use Rattle.kp_base.specs.declared.address.Family.{Family}
 use Rattle.kp_base.specs.declared.address.Family.TheVariants.{V4, V6}

@@ -6,7 +6,7 @@ use Rattle.std.specs.List.{list_all}
 use Rattle.std.proofs.lemmas.Bool.{and_from, and_parts}
 use Rattle.std.proofs.lemmas.Option.{same_Some}
 use Rattle.std.proofs.lemmas.List.Sums.{AllPass-from_list_all}
-use Rattle.kp_lemmas.proofs.Elements.{all_map, all_flat_map}
+use Rattle.kp_lemmas.proofs.Members.{all_map, all_flat_map}
 use Rattle.kp_lemmas.proofs.ListFacts.{test_append}
 use Rattle.kp_base.specs.Net.{AddressParts, RangeParts}
 use Rattle.kp_base.specs.declared.key.Endpoint.{Endpoint}

@@ -5,7 +5,7 @@ use Rattle.std.specs.FinMap.{values}
 use Rattle.std.specs.List.{cons_option}
 use Rattle.std.proofs.lemmas.Option.{same_Some}
 use Rattle.std.proofs.lemmas.List.Sorted.{Contains-permutation, IsPermutation-sym, IsPermutation-reverse}
-use Rattle.kp_lemmas.proofs.Elements.{first_in, later_in, none_in, in_cases, in_map, from_map, from_flat_map}
+use Rattle.kp_lemmas.proofs.Members.{first_in, later_in, none_in, in_cases, in_map, from_map, from_flat_map}
 use Rattle.kp_base.specs.Keys.{port_key_cmp}
 use Rattle.kp_base.proofs.KeyOrder.{port_key_total, port_key_exact}
 use Rattle.kp_base.specs.Net.{AddressParts}

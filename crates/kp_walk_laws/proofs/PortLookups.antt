@@ -9,7 +9,7 @@ use Rattle.std.proofs.lemmas.List.{map-append}
 use Rattle.std.proofs.lemmas.List.Elements.{Contains-append_left, Contains-append_right, Contains-append_cases}
 use Rattle.std.proofs.lemmas.Map.Views.{Contains-from_any}
 use Rattle.std.proofs.lemmas.Simd.{map-map}
-use Rattle.kp_lemmas.proofs.Elements.{first_in, later_in, none_in, in_cases, in_map, from_map, in_flat_map, from_flat_map, in_filter, from_filter}
+use Rattle.kp_lemmas.proofs.Members.{first_in, later_in, none_in, in_cases, in_map, from_map, in_flat_map, from_flat_map, in_filter, from_filter}
 use Rattle.kp_base.specs.Keys.{endpoint_cmp}
 use Rattle.kp_base.proofs.KeyOrder.{endpoint_exact}
 use Rattle.kp_base.specs.declared.address.Family.{Family}

@@ -4,7 +4,7 @@ use Rattle.std.specs.FinMap.{entries, get}
 use Rattle.std.specs.List.{list_all}
 use Rattle.std.proofs.lemmas.Bool.{and_from}
 use Rattle.std.proofs.lemmas.List.Elements.{Contains-append_right}
-use Rattle.kp_lemmas.proofs.Elements.{first_in, later_in, in_flat_map, all_from, from_all, all_map, all_flat_map}
+use Rattle.kp_lemmas.proofs.Members.{first_in, later_in, in_flat_map, all_from, from_all, all_map, all_flat_map}
 use Rattle.kp_lemmas.proofs.ListFacts.{test_append}
 use Rattle.kp_base.specs.Net.{AddressParts, RangeParts}
 use Rattle.kp_base.specs.declared.key.Endpoint.{Endpoint}

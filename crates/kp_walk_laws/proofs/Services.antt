@@ -2,7 +2,7 @@
 use Rattle.std.proofs.Common.{◌≡◌, ℕ, suc, ◌-◌, ◌^◌, ◌==◌, min, Bool, true, false, not, cond, ◌&&◌, ◌||◌, List, [], ◌∷◌, ◌++◌, length, Contains, slice_get, Option, Some, None, is_some, option_map, map, append-nil, flat_map, refl, sym, ap, ap₂, subst, ◌∙◌}
 use Rattle.std.specs.List.{find}
 use Rattle.std.proofs.lemmas.Bool.{and_parts}
-use Rattle.kp_lemmas.proofs.Elements.{first_in, later_in}
+use Rattle.kp_lemmas.proofs.Members.{first_in, later_in}
 use Rattle.kp_base.specs.Net.{same_address, single_range, range_contains, loopback_range, is_local_address}
 use Rattle.kp_base.specs.declared.key.Endpoint.{Endpoint}
 use Rattle.kp_types.specs.Setting.{FamilyConfig, Pick, Setting}

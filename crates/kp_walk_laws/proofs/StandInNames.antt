@@ -5,7 +5,7 @@ use Rattle.std.proofs.lemmas.Bool.Decides.{nat_tests}
 use Rattle.std.proofs.lemmas.Bool.{and_from}
 use Rattle.std.proofs.lemmas.List.{same_from_push, append_cancel_left, length_push}
 use Rattle.std.proofs.lemmas.List.Folds.{list_all-append}
-use Rattle.kp_lemmas.proofs.Elements.{none_in, in_cases}
+use Rattle.kp_lemmas.proofs.Members.{none_in, in_cases}
 use Rattle.kp_base.specs.declared.key.Endpoint.{Endpoint}
 use Rattle.kp_types.specs.Chains.{is_chain_byte}
 use Rattle.kp_types.specs.declared.chain.ChainKey.TheVariants.{Port, Sep}

@@ -1,6 +1,6 @@
 -- Two Services of different names meet the premises of the law of walking.
 use Rattle.std.proofs.Common.{◌≡◌, inl, inr, ℕ, List, [], ◌∷◌, Contains, get_or, codes, refl, sym, ap, subst, arith}
-use Rattle.kp_lemmas.proofs.Elements.{none_in, in_cases}
+use Rattle.kp_lemmas.proofs.Members.{none_in, in_cases}
 use Rattle.kp_base.specs.declared.key.Endpoint.{Endpoint}
 use Rattle.kp_object_defs.specs.PortInfo.{PortInfo}
 use Rattle.kp_walk_laws.specs.Laws.{HaveOwnKeys, IsClusterOnly}
