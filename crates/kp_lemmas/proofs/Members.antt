@@ -3,6 +3,7 @@ use Rattle.std.proofs.Common.{◌≡◌, ◌⊎◌, inl, inr, Bool, true, false,
 use Rattle.std.specs.List.{list_all, list_any}
 use Rattle.std.proofs.lemmas.Bool.{and_from, and_parts, or_parts, or_left, or_right}
 use Rattle.std.proofs.lemmas.List.Elements.{Contains-append_left, Contains-append_right, Contains-append_cases}
+use Rattle.kp_lemmas.proofs.ListFacts.{test_append}
 
 -- the first element is in the list
 pub first_in : {A : Type 0} (x : A) (xs : List A) → Contains (x ∷ xs) x
@@ -114,3 +115,19 @@ filter_passes test xs = all_from test (filter test xs) (λ x c. (from_filter tes
 pub without_elements : {A : Type 0} (xs : List A) → ((x : A) → Contains xs x → ⊥) → xs ≡ []
 without_elements [] h = refl
 without_elements (x ∷ xs) h = absurd (h x (first_in x xs))
+
+-- a test of the values of all elements
+pub all_map : {A B : Type 0} (test : B → Bool) (f : A → B) (xs : List A)
+    → ((x : A) → Contains xs x → test (f x) ≡ true) → list_all test (map f xs) ≡ true
+all_map test f [] h = refl
+all_map test f (x ∷ xs) h =
+    and_from (test (f x)) (list_all test (map f xs)) (h x (first_in x xs))
+    (all_map test f xs (λ y c. h y (later_in y x xs c)))
+
+-- a test of the pieces of all elements
+pub all_flat_map : {A B : Type 0} (test : B → Bool) (f : A → List B) (xs : List A)
+    → ((x : A) → Contains xs x → list_all test (f x) ≡ true) → list_all test (flat_map f xs) ≡ true
+all_flat_map test f [] h = refl
+all_flat_map test f (x ∷ xs) h =
+    test_append test (f x) (flat_map f xs) (h x (first_in x xs))
+    (all_flat_map test f xs (λ y c. h y (later_in y x xs c)))
