@@ -25,7 +25,6 @@ pub(crate) fn plain_table(
     ensures plain { IfOk result (λ t. HasNoRecent (get t.chains)) }
 {
     kp_walk_laws::full_table_plain();
-    kp_writer::laws::plain_infos();
     kp_writer::laws::plain_ports();
     kp_writer::full_table(alloc, config, service, slice)
 }

@@ -1,23 +1,31 @@
--- The endpoints of the plain port have the numbers that those of the slice have.
-use Rattle.std.proofs.Common.{◌≡◌, inl, inr, ℕ, ◌<◌, ◌^◌, Bool, true, false, cond, bytes_eq, List, [], ◌∷◌, map, Contains, Option, Some, None, option_map, filter_map, refl, sym, subst}
+-- The port of the plain objects answers at its cluster address alone, and its chains don't clash.
+use Rattle.std.proofs.Common.{◌≡◌, inl, inr, ℕ, ◌<◌, ◌≤◌, lit≤, length, ap, ◌∙◌, ◌^◌, Bool, true, false, cond, bytes_eq, List, [], ◌∷◌, map, Contains, Option, Some, None, option_map, filter_map, refl, subst}
 use Rattle.std.specs.List.{cons_option, AllByRecursion}
+use Rattle.std.proofs.lemmas.List.{append-nil}
 use Rattle.kp_base.specs.Net.{same_family}
 use Rattle.kp_base.specs.Keys.{endpoint_cmp}
 use Rattle.kp_base.proofs.KeyOrder.{endpoint_exact}
 use Rattle.kp_base.specs.declared.address.Family.{Family}
 use Rattle.kp_base.specs.declared.address.Family.TheVariants.{V4, V6}
 use Rattle.kp_base.specs.declared.key.Endpoint.{Endpoint}
+use Rattle.kp_types.specs.Setting.{config_for}
+use Rattle.kp_choice_defs.specs.Names.{first_clash}
 use Rattle.kp_object_defs.specs.Order.{in_order}
 use Rattle.kp_object_defs.specs.PortInfo.{PortInfo}
+use Rattle.kp_table_defs.specs.Layout.{all_endpoints}
+use Rattle.kp_table_defs.specs.Rebuild.{needed_keys}
+use Rattle.kp_table_defs.specs.StandIn.{stand_in_name}
 use Rattle.kp_text_defs.specs.declared.line.PlainService.{PlainService}
 use Rattle.kp_text_defs.specs.declared.line.PlainEndpoint.{PlainEndpoint}
 use Rattle.kp_text_defs.specs.declared.line.PlainSlice.{PlainSlice}
-use Rattle.kp_walk_laws.specs.Laws.{IsSmall}
+use Rattle.kp_walk_laws.specs.Laws.{IsClusterOnly, IsSmall}
+use Rattle.kp_walk_laws.proofs.StandInNames.{stand_in_apart_by}
 use Rattle.kp_walk_laws.proofs.Members.{none_in, in_cases, from_map}
 use Rattle.kp_walk_laws.proofs.Outcomes.{first_in, later_in}
-use Rattle.kp_writer.specs.Laws.{PlainSmall}
-use Rattle.kp_writer.specs.Plain.{IsSmallSlice, endpoint_at, slice_endpoints, endpoints_of, plain_info}
+use Rattle.kp_writer.specs.Laws.{PlainClusterOnly, PlainNoClash}
+use Rattle.kp_writer.specs.Plain.{IsSmallSlice, endpoint_at, slice_endpoints, endpoints_of, plain_info, plain_infos}
 use Rattle.kp_writer.proofs.Distinct.{in_order_all, each_of}
+use Rattle.kp_writer.proofs.PlainPort.{plain_infos_by}
 
 is_v4 : (f : Family) → same_family f V4 ≡ true → f ≡ V4
 is_v4 V4 h = refl
@@ -52,16 +60,43 @@ each_small fs h f c =
     let (e, in_entries, is) = from_map (λ (p : Endpoint × Endpoint). p.0) f entries c in
     subst IsSmall is (each_of (λ (p : Endpoint × Endpoint). IsSmall p.0) entries (in_order_all endpoint_cmp endpoint_exact (λ (p : Endpoint × Endpoint). IsSmall p.0) (map (λ k. (k, k)) fs) (twice_small fs h)) e in_entries)
 
-module _ (s : PlainService) (slice : Option PlainSlice) (small : IsSmallSlice slice) (i : PortInfo) (f : Endpoint) where
-  port_small_by : (b : Bool) → Contains (cond b (plain_info s (endpoints_of s slice) ∷ []) []) i → Contains i.lists.cluster f → IsSmall f
-  port_small_by true c d =
-      elim (in_cases i (plain_info s (endpoints_of s slice)) [] c) [
-        | inl e ↦ each_small (slice_endpoints s slice) (slice_small s slice small) f (subst (λ (j : PortInfo). Contains j.lists.cluster f) (sym e) d)
-        | inr n ↦ absurd (none_in i n)
-      ]
-  port_small_by false c d = absurd (none_in i c)
+module _ (s : PlainService) (slice : Option PlainSlice) where
+  -- the port
+  abbrev port : PortInfo
+  port = plain_info s (endpoints_of s slice)
 
--- the endpoints of the port are small, where those of the slice are
-pub plain_small_by : PlainSmall
-plain_small_by None slice h i f c d = absurd (none_in i c)
-plain_small_by (Some s) slice h i f c d = port_small_by s slice h i f (same_family s.address.family V4) c d
+  -- and what holds of it holds of each, where there is one
+  each_port : (P : PortInfo → Type 0) → P port → (b : Bool) (i : PortInfo) → Contains (cond b (port ∷ []) []) i → P i
+  each_port P h true i c = elim (in_cases i port [] c) [ inl e ↦ subst P e h | inr n ↦ absurd (none_in i n) ]
+  each_port P h false i c = absurd (none_in i c)
+
+  one_at_most : (b : Bool) → length (cond b (port ∷ []) []) ≤ 1
+  one_at_most true = lit≤ tt
+  one_at_most false = lit≤ tt
+
+  port_small : IsSmallSlice slice → (f : Endpoint) → Contains (all_endpoints port) f → IsSmall f
+  port_small small f c = each_small (slice_endpoints s slice) (slice_small s slice small) f (subst (λ es. Contains es f) (append-nil (endpoints_of s slice)) c)
+
+port_cluster_only : (s : PlainService) (es : List Endpoint) → IsClusterOnly (plain_info s es)
+port_cluster_only s es = record { external = refl; balancer = refl; node_port = refl; affinity = refl }
+
+known_cluster_only : (service : Option PlainService) (slice : Option PlainSlice) (i : PortInfo) → Contains (plain_infos service slice) i → IsClusterOnly i
+known_cluster_only None slice i c = absurd (none_in i c)
+known_cluster_only (Some s) slice i c = each_port s slice IsClusterOnly (port_cluster_only s (endpoints_of s slice)) (same_family s.address.family V4) i c
+
+-- the port answers at its cluster address alone
+pub plain_cluster_only_by : PlainClusterOnly
+plain_cluster_only_by config service slice i c = known_cluster_only service slice i (subst (λ is. Contains is i) (plain_infos_by config service slice) c)
+
+known_no_clash : (service : Option PlainService) (slice : Option PlainSlice) → IsSmallSlice slice → first_clash stand_in_name (needed_keys (plain_infos service slice)) ≡ None
+known_no_clash None slice small = stand_in_apart_by [] (lit≤ tt) (λ i f c. absurd (none_in i c))
+known_no_clash (Some s) slice small =
+    let there = same_family s.address.family V4 in
+    stand_in_apart_by (plain_infos (Some s) slice) (one_at_most s slice there)
+    (λ i f c. each_port s slice (λ j. Contains (all_endpoints j) f → IsSmall f) (port_small s slice small f) there i c)
+
+-- its chains don't clash
+pub plain_no_clash_by : PlainNoClash
+plain_no_clash_by config service slice small =
+    ap (λ is. first_clash stand_in_name (needed_keys is)) (plain_infos_by (config_for V4 config) service slice)
+    ∙ known_no_clash service slice small
