@@ -1,4 +1,4 @@
-use Rattle.kp_writer.proofs.SmallEndpoints.{plain_cluster_only_by, plain_no_clash_by}
+use Rattle.kp_writer.proofs.PlainLaws.{plain_cluster_only_by, plain_no_clash_by}
 use Rattle.kp_writer.proofs.laws.plain_ports.Goals as goal
 
 pub returns-clause-cluster_only : goal.returns-clause-cluster_only

@@ -1,29 +1,34 @@
--- The port of the plain objects answers at its cluster address alone, and its chains don't clash.
-use Rattle.std.proofs.Common.{◌≡◌, inl, inr, ℕ, ◌<◌, ◌≤◌, lit≤, length, ap, ◌∙◌, ◌^◌, Bool, true, false, cond, bytes_eq, List, [], ◌∷◌, map, Contains, Option, Some, None, option_map, filter_map, refl, subst}
+-- The port of the plain objects answers at its cluster address alone, its chains don't clash, and no rule of
+-- the table asks a recent list.
+use Rattle.std.proofs.Common.{◌≡◌, inl, inr, ℕ, ◌<◌, ◌≤◌, lit≤, length, ap, ◌∙◌, ◌^◌, Bool, true, false, cond, bytes_eq, List, [], ◌∷◌, map, Contains, Option, Some, None, option_map, filter_map, refl, sym, subst}
+use Rattle.std.specs.Prelude.{Result, Ok, Err, IfOk}
 use Rattle.std.specs.List.{cons_option, AllByRecursion}
+use Rattle.std.specs.FinMap.{get}
 use Rattle.std.proofs.lemmas.List.{append-nil}
 use Rattle.kp_base.specs.Net.{same_family}
 use Rattle.kp_base.specs.Keys.{endpoint_cmp}
 use Rattle.kp_base.proofs.KeyOrder.{endpoint_exact}
 use Rattle.kp_base.specs.declared.address.Family.{Family}
+use Rattle.kp_base.specs.declared.config.Config.{Config}
 use Rattle.kp_base.specs.declared.address.Family.TheVariants.{V4, V6}
 use Rattle.kp_base.specs.declared.key.Endpoint.{Endpoint}
 use Rattle.kp_types.specs.Setting.{config_for}
 use Rattle.kp_choice_defs.specs.Names.{first_clash}
 use Rattle.kp_object_defs.specs.Order.{in_order}
-use Rattle.kp_object_defs.specs.PortInfo.{PortInfo}
+use Rattle.kp_object_defs.specs.PortInfo.{PortInfo, port_infos}
 use Rattle.kp_table_defs.specs.Layout.{all_endpoints}
-use Rattle.kp_table_defs.specs.Rebuild.{needed_keys}
-use Rattle.kp_table_defs.specs.StandIn.{stand_in_name}
+use Rattle.kp_table_defs.specs.Plain.{HasNoRecent}
+use Rattle.kp_table_defs.specs.Rebuild.{TableParts, full_table, needed_keys}
+use Rattle.kp_table_defs.specs.StandIn.{stand_in_name, stand_in_setting}
 use Rattle.kp_text_defs.specs.declared.line.PlainService.{PlainService}
 use Rattle.kp_text_defs.specs.declared.line.PlainEndpoint.{PlainEndpoint}
 use Rattle.kp_text_defs.specs.declared.line.PlainSlice.{PlainSlice}
-use Rattle.kp_walk_laws.specs.Laws.{IsClusterOnly, IsSmall}
+use Rattle.kp_walk_laws.specs.Laws.{FullTablePlain, IsClusterOnly, IsSmall}
 use Rattle.kp_walk_laws.proofs.StandInNames.{stand_in_apart_by}
 use Rattle.kp_walk_laws.proofs.Members.{none_in, in_cases, from_map}
 use Rattle.kp_walk_laws.proofs.Outcomes.{first_in, later_in}
 use Rattle.kp_writer.specs.Laws.{PlainClusterOnly, PlainNoClash}
-use Rattle.kp_writer.specs.Plain.{IsSmallSlice, endpoint_at, slice_endpoints, endpoints_of, plain_info, plain_infos}
+use Rattle.kp_writer.specs.Plain.{IsSmallSlice, objects_with, endpoint_at, slice_endpoints, endpoints_of, plain_info, plain_infos}
 use Rattle.kp_writer.proofs.Distinct.{in_order_all, each_of}
 use Rattle.kp_writer.proofs.PlainPort.{plain_infos_by}
 
@@ -100,3 +105,23 @@ pub plain_no_clash_by : PlainNoClash
 plain_no_clash_by config service slice small =
     ap (λ is. first_clash stand_in_name (needed_keys is)) (plain_infos_by (config_for V4 config) service slice)
     ∙ known_no_clash service slice small
+
+-- no rule of the plain objects' table asks a recent list
+pub table_plain : FullTablePlain → PlainClusterOnly → (config : Config)
+    (service : Option PlainService) (slice : Option PlainSlice) (t : TableParts)
+    → t ≡ full_table (stand_in_setting V4 config) (objects_with service slice)
+    → HasNoRecent (get t.chains)
+table_plain plain only config service slice t full =
+    let setting = stand_in_setting V4 config in
+    subst (λ t. HasNoRecent (get t.chains)) (sym full)
+    (plain setting (port_infos V4 setting.config (objects_with service slice))
+    (λ i has. (only setting.config service slice i has).affinity))
+
+pub plain_ok : FullTablePlain → PlainClusterOnly → (config : Config)
+    (service : Option PlainService) (slice : Option PlainSlice) {E : Type 0}
+    (result : Result TableParts E)
+    → IfOk result (λ t. t ≡ full_table (stand_in_setting V4 config) (objects_with service slice))
+    → IfOk result (λ t. HasNoRecent (get t.chains))
+plain_ok plain only config service slice (Ok t) full =
+    table_plain plain only config service slice t full
+plain_ok plain only config service slice (Err e) full = tt
