@@ -27,6 +27,7 @@ pub record Look : Type 0 where
   pub found : Option (Endpoint × ℕ)
   pub lists : RecentParts
 
+-- such a look at a list of endpoints, the first of which has this place
 abbrev pub live_endpoint : (Endpoint → List ℕ) → AddressParts → ℕ → ℕ → ℕ → List Endpoint → RecentParts → Look
 live_endpoint name source now seconds place [] lists = record { found = None; lists = lists }
 live_endpoint name source now seconds place (e ∷ es) lists =

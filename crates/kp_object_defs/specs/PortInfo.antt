@@ -86,12 +86,10 @@ is_reachable_in family s p = is_reachable (addresses_in family s.external) (bala
 abbrev pub lists_of : Family → Service → ServicePort → Option (List ℕ) → List Candidate → Lists
 lists_of family s p zone entries = lists_from s.internal s.outer (is_reachable_in family s p) zone entries
 
--- The source ranges of a Service in a family. An empty list restricts nobody, while ranges of another family
--- alone admit nobody.
+-- The source ranges of a Service in a family. No list restricts nobody (an object whose list is empty has
+-- none), while a list that has no range of the family admits nobody.
 abbrev pub restriction_in : Family → Option (List RangeParts) → Option (List RangeParts)
-restriction_in family None = None
-restriction_in family (Some []) = None
-restriction_in family (Some (r ∷ rs)) = Some (ranges_in family (r ∷ rs))
+restriction_in family ranges = option_map (ranges_in family) ranges
 
 -- what the proxy knows of a port, whose cluster address and endpoints are these
 abbrev pub info_from : Family → Service → ServicePort → Option (List ℕ) → List Candidate → AddressParts → PortInfo

@@ -72,10 +72,11 @@ is_blank bytes = list_all is_blank_byte bytes
 abbrev pub most_events : ℕ
 most_events = 1000000
 
--- the objects by now, and those that the last sync covers
+-- the objects by now
 abbrev pub objects_now : ReplayState → Objects
 objects_now s = objects_after s.events
 
+-- the objects that the last sync covers
 abbrev pub objects_covered : ReplayState → Objects
 objects_covered s = objects_after (take s.covered s.events)
 
@@ -101,10 +102,11 @@ event_step number event false s = refuse number NotBuilt s
 abbrev pub has_room : ReplayState → Bool
 has_room s = nat_lt (length s.events) most_events
 
--- all Services, or all slices, have this name
+-- all Services have this name
 abbrev pub services_named : List ℕ → Objects → Bool
 services_named name o = list_all (λ k. bytes_eq k.name name) (finite.keys o.services)
 
+-- all slices have this name
 abbrev pub slices_named : List ℕ → Objects → Bool
 slices_named name o = list_all (λ k. bytes_eq k.name name) (finite.keys o.slices)
 

@@ -33,22 +33,27 @@ use Rattle.kp_object_defs.specs.PortInfo.{PortInfo, is_accessible, internal_list
 abbrev pub mark_masq : List ℕ
 mark_masq = codes "KUBE-MARK-MASQ"
 
--- the shared chains
+-- the shared chains: in nat and in filter, for packets to Services
 abbrev pub kube_services : List ℕ
 kube_services = codes "KUBE-SERVICES"
 
+-- for packets to the node's own addresses
 abbrev pub kube_node_ports : List ℕ
 kube_node_ports = codes "KUBE-NODEPORTS"
 
+-- for packets that leave the node
 abbrev pub kube_postrouting : List ℕ
 kube_postrouting = codes "KUBE-POSTROUTING"
 
+-- in filter, for packets to Services from outside the cluster
 abbrev pub kube_external_services : List ℕ
 kube_external_services = codes "KUBE-EXTERNAL-SERVICES"
 
+-- in filter, for packets that are forwarded
 abbrev pub kube_forward : List ℕ
 kube_forward = codes "KUBE-FORWARD"
 
+-- in filter, for packets to load-balancer addresses with source ranges
 abbrev pub kube_proxy_firewall : List ℕ
 kube_proxy_firewall = codes "KUBE-PROXY-FIREWALL"
 
@@ -75,10 +80,11 @@ jump_to chain = rule_of [] (target.Jump chain)
 abbrev pub rule_at : PortInfo → Target → AddressParts → Rule
 rule_at i t a = rule_of (match.Dst (single_range a) false ∷ match.Port i.key.proto i.number ∷ []) t
 
--- the rules of a list, each but the last with a chance of one among those that are left
+-- a rule with a chance of one among so many
 abbrev pub chance : ℕ → Target → Rule
 chance n t = rule_of (match.Statistic (probability_of n) ∷ []) t
 
+-- the rules of a list, each but the last with a chance of one among those that are left
 abbrev pub choice_rules : (Endpoint → List ℕ) → List Endpoint → List Rule
 choice_rules name [] = []
 choice_rules name (e ∷ []) = jump_to (name e) ∷ []
@@ -203,11 +209,12 @@ refusal_block i =
 
 -- ---- Chains
 
--- the tables of a family; those of IPv6 aren't written yet
+-- the nat table of a family; the tables of IPv6 aren't written yet
 abbrev pub nat_table : Family → TableName
 nat_table V4 = Nat
 nat_table V6 = Nat
 
+-- the filter table of a family
 abbrev pub filter_table : Family → TableName
 filter_table V4 = Filter
 filter_table V6 = Filter

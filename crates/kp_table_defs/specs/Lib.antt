@@ -7,4 +7,5 @@ pub mod RankedWalk
 pub mod Ranks
 pub mod Rebuild
 pub mod StandIn
+pub mod Traversal
 pub mod Walk

@@ -22,3 +22,4 @@ pub mod Usable
 pub mod PlainServices
 pub mod Ranked
 pub mod Theorem
+pub mod TwoPorts

@@ -13,6 +13,7 @@ ghost use Rattle.kp_worked.specs.Lists as lists;
 ghost use Rattle.kp_worked.specs.Masquerades as masquerades;
 ghost use Rattle.kp_worked.specs.Names as names;
 ghost use Rattle.kp_worked.specs.Packing as packing;
+ghost use Rattle.kp_worked.specs.SourceRanges as ranges;
 ghost use Rattle.kp_worked.specs.Walks as walks;
 ghost use Rattle.kp_worked.specs.Wanted as wanted;
 
@@ -69,6 +70,17 @@ pub fn worked_source_ranges()
     ensures behind_reason { decisions.BehindRangeReason }
     ensures admitted { decisions.AdmittedToNone }
     ensures admitted_reason { decisions.AdmittedToNoneReason }
+{}
+
+/// Decisions on packets to a load balancer whose source ranges are all of another family.
+pub fn worked_ranges_of_other_families()
+    ensures other_family { ranges.OtherFamily }
+    ensures other_family_reason { ranges.OtherFamilyReason }
+    ensures other_family_walked { ranges.OtherFamilyWalked }
+    ensures none_left { ranges.NoRangeLeft }
+    ensures none_left_reason { ranges.NoRangeLeftReason }
+    ensures none_left_walked { ranges.NoRangeLeftWalked }
+    ensures no_list { ranges.NoList }
 {}
 
 /// Endpoints of a Service port.

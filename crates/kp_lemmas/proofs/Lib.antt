@@ -1,0 +1,7 @@
+pub mod Booleans
+pub mod Elements
+pub mod Entries
+pub mod Equality
+pub mod ListFacts
+pub mod Numbers
+pub mod Orders
