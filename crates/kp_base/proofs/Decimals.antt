@@ -7,12 +7,12 @@ use Rattle.std.proofs.lemmas.Bool.Decides.{nat_tests}
 use Rattle.kp_base.specs.Dotted.{is_decimal, digits_number, decimal_up_to}
 
 -- more digits write no smaller number
-digits_rise : (n : ℕ) (digits : List ℕ) → n ≤ digits_number n digits
+pub digits_rise : (n : ℕ) (digits : List ℕ) → n ≤ digits_number n digits
 digits_rise n [] = omega arith
 digits_rise n (d ∷ digits) = omega (arith, digits_rise (n * 10 + (d - 48)) digits)
 
 -- so the front of the digits writes no greater number than all
-front_below : (k : ℕ) (text : List ℕ) → digits_number 0 (take k text) ≤ digits_number 0 text
+pub front_below : (k : ℕ) (text : List ℕ) → digits_number 0 (take k text) ≤ digits_number 0 text
 front_below k text =
     subst (λ (ds : List ℕ). digits_number 0 (take k text) ≤ digits_number 0 ds) (take-append-drop k text)
     (subst (λ (n : ℕ). digits_number 0 (take k text) ≤ n) (sym (fold-append (λ (n d : ℕ). n * 10 + (d - 48)) 0 (take k text) (drop k text)))

@@ -3,3 +3,4 @@ pub mod KeyOrder
 pub mod Maps
 pub mod Pieces
 pub mod Printed
+pub mod SameParts

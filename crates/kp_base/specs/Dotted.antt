@@ -3,11 +3,8 @@
 -- most 32 (RFC 4632, 3.1). The bits of a range past its length are cleared.
 use Rattle.std.specs.Prelude.{ℕ, ◌+◌, ◌-◌, ◌*◌, ◌%◌, ◌==◌, ◌&&◌, nat_lt, nat_le, not, Bool, List, [], ◌∷◌, length, map, fold, cond, take, drop, position, slice_index, Option, Some, None, option_map, option_and_then}
 use Rattle.std.specs.List.{list_all, slice_split}
+pub use Rattle.kp_base.specs.Grammar.{is_digit}
 use Rattle.kp_base.specs.Net.{AddressParts, RangeParts, v4_address, range_size}
-
--- an ASCII digit
-abbrev pub is_digit : ℕ → Bool
-is_digit byte = nat_le 48 byte && nat_lt byte 58
 
 -- the number that digits write behind those of an earlier number, the first the highest
 abbrev pub digits_number : ℕ → List ℕ → ℕ

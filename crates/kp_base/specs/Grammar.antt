@@ -5,6 +5,7 @@
 use Rattle.std.specs.Prelude.{ℕ, ◌-◌, ◌==◌, ◌&&◌, ◌||◌, nat_le, Bool, List, length, option_map, unwrap_or, slice_get, false}
 use Rattle.std.specs.List.{list_all}
 
+-- an ASCII digit
 abbrev pub is_digit : ℕ → Bool
 is_digit byte = nat_le 48 byte && nat_le byte 57
 

@@ -1,6 +1,6 @@
 -- The orders of keys: by namespace and then by name, each by bytes; of Service ports by their Service,
 -- name and protocol; of endpoints by family, address number and port (this project's choice).
-use Rattle.std.specs.Prelude.{ℕ, List}
+use Rattle.std.specs.Prelude.{ℕ, ◌==◌, Bool, List}
 use Rattle.std.specs.Ordering.{nat_cmp, ordering_then}
 use Rattle.std.specs.declared.cmp.Ordering.{Ordering}
 use Rattle.std.specs.Cmp.Lexicographic.{slice_cmp}
@@ -26,6 +26,10 @@ abbrev pub proto_place : Proto → ℕ
 proto_place Sctp = 0
 proto_place Tcp = 1
 proto_place Udp = 2
+
+-- whether two protocols are one
+abbrev pub same_proto : Proto → Proto → Bool
+same_proto a b = proto_place a == proto_place b
 
 -- by Service, then port name, then protocol
 abbrev pub port_key_cmp : PortKey → PortKey → Ordering

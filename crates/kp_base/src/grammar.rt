@@ -72,32 +72,17 @@ fn ends_well(text: &[u8]) -> bool
 fn are_name_bytes(text: &[u8]) -> bool
     ensures { result ≡ list_all spec.is_name_byte text.now }
 {
-    for byte in text {
-        if !is_name_byte(*byte) {
-            return false;
-        }
-    }
-    true
+    text.iter().all(|byte| is_name_byte(*byte))
 }
 
 fn are_dashed_bytes(text: &[u8]) -> bool
     ensures { result ≡ list_all spec.is_dashed_byte text.now }
 {
-    for byte in text {
-        if !is_dashed_byte(*byte) {
-            return false;
-        }
-    }
-    true
+    text.iter().all(|byte| is_dashed_byte(*byte))
 }
 
 fn are_label_bytes(text: &[u8]) -> bool
     ensures { result ≡ list_all spec.is_label_byte text.now }
 {
-    for byte in text {
-        if !is_label_byte(*byte) {
-            return false;
-        }
-    }
-    true
+    text.iter().all(|byte| is_label_byte(*byte))
 }

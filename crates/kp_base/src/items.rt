@@ -1,5 +1,6 @@
 //! Lists that contracts see as lists.
 ghost use Rattle.std.specs.Prelude.{◌≡◌, [], ◌∷◌, ◌++◌, OnOk, OnErr, IfErr};
+ghost use Rattle.std.specs.Cmp.Lexicographic.{pointwise, lists_per, lists_equiv};
 
 use crate::memory::{Copied, NoMemory};
 use std::alloc::Global;
@@ -61,6 +62,21 @@ impl<T> Items<T> {
     {
         self.inner
     }
+}
+
+/// Lists are equal element by element.
+impl<T: PartialEq> PartialEq for Items<T> {
+    ghost eq = { pointwise T.eq };
+
+    ghost laws = { lists_per T.PartialEq.laws };
+
+    fn eq(&self, other: &Items<T>) -> bool {
+        self.as_slice() == other.as_slice()
+    }
+}
+
+impl<T: Eq> Eq for Items<T> {
+    ghost laws = { lists_equiv T.Eq.laws };
 }
 
 impl<T: Copied> Copied for Items<T> {

@@ -8,7 +8,7 @@ use crate::text::Text;
 use std::alloc::Global;
 
 /// A label, or a term of a selector.
-#[derive(Drop)]
+#[derive(PartialEq, Eq, Drop)]
 pub struct Pair {
     pub key: Text,
     pub value: Text,

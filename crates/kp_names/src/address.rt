@@ -102,25 +102,12 @@ fn segments(number: u128) -> [u16; 8]
     ]
 }
 
-/// Adds an IPv6 address. One that an IPv4 address is mapped to ends in that address.
-#[tactic(auto, unfolding(std::specs::Net::Text::ipv6_text))]
+/// Adds an IPv6 address.
 fn feed_ipv6(hasher: &mut Sha256, number: u128)
     ensures { (m : List ℕ) → Holds256 hasher.old m
         → Holds256 hasher.new (m ++ spec.number_text family.V6 number) }
 {
-    let groups = segments(number);
-    if groups[..6] == [0, 0, 0, 0, 0, 0xffff] {
-        hasher.update(b"::ffff:");
-        feed_dotted(
-            hasher,
-            groups[6] / 256,
-            groups[6] % 256,
-            groups[7] / 256,
-            groups[7] % 256,
-        );
-    } else {
-        feed_compressed(hasher, &groups);
-    }
+    feed_compressed(hasher, &segments(number));
 }
 
 /// Adds groups, with `::` in place of the longest run of zeros that has two or more.

@@ -9,7 +9,7 @@ use Rattle.kp_base.specs.Keys.{key_cmp}
 use Rattle.kp_base.specs.declared.address.Family.{Family}
 use Rattle.kp_base.specs.declared.port.Proto.{Proto}
 use Rattle.kp_base.specs.declared.key.Pair.{Pair}
-use Rattle.kp_base.specs.declared.config.Config.{Config}
+use Rattle.kp_types.specs.Setting.{FamilyConfig}
 use Rattle.kp_types.specs.Ports.{same_proto}
 use Rattle.kp_types.specs.declared.service.Service.{Service}
 use Rattle.kp_types.specs.declared.service.ServiceKind.{ServiceKind}
@@ -42,7 +42,7 @@ abbrev pub has_selector : Service → Bool
 has_selector s = not (is_empty s.selector) && not (is_external_name s.kind)
 
 -- the controller is on, and makes slices for the Service
-abbrev pub is_reconciled : Config → Service → Bool
+abbrev pub is_reconciled : FamilyConfig → Service → Bool
 is_reconciled config s = config.controller && has_selector s
 
 -- the pod has a label

@@ -1,12 +1,13 @@
 //! Chains by place: a hash table finds a chain, and a tree has the places in order.
-ghost use Rattle.std.specs.Prelude.{◌≡◌, ◌+◌, ◌<◌, ◌≤◌, slice_get, OnOk};
+ghost use Rattle.std.specs.Prelude.{◌≡◌, ◌+◌, ◌<◌, ◌≤◌, slice_get, IfOk, OnOk};
 ghost use Rattle.std.specs.FinMap as finite;
 ghost use Rattle.std.specs.Option.{option_copied};
+ghost use Rattle.kp_types.specs.Places.{chain_cmp};
 
 use crate::new_chain::NewChain;
 use crate::places::Places;
 use indexmap::IndexMap;
-use kp_base::{Items, NoMemory};
+use kp_base::{Copied, Items, NoMemory};
 use kp_types::{ChainAt, Rule};
 use std::alloc::Global;
 use std::marker::Model;
@@ -75,6 +76,13 @@ impl ChainMap {
         Ok(())
     }
 
+    /// The same chains once more.
+    pub fn copy(&self, alloc: Global) -> Result<ChainMap, NoMemory>
+        ensures { IfOk result (λ copy. copy.chains ≡ self.now.chains) }
+    {
+        chains_of(alloc, &self.rules)
+    }
+
     /// Writes a chain. It takes no memory.
     pub fn write(&mut self, chain: NewChain)
         requires { 0 < self.old.room }
@@ -98,4 +106,19 @@ impl ChainMap {
             self.places.remove(at);
         }
     }
+}
+
+/// The chains of these entries.
+fn chains_of(alloc: Global, entries: &IndexMap<ChainAt, Items<Rule>>) -> Result<ChainMap, NoMemory>
+    ensures { IfOk result (λ chains. chains.chains
+        ≡ finite.from_entries {R = chain_cmp} entries.now.entries) }
+{
+    let mut chains = ChainMap::new(alloc);
+    chains.reserve(entries.len())?;
+    for i in (0..entries.len()).rev() {
+        if let Some((at, rules)) = entries.get_index(i) {
+            chains.write(NewChain::new(alloc, at.same(), rules.copy(alloc)?)?);
+        }
+    }
+    Ok(chains)
 }

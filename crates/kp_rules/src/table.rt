@@ -10,7 +10,7 @@ use crate::new_chain::NewChain;
 use crate::places::Places;
 use crate::ranks::are_ranked;
 use crate::ready::{make_all, ready_edits};
-use kp_base::{Items, NoMemory};
+use kp_base::{Copied, Items, NoMemory};
 use kp_types::{Batch, ChainAt, Rule};
 use std::alloc::Global;
 use std::marker::Model;
@@ -32,6 +32,16 @@ impl Model for Table {
     ghost coded = { table_code };
 
     ghost view = { λ t. record { chains = t.chains.chains; syncs = t.syncs } };
+}
+
+impl Copied for Table {
+    fn copy(&self, alloc: Global) -> Result<Table, NoMemory> {
+        Ok(Table {
+            alloc,
+            chains: self.chains.copy(alloc)?,
+            syncs: self.syncs,
+        })
+    }
 }
 
 impl Table {

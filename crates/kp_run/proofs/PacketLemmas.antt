@@ -1,5 +1,5 @@
 -- Where the table of the last sync sends a packet is where the objects say that it goes.
-use Rattle.std.proofs.Common.{◌≡◌, ℕ, List, ap, sym, ◌∙◌}
+use Rattle.std.proofs.Common.{◌≡◌, ℕ, List, refl, ap, sym, ◌∙◌}
 use Rattle.std.specs.FinMap.{get}
 use Rattle.kp_base.specs.declared.address.Family.TheVariants.{V4}
 use Rattle.kp_types.specs.declared.verdict.Answer.{Answer}
@@ -8,7 +8,7 @@ use Rattle.kp_choice_defs.specs.Recent.{RecentParts}
 use Rattle.kp_object_defs.specs.PortInfo.{port_infos}
 use Rattle.kp_door_defs.specs.Decision.{decision_from}
 use Rattle.kp_table_defs.specs.Rebuild.{full_chains}
-use Rattle.kp_table_defs.specs.StandIn.{stand_in_name}
+use Rattle.kp_table_defs.specs.StandIn.{stand_in_setting}
 use Rattle.kp_table_defs.specs.Walk.{walk_of}
 use Rattle.kp_text_defs.specs.declared.line.PacketForm.{PacketForm}
 use Rattle.kp_run_defs.specs.Replay.{ReplayState, packet_decision, objects_covered}
@@ -23,11 +23,15 @@ module _ (decides : WalkDecides) (apart : StandInApart) (infos : PlainInfos) (on
   pub verdict_is : (r : Replay) (p : PacketForm) (draws : List ℕ) (a : Answer) → draws ≡ p.draws → ((lists : RecentParts) → answered a lists ≡ walk_of (get r.table.chains) r.config.addresses p.packet (draw_of_list draws) lists)
       → (s : ReplayState) → Stands r s → a.verdict ≡ (packet_decision s p).verdict
   verdict_is r p draws a same_draws walks s st =
+      let setting = stand_in_setting V4 s.config in
       let known = plain_infos st.table.service st.table.slice in
-      let chains : r.table.chains ≡ full_chains V4 stand_in_name s.config known = ap (λ t. t.chains) st.table.full ∙ ap (full_chains V4 stand_in_name s.config) (infos s.config st.table.service st.table.slice) in
-      let same : port_infos V4 s.config (objects_covered s) ≡ known = ap (port_infos V4 s.config) st.table.objects ∙ infos s.config st.table.service st.table.slice in
-      let agree = decides stand_in_name s.config known p.packet (draw_of_list p.draws) s.lists (only st.table.service st.table.slice) (apart known (one st.table.service st.table.slice) (small st.table.service st.table.slice st.table.small)) in
+      let are = infos setting.config st.table.service st.table.slice in
+      let chains : r.table.chains ≡ full_chains setting known =
+      ap (λ t. t.chains) st.table.full ∙ ap (full_chains setting) are in
+      let same : port_infos V4 setting.config (objects_covered s) ≡ known =
+      ap (port_infos V4 setting.config) st.table.objects ∙ are in
+      let agree = decides setting known p.packet (draw_of_list p.draws) s.lists refl (only st.table.service st.table.slice) (apart known (one st.table.service st.table.slice) (small st.table.service st.table.slice st.table.small)) in
       ap (λ w. w.verdict) (walks s.lists)
       ∙ (λ i. (walk_of (get (chains i)) (st.config i).addresses p.packet (draw_of_list (same_draws i)) s.lists).verdict)
       ∙ agree.verdict
-      ∙ ap (λ is. (decision_from stand_in_name s.config is p.packet (draw_of_list p.draws) s.lists).verdict) (sym same)
+      ∙ ap (λ is. (decision_from setting is p.packet (draw_of_list p.draws) s.lists).verdict) (sym same)

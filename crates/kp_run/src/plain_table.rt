@@ -5,7 +5,7 @@ ghost use Rattle.std.specs.Option.{option_copied};
 ghost use Rattle.kp_base.specs.declared.address.Family.TheVariants.{V4};
 ghost use Rattle.kp_table_defs.specs.Plain.{HasNoRecent};
 ghost use Rattle.kp_table_defs.specs.Rebuild as rebuild;
-ghost use Rattle.kp_table_defs.specs.StandIn.{stand_in_name};
+ghost use Rattle.kp_table_defs.specs.StandIn.{stand_in_setting};
 ghost use Rattle.kp_writer.specs.Plain.{objects_with};
 
 use kp_base::{Config, NoMemory};
@@ -20,7 +20,7 @@ pub(crate) fn plain_table(
     service: Option<&PlainService>,
     slice: Option<&PlainSlice>,
 ) -> Result<Table, NoMemory>
-    ensures full { IfOk result (λ t. t ≡ rebuild.full_table V4 stand_in_name config.now
+    ensures full { IfOk result (λ t. t ≡ rebuild.full_table (stand_in_setting V4 config.now)
         (objects_with (option_copied service.entry) (option_copied slice.entry))) }
     ensures plain { IfOk result (λ t. HasNoRecent (get t.chains)) }
 {

@@ -16,6 +16,10 @@ all_small [] h i = omega arith
 all_small (b ∷ bs) h zero = chain_byte_small b (and_parts _ _ h).0
 all_small (b ∷ bs) h (suc i) = all_small bs (and_parts _ _ h).1 i
 
+-- the bytes of a name
+pub name_bytes : (bs : List ℕ) → is_chain_name bs ≡ true → list_all is_chain_byte bs ≡ true
+name_bytes bs h = (and_parts _ _ (and_parts _ _ h).0).1
+
 -- a name is text
 pub name_utf8 : (bs : List ℕ) → is_chain_name bs ≡ true → IsUtf8 bs
-name_utf8 bs h = IsUtf8-from_ascii bs (all_small bs (and_parts _ _ (and_parts _ _ h).0).1)
+name_utf8 bs h = IsUtf8-from_ascii bs (all_small bs (name_bytes bs h))

@@ -1,15 +1,15 @@
 -- The order of chains' places is total, and tells all places apart; and what the derived comparisons and
 -- tests of places answer is what it answers.
-use Rattle.std.proofs.Common.{◌≡◌, ℕ, List, refl, ap, ◌∙◌}
-use Rattle.std.specs.declared.cmp.Ordering.{Ordering}
-use Rattle.std.specs.Ordering.{nat_cmp, eq_by_cmp, ordering_then, is_eq}
+use Rattle.std.proofs.Common.{◌≡◌, ◌==◌, ℕ, true, List, refl, ap, ◌∙◌}
+use Rattle.std.specs.Ordering.{eq_by_cmp, ordering_then, is_eq}
 use Rattle.std.specs.Cmp.{IsTotalOrder}
 use Rattle.std.specs.FinMap.{IsAntisymmetric, nat_cmp-IsAntisymmetric}
 use Rattle.std.proofs.lemmas.Cmp.{on_total, then_total, nat_cmp_total}
+use Rattle.std.proofs.lemmas.Bool.{eqb-true}
 use Rattle.std.proofs.lemmas.Map.Lookups.{exact_pairs}
 use Rattle.kp_base.specs.Keys.{text_cmp}
 use Rattle.kp_base.proofs.KeyOrder.{text_total, text_exact}
-use Rattle.kp_types.specs.Places.{table_place, chain_cmp}
+use Rattle.kp_types.specs.Places.{table_place, table_cmp, chain_cmp}
 use Rattle.kp_types.specs.declared.chain.TableName.{TableName}
 use Rattle.kp_types.specs.declared.chain.TableName.TheVariants.{Nat, Filter}
 use Rattle.kp_types.specs.declared.chain.ChainAt.{ChainAt}
@@ -18,16 +18,16 @@ use Rattle.kp_types.specs.contracts.chain.ChainAtOrd.TheImpl as chain_ord
 use Rattle.kp_types.specs.contracts.chain.ChainAtOrd.TheImpl.Laws as chain_laws
 use Rattle.kp_types.specs.contracts.chain.ChainAtPartialEq.TheImpl as chain_eq
 
--- nat before filter
-abbrev table_cmp : TableName → TableName → Ordering
-table_cmp a b = nat_cmp (table_place a) (table_place b)
-
 -- no two tables have one place
 one_table : (a b : TableName) → table_place a ≡ table_place b → a ≡ b
 one_table Nat Nat h = refl
 one_table Nat Filter h = absurd (cc)
 one_table Filter Nat h = absurd (cc)
 one_table Filter Filter h = refl
+
+-- the same by the test of numbers
+pub one_table_from_test : (a b : TableName) → (table_place a == table_place b) ≡ true → a ≡ b
+one_table_from_test a b h = one_table a b (eqb-true (table_place a) (table_place b) h)
 
 table_exact : IsAntisymmetric table_cmp
 table_exact a b h = one_table a b (nat_cmp-IsAntisymmetric _ _ h)

@@ -1,3 +1,4 @@
 pub mod ChainBytes
 pub mod ChainOrder
+pub mod ObjectEquality
 pub mod RuleEquality

@@ -12,6 +12,10 @@ abbrev pub table_place : TableName → ℕ
 table_place Nat = 0
 table_place Filter = 1
 
+-- nat before filter
+abbrev pub table_cmp : TableName → TableName → Ordering
+table_cmp a b = nat_cmp (table_place a) (table_place b)
+
 -- by table, and then by name
 abbrev pub chain_cmp : ChainAt → ChainAt → Ordering
-chain_cmp a b = ordering_then (nat_cmp (table_place a.table) (table_place b.table)) (text_cmp a.chain b.chain)
+chain_cmp a b = ordering_then (table_cmp a.table b.table) (text_cmp a.chain b.chain)

@@ -1,13 +1,9 @@
 -- Ports of one Service are told apart by name and protocol (Kubernetes API, ServicePort).
-use Rattle.std.specs.Prelude.{ℕ, ◌==◌, ◌&&◌, Bool, true, List, [], ◌∷◌, not, bytes_eq}
+use Rattle.std.specs.Prelude.{ℕ, ◌&&◌, Bool, true, List, [], ◌∷◌, not, bytes_eq}
 use Rattle.std.specs.List.{list_any}
 use Rattle.kp_base.specs.declared.port.Proto.{Proto}
-use Rattle.kp_base.specs.Keys.{proto_place}
+pub use Rattle.kp_base.specs.Keys.{same_proto}
 use Rattle.kp_types.specs.declared.service.ServicePort.{ServicePort}
-
--- whether two protocols are one
-abbrev pub same_proto : Proto → Proto → Bool
-same_proto a b = proto_place a == proto_place b
 
 -- whether a port has this name and protocol
 abbrev pub is_port : List ℕ → Proto → ServicePort → Bool

@@ -242,12 +242,7 @@ fn is_chain_byte(byte: u8) -> bool
 fn are_chain_bytes(text: &[u8]) -> bool
     ensures { result ≡ list_all Chains.is_chain_byte text.now }
 {
-    for byte in text {
-        if !is_chain_byte(*byte) {
-            return false;
-        }
-    }
-    true
+    text.iter().all(|byte| is_chain_byte(*byte))
 }
 
 fn is_target_word(text: &str) -> bool

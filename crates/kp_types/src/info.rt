@@ -43,28 +43,36 @@ pub struct PortInfo {
 
 impl Copied for ServiceSources {
     fn copy(&self, alloc: Global) -> Result<ServiceSources, NoMemory> {
+        let wanted = self.wanted.copy(alloc)?;
+        let slices = self.slices.copy(alloc)?;
+        let service = self.service.copy(alloc)?;
         Ok(ServiceSources {
-            service: self.service.copy(alloc)?,
-            wanted: self.wanted.copy(alloc)?,
-            slices: self.slices.copy(alloc)?,
+            service,
+            wanted,
+            slices,
         })
     }
 }
 
 impl Copied for PortInfo {
     fn copy(&self, alloc: Global) -> Result<PortInfo, NoMemory> {
+        let external = self.external.copy(alloc)?;
+        let balancer = self.balancer.copy(alloc)?;
+        let ranges = self.ranges.copy(alloc)?;
+        let lists = self.lists.copy(alloc)?;
+        let key = self.key.copy(alloc)?;
         Ok(PortInfo {
-            key: self.key.copy(alloc)?,
+            key,
             number: self.number,
             address: self.address,
-            external: self.external.copy(alloc)?,
-            balancer: self.balancer.copy(alloc)?,
+            external,
+            balancer,
             node_port: self.node_port,
-            ranges: self.ranges.copy(alloc)?,
+            ranges,
             affinity: self.affinity,
             internal: self.internal,
             outer: self.outer,
-            lists: self.lists.copy(alloc)?,
+            lists,
         })
     }
 }

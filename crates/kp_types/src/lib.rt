@@ -1,5 +1,5 @@
 //! The data that definitions and crates share: objects of the cluster, endpoints, chains and rules, packets
-//! and what becomes of them.
+//! and what becomes of them, and syncs.
 #![tactic(auto)]
 
 mod chain;
@@ -12,6 +12,7 @@ mod pod;
 mod rule;
 mod service;
 mod slice;
+mod sync;
 mod verdict;
 mod walk;
 
@@ -25,5 +26,6 @@ pub use pod::{ContainerPort, Node, Pod};
 pub use rule::{Batch, ChainText, Edit, Match, Rule, Target};
 pub use service::{ClusterAddress, Policy, Service, ServiceKind, ServicePort, TargetPort};
 pub use slice::{AddressType, Packed, Slice, SliceEndpoint, SlicePort, Wanted};
+pub use sync::SyncRecord;
 pub use verdict::{Answer, Pass, Trail, Verdict};
 pub use walk::Ending;

@@ -5,7 +5,7 @@ use kp_base::{Copied, Endpoint, Items, NoMemory, Text};
 use std::alloc::Global;
 
 /// An endpoint of a Service port, with its state.
-#[derive(Drop)]
+#[derive(PartialEq, Eq, Drop)]
 pub struct Candidate {
     pub endpoint: Endpoint,
     pub ready: bool,

@@ -5,7 +5,7 @@ use kp_base::{Address, Copied, Items, NoMemory, ObjectKey, Pair, PortNo, Proto, 
 use std::alloc::Global;
 
 /// One entry of a container's `ports`.
-#[derive(Drop)]
+#[derive(PartialEq, Eq, Drop)]
 pub struct ContainerPort {
     pub name: Text,
     pub proto: Proto,
@@ -13,7 +13,7 @@ pub struct ContainerPort {
 }
 
 /// A Pod.
-#[derive(Drop)]
+#[derive(PartialEq, Eq, Drop)]
 pub struct Pod {
     pub key: ObjectKey,
     /// The labels, in byte order of the keys.
@@ -31,7 +31,7 @@ pub struct Pod {
 }
 
 /// A Node.
-#[derive(Drop)]
+#[derive(PartialEq, Eq, Drop)]
 pub struct Node {
     pub name: Text,
     pub zone: Option<Text>,
@@ -49,12 +49,16 @@ impl Copied for ContainerPort {
 
 impl Copied for Pod {
     fn copy(&self, alloc: Global) -> Result<Pod, NoMemory> {
+        let labels = self.labels.copy(alloc)?;
+        let ports = self.ports.copy(alloc)?;
+        let node = self.node.copy(alloc)?;
+        let key = self.key.copy(alloc)?;
         Ok(Pod {
-            key: self.key.copy(alloc)?,
-            labels: self.labels.copy(alloc)?,
+            key,
+            labels,
             deleting: self.deleting,
-            node: self.node.copy(alloc)?,
-            ports: self.ports.copy(alloc)?,
+            node,
+            ports,
             finished: self.finished,
             address: self.address,
             ready: self.ready,

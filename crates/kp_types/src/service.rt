@@ -30,14 +30,14 @@ pub enum ClusterAddress {
 }
 
 /// `spec.ports[i].targetPort`: a number, or the name of a container port.
-#[derive(Drop)]
+#[derive(PartialEq, Eq, Drop)]
 pub enum TargetPort {
     Number(PortNo),
     Named(Text),
 }
 
 /// One entry of `spec.ports`.
-#[derive(Drop)]
+#[derive(PartialEq, Eq, Drop)]
 pub struct ServicePort {
     pub name: Text,
     pub proto: Proto,
@@ -47,7 +47,7 @@ pub struct ServicePort {
 }
 
 /// A Service. No two of its ports have the same name and protocol.
-#[derive(Drop)]
+#[derive(PartialEq, Eq, Drop)]
 pub struct Service {
     pub key: ObjectKey,
     pub kind: ServiceKind,
@@ -95,22 +95,49 @@ impl Copied for ServicePort {
     }
 }
 
+/// Copies of the lists of ports and of the selector.
+fn copied_pairs(
+    alloc: Global,
+    service: &Service,
+) -> Result<(Items<ServicePort>, Items<Pair>), NoMemory>
+    ensures { IfOk result (λ c. c ≡ (service.now.ports, service.now.selector)) }
+{
+    let ports = service.ports.copy(alloc)?;
+    Ok((ports, service.selector.copy(alloc)?))
+}
+
+/// Copies of the external addresses, those of the load balancer, and its source ranges.
+fn copied_addresses(
+    alloc: Global,
+    service: &Service,
+) -> Result<(Items<Address>, Items<Address>, Option<Items<Cidr>>), NoMemory>
+    ensures { IfOk result (λ c.
+        c ≡ (service.now.external, service.now.balancer, service.now.ranges)) }
+{
+    let external = service.external.copy(alloc)?;
+    let balancer = service.balancer.copy(alloc)?;
+    Ok((external, balancer, service.ranges.copy(alloc)?))
+}
+
 impl Copied for Service {
     fn copy(&self, alloc: Global) -> Result<Service, NoMemory> {
+        let (external, balancer, ranges) = copied_addresses(alloc, self)?;
+        let (ports, selector) = copied_pairs(alloc, self)?;
+        let key = self.key.copy(alloc)?;
         Ok(Service {
-            key: self.key.copy(alloc)?,
+            key,
             kind: self.kind,
             cluster: self.cluster,
-            ports: self.ports.copy(alloc)?,
-            selector: self.selector.copy(alloc)?,
-            external: self.external.copy(alloc)?,
+            ports,
+            selector,
+            external,
             affinity: self.affinity,
             internal: self.internal,
             outer: self.outer,
             publish_not_ready: self.publish_not_ready,
-            ranges: self.ranges.copy(alloc)?,
+            ranges,
             same_zone: self.same_zone,
-            balancer: self.balancer.copy(alloc)?,
+            balancer,
         })
     }
 }

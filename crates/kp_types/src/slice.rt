@@ -77,39 +77,46 @@ impl Copied for SlicePort {
 
 impl Copied for SliceEndpoint {
     fn copy(&self, alloc: Global) -> Result<SliceEndpoint, NoMemory> {
+        let hints = self.hints.copy(alloc)?;
+        let node = self.node.copy(alloc)?;
+        let zone = self.zone.copy(alloc)?;
+        let pod = self.pod.copy(alloc)?;
         Ok(SliceEndpoint {
             address: self.address,
             ready: self.ready,
             serving: self.serving,
             terminating: self.terminating,
-            node: self.node.copy(alloc)?,
-            zone: self.zone.copy(alloc)?,
-            hints: self.hints.copy(alloc)?,
-            pod: self.pod.copy(alloc)?,
+            node,
+            zone,
+            hints,
+            pod,
         })
     }
 }
 
 impl Copied for Slice {
     fn copy(&self, alloc: Global) -> Result<Slice, NoMemory> {
+        let ports = self.ports.copy(alloc)?;
+        let endpoints = self.endpoints.copy(alloc)?;
+        let service = self.service.copy(alloc)?;
+        let key = self.key.copy(alloc)?;
         Ok(Slice {
-            key: self.key.copy(alloc)?,
-            service: self.service.copy(alloc)?,
+            key,
+            service,
             managed: self.managed,
             family: self.family,
-            ports: self.ports.copy(alloc)?,
-            endpoints: self.endpoints.copy(alloc)?,
+            ports,
+            endpoints,
         })
     }
 }
 
 impl Copied for Wanted {
     fn copy(&self, alloc: Global) -> Result<Wanted, NoMemory> {
-        Ok(Wanted {
-            pod: self.pod.copy(alloc)?,
-            ports: self.ports.copy(alloc)?,
-            entry: self.entry.copy(alloc)?,
-        })
+        let ports = self.ports.copy(alloc)?;
+        let pod = self.pod.copy(alloc)?;
+        let entry = self.entry.copy(alloc)?;
+        Ok(Wanted { pod, ports, entry })
     }
 }
 

@@ -8,11 +8,16 @@ use Rattle.kp_base.specs.declared.address.Family.TheVariants.{V4, V6}
 use Rattle.kp_base.specs.declared.port.Proto.{Proto}
 use Rattle.kp_types.specs.Rules.{rule_of}
 use Rattle.kp_types.specs.Ports.{same_proto}
+use Rattle.kp_types.specs.declared.packet.Packet.{Packet}
 use Rattle.kp_types.specs.declared.rule.Match.{Match}
 use Rattle.kp_types.specs.declared.rule.Match.TheVariants as match
 use Rattle.kp_types.specs.declared.rule.Target.{Target}
 use Rattle.kp_table_defs.specs.Matching.{WalkState, Surroundings, Tried, tried_as, and_also, try_all}
 use Rattle.kp_table_defs.specs.Walk.{Outcome, target_if, matched_outcome, rule_outcome}
+
+-- the packet as it is by now
+abbrev pub packet_of : Surroundings → WalkState → Packet
+packet_of e s = record { from = e.from; source = s.source; target = s.target; proto = e.proto; port = s.port; now = e.now }
 
 eqb_swap : (m n : ℕ) → (m == n) ≡ (n == m)
 eqb_swap m n = grind (arith, nat_tests)
@@ -43,11 +48,11 @@ module _ (e : Surroundings) (jump : List ℕ → WalkState → Outcome) (s : Wal
   rule_if ms t b h = ap (matched_outcome jump t) h
 
   -- a source
-  pub src_tried : (a : AddressParts) → try_all e (match.Src (single_range a) false ∷ []) s ≡ tried_as s (same_address a s.packet.source)
-  src_tried a = tried_alone s (range_contains (single_range a) s.packet.source) ∙ ap (tried_as s) (single_contains a s.packet.source)
+  pub src_tried : (a : AddressParts) → try_all e (match.Src (single_range a) false ∷ []) s ≡ tried_as s (same_address a s.source)
+  src_tried a = tried_alone s (range_contains (single_range a) s.source) ∙ ap (tried_as s) (single_contains a s.source)
 
   -- a destination and a port
-  pub door_tried : (a : AddressParts) (proto : Proto) (port : ℕ) → try_all e (match.Dst (single_range a) false ∷ match.Port proto port ∷ []) s ≡ tried_as s (same_address a s.packet.target && (same_proto proto s.packet.proto && (port == s.packet.port)))
+  pub door_tried : (a : AddressParts) (proto : Proto) (port : ℕ) → try_all e (match.Dst (single_range a) false ∷ match.Port proto port ∷ []) s ≡ tried_as s (same_address a s.target && (same_proto proto e.proto && (port == s.port)))
   door_tried a proto port =
-      tried_before s (range_contains (single_range a) s.packet.target) (same_proto proto s.packet.proto && (port == s.packet.port)) (try_all e (match.Port proto port ∷ [])) (tried_alone s (same_proto proto s.packet.proto && (port == s.packet.port)))
-      ∙ ap (λ b. tried_as s (b && (same_proto proto s.packet.proto && (port == s.packet.port)))) (single_contains a s.packet.target)
+      tried_before s (range_contains (single_range a) s.target) (same_proto proto e.proto && (port == s.port)) (try_all e (match.Port proto port ∷ [])) (tried_alone s (same_proto proto e.proto && (port == s.port)))
+      ∙ ap (λ b. tried_as s (b && (same_proto proto e.proto && (port == s.port)))) (single_contains a s.target)

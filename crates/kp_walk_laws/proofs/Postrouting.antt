@@ -1,5 +1,6 @@
 -- What POSTROUTING does: it masquerades what is marked.
 use Rattle.std.proofs.Common.{◌≡◌, ℕ, suc, Bool, true, false, not, List, [], ◌∷◌, Option, codes, refl, ap, ◌∙◌}
+use Rattle.kp_types.specs.Setting.{Setting}
 use Rattle.kp_types.specs.Rules.{rule_of}
 use Rattle.kp_types.specs.declared.chain.TableName.TheVariants.{Nat}
 use Rattle.kp_types.specs.declared.chain.ChainAt.{ChainAt}
@@ -8,7 +9,7 @@ use Rattle.kp_types.specs.declared.rule.Rule.{Rule}
 use Rattle.kp_types.specs.declared.rule.Target.TheVariants as target
 use Rattle.kp_types.specs.declared.walk.Ending.TheVariants as ending
 use Rattle.kp_object_defs.specs.PortInfo.{PortInfo}
-use Rattle.kp_table_defs.specs.Layout.{Naming, kube_postrouting}
+use Rattle.kp_table_defs.specs.Layout.{kube_postrouting}
 use Rattle.kp_table_defs.specs.Matching.{WalkState, Surroundings}
 use Rattle.kp_table_defs.specs.Walk.{Outcome, and_then, found_outcome, returned_from, target_if, rules_outcome, chain_outcome}
 use Rattle.kp_table_defs.specs.Walk.Outcome.{Next, Ended}
@@ -20,7 +21,7 @@ abbrev pub masked_by : Bool → WalkState → Outcome
 masked_by true s = Ended ending.Masquerade (codes "POSTROUTING" ∷ kube_postrouting ∷ []) (record s { marked = not s.marked })
 masked_by false s = Next s
 
-module _ (name_of : Naming) (infos : List PortInfo) (e : Surroundings) (at : ChainAt → Option (List Rule)) (finds : FindsNat name_of infos at) (n : ℕ) (s : WalkState) where
+module _ (setting : Setting) (infos : List PortInfo) (e : Surroundings) (at : ChainAt → Option (List Rule)) (finds : FindsNat setting infos at) (n : ℕ) (s : WalkState) where
   -- the hook masquerades by the mark
   pub postrouting_outcome : chain_outcome e at Nat (suc (suc n)) (codes "POSTROUTING") s ≡ masked_by s.marked s
   postrouting_outcome =

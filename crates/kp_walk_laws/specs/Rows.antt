@@ -20,7 +20,7 @@ use Rattle.kp_choice_defs.specs.Recent.{RecentParts}
 use Rattle.kp_object_defs.specs.Desired.{is_empty}
 use Rattle.kp_object_defs.specs.PortInfo.{PortInfo}
 use Rattle.kp_table_defs.specs.Layout.{rows_of}
-use Rattle.kp_table_defs.specs.StandIn.{stand_in_name}
+use Rattle.kp_table_defs.specs.StandIn.{stand_in_setting}
 use Rattle.kp_table_defs.specs.Walk.{walk_of}
 
 -- the address 10.0.0.0 + n
@@ -83,7 +83,7 @@ packet_from source proto = record { from = Wire; source = source; target = host 
 -- the verdict of the walk of a packet with these draws, where the Service has these endpoints
 abbrev pub verdict_on : List Endpoint → Packet → List ℕ → Verdict
 verdict_on endpoints packet draws =
-    (walk_of (λ q. map.find chain_cmp q (rows_of V4 stand_in_name config (port_with endpoints ∷ []))) config.addresses
+    (walk_of (λ q. map.find chain_cmp q (rows_of (stand_in_setting V4 config) (port_with endpoints ∷ []))) config.addresses
     packet (draw_of_list draws) no_lists).verdict
 
 -- three endpoints

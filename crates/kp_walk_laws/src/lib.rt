@@ -2,17 +2,28 @@
 //! Each law is the contract of a function that does nothing.
 #![tactic(auto)]
 
-ghost use Rattle.kp_walk_laws.specs.Laws.{WalkDecides, StandInApart, StandInNames, FullTablePlain, FullTableRanked, StandInPrefixed, PlainPorts};
+ghost use Rattle.kp_walk_laws.specs.Laws.{WalkDecides, WalkDecidesObjects, PortKeysOnce, StandInApart, StandInNames, FullTablePlain, FullTableRanked, StandInPrefixed, HashedPrefixed, PlainPorts};
 ghost use Rattle.kp_walk_laws.specs.Rows.{OneEndpoint, FirstOfThree, SecondOfThree, ThirdOfThree, ToItself, FromOutside, NoEndpoints, OtherProtocol};
 
 /// Walking the full table of Service ports that answer at their cluster address alone gives each packet
-/// the verdict that the objects give it, and leaves the recent lists that they leave.
+/// the verdict that the objects give it, and leaves the recent lists that they leave, where no two chains that
+/// are needed have one name.
 #[tactic(auto, using(crate::proofs::Theorem::walk_decides_by))]
 pub fn walk_decides()
     ensures { WalkDecides }
 {}
 
-/// The names that stand in for those of hashes tell the chains of one port apart.
+/// So it does over objects, whose ports have keys of their own.
+pub fn walk_decides_objects()
+    ensures { WalkDecidesObjects }
+{}
+
+/// The ports of some objects have keys of their own.
+pub fn port_keys_once()
+    ensures { PortKeysOnce }
+{}
+
+/// The names that stand in for those of hashes give the chains of one port no clash.
 #[tactic(auto, using(crate::proofs::StandInNames::stand_in_apart_by))]
 pub fn stand_in_apart()
     ensures { StandInApart }
@@ -39,6 +50,11 @@ pub fn full_table_ranked()
 #[tactic(auto, using(crate::proofs::Ranked::stand_in_prefixed_by))]
 pub fn stand_in_prefixed()
     ensures { StandInPrefixed }
+{}
+
+/// Hashed names begin so too.
+pub fn hashed_prefixed()
+    ensures { HashedPrefixed }
 {}
 
 /// The ports of plain Services of type ClusterIP answer at their cluster addresses alone.

@@ -25,7 +25,7 @@ use Rattle.kp_worked.proofs.MapLists.{without, entries_are, removed_are}
 use Rattle.kp_types.specs.declared.verdict.Verdict.{Verdict}
 use Rattle.kp_worked.specs.Events.{verdict_after}
 use Rattle.kp_worked.specs.Decisions.{decided}
-use Rattle.kp_worked.specs.Setting.{config, other_pod, to_web}
+use Rattle.kp_worked.specs.Setting.{setting, other_pod, to_web}
 
 -- the objects of each kind, with their keys, in any order
 record Listed : Type 0 where
@@ -81,8 +81,9 @@ listed_after events = fold step (record { services = []; slices = []; pods = [];
 -- what is known of the ports, by the objects in order and the nodes that look-ups find
 abbrev infos_by : List Service → List Slice → List Pod → (ObjectKey → Option Node) → List PortInfo
 infos_by services slices pods node =
-    infos_from V4 config.node (option_and_then (λ n. n.zone) (node (node_key config.node)))
-    (map (λ s. cond (is_reconciled config s)
+    infos_from V4 setting.config.node
+    (option_and_then (λ n. n.zone) (node (node_key setting.config.node)))
+    (map (λ s. cond (is_reconciled setting.config s)
     (record { service = s; wanted = desired_from V4 (λ name. option_and_then (λ n. n.zone) (node (node_key name))) s pods; slices = unmanaged (filter (is_of_service s.key) slices) })
     (record { service = s; wanted = []; slices = filter (is_of_service s.key) slices })) services)
 
@@ -95,7 +96,7 @@ values_are es = ap (map (λ e. e.1)) (entries_are key_total es)
 found_are : {X : Type 0} (es : List (ObjectKey × X)) → ◌≡◌ {A = ObjectKey → Option X} (finite.get (finite.from_entries {R = key_cmp} es)) (λ q. finite.find key_cmp q es)
 found_are es = λ i q. finite.get-from_entries key_total es q i
 
-infos_are : (l : Listed) → port_infos V4 config (as_objects l) ≡ infos_by (in_key_order l.services) (in_key_order l.slices) (in_key_order l.pods) (λ q. finite.find key_cmp q l.nodes)
+infos_are : (l : Listed) → port_infos V4 setting.config (as_objects l) ≡ infos_by (in_key_order l.services) (in_key_order l.slices) (in_key_order l.pods) (λ q. finite.find key_cmp q l.nodes)
 infos_are l = λ i. infos_by (values_are l.services i) (values_are l.slices i) (values_are l.pods i) (found_are l.nodes i)
 
 -- what is known of the ports after events
@@ -104,8 +105,8 @@ infos_after events =
     let l = listed_after events in
     infos_by (in_key_order l.services) (in_key_order l.slices) (in_key_order l.pods) (λ q. finite.find key_cmp q l.nodes)
 
-infos_after_are : (events : List Event) → port_infos V4 config (objects_after events) ≡ infos_after events
-infos_after_are events = ap (port_infos V4 config) (steps_are _ events) ∙ infos_are (listed_after events)
+infos_after_are : (events : List Event) → port_infos V4 setting.config (objects_after events) ≡ infos_after events
+infos_after_are events = ap (port_infos V4 setting.config) (steps_are _ events) ∙ infos_are (listed_after events)
 
 -- a verdict after events
 pub verdict_is : (events : List Event) (draws : List ℕ) {v : Verdict} → (decided (infos_after events) (to_web other_pod) draws).verdict ≡ v → verdict_after events draws ≡ v

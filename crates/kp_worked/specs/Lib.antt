@@ -11,3 +11,5 @@ pub mod Packing
 pub mod Chains
 pub mod Walks
 pub mod Events
+pub mod SourceRanges
+pub mod Families

@@ -10,8 +10,8 @@ use Rattle.kp_base.specs.Net.{same_family}
 use Rattle.kp_base.specs.Keys.{key_cmp, endpoint_cmp}
 use Rattle.kp_base.proofs.KeyOrder.{key_total, endpoint_total, endpoint_exact}
 use Rattle.kp_base.specs.declared.address.Family.TheVariants.{V4}
-use Rattle.kp_base.specs.declared.config.Config.{Config}
 use Rattle.kp_base.specs.declared.key.Endpoint.{Endpoint}
+use Rattle.kp_types.specs.Setting.{FamilyConfig}
 use Rattle.kp_types.specs.declared.info.ServiceSources.{ServiceSources}
 use Rattle.kp_types.specs.declared.lists.Candidate.{Candidate}
 use Rattle.kp_types.specs.declared.slice.Slice.{Slice}
@@ -192,7 +192,7 @@ and_false : (b : Bool) → (b && false) ≡ false
 and_false true = refl
 and_false false = refl
 
-module _ (config : Config) (s : PlainService) (slice : Option PlainSlice) where
+module _ (config : FamilyConfig) (s : PlainService) (slice : Option PlainSlice) where
   -- what the endpoints of the port are taken from, with these slices
   abbrev sources : List Slice → ServiceSources
   sources slices = record { service = plain_service s; wanted = []; slices = slices }

@@ -2,8 +2,8 @@
 use Rattle.std.specs.Prelude.{◌≡◌, ◌≤◌, Option, length}
 use Rattle.std.specs.List.{Contains}
 use Rattle.kp_base.specs.declared.address.Family.TheVariants.{V4}
-use Rattle.kp_base.specs.declared.config.Config.{Config}
 use Rattle.kp_base.specs.declared.key.Endpoint.{Endpoint}
+use Rattle.kp_types.specs.Setting.{FamilyConfig}
 use Rattle.kp_object_defs.specs.PortInfo.{PortInfo, port_infos}
 use Rattle.kp_text_defs.specs.declared.line.PlainService.{PlainService}
 use Rattle.kp_text_defs.specs.declared.line.PlainSlice.{PlainSlice}
@@ -13,7 +13,7 @@ use Rattle.kp_writer.specs.Plain.{IsSmallSlice, objects_with, plain_infos}
 -- What is known of ports by the plain objects is what the general definition says.
 abbrev pub PlainInfos : Type 0
 PlainInfos =
-    (config : Config) (service : Option PlainService) (slice : Option PlainSlice)
+    (config : FamilyConfig) (service : Option PlainService) (slice : Option PlainSlice)
     → port_infos V4 config (objects_with service slice) ≡ plain_infos service slice
 
 -- The port answers at its cluster address alone.

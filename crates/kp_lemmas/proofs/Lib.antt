@@ -1,0 +1,6 @@
+pub mod Booleans
+pub mod Entries
+pub mod Equality
+pub mod ListFacts
+pub mod Numbers
+pub mod Orders

@@ -1,0 +1,3 @@
+pub mod ObjectLaws
+pub mod ListLaws
+pub mod PortLaws
