@@ -1,5 +1,6 @@
--- The EndpointSlices as they are now (KEP-752; Kubernetes documents on EndpointSlices): as they were fed, and as the
--- controller wrote them at each sync. What the controller writes is no object: tables see the slices that were fed.
+-- The EndpointSlices as they are now (KEP-752; Kubernetes documents on EndpointSlices): as they
+-- were fed, and as the controller wrote them at each sync. What the controller writes is no object:
+-- tables see the slices that were fed.
 use Rattle.std.specs.Prelude.{ℕ, ◌&&◌, Bool, false, List, ◌++◌, map, not, cond, take, drop, bytes_eq, Option, Some, None}
 use Rattle.std.specs.List.{filter, fold}
 use Rattle.std.specs.FinMap as finite
@@ -38,7 +39,8 @@ is_leftover o slice = slice.managed && names_absent o slice.key.namespace slice.
 
 -- the slices without those that are left over
 abbrev pub without_leftovers : Objects → Slices → Slices
-without_leftovers o slices = finite.from_entries (filter (λ e. not (is_leftover o e.1)) (finite.entries slices))
+without_leftovers o slices =
+    finite.from_entries (filter (λ e. not (is_leftover o e.1)) (finite.entries slices))
 
 -- ---- One Service
 
@@ -54,14 +56,15 @@ names_in namespace slices =
 -- what packing makes of a Service's managed slices, with at most so many endpoints each
 abbrev pub packed_now : Family → ℕ → Objects → Service → Slices → Packed
 packed_now family most o s slices =
-    packed_slices family s.key (managed_slices family s.key slices) (desired_endpoints_of family o s) most
-    (names_in s.key.namespace slices)
+    packed_slices family s.key (managed_slices family s.key slices)
+    (desired_endpoints_of family o s) most (names_in s.key.namespace slices)
 
 -- slices in place of a Service's managed ones
 abbrev pub with_managed : Family → ObjectKey → List Slice → Slices → Slices
 with_managed family service packed slices =
     finite.from_entries
-    (map (λ s. (s.key, s)) packed ++ filter (λ e. not (is_managed_for family service e.1)) (finite.entries slices))
+    (map (λ s. (s.key, s)) packed
+    ++ filter (λ e. not (is_managed_for family service e.1)) (finite.entries slices))
 
 -- the slices after a Service is packed in a family
 abbrev pub after_packing : ℕ → Objects → Service → Slices → Family → Slices
@@ -70,8 +73,9 @@ after_packing most o s slices family =
 
 -- ---- One sync
 
--- The slices after the controller acts, over the objects that a sync covers: without those that are left over, each
--- Service with a selector is packed in order of key, in one family after the other, over what was packed before.
+-- The slices after the controller acts, over the objects that a sync covers: without those that are
+-- left over, each Service with a selector is packed in order of key, in one family after the other,
+-- over what was packed before.
 abbrev pub after_controller : List Family → ℕ → Objects → Slices → Slices
 after_controller families most o slices =
     fold (λ so_far s. fold (after_packing most o s) so_far families) (without_leftovers o slices)
@@ -84,8 +88,8 @@ controller_step families config o slices =
 
 -- ---- All syncs
 
--- where the controller stands after syncs: the events that none covers yet, the objects that the last one covers,
--- and the slices after it
+-- where the controller stands after syncs: the events that none covers yet, the objects that the
+-- last one covers, and the slices after it
 pub record Synced : Type 0 where
   pub left : List Event
   pub objects : Objects
@@ -102,7 +106,9 @@ sync_step families config before n =
     record {
       left = drop n before.left;
       objects = objects;
-      slices = controller_step families config objects (fold slices_step before.slices (take n before.left));
+      slices =
+          controller_step families config objects
+          (fold slices_step before.slices (take n before.left));
     }
 
 -- where it stands after all syncs, each of which covers so many events more than the one before it

@@ -20,12 +20,14 @@ SlicesAsFed =
 abbrev pub SlicesWithoutController : Type 0
 SlicesWithoutController =
     (families : List Family) (config : Config) (events : List Event) (counts : List ℕ)
-    → config.controller ≡ false → slices_now families config events counts ≡ (objects_after events).slices
+    → config.controller ≡ false
+    → slices_now families config events counts ≡ (objects_after events).slices
 
 -- an event changes the slices at once
 abbrev pub SlicesAfterEvent : Type 0
 SlicesAfterEvent =
-    (families : List Family) (config : Config) (events : List Event) (counts : List ℕ) (event : Event)
+    (families : List Family) (config : Config) (events : List Event) (counts : List ℕ)
+    (event : Event)
     → sum counts ≤ length events
     → slices_now families config (events ++ event ∷ []) counts
     ≡ slices_step (slices_now families config events counts) event
@@ -36,7 +38,8 @@ SlicesAfterSync =
     (families : List Family) (config : Config) (events : List Event) (counts : List ℕ)
     → sum counts ≤ length events
     → slices_now families config events (counts ++ (length events - sum counts) ∷ [])
-    ≡ controller_step families config (objects_after events) (slices_now families config events counts)
+    ≡ controller_step families config (objects_after events)
+    (slices_now families config events counts)
 
 -- each slice stands under its own key
 abbrev pub SlicesUnderOwnKeys : Type 0
@@ -47,7 +50,8 @@ SlicesUnderOwnKeys =
 -- what packing asks of a Service's managed slices holds of them
 abbrev pub ManagedCanBePacked : Type 0
 ManagedCanBePacked =
-    (family : Family) (service : ObjectKey) (slices : Slices) → IsUnderOwnKeys (λ (s : Slice). s.key) slices
+    (family : Family) (service : ObjectKey) (slices : Slices)
+    → IsUnderOwnKeys (λ (s : Slice). s.key) slices
     → (are_managed_for family service (managed_slices family service slices) ≡ true)
     × (have_own_names (managed_slices family service slices) ≡ true)
     × (are_taken (names_in service.namespace slices) (managed_slices family service slices) ≡ true)

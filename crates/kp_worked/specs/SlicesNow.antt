@@ -1,6 +1,6 @@
--- Worked examples of the slices as they are now, over syncs (KEP-752; Kubernetes documents on EndpointSlices). The
--- controller packs at most two endpoints into a slice. The Service default/web has three pods, and a slice that the
--- controller doesn't manage.
+-- Worked examples of the slices as they are now, over syncs (KEP-752; Kubernetes documents on
+-- EndpointSlices). The controller packs at most two endpoints into a slice. The Service default/web
+-- has three pods, and a slice that the controller doesn't manage.
 use Rattle.std.specs.Prelude.{◌≡◌, ℕ, List, [], ◌∷◌, ◌++◌, map, codes, Option, Some, None}
 use Rattle.std.specs.FinMap as finite
 use Rattle.std.proofs.Common.{lit≤}
@@ -27,7 +27,8 @@ apply_pod letter = Apply (object.Pod (ready_pod (letter ∷ []) (ipv4 10 244 1 l
 -- the Service, its own slice and three pods
 abbrev pub applied : List Event
 applied =
-    Apply (object.Service selecting) ∷ Apply (object.EndpointSlice (slice_of (codes "web") (first ∷ [])))
+    Apply (object.Service selecting)
+    ∷ Apply (object.EndpointSlice (slice_of (codes "web") (first ∷ [])))
     ∷ map apply_pod (codes "abc")
 
 -- a slice by its name and the pods of its endpoints
@@ -36,7 +37,8 @@ name_and_pods s = (s.key.name, map (λ e. e.pod) s.endpoints)
 
 -- the slices after events and syncs, each of which covers so many events more
 abbrev pub shown_after : List Event → List ℕ → List (List ℕ × List (Option ObjectKey))
-shown_after events counts = map name_and_pods (finite.values (slices_now (V4 ∷ []) config_of_two events counts))
+shown_after events counts =
+    map name_and_pods (finite.values (slices_now (V4 ∷ []) config_of_two events counts))
 
 -- the Service's own slice, whose endpoint is of no pod
 abbrev pub own : List ℕ × List (Option ObjectKey)
@@ -53,7 +55,8 @@ BeforeSync = shown_after applied [] ≡ own ∷ []
 -- a sync of five events packs the pods into two slices
 abbrev pub AfterSync : Type 0
 AfterSync =
-    shown_after applied (5 ∷ []) ≡ own ∷ of_pods (codes "web-kp1") (codes "ab") ∷ of_pods (codes "web-kp2") (codes "c") ∷ []
+    shown_after applied (5 ∷ [])
+    ≡ own ∷ of_pods (codes "web-kp1") (codes "ab") ∷ of_pods (codes "web-kp2") (codes "c") ∷ []
 
 -- a slice that the controller made is deleted, and a pod comes
 abbrev pub changed : List Event
@@ -63,8 +66,9 @@ changed = applied ++ Delete kind.EndpointSlice (default_key (codes "web-kp1")) �
 abbrev pub AfterChange : Type 0
 AfterChange = shown_after changed (5 ∷ []) ≡ own ∷ of_pods (codes "web-kp2") (codes "c") ∷ []
 
--- the next sync packs what no slice has any more, under the name that became free: three pods aren't fewer than a
--- slice takes, so that two of them get a new one, and the third fits beside the pod that stayed
+-- the next sync packs what no slice has any more, under the name that became free: three pods
+-- aren't fewer than a slice takes, so that two of them get a new one, and the third fits beside the
+-- pod that stayed
 abbrev pub AfterSecondSync : Type 0
 AfterSecondSync =
     shown_after changed (5 ∷ 2 ∷ [])
