@@ -40,7 +40,8 @@ AtOwnPlaces entries places =
 
 -- a slice with its endpoints by now
 abbrev pub filling_of : Fill → spec.Filling
-filling_of f = record { slice = f.slice.now; endpoints = shown f.endpoints.items; is_changed = f.is_changed }
+filling_of f =
+    record { slice = f.slice.now; endpoints = shown f.endpoints.items; is_changed = f.is_changed }
 
 -- a slice in the first step, and what is left
 abbrev pub keeping_of : Fill → List (Option (Bor Wanted)) → spec.Keeping
@@ -52,7 +53,8 @@ progress_of fills left = record { fillings = map filling_of fills; left = left }
 
 -- the slices of a group, and the endpoints of each new one
 abbrev pub placed_of : Placed → spec.Placed
-placed_of p = record { fillings = map filling_of p.fills.items; made = map (λ v. shown v.items) p.made.items }
+placed_of p =
+    record { fillings = map filling_of p.fills.items; made = map (λ v. shown v.items) p.made.items }
 
 -- with more new slices before the others
 abbrev pub with_made : List (List Wanted) → spec.Placed → spec.Placed
@@ -62,7 +64,8 @@ with_made made p = record p { made = made ++ p.made }
 abbrev pub IsChunked : ℕ → List Wanted → List (List Wanted) → List Wanted → Type 0
 IsChunked most left made rest =
     (fs : List spec.Filling)
-    → spec.place_left (length left) most fs left ≡ with_made made (spec.place_left (length rest) most fs rest)
+    → spec.place_left (length left) most fs left
+    ≡ with_made made (spec.place_left (length rest) most fs rest)
 
 -- a new slice to come
 abbrev pub new_slice_of : NewSlice → spec.NewSlice
@@ -77,10 +80,14 @@ added_at (Some i) x lists = slice_set lists i (get_or lists i [] ++ x ∷ [])
 abbrev pub packing_of : ℕ → List SlicePort → List Slice → List Wanted → spec.Packing
 packing_of most ports slices wanted =
     let placed = spec.packed_group most slices wanted in
-    record { fillings = placed.fillings; made = map (λ more. record { ports = ports; wanted = more }) placed.made }
+    record {
+      fillings = placed.fillings;
+      made = map (λ more. record { ports = ports; wanted = more }) placed.made;
+    }
 
 -- groups, each packed by itself
-abbrev pub packings_of : ℕ → List (List SlicePort) → List (List Slice) → List (List Wanted) → List spec.Packing
+abbrev pub packings_of : ℕ → List (List SlicePort) → List (List Slice) → List (List Wanted)
+    → List spec.Packing
 packings_of most [] slices wanted = []
 packings_of most (g ∷ gs) [] wanted = []
 packings_of most (g ∷ gs) (s ∷ ss) [] = []
