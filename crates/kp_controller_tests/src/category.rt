@@ -100,7 +100,8 @@ fn service_port(alloc: Global) -> Result<ServicePort, Fail> {
 }
 
 /// A row of the table: the type of a Service, its policies, the node's zone or none, and the
-/// endpoints; and then the hosts of the cluster list and of the local one, and whether there is any.
+/// endpoints; and then the hosts of the cluster list and of the local one, and whether there is
+/// any.
 #[derive(Drop)]
 struct Row {
     kind: ServiceKind,
