@@ -1,6 +1,6 @@
 -- The rows of an object's metadata (Kubernetes API, ObjectMeta v1).
 use Rattle.std.specs.Prelude.{codes}
-use Rattle.kp_event_defs.specs.Rows.{Row, done, ◌▸◌, field, inside, needed, optional, name_text, texts}
+use Rattle.kp_row_defs.specs.Rows.{Row, done, ◌▸◌, field, inside, needed, optional, name_text, texts}
 
 -- the name
 abbrev pub name_row : Row

@@ -1,7 +1,7 @@
--- How objects are read from JSON text: tables of rows in order, and the first fault of a value by a table
--- (Kubernetes API conventions; for names "Object Names and IDs"). Which faults there are, and that the first one
+-- How objects and lines are read from JSON text: tables of rows in order, and the first fault of a value by a
+-- table (Kubernetes API conventions; for names "Object Names and IDs"). Which faults there are, and that the first one
 -- in the order of the rows counts, is this project's choice.
-use Rattle.std.specs.Prelude.{ℕ, ◌&&◌, ◌||◌, nat_lt, Bool, true, false, List, [], ◌∷◌, ◌++◌, codes, length, map, cond, bytes_eq, Option, Some, None, is_some, Result, Ok, Err}
+use Rattle.std.specs.Prelude.{ℕ, ◌&&◌, ◌||◌, nat_lt, nat_le, Bool, true, false, List, [], ◌∷◌, ◌++◌, codes, length, map, cond, bytes_eq, Option, Some, None, is_some, is_ok, Result, Ok, Err}
 use Rattle.std.specs.List.{list_any}
 use Rattle.std.specs.Result.{result_err}
 use Rattle.serde_json.specs.Data.{Data, null, boolean, number, string, array, object}
@@ -14,8 +14,8 @@ use Rattle.kp_json.specs.declared.fault.BadField.{BadField}
 use Rattle.kp_base.specs.Dotted.{address_of, range_of}
 use Rattle.kp_base.specs.Grammar.{is_name_text, is_port_name_text, is_label_text}
 use Rattle.kp_base.specs.declared.port.Proto.{Proto}
-use Rattle.kp_types.specs.Ports.{same_proto}
-use Rattle.kp_event_defs.specs.Fields.{text_in, is_text, is_other_family, port_name_in, proto_in}
+use Rattle.kp_base.specs.Keys.{same_proto}
+use Rattle.kp_row_defs.specs.Fields.{text_in, is_text, unless_other, port_name_in, proto_in}
 
 -- what a value is
 pub data Form : Type 0 where
@@ -27,6 +27,9 @@ pub data Form : Type 0 where
   address_text : Form
   range_text : Form
   cluster_address_text : Form
+  -- an address that may not be of another family, and the name of a port that may not be empty: lines ask these
+  own_address_text : Form
+  filled_port_name_text : Form
   choice : List (List ℕ) → Form
   -- a whole number within bounds
   whole : ℕ → ℕ → Form
@@ -94,11 +97,19 @@ text_fault test kind p = on_ok (text_at p) (λ text. cond (test text) None (Some
 
 -- an address; a text of another family is passed over
 abbrev pub is_address_text : List ℕ → Bool
-is_address_text text = is_other_family text || is_some (address_of text)
+is_address_text text = is_ok (unless_other (tt {0}) address_of text)
 
 -- a range; a text of another family is passed over
 abbrev pub is_range_text : List ℕ → Bool
-is_range_text text = is_other_family text || is_some (range_of text)
+is_range_text text = is_ok (unless_other (tt {0}) range_of text)
+
+-- an address of the family that is read
+abbrev pub is_own_address_text : List ℕ → Bool
+is_own_address_text text = is_some (address_of text)
+
+-- the name of a port, which isn't empty
+abbrev pub is_filled_port_name_text : List ℕ → Bool
+is_filled_port_name_text text = nat_le 1 (length text) && is_port_name_text text
 
 -- `None` or an address
 abbrev pub is_cluster_address_text : List ℕ → Bool
@@ -136,13 +147,15 @@ form_fault label_text p = text_fault is_label_text BadName p
 form_fault address_text p = text_fault is_address_text BadAddress p
 form_fault range_text p = text_fault is_range_text BadCidr p
 form_fault cluster_address_text p = text_fault is_cluster_address_text BadAddress p
+form_fault own_address_text p = text_fault is_own_address_text BadAddress p
+form_fault filled_port_name_text p = text_fault is_filled_port_name_text BadName p
 form_fault (choice choices) p = text_fault (is_one_of choices) OutOfRange p
 form_fault (whole least most) p = result_err (whole_at p least most)
 form_fault (whole_or_text least most) p = cond (is_string p.value) None (result_err (whole_at p least most))
 form_fault truth_value p = result_err (flag_at p)
 form_fault texts p = on_ok (members_at p) (λ ms. first_in (map (λ m. result_err (text_at m.1)) ms))
 
--- whether a form is one of texts
+-- whether a form is one of texts whose empty text counts as absent
 abbrev pub is_text_form : Form → Bool
 is_text_form any_text = true
 is_text_form name_text = true
@@ -151,6 +164,8 @@ is_text_form label_text = true
 is_text_form address_text = true
 is_text_form range_text = true
 is_text_form cluster_address_text = true
+is_text_form own_address_text = true
+is_text_form filled_port_name_text = false
 is_text_form (choice choices) = true
 is_text_form (whole least most) = false
 is_text_form (whole_or_text least most) = false

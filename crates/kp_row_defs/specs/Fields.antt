@@ -1,6 +1,6 @@
 -- The values at places of a JSON tree that Kubernetes objects are read from (Kubernetes API conventions,
 -- "Optional vs. Required"): a null member counts as absent, and so does the empty text of a member.
-use Rattle.std.specs.Prelude.{ℕ, ◌==◌, Bool, false, List, [], ◌∷◌, map, cond, bytes_eq, codes, Option, Some, None, option_and_then, unwrap_or}
+use Rattle.std.specs.Prelude.{ℕ, ◌==◌, Bool, false, List, [], ◌∷◌, map, cond, bytes_eq, codes, Option, Some, None, option_map, option_and_then, unwrap_or, Result, Ok, Err, ok_or}
 use Rattle.std.specs.List.{list_any}
 use Rattle.std.specs.Map.{lookup}
 use Rattle.serde_json.specs.Data.{null}
@@ -80,13 +80,22 @@ port_name_in p = unwrap_or (text_in (codes "name") p) []
 abbrev pub is_other_family : List ℕ → Bool
 is_other_family text = list_any (λ b. b == 58) text
 
+-- what a text writes: nothing where it is passed over, a value, or the fault where it writes none
+abbrev pub unless_other : {A E : Type 0} → E → (List ℕ → Option A) → List ℕ → Result (Option A) E
+unless_other fault read text = cond (is_other_family text) (Ok None) (ok_or (option_map Some (read text)) fault)
+
+-- what was read, if anything was
+abbrev pub found : {A E : Type 0} → Result (Option A) E → Option A
+found (Ok o) = o
+found (Err e) = None
+
 -- the address that a text writes, unless it is passed over
 abbrev pub address_of_text : List ℕ → Option AddressParts
-address_of_text text = cond (is_other_family text) None (address_of text)
+address_of_text text = found (unless_other (tt {0}) address_of text)
 
 -- the range that a text writes, unless it is passed over
 abbrev pub range_of_text : List ℕ → Option RangeParts
-range_of_text text = cond (is_other_family text) None (range_of text)
+range_of_text text = found (unless_other (tt {0}) range_of text)
 
 -- the address at a place
 abbrev pub address_at : Place → Option AddressParts
