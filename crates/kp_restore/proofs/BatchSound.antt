@@ -21,12 +21,13 @@ use Rattle.kp_restore.specs.declared.batch_reader.Part.TheVariants.{Declaring, R
 use Rattle.kp_restore.specs.declared.batch_reader.BatchPhase.{BatchPhase}
 use Rattle.kp_restore.specs.declared.batch_reader.BatchPhase.TheVariants.{Between, Within}
 use Rattle.kp_restore.specs.declared.batch_reader.BatchReader.{BatchReader}
-use Rattle.kp_restore.proofs.BatchOrder.{same_name, less_through}
+use Rattle.kp_restore.proofs.BatchOrder.{less_through}
 use Rattle.kp_restore.proofs.BatchRows.{is_below, rising, fits}
 use Rattle.kp_restore.proofs.BatchParts.{declared_part, rule_parts, removed_part, open_parts, section_parts, parts_if, closed}
 use Rattle.kp_restore.proofs.BatchTaken.{rising_swap, last_more}
-use Rattle.kp_rule_text.proofs.Words.{all_weaker}
 use Rattle.std.proofs.lemmas.Option.{none-some}
+use Rattle.kp_lemmas.proofs.ListFacts.{test_weaker}
+use Rattle.kp_base.proofs.SameParts.{text_test_exact}
 
 -- ---- Rows of a section
 
@@ -60,7 +61,7 @@ no_removes (r ∷ rows) h = let k = and_parts _ _ h in by r.removed k.0 (no_remo
     by false h rest = rest
 
 fresh_kept : (rows : List Row) → list_all is_fresh rows ≡ true → list_all is_kept rows ≡ true
-fresh_kept rows h = all_weaker is_fresh is_kept (λ r k. (and_parts (not r.removed) (is_empty r.rules) k).0) rows h
+fresh_kept rows h = test_weaker is_fresh is_kept (λ r k. (and_parts (not r.removed) (is_empty r.rules) k).0) rows h
 
 -- ---- What a section's lines say so far
 
@@ -209,7 +210,7 @@ module _ (edits : List Edit) (t : TableName) where
             };
             holds = (new_kept, with_rule row rule, rows, refl, f);
             parts = one_rule passed row rule rows kept_all new_kept f
-                ∙ (λ i. open_parts t (a i) ++ line.Ruled (same_name row.chain chain g i) rule ∷ []);
+                ∙ (λ i. open_parts t (a i) ++ line.Ruled (text_test_exact row.chain chain g i) rule ∷ []);
           }
         where
           same : (next : BatchReader) → Some (record { edits = edits; phase = Within t Ruling passed (with_rule row rule ∷ rows) }) ≡ Some next → next ≡ record { edits = edits; phase = Within t Ruling passed (with_rule row rule ∷ rows) }
@@ -290,7 +291,7 @@ module _ (edits : List Edit) (t : TableName) where
             };
             holds = (kept_ones.1, some_more passed (record row { removed = true }));
             parts = ap (open_parts t) whole ∙ one_remove passed row rows kept_ones.0 kept_ones.1
-                ∙ (λ i. open_parts t (a i) ++ line.Removed (same_name row.chain chain g i) ∷ []);
+                ∙ (λ i. open_parts t (a i) ++ line.Removed (text_test_exact row.chain chain g i) ∷ []);
           }
 
   removed_holds : (part : Part) (passed left : List Row) (chain : List ℕ) (next : BatchReader) → IsSection t (passed ++ left) → PartHolds part passed left

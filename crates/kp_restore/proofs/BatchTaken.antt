@@ -20,9 +20,10 @@ use Rattle.kp_restore.specs.declared.batch_reader.Part.TheVariants.{Declaring, R
 use Rattle.kp_restore.specs.declared.batch_reader.BatchPhase.TheVariants.{Between, Within}
 use Rattle.kp_restore.specs.declared.batch_reader.BatchReader.{BatchReader}
 use Rattle.kp_restore.proofs.Machine.{run_on}
-use Rattle.kp_restore.proofs.BatchOrder.{name_itself, less_differs}
+use Rattle.kp_restore.proofs.BatchOrder.{name_itself}
 use Rattle.kp_restore.proofs.BatchRows.{is_below, rising, fits}
 use Rattle.kp_restore.proofs.BatchParts.{declared_part, rule_parts, removed_part, section_parts}
+use Rattle.kp_lemmas.proofs.Orders.{lesser_text_differs}
 
 -- ---- Runs
 
@@ -83,7 +84,7 @@ apart_more : (l : List Row) (x : Row) (rest : List Row) → Apart l rest → lis
 apart_more l x [] a h = tt
 apart_more l x (r ∷ rest) a h =
     let k = and_parts _ _ h in (
-      list_all-append (λ y. not (bytes_eq y.chain r.chain)) l (x ∷ []) ∙ and_from _ _ a.0 (and_from _ _ (ap not (less_differs x.chain r.chain k.0)) refl),
+      list_all-append (λ y. not (bytes_eq y.chain r.chain)) l (x ∷ []) ∙ and_from _ _ a.0 (and_from _ _ (ap not (lesser_text_differs x.chain r.chain k.0)) refl),
       apart_more l x rest a.1 k.1,
     )
 

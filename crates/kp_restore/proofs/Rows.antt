@@ -17,7 +17,8 @@ use Rattle.kp_table_defs.specs.Rebuild.{TableParts}
 use Rattle.kp_restore_defs.specs.TableText.{Row}
 use Rattle.kp_restore.specs.TableSteps.{put}
 use Rattle.kp_restore.proofs.Machine.{some_one}
-use Rattle.kp_restore.proofs.BatchOrder.{same_name, name_itself}
+use Rattle.kp_restore.proofs.BatchOrder.{name_itself}
+use Rattle.kp_base.proofs.SameParts.{text_test_exact}
 
 -- the place of a chain
 abbrev pub at : TableName → List ℕ → ChainAt
@@ -57,7 +58,7 @@ turned_false x y h = by (bytes_eq y x) refl
   where
     by : (b : Bool) → bytes_eq y x ≡ b → b ≡ false
     by false e = refl
-    by true e = let same = same_name y x e in absurd (let t : true ≡ false = sym (name_itself x) ∙ ap (bytes_eq x) (sym same) ∙ h in cc)
+    by true e = let same = text_test_exact y x e in absurd (let t : true ≡ false = sym (name_itself x) ∙ ap (bytes_eq x) (sym same) ∙ h in cc)
 
 -- ---- Keys
 
@@ -143,7 +144,7 @@ one_found p [] h name rules e = absurd (cc)
 one_found p (row ∷ rows) h name rules e = by (bytes_eq name row.0) refl e (one_found p rows (and_parts _ _ h).1 name rules)
   where
     by : (b : Bool) → bytes_eq name row.0 ≡ b → cond b (Some row.1) (rules_in rows name) ≡ Some rules → (rules_in rows name ≡ Some rules → p (name, rules) ≡ true) → p (name, rules) ≡ true
-    by true t e f = (λ i. p (same_name name row.0 t i, sym (some_one row.1 rules e) i)) ∙ (and_parts _ _ h).0
+    by true t e f = (λ i. p (text_test_exact name row.0 t i, sym (some_one row.1 rules e) i)) ∙ (and_parts _ _ h).0
     by false t e f = f e
 
 -- ---- Tables with rows
@@ -178,7 +179,7 @@ get_with table t (row ∷ rows) h q =
     ∙ by (bytes_eq q row.0) refl
   where
     by : (b : Bool) → bytes_eq q row.0 ≡ b → option_or (rules_in rows q) (cond b (Some row.1) (get t.chains (at table q))) ≡ option_or (cond b (Some row.1) (rules_in rows q)) (get t.chains (at table q))
-    by true e = ap (λ o. option_or o (Some row.1)) (no_rules rows q (ap (λ n. list_any (bytes_eq n) (names_of rows)) (same_name q row.0 e) ∙ not-true _ (and_parts _ _ h).0))
+    by true e = ap (λ o. option_or o (Some row.1)) (no_rules rows q (ap (λ n. list_any (bytes_eq n) (names_of rows)) (text_test_exact q row.0 e) ∙ not-true _ (and_parts _ _ h).0))
     by false e = refl
 
 pub get_with_other : (table other : TableName) → ((a b : List ℕ) → eq_by_cmp chain_cmp (at other a) (at table b) ≡ false) → (t : TableParts) (rows : List Row) (q : List ℕ) → get (with_rows table t rows).chains (at other q) ≡ get t.chains (at other q)

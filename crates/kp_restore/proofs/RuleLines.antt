@@ -25,10 +25,11 @@ use Rattle.kp_choice_defs.specs.Draws.{digit_at, probability_text_of}
 use Rattle.kp_restore_defs.specs.RuleText.{joined, range_text, proto_word, not_words, match_words, target_words, rule_line, is_canonical_range, is_port_number, is_canonical_endpoint, is_canonical_match, is_canonical_target, is_canonical_rule}
 use Rattle.kp_rule_text.proofs.AddressWords.{dotted_bytes, is_dotted_byte}
 use Rattle.kp_rule_text.proofs.FamilyWords.{segments_low}
-use Rattle.kp_rule_text.proofs.Words.{all_weaker, number_digits, port_digits}
+use Rattle.kp_rule_text.proofs.Words.{number_digits, port_digits}
 use Rattle.kp_restore.specs.Pieces.{no_line_feed}
-use Rattle.kp_rule_text.proofs.Targets.{name_bytes}
-use Rattle.kp_rule_text.proofs.MatchWords.{seconds_fit}
+use Rattle.kp_lemmas.proofs.ListFacts.{test_weaker}
+use Rattle.kp_lemmas.proofs.Numbers.{within_32_bits}
+use Rattle.kp_types.proofs.ChainBytes.{name_bytes}
 
 -- ---- Bytes
 
@@ -49,21 +50,21 @@ hex_byte b (inl h) = grind (arith, nat_tests)
 hex_byte b (inr h) = grind (arith, nat_tests)
 
 pub name_plain : (name : List ℕ) → is_chain_name name ≡ true → no_line_feed name ≡ true
-name_plain name h = all_weaker is_chain_byte no_feed chain_byte name (name_bytes name h)
+name_plain name h = test_weaker is_chain_byte no_feed chain_byte name (name_bytes name h)
 
 pub both_plain : (a b : List ℕ) → no_line_feed a ≡ true → no_line_feed b ≡ true → no_line_feed (a ++ b) ≡ true
 both_plain a b g h = list_all-append no_feed a b ∙ and_from _ _ g h
 
 number_plain : (most n : ℕ) → most < 2 ^ 64 → nat_le n most ≡ true → no_line_feed (decimal n) ≡ true
-number_plain most n small h = all_weaker is_digit no_feed digit_byte (decimal n) (number_digits most small n h)
+number_plain most n small h = test_weaker is_digit no_feed digit_byte (decimal n) (number_digits most small n h)
 
 port_plain : (n : ℕ) → is_port_number n ≡ true → no_line_feed (decimal n) ≡ true
-port_plain n h = all_weaker is_digit no_feed digit_byte (decimal n) (port_digits n h)
+port_plain n h = test_weaker is_digit no_feed digit_byte (decimal n) (port_digits n h)
 
 -- ---- Addresses
 
 dotted_plain : (a b c d : ℕ) → a < 256 → b < 256 → c < 256 → d < 256 → no_line_feed (dotted_text a b c d) ≡ true
-dotted_plain a b c d la lb lc ld = all_weaker is_dotted_byte no_feed dotted_byte (dotted_text a b c d) (dotted_bytes a b c d la lb lc ld)
+dotted_plain a b c d la lb lc ld = test_weaker is_dotted_byte no_feed dotted_byte (dotted_text a b c d) (dotted_bytes a b c d la lb lc ld)
 
 all_plain : (bs : List ℕ) → All IsHexOrColon bs → no_line_feed bs ≡ true
 all_plain [] h = refl
@@ -135,7 +136,7 @@ match_plain family (match.Marked false) h = refl
 match_plain family (match.Statistic p) h = and_from _ _ (probability_plain p) refl
 match_plain family (match.Seen list seconds) h =
     let q = and_parts _ _ h in
-    and_from _ _ (name_plain list q.0) (and_from _ _ (number_plain 4294967295 seconds (omega arith) (seconds_fit seconds q.1)) refl)
+    and_from _ _ (name_plain list q.0) (and_from _ _ (number_plain 4294967295 seconds (omega arith) (within_32_bits seconds q.1)) refl)
 match_plain family (match.SetSeen list) h = and_from _ _ (name_plain list h) refl
 
 target_plain : (family : Family) (t : Target) → is_canonical_target family t ≡ true → words_plain (target_words t) ≡ true

@@ -21,10 +21,12 @@ use Rattle.kp_restore.specs.Machine.{run}
 use Rattle.kp_restore.specs.TableSteps.{step, put, may_follow, declared, with_rule, ruled, declaring}
 use Rattle.kp_restore.proofs.Machine.{some_one, none_some}
 use Rattle.kp_restore.proofs.Rows.{names_of, rising, with_rows, with_section}
-use Rattle.kp_restore.proofs.TableRows.{IsSection, table_one}
+use Rattle.kp_restore.proofs.TableRows.{IsSection}
 use Rattle.kp_restore.proofs.TableParts.{row_parts, section_parts}
 use Rattle.kp_restore.proofs.TableRuns.{opening, naming, filling, behind, get_dropped, get_past, next_left, none_left, last_again, keeps_put, keeps_with, all_jump, rows_jump, still_jump, Follow, IsFilling, filling_run, with_names, names_twice, dropped_all, dropped_first, ungrouped}
-use Rattle.kp_restore.proofs.BatchOrder.{same_name, less_through}
+use Rattle.kp_restore.proofs.BatchOrder.{less_through}
+use Rattle.kp_types.proofs.ChainOrder.{one_table_from_test}
+use Rattle.kp_base.proofs.SameParts.{text_test_exact}
 
 -- ---- Phases
 
@@ -85,7 +87,7 @@ module _ (e : TableReader) (done : e.phase ≡ Done) where
     where
       by : (b : Bool) → (table_place other == table_place table) ≡ b → option_and_then (λ m. run step m ls) (cond b (Some (naming t table [])) None) ≡ Some e
           → (rest : List Line) × (Section other ∷ ls ≡ Section table ∷ rest) × (run step (naming t table []) rest ≡ Some e)
-      by true k g = (ls, ap (λ n. Section n ∷ ls) (table_one other table k), g)
+      by true k g = (ls, ap (λ n. Section n ∷ ls) (one_table_from_test other table k), g)
       by false k g = absurd (none_some g)
   opening_back t table (BuiltIn chain ∷ ls) h = absurd (none_some h)
   opening_back t table (Declared chain ∷ ls) h = absurd (none_some h)
@@ -112,7 +114,7 @@ module _ (e : TableReader) (done : e.phase ≡ Done) where
             → (other ≡ c → run step (declared t table names other) us ≡ Some e → (ls : List Line) × (us ≡ map BuiltIn left ++ ls) × (run step (naming (with_names table (put t table c []) left) table ((names ++ c ∷ []) ++ left)) ls ≡ Some e))
             → (ls : List Line) × (BuiltIn other ∷ us ≡ map BuiltIn (c ∷ left) ++ ls) × (run step (naming (with_names table t (c ∷ left)) table (names ++ c ∷ left)) ls ≡ Some e)
         by true k g more =
-            let same = same_name other c k in
+            let same = text_test_exact other c k in
             let r = more same g in
             (r.0, (λ i. BuiltIn (same i) ∷ r.1 i), ap (λ ns. run step (naming (with_names table (put t table c []) left) table ns) r.0) (sym (append_assoc names (c ∷ []) left)) ∙ r.2)
         by false k g more = absurd (none_some g)
@@ -205,7 +207,7 @@ module _ (e : TableReader) (done : e.phase ≡ Done) where
         by : (b : Bool) → bytes_eq c d ≡ b → option_and_then (λ m. run step m us) (cond b (with_rule t table (c ∷ cs) rules r) (ruled (put t table c rules) table cs [] d r)) ≡ Some e
             → (run step (filling (put t table c rules) table cs []) (Ruled d r ∷ us) ≡ Some e → Filled (c ∷ cs) t rules (Ruled d r ∷ us))
             → Filled (c ∷ cs) t rules (Ruled d r ∷ us)
-        by true k g next = here (same_name c d k) (jumps_to_declared t.chains table r.target) refl g
+        by true k g next = here (text_test_exact c d k) (jumps_to_declared t.chains table r.target) refl g
         by false k g next = next g
 
     last_line : (us : List Line) (names : List (List ℕ)) (t : TableParts) (rules : List Rule) → all_jump t.chains table rules ≡ true → run step (filling t table names rules) (Commit ∷ us) ≡ Some e → Filled names t rules (Commit ∷ us)

@@ -16,14 +16,15 @@ use Rattle.kp_types.specs.declared.chain.TableName.{TableName}
 use Rattle.kp_types.specs.declared.chain.TableName.TheVariants.{Nat, Filter}
 use Rattle.kp_types.specs.declared.chain.ChainAt.{ChainAt}
 use Rattle.kp_types.specs.declared.rule.Rule.{Rule}
-use Rattle.kp_types.proofs.ChainOrder.{chain_total, chain_exact}
+use Rattle.kp_types.proofs.ChainOrder.{chain_total, chain_exact, one_table_from_test}
 use Rattle.kp_table_defs.specs.Ranks.{built_in_chains, is_built_in, has_built_in}
 use Rattle.kp_table_defs.specs.Rebuild.{Chains}
 use Rattle.kp_restore_defs.specs.TableText.{Row, row_at, built_in_rows, other_rows}
 use Rattle.kp_restore.proofs.Machine.{some_one}
 use Rattle.kp_restore.proofs.Rows.{at, entries_of, rules_in, names_of, distinct, rising, Agree, turned_false, find_rows, is_some_rules, no_rules, rules_append, agree, agree_front, agree_same, rows_again}
-use Rattle.kp_restore.proofs.BatchOrder.{same_name, less_differs}
-use Rattle.kp_rules.proofs.MapPlaces.{both, less}
+use Rattle.kp_lemmas.proofs.Orders.{lesser_text_differs, less_from_fact}
+use Rattle.kp_lemmas.proofs.Booleans.{both_facts, true_from_fact}
+use Rattle.kp_base.proofs.SameParts.{text_test_exact}
 
 -- a section's rows: its built-in chains in their order, and the others by their bytes
 pub record IsSection (table : TableName) (built_in others : List Row) : Type 0 where
@@ -35,7 +36,7 @@ pub record IsSection (table : TableName) (built_in others : List Row) : Type 0 w
 
 none_alike : (n : List ℕ) (ms : List (List ℕ)) → list_all (λ m. is_lt (text_cmp n m)) ms ≡ true → list_any (bytes_eq n) ms ≡ false
 none_alike n [] h = refl
-none_alike n (m ∷ ms) h = let p = and_parts _ _ h in λ i. less_differs n m p.0 i || none_alike n ms p.1 i
+none_alike n (m ∷ ms) h = let p = and_parts _ _ h in λ i. lesser_text_differs n m p.0 i || none_alike n ms p.1 i
 
 rising_distinct : (ns : List (List ℕ)) → rising ns ≡ true → distinct ns ≡ true
 rising_distinct [] h = refl
@@ -84,7 +85,7 @@ not_among p name (n ∷ ns) h a =
   where
     by : (b : Bool) → bytes_eq name n ≡ b → b ≡ false
     by false e = refl
-    by true e = let same = same_name name n e in absurd (let t : true ≡ false = sym h ∙ ap p same ∙ not-true _ (and_parts _ _ a).0 in cc)
+    by true e = let same = text_test_exact name n e in absurd (let t : true ≡ false = sym h ∙ ap p same ∙ not-true _ (and_parts _ _ a).0 in cc)
 
 module _ (table : TableName) (built_in others : List Row) (s : IsSection table built_in others) where
   pub built_in_there : (name : List ℕ) → is_some (rules_in built_in name) ≡ is_built_in table name
@@ -95,22 +96,18 @@ module _ (table : TableName) (built_in others : List Row) (s : IsSection table b
 
 -- ---- Entries
 
-joined : (a b : Bool) → T a → T b → T (a && b)
-joined true b g h = h
-joined false b g h = g
-
 -- a key below all others isn't found among them
 find_below : (q : ChainAt) (es : List (ChainAt × List Rule)) → T (below_all chain_cmp q es) → find chain_cmp q es ≡ None
 find_below q [] h = refl
 find_below q (e ∷ es) h =
-    let p = both _ _ h in
-    ap (λ o. cond (is_eq o) (Some e.1) (find chain_cmp q es)) (less _ p.0) ∙ find_below q es p.1
+    let p = both_facts _ _ h in
+    ap (λ o. cond (is_eq o) (Some e.1) (find chain_cmp q es)) (less_from_fact _ p.0) ∙ find_below q es p.1
 
 -- what holds of all that is found holds of all entries
 every_in : (p : ChainAt × List Rule → Bool) (es : List (ChainAt × List Rule)) → T (is_sorted chain_cmp es) → ((q : ChainAt) (rules : List Rule) → find chain_cmp q es ≡ Some rules → p (q, rules) ≡ true) → list_all p es ≡ true
 every_in p [] s h = refl
 every_in p (e ∷ es) s h =
-    let c = both _ _ s in
+    let c = both_facts _ _ s in
     and_from _ _ (h e.0 e.1 (ap (λ o. cond (is_eq o) (Some e.1) (find chain_cmp e.0 es)) (tied_itself chain_total e.0)))
     (every_in p es c.1 (λ q rules f. h q rules (by q rules f (eq_by_cmp chain_cmp q e.0) refl)))
   where
@@ -123,7 +120,7 @@ every_in p (e ∷ es) s h =
     by q rules f false t = f
     by q rules f true t =
         let same : q ≡ e.0 = chain_exact q e.0 (equal _ t) in
-        absurd (let n : None ≡ Some rules = sym (find_below e.0 es (both _ _ s).0) ∙ ap (λ k. find chain_cmp k es) (sym same) ∙ f in cc)
+        absurd (let n : None ≡ Some rules = sym (find_below e.0 es (both_facts _ _ s).0) ∙ ap (λ k. find chain_cmp k es) (sym same) ∙ f in cc)
 
 pub every_entry : (p : ChainAt × List Rule → Bool) (chains : Chains) → ((q : ChainAt) (rules : List Rule) → get chains q ≡ Some rules → p (q, rules) ≡ true) → list_all p (entries chains) ≡ true
 every_entry p chains h = every_in p (entries chains) (entries_sorted chains) (λ q rules f. h q rules (get-entries chains q ∙ f))
@@ -147,19 +144,9 @@ one_entry p chains a q rules f = one_in p (entries chains) a q rules (sym (get-e
 
 -- ---- The rows of a table
 
-true_of : (b : Bool) → T b → b ≡ true
-true_of true h = refl
-true_of false h = absurd h
-
 pub table_tied : (table : TableName) → (table_place table == table_place table) ≡ true
 table_tied Nat = refl
 table_tied Filter = refl
-
-pub table_one : (a b : TableName) → (table_place a == table_place b) ≡ true → a ≡ b
-table_one Nat Nat h = refl
-table_one Nat Filter h = absurd (cc)
-table_one Filter Nat h = absurd (cc)
-table_one Filter Filter h = refl
 
 table_apart : (table : TableName) (q : ChainAt) (name : List ℕ) → (table_place q.table == table_place table) ≡ false → eq_by_cmp chain_cmp q (at table name) ≡ false
 table_apart table q name h = by q.table table h
@@ -198,7 +185,7 @@ module _ (table : TableName) where
   row_of e = (e.0.chain, e.1)
 
   same_place : (place : ChainAt) → in_table place ≡ true → at table place.chain ≡ place
-  same_place place h = ap (λ t. at t place.chain) (sym (table_one place.table table h))
+  same_place place h = ap (λ t. at t place.chain) (sym (one_table_from_test place.table table h))
 
   entries_again : (es : List (ChainAt × List Rule)) → entries_of table (map row_of (others_in es)) ≡ others_in es
   entries_again [] = refl
@@ -260,9 +247,9 @@ module _ (table : TableName) where
         by : (o : Option (List Rule)) → get chains (at table n) ≡ o → (b : Bool) → bytes_eq name n ≡ b
             → rules_in (filter_map (row_at chains table) ns) name ≡ cond (list_any (bytes_eq name) ns) (get chains (at table name)) None
             → rules_in (cons_option (option_map (λ rules. (n, rules)) o) (filter_map (row_at chains table) ns)) name ≡ cond (b || list_any (bytes_eq name) ns) (get chains (at table name)) None
-        by None g true t h = h ∙ nothing _ _ (ap (λ m. get chains (at table m)) (same_name name n t) ∙ g)
+        by None g true t h = h ∙ nothing _ _ (ap (λ m. get chains (at table m)) (text_test_exact name n t) ∙ g)
         by None g false t h = h
-        by (Some rules) g true t h = ap (λ b. cond b (Some rules) (rules_in (filter_map (row_at chains table) ns) name)) t ∙ sym (ap (λ m. get chains (at table m)) (same_name name n t) ∙ g)
+        by (Some rules) g true t h = ap (λ b. cond b (Some rules) (rules_in (filter_map (row_at chains table) ns) name)) t ∙ sym (ap (λ m. get chains (at table m)) (text_test_exact name n t) ∙ g)
         by (Some rules) g false t h = ap (λ b. cond b (Some rules) (rules_in (filter_map (row_at chains table) ns) name)) t ∙ h
 
     -- the rows have the rules of each chain
@@ -290,7 +277,7 @@ module _ (table : TableName) where
     rows_section h = record {
       first = first_names (built_in_chains table) h;
       apart = all_other (where_key chain_cmp in_table (entries chains));
-      rising = sym (sorted_names table (other_rows chains table)) ∙ ap (is_sorted chain_cmp) (entries_again (entries chains)) ∙ true_of _ others_sorted;
+      rising = sym (sorted_names table (other_rows chains table)) ∙ ap (is_sorted chain_cmp) (entries_again (entries chains)) ∙ true_from_fact _ others_sorted;
     }
 
     -- a section whose rules the table has is that of its rows

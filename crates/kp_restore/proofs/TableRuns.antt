@@ -26,7 +26,7 @@ use Rattle.kp_restore.proofs.Rows.{at, names_of, distinct, rising, empty_row, wi
 use Rattle.kp_restore.proofs.TableRows.{IsSection, section_distinct, table_tied}
 use Rattle.kp_restore.proofs.TableParts.{row_parts, section_parts}
 use Rattle.kp_restore.proofs.BatchOrder.{name_itself}
-use Rattle.kp_rule_text.proofs.Words.{all_weaker}
+use Rattle.kp_lemmas.proofs.ListFacts.{test_weaker, test_always}
 
 -- ---- States
 
@@ -118,10 +118,10 @@ abbrev pub rows_jump : Chains → TableName → List Row → Bool
 rows_jump chains table rows = list_all (λ row. all_jump chains table row.1) rows
 
 pub still_jump : (table : TableName) (t u : TableParts) → Keeps table t u → (rules : List Rule) → all_jump t.chains table rules ≡ true → all_jump u.chains table rules ≡ true
-still_jump table t u k = all_weaker (λ r. jumps_to_declared t.chains table r.target) (λ r. jumps_to_declared u.chains table r.target) (λ r. jumps_by table t.chains u.chains k r.target)
+still_jump table t u k = test_weaker (λ r. jumps_to_declared t.chains table r.target) (λ r. jumps_to_declared u.chains table r.target) (λ r. jumps_by table t.chains u.chains k r.target)
 
 pub rows_still_jump : (table : TableName) (t u : TableParts) → Keeps table t u → (rows : List Row) → rows_jump t.chains table rows ≡ true → rows_jump u.chains table rows ≡ true
-rows_still_jump table t u k = all_weaker (λ row. all_jump t.chains table row.1) (λ row. all_jump u.chains table row.1) (λ row. still_jump table t u k row.1)
+rows_still_jump table t u k = test_weaker (λ row. all_jump t.chains table row.1) (λ row. all_jump u.chains table row.1) (λ row. still_jump table t u k row.1)
 
 -- ---- Declarations
 
@@ -226,10 +226,6 @@ with_names table t names = with_rows table t (map empty_row names)
 pub names_twice : (table : TableName) (t : TableParts) (xs ys : List (List ℕ)) → with_names table (with_names table t xs) ys ≡ with_names table t (xs ++ ys)
 names_twice table t xs ys = sym (with_append table t (map empty_row xs) (map empty_row ys)) ∙ ap (with_rows table t) (sym (map-append empty_row xs ys))
 
-all_true : {A : Type 0} (p : A → Bool) → ((x : A) → p x ≡ true) → (xs : List A) → list_all p xs ≡ true
-all_true p f [] = refl
-all_true p f (x ∷ xs) = and_from _ _ (f x) (all_true p f xs)
-
 -- names in order may be declared one behind the other
 follow_from : (table : TableName) (last : List ℕ) (cs : List (List ℕ)) → list_all (λ m. is_built_in table last || is_lt (text_cmp last m)) cs ≡ true → list_all (λ m. not (is_built_in table m)) cs ≡ true → rising cs ≡ true
     → Follow table (Some last) cs
@@ -238,15 +234,15 @@ follow_from table last [] b a r = tt
 follow_from table last (c ∷ cs) b a r =
     let p = and_parts _ _ a in
     let q = and_parts _ _ r in
-    (and_from _ _ p.0 (and_parts _ _ b).0, follow_from table c cs (all_weaker (λ m. is_lt (text_cmp c m)) (λ m. is_built_in table c || is_lt (text_cmp c m)) (λ m l. or_right _ _ l) cs q.0) p.1 q.1)
+    (and_from _ _ p.0 (and_parts _ _ b).0, follow_from table c cs (test_weaker (λ m. is_lt (text_cmp c m)) (λ m. is_built_in table c || is_lt (text_cmp c m)) (λ m l. or_right _ _ l) cs q.0) p.1 q.1)
   where
     or_right : (x y : Bool) → y ≡ true → (x || y) ≡ true
     or_right true y h = refl
     or_right false y h = h
 
 pub follow_first : (table : TableName) (cs : List (List ℕ)) → list_all (λ m. not (is_built_in table m)) cs ≡ true → rising cs ≡ true → Follow table (slice_get (built_in_chains table) (length (built_in_chains table) - 1)) cs
-follow_first Nat cs a r = follow_from Nat (codes "POSTROUTING") cs (all_true (λ m. is_built_in Nat (codes "POSTROUTING") || is_lt (text_cmp (codes "POSTROUTING") m)) (λ m. refl) cs) a r
-follow_first Filter cs a r = follow_from Filter (codes "OUTPUT") cs (all_true (λ m. is_built_in Filter (codes "OUTPUT") || is_lt (text_cmp (codes "OUTPUT") m)) (λ m. refl) cs) a r
+follow_first Nat cs a r = follow_from Nat (codes "POSTROUTING") cs (test_always (λ m. is_built_in Nat (codes "POSTROUTING") || is_lt (text_cmp (codes "POSTROUTING") m)) (λ m. refl) cs) a r
+follow_first Filter cs a r = follow_from Filter (codes "OUTPUT") cs (test_always (λ m. is_built_in Filter (codes "OUTPUT") || is_lt (text_cmp (codes "OUTPUT") m)) (λ m. refl) cs) a r
 
 pub dropped_all : {A : Type 0} (xs ys : List A) → drop (length (xs ++ ys)) xs ≡ []
 dropped_all [] [] = refl
