@@ -1,44 +1,37 @@
 #!/usr/bin/env bash
-# Seconds to read and print a table of 50,000 rules beside those of `iptables-restore --test` on the same text, in one
-# run. iptables-restore runs in a network namespace of its own.
+# Rules a second that are read and printed beside those of `iptables-restore --test` on the same
+# files in one run. iptables-restore runs in a network namespace of its own.
+#   bench/restore.sh [SERVICES]
 set -eu
 cd "$(dirname "$0")/.."
+many=${1:-10000}
+few=$((many / 2))
 work=$(mktemp -d)
 trap 'rm -rf "$work"' EXIT
-input=$work/input
-
-awk 'BEGIN {
-    n = 10000
-    print "*nat\n:PREROUTING ACCEPT [0:0]\n:INPUT ACCEPT [0:0]\n:OUTPUT ACCEPT [0:0]\n:POSTROUTING ACCEPT [0:0]"
-    print ":KUBE-MARK-MASQ - [0:0]"
-    for (i = 0; i < n; i++) printf ":KUBE-SEP-%016d - [0:0]\n", i
-    print ":KUBE-SERVICES - [0:0]"
-    for (i = 0; i < n; i++) printf ":KUBE-SVC-%016d - [0:0]\n", i
-    print "-A PREROUTING -j KUBE-SERVICES\n-A OUTPUT -j KUBE-SERVICES"
-    print "-A KUBE-MARK-MASQ -j MARK --or-mark 0x4000"
-    for (i = 0; i < n; i++) {
-        printf "-A KUBE-SEP-%016d -s 10.244.%d.%d/32 -j KUBE-MARK-MASQ\n", i, i / 250, i % 250 + 1
-        printf "-A KUBE-SEP-%016d -p tcp -j DNAT --to-destination 10.244.%d.%d:8080\n", i, i / 250, i % 250 + 1
-    }
-    for (i = 0; i < n; i++)
-        printf "-A KUBE-SERVICES -d 10.96.%d.%d/32 -p tcp -m tcp --dport 80 -j KUBE-SVC-%016d\n", i / 250, i % 250 + 1, i
-    for (i = 0; i < n; i++) {
-        printf "-A KUBE-SVC-%016d ! -s 10.244.0.0/16 -d 10.96.%d.%d/32 -p tcp -m tcp --dport 80 -j KUBE-MARK-MASQ\n", i, i / 250, i % 250 + 1
-        printf "-A KUBE-SVC-%016d -j KUBE-SEP-%016d\n", i, i
-    }
-    print "COMMIT\n*filter\n:INPUT ACCEPT [0:0]\n:FORWARD ACCEPT [0:0]\n:OUTPUT ACCEPT [0:0]\nCOMMIT"
-}' >"$input"
-lines=$(wc -l <"$input")
-
 . bench/timing.sh
 
-(cd crates/kp_restore_echo && rt run <stdin >/dev/null)
-ours=$(seconds crates/kp_restore_echo/out/kp_restore_echo)
-echo "kp_restore_echo, read and printed: $lines lines, $(rate "$ours") lines a second"
-cmp "$input" "$work/output"
+bench/table.sh "$few" >"$work/less"
+bench/table.sh "$many" >"$work/more"
+echo "input: bench/table.sh SERVICES, with $few and $many, five rules each; processor time"
+if ! (cd crates/kp_restore_echo && rt run <stdin >/dev/null 2>"$work/built"); then
+    cat "$work/built" >&2
+    exit 1
+fi
+
+# the seconds for a Service are those for five rules
+measure() { # $1: its name, then the command
+    local name=$1
+    shift
+    each=$(each_on_files "$work/less" $((5 * few)) "$work/more" $((5 * many)) "$@")
+    echo "$name: $(a_second "$each") rules a second"
+}
+
+measure "kp_restore_echo, read and printed" crates/kp_restore_echo/out/kp_restore_echo
+ours=$each
+cmp "$work/more" "$work/output"
 for variant in nft legacy; do
     if command -v "iptables-$variant-restore" >/dev/null && unshare -n true 2>/dev/null; then
-        theirs=$(seconds unshare -n "iptables-$variant-restore" --test)
-        echo "iptables-$variant-restore --test: $(rate "$theirs") lines a second"
+        measure "iptables-$variant-restore --test" unshare -n "iptables-$variant-restore" --test
+        echo "iptables-$variant-restore takes $(ratio "$ours" "$each") times as long"
     fi
 done

@@ -1,15 +1,52 @@
-# What the benches share. The caller sets the file `input`, its number of `lines`, and the folder `work`.
+# What the benches share: processor time, measured from outside. A figure is the difference of two
+# numbers of repeats, each the median of five runs, so that starting and reading what comes first
+# isn't in it. The caller sets the folder `work`.
 
-# the seconds that a command takes on the input, whose output goes to a file of the folder
-seconds() {
-    local start end
-    start=$(date +%s%N)
-    "$@" <"$input" >"$work/output"
-    end=$(date +%s%N)
-    awk -v ns=$((end - start)) 'BEGIN { printf "%.3f", ns / 1e9 }'
+# the processor time of a command on a file, in seconds; a command that fails ends the bench
+processor_seconds() { # $1: the file, then the command
+    local file=$1 TIMEFORMAT='%3U %3S'
+    shift
+    if ! { time "$@" <"$file" >"$work/output" 2>"$work/complaints"; } 2>"$work/took"; then
+        echo "$*: failed" >&2
+        cat "$work/complaints" >&2
+        return 1
+    fi
+    awk '{ printf "%.3f\n", $1 + $2 }' "$work/took"
 }
 
-# the lines a second, where all lines take these seconds
-rate() {
-    awk -v lines="$lines" -v seconds="$1" 'BEGIN { printf "%d", lines / seconds }'
+# the median of five runs
+median_of_five() { # as processor_seconds
+    local run
+    for run in 1 2 3 4 5; do
+        processor_seconds "$@" || return 1
+    done | sort -n | sed -n 3p
+}
+
+# the seconds for one more of what is repeated: `less` and `more` are two files with so many repeats
+each_on_files() { # $1: less, $2: its repeats, $3: more, $4: its repeats, then the command
+    local less=$1 few=$2 more=$3 many=$4 base whole
+    shift 4
+    base=$(median_of_five "$less" "$@") && whole=$(median_of_five "$more" "$@") || return 1
+    awk -v base="$base" -v whole="$whole" -v times=$((many - few)) \
+        'BEGIN { printf "%.9f\n", (whole - base) / times }'
+}
+
+# the same for a command that takes its number of repeats as its last word
+each_by_word() { # $1: few repeats, $2: many repeats, then the command
+    local few=$1 many=$2 base whole
+    shift 2
+    base=$(median_of_five /dev/null "$@" "$few") &&
+        whole=$(median_of_five /dev/null "$@" "$many") || return 1
+    awk -v base="$base" -v whole="$whole" -v times=$((many - few)) \
+        'BEGIN { printf "%.9f\n", (whole - base) / times }'
+}
+
+# so many a second, where each takes these seconds
+a_second() { # $1: the seconds
+    awk -v each="$1" 'BEGIN { if (each > 0) printf "%d", 1 / each; else printf "too many to tell" }'
+}
+
+# how many times as long the second takes as the first
+ratio() { # $1: seconds, $2: seconds
+    awk -v ours="$1" -v theirs="$2" 'BEGIN { if (ours > 0) printf "%.2f", theirs / ours }'
 }

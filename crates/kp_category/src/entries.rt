@@ -6,6 +6,7 @@ ghost use Rattle.kp_base.specs.declared.address.Family.TheVariants.{V4};
 ghost use Rattle.kp_object_defs.specs.Entries as spec;
 ghost use Rattle.kp_object_defs.specs.Entries.{candidates_from, wanted_candidate};
 ghost use Rattle.kp_object_defs.specs.Entries.{slice_candidates, is_of_family};
+ghost use Rattle.kp_object_laws.specs.ListLaws.{are_in_order};
 ghost use Rattle.kp_category.specs.Count as Count;
 ghost use Rattle.kp_category.specs.Count.{counted_with};
 
@@ -16,8 +17,8 @@ use std::collections::BTreeMap;
 
 /// The endpoints of a port, of the endpoints that the controller wants for its Service and of
 /// slices, in this order (Kubernetes documents on EndpointSlices, "Duplicate endpoints"). They are
-/// IPv4 endpoints in order of address and port. Of entries with one address and port the last one
-/// on this node counts, or else the first.
+/// IPv4 endpoints in order of address and port, each once. Of entries with one address and port the
+/// last one on this node counts, or else the first.
 pub fn candidates(
     alloc: Global,
     port: &PortKey,
@@ -28,6 +29,7 @@ pub fn candidates(
     ensures ok { IfOk result (λ cs.
         cs ≡ spec.counted_once (candidates_from V4 node.now port.now wanted.now slices.now)) }
     ensures family { IfOk result (λ cs. list_all (is_of_family V4) cs ≡ true) }
+    ensures in_order { IfOk result (λ cs. are_in_order cs ≡ true) }
 {
     let found = all_candidates(alloc, port, wanted.as_slice(), slices.as_slice(), node)?;
     counted_once(alloc, found)

@@ -1,10 +1,16 @@
 //! The endpoints that a Service wants of its pods.
-ghost use Rattle.std.specs.Prelude.{◌≡◌, ◌++◌, map, IfOk, OnOk, option_copied};
+ghost use Rattle.std.specs.Prelude.{◌≡◌, true, ◌++◌, map, IfOk, OnOk, option_copied};
+ghost use Rattle.std.specs.FinMap.{values};
 ghost use Rattle.std.specs.List.{filter_map};
 ghost use Rattle.std.specs.Option.{option_to_list};
 ghost use Rattle.kp_base.specs.declared.address.Family.TheVariants.{V4};
 ghost use Rattle.kp_object_defs.specs.Desired as spec;
-ghost use Rattle.kp_object_defs.specs.Desired.{desired_among, desired_in_zone, desired_of};
+ghost use Rattle.kp_object_defs.specs.Desired.{desired_among, desired_endpoints_of};
+ghost use Rattle.kp_object_defs.specs.Desired.{desired_in_zone, desired_of};
+ghost use Rattle.kp_object_defs.specs.Objects.{Objects};
+ghost use Rattle.kp_object_defs.specs.OwnKeys.{AreUnderOwnKeys};
+ghost use Rattle.kp_object_defs.specs.PackingLaws.{have_own_pods};
+ghost use Rattle.kp_object_laws.specs.ObjectLaws.{HaveSameElements};
 ghost use Rattle.kp_desired.specs.ByName.{shown, zone_in};
 
 use crate::order::selected_pods;
@@ -18,14 +24,19 @@ use std::collections::BTreeMap;
 /// The endpoints that a Service wants of pods, on nodes, in order of the pods' names (Kubernetes
 /// documents on EndpointSlices). Pods and nodes stand in any order; of selected pods of one name the
 /// last counts, and of nodes too. A pod that has finished, has no IPv4 address or resolves no port
-/// gives no endpoint.
+/// gives no endpoint, and no pod gives two. Of the cluster's pods and nodes they are the endpoints
+/// that the controller wants.
 pub fn desired_endpoints(
     alloc: Global,
     service: &Service,
     pods: &Items<Pod>,
     nodes: &Items<Node>,
 ) -> Result<Items<Wanted>, NoMemory>
-    ensures { IfOk result (λ ws. ws ≡ desired_among V4 service.now pods.now nodes.now) }
+    ensures exact { IfOk result (λ ws. ws ≡ desired_among V4 service.now pods.now nodes.now) }
+    ensures of_objects { (o : Objects) → AreUnderOwnKeys o →
+        HaveSameElements pods.now (values o.pods) → HaveSameElements nodes.now (values o.nodes) →
+        IfOk result (λ ws. ws ≡ desired_endpoints_of V4 o service.now) }
+    ensures own_pods { IfOk result (λ ws. have_own_pods ws ≡ true) }
 {
     let by_name = nodes_by_name(alloc, nodes.as_slice())?;
     let pods = selected_pods(alloc, service, pods.as_slice())?;

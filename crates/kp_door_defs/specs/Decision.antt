@@ -2,10 +2,8 @@
 -- masqueraded, and what the filter says of the translated packet (Kubernetes documents on virtual IPs and
 -- service proxies). Reasons are this project's choice.
 use Rattle.std.specs.Prelude.{ℕ, suc, List, [], length, Option, Some, None, option_and_then, option_map}
-use Rattle.kp_base.specs.declared.address.Family.{Family}
 use Rattle.kp_base.specs.declared.key.Endpoint.{Endpoint}
-use Rattle.kp_base.specs.declared.config.Config.{Config}
-use Rattle.kp_types.specs.declared.chain.ChainKey.{ChainKey}
+use Rattle.kp_types.specs.Setting.{FamilyConfig, Setting}
 use Rattle.kp_types.specs.declared.packet.Packet.{Packet}
 use Rattle.kp_types.specs.declared.verdict.Verdict.{Verdict}
 use Rattle.kp_types.specs.declared.verdict.Verdict.TheVariants.{To, Rejected, Dropped, LeftAlone}
@@ -15,7 +13,7 @@ use Rattle.kp_object_defs.specs.Objects.{Objects}
 use Rattle.kp_object_defs.specs.PortInfo.{PortInfo, port_infos}
 use Rattle.kp_choice_defs.specs.Recent.{RecentParts}
 use Rattle.kp_door_defs.specs.Doors.{Door, Offer, taking_door, offer_of}
-use Rattle.kp_door_defs.specs.Choice.{Chosen, chosen_endpoint, recent_name}
+use Rattle.kp_door_defs.specs.Choice.{Chosen, chosen_endpoint}
 use Rattle.kp_door_defs.specs.Marks.{is_masqueraded}
 use Rattle.kp_door_defs.specs.Filter.{Line, Refusal, Rejects, DropsClosed, DropsNoLocal, filtered}
 
@@ -26,21 +24,21 @@ pub record Translation : Type 0 where
   pub chosen : Chosen
 
 -- the endpoint that a door chooses for a packet
-abbrev pub choice_at : (ChainKey → List ℕ) → Config → Packet → (ℕ → ℕ) → RecentParts → Door → Option Chosen
-choice_at name_of config packet draws lists d =
-    chosen_endpoint (recent_name name_of d.info.key) d.info.affinity packet.source packet.now draws
-    (offer_of config packet d).endpoints lists
+abbrev pub choice_at : Setting → Packet → (ℕ → ℕ) → RecentParts → Door → Option Chosen
+choice_at setting packet draws lists d =
+    chosen_endpoint setting d.info.key d.info.affinity packet.source packet.now draws
+    (offer_of setting.config packet d).endpoints lists
 
 -- the translation at a door
-abbrev pub translation_at : (ChainKey → List ℕ) → Config → Packet → (ℕ → ℕ) → RecentParts → Door → Option Translation
-translation_at name_of config packet draws lists d =
-    option_map (λ c. record { door = d; offer = offer_of config packet d; chosen = c })
-    (choice_at name_of config packet draws lists d)
+abbrev pub translation_at : Setting → Packet → (ℕ → ℕ) → RecentParts → Door → Option Translation
+translation_at setting packet draws lists d =
+    option_map (λ c. record { door = d; offer = offer_of setting.config packet d; chosen = c })
+    (choice_at setting packet draws lists d)
 
 -- the first door that fits and offers an endpoint translates the packet
-abbrev pub translation_of : (ChainKey → List ℕ) → Config → List PortInfo → Packet → (ℕ → ℕ) → RecentParts → Option Translation
-translation_of name_of config infos packet draws lists =
-    option_and_then (translation_at name_of config packet draws lists) (taking_door config infos packet)
+abbrev pub translation_of : Setting → List PortInfo → Packet → (ℕ → ℕ) → RecentParts → Option Translation
+translation_of setting infos packet draws lists =
+    option_and_then (translation_at setting packet draws lists) (taking_door setting.config infos packet)
 
 -- what becomes of a packet, why, and the recent lists afterwards
 pub record Decided : Type 0 where
@@ -69,7 +67,7 @@ refused_by DropsClosed d lists = record { verdict = Dropped; reason = reason.Clo
 refused_by DropsNoLocal d lists = record { verdict = Dropped; reason = reason.NoLocal d.kind d.info.key; lists = lists }
 
 -- the verdict and the reason of a packet that the filter lets pass
-abbrev pub passed : Config → Packet → Option Translation → RecentParts → Decided
+abbrev pub passed : FamilyConfig → Packet → Option Translation → RecentParts → Decided
 passed config packet None lists = record { verdict = LeftAlone; reason = reason.NoDoor; lists = lists }
 passed config packet (Some t) lists = record {
   verdict = To t.chosen.endpoint (is_masqueraded config t.door.kind t.door.info packet t.chosen.endpoint);
@@ -78,21 +76,21 @@ passed config packet (Some t) lists = record {
 }
 
 -- what the filter's line says, or else the translation
-abbrev pub by_filter : Config → Packet → Option Translation → RecentParts → Option Line → Decided
+abbrev pub by_filter : FamilyConfig → Packet → Option Translation → RecentParts → Option Line → Decided
 by_filter config packet t lists (Some line) = refused_by line.refusal line.door lists
 by_filter config packet t lists None = passed config packet t lists
 
 -- the decision by a translation
-abbrev pub decision_by : Config → List PortInfo → Packet → RecentParts → Option Translation → Decided
+abbrev pub decision_by : FamilyConfig → List PortInfo → Packet → RecentParts → Option Translation → Decided
 decision_by config infos packet lists t =
     by_filter config packet t (lists_after t lists) (filtered config infos (translated packet t))
 
 -- the decision by what is known of the ports
-abbrev pub decision_from : (ChainKey → List ℕ) → Config → List PortInfo → Packet → (ℕ → ℕ) → RecentParts → Decided
-decision_from name_of config infos packet draws lists =
-    decision_by config infos packet lists (translation_of name_of config infos packet draws lists)
+abbrev pub decision_from : Setting → List PortInfo → Packet → (ℕ → ℕ) → RecentParts → Decided
+decision_from setting infos packet draws lists =
+    decision_by setting.config infos packet lists (translation_of setting infos packet draws lists)
 
--- the decision on a packet of a family by the objects
-abbrev pub decision_of : (ChainKey → List ℕ) → Family → Config → Objects → Packet → (ℕ → ℕ) → RecentParts → Decided
-decision_of name_of family config o packet draws lists =
-    decision_from name_of config (port_infos family config o) packet draws lists
+-- the decision on a packet by the objects
+abbrev pub decision_of : Setting → Objects → Packet → (ℕ → ℕ) → RecentParts → Decided
+decision_of setting o packet draws lists =
+    decision_from setting (port_infos setting.family setting.config o) packet draws lists

@@ -6,7 +6,7 @@ use Rattle.std.specs.List.{list_any, find, flat_map}
 use Rattle.kp_base.specs.Net.{AddressParts, RangeParts, same_address, range_contains, loopback_range, is_local_address}
 use Rattle.kp_base.specs.declared.address.Family.{Family}
 use Rattle.kp_base.specs.declared.key.Endpoint.{Endpoint}
-use Rattle.kp_base.specs.declared.config.Config.{Config}
+use Rattle.kp_types.specs.Setting.{FamilyConfig}
 use Rattle.kp_types.specs.Ports.{same_proto}
 use Rattle.kp_types.specs.declared.packet.Packet.{Packet}
 use Rattle.kp_types.specs.declared.service.Policy.{Policy}
@@ -67,7 +67,7 @@ is_in_range None a = false
 is_in_range (Some r) a = range_contains r a
 
 -- the source is a pod's: it is in the cluster's range
-abbrev pub is_in_cluster : Config → AddressParts → Bool
+abbrev pub is_in_cluster : FamilyConfig → AddressParts → Bool
 is_in_cluster config source = is_in_range config.cluster source
 
 -- a list of a port, by policy
@@ -76,7 +76,7 @@ offer_by_policy i Cluster = record { kind = list_kind.Cluster; endpoints = i.lis
 offer_by_policy i Local = record { kind = list_kind.Local; endpoints = i.lists.local }
 
 -- what the external traffic policy offers; a source of the cluster or of the node may use all endpoints
-abbrev pub outer_offer : Config → PortInfo → Policy → AddressParts → Offer
+abbrev pub outer_offer : FamilyConfig → PortInfo → Policy → AddressParts → Offer
 outer_offer config i Cluster source = offer_by_policy i Cluster
 outer_offer config i Local source =
     cond (is_in_cluster config source || is_local_address config.addresses source)
@@ -93,20 +93,20 @@ offer_if true o = o
 offer_if false o = record { kind = o.kind; endpoints = [] }
 
 -- what a door offers to a source
-abbrev pub offered : Config → DoorKind → PortInfo → AddressParts → Offer
+abbrev pub offered : FamilyConfig → DoorKind → PortInfo → AddressParts → Offer
 offered config door.Cluster i source = offer_by_policy i i.internal
 offered config door.External i source = outer_offer config i i.outer source
 offered config door.Balancer i source = offer_if (is_admitted i.ranges source) (outer_offer config i i.outer source)
 offered config door.Node i source = outer_offer config i i.outer source
 
 -- what a door offers to a packet
-abbrev pub offer_of : Config → Packet → Door → Offer
+abbrev pub offer_of : FamilyConfig → Packet → Door → Offer
 offer_of config packet d = offered config d.kind d.info packet.source
 
 -- the door takes the packet: it fits, and offers an endpoint
-abbrev pub takes : Config → Packet → Door → Bool
+abbrev pub takes : FamilyConfig → Packet → Door → Bool
 takes config packet d = fits config.addresses packet d && not (is_empty (offer_of config packet d).endpoints)
 
 -- the first door that takes the packet
-abbrev pub taking_door : Config → List PortInfo → Packet → Option Door
+abbrev pub taking_door : FamilyConfig → List PortInfo → Packet → Option Door
 taking_door config infos packet = find (takes config packet) (doors_of infos)

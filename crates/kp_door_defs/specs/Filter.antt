@@ -5,7 +5,7 @@
 use Rattle.std.specs.Prelude.{ℕ, ◌&&◌, ◌||◌, Bool, true, false, List, [], ◌∷◌, ◌++◌, map, not, cond, Option, Some, None, is_some}
 use Rattle.std.specs.List.{find, flat_map}
 use Rattle.kp_base.specs.Net.{AddressParts, is_local_address}
-use Rattle.kp_base.specs.declared.config.Config.{Config}
+use Rattle.kp_types.specs.Setting.{FamilyConfig}
 use Rattle.kp_types.specs.declared.packet.Packet.{Packet}
 use Rattle.kp_types.specs.declared.packet.Origin.{Origin}
 use Rattle.kp_types.specs.declared.packet.Origin.TheVariants as origin
@@ -81,10 +81,10 @@ hooks_by origin.Wire local = input_or_forward local
 hooks_by origin.Node local = Output ∷ input_if local
 
 -- the hooks of a packet
-abbrev pub hooks_of : Config → Packet → List Hook
+abbrev pub hooks_of : FamilyConfig → Packet → List Hook
 hooks_of config packet = hooks_by packet.from (is_local_address config.addresses packet.target)
 
 -- the first line that a packet fits, hook by hook
-abbrev pub filtered : Config → List PortInfo → Packet → Option Line
+abbrev pub filtered : FamilyConfig → List PortInfo → Packet → Option Line
 filtered config infos packet =
     find (λ l. fits config.addresses packet l.door) (flat_map (λ h. hook_lines h infos) (hooks_of config packet))

@@ -12,7 +12,8 @@ use sha2::{Digest, Sha256};
 
 /// Adds an endpoint's text.
 pub fn feed_endpoint(hasher: &mut Sha256, endpoint: &Endpoint)
-    ensures { (m : List ℕ) → Holds256 hasher.old m → Holds256 hasher.new (m ++ spec.endpoint_text endpoint.now) }
+    ensures { (m : List ℕ) → Holds256 hasher.old m
+        → Holds256 hasher.new (m ++ spec.endpoint_text endpoint.now) }
 {
     feed_host(hasher, &endpoint.address);
     hasher.update(b":");
@@ -22,7 +23,8 @@ pub fn feed_endpoint(hasher: &mut Sha256, endpoint: &Endpoint)
 /// Adds an address as it stands before a port.
 fn feed_host(hasher: &mut Sha256, address: &Address)
     ensures { (m : List ℕ) → Holds256 hasher.old m
-        → Holds256 hasher.new (m ++ spec.host_text address.now.family (spec.address_text address.now)) }
+        → Holds256 hasher.new
+        (m ++ spec.host_text address.now.family (spec.address_text address.now)) }
 {
     match address.family() {
         Family::V4 => feed_ipv4(hasher, address.number()),
@@ -102,25 +104,12 @@ fn segments(number: u128) -> [u16; 8]
     ]
 }
 
-/// Adds an IPv6 address. One that an IPv4 address is mapped to ends in that address.
-#[tactic(auto, unfolding(std::specs::Net::Text::ipv6_text))]
+/// Adds an IPv6 address.
 fn feed_ipv6(hasher: &mut Sha256, number: u128)
     ensures { (m : List ℕ) → Holds256 hasher.old m
         → Holds256 hasher.new (m ++ spec.number_text family.V6 number) }
 {
-    let groups = segments(number);
-    if groups[..6] == [0, 0, 0, 0, 0, 0xffff] {
-        hasher.update(b"::ffff:");
-        feed_dotted(
-            hasher,
-            groups[6] / 256,
-            groups[6] % 256,
-            groups[7] / 256,
-            groups[7] % 256,
-        );
-    } else {
-        feed_compressed(hasher, &groups);
-    }
+    feed_compressed(hasher, &segments(number));
 }
 
 /// Adds groups, with `::` in place of the longest run of zeros that has two or more.
@@ -157,7 +146,8 @@ fn longest_zero_run(groups: &[u16]) -> (usize, usize)
 
 /// Adds groups with colons between them.
 fn feed_groups(hasher: &mut Sha256, groups: &[u16])
-    ensures { (m : List ℕ) → Holds256 hasher.old m → Holds256 hasher.new (m ++ Text.groups_text groups.now) }
+    ensures { (m : List ℕ) → Holds256 hasher.old m
+        → Holds256 hasher.new (m ++ Text.groups_text groups.now) }
 {
     if let Some((first, rest)) = groups.split_first() {
         feed_hex(hasher, *first);

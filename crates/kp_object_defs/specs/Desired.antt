@@ -4,12 +4,13 @@
 use Rattle.std.specs.Prelude.{ℕ, ◌&&◌, ◌||◌, Bool, true, false, List, [], ◌∷◌, not, cond, bytes_eq, Option, Some, None, option_map, option_and_then, reverse}
 use Rattle.std.specs.List.{list_any, list_all, find, filter, filter_map}
 use Rattle.std.specs.FinMap as finite
+pub use Rattle.kp_lemmas.specs.Lists.{is_empty}
 use Rattle.kp_base.specs.Net.{AddressParts, same_family}
 use Rattle.kp_base.specs.Keys.{key_cmp}
 use Rattle.kp_base.specs.declared.address.Family.{Family}
 use Rattle.kp_base.specs.declared.port.Proto.{Proto}
 use Rattle.kp_base.specs.declared.key.Pair.{Pair}
-use Rattle.kp_base.specs.declared.config.Config.{Config}
+use Rattle.kp_types.specs.Setting.{FamilyConfig}
 use Rattle.kp_types.specs.Ports.{same_proto}
 use Rattle.kp_types.specs.declared.service.Service.{Service}
 use Rattle.kp_types.specs.declared.service.ServiceKind.{ServiceKind}
@@ -25,11 +26,6 @@ use Rattle.kp_types.specs.declared.pod.Node.{Node}
 use Rattle.kp_object_defs.specs.Objects.{Objects, zone_of}
 use Rattle.kp_object_defs.specs.Order.{by_key, values_of}
 
--- a list is empty
-abbrev pub is_empty : {A : Type 0} → List A → Bool
-is_empty [] = true
-is_empty (x ∷ xs) = false
-
 -- a Service of this type is only another name
 abbrev pub is_external_name : ServiceKind → Bool
 is_external_name ExternalName = true
@@ -42,7 +38,7 @@ abbrev pub has_selector : Service → Bool
 has_selector s = not (is_empty s.selector) && not (is_external_name s.kind)
 
 -- the controller is on, and makes slices for the Service
-abbrev pub is_reconciled : Config → Service → Bool
+abbrev pub is_reconciled : FamilyConfig → Service → Bool
 is_reconciled config s = config.controller && has_selector s
 
 -- the pod has a label

@@ -11,7 +11,7 @@ use Rattle.kp_base.specs.declared.address.Family.TheVariants.{V4, V6}
 use Rattle.kp_base.specs.declared.port.Proto.{Proto}
 use Rattle.kp_base.specs.declared.key.ObjectKey.{ObjectKey}
 use Rattle.kp_base.specs.declared.key.PortKey.{PortKey}
-use Rattle.kp_base.specs.declared.config.Config.{Config}
+use Rattle.kp_types.specs.Setting.{FamilyConfig}
 use Rattle.kp_types.specs.Ports.{same_proto}
 use Rattle.kp_types.specs.declared.service.Service.{Service}
 use Rattle.kp_types.specs.declared.slice.AddressType.{AddressType}
@@ -115,7 +115,7 @@ family_among (c ∷ cs) = c.endpoint.address.family
 
 -- what the endpoints of a Service are taken from: the wanted ones and slices that others made, where the
 -- controller makes slices for it, or else all its slices
-abbrev pub sources_of : Family → Config → Objects → Service → ServiceSources
+abbrev pub sources_of : Family → FamilyConfig → Objects → Service → ServiceSources
 sources_of family config o s =
     cond (is_reconciled config s)
     (record { service = s; wanted = desired_endpoints_of family o s; slices = unmanaged (slices_of o s.key) })
@@ -127,5 +127,5 @@ entries_from family node sources port =
     counted_once (candidates_from family node port sources.wanted sources.slices)
 
 -- the endpoints of a port of a Service
-abbrev pub entries_of : Family → Config → Objects → Service → PortKey → List Candidate
+abbrev pub entries_of : Family → FamilyConfig → Objects → Service → PortKey → List Candidate
 entries_of family config o s port = entries_from family config.node (sources_of family config o s) port

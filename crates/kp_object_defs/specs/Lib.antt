@@ -3,6 +3,9 @@ pub mod Entries
 pub mod Lists
 pub mod Objects
 pub mod Order
+pub mod OwnKeys
 pub mod Packing
 pub mod PackingLaws
+pub mod PortByKey
 pub mod PortInfo
+pub mod SlicesNow

@@ -1,6 +1,7 @@
 -- Lists in the order of keys.
-use Rattle.std.specs.Prelude.{Bool, List, [], ◌∷◌, map, not, reverse}
-use Rattle.std.specs.List.{filter}
+use Rattle.std.specs.Prelude.{◌&&◌, Bool, true, List, [], ◌∷◌, map, not, reverse}
+use Rattle.std.specs.List.{filter, list_all}
+use Rattle.std.specs.Ordering.{is_lt}
 use Rattle.std.specs.declared.cmp.Ordering.{Ordering}
 use Rattle.std.specs.FinMap.{put}
 
@@ -26,3 +27,8 @@ distinct_in_order R ks = map (λ e. e.0) (in_order R (map (λ k. (k, k)) ks))
 abbrev pub first_places : {A : Type 0} → (A → A → Bool) → List A → List A
 first_places same [] = []
 first_places same (x ∷ xs) = x ∷ filter (λ y. not (same x y)) (first_places same xs)
+
+-- each key is below all that stand behind it, so that none stands twice
+abbrev pub rises : {K : Type 0} → (K → K → Ordering) → List K → Bool
+rises R [] = true
+rises R (k ∷ ks) = list_all (λ l. is_lt (R k l)) ks && rises R ks

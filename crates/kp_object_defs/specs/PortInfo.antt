@@ -1,7 +1,7 @@
 -- What the proxy knows of one Service port, as kube-proxy's service port info: its destinations, its policies
 -- and its endpoints (Kubernetes documents on Services). Only Services with a cluster address take part.
 -- Addresses and ranges that stand twice in one list count once, at their first place.
-use Rattle.std.specs.Prelude.{ℕ, ◌==◌, ◌&&◌, ◌||◌, Bool, true, false, List, [], ◌∷◌, map, not, cond, Option, Some, None, option_map, is_some}
+use Rattle.std.specs.Prelude.{ℕ, ◌==◌, ◌&&◌, ◌||◌, Bool, true, false, List, [], map, not, cond, Option, None, option_map, is_some}
 use Rattle.std.specs.List.{filter, filter_map, flat_map}
 use Rattle.std.specs.FinMap as finite
 use Rattle.kp_base.specs.Net.{AddressParts, RangeParts, same_address, same_family}
@@ -9,7 +9,7 @@ use Rattle.kp_base.specs.Keys.{port_key_cmp}
 use Rattle.kp_base.specs.declared.address.Family.{Family}
 use Rattle.kp_base.specs.declared.key.PortKey.{PortKey}
 use Rattle.kp_base.specs.declared.key.Endpoint.{Endpoint}
-use Rattle.kp_base.specs.declared.config.Config.{Config}
+use Rattle.kp_types.specs.Setting.{FamilyConfig}
 use Rattle.kp_types.specs.declared.service.Service.{Service}
 use Rattle.kp_types.specs.declared.service.ServiceKind.{ServiceKind}
 use Rattle.kp_types.specs.declared.service.ServiceKind.TheVariants.{ClusterIp, NodePort, LoadBalancer, ExternalName}
@@ -86,12 +86,10 @@ is_reachable_in family s p = is_reachable (addresses_in family s.external) (bala
 abbrev pub lists_of : Family → Service → ServicePort → Option (List ℕ) → List Candidate → Lists
 lists_of family s p zone entries = lists_from s.internal s.outer (is_reachable_in family s p) zone entries
 
--- The source ranges of a Service in a family. An empty list restricts nobody, while ranges of another family
--- alone admit nobody.
+-- The source ranges of a Service in a family. No list restricts nobody (an object whose list is empty has
+-- none), while a list that has no range of the family admits nobody.
 abbrev pub restriction_in : Family → Option (List RangeParts) → Option (List RangeParts)
-restriction_in family None = None
-restriction_in family (Some []) = None
-restriction_in family (Some (r ∷ rs)) = Some (ranges_in family (r ∷ rs))
+restriction_in family ranges = option_map (ranges_in family) ranges
 
 -- what the proxy knows of a port, whose cluster address and endpoints are these
 abbrev pub info_from : Family → Service → ServicePort → Option (List ℕ) → List Candidate → AddressParts → PortInfo
@@ -133,7 +131,7 @@ abbrev pub infos_from : Family → List ℕ → Option (List ℕ) → List Servi
 infos_from family node zone services = filter_map (info_of family node zone) (service_ports services)
 
 -- what the proxy knows of all ports, in their order
-abbrev pub port_infos : Family → Config → Objects → List PortInfo
+abbrev pub port_infos : Family → FamilyConfig → Objects → List PortInfo
 port_infos family config o =
     infos_from family config.node (zone_of o config.node) (map (sources_of family config o) (finite.values o.services))
 

@@ -1,12 +1,12 @@
 -- Lists of which no two elements are the same, by a test that is true at equal elements alone.
 use Rattle.std.proofs.Common.{◌≡◌, ℕ, ◌+◌, ◌≤◌, Bool, true, false, cond, not, ◌||◌, List, [], ◌∷◌, ◌++◌, map, take, length, suc, zero, refl, ap, subst, ◌∙◌, true≢false, arith}
-use Rattle.std.specs.List.{filter, list_any, AllByRecursion, IsDistinct}
+use Rattle.std.specs.List.{filter, flat_map, list_any, AllByRecursion, IsDistinct}
 use Rattle.std.specs.Cmp.{IsEquivalence}
-use Rattle.std.proofs.lemmas.Bool.{false≢true, or_parts, or_from, and_parts}
+use Rattle.std.proofs.lemmas.Bool.{false≢true, or_parts, or_from, or_left, or_right, and_parts, and_from}
 use Rattle.std.proofs.lemmas.Map.Views.{any-filter_same}
 use Rattle.kp_object_defs.specs.Order.{first_places}
 use Rattle.kp_object_defs.specs.PackingLaws.{are_distinct}
-use Rattle.kp_pack_laws.proofs.Shuffles.{all_filter, all_pass}
+use Rattle.kp_pack_laws.proofs.Shuffles.{all_filter, all_pass, all_weaker, all_joined, all_split}
 
 is_false : (b : Bool) → not b ≡ true → b ≡ false
 is_false true h = absurd (false≢true h)
@@ -32,6 +32,13 @@ module _ {X : Type 0} (same : X → X → Bool) where
   distinct_from_test (x ∷ xs) h =
       let parts = and_parts (not (list_any (same x) xs)) (are_distinct same xs) h in
       (none_pass (same x) xs (is_false _ parts.0), distinct_from_test xs parts.1)
+
+  pub test_from_distinct : (xs : List X) → IsDistinct same xs → are_distinct same xs ≡ true
+  unfolding IsDistinct
+  test_from_distinct [] d = refl
+  test_from_distinct (x ∷ xs) d =
+      and_from (not (list_any (same x) xs)) (are_distinct same xs)
+      (is_not _ (any_of_none (same x) xs d.0)) (test_from_distinct xs d.1)
 
   pub distinct_filter : (p : X → Bool) (xs : List X) → IsDistinct same xs → IsDistinct same (filter p xs)
   unfolding IsDistinct
@@ -69,6 +76,45 @@ module _ {X : Type 0} (same : X → X → Bool) where
   distinct_joined [] ys a b apart = b
   distinct_joined (x ∷ xs) ys a b apart = (apart_joined x xs ys a.0 apart.0, distinct_joined xs ys a.1 b apart.1)
 
+  distinct_parts : (xs ys : List X) → IsDistinct same (xs ++ ys)
+      → IsDistinct same xs × IsDistinct same ys
+      × AllByRecursion (λ x. AllByRecursion (λ y. same x y ≡ false) ys) xs
+  unfolding IsDistinct
+  distinct_parts [] ys d = (tt, d, tt)
+  distinct_parts (x ∷ xs) ys d =
+      let apart = all_split (λ y. same x y ≡ false) xs ys d.0 in
+      let rest = distinct_parts xs ys d.1 in
+      ((apart.0, rest.0), rest.1, (apart.1, rest.2))
+
+  module _ {Y : Type 0} (f : Y → List X) (p : Y → Bool) where
+    all_filtered : (P : X → Type 0) (ys : List Y) → AllByRecursion P (flat_map f ys)
+        → AllByRecursion P (flat_map f (filter p ys))
+    all_filtered P [] all = tt
+    all_filtered P (y ∷ ys) all =
+        let parts = all_split P (f y) (flat_map f ys) all in
+        by (p y) parts.0 (all_filtered P ys parts.1)
+      where
+        by : (b : Bool) → AllByRecursion P (f y) → AllByRecursion P (flat_map f (filter p ys))
+            → AllByRecursion P (flat_map f (cond b (y ∷ filter p ys) (filter p ys)))
+        by true own rest = all_joined P (f y) (flat_map f (filter p ys)) own rest
+        by false own rest = rest
+
+    -- the pieces of some elements, where those of all differ
+    pub distinct_filtered : (ys : List Y) → IsDistinct same (flat_map f ys)
+        → IsDistinct same (flat_map f (filter p ys))
+    distinct_filtered [] d = d
+    distinct_filtered (y ∷ ys) d =
+        let parts = distinct_parts (f y) (flat_map f ys) d in
+        by (p y) parts.0 (distinct_filtered ys parts.1)
+        (all_weaker _ _ (λ x apart. all_filtered (λ z. same x z ≡ false) ys apart) (f y) parts.2)
+      where
+        by : (b : Bool) → IsDistinct same (f y) → IsDistinct same (flat_map f (filter p ys))
+            → AllByRecursion (λ x. AllByRecursion (λ z. same x z ≡ false)
+            (flat_map f (filter p ys))) (f y)
+            → IsDistinct same (flat_map f (cond b (y ∷ filter p ys) (filter p ys)))
+        by true own rest apart = distinct_joined (f y) (flat_map f (filter p ys)) own rest apart
+        by false own rest apart = rest
+
   pub all_taken : (P : X → Type 0) (n : ℕ) (xs : List X) → AllByRecursion P xs → AllByRecursion P (take n xs)
   all_taken P zero xs all = tt
   all_taken P (suc n) [] all = tt
@@ -79,6 +125,15 @@ module _ {X : Type 0} (same : X → X → Bool) where
   distinct_taken zero xs d = tt
   distinct_taken (suc n) [] d = tt
   distinct_taken (suc n) (x ∷ xs) d = (all_taken (λ y. same x y ≡ false) n xs d.0, distinct_taken n xs d.1)
+
+-- each element finds itself
+pub each_there : {X : Type 0} (same : X → X → Bool) (laws : IsEquivalence same) (xs : List X)
+    → AllByRecursion (λ x. list_any (same x) xs ≡ true) xs
+each_there same laws [] = tt
+each_there same laws (x ∷ xs) = (
+  or_left (same x x) (list_any (same x) xs) (laws.refl x),
+  all_weaker _ _ (λ y h. or_right (same y x) (list_any (same y) xs) h) xs (each_there same laws xs),
+)
 
 -- ---- by a test that is true at equal elements alone
 

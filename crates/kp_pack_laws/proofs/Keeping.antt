@@ -29,7 +29,7 @@ AreWithin most fs = AllByRecursion (λ f. length f.endpoints ≤ most) fs
 
 -- ---- lists
 
-not_some : {X : Type 0} (x : X) → None ≡ Some x → ⊥
+pub not_some : {X : Type 0} (x : X) → None ≡ Some x → ⊥
 not_some x e = cc
 
 found_first : {X : Type 0} (test : X → Bool) (xs : List X) (w : X) → find test xs ≡ Some w → IsPermutation xs (w ∷ without_first test xs)

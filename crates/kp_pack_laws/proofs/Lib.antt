@@ -3,8 +3,12 @@ pub mod Distinct
 pub mod Groups
 pub mod Ordered
 pub mod Ports
+pub mod Pods
 pub mod Names
 pub mod Keeping
+pub mod Settled
 pub mod Placing
 pub mod Packs
 pub mod Theorem
+pub mod Again
+pub mod Following

@@ -1,17 +1,17 @@
 -- Elements in the order of keys that differ: none is lost.
-use Rattle.std.proofs.Common.{◌≡◌, false, cond, List, [], ◌∷◌, ◌++◌, map, reverse, Some, None, refl, sym, ap, subst, ◌∙◌, IsPermutation}
+use Rattle.std.proofs.Common.{◌≡◌, Bool, true, false, cond, Option, List, [], ◌∷◌, ◌++◌, map, reverse, Some, None, refl, sym, ap, subst, ◌∙◌, IsPermutation}
 use Rattle.std.specs.declared.cmp.Ordering.{Ordering}
 use Rattle.std.specs.declared.cmp.Ordering.TheVariants.{Less, Equal, Greater}
 use Rattle.std.specs.List.{flat_map, AllByRecursion, IsDistinct}
 use Rattle.std.specs.Ordering.{eq_by_cmp, is_eq}
 use Rattle.std.specs.Cmp.{IsTotalOrder, eq_by_cmp_equiv}
-use Rattle.std.specs.FinMap.{find, put}
+use Rattle.std.specs.FinMap.{find, put, IsAntisymmetric}
 use Rattle.std.specs.FinMap.Entries.{by_order}
-use Rattle.std.proofs.lemmas.List.Sorted.{IsPermutation-refl, IsPermutation-reverse}
+use Rattle.std.proofs.lemmas.List.Sorted.{IsPermutation-refl, IsPermutation-reverse, IsPermutation-map}
 use Rattle.std.proofs.lemmas.Map.Keys.{IsDistinct-IsPermutation}
 use Rattle.kp_object_defs.specs.Order.{in_order, values_of, by_key}
-use Rattle.kp_object_defs.proofs.InOrder.{map-reverse, find-in_order}
-use Rattle.kp_pack_laws.proofs.Shuffles.{same_list, and_then, joined, to_front, mapped_twice, pieces_of_reversed}
+use Rattle.kp_object_defs.proofs.InOrder.{map-reverse, find-in_order, same_order}
+use Rattle.kp_pack_laws.proofs.Shuffles.{same_list, and_then, joined, to_front, turned, mapped_twice, same_itself, pieces_of_reversed, all_mapped, all_unmapped, all_weaker, all_both, all_permuted}
 
 some_none : {X : Type 0} (x : X) → Some x ≡ None → ⊥
 some_none x e = cc
@@ -44,10 +44,6 @@ module _ {K X Y : Type 0} {R : K → K → Ordering} (total : IsTotalOrder R) (f
     keys_are : (xs : List X) → map (λ (e : K × X). e.0) (reverse (map (λ x. (key x, x)) xs)) ≡ reverse (map key xs)
     keys_are xs = map-reverse (λ (e : K × X). e.0) (map (λ x. (key x, x)) xs) ∙ ap reverse (mapped_twice (λ (e : K × X). e.0) (λ x. (key x, x)) xs)
 
-    same_itself : (xs : List X) → map (λ x. x) xs ≡ xs
-    same_itself [] = refl
-    same_itself (x ∷ xs) = ap (λ rest. x ∷ rest) (same_itself xs)
-
     values_are : (xs : List X) → values_of (reverse (map (λ x. (key x, x)) xs)) ≡ reverse xs
     values_are xs = map-reverse (λ (e : K × X). e.1) (map (λ x. (key x, x)) xs) ∙ ap reverse (mapped_twice (λ (e : K × X). e.1) (λ x. (key x, x)) xs ∙ same_itself xs)
 
@@ -57,8 +53,63 @@ module _ {K X Y : Type 0} {R : K → K → Ordering} (total : IsTotalOrder R) (f
         (subst (IsDistinct (eq_by_cmp R)) (sym (keys_are xs)) (IsDistinct-IsPermutation (eq_by_cmp R) (eq_by_cmp_equiv total).symm (map key xs) (reverse (map key xs)) (IsPermutation-reverse (map key xs)) d)))
         (and_then (same_list (ap (flat_map f) (values_are xs))) (pieces_of_reversed f xs))
 
+-- ---- elements that change their places
+
+module _ {K X : Type 0} {R : K → K → Ordering} (total : IsTotalOrder R) where
+  -- of entries with different keys each is found
+  each_found : (q : K) (es : List (K × X)) → IsDistinct (eq_by_cmp R) (map (λ e. e.0) es)
+      → AllByRecursion (λ e. eq_by_cmp R q e.0 ≡ true → find R q es ≡ Some e.1) es
+  unfolding IsDistinct
+  each_found q [] d = tt
+  each_found q (e ∷ es) d =
+      let laws = eq_by_cmp_equiv total in
+      let others = all_unmapped (λ k. eq_by_cmp R e.0 k ≡ false) (λ e. e.0) es d.0 in
+      let missed = λ (k : K) (apart : eq_by_cmp R e.0 k ≡ false) (is : eq_by_cmp R q k ≡ true).
+      laws.congr q k e.0 is ∙ laws.symm k e.0 ∙ apart in (
+        λ h. ap (λ b. cond b (Some e.1) (find R q es)) h,
+        all_weaker _ _ (λ f known is. ap (λ b. cond b (Some e.1) (find R q es))
+            (missed f.0 known.0 is) ∙ known.1 is) es
+            (all_both _ _ es others (each_found q es d.1)),
+      )
+
+  found_alike : (q : K) (o : Option X) (es : List (K × X))
+      → AllByRecursion (λ e. eq_by_cmp R q e.0 ≡ true → o ≡ Some e.1) es
+      → (AllByRecursion (λ e. eq_by_cmp R q e.0 ≡ false) es → o ≡ None) → find R q es ≡ o
+  found_alike q o [] all none = sym (none tt)
+  found_alike q o (e ∷ es) all none =
+      by (eq_by_cmp R q e.0) refl (λ h. found_alike q o es all.1 (λ rest. none (h, rest)))
+    where
+      by : (b : Bool) → eq_by_cmp R q e.0 ≡ b → (eq_by_cmp R q e.0 ≡ false → find R q es ≡ o)
+          → cond b (Some e.1) (find R q es) ≡ o
+      by true h rest = sym (all.0 h)
+      by false h rest = rest h
+
+  find_permuted : (q : K) {es fs : List (K × X)} → IsPermutation es fs
+      → IsDistinct (eq_by_cmp R) (map (λ e. e.0) fs)
+      → find R q es ≡ find R q fs
+  find_permuted q {es = es} {fs = fs} same d =
+      found_alike q (find R q fs) es (all_permuted _ (turned same) (each_found q fs d))
+      (λ none. not_found total (λ (v : X). v ∷ []) q fs
+      (all_mapped _ (λ e. e.0) fs (all_permuted _ same none)))
+
+  -- they have one order, whatever it was before
+  pub by_key_permuted : IsAntisymmetric R → (key : X → K) {xs ys : List X} → IsPermutation xs ys
+      → IsDistinct (eq_by_cmp R) (map key ys) → by_key R key xs ≡ by_key R key ys
+  by_key_permuted exact key {xs = xs} {ys = ys} same d =
+      let named : List X → List (K × X) = λ l. map (λ x. (key x, x)) l in
+      let reversed = and_then (turned (IsPermutation-reverse (named xs)))
+      (and_then (IsPermutation-map {X = K × X} (λ x. (key x, x)) xs ys same)
+      (IsPermutation-reverse (named ys))) in
+      let differ =
+      IsDistinct-IsPermutation (eq_by_cmp R) (eq_by_cmp_equiv total).symm (map key ys)
+      (reverse (map key ys))
+      (IsPermutation-reverse (map key ys)) d in
+      same_order total exact (reverse (named xs)) (reverse (named ys))
+      (λ q. find_permuted q reversed
+      (subst (IsDistinct (eq_by_cmp R)) (sym (keys_are total (λ (v : X). v ∷ []) key ys)) differ))
+
 -- with each element as a piece
-single : {X : Type 0} (xs : List X) → flat_map (λ x. x ∷ []) xs ≡ xs
+pub single : {X : Type 0} (xs : List X) → flat_map (λ x. x ∷ []) xs ≡ xs
 single [] = refl
 single (x ∷ xs) = ap (λ rest. x ∷ rest) (single xs)
 

@@ -1,8 +1,7 @@
 -- All groups: what they have is what is wanted, each slice is in one group at most, and no group makes too many slices.
-use Rattle.std.proofs.Common.{◌≡◌, ℕ, ◌≤◌, Bool, true, ◌||◌, List, [], ◌∷◌, ◌++◌, map, length, bytes_eq, refl, sym, ap, subst, ◌∙◌, length-append, arith, IsPermutation}
+use Rattle.std.proofs.Common.{◌≡◌, ℕ, ◌≤◌, Bool, true, List, [], ◌∷◌, ◌++◌, map, length, bytes_eq, refl, sym, ap, subst, ◌∙◌, length-append, arith, IsPermutation}
 use Rattle.std.specs.List.{filter, flat_map, list_any, AllByRecursion, IsDistinct}
 use Rattle.std.specs.Cmp.Lexicographic.{nat_list_eq_equiv}
-use Rattle.std.proofs.lemmas.Bool.{or_left, or_right}
 use Rattle.std.proofs.lemmas.List.{length-map, map-append}
 use Rattle.std.proofs.lemmas.List.Concat.{flat_map_single}
 use Rattle.std.proofs.lemmas.List.Sorted.{IsPermutation-map, length_permutation}
@@ -15,7 +14,7 @@ use Rattle.kp_object_defs.specs.Order.{first_places}
 use Rattle.kp_object_defs.specs.Packing.{Filling, Placed, NewSlice, Packing, sorted_ports, same_ports, is_in_group, groups_of, packed_group, pack_group, pack_groups}
 use Rattle.kp_object_defs.specs.PackingLaws.{wanted_with_ports}
 use Rattle.kp_pack_laws.proofs.Shuffles.{same_list, turned, and_then, joined, two_pieces, alike_pieces, same_pieces, pieces_twice, mapped_pieces, mapped_twice, pieces_of_map, all_filter, passing, all_pass, all_weaker, all_mapped, all_unmapped, all_in_pieces, all_of}
-use Rattle.kp_pack_laws.proofs.Distinct.{first_places_differ, first_places_find, distinct_mapped}
+use Rattle.kp_pack_laws.proofs.Distinct.{each_there, first_places_differ, first_places_find, distinct_mapped}
 use Rattle.kp_pack_laws.proofs.Groups.{in_groups}
 use Rattle.kp_pack_laws.proofs.Ports.{ports_exact, ports_equiv, sorted_twice}
 use Rattle.kp_pack_laws.proofs.Keeping.{entries, entries_of, slices_of, AreWithin}
@@ -71,7 +70,7 @@ all_first_places : {X : Type 0} (P : X → Type 0) (same : X → X → Bool) (xs
 all_first_places P same [] all = tt
 all_first_places P same (x ∷ xs) all = (all.0, all_filter P (λ y. _) (first_places same xs) (all_first_places P same xs all.1))
 
-groups_differ : (wanted : List Wanted) → IsDistinct same_ports (groups_of wanted)
+pub groups_differ : (wanted : List Wanted) → IsDistinct same_ports (groups_of wanted)
 groups_differ wanted = first_places_differ same_ports ports_equiv ports_exact (map (λ w. sorted_ports w.ports) wanted)
 
 groups_sorted : (wanted : List Wanted) → AllByRecursion (λ group. sorted_ports group ≡ group) (groups_of wanted)
@@ -79,19 +78,17 @@ groups_sorted wanted =
     all_first_places (λ group. sorted_ports group ≡ group) same_ports (map (λ w. sorted_ports w.ports) wanted)
     (all_mapped (λ group. sorted_ports group ≡ group) (λ w. sorted_ports w.ports) wanted (all_of _ (λ w. sorted_twice w.ports) wanted))
 
-each_there : (ks : List (List SlicePort)) → AllByRecursion (λ k. list_any (same_ports k) ks ≡ true) ks
-each_there [] = tt
-each_there (k ∷ ks) = (
-  or_left (same_ports k k) (list_any (same_ports k) ks) (ports_equiv.refl k),
-  all_weaker (λ l. list_any (same_ports l) ks ≡ true) (λ l. (same_ports l k || list_any (same_ports l) ks) ≡ true) (λ l h. or_right (same_ports l k) (list_any (same_ports l) ks) h) ks (each_there ks),
-)
-
 -- each wanted endpoint is in a group
-all_in_groups : (wanted : List Wanted) → AllByRecursion (λ w. list_any (same_ports (sorted_ports w.ports)) (groups_of wanted) ≡ true) wanted
+pub all_in_groups : (wanted : List Wanted)
+    → AllByRecursion (λ w. list_any (same_ports (sorted_ports w.ports))
+    (groups_of wanted) ≡ true) wanted
 all_in_groups wanted =
     let keys = map (λ w. sorted_ports w.ports) wanted in
     all_unmapped (λ k. list_any (same_ports k) (first_places same_ports keys) ≡ true) (λ w. sorted_ports w.ports) wanted
-    (all_weaker (λ k. list_any (same_ports k) keys ≡ true) (λ k. list_any (same_ports k) (first_places same_ports keys) ≡ true) (λ k h. first_places_find same_ports ports_equiv ports_exact k keys ∙ h) keys (each_there keys))
+    (all_weaker (λ k. list_any (same_ports k) keys ≡ true)
+    (λ k. list_any (same_ports k) (first_places same_ports keys) ≡ true)
+    (λ k h. first_places_find same_ports ports_equiv ports_exact k keys ∙ h) keys
+    (each_there same_ports ports_equiv keys))
 
 -- the groups have the wanted endpoints
 pub wanted_in_groups : (wanted : List Wanted) → IsPermutation (flat_map (λ group. map entry_of (filter (λ w. is_in_group group w.ports) wanted)) (groups_of wanted)) (wanted_with_ports wanted)

@@ -3,7 +3,8 @@ use Rattle.std.proofs.Common.{◌≡◌, Bool, true, false, cond, ◌||◌, List
 use Rattle.std.specs.List.{filter, flat_map, AllByRecursion}
 use Rattle.std.proofs.lemmas.List.{map-append, reverse-append}
 use Rattle.std.proofs.lemmas.Grind.{flat_map-append}
-use Rattle.std.proofs.lemmas.List.Sorted.{IsPermutation-refl, IsPermutation-sym, IsPermutation-trans, IsPermutation-append, IsPermutation-append_comm}
+use Rattle.std.proofs.lemmas.List.Elements.{All-from_recursion, recursion_from_All}
+use Rattle.std.proofs.lemmas.List.Sorted.{IsPermutation-refl, IsPermutation-sym, IsPermutation-trans, IsPermutation-append, IsPermutation-append_comm, All-permutation}
 
 module _ {X : Type 0} where
   pub same_list : {xs ys : List X} → xs ≡ ys → IsPermutation xs ys
@@ -78,6 +79,10 @@ pub mapped_twice : {X Y Z : Type 0} (h : Y → Z) (f : X → Y) (xs : List X) �
 mapped_twice h f [] = refl
 mapped_twice h f (x ∷ xs) = ap (λ rest. h (f x) ∷ rest) (mapped_twice h f xs)
 
+pub same_itself : {X : Type 0} (xs : List X) → map (λ x. x) xs ≡ xs
+same_itself [] = refl
+same_itself (x ∷ xs) = ap (λ rest. x ∷ rest) (same_itself xs)
+
 pub pieces_of_map : {X Y Z : Type 0} (f : Y → List Z) (h : X → Y) (xs : List X) → flat_map f (map h xs) ≡ flat_map (λ x. f (h x)) xs
 pieces_of_map f h [] = refl
 pieces_of_map f h (x ∷ xs) = ap (λ rest. f (h x) ++ rest) (pieces_of_map f h xs)
@@ -111,6 +116,16 @@ all_weaker P Q h (x ∷ xs) all = (h x all.0, all_weaker P Q h xs all.1)
 pub all_joined : {X : Type 0} (P : X → Type 0) (xs ys : List X) → AllByRecursion P xs → AllByRecursion P ys → AllByRecursion P (xs ++ ys)
 all_joined P [] ys a b = b
 all_joined P (x ∷ xs) ys a b = (a.0, all_joined P xs ys a.1 b)
+
+pub all_split : {X : Type 0} (P : X → Type 0) (xs ys : List X) → AllByRecursion P (xs ++ ys)
+    → AllByRecursion P xs × AllByRecursion P ys
+all_split P [] ys all = (tt, all)
+all_split P (x ∷ xs) ys all = let parts = all_split P xs ys all.1 in ((all.0, parts.0), parts.1)
+
+pub all_permuted : {X : Type 0} (P : X → Type 0) {xs ys : List X} → IsPermutation xs ys
+    → AllByRecursion P xs → AllByRecursion P ys
+all_permuted P same all =
+    recursion_from_All P _ (All-permutation P _ _ same (All-from_recursion P _ all))
 
 pub all_mapped : {X Y : Type 0} (P : Y → Type 0) (f : X → Y) (xs : List X) → AllByRecursion (λ x. P (f x)) xs → AllByRecursion P (map f xs)
 all_mapped P f [] all = tt

@@ -6,53 +6,68 @@ use Rattle.std.specs.Cmp.Lexicographic.{texts_ties, nat_list_eq_equiv}
 use Rattle.std.proofs.lemmas.Bool.{false≢true, and_parts, false_from_ne_true}
 use Rattle.std.proofs.lemmas.Grind.{flat_map-append}
 use Rattle.std.proofs.lemmas.List.{map-append, length-map}
-use Rattle.std.proofs.lemmas.List.Elements.{All-from_recursion, recursion_from_All}
-use Rattle.std.proofs.lemmas.List.Sorted.{IsPermutation-map, All-permutation}
+use Rattle.std.proofs.lemmas.List.Elements.{All-from_recursion}
+use Rattle.std.proofs.lemmas.List.Sorted.{IsPermutation-map}
 use Rattle.std.proofs.lemmas.Map.Keys.{IsDistinct-IsPermutation}
 use Rattle.std.proofs.lemmas.Slice.Eq.{bytes_eq-Decides}
 use Rattle.kp_base.specs.Keys.{text_cmp}
 use Rattle.kp_base.specs.declared.address.Family.{Family}
 use Rattle.kp_base.specs.declared.key.ObjectKey.{ObjectKey}
-use Rattle.kp_base.proofs.KeyOrder.{text_total}
+use Rattle.kp_base.proofs.KeyOrder.{text_total, text_exact}
 use Rattle.kp_types.specs.declared.slice.SliceEndpoint.{SliceEndpoint}
 use Rattle.kp_types.specs.declared.slice.Slice.{Slice}
 use Rattle.kp_types.specs.declared.slice.Wanted.{Wanted}
 use Rattle.kp_object_defs.specs.Desired.{is_empty}
-use Rattle.kp_object_defs.specs.Packing.{Filling, NewSlice, sorted_ports, pack_groups, new_slices, in_slice_order, filled_slice, stays}
-use Rattle.kp_object_defs.specs.PackingLaws.{are_taken, entries_with_ports, wanted_with_ports, IsPackingOf, PackingPlacesEach}
-use Rattle.kp_pack_laws.proofs.Shuffles.{same_list, turned, and_then, mapped_twice, pieces_of_map, all_filter, passing, all_weaker, all_joined, all_mapped, all_unmapped, all_both}
+use Rattle.kp_object_defs.specs.Order.{values_of}
+use Rattle.kp_object_defs.specs.Packing.{Filling, NewSlice, sorted_ports, pack_groups, new_slices, in_slice_order, filled_slice, stays, Packing, packed_slices}
+use Rattle.kp_object_defs.specs.PackingLaws.{have_own_names, are_taken, entries_with_ports, wanted_with_ports, IsPackingOf, PackingPlacesEach}
+use Rattle.kp_pack_laws.proofs.Shuffles.{same_list, turned, and_then, mapped_twice, pieces_of_map, all_filter, passing, all_weaker, all_joined, all_mapped, all_unmapped, all_both, all_permuted}
 use Rattle.kp_pack_laws.proofs.Distinct.{distinct_from_test, distinct_mapped, distinct_joined}
-use Rattle.kp_pack_laws.proofs.Ordered.{by_key_pieces, by_key_keeps}
+use Rattle.kp_pack_laws.proofs.Ordered.{by_key_pieces, by_key_keeps, by_key_permuted}
 use Rattle.kp_pack_laws.proofs.Names.{new_names_differ, new_names_free, new_pieces, new_all}
 use Rattle.kp_pack_laws.proofs.Keeping.{AreWithin, slices_of}
 use Rattle.kp_pack_laws.proofs.Packs.{Entry, entries_of_filling, entries_of_new, all_fillings, all_made, packed_entries, packed_all, packed_differ, packed_within, made_within, made_few}
 
 -- ---- slices in order of their names
 
-abbrev name_of : Slice → List ℕ
+abbrev pub name_of : Slice → List ℕ
 name_of s = s.key.name
 
-abbrev Differ : List Slice → Type 0
+abbrev pub Differ : List Slice → Type 0
 Differ slices = IsDistinct bytes_eq (map name_of slices)
 
 by_order_of_texts : (names : List (List ℕ)) → IsDistinct bytes_eq names → IsDistinct (eq_by_cmp text_cmp) names
 by_order_of_texts names d = subst (λ (same : List ℕ → List ℕ → Bool). IsDistinct same names) (λ i x y. texts_ties x y i) d
 
-ordered_keeps : (slices : List Slice) → Differ slices → IsPermutation (in_slice_order slices) slices
+pub ordered_keeps : (slices : List Slice) → Differ slices
+    → IsPermutation (in_slice_order slices) slices
 ordered_keeps slices d = by_key_keeps text_total name_of slices (by_order_of_texts (map name_of slices) d)
 
-ordered_entries : (slices : List Slice) → Differ slices → IsPermutation (entries_with_ports (in_slice_order slices)) (entries_with_ports slices)
+pub ordered_entries : (slices : List Slice) → Differ slices
+    → IsPermutation (entries_with_ports (in_slice_order slices)) (entries_with_ports slices)
 ordered_entries slices d = by_key_pieces text_total (λ s. map (λ e. (sorted_ports s.ports, e)) s.endpoints) name_of slices (by_order_of_texts (map name_of slices) d)
 
-ordered_all : (P : Slice → Type 0) (slices : List Slice) → Differ slices → AllByRecursion P slices → AllByRecursion P (in_slice_order slices)
-ordered_all P slices d all = recursion_from_All P _ (All-permutation P slices (in_slice_order slices) (turned (ordered_keeps slices d)) (All-from_recursion P slices all))
+pub ordered_all : (P : Slice → Type 0) (slices : List Slice) → Differ slices
+    → AllByRecursion P slices → AllByRecursion P (in_slice_order slices)
+ordered_all P slices d all = all_permuted P (turned (ordered_keeps slices d)) all
 
-ordered_differ : (slices : List Slice) → Differ slices → Differ (in_slice_order slices)
+pub ordered_differ : (slices : List Slice) → Differ slices → Differ (in_slice_order slices)
 ordered_differ slices d = IsDistinct-IsPermutation bytes_eq nat_list_eq_equiv.symm _ _ (IsPermutation-map name_of _ _ (turned (ordered_keeps slices d))) d
+
+-- slices that only change their places
+pub ordered_same : (xs ys : List Slice) → IsPermutation xs ys → Differ ys
+    → in_slice_order xs ≡ in_slice_order ys
+ordered_same xs ys same d =
+    ap values_of (by_key_permuted text_total text_exact name_of same
+    (by_order_of_texts (map name_of ys) d))
+
+pub ordered_twice : (slices : List Slice) → Differ slices
+    → in_slice_order (in_slice_order slices) ≡ in_slice_order slices
+ordered_twice slices d = ordered_same (in_slice_order slices) slices (ordered_keeps slices d) d
 
 -- ---- slices that stay
 
-abbrev stayed : List Filling → List Slice
+abbrev pub stayed : List Filling → List Slice
 stayed fs = map filled_slice (filter stays fs)
 
 -- those that don't have nothing
@@ -92,11 +107,14 @@ stayed_sizes most fs le =
 
 -- ---- names
 
-taken_each : (taken : List (List ℕ)) (slices : List Slice) → are_taken taken slices ≡ true → AllByRecursion (λ s. list_any (bytes_eq s.key.name) taken ≡ true) slices
+pub taken_each : (taken : List (List ℕ)) (slices : List Slice) → are_taken taken slices ≡ true
+    → AllByRecursion (λ s. list_any (bytes_eq s.key.name) taken ≡ true) slices
 taken_each taken [] h = tt
 taken_each taken (s ∷ slices) h = let p = and_parts (list_any (bytes_eq s.key.name) taken) (are_taken taken slices) h in (p.0, taken_each taken slices p.1)
 
-stayed_taken : (taken : List (List ℕ)) (fs : List Filling) → AllByRecursion (λ s. list_any (bytes_eq s.key.name) taken ≡ true) (slices_of fs) → AllByRecursion (λ name. list_any (bytes_eq name) taken ≡ true) (map name_of (stayed fs))
+pub stayed_taken : (taken : List (List ℕ)) (fs : List Filling)
+    → AllByRecursion (λ s. list_any (bytes_eq s.key.name) taken ≡ true) (slices_of fs)
+    → AllByRecursion (λ name. list_any (bytes_eq name) taken ≡ true) (map name_of (stayed fs))
 stayed_taken taken fs all =
     let T = λ (name : List ℕ). list_any (bytes_eq name) taken ≡ true in
     subst (AllByRecursion T) (sym (stayed_names fs))
@@ -151,13 +169,55 @@ module _ (family : Family) (service : ObjectKey) (taken : List (List ℕ)) where
         bounded = All-from_recursion (λ s. length s.endpoints ≤ most) _ (all_weaker (λ s. (1 ≤ length s.endpoints) × (length s.endpoints ≤ most)) (λ s. length s.endpoints ≤ most) (λ s h. h.1) _ both);
       }
 
+-- ---- the slices after packing
+
+module _ (family : Family) (service : ObjectKey) (before : List Slice) (wanted : List Wanted)
+    (most : ℕ) (taken : List (List ℕ)) where
+  -- what all groups became
+  abbrev pub packs : List Packing
+  packs = pack_groups most (in_slice_order before) wanted
+
+  -- the slices before they are put in order
+  abbrev pub placed_slices : List Slice
+  placed_slices = all_slices family service taken (all_fillings packs) (all_made packs)
+
+  module _ (some : 1 ≤ most) (small : length taken + length wanted < 10 ^ 64)
+      (own : have_own_names before ≡ true)
+      (are : are_taken taken before ≡ true) where
+    pub few_made : length taken + length (all_made packs) < 10 ^ 64
+    few_made = omega (arith, small, made_few most some (in_slice_order before) wanted)
+
+    before_differ : Differ before
+    before_differ = distinct_from_test bytes_eq (map name_of before) own
+
+    pub filled_all : (P : Slice → Type 0) → AllByRecursion P before
+        → AllByRecursion P (slices_of (all_fillings packs))
+    filled_all P all =
+        packed_all most some (in_slice_order before) wanted P
+        (ordered_all P before before_differ all)
+
+    pub filled_taken : AllByRecursion (λ s. list_any (bytes_eq s.key.name) taken ≡ true)
+        (slices_of (all_fillings packs))
+    filled_taken = filled_all _ (taken_each taken before are)
+
+    filled_differ : Differ (slices_of (all_fillings packs))
+    filled_differ =
+        packed_differ most some (in_slice_order before) wanted (ordered_differ before before_differ)
+
+    pub placed_differ : Differ placed_slices
+    placed_differ =
+        all_differ family service taken (all_fillings packs)
+        (all_made packs) few_made filled_differ filled_taken
+
+    pub is_packing : IsPackingOf most wanted
+        (packed_slices family service before wanted most taken).slices
+    is_packing =
+        packing_of family service taken most wanted (all_fillings packs)
+        (all_made packs) few_made filled_differ
+        filled_taken (packed_within most some (in_slice_order before) wanted)
+        (made_within most some (in_slice_order before) wanted)
+        (packed_entries most some (in_slice_order before) wanted)
+
 pub packing_places_each : PackingPlacesEach
 packing_places_each family service before wanted most taken some small own are =
-    let slices = in_slice_order before in
-    let packs = pack_groups most slices wanted in
-    let differ = distinct_from_test bytes_eq (map name_of before) own in
-    let each = ordered_all (λ s. list_any (bytes_eq s.key.name) taken ≡ true) before differ (taken_each taken before are) in
-    packing_of family service taken most wanted (all_fillings packs) (all_made packs) (omega (arith, made_few most some slices wanted))
-    (packed_differ most some slices wanted (ordered_differ before differ))
-    (packed_all most some slices wanted (λ s. list_any (bytes_eq s.key.name) taken ≡ true) each)
-    (packed_within most some slices wanted) (made_within most some slices wanted) (packed_entries most some slices wanted)
+    is_packing family service before wanted most taken some small own are

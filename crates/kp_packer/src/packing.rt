@@ -4,7 +4,7 @@ ghost use Rattle.std.specs.List.{filter, list_all, flat_map};
 ghost use Rattle.kp_base.specs.declared.address.Family.TheVariants.{V4};
 ghost use Rattle.kp_object_defs.specs.Packing as spec;
 ghost use Rattle.kp_object_defs.specs.Packing.{packed_slices};
-ghost use Rattle.kp_object_defs.specs.PackingLaws.{have_own_names, have_own_pods, are_taken, IsPackingOf};
+ghost use Rattle.kp_object_defs.specs.PackingLaws.{are_managed_for, have_own_names, have_own_pods, are_taken, IsPackingOf, CanGoOn};
 ghost use Rattle.kp_packer.specs.Views.{shown, filling_of, placed_of, new_slice_of, packings_of};
 
 use crate::entry::same_entries;
@@ -18,7 +18,7 @@ use crate::place::{Placed, place_left};
 use crate::ports::groups_of;
 use indexmap::IndexSet;
 use kp_base::{Copied, Items, NoMemory, ObjectKey, Text};
-use kp_pack_laws::packing_places_each;
+use kp_pack_laws::{packing_goes_on, packing_places_each};
 use kp_types::{Packed, Slice, SliceEndpoint, SlicePort, Wanted};
 use std::alloc::Global;
 
@@ -29,7 +29,8 @@ struct Packing<'a, 'g> {
     made: Vec<NewSlice<'a, 'g>>,
 }
 
-/// Packs the endpoints that a Service wants into its IPv4 slices, with at most so many endpoints each (KEP-752).
+/// Packs the endpoints that a Service wants into its managed IPv4 slices, with at most so many
+/// endpoints each (KEP-752). Packing can go on from the slices after it.
 pub fn pack<'a>(
     alloc: Global,
     service: &ObjectKey,
@@ -40,13 +41,16 @@ pub fn pack<'a>(
 ) -> Result<Packed, NoMemory>
     requires some { 1 ≤ most }
     requires room { most ≤ 1000 }
+    requires managed { are_managed_for V4 service.now before.now ≡ true }
     requires names { have_own_names before.now ≡ true }
     requires pods { have_own_pods wanted.now ≡ true }
     requires taken { are_taken taken.now before.now ≡ true }
     ensures exact { IfOk result (λ p. p ≡ packed_slices V4 service.now before.now wanted.now most taken.now) }
     ensures packing { IfOk result (λ p. IsPackingOf most wanted.now p.slices) }
+    ensures next { IfOk result (λ p. CanGoOn V4 service.now wanted.now taken.now p) }
 {
     packing_places_each();
+    packing_goes_on();
     fits_memory(wanted.as_slice());
     fits_memory(taken.as_slice());
     packed(alloc, service, before, wanted, most, taken)

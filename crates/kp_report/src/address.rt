@@ -23,6 +23,7 @@ fn segment(number: u128, place: u32) -> u16
     (number / (1 << (16 * place)) % 65536) as u16
 }
 
+/// The IPv6 address with this number.
 fn v6_address(number: u128) -> Ipv6Addr
     ensures { ipv6_segments result ≡ text.segments_of number }
 {
@@ -51,7 +52,7 @@ pub(crate) fn endpoint_text(alloc: Global, endpoint: &Endpoint) -> Result<String
             Ok(format!(in alloc; "{a}.{b}.{c}.{d}:{port}")?)
         }
         Family::V6 => {
-            let address = v6_address(number);
+            let address = v6_address(number).hex_groups();
             Ok(format!(in alloc; "[{address}]:{port}")?)
         }
     }

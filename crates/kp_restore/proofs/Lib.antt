@@ -5,8 +5,8 @@ pub mod BatchRows
 pub mod BatchSound
 pub mod BatchTaken
 pub mod BatchTexts
+pub mod Changes
 pub mod EditSections
-pub mod Found
 pub mod LineTexts
 pub mod Machine
 pub mod ReadLines

@@ -1,13 +1,11 @@
 -- No line feed stands in the line of a canonical rule.
-use Rattle.std.proofs.Common.{◌≡◌, ℕ, ◌*◌, ◌/◌, ◌%◌, ◌^◌, ◌<◌, ◌==◌, Bool, true, false, not, nat_le, nat_lt, List, [], ◌∷◌, ◌++◌, map, take, drop, bytes_eq, codes, decimal, refl, ◌∙◌, inl, inr, zero, suc, lit<, arith}
+use Rattle.std.proofs.Common.{◌≡◌, ℕ, ◌%◌, ◌^◌, ◌<◌, ◌==◌, Bool, true, false, not, nat_le, List, [], ◌∷◌, ◌++◌, map, codes, decimal, refl, ◌∙◌, inl, inr, arith}
 use Rattle.std.specs.List.{list_all, flat_map, All}
-use Rattle.std.specs.Net.Addr.{octets_of}
-use Rattle.std.specs.Net.Text.{dotted_text, ipv4_text, ipv6_text, hex_groups_text}
-use Rattle.std.proofs.lemmas.Bool.{and_parts, and_from, cond_both}
+use Rattle.std.specs.Net.Text.{dotted_text}
+use Rattle.std.proofs.lemmas.Bool.{and_parts, and_from}
 use Rattle.std.proofs.lemmas.Bool.Decides.{nat_tests}
 use Rattle.std.proofs.lemmas.List.Elements.{All-head, All-tail}
 use Rattle.std.proofs.lemmas.List.Folds.{list_all-append}
-use Rattle.std.proofs.NetLemmas.Texts.{AllSegments}
 use Rattle.std.proofs.NetLemmas.Alphabet.{IsHexOrColon, All-hex_groups_text}
 use Rattle.kp_base.specs.Dotted.{is_digit}
 use Rattle.kp_base.specs.Net.{RangeParts, width}
@@ -26,17 +24,16 @@ use Rattle.kp_choice_defs.specs.AddressText.{octet_at, segments_of, number_text,
 use Rattle.kp_choice_defs.specs.Draws.{digit_at, probability_text_of}
 use Rattle.kp_restore_defs.specs.RuleText.{joined, range_text, proto_word, not_words, match_words, target_words, rule_line, is_canonical_range, is_port_number, is_canonical_endpoint, is_canonical_match, is_canonical_target, is_canonical_rule}
 use Rattle.kp_rule_text.proofs.AddressWords.{dotted_bytes, is_dotted_byte}
-use Rattle.kp_rule_text.proofs.Words.{number_digits, port_digits}
+use Rattle.kp_rule_text.proofs.FamilyWords.{segments_low}
+use Rattle.kp_rule_text.proofs.Words.{all_weaker, number_digits, port_digits}
 use Rattle.kp_restore.specs.Pieces.{no_line_feed}
+use Rattle.kp_rule_text.proofs.Targets.{name_bytes}
+use Rattle.kp_rule_text.proofs.MatchWords.{seconds_fit}
 
 -- ---- Bytes
 
 abbrev no_feed : ℕ → Bool
 no_feed b = not (b == 10)
-
-pub each : (p q : ℕ → Bool) → ((b : ℕ) → p b ≡ true → q b ≡ true) → (bs : List ℕ) → list_all p bs ≡ true → list_all q bs ≡ true
-each p q f [] h = refl
-each p q f (b ∷ bs) h = let r = and_parts _ _ h in and_from _ _ (f b r.0) (each p q f bs r.1)
 
 chain_byte : (b : ℕ) → is_chain_byte b ≡ true → no_feed b ≡ true
 chain_byte b h = grind (arith, nat_tests)
@@ -51,51 +48,33 @@ hex_byte : (b : ℕ) → IsHexOrColon b → no_feed b ≡ true
 hex_byte b (inl h) = grind (arith, nat_tests)
 hex_byte b (inr h) = grind (arith, nat_tests)
 
-pub name_bytes : (name : List ℕ) → is_chain_name name ≡ true → list_all is_chain_byte name ≡ true
-name_bytes name h = (and_parts _ _ (and_parts _ _ h).0).1
-
 pub name_plain : (name : List ℕ) → is_chain_name name ≡ true → no_line_feed name ≡ true
-name_plain name h = each is_chain_byte no_feed chain_byte name (name_bytes name h)
+name_plain name h = all_weaker is_chain_byte no_feed chain_byte name (name_bytes name h)
 
 pub both_plain : (a b : List ℕ) → no_line_feed a ≡ true → no_line_feed b ≡ true → no_line_feed (a ++ b) ≡ true
 both_plain a b g h = list_all-append no_feed a b ∙ and_from _ _ g h
 
 number_plain : (most n : ℕ) → most < 2 ^ 64 → nat_le n most ≡ true → no_line_feed (decimal n) ≡ true
-number_plain most n small h = each is_digit no_feed digit_byte (decimal n) (number_digits most small n h)
+number_plain most n small h = all_weaker is_digit no_feed digit_byte (decimal n) (number_digits most small n h)
 
 port_plain : (n : ℕ) → is_port_number n ≡ true → no_line_feed (decimal n) ≡ true
-port_plain n h = each is_digit no_feed digit_byte (decimal n) (port_digits n h)
+port_plain n h = all_weaker is_digit no_feed digit_byte (decimal n) (port_digits n h)
 
 -- ---- Addresses
 
 dotted_plain : (a b c d : ℕ) → a < 256 → b < 256 → c < 256 → d < 256 → no_line_feed (dotted_text a b c d) ≡ true
-dotted_plain a b c d la lb lc ld = each is_dotted_byte no_feed dotted_byte (dotted_text a b c d) (dotted_bytes a b c d la lb lc ld)
+dotted_plain a b c d la lb lc ld = all_weaker is_dotted_byte no_feed dotted_byte (dotted_text a b c d) (dotted_bytes a b c d la lb lc ld)
 
 all_plain : (bs : List ℕ) → All IsHexOrColon bs → no_line_feed bs ≡ true
 all_plain [] h = refl
 all_plain (b ∷ bs) h = and_from _ _ (hex_byte b (All-head IsHexOrColon b bs h)) (all_plain bs (All-tail IsHexOrColon b bs h))
 
-low_groups : (n : ℕ) (places : List ℕ) → AllSegments (map (λ place. n / 2 ^ (16 * place) % 2 ^ 16) places)
-low_groups n [] k = lit< tt
-low_groups n (place ∷ places) zero = omega arith
-low_groups n (place ∷ places) (suc k) = low_groups n places k
-
-high_byte : (s : ℕ) → s % 2 ^ 16 / 256 < 256
-high_byte s = omega arith
-
-low_byte : (s : ℕ) → s % 2 ^ 16 % 256 < 256
-low_byte s = omega arith
-
 octet_low : (n : ℕ) → n % 2 ^ 8 < 256
 octet_low n = omega arith
 
 pub address_plain : (family : Family) (n : ℕ) → no_line_feed (number_text family n) ≡ true
-unfolding ipv6_text
 address_plain V4 n = dotted_plain (octet_at n 3) (octet_at n 2) (octet_at n 1) (octet_at n 0) (octet_low _) (octet_low _) (octet_low _) (octet_low _)
-address_plain V6 n =
-    cond_both (bytes_eq (take 6 (segments_of n)) (0 ∷ 0 ∷ 0 ∷ 0 ∷ 0 ∷ 65535 ∷ [])) (codes "::ffff:" ++ ipv4_text (octets_of (drop 6 (segments_of n)))) (hex_groups_text (segments_of n)) (λ text. no_line_feed text ≡ true)
-    (λ mapped. both_plain (codes "::ffff:") (dotted_text (n / 2 ^ 16 % 2 ^ 16 / 256) (n / 2 ^ 16 % 2 ^ 16 % 256) (n / 1 % 2 ^ 16 / 256) (n / 1 % 2 ^ 16 % 256)) refl (dotted_plain _ _ _ _ (high_byte (n / 2 ^ 16)) (low_byte (n / 2 ^ 16)) (high_byte (n / 1)) (low_byte (n / 1))))
-    (λ other. all_plain (hex_groups_text (segments_of n)) (All-hex_groups_text (segments_of n) (low_groups n (7 ∷ 6 ∷ 5 ∷ 4 ∷ 3 ∷ 2 ∷ 1 ∷ 0 ∷ []))))
+address_plain V6 n = all_plain (number_text V6 n) (All-hex_groups_text (segments_of n) (segments_low n))
 
 width_low : (family : Family) → width family < 2 ^ 64
 width_low V4 = omega arith
@@ -137,9 +116,6 @@ proto_plain Tcp = refl
 proto_plain Udp = refl
 proto_plain Sctp = refl
 
-seconds_low : (seconds : ℕ) → nat_lt seconds (2 ^ 32) ≡ true → nat_le seconds 4294967295 ≡ true
-seconds_low seconds h = grind (arith, nat_tests)
-
 words_behind : (xs ys : List (List ℕ)) → words_plain xs ≡ true → words_plain ys ≡ true → words_plain (xs ++ ys) ≡ true
 words_behind xs ys g h = list_all-append no_line_feed xs ys ∙ and_from _ _ g h
 
@@ -159,7 +135,7 @@ match_plain family (match.Marked false) h = refl
 match_plain family (match.Statistic p) h = and_from _ _ (probability_plain p) refl
 match_plain family (match.Seen list seconds) h =
     let q = and_parts _ _ h in
-    and_from _ _ (name_plain list q.0) (and_from _ _ (number_plain 4294967295 seconds (omega arith) (seconds_low seconds q.1)) refl)
+    and_from _ _ (name_plain list q.0) (and_from _ _ (number_plain 4294967295 seconds (omega arith) (seconds_fit seconds q.1)) refl)
 match_plain family (match.SetSeen list) h = and_from _ _ (name_plain list h) refl
 
 target_plain : (family : Family) (t : Target) → is_canonical_target family t ≡ true → words_plain (target_words t) ≡ true

@@ -106,7 +106,7 @@ abbrev pub is_canonical_batch : Family → List Edit → Bool
 is_canonical_batch family edits =
     list_all (is_canonical_edit family) edits && (are_in_order edits && edit_each_once edits)
 
--- Different batches have different texts.
+-- Different canonical batches have different texts.
 abbrev pub BatchTextsDiffer : Type 0
 BatchTextsDiffer =
     (family : Family) (a b : List Edit) → is_canonical_batch family a ≡ true → is_canonical_batch family b ≡ true

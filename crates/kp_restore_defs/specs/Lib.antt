@@ -1,4 +1,5 @@
 pub mod BatchText
+pub mod BatchesBetween
 pub mod FirstBadLine
 pub mod RuleText
 pub mod TableText

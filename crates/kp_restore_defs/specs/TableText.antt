@@ -111,7 +111,7 @@ abbrev pub is_canonical_table : Family → Chains → Bool
 is_canonical_table family chains =
     has_built_in_chains chains && list_all (is_canonical_chain family chains) (finite.entries chains)
 
--- Different tables have different texts.
+-- Different canonical tables have different texts.
 abbrev pub TableTextsDiffer : Type 0
 TableTextsDiffer =
     (family : Family) (a b : Chains) → is_canonical_table family a ≡ true → is_canonical_table family b ≡ true

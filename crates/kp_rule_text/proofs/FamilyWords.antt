@@ -1,14 +1,12 @@
 -- Words of addresses of each family are read.
-use Rattle.std.proofs.Common.{◌≡◌, ℕ, zero, suc, ◌+◌, ◌*◌, ◌/◌, ◌%◌, ◌^◌, ◌<◌, ◌==◌, List, [], ◌∷◌, ◌++◌, take, drop, map, bytes_eq, Bool, true, not, ◌&&◌, nat_lt, nat_le, codes, decimal, All, Some, option_map, option_and_then, refl, sym, ap, ◌∙◌, inl, inr, arith, lit<, append_assoc}
+use Rattle.std.proofs.Common.{◌≡◌, ℕ, zero, suc, ◌+◌, ◌*◌, ◌/◌, ◌%◌, ◌^◌, ◌<◌, ◌==◌, List, [], ◌∷◌, ◌++◌, map, Bool, true, not, ◌&&◌, nat_lt, nat_le, codes, decimal, All, Some, option_map, option_and_then, refl, sym, ap, ◌∙◌, inl, inr, arith, lit<, append_assoc}
 use Rattle.std.specs.List.{list_all}
-use Rattle.std.specs.Net.Addr.{octets_of}
-use Rattle.std.specs.Net.Text.{dotted_text, ipv4_text, ipv6_text, hex_groups_text}
-use Rattle.std.proofs.lemmas.Bool.{and_parts, and_from, cond_both}
+use Rattle.std.proofs.lemmas.Bool.{and_parts, and_from}
 use Rattle.std.proofs.lemmas.Bool.Decides.{nat_tests}
 use Rattle.std.proofs.lemmas.List.{append-nil}
 use Rattle.std.proofs.lemmas.List.Elements.{All-head, All-tail}
 use Rattle.std.proofs.Math.Arith.{mod-mul}
-use Rattle.std.proofs.NetLemmas.Texts.{AllSegments, IsColonHex-ipv6_text}
+use Rattle.std.proofs.NetLemmas.Texts.{AllSegments, IsColonHex-hex_groups_text}
 use Rattle.std.proofs.NetLemmas.Ipv6.{read_ipv6_complete, EndsGroups-nil}
 use Rattle.std.proofs.NetLemmas.Alphabet.{IsHexOrColon, All-hex_groups_text}
 use Rattle.kp_base.specs.Net.{AddressParts, RangeParts, same_family}
@@ -20,20 +18,17 @@ use Rattle.kp_restore_defs.specs.RuleText.{range_text, is_canonical_address, is_
 use Rattle.kp_rule_text.specs.WordReading.{strip, segments_number, address_read, address_word, v6_range_of, range_read, range_word, endpoint_of, endpoint_word}
 use Rattle.kp_rule_text.proofs.Cuts.{cut_front}
 use Rattle.kp_rule_text.proofs.Words.{is_word_byte, all_weaker, IsText, as_text, exact_complete, numbers, ports}
-use Rattle.kp_rule_text.proofs.AddressWords.{ranges, endpoint_complete, dotted_bytes, is_dotted_byte, both_pieces}
+use Rattle.kp_rule_text.proofs.AddressWords.{ranges, endpoint_complete, both_pieces}
 
 -- ---- IPv6
 
--- a byte of an address: a hexadecimal digit, a colon or a dot
+-- a byte of an address: among others a hexadecimal digit or a colon
 abbrev is_v6_byte : ℕ → Bool
-is_v6_byte b = nat_le 46 b && nat_lt b 103 && not (b == 47) && not (b == 93)
+is_v6_byte b = nat_le 48 b && nat_lt b 103 && not (b == 93)
 
 hex_is_v6 : (b : ℕ) → IsHexOrColon b → is_v6_byte b ≡ true
 hex_is_v6 b (inl h) = grind (arith, nat_tests)
 hex_is_v6 b (inr h) = grind (arith, nat_tests)
-
-dotted_is_v6 : (b : ℕ) → is_dotted_byte b ≡ true → is_v6_byte b ≡ true
-dotted_is_v6 b h = grind (arith, nat_tests)
 
 v6_is_word : (b : ℕ) → is_v6_byte b ≡ true → is_word_byte b ≡ true
 v6_is_word b h = grind (arith, nat_tests)
@@ -48,26 +43,11 @@ low_groups n [] k = lit< tt
 low_groups n (place ∷ places) zero = omega arith
 low_groups n (place ∷ places) (suc k) = low_groups n places k
 
-segments_low : (n : ℕ) → AllSegments (segments_of n)
+pub segments_low : (n : ℕ) → AllSegments (segments_of n)
 segments_low n = low_groups n (7 ∷ 6 ∷ 5 ∷ 4 ∷ 3 ∷ 2 ∷ 1 ∷ 0 ∷ [])
 
--- an IPv4 address behind the mapping's front
-mapped_bytes : (a b c d : ℕ) → a < 256 → b < 256 → c < 256 → d < 256 → list_all is_v6_byte (codes "::ffff:" ++ dotted_text a b c d) ≡ true
-mapped_bytes a b c d la lb lc ld =
-    both_pieces is_v6_byte (codes "::ffff:") (dotted_text a b c d) refl (all_weaker is_dotted_byte is_v6_byte dotted_is_v6 (dotted_text a b c d) (dotted_bytes a b c d la lb lc ld))
-
-high_byte : (s : ℕ) → s % 2 ^ 16 / 256 < 256
-high_byte s = omega arith
-
-low_byte : (s : ℕ) → s % 2 ^ 16 % 256 < 256
-low_byte s = omega arith
-
 v6_bytes : (n : ℕ) → list_all is_v6_byte (number_text V6 n) ≡ true
-unfolding ipv6_text
-v6_bytes n =
-    cond_both (bytes_eq (take 6 (segments_of n)) (0 ∷ 0 ∷ 0 ∷ 0 ∷ 0 ∷ 65535 ∷ [])) (codes "::ffff:" ++ ipv4_text (octets_of (drop 6 (segments_of n)))) (hex_groups_text (segments_of n)) (λ text. list_all is_v6_byte text ≡ true)
-    (λ mapped. mapped_bytes _ _ _ _ (high_byte (n / 2 ^ 16)) (low_byte (n / 2 ^ 16)) (high_byte (n / 1)) (low_byte (n / 1)))
-    (λ other. all_v6 (hex_groups_text (segments_of n)) (All-hex_groups_text (segments_of n) (segments_low n)))
+v6_bytes n = all_v6 (number_text V6 n) (All-hex_groups_text (segments_of n) (segments_low n))
 
 -- ---- the groups of a number are the number
 
@@ -97,7 +77,7 @@ v6_number_read : (n : ℕ) → n < 2 ^ 128 → address_read V6 (number_text V6 n
 v6_number_read n low =
     let text = number_text V6 n in
     ap (λ t. address_read V6 t) (sym (append-nil text))
-    ∙ ap (option_map (λ (p : List ℕ × List ℕ). record { family = V6; number = segments_number p.0 })) (read_ipv6_complete text (segments_of n) [] (IsColonHex-ipv6_text (segments_of n) refl (segments_low n)) EndsGroups-nil)
+    ∙ ap (option_map (λ (p : List ℕ × List ℕ). record { family = V6; number = segments_number p.0 })) (read_ipv6_complete text (segments_of n) [] (IsColonHex-hex_groups_text (segments_of n) refl (segments_low n)) EndsGroups-nil)
     ∙ ap (λ m. Some (record { family = V6; number = m })) (segments_are n low)
 
 -- ---- addresses of IPv6

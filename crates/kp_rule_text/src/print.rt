@@ -215,7 +215,7 @@ fn push_address(line: &mut String, address: &Address) -> Result<(), NoMemory>
     match address.family() {
         Family::V4 => push(line, v4_text(address.number()).as_str()),
         Family::V6 => {
-            let address = v6_address(address.number());
+            let address = v6_address(address.number()).hex_groups();
             Ok(write!(line, "{address}")?)
         }
     }

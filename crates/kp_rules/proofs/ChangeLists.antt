@@ -21,12 +21,13 @@ use Rattle.kp_rules.specs.Changes.{is_in, write_at, remove_at, write_if_found}
 use Rattle.kp_rules.proofs.MapPlaces.{both, less}
 
 -- chains, as their entries
-abbrev Entries : Type 0
+abbrev pub Entries : Type 0
 Entries = List (ChainAt × List Rule)
 
-every : (P Q : ChainAt × List Rule → Type 0) → ((e : ChainAt × List Rule) → P e → Q e) → (es : Entries) → AllByRecursion P es → AllByRecursion Q es
+-- what each element has by what it had
+pub every : {X : Type 0} (P Q : X → Type 0) → ((x : X) → P x → Q x) → (xs : List X) → AllByRecursion P xs → AllByRecursion Q xs
 every P Q f [] a = tt
-every P Q f (e ∷ es) a = (f e a.0, every P Q f es a.1)
+every P Q f (x ∷ xs) a = (f x a.0, every P Q f xs a.1)
 
 -- ---- lists in parts
 

@@ -20,7 +20,7 @@ use Rattle.kp_types.proofs.ChainOrder.{chain_total, chain_exact}
 use Rattle.kp_types.proofs.RuleEquality.{lists_exact, rule_exact, rules_equiv}
 use Rattle.kp_table_defs.specs.Rebuild.{Chains}
 use Rattle.kp_table_defs.specs.Edits.{SameRulesAreEqual, ChangesLeadOver, chains_after_edit, same_rules, is_found_with, write_if_changed, remove_if_gone, chains_in, table_changes, changes_between}
-use Rattle.kp_rules.proofs.ChangeLists.{entries_found}
+use Rattle.kp_rules.proofs.ChangeLists.{entries_found, every}
 
 -- ---- rules
 
@@ -86,11 +86,12 @@ after_edits after m q (e ∷ es) right (inr (inr h)) = after_edits after (chains
 
 -- ---- all changes are right
 
-all_append : {X : Type 0} (P : X → Type 0) (xs ys : List X) → AllByRecursion P xs → AllByRecursion P ys → AllByRecursion P (xs ++ ys)
+pub all_append : {X : Type 0} (P : X → Type 0) (xs ys : List X) → AllByRecursion P xs → AllByRecursion P ys → AllByRecursion P (xs ++ ys)
 all_append P [] ys a b = b
 all_append P (x ∷ xs) ys a b = (a.0, all_append P xs ys a.1 b)
 
-abbrev In_option : {X : Type 0} → (X → Type 0) → Option X → Type 0
+-- what holds of a value that is there
+abbrev pub In_option : {X : Type 0} → (X → Type 0) → Option X → Type 0
 In_option P None = Unit {0}
 In_option P (Some x) = P x
 
@@ -98,21 +99,17 @@ all_consed : {Y : Type 0} (P : Y → Type 0) (o : Option Y) (ys : List Y) → In
 all_consed P None ys h a = a
 all_consed P (Some y) ys h a = (h, a)
 
-all_filter_map : {X Y : Type 0} (P : Y → Type 0) (f : X → Option Y) (xs : List X) → AllByRecursion (λ x. In_option P (f x)) xs → AllByRecursion P (filter_map f xs)
+pub all_filter_map : {X Y : Type 0} (P : Y → Type 0) (f : X → Option Y) (xs : List X) → AllByRecursion (λ x. In_option P (f x)) xs → AllByRecursion P (filter_map f xs)
 all_filter_map P f [] a = tt
 all_filter_map P f (x ∷ xs) a = all_consed P (f x) (filter_map f xs) a.0 (all_filter_map P f xs a.1)
 
-all_filter : {X : Type 0} (P : X → Type 0) (test : X → Bool) (xs : List X) → AllByRecursion P xs → AllByRecursion P (filter test xs)
+pub all_filter : {X : Type 0} (P : X → Type 0) (test : X → Bool) (xs : List X) → AllByRecursion P xs → AllByRecursion P (filter test xs)
 all_filter P test [] a = tt
 all_filter P test (x ∷ xs) a = kept (test x) a.0 (all_filter P test xs a.1)
   where
     kept : (b : Bool) → P x → AllByRecursion P (filter test xs) → AllByRecursion P (cond b (x ∷ filter test xs) (filter test xs))
     kept true h rest = (h, rest)
     kept false h rest = rest
-
-every : {X : Type 0} (P Q : X → Type 0) → ((x : X) → P x → Q x) → (xs : List X) → AllByRecursion P xs → AllByRecursion Q xs
-every P Q f [] a = tt
-every P Q f (x ∷ xs) a = (f x a.0, every P Q f xs a.1)
 
 write_right : (before after : Chains) (e : ChainAt × List Rule) → get after e.0 ≡ Some e.1 → In_option (IsRight after) (write_if_changed before e)
 write_right before after e h = kept (is_found_with e.1 (get before e.0))

@@ -1,6 +1,6 @@
-mod ChangeLists
-mod ChangesLead
-mod MapPlaces
+pub mod ChangeLists
+pub mod ChangesLead
+pub mod MapPlaces
 mod PlaceOrder
 mod RankedPlaces
 mod RankedWalk

@@ -1,5 +1,5 @@
 -- The places of chains by place, in order, as chains are written and removed.
-use Rattle.std.proofs.Common.{◌≡◌, ◌≤◌, ◌+◌, ◌&&◌, ℕ, Bool, true, false, cond, not, List, [], ◌∷◌, length, map, Option, Some, None, is_some, Result, Ok, Err, if◌then◌else◌, refl, sym, ap, ◌∙◌, T, arith}
+use Rattle.std.proofs.Common.{◌≡◌, ◌≤◌, ◌<◌, ◌+◌, ◌-◌, ◌&&◌, ℕ, zero, suc, Bool, true, false, cond, not, List, [], ◌∷◌, drop, length, map, slice_get, Option, Some, None, is_some, Result, Ok, Err, if◌then◌else◌, refl, sym, ap, ◌∙◌, T, arith}
 use Rattle.std.specs.declared.cmp.Ordering.{Ordering}
 use Rattle.std.specs.declared.cmp.Ordering.TheVariants.{Less, Equal, Greater}
 use Rattle.std.specs.Ordering.{eq_by_cmp, is_eq, is_lt}
@@ -128,6 +128,21 @@ none_in (p ∷ ps) h = absurd (omega arith)
 
 pub keys-empty : keys (empty {X = List Rule} {R = chain_cmp}) ≡ []
 keys-empty = none_in _ (length-keys-le [])
+
+-- ---- a copy, entry by entry from the last
+
+entry_at : (es : Entries) (j : ℕ) (e : ChainAt × List Rule) → Some e ≡ slice_get es j → drop j es ≡ e ∷ drop (suc j) es
+entry_at [] j e h = absurd (cc)
+entry_at (x ∷ es) zero e h = let same : x ≡ e = cc in ap (λ y. y ∷ es) same
+entry_at (x ∷ es) (suc j) e h = entry_at es j e h
+
+-- the entries behind one and then it are those from it on
+pub entry_added : (es : Entries) (i : ℕ) (at : ChainAt) (rules : List Rule) → 0 < i → Some (at, rules) ≡ slice_get es (i - 1)
+    → insert (from_entries {R = chain_cmp} (drop i es)) at rules ≡ from_entries (drop (i - 1) es)
+entry_added es i at rules some h =
+    let next : suc (i - 1) ≡ i = omega arith in
+    ap (λ k. insert (from_entries {R = chain_cmp} (drop k es)) at rules) (sym next)
+    ∙ sym (ap (from_entries {R = chain_cmp}) (entry_at es (i - 1) (at, rules) h))
 
 -- ---- what an insert with room answers
 

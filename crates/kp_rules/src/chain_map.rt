@@ -1,17 +1,19 @@
 //! Chains by place: a hash table finds a chain, and a tree has the places in order.
-ghost use Rattle.std.specs.Prelude.{◌≡◌, ◌+◌, ◌<◌, ◌≤◌, slice_get, OnOk};
+ghost use Rattle.std.specs.Prelude.{◌≡◌, ◌+◌, ◌<◌, ◌≤◌, slice_get, IfOk, OnOk};
 ghost use Rattle.std.specs.FinMap as finite;
 ghost use Rattle.std.specs.Option.{option_copied};
+ghost use Rattle.kp_types.specs.Places.{chain_cmp};
 
 use crate::new_chain::NewChain;
 use crate::places::Places;
 use indexmap::IndexMap;
-use kp_base::{Items, NoMemory};
+use kp_base::{Copied, Items, NoMemory};
 use kp_types::{ChainAt, Rule};
 use std::alloc::Global;
 use std::marker::Model;
 
-/// Chains by place. Contracts see a finite map, and how many new chains can be written with no more memory.
+/// Chains by place. Contracts see a finite map, and how many new chains can be written with no
+/// more memory.
 #[derive(Drop)]
 pub struct ChainMap {
     rules: IndexMap<ChainAt, Items<Rule>>,
@@ -29,9 +31,13 @@ impl Model for ChainMap {
 
     ghost coded = { roomy_code };
 
-    ghost view = { λ m. record { chains = finite.from_entries {R = chain_cmp} m.rules.entries; room = spare m.rules } };
+    ghost view = { λ m. record {
+      chains = finite.from_entries {R = chain_cmp} m.rules.entries;
+      room = spare m.rules;
+    } };
 
-    ghost invariant = { λ m. m.places ≡ finite.keys (finite.from_entries {R = chain_cmp} m.rules.entries) };
+    ghost invariant = { λ m. m.places
+        ≡ finite.keys (finite.from_entries {R = chain_cmp} m.rules.entries) };
 }
 
 impl ChainMap {
@@ -75,6 +81,13 @@ impl ChainMap {
         Ok(())
     }
 
+    /// The same chains once more.
+    pub fn copy(&self, alloc: Global) -> Result<ChainMap, NoMemory>
+        ensures { IfOk result (λ copy. copy.chains ≡ self.now.chains) }
+    {
+        chains_of(alloc, &self.rules)
+    }
+
     /// Writes a chain. It takes no memory.
     pub fn write(&mut self, chain: NewChain)
         requires { 0 < self.old.room }
@@ -98,4 +111,19 @@ impl ChainMap {
             self.places.remove(at);
         }
     }
+}
+
+/// The chains of these entries.
+fn chains_of(alloc: Global, entries: &IndexMap<ChainAt, Items<Rule>>) -> Result<ChainMap, NoMemory>
+    ensures { IfOk result (λ chains. chains.chains
+        ≡ finite.from_entries {R = chain_cmp} entries.now.entries) }
+{
+    let mut chains = ChainMap::new(alloc);
+    chains.reserve(entries.len())?;
+    for i in (0..entries.len()).rev() {
+        if let Some((at, rules)) = entries.get_index(i) {
+            chains.write(NewChain::new(alloc, at.same(), rules.copy(alloc)?)?);
+        }
+    }
+    Ok(chains)
 }

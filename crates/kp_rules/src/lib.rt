@@ -9,8 +9,6 @@ mod places;
 mod ranks;
 mod ready;
 mod table;
-#[cfg(test)]
-mod tests;
 
 pub use changes::changed;
 pub use kp_types::{Batch, ChainAt, ChainName, ChainText, Edit, Match, Rule, TableName, Target};

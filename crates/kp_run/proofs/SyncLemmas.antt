@@ -1,6 +1,6 @@
 -- A sync, and the table that it makes.
-use Rattle.std.proofs.Common.{◌≡◌, ◌+◌, ◌-◌, ℕ, length, take, false, ap, sym, refl, ◌∙◌, subst, arith}
-use Rattle.std.specs.Prelude.{Option, None, count_by, not, Result, Ok, Err, IfOk}
+use Rattle.std.proofs.Common.{◌≡◌, ◌+◌, ◌-◌, ℕ, length, take, false, ap, sym, refl, ◌∙◌, arith}
+use Rattle.std.specs.Prelude.{None, count_by, not}
 use Rattle.std.proofs.Math.Seq.{take-length}
 use Rattle.std.specs.FinMap.{get}
 use Rattle.kp_base.specs.declared.address.Family.TheVariants.{V4}
@@ -8,39 +8,25 @@ use Rattle.kp_base.specs.declared.config.Config.{Config}
 use Rattle.kp_object_defs.specs.Objects.{objects_after, no_objects}
 use Rattle.kp_table_defs.specs.Edits.{changes_between, is_write}
 use Rattle.kp_table_defs.specs.Plain.{HasNoRecent}
-use Rattle.kp_table_defs.specs.Rebuild.{TableParts, full_table, full_chains}
-use Rattle.kp_table_defs.specs.StandIn.{stand_in_name}
-use Rattle.kp_text_defs.specs.declared.line.PlainService.{PlainService}
-use Rattle.kp_text_defs.specs.declared.line.PlainSlice.{PlainSlice}
+use Rattle.kp_table_defs.specs.Rebuild.{TableParts, full_table}
+use Rattle.kp_table_defs.specs.StandIn.{stand_in_setting}
 use Rattle.kp_text_defs.specs.Printed.{sync_text}
 use Rattle.kp_run_defs.specs.Replay.{ReplayState, sync_step, sync_edits, objects_now, objects_covered}
-use Rattle.kp_walk_laws.specs.Laws.{FullTablePlain}
-use Rattle.kp_writer.specs.Plain.{objects_with, plain_infos}
-use Rattle.kp_writer.specs.Laws.{PlainInfos, PlainClusterOnly}
+use Rattle.kp_writer.specs.Plain.{objects_with}
 use Rattle.kp_run.specs.State.{Stands, Steps, IsTableOf}
 use Rattle.kp_run.specs.declared.printed.Printed.TheVariants.{Synced}
 use Rattle.kp_run.specs.declared.state.Replay.{Replay}
 
--- no rule of the plain objects' table asks a recent list
-pub table_plain : FullTablePlain → PlainInfos → PlainClusterOnly → (config : Config) (service : Option PlainService) (slice : Option PlainSlice) (t : TableParts) → t ≡ full_table V4 stand_in_name config (objects_with service slice) → HasNoRecent (get t.chains)
-table_plain plain infos only config service slice t full =
-    subst (λ c. HasNoRecent (get c)) (sym (ap (λ x. x.chains) full ∙ ap (full_chains V4 stand_in_name config) (infos config service slice)))
-    (plain stand_in_name config (plain_infos service slice) (λ i has. (only service slice i has).affinity))
-
-pub plain_ok : FullTablePlain → PlainInfos → PlainClusterOnly → (config : Config) (service : Option PlainService) (slice : Option PlainSlice) {E : Type 0} (result : Result TableParts E) → IfOk result (λ t. t ≡ full_table V4 stand_in_name config (objects_with service slice)) → IfOk result (λ t. HasNoRecent (get t.chains))
-plain_ok plain infos only config service slice (Ok t) full = table_plain plain infos only config service slice t full
-plain_ok plain infos only config service slice (Err e) full = tt
-
 -- the table of no object
-pub empty_table : (config : Config) (t : TableParts) → t ≡ full_table V4 stand_in_name config (objects_with None None) → HasNoRecent (get t.chains) → IsTableOf t config no_objects
+pub empty_table : (config : Config) (t : TableParts) → t ≡ full_table (stand_in_setting V4 config) (objects_with None None) → HasNoRecent (get t.chains) → IsTableOf t config no_objects
 empty_table config t full plain = record { service = None; slice = None; small = tt; objects = refl; full = full; plain = plain }
 
-module _ (r : Replay) (s : ReplayState) (st : Stands r s) (t : TableParts) (full : t ≡ full_table V4 stand_in_name r.config (objects_with r.service r.slice)) (plain : HasNoRecent (get t.chains)) where
-  old_table : r.table ≡ full_table V4 stand_in_name s.config (objects_covered s)
-  old_table = st.table.full ∙ ap (full_table V4 stand_in_name s.config) (sym st.table.objects)
+module _ (r : Replay) (s : ReplayState) (st : Stands r s) (t : TableParts) (full : t ≡ full_table (stand_in_setting V4 r.config) (objects_with r.service r.slice)) (plain : HasNoRecent (get t.chains)) where
+  old_table : r.table ≡ full_table (stand_in_setting V4 s.config) (objects_covered s)
+  old_table = st.table.full ∙ ap (full_table (stand_in_setting V4 s.config)) (sym st.table.objects)
 
-  new_table : t ≡ full_table V4 stand_in_name s.config (objects_now s)
-  new_table = full ∙ (λ i. full_table V4 stand_in_name (st.config i) (sym st.objects i))
+  new_table : t ≡ full_table (stand_in_setting V4 s.config) (objects_now s)
+  new_table = full ∙ (λ i. full_table (stand_in_setting V4 (st.config i)) (sym st.objects i))
 
   edits : changes_between r.table.chains t.chains ≡ sync_edits s
   edits = λ i. changes_between (old_table i).chains (new_table i).chains
@@ -69,7 +55,7 @@ module _ (r : Replay) (s : ReplayState) (st : Stands r s) (t : TableParts) (full
         slice = r.slice;
         small = st.small;
         objects = covers_all;
-        full = full ∙ (λ i. full_table V4 stand_in_name (st.config i) (objects_with r.service r.slice));
+        full = full ∙ (λ i. full_table (stand_in_setting V4 (st.config i)) (objects_with r.service r.slice));
         plain = plain;
       };
       refused = st.refused;

@@ -9,7 +9,7 @@ use Rattle.kp_types.specs.declared.event.Object.TheVariants as object
 use Rattle.kp_object_defs.specs.Objects.{Objects}
 use Rattle.kp_table_defs.specs.Plain.{HasNoRecent}
 use Rattle.kp_table_defs.specs.Rebuild.{TableParts, full_table}
-use Rattle.kp_table_defs.specs.StandIn.{stand_in_name}
+use Rattle.kp_table_defs.specs.StandIn.{stand_in_setting}
 use Rattle.kp_text_defs.specs.declared.line.FirstLine.{FirstLine}
 use Rattle.kp_text_defs.specs.declared.line.FirstLine.TheVariants as line
 use Rattle.kp_text_defs.specs.declared.line.PlainService.{PlainService}
@@ -29,7 +29,7 @@ pub record IsTableOf (table : TableParts) (config : Config) (o : Objects) : Type
   pub slice : Option PlainSlice
   pub small : IsSmallSlice slice
   pub objects : o ≡ objects_with service slice
-  pub full : table ≡ full_table V4 stand_in_name config (objects_with service slice)
+  pub full : table ≡ full_table (stand_in_setting V4 config) (objects_with service slice)
   pub plain : HasNoRecent (get table.chains)
 
 -- the program stands where the replay does

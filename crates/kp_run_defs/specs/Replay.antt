@@ -25,7 +25,7 @@ use Rattle.kp_text_defs.specs.FirstLines.{default_config, plain_service, plain_s
 use Rattle.kp_text_defs.specs.declared.refusal.Refusal.{Refusal}
 use Rattle.kp_text_defs.specs.declared.refusal.Refusal.TheVariants.{BadJson, NotBuilt}
 use Rattle.kp_text_defs.specs.Printed.{refusal_text, sync_text, packet_text}
-use Rattle.kp_table_defs.specs.StandIn.{stand_in_name}
+use Rattle.kp_table_defs.specs.StandIn.{stand_in_setting}
 
 -- Where a replay stands: whether no line but blank ones was read, the configuration, the accepted events, how
 -- many of them the last sync covers, how many syncs there were, the recent lists, and whether a line was
@@ -72,10 +72,11 @@ is_blank bytes = list_all is_blank_byte bytes
 abbrev pub most_events : ℕ
 most_events = 1000000
 
--- the objects by now, and those that the last sync covers
+-- the objects by now
 abbrev pub objects_now : ReplayState → Objects
 objects_now s = objects_after s.events
 
+-- the objects that the last sync covers
 abbrev pub objects_covered : ReplayState → Objects
 objects_covered s = objects_after (take s.covered s.events)
 
@@ -101,18 +102,19 @@ event_step number event false s = refuse number NotBuilt s
 abbrev pub has_room : ReplayState → Bool
 has_room s = nat_lt (length s.events) most_events
 
--- all Services, or all slices, have this name
+-- all Services have this name
 abbrev pub services_named : List ℕ → Objects → Bool
 services_named name o = list_all (λ k. bytes_eq k.name name) (finite.keys o.services)
 
+-- all slices have this name
 abbrev pub slices_named : List ℕ → Objects → Bool
 slices_named name o = list_all (λ k. bytes_eq k.name name) (finite.keys o.slices)
 
 -- the edits that a sync makes
 abbrev pub sync_edits : ReplayState → List Edit
 sync_edits s =
-    changes_between (full_table V4 stand_in_name s.config (objects_covered s)).chains
-    (full_table V4 stand_in_name s.config (objects_now s)).chains
+    changes_between (full_table (stand_in_setting V4 s.config) (objects_covered s)).chains
+    (full_table (stand_in_setting V4 s.config) (objects_now s)).chains
 
 -- a sync covers all events
 abbrev pub sync_step : ReplayState → Stepped
@@ -125,7 +127,7 @@ sync_step s = record {
 -- the decision on a packet
 abbrev pub packet_decision : ReplayState → PacketForm → Decided
 packet_decision s p =
-    decision_of stand_in_name V4 s.config (objects_covered s) p.packet (draw_of_list p.draws) s.lists
+    decision_of (stand_in_setting V4 s.config) (objects_covered s) p.packet (draw_of_list p.draws) s.lists
 
 -- a packet prints its verdict, and may be remembered in recent lists
 abbrev pub packet_step : ℕ → PacketForm → ReplayState → Stepped

@@ -21,8 +21,10 @@ chains_after_edit chains (Remove at) = finite.remove chains at
 
 -- the table after a batch; the count stands still at its type's end
 abbrev pub table_after_batch : TableParts → List Edit → TableParts
-table_after_batch t edits =
-    record { chains = fold chains_after_edit t.chains edits; syncs = min (t.syncs + 1) (2 ^ 64 - 1) }
+table_after_batch t edits = record {
+  chains = fold chains_after_edit t.chains edits;
+  syncs = min (t.syncs + 1) (2 ^ 64 - 1);
+}
 
 -- whether two lists of rules are one
 abbrev pub same_rules : List Rule → List Rule → Bool

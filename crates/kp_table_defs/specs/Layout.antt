@@ -7,12 +7,11 @@ use Rattle.kp_base.specs.Net.{AddressParts, RangeParts, single_range, loopback_r
 use Rattle.kp_base.specs.declared.address.Family.{Family}
 use Rattle.kp_base.specs.declared.address.Family.TheVariants.{V4, V6}
 use Rattle.kp_base.specs.declared.key.Endpoint.{Endpoint}
-use Rattle.kp_base.specs.declared.config.Config.{Config}
+use Rattle.kp_types.specs.Setting.{Setting}
 use Rattle.kp_types.specs.Rules.{rule_of}
 use Rattle.kp_types.specs.declared.chain.TableName.{TableName}
 use Rattle.kp_types.specs.declared.chain.TableName.TheVariants.{Nat, Filter}
 use Rattle.kp_types.specs.declared.chain.ChainAt.{ChainAt}
-use Rattle.kp_types.specs.declared.chain.ChainKey.{ChainKey}
 use Rattle.kp_types.specs.declared.chain.ChainKey.TheVariants as key
 use Rattle.kp_types.specs.declared.chain.PortChain.{PortChain}
 use Rattle.kp_types.specs.declared.chain.PortChain.TheVariants.{Svc, Svl, Ext, Fw}
@@ -28,42 +27,43 @@ use Rattle.kp_object_defs.specs.Desired.{is_empty}
 use Rattle.kp_object_defs.specs.Lists.{is_local_policy}
 use Rattle.kp_object_defs.specs.PortInfo.{PortInfo, is_accessible, internal_list, external_list}
 
--- the name of a chain by what it is for
-abbrev pub Naming : Type 0
-Naming = ChainKey → List ℕ
-
 -- ---- Names
 
 -- the chain that marks packets for masquerading
 abbrev pub mark_masq : List ℕ
 mark_masq = codes "KUBE-MARK-MASQ"
 
--- the shared chains
+-- the shared chains: in nat and in filter, for packets to Services
 abbrev pub kube_services : List ℕ
 kube_services = codes "KUBE-SERVICES"
 
+-- for packets to the node's own addresses
 abbrev pub kube_node_ports : List ℕ
 kube_node_ports = codes "KUBE-NODEPORTS"
 
+-- for packets that leave the node
 abbrev pub kube_postrouting : List ℕ
 kube_postrouting = codes "KUBE-POSTROUTING"
 
+-- in filter, for packets to Services from outside the cluster
 abbrev pub kube_external_services : List ℕ
 kube_external_services = codes "KUBE-EXTERNAL-SERVICES"
 
+-- in filter, for packets that are forwarded
 abbrev pub kube_forward : List ℕ
 kube_forward = codes "KUBE-FORWARD"
 
+-- in filter, for packets to load-balancer addresses with source ranges
 abbrev pub kube_proxy_firewall : List ℕ
 kube_proxy_firewall = codes "KUBE-PROXY-FIREWALL"
 
 -- the chain of a port, of a kind
-abbrev pub port_chain : Naming → PortInfo → PortChain → List ℕ
-port_chain name_of i kind = name_of (key.Port kind i.key)
+abbrev pub port_chain : Setting → PortInfo → PortChain → List ℕ
+port_chain setting i kind = setting.name_of (key.Port kind i.key)
 
 -- the chain of an endpoint of a port
-abbrev pub endpoint_chain : Naming → PortInfo → Endpoint → List ℕ
-endpoint_chain name_of i e = name_of (key.Sep i.key e)
+abbrev pub endpoint_chain : Setting → PortInfo → Endpoint → List ℕ
+endpoint_chain setting i e = setting.name_of (key.Sep i.key e)
 
 -- the kind of chain that chooses among a policy's endpoints
 abbrev pub chain_of_policy : Policy → PortChain
@@ -80,10 +80,11 @@ jump_to chain = rule_of [] (target.Jump chain)
 abbrev pub rule_at : PortInfo → Target → AddressParts → Rule
 rule_at i t a = rule_of (match.Dst (single_range a) false ∷ match.Port i.key.proto i.number ∷ []) t
 
--- the rules of a list, each but the last with a chance of one among those that are left
+-- a rule with a chance of one among so many
 abbrev pub chance : ℕ → Target → Rule
 chance n t = rule_of (match.Statistic (probability_of n) ∷ []) t
 
+-- the rules of a list, each but the last with a chance of one among those that are left
 abbrev pub choice_rules : (Endpoint → List ℕ) → List Endpoint → List Rule
 choice_rules name [] = []
 choice_rules name (e ∷ []) = jump_to (name e) ∷ []
@@ -110,10 +111,10 @@ rules_if true rules = rules
 rules_if false rules = []
 
 -- the chain that chooses among the endpoints of a policy; that of the internal policy marks
-abbrev pub list_rules : Naming → Config → PortInfo → Bool → List Endpoint → List Rule
-list_rules name_of config i is_internal es =
-    rules_if is_internal (mark_rules config.masquerade_all config.cluster i)
-    ++ affinity_rules (endpoint_chain name_of i) i.affinity es ++ choice_rules (endpoint_chain name_of i) es
+abbrev pub list_rules : Setting → PortInfo → Bool → List Endpoint → List Rule
+list_rules setting i is_internal es =
+    rules_if is_internal (mark_rules setting.config.masquerade_all setting.config.cluster i)
+    ++ affinity_rules (endpoint_chain setting i) i.affinity es ++ choice_rules (endpoint_chain setting i) es
 
 -- the match that puts the source into an endpoint's recent list, under session affinity
 abbrev pub set_seen : List ℕ → Option ℕ → List Match
@@ -121,10 +122,10 @@ set_seen name None = []
 set_seen name (Some seconds) = match.SetSeen name ∷ []
 
 -- the chain of an endpoint
-abbrev pub endpoint_rules : Naming → PortInfo → Endpoint → List Rule
-endpoint_rules name_of i e =
+abbrev pub endpoint_rules : Setting → PortInfo → Endpoint → List Rule
+endpoint_rules setting i e =
     rule_of (match.Src (single_range e.address) false ∷ []) (target.Jump mark_masq)
-    ∷ rule_of (match.Proto i.key.proto ∷ set_seen (endpoint_chain name_of i e) i.affinity) (target.Dnat e) ∷ []
+    ∷ rule_of (match.Proto i.key.proto ∷ set_seen (endpoint_chain setting i e) i.affinity) (target.Dnat e) ∷ []
 
 -- packets of the cluster's range go to all endpoints
 abbrev pub pod_rules : Option RangeParts → List ℕ → List Rule
@@ -132,18 +133,18 @@ pod_rules None svc = []
 pod_rules (Some cluster) svc = rule_of (match.Src cluster false ∷ []) (target.Jump svc) ∷ []
 
 -- the chain of what comes in from outside, by the external traffic policy
-abbrev pub external_rules : Naming → Config → PortInfo → Policy → List Rule
-external_rules name_of config i Cluster = jump_to mark_masq ∷ jump_to (port_chain name_of i Svc) ∷ []
-external_rules name_of config i Local =
-    pod_rules config.cluster (port_chain name_of i Svc)
+abbrev pub external_rules : Setting → PortInfo → Policy → List Rule
+external_rules setting i Cluster = jump_to mark_masq ∷ jump_to (port_chain setting i Svc) ∷ []
+external_rules setting i Local =
+    pod_rules setting.config.cluster (port_chain setting i Svc)
     ++ rule_of (match.SrcLocal ∷ []) (target.Jump mark_masq)
-    ∷ rule_of (match.SrcLocal ∷ []) (target.Jump (port_chain name_of i Svc))
-    ∷ rules_if (not (is_empty i.lists.local)) (jump_to (port_chain name_of i Svl) ∷ [])
+    ∷ rule_of (match.SrcLocal ∷ []) (target.Jump (port_chain setting i Svc))
+    ∷ rules_if (not (is_empty i.lists.local)) (jump_to (port_chain setting i Svl) ∷ [])
 
 -- the chain of a load balancer's source ranges
-abbrev pub firewall_rules : Naming → PortInfo → List RangeParts → List Rule
-firewall_rules name_of i ranges =
-    map (λ r. rule_of (match.Src r false ∷ []) (target.Jump (port_chain name_of i Ext))) ranges
+abbrev pub firewall_rules : Setting → PortInfo → List RangeParts → List Rule
+firewall_rules setting i ranges =
+    map (λ r. rule_of (match.Src r false ∷ []) (target.Jump (port_chain setting i Ext))) ranges
 
 -- ---- Blocks of one port in the shared chains
 
@@ -153,13 +154,13 @@ balancer_chain None = Ext
 balancer_chain (Some ranges) = Fw
 
 -- in KUBE-SERVICES of nat
-abbrev pub service_block : Naming → PortInfo → List Rule
-service_block name_of i =
+abbrev pub service_block : Setting → PortInfo → List Rule
+service_block setting i =
     rules_if (not (is_empty (internal_list i)))
-    (rule_at i (target.Jump (port_chain name_of i (chain_of_policy i.internal))) i.address ∷ [])
+    (rule_at i (target.Jump (port_chain setting i (chain_of_policy i.internal))) i.address ∷ [])
     ++ rules_if i.lists.has_any
-    (map (rule_at i (target.Jump (port_chain name_of i Ext))) i.external
-    ++ map (rule_at i (target.Jump (port_chain name_of i (balancer_chain i.ranges)))) i.balancer)
+    (map (rule_at i (target.Jump (port_chain setting i Ext))) i.external
+    ++ map (rule_at i (target.Jump (port_chain setting i (balancer_chain i.ranges)))) i.balancer)
 
 -- a node port's rule
 abbrev pub node_port_rules : PortInfo → Target → Option ℕ → List Rule
@@ -167,9 +168,9 @@ node_port_rules i t None = []
 node_port_rules i t (Some n) = rule_of (match.Port i.key.proto n ∷ []) t ∷ []
 
 -- in KUBE-NODEPORTS of nat
-abbrev pub node_port_block : Naming → PortInfo → List Rule
-node_port_block name_of i =
-    rules_if i.lists.has_any (node_port_rules i (target.Jump (port_chain name_of i Ext)) i.node_port)
+abbrev pub node_port_block : Setting → PortInfo → List Rule
+node_port_block setting i =
+    rules_if i.lists.has_any (node_port_rules i (target.Jump (port_chain setting i Ext)) i.node_port)
 
 -- the port has source ranges, a load-balancer address and endpoints
 abbrev pub has_firewall : PortInfo → Bool
@@ -208,11 +209,12 @@ refusal_block i =
 
 -- ---- Chains
 
--- the tables of a family; those of IPv6 aren't written yet
+-- the nat table of a family; the tables of IPv6 aren't written yet
 abbrev pub nat_table : Family → TableName
 nat_table V4 = Nat
 nat_table V6 = Nat
 
+-- the filter table of a family
 abbrev pub filter_table : Family → TableName
 filter_table V4 = Filter
 filter_table V6 = Filter
@@ -232,13 +234,14 @@ nat_rows_with family node_ports services =
     ∷ row (nat_table family) kube_postrouting
     (rule_of (match.Marked true ∷ []) target.Return ∷ rule_of [] target.FlipMark ∷ rule_of [] target.Masquerade ∷ [])
     ∷ row (nat_table family) kube_node_ports node_ports
-    ∷ row (nat_table family) kube_services (services ++ rule_of (own_addresses family) (target.Jump kube_node_ports) ∷ [])
+    ∷ row (nat_table family) kube_services
+    (services ++ rule_of (own_addresses family) (target.Jump kube_node_ports) ∷ [])
     ∷ []
 
 -- the shared chains of nat, with the blocks of all ports
-abbrev pub nat_rows : Family → Naming → List PortInfo → List (ChainAt × List Rule)
-nat_rows family name_of infos =
-    nat_rows_with family (flat_map (node_port_block name_of) infos) (flat_map (service_block name_of) infos)
+abbrev pub nat_rows : Setting → List PortInfo → List (ChainAt × List Rule)
+nat_rows setting infos =
+    nat_rows_with setting.family (flat_map (node_port_block setting) infos) (flat_map (service_block setting) infos)
 
 -- the fixed chains of filter, with these rules of the firewall, for what comes in from outside and for Services
 abbrev pub filter_rows_with : Family → List Rule → List Rule → List Rule → List (ChainAt × List Rule)
@@ -256,7 +259,8 @@ filter_rows_with family firewall external services =
 -- the shared chains of filter, with the blocks of all ports
 abbrev pub filter_rows : Family → List PortInfo → List (ChainAt × List Rule)
 filter_rows family infos =
-    filter_rows_with family (flat_map firewall_block infos) (flat_map (external_block family) infos) (flat_map refusal_block infos)
+    filter_rows_with family (flat_map firewall_block infos) (flat_map (external_block family) infos)
+    (flat_map refusal_block infos)
 
 -- rows that are written under a condition
 abbrev pub rows_if : Bool → List (ChainAt × List Rule) → List (ChainAt × List Rule)
@@ -272,26 +276,27 @@ abbrev pub all_endpoints : PortInfo → List Endpoint
 all_endpoints i = i.lists.cluster ++ filter (λ e. not (has_endpoint i.lists.cluster e)) i.lists.local
 
 -- the rules of a port's firewall chain
-abbrev pub firewall_chain_rules : Naming → PortInfo → Option (List RangeParts) → List Rule
-firewall_chain_rules name_of i None = []
-firewall_chain_rules name_of i (Some ranges) = firewall_rules name_of i ranges
+abbrev pub firewall_chain_rules : Setting → PortInfo → Option (List RangeParts) → List Rule
+firewall_chain_rules setting i None = []
+firewall_chain_rules setting i (Some ranges) = firewall_rules setting i ranges
 
 -- the chains of one port
-abbrev pub port_rows : Family → Naming → Config → PortInfo → List (ChainAt × List Rule)
-port_rows family name_of config i =
+abbrev pub port_rows : Setting → PortInfo → List (ChainAt × List Rule)
+port_rows setting i =
     rows_if (not (is_empty i.lists.cluster))
-    (row (nat_table family) (port_chain name_of i Svc)
-    (list_rules name_of config i (not (is_local_policy i.internal)) i.lists.cluster) ∷ [])
+    (row (nat_table setting.family) (port_chain setting i Svc)
+    (list_rules setting i (not (is_local_policy i.internal)) i.lists.cluster) ∷ [])
     ++ rows_if (not (is_empty i.lists.local))
-    (row (nat_table family) (port_chain name_of i Svl)
-    (list_rules name_of config i (is_local_policy i.internal) i.lists.local) ∷ [])
+    (row (nat_table setting.family) (port_chain setting i Svl)
+    (list_rules setting i (is_local_policy i.internal) i.lists.local) ∷ [])
     ++ rows_if (is_accessible i && i.lists.has_any)
-    (row (nat_table family) (port_chain name_of i Ext) (external_rules name_of config i i.outer) ∷ [])
+    (row (nat_table setting.family) (port_chain setting i Ext) (external_rules setting i i.outer) ∷ [])
     ++ rows_if (has_firewall i)
-    (row (nat_table family) (port_chain name_of i Fw) (firewall_chain_rules name_of i i.ranges) ∷ [])
-    ++ map (λ e. row (nat_table family) (endpoint_chain name_of i e) (endpoint_rules name_of i e)) (all_endpoints i)
+    (row (nat_table setting.family) (port_chain setting i Fw) (firewall_chain_rules setting i i.ranges) ∷ [])
+    ++ map (λ e. row (nat_table setting.family) (endpoint_chain setting i e) (endpoint_rules setting i e))
+    (all_endpoints i)
 
--- all chains of a family
-abbrev pub rows_of : Family → Naming → Config → List PortInfo → List (ChainAt × List Rule)
-rows_of family name_of config infos =
-    nat_rows family name_of infos ++ filter_rows family infos ++ flat_map (port_rows family name_of config) infos
+-- all chains
+abbrev pub rows_of : Setting → List PortInfo → List (ChainAt × List Rule)
+rows_of setting infos =
+    nat_rows setting infos ++ filter_rows setting.family infos ++ flat_map (port_rows setting) infos

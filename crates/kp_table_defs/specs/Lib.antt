@@ -1,9 +1,11 @@
 pub mod Edits
 pub mod Layout
 pub mod Matching
+pub mod Parts
 pub mod Plain
 pub mod RankedWalk
 pub mod Ranks
 pub mod Rebuild
 pub mod StandIn
+pub mod Traversal
 pub mod Walk

@@ -2,23 +2,30 @@
 -- recent). Matches are tried from the left, and the first that fails ends the trying.
 use Rattle.std.specs.Prelude.{ℕ, ◌+◌, ◌-◌, ◌^◌, ◌==◌, ◌&&◌, Bool, true, false, List, [], ◌∷◌, not, cond, min}
 use Rattle.kp_base.specs.Net.{AddressParts, range_contains, is_local_address}
+use Rattle.kp_base.specs.declared.port.Proto as protocol
 use Rattle.kp_types.specs.Ports.{same_proto}
-use Rattle.kp_types.specs.declared.packet.Packet.{Packet}
+use Rattle.kp_types.specs.declared.packet.Origin.{Origin}
 use Rattle.kp_types.specs.declared.rule.Match.{Match}
 use Rattle.kp_types.specs.declared.rule.Match.TheVariants.{Src, Dst, Proto, Port, SrcLocal, DstLocal, Marked, Statistic, Seen, SetSeen}
 use Rattle.kp_choice_defs.specs.Draws.{draw_at, draw_matches}
 use Rattle.kp_choice_defs.specs.Recent.{RecentParts, is_live, reaped, set_at}
 
--- where a walk stands: the packet as it is by now, its mark, how many draws were used, and the recent lists
+-- where a walk stands: the source, the destination and its port as they are by now, the mark, how many
+-- draws were used, and the recent lists
 pub record WalkState : Type 0 where
-  pub packet : Packet
+  pub source : AddressParts
+  pub target : AddressParts
+  pub port : ℕ
   pub marked : Bool
   pub used : ℕ
   pub lists : RecentParts
 
--- what a walk may ask: the node's addresses, and the packet's draws
+-- what a walk may ask: the node's addresses, what no rule changes of the packet, and its draws
 pub record Surroundings : Type 0 where
   pub node_addresses : List AddressParts
+  pub from : Origin
+  pub proto : protocol.Proto
+  pub now : ℕ
   pub draws : ℕ → ℕ
 
 -- whether a match holds, and the state after it was tried
@@ -45,19 +52,19 @@ with_lists s lists = record s { lists = lists }
 
 -- one match
 abbrev pub try_match : Surroundings → Match → WalkState → Tried
-try_match e (Src range negated) s = tried_as s (negated_if negated (range_contains range s.packet.source))
-try_match e (Dst range negated) s = tried_as s (negated_if negated (range_contains range s.packet.target))
-try_match e (Proto proto) s = tried_as s (same_proto proto s.packet.proto)
-try_match e (Port proto port) s = tried_as s (same_proto proto s.packet.proto && (port == s.packet.port))
-try_match e SrcLocal s = tried_as s (is_local_address e.node_addresses s.packet.source)
-try_match e DstLocal s = tried_as s (is_local_address e.node_addresses s.packet.target)
+try_match e (Src range negated) s = tried_as s (negated_if negated (range_contains range s.source))
+try_match e (Dst range negated) s = tried_as s (negated_if negated (range_contains range s.target))
+try_match e (Proto proto) s = tried_as s (same_proto proto e.proto)
+try_match e (Port proto port) s = tried_as s (same_proto proto e.proto && (port == s.port))
+try_match e SrcLocal s = tried_as s (is_local_address e.node_addresses s.source)
+try_match e DstLocal s = tried_as s (is_local_address e.node_addresses s.target)
 try_match e (Marked negated) s = tried_as s (negated_if negated s.marked)
 try_match e (Statistic p) s = tried_as (with_draw s) (draw_matches p (draw_at e.draws s.used))
 try_match e (Seen list seconds) s =
-    tried_as (with_lists s (reaped s.lists list s.packet.source s.packet.now seconds))
-    (is_live s.lists list s.packet.source s.packet.now seconds)
+    tried_as (with_lists s (reaped s.lists list s.source e.now seconds))
+    (is_live s.lists list s.source e.now seconds)
 try_match e (SetSeen list) s =
-    tried_as (with_lists s (set_at s.lists list s.packet.source s.packet.now)) true
+    tried_as (with_lists s (set_at s.lists list s.source e.now)) true
 
 -- the matches behind one that was tried
 abbrev pub and_also : Tried → (WalkState → Tried) → Tried

@@ -3,21 +3,22 @@ use Rattle.std.specs.Prelude.{ℕ, Bool, true, false, List, [], ◌∷◌, ◌++
 use Rattle.std.specs.List.{filter, filter_map, flat_map, list_any, find}
 use Rattle.std.specs.FinMap as finite
 use Rattle.kp_base.specs.Keys.{endpoint_cmp}
-use Rattle.kp_base.specs.declared.address.Family.{Family}
 use Rattle.kp_base.specs.declared.key.Endpoint.{Endpoint}
-use Rattle.kp_base.specs.declared.config.Config.{Config}
+use Rattle.kp_types.specs.Setting.{Setting}
 use Rattle.kp_types.specs.Places.{chain_cmp}
 use Rattle.kp_types.specs.declared.chain.ChainAt.{ChainAt}
 use Rattle.kp_types.specs.declared.chain.ChainKey.{ChainKey}
 use Rattle.kp_types.specs.declared.chain.ChainKey.TheVariants as key
+use Rattle.kp_types.specs.declared.chain.Clash.{Clash}
 use Rattle.kp_types.specs.declared.chain.PortChain.{PortChain}
 use Rattle.kp_types.specs.declared.chain.PortChain.TheVariants.{Svc, Svl, Ext, Fw}
 use Rattle.kp_types.specs.declared.rule.Rule.{Rule}
+use Rattle.kp_choice_defs.specs.Names.{first_clash}
 use Rattle.kp_object_defs.specs.Objects.{Objects}
 use Rattle.kp_object_defs.specs.Order.{distinct_in_order}
 use Rattle.kp_object_defs.specs.Desired.{is_empty}
 use Rattle.kp_object_defs.specs.PortInfo.{PortInfo, is_accessible, port_infos}
-use Rattle.kp_table_defs.specs.Layout.{Naming, rows_of, has_firewall, all_endpoints}
+use Rattle.kp_table_defs.specs.Layout.{rows_of, has_firewall, all_endpoints}
 
 -- the chains of a table, by place
 abbrev pub Chains : Type 0
@@ -29,12 +30,15 @@ pub record TableParts : Type 0 where
   pub syncs : ℕ
 
 -- the full table by what is known of the ports
-abbrev pub full_chains : Family → Naming → Config → List PortInfo → Chains
-full_chains family name_of config infos = finite.from_entries (rows_of family name_of config infos)
+abbrev pub full_chains : Setting → List PortInfo → Chains
+full_chains setting infos = finite.from_entries (rows_of setting infos)
 
 -- the full table of some objects
-abbrev pub full_table : Family → Naming → Config → Objects → TableParts
-full_table family name_of config o = record { chains = full_chains family name_of config (port_infos family config o); syncs = 0 }
+abbrev pub full_table : Setting → Objects → TableParts
+full_table setting o = record {
+  chains = full_chains setting (port_infos setting.family setting.config o);
+  syncs = 0;
+}
 
 -- a port needs its chain of this kind
 abbrev pub needs : PortChain → PortInfo → Bool
@@ -56,3 +60,7 @@ abbrev pub needed_keys : List PortInfo → List ChainKey
 needed_keys infos =
     port_keys Svc infos ++ port_keys Svl infos ++ port_keys Ext infos ++ port_keys Fw infos
     ++ flat_map endpoint_keys infos
+
+-- the clash of some objects: two different chains that are needed and have one name, if there are any
+abbrev pub clash_of : Setting → Objects → Option Clash
+clash_of setting o = first_clash setting.name_of (needed_keys (port_infos setting.family setting.config o))

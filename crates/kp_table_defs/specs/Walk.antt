@@ -103,9 +103,9 @@ pub data Stage : Type 0 where
   Filtering : Stage
   Masquerading : Stage
 
--- the packet with the destination of an endpoint
+-- the state with the destination of an endpoint
 abbrev pub sent_to : WalkState → Endpoint → WalkState
-sent_to s e = record s { packet = record s.packet { target = e.address; port = e.port } }
+sent_to s e = record s { target = e.address; port = e.port }
 
 -- the end of a hook by a translation or a masquerade, which count in their own stage alone
 abbrev pub ended_by : Stage → Ending → Journey → Journey
@@ -153,7 +153,7 @@ routed_hook false = codes "FORWARD"
 
 -- whether the packet's destination is the node's own by now
 abbrev pub is_for_node : Surroundings → Journey → Bool
-is_for_node e j = is_local_address e.node_addresses j.state.packet.target
+is_for_node e j = is_local_address e.node_addresses j.state.target
 
 -- INPUT, where the destination is the node's own
 abbrev pub input_if : Bool → Surroundings → (ChainAt → Option (List Rule)) → Journey → Journey
@@ -179,13 +179,13 @@ postrouting_if false e at j = j
 -- the whole way after the first hook
 abbrev pub onward : Surroundings → (ChainAt → Option (List Rule)) → Journey → Journey
 onward e at j =
-    let filtered = filter_hooks j.state.packet.from e at j in
-    postrouting_if (is_leaving j.state.packet.from (is_for_node e j)) e at filtered
+    let filtered = filter_hooks e.from e at j in
+    postrouting_if (is_leaving e.from (is_for_node e j)) e at filtered
 
 -- the whole way
 abbrev pub journey_of : Surroundings → (ChainAt → Option (List Rule)) → WalkState → Journey
 journey_of e at s =
-    onward e at (through e at Translating Nat (first_hook s.packet.from)
+    onward e at (through e at Translating Nat (first_hook e.from)
     (record { state = s; translated = None; masked = false; stopped = None; trail = [] }))
 
 -- what becomes of the packet, by what stopped it and where it was translated to
@@ -206,9 +206,26 @@ walked_by j = record { verdict = verdict_by j.stopped j.translated j.masked; tra
 
 -- the state that a packet begins in
 abbrev pub initial_state : Packet → RecentParts → WalkState
-initial_state packet lists = record { packet = packet; marked = false; used = 0; lists = lists }
+initial_state packet lists = record {
+  source = packet.source;
+  target = packet.target;
+  port = packet.port;
+  marked = false;
+  used = 0;
+  lists = lists;
+}
+
+-- what the walk of a packet may ask
+abbrev pub surroundings_of : List AddressParts → Packet → (ℕ → ℕ) → Surroundings
+surroundings_of node_addresses packet draws = record {
+  node_addresses = node_addresses;
+  from = packet.from;
+  proto = packet.proto;
+  now = packet.now;
+  draws = draws;
+}
 
 -- the walk of a packet, over the chains that a look-up finds
 abbrev pub walk_of : (ChainAt → Option (List Rule)) → List AddressParts → Packet → (ℕ → ℕ) → RecentParts → Walked
 walk_of at node_addresses packet draws lists =
-    walked_by (journey_of (record { node_addresses = node_addresses; draws = draws }) at (initial_state packet lists))
+    walked_by (journey_of (surroundings_of node_addresses packet draws) at (initial_state packet lists))

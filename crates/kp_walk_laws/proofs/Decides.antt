@@ -1,10 +1,9 @@
 -- The walk decides a packet as the objects do, where a look-up finds the chains of the ports.
 use Rattle.std.proofs.Common.{◌≡◌, ℕ, Bool, true, false, not, ◌&&◌, ◌||◌, List, [], Contains, Option, Some, None, option_map, refl, sym, ap, ap₂, ◌∙◌}
 use Rattle.std.proofs.lemmas.Option.{none-some}
-use Rattle.kp_base.specs.Net.{is_local_address}
-use Rattle.kp_base.specs.declared.address.Family.TheVariants.{V4}
+use Rattle.kp_base.specs.Net.{AddressParts, is_local_address}
 use Rattle.kp_base.specs.declared.key.Endpoint.{Endpoint}
-use Rattle.kp_base.specs.declared.config.Config.{Config}
+use Rattle.kp_types.specs.Setting.{FamilyConfig, Setting}
 use Rattle.kp_types.specs.declared.chain.TableName.TheVariants.{Nat}
 use Rattle.kp_types.specs.declared.chain.ChainAt.{ChainAt}
 use Rattle.kp_types.specs.declared.packet.Packet.{Packet}
@@ -13,20 +12,22 @@ use Rattle.kp_types.specs.declared.packet.Origin.TheVariants.{Wire, Node}
 use Rattle.kp_types.specs.declared.rule.Rule.{Rule}
 use Rattle.kp_types.specs.declared.verdict.Verdict.TheVariants.{To}
 use Rattle.kp_choice_defs.specs.Recent.{RecentParts}
+use Rattle.kp_choice_defs.specs.Settings.{pick_by_draws}
 use Rattle.kp_object_defs.specs.PortInfo.{PortInfo}
 use Rattle.kp_door_defs.specs.Decision.{Translation, translation_of, translated, lists_after, refused_by, by_filter, decision_by, decision_from}
 use Rattle.kp_door_defs.specs.Filter.{Refusal, Rejects, DropsClosed, DropsNoLocal, Line, filtered}
 use Rattle.kp_door_defs.specs.Marks.{is_from_node, is_marked}
-use Rattle.kp_table_defs.specs.Layout.{Naming, kube_services}
+use Rattle.kp_table_defs.specs.Layout.{kube_services}
 use Rattle.kp_table_defs.specs.Matching.{WalkState, Surroundings}
-use Rattle.kp_table_defs.specs.Walk.{sent_to, Journey, Translating, after_hook, returned_from, through, first_hook, is_leaving, onward, verdict_by, walked_by, initial_state, walk_of, postrouting_if}
+use Rattle.kp_table_defs.specs.Walk.{sent_to, Journey, Translating, after_hook, returned_from, through, first_hook, is_leaving, onward, verdict_by, walked_by, initial_state, surroundings_of, walk_of, postrouting_if}
 use Rattle.kp_walk_laws.specs.Laws.{IsClusterOnly}
-use Rattle.kp_walk_laws.proofs.EndpointChains.{marked_if, marked_packet}
+use Rattle.kp_walk_laws.proofs.EndpointChains.{marked_if, marked_source}
+use Rattle.kp_walk_laws.proofs.Matches.{packet_of}
 use Rattle.kp_walk_laws.proofs.Services.{FindsPort}
 use Rattle.kp_walk_laws.proofs.Translations.{translated_state}
 use Rattle.kp_walk_laws.proofs.FirstHook.{FindsNat, translated_or_next, first_outcome}
 use Rattle.kp_walk_laws.proofs.FilterChains.{FindsFilter}
-use Rattle.kp_walk_laws.proofs.Journeys.{surroundings, verdict_of, line_verdict, journey_at, filter_journey, last_verdict, last_lists}
+use Rattle.kp_walk_laws.proofs.Journeys.{verdict_of, line_verdict, journey_at, filter_journey, last_verdict, last_lists}
 
 -- the mark of a state that had none
 mark_is : (b : Bool) (s : WalkState) → s.marked ≡ false → (marked_if b s).marked ≡ b
@@ -43,99 +44,136 @@ abbrev pub endpoint_of : Translation → Endpoint
 endpoint_of t = t.chosen.endpoint
 
 -- the state after the first hook
-abbrev pub state_after : Config → Surroundings → WalkState → Option Translation → WalkState
+abbrev pub state_after : FamilyConfig → Surroundings → WalkState → Option Translation → WalkState
 state_after config e s None = s
 state_after config e s (Some t) = sent_to (translated_state config e s t) t.chosen.endpoint
 
 -- the packet leaves the node
-abbrev leaves : Config → Packet → Bool
+abbrev leaves : FamilyConfig → Packet → Bool
 leaves config p = is_leaving p.from (is_local_address config.addresses p.target)
 
-leaves_by : (from : Origin) (local : Bool) → is_leaving from local ≡ (is_from_node from || not local)
+leaves_by : (from : Origin) (local : Bool)
+    → is_leaving from local ≡ (is_from_node from || not local)
 leaves_by Wire local = refl
 leaves_by Node local = refl
 
-module _ (config : Config) (packet : Packet) (draws : ℕ → ℕ) (lists : RecentParts) where
+module _ (config : FamilyConfig) (packet : Packet) (draws : ℕ → ℕ) (lists : RecentParts) where
   -- the state after a translation, from the beginning
   abbrev after : Option Translation → WalkState
-  after t = state_after config (surroundings config draws) (initial_state packet lists) t
+  after t = state_after config (surroundings_of config.addresses packet draws)
+      (initial_state packet lists) t
 
-  packet_after : (t : Option Translation) → (after t).packet ≡ translated packet t
+  packet_after : (t : Option Translation)
+      → packet_of (surroundings_of config.addresses packet draws) (after t) ≡ translated packet t
   packet_after None = refl
   packet_after (Some t) =
-      ap (λ (p : Packet). record p { target = t.chosen.endpoint.address; port = t.chosen.endpoint.port })
-      (marked_packet (is_marked config t.door.kind t.door.info packet.source t.chosen.endpoint) _)
+      ap (λ (a : AddressParts). record packet
+      { source = a; target = t.chosen.endpoint.address; port = t.chosen.endpoint.port })
+      (marked_source (is_marked config t.door.kind t.door.info packet.source t.chosen.endpoint) _)
 
   recent_after : (t : Option Translation) → (after t).lists ≡ lists_after t lists
   recent_after None = refl
-  recent_after (Some t) = marked_lists (is_marked config t.door.kind t.door.info packet.source t.chosen.endpoint) _
+  recent_after (Some t) =
+      marked_lists (is_marked config t.door.kind t.door.info packet.source t.chosen.endpoint) _
 
   -- the verdict of the walk is that of the decision
-  same_verdict : (t : Option Translation) (line : Option Line) → verdict_by (option_map line_verdict line) (option_map endpoint_of t) ((after t).marked && leaves config (translated packet t))
+  same_verdict : (t : Option Translation) (line : Option Line)
+      → verdict_by (option_map line_verdict line) (option_map endpoint_of t)
+      ((after t).marked && leaves config (translated packet t))
       ≡ (by_filter config packet t (lists_after t lists) line).verdict
   same_verdict t (Some l) = by_refusal l.refusal
     where
-      by_refusal : (r : Refusal) → verdict_of r ≡ (refused_by r l.door (lists_after t lists)).verdict
+      by_refusal : (r : Refusal) → verdict_of r
+          ≡ (refused_by r l.door (lists_after t lists)).verdict
       by_refusal Rejects = refl
       by_refusal DropsClosed = refl
       by_refusal DropsNoLocal = refl
   same_verdict None None = refl
   same_verdict (Some t) None =
-      ap₂ (λ b c. To t.chosen.endpoint (b && c)) (mark_is (is_marked config t.door.kind t.door.info packet.source t.chosen.endpoint) _ refl)
+      ap₂ (λ b c. To t.chosen.endpoint (b && c))
+      (mark_is (is_marked config t.door.kind t.door.info packet.source t.chosen.endpoint) _ refl)
       (leaves_by packet.from (is_local_address config.addresses t.chosen.endpoint.address))
 
-  same_lists : (t : Option Translation) (line : Option Line) → lists_after t lists ≡ (by_filter config packet t (lists_after t lists) line).lists
+  same_lists : (t : Option Translation) (line : Option Line)
+      → lists_after t lists ≡ (by_filter config packet t (lists_after t lists) line).lists
   same_lists t (Some l) = by_refusal l.refusal
     where
-      by_refusal : (r : Refusal) → lists_after t lists ≡ (refused_by r l.door (lists_after t lists)).lists
+      by_refusal : (r : Refusal) → lists_after t lists
+          ≡ (refused_by r l.door (lists_after t lists)).lists
       by_refusal Rejects = refl
       by_refusal DropsClosed = refl
       by_refusal DropsNoLocal = refl
   same_lists None None = refl
   same_lists (Some t) None = refl
 
-module _ (name_of : Naming) (config : Config) (infos : List PortInfo) (packet : Packet) (draws : ℕ → ℕ) (lists : RecentParts) (at : ChainAt → Option (List Rule)) where
+module _ (setting : Setting) (infos : List PortInfo) (packet : Packet) (draws : ℕ → ℕ)
+    (lists : RecentParts) (at : ChainAt → Option (List Rule)) where
   -- the first hook translates
   translated_journey : (t : Option Translation) → (trail : List (List (List ℕ)))
       × (after_hook Translating (journey_at (initial_state packet lists) None None [])
-      (returned_from (first_hook packet.from) (returned_from kube_services (translated_or_next name_of config (surroundings config draws) (initial_state packet lists) t)))
-      ≡ journey_at (state_after config (surroundings config draws) (initial_state packet lists) t) (option_map endpoint_of t) None trail)
+      (returned_from (first_hook packet.from)
+      (returned_from kube_services (translated_or_next setting
+      (surroundings_of setting.config.addresses packet draws) (initial_state packet lists) t)))
+      ≡ journey_at (state_after setting.config
+      (surroundings_of setting.config.addresses packet draws) (initial_state packet lists) t)
+      (option_map endpoint_of t) None trail)
   translated_journey None = ([], refl)
   translated_journey (Some t) = (_, refl)
 
   -- from a translation on, the walk goes as the decision does
-  decided : FindsNat name_of infos at → FindsFilter infos at → (t : Option Translation) (trail : List (List (List ℕ))) (j : Journey)
-      → ((i : PortInfo) (k : ℕ) → Contains infos i → i.node_port ≡ Some k → i.address.family ≡ V4)
-      → j ≡ journey_at (state_after config (surroundings config draws) (initial_state packet lists) t) (option_map endpoint_of t) None trail
-      → ((walked_by (onward (surroundings config draws) at j)).verdict ≡ (decision_by config infos packet lists t).verdict)
-      × ((walked_by (onward (surroundings config draws) at j)).lists ≡ (decision_by config infos packet lists t).lists)
+  decided : FindsNat setting infos at → FindsFilter setting.family infos at
+      → (t : Option Translation) (trail : List (List (List ℕ))) (j : Journey)
+      → ((i : PortInfo) (k : ℕ) → Contains infos i → i.node_port ≡ Some k
+      → i.address.family ≡ setting.family)
+      → j ≡ journey_at (state_after setting.config
+      (surroundings_of setting.config.addresses packet draws) (initial_state packet lists) t)
+      (option_map endpoint_of t) None trail
+      → ((walked_by (onward (surroundings_of setting.config.addresses packet draws) at j)).verdict
+      ≡ (decision_by setting.config infos packet lists t).verdict)
+      × ((walked_by (onward (surroundings_of setting.config.addresses packet draws) at j)).lists
+      ≡ (decision_by setting.config infos packet lists t).lists)
   decided nat filter t trail j family h =
-      let e : Surroundings = surroundings config draws in
-      let u : WalkState = state_after config e (initial_state packet lists) t in
+      let e : Surroundings = surroundings_of setting.config.addresses packet draws in
+      let u : WalkState = state_after setting.config e (initial_state packet lists) t in
       let to : Option Endpoint = option_map endpoint_of t in
-      let (later, refused) = filter_journey config infos draws at filter u to family u.packet.from trail in
-      let leaving : Bool = leaves config u.packet in (
+      let (later, refused) =
+      filter_journey setting.config setting.family infos e refl at filter u to family e.from
+      trail in
+      let leaving : Bool = leaves setting.config (packet_of e u) in (
         ap (λ k. (walked_by (onward e at k)).verdict) h
             ∙ ap (λ k. (walked_by (postrouting_if leaving e at k)).verdict) refused
-            ∙ last_verdict name_of infos e at nat u to later (option_map line_verdict (filtered config infos u.packet)) leaving
-            ∙ ap (λ p. verdict_by (option_map line_verdict (filtered config infos p)) to (u.marked && leaves config p)) (packet_after config packet draws lists t)
-            ∙ same_verdict config packet draws lists t (filtered config infos (translated packet t)),
+            ∙ last_verdict setting infos e at nat u to later
+            (option_map line_verdict (filtered setting.config infos (packet_of e u))) leaving
+            ∙ ap (λ p. verdict_by (option_map line_verdict (filtered setting.config infos p)) to
+            (u.marked && leaves setting.config p))
+            (packet_after setting.config packet draws lists t)
+            ∙ same_verdict setting.config packet draws lists t
+            (filtered setting.config infos (translated packet t)),
         ap (λ k. (walked_by (onward e at k)).lists) h
             ∙ ap (λ k. (walked_by (postrouting_if leaving e at k)).lists) refused
-            ∙ last_lists name_of infos e at nat u to later (option_map line_verdict (filtered config infos u.packet)) leaving
-            ∙ recent_after config packet draws lists t
-            ∙ same_lists config packet draws lists t (filtered config infos (translated packet t)),
+            ∙ last_lists setting infos e at nat u to later
+            (option_map line_verdict (filtered setting.config infos (packet_of e u))) leaving
+            ∙ recent_after setting.config packet draws lists t
+            ∙ same_lists setting.config packet draws lists t
+            (filtered setting.config infos (translated packet t)),
       )
 
-  -- where a look-up finds the shared chains and those of the ports, walking decides as the objects do
-  pub walk_agrees : FindsNat name_of infos at → FindsFilter infos at → ((i : PortInfo) → Contains infos i → IsClusterOnly i × FindsPort name_of config at i)
-      → ((walk_of at config.addresses packet draws lists).verdict ≡ (decision_from name_of config infos packet draws lists).verdict)
-      × ((walk_of at config.addresses packet draws lists).lists ≡ (decision_from name_of config infos packet draws lists).lists)
-  walk_agrees nat filter ports =
-      let e : Surroundings = surroundings config draws in
+  -- where a look-up finds the shared chains and those of the ports, walking decides as the objects
+  -- do
+  pub walk_agrees : setting.pick ≡ pick_by_draws → FindsNat setting infos at
+      → FindsFilter setting.family infos at → ((i : PortInfo) → Contains infos i
+      → IsClusterOnly i × FindsPort setting at i)
+      → ((walk_of at setting.config.addresses packet draws lists).verdict
+      ≡ (decision_from setting infos packet draws lists).verdict)
+      × ((walk_of at setting.config.addresses packet draws lists).lists
+      ≡ (decision_from setting infos packet draws lists).lists)
+  walk_agrees by_draws nat filter ports =
+      let e : Surroundings = surroundings_of setting.config.addresses packet draws in
       let s : WalkState = initial_state packet lists in
-      let t : Option Translation = translation_of name_of config infos packet draws lists in
+      let t : Option Translation = translation_of setting infos packet draws lists in
       let (trail, first) = translated_journey t in
-      decided nat filter t trail (through e at Translating Nat (first_hook packet.from) (journey_at s None None []))
+      decided nat filter t trail (through e at Translating Nat (first_hook packet.from)
+      (journey_at s None None []))
       (λ i k c h. absurd (none-some k (sym (ports i c).0.node_port ∙ h)))
-      (ap (after_hook Translating (journey_at s None None [])) (first_outcome name_of config infos e at nat s refl ports packet.from) ∙ first)
+      (ap (after_hook Translating (journey_at s None None []))
+      (first_outcome setting by_draws infos e at nat s refl ports packet.from) ∙ first)

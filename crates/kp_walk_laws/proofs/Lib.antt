@@ -3,7 +3,6 @@ pub mod Matches
 pub mod EndpointChains
 pub mod ChoiceRules
 pub mod ListChains
-pub mod ClusterOnly
 pub mod Translations
 pub mod Services
 pub mod FilterBlocks
@@ -12,12 +11,13 @@ pub mod FirstHook
 pub mod Postrouting
 pub mod Journeys
 pub mod Decides
-pub mod Members
+pub mod NoClash
+pub mod Entries
 pub mod Lookups
 pub mod PortLookups
-pub mod Theorem
 pub mod StandInNames
 pub mod PlainRows
-pub mod Usable
 pub mod PlainServices
 pub mod Ranked
+pub mod Theorem
+pub mod TwoPorts

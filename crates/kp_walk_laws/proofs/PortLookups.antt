@@ -1,108 +1,384 @@
--- What a look-up in the full table finds of ports whose chains are told apart.
-use Rattle.std.proofs.Common.{◌≡◌, ◌⊎◌, inl, inr, ℕ, Bool, true, false, not, List, [], ◌∷◌, ◌++◌, map, Contains, append-nil, flat_map, sym, ap, ap₂, subst, ◌∙◌}
-use Rattle.std.specs.FinMap.{find}
+-- What a look-up in the full table finds of ports: the rules of each chain that they need.
+use Rattle.std.proofs.Common.{◌≡◌, inl, inr, Bool, true, false, not, List, [], ◌∷◌, ◌++◌, map, Contains, Some, None, flat_map, bytes_eq, refl, sym, ap, ap₂, subst, ◌∙◌}
+use Rattle.std.specs.FinMap.{IsAntisymmetric, find, put}
+use Rattle.std.specs.FinMap.Entries.{by_order}
+use Rattle.std.specs.List.{filter, list_any}
+use Rattle.std.specs.declared.cmp.Ordering.{Ordering}
+use Rattle.std.specs.declared.cmp.Ordering.TheVariants.{Less, Equal, Greater}
+use Rattle.std.proofs.lemmas.List.{map-append}
 use Rattle.std.proofs.lemmas.List.Elements.{Contains-append_left, Contains-append_right, Contains-append_cases}
-use Rattle.kp_base.specs.Net.{AddressParts}
-use Rattle.kp_base.specs.declared.address.Family.TheVariants.{V4}
+use Rattle.std.proofs.lemmas.Map.Views.{Contains-from_any}
+use Rattle.std.proofs.lemmas.Simd.{map-map}
+use Rattle.kp_lemmas.proofs.Members.{first_in, later_in, none_in, in_cases, in_map, from_map, in_flat_map, from_flat_map, in_filter, from_filter}
+use Rattle.kp_base.specs.Keys.{endpoint_cmp}
+use Rattle.kp_base.proofs.KeyOrder.{endpoint_exact}
+use Rattle.kp_base.specs.declared.address.Family.{Family}
+use Rattle.kp_base.specs.declared.address.Family.TheVariants.{V4, V6}
 use Rattle.kp_base.specs.declared.key.Endpoint.{Endpoint}
 use Rattle.kp_base.specs.declared.key.PortKey.{PortKey}
-use Rattle.kp_base.specs.declared.config.Config.{Config}
 use Rattle.kp_types.specs.Places.{chain_cmp}
+use Rattle.kp_types.specs.Setting.{Setting}
+use Rattle.kp_types.specs.declared.chain.TableName.{TableName}
 use Rattle.kp_types.specs.declared.chain.TableName.TheVariants.{Nat}
 use Rattle.kp_types.specs.declared.chain.ChainAt.{ChainAt}
 use Rattle.kp_types.specs.declared.chain.ChainKey.{ChainKey}
 use Rattle.kp_types.specs.declared.chain.ChainKey.TheVariants as key
-use Rattle.kp_types.specs.declared.chain.PortChain.TheVariants.{Svc}
+use Rattle.kp_types.specs.declared.chain.PortChain.{PortChain}
+use Rattle.kp_types.specs.declared.chain.PortChain.TheVariants.{Svc, Svl, Ext, Fw}
+use Rattle.kp_types.specs.declared.rule.Rule.{Rule}
+use Rattle.kp_types.specs.declared.service.Policy.{Policy}
+use Rattle.kp_types.specs.declared.service.Policy.TheVariants.{Cluster, Local}
+use Rattle.kp_choice_defs.specs.Names.{first_clash, same_endpoint}
 use Rattle.kp_object_defs.specs.Desired.{is_empty}
+use Rattle.kp_object_defs.specs.Lists.{is_local_policy, list_by_policy}
+use Rattle.kp_object_defs.specs.Order.{in_order, distinct_in_order}
 use Rattle.kp_object_defs.specs.PortInfo.{PortInfo}
-use Rattle.kp_table_defs.specs.Layout.{Naming, row, rows_if, list_rules, port_chain, endpoint_chain, endpoint_rules, nat_rows, filter_rows, port_rows}
-use Rattle.kp_walk_laws.specs.Laws.{IsClusterOnly, AreApart}
-use Rattle.kp_walk_laws.proofs.Members.{none_in, in_cases, in_map, from_map, in_flat_map, from_flat_map}
-use Rattle.kp_walk_laws.proofs.Outcomes.{first_in}
-use Rattle.kp_walk_laws.proofs.ClusterOnly.{cluster_port, cluster_port_is}
+use Rattle.kp_table_defs.specs.Layout.{row, rows_if, nat_table, list_rules, external_rules, firewall_chain_rules, endpoint_rules, all_endpoints, has_endpoint, chain_of_policy, port_chain, port_rows}
+use Rattle.kp_table_defs.specs.Rebuild.{needs, port_keys, endpoint_keys, needed_keys}
+use Rattle.kp_walk_laws.specs.Laws.{HaveOwnKeys, IsPrefixed}
+use Rattle.kp_walk_laws.proofs.Entries.{from_in_order}
+use Rattle.kp_walk_laws.proofs.Lookups.{Row, look_up, fixed_nat, fixed_filter, in_rows, pass_over, agreed}
+use Rattle.kp_choice_defs.proofs.ChainKeys.{one_endpoint}
+use Rattle.kp_walk_laws.proofs.NoClash.{one_of_name}
 use Rattle.kp_walk_laws.proofs.Services.{FindsPort}
-use Rattle.kp_walk_laws.proofs.Lookups.{Row, look_up, in_rows, pass_over, agreed}
 
-module _ (name_of : Naming) (config : Config) where
-  -- the row of a port's list, and that of an endpoint
-  abbrev pub list_row : PortInfo → Row
-  list_row i = row Nat (port_chain name_of i Svc) (list_rules name_of config i true i.lists.cluster)
+-- ---- The chains of one port
 
-  abbrev pub endpoint_row : PortInfo → Endpoint → Row
-  endpoint_row i f = row Nat (endpoint_chain name_of i f) (endpoint_rules name_of i f)
+-- the lists of the four kinds
+abbrev pub of_kinds : (PortChain → List ChainKey) → List ChainKey
+of_kinds f = f Svc ++ f Svl ++ f Ext ++ f Fw
 
-  -- all rows of a port
-  abbrev pub plain_rows : PortInfo → List Row
-  plain_rows i = rows_if (not (is_empty i.lists.cluster)) (list_row i ∷ []) ++ map (endpoint_row i) i.lists.cluster
+module _ (f : PortChain → List ChainKey) (k : ChainKey) where
+  in_kinds : (kind : PortChain) → Contains (f kind) k → Contains (of_kinds f) k
+  in_kinds Svc c = Contains-append_left (f Svc ++ f Svl ++ f Ext) (f Fw) k
+      (Contains-append_left (f Svc ++ f Svl) (f Ext) k (Contains-append_left (f Svc) (f Svl) k c))
+  in_kinds Svl c = Contains-append_left (f Svc ++ f Svl ++ f Ext) (f Fw) k
+      (Contains-append_left (f Svc ++ f Svl) (f Ext) k (Contains-append_right (f Svc) (f Svl) k c))
+  in_kinds Ext c = Contains-append_left (f Svc ++ f Svl ++ f Ext) (f Fw) k
+      (Contains-append_right (f Svc ++ f Svl) (f Ext) k c)
+  in_kinds Fw c = Contains-append_right (f Svc ++ f Svl ++ f Ext) (f Fw) k c
 
-  written_out : (key : PortKey) (number : ℕ) (address : AddressParts) (es : List Endpoint) → port_rows V4 name_of config (cluster_port key number address es) ≡ plain_rows (cluster_port key number address es)
-  written_out key number address es =
-      let i : PortInfo = cluster_port key number address es in
-      let list : List Row = rows_if (not (is_empty es)) (list_row i ∷ []) in
-      ap₂ (λ rs fs. rs ++ map (endpoint_row i) fs) (append-nil (list ++ [] ++ []) ∙ append-nil (list ++ []) ∙ append-nil list) (append-nil es)
-
-  pub port_rows_are : (i : PortInfo) → IsClusterOnly i → port_rows V4 name_of config i ≡ plain_rows i
-  port_rows_are i h = subst (λ j. port_rows V4 name_of config j ≡ plain_rows j) (cluster_port_is i h) (written_out i.key i.number i.address i.lists.cluster)
-
-  in_rows_if : (b : Bool) (x r : Row) → Contains (rows_if b (x ∷ [])) r → x ≡ r
-  in_rows_if true x r c = elim (in_cases r x [] c) [ inl e ↦ e | inr d ↦ absurd (none_in r d) ]
-  in_rows_if false x r c = absurd (none_in r c)
-
-  -- a row of a port is that of its list, or that of an endpoint of it
-  abbrev pub IsRowOf : PortInfo → Row → Type 0
-  IsRowOf i r = (list_row i ≡ r) ⊎ ((f : Endpoint) × Contains i.lists.cluster f × (endpoint_row i f ≡ r))
-
-  pub row_cases : (i : PortInfo) → IsClusterOnly i → (r : Row) → Contains (port_rows V4 name_of config i) r → IsRowOf i r
-  row_cases i h r c =
-      let list : List Row = rows_if (not (is_empty i.lists.cluster)) (list_row i ∷ []) in
-      elim (Contains-append_cases list (map (endpoint_row i) i.lists.cluster) r (subst (λ rs. Contains rs r) (port_rows_are i h) c)) [
-        | inl d ↦ inl (in_rows_if (not (is_empty i.lists.cluster)) (list_row i) r d)
-        | inr d ↦ inr (from_map (endpoint_row i) r i.lists.cluster d)
+  from_kinds : Contains (of_kinds f) k → (kind : PortChain) × Contains (f kind) k
+  from_kinds c =
+      elim (Contains-append_cases (f Svc ++ f Svl ++ f Ext) (f Fw) k c) [
+        | inr d ↦ (Fw, d)
+        | inl three ↦ elim (Contains-append_cases (f Svc ++ f Svl) (f Ext) k three) [
+          | inr d ↦ (Ext, d)
+          | inl two ↦ elim (Contains-append_cases (f Svc) (f Svl) k two) [
+            | inr d ↦ (Svl, d)
+            | inl d ↦ (Svc, d)
+          ]
+        ]
       ]
 
-  list_row_in : (i : PortInfo) → IsClusterOnly i → not (is_empty i.lists.cluster) ≡ true → Contains (port_rows V4 name_of config i) (list_row i)
-  list_row_in i h some =
-      subst (λ rs. Contains rs (list_row i)) (sym (port_rows_are i h))
-      (Contains-append_left (rows_if (not (is_empty i.lists.cluster)) (list_row i ∷ [])) (map (endpoint_row i) i.lists.cluster) (list_row i)
-      (subst (λ b. Contains (rows_if b (list_row i ∷ [])) (list_row i)) (sym some) (first_in (list_row i) [])))
+-- a key under a condition
+abbrev pub keys_if : Bool → ChainKey → List ChainKey
+keys_if true k = k ∷ []
+keys_if false k = []
 
-  endpoint_row_in : (i : PortInfo) → IsClusterOnly i → (f : Endpoint) → Contains i.lists.cluster f → Contains (port_rows V4 name_of config i) (endpoint_row i f)
-  endpoint_row_in i h f c =
-      subst (λ rs. Contains rs (endpoint_row i f)) (sym (port_rows_are i h))
-      (Contains-append_right (rows_if (not (is_empty i.lists.cluster)) (list_row i ∷ [])) (map (endpoint_row i) i.lists.cluster) (endpoint_row i f)
-      (in_map (endpoint_row i) f i.lists.cluster c))
+-- the key of a port's chain of a kind, if it needs it
+abbrev pub kind_key : PortInfo → PortChain → List ChainKey
+kind_key i kind = keys_if (needs kind i) (key.Port kind i.key)
 
-module _ (name_of : Naming) (config : Config) (infos : List PortInfo) (plain : (i : PortInfo) → Contains infos i → IsClusterOnly i) (apart : AreApart name_of infos) where
-  -- a look-up of a made name passes over the fixed chains
-  find_made : (k : ChainKey) → look_up name_of config infos (record { table = Nat; chain = name_of k }) ≡ find chain_cmp (record { table = Nat; chain = name_of k }) (flat_map (port_rows V4 name_of config) infos)
+-- the keys of a port's chains, in the order of its rows
+abbrev pub own_keys : PortInfo → List ChainKey
+own_keys i = of_kinds (kind_key i) ++ map (key.Sep i.key) (all_endpoints i)
+
+-- the port that a chain is for
+abbrev pub port_of : ChainKey → PortKey
+port_of (key.Port kind port) = port
+port_of (key.Sep port e) = port
+
+-- the rules of a chain of a port
+abbrev pub key_rules : Setting → PortInfo → ChainKey → List Rule
+key_rules setting i (key.Port Svc port) =
+    list_rules setting i (not (is_local_policy i.internal)) i.lists.cluster
+key_rules setting i (key.Port Svl port) =
+    list_rules setting i (is_local_policy i.internal) i.lists.local
+key_rules setting i (key.Port Ext port) = external_rules setting i i.outer
+key_rules setting i (key.Port Fw port) = firewall_chain_rules setting i i.ranges
+key_rules setting i (key.Sep port e) = endpoint_rules setting i e
+
+-- the row of a chain of a port
+abbrev pub row_in : TableName → Setting → PortInfo → ChainKey → Row
+row_in table setting i k = row table (setting.name_of k) (key_rules setting i k)
+
+-- in nat
+abbrev pub row_of : Setting → PortInfo → ChainKey → Row
+row_of setting i k = row_in Nat setting i k
+
+row_if : (f : ChainKey → Row) (b : Bool) (k : ChainKey) → rows_if b (f k ∷ []) ≡ map f (keys_if b k)
+row_if f true k = refl
+row_if f false k = refl
+
+-- both families have the tables of these names
+nat_is : (family : Family) → nat_table family ≡ Nat
+nat_is V4 = refl
+nat_is V6 = refl
+
+module _ (setting : Setting) where
+  -- the rows of a port are those of its keys
+  pub port_rows_are : (i : PortInfo) → port_rows setting i ≡ map (row_of setting i) (own_keys i)
+  port_rows_are i =
+      let f : ChainKey → Row = row_in (nat_table setting.family) setting i in
+      let a : List ChainKey = keys_if (needs Svc i) (key.Port Svc i.key) in
+      let b : List ChainKey = keys_if (needs Svl i) (key.Port Svl i.key) in
+      let c : List ChainKey = keys_if (needs Ext i) (key.Port Ext i.key) in
+      let d : List ChainKey = keys_if (needs Fw i) (key.Port Fw i.key) in
+      let e : List ChainKey = map (key.Sep i.key) (all_endpoints i) in
+      ap₂ (λ r s. r ++ s ++ rows_if (needs Ext i)
+      (f (key.Port Ext i.key) ∷ []) ++ rows_if (needs Fw i)
+      (f (key.Port Fw i.key) ∷ []) ++ map (λ x. f (key.Sep i.key x)) (all_endpoints i))
+      (row_if f (needs Svc i) (key.Port Svc i.key)) (row_if f (needs Svl i) (key.Port Svl i.key))
+      ∙ ap₂ (λ r s. map f a ++ map f b ++ r ++ s ++ map (λ x. f (key.Sep i.key x))
+      (all_endpoints i))
+      (row_if f (needs Ext i) (key.Port Ext i.key)) (row_if f (needs Fw i) (key.Port Fw i.key))
+      ∙ ap₂ (λ r s. r ++ map f c ++ map f d ++ s) (sym (map-append f a b))
+      (sym (map-map f (key.Sep i.key) (all_endpoints i)))
+      ∙ ap (λ r. r ++ map f d ++ map f e) (sym (map-append f (a ++ b) c))
+      ∙ ap (λ r. r ++ map f e) (sym (map-append f (a ++ b ++ c) d))
+      ∙ sym (map-append f (a ++ b ++ c ++ d) e)
+      ∙ ap (λ t. map (row_in t setting i) (own_keys i)) (nat_is setting.family)
+
+  -- the row of each key stands among the rows
+  pub row_stands : (i : PortInfo) (k : ChainKey) → Contains (own_keys i) k
+      → Contains (port_rows setting i) (row_of setting i k)
+  row_stands i k c = subst (λ rs. Contains rs (row_of setting i k)) (sym (port_rows_are i))
+      (in_map (row_of setting i) k (own_keys i) c)
+
+  -- and each row is that of a key
+  pub row_key : (i : PortInfo) (r : Row) → Contains (port_rows setting i) r
+      → (k : ChainKey) × Contains (own_keys i) k × (row_of setting i k ≡ r)
+  row_key i r c =
+      from_map (row_of setting i) r (own_keys i) (subst (λ rs. Contains rs r) (port_rows_are i) c)
+
+-- ---- The keys of a port are needed
+
+from_if : (b : Bool) (x k : ChainKey) → Contains (keys_if b x) k → (b ≡ true) × (x ≡ k)
+from_if true x k c = elim (in_cases k x [] c) [ inl e ↦ (refl, e) | inr d ↦ absurd (none_in k d) ]
+from_if false x k c = absurd (none_in k c)
+
+in_if : (b : Bool) (x : ChainKey) → b ≡ true → Contains (keys_if b x) x
+in_if true x h = first_in x []
+in_if false x h = absurd (cc)
+
+-- what holds of the chains that a port needs holds of its keys
+pub key_cases : (P : ChainKey → Type 0) (i : PortInfo)
+    → ((kind : PortChain) → needs kind i ≡ true → P (key.Port kind i.key))
+    → ((e : Endpoint) → Contains (all_endpoints i) e → P (key.Sep i.key e)) → (k : ChainKey)
+    → Contains (own_keys i) k → P k
+key_cases P i ports endpoints k c =
+    elim (Contains-append_cases (of_kinds (kind_key i))
+    (map (key.Sep i.key) (all_endpoints i)) k c) [
+      | inl d ↦ let (kind, in_it) = from_kinds (kind_key i) k d in
+          let parts = from_if (needs kind i) (key.Port kind i.key) k in_it in
+          subst P parts.1 (ports kind parts.0)
+      | inr d ↦ let (e, stands, is) = from_map (key.Sep i.key) k (all_endpoints i) d in
+          subst P is (endpoints e stands)
+    ]
+
+-- the key of each chain that a port needs is its own
+pub own_kind : (i : PortInfo) (kind : PortChain) → needs kind i ≡ true
+    → Contains (own_keys i) (key.Port kind i.key)
+own_kind i kind h =
+    Contains-append_left (of_kinds (kind_key i)) (map (key.Sep i.key) (all_endpoints i))
+    (key.Port kind i.key)
+    (in_kinds (kind_key i) (key.Port kind i.key) kind
+    (in_if (needs kind i) (key.Port kind i.key) h))
+
+-- and so is that of each endpoint
+pub own_endpoint : (i : PortInfo) (e : Endpoint) → Contains (all_endpoints i) e
+    → Contains (own_keys i) (key.Sep i.key e)
+own_endpoint i e c =
+    Contains-append_right (of_kinds (kind_key i)) (map (key.Sep i.key) (all_endpoints i))
+    (key.Sep i.key e)
+    (in_map (key.Sep i.key) e (all_endpoints i) c)
+
+-- a key is of its port
+key_port : (i : PortInfo) (k : ChainKey) → Contains (own_keys i) k → port_of k ≡ i.key
+key_port i k c = key_cases (λ l. port_of l ≡ i.key) i (λ kind h. refl) (λ e h. refl) k c
+
+local_by : (i : PortInfo) (f : Endpoint) → Contains i.lists.local f → (b : Bool)
+    → has_endpoint i.lists.cluster f ≡ b → Contains (all_endpoints i) f
+local_by i f c true h =
+    Contains-append_left i.lists.cluster (filter (λ e. not (has_endpoint i.lists.cluster e))
+    i.lists.local) f
+    (Contains-from_any {eq = λ a b. same_endpoint b a}
+    (λ a b same. sym (one_endpoint b a same)) f i.lists.cluster h)
+local_by i f c false h =
+    Contains-append_right i.lists.cluster (filter (λ e. not (has_endpoint i.lists.cluster e))
+    i.lists.local) f
+    (in_filter (λ e. not (has_endpoint i.lists.cluster e)) f i.lists.local c (ap not h))
+
+-- the endpoints of either list
+pub in_either : (i : PortInfo) (p : Policy) (f : Endpoint) → Contains (list_by_policy p i.lists) f
+    → Contains (all_endpoints i) f
+in_either i Cluster f c = Contains-append_left i.lists.cluster
+    (filter (λ e. not (has_endpoint i.lists.cluster e)) i.lists.local) f c
+in_either i Local f c = local_by i f c (has_endpoint i.lists.cluster f) refl
+
+module _ {K : Type 0} (R : K → K → Ordering) (exact : IsAntisymmetric R) where
+  -- the keys of entries
+  abbrev keys : List (K × K) → List K
+  keys es = map (λ e. e.0) es
+
+  put_key_by : (k : K) (e : K × K) (es more : List (K × K)) → Contains (keys more) k
+      → (o : Ordering) → R k e.0 ≡ o
+      → Contains (keys (by_order o ((k, k) ∷ e ∷ es) ((e.0, k) ∷ es) (e ∷ more))) k
+  put_key_by k e es more c Less h = first_in k (e.0 ∷ keys es)
+  put_key_by k e es more c Equal h =
+      subst (λ x. Contains (x ∷ keys es) k) (exact k e.0 h) (first_in k (keys es))
+  put_key_by k e es more c Greater h = later_in k e.0 (keys more) c
+
+  put_key : (k : K) (es : List (K × K)) → Contains (keys (put R k k es)) k
+  put_key k [] = first_in k []
+  put_key k (e ∷ es) = put_key_by k e es (put R k k es) (put_key k es) (R k e.0) refl
+
+  keep_by : (x k : K) (e : K × K) (es more : List (K × K))
+      → (Contains (keys es) x → Contains (keys more) x) → Contains (keys (e ∷ es)) x
+      → (o : Ordering)
+      → Contains (keys (by_order o ((k, k) ∷ e ∷ es) ((e.0, k) ∷ es) (e ∷ more))) x
+  keep_by x k e es more later c Less = later_in x k (keys (e ∷ es)) c
+  keep_by x k e es more later c Equal = c
+  keep_by x k e es more later c Greater =
+      elim (in_cases x e.0 (keys es) c) [
+        | inl d ↦ subst (λ z. Contains (e.0 ∷ keys more) z) d (first_in e.0 (keys more))
+        | inr d ↦ later_in x e.0 (keys more) (later d)
+      ]
+
+  keep : (x k : K) (es : List (K × K)) → Contains (keys es) x → Contains (keys (put R k k es)) x
+  keep x k [] c = absurd (none_in x c)
+  keep x k (e ∷ es) c = keep_by x k e es (put R k k es) (keep x k es) c (R k e.0)
+
+  -- each element is among the elements in order
+  in_distinct : (ks : List K) (x : K) → Contains ks x → Contains (distinct_in_order R ks) x
+  in_distinct [] x c = absurd (none_in x c)
+  in_distinct (k ∷ ks) x c =
+      let behind : List (K × K) = in_order R (map (λ y. (y, y)) ks) in
+      elim (in_cases x k ks c) [
+        | inl e ↦ subst (Contains (keys (put R k k behind))) e (put_key k behind)
+        | inr d ↦ keep x k behind (in_distinct ks x d)
+      ]
+
+-- the keys of a port are among those that are needed
+pub own_needed : (infos : List PortInfo) (i : PortInfo) → Contains infos i → (k : ChainKey)
+    → Contains (own_keys i) k → Contains (needed_keys infos) k
+own_needed infos i c =
+    let of_ports : PortChain → List ChainKey = λ kind. port_keys kind infos in
+    key_cases (λ k. Contains (needed_keys infos) k) i
+    (λ kind h. Contains-append_left (of_kinds of_ports) (flat_map endpoint_keys infos)
+    (key.Port kind i.key)
+    (in_kinds of_ports (key.Port kind i.key) kind
+    (in_map (λ j. key.Port kind j.key) i (filter (needs kind) infos)
+    (in_filter (needs kind) i infos c h))))
+    (λ e h. Contains-append_right (of_kinds of_ports) (flat_map endpoint_keys infos)
+    (key.Sep i.key e)
+    (in_flat_map endpoint_keys i (key.Sep i.key e) infos c
+    (in_map (key.Sep i.key) e (distinct_in_order endpoint_cmp (all_endpoints i))
+    (in_distinct endpoint_cmp endpoint_exact (all_endpoints i) e h))))
+
+-- each element in order is an element
+from_distinct : (es : List Endpoint) (e : Endpoint) → Contains (distinct_in_order endpoint_cmp es) e
+    → Contains es e
+from_distinct es e c =
+    let (entry, in_entries, is) = from_map (λ (p : Endpoint × Endpoint). p.0) e
+    (in_order endpoint_cmp (map (λ k. (k, k)) es)) c in
+    let (x, in_es, twice) = from_map (λ k. (k, k)) entry es
+    (from_in_order endpoint_cmp endpoint_exact (map (λ k. (k, k)) es) entry in_entries) in
+    subst (Contains es) (ap (λ (p : Endpoint × Endpoint). p.0) twice ∙ is) in_es
+
+-- what holds of the chains of all ports holds of the needed keys
+pub needed_cases : (infos : List PortInfo) (P : ChainKey → Type 0)
+    → ((kind : PortChain) (i : PortInfo) → Contains infos i → P (key.Port kind i.key))
+    → ((i : PortInfo) (e : Endpoint) → Contains infos i → Contains (all_endpoints i) e
+    → P (key.Sep i.key e)) → (k : ChainKey) → Contains (needed_keys infos) k → P k
+needed_cases infos P ports endpoints k c =
+    elim (Contains-append_cases (of_kinds (λ kind. port_keys kind infos))
+    (flat_map endpoint_keys infos) k c) [
+      | inl d ↦ let (kind, in_it) = from_kinds (λ kind. port_keys kind infos) k d in
+          let (i, passes, is) =
+          from_map (λ i. key.Port kind i.key) k (filter (needs kind) infos) in_it in
+          subst P is (ports kind i (from_filter (needs kind) i infos passes).0)
+      | inr d ↦ let (i, ci, in_its) = from_flat_map endpoint_keys k infos d in
+          let (e, stands, is) = from_map (key.Sep i.key) k
+          (distinct_in_order endpoint_cmp (all_endpoints i)) in_its in
+          subst P is (endpoints i e ci (from_distinct (all_endpoints i) e stands))
+    ]
+
+-- ---- The full table
+
+module _ (setting : Setting) (infos : List PortInfo) (prefixed : IsPrefixed setting.name_of) where
+  -- the name of a port's or an endpoint's chain is no fixed chain's
+  unfixed : (k : ChainKey) → list_any (λ r. bytes_eq (setting.name_of k) r.0.chain)
+      (fixed_nat setting infos ++ fixed_filter setting infos) ≡ false
+  unfixed (key.Port Svc port) =
+      ap (λ n. list_any (λ r. bytes_eq n r.0.chain)
+      (fixed_nat setting infos ++ fixed_filter setting infos)) (prefixed.port Svc port).1
+  unfixed (key.Port Svl port) =
+      ap (λ n. list_any (λ r. bytes_eq n r.0.chain)
+      (fixed_nat setting infos ++ fixed_filter setting infos)) (prefixed.port Svl port).1
+  unfixed (key.Port Ext port) =
+      ap (λ n. list_any (λ r. bytes_eq n r.0.chain)
+      (fixed_nat setting infos ++ fixed_filter setting infos)) (prefixed.port Ext port).1
+  unfixed (key.Port Fw port) =
+      ap (λ n. list_any (λ r. bytes_eq n r.0.chain)
+      (fixed_nat setting infos ++ fixed_filter setting infos)) (prefixed.port Fw port).1
+  unfixed (key.Sep port e) =
+      ap (λ n. list_any (λ r. bytes_eq n r.0.chain)
+      (fixed_nat setting infos ++ fixed_filter setting infos)) (prefixed.endpoint port e).1
+
+  -- so a look-up of it passes over the fixed chains
+  find_made : (k : ChainKey) → look_up setting infos
+      (record { table = Nat; chain = setting.name_of k })
+      ≡ find chain_cmp (record { table = Nat; chain = setting.name_of k })
+      (flat_map (port_rows setting) infos)
   find_made k =
-      in_rows name_of config infos (record { table = Nat; chain = name_of k })
-      ∙ pass_over (record { table = Nat; chain = name_of k }) (nat_rows V4 name_of infos ++ filter_rows V4 infos) (flat_map (port_rows V4 name_of config) infos) (apart.made k)
+      in_rows setting infos (record { table = Nat; chain = setting.name_of k })
+      ∙ pass_over (record { table = Nat; chain = setting.name_of k })
+      (fixed_nat setting infos ++ fixed_filter setting infos) (flat_map (port_rows setting) infos)
+      (unfixed k)
 
-  -- all rows of the name of a port's list have its rules
-  list_agrees : (i : PortInfo) → Contains infos i → (r : Row) → Contains (flat_map (port_rows V4 name_of config) infos) r → r.0 ≡ record { table = Nat; chain = port_chain name_of i Svc } → r.1 ≡ list_rules name_of config i true i.lists.cluster
-  list_agrees i c r d same =
-      let (j, cj, in_j) = from_flat_map (port_rows V4 name_of config) r infos d in
-      elim (row_cases name_of config j (plain j cj) r in_j) [
-        | inl e ↦ ap (λ (s : Row). s.1) (sym e) ∙ ap (λ k. list_rules name_of config k true k.lists.cluster) (apart.ports j i cj c (ap (λ (s : Row). s.0.chain) e ∙ ap (λ (q : ChainAt). q.chain) same))
-        | inr e ↦ absurd (apart.kinds i j e.0 c cj e.1 (sym (ap (λ (s : Row). s.0.chain) e.2 ∙ ap (λ (q : ChainAt). q.chain) same)))
-      ]
+  module _ (own : HaveOwnKeys infos) (apart : first_clash setting.name_of (needed_keys infos)
+      ≡ None) where
+    -- all rows of a chain's name have its rules
+    key_agrees : (i : PortInfo) → Contains infos i → (k : ChainKey) → Contains (own_keys i) k
+        → (r : Row) → Contains (flat_map (port_rows setting) infos) r
+        → r.0 ≡ record { table = Nat; chain = setting.name_of k } → r.1 ≡ key_rules setting i k
+    key_agrees i c k ck r d same =
+        let (j, cj, in_j) = from_flat_map (port_rows setting) r infos d in
+        let (l, cl, is) = row_key setting j r in_j in
+        let one : l ≡ k = one_of_name setting.name_of (needed_keys infos) apart l k
+        (own_needed infos j cj l cl) (own_needed infos i c k ck)
+        (ap (λ (s : Row). s.0.chain) is ∙ ap (λ (q : ChainAt). q.chain) same) in
+        let port : j ≡ i =
+        own j i cj c (sym (key_port j l cl) ∙ ap port_of one ∙ key_port i k ck) in
+        ap (λ (s : Row). s.1) (sym is) ∙ ap₂ (λ p m. key_rules setting p m) port one
 
-  -- all rows of the name of an endpoint have its rules
-  endpoint_agrees : (i : PortInfo) (f : Endpoint) → Contains infos i → Contains i.lists.cluster f → (r : Row) → Contains (flat_map (port_rows V4 name_of config) infos) r → r.0 ≡ record { table = Nat; chain = endpoint_chain name_of i f } → r.1 ≡ endpoint_rules name_of i f
-  endpoint_agrees i f c cf r d same =
-      let (j, cj, in_j) = from_flat_map (port_rows V4 name_of config) r infos d in
-      elim (row_cases name_of config j (plain j cj) r in_j) [
-        | inl e ↦ absurd (apart.kinds j i f cj c cf (ap (λ (s : Row). s.0.chain) e ∙ ap (λ (q : ChainAt). q.chain) same))
-        | inr e ↦ let one = apart.endpoints j i e.0 f cj c e.1 cf (ap (λ (s : Row). s.0.chain) e.2 ∙ ap (λ (q : ChainAt). q.chain) same) in
-            ap (λ (s : Row). s.1) (sym e.2) ∙ ap₂ (λ k g. endpoint_rules name_of k g) one.0 one.1
-      ]
+    -- a look-up finds the rules of each chain that a port needs
+    pub finds_key : (i : PortInfo) → Contains infos i → (k : ChainKey) → Contains (own_keys i) k
+        → look_up setting infos (record { table = Nat; chain = setting.name_of k })
+        ≡ Some (key_rules setting i k)
+    finds_key i c k ck =
+        find_made k
+        ∙ agreed (record { table = Nat; chain = setting.name_of k }) (key_rules setting i k)
+        (flat_map (port_rows setting) infos)
+        (in_flat_map (port_rows setting) i (row_of setting i k) infos c (row_stands setting i k ck))
+        (key_agrees i c k ck)
 
-  -- a look-up finds the chains of each port
-  pub finds_port : (i : PortInfo) → Contains infos i → FindsPort name_of config (look_up name_of config infos) i
-  finds_port i c = record {
-    list = λ some. find_made (key.Port Svc i.key) ∙ agreed (record { table = Nat; chain = port_chain name_of i Svc }) (list_rules name_of config i true i.lists.cluster) (flat_map (port_rows V4 name_of config) infos)
-        (in_flat_map (port_rows V4 name_of config) i (list_row name_of config i) infos c (list_row_in name_of config i (plain i c) some)) (list_agrees i c);
-    endpoints = λ f cf. find_made (key.Sep i.key f) ∙ agreed (record { table = Nat; chain = endpoint_chain name_of i f }) (endpoint_rules name_of i f) (flat_map (port_rows V4 name_of config) infos)
-        (in_flat_map (port_rows V4 name_of config) i (endpoint_row name_of config i f) infos c (endpoint_row_in name_of config i (plain i c) f cf)) (endpoint_agrees i f c cf);
-  }
+    list_found : (i : PortInfo) → Contains infos i → (p : Policy) → i.internal ≡ p
+        → not (is_empty (list_by_policy p i.lists)) ≡ true
+        → look_up setting infos
+        (record { table = Nat; chain = port_chain setting i (chain_of_policy p) })
+        ≡ Some (list_rules setting i true (list_by_policy p i.lists))
+    list_found i c Cluster h some = finds_key i c (key.Port Svc i.key) (own_kind i Svc some)
+        ∙ ap (λ q. Some (list_rules setting i (not (is_local_policy q)) i.lists.cluster)) h
+    list_found i c Local h some = finds_key i c (key.Port Svl i.key) (own_kind i Svl some)
+        ∙ ap (λ q. Some (list_rules setting i (is_local_policy q) i.lists.local)) h
+
+    -- and so the chains for traffic to its cluster address
+    pub finds_port : (i : PortInfo) → Contains infos i → FindsPort setting (look_up setting infos) i
+    finds_port i c = record {
+      list = list_found i c i.internal refl;
+      endpoints = λ f cf. finds_key i c (key.Sep i.key f)
+          (own_endpoint i f (in_either i i.internal f cf));
+    }

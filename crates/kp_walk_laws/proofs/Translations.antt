@@ -1,22 +1,24 @@
 -- A door that offers an endpoint translates, and what that makes of a packet.
-use Rattle.std.proofs.Common.{◌≡◌, ℕ, suc, zero, ◌<◌, Bool, true, false, not, List, [], ◌∷◌, length, slice_get, Option, Some, None, is_some, option_map, if◌then◌else◌, refl, ◌∙◌, arith}
+use Rattle.std.proofs.Common.{◌≡◌, ℕ, suc, zero, ◌<◌, Bool, true, false, not, List, [], ◌∷◌, length, slice_get, Option, Some, None, is_some, option_map, if◌then◌else◌, refl, ap, ◌∙◌, arith}
 use Rattle.kp_base.specs.Net.{AddressParts}
 use Rattle.kp_base.specs.declared.key.Endpoint.{Endpoint}
-use Rattle.kp_base.specs.declared.config.Config.{Config}
-use Rattle.kp_types.specs.declared.chain.PortChain.TheVariants.{Svc}
+use Rattle.kp_base.specs.declared.key.PortKey.{PortKey}
+use Rattle.kp_types.specs.Setting.{FamilyConfig, Pick, Setting}
 use Rattle.kp_types.specs.declared.packet.Packet.{Packet}
 use Rattle.kp_types.specs.declared.walk.Ending.TheVariants as ending
 use Rattle.kp_choice_defs.specs.Draws.{draw_at, draw_matches, probability_of, selected_index}
 use Rattle.kp_choice_defs.specs.Recent.{RecentParts}
+use Rattle.kp_choice_defs.specs.Settings.{pick_by_draws}
 use Rattle.kp_object_defs.specs.Desired.{is_empty}
-use Rattle.kp_door_defs.specs.Choice.{Chosen, chosen_endpoint, drawn_as, drawn, found_or, live_endpoint, remembered}
+use Rattle.kp_door_defs.specs.Choice.{Chosen, chosen_endpoint, drawn_as, drawn_at, drawn, found_or, live_endpoint, recent_name, remembered}
 use Rattle.kp_door_defs.specs.Decision.{Translation, translation_at, choice_at}
 use Rattle.kp_door_defs.specs.Doors.{Door, offer_of}
 use Rattle.kp_door_defs.specs.Marks.{is_marked}
-use Rattle.kp_table_defs.specs.Layout.{Naming, port_chain, endpoint_chain}
+use Rattle.kp_table_defs.specs.Layout.{port_chain, endpoint_chain, chain_of_policy}
 use Rattle.kp_table_defs.specs.Matching.{WalkState, Surroundings}
 use Rattle.kp_table_defs.specs.Walk.{Outcome}
 use Rattle.kp_table_defs.specs.Walk.Outcome.{Ended, Stuck}
+use Rattle.kp_walk_laws.proofs.Matches.{packet_of}
 use Rattle.kp_walk_laws.proofs.Outcomes.{IsLast, ended_last, stuck_last}
 use Rattle.kp_walk_laws.proofs.EndpointChains.{marked_if}
 use Rattle.kp_walk_laws.proofs.ChoiceRules.{used_after}
@@ -29,7 +31,8 @@ below_if false x n h = omega arith
 pub selected_below : (draws : ℕ → ℕ) (k n : ℕ) → selected_index draws k (suc n) < suc n
 selected_below draws k zero = omega arith
 selected_below draws k (suc n) =
-    below_if (draw_matches (probability_of (suc (suc n))) (draw_at draws k)) (selected_index draws (suc k) (suc n)) (suc n) (selected_below draws (suc k) n)
+    below_if (draw_matches (probability_of (suc (suc n))) (draw_at draws k))
+    (selected_index draws (suc k) (suc n)) (suc n) (selected_below draws (suc k) n)
 
 -- a place in a list has an element
 get_below : {X : Type 0} (xs : List X) (k : ℕ) → k < length xs → is_some (slice_get xs k) ≡ true
@@ -38,64 +41,88 @@ get_below (x ∷ xs) zero h = refl
 get_below (x ∷ xs) (suc k) h = get_below xs k (omega arith)
 
 -- an endpoint is selected of a list that isn't empty
-pub selected_some : {X : Type 0} (draws : ℕ → ℕ) (xs : List X) → not (is_empty xs) ≡ true → is_some (slice_get xs (selected_index draws 0 (length xs))) ≡ true
+pub selected_some : {X : Type 0} (draws : ℕ → ℕ) (xs : List X) → not (is_empty xs) ≡ true
+    → is_some (slice_get xs (selected_index draws 0 (length xs))) ≡ true
 selected_some draws [] h = absurd (cc)
-selected_some draws (x ∷ xs) h = get_below (x ∷ xs) (selected_index draws 0 (suc (length xs))) (selected_below draws 0 (length xs))
+selected_some draws (x ∷ xs) h = get_below (x ∷ xs) (selected_index draws 0 (suc (length xs)))
+    (selected_below draws 0 (length xs))
 
 some_of_map : {X Y : Type 0} (f : X → Y) (o : Option X) → is_some (option_map f o) ≡ is_some o
 some_of_map f None = refl
 some_of_map f (Some x) = refl
 
-some_remembered : (name : Endpoint → List ℕ) (source : AddressParts) (now : ℕ) (c : Option Chosen) → is_some (remembered name source now c) ≡ is_some c
+some_remembered : (name : Endpoint → List ℕ) (source : AddressParts) (now : ℕ) (c : Option Chosen)
+    → is_some (remembered name source now c) ≡ is_some c
 some_remembered name source now None = refl
 some_remembered name source now (Some c) = refl
 
-drawn_some : (draws : ℕ → ℕ) (es : List Endpoint) (lists : RecentParts) → not (is_empty es) ≡ true → is_some (drawn draws es lists) ≡ true
-drawn_some draws es lists h =
-    some_of_map (drawn_as (selected_index draws 0 (length es)) lists) (slice_get es (selected_index draws 0 (length es))) ∙ selected_some draws es h
+module _ (setting : Setting) (by_draws : setting.pick ≡ pick_by_draws) where
+  drawn_some : (draws : ℕ → ℕ) (es : List Endpoint) (lists : RecentParts) → not (is_empty es) ≡ true
+      → is_some (drawn setting draws es lists) ≡ true
+  drawn_some draws es lists h =
+      ap (λ (p : Pick). is_some (drawn_at es (p draws (length es)) lists)) by_draws
+      ∙ some_of_map (drawn_as (selected_index draws 0 (length es)) lists)
+      (slice_get es (selected_index draws 0 (length es)))
+      ∙ selected_some draws es h
 
-found_some : (draws : ℕ → ℕ) (es : List Endpoint) (lists : RecentParts) (found : Option (Endpoint × ℕ)) → not (is_empty es) ≡ true → is_some (found_or draws es lists found) ≡ true
-found_some draws es lists None h = drawn_some draws es lists h
-found_some draws es lists (Some p) h = refl
+  found_some : (draws : ℕ → ℕ) (es : List Endpoint) (lists : RecentParts)
+      (found : Option (Endpoint × ℕ)) → not (is_empty es) ≡ true
+      → is_some (found_or setting draws es lists found) ≡ true
+  found_some draws es lists None h = drawn_some draws es lists h
+  found_some draws es lists (Some p) h = refl
 
--- an endpoint is chosen of a list that isn't empty
-chosen_some : (name : Endpoint → List ℕ) (affinity : Option ℕ) (source : AddressParts) (now : ℕ) (draws : ℕ → ℕ) (es : List Endpoint) (lists : RecentParts)
-    → not (is_empty es) ≡ true → is_some (chosen_endpoint name affinity source now draws es lists) ≡ true
-chosen_some name None source now draws es lists h = drawn_some draws es lists h
-chosen_some name (Some seconds) source now draws es lists h =
-    let look = live_endpoint name source now seconds 0 es lists in
-    some_remembered name source now (found_or draws es look.lists look.found) ∙ found_some draws es look.lists look.found h
+  -- an endpoint is chosen of a list that isn't empty
+  chosen_some : (port : PortKey) (affinity : Option ℕ) (source : AddressParts) (now : ℕ)
+      (draws : ℕ → ℕ) (es : List Endpoint) (lists : RecentParts)
+      → not (is_empty es) ≡ true
+      → is_some (chosen_endpoint setting port affinity source now draws es lists) ≡ true
+  chosen_some port None source now draws es lists h = drawn_some draws es lists h
+  chosen_some port (Some seconds) source now draws es lists h =
+      let look = live_endpoint (recent_name setting port) source now seconds 0 es lists in
+      some_remembered (recent_name setting port) source now
+      (found_or setting draws es look.lists look.found)
+      ∙ found_some draws es look.lists look.found h
 
-module _ (name_of : Naming) (config : Config) where
   -- a door that offers an endpoint translates
-  pub translates : (packet : Packet) (draws : ℕ → ℕ) (lists : RecentParts) (d : Door) → not (is_empty (offer_of config packet d).endpoints) ≡ true
-      → is_some (translation_at name_of config packet draws lists d) ≡ true
+  pub translates : (packet : Packet) (draws : ℕ → ℕ) (lists : RecentParts) (d : Door)
+      → not (is_empty (offer_of setting.config packet d).endpoints) ≡ true
+      → is_some (translation_at setting packet draws lists d) ≡ true
   translates packet draws lists d h =
-      some_of_map _ (choice_at name_of config packet draws lists d)
-      ∙ chosen_some _ d.info.affinity packet.source packet.now draws (offer_of config packet d).endpoints lists h
+      some_of_map _ (choice_at setting packet draws lists d)
+      ∙ chosen_some d.info.key d.info.affinity packet.source packet.now draws
+      (offer_of setting.config packet d).endpoints lists h
 
 -- the state of a packet that was translated
-abbrev pub translated_state : Config → Surroundings → WalkState → Translation → WalkState
+abbrev pub translated_state : FamilyConfig → Surroundings → WalkState → Translation → WalkState
 translated_state config e s t =
-    marked_if (is_marked config t.door.kind t.door.info s.packet.source t.chosen.endpoint)
-    (record s { used = used_after e.draws s.used (length t.offer.endpoints); lists = t.chosen.lists })
+    marked_if (is_marked config t.door.kind t.door.info s.source t.chosen.endpoint)
+    (record s {
+      used = used_after e.draws s.used (length t.offer.endpoints);
+      lists =
+          t.chosen.lists;
+    })
 
 -- the end of the first hook by a translation
-abbrev pub translating : Naming → Config → Surroundings → WalkState → Option Translation → Outcome
-translating name_of config e s None = Stuck
-translating name_of config e s (Some t) =
+abbrev pub translating : Setting → Surroundings → WalkState → Option Translation → Outcome
+translating setting e s None = Stuck
+translating setting e s (Some t) =
     Ended (ending.Dnat t.chosen.endpoint)
-    (port_chain name_of t.door.info Svc ∷ endpoint_chain name_of t.door.info t.chosen.endpoint ∷ [])
-    (translated_state config e s t)
+    (port_chain setting t.door.info (chain_of_policy t.door.info.internal)
+    ∷ endpoint_chain setting t.door.info t.chosen.endpoint ∷ [])
+    (translated_state setting.config e s t)
 
 -- what a door does that takes a packet
-abbrev pub taken_by : Naming → Config → Surroundings → WalkState → Door → Outcome
-taken_by name_of config e s d = translating name_of config e s (translation_at name_of config s.packet e.draws s.lists d)
+abbrev pub taken_by : Setting → Surroundings → WalkState → Door → Outcome
+taken_by setting e s d =
+    translating setting e s (translation_at setting (packet_of e s) e.draws s.lists d)
 
-translating_last : (name_of : Naming) (config : Config) (e : Surroundings) (s : WalkState) (t : Option Translation) → IsLast (translating name_of config e s t)
-translating_last name_of config e s None = stuck_last
-translating_last name_of config e s (Some t) = ended_last _ _ _
+translating_last : (setting : Setting) (e : Surroundings) (s : WalkState) (t : Option Translation)
+    → IsLast (translating setting e s t)
+translating_last setting e s None = stuck_last
+translating_last setting e s (Some t) = ended_last _ _ _
 
 -- nothing is tried behind a door that takes a packet
-pub taken_last : (name_of : Naming) (config : Config) (e : Surroundings) (s : WalkState) (d : Door) → IsLast (taken_by name_of config e s d)
-taken_last name_of config e s d = translating_last name_of config e s (translation_at name_of config s.packet e.draws s.lists d)
+pub taken_last : (setting : Setting) (e : Surroundings) (s : WalkState) (d : Door)
+    → IsLast (taken_by setting e s d)
+taken_last setting e s d =
+    translating_last setting e s (translation_at setting (packet_of e s) e.draws s.lists d)

@@ -3,7 +3,6 @@ use Rattle.std.proofs.lemmas.List.{at_drop_more, map-append}
 use Rattle.std.proofs.Common.{◌≡◌, ℕ, zero, suc, ◌+◌, ◌<◌, List, [], ◌∷◌, ◌++◌, map, false, is_some, Option, Some, None, drop, length, get_or, refl, sym, ap, ◌∙◌, arith}
 use Rattle.kp_types.specs.declared.chain.ChainAt.{ChainAt}
 use Rattle.kp_types.specs.declared.chain.TableName.{TableName}
-use Rattle.kp_types.specs.declared.packet.Packet.{Packet}
 use Rattle.kp_types.specs.declared.verdict.Pass.{Pass}
 use Rattle.kp_types.specs.declared.verdict.Verdict.{Verdict}
 use Rattle.kp_types.specs.declared.rule.Rule.{Rule}
@@ -13,6 +12,7 @@ use Rattle.kp_table_defs.specs.Walk as walk
 use Rattle.kp_table_defs.specs.Walk.{Outcome, chain_outcome, found_outcome, rules_outcome, rule_outcome, and_then}
 use Rattle.kp_walker.specs.Flow.{outcome_of}
 use Rattle.kp_walker.specs.declared.flow.Flow.{Flow}
+use Rattle.kp_walker.specs.declared.header.Header.{Header}
 use Rattle.kp_walker.specs.declared.flow.Flow.TheVariants.{Next, Left, Ended, Stuck}
 use Rattle.kp_walker.specs.declared.progress.Progress.{Progress}
 
@@ -37,16 +37,16 @@ went_on e jump rules i rule s then more here next =
     ∙ sym (rules_from e jump rules i rule s more here)
 
 -- an outcome other than Next stays
-stays : (packet : Packet) (flow : Flow) (path : List (List ℕ)) (lists : RecentParts) (next : WalkState → Outcome) → ((p : Progress) → flow ≡ Next p → ⊥) → and_then (outcome_of packet flow path lists) next ≡ outcome_of packet flow path lists
-stays packet (Next p) path lists next other = absurd (other p refl)
-stays packet (Left p) path lists next other = refl
-stays packet (Ended end p) path lists next other = refl
-stays packet Stuck path lists next other = refl
+stays : (header : Header) (flow : Flow) (path : List (List ℕ)) (lists : RecentParts) (next : WalkState → Outcome) → ((p : Progress) → flow ≡ Next p → ⊥) → and_then (outcome_of header flow path lists) next ≡ outcome_of header flow path lists
+stays header (Next p) path lists next other = absurd (other p refl)
+stays header (Left p) path lists next other = refl
+stays header (Ended end p) path lists next other = refl
+stays header Stuck path lists next other = refl
 
 -- a rule that doesn't go on is the outcome of the rules from it on
-pub ended_here : (e : Surroundings) (jump : List ℕ → WalkState → Outcome) (rules : List Rule) (i : ℕ) (rule : Rule) (s : WalkState) (packet : Packet) (flow : Flow) (path : List (List ℕ)) (lists : RecentParts) → i < length rules → rule ≡ get_or rules i rule → ((p : Progress) → flow ≡ Next p → ⊥) → outcome_of packet flow path lists ≡ rule_outcome e jump rule s → outcome_of packet flow path lists ≡ rules_outcome e jump (drop i rules) s
-ended_here e jump rules i rule s packet flow path lists more here other is =
-    sym (stays packet flow path lists (rules_outcome e jump (drop (i + 1) rules)) other)
+pub ended_here : (e : Surroundings) (jump : List ℕ → WalkState → Outcome) (rules : List Rule) (i : ℕ) (rule : Rule) (s : WalkState) (header : Header) (flow : Flow) (path : List (List ℕ)) (lists : RecentParts) → i < length rules → rule ≡ get_or rules i rule → ((p : Progress) → flow ≡ Next p → ⊥) → outcome_of header flow path lists ≡ rule_outcome e jump rule s → outcome_of header flow path lists ≡ rules_outcome e jump (drop i rules) s
+ended_here e jump rules i rule s header flow path lists more here other is =
+    sym (stays header flow path lists (rules_outcome e jump (drop (i + 1) rules)) other)
     ∙ ap (λ o. and_then o (rules_outcome e jump (drop (i + 1) rules))) is
     ∙ sym (rules_from e jump rules i rule s more here)
 

@@ -1,23 +1,23 @@
 -- What the flow of a walk means, and what its pass has by then.
 use Rattle.std.specs.Prelude.{◌≡◌, ℕ, ◌≤◌, List, [], length}
-use Rattle.kp_types.specs.declared.packet.Packet.{Packet}
 use Rattle.kp_types.specs.declared.verdict.Pass.{Pass}
 use Rattle.kp_choice_defs.specs.Recent.{RecentParts}
 use Rattle.kp_table_defs.specs.Matching.{WalkState}
 use Rattle.kp_table_defs.specs.Walk as walk
 use Rattle.kp_walker.specs.Progress.{state_of}
 use Rattle.kp_walker.specs.Surroundings.{surroundings_of, lookup_of}
+use Rattle.kp_walker.specs.declared.header.Header.{Header}
 use Rattle.kp_walker.specs.declared.hook.Hook.{Hook}
 use Rattle.kp_walker.specs.declared.progress.Progress.{Progress}
 use Rattle.kp_walker.specs.declared.flow.Flow.{Flow}
 use Rattle.kp_walker.specs.declared.flow.Flow.TheVariants.{Next, Left, Ended, Stuck}
 
 -- the outcome that a flow stands for, where a traversal was ended on the way through these chains
-abbrev pub outcome_of : Packet → Flow → List (List ℕ) → RecentParts → walk.Outcome
-outcome_of packet (Next p) path lists = walk.Next (state_of packet p lists)
-outcome_of packet (Left p) path lists = walk.Left (state_of packet p lists)
-outcome_of packet (Ended end p) path lists = walk.Ended end path (state_of packet p lists)
-outcome_of packet Stuck path lists = walk.Stuck
+abbrev pub outcome_of : Header → Flow → List (List ℕ) → RecentParts → walk.Outcome
+outcome_of header (Next p) path lists = walk.Next (state_of header p lists)
+outcome_of header (Left p) path lists = walk.Left (state_of header p lists)
+outcome_of header (Ended end p) path lists = walk.Ended end path (state_of header p lists)
+outcome_of header Stuck path lists = walk.Stuck
 
 -- the way has chains only where a traversal was ended, and at most so many
 abbrev pub IsThrough : Flow → ℕ → List (List ℕ) → Type 0
@@ -33,4 +33,4 @@ jump_of h depth = walk.chain_outcome (surroundings_of h.around) (lookup_of h.aro
 -- walking from this progress went as the function says, for any recent lists, which stay as they are
 abbrev pub RunsAs : Hook → Progress → Flow → Pass → (WalkState → walk.Outcome) → Type 0
 RunsAs h p flow pass walking =
-    (lists : RecentParts) → outcome_of h.packet flow pass.chains.items lists ≡ walking (state_of h.packet p lists)
+    (lists : RecentParts) → outcome_of h.header flow pass.chains.items lists ≡ walking (state_of h.header p lists)

@@ -18,7 +18,7 @@ stage_of Masquerading = walk.Masquerading
 -- the journey with these recent lists
 abbrev pub journey_of : Journey → RecentParts → walk.Journey
 journey_of j lists = record {
-  state = state_of j.packet j.progress lists;
+  state = state_of j.header j.progress lists;
   translated = j.translated;
   masked = j.masked;
   stopped = j.stopped;

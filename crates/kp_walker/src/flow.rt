@@ -1,6 +1,5 @@
 //! How a walk goes on.
 ghost use Rattle.std.specs.Prelude.{◌≡◌, ℕ, ◌+◌};
-ghost use Rattle.kp_types.specs.declared.packet.Packet.{Packet};
 ghost use Rattle.kp_choice_defs.specs.Recent.{RecentParts};
 ghost use Rattle.kp_table_defs.specs.Walk as walk;
 
@@ -22,14 +21,15 @@ pub(crate) enum Flow {
 
 impl Flow {
     ghost use Rattle.kp_walker.specs.Flow.{outcome_of, IsThrough};
+    ghost use Rattle.kp_walker.specs.declared.header.Header.{Header};
 
     /// The flow behind a jump to the chain. Where a traversal was ended, the chain comes before those
     /// on the way.
     pub(crate) fn returned_from(self, chain: ChainName, pass: &mut Pass) -> Flow
         requires pass { IsThrough self 7 pass.old.chains.items }
-        ensures outcome { (packet : Packet) (lists : RecentParts) →
-            outcome_of packet result pass.new.chains.items lists
-            ≡ walk.returned_from chain (outcome_of packet self pass.old.chains.items lists) }
+        ensures outcome { (header : Header) (lists : RecentParts) →
+            outcome_of header result pass.new.chains.items lists
+            ≡ walk.returned_from chain (outcome_of header self pass.old.chains.items lists) }
         ensures pass { (n : ℕ) → IsThrough self n pass.old.chains.items
             → IsThrough result (n + 1) pass.new.chains.items }
     {

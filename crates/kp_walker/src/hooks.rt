@@ -21,10 +21,10 @@ impl Surroundings<'_> {
         requires room { hooks_ended journey.old < 4 }
         ensures hook { MovesAs journey.old journey.new
             (walk.through (surroundings_of self.now) (lookup_of self.now) walk.Translating
-            TableName.Nat (walk.first_hook journey.old.packet.from)) }
+            TableName.Nat (walk.first_hook self.now.packet.now.from)) }
         ensures room { hooks_ended journey.new ≤ hooks_ended journey.old + 1 }
     {
-        let hook = first_hook(journey.packet.from);
+        let hook = first_hook(self.packet.from);
         self.through(Stage::Translating, TableName::Nat, hook, journey);
     }
 
@@ -35,8 +35,8 @@ impl Surroundings<'_> {
         ensures { MovesAs journey.old journey.new
             (walk.onward (surroundings_of self.now) (lookup_of self.now)) }
     {
-        let from = journey.packet.from;
-        let for_node = is_local(self.node, &journey.packet.target);
+        let from = self.packet.from;
+        let for_node = is_local(self.node, &journey.header.target);
         self.filter(from, for_node, journey);
         self.leave(is_leaving(from, for_node), journey);
     }
@@ -58,7 +58,7 @@ impl Surroundings<'_> {
     fn filter(&self, from: Origin, for_node: bool, journey: &mut Journey)
         requires plain { HasNoRecent (lookup_of self.now) }
         requires room { hooks_ended journey.old < 2 }
-        requires for_node { for_node ≡ is_local_address self.now.node.now journey.old.packet.target }
+        requires for_node { for_node ≡ is_local_address self.now.node.now journey.old.header.target }
         ensures hooks { MovesAs journey.old journey.new
             (walk.filter_hooks from (surroundings_of self.now) (lookup_of self.now)) }
         ensures room { hooks_ended journey.new < 4 }
@@ -98,7 +98,7 @@ impl Surroundings<'_> {
         let hook = Hook {
             around: *self,
             table,
-            packet: journey.packet,
+            header: journey.header,
         };
         let mut pass = Pass::default();
         let flow = hook.run_chain(chain, MOST_CHAINS, journey.progress, &mut pass);

@@ -4,6 +4,7 @@ ghost use Rattle.kp_choice_defs.specs.Recent.{RecentParts};
 ghost use Rattle.kp_table_defs.specs.Walk as walk;
 
 use crate::flow::Flow;
+use crate::header::Header;
 use crate::progress::Progress;
 use arrayvec::ArrayVec;
 use kp_base::Endpoint;
@@ -18,11 +19,11 @@ pub(crate) enum Stage {
     Masquerading,
 }
 
-/// Where a packet is on its way through the hooks: as it is by now, the endpoint it was translated
+/// Where a packet is on its way through the hooks: its header by now, the endpoint it was translated
 /// to, whether it was masqueraded, what stopped it, and the trail.
 #[derive(Drop)]
 pub(crate) struct Journey {
-    pub(crate) packet: Packet,
+    pub(crate) header: Header,
     pub(crate) progress: Progress,
     pub(crate) translated: Option<Endpoint>,
     pub(crate) masked: bool,
@@ -36,12 +37,13 @@ impl Journey {
     ghost use Rattle.kp_walker.specs.Answers.{answered};
 
     /// The beginning of a packet's journey.
-    pub(crate) fn new(packet: Packet) -> Journey
-        ensures start { (lists : RecentParts) → journey_of result lists ≡ beginning packet lists }
+    pub(crate) fn new(packet: &Packet) -> Journey
+        ensures start { (lists : RecentParts) →
+            journey_of result lists ≡ beginning packet.entry.now lists }
         ensures room { hooks_ended result ≡ 0 }
     {
         Journey {
-            packet,
+            header: Header::of(packet),
             progress: Progress {
                 marked: false,
                 used: 0,
@@ -60,7 +62,7 @@ impl Journey {
         requires { hooks_ended self.old < 4 }
         ensures hook { (lists : RecentParts) → journey_of self.new lists
             ≡ walk.after_hook (stage_of stage) (journey_of self.old lists)
-            (outcome_of self.old.packet flow pass.chains.items lists) }
+            (outcome_of self.old.header flow pass.chains.items lists) }
         ensures room { hooks_ended self.new ≤ hooks_ended self.old + 1 }
     {
         match flow {
@@ -95,8 +97,8 @@ impl Journey {
             (walk.ended_by walk.Translating (Ending.Dnat endpoint)) }
         ensures room { hooks_ended self.new ≡ hooks_ended self.old }
     {
-        self.packet.target = endpoint.address;
-        self.packet.port = endpoint.port;
+        self.header.target = endpoint.address;
+        self.header.port = endpoint.port;
         self.translated = Some(endpoint);
     }
 

@@ -3,6 +3,7 @@
 
 mod chains;
 mod flow;
+mod header;
 mod hook;
 mod hooks;
 mod journey;

@@ -42,17 +42,17 @@ impl Hook<'_> {
     {
         match matched {
             Match::Src { range, not } => {
-                progress.tried(range.contains(&self.packet.source) != *not)
+                progress.tried(range.contains(&self.header.source) != *not)
             }
             Match::Dst { range, not } => {
-                progress.tried(range.contains(&self.packet.target) != *not)
+                progress.tried(range.contains(&self.header.target) != *not)
             }
-            Match::Proto { proto } => progress.tried(*proto == self.packet.proto),
+            Match::Proto { proto } => progress.tried(*proto == self.around.packet.proto),
             Match::Port { proto, port } => {
-                progress.tried(*proto == self.packet.proto && *port == self.packet.port)
+                progress.tried(*proto == self.around.packet.proto && *port == self.header.port)
             }
-            Match::SrcLocal => progress.tried(is_local(self.around.node, &self.packet.source)),
-            Match::DstLocal => progress.tried(is_local(self.around.node, &self.packet.target)),
+            Match::SrcLocal => progress.tried(is_local(self.around.node, &self.header.source)),
+            Match::DstLocal => progress.tried(is_local(self.around.node, &self.header.target)),
             Match::Marked { not } => progress.tried(progress.marked != *not),
             Match::Statistic { p } => self.try_draw(*p, progress),
             Match::Seen { .. } | Match::SetSeen { .. } => unreachable!(),

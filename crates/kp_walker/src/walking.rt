@@ -23,9 +23,10 @@ pub fn walk(table: &Table, node: &Items<Address>, packet: &Packet, draws: &[u32]
     let around = Surroundings {
         chains: table,
         node: node.as_slice(),
+        packet,
         draws,
     };
-    let mut journey = Journey::new(*packet);
+    let mut journey = Journey::new(packet);
     around.enter(&mut journey);
     around.onward(&mut journey);
     journey.answer()

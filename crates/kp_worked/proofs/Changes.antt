@@ -1,7 +1,6 @@
 -- The changes between two tables that are given as lists of chains, by look-ups in the lists.
 use Rattle.std.proofs.Common.{◌≡◌, ℕ, cond, List, ◌++◌, filter, filter_map, Option, Some, None, is_some, ◌==◌, ◌∙◌}
 use Rattle.std.specs.FinMap.{find, from_entries, get, get-from_entries}
-use Rattle.kp_base.specs.declared.address.Family.TheVariants.{V4}
 use Rattle.kp_object_defs.specs.Order.{in_order}
 use Rattle.kp_object_defs.specs.PortInfo.{PortInfo}
 use Rattle.kp_types.proofs.ChainOrder.{chain_total}
@@ -16,7 +15,7 @@ use Rattle.kp_table_defs.specs.Edits.{changes_between, is_found_with}
 use Rattle.kp_table_defs.specs.Layout.{rows_of}
 use Rattle.kp_worked.proofs.MapLists.{entries_are}
 use Rattle.kp_worked.specs.Counts.{Counts, counted, counts_between, are}
-use Rattle.kp_worked.specs.Setting.{config, name_of}
+use Rattle.kp_worked.specs.Setting.{setting}
 
 abbrev Rows : Type 0
 Rows = List (ChainAt × List Rule)
@@ -45,6 +44,6 @@ by_lists before after = λ i. counted (changes_by (found before i) (found after 
 
 -- the counts between the full tables of ports
 pub counts_are : (before after : List PortInfo) {written removed : ℕ}
-    → counts_by (rows_of V4 name_of config before) (rows_of V4 name_of config after) ≡ are written removed
+    → counts_by (rows_of setting before) (rows_of setting after) ≡ are written removed
     → counts_between before after ≡ are written removed
-counts_are before after h = by_lists (rows_of V4 name_of config before) (rows_of V4 name_of config after) ∙ h
+counts_are before after h = by_lists (rows_of setting before) (rows_of setting after) ∙ h

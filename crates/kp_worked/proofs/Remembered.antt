@@ -11,6 +11,7 @@ use Rattle.kp_base.proofs.KeyOrder.{text_total, text_exact}
 use Rattle.kp_base.specs.Keys.{text_cmp}
 use Rattle.kp_base.specs.Net.{AddressParts}
 use Rattle.kp_base.specs.declared.key.Endpoint.{Endpoint}
+use Rattle.kp_base.specs.declared.key.PortKey.{PortKey}
 use Rattle.kp_types.specs.declared.packet.Packet.{Packet}
 use Rattle.kp_types.specs.declared.decision.ChosenBy.{ChosenBy}
 use Rattle.kp_types.specs.declared.decision.ChosenBy.TheVariants.{Affinity, Draws}
@@ -23,7 +24,7 @@ use Rattle.kp_door_defs.specs.Doors.{Door, offer_of, taking_door}
 use Rattle.kp_door_defs.specs.Filter.{Line, Refusal, Rejects, DropsClosed, DropsNoLocal}
 use Rattle.kp_worked.proofs.MapLists.{without, removed_are}
 use Rattle.kp_worked.specs.Affinity.{answers}
-use Rattle.kp_worked.specs.Setting.{config, name_of}
+use Rattle.kp_worked.specs.Setting.{setting}
 use Rattle.kp_choice_defs.specs.Recent.{Sighting, Shard, shard_cmp, RecentParts, shard_of, sightings, is_within, is_of, is_live, with_sightings, reaped, set_at}
 
 -- the parts of recent lists, in any order
@@ -141,7 +142,7 @@ abbrev found_or_in : (ℕ → ℕ) → List Endpoint → Parts → Option (Endpo
 found_or_in draws es parts None = drawn_in (selected_index draws 0 (length es)) parts (slice_get es (selected_index draws 0 (length es)))
 found_or_in draws es parts (Some p) = Some (record { endpoint = p.0; place = p.1; by = Affinity; parts = parts })
 
-found_or_is : (size : ℕ) (draws : ℕ → ℕ) (es : List Endpoint) (parts : Parts) (p : Option (Endpoint × ℕ)) → found_or draws es (listed size parts) p ≡ as_choice size (found_or_in draws es parts p)
+found_or_is : (size : ℕ) (draws : ℕ → ℕ) (es : List Endpoint) (parts : Parts) (p : Option (Endpoint × ℕ)) → found_or setting draws es (listed size parts) p ≡ as_choice size (found_or_in draws es parts p)
 found_or_is size draws es parts None = drawn_is size _ parts (slice_get es (selected_index draws 0 (length es)))
 found_or_is size draws es parts (Some p) = refl
 
@@ -155,17 +156,19 @@ remembered_is size name source now None = refl
 remembered_is size name source now (Some c) =
     ap (λ l. Some (record { endpoint = c.endpoint; place = c.place; by = c.by; lists = l })) (set_is size (name c.endpoint) source now c.parts)
 
-abbrev choice_in : ℕ → (Endpoint → List ℕ) → Option ℕ → AddressParts → ℕ → (ℕ → ℕ) → List Endpoint → Parts → Option Choice
-choice_in size name None source now draws es parts = drawn_in (selected_index draws 0 (length es)) parts (slice_get es (selected_index draws 0 (length es)))
-choice_in size name (Some seconds) source now draws es parts =
+abbrev choice_in : ℕ → PortKey → Option ℕ → AddressParts → ℕ → (ℕ → ℕ) → List Endpoint → Parts → Option Choice
+choice_in size port None source now draws es parts = drawn_in (selected_index draws 0 (length es)) parts (slice_get es (selected_index draws 0 (length es)))
+choice_in size port (Some seconds) source now draws es parts =
+    let name = recent_name setting port in
     let found = look_in size name source now seconds 0 es parts in
     remembered_in size name source now (found_or_in draws es found.1 found.0)
 
-choice_is : (size : ℕ) (name : Endpoint → List ℕ) (affinity : Option ℕ) (source : AddressParts) (now : ℕ) (draws : ℕ → ℕ) (es : List Endpoint) (parts : Parts)
-    → chosen_endpoint name affinity source now draws es (listed size parts) ≡ as_choice size (choice_in size name affinity source now draws es parts)
-choice_is size name None source now draws es parts = drawn_is size _ parts (slice_get es (selected_index draws 0 (length es)))
-choice_is size name (Some seconds) source now draws es parts =
-    ap (λ l. remembered name source now (found_or_drawn draws es l)) (look_is size name source now seconds 0 es parts)
+choice_is : (size : ℕ) (port : PortKey) (affinity : Option ℕ) (source : AddressParts) (now : ℕ) (draws : ℕ → ℕ) (es : List Endpoint) (parts : Parts)
+    → chosen_endpoint setting port affinity source now draws es (listed size parts) ≡ as_choice size (choice_in size port affinity source now draws es parts)
+choice_is size port None source now draws es parts = drawn_is size _ parts (slice_get es (selected_index draws 0 (length es)))
+choice_is size port (Some seconds) source now draws es parts =
+    let name = recent_name setting port in
+    ap (λ l. remembered name source now (found_or_drawn setting draws es l)) (look_is size name source now seconds 0 es parts)
     ∙ ap (remembered name source now) (found_or_is size draws es (look_in size name source now seconds 0 es parts).1 (look_in size name source now seconds 0 es parts).0)
     ∙ remembered_is size name source now _
 
@@ -174,27 +177,27 @@ choice_is size name (Some seconds) source now draws es parts =
 -- a choice at a door
 abbrev choice_at_door : ℕ → Packet → (ℕ → ℕ) → Parts → Door → Option Choice
 choice_at_door size packet draws parts d =
-    choice_in size (recent_name name_of d.info.key) d.info.affinity packet.source packet.now draws (offer_of config packet d).endpoints parts
+    choice_in size d.info.key d.info.affinity packet.source packet.now draws (offer_of setting.config packet d).endpoints parts
 
 abbrev translated_in : ℕ → Packet → Door → Option Choice → Option Translation
 translated_in size packet d None = None
-translated_in size packet d (Some c) = Some (record { door = d; offer = offer_of config packet d; chosen = as_chosen size c })
+translated_in size packet d (Some c) = Some (record { door = d; offer = offer_of setting.config packet d; chosen = as_chosen size c })
 
 abbrev translation_in : ℕ → Packet → (ℕ → ℕ) → Parts → Option Door → Option Translation
 translation_in size packet draws parts None = None
 translation_in size packet draws parts (Some d) = translated_in size packet d (choice_at_door size packet draws parts d)
 
 mapped : (size : ℕ) (packet : Packet) (d : Door) (c : Option Choice)
-    → option_map (λ c. record { door = d; offer = offer_of config packet d; chosen = c }) (as_choice size c) ≡ translated_in size packet d c
+    → option_map (λ c. record { door = d; offer = offer_of setting.config packet d; chosen = c }) (as_choice size c) ≡ translated_in size packet d c
 mapped size packet d None = refl
 mapped size packet d (Some c) = refl
 
 translation_is : (size : ℕ) (packet : Packet) (draws : ℕ → ℕ) (parts : Parts) (d : Option Door)
-    → option_and_then (translation_at name_of config packet draws (listed size parts)) d ≡ translation_in size packet draws parts d
+    → option_and_then (translation_at setting packet draws (listed size parts)) d ≡ translation_in size packet draws parts d
 translation_is size packet draws parts None = refl
 translation_is size packet draws parts (Some d) =
-    ap (λ c. option_map (λ c. record { door = d; offer = offer_of config packet d; chosen = c }) c)
-    (choice_is size (recent_name name_of d.info.key) d.info.affinity packet.source packet.now draws (offer_of config packet d).endpoints parts)
+    ap (λ c. option_map (λ c. record { door = d; offer = offer_of setting.config packet d; chosen = c }) c)
+    (choice_is size d.info.key d.info.affinity packet.source packet.now draws (offer_of setting.config packet d).endpoints parts)
     ∙ mapped size packet d (choice_at_door size packet draws parts d)
 
 -- the parts after a translation
@@ -221,11 +224,11 @@ kept_by Rejects d lists = refl
 kept_by DropsClosed d lists = refl
 kept_by DropsNoLocal d lists = refl
 
-kept_by_passing : (packet : Packet) (t : Option Translation) (lists : RecentParts) → (passed config packet t lists).lists ≡ lists
+kept_by_passing : (packet : Packet) (t : Option Translation) (lists : RecentParts) → (passed setting.config packet t lists).lists ≡ lists
 kept_by_passing packet None lists = refl
 kept_by_passing packet (Some t) lists = refl
 
-kept : (packet : Packet) (t : Option Translation) (lists : RecentParts) (line : Option Line) → (by_filter config packet t lists line).lists ≡ lists
+kept : (packet : Packet) (t : Option Translation) (lists : RecentParts) (line : Option Line) → (by_filter setting.config packet t lists line).lists ≡ lists
 kept packet t lists None = kept_by_passing packet t lists
 kept packet t lists (Some line) = kept_by line.refusal line.door lists
 
@@ -235,19 +238,19 @@ module _ (size : ℕ) (ports : List PortInfo) where
   -- the decision on a packet
   abbrev decided_in : Packet × List ℕ → Parts → Decided
   decided_in p parts =
-      decision_by config ports p.0 (listed size parts)
-      (translation_in size p.0 (draw_of_list p.1) parts (taking_door config ports p.0))
+      decision_by setting.config ports p.0 (listed size parts)
+      (translation_in size p.0 (draw_of_list p.1) parts (taking_door setting.config ports p.0))
 
-  decided_is : (p : Packet × List ℕ) (parts : Parts) → decision_from name_of config ports p.0 (draw_of_list p.1) (listed size parts) ≡ decided_in p parts
-  decided_is p parts = ap (decision_by config ports p.0 (listed size parts)) (translation_is size p.0 (draw_of_list p.1) parts (taking_door config ports p.0))
+  decided_is : (p : Packet × List ℕ) (parts : Parts) → decision_from setting ports p.0 (draw_of_list p.1) (listed size parts) ≡ decided_in p parts
+  decided_is p parts = ap (decision_by setting.config ports p.0 (listed size parts)) (translation_is size p.0 (draw_of_list p.1) parts (taking_door setting.config ports p.0))
 
   abbrev next_parts : Packet × List ℕ → Parts → Parts
-  next_parts p parts = parts_after size p.0 (draw_of_list p.1) parts (taking_door config ports p.0)
+  next_parts p parts = parts_after size p.0 (draw_of_list p.1) parts (taking_door setting.config ports p.0)
 
   next_is : (p : Packet × List ℕ) (parts : Parts) → (decided_in p parts).lists ≡ listed size (next_parts p parts)
   next_is p parts =
-      kept p.0 (translation_in size p.0 (draw_of_list p.1) parts (taking_door config ports p.0)) _ _
-      ∙ lists_after_is size p.0 (draw_of_list p.1) parts (taking_door config ports p.0)
+      kept p.0 (translation_in size p.0 (draw_of_list p.1) parts (taking_door setting.config ports p.0)) _ _
+      ∙ lists_after_is size p.0 (draw_of_list p.1) parts (taking_door setting.config ports p.0)
 
   abbrev pub answers_in : List (Packet × List ℕ) → Parts → List Decision
   answers_in [] parts = []

@@ -15,14 +15,14 @@ use Rattle.kp_choice_defs.specs.Draws.{draw_of_list}
 use Rattle.kp_choice_defs.specs.Recent.{RecentParts}
 use Rattle.kp_object_defs.specs.PortInfo.{PortInfo}
 use Rattle.kp_door_defs.specs.Decision.{decision_from}
-use Rattle.kp_worked.specs.Setting.{ipv4, config, name_of, web, web_port, infos, ep1, ep2, empty_lists, other_pod, to_web}
+use Rattle.kp_worked.specs.Setting.{ipv4, setting, web, web_port, infos, ep1, ep2, empty_lists, other_pod, to_web}
 use Rattle.kp_worked.specs.Decisions.{two}
 
 -- the decisions on packets with their draws, one after another
 abbrev pub answers : List PortInfo → List (Packet × List ℕ) → RecentParts → List Decision
 answers ports [] lists = []
 answers ports (p ∷ ps) lists =
-    let d = decision_from name_of config ports p.0 (draw_of_list p.1) lists in
+    let d = decision_from setting ports p.0 (draw_of_list p.1) lists in
     record { verdict = d.verdict; reason = d.reason } ∷ answers ports ps d.lists
 
 -- the Service under session affinity with a timeout

@@ -3,7 +3,6 @@
 use Rattle.std.specs.Prelude.{◌≡◌, ℕ, true, false, List, [], ◌∷◌, map, codes, Option, Some}
 use Rattle.std.specs.FinMap as finite
 use Rattle.kp_base.specs.Net.{RangeParts, single_range}
-use Rattle.kp_base.specs.declared.address.Family.TheVariants.{V4}
 use Rattle.kp_base.specs.declared.port.Proto.TheVariants.{Tcp}
 use Rattle.kp_types.specs.Places.{chain_cmp}
 use Rattle.kp_types.specs.Rules.{rule_of}
@@ -13,14 +12,13 @@ use Rattle.kp_types.specs.declared.chain.TableName.TheVariants.{Nat, Filter}
 use Rattle.kp_types.specs.declared.rule.Match.TheVariants as match
 use Rattle.kp_types.specs.declared.rule.Rule.{Rule}
 use Rattle.kp_types.specs.declared.rule.Target.TheVariants as target
-use Rattle.kp_choice_defs.specs.Names.{chain_name}
 use Rattle.kp_object_defs.specs.Order.{in_order}
 use Rattle.kp_table_defs.specs.Layout.{rows_of}
-use Rattle.kp_worked.specs.Setting.{ipv4, config, web, first, infos, ep1}
+use Rattle.kp_worked.specs.Setting.{ipv4, plain_setting, web, first, infos, ep1}
 
 -- the chains of the full table
 abbrev pub rows : List (ChainAt × List Rule)
-rows = rows_of V4 (chain_name 0) config (infos web (first ∷ []))
+rows = rows_of plain_setting (infos web (first ∷ []))
 
 -- the rules of one of them
 abbrev pub chain : TableName → List ℕ → Option (List Rule)

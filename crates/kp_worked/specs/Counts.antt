@@ -1,6 +1,5 @@
 -- Worked examples of syncs: how many chains are written and removed between two full tables.
 use Rattle.std.specs.Prelude.{◌≡◌, ℕ, not, List, [], ◌∷◌, codes, Some, count_by}
-use Rattle.kp_base.specs.declared.address.Family.TheVariants.{V4}
 use Rattle.kp_types.specs.declared.rule.Edit.{Edit}
 use Rattle.kp_types.specs.declared.service.ServiceKind.TheVariants.{LoadBalancer}
 use Rattle.kp_types.specs.declared.service.Service.{Service}
@@ -8,7 +7,7 @@ use Rattle.kp_types.specs.declared.slice.SliceEndpoint.{SliceEndpoint}
 use Rattle.kp_object_defs.specs.PortInfo.{PortInfo}
 use Rattle.kp_table_defs.specs.Edits.{changes_between, is_write}
 use Rattle.kp_table_defs.specs.Rebuild.{full_chains}
-use Rattle.kp_worked.specs.Setting.{config, name_of, web, first, second, third, terminating, hinted, with_endpoints, infos_in, infos}
+use Rattle.kp_worked.specs.Setting.{setting, web, first, second, third, terminating, hinted, with_endpoints, infos_in, infos}
 use Rattle.kp_worked.specs.Decisions.{two, three, local_inside, local_node_port, with_external, balanced}
 
 -- how many chains are written and removed
@@ -23,7 +22,7 @@ counted edits = record { written = count_by is_write edits; removed = count_by (
 -- those between the full tables of some ports and of others
 abbrev pub counts_between : List PortInfo → List PortInfo → Counts
 counts_between before after =
-    counted (changes_between (full_chains V4 name_of config before) (full_chains V4 name_of config after))
+    counted (changes_between (full_chains setting before) (full_chains setting after))
 
 -- so many are written, and so many removed
 abbrev pub are : ℕ → ℕ → Counts

@@ -17,11 +17,11 @@ use Rattle.kp_types.specs.declared.decision.ChosenBy.TheVariants.{Draws}
 use Rattle.kp_choice_defs.specs.Draws.{draw_of_list}
 use Rattle.kp_object_defs.specs.PortInfo.{PortInfo}
 use Rattle.kp_door_defs.specs.Decision.{Decided, decision_from}
-use Rattle.kp_worked.specs.Setting.{ipv4, config, name_of, service_at, web, web_port, ready_at, first, second, third, terminating, hinted, with_endpoints, infos_in, infos, at_8080, ep1, ep2, ep3, no_lists, from_network, from_node, other_pod, client, to_web}
+use Rattle.kp_worked.specs.Setting.{ipv4, setting, service_at, web, web_port, ready_at, first, second, third, terminating, hinted, with_endpoints, infos_in, infos, at_8080, ep1, ep2, ep3, no_lists, from_network, from_node, other_pod, client, to_web}
 
 -- the decision on a packet with these draws
 abbrev pub decided : List PortInfo → Packet → List ℕ → Decided
-decided ports packet draws = decision_from name_of config ports packet (draw_of_list draws) no_lists
+decided ports packet draws = decision_from setting ports packet (draw_of_list draws) no_lists
 
 -- its verdict, where the Service has these endpoints
 abbrev pub verdict_on : Service → List SliceEndpoint → Packet → List ℕ → Verdict

@@ -1,6 +1,5 @@
 -- Worked examples of decisions by the objects after events (Kubernetes API concepts, watch events).
 use Rattle.std.specs.Prelude.{◌≡◌, ℕ, true, false, List, [], ◌∷◌, codes, Some}
-use Rattle.kp_base.specs.declared.address.Family.TheVariants.{V4}
 use Rattle.kp_types.specs.declared.event.Event.{Event}
 use Rattle.kp_types.specs.declared.event.Event.TheVariants.{Apply, Delete}
 use Rattle.kp_types.specs.declared.event.Kind.TheVariants as kind
@@ -13,14 +12,14 @@ use Rattle.kp_types.specs.declared.verdict.Verdict.TheVariants.{To, Rejected, Le
 use Rattle.kp_choice_defs.specs.Draws.{draw_of_list}
 use Rattle.kp_object_defs.specs.Objects.{objects_after}
 use Rattle.kp_door_defs.specs.Decision.{decision_of}
-use Rattle.kp_worked.specs.Setting.{ipv4, config, name_of, default_key, web, ready_at, first, second, third, hinted, slice_of, ep1, ep2, no_lists, other_pod, to_web}
+use Rattle.kp_worked.specs.Setting.{ipv4, setting, default_key, web, ready_at, first, second, third, hinted, slice_of, ep1, ep2, no_lists, other_pod, to_web}
 use Rattle.kp_worked.specs.Decisions.{two}
 use Rattle.kp_worked.specs.Wanted.{selecting, pod_a, pod_b, pod_c}
 
 -- the verdict on a pod's packet to the Service, after events
 abbrev pub verdict_after : List Event → List ℕ → Verdict
 verdict_after events draws =
-    (decision_of name_of V4 config (objects_after events) (to_web other_pod) (draw_of_list draws) no_lists).verdict
+    (decision_of setting (objects_after events) (to_web other_pod) (draw_of_list draws) no_lists).verdict
 
 -- the Service is applied
 abbrev pub apply_web : Event

@@ -11,3 +11,6 @@ pub mod Packing
 pub mod Chains
 pub mod Walks
 pub mod Events
+pub mod SourceRanges
+pub mod Families
+pub mod SlicesNow

@@ -9,13 +9,13 @@ use Rattle.kp_types.specs.declared.verdict.Verdict.{Verdict}
 use Rattle.kp_types.specs.declared.verdict.Verdict.TheVariants.{To}
 use Rattle.kp_choice_defs.specs.Draws.{draw_of_list}
 use Rattle.kp_door_defs.specs.Decision.{decision_from}
-use Rattle.kp_worked.specs.Setting.{ipv4, config, name_of, web, ready_at, infos, at_8080, ep1, no_lists, from_network, other_pod, client, to_web}
+use Rattle.kp_worked.specs.Setting.{ipv4, config, setting_under, web, ready_at, infos, at_8080, ep1, no_lists, from_network, other_pod, client, to_web}
 use Rattle.kp_worked.specs.Decisions.{two, at_node_port, local_node_port}
 
 -- the verdict under a configuration, where the first endpoint is drawn
 abbrev pub verdict_under : Config → Service → List SliceEndpoint → Packet → Verdict
 verdict_under c s endpoints packet =
-    (decision_from name_of c (infos s endpoints) packet (draw_of_list (0 ∷ [])) no_lists).verdict
+    (decision_from (setting_under c) (infos s endpoints) packet (draw_of_list (0 ∷ [])) no_lists).verdict
 
 -- a pod's packet to a cluster address keeps its source
 abbrev pub Inside : Type 0

@@ -26,8 +26,10 @@ use Rattle.kp_types.specs.declared.slice.AddressType.TheVariants.{Ipv4}
 use Rattle.kp_types.specs.declared.slice.SliceEndpoint.{SliceEndpoint}
 use Rattle.kp_types.specs.declared.slice.Slice.{Slice}
 use Rattle.kp_types.specs.declared.info.ServiceSources.{ServiceSources}
+use Rattle.kp_types.specs.Setting.{Setting}
 use Rattle.kp_choice_defs.specs.Names.{port_chain_prefix}
 use Rattle.kp_choice_defs.specs.Recent.{RecentParts}
+use Rattle.kp_choice_defs.specs.Settings.{setting_of}
 use Rattle.kp_object_defs.specs.PortInfo.{PortInfo, infos_from}
 
 -- the IPv4 address of four numbers
@@ -166,6 +168,18 @@ ep3 = at_8080 (ipv4 10 244 3 4)
 abbrev pub name_of : ChainKey → List ℕ
 name_of (Port kind port) = port_chain_prefix kind ++ port.object.name
 name_of (Sep port e) = codes "KUBE-SEP-" ++ port.object.name ++ (48 + e.address.number % 8) ∷ []
+
+-- the setting of a configuration, with these names
+abbrev pub setting_under : Config → Setting
+setting_under c = record (setting_of V4 c) { name_of = name_of }
+
+-- the setting of the node
+abbrev pub setting : Setting
+setting = setting_under config
+
+-- the same, where names of chains are their prefixes alone
+abbrev pub plain_setting : Setting
+plain_setting = setting_of V4 (record config { name_length = 0; name_to = lit≤ tt })
 
 -- recent lists of no source, with room for so many in each part
 abbrev pub empty_lists : ℕ → RecentParts

@@ -2,43 +2,41 @@
 -- worked out go to the same places.
 use Rattle.std.specs.Prelude.{◌≡◌, ℕ, true, false, List, [], ◌∷◌, codes}
 use Rattle.std.specs.FinMap as finite
-use Rattle.kp_base.specs.declared.address.Family.TheVariants.{V4}
 use Rattle.kp_types.specs.Places.{chain_cmp}
+use Rattle.kp_types.specs.Setting.{Setting}
 use Rattle.kp_types.specs.declared.packet.Packet.{Packet}
 use Rattle.kp_types.specs.declared.service.Service.{Service}
 use Rattle.kp_types.specs.declared.slice.SliceEndpoint.{SliceEndpoint}
 use Rattle.kp_types.specs.declared.verdict.Verdict.{Verdict}
 use Rattle.kp_types.specs.declared.verdict.Verdict.TheVariants.{To, Rejected, Dropped, LeftAlone}
 use Rattle.kp_choice_defs.specs.Draws.{draw_of_list}
-use Rattle.kp_choice_defs.specs.Names.{chain_name}
 use Rattle.kp_object_defs.specs.PortInfo.{PortInfo}
-use Rattle.kp_table_defs.specs.Layout.{Naming, rows_of}
+use Rattle.kp_table_defs.specs.Layout.{rows_of}
 use Rattle.kp_table_defs.specs.Walk.{Walked, walk_of}
-use Rattle.kp_worked.specs.Setting.{ipv4, config, name_of, web, ready_at, first, second, infos, at_8080, ep1, ep2, no_lists, from_network, from_node, other_pod, client, to_web}
+use Rattle.kp_worked.specs.Setting.{ipv4, setting, plain_setting, web, ready_at, first, second, infos, at_8080, ep1, ep2, no_lists, from_network, from_node, other_pod, client, to_web}
 use Rattle.kp_worked.specs.Decisions.{two, local_inside, local_node_port, at_node_port, with_external, two_with_external, balanced}
 
 -- the walk of a packet through the full table of ports
-abbrev pub walked : Naming → List PortInfo → Packet → List ℕ → Walked
-walked naming ports packet draws =
-    walk_of (λ q. finite.find chain_cmp q (rows_of V4 naming config ports)) config.addresses packet (draw_of_list draws)
-    no_lists
+abbrev pub walked : Setting → List PortInfo → Packet → List ℕ → Walked
+walked s ports packet draws =
+    walk_of (λ q. finite.find chain_cmp q (rows_of s ports)) s.config.addresses packet (draw_of_list draws) no_lists
 
 -- its verdict, where the Service has these endpoints
 abbrev pub walk_on : Service → List SliceEndpoint → Packet → List ℕ → Verdict
-walk_on s endpoints packet draws = (walked name_of (infos s endpoints) packet draws).verdict
+walk_on s endpoints packet draws = (walked setting (infos s endpoints) packet draws).verdict
 
 -- ---- The chains on the way
 
 -- a packet goes from the hook through KUBE-SERVICES and the Service's chain to the endpoint's
 abbrev pub Way : Type 0
 Way =
-    (walked (chain_name 0) (infos web (first ∷ [])) (to_web other_pod) []).trail
+    (walked plain_setting (infos web (first ∷ [])) (to_web other_pod) []).trail
     ≡ (codes "PREROUTING" ∷ codes "KUBE-SERVICES" ∷ codes "KUBE-SVC-" ∷ codes "KUBE-SEP-" ∷ []) ∷ []
 
 -- one that is masqueraded is accepted in KUBE-FORWARD, and masqueraded behind the routing
 abbrev pub WayOfMasqueraded : Type 0
 WayOfMasqueraded =
-    (walked (chain_name 0) (infos web (first ∷ [])) (to_web client) []).trail
+    (walked plain_setting (infos web (first ∷ [])) (to_web client) []).trail
     ≡ (codes "PREROUTING" ∷ codes "KUBE-SERVICES" ∷ codes "KUBE-SVC-" ∷ codes "KUBE-SEP-" ∷ [])
     ∷ (codes "FORWARD" ∷ codes "KUBE-FORWARD" ∷ [])
     ∷ (codes "POSTROUTING" ∷ codes "KUBE-POSTROUTING" ∷ [])
@@ -85,7 +83,7 @@ ClientToExternal = walk_on with_external [] (from_network client (ipv4 203 0 113
 -- one to the external address of two Services, the first of which has no local endpoint
 abbrev pub NextService : Type 0
 NextService =
-    (walked name_of two_with_external (from_network client (ipv4 203 0 113 5) 80) []).verdict
+    (walked setting two_with_external (from_network client (ipv4 203 0 113 5) 80) []).verdict
     ≡ To (at_8080 (ipv4 10 244 1 9)) true
 
 -- a packet to a load balancer from the last address of its source range

@@ -8,10 +8,13 @@ ghost use Rattle.kp_worked.specs.Choices as choices;
 ghost use Rattle.kp_worked.specs.Counts as counts;
 ghost use Rattle.kp_worked.specs.Events as events;
 ghost use Rattle.kp_worked.specs.Decisions as decisions;
+ghost use Rattle.kp_worked.specs.Families as families;
 ghost use Rattle.kp_worked.specs.Lists as lists;
 ghost use Rattle.kp_worked.specs.Masquerades as masquerades;
 ghost use Rattle.kp_worked.specs.Names as names;
 ghost use Rattle.kp_worked.specs.Packing as packing;
+ghost use Rattle.kp_worked.specs.SlicesNow as slices_now;
+ghost use Rattle.kp_worked.specs.SourceRanges as ranges;
 ghost use Rattle.kp_worked.specs.Walks as walks;
 ghost use Rattle.kp_worked.specs.Wanted as wanted;
 
@@ -70,6 +73,17 @@ pub fn worked_source_ranges()
     ensures admitted_reason { decisions.AdmittedToNoneReason }
 {}
 
+/// Decisions on packets to a load balancer whose source ranges are all of another family.
+pub fn worked_ranges_of_other_families()
+    ensures other_family { ranges.OtherFamily }
+    ensures other_family_reason { ranges.OtherFamilyReason }
+    ensures other_family_walked { ranges.OtherFamilyWalked }
+    ensures none_left { ranges.NoRangeLeft }
+    ensures none_left_reason { ranges.NoRangeLeftReason }
+    ensures none_left_walked { ranges.NoRangeLeftWalked }
+    ensures no_list { ranges.NoList }
+{}
+
 /// Endpoints of a Service port.
 pub fn worked_lists()
     ensures cluster { lists.ClusterPolicy }
@@ -120,6 +134,15 @@ pub fn worked_masquerades()
     ensures node_port { masquerades.ThroughNodePort }
     ensures local { masquerades.LocalKeepsSource }
     ensures node { masquerades.ToNode }
+{}
+
+/// The configuration as a family sees it.
+pub fn worked_families()
+    ensures own { families.OwnRange }
+    ensures other { families.OtherRange }
+    ensures addresses { families.AllAddresses }
+    ensures source { families.KeepsSource }
+    ensures mark { families.NoMark }
 {}
 
 /// Probabilities and draws.
@@ -234,4 +257,14 @@ pub fn worked_packing()
     ensures groups { packing.Groups }
     ensures state { packing.ChangedState }
     ensures unchanged { packing.Unchanged }
+{}
+
+/// Slices as they are now, over syncs.
+pub fn worked_slices_now()
+    ensures before { slices_now.BeforeSync }
+    ensures first { slices_now.AfterSync }
+    ensures change { slices_now.AfterChange }
+    ensures second { slices_now.AfterSecondSync }
+    ensures service_goes { slices_now.AfterServiceGoes }
+    ensures third { slices_now.AfterThirdSync }
 {}

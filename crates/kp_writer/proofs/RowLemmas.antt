@@ -6,6 +6,7 @@ use Rattle.kp_base.specs.Net.{RangeParts}
 use Rattle.kp_base.specs.declared.address.Family.TheVariants.{V4}
 use Rattle.kp_base.specs.declared.config.Config.{Config}
 use Rattle.kp_base.specs.declared.key.Endpoint.{Endpoint}
+use Rattle.kp_types.specs.Setting.{Setting, config_for}
 use Rattle.kp_types.specs.declared.chain.TableName.{TableName}
 use Rattle.kp_types.specs.declared.chain.TableName.TheVariants.{Nat}
 use Rattle.kp_types.specs.declared.chain.ChainAt.{ChainAt}
@@ -14,7 +15,7 @@ use Rattle.kp_types.specs.declared.rule.Rule.{Rule}
 use Rattle.kp_table_defs.specs.Layout.{row, endpoint_chain, mark_rules, choice_rules, list_rules, port_rows}
 use Rattle.kp_object_defs.specs.PortInfo.{PortInfo}
 use Rattle.kp_table_defs.specs.Rebuild.{TableParts}
-use Rattle.kp_table_defs.specs.StandIn.{stand_in_name}
+use Rattle.kp_table_defs.specs.StandIn.{stand_in_setting}
 use Rattle.kp_text_defs.specs.declared.line.PlainService.{PlainService}
 use Rattle.kp_writer.specs.Plain.{plain_info}
 use Rattle.kp_writer.specs.PortRows.{sep_name, sep_rules, sep_row, svc_rules}
@@ -49,29 +50,45 @@ module _ (s : PlainService) where
   same_marks false None es = refl
   same_marks false (Some range) es = refl
 
-  choice_is : (i : PortInfo) (es : List Endpoint) → choice_rules (endpoint_chain stand_in_name i) es ≡ choice_rules sep_name es
-  choice_is i es = refl
+  module _ (config : Config) where
+    abbrev setting : Setting
+    setting = stand_in_setting V4 config
 
-  list_was : (config : Config) (all es : List Endpoint) → list_rules stand_in_name config (plain_info s all) true es ≡ (mark_rules config.masquerade_all config.cluster (plain_info s all) ++ []) ++ choice_rules (endpoint_chain stand_in_name (plain_info s all)) es
-  list_was config all es = refl
+    abbrev marks : List Endpoint → List Rule
+    marks es = mark_rules setting.config.masquerade_all setting.config.cluster (plain_info s es)
 
-  list_is : (config : Config) (all es : List Endpoint) → list_rules stand_in_name config (plain_info s all) true es ≡ mark_rules config.masquerade_all config.cluster (plain_info s all) ++ choice_rules sep_name es
-  list_is config all es =
-      list_was config all es
-      ∙ (λ k. append-nil (mark_rules config.masquerade_all config.cluster (plain_info s all)) k ++ choice_is (plain_info s all) es k)
+    choice_is : (i : PortInfo) (es : List Endpoint)
+        → choice_rules (endpoint_chain setting i) es ≡ choice_rules sep_name es
+    choice_is i es = refl
 
-  list_same : (config : Config) (es : List Endpoint) → list_rules stand_in_name config (plain_info s es) true es ≡ svc_rules config s es
-  list_same config es = list_is config es es ∙ ap (λ ms. ms ++ choice_rules sep_name es) (same_marks config.masquerade_all config.cluster es)
+    list_was : (all es : List Endpoint)
+        → list_rules setting (plain_info s all) true es
+        ≡ (marks all ++ []) ++ choice_rules (endpoint_chain setting (plain_info s all)) es
+    list_was all es = refl
 
-  rows_of_some : (config : Config) (e : Endpoint) (es : List Endpoint) → port_rows V4 stand_in_name config (plain_info s (e ∷ es)) ≡ row Nat (codes "KUBE-SVC-") (list_rules stand_in_name config (plain_info s (e ∷ es)) true (e ∷ es)) ∷ map sep_row ((e ∷ es) ++ [])
-  rows_of_some config e es = refl
+    list_same : (es : List Endpoint)
+        → list_rules setting (plain_info s es) true es ≡ svc_rules (config_for V4 config) s es
+    list_same es =
+        list_was es es
+        ∙ (λ k. append-nil (marks es) k ++ choice_is (plain_info s es) es k)
+        ∙ ap (λ ms. ms ++ choice_rules sep_name es)
+        (same_marks setting.config.masquerade_all setting.config.cluster es)
 
-  -- the chain that chooses among the endpoints, and theirs
-  pub plain_port_rows : (config : Config) (es : List Endpoint) (b : Bool) → b ≡ (length es == 0) → b ≡ false → port_rows V4 stand_in_name config (plain_info s es) ≡ row Nat (codes "KUBE-SVC-") (svc_rules config s es) ∷ map sep_row es
-  plain_port_rows config [] b h f = absurd (cc)
-  plain_port_rows config (e ∷ es) b h f =
-      rows_of_some config e es
-      ∙ (λ k. row Nat (codes "KUBE-SVC-") (list_same config (e ∷ es) k) ∷ map sep_row (append-nil (e ∷ es) k))
+    rows_of_some : (e : Endpoint) (es : List Endpoint)
+        → port_rows setting (plain_info s (e ∷ es))
+        ≡ row Nat (codes "KUBE-SVC-") (list_rules setting (plain_info s (e ∷ es)) true (e ∷ es))
+        ∷ map sep_row ((e ∷ es) ++ [])
+    rows_of_some e es = refl
+
+    -- the chain that chooses among the endpoints, and theirs
+    pub plain_port_rows : (es : List Endpoint) (b : Bool) → b ≡ (length es == 0) → b ≡ false
+        → port_rows setting (plain_info s es)
+        ≡ row Nat (codes "KUBE-SVC-") (svc_rules (config_for V4 config) s es) ∷ map sep_row es
+    plain_port_rows [] b h f = absurd (cc)
+    plain_port_rows (e ∷ es) b h f =
+        rows_of_some e es
+        ∙ (λ k. row Nat (codes "KUBE-SVC-") (list_same (e ∷ es) k)
+        ∷ map sep_row (append-nil (e ∷ es) k))
 
 -- the chain that chooses was added, and then those of the endpoints
 pub port_rows_from : (new old before : List (ChainAt × List Rule)) (chain : List ℕ) (rules rs : List Rule) (more all : List (ChainAt × List Rule)) → new ≡ old ++ more → old ≡ before ++ row Nat chain rules ∷ [] → rules ≡ rs → all ≡ row Nat chain rs ∷ more → new ≡ before ++ all

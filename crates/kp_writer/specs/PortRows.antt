@@ -4,8 +4,8 @@ use Rattle.kp_base.specs.Net.{single_range}
 use Rattle.kp_base.specs.declared.port.Proto.TheVariants.{Tcp}
 use Rattle.kp_base.specs.declared.key.Endpoint.{Endpoint}
 use Rattle.kp_base.specs.declared.key.PortKey.{PortKey}
-use Rattle.kp_base.specs.declared.config.Config.{Config}
 use Rattle.kp_types.specs.Rules.{rule_of}
+use Rattle.kp_types.specs.Setting.{FamilyConfig}
 use Rattle.kp_types.specs.declared.chain.ChainAt.{ChainAt}
 use Rattle.kp_types.specs.declared.chain.ChainKey.TheVariants.{Sep}
 use Rattle.kp_types.specs.declared.chain.TableName.TheVariants.{Nat}
@@ -36,7 +36,7 @@ abbrev pub mark : Target
 mark = target.Jump mark_masq
 
 -- the rule that marks packets to the cluster address
-abbrev pub svc_marks : Config → PlainService → List Rule
+abbrev pub svc_marks : FamilyConfig → PlainService → List Rule
 svc_marks config s = mark_rules config.masquerade_all config.cluster (plain_info s [])
 
 -- a port's name: stand-in names of endpoints' chains don't tell ports apart
@@ -54,7 +54,7 @@ choice_of (suc zero) e = jump_to (sep_name e)
 choice_of (suc (suc n)) e = chance (suc (suc n)) (target.Jump (sep_name e))
 
 -- the rules of the chain that chooses among the endpoints
-abbrev pub svc_rules : Config → PlainService → List Endpoint → List Rule
+abbrev pub svc_rules : FamilyConfig → PlainService → List Endpoint → List Rule
 svc_rules config s es = svc_marks config s ++ choice_rules sep_name es
 
 -- the rules of an endpoint's chain: what it sends to itself is marked, and all is translated

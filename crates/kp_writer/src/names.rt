@@ -7,7 +7,8 @@ use arrayvec::ArrayString;
 use kp_base::Endpoint;
 use kp_types::ChainName;
 
-/// The name of the chain of an endpoint: `KUBE-SEP-`, eight hexadecimal digits of the address and four of the port.
+/// The name of the chain of an endpoint: `KUBE-SEP-`, eight hexadecimal digits of the address and
+/// four of the port.
 pub(crate) fn endpoint_chain(endpoint: &Endpoint) -> ChainName
     ensures { result ≡ sep_name endpoint.now }
 {

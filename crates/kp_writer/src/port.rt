@@ -3,15 +3,17 @@ ghost use Rattle.std.specs.Prelude.{◌≡◌, ◌++◌, ◌<◌, length, true, 
 ghost use Rattle.std.specs.Option.{option_to_list};
 ghost use Rattle.kp_base.specs.declared.address.Family.TheVariants.{V4};
 ghost use Rattle.kp_base.specs.declared.key.Endpoint.{Endpoint};
+ghost use Rattle.kp_base.specs.declared.config.Config.{Config};
+ghost use Rattle.kp_types.specs.Setting.{config_for};
 ghost use Rattle.kp_table_defs.specs.Layout as layout;
-ghost use Rattle.kp_table_defs.specs.StandIn.{stand_in_name};
+ghost use Rattle.kp_table_defs.specs.StandIn.{stand_in_setting};
 ghost use Rattle.kp_writer.specs.Plain.{plain_info};
 ghost use Rattle.kp_writer.specs.PortRows as spec;
 ghost use Rattle.kp_writer.specs.Rows.{rows_of_texts};
 
 use crate::names::endpoint_chain;
 use crate::rows::{add_chain, add_row, push_some, rule0, rule1, rule2, rule3, two};
-use kp_base::{Cidr, Config, Endpoint, Items, NoMemory, Proto};
+use kp_base::{Cidr, Config, Endpoint, Family, Items, NoMemory, Proto};
 use kp_draws::probability;
 use kp_text_defs::PlainService;
 use kp_types::{ChainName, ChainText, Match, Rule, TableName, Target};
@@ -56,8 +58,9 @@ pub(crate) fn service_rules(
     service: &PlainService,
     endpoints: &[Endpoint],
 ) -> Result<Vec<Rule>, NoMemory>
-    ensures { IfOk result (λ rs. rs.items
-        ≡ layout.service_block stand_in_name (plain_info service.now endpoints.now)) }
+    ensures { IfOk result (λ rs. (config : Config) → rs.items
+        ≡ layout.service_block (stand_in_setting V4 config)
+        (plain_info service.now endpoints.now)) }
 {
     let mut rules = Vec::new(alloc);
     if endpoints.is_empty() {
@@ -93,7 +96,8 @@ pub(crate) fn port_rows(
     endpoints: &[Endpoint],
 ) -> Result<(), NoMemory>
     ensures { OnOk result (rows_of_texts rows.new.items ≡ rows_of_texts rows.old.items
-        ++ layout.port_rows V4 stand_in_name config.now (plain_info service.now endpoints.now)) }
+        ++ layout.port_rows (stand_in_setting V4 config.now)
+        (plain_info service.now endpoints.now)) }
 {
     if endpoints.is_empty() {
         return Ok(());
@@ -111,7 +115,8 @@ fn list_rules(
     service: &PlainService,
     endpoints: &[Endpoint],
 ) -> Result<Items<Rule>, NoMemory>
-    ensures { IfOk result (λ rs. rs ≡ spec.svc_rules config.now service.now endpoints.now) }
+    ensures { IfOk result (λ rs. rs
+        ≡ spec.svc_rules (config_for V4 config.now) service.now endpoints.now) }
 {
     let mut rules = Vec::new(alloc);
     push_some(&mut rules, mark_rule(config, service))?;
@@ -119,21 +124,22 @@ fn list_rules(
     Ok(Items::from_vec(rules))
 }
 
-/// The rule that marks packets to the cluster address: all of them, or those from outside the cluster's range.
+/// The rule that marks packets to the cluster address: all of them, or those from outside the
+/// cluster's range of IPv4, where there is one.
 fn mark_rule(config: &Config, service: &PlainService) -> Option<Rule>
-    ensures { option_to_list result ≡ spec.svc_marks config.now service.now }
+    ensures { option_to_list result ≡ spec.svc_marks (config_for V4 config.now) service.now }
 {
     if config.masquerade_all {
         return Some(rule_at(service, mark()));
     }
     match config.cluster {
-        None => None,
-        Some(range) => Some(rule3(
+        Some(range) if range.base().family() == Family::V4 => Some(rule3(
             Match::Src { range, not: true },
             to_address(service),
             to_port(service),
             mark(),
         )),
+        _ => None,
     }
 }
 

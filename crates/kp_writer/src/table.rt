@@ -1,10 +1,12 @@
 //! The full table, row by row.
 ghost use Rattle.std.specs.Prelude.{◌≡◌, ◌∷◌, [], IfOk};
+ghost use Rattle.std.specs.FinMap.{get};
 ghost use Rattle.std.specs.Option.{option_copied};
 ghost use Rattle.kp_base.specs.declared.address.Family.TheVariants.{V4};
 ghost use Rattle.kp_table_defs.specs.Layout as layout;
+ghost use Rattle.kp_table_defs.specs.Plain.{HasNoRecent};
 ghost use Rattle.kp_table_defs.specs.Rebuild as rebuild;
-ghost use Rattle.kp_table_defs.specs.StandIn.{stand_in_name};
+ghost use Rattle.kp_table_defs.specs.StandIn.{stand_in_setting};
 ghost use Rattle.kp_writer.specs.Plain.{objects_with, plain_info, plain_infos};
 ghost use Rattle.kp_writer.specs.Rows.{rows_of_texts, table_with};
 
@@ -18,15 +20,32 @@ use kp_text_defs::{PlainService, PlainSlice};
 use kp_types::ChainText;
 use std::alloc::Global;
 
-/// The full table of the IPv4 ports of one Service and one slice at most, laid out as kube-proxy's iptables mode
-/// lays it out (Kubernetes documents on virtual IPs). Its count of batches is 0. The only error is want of memory.
+/// The full table of the IPv4 ports of one Service and one slice at most, laid out as kube-proxy's
+/// iptables mode lays it out (Kubernetes documents on virtual IPs). Its count of batches is 0. The
+/// only error is want of memory.
 pub fn full_table(
     alloc: Global,
     config: &Config,
     service: Option<&PlainService>,
     slice: Option<&PlainSlice>,
 ) -> Result<Table, NoMemory>
-    ensures { IfOk result (λ t. t ≡ rebuild.full_table V4 stand_in_name config.now
+    ensures full { IfOk result (λ t. t ≡ rebuild.full_table (stand_in_setting V4 config.now)
+        (objects_with (option_copied service.entry) (option_copied slice.entry))) }
+    // No rule asks a recent list.
+    ensures plain { IfOk result (λ t. HasNoRecent (get t.chains)) }
+{
+    kp_walk_laws::full_table_plain();
+    laws::plain_ports();
+    whole_table(alloc, config, service, slice)
+}
+
+fn whole_table(
+    alloc: Global,
+    config: &Config,
+    service: Option<&PlainService>,
+    slice: Option<&PlainSlice>,
+) -> Result<Table, NoMemory>
+    ensures { IfOk result (λ t. t ≡ rebuild.full_table (stand_in_setting V4 config.now)
         (objects_with (option_copied service.entry) (option_copied slice.entry))) }
 {
     laws::plain_infos();
@@ -42,7 +61,7 @@ fn all_rows(
     slice: Option<&PlainSlice>,
 ) -> Result<Vec<ChainText>, NoMemory>
     ensures { IfOk result (λ rows. rows_of_texts rows.items
-        ≡ layout.rows_of V4 stand_in_name config.now
+        ≡ layout.rows_of (stand_in_setting V4 config.now)
         (plain_infos (option_copied service.entry) (option_copied slice.entry))) }
 {
     match service {
@@ -60,7 +79,7 @@ fn all_rows(
 /// The rows where no port is known.
 fn rows_without(alloc: Global, config: &Config) -> Result<Vec<ChainText>, NoMemory>
     ensures { IfOk result (λ rows. rows_of_texts rows.items
-        ≡ layout.rows_of V4 stand_in_name config.now []) }
+        ≡ layout.rows_of (stand_in_setting V4 config.now) []) }
 {
     let mut rows = Vec::new(alloc);
     nat_rows(alloc, &mut rows, Vec::new(alloc))?;
@@ -76,7 +95,8 @@ fn rows_with(
     endpoints: &[Endpoint],
 ) -> Result<Vec<ChainText>, NoMemory>
     ensures { IfOk result (λ rows. rows_of_texts rows.items
-        ≡ layout.rows_of V4 stand_in_name config.now (plain_info service.now endpoints.now ∷ [])) }
+        ≡ layout.rows_of (stand_in_setting V4 config.now)
+        (plain_info service.now endpoints.now ∷ [])) }
 {
     let mut rows = Vec::new(alloc);
     let services = service_rules(alloc, service, endpoints)?;

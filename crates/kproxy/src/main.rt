@@ -2,16 +2,47 @@
 #![tactic(auto)]
 
 use kp_io::{RealSink, RealSource};
-use kp_run::run;
-use std::io::BufWriter;
+use kp_run::{Status, run};
+use std::io::{BufWriter, ErrorKind};
 use std::process::ExitCode;
 use std::{env, io};
 
-fn main(rt: HostRuntime) -> io::Result<ExitCode> {
+fn main(rt: HostRuntime) -> ExitCode {
+    // Before the run begins nothing fails but for want of memory.
+    let status = run_here(&rt).unwrap_or(Status::NoMemory);
+    if let Some(why) = complaint(status) {
+        // Where standard error takes nothing, the status alone tells it.
+        let _ = eprintln!(rt; "kproxy: {why}");
+    }
+    ExitCode::from(status.code())
+}
+
+/// Runs the program over standard input and output.
+fn run_here(rt: &HostRuntime) -> io::Result<Status> {
     let alloc = rt.alloc();
-    let words: Vec<String> = env::args(&rt)?.collect(alloc)?;
+    let words = words_of(rt)?;
     let mut source = RealSource::new(rt.reader());
-    let mut sink = RealSink::new(BufWriter::new(alloc, io::writer(&rt))?);
-    let status = run(alloc, words.as_slice(), &mut source, &mut sink);
-    Ok(ExitCode::from(status.code()))
+    let mut sink = RealSink::new(BufWriter::new(alloc, io::writer(rt))?);
+    Ok(run(alloc, words.as_slice(), &mut source, &mut sink))
+}
+
+/// The program's words, or none where one of them isn't UTF-8: neither fits.
+fn words_of(rt: &HostRuntime) -> io::Result<Vec<String>> {
+    let alloc = rt.alloc();
+    match env::args(rt) {
+        Ok(words) => Ok(words.collect(alloc)?),
+        Err(error) if error.kind() == ErrorKind::InvalidData => Ok(Vec::new(alloc)),
+        Err(error) => Err(error),
+    }
+}
+
+/// What is said on standard error of a run that ended before all was read and written.
+fn complaint(status: Status) -> Option<&'static str> {
+    match status {
+        Status::Done | Status::Usage | Status::LinesRefused => None,
+        Status::NoMemory => Some("out of memory"),
+        Status::ReadFault => Some("the input can't be read"),
+        Status::WriteFault => Some("the output can't be written"),
+        Status::InputTooLong => Some("the input is longer than 4294967296 bytes"),
+    }
 }

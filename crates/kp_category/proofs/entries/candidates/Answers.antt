@@ -3,6 +3,8 @@ use Rattle.std.specs.List.{list_all}
 use Rattle.std.proofs.lemmas.Result.{IfOk-weaker}
 use Rattle.kp_base.specs.declared.address.Family.TheVariants.{V4}
 use Rattle.kp_object_defs.specs.Entries.{counted_once, is_of_family}
+use Rattle.kp_object_laws.specs.ListLaws.{are_in_order}
+use Rattle.kp_object_laws.proofs.Lists.{counted_in_order}
 use Rattle.kp_category.proofs.OneFamily.{entries_of_family}
 use Rattle.kp_category.proofs.entries.candidates.Goals as goal
 
@@ -12,4 +14,10 @@ returns-clause-family c =
     (λ cs same.
     ap (list_all (is_of_family V4)) (same ∙ ap counted_once c.in_ok-found.ensures)
     ∙ entries_of_family V4 c.args.node.now c.args.port.now c.as_slice.result.now c.as_slice-2.result.now)
+    c.counted_once.ensures
+
+pub returns-clause-in_order : goal.returns-clause-in_order
+returns-clause-in_order c =
+    IfOk-weaker c.counted_once.result (λ cs. cs ≡ counted_once c.in_ok-found.found.items) (λ cs. are_in_order cs ≡ true)
+    (λ cs same. ap are_in_order same ∙ counted_in_order c.in_ok-found.found.items)
     c.counted_once.ensures

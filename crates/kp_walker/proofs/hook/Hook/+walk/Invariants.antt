@@ -21,8 +21,8 @@ abbrev pub invariant-run_rules-loop-rule : goal.invariant-run_rules-loop-rule
 invariant-run_rules-loop-rule l = record {
   same : (lists : RecentParts)
       → rules_outcome (surroundings_of l.self.around) (jump_of l.self l.depth) (drop l.rule-index l.rules)
-      (state_of l.self.packet l.progress lists)
+      (state_of l.self.header l.progress lists)
       ≡ rules_outcome (surroundings_of l.self.around) (jump_of l.self l.depth) l.rules
-      (state_of l.self.packet l.fn.progress lists);
+      (state_of l.self.header l.fn.progress lists);
   new : l.pass.chains.items ≡ [];
 }

@@ -11,7 +11,7 @@ use Rattle.kp_walker.proofs.hook.Hook.try_all.Given as goal
 abbrev pub invariant-loop-matched : goal.invariant-loop-matched
 invariant-loop-matched l = record {
   same : (lists : RecentParts)
-      → walk.try_all (surroundings_of l.self.around) (drop l.matched-index l.matches) (state_of l.self.packet l.progress lists)
-      ≡ walk.try_all (surroundings_of l.self.around) l.matches (state_of l.self.packet l.fn.progress lists);
+      → walk.try_all (surroundings_of l.self.around) (drop l.matched-index l.matches) (state_of l.self.header l.progress lists)
+      ≡ walk.try_all (surroundings_of l.self.around) l.matches (state_of l.self.header l.fn.progress lists);
   plain : list_all is_plain_match (drop l.matched-index l.matches) ≡ true;
 }

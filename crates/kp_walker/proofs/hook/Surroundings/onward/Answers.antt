@@ -9,7 +9,7 @@ pub returns : goal.returns
 returns c lists =
     let e = surroundings_of c.args.self.now in
     let at = lookup_of c.args.self.now in
-    let from = c.args.journey.now.packet.from in
+    let from = c.args.self.now.packet.now.from in
     let filtered = c.filter.ensures.hooks lists in
     c.leave.ensures lists
     ∙ ap (λ leaving. walk.postrouting_if leaving e at (journey_of c.filter.new.journey lists))

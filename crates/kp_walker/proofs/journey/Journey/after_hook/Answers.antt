@@ -9,7 +9,7 @@ use Rattle.kp_walker.proofs.journey.Journey.after_hook.Goals as goal
 pub returns-in-Ended-clause-hook : goal.returns-in-Ended-clause-hook
 returns-in-Ended-clause-hook c lists =
     let old = c.args.self.now in
-    let j = walk.in_state (journey_of old lists) (state_of old.packet c.in-Ended.progress lists) in
+    let j = walk.in_state (journey_of old lists) (state_of old.header c.in-Ended.progress lists) in
     rw c.in-Ended.is
     (c.ended_by.ensures.ended lists
     ∙ ap (λ trail. walk.ended_by (stage_of c.args.stage) c.in-Ended.ending (record j { trail = trail }))

@@ -1,0 +1,20 @@
+-- The setting of the product: hashed names of the configured length, and endpoints picked by draws.
+use Rattle.std.specs.Prelude.{ℕ}
+use Rattle.kp_base.specs.declared.address.Family.{Family}
+use Rattle.kp_base.specs.declared.config.Config.{Config}
+use Rattle.kp_types.specs.Setting.{Pick, Setting, config_for}
+use Rattle.kp_choice_defs.specs.Draws.{selected_index}
+use Rattle.kp_choice_defs.specs.Names.{chain_name}
+
+-- the pick of the statistic rules of a list, whose first test has the packet's first draw
+abbrev pub pick_by_draws : Pick
+pick_by_draws draws n = selected_index draws 0 n
+
+-- the setting of a configuration in a family
+abbrev pub setting_of : Family → Config → Setting
+setting_of family config = record {
+  family = family;
+  name_of = chain_name config.name_length;
+  pick = pick_by_draws;
+  config = config_for family config;
+}

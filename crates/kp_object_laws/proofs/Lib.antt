@@ -1,0 +1,8 @@
+pub mod Lists
+pub mod OwnEntries
+mod OwnKeys
+mod PortByKey
+mod SameElements
+mod SlicesNow
+pub mod Usable
+pub mod Wanted

@@ -1,0 +1,8 @@
+use Rattle.kp_object_laws.proofs.Lists.{counted_in_order, entries_in_order}
+use Rattle.kp_object_laws.proofs.endpoints_in_order.Goals as goal
+
+pub returns-clause-counted : goal.returns-clause-counted
+returns-clause-counted c = counted_in_order
+
+pub returns-clause-entries : goal.returns-clause-entries
+returns-clause-entries c = entries_in_order

@@ -1,0 +1,287 @@
+-- The changes between two canonical tables that agree on the built-in chains are a canonical batch.
+use Rattle.std.proofs.Common.{◌≡◌, Bool, true, false, ◌==◌, ◌&&◌, not, cond, List, [], ◌∷◌, ◌++◌, bytes_eq, filter, fold, Option, Some, None, is_some, T, refl, sym, ap, ◌∙◌}
+use Rattle.std.specs.Ordering.{nat_cmp, is_lt, ordering_then}
+use Rattle.std.specs.declared.cmp.Ordering.{Ordering}
+use Rattle.std.specs.declared.cmp.Ordering.TheVariants.{Less}
+use Rattle.std.specs.FinMap.{entries, entries_sorted, get}
+use Rattle.std.specs.FinMap.Entries.{is_sorted, below_all}
+use Rattle.std.specs.List.{list_all, filter_map, cons_option, AllByRecursion}
+use Rattle.std.proofs.lemmas.Bool.{and_parts, and_from, false≢true}
+use Rattle.std.proofs.lemmas.Cmp.{tied_itself}
+use Rattle.kp_base.specs.declared.address.Family.{Family}
+use Rattle.kp_base.specs.Keys.{text_cmp}
+use Rattle.kp_types.specs.Chains.{is_chain_name}
+use Rattle.kp_types.specs.Places.{chain_cmp, table_place}
+use Rattle.kp_types.specs.declared.chain.TableName.{TableName}
+use Rattle.kp_types.specs.declared.chain.TableName.TheVariants.{Nat, Filter}
+use Rattle.kp_types.specs.declared.chain.ChainAt.{ChainAt}
+use Rattle.kp_types.specs.declared.rule.Rule.{Rule}
+use Rattle.kp_types.specs.declared.rule.Edit.{Edit}
+use Rattle.kp_types.specs.declared.rule.Edit.TheVariants.{Write, Remove}
+use Rattle.kp_types.proofs.ChainOrder.{chain_total}
+use Rattle.kp_table_defs.specs.Edits.{chains_after_edit, is_found_with, write_if_changed, remove_if_gone, chains_in, table_changes, changes_between}
+use Rattle.kp_table_defs.specs.Ranks.{is_built_in, has_built_in_chains}
+use Rattle.kp_table_defs.specs.Rebuild.{Chains}
+use Rattle.kp_rules.proofs.MapPlaces.{both, less}
+use Rattle.kp_rules.proofs.ChangeLists.{Entries, entries_found, every}
+use Rattle.kp_rules.proofs.ChangesLead.{all_append, In_option, all_filter_map, changes_lead, same_rules_exact}
+use Rattle.kp_restore_defs.specs.RuleText.{is_canonical_rule}
+use Rattle.kp_restore_defs.specs.TableText.{may_stand, is_canonical_chain, is_canonical_table}
+use Rattle.kp_restore_defs.specs.BatchText.{place_of, kind_place, edit_cmp, are_in_order, is_same_place, edit_each_once, is_canonical_edit, is_canonical_batch}
+use Rattle.kp_restore_defs.specs.BatchesBetween.{HaveSameBuiltIn, ChangesAreCanonical, ReadChangesLeadOver}
+use Rattle.kp_restore.proofs.BatchOrder.{same_name}
+use Rattle.kp_restore.proofs.BatchRows.{none_of, same_table}
+use Rattle.kp_restore.proofs.BatchTexts.{batch_texts_differ}
+use Rattle.kp_rule_text.proofs.Words.{all_weaker}
+
+-- ---- Pairs of a list
+
+-- each element with each one behind it
+abbrev EachPair : {X : Type 0} → (X → X → Type 0) → List X → Type 0
+EachPair R [] = Unit {0}
+EachPair R (x ∷ xs) = AllByRecursion (R x) xs × EachPair R xs
+
+pairs_append : {X : Type 0} (R : X → X → Type 0) (xs ys : List X) → EachPair R xs → EachPair R ys → AllByRecursion (λ x. AllByRecursion (R x) ys) xs → EachPair R (xs ++ ys)
+pairs_append R [] ys p q a = q
+pairs_append R (x ∷ xs) ys p q a = (all_append (R x) xs ys p.0 a.0, pairs_append R xs ys p.1 q a.1)
+
+-- what passes a test, with the test
+all_kept : {X : Type 0} (P : X → Type 0) (test : X → Bool) (xs : List X) → AllByRecursion P xs → AllByRecursion (λ x. P x × (test x ≡ true)) (filter test xs)
+all_kept P test [] a = tt
+all_kept P test (x ∷ xs) a = by (test x) refl (all_kept P test xs a.1)
+  where
+    by : (b : Bool) → test x ≡ b → AllByRecursion (λ x. P x × (test x ≡ true)) (filter test xs) → AllByRecursion (λ x. P x × (test x ≡ true)) (cond b (x ∷ filter test xs) (filter test xs))
+    by true t rest = ((a.0, t), rest)
+    by false t rest = rest
+
+pairs_kept : {X : Type 0} (R : X → X → Type 0) (test : X → Bool) (xs : List X) → EachPair R xs → EachPair R (filter test xs)
+pairs_kept R test [] p = tt
+pairs_kept R test (x ∷ xs) p = by (test x) (pairs_kept R test xs p.1)
+  where
+    by : (b : Bool) → EachPair R (filter test xs) → EachPair R (cond b (x ∷ filter test xs) (filter test xs))
+    by true rest = (every (λ y. R x y × (test y ≡ true)) (R x) (λ y h. h.0) (filter test xs) (all_kept (R x) test xs p.0), rest)
+    by false rest = rest
+
+pairs_given : {X Y : Type 0} (R : X → X → Type 0) (S : Y → Y → Type 0) (f : X → Option Y) → ((a b : X) → R a b → In_option (λ y. In_option (S y) (f b)) (f a)) → (xs : List X) → EachPair R xs → EachPair S (filter_map f xs)
+pairs_given R S f h [] p = tt
+pairs_given {X = X} {Y = Y} R S f h (x ∷ xs) p = by (f x) (h x) (pairs_given R S f h xs p.1)
+  where
+    by : (o : Option Y) → ((b : X) → R x b → In_option (λ y. In_option (S y) (f b)) o) → EachPair S (filter_map f xs) → EachPair S (cons_option o (filter_map f xs))
+    by None g rest = rest
+    by (Some y) g rest = (all_filter_map (S y) f xs (every (R x) (λ b. In_option (S y) (f b)) g xs p.0), rest)
+
+all_true : {X : Type 0} (p : X → Bool) (P : X → Type 0) → ((x : X) → P x → p x ≡ true) → (xs : List X) → AllByRecursion P xs → list_all p xs ≡ true
+all_true p P f [] a = refl
+all_true p P f (x ∷ xs) a = and_from _ _ (f x a.0) (all_true p P f xs a.1)
+
+all_hold : {X : Type 0} (p : X → Bool) (xs : List X) → list_all p xs ≡ true → AllByRecursion (λ x. p x ≡ true) xs
+all_hold p [] h = tt
+all_hold p (x ∷ xs) h = let parts = and_parts _ _ h in (parts.0, all_hold p xs parts.1)
+
+both_hold : {X : Type 0} (P Q : X → Type 0) (xs : List X) → AllByRecursion P xs → AllByRecursion Q xs → AllByRecursion (λ x. P x × Q x) xs
+both_hold P Q [] a b = tt
+both_hold P Q (x ∷ xs) a b = ((a.0, b.0), both_hold P Q xs a.1 b.1)
+
+-- ---- Entries in order
+
+below : (e : ChainAt × List Rule) (es : Entries) → T (below_all chain_cmp e.0 es) → AllByRecursion (λ f. chain_cmp e.0 f.0 ≡ Less) es
+below e [] h = tt
+below e (f ∷ es) h = let parts = both _ _ h in (less _ parts.0, below e es parts.1)
+
+sorted_pairs : (es : Entries) → T (is_sorted chain_cmp es) → EachPair (λ e f. chain_cmp e.0 f.0 ≡ Less) es
+sorted_pairs [] h = tt
+sorted_pairs (e ∷ es) h = let parts = both _ _ h in (below e es parts.0, sorted_pairs es parts.1)
+
+-- ---- Edits that may stand one before the other
+
+abbrev StandsBefore : Edit → Edit → Type 0
+StandsBefore a b = (is_lt (edit_cmp a b) ≡ true) × (is_same_place a b ≡ false)
+
+in_order : (es : List Edit) → EachPair StandsBefore es → are_in_order es ≡ true
+in_order [] p = refl
+in_order (e ∷ es) p = and_from _ _ (all_true _ (StandsBefore e) (λ x s. s.0) es p.0) (in_order es p.1)
+
+once : (es : List Edit) → EachPair StandsBefore es → edit_each_once es ≡ true
+once [] p = refl
+once (e ∷ es) p = and_from _ _ (none_of (is_same_place e) es ∙ all_true _ (StandsBefore e) (λ x s. ap not s.1) es p.0) (once es p.1)
+
+-- different places
+apart : (a b : ChainAt) → (a ≡ b → ⊥) → (table_place a.table == table_place b.table && bytes_eq a.chain b.chain) ≡ false
+apart a b other = by (table_place a.table == table_place b.table && bytes_eq a.chain b.chain) refl
+  where
+    by : (t : Bool) → (table_place a.table == table_place b.table && bytes_eq a.chain b.chain) ≡ t → t ≡ false
+    by false e = refl
+    by true e =
+        let parts = and_parts (table_place a.table == table_place b.table) (bytes_eq a.chain b.chain) e in
+        absurd (other (λ i. record { table = same_table a.table b.table parts.0 i; chain = same_name a.chain b.chain parts.1 i }))
+
+less_apart : (a b : ChainAt) → chain_cmp a b ≡ Less → a ≡ b → ⊥
+less_apart a b h e = false≢true (sym (ap is_lt (tied_itself chain_total a)) ∙ ap (λ c. is_lt (chain_cmp a c)) e ∙ ap is_lt h)
+
+writes_stand : (before : Chains) (a b : ChainAt × List Rule) → chain_cmp a.0 b.0 ≡ Less → In_option (λ x. In_option (StandsBefore x) (write_if_changed before b)) (write_if_changed before a)
+writes_stand before a b h = by (is_found_with a.1 (get before a.0)) (is_found_with b.1 (get before b.0))
+  where
+    by : (s t : Bool) → In_option (λ x. In_option (StandsBefore x) (cond t None (Some (Write b.0 b.1)))) (cond s None (Some (Write a.0 a.1)))
+    by true t = tt
+    by false true = tt
+    by false false = (ap is_lt h, apart a.0 b.0 (less_apart a.0 b.0 h))
+
+removes_stand : (after : Chains) (a b : ChainAt × List Rule) → chain_cmp a.0 b.0 ≡ Less → In_option (λ x. In_option (StandsBefore x) (remove_if_gone after b)) (remove_if_gone after a)
+removes_stand after a b h = by (is_some (get after a.0)) (is_some (get after b.0))
+  where
+    by : (s t : Bool) → In_option (λ x. In_option (StandsBefore x) (cond t None (Some (Remove b.0)))) (cond s None (Some (Remove a.0)))
+    by true t = tt
+    by false true = tt
+    by false false = (ap is_lt h, apart a.0 b.0 (less_apart a.0 b.0 h))
+
+-- ---- The changes of a table
+
+module _ (family : Family) (before after : Chains) (first : is_canonical_table family before ≡ true) (second : is_canonical_table family after ≡ true) (same : HaveSameBuiltIn before after) where
+  -- an entry of a canonical table
+  abbrev IsEntry : Chains → ChainAt × List Rule → Type 0
+  IsEntry chains e = (get chains e.0 ≡ Some e.1) × (is_canonical_chain family chains e ≡ true)
+
+  entries_are : (chains : Chains) → is_canonical_table family chains ≡ true → AllByRecursion (IsEntry chains) (entries chains)
+  entries_are chains h =
+      both_hold (λ e. get chains e.0 ≡ Some e.1) (λ e. is_canonical_chain family chains e ≡ true) (entries chains) (entries_found chains)
+      (all_hold (is_canonical_chain family chains) (entries chains) (and_parts (has_built_in_chains chains) _ h).1)
+
+  -- a write of a chain of the table, as the second table has it
+  abbrev IsWriteIn : TableName → Edit → Type 0
+  IsWriteIn table (Write at rules) = (at.table ≡ table) × ((get after at ≡ Some rules) × (is_canonical_edit family (Write at rules) ≡ true))
+  IsWriteIn table (Remove at) = ⊥
+
+  -- a remove of a chain of the table that the second lacks
+  abbrev IsRemoveIn : TableName → Edit → Type 0
+  IsRemoveIn table (Write at rules) = ⊥
+  IsRemoveIn table (Remove at) = (at.table ≡ table) × ((get after at ≡ None) × (is_canonical_edit family (Remove at) ≡ true))
+
+  write_is : (table : TableName) (e : ChainAt × List Rule) → IsEntry after e × (table_place e.0.table == table_place table ≡ true) → In_option (IsWriteIn table) (write_if_changed before e)
+  write_is table e h = by (is_found_with e.1 (get before e.0)) refl
+    where
+      named : is_chain_name e.0.chain ≡ true
+      named = (and_parts (is_chain_name e.0.chain) (list_all (may_stand family after e.0.table) e.1) h.0.1).0
+
+      ruled : list_all (is_canonical_rule family) e.1 ≡ true
+      ruled =
+          all_weaker (may_stand family after e.0.table) (is_canonical_rule family) (λ r k. (and_parts (is_canonical_rule family r) _ k).0) e.1
+          (and_parts (is_chain_name e.0.chain) (list_all (may_stand family after e.0.table) e.1) h.0.1).1
+
+      other : (b : Bool) → is_built_in e.0.table e.0.chain ≡ b → is_found_with e.1 (get before e.0) ≡ false → not b ≡ true
+      other false t k = refl
+      other true t k = absurd (false≢true (sym k ∙ ap (is_found_with e.1) (same e.0 t ∙ h.0.0) ∙ (same_rules_exact e.1 e.1).1 refl))
+
+      by : (b : Bool) → is_found_with e.1 (get before e.0) ≡ b → In_option (IsWriteIn table) (cond b None (Some (Write e.0 e.1)))
+      by true k = tt
+      by false k = (same_table e.0.table table h.1, (h.0.0, and_from _ _ named (and_from _ _ (other (is_built_in e.0.table e.0.chain) refl k) ruled)))
+
+  remove_is : (table : TableName) (e : ChainAt × List Rule) → IsEntry before e × (table_place e.0.table == table_place table ≡ true) → In_option (IsRemoveIn table) (remove_if_gone after e)
+  remove_is table e h = by (get after e.0) refl
+    where
+      gone : {X : Type 0} (x : X) → Some x ≡ None → ⊥
+      gone x k = cc
+
+      other : (b : Bool) → is_built_in e.0.table e.0.chain ≡ b → get after e.0 ≡ None → not b ≡ true
+      other false t k = refl
+      other true t k = absurd (gone e.1 (sym h.0.0 ∙ same e.0 t ∙ k))
+
+      by : (o : Option (List Rule)) → get after e.0 ≡ o → In_option (IsRemoveIn table) (cond (is_some o) None (Some (Remove e.0)))
+      by (Some rules) k = tt
+      by None k = (
+        same_table e.0.table table h.1,
+        (k, and_from _ _ (and_parts (is_chain_name e.0.chain) _ h.0.1).0 (and_from _ _ (other (is_built_in e.0.table e.0.chain) refl k) refl)),
+      )
+
+  -- both kinds of changes of a table
+  abbrev writes : TableName → List Edit
+  writes table = filter_map (write_if_changed before) (chains_in table after)
+
+  abbrev removes : TableName → List Edit
+  removes table = filter_map (remove_if_gone after) (chains_in table before)
+
+  all_writes : (table : TableName) → AllByRecursion (IsWriteIn table) (writes table)
+  all_writes table =
+      let test : ChainAt × List Rule → Bool = λ e. table_place e.0.table == table_place table in
+      all_filter_map (IsWriteIn table) (write_if_changed before) (filter test (entries after))
+      (every (λ e. IsEntry after e × (test e ≡ true)) (λ e. In_option (IsWriteIn table) (write_if_changed before e)) (write_is table) (filter test (entries after))
+      (all_kept (IsEntry after) test (entries after) (entries_are after second)))
+
+  all_removes : (table : TableName) → AllByRecursion (IsRemoveIn table) (removes table)
+  all_removes table =
+      let test : ChainAt × List Rule → Bool = λ e. table_place e.0.table == table_place table in
+      all_filter_map (IsRemoveIn table) (remove_if_gone after) (filter test (entries before))
+      (every (λ e. IsEntry before e × (test e ≡ true)) (λ e. In_option (IsRemoveIn table) (remove_if_gone after e)) (remove_is table) (filter test (entries before))
+      (all_kept (IsEntry before) test (entries before) (entries_are before first)))
+
+  -- a write stands before the removes of its table
+  write_stands : (table : TableName) (a b : Edit) → IsWriteIn table a → IsRemoveIn table b → StandsBefore a b
+  write_stands table (Write at rules) (Write to other) w r = absurd r
+  write_stands table (Remove at) b w r = absurd w
+  write_stands table (Write at rules) (Remove to) w r = (
+    (λ i. is_lt (ordering_then (nat_cmp (table_place (w.0 i)) (table_place (r.0 i))) (ordering_then (nat_cmp 0 1) (text_cmp at.chain to.chain)))) ∙ kinds table,
+    apart at to (λ e. there (sym w.1.0 ∙ ap (get after) e ∙ r.1.0)),
+  )
+    where
+      kinds : (t : TableName) → is_lt (ordering_then (nat_cmp (table_place t) (table_place t)) (ordering_then (nat_cmp 0 1) (text_cmp at.chain to.chain))) ≡ true
+      kinds Nat = refl
+      kinds Filter = refl
+
+      there : Some rules ≡ None → ⊥
+      there k = cc
+
+  changes_stand : (table : TableName) → EachPair StandsBefore (table_changes before after table)
+  changes_stand table =
+      let test : ChainAt × List Rule → Bool = λ e. table_place e.0.table == table_place table in
+      pairs_append StandsBefore (writes table) (removes table)
+      (pairs_given (λ e f. chain_cmp e.0 f.0 ≡ Less) StandsBefore (write_if_changed before) (writes_stand before) (filter test (entries after))
+      (pairs_kept (λ e f. chain_cmp e.0 f.0 ≡ Less) test (entries after) (sorted_pairs (entries after) (entries_sorted after))))
+      (pairs_given (λ e f. chain_cmp e.0 f.0 ≡ Less) StandsBefore (remove_if_gone after) (removes_stand after) (filter test (entries before))
+      (pairs_kept (λ e f. chain_cmp e.0 f.0 ≡ Less) test (entries before) (sorted_pairs (entries before) (entries_sorted before))))
+      (every (IsWriteIn table) (λ a. AllByRecursion (StandsBefore a) (removes table))
+      (λ a w. every (IsRemoveIn table) (StandsBefore a) (λ b r. write_stands table a b w r) (removes table) (all_removes table)) (writes table) (all_writes table))
+
+  -- ---- Both tables
+
+  -- a canonical edit of the table
+  abbrev IsGoodIn : TableName → Edit → Type 0
+  IsGoodIn table e = ((place_of e).table ≡ table) × (is_canonical_edit family e ≡ true)
+
+  good_write : (table : TableName) (e : Edit) → IsWriteIn table e → IsGoodIn table e
+  good_write table (Write at rules) w = (w.0, w.1.1)
+  good_write table (Remove at) w = absurd w
+
+  good_remove : (table : TableName) (e : Edit) → IsRemoveIn table e → IsGoodIn table e
+  good_remove table (Write at rules) r = absurd r
+  good_remove table (Remove at) r = (r.0, r.1.1)
+
+  all_good : (table : TableName) → AllByRecursion (IsGoodIn table) (table_changes before after table)
+  all_good table =
+      all_append (IsGoodIn table) (writes table) (removes table)
+      (every (IsWriteIn table) (IsGoodIn table) (good_write table) (writes table) (all_writes table))
+      (every (IsRemoveIn table) (IsGoodIn table) (good_remove table) (removes table) (all_removes table))
+
+  tables_stand : (a b : Edit) → IsGoodIn Nat a → IsGoodIn Filter b → StandsBefore a b
+  tables_stand a b n f =
+      let parts : Ordering = ordering_then (nat_cmp (kind_place a) (kind_place b)) (text_cmp (place_of a).chain (place_of b).chain) in (
+        λ i. is_lt (ordering_then (nat_cmp (table_place (n.0 i)) (table_place (f.0 i))) parts),
+        λ i. table_place (n.0 i) == table_place (f.0 i) && bytes_eq (place_of a).chain (place_of b).chain,
+      )
+
+  canonical : is_canonical_batch family (changes_between before after) ≡ true
+  canonical =
+      let stand = pairs_append StandsBefore (table_changes before after Nat) (table_changes before after Filter) (changes_stand Nat) (changes_stand Filter)
+      (every (IsGoodIn Nat) (λ a. AllByRecursion (StandsBefore a) (table_changes before after Filter))
+      (λ a n. every (IsGoodIn Filter) (StandsBefore a) (λ b f. tables_stand a b n f) (table_changes before after Filter) (all_good Filter)) (table_changes before after Nat) (all_good Nat)) in
+      let good : (table : TableName) → AllByRecursion (λ e. is_canonical_edit family e ≡ true) (table_changes before after table) =
+      λ table. every (IsGoodIn table) (λ e. is_canonical_edit family e ≡ true) (λ e g. g.1) (table_changes before after table) (all_good table) in
+      and_from _ _
+      (all_true (is_canonical_edit family) (λ e. is_canonical_edit family e ≡ true) (λ e h. h) (changes_between before after) (all_append (λ e. is_canonical_edit family e ≡ true) _ _ (good Nat) (good Filter)))
+      (and_from _ _ (in_order (changes_between before after) stand) (once (changes_between before after) stand))
+
+pub changes_canonical : ChangesAreCanonical
+changes_canonical family before after first second same = canonical family before after first second same
+
+pub read_changes_lead : ReadChangesLeadOver
+read_changes_lead family before after first second same edits good text =
+    ap (fold chains_after_edit before) (batch_texts_differ family edits (changes_between before after) good (canonical family before after first second same) text)
+    ∙ changes_lead before after

@@ -1,0 +1,5 @@
+mod Deeper
+mod Found
+pub mod PortOrder
+pub mod PortRows
+pub mod Traversed

@@ -1,0 +1,29 @@
+//! Laws of the full table over the definitions alone. Each is the contract of a function that does nothing.
+#![tactic(auto)]
+
+ghost use Rattle.kp_table_laws.specs.Laws.{PortsAreInOrder, PortsMakeTheTable, PortsOfObjectsMakeTheTable, TraversalIsWalk};
+
+/// What is known of the ports of some objects stands in the order of the ports' names, each once.
+#[tactic(auto, using(crate::proofs::PortOrder::ports_are_in_order))]
+pub fn ports_are_in_order()
+    ensures { PortsAreInOrder }
+{}
+
+/// The table of what ports contribute, between the fixed rules, is the full table of these ports.
+#[tactic(auto, using(crate::proofs::PortRows::ports_make_the_table))]
+pub fn ports_make_the_table()
+    ensures { PortsMakeTheTable }
+{}
+
+/// The table of what all ports of some objects contribute is the full table of these objects.
+#[tactic(auto, using(crate::proofs::PortRows::ports_of_objects_make_the_table))]
+pub fn ports_of_objects_make_the_table()
+    ensures { PortsOfObjectsMakeTheTable }
+{}
+
+/// The traversal of rules as a relation is their walk with a bound on jumps, whatever the bound, where that isn't
+/// stuck.
+#[tactic(auto, using(crate::proofs::Traversed::traversal_is_walk))]
+pub fn traversal_is_walk()
+    ensures { TraversalIsWalk }
+{}
