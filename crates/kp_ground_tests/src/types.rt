@@ -170,14 +170,27 @@ fn chain_key(alloc: Global) -> Result<ChainKey, NoMemory> {
     Ok(ChainKey::Port { kind, port })
 }
 
+/// Whether a Service, a Pod and a chain's key are copied.
+fn are_copied(alloc: Global) -> Result<bool, NoMemory> {
+    let service = is_copied(alloc, &service(alloc)?)?;
+    let pod = is_copied(alloc, &pod(alloc)?)?;
+    let key = is_copied(alloc, &chain_key(alloc)?)?;
+    Ok(service && pod && key)
+}
+
+/// Whether a Service's port and a candidate with this port are copied.
+fn are_copied_with(alloc: Global, port: PortNo) -> Result<bool, NoMemory> {
+    let service_port = is_copied(alloc, &service_port(alloc, port)?)?;
+    let candidate = is_copied(alloc, &candidate(alloc, port))?;
+    Ok(service_port && candidate)
+}
+
 #[test]
 fn copies_are_equal(rt: HostRuntime) -> Result<(), Fail> {
-    let alloc = rt.alloc();
-    let port = PortNo::new(80).ok_or("a port")?;
-    assert!(rt; is_copied(alloc, &service(alloc)?)?);
-    assert!(rt; is_copied(alloc, &service_port(alloc, port)?)?);
-    assert!(rt; is_copied(alloc, &pod(alloc)?)?);
-    assert!(rt; is_copied(alloc, &candidate(alloc, port))?);
-    assert!(rt; is_copied(alloc, &chain_key(alloc)?)?);
+    assert!(rt; are_copied(rt.alloc())?);
+    match PortNo::new(80) {
+        Some(port) => assert!(rt; are_copied_with(rt.alloc(), port)?),
+        None => assert!(rt; false, "a port"),
+    }
     Ok(())
 }
