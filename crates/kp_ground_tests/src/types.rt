@@ -170,12 +170,16 @@ fn chain_key(alloc: Global) -> Result<ChainKey, NoMemory> {
     Ok(ChainKey::Port { kind, port })
 }
 
-/// Whether a Service, a Pod and a chain's key are copied.
-fn are_copied(alloc: Global) -> Result<bool, NoMemory> {
-    let service = is_copied(alloc, &service(alloc)?)?;
-    let pod = is_copied(alloc, &pod(alloc)?)?;
-    let key = is_copied(alloc, &chain_key(alloc)?)?;
-    Ok(service && pod && key)
+fn is_service_copied(alloc: Global) -> Result<bool, NoMemory> {
+    is_copied(alloc, &service(alloc)?)
+}
+
+fn is_pod_copied(alloc: Global) -> Result<bool, NoMemory> {
+    is_copied(alloc, &pod(alloc)?)
+}
+
+fn is_key_copied(alloc: Global) -> Result<bool, NoMemory> {
+    is_copied(alloc, &chain_key(alloc)?)
 }
 
 /// Whether a Service's port and a candidate with this port are copied.
@@ -187,9 +191,10 @@ fn are_copied_with(alloc: Global, port: PortNo) -> Result<bool, NoMemory> {
 
 #[test]
 fn copies_are_equal(rt: HostRuntime) -> Result<(), Fail> {
-    assert!(rt; are_copied(rt.alloc())?);
+    let alloc = rt.alloc();
+    assert!(rt; is_service_copied(alloc)? && is_pod_copied(alloc)? && is_key_copied(alloc)?);
     match PortNo::new(80) {
-        Some(port) => assert!(rt; are_copied_with(rt.alloc(), port)?),
+        Some(port) => assert!(rt; are_copied_with(alloc, port)?),
         None => assert!(rt; false, "a port"),
     }
     Ok(())
