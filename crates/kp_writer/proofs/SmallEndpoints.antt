@@ -1,7 +1,6 @@
 -- The endpoints of the plain port have the numbers that those of the slice have.
 use Rattle.std.proofs.Common.{◌≡◌, inl, inr, ℕ, ◌<◌, ◌^◌, Bool, true, false, cond, bytes_eq, List, [], ◌∷◌, map, Contains, Option, Some, None, option_map, filter_map, refl, sym, subst}
 use Rattle.std.specs.List.{cons_option, AllByRecursion}
-use Rattle.kp_lemmas.proofs.Members.{none_in, in_cases, from_map, first_in, later_in}
 use Rattle.kp_base.specs.Net.{same_family}
 use Rattle.kp_base.specs.Keys.{endpoint_cmp}
 use Rattle.kp_base.proofs.KeyOrder.{endpoint_exact}
@@ -14,6 +13,8 @@ use Rattle.kp_text_defs.specs.declared.line.PlainService.{PlainService}
 use Rattle.kp_text_defs.specs.declared.line.PlainEndpoint.{PlainEndpoint}
 use Rattle.kp_text_defs.specs.declared.line.PlainSlice.{PlainSlice}
 use Rattle.kp_walk_laws.specs.Laws.{IsSmall}
+use Rattle.kp_walk_laws.proofs.Members.{none_in, in_cases, from_map}
+use Rattle.kp_walk_laws.proofs.Outcomes.{first_in, later_in}
 use Rattle.kp_writer.specs.Laws.{PlainSmall}
 use Rattle.kp_writer.specs.Plain.{IsSmallSlice, endpoint_at, slice_endpoints, endpoints_of, plain_info}
 use Rattle.kp_writer.proofs.Distinct.{in_order_all, each_of}
