@@ -1,4 +1,5 @@
 pub mod Booleans
+pub mod Elements
 pub mod Entries
 pub mod Equality
 pub mod ListFacts

@@ -4,7 +4,7 @@ use Rattle.std.specs.List.{find}
 use Rattle.std.specs.Option.{option_or}
 use Rattle.std.proofs.lemmas.List.Folds.{find-append}
 use Rattle.std.proofs.lemmas.Option.{same_Some}
-use Rattle.kp_lemmas.proofs.Members.{first_in, later_in}
+pub use Rattle.kp_lemmas.proofs.Members.{first_in, later_in}
 use Rattle.kp_types.specs.declared.rule.Rule.{Rule}
 use Rattle.kp_types.specs.declared.walk.Ending.{Ending}
 use Rattle.kp_table_defs.specs.Matching.{WalkState, Surroundings}

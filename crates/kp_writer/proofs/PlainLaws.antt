@@ -5,12 +5,13 @@ use Rattle.std.specs.Prelude.{Result, Ok, Err, IfOk}
 use Rattle.std.specs.List.{cons_option, AllByRecursion}
 use Rattle.std.specs.FinMap.{get}
 use Rattle.std.proofs.lemmas.List.{append-nil}
+use Rattle.kp_lemmas.proofs.Elements.{none_in, in_cases, from_map, first_in, later_in}
+use Rattle.kp_base.proofs.SameParts.{same_family_exact}
 use Rattle.kp_base.specs.Net.{same_family}
 use Rattle.kp_base.specs.Keys.{endpoint_cmp}
 use Rattle.kp_base.proofs.KeyOrder.{endpoint_exact}
-use Rattle.kp_base.specs.declared.address.Family.{Family}
 use Rattle.kp_base.specs.declared.config.Config.{Config}
-use Rattle.kp_base.specs.declared.address.Family.TheVariants.{V4, V6}
+use Rattle.kp_base.specs.declared.address.Family.TheVariants.{V4}
 use Rattle.kp_base.specs.declared.key.Endpoint.{Endpoint}
 use Rattle.kp_types.specs.Setting.{config_for}
 use Rattle.kp_choice_defs.specs.Names.{first_clash}
@@ -25,21 +26,15 @@ use Rattle.kp_text_defs.specs.declared.line.PlainEndpoint.{PlainEndpoint}
 use Rattle.kp_text_defs.specs.declared.line.PlainSlice.{PlainSlice}
 use Rattle.kp_walk_laws.specs.Laws.{FullTablePlain, IsClusterOnly, IsSmall}
 use Rattle.kp_walk_laws.proofs.StandInNames.{stand_in_apart_by}
-use Rattle.kp_walk_laws.proofs.Members.{none_in, in_cases, from_map}
-use Rattle.kp_walk_laws.proofs.Outcomes.{first_in, later_in}
 use Rattle.kp_writer.specs.Laws.{PlainClusterOnly, PlainNoClash}
 use Rattle.kp_writer.specs.Plain.{IsSmallSlice, objects_with, endpoint_at, slice_endpoints, endpoints_of, plain_info, plain_infos}
 use Rattle.kp_writer.proofs.Distinct.{in_order_all, each_of}
 use Rattle.kp_writer.proofs.PlainPort.{plain_infos_by}
 
-is_v4 : (f : Family) → same_family f V4 ≡ true → f ≡ V4
-is_v4 V4 h = refl
-is_v4 V6 h = absurd (cc)
-
 module _ (port : ℕ) (low : port < 2 ^ 16) where
   small_by : (e : PlainEndpoint) (fs : List Endpoint) → (e.address.family ≡ V4 → e.address.number < 2 ^ 32) → AllByRecursion IsSmall fs → (b : Bool) → same_family e.address.family V4 ≡ b
       → AllByRecursion IsSmall (cons_option (option_map (λ a. record { address = a; port = port }) (cond b (Some e.address) None)) fs)
-  small_by e fs h hs true t = (record { family = is_v4 e.address.family t; number = h (is_v4 e.address.family t); port = low }, hs)
+  small_by e fs h hs true t = (record { family = same_family_exact e.address.family V4 t; number = h (same_family_exact e.address.family V4 t); port = low }, hs)
   small_by e fs h hs false t = hs
 
   all_small : (es : List PlainEndpoint) → ((e : PlainEndpoint) → Contains es e → e.address.family ≡ V4 → e.address.number < 2 ^ 32) → AllByRecursion IsSmall (filter_map (endpoint_at port) es)
