@@ -4,6 +4,7 @@
 use Rattle.std.specs.Prelude.{ℕ, ◌&&◌, ◌||◌, Bool, true, false, List, [], ◌∷◌, not, cond, bytes_eq, Option, Some, None, option_map, option_and_then, reverse}
 use Rattle.std.specs.List.{list_any, list_all, find, filter, filter_map}
 use Rattle.std.specs.FinMap as finite
+pub use Rattle.kp_lemmas.specs.Lists.{is_empty}
 use Rattle.kp_base.specs.Net.{AddressParts, same_family}
 use Rattle.kp_base.specs.Keys.{key_cmp}
 use Rattle.kp_base.specs.declared.address.Family.{Family}
@@ -24,11 +25,6 @@ use Rattle.kp_types.specs.declared.pod.Pod.{Pod}
 use Rattle.kp_types.specs.declared.pod.Node.{Node}
 use Rattle.kp_object_defs.specs.Objects.{Objects, zone_of}
 use Rattle.kp_object_defs.specs.Order.{by_key, values_of}
-
--- a list is empty
-abbrev pub is_empty : {A : Type 0} → List A → Bool
-is_empty [] = true
-is_empty (x ∷ xs) = false
 
 -- a Service of this type is only another name
 abbrev pub is_external_name : ServiceKind → Bool

@@ -1,7 +1,7 @@
 -- What the proxy knows of one Service port, as kube-proxy's service port info: its destinations, its policies
 -- and its endpoints (Kubernetes documents on Services). Only Services with a cluster address take part.
 -- Addresses and ranges that stand twice in one list count once, at their first place.
-use Rattle.std.specs.Prelude.{ℕ, ◌==◌, ◌&&◌, ◌||◌, Bool, true, false, List, [], ◌∷◌, map, not, cond, Option, Some, None, option_map, is_some}
+use Rattle.std.specs.Prelude.{ℕ, ◌==◌, ◌&&◌, ◌||◌, Bool, true, false, List, [], map, not, cond, Option, None, option_map, is_some}
 use Rattle.std.specs.List.{filter, filter_map, flat_map}
 use Rattle.std.specs.FinMap as finite
 use Rattle.kp_base.specs.Net.{AddressParts, RangeParts, same_address, same_family}

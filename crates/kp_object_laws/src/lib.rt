@@ -6,6 +6,7 @@
 ghost use Rattle.kp_object_laws.specs.ListLaws as lists;
 ghost use Rattle.kp_object_laws.specs.ObjectLaws as objects;
 ghost use Rattle.kp_object_laws.specs.PortLaws as ports;
+ghost use Rattle.kp_object_laws.specs.SliceLaws as slices;
 
 /// Each object stands under its own key, after any events.
 pub fn own_keys()
@@ -42,4 +43,15 @@ pub fn ports_by_key()
     ensures named { ports.PortIsNamed }
     ensures key { ports.InfoHasKey }
     ensures all { ports.InfosByKeys }
+{}
+
+/// The slices as they are now: as they were fed, until the controller acts at a sync. What packing asks of a Service's
+/// managed slices holds of them at any time.
+pub fn slices_now()
+    ensures as_fed { slices.SlicesAsFed }
+    ensures without_controller { slices.SlicesWithoutController }
+    ensures after_event { slices.SlicesAfterEvent }
+    ensures after_sync { slices.SlicesAfterSync }
+    ensures own_keys { slices.SlicesUnderOwnKeys }
+    ensures can_be_packed { slices.ManagedCanBePacked }
 {}

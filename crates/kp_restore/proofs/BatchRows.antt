@@ -23,12 +23,9 @@ use Rattle.kp_restore_defs.specs.BatchText.{place_of, edit_cmp, are_in_order, is
 use Rattle.kp_restore.specs.BatchSteps.{written, removed, edits_of}
 use Rattle.kp_restore.specs.declared.row.Row.{Row}
 use Rattle.kp_restore.proofs.BatchOrder.{is_less, name_itself, tied_names, less_through, greater_turned}
+use Rattle.kp_rule_text.proofs.Words.{all_weaker}
 
 -- ---- Tests of all elements
-
-pub all_from : {X : Type 0} (p q : X → Bool) → ((x : X) → p x ≡ true → q x ≡ true) → (xs : List X) → list_all p xs ≡ true → list_all q xs ≡ true
-all_from p q f [] h = refl
-all_from p q f (x ∷ xs) h = let k = and_parts _ _ h in and_from _ _ (f x k.0) (all_from p q f xs k.1)
 
 pub all_both : {X : Type 0} (p q r : X → Bool) → ((x : X) → p x ≡ true → q x ≡ true → r x ≡ true) → (xs : List X) → list_all p xs ≡ true → list_all q xs ≡ true → list_all r xs ≡ true
 all_both p q r f [] g h = refl
@@ -76,7 +73,7 @@ abbrev pub fits : TableName → Row → Bool
 fits table row = not (is_built_in table row.chain) && (not row.removed || is_empty row.rules)
 
 pub below_all : (a b : List ℕ) (rows : List Row) → is_lt (text_cmp a b) ≡ true → list_all (is_below b) rows ≡ true → list_all (is_below a) rows ≡ true
-below_all a b rows h = all_from (is_below b) (is_below a) (λ s k. less_through a b s.chain h k) rows
+below_all a b rows h = all_weaker (is_below b) (is_below a) (λ s k. less_through a b s.chain h k) rows
 
 all_put : (p : Row → Bool) → ((r s : Row) → p r ≡ true → p s ≡ true → p (record r { chain = s.chain }) ≡ true) → (r : Row) (rows : List Row) → p r ≡ true → list_all p rows ≡ true → list_all p (put_row r rows) ≡ true
 all_put p f r [] h all = and_from _ _ h refl
@@ -231,7 +228,7 @@ module _ (t : TableName) (at : ChainAt) (h : (table_place at.table == table_plac
   remove_before rows before =
       let b = all_edits (λ other. is_lt (edit_cmp (Remove at) other)) t rows before in
       let gone : list_all (λ s. s.removed) rows ≡ true =
-      all_from (λ s. s.removed || is_lt (edit_cmp (Remove at) (write_of t s))) (λ s. s.removed)
+      all_weaker (λ s. s.removed || is_lt (edit_cmp (Remove at) (write_of t s))) (λ s. s.removed)
       (λ s k. either_true s.removed (is_lt (edit_cmp (Remove at) (write_of t s))) k (ap is_lt (compared Greater)))
       rows b.0
       in (

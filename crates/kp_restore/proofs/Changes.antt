@@ -30,8 +30,9 @@ use Rattle.kp_restore_defs.specs.TableText.{may_stand, is_canonical_chain, is_ca
 use Rattle.kp_restore_defs.specs.BatchText.{place_of, kind_place, edit_cmp, are_in_order, is_same_place, edit_each_once, is_canonical_edit, is_canonical_batch}
 use Rattle.kp_restore_defs.specs.BatchesBetween.{HaveSameBuiltIn, ChangesAreCanonical, ReadChangesLeadOver}
 use Rattle.kp_restore.proofs.BatchOrder.{same_name}
-use Rattle.kp_restore.proofs.BatchRows.{all_from, none_of, same_table}
+use Rattle.kp_restore.proofs.BatchRows.{none_of, same_table}
 use Rattle.kp_restore.proofs.BatchTexts.{batch_texts_differ}
+use Rattle.kp_rule_text.proofs.Words.{all_weaker}
 
 -- ---- Pairs of a list
 
@@ -163,7 +164,7 @@ module _ (family : Family) (before after : Chains) (first : is_canonical_table f
 
       ruled : list_all (is_canonical_rule family) e.1 ≡ true
       ruled =
-          all_from (may_stand family after e.0.table) (is_canonical_rule family) (λ r k. (and_parts (is_canonical_rule family r) _ k).0) e.1
+          all_weaker (may_stand family after e.0.table) (is_canonical_rule family) (λ r k. (and_parts (is_canonical_rule family r) _ k).0) e.1
           (and_parts (is_chain_name e.0.chain) (list_all (may_stand family after e.0.table) e.1) h.0.1).1
 
       other : (b : Bool) → is_built_in e.0.table e.0.chain ≡ b → is_found_with e.1 (get before e.0) ≡ false → not b ≡ true

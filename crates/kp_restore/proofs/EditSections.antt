@@ -21,7 +21,8 @@ use Rattle.kp_restore_defs.specs.TableText.{text_of_lines, table_line, commit_li
 use Rattle.kp_restore_defs.specs.BatchText.{place_of, written_lines, removing_lines, edits_in, edits_section, section_if_edited, batch_text_of}
 use Rattle.kp_restore.specs.Printed.{ended}
 use Rattle.kp_restore.specs.PrintedEdits.{is_in, edits_text, edited_names, with_name, declared_text, written_text, removed_text}
-use Rattle.kp_restore.proofs.Sections.{lines-append, added}
+use Rattle.kp_restore.proofs.Sections.{lines-append}
+use Rattle.kp_rule_text.proofs.Joined.{added}
 
 -- ---- names
 

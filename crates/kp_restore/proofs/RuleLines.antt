@@ -1,5 +1,5 @@
 -- No line feed stands in the line of a canonical rule.
-use Rattle.std.proofs.Common.{◌≡◌, ℕ, ◌%◌, ◌^◌, ◌<◌, ◌==◌, Bool, true, false, not, nat_le, nat_lt, List, [], ◌∷◌, ◌++◌, map, codes, decimal, refl, ◌∙◌, inl, inr, arith}
+use Rattle.std.proofs.Common.{◌≡◌, ℕ, ◌%◌, ◌^◌, ◌<◌, ◌==◌, Bool, true, false, not, nat_le, List, [], ◌∷◌, ◌++◌, map, codes, decimal, refl, ◌∙◌, inl, inr, arith}
 use Rattle.std.specs.List.{list_all, flat_map, All}
 use Rattle.std.specs.Net.Text.{dotted_text}
 use Rattle.std.proofs.lemmas.Bool.{and_parts, and_from}
@@ -27,6 +27,8 @@ use Rattle.kp_rule_text.proofs.AddressWords.{dotted_bytes, is_dotted_byte}
 use Rattle.kp_rule_text.proofs.FamilyWords.{segments_low}
 use Rattle.kp_rule_text.proofs.Words.{all_weaker, number_digits, port_digits}
 use Rattle.kp_restore.specs.Pieces.{no_line_feed}
+use Rattle.kp_rule_text.proofs.Targets.{name_bytes}
+use Rattle.kp_rule_text.proofs.MatchWords.{seconds_fit}
 
 -- ---- Bytes
 
@@ -45,9 +47,6 @@ dotted_byte b h = grind (arith, nat_tests)
 hex_byte : (b : ℕ) → IsHexOrColon b → no_feed b ≡ true
 hex_byte b (inl h) = grind (arith, nat_tests)
 hex_byte b (inr h) = grind (arith, nat_tests)
-
-pub name_bytes : (name : List ℕ) → is_chain_name name ≡ true → list_all is_chain_byte name ≡ true
-name_bytes name h = (and_parts _ _ (and_parts _ _ h).0).1
 
 pub name_plain : (name : List ℕ) → is_chain_name name ≡ true → no_line_feed name ≡ true
 name_plain name h = all_weaker is_chain_byte no_feed chain_byte name (name_bytes name h)
@@ -117,9 +116,6 @@ proto_plain Tcp = refl
 proto_plain Udp = refl
 proto_plain Sctp = refl
 
-seconds_low : (seconds : ℕ) → nat_lt seconds (2 ^ 32) ≡ true → nat_le seconds 4294967295 ≡ true
-seconds_low seconds h = grind (arith, nat_tests)
-
 words_behind : (xs ys : List (List ℕ)) → words_plain xs ≡ true → words_plain ys ≡ true → words_plain (xs ++ ys) ≡ true
 words_behind xs ys g h = list_all-append no_line_feed xs ys ∙ and_from _ _ g h
 
@@ -139,7 +135,7 @@ match_plain family (match.Marked false) h = refl
 match_plain family (match.Statistic p) h = and_from _ _ (probability_plain p) refl
 match_plain family (match.Seen list seconds) h =
     let q = and_parts _ _ h in
-    and_from _ _ (name_plain list q.0) (and_from _ _ (number_plain 4294967295 seconds (omega arith) (seconds_low seconds q.1)) refl)
+    and_from _ _ (name_plain list q.0) (and_from _ _ (number_plain 4294967295 seconds (omega arith) (seconds_fit seconds q.1)) refl)
 match_plain family (match.SetSeen list) h = and_from _ _ (name_plain list h) refl
 
 target_plain : (family : Family) (t : Target) → is_canonical_target family t ≡ true → words_plain (target_words t) ≡ true

@@ -16,8 +16,9 @@ use Rattle.kp_table_defs.specs.Edits.{chains_in}
 use Rattle.kp_table_defs.specs.Ranks.{built_in_chains, is_built_in}
 use Rattle.kp_restore_defs.specs.RuleText.{rule_line}
 use Rattle.kp_restore_defs.specs.TableText.{text_of_lines, table_line, commit_line, built_in_line, declared_line, Row, row_at, built_in_rows, other_rows, row_lines, section_of, section_text_of, table_text_of, section_lines}
-use Rattle.kp_restore.proofs.Found.{Entries, entries_found}
+use Rattle.kp_rules.proofs.ChangeLists.{Entries, entries_found}
 use Rattle.kp_restore.specs.Printed.{ended, place, if_there, built_in_places, is_other, other_places, chain_text, rules_text, rules_at}
+use Rattle.kp_rule_text.proofs.Joined.{added}
 
 -- the text of two lists of lines
 pub lines-append : (a b : List (List ℕ)) → text_of_lines (a ++ b) ≡ text_of_lines a ++ text_of_lines b
@@ -146,10 +147,6 @@ module _ (chains : Chains) (table : TableName) where
       ++ (sym (ap (flat_map other_text) others_are ∙ other_lines_are free_entries) i
       ++ (sym (built_in_rules_are chains table (built_in_chains table)) i
       ++ (sym (ap (flat_map (rules_at chains)) others_are ∙ other_rules_are chains free_entries free_found) i ++ ended commit_line)))))
-
--- bytes that are added behind others
-pub added : (old mid new a b : List ℕ) → mid ≡ old ++ a → new ≡ mid ++ b → new ≡ old ++ (a ++ b)
-added old mid new a b p q = q ∙ ap (λ l. l ++ b) p ∙ append_assoc old a b
 
 -- a section whose pieces are added one after the other
 pub section_added : (chains : Chains) (table : TableName) (bs os : List ChainAt) (old s1 s2 s3 s4 s5 new : List ℕ) → bs ≡ built_in_places chains table → os ≡ other_places chains table

@@ -161,7 +161,7 @@ seen_shape list seconds rest =
 seconds_low : (n : ℕ) → nat_le n 4294967295 ≡ true → nat_lt n (2 ^ 32) ≡ true
 seconds_low n h = grind (arith, nat_tests)
 
-seconds_fit : (n : ℕ) → nat_lt n (2 ^ 32) ≡ true → nat_le n 4294967295 ≡ true
+pub seconds_fit : (n : ℕ) → nat_lt n (2 ^ 32) ≡ true → nat_le n 4294967295 ≡ true
 seconds_fit n h = grind (arith, nat_tests)
 
 abbrev small_seconds : 4294967295 < 2 ^ 64

@@ -76,7 +76,7 @@ not_named chain word named_well other =
     false_from_ne_true (bytes_eq chain word) (λ e. true≢false (sym named_well ∙ ap is_chain_name ((bytes_eq-Decides chain word).0 e) ∙ other))
 
 -- the bytes of a name
-name_bytes : (chain : List ℕ) → is_chain_name chain ≡ true → list_all is_chain_byte chain ≡ true
+pub name_bytes : (chain : List ℕ) → is_chain_name chain ≡ true → list_all is_chain_byte chain ≡ true
 name_bytes chain h = (and_parts _ _ (and_parts _ _ h).0).1
 
 -- which has no space

@@ -26,9 +26,10 @@ abbrev pub is_word_byte : ℕ → Bool
 is_word_byte b = not (b == 32)
 
 -- a test that all pass is passed where a weaker one is asked
-pub all_weaker : (p q : ℕ → Bool) → ((b : ℕ) → p b ≡ true → q b ≡ true) → (bs : List ℕ) → list_all p bs ≡ true → list_all q bs ≡ true
+pub all_weaker : {X : Type 0} (p q : X → Bool) → ((x : X) → p x ≡ true → q x ≡ true) → (xs : List X)
+    → list_all p xs ≡ true → list_all q xs ≡ true
 all_weaker p q w [] h = refl
-all_weaker p q w (b ∷ bs) h = let both = and_parts _ _ h in and_from _ _ (w b both.0) (all_weaker p q w bs both.1)
+all_weaker p q w (x ∷ xs) h = let both = and_parts _ _ h in and_from _ _ (w x both.0) (all_weaker p q w xs both.1)
 
 -- words of values that have a text of their own
 pub record IsWord {V : Type 0} (read : List ℕ → Option V) (text_of : V → List ℕ) (is_valid : V → Bool) : Type 0 where

@@ -11,9 +11,8 @@ use Rattle.std.specs.FinMap.Entries.{by_order}
 use Rattle.std.proofs.lemmas.List.{nil_from_length}
 use mathlib.Core.List.{reverse-cons}
 use Rattle.std.proofs.lemmas.List.Elements.{Contains-append_cases}
+use Rattle.kp_lemmas.proofs.Members.{none_in, in_cases, first_in, later_in}
 use Rattle.kp_object_defs.specs.Order.{in_order, distinct_in_order}
-use Rattle.kp_walk_laws.proofs.Members.{none_in, in_cases}
-use Rattle.kp_walk_laws.proofs.Outcomes.{first_in, later_in}
 use Rattle.kp_writer.proofs.Ordered.{put_keys}
 
 equal : (o : Ordering) → is_eq o ≡ true → o ≡ Equal
