@@ -7,6 +7,7 @@ use Rattle.std.specs.FinMap.{entries-insert, len-empty, len-entries, get-insert,
 use Rattle.std.specs.Ordering.{eq_by_cmp}
 use Rattle.std.proofs.lemmas.List.{nil_from_length}
 use Rattle.std.specs.Cmp.Lexicographic.{same_text}
+use Rattle.kp_lemmas.proofs.Entries.{empty_entries}
 use Rattle.kp_base.specs.Keys.{key_cmp}
 use Rattle.kp_base.specs.declared.key.ObjectKey.{ObjectKey}
 use Rattle.kp_base.proofs.KeyOrder.{key_total, key_exact}
@@ -17,16 +18,13 @@ use Rattle.kp_writer.specs.Plain.{services_with, slices_with}
 use Rattle.kp_run.specs.Objects.{service_named, slice_named}
 
 module _ (X : Type 0) where
-  no_entries : finite.entries (finite.empty {X = X} {R = key_cmp}) ≡ []
-  no_entries = nil_from_length _ (sym (len-entries (finite.empty {X = X} {R = key_cmp})) ∙ len-empty key_cmp X)
-
   -- the keys of no object
   pub no_keys : finite.keys (finite.empty {X = X} {R = key_cmp}) ≡ []
-  no_keys = ap (λ es. map (λ e. e.0) es) no_entries
+  no_keys = ap (λ es. map (λ e. e.0) es) (empty_entries key_cmp)
 
   -- the key of one object
   pub one_key : (k : ObjectKey) (v : X) → finite.keys (finite.insert (finite.empty {R = key_cmp}) k v) ≡ k ∷ []
-  one_key k v = ap (λ es. map (λ e. e.0) es) (entries-insert key_total finite.empty k v ∙ ap (λ es. put key_cmp k v es) no_entries)
+  one_key k v = ap (λ es. map (λ e. e.0) es) (entries-insert key_total finite.empty k v ∙ ap (λ es. put key_cmp k v es) (empty_entries key_cmp))
 
   shadow : (b : Bool) (v w : X) (o : Option X) → cond b (Some v) (cond b (Some w) o) ≡ cond b (Some v) o
   shadow true v w o = refl

@@ -4,6 +4,7 @@ use Rattle.std.specs.Prelude.{◌==◌, Option, Some, None, option_map, ◌&&◌
 use Rattle.std.specs.List.{All, AllByRecursion, slice_split}
 use Rattle.std.proofs.lemmas.List.Elements.{All-nil, All-cons, All-contains}
 use Rattle.std.proofs.lemmas.Bool.{leb-true, and_parts}
+use Rattle.std.proofs.lemmas.Option.{same_Some}
 use Rattle.serde_json.specs.Data.{Data}
 use Rattle.serde_json.specs.Find.{as_str, as_number, as_u64}
 use Rattle.kp_base.specs.Net.{AddressParts}
@@ -17,13 +18,6 @@ use Rattle.kp_text_defs.specs.FirstLines.{or_else, line_of, packet_form, is_sync
 use Rattle.kp_writer.specs.Plain.{IsSmallSlice}
 use Rattle.kp_run.specs.State.{IsSmallLine}
 
-abbrev value_or : {A : Type 0} → A → Option A → A
-value_or other None = other
-value_or other (Some x) = x
-
-same_value : {A : Type 0} (x y : A) → Some x ≡ Some y → x ≡ y
-same_value x y h = ap (value_or x) h
-
 -- what a bind comes from
 bound : {A B : Type 0} (o : Option A) (f : A → Option B) (x : B) → (o >>= f) ≡ Some x → (y : A) × (o ≡ Some y) × (f y ≡ Some x)
 bound None f x h = absurd (cc)
@@ -31,14 +25,14 @@ bound (Some y) f x h = (y, refl, h)
 
 mapped : {A B : Type 0} (f : A → B) (o : Option A) (x : B) → option_map f o ≡ Some x → (y : A) × (o ≡ Some y) × (f y ≡ x)
 mapped f None x h = absurd (cc)
-mapped f (Some y) x h = (y, refl, same_value _ _ h)
+mapped f (Some y) x h = (y, refl, same_Some _ _ h)
 
 tested : {A : Type 0} (b : Bool) (o : Option A) (x : A) → cond b o None ≡ Some x → o ≡ Some x
 tested true o x h = h
 tested false o x h = absurd (cc)
 
 kept : {A : Type 0} (test : A → Bool) (y x : A) (b : Bool) → test y ≡ b → cond b (Some y) None ≡ Some x → test x ≡ true
-kept test y x true e h = ap test (sym (same_value _ _ h)) ∙ e
+kept test y x true e h = ap test (sym (same_Some _ _ h)) ∙ e
 kept test y x false e h = absurd (cc)
 
 -- a whole number is at most the greatest
@@ -71,7 +65,7 @@ four_small (Some p ∷ Some q ∷ None ∷ ps) h a e = absurd (cc)
 four_small (Some p ∷ Some q ∷ Some r ∷ []) h a e = absurd (cc)
 four_small (Some p ∷ Some q ∷ Some r ∷ None ∷ ps) h a e = absurd (cc)
 four_small (Some p ∷ Some q ∷ Some r ∷ Some s ∷ []) h a e =
-    let is : ((p * 256 + q) * 256 + r) * 256 + s ≡ a.number = ap (λ x. x.number) (same_value _ _ e) in
+    let is : ((p * 256 + q) * 256 + r) * 256 + s ≡ a.number = ap (λ x. x.number) (same_Some _ _ e) in
     let p_most : p ≤ 255 = h.0 in
     let q_most : q ≤ 255 = h.1.0 in
     let r_most : r ≤ 255 = h.1.1.0 in
@@ -89,13 +83,13 @@ endpoint_small d e h =
     let address = bound (list_at (codes "addresses") d >>= only >>= address_form) (λ address. member_at (codes "nodeName") d >>= name_of >>= λ node. Some (record { address = address; node = node })) e (tested (has_members 2 d) _ e h) in
     let node = bound (member_at (codes "nodeName") d >>= name_of) (λ node. Some (record { address = address.0; node = node })) e address.2 in
     let form = bound (list_at (codes "addresses") d >>= only) address_form address.0 address.1 in
-    subst (λ x. x.number < 2 ^ 32) (ap (λ x. x.address) (same_value _ _ node.2)) (address_small form.0 address.0 form.2)
+    subst (λ x. x.number < 2 ^ 32) (ap (λ x. x.address) (same_Some _ _ node.2)) (address_small form.0 address.0 form.2)
 
 abbrev IsSmallOne : PlainEndpoint → Type 0
 IsSmallOne e = e.address.number < 2 ^ 32
 
 each_small : (ds : List Data) (es : List PlainEndpoint) → each endpoint_form ds ≡ Some es → All IsSmallOne es
-each_small [] es h = subst (All IsSmallOne) (same_value _ _ h) (All-nil IsSmallOne)
+each_small [] es h = subst (All IsSmallOne) (same_Some _ _ h) (All-nil IsSmallOne)
 each_small (d ∷ ds) es h =
     let first = bound (endpoint_form d) (λ x. option_map (λ xs. x ∷ xs) (each endpoint_form ds)) es h in
     let rest = mapped (λ xs. first.0 ∷ xs) (each endpoint_form ds) es first.2 in
@@ -114,7 +108,7 @@ parts_small d q h =
     let port = bound (list_at (codes "ports") d >>= only >>= slice_port_form) (λ port. list_at (codes "endpoints") d >>= at_most 1000 >>= λ endpoints. Some (names.0, (port, endpoints))) q names.2 in
     let endpoints = bound (list_at (codes "endpoints") d >>= at_most 1000) (λ endpoints. Some (names.0, (port.0, endpoints))) q port.2 in
     let form = bound (list_at (codes "ports") d >>= only) slice_port_form port.0 port.1 in
-    subst (λ n. n < 2 ^ 16) (ap (λ x. x.1.0) (same_value _ _ endpoints.2)) (port_small form.0 port.0 form.2)
+    subst (λ n. n < 2 ^ 16) (ap (λ x. x.1.0) (same_Some _ _ endpoints.2)) (port_small form.0 port.0 form.2)
 
 slice_small : (d : Data) (p : PlainSlice) → slice_form d ≡ Some p → IsSmallSlice (Some p)
 slice_small d p h =
@@ -133,7 +127,7 @@ module _ (P : FirstLine → Type 0) where
   by_or (Some y) b f g x h = f x h
 
   by_test : (t : Bool) (y : FirstLine) → P y → (x : FirstLine) → cond t (Some y) None ≡ Some x → P x
-  by_test t y p x h = subst P (same_value _ _ (tested t (Some y) x h)) p
+  by_test t y p x h = subst P (same_Some _ _ (tested t (Some y) x h)) p
 
 -- whatever a line is, its numbers are
 pub small_line : (d : Data) (x : FirstLine) → line_of d ≡ Some x → IsSmallLine x

@@ -185,12 +185,7 @@ fn is_slice_named(slice: &Option<PlainSlice>, name: &Text) -> bool
 fn is_blank(bytes: &[u8]) -> bool
     ensures { result ≡ spec.is_blank bytes.now }
 {
-    for byte in bytes {
-        if !is_blank_byte(*byte) {
-            return false;
-        }
-    }
-    true
+    bytes.iter().all(|byte: &u8| is_blank_byte(*byte))
 }
 
 fn is_blank_byte(byte: u8) -> bool
