@@ -22,10 +22,10 @@ use std::alloc::Global;
 use std::collections::BTreeMap;
 
 /// The endpoints that a Service wants of pods, on nodes, in order of the pods' names (Kubernetes
-/// documents on EndpointSlices). Pods and nodes stand in any order; of selected pods of one name the
-/// last counts, and of nodes too. A pod that has finished, has no IPv4 address or resolves no port
-/// gives no endpoint, and no pod gives two. Of the cluster's pods and nodes they are the endpoints
-/// that the controller wants.
+/// documents on EndpointSlices). Pods and nodes stand in any order; of selected pods of one name
+/// the last counts, and of nodes too. A pod that has finished, has no IPv4 address or resolves no
+/// port gives no endpoint, and no pod gives two. Of the cluster's pods and nodes they are the
+/// endpoints that the controller wants.
 pub fn desired_endpoints(
     alloc: Global,
     service: &Service,

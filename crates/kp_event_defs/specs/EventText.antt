@@ -26,8 +26,8 @@ pub data Refused : Type 0 where
   unsupported : List ℕ → Refused
   bad_field : BadField → Refused
 
--- one reading behind another, up to the first refusal
 infixl 10 ◌>>=◌
+-- one reading behind another, up to the first refusal
 abbrev pub ◌>>=◌ : {A B : Type 0} → Result A Refused → (A → Result B Refused) → Result B Refused
 (Ok x) >>= f = f x
 (Err e) >>= f = Err e

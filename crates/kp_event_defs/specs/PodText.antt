@@ -105,8 +105,7 @@ abbrev pub pod_from : Place → Pod
 pod_from p =
     let metadata = inner (codes "metadata") p in
     let spec = inner (codes "spec") p in
-    let status = inner (codes "status") p in
-    record {
+    let status = inner (codes "status") p in record {
       key = key_in p;
       labels = pairs_in (codes "labels") metadata;
       deleting = is_some (text_in (codes "deletionTimestamp") metadata);

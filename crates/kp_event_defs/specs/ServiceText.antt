@@ -184,8 +184,7 @@ service_ports p = map service_port (items_in (codes "ports") (inner (codes "spec
 -- the Service, if its ports differ
 abbrev pub service_from : (p : Place) → distinct_ports (service_ports p) ≡ true → Service
 service_from p differ =
-    let spec = inner (codes "spec") p in
-    record {
+    let spec = inner (codes "spec") p in record {
       key = key_in p;
       kind = chosen service_kinds ClusterIp (text_in (codes "type") spec);
       cluster = cluster_of (text_in (codes "clusterIP") spec);

@@ -155,8 +155,7 @@ ready_in conditions = unwrap_or (flag_in (codes "ready") conditions) true
 -- an endpoint of a slice of some address type and namespace
 abbrev pub endpoint_from : AddressType → List ℕ → Place → SliceEndpoint
 endpoint_from family namespace p =
-    let conditions = inner (codes "conditions") p in
-    record {
+    let conditions = inner (codes "conditions") p in record {
       address = first_of_type family (items_in (codes "addresses") p);
       ready = ready_in conditions;
       serving = unwrap_or (flag_in (codes "serving") conditions) (ready_in conditions);
@@ -175,8 +174,7 @@ slice_port p = record { name = port_name_in p; proto = proto_in p; port = whole_
 abbrev pub slice_from : Place → Slice
 slice_from p =
     let labels = inner (codes "labels") (inner (codes "metadata") p) in
-    let key = key_in p in
-    record {
+    let key = key_in p in record {
       key = key;
       service = text_in (codes "kubernetes.io/service-name") labels;
       managed = is_text (codes "endpointslice-controller.k8s.io") (text_in (codes "endpointslice.kubernetes.io/managed-by") labels);

@@ -12,6 +12,7 @@ pub record Contents : Type 0 where
   pub events : List Event
   pub most : ℕ
 
+-- how contents are told apart as values
 abbrev pub contents_code : Coded Contents
 contents_code =
     code_by (List Event × ℕ) (coded× (coded_list event_row.the_row.coded) coded_ℕ) (λ c. (c.events, c.most))

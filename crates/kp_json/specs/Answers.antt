@@ -11,8 +11,8 @@ use Rattle.kp_json.specs.declared.fault.FieldFault.TheVariants.{Bad, NoMemory}
 abbrev pub Answer : Type 0 → Type 0
 Answer A = Result A BadField
 
--- one reading behind another, up to the first fault
 infixl 10 ◌>>=◌
+-- one reading behind another, up to the first fault
 abbrev pub ◌>>=◌ : {A B : Type 0} → Result A BadField → (A → Result B BadField) → Result B BadField
 (Ok x) >>= f = f x
 (Err e) >>= f = Err e
@@ -30,6 +30,7 @@ abbrev pub Fails : {Y : Type 0} → FieldFault → Result Y BadField → Type 0
 Fails NoMemory read = Unit {0}
 Fails (Bad b) read = read ≡ Err b
 
+-- a call answers what reading gives, seen by view
 abbrev pub Gives : {X Y : Type 0} → (X → Y) → Result X FieldFault → Result Y BadField → Type 0
 Gives view (Ok x) read = read ≡ Ok (view x)
 Gives view (Err e) read = Fails e read

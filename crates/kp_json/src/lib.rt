@@ -1,5 +1,5 @@
-//! JSON texts as trees, and positions in them from which fields are read by name. A refused field is
-//! told by its kind of fault and its path from the root.
+//! JSON texts as trees, and positions in them from which fields are read by name. A refused field
+//! is told by its kind of fault and its path from the root.
 #![tactic(auto)]
 
 mod elements;

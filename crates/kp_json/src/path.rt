@@ -47,8 +47,8 @@ impl PathText {
     }
 }
 
-/// The way from the root of a tree to a position, the last step first. A path is written of it only where a
-/// fault needs one.
+/// The way from the root of a tree to a position, the last step first. A path is written of it only
+/// where a fault needs one.
 #[derive(Clone, Copy)]
 pub(crate) enum Way<'a> {
     Root,

@@ -11,9 +11,11 @@ IsWrittenAs n text = number_text V6 n ≡ text
 abbrev pub Unspecified : Type 0
 Unspecified = IsWrittenAs 0 (codes "::")
 
+-- zeros before the last group
 abbrev pub Loopback : Type 0
 Loopback = IsWrittenAs 1 (codes "::1")
 
+-- zeros behind the first group
 abbrev pub FirstGroupAlone : Type 0
 FirstGroupAlone = IsWrittenAs (2 ^ 112) (codes "1::")
 
@@ -25,6 +27,7 @@ Mapped = IsWrittenAs 0xffffc0000201 (codes "::ffff:c000:201")
 abbrev pub LongerRun : Type 0
 LongerRun = IsWrittenAs 0x20010000000000010000000000000001 (codes "2001:0:0:1::1")
 
+-- of two equal runs the first
 abbrev pub FirstOfEqualRuns : Type 0
 FirstOfEqualRuns = IsWrittenAs 0x20010db8000000000001000000000001 (codes "2001:db8::1:0:0:1")
 

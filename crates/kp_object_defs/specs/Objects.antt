@@ -26,8 +26,12 @@ pub record Objects : Type 0 where
 
 -- no object of any kind
 abbrev pub no_objects : Objects
-no_objects =
-    record { services = map.empty; slices = map.empty; pods = map.empty; nodes = map.empty }
+no_objects = record {
+  services = map.empty;
+  slices = map.empty;
+  pods = map.empty;
+  nodes = map.empty;
+}
 
 -- the key of a node
 abbrev pub node_key : List ℕ → ObjectKey

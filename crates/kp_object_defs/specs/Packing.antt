@@ -26,16 +26,19 @@ use Rattle.kp_object_defs.specs.Desired.{is_empty}
 
 -- ---- When two things are one
 
+-- both are absent, or both are there and one
 abbrev pub same_option : {A : Type 0} → (A → A → Bool) → Option A → Option A → Bool
 same_option same None None = true
 same_option same None (Some b) = false
 same_option same (Some a) None = false
 same_option same (Some a) (Some b) = same a b
 
+-- two flags are one
 abbrev pub same_flag : Bool → Bool → Bool
 same_flag true b = b
 same_flag false b = not b
 
+-- two keys are one
 abbrev pub same_object : ObjectKey → ObjectKey → Bool
 same_object a b = bytes_eq a.namespace b.namespace && bytes_eq a.name b.name
 
@@ -116,6 +119,7 @@ abbrev pub kept_or_dropped : ℕ → Keeping → SliceEndpoint → Option Wanted
 kept_or_dropped most k e None = dropped k
 kept_or_dropped most k e (Some w) = cond (nat_lt (length k.filling.endpoints) most) (kept k e w) (dropped k)
 
+-- an entry stays or goes, by whether an endpoint that is left wants it
 abbrev pub keep_entry : ℕ → Keeping → SliceEndpoint → Keeping
 keep_entry most k e = kept_or_dropped most k e (find (is_entry_of e) k.left)
 
@@ -130,6 +134,7 @@ pub record Progress : Type 0 where
   pub fillings : List Filling
   pub left : List Wanted
 
+-- what a slice keeps stands behind what the slices before it do
 abbrev pub add_keeping : Progress → Keeping → Progress
 add_keeping p k = record { fillings = p.fillings ++ k.filling ∷ []; left = k.left }
 
@@ -144,11 +149,13 @@ keep_all most slices wanted =
 abbrev pub with_more : Filling → List Wanted → Filling
 with_more f more = record f { endpoints = f.endpoints ++ map (λ w. w.entry) more; is_changed = true }
 
+-- a changed slice takes as many endpoints as it has room for
 abbrev pub fill_if : Bool → ℕ → Progress → Filling → Progress
 fill_if true room p f =
-    record { fillings = p.fillings ++ with_more f (take room p.left) ∷ []; left = drop room p.left }
+    (record { fillings = p.fillings ++ with_more f (take room p.left) ∷ []; left = drop room p.left })
 fill_if false room p f = record p { fillings = p.fillings ++ f ∷ [] }
 
+-- all changed slices are filled, in their order
 abbrev pub fill_changed : ℕ → Progress → Progress
 fill_changed most p =
     fold (λ q f. fill_if f.is_changed (most - length f.endpoints) q f) (record { fillings = []; left = p.left })
@@ -200,6 +207,7 @@ place_left (suc n) most fillings (w ∷ ws) =
     placed_if (fits_in_one most (w ∷ ws) fillings) most (w ∷ ws) fillings
     (place_left n most fillings (drop most (w ∷ ws)))
 
+-- what the third step makes of the second
 abbrev pub placed_from : ℕ → Progress → Placed
 placed_from most p = place_left (length p.left) most p.fillings p.left
 
@@ -225,7 +233,7 @@ pack_group most slices wanted ports =
     let placed =
     packed_group most (filter (λ s. is_in_group ports s.ports) slices)
     (filter (λ w. is_in_group ports w.ports) wanted) in
-    record { fillings = placed.fillings; made = map (λ more. record { ports = ports; wanted = more }) placed.made }
+    (record { fillings = placed.fillings; made = map (λ more. record { ports = ports; wanted = more }) placed.made })
 
 -- all groups, each by itself
 abbrev pub pack_groups : ℕ → List Slice → List Wanted → List Packing

@@ -102,8 +102,7 @@ unsynced events = record { left = events; objects = no_objects; slices = finite.
 -- after one more sync, which covers so many events more
 abbrev pub sync_step : List Family → Config → Synced → ℕ → Synced
 sync_step families config before n =
-    let objects = fold objects_step before.objects (take n before.left) in
-    record {
+    let objects = fold objects_step before.objects (take n before.left) in record {
       left = drop n before.left;
       objects = objects;
       slices =

@@ -173,7 +173,8 @@ fn all_members_of_a_service_are_read(rt: HostRuntime) -> Result<(), Fail> {
     Ok(())
 }
 
-/// Services that have their defaults, some by members that are empty, and one of another address family.
+/// Services that have their defaults, some by members that are empty, and one of another address
+/// family.
 const DEFAULTS: &str = r#"{"metadata":{"name":"web","namespace":""},"spec":{}}
 {"metadata":{"name":"web"},"spec":{"type":"","clusterIP":"","ports":[{"name":"","protocol":"","port":1,"targetPort":"","nodePort":0}],"sessionAffinity":"","internalTrafficPolicy":"","externalTrafficPolicy":"","loadBalancerSourceRanges":[],"trafficDistribution":""},"status":{"loadBalancer":{"ingress":[{"ip":""}]}}}
 {"metadata":{"name":"web"},"spec":{"clusterIP":"fd00::1","type":"ExternalName","type":"ClusterIP"}}"#;

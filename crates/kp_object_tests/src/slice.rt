@@ -131,7 +131,8 @@ fn is_of_pod(pod: &Option<ObjectKey>, wanted: &str) -> bool {
     }
 }
 
-/// Whether an endpoint has this address, 0 for none, and is in this state: ready, serving, terminating.
+/// Whether an endpoint has this address, 0 for none, and is in this state: ready, serving,
+/// terminating.
 fn is_endpoint(endpoint: &SliceEndpoint, number: u32, state: (bool, bool, bool)) -> bool {
     let address = match number {
         0 => None,

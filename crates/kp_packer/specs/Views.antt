@@ -38,8 +38,11 @@ AtOwnPlaces entries places =
 
 -- a slice with its endpoints by now
 abbrev pub filling_of : Fill → spec.Filling
-filling_of f =
-    record { slice = f.slice.now; endpoints = shown f.endpoints.items; is_changed = f.is_changed }
+filling_of f = record {
+  slice = f.slice.now;
+  endpoints = shown f.endpoints.items;
+  is_changed = f.is_changed;
+}
 
 -- a slice in the first step, and what is left
 abbrev pub keeping_of : Fill → List (Option (Bor Wanted)) → spec.Keeping
@@ -51,8 +54,10 @@ progress_of fills left = record { fillings = map filling_of fills; left = left }
 
 -- the slices of a group, and the endpoints of each new one
 abbrev pub placed_of : Placed → spec.Placed
-placed_of p =
-    record { fillings = map filling_of p.fills.items; made = map (λ v. shown v.items) p.made.items }
+placed_of p = record {
+  fillings = map filling_of p.fills.items;
+  made = map (λ v. shown v.items) p.made.items;
+}
 
 -- with more new slices before the others
 abbrev pub with_made : List (List Wanted) → spec.Placed → spec.Placed
@@ -77,8 +82,7 @@ added_at (Some i) x lists = slice_set lists i (get_or lists i [] ++ x ∷ [])
 -- the slices of a group by now, and those that it needs anew
 abbrev pub packing_of : ℕ → List SlicePort → List Slice → List Wanted → spec.Packing
 packing_of most ports slices wanted =
-    let placed = spec.packed_group most slices wanted in
-    record {
+    let placed = spec.packed_group most slices wanted in record {
       fillings = placed.fillings;
       made = map (λ more. record { ports = ports; wanted = more }) placed.made;
     }

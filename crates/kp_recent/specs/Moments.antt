@@ -12,9 +12,11 @@ Pairs = List (AddressParts × ℕ)
 
 -- ---- pairs as sightings
 
+-- a source with its moment, as a sighting
 abbrev pub sighting : AddressParts × ℕ → Sighting
 sighting e = record { source = e.0; moment = e.1 }
 
+-- pairs as sightings
 abbrev pub sightings_of : Pairs → List Sighting
 sightings_of es = map sighting es
 
@@ -42,12 +44,15 @@ with_set size source now ss = take size (record { source = source; moment = now 
 abbrev pub is_recent : ℕ → ℕ → ℕ → Bool
 is_recent now seconds moment = nat_le (now - moment) seconds
 
+-- those within the timeout
 abbrev pub recent_pairs : ℕ → ℕ → Pairs → Pairs
 recent_pairs now seconds es = filter (λ e. is_recent now seconds e.1) es
 
+-- the moment of a source, if it is there
 abbrev pub moment_of : AddressParts → Pairs → Option ℕ
 moment_of source es = lookup (same_address source) es
 
+-- the source stands first with the moment, and a full part loses its last
 abbrev pub with_source : ℕ → AddressParts → ℕ → Pairs → Pairs
 with_source size source now es = take size ((source, now) ∷ remove_entry (same_address source) es)
 

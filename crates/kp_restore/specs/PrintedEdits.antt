@@ -27,12 +27,14 @@ edited_names table edits = distinct_in_order text_cmp (map (λ e. (place_of e).c
 abbrev pub with_name : TableName → ChainAt → List (List ℕ) → List (List ℕ)
 with_name table at names = cond (is_in table at) (insert_key text_cmp names at.chain) names
 
+-- the line that declares a chain
 abbrev pub declared_text : List ℕ → List ℕ
 declared_text chain = ended (declared_line chain)
 
--- the lines of an edit, if it is of the table
+-- the lines of a write, if it is of the table
 abbrev pub written_text : TableName → Edit → List ℕ
 written_text table e = cond (is_in table (place_of e)) (text_of_lines (written_lines e)) []
 
+-- the lines of a removal, if it is of the table
 abbrev pub removed_text : TableName → Edit → List ℕ
 removed_text table e = cond (is_in table (place_of e)) (text_of_lines (removing_lines e)) []

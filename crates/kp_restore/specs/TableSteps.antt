@@ -43,8 +43,10 @@ may_follow section names chain =
 
 -- a chain is declared, with no rules
 abbrev pub declared : TableParts → TableName → List (List ℕ) → List ℕ → TableReader
-declared t section names chain =
-    record { table = put t section chain []; phase = Declaring section (names ++ chain ∷ []) }
+declared t section names chain = record {
+  table = put t section chain [];
+  phase = Declaring section (names ++ chain ∷ []);
+}
 
 -- ---- Rules
 

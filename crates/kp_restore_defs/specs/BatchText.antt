@@ -58,6 +58,7 @@ section_if_edited table edits = cond (is_empty edits) [] (edits_section table ed
 abbrev pub batch_lines : List Edit → List (List ℕ)
 batch_lines edits = section_if_edited Nat (edits_in Nat edits) ++ section_if_edited Filter (edits_in Filter edits)
 
+-- the text of edits
 abbrev pub batch_text_of : List Edit → List ℕ
 batch_text_of edits = text_of_lines (batch_lines edits)
 

@@ -76,9 +76,11 @@ section_lines chains table = section_of table (built_in_rows chains table) (othe
 abbrev pub table_lines : Chains → List (List ℕ)
 table_lines chains = section_lines chains Nat ++ section_lines chains Filter
 
+-- the text of a section
 abbrev pub section_text_of : Chains → TableName → List ℕ
 section_text_of chains table = text_of_lines (section_lines chains table)
 
+-- a table's text
 abbrev pub table_text_of : Chains → List ℕ
 table_text_of chains = text_of_lines (table_lines chains)
 

@@ -1,5 +1,6 @@
-//! How values are read from JSON text, for objects and lines alike: tables of rows, the first fault of a value by
-//! a table, and the values at places. Its calls are worked examples of the forms that lines ask.
+//! How values are read from JSON text, for objects and lines alike: tables of rows, the first fault
+//! of a value by a table, and the values at places. Its calls are worked examples of the forms that
+//! lines ask.
 #![tactic(auto)]
 
 mod worked;

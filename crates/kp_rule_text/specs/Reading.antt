@@ -49,6 +49,7 @@ abbrev pub port_match : Proto → List ℕ → Found
 port_match proto text =
     follow (with_word port_word (match.Port proto)) (plain (match.Proto proto) text) (strip (port_words proto) text)
 
+-- a protocol by its name
 abbrev pub proto_match : List ℕ → Found
 proto_match text =
     follow (port_match Tcp)
@@ -60,6 +61,7 @@ abbrev pub seen_match : List ℕ → List ℕ → List ℕ → Found
 seen_match list word rest =
     option_and_then (λ seconds. option_and_then (plain (match.Seen list seconds)) (strip (codes "--reap ") rest)) (number_word 4294967295 word)
 
+-- a recent list with a time, before what stands behind it
 abbrev pub timed_match : List ℕ → List ℕ → Found
 timed_match list text = option_and_then (λ (word, rest). seen_match list word rest) (split_once 32 text)
 
@@ -70,6 +72,7 @@ list_match list text =
     (option_and_then (timed_match list) (strip (codes "--rcheck --seconds ") text))
     (strip (codes "--set ") text)
 
+-- a recent list by its name
 abbrev pub recent_match : List ℕ → Found
 recent_match text =
     option_and_then (λ (word, rest). option_and_then (λ list. list_match list rest) (name_word word)) (split_once 32 text)
@@ -141,6 +144,7 @@ abbrev pub either : {A : Type 0} → Option A → Option A → Option A
 either (Some a) other = Some a
 either None other = other
 
+-- the target of a rule
 abbrev pub target_of : Family → List ℕ → Option Target
 target_of family text = option_and_then (λ rest. either (plain_target rest) (other_target family rest)) (strip (codes "-j ") text)
 
@@ -150,6 +154,7 @@ target_of family text = option_and_then (λ rest. either (plain_target rest) (ot
 abbrev pub behind_name : Family → List ℕ → List Match × List ℕ → Option (List ℕ × Rule)
 behind_name family chain (matches, rest) = option_map (λ t. (chain, rule_of matches t)) (target_of family rest)
 
+-- a rule's chain and the rule, behind the command
 abbrev pub behind_append : Family → List ℕ → Option (List ℕ × Rule)
 behind_append family text =
     option_and_then (λ (word, rest). option_and_then (λ chain. behind_name family chain (matches_of family 4 rest)) (name_word word))

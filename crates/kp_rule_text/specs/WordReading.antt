@@ -45,6 +45,7 @@ abbrev pub address_read : Family → List ℕ → Option AddressParts
 address_read V4 text = address_of text
 address_read V6 text = option_map (λ (segments, rest). record { family = V6; number = segments_number segments }) (read_ipv6 text)
 
+-- an address, as it is printed
 abbrev pub address_word : Family → List ℕ → Option AddressParts
 address_word family = exact address_text (address_read family)
 
@@ -58,6 +59,7 @@ abbrev pub range_read : Family → List ℕ → Option RangeParts
 range_read V4 text = range_of text
 range_read V6 text = option_and_then (λ (base, bits). v6_range_of base bits) (split_once 47 text)
 
+-- a range, as it is printed
 abbrev pub range_word : Family → List ℕ → Option RangeParts
 range_word family = exact range_text (range_read family)
 
@@ -83,6 +85,7 @@ probability_of_parts whole decimals =
     (λ w. option_and_then (λ d. cond (nat_le (w * 10 ^ 10 + d) (10 ^ 10)) (Some (w * 10 ^ 10 + d)) None) (digits_up_to 9999999999 decimals))
     (digits_up_to 1 whole)
 
+-- a probability, with any number of decimals
 abbrev pub probability_read : List ℕ → Option ℕ
 probability_read word = option_and_then (λ (whole, decimals). probability_of_parts whole decimals) (split_once 46 word)
 

@@ -78,6 +78,7 @@ abbrev pub MarkFlipped : Type 0
 MarkFlipped =
     IsWrittenAs (codes "KUBE-POSTROUTING") [] FlipMark (codes "-A KUBE-POSTROUTING -j MARK --xor-mark 0x4000")
 
+-- the packet is masqueraded
 abbrev pub Masqueraded : Type 0
 Masqueraded = IsWrittenAs (codes "KUBE-POSTROUTING") [] Masquerade (codes "-A KUBE-POSTROUTING -j MASQUERADE")
 

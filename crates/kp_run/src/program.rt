@@ -8,8 +8,9 @@ use crate::status::Status;
 use kp_io::{Sink, Source};
 use std::alloc::Global;
 
-/// Runs the program on its words, of which the first is its name. For `replay` it reads the lines of the source
-/// to its end, and writes what they print to the sink; where the words don't fit it writes the usage line.
+/// Runs the program on its words, of which the first is its name. For `replay` it reads the lines
+/// of the source to its end, and writes what they print to the sink; where the words don't fit it
+/// writes the usage line.
 pub fn run<S: Source, K: Sink>(
     alloc: Global,
     words: &[String],

@@ -14,8 +14,8 @@ use std::alloc::Global;
 /// The most events that are accepted.
 const MOST_EVENTS: u64 = 1_000_000;
 
-/// Where a replay stands: its configuration, the objects of the accepted events and how many there were, the
-/// table of those that the last sync covers, and how many syncs there were.
+/// Where a replay stands: its configuration, the objects of the accepted events and how many there
+/// were, the table of those that the last sync covers, and how many syncs there were.
 #[derive(Drop)]
 pub(crate) struct Replay {
     pub(crate) fresh: bool,

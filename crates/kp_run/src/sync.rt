@@ -1,4 +1,5 @@
-//! A sync: the table of the objects by now, and how many chains differ from the table of the last one.
+//! A sync: the table of the objects by now, and how many chains differ from the table of the last
+//! one.
 ghost use Rattle.std.specs.Prelude.{ℕ, ◌≡◌, ◌≤◌, ◌+◌, not, false, count_by, IfOk};
 ghost use Rattle.kp_table_defs.specs.Edits.{is_write};
 ghost use Rattle.kp_run_defs.specs.Replay as spec;

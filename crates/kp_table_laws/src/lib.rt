@@ -1,4 +1,5 @@
-//! Laws of the full table over the definitions alone. Each is the contract of a function that does nothing.
+//! Laws of the full table over the definitions alone. Each is the contract of a function that does
+//! nothing.
 #![tactic(auto)]
 
 ghost use Rattle.kp_table_laws.specs.Laws.{PortsAreInOrder, PortsMakeTheTable, PortsOfObjectsMakeTheTable, TraversalIsWalk};
@@ -21,8 +22,8 @@ pub fn ports_of_objects_make_the_table()
     ensures { PortsOfObjectsMakeTheTable }
 {}
 
-/// The traversal of rules as a relation is their walk with a bound on jumps, whatever the bound, where that isn't
-/// stuck.
+/// The traversal of rules as a relation is their walk with a bound on jumps, whatever the bound,
+/// where that isn't stuck.
 #[tactic(auto, using(crate::proofs::Traversed::traversal_is_walk))]
 pub fn traversal_is_walk()
     ensures { TraversalIsWalk }

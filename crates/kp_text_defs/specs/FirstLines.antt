@@ -80,8 +80,13 @@ default_key name = record { namespace = codes "default"; name = name }
 
 -- the only port of a Service
 abbrev pub plain_port : ℕ → ℕ → ServicePort
-plain_port port target =
-    record { name = []; proto = Tcp; port = port; target = Number target; node_port = None }
+plain_port port target = record {
+  name = [];
+  proto = Tcp;
+  port = port;
+  target = Number target;
+  node_port = None;
+}
 
 -- a Service of type ClusterIP with one port
 abbrev pub plain_service : PlainService → Service
@@ -140,8 +145,12 @@ service_parts d =
 
 -- the Service of these
 abbrev pub service_with : List ℕ × (AddressParts × (ℕ × ℕ)) → PlainService
-service_with parts =
-    record { name = parts.0; address = parts.1.0; port = parts.1.1.0; target = parts.1.1.1 }
+service_with parts = record {
+  name = parts.0;
+  address = parts.1.0;
+  port = parts.1.1.0;
+  target = parts.1.1.1;
+}
 
 -- a Service line
 abbrev pub service_form : Data → Option PlainService

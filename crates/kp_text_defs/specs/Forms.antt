@@ -13,8 +13,8 @@ use Rattle.kp_base.specs.Grammar.{is_name_text}
 abbrev pub json_of : List ℕ → Option Data
 json_of bytes = cond (is_utf8 bytes) (read bytes) None
 
--- one reading behind another
 infixl 10 ◌>>=◌
+-- one reading behind another
 abbrev pub ◌>>=◌ : {A B : Type 0} → Option A → (A → Option B) → Option B
 None >>= f = None
 (Some x) >>= f = f x

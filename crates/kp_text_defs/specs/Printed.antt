@@ -27,6 +27,7 @@ abbrev pub masked_text : Bool → List ℕ
 masked_text true = codes " masked"
 masked_text false = []
 
+-- a verdict
 abbrev pub verdict_text : Verdict → List ℕ
 verdict_text (To endpoint masked) = codes "to " ++ endpoint_text endpoint ++ masked_text masked
 verdict_text Rejected = codes "rejected"

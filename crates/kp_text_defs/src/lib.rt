@@ -1,5 +1,5 @@
-//! What lines say and print: the lines that the program reads, refusals and answers. Beside the types that
-//! only lines have, there are only definitions here, in `specs/`.
+//! What lines say and print: the lines that the program reads, refusals and answers. Beside the
+//! types that only lines have, there are only definitions here, in `specs/`.
 #![tactic(auto)]
 
 mod line;

@@ -25,8 +25,8 @@ pub enum TableName {
     Filter,
 }
 
-/// The name of a chain or of a recent list: 1 to 28 letters, digits and dashes, and no word of a target.
-/// Contracts see its bytes.
+/// The name of a chain or of a recent list: 1 to 28 letters, digits and dashes, and no word of a
+/// target. Contracts see its bytes.
 #[derive(Drop)]
 pub struct ChainName {
     text: ArrayString<28>,

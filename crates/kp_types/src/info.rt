@@ -7,7 +7,8 @@ use crate::slice::{Slice, Wanted};
 use kp_base::{Address, Cidr, Copied, Items, NoMemory, PortKey, PortNo};
 use std::alloc::Global;
 
-/// A Service and what its endpoints are taken from: the endpoints that the controller wants for it, and slices.
+/// A Service and what its endpoints are taken from: the endpoints that the controller wants for it,
+/// and slices.
 #[derive(Drop)]
 pub struct ServiceSources {
     pub service: Service,
@@ -15,8 +16,8 @@ pub struct ServiceSources {
     pub slices: Items<Slice>,
 }
 
-/// One Service port in one address family, as kube-proxy's service port info: its destinations, its policies
-/// and its endpoints.
+/// One Service port in one address family, as kube-proxy's service port info: its destinations, its
+/// policies and its endpoints.
 #[derive(Drop)]
 pub struct PortInfo {
     pub key: PortKey,

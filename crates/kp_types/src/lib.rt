@@ -1,5 +1,5 @@
-//! The data that definitions and crates share: objects of the cluster, endpoints, chains and rules, packets
-//! and what becomes of them, and syncs.
+//! The data that definitions and crates share: objects of the cluster, endpoints, chains and rules,
+//! packets and what becomes of them, and syncs.
 #![tactic(auto)]
 
 mod chain;

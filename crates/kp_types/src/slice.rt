@@ -47,7 +47,8 @@ pub struct Slice {
     pub endpoints: Items<SliceEndpoint>,
 }
 
-/// An endpoint that the controller wants in the slices of a Service: its pod, its resolved ports and its entry.
+/// An endpoint that the controller wants in the slices of a Service: its pod, its resolved ports
+/// and its entry.
 #[derive(Drop)]
 pub struct Wanted {
     pub pod: ObjectKey,
@@ -55,8 +56,8 @@ pub struct Wanted {
     pub entry: SliceEndpoint,
 }
 
-/// A Service's slices after packing, in order of their names, and the names of the slices that are new, that were
-/// there and differ, and that are gone.
+/// A Service's slices after packing, in order of their names, and the names of the slices that are
+/// new, that were there and differ, and that are gone.
 #[derive(Drop)]
 pub struct Packed {
     pub slices: Items<Slice>,

@@ -23,8 +23,8 @@ impl Flow {
     ghost use Rattle.kp_walker.specs.Flow.{outcome_of, IsThrough};
     ghost use Rattle.kp_walker.specs.declared.header.Header.{Header};
 
-    /// The flow behind a jump to the chain. Where a traversal was ended, the chain comes before those
-    /// on the way.
+    /// The flow behind a jump to the chain. Where a traversal was ended, the chain comes before
+    /// those on the way.
     pub(crate) fn returned_from(self, chain: ChainName, pass: &mut Pass) -> Flow
         requires pass { IsThrough self 7 pass.old.chains.items }
         ensures outcome { (header : Header) (lists : RecentParts) →

@@ -19,8 +19,8 @@ pub(crate) enum Stage {
     Masquerading,
 }
 
-/// Where a packet is on its way through the hooks: its header by now, the endpoint it was translated
-/// to, whether it was masqueraded, what stopped it, and the trail.
+/// Where a packet is on its way through the hooks: its header by now, the endpoint it was
+/// translated to, whether it was masqueraded, what stopped it, and the trail.
 #[derive(Drop)]
 pub(crate) struct Journey {
     pub(crate) header: Header,

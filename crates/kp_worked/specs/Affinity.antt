@@ -23,7 +23,7 @@ abbrev pub answers : List PortInfo → List (Packet × List ℕ) → RecentParts
 answers ports [] lists = []
 answers ports (p ∷ ps) lists =
     let d = decision_from setting ports p.0 (draw_of_list p.1) lists in
-    record { verdict = d.verdict; reason = d.reason } ∷ answers ports ps d.lists
+    (record { verdict = d.verdict; reason = d.reason }) ∷ answers ports ps d.lists
 
 -- the Service under session affinity with a timeout
 abbrev pub under_affinity : ℕ → Service

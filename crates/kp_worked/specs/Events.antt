@@ -100,8 +100,9 @@ InZone = verdict_after in_zone [] ≡ To ep2 false
 
 -- a slice that the controller manages, of which one endpoint is of no pod
 abbrev pub managed : Slice
-managed =
-    record (slice_of (codes "web") (first ∷ ready_at (ipv4 10 244 1 9) (codes "n1") ∷ [])) { managed = true }
+managed = record (slice_of (codes "web") (first ∷ ready_at (ipv4 10 244 1 9) (codes "n1") ∷ [])) {
+  managed = true;
+}
 
 -- pods in every state, and the managed slice
 abbrev pub pods_and_slice : List Event

@@ -13,8 +13,11 @@ use Rattle.kp_worked.specs.Decisions.{two}
 
 -- a Service port
 abbrev pub port_of : List ℕ → List ℕ → List ℕ → Proto → PortKey
-port_of namespace service port proto =
-    record { object = record { namespace = namespace; name = service }; port_name = port; proto = proto }
+port_of namespace service port proto = record {
+  object = record { namespace = namespace; name = service };
+  port_name = port;
+  proto = proto;
+}
 
 -- the base 32 of `foobar`, without its padding
 abbrev pub Foobar : Type 0

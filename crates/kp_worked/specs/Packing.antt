@@ -17,6 +17,7 @@ use Rattle.kp_worked.specs.Setting.{ipv4, default_key, web}
 abbrev pub port_at : List ℕ → Proto → ℕ → SlicePort
 port_at name proto number = record { name = name; proto = proto; port = Some number }
 
+-- the port 8080 of TCP
 abbrev pub http : List SlicePort
 http = port_at [] Tcp 8080 ∷ []
 
@@ -52,6 +53,7 @@ slice_with ports name letters = record {
   endpoints = map (entry true) letters;
 }
 
+-- a slice of this port with the pods of these letters
 abbrev pub slice : List ℕ → List ℕ → Slice
 slice name letters = slice_with http name letters
 
@@ -59,13 +61,15 @@ slice name letters = slice_with http name letters
 abbrev pub packed : List Slice → List Wanted → List (List ℕ) → Packed
 packed before wanted taken = packed_slices V4 web.key before wanted 4 taken
 
--- names of slices that were made
+-- the name of the first slice that is made
 abbrev pub kp1 : List ℕ
 kp1 = codes "web-kp1"
 
+-- the name of the second
 abbrev pub kp2 : List ℕ
 kp2 = codes "web-kp2"
 
+-- the name of the third
 abbrev pub kp3 : List ℕ
 kp3 = codes "web-kp3"
 

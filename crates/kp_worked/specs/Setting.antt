@@ -191,8 +191,14 @@ no_lists = empty_lists 100
 
 -- a packet of TCP at the first moment
 abbrev pub packet_to : Origin → AddressParts → AddressParts → ℕ → Packet
-packet_to origin source target port =
-    record { from = origin; source = source; target = target; proto = Tcp; port = port; now = 0 }
+packet_to origin source target port = record {
+  from = origin;
+  source = source;
+  target = target;
+  proto = Tcp;
+  port = port;
+  now = 0;
+}
 
 -- one from the network
 abbrev pub from_network : AddressParts → AddressParts → ℕ → Packet

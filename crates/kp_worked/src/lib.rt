@@ -1,5 +1,6 @@
-//! Worked examples of the definitions: objects, endpoints, decisions and tables whose values are known from
-//! public documents or were worked out by hand. Each is a clause of a function that does nothing.
+//! Worked examples of the definitions: objects, endpoints, decisions and tables whose values are
+//! known from public documents or were worked out by hand. Each is a clause of a function that does
+//! nothing.
 #![tactic(auto)]
 
 ghost use Rattle.kp_worked.specs.Affinity as affinity;

@@ -32,8 +32,12 @@ slices_with (Some s) = finite.insert finite.empty (default_key s.name) (plain_sl
 
 -- the objects
 abbrev pub objects_with : Option PlainService → Option PlainSlice → Objects
-objects_with service slice =
-    record { services = services_with service; slices = slices_with slice; pods = finite.empty; nodes = finite.empty }
+objects_with service slice = record {
+  services = services_with service;
+  slices = slices_with slice;
+  pods = finite.empty;
+  nodes = finite.empty;
+}
 
 -- an endpoint of IPv4 at a port
 abbrev pub endpoint_at : ℕ → PlainEndpoint → Option Endpoint
