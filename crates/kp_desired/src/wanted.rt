@@ -9,7 +9,7 @@ ghost use Rattle.kp_object_defs.specs.Desired.{desired_among, desired_endpoints_
 ghost use Rattle.kp_object_defs.specs.Desired.{desired_in_zone, desired_of};
 ghost use Rattle.kp_object_defs.specs.Objects.{Objects};
 ghost use Rattle.kp_object_defs.specs.OwnKeys.{AreUnderOwnKeys};
-ghost use Rattle.kp_object_defs.specs.PackingLaws.{have_own_pods};
+ghost use Rattle.kp_object_defs.specs.PackingLaws.{have_own_pods, entries_name_pods};
 ghost use Rattle.kp_object_laws.specs.ObjectLaws.{HaveSameElements};
 ghost use Rattle.kp_desired.specs.ByName.{shown, zone_in};
 
@@ -37,6 +37,7 @@ pub fn desired_endpoints(
         HaveSameElements pods.now (values o.pods) → HaveSameElements nodes.now (values o.nodes) →
         IfOk result (λ ws. ws ≡ desired_endpoints_of V4 o service.now) }
     ensures own_pods { IfOk result (λ ws. have_own_pods ws ≡ true) }
+    ensures named { IfOk result (λ ws. entries_name_pods ws ≡ true) }
 {
     let by_name = nodes_by_name(alloc, nodes.as_slice())?;
     let pods = selected_pods(alloc, service, pods.as_slice())?;

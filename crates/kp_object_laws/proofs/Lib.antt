@@ -6,3 +6,4 @@ mod SameElements
 mod SlicesNow
 pub mod Usable
 pub mod Wanted
+pub mod NamedPods

@@ -9,7 +9,7 @@ use Rattle.kp_types.specs.declared.event.Event.{Event}
 use Rattle.kp_object_defs.specs.Objects.{Objects, no_objects, objects_step, objects_after}
 use Rattle.kp_object_defs.specs.OwnKeys.{AreUnderOwnKeys}
 use Rattle.kp_object_defs.specs.Desired.{desired_among, desired_endpoints_of}
-use Rattle.kp_object_defs.specs.PackingLaws.{have_own_pods}
+use Rattle.kp_object_defs.specs.PackingLaws.{have_own_pods, entries_name_pods}
 
 -- ---- Keys
 
@@ -52,3 +52,15 @@ abbrev pub DesiredOfOwnPods : Type 0
 DesiredOfOwnPods =
     (family : Family) (o : Objects) (s : Service)
     → AreUnderOwnKeys o → have_own_pods (desired_endpoints_of family o s) ≡ true
+
+-- the entry of each endpoint that a Service wants of pods names its pod
+abbrev pub WantedNamePods : Type 0
+WantedNamePods =
+    (family : Family) (s : Service) (pods : List Pod) (nodes : List Node)
+    → entries_name_pods (desired_among family s pods nodes) ≡ true
+
+-- and so does that of each endpoint that the controller wants for it
+abbrev pub DesiredNamePods : Type 0
+DesiredNamePods =
+    (family : Family) (o : Objects) (s : Service)
+    → entries_name_pods (desired_endpoints_of family o s) ≡ true

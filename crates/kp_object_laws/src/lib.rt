@@ -16,11 +16,13 @@ pub fn own_keys()
 {}
 
 /// The endpoints that a Service wants of the objects, whose pods and nodes are given in any order,
-/// and which are of different pods.
+/// and which are of different pods. Their entries name these pods.
 pub fn wanted_endpoints()
     ensures of_objects { objects.WantedOfObjects }
     ensures own_pods { objects.WantedOfOwnPods }
     ensures desired { objects.DesiredOfOwnPods }
+    ensures named { objects.WantedNamePods }
+    ensures desired_named { objects.DesiredNamePods }
 {}
 
 /// The endpoints of a Service port stand in order of address and port, each once.

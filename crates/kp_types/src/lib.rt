@@ -6,6 +6,7 @@ mod chain;
 mod decision;
 mod event;
 mod info;
+pub mod laws;
 mod lists;
 mod packet;
 mod pod;

@@ -5,8 +5,9 @@ use Rattle.kp_base.specs.declared.address.Family.TheVariants.{V4}
 use Rattle.kp_base.specs.Keys.{text_cmp}
 use Rattle.kp_object_defs.specs.Order.{by_key}
 use Rattle.kp_object_defs.specs.Desired.{desired_of, desired_among, desired_endpoints_of, in_name_order, selects}
-use Rattle.kp_object_defs.specs.PackingLaws.{have_own_pods}
+use Rattle.kp_object_defs.specs.PackingLaws.{have_own_pods, entries_name_pods}
 use Rattle.kp_object_laws.proofs.Wanted.{wanted_of_objects, wanted_of_own_pods}
+use Rattle.kp_object_laws.proofs.NamedPods.{wanted_name_pods}
 use Rattle.kp_desired.specs.ByName.{shown, zone_in}
 use Rattle.kp_desired.proofs.NodeNames.{zone-by_name}
 use Rattle.kp_desired.proofs.wanted.desired_endpoints.Goals as goal
@@ -36,5 +37,9 @@ returns c =
       own_pods = IfOk-weaker c.wanted_of.result
           (λ ws. ws ≡ desired_among V4 s pods nodes) (λ ws. have_own_pods ws ≡ true)
           (λ ws same. ap have_own_pods same ∙ wanted_of_own_pods V4 s pods nodes)
+          exact;
+      named = IfOk-weaker c.wanted_of.result
+          (λ ws. ws ≡ desired_among V4 s pods nodes) (λ ws. entries_name_pods ws ≡ true)
+          (λ ws same. ap entries_name_pods same ∙ wanted_name_pods V4 s pods nodes)
           exact;
     }
