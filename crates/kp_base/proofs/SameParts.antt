@@ -44,6 +44,11 @@ same_address_exact a b h =
     let both = and_parts _ _ h in
     λ i. record { family = same_family_exact a.family b.family both.0 i; number = eqb-true a.number b.number both.1 i }
 
+-- a family is itself
+pub family_itself : (f : Family) → same_family f f ≡ true
+family_itself V4 = refl
+family_itself V6 = refl
+
 -- ---- the derived tests are these
 
 pub family_same : (a b : Family) → family_eq.ghosts.eq a b ≡ same_family a b

@@ -6,9 +6,7 @@ use Rattle.std.proofs.lemmas.Bool.Decides.{nat_tests}
 use Rattle.std.proofs.lemmas.Slice.Eq.{bytes_eq-Decides}
 use Rattle.kp_base.specs.Keys.{proto_place, same_proto}
 use Rattle.kp_base.specs.Net.{same_address, same_family}
-use Rattle.kp_base.proofs.SameParts.{same_address_exact, same_proto_exact}
-use Rattle.kp_base.specs.declared.address.Family.{Family}
-use Rattle.kp_base.specs.declared.address.Family.TheVariants.{V4, V6}
+use Rattle.kp_base.proofs.SameParts.{family_itself, same_address_exact, same_proto_exact}
 use Rattle.kp_base.specs.declared.key.PortKey.{PortKey}
 use Rattle.kp_base.specs.declared.key.Endpoint.{Endpoint}
 use Rattle.kp_types.specs.declared.chain.ChainKey.{ChainKey}
@@ -67,10 +65,6 @@ one_chain_key (Sep a e) (Port kind b) h = absurd (cc)
 
 number_itself : (n : ℕ) → (n == n) ≡ true
 number_itself n = grind (arith, nat_tests)
-
-family_itself : (f : Family) → same_family f f ≡ true
-family_itself V4 = refl
-family_itself V6 = refl
 
 port_itself : (a : PortKey) → same_port_key a a ≡ true
 port_itself a =

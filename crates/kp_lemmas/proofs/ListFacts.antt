@@ -34,7 +34,19 @@ all_filter P test (x ∷ xs) all = kept (test x) (all_filter P test xs all.1)
     kept true rest = (all.0, rest)
     kept false rest = rest
 
+-- two facts hold together
+pub all_both : {X : Type 0} (P Q : X → Type 0) (xs : List X) → AllByRecursion P xs
+    → AllByRecursion Q xs → AllByRecursion (λ x. P x × Q x) xs
+all_both P Q [] a b = tt
+all_both P Q (x ∷ xs) a b = ((a.0, b.0), all_both P Q xs a.1 b.1)
+
 -- ---- what a test says of all elements
+
+-- a test that all elements pass holds of each
+pub all_tested : {X : Type 0} (test : X → Bool) (xs : List X) → list_all test xs ≡ true
+    → AllByRecursion (λ x. test x ≡ true) xs
+all_tested test [] h = tt
+all_tested test (x ∷ xs) h = let both = and_parts _ _ h in (both.0, all_tested test xs both.1)
 
 -- a weaker test passes all
 pub test_weaker : {X : Type 0} (p q : X → Bool) → ((x : X) → p x ≡ true → q x ≡ true)

@@ -5,13 +5,14 @@ use Rattle.std.specs.declared.cmp.Ordering.{Ordering}
 use Rattle.std.specs.declared.cmp.Ordering.TheVariants.{Less, Equal, Greater}
 use Rattle.std.specs.Ordering.{eq_by_cmp, is_eq, match_ordering}
 use Rattle.std.specs.Cmp.{IsTotalOrder}
-use Rattle.std.specs.FinMap.{find, put, is_sorted, IsAntisymmetric}
+use Rattle.std.specs.FinMap.{entries, entries-insert, find, from_entries, put, is_sorted, IsAntisymmetric}
 use Rattle.std.specs.FinMap.Entries.{by_order, find-put, same_entries, is_sorted-put}
 use Rattle.std.specs.BTreeMap.{insert_entry, is_at}
 use Rattle.std.specs.Map.{lookup}
 use Rattle.std.specs.Map.Iter.{deref_pair}
 use Rattle.std.proofs.lemmas.List.{map-append, reverse-append, take_more}
 use Rattle.kp_lemmas.proofs.Booleans.{true_from_fact, fact_from_true}
+use Rattle.kp_lemmas.proofs.Entries.{empty_entries}
 use Rattle.kp_object_defs.specs.Order.{in_order, by_key}
 
 -- the first answer, or else the second
@@ -110,6 +111,12 @@ module _ {K X : Type 0} {R : K → K → Ordering} (total : IsTotalOrder R) wher
   find-in_order q (e ∷ es) =
       find-put R total q e.0 e.1 (in_order R es)
       ∙ ap (cond (eq_by_cmp R q e.0) (Some e.1)) (find-in_order q es)
+
+  -- the entries of a map of entries stand in order
+  pub entries_in_order : (es : List (K × X)) → entries (from_entries {R = R} es) ≡ in_order R es
+  entries_in_order [] = empty_entries R
+  entries_in_order (e ∷ es) =
+      entries-insert total (from_entries es) e.0 e.1 ∙ ap (put R e.0 e.1) (entries_in_order es)
 
   -- entries in order are sorted
   pub sorted-in_order : (es : List (K × X)) → is_sorted R (in_order R es) ≡ true

@@ -73,12 +73,15 @@ port_is_named s p c = found_port s.ports s.distinct p c
 
 -- ---- The port of a name
 
-service_by : (b : Bool) (x y : ServiceSources) → x.service ≡ y.service → (cond b x y).service ≡ y.service
+-- of two sources, those that have the Service
+service_by : (b : Bool) (x y : ServiceSources) → x.service ≡ y.service
+    → (cond b x y).service ≡ y.service
 service_by true x y h = h
 service_by false x y h = refl
 
 -- what a Service's endpoints are taken from tells the Service
-sources_service : (family : Family) (config : FamilyConfig) (o : Objects) (s : Service) → (sources_of family config o s).service ≡ s
+pub sources_service : (family : Family) (config : FamilyConfig) (o : Objects) (s : Service)
+    → (sources_of family config o s).service ≡ s
 sources_service family config o s = service_by (is_reconciled config s) _ _ refl
 
 module _ (family : Family) (config : FamilyConfig) (o : Objects) (own : AreUnderOwnKeys o) where
