@@ -81,9 +81,11 @@ impl LineReader {
         ensures input { TakesInput result self.old.taken self.new.taken
             (S.left source.old) (S.left source.new) }
         ensures bounded { IsBounded self.new }
-        ensures ended { self.old.ended ≡ false → self.new.ended ≡ true → IsAtEnd (S.left source.new) }
+        ensures ended { self.old.ended ≡ false → self.new.ended ≡ true
+            → IsAtEnd (S.left source.new) }
         ensures unasked { answers_unasked self.old ≡ true → source.new ≡ source.old }
-        ensures cause { HasReadCause result (S.faults source.old) (S.faults source.new) self.new.held }
+        ensures cause { HasReadCause result (S.faults source.old) (S.faults source.new)
+            self.new.held }
     {
         self.line.clear();
         if self.taken > INPUT_LIMIT {

@@ -59,7 +59,8 @@ impl<'a> Spot<'a> {
     /// The member of this name, which has to be there.
     pub fn needed(&'a self, alloc: Global, name: &'a str) -> Result<Spot<'a>, FieldFault>
         ensures place { Gives place_of result (needed_at (place_of self.now) name.now) }
-        ensures there { IfOk result (λ s. field_at (place_of self.now) name.now ≡ Ok (Some (place_of s))) }
+        ensures there { IfOk result (λ s.
+            field_at (place_of self.now) name.now ≡ Ok (Some (place_of s))) }
     {
         match self.field(alloc, name)? {
             Some(spot) => Ok(spot),

@@ -21,7 +21,8 @@ pub fn another_family_is_refused()
 /// An empty port name counts as absent in an object.
 pub fn empty_text_is_absent()
     ensures { field_fault (codes "name") optional port_name_text
-        (record { value = object (member (codes "name") (string []) no_members); path = [] }) ≡ None }
+        (record { value = object (member (codes "name") (string []) no_members); path = [] })
+        ≡ None }
 {}
 
 /// Where a name may not be empty, the empty text is a bad name.

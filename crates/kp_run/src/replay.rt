@@ -48,7 +48,8 @@ fn write_printed<K: Sink>(
 
 fn write_text<K: Sink>(sink: &mut K, text: &[u8]) -> Result<(), Stop>
     ensures whole { OnOk result (Grows (K.written sink.old) (K.written sink.new) text.now) }
-    ensures front { OnErr result (outcome.GrowsFront (K.written sink.old) (K.written sink.new) text.now) }
+    ensures front { OnErr result
+        (outcome.GrowsFront (K.written sink.old) (K.written sink.new) text.now) }
     ensures later { K.faults sink.old ≤ K.faults sink.new }
     ensures write { result ≡ Err Stop.Write → Rose (K.faults sink.old) (K.faults sink.new) }
     ensures other { (stop : Stop) → result ≡ Err stop → stop ≡ Stop.Write }
@@ -69,9 +70,11 @@ fn replay_line<K: Sink>(
 ) -> Result<(), Stop>
     requires { state.IsReady replay.old }
     ensures whole { (s : spec.ReplayState) → state.Stands replay.old s → OnOk result
-        (outcome.TakesLine replay.old replay.new number bytes.now s (K.written sink.old) (K.written sink.new)) }
+        (outcome.TakesLine replay.old replay.new number bytes.now s
+        (K.written sink.old) (K.written sink.new)) }
     ensures front { (s : spec.ReplayState) → state.Stands replay.old s → OnErr result
-        (outcome.GrowsFront (K.written sink.old) (K.written sink.new) (spec.line_step number bytes.now s).text) }
+        (outcome.GrowsFront (K.written sink.old) (K.written sink.new)
+        (spec.line_step number bytes.now s).text) }
     ensures syncs { replay.new.syncs ≤ replay.old.syncs + 1 }
     ensures later { K.faults sink.old ≤ K.faults sink.new }
     ensures write { result ≡ Err Stop.Write → Rose (K.faults sink.old) (K.faults sink.new) }
@@ -93,9 +96,11 @@ fn replay_lines<S: Source, K: Sink>(
 ) -> Result<(), Stop>
     requires fresh { reader.old ≡ fresh_reader }
     requires start { state.Stands replay.old spec.initial }
-    ensures front { outcome.WritesFront (S.left source.old) (K.written sink.old) (K.written sink.new) }
+    ensures front { outcome.WritesFront (S.left source.old)
+        (K.written sink.old) (K.written sink.new) }
     ensures all { OnOk result (IfSome (S.left source.old)
-        (λ text. outcome.WritesAll replay.new.refused text (K.written sink.old) (K.written sink.new))) }
+        (λ text. outcome.WritesAll replay.new.refused text
+        (K.written sink.old) (K.written sink.new))) }
     ensures later { K.faults sink.old ≤ K.faults sink.new }
     ensures read_later { S.faults source.old ≤ S.faults source.new }
     ensures write { result ≡ Err Stop.Write → Rose (K.faults sink.old) (K.faults sink.new) }
@@ -145,7 +150,8 @@ fn flushed<K: Sink>(sink: &mut K, status: Status) -> Status
     ensures kept { Grows (K.written sink.old) (K.written sink.new) [] }
     ensures later { K.faults sink.old ≤ K.faults sink.new }
     ensures cases { outcome.IsStatusOr result status
-        (IsFlushed (K.flushed sink.new) (K.written sink.new)) (Rose (K.faults sink.old) (K.faults sink.new)) }
+        (IsFlushed (K.flushed sink.new) (K.written sink.new))
+        (Rose (K.faults sink.old) (K.faults sink.new)) }
 {
     match sink.flush() {
         Ok(()) => status,
@@ -155,7 +161,8 @@ fn flushed<K: Sink>(sink: &mut K, status: Status) -> Status
 
 /// Replays all lines, and answers whether one was refused.
 fn replay_all<S: Source, K: Sink>(alloc: Global, source: &mut S, sink: &mut K) -> Result<bool, Stop>
-    ensures front { outcome.WritesFront (S.left source.old) (K.written sink.old) (K.written sink.new) }
+    ensures front { outcome.WritesFront (S.left source.old)
+        (K.written sink.old) (K.written sink.new) }
     ensures all { IfOk result (λ refused. IfSome (S.left source.old)
         (λ text. outcome.WritesAll refused text (K.written sink.old) (K.written sink.new))) }
     ensures later { K.faults sink.old ≤ K.faults sink.new }

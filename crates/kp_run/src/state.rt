@@ -148,7 +148,8 @@ impl Replay {
     }
 
     fn take_slice(&mut self, slice: PlainSlice) -> Printed
-        ensures steps { (s : spec.ReplayState) → Stands self.old s → s.fresh ≡ false → IsSmallSlice (Some slice)
+        ensures steps { (s : spec.ReplayState) → Stands self.old s → s.fresh ≡ false
+            → IsSmallSlice (Some slice)
             → (number : ℕ) → Steps self.new number result (slice_step number slice s) }
         ensures syncs { self.new.syncs ≡ self.old.syncs }
     {

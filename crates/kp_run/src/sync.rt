@@ -18,8 +18,8 @@ impl Replay {
     /// Makes the table of the objects by now.
     pub(crate) fn sync(&mut self, alloc: Global) -> Result<Printed, NoMemory>
         requires { IsReady self.old }
-        ensures steps { IfOk result (λ p. (s : spec.ReplayState) → Stands self.old s → s.fresh ≡ false
-            → (number : ℕ) → Steps self.new number p (spec.sync_step s)) }
+        ensures steps { IfOk result (λ p. (s : spec.ReplayState) → Stands self.old s
+            → s.fresh ≡ false → (number : ℕ) → Steps self.new number p (spec.sync_step s)) }
         ensures syncs { self.new.syncs ≤ self.old.syncs + 1 }
     {
         let table = full_table(

@@ -23,7 +23,8 @@ pub fn service_of<'a>(alloc: Global, spot: &'a Spot<'a>) -> Result<Service, Fiel
 }
 
 fn read<'a>(alloc: Global, spot: &'a Spot<'a>) -> Result<Service, FieldFault>
-    ensures { ReadsService result (rows_fault service_rows (place_of spot.now)) (place_of spot.now) }
+    ensures { ReadsService result (rows_fault service_rows (place_of spot.now))
+        (place_of spot.now) }
 {
     let key = key_field(alloc, spot)?;
     let spec = spot.needed(alloc, "spec")?;

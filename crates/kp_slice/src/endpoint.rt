@@ -83,7 +83,8 @@ fn first_address<'a>(
     family: AddressType,
 ) -> Result<Option<Address>, FieldFault>
     ensures { Reads (λ a. a) result
-        (on_ok (elements_at (place_of list.now)) (head_fault (address_form family) (place_of list.now)))
+        (on_ok (elements_at (place_of list.now))
+        (head_fault (address_form family) (place_of list.now)))
         (first_of_type family (elements_of (place_of list.now))) }
 {
     let mut elements = list.elements(alloc)?;

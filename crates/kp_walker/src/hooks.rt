@@ -58,7 +58,8 @@ impl Surroundings<'_> {
     fn filter(&self, from: Origin, for_node: bool, journey: &mut Journey)
         requires plain { HasNoRecent (lookup_of self.now) }
         requires room { hooks_ended journey.old < 2 }
-        requires for_node { for_node ≡ is_local_address self.now.node.now journey.old.header.target }
+        requires for_node { for_node
+            ≡ is_local_address self.now.node.now journey.old.header.target }
         ensures hooks { MovesAs journey.old journey.new
             (walk.filter_hooks from (surroundings_of self.now) (lookup_of self.now)) }
         ensures room { hooks_ended journey.new < 4 }

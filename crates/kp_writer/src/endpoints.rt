@@ -28,7 +28,8 @@ fn in_slice(
     service: &PlainService,
     slice: Option<&PlainSlice>,
 ) -> Result<Vec<Endpoint>, NoMemory>
-    ensures { IfOk result (λ es. es.items ≡ slice_endpoints service.now (option_copied slice.entry)) }
+    ensures { IfOk result (λ es.
+        es.items ≡ slice_endpoints service.now (option_copied slice.entry)) }
 {
     match slice {
         Some(slice) if slice.service == service.name => at_port(alloc, slice),
