@@ -1,7 +1,7 @@
 pub mod Lists
 pub mod OwnEntries
 mod OwnKeys
-mod PortByKey
+pub mod PortByKey
 mod SameElements
 mod SlicesNow
 pub mod Usable

@@ -20,12 +20,13 @@ use Rattle.kp_door_defs.specs.Marks.{is_from_node, is_marked}
 use Rattle.kp_table_defs.specs.Layout.{kube_services}
 use Rattle.kp_table_defs.specs.Matching.{WalkState, Surroundings}
 use Rattle.kp_table_defs.specs.Walk.{sent_to, Journey, Translating, after_hook, returned_from, through, first_hook, is_leaving, onward, verdict_by, walked_by, initial_state, surroundings_of, walk_of, postrouting_if}
+use Rattle.kp_table_defs.specs.Walk.Outcome.{Next}
 use Rattle.kp_walk_laws.specs.Laws.{IsClusterOnly}
 use Rattle.kp_walk_laws.proofs.EndpointChains.{marked_if, marked_source}
 use Rattle.kp_walk_laws.proofs.Matches.{packet_of}
 use Rattle.kp_walk_laws.proofs.Services.{FindsPort}
-use Rattle.kp_walk_laws.proofs.Translations.{translated_state}
-use Rattle.kp_walk_laws.proofs.FirstHook.{FindsNat, translated_or_next, first_outcome}
+use Rattle.kp_walk_laws.proofs.Translations.{translated_state, translating}
+use Rattle.kp_walk_laws.proofs.FirstHook.{FindsNat, first_outcome}
 use Rattle.kp_walk_laws.proofs.FilterChains.{FindsFilter}
 use Rattle.kp_walk_laws.proofs.Journeys.{verdict_of, line_verdict, journey_at, filter_journey, last_verdict, last_lists}
 
@@ -112,7 +113,7 @@ module _ (setting : Setting) (infos : List PortInfo) (packet : Packet) (draws : 
   translated_journey : (t : Option Translation) → (trail : List (List (List ℕ)))
       × (after_hook Translating (journey_at (initial_state packet lists) None None [])
       (returned_from (first_hook packet.from)
-      (returned_from kube_services (translated_or_next setting
+      (returned_from kube_services (translating (Next (initial_state packet lists)) setting
       (surroundings_of setting.config.addresses packet draws) (initial_state packet lists) t)))
       ≡ journey_at (state_after setting.config
       (surroundings_of setting.config.addresses packet draws) (initial_state packet lists) t)

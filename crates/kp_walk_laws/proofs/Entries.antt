@@ -4,10 +4,9 @@ use Rattle.std.specs.declared.cmp.Ordering.{Ordering}
 use Rattle.std.specs.declared.cmp.Ordering.TheVariants.{Less, Equal, Greater}
 use Rattle.std.specs.Ordering.{is_lt}
 use Rattle.std.specs.Cmp.{IsTotalOrder, tied_itself}
-use Rattle.std.specs.FinMap.{IsAntisymmetric, entries, from_entries, put, entries-insert}
+use Rattle.std.specs.FinMap.{IsAntisymmetric, put}
 use Rattle.std.specs.FinMap.Entries.{by_order, below_all, is_sorted}
 use Rattle.kp_lemmas.proofs.Booleans.{both_facts}
-use Rattle.kp_lemmas.proofs.Entries.{empty_entries}
 use Rattle.kp_lemmas.proofs.Members.{first_in, later_in, none_in, in_cases}
 use Rattle.kp_object_defs.specs.Order.{in_order}
 
@@ -48,12 +47,6 @@ not_below {R} total j k same h =
     subst (λ o. T (is_lt o)) (ap (λ i. R i k) same ∙ tied_itself total k) h
 
 module _ {K X : Type 0} {R : K → K → Ordering} (total : IsTotalOrder R) where
-  -- the entries of a map of entries stand in order
-  pub entries_in_order : (es : List (K × X)) → entries (from_entries {R = R} es) ≡ in_order R es
-  entries_in_order [] = empty_entries R
-  entries_in_order (e ∷ es) =
-      entries-insert total (from_entries es) e.0 e.1 ∙ ap (put R e.0 e.1) (entries_in_order es)
-
   below_less : (k : K) (es : List (K × X)) (f : K × X) → T (below_all R k es) → Contains es f
       → T (is_lt (R k f.0))
   below_less k [] f h c = absurd (none_in f c)

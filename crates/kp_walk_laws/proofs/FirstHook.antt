@@ -19,8 +19,8 @@ use Rattle.kp_door_defs.specs.Decision.{Translation, translation_at, translation
 use Rattle.kp_door_defs.specs.Doors.{Door, doors_of, fits, offer_of, takes, taking_door}
 use Rattle.kp_table_defs.specs.Layout.{jump_to, mark_masq, kube_services, kube_node_ports, kube_postrouting, service_block, node_port_block, own_addresses}
 use Rattle.kp_table_defs.specs.Matching.{WalkState, Surroundings}
-use Rattle.kp_table_defs.specs.Walk.{Outcome, found_outcome, returned_from, chain_outcome, first_hook, most_chains}
-use Rattle.kp_table_defs.specs.Walk.Outcome.{Next}
+use Rattle.kp_table_defs.specs.Walk.{found_outcome, returned_from, chain_outcome, first_hook, most_chains}
+use Rattle.kp_table_defs.specs.Walk.Outcome.{Next, Stuck}
 use Rattle.kp_walk_laws.specs.Laws.{IsClusterOnly}
 use Rattle.kp_walk_laws.proofs.Matches.{packet_of}
 use Rattle.kp_walk_laws.proofs.Outcomes.{or_next, and_then_next}
@@ -59,23 +59,18 @@ found_passes test [] x h = absurd (cc)
 found_passes test (y ∷ ys) x h =
     passes_by test x y (find test ys) (found_passes test ys x) (test y) refl h
 
--- the outcome of the first hook's rules by the translation
-abbrev pub translated_or_next : Setting → Surroundings → WalkState → Option Translation → Outcome
-translated_or_next setting e s None = Next s
-translated_or_next setting e s (Some t) = translating setting e s (Some t)
-
 module _ (setting : Setting) (by_draws : setting.pick ≡ pick_by_draws) (infos : List PortInfo)
     (e : Surroundings) (at : ChainAt → Option (List Rule)) (finds : FindsNat setting infos at)
     (s : WalkState) where
   same_translation : (t : Option Translation) → is_some t ≡ true
-      → translating setting e s t ≡ translated_or_next setting e s t
+      → translating Stuck setting e s t ≡ translating (Next s) setting e s t
   same_translation None h = absurd (cc)
   same_translation (Some t) h = refl
 
   -- the door that takes the packet translates it
   by_door : (d : Option Door) → taking_door setting.config infos (packet_of e s) ≡ d
       → or_next (option_map (taken_by setting e s) d) s
-      ≡ translated_or_next setting e s
+      ≡ translating (Next s) setting e s
       (option_and_then (translation_at setting (packet_of e s) e.draws s.lists) d)
   by_door None h = refl
   by_door (Some d) h =
@@ -96,7 +91,7 @@ module _ (setting : Setting) (by_draws : setting.pick ≡ pick_by_draws) (infos 
       → IsClusterOnly i × FindsPort setting at i) → (from : Origin)
       → chain_outcome e at Nat most_chains (first_hook from) s
       ≡ returned_from (first_hook from) (returned_from kube_services
-      (translated_or_next setting e s (translation_of setting infos
+      (translating (Next s) setting e s (translation_of setting infos
       (packet_of e s) e.draws s.lists)))
   first_outcome fresh ports from =
       ap (λ o. found_outcome e (chain_outcome e at Nat 7) (first_hook from) o s) (first_rules from)

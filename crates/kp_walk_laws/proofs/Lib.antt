@@ -21,5 +21,3 @@ pub mod PlainServices
 pub mod Ranked
 pub mod Theorem
 pub mod TwoPorts
-pub mod Members
-pub mod Usable

@@ -1,6 +1,6 @@
 -- The ports of some objects have keys of their own, and those of plain Services answer at their
 -- cluster addresses alone.
-use Rattle.std.proofs.Common.{◌≡◌, inl, inr, Bool, true, false, cond, ℕ, List, [], ◌∷◌, map, reverse, Contains, Option, Some, None, option_map, filter_map, flat_map, refl, sym, ap, subst, ◌∙◌, T}
+use Rattle.std.proofs.Common.{◌≡◌, inl, inr, cond, ℕ, List, [], ◌∷◌, map, reverse, Contains, Option, Some, None, option_map, filter_map, flat_map, refl, sym, ap, subst, ◌∙◌, T}
 use Rattle.std.specs.FinMap.{values}
 use Rattle.std.specs.List.{cons_option}
 use Rattle.std.proofs.lemmas.Option.{same_Some}
@@ -16,11 +16,11 @@ use Rattle.kp_types.specs.declared.info.ServiceSources.{ServiceSources}
 use Rattle.kp_types.specs.declared.lists.Candidate.{Candidate}
 use Rattle.kp_types.specs.declared.service.Service.{Service}
 use Rattle.kp_types.specs.declared.service.ServicePort.{ServicePort}
-use Rattle.kp_object_defs.specs.Desired.{is_reconciled}
 use Rattle.kp_object_defs.specs.Entries.{sources_of, entries_from}
 use Rattle.kp_object_defs.specs.Objects.{Objects, zone_of}
 use Rattle.kp_object_defs.specs.Order.{in_order}
 use Rattle.kp_object_defs.specs.PortInfo.{PortInfo, port_infos, addresses_in, has_balancer, has_node_port, port_key_of, info_from, info_of, ports_of, name_of_port, service_ports, cluster_address_in}
+use Rattle.kp_object_laws.proofs.PortByKey.{sources_service}
 use Rattle.kp_table_laws.proofs.PortOrder.{ports_are_in_order}
 use Rattle.kp_walk_laws.specs.Laws.{IsClusterOnly, IsPlainService, PlainPorts, PortKeysOnce}
 use Rattle.kp_walk_laws.proofs.Entries.{from_in_order, one_sorted}
@@ -62,16 +62,6 @@ from_option_map : {A B : Type 0} (f : A → B) (o : Option A) (y : B) → option
     → (x : A) × (f x ≡ y)
 from_option_map f None y h = absurd (cc)
 from_option_map f (Some x) y h = (x, same_Some (f x) y h)
-
-service_by : (b : Bool) (x y : ServiceSources) → x.service ≡ y.service
-    → (cond b x y).service ≡ y.service
-service_by true x y h = h
-service_by false x y h = refl
-
--- what a Service's endpoints are taken from tells the Service
-sources_service : (family : Family) (config : FamilyConfig) (o : Objects) (s : Service)
-    → (sources_of family config o s).service ≡ s
-sources_service family config o s = service_by (is_reconciled config s) _ _ refl
 
 module _ (services : List ServiceSources) where
   -- their ports

@@ -35,7 +35,8 @@ use Rattle.kp_table_defs.specs.Ranks.{rank_of, is_above, goes_on, jumps_go_on, i
 use Rattle.kp_table_defs.specs.Rebuild.{Chains, full_chains, needs}
 use Rattle.kp_table_defs.specs.StandIn.{hex_text}
 use Rattle.kp_walk_laws.specs.Laws.{IsClusterOnly, IsPrefixed, StandInPrefixed, HashedPrefixed, FullTableRanked}
-use Rattle.kp_walk_laws.proofs.Entries.{from_in_order, entries_in_order}
+use Rattle.kp_object_defs.proofs.InOrder.{entries_in_order}
+use Rattle.kp_walk_laws.proofs.Entries.{from_in_order}
 use Rattle.kp_walk_laws.proofs.ListChains.{and_false, plain_list}
 use Rattle.kp_walk_laws.proofs.Lookups.{Row, look_up, fixed_nat, fixed_filter, rows_written, in_rows, is_found, finds_nat, finds_filter}
 use Rattle.kp_walk_laws.proofs.FirstHook.{FindsNat}

@@ -30,7 +30,7 @@ use Rattle.kp_door_defs.specs.Marks.{marked_inside}
 use Rattle.kp_table_defs.specs.Matching.{WalkState, Surroundings, try_all}
 use Rattle.kp_table_defs.specs.Layout.{mark_masq, kube_node_ports, port_chain, rule_at, list_rules, endpoint_chain, endpoint_rules, service_block, node_port_block, node_port_rules, balancer_chain, chain_of_policy, own_addresses, rules_if}
 use Rattle.kp_table_defs.specs.Walk.{Outcome, found_outcome, returned_from, target_if, rule_outcome, rules_outcome, chain_outcome}
-use Rattle.kp_table_defs.specs.Walk.Outcome.{Next, Ended}
+use Rattle.kp_table_defs.specs.Walk.Outcome.{Next, Stuck, Ended}
 use Rattle.kp_walk_laws.specs.Laws.{IsClusterOnly}
 use Rattle.kp_walk_laws.proofs.Outcomes.{FindIn, IsRuleOf, find_in_one, find_in_each, find_in_append, or_next, and_then_next}
 use Rattle.kp_walk_laws.proofs.Matches.{packet_of, rule_if, door_tried, tried_alone, tried_before}
@@ -138,7 +138,7 @@ module _ (setting : Setting) (by_draws : setting.pick ≡ pick_by_draws) (e : Su
         → is_some g ≡ true
         → returned_from chain (outcome_at (sent_by e setting i) g
         (with_used (marked_if b s) (used_after e.draws s.used (length offer.endpoints))))
-        ≡ translating setting e s (chosen_at the_door offer
+        ≡ translating Stuck setting e s (chosen_at the_door offer
         (option_map (drawn_as (selected_index e.draws 0 (length offer.endpoints)) s.lists) g))
     same_choice b marks None h = absurd (cc)
     same_choice b marks (Some f) h =
@@ -179,7 +179,7 @@ module _ (setting : Setting) (by_draws : setting.pick ≡ pick_by_draws) (e : Su
           (packet_of e s)) (marks_inside setting.config e i s here)
           (slice_get offer.endpoints (selected_index e.draws 0 (length offer.endpoints)))
           (selected_some e.draws offer.endpoints some)
-          ∙ ap (translating setting e s) choice_is
+          ∙ ap (translating Stuck setting e s) choice_is
 
       by_test : not (is_empty offer.endpoints) ≡ true → (b : Bool)
           → is_for_address i (packet_of e s) ≡ b

@@ -102,10 +102,10 @@ translated_state config e s t =
           t.chosen.lists;
     })
 
--- the end of the first hook by a translation
-abbrev pub translating : Setting → Surroundings → WalkState → Option Translation → Outcome
-translating setting e s None = Stuck
-translating setting e s (Some t) =
+-- the end of the first hook by a translation, and what comes where there is none
+abbrev pub translating : Outcome → Setting → Surroundings → WalkState → Option Translation → Outcome
+translating otherwise setting e s None = otherwise
+translating otherwise setting e s (Some t) =
     Ended (ending.Dnat t.chosen.endpoint)
     (port_chain setting t.door.info (chain_of_policy t.door.info.internal)
     ∷ endpoint_chain setting t.door.info t.chosen.endpoint ∷ [])
@@ -114,10 +114,10 @@ translating setting e s (Some t) =
 -- what a door does that takes a packet
 abbrev pub taken_by : Setting → Surroundings → WalkState → Door → Outcome
 taken_by setting e s d =
-    translating setting e s (translation_at setting (packet_of e s) e.draws s.lists d)
+    translating Stuck setting e s (translation_at setting (packet_of e s) e.draws s.lists d)
 
 translating_last : (setting : Setting) (e : Surroundings) (s : WalkState) (t : Option Translation)
-    → IsLast (translating setting e s t)
+    → IsLast (translating Stuck setting e s t)
 translating_last setting e s None = stuck_last
 translating_last setting e s (Some t) = ended_last _ _ _
 

@@ -28,7 +28,7 @@ use Rattle.kp_text_defs.specs.declared.line.PlainService.{PlainService}
 use Rattle.kp_text_defs.specs.declared.line.PlainEndpoint.{PlainEndpoint}
 use Rattle.kp_text_defs.specs.declared.line.PlainSlice.{PlainSlice}
 use Rattle.kp_text_defs.specs.FirstLines.{plain_service, plain_slice, plain_port, plain_endpoint, default_key}
-use Rattle.kp_walk_laws.proofs.Usable.{has_any_is}
+use Rattle.kp_object_laws.proofs.Usable.{has_any_is}
 use Rattle.kp_writer.specs.Laws.{PlainInfos}
 use Rattle.kp_writer.specs.Plain.{services_with, slices_with, objects_with, endpoint_at, slice_endpoints, endpoints_of, plain_key, plain_info, plain_infos}
 use Rattle.kp_writer.proofs.Distinct.{distinct_absorbs, named_keys, in_order_all, from_reverse, all_of, each_of}
