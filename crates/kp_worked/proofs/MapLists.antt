@@ -1,34 +1,21 @@
 -- Finite maps that are given as lists of entries.
-use Rattle.std.proofs.Common.{◌≡◌, Bool, true, false, cond, not, List, [], ◌∷◌, filter, length, None, refl, sym, ap, ◌∙◌}
+use Rattle.std.proofs.Common.{◌≡◌, Bool, true, false, cond, not, List, filter, None, refl, sym, ap, ◌∙◌}
 use Rattle.std.specs.Cmp.{IsTotalOrder, alike_right, eq_by_cmp_equiv}
-use Rattle.std.specs.FinMap.{empty, entries, find, from_entries, put, remove, entries-insert, get-from_entries, get-remove, len-entries, len-empty, same_map, IsAntisymmetric}
+use Rattle.std.specs.FinMap.{find, from_entries, remove, get-from_entries, get-remove, same_map, IsAntisymmetric}
 use Rattle.std.specs.FinMap.Entries.{find-where_key}
 use Rattle.std.specs.Ordering.{eq_by_cmp, is_eq}
 use Rattle.std.specs.declared.cmp.Ordering.{Ordering}
-use Rattle.kp_object_defs.specs.Order.{in_order}
-
-without_length : {A : Type 0} (es : List A) → length es ≡ 0 → es ≡ []
-without_length [] h = refl
-without_length (e ∷ es) h = absurd (cc)
 
 turned : {A : Type 0} (b : Bool) (x y : A) → cond (not b) x y ≡ cond b y x
 turned true x y = refl
 turned false x y = refl
 
 module _ {K X : Type 0} (R : K → K → Ordering) where
-  nothing : entries (empty {X = X} {R = R}) ≡ []
-  nothing = without_length _ (sym (len-entries (empty {X = X} {R = R})) ∙ len-empty R X)
-
   -- the entries without those of a key
   abbrev pub without : K → List (K × X) → List (K × X)
   without k es = filter (λ e. not (eq_by_cmp R k e.0)) es
 
 module _ {K X : Type 0} {R : K → K → Ordering} (total : IsTotalOrder R) where
-  -- the entries of such a map are the list in order
-  pub entries_are : (es : List (K × X)) → entries (from_entries {R = R} es) ≡ in_order R es
-  entries_are [] = nothing R
-  entries_are (e ∷ es) = entries-insert total (from_entries es) e.0 e.1 ∙ ap (put R e.0 e.1) (entries_are es)
-
   pub removed_are : IsAntisymmetric R → (es : List (K × X)) (k : K) → from_entries {R = R} (without R k es) ≡ remove (from_entries es) k
   removed_are exact es k =
       same_map total exact _ _ (λ q.
