@@ -14,7 +14,9 @@ use Rattle.kp_types.specs.declared.slice.Wanted.{Wanted}
 use Rattle.kp_object_defs.specs.Desired.{is_empty}
 use Rattle.kp_object_defs.specs.Packing.{Packing, sorted_ports, same_ports, is_in_group, is_left_over, groups_of, pack_group, pack_groups, new_slice, new_slices, free_names, filled_slice, stays, is_updated, in_slice_order, slice_names, packed_by, packed_groups, packed_slices}
 use Rattle.kp_object_defs.specs.PackingLaws.{have_own_pods, entries_name_pods, entries_with_ports, wanted_with_ports, IsPackingOf, unchanged, PackedStay, PackingAgainChangesNothing}
-use Rattle.kp_pack_laws.proofs.Shuffles.{same_list, turned, and_then, mapped_pieces, mapped_twice, same_itself, same_pieces, pieces_of_map, all_of, all_filter, all_weaker, all_mapped, all_unmapped, all_joined, all_split, all_permuted, all_pass}
+use Rattle.std.proofs.lemmas.Simd.{map-map}
+use Rattle.kp_lemmas.proofs.ListFacts.{all_append, all_filter, all_weaker}
+use Rattle.kp_pack_laws.proofs.Shuffles.{same_list, turned, and_then, mapped_pieces, same_itself, same_pieces, pieces_of_map, all_of, all_mapped, all_unmapped, all_split, all_permuted, all_pass}
 use Rattle.kp_pack_laws.proofs.Distinct.{distinct_from_test, distinct_filtered}
 use Rattle.kp_pack_laws.proofs.Groups.{in_groups}
 use Rattle.kp_pack_laws.proofs.Ordered.{single}
@@ -54,7 +56,7 @@ module _ (group : List SlicePort) where
           → AllByRecursion P (entries_in (slices_here ss))
           → AllByRecursion P (entries_in (cond b (s ∷ slices_here ss) (slices_here ss)))
       by true e own rest =
-          all_joined P s.endpoints (entries_in (slices_here ss))
+          all_append P s.endpoints (entries_in (slices_here ss))
           (all_weaker _ P (λ x h. h (ports_exact (sorted_ports s.ports) group e)) s.endpoints
           (all_unmapped {Y = Entry} (λ t. t.0 ≡ group → P t.1)
           (λ e. (sorted_ports s.ports, e)) s.endpoints own)) rest
@@ -247,7 +249,7 @@ left_alone ss some =
     (map whole ss) stay in
     let kept : map filled_slice (filter stays (map whole ss)) ++ [] ≡ ss =
     append-nil _ ∙ ap (map filled_slice) (all_pass stays (map whole ss) stay)
-    ∙ mapped_twice filled_slice whole ss ∙ same_itself ss in
+    ∙ map-map filled_slice whole ss ∙ same_itself ss in
     λ i. record {
       slices = in_slice_order (kept i);
       created = [];

@@ -6,7 +6,8 @@ use Rattle.std.proofs.lemmas.Bool.{false≢true, or_parts, or_from, or_left, or_
 use Rattle.std.proofs.lemmas.Map.Views.{any-filter_same}
 use Rattle.kp_object_defs.specs.Order.{first_places}
 use Rattle.kp_object_defs.specs.PackingLaws.{are_distinct}
-use Rattle.kp_pack_laws.proofs.Shuffles.{all_filter, all_pass, all_weaker, all_joined, all_split}
+use Rattle.kp_lemmas.proofs.ListFacts.{all_append, all_filter, all_weaker}
+use Rattle.kp_pack_laws.proofs.Shuffles.{all_pass, all_split}
 
 is_false : (b : Bool) → not b ≡ true → b ≡ false
 is_false true h = absurd (false≢true h)
@@ -96,7 +97,7 @@ module _ {X : Type 0} (same : X → X → Bool) where
       where
         by : (b : Bool) → AllByRecursion P (f y) → AllByRecursion P (flat_map f (filter p ys))
             → AllByRecursion P (flat_map f (cond b (y ∷ filter p ys) (filter p ys)))
-        by true own rest = all_joined P (f y) (flat_map f (filter p ys)) own rest
+        by true own rest = all_append P (f y) (flat_map f (filter p ys)) own rest
         by false own rest = rest
 
     -- the pieces of some elements, where those of all differ

@@ -21,7 +21,9 @@ use Rattle.kp_object_defs.specs.Order.{in_order, distinct_in_order}
 use Rattle.kp_object_defs.specs.Packing.{Filling, NewSlice, type_of, new_slice, new_slices, filled_slice, stays, slice_names}
 use Rattle.kp_object_defs.specs.PackingLaws.{is_managed_for, PackingGoesOn}
 use Rattle.kp_object_defs.proofs.InOrder.{find-in_order}
-use Rattle.kp_pack_laws.proofs.Shuffles.{mapped_twice, same_itself, all_filter, all_weaker, all_joined, all_mapped, all_unmapped, all_of}
+use Rattle.std.proofs.lemmas.Simd.{map-map}
+use Rattle.kp_lemmas.proofs.ListFacts.{all_tested, all_append, all_filter, all_weaker}
+use Rattle.kp_pack_laws.proofs.Shuffles.{same_itself, all_mapped, all_unmapped, all_of}
 use Rattle.kp_pack_laws.proofs.Distinct.{test_from_distinct, each_there}
 use Rattle.kp_pack_laws.proofs.Names.{new_names_free, new_all}
 use Rattle.kp_pack_laws.proofs.Keeping.{slices_of}
@@ -35,12 +37,6 @@ test_all : {X : Type 0} (p : X → Bool) (xs : List X) → AllByRecursion (λ x.
     → list_all p xs ≡ true
 test_all p [] all = refl
 test_all p (x ∷ xs) all = and_from (p x) (list_all p xs) all.0 (test_all p xs all.1)
-
-each_of : {X : Type 0} (p : X → Bool) (xs : List X) → list_all p xs ≡ true
-    → AllByRecursion (λ x. p x ≡ true) xs
-each_of p [] h = tt
-each_of p (x ∷ xs) h =
-    let parts = and_parts (p x) (list_all p xs) h in (parts.0, each_of p xs parts.1)
 
 -- ---- names in order
 
@@ -63,7 +59,7 @@ module _ {K X : Type 0} (R : K → K → Ordering) (P : K → Type 0) where
   keys_in_order (e ∷ es) all = keys_put e.0 e.1 (in_order R es) all.0 (keys_in_order es all.1)
 
 keys_are : {K : Type 0} (ks : List K) → map {A = K × K} (λ e. e.0) (map (λ k. (k, k)) ks) ≡ ks
-keys_are {K = K} ks = mapped_twice {Y = K × K} (λ e. e.0) (λ k. (k, k)) ks ∙ same_itself ks
+keys_are {K = K} ks = map-map {B = K × K} (λ e. e.0) (λ k. (k, k)) ks ∙ same_itself ks
 
 all_distinct : {K : Type 0} (R : K → K → Ordering) (P : K → Type 0) (ks : List K)
     → AllByRecursion P ks
@@ -117,10 +113,10 @@ packing_goes_on family service before wanted most taken some small managed own a
     let few = few_made family service before wanted most taken some small own are in
     let Managed = λ (s : Slice). is_managed_for family service s ≡ true in
     let known = λ (name : List ℕ). list_any (bytes_eq name) (taken ++ slice_names news) ≡ true in
-    let all_managed = all_joined Managed (stayed fs) news
+    let all_managed = all_append Managed (stayed fs) news
     (stayed_all Managed (λ f h. h) fs
     (filled_all family service before wanted most taken some small own are Managed
-    (each_of _ before managed)))
+    (all_tested _ before managed)))
     (new_all family service (λ m. Unit {0}) Managed
     (λ name m h. new_managed family service name m) taken made (all_of _ (λ m. tt) made)) in
     let old_known = all_unmapped known name_of (stayed fs)
@@ -140,7 +136,7 @@ packing_goes_on family service before wanted most taken some small managed own a
           (new_names_free family service taken made few));
       known = test_all (λ s. list_any (bytes_eq s.key.name) (taken ++ slice_names news)) _
           (ordered_all (λ s. known s.key.name) placed differ
-          (all_joined (λ s. known s.key.name) (stayed fs) news old_known new_known));
+          (all_append (λ s. known s.key.name) (stayed fs) news old_known new_known));
       pods = λ pods named. test_from_distinct _ _
           (pods_once most wanted _ pods named
           (is_packing family service before wanted most taken some small own are));

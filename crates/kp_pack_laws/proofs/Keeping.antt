@@ -9,7 +9,8 @@ use Rattle.kp_types.specs.declared.slice.SliceEndpoint.{SliceEndpoint}
 use Rattle.kp_types.specs.declared.slice.Slice.{Slice}
 use Rattle.kp_types.specs.declared.slice.Wanted.{Wanted}
 use Rattle.kp_object_defs.specs.Packing.{Filling, Keeping, Progress, is_entry_of, without_first, dropped, kept, kept_or_dropped, keep_entry, keep_slice, add_keeping, keep_all, with_more, fill_if, fill_changed}
-use Rattle.kp_pack_laws.proofs.Shuffles.{same_list, turned, and_then, joined, to_front, all_joined}
+use Rattle.kp_lemmas.proofs.ListFacts.{all_append}
+use Rattle.kp_pack_laws.proofs.Shuffles.{same_list, turned, and_then, joined, to_front}
 
 -- the endpoints that slices have by now
 abbrev pub entries : List Filling → List SliceEndpoint
@@ -96,7 +97,7 @@ keep_more most [] p le = record { slices = sym (append-nil (slices_of p.fillings
 keep_more most (s ∷ slices) p le =
     let k = keep_slice most p.left s in
     let first = keep_rest most s.endpoints (record { filling = record { slice = s; endpoints = []; is_changed = false }; left = p.left }) (omega arith) in
-    let rest = keep_more most slices (add_keeping p k) (all_joined (λ f. length f.endpoints ≤ most) p.fillings (k.filling ∷ []) le (first.within, tt)) in
+    let rest = keep_more most slices (add_keeping p k) (all_append (λ f. length f.endpoints ≤ most) p.fillings (k.filling ∷ []) le (first.within, tt)) in
     record {
       slices =
           rest.slices
@@ -122,7 +123,7 @@ fill_one most p f true le all =
     let more = take room p.left in
     record {
       slices = map-append (λ f. f.slice) p.fillings (with_more f more ∷ []);
-      within = all_joined (λ f. length f.endpoints ≤ most) p.fillings (with_more f more ∷ []) all
+      within = all_append (λ f. length f.endpoints ≤ most) p.fillings (with_more f more ∷ []) all
           (let long = length-append f.endpoints (entries_of more) in let same = length-map more (λ w. w.entry) in let few = length-take room p.left in omega arith, tt);
       same = same_list (one_more p.fillings (with_more f more) (entries_of (drop room p.left))
           ∙ ap (λ es. entries p.fillings ++ es) (append_assoc f.endpoints (entries_of more) (entries_of (drop room p.left)) ∙ ap (λ es. f.endpoints ++ es) (taken_and_left room p.left))
@@ -131,7 +132,7 @@ fill_one most p f true le all =
     }
 fill_one most p f false le all = record {
   slices = map-append (λ f. f.slice) p.fillings (f ∷ []);
-  within = all_joined (λ f. length f.endpoints ≤ most) p.fillings (f ∷ []) all (le, tt);
+  within = all_append (λ f. length f.endpoints ≤ most) p.fillings (f ∷ []) all (le, tt);
   same = same_list (ap (λ es. es ++ entries_of p.left) (flat_map-append (λ f. f.endpoints) p.fillings (f ∷ [])));
 }
 

@@ -11,7 +11,9 @@ use Rattle.std.proofs.lemmas.List.Sorted.{IsPermutation-refl, IsPermutation-reve
 use Rattle.std.proofs.lemmas.Map.Keys.{IsDistinct-IsPermutation}
 use Rattle.kp_object_defs.specs.Order.{in_order, values_of, by_key}
 use Rattle.kp_object_defs.proofs.InOrder.{map-reverse, find-in_order, same_order}
-use Rattle.kp_pack_laws.proofs.Shuffles.{same_list, and_then, joined, to_front, turned, mapped_twice, same_itself, pieces_of_reversed, all_mapped, all_unmapped, all_weaker, all_both, all_permuted}
+use Rattle.std.proofs.lemmas.Simd.{map-map}
+use Rattle.kp_lemmas.proofs.ListFacts.{all_both, all_weaker}
+use Rattle.kp_pack_laws.proofs.Shuffles.{same_list, and_then, joined, to_front, turned, same_itself, pieces_of_reversed, all_mapped, all_unmapped, all_permuted}
 
 some_none : {X : Type 0} (x : X) → Some x ≡ None → ⊥
 some_none x e = cc
@@ -42,10 +44,10 @@ module _ {K X Y : Type 0} {R : K → K → Ordering} (total : IsTotalOrder R) (f
 
   module _ (key : X → K) where
     keys_are : (xs : List X) → map (λ (e : K × X). e.0) (reverse (map (λ x. (key x, x)) xs)) ≡ reverse (map key xs)
-    keys_are xs = map-reverse (λ (e : K × X). e.0) (map (λ x. (key x, x)) xs) ∙ ap reverse (mapped_twice (λ (e : K × X). e.0) (λ x. (key x, x)) xs)
+    keys_are xs = map-reverse (λ (e : K × X). e.0) (map (λ x. (key x, x)) xs) ∙ ap reverse (map-map (λ (e : K × X). e.0) (λ x. (key x, x)) xs)
 
     values_are : (xs : List X) → values_of (reverse (map (λ x. (key x, x)) xs)) ≡ reverse xs
-    values_are xs = map-reverse (λ (e : K × X). e.1) (map (λ x. (key x, x)) xs) ∙ ap reverse (mapped_twice (λ (e : K × X). e.1) (λ x. (key x, x)) xs ∙ same_itself xs)
+    values_are xs = map-reverse (λ (e : K × X). e.1) (map (λ x. (key x, x)) xs) ∙ ap reverse (map-map (λ (e : K × X). e.1) (λ x. (key x, x)) xs ∙ same_itself xs)
 
     pub by_key_pieces : (xs : List X) → IsDistinct (eq_by_cmp R) (map key xs) → IsPermutation (flat_map f (values_of (by_key R key xs))) (flat_map f xs)
     by_key_pieces xs d =

@@ -13,7 +13,9 @@ use Rattle.kp_types.specs.declared.slice.Wanted.{Wanted}
 use Rattle.kp_object_defs.specs.Order.{first_places}
 use Rattle.kp_object_defs.specs.Packing.{Filling, Placed, NewSlice, Packing, sorted_ports, same_ports, is_in_group, groups_of, packed_group, pack_group, pack_groups}
 use Rattle.kp_object_defs.specs.PackingLaws.{wanted_with_ports}
-use Rattle.kp_pack_laws.proofs.Shuffles.{same_list, turned, and_then, joined, two_pieces, alike_pieces, same_pieces, pieces_twice, mapped_pieces, mapped_twice, pieces_of_map, all_filter, passing, all_pass, all_weaker, all_mapped, all_unmapped, all_in_pieces, all_of}
+use Rattle.std.proofs.lemmas.Simd.{map-map}
+use Rattle.kp_lemmas.proofs.ListFacts.{all_filter, all_weaker}
+use Rattle.kp_pack_laws.proofs.Shuffles.{same_list, turned, and_then, joined, two_pieces, alike_pieces, same_pieces, pieces_twice, mapped_pieces, pieces_of_map, passing, all_pass, all_mapped, all_unmapped, all_in_pieces, all_of}
 use Rattle.kp_pack_laws.proofs.Distinct.{each_there, first_places_differ, first_places_find, distinct_mapped}
 use Rattle.kp_pack_laws.proofs.Groups.{in_groups}
 use Rattle.kp_pack_laws.proofs.Ports.{ports_exact, ports_equiv, sorted_twice}
@@ -51,7 +53,7 @@ made_tagged group made sorted =
     pieces_of_map entries_of_new (λ more. record { ports = group; wanted = more }) made
     ∙ same_pieces (λ more. map (λ w. (sorted_ports group, w.entry)) more) (λ more. map (with_ports group) (entries_of more)) made
     (all_of (λ more. map (λ w. (sorted_ports group, w.entry)) more ≡ map (with_ports group) (entries_of more))
-    (λ more. ap (λ ports. map (λ w. (ports, w.entry)) more) sorted ∙ sym (mapped_twice (with_ports group) (λ w. w.entry) more)) made)
+    (λ more. ap (λ ports. map (λ w. (ports, w.entry)) more) sorted ∙ sym (map-map (with_ports group) (λ w. w.entry) more)) made)
     ∙ sym (mapped_pieces (with_ports group) entries_of made)
 
 wanted_tagged : (group : List SlicePort) (ws : List Wanted) → AllByRecursion (λ w. sorted_ports w.ports ≡ group) ws → map (with_ports group) (entries_of ws) ≡ map entry_of ws

@@ -11,7 +11,8 @@ use Rattle.kp_types.specs.declared.slice.Slice.{Slice}
 use Rattle.kp_types.specs.declared.slice.Wanted.{Wanted}
 use Rattle.kp_object_defs.specs.Packing.{same_option, same_object, sorted_ports}
 use Rattle.kp_object_defs.specs.PackingLaws.{have_own_pods, entries_name_pods, entries_with_ports, IsPackingOf}
-use Rattle.kp_pack_laws.proofs.Shuffles.{mapped_pieces, mapped_twice, same_pieces, all_of}
+use Rattle.std.proofs.lemmas.Simd.{map-map}
+use Rattle.kp_pack_laws.proofs.Shuffles.{mapped_pieces, same_pieces, all_of}
 use Rattle.kp_pack_laws.proofs.Distinct.{distinct_from_test}
 
 -- ---- the test of pods
@@ -92,7 +93,7 @@ tagged_pods : (slices : List Slice)
 tagged_pods slices =
     mapped_pieces (λ t. t.1.pod) (λ s. map (λ e. (sorted_ports s.ports, e)) s.endpoints) slices
     ∙ same_pieces _ (λ s. map (λ e. e.pod) s.endpoints) slices
-    (all_of _ (λ s. mapped_twice (λ t. t.1.pod)
+    (all_of _ (λ s. map-map (λ t. t.1.pod)
     (λ e. (sorted_ports s.ports, e)) s.endpoints) slices)
     ∙ sym (mapped_pieces (λ e. e.pod) (λ s. s.endpoints) slices)
 
@@ -102,7 +103,7 @@ pub pods_once : (most : ℕ) (wanted : List Wanted) (slices : List Slice)
     → IsDistinct same_pod (pods_of slices)
 pods_once most wanted slices own named packing =
     let once = wanted_once wanted (are_named wanted named) (distinct_from_test same_object _ own) in
-    let wanted_pods = mapped_twice (λ t. t.1.pod) (λ w. (sorted_ports w.ports, w.entry)) wanted in
+    let wanted_pods = map-map (λ t. t.1.pod) (λ w. (sorted_ports w.ports, w.entry)) wanted in
     let same = IsPermutation-map (λ t. t.1.pod) _ _ packing.placed in
     IsDistinct-IsPermutation same_pod pod_turned _ _
     (subst (λ l. IsPermutation l (pods_of slices)) wanted_pods

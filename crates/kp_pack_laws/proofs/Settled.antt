@@ -4,27 +4,24 @@ use Rattle.std.specs.List.{find, filter, fold, flat_map, AllByRecursion, IsDisti
 use Rattle.std.specs.Cmp.Lexicographic.{pointwise, nat_list_eq_equiv}
 use Rattle.std.proofs.lemmas.Bool.{and_parts, and_from}
 use Rattle.std.proofs.lemmas.Cmp.{lists_equiv}
+use Rattle.std.proofs.lemmas.List.{nil_from_length}
 use Rattle.kp_base.specs.Net.{AddressParts, same_family, same_address}
-use Rattle.kp_base.specs.declared.address.Family.{Family}
-use Rattle.kp_base.specs.declared.address.Family.TheVariants.{V4, V6}
+use Rattle.kp_base.proofs.SameParts.{family_itself}
 use Rattle.kp_types.specs.declared.slice.SliceEndpoint.{SliceEndpoint}
 use Rattle.kp_types.specs.declared.slice.Slice.{Slice}
 use Rattle.kp_types.specs.declared.slice.Wanted.{Wanted}
 use Rattle.kp_object_defs.specs.Packing.{Filling, Keeping, Progress, same_option, same_object, same_flag, same_entry, is_entry_of, without_first, dropped, kept, kept_or_dropped, keep_entry, keep_slice, add_keeping, fill_if, fill_changed, placed_from, packed_group}
-use Rattle.kp_pack_laws.proofs.Shuffles.{all_weaker, all_unmapped, all_both}
+use Rattle.kp_lemmas.proofs.ListFacts.{all_both, all_weaker}
+use Rattle.kp_pack_laws.proofs.Shuffles.{all_unmapped}
 use Rattle.kp_pack_laws.proofs.Keeping.{not_some}
 use Rattle.kp_pack_laws.proofs.Pods.{object_same, object_turned, same_pod, pod_exact, pod_same, pod_turned, AreNamed, ArePodsApart}
 
 -- ---- an entry says the same as itself
 
-family_same : (f : Family) → same_family f f ≡ true
-family_same V4 = refl
-family_same V6 = refl
-
 address_same : (a : Option AddressParts) → same_option same_address a a ≡ true
 address_same None = refl
 address_same (Some a) =
-    and_from (same_family a.family a.family) _ (family_same a.family)
+    and_from (same_family a.family a.family) _ (family_itself a.family)
     (eq-eqb a.number a.number refl)
 
 flag_same : (b : Bool) → same_flag b b ≡ true
@@ -120,10 +117,6 @@ one_less p (v ∷ ws) w h = by (p v) h (one_less p ws w)
         → length (v ∷ ws) ≡ 1 + length (cond b ws (v ∷ without_first p ws))
     by true e rest = omega arith
     by false e rest = omega (arith, rest e)
-
-nothing : {X : Type 0} (xs : List X) → length xs ≡ 0 → xs ≡ []
-nothing [] h = refl
-nothing (x ∷ xs) h = absurd (omega arith)
 
 -- an entry finds a wanted endpoint whose content is its own
 abbrev pub Finds : List Wanted → SliceEndpoint → Type 0
@@ -224,7 +217,7 @@ keep_every most [] p there le =
     λ i. record {
       fillings =
           sym (append-nil p.fillings) i;
-      left = nothing p.left (sym there.many) i;
+      left = nil_from_length p.left (sym there.many) i;
     }
 keep_every most (s ∷ ss) p there le =
     let k =

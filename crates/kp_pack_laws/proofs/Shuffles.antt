@@ -5,6 +5,7 @@ use Rattle.std.proofs.lemmas.List.{map-append, reverse-append}
 use Rattle.std.proofs.lemmas.Grind.{flat_map-append}
 use Rattle.std.proofs.lemmas.List.Elements.{All-from_recursion, recursion_from_All}
 use Rattle.std.proofs.lemmas.List.Sorted.{IsPermutation-refl, IsPermutation-sym, IsPermutation-trans, IsPermutation-append, IsPermutation-append_comm, All-permutation}
+use Rattle.kp_lemmas.proofs.ListFacts.{all_append}
 
 module _ {X : Type 0} where
   pub same_list : {xs ys : List X} → xs ≡ ys → IsPermutation xs ys
@@ -75,10 +76,6 @@ pub mapped_pieces : {X Y Z : Type 0} (h : Y → Z) (f : X → List Y) (xs : List
 mapped_pieces h f [] = refl
 mapped_pieces h f (x ∷ xs) = map-append h (f x) (flat_map f xs) ∙ ap (λ rest. map h (f x) ++ rest) (mapped_pieces h f xs)
 
-pub mapped_twice : {X Y Z : Type 0} (h : Y → Z) (f : X → Y) (xs : List X) → map h (map f xs) ≡ map (λ x. h (f x)) xs
-mapped_twice h f [] = refl
-mapped_twice h f (x ∷ xs) = ap (λ rest. h (f x) ∷ rest) (mapped_twice h f xs)
-
 pub same_itself : {X : Type 0} (xs : List X) → map (λ x. x) xs ≡ xs
 same_itself [] = refl
 same_itself (x ∷ xs) = ap (λ rest. x ∷ rest) (same_itself xs)
@@ -86,15 +83,6 @@ same_itself (x ∷ xs) = ap (λ rest. x ∷ rest) (same_itself xs)
 pub pieces_of_map : {X Y Z : Type 0} (f : Y → List Z) (h : X → Y) (xs : List X) → flat_map f (map h xs) ≡ flat_map (λ x. f (h x)) xs
 pieces_of_map f h [] = refl
 pieces_of_map f h (x ∷ xs) = ap (λ rest. f (h x) ++ rest) (pieces_of_map f h xs)
-
--- what holds of all elements that pass
-pub all_filter : {X : Type 0} (P : X → Type 0) (p : X → Bool) (xs : List X) → AllByRecursion P xs → AllByRecursion P (filter p xs)
-all_filter P p [] all = tt
-all_filter P p (x ∷ xs) all = by (p x) (all_filter P p xs all.1)
-  where
-    by : (b : Bool) → AllByRecursion P (filter p xs) → AllByRecursion P (cond b (x ∷ filter p xs) (filter p xs))
-    by true rest = (all.0, rest)
-    by false rest = rest
 
 -- elements that pass do
 pub passing : {X : Type 0} (p : X → Bool) (xs : List X) → AllByRecursion (λ x. p x ≡ true) (filter p xs)
@@ -108,14 +96,6 @@ passing p (x ∷ xs) = by (p x) refl (passing p xs)
 pub all_pass : {X : Type 0} (p : X → Bool) (xs : List X) → AllByRecursion (λ x. p x ≡ true) xs → filter p xs ≡ xs
 all_pass p [] all = refl
 all_pass p (x ∷ xs) all = ap (λ b. cond b (x ∷ filter p xs) (filter p xs)) all.0 ∙ ap (λ rest. x ∷ rest) (all_pass p xs all.1)
-
-pub all_weaker : {X : Type 0} (P Q : X → Type 0) → ((x : X) → P x → Q x) → (xs : List X) → AllByRecursion P xs → AllByRecursion Q xs
-all_weaker P Q h [] all = tt
-all_weaker P Q h (x ∷ xs) all = (h x all.0, all_weaker P Q h xs all.1)
-
-pub all_joined : {X : Type 0} (P : X → Type 0) (xs ys : List X) → AllByRecursion P xs → AllByRecursion P ys → AllByRecursion P (xs ++ ys)
-all_joined P [] ys a b = b
-all_joined P (x ∷ xs) ys a b = (a.0, all_joined P xs ys a.1 b)
 
 pub all_split : {X : Type 0} (P : X → Type 0) (xs ys : List X) → AllByRecursion P (xs ++ ys)
     → AllByRecursion P xs × AllByRecursion P ys
@@ -137,12 +117,8 @@ all_unmapped P f (x ∷ xs) all = (all.0, all_unmapped P f xs all.1)
 
 pub all_in_pieces : {X Y : Type 0} (P : Y → Type 0) (f : X → List Y) (xs : List X) → AllByRecursion (λ x. AllByRecursion P (f x)) xs → AllByRecursion P (flat_map f xs)
 all_in_pieces P f [] all = tt
-all_in_pieces P f (x ∷ xs) all = all_joined P (f x) (flat_map f xs) all.0 (all_in_pieces P f xs all.1)
+all_in_pieces P f (x ∷ xs) all = all_append P (f x) (flat_map f xs) all.0 (all_in_pieces P f xs all.1)
 
 pub all_of : {X : Type 0} (P : X → Type 0) → ((x : X) → P x) → (xs : List X) → AllByRecursion P xs
 all_of P h [] = tt
 all_of P h (x ∷ xs) = (h x, all_of P h xs)
-
-pub all_both : {X : Type 0} (P Q : X → Type 0) (xs : List X) → AllByRecursion P xs → AllByRecursion Q xs → AllByRecursion (λ x. P x × Q x) xs
-all_both P Q [] a b = tt
-all_both P Q (x ∷ xs) a b = ((a.0, b.0), all_both P Q xs a.1 b.1)

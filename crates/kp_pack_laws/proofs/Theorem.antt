@@ -21,7 +21,9 @@ use Rattle.kp_object_defs.specs.Desired.{is_empty}
 use Rattle.kp_object_defs.specs.Order.{values_of}
 use Rattle.kp_object_defs.specs.Packing.{Filling, NewSlice, sorted_ports, pack_groups, new_slices, in_slice_order, filled_slice, stays, Packing, packed_slices}
 use Rattle.kp_object_defs.specs.PackingLaws.{have_own_names, are_taken, entries_with_ports, wanted_with_ports, IsPackingOf, PackingPlacesEach}
-use Rattle.kp_pack_laws.proofs.Shuffles.{same_list, turned, and_then, mapped_twice, pieces_of_map, all_filter, passing, all_weaker, all_joined, all_mapped, all_unmapped, all_both, all_permuted}
+use Rattle.std.proofs.lemmas.Simd.{map-map}
+use Rattle.kp_lemmas.proofs.ListFacts.{all_append, all_both, all_filter, all_weaker}
+use Rattle.kp_pack_laws.proofs.Shuffles.{same_list, turned, and_then, pieces_of_map, passing, all_mapped, all_unmapped, all_permuted}
 use Rattle.kp_pack_laws.proofs.Distinct.{distinct_from_test, distinct_mapped, distinct_joined}
 use Rattle.kp_pack_laws.proofs.Ordered.{by_key_pieces, by_key_keeps, by_key_permuted}
 use Rattle.kp_pack_laws.proofs.Names.{new_names_differ, new_names_free, new_pieces, new_all}
@@ -87,12 +89,12 @@ stayed_entries fs = pieces_of_map (λ s. map (λ e. (sorted_ports s.ports, e)) s
     some_have (g ∷ gs) = inside g (filter stays gs) (stays g) ∙ by g _ _ g.endpoints refl (some_have gs)
 
 stayed_names : (fs : List Filling) → map name_of (stayed fs) ≡ map (λ f. f.slice.key.name) (filter stays fs)
-stayed_names fs = mapped_twice name_of filled_slice (filter stays fs)
+stayed_names fs = map-map name_of filled_slice (filter stays fs)
 
 stayed_differ : (fs : List Filling) → Differ (slices_of fs) → Differ (stayed fs)
 stayed_differ fs d =
     subst (IsDistinct bytes_eq) (sym (stayed_names fs))
-    (distinct_mapped bytes_eq (λ f. f.slice.key.name) stays fs (subst (IsDistinct bytes_eq) (mapped_twice name_of (λ f. f.slice) fs) d))
+    (distinct_mapped bytes_eq (λ f. f.slice.key.name) stays fs (subst (IsDistinct bytes_eq) (map-map name_of (λ f. f.slice) fs) d))
 
 some_endpoints : (es : List SliceEndpoint) → not (is_empty es) ≡ true → 1 ≤ length es
 some_endpoints [] h = absurd (false≢true h)
@@ -148,12 +150,12 @@ module _ (family : Family) (service : ObjectKey) (taken : List (List ℕ)) where
   all_entries fs made small =
       flat_map-append (λ s. map (λ e. (sorted_ports s.ports, e)) s.endpoints) (stayed fs) (new_slices family service taken made)
       ∙ (λ i. stayed_entries fs i ++ new_pieces family service taken made small (λ s. map (λ e. (sorted_ports s.ports, e)) s.endpoints) entries_of_new
-      (λ name m. mapped_twice (λ e. (sorted_ports m.ports, e)) (λ w. w.entry) m.wanted) i)
+      (λ name m. map-map (λ e. (sorted_ports m.ports, e)) (λ w. w.entry) m.wanted) i)
 
   all_sizes : (most : ℕ) (fs : List Filling) (made : List NewSlice) → AreWithin most fs → AllByRecursion (λ m. (1 ≤ length m.wanted) × (length m.wanted ≤ most)) made
       → AllByRecursion (λ s. (1 ≤ length s.endpoints) × (length s.endpoints ≤ most)) (all_slices fs made)
   all_sizes most fs made le sizes =
-      all_joined (λ s. (1 ≤ length s.endpoints) × (length s.endpoints ≤ most)) (stayed fs) (new_slices family service taken made) (stayed_sizes most fs le)
+      all_append (λ s. (1 ≤ length s.endpoints) × (length s.endpoints ≤ most)) (stayed fs) (new_slices family service taken made) (stayed_sizes most fs le)
       (new_all family service (λ m. (1 ≤ length m.wanted) × (length m.wanted ≤ most)) (λ s. (1 ≤ length s.endpoints) × (length s.endpoints ≤ most))
       (λ name m h. let long = length-map m.wanted (λ w. w.entry) in (omega (arith, h), omega (arith, h))) taken made sizes)
 

@@ -9,7 +9,8 @@ use Rattle.lru.proofs.CallerLemmas.{Contains-lookup_entry}
 use Rattle.kp_base.specs.contracts.address.AddressPartialEq.TheImpl as address_eq
 use Rattle.kp_base.specs.Net.{AddressParts}
 use Rattle.kp_recent.specs.Moments.{Pairs, moment_of, with_source}
-use Rattle.kp_recent.proofs.Sources.{address_same, address_test, one_address}
+use Rattle.kp_base.proofs.SameParts.{address_same}
+use Rattle.kp_recent.proofs.Sources.{address_test, one_address}
 
 -- a cache of these entries and this capacity
 pub same_cache : (c : LruCache AddressParts ℕ) (es : Pairs) (n : ℕ) → c.entries ≡ es → c.cap ≡ n → c ≡ lru_cache es n

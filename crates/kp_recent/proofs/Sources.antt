@@ -1,5 +1,5 @@
 -- The derived test of addresses is that of the definitions.
-use Rattle.std.proofs.Common.{◌≡◌, ℕ, Bool, true, false, ◌&&◌, ◌==◌, refl, ap, sym, ◌∙◌, arith}
+use Rattle.std.proofs.Common.{◌≡◌, ℕ, Bool, true, false, ◌&&◌, ◌==◌, refl, sym, ◌∙◌, arith}
 use Rattle.std.proofs.lemmas.Bool.Decides.{nat_tests}
 use Rattle.kp_base.specs.declared.address.Family.{Family}
 use Rattle.kp_base.specs.declared.address.Family.TheVariants.{V4, V6}
@@ -8,13 +8,9 @@ use Rattle.kp_base.specs.Keys.{address_cmp}
 use Rattle.kp_base.specs.Net.{AddressParts, same_address, same_family}
 use Rattle.kp_base.proofs.KeyOrder.{address_exact, address_ties}
 use Rattle.kp_lemmas.proofs.Orders.{equal_from_test}
-use Rattle.kp_base.proofs.SameParts.{family_same}
+use Rattle.kp_base.proofs.SameParts.{address_same}
 
 -- the derived test of addresses
-pub address_same : (a b : AddressParts) → address_eq.ghosts.eq a b ≡ same_address a b
-address_same a b = ap (λ t. t && (a.number == b.number)) (family_same a.family b.family)
-
--- the same as tests
 pub address_test : (a : AddressParts) → ◌≡◌ {A = AddressParts → Bool} (address_eq.ghosts.eq a) (same_address a)
 address_test a = λ i b. address_same a b i
 

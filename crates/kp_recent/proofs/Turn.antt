@@ -8,22 +8,17 @@ use Rattle.std.proofs.lemmas.Bool.Decides.{nat_tests}
 use Rattle.std.proofs.lemmas.Option.{none-some, same_Some}
 use Rattle.std.proofs.lemmas.Map.Keys.{IsDistinct-head, IsDistinct-tail}
 use Rattle.lru.specs.LruCache.{last_entry, promoted}
-use Rattle.kp_base.specs.declared.address.Family.{Family}
-use Rattle.kp_base.specs.declared.address.Family.TheVariants.{V4, V6}
 use Rattle.kp_base.specs.contracts.address.AddressPartialEq.TheImpl as address_eq
-use Rattle.kp_base.specs.Net.{AddressParts, same_address, same_family}
+use Rattle.kp_base.specs.Net.{AddressParts, same_address}
+use Rattle.kp_base.proofs.SameParts.{family_itself}
 use Rattle.kp_recent.specs.Moments.{Pairs, is_recent, recent_pairs, AreFalling, AreUpTo, turned}
 use Rattle.kp_recent.proofs.Falling.{last_is, up_to_later}
 use Rattle.kp_recent.proofs.Sources.{address_test, same_swap}
 
 -- ---- addresses
 
-family_self : (a : Family) → same_family a a ≡ true
-family_self V4 = refl
-family_self V6 = refl
-
 self_same : (a : AddressParts) → same_address a a ≡ true
-self_same a = ap (λ b. b && (a.number == a.number)) (family_self a.family) ∙ grind (arith, nat_tests)
+self_same a = ap (λ b. b && (a.number == a.number)) (family_itself a.family) ∙ grind (arith, nat_tests)
 
 -- ---- the last source goes to the front
 

@@ -247,14 +247,6 @@ all_filter p q (x ∷ xs) h = by (q x) (and_parts _ _ h) (all_filter p q xs (and
     by true k rest = and_from _ _ k.0 rest
     by false k rest = rest
 
-pub all_kept : {X : Type 0} (q : X → Bool) (xs : List X) → list_all q (filter q xs) ≡ true
-all_kept q [] = refl
-all_kept q (x ∷ xs) = by (q x) refl (all_kept q xs)
-  where
-    by : (b : Bool) → q x ≡ b → list_all q (filter q xs) ≡ true → list_all q (cond b (x ∷ filter q xs) (filter q xs)) ≡ true
-    by true e rest = and_from _ _ e rest
-    by false e rest = rest
-
 pub order_filter : (q : Edit → Bool) (es : List Edit) → are_in_order es ≡ true → are_in_order (filter q es) ≡ true
 order_filter q [] h = refl
 order_filter q (e ∷ es) h = by (q e) (and_parts _ _ h) (order_filter q es (and_parts _ _ h).1)

@@ -6,13 +6,9 @@ use Rattle.std.specs.Cmp.Lexicographic.{nat_list_cmp_total}
 use Rattle.std.specs.FinMap.{nat_cmp-IsAntisymmetric, slice_cmp-IsAntisymmetric}
 use Rattle.std.proofs.lemmas.Bool.{false≢true}
 use Rattle.std.proofs.lemmas.Cmp.{tied_itself}
-use Rattle.std.proofs.lemmas.Slice.Eq.{bytes_eq-Decides}
 use Rattle.kp_base.specs.Keys.{text_cmp}
 use Rattle.kp_lemmas.proofs.Orders.{less_from_test}
 use Rattle.kp_base.proofs.SameParts.{text_test_exact}
-
-pub name_itself : (a : List ℕ) → bytes_eq a a ≡ true
-name_itself a = (bytes_eq-Decides a a).1 refl
 
 pub tied_names : (a b : List ℕ) → text_cmp a b ≡ Equal → a ≡ b
 tied_names a b e = slice_cmp-IsAntisymmetric nat_cmp-IsAntisymmetric a b e

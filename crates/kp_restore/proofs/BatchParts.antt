@@ -8,6 +8,7 @@ use Rattle.std.proofs.lemmas.Bool.{and_parts, and_from}
 use Rattle.std.proofs.lemmas.List.{append-nil, map-append}
 use Rattle.std.proofs.lemmas.List.Folds.{list_all-append}
 use Rattle.std.proofs.lemmas.Grind.{flat_map-append}
+use Rattle.std.proofs.lemmas.Simd.{map-map}
 use Rattle.kp_base.specs.declared.address.Family.{Family}
 use Rattle.kp_base.specs.Keys.{text_cmp}
 use Rattle.kp_types.specs.Chains.{is_chain_name}
@@ -96,15 +97,11 @@ names (e ∷ es) =
 
 -- ---- The lines
 
-map_map : {A B C : Type 0} (f : B → C) (g : A → B) (xs : List A) → map f (map g xs) ≡ map (λ x. f (g x)) xs
-map_map f g [] = refl
-map_map f g (x ∷ xs) = ap (λ l. f (g x) ∷ l) (map_map f g xs)
-
 lines_of_writes : (t : TableName) (rows : List Row) → list_all (fits t) rows ≡ true → flat_map written_lines (flat_map (written t) rows) ≡ map line_text (flat_map rule_parts rows)
 lines_of_writes t [] h = refl
 lines_of_writes t (r ∷ rows) h =
     by r.removed (and_parts _ _ (and_parts _ _ h).0).1 (lines_of_writes t rows (and_parts _ _ h).1)
-    ∙ ap (λ l. l ++ map line_text (flat_map rule_parts rows)) (sym (map_map line_text (line.Ruled r.chain) r.rules))
+    ∙ ap (λ l. l ++ map line_text (flat_map rule_parts rows)) (sym (map-map line_text (line.Ruled r.chain) r.rules))
     ∙ sym (map-append line_text (rule_parts r) (flat_map rule_parts rows))
   where
     by : (b : Bool) → (not b || is_empty r.rules) ≡ true → flat_map written_lines (flat_map (written t) rows) ≡ map line_text (flat_map rule_parts rows)
@@ -156,7 +153,7 @@ section_printed : (t : TableName) (es : List Edit) (rows : List Row) → edits_o
     → distinct_in_order text_cmp (map (λ e. (place_of e).chain) es) ≡ map (λ s. s.chain) rows → edits_section t es ≡ map line_text (section_parts t rows)
 section_printed t es rows e f d =
     let declared : map declared_line (distinct_in_order text_cmp (map (λ e. (place_of e).chain) es)) ≡ map line_text (map declared_part rows) =
-    ap (map declared_line) d ∙ map_map declared_line (λ s. s.chain) rows ∙ sym (map_map line_text declared_part rows)
+    ap (map declared_line) d ∙ map-map declared_line (λ s. s.chain) rows ∙ sym (map-map line_text declared_part rows)
     in
     let ruled : flat_map written_lines es ≡ map line_text (flat_map rule_parts rows) = ap (flat_map written_lines) (sym e) ∙ written_printed t rows f in
     let gone : flat_map removing_lines es ≡ map line_text (flat_map removed_part rows) = ap (flat_map removing_lines) (sym e) ∙ removed_printed t rows in

@@ -9,6 +9,7 @@ use Rattle.std.specs.List.{list_all, list_any, flat_map}
 use Rattle.std.proofs.lemmas.Bool.{and_parts, and_from, false≢true, eqb-true}
 use Rattle.std.proofs.lemmas.Cmp.{tied_itself}
 use Rattle.std.proofs.lemmas.List.Folds.{list_all-append}
+use Rattle.std.specs.Cmp.Lexicographic.{nat_list_eq_equiv}
 use Rattle.kp_base.specs.Keys.{text_cmp}
 use Rattle.kp_types.specs.Places.{table_place}
 use Rattle.kp_types.specs.declared.chain.TableName.{TableName}
@@ -21,7 +22,7 @@ use Rattle.kp_table_defs.specs.Ranks.{is_built_in}
 use Rattle.kp_restore_defs.specs.BatchText.{place_of, edit_cmp, are_in_order, is_same_place, edit_each_once}
 use Rattle.kp_restore.specs.BatchSteps.{written, removed, edits_of}
 use Rattle.kp_restore.specs.declared.row.Row.{Row}
-use Rattle.kp_restore.proofs.BatchOrder.{name_itself, tied_names, less_through, greater_turned}
+use Rattle.kp_restore.proofs.BatchOrder.{tied_names, less_through, greater_turned}
 use Rattle.kp_lemmas.proofs.ListFacts.{test_weaker}
 use Rattle.kp_lemmas.proofs.Orders.{less_from_test}
 use Rattle.kp_types.proofs.ChainOrder.{one_table_from_test}
@@ -180,7 +181,7 @@ put_write t r (s ∷ rows) kept h = by (text_cmp r.chain s.chain) refl (and_part
         × (flat_map (removed t) (by_order o (r ∷ s ∷ rows) (record r { chain = s.chain } ∷ rows) (s ∷ put_row r rows)) ≡ flat_map (removed t) (s ∷ rows))
     by Less e k rest = (refl, ap (λ b. cond b (remove_of t r ∷ []) [] ++ flat_map (removed t) (s ∷ rows)) kept)
     by Equal e k rest =
-        absurd (false≢true (ap not (sym (subst (λ x. bytes_eq r.chain x ≡ true) (tied_names r.chain s.chain e) (name_itself r.chain))) ∙ k.0))
+        absurd (false≢true (ap not (sym (subst (λ x. bytes_eq r.chain x ≡ true) (tied_names r.chain s.chain e) (nat_list_eq_equiv.refl r.chain))) ∙ k.0))
     by Greater e k rest =
         let gone : written t s ≡ [] = ap (λ b. cond b [] (write_of t s ∷ [])) (either_true s.removed (is_lt (text_cmp r.chain s.chain)) k.1 (ap is_lt e)) in (
           ap (λ l. l ++ flat_map (written t) (put_row r rows)) gone ∙ rest.0 ∙ ap (λ l. written t r ++ (l ++ flat_map (written t) rows)) (sym gone),

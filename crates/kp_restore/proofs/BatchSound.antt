@@ -25,7 +25,7 @@ use Rattle.kp_restore.proofs.BatchOrder.{less_through}
 use Rattle.kp_restore.proofs.BatchRows.{is_below, rising, fits}
 use Rattle.kp_restore.proofs.BatchParts.{declared_part, rule_parts, removed_part, open_parts, section_parts, parts_if, closed}
 use Rattle.kp_restore.proofs.BatchTaken.{rising_swap, last_more}
-use Rattle.std.proofs.lemmas.Option.{none-some}
+use Rattle.std.proofs.lemmas.Option.{cond_some, none-some}
 use Rattle.kp_lemmas.proofs.ListFacts.{test_weaker}
 use Rattle.kp_base.proofs.SameParts.{text_test_exact}
 
@@ -82,10 +82,6 @@ record Led (edits : List Edit) (t : TableName) (rows : List Row) (x : Line) (nex
   parts : open_parts t (passed ++ left) ≡ open_parts t rows ++ x ∷ []
 
 -- ---- Declarations
-
-cond_some : {A : Type 0} (b : Bool) (x y : A) → cond b (Some x) None ≡ Some y → (b ≡ true) × (x ≡ y)
-cond_some true x y h = (refl, cc)
-cond_some false x y h = absurd (cc)
 
 rising_more : (rows : List Row) (chain : List ℕ) → rising rows ≡ true → is_behind (slice_get rows (length rows - 1)) chain ≡ true → rising (rows ++ fresh chain ∷ []) ≡ true
 rising_more [] chain h b = refl

@@ -5,6 +5,7 @@ use Rattle.std.specs.List.{list_all, flat_map}
 use Rattle.std.proofs.lemmas.Bool.{and_parts, and_from, not-true}
 use Rattle.std.proofs.lemmas.List.{append-nil}
 use Rattle.std.proofs.lemmas.List.Folds.{list_all-append}
+use Rattle.std.specs.Cmp.Lexicographic.{nat_list_eq_equiv}
 use Rattle.kp_base.specs.Keys.{text_cmp}
 use Rattle.kp_types.specs.declared.chain.TableName.{TableName}
 use Rattle.kp_types.specs.declared.rule.Rule.{Rule}
@@ -20,7 +21,6 @@ use Rattle.kp_restore.specs.declared.batch_reader.Part.TheVariants.{Declaring, R
 use Rattle.kp_restore.specs.declared.batch_reader.BatchPhase.TheVariants.{Between, Within}
 use Rattle.kp_restore.specs.declared.batch_reader.BatchReader.{BatchReader}
 use Rattle.kp_restore.proofs.Machine.{run_on}
-use Rattle.kp_restore.proofs.BatchOrder.{name_itself}
 use Rattle.kp_restore.proofs.BatchRows.{is_below, rising, fits}
 use Rattle.kp_restore.proofs.BatchParts.{declared_part, rule_parts, removed_part, section_parts}
 use Rattle.kp_lemmas.proofs.Orders.{lesser_text_differs}
@@ -138,7 +138,7 @@ module _ (edits : List Edit) (t : TableName) where
   more_rules p x rows [] = ap (λ rs. Some (ruling p (record x { rules = rs } ∷ rows))) (sym (append-nil x.rules))
   more_rules p x rows (r ∷ rules) =
       first_step (ruling p (x ∷ rows)) (ruling p (with_rule x r ∷ rows)) (line.Ruled x.chain r) (map (line.Ruled x.chain) rules)
-      (ap (λ b. cond b (Some (ruling p (with_rule x r ∷ rows))) (ruled edits t (p ++ x ∷ []) rows x.chain r)) (name_itself x.chain))
+      (ap (λ b. cond b (Some (ruling p (with_rule x r ∷ rows))) (ruled edits t (p ++ x ∷ []) rows x.chain r)) (nat_list_eq_equiv.refl x.chain))
       ∙ more_rules p (with_rule x r) rows rules
       ∙ ap (λ rs. Some (ruling p (record x { rules = rs } ∷ rows))) (append_assoc x.rules (r ∷ []) rules)
 
@@ -175,7 +175,7 @@ module _ (edits : List Edit) (t : TableName) where
           let whole : Row = record { chain = row.chain; rules = r ∷ rules; removed = false } in
           let m = more (p ++ l) (whole ∷ []) (ruling (p ++ l) (whole ∷ map bare rest)) (ruling_so (p ++ l) (whole ∷ map bare rest)) (apart_more [] whole rest (apart_none rest) k.0) k.1 in
           let first : step s (line.Ruled row.chain r) ≡ Some (ruling (p ++ l) (with_rule (bare row) r ∷ map bare rest)) =
-          at.rule row.chain r ∙ skip_ruled p l (bare row) (map bare rest) row.chain r a.0 (name_itself row.chain)
+          at.rule row.chain r ∙ skip_ruled p l (bare row) (map bare rest) row.chain r a.0 (nat_list_eq_equiv.refl row.chain)
           in
           let all : run step s (map (line.Ruled row.chain) (r ∷ rules)) ≡ Some (ruling (p ++ l) (whole ∷ map bare rest)) =
           first_step s (ruling (p ++ l) (with_rule (bare row) r ∷ map bare rest)) (line.Ruled row.chain r) (map (line.Ruled row.chain) rules) first
@@ -248,7 +248,7 @@ module _ (edits : List Edit) (t : TableName) where
           let gone : Row = record row { removed = true } in
           let clear : is_empty row.rules ≡ true = sym (ap (λ b. not b || is_empty row.rules) e) ∙ (and_parts (not (is_built_in t row.chain)) (not row.removed || is_empty row.rules) g.0).1 in
           let first : step s (line.Removed row.chain) ≡ Some (removing ((p ++ l) ++ gone ∷ []) (map kept rest)) =
-          at.remove row.chain ∙ skip_removed p l (kept row) (map kept rest) row.chain a.0 (name_itself row.chain)
+          at.remove row.chain ∙ skip_removed p l (kept row) (map kept rest) row.chain a.0 (nat_list_eq_equiv.refl row.chain)
           ∙ ap (λ b. cond b (Some (removing ((p ++ l) ++ gone ∷ []) (map kept rest))) None) clear
           in
           let m = more ((p ++ l) ++ gone ∷ []) [] (removing ((p ++ l) ++ gone ∷ []) (map kept rest)) (record { remove = λ c. refl; commit = refl }) (apart_none rest) k.1 g.1 in

@@ -28,7 +28,8 @@ use Rattle.kp_restore.specs.declared.batch_reader.BatchReader.{BatchReader}
 use Rattle.kp_restore.proofs.Machine.{IsReader, run_on, same_value}
 use Rattle.kp_restore.proofs.LineTexts.{line_exact, line_plain}
 use Rattle.kp_restore.proofs.BatchRows.{all_both, row_of, rows_of, rising, fits, all_rows_of, is_in, rising_rows_of, edits_again}
-use Rattle.kp_restore.proofs.BatchEdits.{is_good, rows_again, canonical_batch, all_filter, all_kept, order_filter, once_filter, nat_part, filter_part, both_parts}
+use Rattle.kp_lemmas.proofs.Members.{filter_passes}
+use Rattle.kp_restore.proofs.BatchEdits.{is_good, rows_again, canonical_batch, all_filter, order_filter, once_filter, nat_part, filter_part, both_parts}
 use Rattle.kp_restore.proofs.BatchParts.{parts_if, batch_parts, if_printed, good_if, if_good}
 use Rattle.kp_restore.proofs.BatchTaken.{section_run}
 use Rattle.kp_restore.proofs.BatchSound.{IsSection, PartHolds, Behind, Tells, no_rows, told}
@@ -64,7 +65,7 @@ part_of : (family : Family) (t : TableName) (edits : List Edit) → is_canonical
 part_of family t edits h =
     let k = and_parts (list_all (is_canonical_edit family) edits) (are_in_order edits && edit_each_once edits) h in
     let l = and_parts (are_in_order edits) (edit_each_once edits) k.1 in
-    let inside = all_kept (is_in t) edits in
+    let inside = filter_passes (is_in t) edits in
     let canonical = all_filter (is_canonical_edit family) (is_in t) edits k.0 in
     record {
       all_in = inside;

@@ -30,7 +30,7 @@ use Rattle.kp_restore_defs.specs.BatchText.{place_of, kind_place, edit_cmp, are_
 use Rattle.kp_restore_defs.specs.BatchesBetween.{HaveSameBuiltIn, ChangesAreCanonical, ReadChangesLeadOver}
 use Rattle.kp_restore.proofs.BatchRows.{none_of}
 use Rattle.kp_restore.proofs.BatchTexts.{batch_texts_differ}
-use Rattle.kp_lemmas.proofs.ListFacts.{test_weaker, all_append, all_weaker}
+use Rattle.kp_lemmas.proofs.ListFacts.{test_weaker, all_append, all_both, all_tested, all_weaker}
 use Rattle.kp_lemmas.proofs.Booleans.{both_facts}
 use Rattle.kp_lemmas.proofs.Orders.{less_from_fact}
 use Rattle.kp_lemmas.proofs.Entries.{entries_found}
@@ -75,14 +75,6 @@ pairs_given {X = X} {Y = Y} R S f h (x ∷ xs) p = by (f x) (h x) (pairs_given R
 all_true : {X : Type 0} (p : X → Bool) (P : X → Type 0) → ((x : X) → P x → p x ≡ true) → (xs : List X) → AllByRecursion P xs → list_all p xs ≡ true
 all_true p P f [] a = refl
 all_true p P f (x ∷ xs) a = and_from _ _ (f x a.0) (all_true p P f xs a.1)
-
-all_hold : {X : Type 0} (p : X → Bool) (xs : List X) → list_all p xs ≡ true → AllByRecursion (λ x. p x ≡ true) xs
-all_hold p [] h = tt
-all_hold p (x ∷ xs) h = let parts = and_parts _ _ h in (parts.0, all_hold p xs parts.1)
-
-both_hold : {X : Type 0} (P Q : X → Type 0) (xs : List X) → AllByRecursion P xs → AllByRecursion Q xs → AllByRecursion (λ x. P x × Q x) xs
-both_hold P Q [] a b = tt
-both_hold P Q (x ∷ xs) a b = ((a.0, b.0), both_hold P Q xs a.1 b.1)
 
 -- ---- Entries in order
 
@@ -145,8 +137,8 @@ module _ (family : Family) (before after : Chains) (first : is_canonical_table f
 
   entries_are : (chains : Chains) → is_canonical_table family chains ≡ true → AllByRecursion (IsEntry chains) (entries chains)
   entries_are chains h =
-      both_hold (λ e. get chains e.0 ≡ Some e.1) (λ e. is_canonical_chain family chains e ≡ true) (entries chains) (entries_found chain_total chains)
-      (all_hold (is_canonical_chain family chains) (entries chains) (and_parts (has_built_in_chains chains) _ h).1)
+      all_both (λ e. get chains e.0 ≡ Some e.1) (λ e. is_canonical_chain family chains e ≡ true) (entries chains) (entries_found chain_total chains)
+      (all_tested (is_canonical_chain family chains) (entries chains) (and_parts (has_built_in_chains chains) _ h).1)
 
   -- a write of a chain of the table, as the second table has it
   abbrev IsWriteIn : TableName → Edit → Type 0

@@ -1,11 +1,6 @@
 -- The text of a table's edits, piece by piece.
 use Rattle.std.proofs.Common.{◌≡◌, ℕ, suc, ◌+◌, ◌-◌, ◌<◌, ◌≤◌, ◌||◌, Bool, true, false, cond, not, List, [], ◌∷◌, ◌++◌, length, drop, get_or, map, refl, sym, ap, ◌∙◌, arith, append_assoc}
-use Rattle.std.specs.declared.cmp.Ordering.{Ordering}
-use Rattle.std.specs.declared.cmp.Ordering.TheVariants.{Less, Equal, Greater}
-use Rattle.std.specs.Ordering.{match_ordering}
 use Rattle.std.specs.BTreeSet.{insert_key}
-use Rattle.std.specs.FinMap.{put}
-use Rattle.std.specs.FinMap.Entries.{by_order}
 use Rattle.std.specs.List.{flat_map, list_any}
 use Rattle.std.proofs.lemmas.List.{append-nil}
 use Rattle.std.proofs.lemmas.List.Folds.{flat_map-map}
@@ -22,20 +17,10 @@ use Rattle.kp_restore_defs.specs.BatchText.{place_of, written_lines, removing_li
 use Rattle.kp_restore.specs.Printed.{ended}
 use Rattle.kp_restore.specs.PrintedEdits.{is_in, edits_text, edited_names, with_name, declared_text, written_text, removed_text}
 use Rattle.kp_restore.proofs.Sections.{lines-append}
+use Rattle.kp_lemmas.proofs.Entries.{put_keys}
 use Rattle.kp_lemmas.proofs.ListFacts.{added_twice}
 
 -- ---- names
-
-module _ {K X : Type 0} (R : K → K → Ordering) where
-  by_cases : (o : Ordering) (k : K) (v : X) (e : K × X) (es : List (K × X)) → map (λ e'. e'.0) (put R k v es) ≡ insert_key R (map (λ e'. e'.0) es) k → map (λ e'. e'.0) (by_order o ((k, v) ∷ e ∷ es) ((e.0, v) ∷ es) (e ∷ put R k v es)) ≡ match_ordering o (k ∷ e.0 ∷ map (λ e'. e'.0) es) (e.0 ∷ map (λ e'. e'.0) es) (e.0 ∷ insert_key R (map (λ e'. e'.0) es) k)
-  by_cases Less k v e es h = refl
-  by_cases Equal k v e es h = refl
-  by_cases Greater k v e es h = ap (λ ks. e.0 ∷ ks) h
-
-  -- the keys of entries with one more
-  put_keys : (k : K) (v : X) (es : List (K × X)) → map (λ e. e.0) (put R k v es) ≡ insert_key R (map (λ e. e.0) es) k
-  put_keys k v [] = refl
-  put_keys k v (e ∷ es) = by_cases (R k e.0) k v e es (put_keys k v es)
 
 name_step : (b : Bool) (e : Edit) (es : List Edit) → distinct_in_order text_cmp (map (λ e. (place_of e).chain) (cond b (e ∷ es) es))
     ≡ cond b (insert_key text_cmp (distinct_in_order text_cmp (map (λ e. (place_of e).chain) es)) (place_of e).chain) (distinct_in_order text_cmp (map (λ e. (place_of e).chain) es))

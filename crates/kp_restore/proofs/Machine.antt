@@ -5,19 +5,12 @@ use Rattle.std.specs.List.{list_all, take-map}
 use Rattle.std.proofs.lemmas.Bool.{and_parts, and_from}
 use Rattle.std.proofs.lemmas.List.{map-append, length-map, take-append-drop, append-nil}
 use Rattle.std.proofs.lemmas.List.Folds.{list_all-append}
+use Rattle.std.proofs.lemmas.Option.{same_Some}
 use Rattle.kp_restore_defs.specs.FirstBadLine.{ended_lines, IsFirstBadLine}
 use Rattle.kp_restore_defs.specs.TableText.{text_of_lines}
 use Rattle.kp_restore.specs.Machine.{run}
 use Rattle.kp_restore.specs.Pieces.{no_line_feed}
 use Rattle.kp_restore.proofs.Texts.{ended_with_line, ended_with_none, lines_again}
-
-some_of : {A : Type 0} → A → Option A → A
-some_of d None = d
-some_of d (Some x) = x
-
-pub some_one : {A : Type 0} (x y : A) → Some x ≡ Some y → x ≡ y
-unfolding some_of
-some_one x y h = ap (some_of x) h
 
 -- ---- Runs
 
@@ -129,7 +122,7 @@ module _ {S X V : Type 0} (step : S → X → Option S) (start : S) (IsEnd : S �
       let m = reader.complete a g in
       let n = reader.complete b h in
       let one : parts a ≡ parts b = same_parts (parts a) (parts b) (reader.all_good a g) (reader.all_good b h) (sym (lines_known a g _ refl) ∙ lines_known b h _ (sym e)) in
-      sym m.3 ∙ ap value (some_one m.0 n.0 (sym m.1 ∙ ap (run step start) one ∙ n.1)) ∙ n.3
+      sym m.3 ∙ ap value (same_Some m.0 n.0 (sym m.1 ∙ ap (run step start) one ∙ n.1)) ∙ n.3
 
   module _ (xs : List X) (s : S) (all : list_all good xs ≡ true) (ran : run step start xs ≡ Some s) where
     -- the lines so far begin the text of a value
@@ -210,7 +203,7 @@ module _ {S X V : Type 0} (step : S → X → Option S) (start : S) (IsEnd : S �
         no_value_at_end owed v h e =
             let same = same_lines v h e in
             let whole = reader.complete v h in
-            let at : whole.0 ≡ s = some_one whole.0 s (sym whole.1 ∙ ap (run step start) same ∙ ran) in
+            let at : whole.0 ≡ s = same_Some whole.0 s (sym whole.1 ∙ ap (run step start) same ∙ ran) in
             let text_is : text_of_lines (map text xs) ≡ bytes = ap (λ ys. text_of_lines (map text ys)) (sym same) ∙ ap text_of_lines (sym (reader.printed v h)) ∙ e in
             owed (nothing_behind (text_of_lines (map text xs)) rest (text_is ∙ cut)) (subst IsEnd at whole.2)
 

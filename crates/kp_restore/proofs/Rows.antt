@@ -6,6 +6,8 @@ use Rattle.std.specs.Ordering.{eq_by_cmp, is_lt}
 use Rattle.std.specs.FinMap.{get, get-insert, find}
 use Rattle.std.proofs.lemmas.Bool.{and_parts, and_from, not-true, or_parts}
 use Rattle.std.proofs.lemmas.Map.Text.{is_eq-slice_cmp}
+use Rattle.std.proofs.lemmas.Option.{same_Some}
+use Rattle.std.specs.Cmp.Lexicographic.{nat_list_eq_equiv}
 use Rattle.kp_base.specs.Keys.{text_cmp}
 use Rattle.kp_types.specs.Places.{chain_cmp}
 use Rattle.kp_types.specs.declared.chain.TableName.{TableName}
@@ -16,8 +18,6 @@ use Rattle.kp_types.proofs.ChainOrder.{chain_total}
 use Rattle.kp_table_defs.specs.Rebuild.{TableParts}
 use Rattle.kp_restore_defs.specs.TableText.{Row}
 use Rattle.kp_restore.specs.TableSteps.{put}
-use Rattle.kp_restore.proofs.Machine.{some_one}
-use Rattle.kp_restore.proofs.BatchOrder.{name_itself}
 use Rattle.kp_base.proofs.SameParts.{text_test_exact}
 
 -- the place of a chain
@@ -58,7 +58,7 @@ turned_false x y h = by (bytes_eq y x) refl
   where
     by : (b : Bool) → bytes_eq y x ≡ b → b ≡ false
     by false e = refl
-    by true e = let same = text_test_exact y x e in absurd (let t : true ≡ false = sym (name_itself x) ∙ ap (bytes_eq x) (sym same) ∙ h in cc)
+    by true e = let same = text_test_exact y x e in absurd (let t : true ≡ false = sym (nat_list_eq_equiv.refl x) ∙ ap (bytes_eq x) (sym same) ∙ h in cc)
 
 -- ---- Keys
 
@@ -110,7 +110,7 @@ unfolding Agree
 agree [] h = tt
 agree (row ∷ rows) h =
     let p = and_parts _ _ h in
-    (ap (λ b. cond b (Some row.1) (rules_in rows row.0)) (name_itself row.0), agree_with (rules_in rows) row.0 row.1 rows (not-true _ p.0) (agree rows p.1))
+    (ap (λ b. cond b (Some row.1) (rules_in rows row.0)) (nat_list_eq_equiv.refl row.0), agree_with (rules_in rows) row.0 row.1 rows (not-true _ p.0) (agree rows p.1))
 
 pub agree_front : (g : List ℕ → Option (List Rule)) (rows more : List Row) → Agree g (rows ++ more) → Agree g rows
 unfolding Agree
@@ -144,7 +144,7 @@ one_found p [] h name rules e = absurd (cc)
 one_found p (row ∷ rows) h name rules e = by (bytes_eq name row.0) refl e (one_found p rows (and_parts _ _ h).1 name rules)
   where
     by : (b : Bool) → bytes_eq name row.0 ≡ b → cond b (Some row.1) (rules_in rows name) ≡ Some rules → (rules_in rows name ≡ Some rules → p (name, rules) ≡ true) → p (name, rules) ≡ true
-    by true t e f = (λ i. p (text_test_exact name row.0 t i, sym (some_one row.1 rules e) i)) ∙ (and_parts _ _ h).0
+    by true t e f = (λ i. p (text_test_exact name row.0 t i, sym (same_Some row.1 rules e) i)) ∙ (and_parts _ _ h).0
     by false t e f = f e
 
 -- ---- Tables with rows

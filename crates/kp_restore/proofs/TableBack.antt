@@ -5,6 +5,7 @@ use Rattle.std.specs.Ordering.{is_lt}
 use Rattle.std.proofs.lemmas.Bool.{and_parts, and_from, not-true}
 use Rattle.std.proofs.lemmas.List.{map-append, append-nil}
 use Rattle.std.proofs.lemmas.List.Folds.{list_all-append}
+use Rattle.std.proofs.lemmas.Option.{same_Some}
 use Rattle.kp_base.specs.Keys.{text_cmp}
 use Rattle.kp_types.specs.Places.{table_place}
 use Rattle.kp_types.specs.declared.chain.TableName.{TableName}
@@ -19,7 +20,7 @@ use Rattle.kp_restore.specs.declared.table_reader.Phase.{Phase}
 use Rattle.kp_restore.specs.declared.table_reader.Phase.TheVariants.{Opening, Declaring, Ruling, Done}
 use Rattle.kp_restore.specs.Machine.{run}
 use Rattle.kp_restore.specs.TableSteps.{step, put, may_follow, declared, with_rule, ruled, declaring}
-use Rattle.kp_restore.proofs.Machine.{some_one, none_some}
+use Rattle.kp_restore.proofs.Machine.{none_some}
 use Rattle.kp_restore.proofs.Rows.{names_of, rising, with_rows, with_section}
 use Rattle.kp_restore.proofs.TableRows.{IsSection}
 use Rattle.kp_restore.proofs.TableParts.{row_parts, section_parts}
@@ -40,7 +41,7 @@ filling_owes : (table : TableName) (left : List (List ℕ)) (rules : List Rule) 
 filling_owes table left rules p h k = let e : Ruling table left rules ≡ Done = h ∙ k in cc
 
 phase_one : (r e : TableReader) → Some r ≡ Some e → r.phase ≡ e.phase
-phase_one r e h = ap (λ (s : TableReader). s.phase) (some_one r e h)
+phase_one r e h = ap (λ (s : TableReader). s.phase) (same_Some r e h)
 
 -- ---- Names that follow each other are in order
 

@@ -10,6 +10,7 @@ use Rattle.std.specs.FinMap.{entries, entries_sorted, get, get-entries, find, is
 use Rattle.std.specs.FinMap.Entries.{below_all, where_key, is_sorted-where_key, find-where_key, same_entries}
 use Rattle.std.proofs.lemmas.Bool.{and_parts, and_from, not-true, or_parts}
 use Rattle.std.proofs.lemmas.List.{map-append}
+use Rattle.std.proofs.lemmas.Option.{same_Some}
 use Rattle.kp_base.specs.Keys.{text_cmp}
 use Rattle.kp_types.specs.Places.{chain_cmp, table_place}
 use Rattle.kp_types.specs.declared.chain.TableName.{TableName}
@@ -20,7 +21,6 @@ use Rattle.kp_types.proofs.ChainOrder.{chain_total, chain_exact, one_table_from_
 use Rattle.kp_table_defs.specs.Ranks.{built_in_chains, is_built_in, has_built_in}
 use Rattle.kp_table_defs.specs.Rebuild.{Chains}
 use Rattle.kp_restore_defs.specs.TableText.{Row, row_at, built_in_rows, other_rows}
-use Rattle.kp_restore.proofs.Machine.{some_one}
 use Rattle.kp_restore.proofs.Rows.{at, entries_of, rules_in, names_of, distinct, rising, Agree, turned_false, find_rows, is_some_rules, no_rules, rules_append, agree, agree_front, agree_same, rows_again}
 use Rattle.kp_lemmas.proofs.Orders.{lesser_text_differs, less_from_fact}
 use Rattle.kp_lemmas.proofs.Booleans.{both_facts, true_from_fact}
@@ -136,7 +136,7 @@ one_in p (e ∷ es) a q rules f = by (eq_by_cmp chain_cmp q e.0) refl f (one_in 
     equal Greater h = absurd (cc)
 
     by : (b : Bool) → eq_by_cmp chain_cmp q e.0 ≡ b → cond b (Some e.1) (find chain_cmp q es) ≡ Some rules → (find chain_cmp q es ≡ Some rules → p (q, rules) ≡ true) → p (q, rules) ≡ true
-    by true t f g = (λ i. p (chain_exact q e.0 (equal _ t) i, sym (some_one e.1 rules f) i)) ∙ (and_parts _ _ a).0
+    by true t f g = (λ i. p (chain_exact q e.0 (equal _ t) i, sym (same_Some e.1 rules f) i)) ∙ (and_parts _ _ a).0
     by false t f g = g f
 
 pub one_entry : (p : ChainAt × List Rule → Bool) (chains : Chains) → list_all p (entries chains) ≡ true → (q : ChainAt) (rules : List Rule) → get chains q ≡ Some rules → p (q, rules) ≡ true

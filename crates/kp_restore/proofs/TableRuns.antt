@@ -2,6 +2,7 @@
 use Rattle.std.proofs.Common.{◌≡◌, ℕ, suc, zero, ◌-◌, Bool, true, false, cond, not, ◌&&◌, ◌||◌, List, [], ◌∷◌, ◌++◌, map, length, drop, Option, Some, None, is_some, slice_get, bytes_eq, codes, refl, sym, ap, subst, ◌∙◌, append_assoc, length-append, option_and_then, arith}
 use Rattle.std.specs.List.{list_all, list_any, flat_map}
 use Rattle.std.specs.Ordering.{eq_by_cmp, is_lt}
+use Rattle.std.specs.Cmp.Lexicographic.{nat_list_eq_equiv}
 use Rattle.kp_base.specs.Keys.{text_cmp}
 use Rattle.std.specs.FinMap.{get, get-insert}
 use Rattle.std.proofs.lemmas.Bool.{and_parts, and_from, not-true, or_parts}
@@ -25,7 +26,6 @@ use Rattle.kp_restore.specs.TableSteps.{step, put, phase_after, is_behind, may_f
 use Rattle.kp_restore.proofs.Rows.{at, names_of, distinct, rising, empty_row, with_rows, with_section}
 use Rattle.kp_restore.proofs.TableRows.{IsSection, section_distinct, table_tied}
 use Rattle.kp_restore.proofs.TableParts.{row_parts, section_parts}
-use Rattle.kp_restore.proofs.BatchOrder.{name_itself}
 use Rattle.kp_lemmas.proofs.ListFacts.{test_weaker, test_always}
 
 -- ---- States
@@ -126,7 +126,7 @@ rows_still_jump table t u k = test_weaker (λ row. all_jump t.chains table row.1
 -- ---- Declarations
 
 step_built_in : (t : TableParts) (table : TableName) (names : List (List ℕ)) (c : List ℕ) → slice_get (built_in_chains table) (length names) ≡ Some c → step (naming t table names) (BuiltIn c) ≡ Some (declared t table names c)
-step_built_in t table names c h = ap (λ o. declaring t table names o (BuiltIn c)) h ∙ ap (λ b. cond b (Some (declared t table names c)) None) (name_itself c)
+step_built_in t table names c h = ap (λ o. declaring t table names o (BuiltIn c)) h ∙ ap (λ b. cond b (Some (declared t table names c)) None) (nat_list_eq_equiv.refl c)
 
 pub built_in_run : (table : TableName) (left names : List (List ℕ)) (t : TableParts) (ys : List Line) → drop (length names) (built_in_chains table) ≡ left
     → run step (naming t table names) (map BuiltIn left ++ ys) ≡ run step (naming (with_rows table t (map empty_row left)) table (names ++ left)) ys
@@ -181,7 +181,7 @@ rows_fill ((c, r ∷ rs) ∷ rows) zs = tt
 
 step_rule : (t : TableParts) (table : TableName) (c : List ℕ) (left : List (List ℕ)) (rules : List Rule) (r : Rule) → jumps_to_declared t.chains table r.target ≡ true → step (filling t table (c ∷ left) rules) (Ruled c r) ≡ Some (filling t table (c ∷ left) (rules ++ r ∷ []))
 step_rule t table c left rules r j =
-    ap (λ b. cond b (with_rule t table (c ∷ left) rules r) (ruled (put t table c rules) table left [] c r)) (name_itself c)
+    ap (λ b. cond b (with_rule t table (c ∷ left) rules r) (ruled (put t table c rules) table left [] c r)) (nat_list_eq_equiv.refl c)
     ∙ ap (λ b. cond b (Some (filling t table (c ∷ left) (rules ++ r ∷ []))) None) j
 
 rules_run : (t : TableParts) (table : TableName) (c : List ℕ) (left : List (List ℕ)) (rs rules : List Rule) (ys : List Line) → all_jump t.chains table rs ≡ true

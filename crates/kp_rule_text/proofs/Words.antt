@@ -42,9 +42,6 @@ as_text read text_of is_valid w = record { complete = w.complete; whole = w.whol
 
 -- ---- values whose text is compared
 
-same_text : (bs : List ℕ) → bytes_eq bs bs ≡ true
-same_text bs = (bytes_eq-Decides bs bs).1 refl
-
 pub exact_sound : {V : Type 0} (text_of : V → List ℕ) (read : List ℕ → Option V) (word : List ℕ) → IfSome (exact text_of read word) (λ v. (read word ≡ Some v) × (text_of v ≡ word))
 exact_sound text_of read word =
     if_then (λ v. (read word ≡ Some v) × (text_of v ≡ word)) (λ v. cond (bytes_eq (text_of v) word) (Some v) None) (read word)
@@ -53,7 +50,7 @@ exact_sound text_of read word =
 pub exact_complete : {V : Type 0} (text_of : V → List ℕ) (read : List ℕ → Option V) (v : V) → read (text_of v) ≡ Some v → exact text_of read (text_of v) ≡ Some v
 exact_complete text_of read v e =
     ap (option_and_then (λ v'. cond (bytes_eq (text_of v') (text_of v)) (Some v') None)) e
-    ∙ cond-true (bytes_eq (text_of v) (text_of v)) (Some v) None (same_text (text_of v))
+    ∙ cond-true (bytes_eq (text_of v) (text_of v)) (Some v) None ((bytes_eq-Decides (text_of v) (text_of v)).1 refl)
 
 -- ---- numbers
 

@@ -13,7 +13,7 @@ use Rattle.kp_types.specs.declared.rule.Edit.TheVariants.{Write, Remove}
 use Rattle.kp_types.specs.declared.rule.Rule.{Rule}
 use Rattle.kp_table_defs.specs.Edits.{changes_between, is_found_with}
 use Rattle.kp_table_defs.specs.Layout.{rows_of}
-use Rattle.kp_worked.proofs.MapLists.{entries_are}
+use Rattle.kp_object_defs.proofs.InOrder.{entries_in_order}
 use Rattle.kp_worked.specs.Counts.{Counts, counted, counts_between, are}
 use Rattle.kp_worked.specs.Setting.{setting}
 
@@ -40,7 +40,7 @@ counts_by before after =
     counted (changes_by (λ q. find chain_cmp q before) (λ q. find chain_cmp q after) (in_order chain_cmp before) (in_order chain_cmp after))
 
 by_lists : (before after : Rows) → counted (changes_between (from_entries before) (from_entries after)) ≡ counts_by before after
-by_lists before after = λ i. counted (changes_by (found before i) (found after i) (entries_are chain_total before i) (entries_are chain_total after i))
+by_lists before after = λ i. counted (changes_by (found before i) (found after i) (entries_in_order chain_total before i) (entries_in_order chain_total after i))
 
 -- the counts between the full tables of ports
 pub counts_are : (before after : List PortInfo) {written removed : ℕ}

@@ -21,7 +21,8 @@ use Rattle.kp_object_defs.specs.Entries.{is_of_service, unmanaged}
 use Rattle.kp_object_defs.specs.Objects.{Objects, node_key, objects_step, objects_after}
 use Rattle.kp_object_defs.specs.Order.{in_order, values_of}
 use Rattle.kp_object_defs.specs.PortInfo.{PortInfo, infos_from, port_infos}
-use Rattle.kp_worked.proofs.MapLists.{without, entries_are, removed_are}
+use Rattle.kp_object_defs.proofs.InOrder.{entries_in_order}
+use Rattle.kp_worked.proofs.MapLists.{without, removed_are}
 use Rattle.kp_types.specs.declared.verdict.Verdict.{Verdict}
 use Rattle.kp_worked.specs.Events.{verdict_after}
 use Rattle.kp_worked.specs.Decisions.{decided}
@@ -91,7 +92,7 @@ abbrev pub in_key_order : {X : Type 0} → List (ObjectKey × X) → List X
 in_key_order es = values_of (in_order key_cmp es)
 
 pub values_are : {X : Type 0} (es : List (ObjectKey × X)) → finite.values (finite.from_entries {R = key_cmp} es) ≡ in_key_order es
-values_are es = ap (map (λ e. e.1)) (entries_are key_total es)
+values_are es = ap (map (λ e. e.1)) (entries_in_order key_total es)
 
 pub found_are : {X : Type 0} (es : List (ObjectKey × X)) → ◌≡◌ {A = ObjectKey → Option X} (finite.get (finite.from_entries {R = key_cmp} es)) (λ q. finite.find key_cmp q es)
 found_are es = λ i q. finite.get-from_entries key_total es q i

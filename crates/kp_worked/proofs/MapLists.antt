@@ -1,12 +1,10 @@
 -- Finite maps that are given as lists of entries.
-use Rattle.std.proofs.Common.{◌≡◌, Bool, true, false, cond, not, List, [], ◌∷◌, filter, None, refl, sym, ap, ◌∙◌}
+use Rattle.std.proofs.Common.{◌≡◌, Bool, true, false, cond, not, List, filter, None, refl, sym, ap, ◌∙◌}
 use Rattle.std.specs.Cmp.{IsTotalOrder, alike_right, eq_by_cmp_equiv}
-use Rattle.std.specs.FinMap.{entries, find, from_entries, put, remove, entries-insert, get-from_entries, get-remove, same_map, IsAntisymmetric}
+use Rattle.std.specs.FinMap.{find, from_entries, remove, get-from_entries, get-remove, same_map, IsAntisymmetric}
 use Rattle.std.specs.FinMap.Entries.{find-where_key}
 use Rattle.std.specs.Ordering.{eq_by_cmp, is_eq}
 use Rattle.std.specs.declared.cmp.Ordering.{Ordering}
-use Rattle.kp_lemmas.proofs.Entries.{empty_entries}
-use Rattle.kp_object_defs.specs.Order.{in_order}
 
 turned : {A : Type 0} (b : Bool) (x y : A) → cond (not b) x y ≡ cond b y x
 turned true x y = refl
@@ -18,11 +16,6 @@ module _ {K X : Type 0} (R : K → K → Ordering) where
   without k es = filter (λ e. not (eq_by_cmp R k e.0)) es
 
 module _ {K X : Type 0} {R : K → K → Ordering} (total : IsTotalOrder R) where
-  -- the entries of such a map are the list in order
-  pub entries_are : (es : List (K × X)) → entries (from_entries {R = R} es) ≡ in_order R es
-  entries_are [] = empty_entries R
-  entries_are (e ∷ es) = entries-insert total (from_entries es) e.0 e.1 ∙ ap (put R e.0 e.1) (entries_are es)
-
   pub removed_are : IsAntisymmetric R → (es : List (K × X)) (k : K) → from_entries {R = R} (without R k es) ≡ remove (from_entries es) k
   removed_are exact es k =
       same_map total exact _ _ (λ q.

@@ -17,7 +17,7 @@ use Rattle.kp_object_defs.specs.Order.{in_order}
 use Rattle.kp_object_defs.specs.Packing.{packed_slices}
 use Rattle.kp_object_defs.specs.PackingLaws.{is_managed_for}
 use Rattle.kp_object_defs.specs.SlicesNow.{slices_step, names_absent, without_leftovers, after_packing, after_controller, Synced, sync_step, slices_now}
-use Rattle.kp_worked.proofs.MapLists.{entries_are}
+use Rattle.kp_object_defs.proofs.InOrder.{entries_in_order}
 use Rattle.kp_worked.proofs.Events.{Listed, as_objects, step, step_is, steps_are, in_key_order, values_are, found_are}
 use Rattle.kp_worked.specs.SlicesNow.{config_of_two, name_and_pods, shown_after}
 
@@ -54,7 +54,7 @@ absent_alike l namespace None = refl
 absent_alike l namespace (Some name) = λ i. not (is_some (found_are l.services i (record { namespace = namespace; name = name })))
 
 left_alike : (l : Listed) (es : Entries) → without_leftovers (as_objects l) (as_slices es) ≡ as_slices (without_left l es)
-left_alike l es = λ i. finite.from_entries (filter (λ e. not (e.1.managed && absent_alike l e.1.key.namespace e.1.service i)) (entries_are key_total es i))
+left_alike l es = λ i. finite.from_entries (filter (λ e. not (e.1.managed && absent_alike l e.1.key.namespace e.1.service i)) (entries_in_order key_total es i))
 
 abbrev wanted_in : Listed → Family → Service → List Wanted
 wanted_in l family s = desired_from family (λ name. option_and_then (λ n. n.zone) (finite.find key_cmp (node_key name) l.nodes)) s (in_key_order l.pods)
@@ -73,7 +73,7 @@ packed_alike most l s es family =
     (packed_slices family s.key (filter (is_managed_for family s.key) (values_are es i))
     (desired_from family (λ name. option_and_then (λ n. n.zone) (found_are l.nodes i (node_key name))) s (values_are l.pods i)) most
     (map (λ t. t.key.name) (filter (λ t. bytes_eq t.key.namespace s.key.namespace) (values_are es i)))).slices
-    ++ filter (λ e. not (is_managed_for family s.key e.1)) (entries_are key_total es i))
+    ++ filter (λ e. not (is_managed_for family s.key e.1)) (entries_in_order key_total es i))
 
 abbrev controlled_in : List Family → ℕ → Listed → Entries → Entries
 controlled_in families most l es = fold (λ so_far s. fold (packed_in most l s) so_far families) (without_left l es) (filter has_selector (in_key_order l.services))

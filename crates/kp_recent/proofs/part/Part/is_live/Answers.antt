@@ -5,7 +5,7 @@ use Rattle.kp_base.specs.Net.{AddressParts}
 use Rattle.kp_recent.specs.Moments.{has_recent, is_recent, shown_in}
 use Rattle.kp_recent.proofs.Put.{found_moment}
 use Rattle.kp_recent.proofs.Shown.{live_is}
-use Rattle.kp_recent.proofs.Sources.{address_same}
+use Rattle.kp_base.proofs.SameParts.{address_same}
 use Rattle.kp_recent.proofs.part.Part.is_live.Goals as goal
 
 -- the moment beside the source decides
