@@ -1,0 +1,51 @@
+-- Sync records: how many events each covers, and the edits that it made. A history is exact where
+-- each record leads from the full table of the objects before it to that of the objects that it
+-- covers.
+use Rattle.std.specs.Prelude.{◌≡◌, ◌≤◌, ℕ, suc, List, map, sum, take, length, Some, None, slice_get}
+use Rattle.std.specs.List.{fold}
+use Rattle.kp_types.specs.Setting.{Setting}
+use Rattle.kp_types.specs.declared.event.Event.{Event}
+use Rattle.kp_types.specs.declared.sync.SyncRecord.{SyncRecord}
+use Rattle.kp_object_defs.specs.Objects.{Objects, no_objects, objects_after}
+use Rattle.kp_table_defs.specs.Edits.{changes_between, table_after_batch}
+use Rattle.kp_table_defs.specs.Rebuild.{Chains, TableParts, clash_of, full_table}
+
+-- how many events records cover
+abbrev pub covered_count : List SyncRecord → ℕ
+covered_count records = sum (map (λ r. r.events) records)
+
+-- the events that the first n records cover
+abbrev pub covered : List Event → List SyncRecord → ℕ → List Event
+covered events records n = take (covered_count (take n records)) events
+
+-- the objects that the first n records cover
+abbrev pub objects_covered : List Event → List SyncRecord → ℕ → Objects
+objects_covered events records n = objects_after (covered events records n)
+
+-- the chains of the full table of what the first n records cover
+abbrev pub chains_covered : Setting → List Event → List SyncRecord → ℕ → Chains
+chains_covered setting events records n =
+    (full_table setting (objects_covered events records n)).chains
+
+-- the table after records, from that of no objects on
+abbrev pub table_after : Setting → List SyncRecord → TableParts
+table_after setting records =
+    fold (λ t r. table_after_batch t r.batch.edits) (full_table setting no_objects) records
+
+module _ (setting : Setting) where
+  -- A record of this number leads from some objects to others: these have no clash, and its edits
+  -- are the changes of the full table.
+  pub record IsExactRecord (before after : Objects) (number : ℕ) (r : SyncRecord) : Type 0 where
+    pub is_numbered : r.sync ≡ number
+    pub has_no_clash : clash_of setting after ≡ None
+    pub is_changes : r.batch.edits
+        ≡ changes_between (full_table setting before).chains (full_table setting after).chains
+
+module _ (setting : Setting) (events : List Event) where
+  -- The records cover events that there are, and each, numbered from 1, leads from the objects
+  -- that the records before it cover to those that are covered with it.
+  pub record IsExactHistory (records : List SyncRecord) : Type 0 where
+    pub within : covered_count records ≤ length events
+    pub each : (n : ℕ) (r : SyncRecord) → slice_get records n ≡ Some r
+        → IsExactRecord setting (objects_covered events records n)
+        (objects_covered events records (suc n)) (suc n) r
