@@ -1,0 +1,3 @@
+mod Affected
+mod Ports
+mod Values
