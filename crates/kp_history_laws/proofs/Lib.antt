@@ -1,3 +1,4 @@
 mod Affected
+mod Kept
 mod Ports
 mod Values
