@@ -1,7 +1,7 @@
 -- Sync records: how many events each covers, and the edits that it made. A history is exact where
 -- each record leads from the full table of the objects before it to that of the objects that it
 -- covers.
-use Rattle.std.specs.Prelude.{◌≡◌, ◌≤◌, ℕ, suc, List, map, sum, take, length, Some, None, slice_get}
+use Rattle.std.specs.Prelude.{◌≡◌, ◌≤◌, ℕ, suc, List, sum_by, take, length, Some, None, slice_get}
 use Rattle.std.specs.List.{fold}
 use Rattle.kp_types.specs.Setting.{Setting}
 use Rattle.kp_types.specs.declared.event.Event.{Event}
@@ -12,7 +12,7 @@ use Rattle.kp_table_defs.specs.Rebuild.{Chains, TableParts, clash_of, full_table
 
 -- how many events records cover
 abbrev pub covered_count : List SyncRecord → ℕ
-covered_count records = sum (map (λ r. r.events) records)
+covered_count records = sum_by (λ r. r.events) records
 
 -- the events that the first n records cover
 abbrev pub covered : List Event → List SyncRecord → ℕ → List Event

@@ -181,7 +181,7 @@ IsRun setting steps state = IsRunFrom setting initial steps state
 
 -- an event was fed by this stream
 abbrev pub is_of_stream : ℕ → Fed → Bool
-is_of_stream stream f = f.stream == stream
+is_of_stream stream f = stream == f.stream
 
 -- the events of a stream with their numbers, from the next after n on
 abbrev pub numbered : ℕ → ℕ → List Event → List Fed

@@ -1,4 +1,8 @@
 mod Affected
+mod EveryRun
+mod Histories
 mod Kept
 mod Ports
+mod Steps
+mod Tables
 mod Values

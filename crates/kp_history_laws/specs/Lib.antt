@@ -1,2 +1,4 @@
 pub mod EventLaws
+pub mod HistoryLaws
 pub mod KeptLaws
+pub mod RunLaws

@@ -3,7 +3,9 @@
 #![tactic(auto)]
 
 ghost use Rattle.kp_history_laws.specs.EventLaws.{UnaffectedService, UnaffectedInputs, UnaffectedRules};
+ghost use Rattle.kp_history_laws.specs.HistoryLaws.{ExactTables};
 ghost use Rattle.kp_history_laws.specs.KeptLaws.{RulesByName, EnoughByRules, AffectedAreEnough, UnchangedInputs, ChangedAreEnough};
+ghost use Rattle.kp_history_laws.specs.RunLaws as runs;
 
 /// An event leaves the inputs of each port that it doesn't affect, and its contribution to the table.
 pub fn unaffected_ports()
@@ -32,4 +34,30 @@ pub fn kept_rules()
     kp_object_laws::own_keys();
     unaffected_ports();
     rules_by_name();
+}
+
+/// The table after each of the first records of an exact history is the full table of what they cover.
+pub fn exact_tables()
+    ensures { ExactTables }
+{
+    kp_rules::laws::changes_lead_over();
+}
+
+/// Every interleaving: whatever the order in which streams feed, events are taken, syncs are made or refused, records
+/// are published and packets are read.
+pub fn interleavings()
+    ensures history { runs.HistoryIsExact }
+    ensures touched { runs.TouchedHoldChanged }
+    ensures tables { runs.TablesAreFull }
+    ensures streams { runs.StreamsKeepOrder }
+    ensures published { runs.PublishedAreRecords }
+    ensures seen { runs.SeenIsPublished }
+    ensures grows { runs.SeenOnlyGrows }
+    ensures reads { runs.ReadsDecide }
+{
+    kp_object_laws::own_keys();
+    kp_table_laws::ports_of_objects_make_the_table();
+    unaffected_ports();
+    kept_rules();
+    exact_tables();
 }

@@ -1,0 +1,102 @@
+-- Every interleaving: what each step keeps of the history, and what follows of tables and reads.
+use Rattle.std.proofs.Common.{◌≡◌, ℕ, ◌-◌, Bool, true, false, true≢false, not, List, [], ◌∷◌, bytes_eq, Option, Some, None, refl, sym, ap, subst, ◌∙◌}
+use Rattle.std.specs.Cmp.Lexicographic.{pointwise, nat_list_eq_equiv}
+use Rattle.std.specs.FinMap as finite
+use Rattle.std.proofs.lemmas.Bool.{and_from, and_parts}
+use Rattle.std.proofs.lemmas.Cmp.{lists_equiv}
+use Rattle.std.proofs.lemmas.List.{length-map, map_push}
+use Rattle.kp_base.specs.declared.key.PortKey.{PortKey}
+use Rattle.kp_types.specs.Setting.{Setting}
+use Rattle.kp_types.specs.contracts.lists.CandidateEq.TheImpl.Laws as candidate_laws
+use Rattle.kp_types.specs.contracts.service.ServiceEq.TheImpl.Laws as service_laws
+use Rattle.kp_types.specs.contracts.lists.CandidatePartialEq.TheImpl as same_candidate
+use Rattle.kp_object_defs.specs.Objects.{Objects}
+use Rattle.kp_object_defs.specs.Packing.{same_option}
+use Rattle.kp_object_laws.specs.ObjectLaws.{OwnKeysAfterEvents}
+use Rattle.kp_table_laws.specs.Laws.{PortsOfObjectsMakeTheTable}
+use Rattle.kp_table_defs.specs.Walk.{walk_of}
+use Rattle.kp_door_defs.specs.Decision.{decision_of}
+use Rattle.kp_history_defs.specs.History.{covered_count, objects_covered}
+use Rattle.kp_history_defs.specs.Inputs.{PortInputs, inputs_of, same_inputs, keeps_inputs, ports_of_either, changed_ports}
+use Rattle.kp_history_defs.specs.Runs.{RunState, Fed, Step, Feed, Take, Sync, Refuse, Publish, Read, Tell, IsRun, IsAllowed, initial, state_after, after_take, events_of, objects_now, next_record}
+use Rattle.kp_history_laws.specs.EventLaws.{has_port, UnaffectedInputs}
+use Rattle.kp_history_laws.specs.HistoryLaws.{ExactTables}
+use Rattle.kp_history_laws.specs.KeptLaws.{EnoughByRules}
+use Rattle.kp_history_laws.specs.RunLaws.{HistoryIsExact, TouchedHoldChanged, TablesAreFull, ReadsDecide, IsDecided, objects_recorded}
+use Rattle.kp_history_laws.proofs.Histories.{IsSynced, nothing_synced, taken_synced, synced}
+use Rattle.kp_history_laws.proofs.Ports.{has_filtered}
+use Rattle.kp_history_laws.proofs.Steps.{kept_by_steps, run_seen}
+use Rattle.kp_history_laws.proofs.Tables.{no_clash_covered}
+
+-- ---- Inputs are the same as themselves
+
+option_itself : {X : Type 0} (test : X → X → Bool) → ((x : X) → test x x ≡ true) → (o : Option X) → same_option test o o ≡ true
+option_itself test each None = refl
+option_itself test each (Some x) = each x
+
+inputs_itself : (inputs : PortInputs) → same_inputs inputs inputs ≡ true
+inputs_itself inputs =
+    and_from _ _ (service_laws.laws-law.refl inputs.service)
+    (and_from (pointwise same_candidate.ghosts.eq inputs.entries inputs.entries) (same_option bytes_eq inputs.zone inputs.zone)
+    ((lists_equiv candidate_laws.laws-law).refl inputs.entries) (option_itself bytes_eq nat_list_eq_equiv.refl inputs.zone))
+
+-- a port that changed has other inputs
+module _ (setting : Setting) (before after : Objects) (key : PortKey) where
+  pub changed_inputs : has_port (changed_ports setting before after) key ≡ true → inputs_of setting after key ≡ inputs_of setting before key → ⊥
+  changed_inputs has same =
+      let kept : keeps_inputs setting before after key ≡ true =
+      ap (same_option same_inputs (inputs_of setting before key)) same ∙ option_itself same_inputs inputs_itself (inputs_of setting before key) in
+      let parts = and_parts (not (keeps_inputs setting before after key)) (has_port (ports_of_either before after) key)
+      (sym (has_filtered (λ k. not (keeps_inputs setting before after k)) (ports_of_either before after) key) ∙ has) in
+      true≢false (sym parts.0 ∙ ap not kept)
+
+-- ---- Steps
+
+module _ (own : OwnKeysAfterEvents) (unaffected : UnaffectedInputs) (enough : EnoughByRules) (joined : PortsOfObjectsMakeTheTable) (setting : Setting) where
+  abbrev Synced : RunState → Type 0
+  Synced s = IsSynced setting (events_of s.journal) s.records s.kept s.touched
+
+  take_synced : (s : RunState) → Synced s → (queue : List Fed) → Synced (after_take setting queue s)
+  take_synced s h [] = h
+  take_synced s h (f ∷ rest) =
+      subst (λ events. IsSynced setting events s.records s.kept (after_take setting (f ∷ rest) s).touched) (sym (map_push (λ (g : Fed). g.event) s.journal f))
+      (taken_synced own unaffected setting (events_of s.journal) s.records s.kept s.touched h f.event)
+
+  step_synced : (s : RunState) (step : Step) → IsAllowed setting s step → Synced s → Synced (state_after setting s step)
+  step_synced s (Feed by e) allowed h = h
+  step_synced s Take allowed h = take_synced s h s.queue
+  step_synced s Sync allowed h =
+      synced own unaffected setting (events_of s.journal) s.records s.kept s.touched h enough joined (next_record setting s) allowed refl
+      (ap (λ (n : ℕ). n - covered_count s.records) (sym (length-map s.journal (λ (f : Fed). f.event)))) refl
+  step_synced s Refuse allowed h = h
+  step_synced s Publish allowed h = h
+  step_synced s (Read worker packet draws lists answer) allowed h = h
+  step_synced s (Tell worker n) allowed h = h
+
+  run_synced : (steps : List Step) (s : RunState) → IsRun setting steps s → Synced s
+  run_synced steps s run = kept_by_steps setting Synced step_synced steps initial s (nothing_synced setting) run
+
+module _ (own : OwnKeysAfterEvents) (unaffected : UnaffectedInputs) (enough : EnoughByRules) (joined : PortsOfObjectsMakeTheTable) where
+  pub history_is_exact : HistoryIsExact
+  history_is_exact setting steps s run = (run_synced own unaffected enough joined setting steps s run).exact
+
+  pub touched_hold_changed : TouchedHoldChanged
+  touched_hold_changed setting steps s run key changed = by (has_port s.touched key) refl
+    where
+      by : (b : Bool) → has_port s.touched key ≡ b → b ≡ true
+      by true is = refl
+      by false is =
+          absurd (changed_inputs setting (objects_recorded s) (objects_now s) key changed ((run_synced own unaffected enough joined setting steps s run).untouched key is))
+
+  pub tables_are_full : ExactTables → TablesAreFull
+  tables_are_full tables setting steps s run n le = tables setting (events_of s.journal) s.records n (history_is_exact setting steps s run) le
+
+  pub reads_decide : ExactTables → ReadsDecide
+  reads_decide tables setting steps s t worker packet draws lists answer decides run step =
+      let exact = history_is_exact setting steps s run in
+      let le = (run_seen setting steps s run).published in
+      let covers : Objects = objects_covered (events_of s.journal) s.records s.published in
+      let full = tables setting (events_of s.journal) s.records s.published exact le in
+      subst (λ a. IsDecided a (decision_of setting covers packet draws lists))
+      (sym (step.allowed ∙ ap (λ chains. walk_of (λ at. finite.get chains at) setting.config.addresses packet draws lists) full))
+      (decides covers packet draws lists (no_clash_covered setting (events_of s.journal) s.records s.published exact le))
