@@ -1,7 +1,7 @@
 -- Sync records: how many events each covers, and the edits that it made. A history is exact where
 -- each record leads from the full table of the objects before it to that of the objects that it
 -- covers.
-use Rattle.std.specs.Prelude.{◌≡◌, ◌≤◌, ℕ, suc, List, sum_by, take, length, Some, None, slice_get}
+use Rattle.std.specs.Prelude.{◌≡◌, ◌≤◌, ℕ, suc, List, map, sum, take, length, Some, None, slice_get}
 use Rattle.std.specs.List.{fold}
 use Rattle.kp_types.specs.Setting.{Setting}
 use Rattle.kp_types.specs.declared.event.Event.{Event}
@@ -10,27 +10,30 @@ use Rattle.kp_object_defs.specs.Objects.{Objects, no_objects, objects_after}
 use Rattle.kp_table_defs.specs.Edits.{changes_between, table_after_batch}
 use Rattle.kp_table_defs.specs.Rebuild.{Chains, TableParts, clash_of, full_table}
 
--- how many events records cover
-abbrev pub covered_count : List SyncRecord → ℕ
-covered_count records = sum_by (λ r. r.events) records
+-- how many events each record covers more than the one before it
+abbrev pub counts_of : List SyncRecord → List ℕ
+counts_of records = map (λ r. r.events) records
 
--- the events that the first n records cover
-abbrev pub covered : List Event → List SyncRecord → ℕ → List Event
-covered events records n = take (covered_count (take n records)) events
+-- the events that the first n of syncs with these counts cover
+abbrev pub covered : List Event → List ℕ → ℕ → List Event
+covered events counts n = take (sum (take n counts)) events
 
--- the objects that the first n records cover
-abbrev pub objects_covered : List Event → List SyncRecord → ℕ → Objects
-objects_covered events records n = objects_after (covered events records n)
+-- the objects that they cover
+abbrev pub objects_covered : List Event → List ℕ → ℕ → Objects
+objects_covered events counts n = objects_after (covered events counts n)
 
--- the chains of the full table of what the first n records cover
-abbrev pub chains_covered : Setting → List Event → List SyncRecord → ℕ → Chains
-chains_covered setting events records n =
-    (full_table setting (objects_covered events records n)).chains
+-- the chains of the full table of what they cover
+abbrev pub chains_covered : Setting → List Event → List ℕ → ℕ → Chains
+chains_covered setting events counts n =
+    (full_table setting (objects_covered events counts n)).chains
+
+-- the table after records, from a given one on
+abbrev pub table_from : TableParts → List SyncRecord → TableParts
+table_from start records = fold (λ t r. table_after_batch t r.batch.edits) start records
 
 -- the table after records, from that of no objects on
 abbrev pub table_after : Setting → List SyncRecord → TableParts
-table_after setting records =
-    fold (λ t r. table_after_batch t r.batch.edits) (full_table setting no_objects) records
+table_after setting records = table_from (full_table setting no_objects) records
 
 module _ (setting : Setting) where
   -- A record of this number leads from some objects to others: these have no clash, and its edits
@@ -45,7 +48,7 @@ module _ (setting : Setting) (events : List Event) where
   -- The records cover events that there are, and each, numbered from 1, leads from the objects
   -- that the records before it cover to those that are covered with it.
   pub record IsExactHistory (records : List SyncRecord) : Type 0 where
-    pub within : covered_count records ≤ length events
+    pub within : sum (counts_of records) ≤ length events
     pub each : (n : ℕ) (r : SyncRecord) → slice_get records n ≡ Some r
-        → IsExactRecord setting (objects_covered events records n)
-        (objects_covered events records (suc n)) (suc n) r
+        → IsExactRecord setting (objects_covered events (counts_of records) n)
+        (objects_covered events (counts_of records) (suc n)) (suc n) r

@@ -2,7 +2,7 @@
 -- records are published, and workers read packets by what is published, in any order of steps. A
 -- sync makes the contributions of the affected ports anew and no others; that its table is the
 -- full one is a law, and no part of a step.
-use Rattle.std.specs.Prelude.{◌≡◌, ◌<◌, ◌≤◌, ◌-◌, ◌==◌, ℕ, suc, Bool, true, false, cond, List, [], ◌∷◌, ◌++◌, map, take, length, nat_lt, None, is_some}
+use Rattle.std.specs.Prelude.{◌≡◌, ◌<◌, ◌≤◌, ◌-◌, ◌==◌, ℕ, suc, Bool, true, false, cond, List, [], ◌∷◌, ◌++◌, map, take, length, sum, nat_lt, None, is_some}
 use Rattle.std.specs.FinMap as finite
 use Rattle.kp_base.specs.declared.key.PortKey.{PortKey}
 use Rattle.kp_types.specs.Setting.{Setting}
@@ -17,7 +17,7 @@ use Rattle.kp_table_defs.specs.Parts.{RulesByPort, table_of_ports}
 use Rattle.kp_table_defs.specs.Rebuild.{clash_of}
 use Rattle.kp_table_defs.specs.Walk.{Walked, walk_of}
 use Rattle.kp_history_defs.specs.Affected.{affected_ports}
-use Rattle.kp_history_defs.specs.History.{covered_count, table_after}
+use Rattle.kp_history_defs.specs.History.{counts_of, table_after}
 use Rattle.kp_history_defs.specs.KeptRules.{with_rules_of}
 
 -- ---- The state of a run
@@ -110,7 +110,7 @@ kept_after_sync setting s = with_rules_of setting (objects_now s) s.touched s.ke
 abbrev pub next_record : Setting → RunState → SyncRecord
 next_record setting s = record {
   sync = suc (length s.records);
-  events = length s.journal - covered_count s.records;
+  events = length s.journal - sum (counts_of s.records);
   batch = record {
     edits = changes_between (table_of_ports setting.family s.kept)
         (table_of_ports setting.family (kept_after_sync setting s));

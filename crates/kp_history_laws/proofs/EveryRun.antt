@@ -1,5 +1,5 @@
 -- Every interleaving: what each step keeps of the history, and what follows of tables and reads.
-use Rattle.std.proofs.Common.{◌≡◌, ℕ, ◌-◌, Bool, true, false, true≢false, not, List, [], ◌∷◌, bytes_eq, Option, Some, None, refl, sym, ap, subst, ◌∙◌}
+use Rattle.std.proofs.Common.{◌≡◌, ℕ, ◌-◌, Bool, true, false, true≢false, not, List, [], ◌∷◌, bytes_eq, sum, Option, Some, None, refl, sym, ap, subst, ◌∙◌}
 use Rattle.std.specs.Cmp.Lexicographic.{pointwise, nat_list_eq_equiv}
 use Rattle.std.specs.FinMap as finite
 use Rattle.std.proofs.lemmas.Bool.{and_from, and_parts}
@@ -16,7 +16,7 @@ use Rattle.kp_object_laws.specs.ObjectLaws.{OwnKeysAfterEvents}
 use Rattle.kp_table_laws.specs.Laws.{PortsOfObjectsMakeTheTable}
 use Rattle.kp_table_defs.specs.Walk.{walk_of}
 use Rattle.kp_door_defs.specs.Decision.{decision_of}
-use Rattle.kp_history_defs.specs.History.{covered_count, objects_covered}
+use Rattle.kp_history_defs.specs.History.{counts_of, objects_covered}
 use Rattle.kp_history_defs.specs.Inputs.{PortInputs, inputs_of, same_inputs, keeps_inputs, ports_of_either, changed_ports}
 use Rattle.kp_history_defs.specs.Runs.{RunState, Fed, Step, Feed, Take, Sync, Refuse, Publish, Read, Tell, IsRun, IsAllowed, initial, state_after, after_take, events_of, objects_now, next_record}
 use Rattle.kp_history_laws.specs.EventLaws.{has_port, UnaffectedInputs}
@@ -67,7 +67,7 @@ module _ (own : OwnKeysAfterEvents) (unaffected : UnaffectedInputs) (enough : En
   step_synced s Take allowed h = take_synced s h s.queue
   step_synced s Sync allowed h =
       synced own unaffected setting (events_of s.journal) s.records s.kept s.touched h enough joined (next_record setting s) allowed refl
-      (ap (λ (n : ℕ). n - covered_count s.records) (sym (length-map s.journal (λ (f : Fed). f.event)))) refl
+      (ap (λ (n : ℕ). n - sum (counts_of s.records)) (sym (length-map s.journal (λ (f : Fed). f.event)))) refl
   step_synced s Refuse allowed h = h
   step_synced s Publish allowed h = h
   step_synced s (Read worker packet draws lists answer) allowed h = h
@@ -95,7 +95,7 @@ module _ (own : OwnKeysAfterEvents) (unaffected : UnaffectedInputs) (enough : En
   reads_decide tables setting steps s t worker packet draws lists answer decides run step =
       let exact = history_is_exact setting steps s run in
       let le = (run_seen setting steps s run).published in
-      let covers : Objects = objects_covered (events_of s.journal) s.records s.published in
+      let covers : Objects = objects_covered (events_of s.journal) (counts_of s.records) s.published in
       let full = tables setting (events_of s.journal) s.records s.published exact le in
       subst (λ a. IsDecided a (decision_of setting covers packet draws lists))
       (sym (step.allowed ∙ ap (λ chains. walk_of (λ at. finite.get chains at) setting.config.addresses packet draws lists) full))

@@ -1,9 +1,9 @@
 -- Histories that a run makes are exact.
-use Rattle.std.proofs.Common.{◌≡◌, ℕ, zero, suc, ◌-◌, ◌≤◌, false, List, [], ◌∷◌, ◌++◌, map, take, length, Some, None, refl, sym, ap, subst, ◌∙◌, arith, inl, inr, ◌⊎◌}
+use Rattle.std.proofs.Common.{◌≡◌, ℕ, zero, suc, ◌-◌, ◌≤◌, false, List, [], ◌∷◌, ◌++◌, map, take, length, sum, Some, None, refl, sym, ap, subst, ◌∙◌, arith, inl, inr, ◌⊎◌}
 use Rattle.std.specs.List.{slice_get}
 use Rattle.std.specs.FinMap as finite
 use Rattle.std.proofs.lemmas.Bool.{or_parts}
-use Rattle.std.proofs.lemmas.List.{take_all, take-append-le, length_push}
+use Rattle.std.proofs.lemmas.List.{take_all, take-append-le, length-map, length_push, map_push}
 use Rattle.std.proofs.lemmas.List.Folds.{list_any-append}
 use Rattle.std.proofs.lemmas.List.Sums.{fold_push, sum_by_push, sum_by-take-le}
 use Rattle.std.proofs.lemmas.Option.{same_Some, slice_get_within}
@@ -25,7 +25,7 @@ use Rattle.kp_table_defs.specs.Parts.{RulesByPort, rules_by_port, rules_of_objec
 use Rattle.kp_table_defs.specs.Rebuild.{clash_of}
 use Rattle.kp_table_laws.specs.Laws.{PortsOfObjectsMakeTheTable}
 use Rattle.kp_history_defs.specs.Affected.{affected_ports}
-use Rattle.kp_history_defs.specs.History.{covered_count, covered, objects_covered, IsExactRecord, IsExactHistory}
+use Rattle.kp_history_defs.specs.History.{counts_of, covered, objects_covered, IsExactRecord, IsExactHistory}
 use Rattle.kp_history_defs.specs.Inputs.{inputs_of}
 use Rattle.kp_history_defs.specs.KeptRules.{with_rules_of}
 use Rattle.kp_history_laws.specs.EventLaws.{has_port, UnaffectedInputs}
@@ -55,25 +55,37 @@ last_or (z ∷ zs) y (suc n) x h =
       | inr (at, is) ↦ inr (ap (λ (m : ℕ). suc m) at, is)
     ]
 
-module _ (events : List Event) (records : List SyncRecord) (within : covered_count records ≤ length events) where
-  covers : (n : ℕ) → covered_count (take n records) ≤ length events
-  covers n = let le = sum_by-take-le (λ (r : SyncRecord). r.events) records n in omega arith
+-- the counts of records are as many as these
+length_counts : (records : List SyncRecord) → length (counts_of records) ≡ length records
+length_counts records = length-map records (λ r. r.events)
+
+-- the counts of records with one more
+more_counts : (records : List SyncRecord) (r : SyncRecord) → counts_of (records ++ r ∷ []) ≡ counts_of records ++ r.events ∷ []
+more_counts records r = map_push (λ q. q.events) records r
+
+module _ (events : List Event) (records : List SyncRecord) (within : sum (counts_of records) ≤ length events) where
+  covers : (n : ℕ) → sum (take n (counts_of records)) ≤ length events
+  covers n = let le = sum_by-take-le (λ (m : ℕ). m) (counts_of records) n in omega arith
 
   -- what records cover of events stays where one more event comes
-  pub with_event : (e : Event) (n : ℕ) → objects_covered (events ++ e ∷ []) records n ≡ objects_covered events records n
-  with_event e n = ap objects_after (take-append-le (covered_count (take n records)) events (e ∷ []) (covers n))
+  pub with_event : (e : Event) (n : ℕ) → objects_covered (events ++ e ∷ []) (counts_of records) n ≡ objects_covered events (counts_of records) n
+  with_event e n = ap objects_after (take-append-le (sum (take n (counts_of records))) events (e ∷ []) (covers n))
 
   -- and where one more record comes
-  pub with_record : (r : SyncRecord) (n : ℕ) → n ≤ length records → objects_covered events (records ++ r ∷ []) n ≡ objects_covered events records n
-  with_record r n le = ap (λ rs. objects_after (take (covered_count rs) events)) (take-append-le n records (r ∷ []) le)
+  with_record : (r : SyncRecord) (n : ℕ) → n ≤ length records → objects_covered events (counts_of (records ++ r ∷ [])) n ≡ objects_covered events (counts_of records) n
+  with_record r n le =
+      ap (λ counts. objects_covered events counts n) (more_counts records r)
+      ∙ ap (λ counts. objects_after (take (sum counts) events)) (take-append-le n (counts_of records) (r.events ∷ []) (subst (λ (m : ℕ). n ≤ m) (sym (length_counts records)) le))
 
   -- a record of all other events covers all events
-  pub all_counted : (r : SyncRecord) → r.events ≡ length events - covered_count records → covered_count (records ++ r ∷ []) ≡ length events
-  all_counted r is = let push = sum_by_push (λ (q : SyncRecord). q.events) records r in omega arith
+  all_counted : (r : SyncRecord) → r.events ≡ length events - sum (counts_of records) → sum (counts_of (records ++ r ∷ [])) ≡ length events
+  all_counted r is =
+      let push = sum_by_push (λ (m : ℕ). m) (counts_of records) r.events in
+      ap sum (more_counts records r) ∙ omega arith
 
-  pub all_covered : (r : SyncRecord) → r.events ≡ length events - covered_count records → (n : ℕ) → length (records ++ r ∷ []) ≤ n → objects_covered events (records ++ r ∷ []) n ≡ objects_after events
+  all_covered : (r : SyncRecord) → r.events ≡ length events - sum (counts_of records) → (n : ℕ) → length (records ++ r ∷ []) ≤ n → objects_covered events (counts_of (records ++ r ∷ [])) n ≡ objects_after events
   all_covered r is n le =
-      ap (λ rs. objects_after (take (covered_count rs) events)) (take_all n (records ++ r ∷ []) le)
+      ap (λ counts. objects_after (take (sum counts) events)) (take_all n (counts_of (records ++ r ∷ [])) (subst (λ (m : ℕ). m ≤ n) (sym (length_counts (records ++ r ∷ []))) le))
       ∙ ap (λ (count : ℕ). objects_after (take count events)) (all_counted r is)
       ∙ ap objects_after (take_all (length events) events (omega arith))
 
@@ -83,7 +95,7 @@ module _ (events : List Event) (records : List SyncRecord) (within : covered_cou
 -- aren't touched have the inputs that they had then.
 module _ (setting : Setting) (events : List Event) (records : List SyncRecord) where
   abbrev pub recorded : Objects
-  recorded = objects_covered events records (length records)
+  recorded = objects_covered events (counts_of records) (length records)
 
   pub record IsSynced (kept : RulesByPort) (touched : List PortKey) : Type 0 where
     pub exact : IsExactHistory setting events records
@@ -129,13 +141,13 @@ module _ (own : OwnKeysAfterEvents) (unaffected : UnaffectedInputs) (setting : S
 
   -- a sync is accepted, and makes this record
   module _ (enough : EnoughByRules) (joined : PortsOfObjectsMakeTheTable) (r : SyncRecord) (no_clash : clash_of setting (objects_after events) ≡ None)
-      (numbered : r.sync ≡ suc (length records)) (counted : r.events ≡ length events - covered_count records)
+      (numbered : r.sync ≡ suc (length records)) (counted : r.events ≡ length events - sum (counts_of records))
       (changes : r.batch.edits ≡ changes_between (table_of_ports setting.family kept) (table_of_ports setting.family (with_rules_of setting (objects_after events) touched kept))) where
     made_anew : with_rules_of setting (objects_after events) touched kept ≡ rules_of_objects setting (objects_after events)
     made_anew =
         ap (with_rules_of setting (objects_after events) touched) h.kept_rules
         ∙ enough setting (recorded setting events records) (objects_after events) touched
-        (own (covered events records (length records))) (own events) (λ key none.
+        (own (covered events (counts_of records) (length records))) (own events) (λ key none.
         same_rules setting (recorded setting events records) (objects_after events) key (h.untouched key none))
 
     last_exact : IsExactRecord setting (recorded setting events records) (objects_after events) (suc (length records)) r
@@ -152,7 +164,7 @@ module _ (own : OwnKeysAfterEvents) (unaffected : UnaffectedInputs) (setting : S
     at_end = let push = length_push records r in omega arith
 
     synced_each : (n : ℕ) (q : SyncRecord) → slice_get (records ++ r ∷ []) n ≡ Some q
-        → IsExactRecord setting (objects_covered events (records ++ r ∷ []) n) (objects_covered events (records ++ r ∷ []) (suc n)) (suc n) q
+        → IsExactRecord setting (objects_covered events (counts_of (records ++ r ∷ [])) n) (objects_covered events (counts_of (records ++ r ∷ [])) (suc n)) (suc n) q
     synced_each n q found =
         elim (last_or records r n q found) [
           | inl before ↦
@@ -160,7 +172,7 @@ module _ (own : OwnKeysAfterEvents) (unaffected : UnaffectedInputs) (setting : S
               same_record setting _ _ _ _ (suc n) q (with_record events records h.exact.within r n (omega arith)) (with_record events records h.exact.within r (suc n) (omega arith)) (h.exact.each n q before)
           | inr (at, is) ↦
               subst (IsExactRecord setting _ _ (suc n)) is
-              (subst (λ (m : ℕ). IsExactRecord setting (objects_covered events (records ++ r ∷ []) m) (objects_covered events (records ++ r ∷ []) (suc m)) (suc m) r) (sym at)
+              (subst (λ (m : ℕ). IsExactRecord setting (objects_covered events (counts_of (records ++ r ∷ [])) m) (objects_covered events (counts_of (records ++ r ∷ [])) (suc m)) (suc m) r) (sym at)
               (same_record setting _ _ _ _ (suc (length records)) r
               (with_record events records h.exact.within r (length records) (omega arith))
               (all_covered events records h.exact.within r counted (suc (length records)) at_end) last_exact))

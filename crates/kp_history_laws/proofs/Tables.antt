@@ -10,7 +10,7 @@ use Rattle.kp_object_defs.specs.PortInfo.{PortInfo}
 use Rattle.kp_choice_defs.specs.Names.{first_clash}
 use Rattle.kp_table_defs.specs.Edits.{ChangesLeadOver, chains_after_edit, table_after_batch}
 use Rattle.kp_table_defs.specs.Rebuild.{full_table, clash_of, needed_keys}
-use Rattle.kp_history_defs.specs.History.{IsExactHistory, chains_covered, objects_covered, table_after}
+use Rattle.kp_history_defs.specs.History.{IsExactHistory, counts_of, chains_covered, objects_covered, table_after}
 use Rattle.kp_history_laws.specs.HistoryLaws.{ExactTables}
 use Rattle.kp_history_laws.proofs.Histories.{no_infos}
 
@@ -28,11 +28,11 @@ module _ (lead : ChangesLeadOver) where
       ap (λ rs. (table_after setting rs).chains) is
       ∙ ap (λ t. t.chains) (fold_push (λ t (q : SyncRecord). table_after_batch t q.batch.edits) (full_table setting no_objects) (take n records) r)
       ∙ ap (λ chains. fold chains_after_edit chains r.batch.edits) (exact_tables setting events records n exact (omega arith))
-      ∙ ap (fold chains_after_edit (chains_covered setting events records n)) (exact.each n r at).is_changes
-      ∙ lead (chains_covered setting events records n) (chains_covered setting events records (suc n))
+      ∙ ap (fold chains_after_edit (chains_covered setting events (counts_of records) n)) (exact.each n r at).is_changes
+      ∙ lead (chains_covered setting events (counts_of records) n) (chains_covered setting events (counts_of records) (suc n))
 
 -- what records of an exact history cover has no clash
 pub no_clash_covered : (setting : Setting) (events : List Event) (records : List SyncRecord) (n : ℕ) → IsExactHistory setting events records → n ≤ length records
-    → clash_of setting (objects_covered events records n) ≡ None
+    → clash_of setting (objects_covered events (counts_of records) n) ≡ None
 no_clash_covered setting events records zero exact le = ap (λ (infos : List PortInfo). first_clash setting.name_of (needed_keys infos)) (no_infos setting)
 no_clash_covered setting events records (suc n) exact le = let (r, at, is) = at_place records n le in (exact.each n r at).has_no_clash

@@ -10,7 +10,7 @@ use Rattle.kp_object_defs.specs.Objects.{Objects}
 use Rattle.kp_door_defs.specs.Decision.{Decided, decision_of}
 use Rattle.kp_table_defs.specs.Rebuild.{clash_of, full_table}
 use Rattle.kp_table_defs.specs.Walk.{Walked, walk_of}
-use Rattle.kp_history_defs.specs.History.{IsExactHistory, objects_covered, chains_covered, table_after}
+use Rattle.kp_history_defs.specs.History.{IsExactHistory, counts_of, objects_covered, chains_covered, table_after}
 use Rattle.kp_history_defs.specs.Inputs.{changed_ports}
 use Rattle.kp_history_defs.specs.Runs.{RunState, Step, Read, IsRun, IsRunFrom, IsStep, events_of, objects_now, is_of_stream, numbered}
 use Rattle.kp_history_laws.specs.EventLaws.{has_port}
@@ -27,7 +27,8 @@ HistoryIsExact =
 
 -- the objects that all records cover
 abbrev pub objects_recorded : RunState → Objects
-objects_recorded s = objects_covered (events_of s.journal) s.records (length s.records)
+objects_recorded s =
+    objects_covered (events_of s.journal) (counts_of s.records) (length s.records)
 
 -- The touched ports hold each port that changed since the last record.
 abbrev pub TouchedHoldChanged : Type 0
@@ -41,7 +42,7 @@ abbrev pub TablesAreFull : Type 0
 TablesAreFull =
     HoldsOfRuns (λ setting s. (n : ℕ) → n ≤ length s.records
     → (table_after setting (take n s.records)).chains
-    ≡ chains_covered setting (events_of s.journal) s.records n)
+    ≡ chains_covered setting (events_of s.journal) (counts_of s.records) n)
 
 -- Each stream's events in the journal and then the queue are what it fed, in order, each once.
 abbrev pub StreamsKeepOrder : Type 0
@@ -91,4 +92,5 @@ ReadsDecide =
     → WalkDecidesUnder setting → IsRun setting steps s
     → IsStep setting s (Read worker packet draws lists answer) t
     → IsDecided answer
-    (decision_of setting (objects_covered (events_of s.journal) s.records s.published) packet draws lists)
+    (decision_of setting (objects_covered (events_of s.journal) (counts_of s.records) s.published)
+    packet draws lists)
