@@ -1,54 +1,23 @@
 -- Every interleaving: what each step keeps of the history, and what follows of tables and reads.
-use Rattle.std.proofs.Common.{◌≡◌, ℕ, ◌-◌, Bool, true, false, true≢false, not, List, [], ◌∷◌, bytes_eq, sum, Option, Some, None, refl, sym, ap, subst, ◌∙◌}
-use Rattle.std.specs.Cmp.Lexicographic.{pointwise, nat_list_eq_equiv}
+use Rattle.std.proofs.Common.{◌≡◌, ℕ, ◌-◌, Bool, true, false, List, [], ◌∷◌, sum, refl, sym, ap, subst, ◌∙◌}
 use Rattle.std.specs.FinMap as finite
-use Rattle.std.proofs.lemmas.Bool.{and_from, and_parts}
-use Rattle.std.proofs.lemmas.Cmp.{lists_equiv}
 use Rattle.std.proofs.lemmas.List.{length-map, map_push}
-use Rattle.kp_base.specs.declared.key.PortKey.{PortKey}
 use Rattle.kp_types.specs.Setting.{Setting}
-use Rattle.kp_types.specs.contracts.lists.CandidateEq.TheImpl.Laws as candidate_laws
-use Rattle.kp_types.specs.contracts.service.ServiceEq.TheImpl.Laws as service_laws
-use Rattle.kp_types.specs.contracts.lists.CandidatePartialEq.TheImpl as same_candidate
 use Rattle.kp_object_defs.specs.Objects.{Objects}
-use Rattle.kp_object_defs.specs.Packing.{same_option}
 use Rattle.kp_object_laws.specs.ObjectLaws.{OwnKeysAfterEvents}
 use Rattle.kp_table_laws.specs.Laws.{PortsOfObjectsMakeTheTable}
 use Rattle.kp_table_defs.specs.Walk.{walk_of}
 use Rattle.kp_door_defs.specs.Decision.{decision_of}
 use Rattle.kp_history_defs.specs.History.{counts_of, objects_covered}
-use Rattle.kp_history_defs.specs.Inputs.{PortInputs, inputs_of, same_inputs, keeps_inputs, ports_of_either, changed_ports}
 use Rattle.kp_history_defs.specs.Runs.{RunState, Fed, Step, Feed, Take, Sync, Refuse, Publish, Read, Tell, IsRun, IsAllowed, initial, state_after, after_take, events_of, objects_now, next_record}
 use Rattle.kp_history_laws.specs.EventLaws.{has_port, UnaffectedInputs}
 use Rattle.kp_history_laws.specs.HistoryLaws.{ExactTables}
 use Rattle.kp_history_laws.specs.KeptLaws.{EnoughByRules}
 use Rattle.kp_history_laws.specs.RunLaws.{HistoryIsExact, TouchedHoldChanged, TablesAreFull, ReadsDecide, IsDecided, objects_recorded}
+use Rattle.kp_history_laws.proofs.Changed.{changed_inputs}
 use Rattle.kp_history_laws.proofs.Histories.{IsSynced, nothing_synced, taken_synced, synced}
-use Rattle.kp_history_laws.proofs.Ports.{has_filtered}
 use Rattle.kp_history_laws.proofs.Steps.{kept_by_steps, run_seen}
 use Rattle.kp_history_laws.proofs.Tables.{no_clash_covered}
-
--- ---- Inputs are the same as themselves
-
-option_itself : {X : Type 0} (test : X → X → Bool) → ((x : X) → test x x ≡ true) → (o : Option X) → same_option test o o ≡ true
-option_itself test each None = refl
-option_itself test each (Some x) = each x
-
-inputs_itself : (inputs : PortInputs) → same_inputs inputs inputs ≡ true
-inputs_itself inputs =
-    and_from _ _ (service_laws.laws-law.refl inputs.service)
-    (and_from (pointwise same_candidate.ghosts.eq inputs.entries inputs.entries) (same_option bytes_eq inputs.zone inputs.zone)
-    ((lists_equiv candidate_laws.laws-law).refl inputs.entries) (option_itself bytes_eq nat_list_eq_equiv.refl inputs.zone))
-
--- a port that changed has other inputs
-module _ (setting : Setting) (before after : Objects) (key : PortKey) where
-  pub changed_inputs : has_port (changed_ports setting before after) key ≡ true → inputs_of setting after key ≡ inputs_of setting before key → ⊥
-  changed_inputs has same =
-      let kept : keeps_inputs setting before after key ≡ true =
-      ap (same_option same_inputs (inputs_of setting before key)) same ∙ option_itself same_inputs inputs_itself (inputs_of setting before key) in
-      let parts = and_parts (not (keeps_inputs setting before after key)) (has_port (ports_of_either before after) key)
-      (sym (has_filtered (λ k. not (keeps_inputs setting before after k)) (ports_of_either before after) key) ∙ has) in
-      true≢false (sym parts.0 ∙ ap not kept)
 
 -- ---- Steps
 

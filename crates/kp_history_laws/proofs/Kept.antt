@@ -1,35 +1,28 @@
 -- Contributions of ports that are kept, where some are made anew.
-use Rattle.std.proofs.Common.{◌≡◌, Bool, true, false, true≢false, cond, not, ◌&&◌, ◌||◌, List, [], ◌∷◌, map, bytes_eq, filter_map, Option, Some, None, option_map, option_and_then, refl, sym, ap, ◌∙◌}
+use Rattle.std.proofs.Common.{◌≡◌, Bool, true, false, cond, ◌||◌, List, [], ◌∷◌, map, filter_map, Option, Some, None, option_map, option_and_then, refl, sym, ap, ◌∙◌}
 use Rattle.std.specs.List.{fold, cons_option}
 use Rattle.std.specs.Ordering.{eq_by_cmp}
 use Rattle.std.specs.FinMap.{find, get, get-insert, get-remove, get-from_entries, same_map}
-use Rattle.std.specs.Cmp.Lexicographic.{pointwise}
-use Rattle.std.proofs.lemmas.Bool.{and_parts, or_parts}
-use Rattle.std.proofs.lemmas.Slice.Eq.{bytes_eq-Decides}
-use Rattle.kp_lemmas.specs.Exact.{IsExact}
-use Rattle.kp_lemmas.proofs.Equality.{lists_exact}
 use Rattle.kp_lemmas.proofs.Orders.{one_from_tie}
 use Rattle.kp_base.specs.Keys.{port_key_cmp}
 use Rattle.kp_base.specs.declared.key.PortKey.{PortKey}
 use Rattle.kp_base.proofs.KeyOrder.{port_key_total, port_key_exact}
 use Rattle.kp_types.specs.Setting.{Setting}
-use Rattle.kp_types.specs.contracts.lists.CandidatePartialEq.TheImpl as same_candidate
-use Rattle.kp_types.proofs.ObjectEquality.{service_exact, candidate_exact}
 use Rattle.kp_object_defs.specs.Objects.{Objects, objects_step}
 use Rattle.kp_object_defs.specs.OwnKeys.{AreUnderOwnKeys}
-use Rattle.kp_object_defs.specs.Packing.{same_option}
 use Rattle.kp_object_defs.specs.PortInfo.{PortInfo, port_infos}
 use Rattle.kp_object_defs.specs.PortByKey.{port_keys, info_at}
 use Rattle.kp_object_laws.specs.ObjectLaws.{OwnKeysAfterEvent}
 use Rattle.kp_object_laws.specs.PortLaws.{InfoHasKey, InfosByKeys}
 use Rattle.kp_table_defs.specs.Parts.{PortRules, RulesByPort, rules_of_port, rules_of_objects}
 use Rattle.kp_history_defs.specs.Affected.{affected_ports}
-use Rattle.kp_history_defs.specs.Inputs.{inputs_of, same_inputs, keeps_inputs, ports_of_either, changed_ports}
+use Rattle.kp_history_defs.specs.Inputs.{changed_ports}
 use Rattle.kp_history_defs.specs.KeptRules.{rules_at, with_rules, with_rules_of}
 use Rattle.kp_history_laws.specs.EventLaws.{has_port, UnaffectedRules}
-use Rattle.kp_history_laws.specs.KeptLaws.{RulesByName, EnoughByRules, AffectedAreEnough, UnchangedInputs, ChangedAreEnough}
+use Rattle.kp_history_laws.specs.KeptLaws.{RulesByName, EnoughByRules, AffectedAreEnough, ChangedAreEnough}
 use Rattle.kp_history_laws.proofs.Affected.{same_rules}
-use Rattle.kp_history_laws.proofs.Ports.{has_filtered, has_either, no_inputs, info_by, info_by_inputs}
+use Rattle.kp_history_laws.proofs.Changed.{unchanged_inputs}
+use Rattle.kp_history_laws.proofs.Ports.{no_inputs, info_by, info_by_inputs}
 
 -- ---- What is found among the contributions of objects
 
@@ -115,48 +108,6 @@ module _ (by_name : RulesByName) where
       enough_by_rules setting o (objects_step o event) (affected_ports setting o event) own (own_after o event own) (λ key h. unaffected setting o event key own h)
 
 -- ---- Changed ports
-
--- that two values that may be missing are the same is told by a test of values
-pub options_same : {X : Type 0} (test : X → X → Bool) → IsExact test → IsExact (same_option test)
-options_same test exact None None h = refl
-options_same test exact None (Some y) h = absurd (cc)
-options_same test exact (Some x) None h = absurd (cc)
-options_same test exact (Some x) (Some y) h = ap Some (exact x y h)
-
-inputs_exact : IsExact same_inputs
-inputs_exact a b h =
-    let service = and_parts _ _ h in
-    let rest = and_parts (pointwise same_candidate.ghosts.eq a.entries b.entries) (same_option bytes_eq a.zone b.zone) service.1 in
-    λ i. record {
-      service = service_exact a.service b.service service.0 i;
-      entries = lists_exact _ candidate_exact a.entries b.entries rest.0 i;
-      zone = options_same bytes_eq (λ x y e. (bytes_eq-Decides x y).0 e) a.zone b.zone rest.1 i;
-    }
-
-not_false : (b : Bool) → not b ≡ false → b ≡ true
-not_false true h = refl
-not_false false h = absurd (true≢false h)
-
-module _ (setting : Setting) (before after : Objects) (own : AreUnderOwnKeys before) (own_after : AreUnderOwnKeys after) (key : PortKey) where
-  unchanged_by : has_port (changed_ports setting before after) key ≡ false → (b : Bool) → has_port (ports_of_either before after) key ≡ b → inputs_of setting after key ≡ inputs_of setting before key
-  unchanged_by h true is =
-      let kept : not (keeps_inputs setting before after key) ≡ false =
-      sym (with_true (not (keeps_inputs setting before after key)))
-      ∙ sym (ap (λ b. not (keeps_inputs setting before after key) && b) is)
-      ∙ sym (has_filtered (λ k. not (keeps_inputs setting before after k)) (ports_of_either before after) key)
-      ∙ h in
-      sym (options_same same_inputs inputs_exact (inputs_of setting before key) (inputs_of setting after key) (not_false (keeps_inputs setting before after key) kept))
-    where
-      with_true : (b : Bool) → (b && true) ≡ b
-      with_true true = refl
-      with_true false = refl
-  unchanged_by h false is =
-      let parts = or_parts (has_port (port_keys before) key) (has_port (port_keys after) key) (sym (has_either before after key) ∙ is) in
-      no_inputs setting after own_after key parts.1 ∙ sym (no_inputs setting before own key parts.0)
-
-pub unchanged_inputs : UnchangedInputs
-unchanged_inputs setting before after key own own_after h =
-    unchanged_by setting before after own own_after key h (has_port (ports_of_either before after) key) refl
 
 module _ (by_name : RulesByName) where
   pub changed_are_enough : ChangedAreEnough

@@ -1,4 +1,5 @@
 mod Affected
+mod Changed
 mod EveryRun
 mod Histories
 mod Kept

@@ -7,7 +7,7 @@ use Rattle.kp_types.specs.Setting.{Setting}
 use Rattle.kp_types.specs.declared.event.Event.{Event}
 use Rattle.kp_types.specs.declared.sync.SyncRecord.{SyncRecord}
 use Rattle.kp_history_defs.specs.Runs.{RunState, Fed, Step, Feed, Take, Sync, Refuse, Publish, Read, Tell, IsRun, IsRunFrom, IsAllowed, initial, state_after, after_take, at_number, longer, is_of_stream, numbered, published_records, next_record}
-use Rattle.kp_history_laws.specs.RunLaws.{StreamsKeepOrder, SeenIsPublished, PublishedAreRecords, SeenOnlyGrows, BeginsWith}
+use Rattle.kp_history_laws.specs.RunLaws.{RunsJoin, RunsSplit, StreamsKeepOrder, SeenIsPublished, PublishedAreRecords, SeenOnlyGrows, BeginsWith}
 
 -- ---- Runs
 
@@ -17,6 +17,18 @@ module _ (setting : Setting) (P : RunState → Type 0) (kept : (s : RunState) (s
   kept_by_steps [] s t holds is = subst P (sym is) holds
   kept_by_steps (step ∷ steps) s t holds (next, leads, rest) =
       kept_by_steps steps next t (subst P (sym leads.leads) (kept s step leads.allowed holds)) rest
+
+-- ---- Steps before and behind
+
+pub runs_join : RunsJoin
+runs_join setting [] second s t u before behind = subst (λ from. IsRunFrom setting from second u) before behind
+runs_join setting (step ∷ first) second s t u (next, leads, before) behind =
+    (next, leads, runs_join setting first second next t u before behind)
+
+pub runs_split : RunsSplit
+runs_split setting [] second s u all = (s, refl, all)
+runs_split setting (step ∷ first) second s u (next, leads, rest) =
+    let (t, before, behind) = runs_split setting first second next u rest in (t, (next, leads, before), behind)
 
 -- ---- Streams
 

@@ -9,7 +9,7 @@ use Rattle.kp_object_defs.specs.Objects.{Objects, objects_step}
 use Rattle.kp_object_defs.specs.OwnKeys.{AreUnderOwnKeys}
 use Rattle.kp_table_defs.specs.Parts.{rules_of_objects}
 use Rattle.kp_history_defs.specs.Affected.{affected_ports}
-use Rattle.kp_history_defs.specs.Inputs.{inputs_of, changed_ports}
+use Rattle.kp_history_defs.specs.Inputs.{changed_ports}
 use Rattle.kp_history_defs.specs.KeptRules.{rules_at, with_rules_of}
 use Rattle.kp_history_laws.specs.EventLaws.{has_port}
 
@@ -40,15 +40,7 @@ AffectedAreEnough =
     (setting : Setting) (o : Objects) (event : Event) → AreUnderOwnKeys o
     → AreEnough setting o (objects_step o event) (affected_ports setting o event)
 
--- A port that isn't among the changed ones has the same inputs.
-abbrev pub UnchangedInputs : Type 0
-UnchangedInputs =
-    (setting : Setting) (before after : Objects) (key : PortKey)
-    → AreUnderOwnKeys before → AreUnderOwnKeys after
-    → has_port (changed_ports setting before after) key ≡ false
-    → inputs_of setting after key ≡ inputs_of setting before key
-
--- So the changed ports are enough.
+-- So are those whose inputs changed.
 abbrev pub ChangedAreEnough : Type 0
 ChangedAreEnough =
     (setting : Setting) (before after : Objects) → AreUnderOwnKeys before → AreUnderOwnKeys after

@@ -15,6 +15,20 @@ use Rattle.kp_history_defs.specs.Inputs.{changed_ports}
 use Rattle.kp_history_defs.specs.Runs.{RunState, Step, Read, IsRun, IsRunFrom, IsStep, events_of, objects_now, is_of_stream, numbered}
 use Rattle.kp_history_laws.specs.EventLaws.{has_port}
 
+-- Steps may be joined to steps.
+abbrev pub RunsJoin : Type 0
+RunsJoin =
+    (setting : Setting) (first second : List Step) (s t u : RunState)
+    → IsRunFrom setting s first t → IsRunFrom setting t second u
+    → IsRunFrom setting s (first ++ second) u
+
+-- The first of some steps lead to a state, from which the others lead on.
+abbrev pub RunsSplit : Type 0
+RunsSplit =
+    (setting : Setting) (first second : List Step) (s u : RunState)
+    → IsRunFrom setting s (first ++ second) u
+    → (t : RunState) × IsRunFrom setting s first t × IsRunFrom setting t second u
+
 -- what holds of each state that a run leads to
 abbrev pub HoldsOfRuns : (Setting → RunState → Type 0) → Type 0
 HoldsOfRuns P =

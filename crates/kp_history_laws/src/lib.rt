@@ -4,7 +4,8 @@
 
 ghost use Rattle.kp_history_laws.specs.EventLaws.{UnaffectedService, UnaffectedInputs, UnaffectedRules};
 ghost use Rattle.kp_history_laws.specs.HistoryLaws.{ExactTables};
-ghost use Rattle.kp_history_laws.specs.KeptLaws.{RulesByName, EnoughByRules, AffectedAreEnough, UnchangedInputs, ChangedAreEnough};
+ghost use Rattle.kp_history_laws.specs.KeptLaws.{RulesByName, EnoughByRules, AffectedAreEnough, ChangedAreEnough};
+ghost use Rattle.kp_history_laws.specs.PortLaws as ports;
 ghost use Rattle.kp_history_laws.specs.RunLaws as runs;
 
 /// An event leaves the inputs of each port that it doesn't affect, and its contribution to the table.
@@ -14,6 +15,19 @@ pub fn unaffected_ports()
     ensures rules { UnaffectedRules }
 {
     kp_object_laws::own_keys();
+}
+
+/// The changed ports are those whose inputs differ, an event affects each port that it changes, and both lists are in
+/// order.
+pub fn changed_ports()
+    ensures changed { ports.ChangedInputs }
+    ensures unchanged { ports.UnchangedInputs }
+    ensures none { ports.NoneChanged }
+    ensures affected { ports.AffectedHoldChanged }
+    ensures in_order { ports.ChangedInOrder }
+    ensures affected_in_order { ports.AffectedInOrder }
+{
+    unaffected_ports();
 }
 
 /// The contributions of the ports of some objects are found by the ports' names.
@@ -28,7 +42,6 @@ pub fn rules_by_name()
 pub fn kept_rules()
     ensures by_rules { EnoughByRules }
     ensures affected { AffectedAreEnough }
-    ensures inputs { UnchangedInputs }
     ensures changed { ChangedAreEnough }
 {
     kp_object_laws::own_keys();
@@ -42,6 +55,12 @@ pub fn exact_tables()
 {
     kp_rules::laws::changes_lead_over();
 }
+
+/// Runs may be joined and split.
+pub fn joined_runs()
+    ensures join { runs.RunsJoin }
+    ensures split { runs.RunsSplit }
+{}
 
 /// Every interleaving: whatever the order in which streams feed, events are taken, syncs are made or refused, records
 /// are published and packets are read.
