@@ -1,5 +1,5 @@
 -- Every interleaving: what each step keeps of the history, and what follows of tables and reads.
-use Rattle.std.proofs.Common.{◌≡◌, ℕ, ◌-◌, Bool, true, false, List, [], ◌∷◌, sum, refl, sym, ap, subst, ◌∙◌}
+use Rattle.std.proofs.Common.{◌≡◌, ℕ, ◌+◌, ◌-◌, ◌≤◌, length, arith, Bool, true, false, List, [], ◌∷◌, sum, refl, sym, ap, subst, ◌∙◌}
 use Rattle.std.specs.FinMap as finite
 use Rattle.std.proofs.lemmas.List.{length-map, map_push}
 use Rattle.kp_types.specs.Setting.{Setting}
@@ -15,11 +15,15 @@ use Rattle.kp_history_laws.specs.HistoryLaws.{ExactTables}
 use Rattle.kp_history_laws.specs.KeptLaws.{EnoughByRules}
 use Rattle.kp_history_laws.specs.RunLaws.{HistoryIsExact, TouchedHoldChanged, TablesAreFull, ReadsDecide, IsDecided, objects_recorded}
 use Rattle.kp_history_laws.proofs.Changed.{changed_inputs}
-use Rattle.kp_history_laws.proofs.Histories.{IsSynced, nothing_synced, taken_synced, synced}
+use Rattle.kp_history_laws.proofs.Synced.{IsSynced, nothing_synced, taken_synced, synced}
 use Rattle.kp_history_laws.proofs.Steps.{kept_by_steps, run_seen}
 use Rattle.kp_history_laws.proofs.Tables.{no_clash_covered}
 
 -- ---- Steps
+
+-- the rest of a count
+rest_counted : (before all events : ℕ) → events ≡ all → before ≤ events → before + (all - before) ≡ events
+rest_counted before all events same le = omega arith
 
 module _ (own : OwnKeysAfterEvents) (unaffected : UnaffectedInputs) (enough : EnoughByRules) (joined : PortsOfObjectsMakeTheTable) (setting : Setting) where
   abbrev Synced : RunState → Type 0
@@ -36,7 +40,7 @@ module _ (own : OwnKeysAfterEvents) (unaffected : UnaffectedInputs) (enough : En
   step_synced s Take allowed h = take_synced s h s.queue
   step_synced s Sync allowed h =
       synced own unaffected setting (events_of s.journal) s.records s.kept s.touched h enough joined (next_record setting s) allowed refl
-      (ap (λ (n : ℕ). n - sum (counts_of s.records)) (sym (length-map s.journal (λ (f : Fed). f.event)))) refl
+      (rest_counted (sum (counts_of s.records)) (length s.journal) (length (events_of s.journal)) (length-map s.journal (λ (f : Fed). f.event)) h.exact.within) refl
   step_synced s Refuse allowed h = h
   step_synced s Publish allowed h = h
   step_synced s (Read worker packet draws lists answer) allowed h = h

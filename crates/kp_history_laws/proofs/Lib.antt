@@ -5,5 +5,6 @@ mod Histories
 mod Kept
 mod Ports
 mod Steps
+mod Synced
 mod Tables
 mod Values

@@ -1,5 +1,5 @@
 -- The tables of an exact history are full tables.
-use Rattle.std.proofs.Common.{◌≡◌, ℕ, zero, suc, ◌≤◌, List, [], ◌∷◌, ◌++◌, take, length, Some, None, refl, ap, ◌∙◌, arith}
+use Rattle.std.proofs.Common.{◌≡◌, ℕ, zero, suc, ◌+◌, ◌-◌, ◌^◌, ◌≤◌, min, List, [], ◌∷◌, ◌++◌, take, length, Some, None, refl, sym, ap, subst, ◌∙◌, arith}
 use Rattle.std.specs.List.{slice_get, fold}
 use Rattle.std.proofs.lemmas.List.Sums.{fold_push}
 use Rattle.kp_types.specs.Setting.{Setting}
@@ -9,9 +9,9 @@ use Rattle.kp_object_defs.specs.Objects.{no_objects}
 use Rattle.kp_object_defs.specs.PortInfo.{PortInfo}
 use Rattle.kp_choice_defs.specs.Names.{first_clash}
 use Rattle.kp_table_defs.specs.Edits.{ChangesLeadOver, chains_after_edit, table_after_batch}
-use Rattle.kp_table_defs.specs.Rebuild.{full_table, clash_of, needed_keys}
-use Rattle.kp_history_defs.specs.History.{IsExactHistory, counts_of, chains_covered, objects_covered, table_after}
-use Rattle.kp_history_laws.specs.HistoryLaws.{ExactTables}
+use Rattle.kp_table_defs.specs.Rebuild.{TableParts, full_table, clash_of, needed_keys}
+use Rattle.kp_history_defs.specs.History.{IsExactHistory, counts_of, chains_covered, objects_covered, table_from, table_after}
+use Rattle.kp_history_laws.specs.HistoryLaws.{ExactTables, TableCounted}
 use Rattle.kp_history_laws.proofs.Histories.{no_infos}
 
 -- the record at a place of a list
@@ -36,3 +36,15 @@ pub no_clash_covered : (setting : Setting) (events : List Event) (records : List
     → clash_of setting (objects_covered events (counts_of records) n) ≡ None
 no_clash_covered setting events records zero exact le = ap (λ (infos : List PortInfo). first_clash setting.name_of (needed_keys infos)) (no_infos setting)
 no_clash_covered setting events records (suc n) exact le = let (r, at, is) = at_place records n le in (exact.each n r at).has_no_clash
+
+-- ---- The table's count
+
+counted_from : (start : TableParts) (records : List SyncRecord) → start.syncs + length records ≤ 2 ^ 64 - 1 → (table_from start records).syncs ≡ start.syncs + length records
+counted_from start [] le = omega arith
+counted_from start (r ∷ records) le =
+    let one : min (start.syncs + 1) (2 ^ 64 - 1) ≡ start.syncs + 1 = omega arith in
+    let rest = counted_from (table_after_batch start r.batch.edits) records (subst (λ (n : ℕ). n + length records ≤ 2 ^ 64 - 1) (sym one) (omega arith)) in
+    rest ∙ ap (λ (n : ℕ). n + length records) one ∙ omega arith
+
+pub table_counted : TableCounted
+table_counted setting records le = counted_from (full_table setting no_objects) records (omega arith) ∙ omega arith

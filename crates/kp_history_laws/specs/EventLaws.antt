@@ -27,7 +27,8 @@ UnaffectedService =
 abbrev pub HoldsOfUnaffected : (Setting → Objects → Event → PortKey → Type 0) → Type 0
 HoldsOfUnaffected P =
     (setting : Setting) (o : Objects) (event : Event) (key : PortKey)
-    → AreUnderOwnKeys o → has_port (affected_ports setting o event) key ≡ false → P setting o event key
+    → AreUnderOwnKeys o → has_port (affected_ports setting o event) key ≡ false
+    → P setting o event key
 
 -- An event leaves the inputs of each port that isn't among the affected ones.
 abbrev pub UnaffectedInputs : Type 0

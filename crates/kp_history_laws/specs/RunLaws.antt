@@ -14,6 +14,7 @@ use Rattle.kp_history_defs.specs.History.{IsExactHistory, counts_of, objects_cov
 use Rattle.kp_history_defs.specs.Inputs.{changed_ports}
 use Rattle.kp_history_defs.specs.Runs.{RunState, Step, Read, IsRun, IsRunFrom, IsStep, events_of, objects_now, is_of_stream, numbered}
 use Rattle.kp_history_laws.specs.EventLaws.{has_port}
+use Rattle.kp_history_laws.specs.HistoryLaws.{all_covered}
 
 -- Steps may be joined to steps.
 abbrev pub RunsJoin : Type 0
@@ -41,8 +42,7 @@ HistoryIsExact =
 
 -- the objects that all records cover
 abbrev pub objects_recorded : RunState → Objects
-objects_recorded s =
-    objects_covered (events_of s.journal) (counts_of s.records) (length s.records)
+objects_recorded s = all_covered (events_of s.journal) s.records
 
 -- The touched ports hold each port that changed since the last record.
 abbrev pub TouchedHoldChanged : Type 0

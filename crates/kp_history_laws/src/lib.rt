@@ -1,24 +1,25 @@
-//! Laws of histories over the definitions alone. Each is the contract of a function that does nothing but name the
-//! laws that it rests on.
+//! Laws of histories over the definitions alone. Each is the contract of a function that does
+//! nothing but name the laws that it rests on.
 #![tactic(auto)]
 
-ghost use Rattle.kp_history_laws.specs.EventLaws.{UnaffectedService, UnaffectedInputs, UnaffectedRules};
-ghost use Rattle.kp_history_laws.specs.HistoryLaws.{ExactTables};
-ghost use Rattle.kp_history_laws.specs.KeptLaws.{RulesByName, EnoughByRules, AffectedAreEnough, ChangedAreEnough};
+ghost use Rattle.kp_history_laws.specs.EventLaws as events;
+ghost use Rattle.kp_history_laws.specs.HistoryLaws as histories;
+ghost use Rattle.kp_history_laws.specs.KeptLaws as kept;
 ghost use Rattle.kp_history_laws.specs.PortLaws as ports;
 ghost use Rattle.kp_history_laws.specs.RunLaws as runs;
 
-/// An event leaves the inputs of each port that it doesn't affect, and its contribution to the table.
+/// An event leaves the inputs of each port that it doesn't affect, and its contribution to the
+/// table.
 pub fn unaffected_ports()
-    ensures service { UnaffectedService }
-    ensures inputs { UnaffectedInputs }
-    ensures rules { UnaffectedRules }
+    ensures service { events.UnaffectedService }
+    ensures inputs { events.UnaffectedInputs }
+    ensures rules { events.UnaffectedRules }
 {
     kp_object_laws::own_keys();
 }
 
-/// The changed ports are those whose inputs differ, an event affects each port that it changes, and both lists are in
-/// order.
+/// The changed ports are those whose inputs differ, an event affects each port that it changes,
+/// and both lists are in order.
 pub fn changed_ports()
     ensures changed { ports.ChangedInputs }
     ensures unchanged { ports.UnchangedInputs }
@@ -32,26 +33,38 @@ pub fn changed_ports()
 
 /// The contributions of the ports of some objects are found by the ports' names.
 pub fn rules_by_name()
-    ensures { RulesByName }
+    ensures { kept.RulesByName }
 {
     kp_object_laws::ports_by_key();
 }
 
-/// Contributions that are kept from the objects before are those of the objects after, once those of the ports that
-/// an event affects, or of the ports whose inputs changed, are made anew.
+/// Contributions that are kept from the objects before are those of the objects after, once those
+/// of the ports that an event affects, or of the ports whose inputs changed, are made anew.
 pub fn kept_rules()
-    ensures by_rules { EnoughByRules }
-    ensures affected { AffectedAreEnough }
-    ensures changed { ChangedAreEnough }
+    ensures by_rules { kept.EnoughByRules }
+    ensures affected { kept.AffectedAreEnough }
+    ensures changed { kept.ChangedAreEnough }
 {
     kp_object_laws::own_keys();
     unaffected_ports();
     rules_by_name();
 }
 
-/// The table after each of the first records of an exact history is the full table of what they cover.
+/// An exact history stays exact where more events come, and where a record comes that covers the
+/// rest of the events.
+pub fn exact_histories()
+    ensures at_first { histories.ExactWithoutRecords }
+    ensures by_events { histories.ExactByEvents }
+    ensures by_record { histories.ExactByRecord }
+    ensures stays { histories.CoveredStays }
+    ensures all { histories.CoveredByRecord }
+{}
+
+/// The table after each of the first records of an exact history is the full table of what they
+/// cover, and counts them.
 pub fn exact_tables()
-    ensures { ExactTables }
+    ensures full { histories.ExactTables }
+    ensures counted { histories.TableCounted }
 {
     kp_rules::laws::changes_lead_over();
 }
@@ -62,8 +75,8 @@ pub fn joined_runs()
     ensures split { runs.RunsSplit }
 {}
 
-/// Every interleaving: whatever the order in which streams feed, events are taken, syncs are made or refused, records
-/// are published and packets are read.
+/// Every interleaving: whatever the order in which streams feed, events are taken, syncs are made
+/// or refused, records are published and packets are read.
 pub fn interleavings()
     ensures history { runs.HistoryIsExact }
     ensures touched { runs.TouchedHoldChanged }

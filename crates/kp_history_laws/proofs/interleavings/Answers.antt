@@ -15,7 +15,7 @@ returns-clause-touched c =
 pub returns-clause-tables : goal.returns-clause-tables
 returns-clause-tables c =
     tables_are_full c.own_keys.ensures.after_events c.unaffected_ports.ensures.inputs c.kept_rules.ensures.by_rules
-    c.ports_of_objects_make_the_table.ensures c.exact_tables.ensures
+    c.ports_of_objects_make_the_table.ensures c.exact_tables.ensures.full
 
 pub returns-clause-streams : goal.returns-clause-streams
 returns-clause-streams c = streams_keep_order
@@ -32,4 +32,4 @@ returns-clause-grows c = seen_only_grows
 pub returns-clause-reads : goal.returns-clause-reads
 returns-clause-reads c =
     reads_decide c.own_keys.ensures.after_events c.unaffected_ports.ensures.inputs c.kept_rules.ensures.by_rules
-    c.ports_of_objects_make_the_table.ensures c.exact_tables.ensures
+    c.ports_of_objects_make_the_table.ensures c.exact_tables.ensures.full
