@@ -13,7 +13,10 @@ trap 'rm -rf "$work"' EXIT
 bench/table.sh "$few" >"$work/less"
 bench/table.sh "$many" >"$work/more"
 echo "input: bench/table.sh SERVICES, with $few and $many, five rules each; processor time"
-(cd crates/kp_restore_echo && rt run <stdin >/dev/null)
+if ! (cd crates/kp_restore_echo && rt run <stdin >/dev/null 2>"$work/built"); then
+    cat "$work/built" >&2
+    exit 1
+fi
 
 # the seconds for a Service are those for five rules
 measure() { # $1: its name, then the command

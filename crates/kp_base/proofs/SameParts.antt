@@ -1,5 +1,5 @@
--- The tests of protocols, families, addresses, ranges and endpoints are true at equal ones alone, and the
--- derived tests are these tests.
+-- The tests of protocols, families, addresses, ranges and endpoints are true at equal ones alone,
+-- and the derived tests are these tests.
 use Rattle.std.proofs.Common.{◌≡◌, true, false, ◌==◌, ◌&&◌, bytes_eq, refl, sym, ap, ◌∙◌}
 use Rattle.std.specs.contracts.prelude.BoolPartialEq.TheImpl as bool_eq
 use Rattle.std.proofs.lemmas.Bool.{false≢true, and_parts, eqb-true}

@@ -1,8 +1,6 @@
 -- Counting candidates one by one gives each address and port once, in order.
 use Rattle.std.proofs.Common.{◌≡◌, Bool, true, false, cond, not, ◌||◌, List, [], ◌∷◌, ◌++◌, map, reverse, Option, Some, None, is_some, refl, sym, ap, ◌∙◌}
-use Rattle.std.specs.declared.cmp.Ordering.{Ordering}
-use Rattle.std.specs.declared.cmp.Ordering.TheVariants.{Less, Equal, Greater}
-use Rattle.std.specs.Ordering.{eq_by_cmp, is_eq}
+use Rattle.std.specs.Ordering.{eq_by_cmp}
 use Rattle.std.specs.List.{filter}
 use Rattle.std.specs.FinMap.{find, put}
 use Rattle.std.specs.FinMap.Entries.{find_tied}
@@ -10,6 +8,8 @@ use Rattle.std.specs.BTreeMap.{insert_entry, is_at}
 use Rattle.std.specs.Map.{lookup}
 use Rattle.std.proofs.lemmas.List.{map-append, reverse-append}
 use Rattle.std.proofs.lemmas.List.Elements.{filter-append}
+use Rattle.std.proofs.Math.Bool.{or-false, or-true}
+use Rattle.kp_lemmas.proofs.Orders.{equal_from_test}
 use Rattle.kp_base.specs.Keys.{endpoint_cmp}
 use Rattle.kp_base.specs.declared.key.Endpoint.{Endpoint}
 use Rattle.kp_base.proofs.KeyOrder.{endpoint_total, endpoint_exact, endpoint_matches}
@@ -18,12 +18,6 @@ use Rattle.kp_types.specs.declared.lists.Candidate.{Candidate}
 use Rattle.kp_object_defs.specs.Order.{in_order}
 use Rattle.kp_object_defs.proofs.InOrder.{first_some, find-append, find-in_order, same_order, insert-put, lookup-find}
 use Rattle.kp_category.specs.Count.{counts, counted_with}
-
--- a test of a tie, as the tie
-is_tied : {o : Ordering} → is_eq o ≡ true → o ≡ Equal
-is_tied {o = Less} h = absurd (cc)
-is_tied {o = Equal} h = refl
-is_tied {o = Greater} h = absurd (cc)
 
 -- candidates as entries of their address and port
 abbrev pub named : List Candidate → List (Endpoint × Candidate)
@@ -104,7 +98,7 @@ answers false q c cs =
     let at = find endpoint_cmp c.endpoint (in_order endpoint_cmp (named (ranked cs))) in
     ap (λ o. cond (not (is_some at)) (cond (eq_by_cmp endpoint_cmp q c.endpoint) (Some c) o) o) before
     ∙ first_counts (eq_by_cmp endpoint_cmp q c.endpoint) c (found q (reverse (filter (λ (d : Candidate). d.local) cs))) (found q cs) at
-    (λ tied. find-in_order endpoint_total c.endpoint (named (ranked cs)) ∙ find_tied endpoint_cmp endpoint_total q c.endpoint (is_tied tied) (named (ranked cs)) ∙ before)
+    (λ tied. find-in_order endpoint_total c.endpoint (named (ranked cs)) ∙ find_tied endpoint_cmp endpoint_total q c.endpoint (equal_from_test _ tied) (named (ranked cs)) ∙ before)
 
 -- counting one more
 pub counted-push : (cs : List Candidate) (c : Candidate) → counted_with (in_order endpoint_cmp (named (ranked cs))) c ≡ in_order endpoint_cmp (named (ranked (cs ++ c ∷ [])))
@@ -125,21 +119,13 @@ counted_more entries cs c same = ap (λ es. counted_with es c) same ∙ counted-
 contains-find : (entries : List (Endpoint × Candidate)) (c : Candidate) → is_some (lookup (is_at (endpoint_ord.ghosts.cmp c.endpoint)) entries) ≡ is_some (find endpoint_cmp c.endpoint entries)
 contains-find entries c = ap is_some (lookup-find endpoint_matches c.endpoint entries)
 
-or_false : (b : Bool) → b ≡ (b || false)
-or_false true = refl
-or_false false = refl
-
-or_true : (b : Bool) → true ≡ (b || true)
-or_true true = refl
-or_true false = refl
-
 -- a candidate counts where it is on this node, if its address and port was counted before
 pub counts-again : (entries : List (Endpoint × Candidate)) (c : Candidate) → is_some (lookup (is_at (endpoint_ord.ghosts.cmp c.endpoint)) entries) ≡ true → c.local ≡ counts entries c
-counts-again entries c before = or_false c.local ∙ ap (λ b. c.local || not b) (sym before ∙ contains-find entries c)
+counts-again entries c before = sym (or-false c.local) ∙ ap (λ b. c.local || not b) (sym before ∙ contains-find entries c)
 
 -- and it counts in any case, if it wasn't
 pub counts-first : (entries : List (Endpoint × Candidate)) (c : Candidate) → is_some (lookup (is_at (endpoint_ord.ghosts.cmp c.endpoint)) entries) ≡ false → true ≡ counts entries c
-counts-first entries c before = or_true c.local ∙ ap (λ b. c.local || not b) (sym before ∙ contains-find entries c)
+counts-first entries c before = sym (or-true c.local) ∙ ap (λ b. c.local || not b) (sym before ∙ contains-find entries c)
 
 -- a map with the candidate, which counts
 pub counted_in : (entries more : List (Endpoint × Candidate)) (c : Candidate) → counts entries c ≡ true → more ≡ insert_entry endpoint_ord.ghosts.cmp entries c.endpoint c → more ≡ counted_with entries c

@@ -1,9 +1,10 @@
 -- The lists of a port whose endpoints are of one family are those in this family.
 use Rattle.std.proofs.Common.{◌≡◌, ℕ, Bool, true, false, ◌&&◌, ◌||◌, not, List, [], ◌∷◌, Option, Some, None, refl, ap}
 use Rattle.std.specs.List.{list_all}
-use Rattle.kp_base.specs.Net.{same_family}
+use Rattle.std.proofs.lemmas.Bool.{and_parts}
+use Rattle.kp_base.proofs.SameParts.{same_family_exact}
 use Rattle.kp_base.specs.declared.address.Family.{Family}
-use Rattle.kp_base.specs.declared.address.Family.TheVariants.{V4, V6}
+use Rattle.kp_base.specs.declared.address.Family.TheVariants.{V4}
 use Rattle.kp_base.specs.declared.key.Endpoint.{Endpoint}
 use Rattle.kp_types.specs.declared.service.Service.{Service}
 use Rattle.kp_types.specs.declared.service.ServicePort.{ServicePort}
@@ -12,13 +13,6 @@ use Rattle.kp_types.specs.declared.lists.Candidate.{Candidate}
 use Rattle.kp_object_defs.specs.Lists.{lists_from, used, is_local_policy}
 use Rattle.kp_object_defs.specs.Entries.{family_among, is_of_family}
 use Rattle.kp_object_defs.specs.PortInfo.{lists_of, is_reachable_in}
-use Rattle.kp_object_defs.proofs.AllOf.{left}
-
-one_family : (a b : Family) → same_family a b ≡ true → a ≡ b
-one_family V4 V4 h = refl
-one_family V6 V6 h = refl
-one_family V4 V6 h = absurd (cc)
-one_family V6 V4 h = absurd (cc)
 
 -- without endpoints a list is empty, used or not
 unused : (b c : Bool) → ◌≡◌ {A = List Endpoint} (used b []) (used c [])
@@ -37,4 +31,4 @@ no_endpoints internal outer b c (Some zone) =
 pub in_one_family : (family : Family) (s : Service) (p : ServicePort) (zone : Option (List ℕ)) (cs : List Candidate) → list_all (is_of_family family) cs ≡ true → lists_of (family_among cs) s p zone cs ≡ lists_of family s p zone cs
 in_one_family family s p zone [] h = no_endpoints s.internal s.outer (is_reachable_in V4 s p) (is_reachable_in family s p) zone
 in_one_family family s p zone (c ∷ cs) h =
-    ap (λ f. lists_of f s p zone (c ∷ cs)) (one_family c.endpoint.address.family family (left (is_of_family family c) (list_all (is_of_family family) cs) h))
+    ap (λ f. lists_of f s p zone (c ∷ cs)) (same_family_exact c.endpoint.address.family family (and_parts (is_of_family family c) (list_all (is_of_family family) cs) h).0)

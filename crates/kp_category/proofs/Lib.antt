@@ -3,4 +3,3 @@ pub mod Counting
 pub mod Families
 pub mod Filtered
 pub mod OneFamily
-pub mod Steps

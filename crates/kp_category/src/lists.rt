@@ -179,10 +179,5 @@ fn serving_here(alloc: Global, endpoints: &[Candidate]) -> Result<Items<Endpoint
 fn has_any_endpoint(endpoints: &[Candidate]) -> bool
     ensures { result ≡ spec.has_any_endpoint endpoints.now }
 {
-    for endpoint in endpoints {
-        if endpoint.ready || endpoint.serving && endpoint.terminating {
-            return true;
-        }
-    }
-    false
+    endpoints.iter().any(|endpoint| endpoint.ready || endpoint.serving && endpoint.terminating)
 }

@@ -46,10 +46,5 @@ fn has_node_port(service: &Service, port: &ServicePort) -> bool
 fn has_address_in(family: Family, addresses: &[Address]) -> bool
     ensures { result ≡ list_any (λ a. same_family a.family family) addresses.now }
 {
-    for address in addresses {
-        if address.family() == family {
-            return true;
-        }
-    }
-    false
+    addresses.iter().any(|address| address.family() == family)
 }

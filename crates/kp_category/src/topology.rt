@@ -34,35 +34,22 @@ fn hints_apply(zone: &Text, endpoints: &[Candidate]) -> bool
 fn all_have_hints(endpoints: &[Candidate]) -> bool
     ensures { result ≡ list_all (λ c. not (is_ready c) || spec.has_hint c) endpoints.now }
 {
-    for endpoint in endpoints {
-        if endpoint.ready && endpoint.hints.as_slice().is_empty() {
-            return false;
-        }
-    }
-    true
+    endpoints.iter().all(|endpoint| !endpoint.ready || !endpoint.hints.as_slice().is_empty())
 }
 
 fn any_hints_zone(zone: &Text, endpoints: &[Candidate]) -> bool
     ensures { result ≡ list_any (λ c. is_ready c && spec.hints_zone zone.now c) endpoints.now }
 {
-    for endpoint in endpoints {
-        if endpoint.ready && hints_zone(zone, endpoint) {
-            return true;
-        }
-    }
-    false
+    endpoints
+        .iter()
+        .any(|endpoint| endpoint.ready && hints_zone(zone, endpoint))
 }
 
 /// Whether an endpoint hints a zone.
 fn hints_zone(zone: &Text, endpoint: &Candidate) -> bool
     ensures { result ≡ spec.hints_zone zone.now endpoint.now }
 {
-    for hint in endpoint.hints.as_slice() {
-        if *hint == *zone {
-            return true;
-        }
-    }
-    false
+    endpoint.hints.as_slice().iter().any(|hint| *hint == *zone)
 }
 
 /// The ready endpoints that hint a zone.

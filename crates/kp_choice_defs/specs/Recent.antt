@@ -1,7 +1,7 @@
 -- Recent lists, as the recent match of iptables-extensions keeps them: a list of a name has sources, each
 -- with the moment at which it was last set. That a list has sixteen parts, by the low four bits of the
 -- source, and that each part has a bound of its own, is this project's choice.
-use Rattle.std.specs.Prelude.{ℕ, ◌-◌, ◌%◌, nat_le, nat_lt, Bool, List, [], ◌∷◌, cond, not, take, Option, Some, None, unwrap_or, is_some}
+use Rattle.std.specs.Prelude.{ℕ, ◌-◌, ◌%◌, nat_le, Bool, List, [], ◌∷◌, not, take, unwrap_or}
 use Rattle.std.specs.Ordering.{nat_cmp, ordering_then}
 use Rattle.std.specs.declared.cmp.Ordering.{Ordering}
 use Rattle.std.specs.List.{filter, list_any}

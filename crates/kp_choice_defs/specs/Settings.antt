@@ -1,5 +1,4 @@
 -- The setting of the product: hashed names of the configured length, and endpoints picked by draws.
-use Rattle.std.specs.Prelude.{ℕ}
 use Rattle.kp_base.specs.declared.address.Family.{Family}
 use Rattle.kp_base.specs.declared.config.Config.{Config}
 use Rattle.kp_types.specs.Setting.{Pick, Setting, config_for}

@@ -1,3 +1,3 @@
-//! What the choice of an endpoint means: draws and the statistic match, recent lists, names of chains and
-//! their clashes, and printed addresses. There are only definitions here, in `specs/`.
+//! What the choice of an endpoint means: draws and the statistic match, recent lists, names of
+//! chains and their clashes, and printed addresses. There are only definitions here, in `specs/`.
 #![tactic(auto)]

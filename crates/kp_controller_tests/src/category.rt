@@ -51,12 +51,14 @@ fn candidate(alloc: Global, host: u8, state: &str, hint: &str) -> Result<Candida
     })
 }
 
-/// The candidates of the hosts 1, 2 and 3 with these states and hints.
-fn endpoints(alloc: Global, states: &[(&str, &str); 3]) -> Result<Items<Candidate>, Fail> {
+/// Hosts, each in a state with a hint or none.
+type Hosts = &'static [(u8, &'static str, &'static str)];
+
+/// The candidates of hosts.
+fn endpoints(alloc: Global, hosts: Hosts) -> Result<Items<Candidate>, Fail> {
     let mut endpoints = Vec::new(alloc);
-    for place in 0..3u8 {
-        let (state, hint) = states[place as usize];
-        endpoints.push(candidate(alloc, place + 1, state, hint)?)?;
+    for (host, state, hint) in hosts {
+        endpoints.push(candidate(alloc, *host, *state, *hint)?)?;
     }
     Ok(Items::from_vec(endpoints))
 }
@@ -97,17 +99,27 @@ fn service_port(alloc: Global) -> Result<ServicePort, Fail> {
     })
 }
 
-/// The lists of a Service for a node in a zone or none.
-fn lists(
-    alloc: Global,
-    service: &Service,
-    zone: &str,
-    states: &[(&str, &str); 3],
-) -> Result<Lists, Fail> {
+/// A row of the table: the type of a Service, its policies, the node's zone or none, and the
+/// endpoints; and then the hosts of the cluster list and of the local one, and whether there is
+/// any.
+#[derive(Drop)]
+struct Row {
+    kind: ServiceKind,
+    policies: (Policy, Policy),
+    zone: &'static str,
+    endpoints: Hosts,
+    cluster: &'static [u8],
+    local: &'static [u8],
+    has_any: bool,
+}
+
+/// The lists of a row.
+fn lists(alloc: Global, row: &Row) -> Result<Lists, Fail> {
+    let service = service(alloc, row.kind, row.policies.0, row.policies.1)?;
     let port = service_port(alloc)?;
-    let endpoints = endpoints(alloc, states)?;
-    let zones = texts(alloc, zone)?;
-    Ok(categorise(alloc, service, &port, &endpoints, zones.as_slice().first())?)
+    let endpoints = endpoints(alloc, row.endpoints)?;
+    let zones = texts(alloc, row.zone)?;
+    Ok(categorise(alloc, &service, &port, &endpoints, zones.as_slice().first())?)
 }
 
 /// Whether a list has these hosts.
@@ -124,129 +136,89 @@ fn are_hosts(endpoints: &Items<Endpoint>, hosts: &[u8]) -> Result<bool, Fail> {
     Ok(true)
 }
 
-/// A zone, the states and hints of the hosts 1, 2 and 3, and the hosts of the cluster list.
-type ClusterRow = (
-    &'static str,
-    [(&'static str, &'static str); 3],
-    &'static [u8],
-);
-
-/// Whether the cluster list of a Service of type ClusterIP has these hosts.
-fn clusters(
-    alloc: Global,
-    zone: &str,
-    states: &[(&str, &str); 3],
-    hosts: &[u8],
-) -> Result<bool, Fail> {
-    let kind = ServiceKind::ClusterIp;
-    let service = service(alloc, kind, Policy::Cluster, Policy::Cluster)?;
-    let found = lists(alloc, &service, zone, states)?;
-    Ok(are_hosts(&found.cluster, hosts)? && found.has_any != hosts.is_empty())
+/// Whether the lists are those of the row.
+fn holds(alloc: Global, row: &Row) -> Result<bool, Fail> {
+    let found = lists(alloc, row)?;
+    Ok(
+        found.has_any == row.has_any
+            && are_hosts(&found.cluster, row.cluster)?
+            && are_hosts(&found.local, row.local)?,
+    )
 }
 
-/// The place of the first row whose cluster list is another.
-fn wrong_cluster(alloc: Global, rows: &[ClusterRow]) -> Result<Option<usize>, Fail> {
-    for place in 0..rows.len() {
-        let (zone, states, hosts) = &rows[place];
-        if !clusters(alloc, *zone, states, *hosts)? {
-            return Ok(Some(place));
-        }
+/// Terminating endpoints serve where none is ready, hints apply where each ready endpoint has one,
+/// and lists go by policy.
+const ROWS: [Row; 7] = [
+    Row {
+        kind: ClusterIp,
+        policies: (Cluster, Cluster),
+        zone: "",
+        endpoints: &[],
+        cluster: &[],
+        local: &[],
+        has_any: false,
+    },
+    Row {
+        kind: ClusterIp,
+        policies: (Cluster, Cluster),
+        zone: "",
+        endpoints: &[(1, "rs", ""), (2, "st", ""), (3, "st", "")],
+        cluster: &[1],
+        local: &[],
+        has_any: true,
+    },
+    Row {
+        kind: ClusterIp,
+        policies: (Cluster, Cluster),
+        zone: "",
+        endpoints: &[(1, "st", ""), (2, "t", ""), (3, "s", "")],
+        cluster: &[1],
+        local: &[],
+        has_any: true,
+    },
+    Row {
+        kind: ClusterIp,
+        policies: (Cluster, Cluster),
+        zone: "a",
+        endpoints: &[(1, "rs", "a"), (2, "rs", "a"), (3, "rs", "b")],
+        cluster: &[1, 2],
+        local: &[],
+        has_any: true,
+    },
+    Row {
+        kind: ClusterIp,
+        policies: (Cluster, Cluster),
+        zone: "a",
+        endpoints: &[(1, "rs", "a"), (2, "rs", "a"), (3, "rs", "")],
+        cluster: &[1, 2, 3],
+        local: &[],
+        has_any: true,
+    },
+    Row {
+        kind: ClusterIp,
+        policies: (Local, Cluster),
+        zone: "b",
+        endpoints: &[(1, "rsl", "a"), (2, "rs", "b"), (3, "stl", "")],
+        cluster: &[],
+        local: &[1],
+        has_any: true,
+    },
+    Row {
+        kind: NodePort,
+        policies: (Cluster, Local),
+        zone: "b",
+        endpoints: &[(1, "rsl", "a"), (2, "rs", "b"), (3, "stl", "")],
+        cluster: &[2],
+        local: &[1],
+        has_any: true,
+    },
+];
+
+#[test]
+fn lists_go_by_state_hints_and_policy(rt: HostRuntime) -> Result<(), Fail> {
+    for row in &ROWS[..] {
+        assert!(rt; holds(rt.alloc(), row)?);
     }
-    Ok(None)
-}
-
-const TERMINATING: [ClusterRow; 4] = [
-    ("", [("rs", ""), ("rs", ""), ("rs", "")], &[1, 2, 3]),
-    ("", [("rs", ""), ("st", ""), ("st", "")], &[1]),
-    ("", [("st", ""), ("t", ""), ("s", "")], &[1]),
-    ("", [("", ""), ("t", ""), ("s", "")], &[]),
-];
-
-#[test]
-fn terminating_endpoints_serve_where_none_is_ready(rt: HostRuntime) -> Result<(), Fail> {
-    assert_eq!(rt; wrong_cluster(rt.alloc(), &TERMINATING)?, None);
-    Ok(())
-}
-
-const HINTED: [ClusterRow; 6] = [
-    ("a", [("rs", "a"), ("rs", "a"), ("rs", "b")], &[1, 2]),
-    ("a", [("rs", "a"), ("rs", "a"), ("rs", "")], &[1, 2, 3]),
-    ("c", [("rs", "a"), ("rs", "a"), ("rs", "b")], &[1, 2, 3]),
-    ("", [("rs", "a"), ("rs", "a"), ("rs", "b")], &[1, 2, 3]),
-    ("a", [("rs", "a"), ("rs", "b"), ("st", "")], &[1]),
-    ("a", [("rs", "b"), ("rs", "b"), ("st", "a")], &[1, 2]),
-];
-
-#[test]
-fn hints_apply_where_each_ready_endpoint_has_one(rt: HostRuntime) -> Result<(), Fail> {
-    assert_eq!(rt; wrong_cluster(rt.alloc(), &HINTED)?, None);
-    Ok(())
-}
-
-const READY: [(&str, &str); 3] = [("rsl", "a"), ("rs", "b"), ("stl", "")];
-
-const ENDING: [(&str, &str); 3] = [("rs", ""), ("stl", ""), ("l", "")];
-
-/// Whether a Service has these hosts in the cluster list and in the local one, in zone b.
-fn has_lists(
-    alloc: Global,
-    service: &Service,
-    states: &[(&str, &str); 3],
-    cluster: &[u8],
-    local: &[u8],
-) -> Result<bool, Fail> {
-    let found = lists(alloc, service, "b", states)?;
-    Ok(are_hosts(&found.cluster, cluster)? && are_hosts(&found.local, local)?)
-}
-
-/// The type of a Service, its policies, the states, and the hosts of the cluster and local lists.
-type PolicyRow = (
-    ServiceKind,
-    Policy,
-    Policy,
-    [(&'static str, &'static str); 3],
-    &'static [u8],
-    &'static [u8],
-);
-
-const BY_POLICY: [PolicyRow; 5] = [
-    (ClusterIp, Local, Cluster, READY, &[], &[1]),
-    (ClusterIp, Local, Cluster, ENDING, &[], &[2]),
-    (ClusterIp, Cluster, Local, READY, &[2], &[]),
-    (NodePort, Cluster, Local, READY, &[2], &[1]),
-    (NodePort, Local, Cluster, READY, &[2], &[1]),
-];
-
-/// The place of the first row whose lists are others.
-fn wrong_lists(alloc: Global, rows: &[PolicyRow]) -> Result<Option<usize>, Fail> {
-    for place in 0..rows.len() {
-        let (kind, internal, outer, states, cluster, local) = &rows[place];
-        let service = service(alloc, *kind, *internal, *outer)?;
-        if !has_lists(alloc, &service, states, *cluster, *local)? {
-            return Ok(Some(place));
-        }
-    }
-    Ok(None)
-}
-
-#[test]
-fn lists_go_by_policy(rt: HostRuntime) -> Result<(), Fail> {
-    assert_eq!(rt; wrong_lists(rt.alloc(), &BY_POLICY)?, None);
-    Ok(())
-}
-
-/// The lists of a Service that has no endpoints.
-fn empty_lists(alloc: Global) -> Result<Lists, Fail> {
-    let service = service(alloc, ClusterIp, Cluster, Cluster)?;
-    let port = service_port(alloc)?;
-    Ok(categorise(alloc, &service, &port, &Items::new(alloc), None)?)
-}
-
-#[test]
-fn without_endpoints_the_lists_are_empty(rt: HostRuntime) -> Result<(), Fail> {
-    let found = empty_lists(rt.alloc())?;
-    assert!(rt; are_hosts(&found.cluster, &[])? && are_hosts(&found.local, &[])?);
-    assert!(rt; !found.has_any);
     Ok(())
 }
 
@@ -377,13 +349,8 @@ fn are_candidates(alloc: Global, found: &[Candidate], rows: &[(u8, &str)]) -> Re
 
 #[test]
 fn of_repeats_the_last_on_this_node_counts_or_else_the_first(rt: HostRuntime) -> Result<(), Fail> {
-    let found = found(rt.alloc(), Proto::Tcp)?;
-    assert!(rt; are_candidates(rt.alloc(), found.as_slice(), &REPEATS)?);
-    Ok(())
-}
-
-#[test]
-fn a_port_of_another_protocol_has_no_endpoints(rt: HostRuntime) -> Result<(), Fail> {
+    let tcp = found(rt.alloc(), Proto::Tcp)?;
+    assert!(rt; are_candidates(rt.alloc(), tcp.as_slice(), &REPEATS)?);
     assert!(rt; found(rt.alloc(), Proto::Udp)?.as_slice().is_empty());
     Ok(())
 }

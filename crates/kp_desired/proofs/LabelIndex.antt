@@ -1,6 +1,7 @@
 -- The index of an element, which is looked for from a place on and then before it.
 use Rattle.std.proofs.Common.{◌≡◌, ℕ, ◌+◌, Bool, true, false, cond, not, nat_lt, ◌||◌, List, [], ◌∷◌, take, drop, length, is_some, Some, None, refl, sym, ap, ◌∙◌, arith, suc}
 use Rattle.std.specs.List.{list_any, position, position_or_len}
+use Rattle.std.proofs.Math.Bool.{or-false, or-true}
 use Rattle.std.proofs.lemmas.Bool.Decides.{nat_tests}
 use Rattle.std.proofs.lemmas.List.{take-append-drop}
 use Rattle.std.proofs.lemmas.List.Folds.{list_any-append}
@@ -8,14 +9,6 @@ use Rattle.std.proofs.lemmas.List.Folds.{list_any-append}
 is_some-cond : (b : Bool) (n : ℕ) → is_some (cond b (Some n) None) ≡ b
 is_some-cond true n = refl
 is_some-cond false n = refl
-
-or_true : (b : Bool) → true ≡ (b || true)
-or_true true = refl
-or_true false = refl
-
-or_false : (b : Bool) → b ≡ (b || false)
-or_false true = refl
-or_false false = refl
 
 -- one more on both sides
 next_lt : (m n : ℕ) → nat_lt (1 + m) (suc n) ≡ nat_lt m n
@@ -42,7 +35,7 @@ module _ {X : Type 0} (p : X → Bool) where
   -- it is found from the place on
   pub found-after : (s : ℕ) (xs after : List X) → after ≡ drop s xs → is_some (position p after) ≡ true → true ≡ list_any p xs
   found-after s xs after same is =
-      or_true (list_any p (take s xs))
+      sym (or-true (list_any p (take s xs)))
       ∙ ap (λ b. list_any p (take s xs) || b) (sym is ∙ is_some-position after ∙ ap (list_any p) same)
       ∙ in_parts s xs
 
@@ -50,6 +43,6 @@ module _ {X : Type 0} (p : X → Bool) where
   pub found-before : (s : ℕ) (xs before after : List X) → before ≡ take s xs → after ≡ drop s xs → is_some (position p after) ≡ false → is_some (position p before) ≡ list_any p xs
   found-before s xs before after same_before same_after is =
       is_some-position before ∙ ap (list_any p) same_before
-      ∙ or_false (list_any p (take s xs))
+      ∙ sym (or-false (list_any p (take s xs)))
       ∙ ap (λ b. list_any p (take s xs) || b) (sym is ∙ is_some-position after ∙ ap (list_any p) same_after)
       ∙ in_parts s xs

@@ -1,7 +1,6 @@
 -- The numbers of container ports by their names and protocols.
 use Rattle.std.proofs.Common.{◌≡◌, ℕ, ◌+◌, ◌<◌, Bool, true, false, cond, bytes_eq, List, [], ◌∷◌, ◌++◌, take, length, get_or, Option, Some, None, is_some, option_map, refl, sym, ap, ◌∙◌, Bor}
 use Rattle.std.specs.declared.cmp.Ordering.{Ordering}
-use Rattle.std.specs.declared.cmp.Ordering.TheVariants.{Less, Equal, Greater}
 use Rattle.std.specs.Ordering.{nat_cmp, eq_by_cmp, is_eq, ordering_then}
 use Rattle.std.specs.Cmp.{IsTotalOrder, eq_by_cmp_equiv, both_tied}
 use Rattle.std.specs.Cmp.Lexicographic.{texts_ties}
@@ -12,6 +11,7 @@ use Rattle.std.specs.BTreeMap.{is_at}
 use Rattle.std.specs.Map.{lookup}
 use Rattle.std.proofs.lemmas.Cmp.{on_total, then_total, nat_cmp_total}
 use Rattle.std.proofs.lemmas.List.{take_more}
+use Rattle.kp_lemmas.proofs.Orders.{equal_from_test}
 use Rattle.kp_base.specs.Keys.{text_cmp, proto_place}
 use Rattle.kp_base.specs.declared.port.Proto.{Proto}
 use Rattle.kp_base.specs.declared.port.Proto.TheVariants.{Sctp, Tcp, Udp}
@@ -55,12 +55,6 @@ tied name c =
 
 -- ---- one more port
 
--- a test of a tie, as the tie
-is_tied : {o : Ordering} → is_eq o ≡ true → o ≡ Equal
-is_tied {o = Less} h = absurd (cc)
-is_tied {o = Equal} h = refl
-is_tied {o = Greater} h = absurd (cc)
-
 find-cond : (b : Bool) (name : List ℕ × Proto) (es fs : List ((List ℕ × Proto) × ℕ)) → find port_name_cmp name (cond b es fs) ≡ cond b (find port_name_cmp name es) (find port_name_cmp name fs)
 find-cond true name es fs = refl
 find-cond false name es fs = refl
@@ -82,7 +76,7 @@ find-with_number name numbers c =
     let at = find port_name_cmp (c.name, c.proto) numbers in
     find-cond (is_some at) name numbers (put port_name_cmp (c.name, c.proto) c.port numbers)
     ∙ ap (cond (is_some at) (find port_name_cmp name numbers)) (find-put port_name_cmp port_name_total name (c.name, c.proto) c.port numbers)
-    ∙ first_counts (eq_by_cmp port_name_cmp name (c.name, c.proto)) c.port at (find port_name_cmp name numbers) (λ t. find_tied port_name_cmp port_name_total name (c.name, c.proto) (is_tied t) numbers)
+    ∙ first_counts (eq_by_cmp port_name_cmp name (c.name, c.proto)) c.port at (find port_name_cmp name numbers) (λ t. find_tied port_name_cmp port_name_total name (c.name, c.proto) (equal_from_test _ t) numbers)
     ∙ ap (λ t. first_some (find port_name_cmp name numbers) (cond t (Some c.port) None)) (tied name c)
 
 -- the first number with one more port

@@ -5,7 +5,8 @@ ghost use Rattle.kp_draws.specs.Least.{IsFirstMatch};
 
 /// Of n, the first whose test matches is chosen, or the last.
 pub fn first_match_is_chosen()
-    ensures { (draws : ℕ → ℕ) (k n : ℕ) → 0 < n → IsFirstMatch draws k n (selected_index draws k n) }
+    ensures { (draws : ℕ → ℕ) (k n : ℕ) → 0 < n
+        → IsFirstMatch draws k n (selected_index draws k n) }
 {}
 
 /// The draw that a list lacks matches no test of one of two or more.

@@ -34,8 +34,8 @@ pub fn threshold(p: u64) -> u32
     rounded as u32
 }
 
-/// The probability as a rule prints it: a digit, a dot and ten digits. Digits above the first are left out, which
-/// no probability has.
+/// The probability as a rule prints it: a digit, a dot and ten digits. Digits above the first are
+/// left out, which no probability has.
 pub fn probability_text(p: u64) -> ArrayString<12>
     ensures { result.bytes ≡ probability_text_of p }
 {

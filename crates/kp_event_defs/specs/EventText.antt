@@ -13,9 +13,9 @@ use Rattle.kp_types.specs.declared.event.Object.{Object}
 use Rattle.kp_types.specs.declared.event.Object.TheVariants as object
 use Rattle.kp_types.specs.declared.event.Kind.{Kind}
 use Rattle.kp_types.specs.declared.event.Kind.TheVariants as kind
-use Rattle.kp_event_defs.specs.Fields.{key_in}
-use Rattle.kp_event_defs.specs.Metadata.{key_row, only_name_row}
-use Rattle.kp_event_defs.specs.Rows.{Row, row_fault, unless_fault}
+use Rattle.kp_row_defs.specs.Fields.{key_in}
+use Rattle.kp_row_defs.specs.Metadata.{key_row, only_name_row}
+use Rattle.kp_row_defs.specs.Rows.{Row, row_fault, unless_fault}
 use Rattle.kp_event_defs.specs.ServiceText.{read_service}
 use Rattle.kp_event_defs.specs.SliceText.{read_slice}
 use Rattle.kp_event_defs.specs.PodText.{read_pod, read_node}

@@ -7,9 +7,9 @@ use Rattle.kp_json.specs.declared.fault.BadField.{BadField}
 use Rattle.kp_types.specs.declared.pod.Pod.{Pod}
 use Rattle.kp_types.specs.declared.pod.Node.{Node}
 use Rattle.kp_types.specs.declared.pod.ContainerPort.{ContainerPort}
-use Rattle.kp_event_defs.specs.Fields.{inner, text_in, whole_in, items_in, is_text, texts_of, protocols, proto_in, port_name_in, address_in, pairs_in, key_in}
-use Rattle.kp_event_defs.specs.Metadata.{name_row, namespace_row, texts_row}
-use Rattle.kp_event_defs.specs.Rows.{Row, Rows, done, ◌▸◌, field, inside, each, needed, optional, any_text, name_text, port_name_text, label_text, address_text, choice, whole, rows_fault, unless_fault}
+use Rattle.kp_row_defs.specs.Fields.{inner, text_in, whole_in, items_in, is_text, texts_of, protocols, proto_in, port_name_in, address_in, pairs_in, key_in}
+use Rattle.kp_row_defs.specs.Metadata.{name_row, namespace_row, texts_row}
+use Rattle.kp_row_defs.specs.Rows.{Row, Rows, done, ◌▸◌, field, inside, each, needed, optional, any_text, name_text, port_name_text, label_text, address_text, choice, whole, rows_fault, unless_fault}
 
 -- the rows of a container's port
 abbrev pub container_port_rows : Rows

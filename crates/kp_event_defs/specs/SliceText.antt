@@ -10,9 +10,9 @@ use Rattle.kp_types.specs.declared.slice.SliceEndpoint.{SliceEndpoint}
 use Rattle.kp_types.specs.declared.slice.SlicePort.{SlicePort}
 use Rattle.kp_types.specs.declared.slice.AddressType.{AddressType}
 use Rattle.kp_types.specs.declared.slice.AddressType.TheVariants.{Ipv4, Ipv6, Fqdn}
-use Rattle.kp_event_defs.specs.Fields.{inner, text_in, flag_in, whole_in, items_in, is_text, chosen, texts_of, protocols, proto_in, port_name_in, address_at, key_in}
-use Rattle.kp_event_defs.specs.Metadata.{name_row, namespace_row, texts_row}
-use Rattle.kp_event_defs.specs.Rows.{Row, Rows, Form, done, ◌▸◌, field, inside, each, each_up_to, first_item, where_text, needed, optional, any_text, name_text, port_name_text, label_text, address_text, choice, whole, truth_value, rows_fault, unless_fault}
+use Rattle.kp_row_defs.specs.Fields.{inner, text_in, flag_in, whole_in, items_in, is_text, chosen, texts_of, protocols, proto_in, port_name_in, address_at, key_in}
+use Rattle.kp_row_defs.specs.Metadata.{name_row, namespace_row, texts_row}
+use Rattle.kp_row_defs.specs.Rows.{Row, Rows, Form, done, ◌▸◌, field, inside, each, each_up_to, first_item, where_text, needed, optional, any_text, name_text, port_name_text, label_text, address_text, choice, whole, truth_value, rows_fault, unless_fault}
 
 -- address types
 abbrev pub address_types : List (List ℕ × AddressType)

@@ -3,8 +3,8 @@ ghost use Rattle.std.specs.Prelude.{◌≡◌};
 ghost use Rattle.kp_json.specs.Answers.{Gives};
 ghost use Rattle.kp_json.specs.Views.{place_of};
 ghost use Rattle.kp_event_defs.specs.EventText.{object_at, deleted_row, deleted_key};
-ghost use Rattle.kp_event_defs.specs.Reads.{Reads};
-ghost use Rattle.kp_event_defs.specs.Rows.{row_fault};
+ghost use Rattle.kp_row_defs.specs.Reads.{Reads};
+ghost use Rattle.kp_row_defs.specs.Rows.{row_fault};
 
 use kp_base::ObjectKey;
 use kp_fields::{copied_text, key_field, name_field};

@@ -1,7 +1,7 @@
 -- The forms of texts that are read alike, and how definitions name them.
 use Rattle.std.specs.Prelude.{ℕ, Bool, true, List}
 use Rattle.kp_base.specs.Grammar.{is_name_text, is_port_name_text, is_label_text}
-use Rattle.kp_event_defs.specs.Rows.{Form, any_text, name_text, port_name_text, label_text}
+use Rattle.kp_row_defs.specs.Rows.{Form, any_text, name_text, port_name_text, label_text}
 use Rattle.kp_fields.specs.declared.text.TextForm.{TextForm}
 use Rattle.kp_fields.specs.declared.text.TextForm.TheVariants.{Any, Name, PortName, Label}
 

@@ -1,19 +1,46 @@
 //! Addresses and ranges.
 ghost use Rattle.std.specs.Prelude.{◌≡◌};
 ghost use Rattle.kp_json.specs.Views.{place_of};
-ghost use Rattle.kp_event_defs.specs.Fields.{is_other_family, address_at, address_in, range_at};
-ghost use Rattle.kp_event_defs.specs.Reads.{Reads};
-ghost use Rattle.kp_event_defs.specs.Rows.{optional, address_text, range_text, field_fault, form_fault};
+ghost use Rattle.kp_base.specs.Dotted.{address_of, range_of};
+ghost use Rattle.kp_row_defs.specs.Fields.{is_other_family, unless_other, address_at, address_in, range_at};
+ghost use Rattle.kp_row_defs.specs.Reads.{Reads};
+ghost use Rattle.kp_row_defs.specs.Rows.{optional, address_text, range_text, field_fault, form_fault};
 
-use kp_base::{Address, Cidr};
+use kp_base::{Address, BadAddress, BadCidr, Cidr};
 use kp_json::{FieldFault, Spot, Why};
 use std::alloc::Global;
 
 /// Whether a text is of another address family, and so passed over: it has a colon.
-pub fn is_other_family(text: &str) -> bool
+fn is_other_family(text: &str) -> bool
     ensures { result ≡ is_other_family text.now }
 {
     text.as_bytes().contains(&b':')
+}
+
+/// The address that a text writes, or nothing where the text is passed over.
+pub fn address_text(text: &str) -> Result<Option<Address>, BadAddress>
+    ensures { result ≡ unless_other (record {}) address_of text.now }
+{
+    if is_other_family(text) {
+        return Ok(None);
+    }
+    match Address::parse(text.as_bytes()) {
+        Ok(address) => Ok(Some(address)),
+        Err(bad) => Err(bad),
+    }
+}
+
+/// The range that a text writes, or nothing where the text is passed over.
+pub fn range_text(text: &str) -> Result<Option<Cidr>, BadCidr>
+    ensures { result ≡ unless_other (record {}) range_of text.now }
+{
+    if is_other_family(text) {
+        return Ok(None);
+    }
+    match Cidr::parse(text.as_bytes()) {
+        Ok(range) => Ok(Some(range)),
+        Err(bad) => Err(bad),
+    }
 }
 
 /// The address here. One of another family is passed over.
@@ -21,12 +48,8 @@ pub fn address_here(alloc: Global, spot: &Spot<'_>) -> Result<Option<Address>, F
     ensures { Reads (λ a. a) result (form_fault address_text (place_of spot.now))
         (address_at (place_of spot.now)) }
 {
-    let text = spot.str_at(alloc)?;
-    if is_other_family(text) {
-        return Ok(None);
-    }
-    match Address::parse(text.as_bytes()) {
-        Ok(address) => Ok(Some(address)),
+    match address_text(spot.str_at(alloc)?) {
+        Ok(address) => Ok(address),
         Err(_) => Err(spot.bad(alloc, Why::BadAddress)),
     }
 }
@@ -55,12 +78,8 @@ pub fn range_here(alloc: Global, spot: &Spot<'_>) -> Result<Option<Cidr>, FieldF
     ensures { Reads (λ r. r) result (form_fault range_text (place_of spot.now))
         (range_at (place_of spot.now)) }
 {
-    let text = spot.str_at(alloc)?;
-    if is_other_family(text) {
-        return Ok(None);
-    }
-    match Cidr::parse(text.as_bytes()) {
-        Ok(range) => Ok(Some(range)),
+    match range_text(spot.str_at(alloc)?) {
+        Ok(range) => Ok(range),
         Err(_) => Err(spot.bad(alloc, Why::BadCidr)),
     }
 }

@@ -1,10 +1,10 @@
 //! Keys of objects.
 ghost use Rattle.std.specs.Prelude.{◌≡◌, codes, None, [], option_map, unwrap_or};
 ghost use Rattle.kp_json.specs.Views.{place_of};
-ghost use Rattle.kp_event_defs.specs.Fields.{inner, key_in, key_from, text_in};
-ghost use Rattle.kp_event_defs.specs.Metadata.{key_row, only_name_row, name_row, namespace_row};
-ghost use Rattle.kp_event_defs.specs.Reads.{Reads};
-ghost use Rattle.kp_event_defs.specs.Rows.{done, ◌▸◌, row_fault, rows_fault};
+ghost use Rattle.kp_row_defs.specs.Fields.{inner, key_in, key_from, text_in};
+ghost use Rattle.kp_row_defs.specs.Metadata.{key_row, only_name_row, name_row, namespace_row};
+ghost use Rattle.kp_row_defs.specs.Reads.{Reads};
+ghost use Rattle.kp_row_defs.specs.Rows.{done, ◌▸◌, row_fault, rows_fault};
 
 use crate::text::{TextForm, copied_text, needed_text, text_field};
 use kp_base::{ObjectKey, Text};

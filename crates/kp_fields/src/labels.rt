@@ -2,9 +2,9 @@
 ghost use Rattle.std.specs.Prelude.{◌≡◌, None, map};
 ghost use Rattle.kp_json.specs.Places.{members_of};
 ghost use Rattle.kp_json.specs.Views.{place_of};
-ghost use Rattle.kp_event_defs.specs.Fields.{pair_of, pairs_in};
-ghost use Rattle.kp_event_defs.specs.Reads.{Reads};
-ghost use Rattle.kp_event_defs.specs.Rows.{optional, texts, field_fault, form_fault};
+ghost use Rattle.kp_row_defs.specs.Fields.{pair_of, pairs_in};
+ghost use Rattle.kp_row_defs.specs.Reads.{Reads};
+ghost use Rattle.kp_row_defs.specs.Rows.{optional, texts, field_fault, form_fault};
 
 use crate::text::copied_text;
 use kp_base::{Items, Pair};

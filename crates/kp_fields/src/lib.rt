@@ -8,7 +8,7 @@ mod number;
 mod proto;
 mod text;
 
-pub use address::{address_field, address_here, is_other_family, range_here};
+pub use address::{address_field, address_here, address_text, range_here, range_text};
 pub use key::{copied_key, key_field, name_field};
 pub use labels::{check_texts, pairs_field};
 pub use number::{flag_field, needed_port, port_field, whole_field};

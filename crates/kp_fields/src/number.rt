@@ -1,9 +1,9 @@
 //! Numbers and truth values.
 ghost use Rattle.std.specs.Prelude.{◌≡◌, ◌≤◌, IfOk, IfSome, unwrap_or};
 ghost use Rattle.kp_json.specs.Views.{place_of};
-ghost use Rattle.kp_event_defs.specs.Fields.{flag_in, whole_in};
-ghost use Rattle.kp_event_defs.specs.Reads.{Reads};
-ghost use Rattle.kp_event_defs.specs.Rows.{optional, needed, whole, truth_value, field_fault};
+ghost use Rattle.kp_row_defs.specs.Fields.{flag_in, whole_in};
+ghost use Rattle.kp_row_defs.specs.Reads.{Reads};
+ghost use Rattle.kp_row_defs.specs.Rows.{optional, needed, whole, truth_value, field_fault};
 
 use kp_base::PortNo;
 use kp_json::{FieldFault, Spot};

@@ -1,9 +1,9 @@
 //! Names and protocols of ports.
 ghost use Rattle.std.specs.Prelude.{◌≡◌, codes, option_map};
 ghost use Rattle.kp_json.specs.Views.{place_of};
-ghost use Rattle.kp_event_defs.specs.Fields.{proto_in, port_name_in, protocols, texts_of, chosen};
-ghost use Rattle.kp_event_defs.specs.Reads.{Reads};
-ghost use Rattle.kp_event_defs.specs.Rows.{optional, port_name_text, choice, field_fault};
+ghost use Rattle.kp_row_defs.specs.Fields.{proto_in, port_name_in, protocols, texts_of, chosen};
+ghost use Rattle.kp_row_defs.specs.Reads.{Reads};
+ghost use Rattle.kp_row_defs.specs.Rows.{optional, port_name_text, choice, field_fault};
 
 use crate::text::{TextForm, choice_field, copied_text, text_field};
 use kp_base::{Proto, Text};

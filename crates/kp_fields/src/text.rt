@@ -2,9 +2,9 @@
 ghost use Rattle.std.specs.Prelude.{◌≡◌, bytes_eq, map, option_map, unwrap_or, [], None, Some};
 ghost use Rattle.std.specs.List.{list_any};
 ghost use Rattle.kp_json.specs.Views.{place_of};
-ghost use Rattle.kp_event_defs.specs.Fields.{text_in};
-ghost use Rattle.kp_event_defs.specs.Reads.{Reads};
-ghost use Rattle.kp_event_defs.specs.Rows.{optional, needed, choice, field_fault, is_one_of};
+ghost use Rattle.kp_row_defs.specs.Fields.{text_in};
+ghost use Rattle.kp_row_defs.specs.Reads.{Reads};
+ghost use Rattle.kp_row_defs.specs.Rows.{optional, needed, choice, field_fault, is_one_of};
 ghost use Rattle.kp_fields.specs.TextForms.{form_of, accepts};
 
 use kp_base::{Text, is_label_value, is_name, is_port_name};

@@ -1,9 +1,17 @@
-//! Tests of kp_base, kp_types and kp_json.
+//! Tests of kp_base, kp_types, kp_io and kp_json, and worked examples of their definitions.
 #![tactic(auto)]
 
 #[cfg(test)]
 mod base;
 #[cfg(test)]
+mod io;
+#[cfg(test)]
 mod json;
 #[cfg(test)]
 mod types;
+mod worked;
+
+pub use worked::{
+    worked_addresses, worked_chain_names, worked_label_values, worked_names, worked_port_names,
+    worked_ranges,
+};

@@ -25,6 +25,3 @@ pub use sink::{Sink, write_whole};
 pub use source::{Failed, Source};
 pub use sure_sink::SureSink;
 pub use sure_source::SureSource;
-
-#[cfg(test)]
-mod tests;

@@ -1,10 +1,14 @@
 -- Booleans as facts. Facts by `≡ true` are in std's lemmas on Bool.
-use Rattle.std.proofs.Common.{◌≡◌, Bool, true, false, ◌&&◌, T, refl}
+use Rattle.std.proofs.Common.{◌≡◌, Bool, true, false, ◌&&◌, T, refl, sym, subst}
 
 -- a fact that holds, as a test
 pub true_from_fact : (b : Bool) → T b → b ≡ true
 true_from_fact true h = refl
 true_from_fact false h = absurd h
+
+-- a test that holds, as a fact
+pub fact_from_true : {b : Bool} → b ≡ true → T b
+fact_from_true h = subst T (sym h) tt
 
 -- both parts of a fact
 pub both_facts : (a b : Bool) → T (a && b) → T a × T b

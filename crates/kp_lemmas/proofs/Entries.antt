@@ -14,35 +14,43 @@ use Rattle.kp_lemmas.proofs.Orders.{less_from_fact}
 use Rattle.kp_lemmas.proofs.ListFacts.{all_weaker}
 
 module _ {K X : Type 0} (R : K → K → Ordering) where
-  keys_by_order : (o : Ordering) (k : K) (v : X) (e : K × X) (es : List (K × X)) → map (λ f. f.0) (put R k v es) ≡ insert_key R (map (λ f. f.0) es) k
+  keys_by_order : (o : Ordering) (k : K) (v : X) (e : K × X) (es : List (K × X))
+      → map (λ f. f.0) (put R k v es) ≡ insert_key R (map (λ f. f.0) es) k
       → map (λ f. f.0) (by_order o ((k, v) ∷ e ∷ es) ((e.0, v) ∷ es) (e ∷ put R k v es)) ≡ match_ordering o (k ∷ e.0 ∷ map (λ f. f.0) es) (e.0 ∷ map (λ f. f.0) es) (e.0 ∷ insert_key R (map (λ f. f.0) es) k)
   keys_by_order Less k v e es h = refl
   keys_by_order Equal k v e es h = refl
   keys_by_order Greater k v e es h = ap (λ ks. e.0 ∷ ks) h
 
   -- the keys of entries with one more
-  pub put_keys : (k : K) (v : X) (es : List (K × X)) → map (λ e. e.0) (put R k v es) ≡ insert_key R (map (λ e. e.0) es) k
+  pub put_keys : (k : K) (v : X) (es : List (K × X))
+      → map (λ e. e.0) (put R k v es) ≡ insert_key R (map (λ e. e.0) es) k
   put_keys k v [] = refl
   put_keys k v (e ∷ es) = keys_by_order (R k e.0) k v e es (put_keys k v es)
 
   -- the empty map has no entries
   pub empty_entries : entries (empty {X = X} {R = R}) ≡ []
-  empty_entries = nil_from_length (entries (empty {X = X} {R = R})) (sym (len-entries (empty {X = X} {R = R})) ∙ len-empty R X)
+  empty_entries =
+      nil_from_length (entries (empty {X = X} {R = R})) (sym (len-entries (empty {X = X} {R = R})) ∙ len-empty R X)
 
 module _ {K X : Type 0} {R : K → K → Ordering} (total : IsTotalOrder R) where
   -- a key behind another is found behind it
-  pub find_behind : (e f : K × X) (es : List (K × X)) → R e.0 f.0 ≡ Less → find R f.0 (e ∷ es) ≡ find R f.0 es
-  find_behind e f es h = ap (λ o. cond (is_eq o) (Some e.1) (find R f.0 es)) (total.antisymm f.0 e.0 ∙ ap ordering_reverse h)
+  pub find_behind : (e f : K × X) (es : List (K × X)) → R e.0 f.0 ≡ Less
+      → find R f.0 (e ∷ es) ≡ find R f.0 es
+  find_behind e f es h =
+      ap (λ o. cond (is_eq o) (Some e.1) (find R f.0 es)) (total.antisymm f.0 e.0 ∙ ap ordering_reverse h)
 
   -- so are those of all entries behind it
-  pub found_behind : (e : K × X) (all es : List (K × X)) → T (below_all R e.0 es) → AllByRecursion (λ f. find R f.0 all ≡ Some f.1) es → AllByRecursion (λ f. find R f.0 (e ∷ all) ≡ Some f.1) es
+  pub found_behind : (e : K × X) (all es : List (K × X)) → T (below_all R e.0 es)
+      → AllByRecursion (λ f. find R f.0 all ≡ Some f.1) es
+      → AllByRecursion (λ f. find R f.0 (e ∷ all) ≡ Some f.1) es
   found_behind e all [] below found = tt
   found_behind e all (f ∷ es) below found =
       let both = both_facts _ _ below in
       (find_behind e f all (less_from_fact (R e.0 f.0) both.0) ∙ found.0, found_behind e all es both.1 found.1)
 
   -- each of sorted entries is what a look-up finds
-  pub sorted_found : (es : List (K × X)) → T (is_sorted R es) → AllByRecursion (λ e. find R e.0 es ≡ Some e.1) es
+  pub sorted_found : (es : List (K × X)) → T (is_sorted R es)
+      → AllByRecursion (λ e. find R e.0 es ≡ Some e.1) es
   sorted_found [] sorted = tt
   sorted_found (e ∷ es) sorted =
       let both = both_facts _ _ sorted in

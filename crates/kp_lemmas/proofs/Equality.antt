@@ -1,5 +1,5 @@
 -- Exact tests of lists, of values that may be missing, of fields, and of enums.
-use Rattle.std.proofs.Common.{◌≡◌, List, [], ◌∷◌, Bool, true, false, ◌&&◌, Option, Some, None, refl, ap, inl, inr}
+use Rattle.std.proofs.Common.{◌≡◌, List, [], ◌∷◌, Bool, true, false, ◌&&◌, Some, None, refl, ap, inl, inr}
 use Rattle.std.specs.Option.{option_eq}
 use Rattle.std.proofs.lemmas.Bool.{false≢true, and_parts}
 use lib.Pointwise.{pointwise}
@@ -24,10 +24,12 @@ options_exact test e (Some x) None h = absurd (false≢true h)
 options_exact test e (Some x) (Some y) h = ap Some (e x y h)
 
 -- the fields of a variant that has one, and of one that has two
-pub one_field : {A : Type 0} (P : A → A → Bool) → IsExact P → (x y : A × Unit {0}) → P x.0 y.0 ≡ true → x ≡ y
+pub one_field : {A : Type 0} (P : A → A → Bool) → IsExact P → (x y : A × Unit {0})
+    → P x.0 y.0 ≡ true → x ≡ y
 one_field P p x y h = λ i. (p x.0 y.0 h i, tt)
 
-pub two_fields : {A B : Type 0} (P : A → A → Bool) (Q : B → B → Bool) → IsExact P → IsExact Q → (x y : A × (B × Unit {0})) → P x.0 y.0 && Q x.1.0 y.1.0 ≡ true → x ≡ y
+pub two_fields : {A B : Type 0} (P : A → A → Bool) (Q : B → B → Bool) → IsExact P → IsExact Q
+    → (x y : A × (B × Unit {0})) → P x.0 y.0 && Q x.1.0 y.1.0 ≡ true → x ≡ y
 two_fields P Q p q x y h =
     let both = and_parts _ _ h in
     λ i. (p x.0 y.0 both.0 i, (q x.1.0 y.1.0 both.1 i, tt))
@@ -38,10 +40,12 @@ AreExact [] each = Unit {0}
 AreExact (Fs ∷ Fss) each = IsExact each.0 × AreExact Fss each.1
 
 -- then so is the derived test of the enum, which goes by the variants
-pub variants_exact : (Fss : List (List Field)) (each : Each Bool Fss) → AreExact Fss each → (c d : Choice Fss) → by false false Fss each c d ≡ true → c ≡ d
+pub variants_exact : (Fss : List (List Field)) (each : Each Bool Fss) → AreExact Fss each
+    → (c d : Choice Fss) → by false false Fss each c d ≡ true → c ≡ d
 unfolding AreExact
 variants_exact [] each all c d h = absurd c
 variants_exact (Fs ∷ Fss) each all (inl x) (inl y) h = ap inl (all.0 x y h)
 variants_exact (Fs ∷ Fss) each all (inl x) (inr y) h = absurd (false≢true h)
 variants_exact (Fs ∷ Fss) each all (inr x) (inl y) h = absurd (false≢true h)
-variants_exact (Fs ∷ Fss) each all (inr x) (inr y) h = ap inr (variants_exact Fss each.1 all.1 x y h)
+variants_exact (Fs ∷ Fss) each all (inr x) (inr y) h =
+    ap inr (variants_exact Fss each.1 all.1 x y h)

@@ -1,6 +1,8 @@
 pub mod Booleans
+pub mod Elements
 pub mod Entries
 pub mod Equality
 pub mod ListFacts
+pub mod Members
 pub mod Numbers
 pub mod Orders

@@ -1,5 +1,6 @@
--- Lists: what holds of all elements, and lists that are made element by element. A map of a map is std's
--- `map-map` (lemmas.Simd); tests of joined and of mapped lists are its `list_all-append` and `list_all-map`.
+-- Lists: what holds of all elements, and lists that are made element by element. A map of a map is
+-- std's `map-map` (lemmas.Simd); tests of joined and of mapped lists are its `list_all-append` and
+-- `list_all-map`.
 use Rattle.std.proofs.Common.{◌≡◌, ℕ, ◌+◌, ◌<◌, Bool, true, false, not, cond, List, [], ◌∷◌, ◌++◌, map, filter, take, length, get_or, Option, Some, None, refl, sym, ap, ◌∙◌, append_assoc}
 use Rattle.std.specs.List.{list_all, filter_map, cons_option, AllByRecursion}
 use Rattle.std.specs.Option.{option_to_list}
@@ -12,17 +13,20 @@ use Rattle.kp_lemmas.specs.Lists.{is_empty}
 -- ---- what holds of all elements
 
 -- a weaker fact holds of all
-pub all_weaker : {X : Type 0} (P Q : X → Type 0) → ((x : X) → P x → Q x) → (xs : List X) → AllByRecursion P xs → AllByRecursion Q xs
+pub all_weaker : {X : Type 0} (P Q : X → Type 0) → ((x : X) → P x → Q x) → (xs : List X)
+    → AllByRecursion P xs → AllByRecursion Q xs
 all_weaker P Q f [] all = tt
 all_weaker P Q f (x ∷ xs) all = (f x all.0, all_weaker P Q f xs all.1)
 
 -- of two lists, one behind the other
-pub all_append : {X : Type 0} (P : X → Type 0) (xs ys : List X) → AllByRecursion P xs → AllByRecursion P ys → AllByRecursion P (xs ++ ys)
+pub all_append : {X : Type 0} (P : X → Type 0) (xs ys : List X) → AllByRecursion P xs
+    → AllByRecursion P ys → AllByRecursion P (xs ++ ys)
 all_append P [] ys a b = b
 all_append P (x ∷ xs) ys a b = (a.0, all_append P xs ys a.1 b)
 
 -- of the elements that pass a test
-pub all_filter : {X : Type 0} (P : X → Type 0) (test : X → Bool) (xs : List X) → AllByRecursion P xs → AllByRecursion P (filter test xs)
+pub all_filter : {X : Type 0} (P : X → Type 0) (test : X → Bool) (xs : List X) → AllByRecursion P xs
+    → AllByRecursion P (filter test xs)
 all_filter P test [] all = tt
 all_filter P test (x ∷ xs) all = kept (test x) (all_filter P test xs all.1)
   where
@@ -33,17 +37,21 @@ all_filter P test (x ∷ xs) all = kept (test x) (all_filter P test xs all.1)
 -- ---- what a test says of all elements
 
 -- a weaker test passes all
-pub test_weaker : {X : Type 0} (p q : X → Bool) → ((x : X) → p x ≡ true → q x ≡ true) → (xs : List X) → list_all p xs ≡ true → list_all q xs ≡ true
+pub test_weaker : {X : Type 0} (p q : X → Bool) → ((x : X) → p x ≡ true → q x ≡ true)
+    → (xs : List X) → list_all p xs ≡ true → list_all q xs ≡ true
 test_weaker p q f [] h = refl
-test_weaker p q f (x ∷ xs) h = let both = and_parts _ _ h in and_from _ _ (f x both.0) (test_weaker p q f xs both.1)
+test_weaker p q f (x ∷ xs) h =
+    let both = and_parts _ _ h in and_from _ _ (f x both.0) (test_weaker p q f xs both.1)
 
 -- a test that all values pass
-pub test_always : {X : Type 0} (p : X → Bool) → ((x : X) → p x ≡ true) → (xs : List X) → list_all p xs ≡ true
+pub test_always : {X : Type 0} (p : X → Bool) → ((x : X) → p x ≡ true) → (xs : List X)
+    → list_all p xs ≡ true
 test_always p f [] = refl
 test_always p f (x ∷ xs) = and_from _ _ (f x) (test_always p f xs)
 
 -- two lists, one behind the other
-pub test_append : {X : Type 0} (p : X → Bool) (xs ys : List X) → list_all p xs ≡ true → list_all p ys ≡ true → list_all p (xs ++ ys) ≡ true
+pub test_append : {X : Type 0} (p : X → Bool) (xs ys : List X) → list_all p xs ≡ true
+    → list_all p ys ≡ true → list_all p (xs ++ ys) ≡ true
 test_append p xs ys g h = list_all-append p xs ys ∙ and_from (list_all p xs) (list_all p ys) g h
 
 -- ---- lists made element by element
@@ -53,12 +61,16 @@ pub only_option : {X : Type 0} (o : Option X) → cons_option o [] ≡ option_to
 only_option None = refl
 only_option (Some x) = refl
 
-pub option_before : {X : Type 0} (o : Option X) (xs : List X) → cons_option o xs ≡ option_to_list o ++ xs
+pub option_before : {X : Type 0} (o : Option X) (xs : List X)
+    → cons_option o xs ≡ option_to_list o ++ xs
 option_before None xs = refl
 option_before (Some x) xs = refl
 
 -- what was made of the first i elements, and what is made of the next one x
-pub filter_map_step : {X Y : Type 0} (h : X → Option Y) (made : List Y) (xs : List X) (i : ℕ) (x : X) → i < length xs → x ≡ get_or xs i x → (made ++ filter_map h (take i xs)) ++ option_to_list (h x) ≡ made ++ filter_map h (take (i + 1) xs)
+pub filter_map_step : {X Y : Type 0} (h : X → Option Y) (made : List Y) (xs : List X) (i : ℕ)
+    (x : X) → i < length xs → x ≡ get_or xs i x
+    → (made ++ filter_map h (take i xs)) ++ option_to_list (h x) ≡ made ++ filter_map h
+    (take (i + 1) xs)
 filter_map_step h made xs i x lt is =
     append_assoc made (filter_map h (take i xs)) (option_to_list (h x))
     ∙ ap (λ ys. made ++ ys)
@@ -68,10 +80,13 @@ filter_map_step h made xs i x lt is =
     ∙ ap (filter_map h) (sym (take_more xs i x lt)))
 
 -- what is added to what was added
-pub added_twice : {X : Type 0} (start first second more last : List X) → first ≡ start ++ more → second ≡ first ++ last → second ≡ start ++ (more ++ last)
-added_twice start first second more last e f = f ∙ ap (λ xs. xs ++ last) e ∙ append_assoc start more last
+pub added_twice : {X : Type 0} (start first second more last : List X) → first ≡ start ++ more
+    → second ≡ first ++ last → second ≡ start ++ (more ++ last)
+added_twice start first second more last e f =
+    f ∙ ap (λ xs. xs ++ last) e ∙ append_assoc start more last
 
 -- a map keeps whether there are elements
-pub map_some : {X Y : Type 0} (f : X → Y) (xs : List X) → not (is_empty xs) ≡ not (is_empty (map f xs))
+pub map_some : {X Y : Type 0} (f : X → Y) (xs : List X)
+    → not (is_empty xs) ≡ not (is_empty (map f xs))
 map_some f [] = refl
 map_some f (x ∷ xs) = refl

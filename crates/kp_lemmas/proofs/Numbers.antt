@@ -4,7 +4,8 @@ use Rattle.std.proofs.lemmas.Bool.Decides.{nat_tests}
 use Rattle.std.proofs.NetLemmas.Texts.{AllSegments}
 
 -- the groups of 16 bits of a number are segments of an address
-pub groups_are_segments : (n : ℕ) (places : List ℕ) → AllSegments (map (λ place. n / 2 ^ (16 * place) % 2 ^ 16) places)
+pub groups_are_segments : (n : ℕ) (places : List ℕ)
+    → AllSegments (map (λ place. n / 2 ^ (16 * place) % 2 ^ 16) places)
 groups_are_segments n [] k = lit< tt
 groups_are_segments n (place ∷ places) zero = omega arith
 groups_are_segments n (place ∷ places) (suc k) = groups_are_segments n places k

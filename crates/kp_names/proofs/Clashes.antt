@@ -8,7 +8,7 @@ use Rattle.kp_types.specs.declared.chain.ChainKey.{ChainKey}
 use Rattle.kp_choice_defs.specs.Names.{same_chain_key, is_clash, clash_or, first_clash}
 use Rattle.kp_names.specs.Places.{clash_at, other_of, IsWithin}
 use Rattle.kp_names.specs.declared.namesakes.Namesakes.{Namesakes}
-use Rattle.kp_names.proofs.SameKeys.{one_chain_key}
+use Rattle.kp_choice_defs.proofs.ChainKeys.{one_chain_key}
 
 module _ (name : ChainKey → List ℕ) (keys : List ChainKey) where
   -- the first other key with the name of this one

@@ -1,21 +1,12 @@
--- The test of keys tells all keys apart, and it is the derived one.
-use Rattle.std.proofs.Common.{◌≡◌, ℕ, true, ◌&&◌, ◌==◌, List, refl, ap, sym, ◌∙◌, arith}
+-- The test of keys is the derived one.
+use Rattle.std.proofs.Common.{◌≡◌, ◌&&◌, ◌==◌, refl, ap, sym, ◌∙◌}
 use Rattle.std.specs.Str.{bytes_eq}
 use Rattle.std.proofs.Math.Bool.{and_assoc}
-use Rattle.std.proofs.lemmas.Bool.{and_parts}
-use Rattle.std.proofs.lemmas.Bool.Decides.{nat_tests}
-use Rattle.std.proofs.lemmas.Slice.Eq.{bytes_eq-Decides}
-use Rattle.kp_base.specs.declared.address.Family.{Family}
-use Rattle.kp_base.specs.declared.address.Family.TheVariants.{V4, V6}
-use Rattle.kp_base.specs.declared.port.Proto.{Proto}
-use Rattle.kp_base.specs.declared.port.Proto.TheVariants.{Sctp, Tcp, Udp}
 use Rattle.kp_base.specs.declared.key.PortKey.{PortKey}
 use Rattle.kp_base.specs.declared.key.Endpoint.{Endpoint}
-use Rattle.kp_base.specs.contracts.address.FamilyPartialEq.TheImpl as family_eq
-use Rattle.kp_base.specs.contracts.port.ProtoPartialEq.TheImpl as proto_eq
+use Rattle.kp_base.proofs.SameParts.{family_same, proto_same}
 use Rattle.kp_base.specs.contracts.key.PortKeyPartialEq.TheImpl as port_key_eq
 use Rattle.kp_base.specs.contracts.key.EndpointPartialEq.TheImpl as endpoint_eq
-use Rattle.kp_base.specs.Net.{same_address, same_family}
 use Rattle.kp_types.specs.declared.chain.PortChain.{PortChain}
 use Rattle.kp_types.specs.declared.chain.PortChain.TheVariants.{Svc, Svl, Ext, Fw}
 use Rattle.kp_types.specs.declared.chain.ChainKey.{ChainKey}
@@ -24,96 +15,6 @@ use Rattle.kp_types.specs.contracts.chain.PortChainPartialEq.TheImpl as kind_eq
 use Rattle.kp_types.specs.contracts.chain.ChainKeyPartialEq.TheImpl as chain_key_eq
 use Rattle.kp_types.specs.Ports.{same_proto}
 use Rattle.kp_choice_defs.specs.Names.{port_chain_place, same_port_key, same_endpoint, same_chain_key}
-
--- ---- the parts of keys
-
-pub one_text : (a b : List ℕ) → bytes_eq a b ≡ true → a ≡ b
-one_text a b h = (bytes_eq-Decides a b).0 h
-
-one_number : (m n : ℕ) → (m == n) ≡ true → m ≡ n
-one_number m n h = grind (arith, nat_tests)
-
-one_family : (a b : Family) → same_family a b ≡ true → a ≡ b
-one_family V4 V4 h = refl
-one_family V4 V6 h = absurd (cc)
-one_family V6 V4 h = absurd (cc)
-one_family V6 V6 h = refl
-
-one_proto : (a b : Proto) → same_proto a b ≡ true → a ≡ b
-one_proto Sctp Sctp h = refl
-one_proto Sctp Tcp h = absurd (cc)
-one_proto Sctp Udp h = absurd (cc)
-one_proto Tcp Sctp h = absurd (cc)
-one_proto Tcp Tcp h = refl
-one_proto Tcp Udp h = absurd (cc)
-one_proto Udp Sctp h = absurd (cc)
-one_proto Udp Tcp h = absurd (cc)
-one_proto Udp Udp h = refl
-
-one_kind : (a b : PortChain) → (port_chain_place a == port_chain_place b) ≡ true → a ≡ b
-one_kind Svc Svc h = refl
-one_kind Svc Svl h = absurd (cc)
-one_kind Svc Ext h = absurd (cc)
-one_kind Svc Fw h = absurd (cc)
-one_kind Svl Svc h = absurd (cc)
-one_kind Svl Svl h = refl
-one_kind Svl Ext h = absurd (cc)
-one_kind Svl Fw h = absurd (cc)
-one_kind Ext Svc h = absurd (cc)
-one_kind Ext Svl h = absurd (cc)
-one_kind Ext Ext h = refl
-one_kind Ext Fw h = absurd (cc)
-one_kind Fw Svc h = absurd (cc)
-one_kind Fw Svl h = absurd (cc)
-one_kind Fw Ext h = absurd (cc)
-one_kind Fw Fw h = refl
-
-pub one_port_key : (a b : PortKey) → same_port_key a b ≡ true → a ≡ b
-one_port_key a b h =
-    let ports = and_parts (bytes_eq a.object.namespace b.object.namespace && bytes_eq a.object.name b.object.name && bytes_eq a.port_name b.port_name) (same_proto a.proto b.proto) h in
-    let names = and_parts (bytes_eq a.object.namespace b.object.namespace && bytes_eq a.object.name b.object.name) (bytes_eq a.port_name b.port_name) ports.0 in
-    let objects = and_parts (bytes_eq a.object.namespace b.object.namespace) (bytes_eq a.object.name b.object.name) names.0 in
-    λ i. record {
-      object = record { namespace = one_text a.object.namespace b.object.namespace objects.0 i; name = one_text a.object.name b.object.name objects.1 i };
-      port_name = one_text a.port_name b.port_name names.1 i;
-      proto = one_proto a.proto b.proto ports.1 i;
-    }
-
-pub one_endpoint : (a b : Endpoint) → same_endpoint a b ≡ true → a ≡ b
-one_endpoint a b h =
-    let parts = and_parts (same_address a.address b.address) (a.port == b.port) h in
-    let address = and_parts (same_family a.address.family b.address.family) (a.address.number == b.address.number) parts.0 in
-    λ i. record {
-      address = record { family = one_family a.address.family b.address.family address.0 i; number = one_number a.address.number b.address.number address.1 i };
-      port = one_number a.port b.port parts.1 i;
-    }
-
-pub one_chain_key : (a b : ChainKey) → same_chain_key a b ≡ true → a ≡ b
-one_chain_key (Port k a) (Port l b) h =
-    let parts = and_parts (port_chain_place k == port_chain_place l) (same_port_key a b) h in λ i. Port (one_kind k l parts.0 i) (one_port_key a b parts.1 i)
-one_chain_key (Port k a) (Sep b f) h = absurd (cc)
-one_chain_key (Sep a e) (Port l b) h = absurd (cc)
-one_chain_key (Sep a e) (Sep b f) h =
-    let parts = and_parts (same_port_key a b) (same_endpoint e f) h in λ i. Sep (one_port_key a b parts.0 i) (one_endpoint e f parts.1 i)
-
--- ---- the derived tests
-
-family_same : (a b : Family) → family_eq.ghosts.eq a b ≡ same_family a b
-family_same V4 V4 = refl
-family_same V4 V6 = refl
-family_same V6 V4 = refl
-family_same V6 V6 = refl
-
-proto_same : (a b : Proto) → proto_eq.ghosts.eq a b ≡ same_proto a b
-proto_same Sctp Sctp = refl
-proto_same Sctp Tcp = refl
-proto_same Sctp Udp = refl
-proto_same Tcp Sctp = refl
-proto_same Tcp Tcp = refl
-proto_same Tcp Udp = refl
-proto_same Udp Sctp = refl
-proto_same Udp Tcp = refl
-proto_same Udp Udp = refl
 
 kind_same : (a b : PortChain) → kind_eq.ghosts.eq a b ≡ (port_chain_place a == port_chain_place b)
 kind_same Svc Svc = refl

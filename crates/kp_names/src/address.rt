@@ -12,7 +12,8 @@ use sha2::{Digest, Sha256};
 
 /// Adds an endpoint's text.
 pub fn feed_endpoint(hasher: &mut Sha256, endpoint: &Endpoint)
-    ensures { (m : List ℕ) → Holds256 hasher.old m → Holds256 hasher.new (m ++ spec.endpoint_text endpoint.now) }
+    ensures { (m : List ℕ) → Holds256 hasher.old m
+        → Holds256 hasher.new (m ++ spec.endpoint_text endpoint.now) }
 {
     feed_host(hasher, &endpoint.address);
     hasher.update(b":");
@@ -22,7 +23,8 @@ pub fn feed_endpoint(hasher: &mut Sha256, endpoint: &Endpoint)
 /// Adds an address as it stands before a port.
 fn feed_host(hasher: &mut Sha256, address: &Address)
     ensures { (m : List ℕ) → Holds256 hasher.old m
-        → Holds256 hasher.new (m ++ spec.host_text address.now.family (spec.address_text address.now)) }
+        → Holds256 hasher.new
+        (m ++ spec.host_text address.now.family (spec.address_text address.now)) }
 {
     match address.family() {
         Family::V4 => feed_ipv4(hasher, address.number()),
@@ -144,7 +146,8 @@ fn longest_zero_run(groups: &[u16]) -> (usize, usize)
 
 /// Adds groups with colons between them.
 fn feed_groups(hasher: &mut Sha256, groups: &[u16])
-    ensures { (m : List ℕ) → Holds256 hasher.old m → Holds256 hasher.new (m ++ Text.groups_text groups.now) }
+    ensures { (m : List ℕ) → Holds256 hasher.old m
+        → Holds256 hasher.new (m ++ Text.groups_text groups.now) }
 {
     if let Some((first, rest)) = groups.split_first() {
         feed_hex(hasher, *first);

@@ -13,11 +13,12 @@ use kp_types::{ChainKey, Clash};
 use std::alloc::Global;
 
 impl Namer {
-    /// Checks that no two different keys have one name. Otherwise the fault has the clash whose first key
-    /// stands first, and of those the one whose second key does.
+    /// Checks that no two different keys have one name. Otherwise the fault has the clash whose
+    /// first key stands first, and of those the one whose second key does.
     pub fn check_names(&self, alloc: Global, keys: &Items<ChainKey>) -> Result<(), NameFault>
         ensures ok { OnOk result (first_clash (spec.chain_name self.now) keys.now ≡ None) }
-        ensures clash { IfErr result (TellsClash (first_clash (spec.chain_name self.now) keys.now)) }
+        ensures clash { IfErr result (TellsClash
+            (first_clash (spec.chain_name self.now) keys.now)) }
     {
         let keys = keys.as_slice();
         match first_places(*self, alloc, keys)? {
@@ -37,7 +38,8 @@ fn first_places(
     alloc: Global,
     keys: &[ChainKey],
 ) -> Result<Option<(usize, usize)>, NoMemory>
-    ensures ok { IfOk result (λ places. option_and_then (clash_at (spec.chain_name namer) keys.now) places
+    ensures ok { IfOk result (λ places.
+        option_and_then (clash_at (spec.chain_name namer) keys.now) places
         ≡ first_clash (spec.chain_name namer) keys.now) }
     ensures within { IfOk result (λ places.
         IfSome places (λ p. (p.0 < length keys.now) × (p.1 < length keys.now))) }
@@ -61,12 +63,13 @@ fn first_places(
     Ok(clash)
 }
 
-/// The place of the first key behind this one with the same name that is another key, where these are the
-/// places of those with the name.
+/// The place of the first key behind this one with the same name that is another key, where these
+/// are the places of those with the name.
 fn first_other(keys: &[ChainKey], place: usize, namesakes: Option<Namesakes>) -> Option<usize>
     requires place { place < length keys.now }
     requires within { IfSome namesakes (IsWithin (length keys.now)) }
-    ensures value { (k : _) → slice_get keys.now place ≡ Some k → result ≡ other_of keys.now namesakes k }
+    ensures value { (k : _) → slice_get keys.now place ≡ Some k
+        → result ≡ other_of keys.now namesakes k }
     ensures within { IfSome result (λ i. i < length keys.now) }
 {
     let namesakes = namesakes?;

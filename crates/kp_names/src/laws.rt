@@ -1,5 +1,5 @@
-//! What holds of names whatever the hash does: different keys of one kind have different texts, if they
-//! are written as keys of objects are. And how addresses are written.
+//! What holds of names whatever the hash does: different keys of one kind have different texts, if
+//! they are written as keys of objects are. And how addresses are written.
 ghost use Rattle.std.specs.Prelude.{◌≡◌, ◌++◌};
 ghost use Rattle.kp_base.specs.declared.key.PortKey.{PortKey};
 ghost use Rattle.kp_base.specs.declared.key.Endpoint.{Endpoint};
@@ -8,12 +8,12 @@ ghost use Rattle.kp_choice_defs.specs.Names.{port_text};
 ghost use Rattle.kp_names.specs.WorkedAddresses as worked;
 ghost use Rattle.kp_names.specs.Written.{IsWritten, IsWrittenEndpoint};
 
-/// Different Service ports have different texts.
+/// Different Service ports, written as objects and their ports are, have different texts.
 pub fn port_texts_differ()
     ensures { (a b : PortKey) → IsWritten a → IsWritten b → port_text a ≡ port_text b → a ≡ b }
 {}
 
-/// Different endpoints of Service ports have different texts.
+/// Different endpoints of IPv4, of such Service ports, have different texts.
 pub fn endpoint_texts_differ()
     ensures { (a b : PortKey) (e f : Endpoint) → IsWritten a → IsWritten b
         → IsWrittenEndpoint e → IsWrittenEndpoint f

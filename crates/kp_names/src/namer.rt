@@ -40,8 +40,9 @@ impl Namer {
         Namer { length }
     }
 
-    /// The name of a Service port's chain of this kind: its prefix, and the first characters of the base 32
-    /// (RFC 4648) of the SHA-256 of `namespace/name:port` and the protocol in lower case. It takes no memory.
+    /// The name of a Service port's chain of this kind: its prefix, and the first characters of
+    /// the base 32 (RFC 4648) of the SHA-256 of `namespace/name:port` and the protocol in lower
+    /// case. It takes no memory.
     pub fn port_chain_name(&self, kind: PortChain, port: &PortKey) -> ChainName
         ensures { result ≡ spec.port_chain_name self.now kind port.now }
     {
@@ -50,8 +51,8 @@ impl Namer {
         name(prefix(kind), &hasher.finalize(), self.length)
     }
 
-    /// The name of the chain of an endpoint of a Service port. The text that is hashed ends in `address:port`.
-    /// It takes no memory.
+    /// The name of the chain of an endpoint of a Service port. The text that is hashed ends in
+    /// `address:port`. It takes no memory.
     pub fn endpoint_chain_name(&self, port: &PortKey, endpoint: &Endpoint) -> ChainName
         ensures { result ≡ spec.endpoint_chain_name self.now port.now endpoint.now }
     {

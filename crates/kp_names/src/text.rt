@@ -20,7 +20,8 @@ pub fn proto_text(proto: Proto) -> &'static str
 
 /// Adds a Service port's text to what is hashed.
 pub fn feed_port(hasher: &mut Sha256, port: &PortKey)
-    ensures { (m : List ℕ) → Holds256 hasher.old m → Holds256 hasher.new (m ++ port_text port.now) }
+    ensures { (m : List ℕ) → Holds256 hasher.old m
+        → Holds256 hasher.new (m ++ port_text port.now) }
 {
     hasher.update(port.object.namespace.as_str().as_bytes());
     hasher.update(b"/");
@@ -31,7 +32,8 @@ pub fn feed_port(hasher: &mut Sha256, port: &PortKey)
 
 /// Adds a colon and the name of a port, if it has one.
 fn feed_port_name(hasher: &mut Sha256, name: &str)
-    ensures { (m : List ℕ) → Holds256 hasher.old m → Holds256 hasher.new (m ++ spec.port_name_text name.now) }
+    ensures { (m : List ℕ) → Holds256 hasher.old m
+        → Holds256 hasher.new (m ++ spec.port_name_text name.now) }
 {
     if !name.is_empty() {
         hasher.update(b":");

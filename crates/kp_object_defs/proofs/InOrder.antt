@@ -1,6 +1,6 @@
 -- Lists in the order of keys, and the entries of a sorted map of std that is filled one by one. R is the
 -- order of the keys, and C what a map's keys compare to.
-use Rattle.std.proofs.Common.{◌≡◌, ℕ, ◌+◌, ◌<◌, Bool, true, false, cond, List, [], ◌∷◌, ◌++◌, map, reverse, take, length, get_or, option_map, Option, Some, None, refl, sym, ap, subst, ◌∙◌, T, Bor}
+use Rattle.std.proofs.Common.{◌≡◌, ℕ, ◌+◌, ◌<◌, Bool, true, false, cond, List, [], ◌∷◌, ◌++◌, map, reverse, take, length, get_or, option_map, Option, Some, None, refl, sym, ap, ◌∙◌, Bor}
 use Rattle.std.specs.declared.cmp.Ordering.{Ordering}
 use Rattle.std.specs.declared.cmp.Ordering.TheVariants.{Less, Equal, Greater}
 use Rattle.std.specs.Ordering.{eq_by_cmp, is_eq, match_ordering}
@@ -11,15 +11,8 @@ use Rattle.std.specs.BTreeMap.{insert_entry, is_at}
 use Rattle.std.specs.Map.{lookup}
 use Rattle.std.specs.Map.Iter.{deref_pair}
 use Rattle.std.proofs.lemmas.List.{map-append, reverse-append, take_more}
+use Rattle.kp_lemmas.proofs.Booleans.{true_from_fact, fact_from_true}
 use Rattle.kp_object_defs.specs.Order.{in_order, by_key}
-
--- a test that holds, as a fact
-holds : {b : Bool} → b ≡ true → T b
-holds e = subst T (sym e) tt
-
-is_true : (b : Bool) → T b → b ≡ true
-is_true true h = refl
-is_true false h = absurd h
 
 -- the first answer, or else the second
 abbrev pub first_some : {X : Type 0} → Option X → Option X → Option X
@@ -121,9 +114,9 @@ module _ {K X : Type 0} {R : K → K → Ordering} (total : IsTotalOrder R) wher
   -- entries in order are sorted
   pub sorted-in_order : (es : List (K × X)) → is_sorted R (in_order R es) ≡ true
   sorted-in_order [] = refl
-  sorted-in_order (e ∷ es) = is_true _ (is_sorted-put R total e.0 e.1 (in_order R es) (holds (sorted-in_order es)))
+  sorted-in_order (e ∷ es) = true_from_fact _ (is_sorted-put R total e.0 e.1 (in_order R es) (fact_from_true (sorted-in_order es)))
 
   -- entries that answer alike have one order
   pub same_order : IsAntisymmetric R → (es fs : List (K × X)) → ((q : K) → find R q es ≡ find R q fs) → in_order R es ≡ in_order R fs
   same_order exact es fs alike =
-      same_entries R total exact (in_order R es) (in_order R fs) (holds (sorted-in_order es)) (holds (sorted-in_order fs)) (λ q. find-in_order q es ∙ alike q ∙ sym (find-in_order q fs))
+      same_entries R total exact (in_order R es) (in_order R fs) (fact_from_true (sorted-in_order es)) (fact_from_true (sorted-in_order fs)) (λ q. find-in_order q es ∙ alike q ∙ sym (find-in_order q fs))

@@ -1,9 +1,11 @@
--- The endpoints that the EndpointSlice controller wants for a Service, of its Pods (Kubernetes documents on
--- Services and EndpointSlices; KEP-752, KEP-1669; same-zone hints after the documents on traffic
--- distribution). Which pods are passed over is this project's choice where the documents are silent.
+-- The endpoints that the EndpointSlice controller wants for a Service, of its Pods (Kubernetes
+-- documents on Services and EndpointSlices; KEP-752, KEP-1669; same-zone hints after the documents
+-- on traffic distribution). Which pods are passed over is this project's choice where the documents
+-- are silent.
 use Rattle.std.specs.Prelude.{ℕ, ◌&&◌, ◌||◌, Bool, true, false, List, [], ◌∷◌, not, cond, bytes_eq, Option, Some, None, option_map, option_and_then, reverse}
 use Rattle.std.specs.List.{list_any, list_all, find, filter, filter_map}
 use Rattle.std.specs.FinMap as finite
+pub use Rattle.kp_lemmas.specs.Lists.{is_empty}
 use Rattle.kp_base.specs.Net.{AddressParts, same_family}
 use Rattle.kp_base.specs.Keys.{key_cmp}
 use Rattle.kp_base.specs.declared.address.Family.{Family}
@@ -25,11 +27,6 @@ use Rattle.kp_types.specs.declared.pod.Node.{Node}
 use Rattle.kp_object_defs.specs.Objects.{Objects, zone_of}
 use Rattle.kp_object_defs.specs.Order.{by_key, values_of}
 
--- a list is empty
-abbrev pub is_empty : {A : Type 0} → List A → Bool
-is_empty [] = true
-is_empty (x ∷ xs) = false
-
 -- a Service of this type is only another name
 abbrev pub is_external_name : ServiceKind → Bool
 is_external_name ExternalName = true
@@ -47,22 +44,28 @@ is_reconciled config s = config.controller && has_selector s
 
 -- the pod has a label
 abbrev pub has_label : Pod → Pair → Bool
-has_label pod term = list_any (λ l. bytes_eq l.key term.key && bytes_eq l.value term.value) pod.labels
+has_label pod term =
+    list_any (λ l. bytes_eq l.key term.key && bytes_eq l.value term.value) pod.labels
 
 -- the Service selects the pod: one namespace, and each term of the selector is among the labels
 abbrev pub selects : Service → Pod → Bool
-selects s pod = has_selector s && bytes_eq s.key.namespace pod.key.namespace && list_all (has_label pod) s.selector
+selects s pod =
+    has_selector s && bytes_eq s.key.namespace pod.key.namespace
+    && list_all (has_label pod) s.selector
 
--- the number of a target port at a pod: itself, or that of the first container port of the name and protocol
+-- the number of a target port at a pod: itself, or that of the first container port of the name and
+-- protocol
 abbrev pub target_number : Pod → Proto → TargetPort → Option ℕ
 target_number pod proto (Number n) = Some n
 target_number pod proto (Named name) =
-    option_map (λ c. c.port) (find (λ c. bytes_eq c.name name && same_proto c.proto proto) pod.ports)
+    option_map (λ c. c.port)
+    (find (λ c. bytes_eq c.name name && same_proto c.proto proto) pod.ports)
 
 -- a Service port as a pod resolves it
 abbrev pub resolved_port : Pod → ServicePort → Option SlicePort
 resolved_port pod p =
-    option_map (λ n. record { name = p.name; proto = p.proto; port = Some n }) (target_number pod p.proto p.target)
+    option_map (λ n. record { name = p.name; proto = p.proto; port = Some n })
+    (target_number pod p.proto p.target)
 
 -- the Service's ports that a pod resolves, in their order
 abbrev pub resolved_ports : Service → Pod → List SlicePort
@@ -96,8 +99,8 @@ abbrev pub with_ports : Pod → SliceEndpoint → List SlicePort → Option Want
 with_ports pod entry [] = None
 with_ports pod entry (p ∷ ps) = Some (record { pod = pod.key; ports = p ∷ ps; entry = entry })
 
--- the endpoint that a Service wants of a selected pod, whose node has this zone: none of a pod that has
--- finished, has no address of the family or resolves no port
+-- the endpoint that a Service wants of a selected pod, whose node has this zone: none of a pod that
+-- has finished, has no address of the family or resolves no port
 abbrev pub desired_in_zone : Family → Service → Pod → Option (List ℕ) → Option Wanted
 desired_in_zone family s pod zone =
     cond pod.finished None
@@ -110,17 +113,21 @@ desired_of family zone_at s pod = desired_in_zone family s pod (option_and_then 
 
 -- the endpoints that a Service wants of pods, in their order
 abbrev pub desired_from : Family → (List ℕ → Option (List ℕ)) → Service → List Pod → List Wanted
-desired_from family zone_at s pods = filter_map (desired_of family zone_at s) (filter (selects s) pods)
+desired_from family zone_at s pods =
+    filter_map (desired_of family zone_at s) (filter (selects s) pods)
 
--- the zone of the node of this name among nodes, if it has one; of nodes of one name the last counts
+-- the zone of the node of this name among nodes, if it has one; of nodes of one name the last
+-- counts
 abbrev pub zone_among : List Node → List ℕ → Option (List ℕ)
-zone_among nodes name = option_and_then (λ n. n.zone) (find (λ n. bytes_eq n.name name) (reverse nodes))
+zone_among nodes name =
+    option_and_then (λ n. n.zone) (find (λ n. bytes_eq n.name name) (reverse nodes))
 
 -- pods in order of their names; of pods of one name the last counts
 abbrev pub in_name_order : List Pod → List Pod
 in_name_order pods = values_of (by_key key_cmp (λ p. p.key) pods)
 
--- the endpoints that a Service wants of pods, on nodes, each in any order: in order of the pods' names
+-- the endpoints that a Service wants of pods, on nodes, each in any order: in order of the pods'
+-- names
 abbrev pub desired_among : Family → Service → List Pod → List Node → List Wanted
 desired_among family s pods nodes =
     filter_map (desired_of family (zone_among nodes) s) (in_name_order (filter (selects s) pods))

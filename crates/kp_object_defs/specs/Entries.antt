@@ -1,6 +1,6 @@
--- The endpoints of one Service port, each address and port once (Kubernetes documents on EndpointSlices,
--- "Duplicate endpoints"; kube-proxy's EndpointSliceCache). Which of several entries of one address and port
--- counts, and the order, are this project's choice.
+-- The endpoints of one Service port, each address and port once (Kubernetes documents on
+-- EndpointSlices, "Duplicate endpoints"; kube-proxy's EndpointSliceCache). Which of several entries
+-- of one address and port counts, and the order, are this project's choice.
 use Rattle.std.specs.Prelude.{ℕ, ◌&&◌, Bool, true, false, List, [], ◌∷◌, ◌++◌, map, reverse, not, cond, bytes_eq, Option, Some, None, option_map, option_and_then, slice_get}
 use Rattle.std.specs.List.{filter, filter_map, flat_map}
 use Rattle.std.specs.FinMap as finite
@@ -63,16 +63,19 @@ candidate_at node e number address = record {
   hints = e.hints;
 }
 
--- the candidate of a slice's endpoint, where it has an address of the family and the port has a number
+-- the candidate of a slice's endpoint, where it has an address of the family and the port has a
+-- number
 abbrev pub candidate_of : Family → List ℕ → Option ℕ → SliceEndpoint → Option Candidate
 candidate_of family node number e =
-    option_and_then (λ n. option_map (candidate_at node e n) (option_and_then (address_in family) e.address)) number
+    option_and_then
+    (λ n. option_map (candidate_at node e n) (option_and_then (address_in family) e.address)) number
 
 -- the candidates of a slice at a Service port
 abbrev pub slice_candidates : Family → List ℕ → PortKey → Slice → List Candidate
 slice_candidates family node port slice =
     cond (is_type_of family slice.family)
-    (filter_map (candidate_of family node (number_at port.port_name port.proto slice.ports)) slice.endpoints) []
+    (filter_map (candidate_of family node (number_at port.port_name port.proto slice.ports))
+    slice.endpoints) []
 
 -- the candidate of a wanted endpoint at a Service port
 abbrev pub wanted_candidate : Family → List ℕ → PortKey → Wanted → Option Candidate
@@ -84,11 +87,12 @@ abbrev pub is_of_service : ObjectKey → Slice → Bool
 is_of_service service slice =
     bytes_eq slice.key.namespace service.namespace && is_named service.name slice.service
 
--- The candidates of a port in their order: the wanted endpoints of a Service that the controller makes slices
--- for and then its other slices, or all slices of another Service.
+-- The candidates of a port in their order: the wanted endpoints of a Service that the controller
+-- makes slices for and then its other slices, or all slices of another Service.
 abbrev pub candidates_from : Family → List ℕ → PortKey → List Wanted → List Slice → List Candidate
 candidates_from family node port wanted slices =
-    filter_map (wanted_candidate family node port) wanted ++ flat_map (slice_candidates family node port) slices
+    filter_map (wanted_candidate family node port) wanted
+    ++ flat_map (slice_candidates family node port) slices
 
 -- the slices of a Service, in order of their names
 abbrev pub slices_of : Objects → ObjectKey → List Slice
@@ -98,11 +102,13 @@ slices_of o service = filter (is_of_service service) (finite.values o.slices)
 abbrev pub unmanaged : List Slice → List Slice
 unmanaged slices = filter (λ s. not s.managed) slices
 
--- Each address and port once, in order: of entries with one address and port the last one on this node
--- counts, or else the first.
+-- Each address and port once, in order: of entries with one address and port the last one on this
+-- node counts, or else the first.
 abbrev pub counted_once : List Candidate → List Candidate
 counted_once cs =
-    values_of (in_order endpoint_cmp (map (λ c. (c.endpoint, c)) (reverse (filter (λ c. c.local) cs) ++ cs)))
+    values_of
+    (in_order endpoint_cmp
+    (map (λ c. (c.endpoint, c)) (reverse (filter (λ c. c.local) cs) ++ cs)))
 
 -- a candidate is of this family
 abbrev pub is_of_family : Family → Candidate → Bool
@@ -113,12 +119,16 @@ abbrev pub family_among : List Candidate → Family
 family_among [] = V4
 family_among (c ∷ cs) = c.endpoint.address.family
 
--- what the endpoints of a Service are taken from: the wanted ones and slices that others made, where the
--- controller makes slices for it, or else all its slices
+-- what the endpoints of a Service are taken from: the wanted ones and slices that others made,
+-- where the controller makes slices for it, or else all its slices
 abbrev pub sources_of : Family → FamilyConfig → Objects → Service → ServiceSources
 sources_of family config o s =
     cond (is_reconciled config s)
-    (record { service = s; wanted = desired_endpoints_of family o s; slices = unmanaged (slices_of o s.key) })
+    (record {
+      service = s;
+      wanted = desired_endpoints_of family o s;
+      slices = unmanaged (slices_of o s.key);
+    })
     (record { service = s; wanted = []; slices = slices_of o s.key })
 
 -- the endpoints of a port, on this node and elsewhere, by what they are taken from
@@ -128,4 +138,5 @@ entries_from family node sources port =
 
 -- the endpoints of a port of a Service
 abbrev pub entries_of : Family → FamilyConfig → Objects → Service → PortKey → List Candidate
-entries_of family config o s port = entries_from family config.node (sources_of family config o s) port
+entries_of family config o s port =
+    entries_from family config.node (sources_of family config o s) port

@@ -8,3 +8,4 @@ pub mod Packing
 pub mod PackingLaws
 pub mod PortByKey
 pub mod PortInfo
+pub mod SlicesNow

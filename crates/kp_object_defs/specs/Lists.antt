@@ -1,6 +1,6 @@
--- The endpoints that a Service port may send to, by traffic policy, topology and termination (Kubernetes
--- documents on virtual IPs and Service traffic policies, on topology hints, and KEP-1669 on terminating
--- endpoints).
+-- The endpoints that a Service port may send to, by traffic policy, topology and termination
+-- (Kubernetes documents on virtual IPs and Service traffic policies, on topology hints, and
+-- KEP-1669 on terminating endpoints).
 use Rattle.std.specs.Prelude.{ℕ, ◌&&◌, ◌||◌, Bool, true, false, List, [], ◌∷◌, map, not, cond, bytes_eq, Option, Some, None}
 use Rattle.std.specs.List.{list_any, list_all, filter}
 use Rattle.kp_base.specs.declared.key.Endpoint.{Endpoint}
@@ -45,16 +45,19 @@ abbrev pub or_else : {A : Type 0} → List A → List A → List A
 or_else [] ys = ys
 or_else (x ∷ xs) ys = x ∷ xs
 
--- The endpoints of the whole cluster: the ready ones, by topology, or where none is ready those that still
--- serve. (Hints that apply leave one endpoint at least, so the second list counts only where none is ready.)
+-- The endpoints of the whole cluster: the ready ones, by topology, or where none is ready those
+-- that still serve. (Hints that apply leave one endpoint at least, so the second list counts only
+-- where none is ready.)
 abbrev pub cluster_endpoints : Option (List ℕ) → List Candidate → List Candidate
 cluster_endpoints zone cs =
     or_else (topology_filtered zone (filter is_ready cs)) (filter is_serving_terminating cs)
 
--- the endpoints of this node, whatever their hints: the ready ones, or where none is ready those that still serve
+-- the endpoints of this node, whatever their hints: the ready ones, or where none is ready those
+-- that still serve
 abbrev pub local_endpoints : List Candidate → List Candidate
 local_endpoints cs =
-    or_else (filter is_ready (filter (λ c. c.local) cs)) (filter is_serving_terminating (filter (λ c. c.local) cs))
+    or_else (filter is_ready (filter (λ c. c.local) cs))
+    (filter is_serving_terminating (filter (λ c. c.local) cs))
 
 -- some endpoint is ready, or still serves
 abbrev pub has_any_endpoint : List Candidate → Bool
@@ -70,12 +73,13 @@ abbrev pub used : Bool → List Candidate → List Endpoint
 used true cs = map (λ c. c.endpoint) cs
 used false cs = []
 
--- The lists of a port with these policies, which may be reached from outside the cluster or not: what isn't
--- used is empty.
+-- The lists of a port with these policies, which may be reached from outside the cluster or not:
+-- what isn't used is empty.
 abbrev pub lists_from : Policy → Policy → Bool → Option (List ℕ) → List Candidate → Lists
 lists_from internal outer accessible zone cs = record {
   cluster = used (not (is_local_policy internal) || accessible) (cluster_endpoints zone cs);
-  local = used (is_local_policy internal || (accessible && is_local_policy outer)) (local_endpoints cs);
+  local =
+      used (is_local_policy internal || (accessible && is_local_policy outer)) (local_endpoints cs);
   has_any = has_any_endpoint cs;
 }
 

@@ -1,5 +1,6 @@
--- The objects of the cluster after events: an apply puts an object in place of the one of its kind, namespace
--- and name, and a delete takes that one out, or changes nothing (Kubernetes API concepts, watch events).
+-- The objects of the cluster after events: an apply puts an object in place of the one of its kind,
+-- namespace and name, and a delete takes that one out, or changes nothing (Kubernetes API concepts,
+-- watch events).
 use Rattle.std.specs.Prelude.{ℕ, List, [], Option, option_and_then}
 use Rattle.std.specs.List.{fold}
 use Rattle.std.specs.FinMap as map
@@ -25,7 +26,8 @@ pub record Objects : Type 0 where
 
 -- no object of any kind
 abbrev pub no_objects : Objects
-no_objects = record { services = map.empty; slices = map.empty; pods = map.empty; nodes = map.empty }
+no_objects =
+    record { services = map.empty; slices = map.empty; pods = map.empty; nodes = map.empty }
 
 -- the key of a node
 abbrev pub node_key : List ℕ → ObjectKey

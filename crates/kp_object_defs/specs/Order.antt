@@ -5,7 +5,8 @@ use Rattle.std.specs.Ordering.{is_lt}
 use Rattle.std.specs.declared.cmp.Ordering.{Ordering}
 use Rattle.std.specs.FinMap.{put}
 
--- the entries in the order of their keys; of entries with one key the first counts, as in a finite map
+-- the entries in the order of their keys; of entries with one key the first counts, as in a finite
+-- map
 abbrev pub in_order : {K X : Type 0} → (K → K → Ordering) → List (K × X) → List (K × X)
 in_order R [] = []
 in_order R (e ∷ es) = put R e.0 e.1 (in_order R es)
@@ -14,8 +15,8 @@ in_order R (e ∷ es) = put R e.0 e.1 (in_order R es)
 abbrev pub values_of : {K X : Type 0} → List (K × X) → List X
 values_of es = map (λ e. e.1) es
 
--- Elements by their keys, in order. Of elements with one key the last counts, as a later apply of an object
--- takes the place of an earlier one.
+-- Elements by their keys, in order. Of elements with one key the last counts, as a later apply of
+-- an object takes the place of an earlier one.
 abbrev pub by_key : {K X : Type 0} → (K → K → Ordering) → (X → K) → List X → List (K × X)
 by_key R key xs = in_order R (reverse (map (λ x. (key x, x)) xs))
 

@@ -1,4 +1,5 @@
--- What holds of objects after any events: each stands under its own key (Kubernetes API concepts, object names).
+-- What holds of objects after any events: each stands under its own key (Kubernetes API concepts,
+-- object names).
 use Rattle.std.specs.Prelude.{◌≡◌, Some}
 use Rattle.std.specs.FinMap as finite
 use Rattle.kp_base.specs.Keys.{key_cmp}

@@ -1,5 +1,5 @@
--- One Service port found by its name, and the names of all ports in order: what is known of a port can be asked for
--- by itself, where only some objects changed.
+-- One Service port found by its name, and the names of all ports in order: what is known of a port
+-- can be asked for by itself, where only some objects changed.
 use Rattle.std.specs.Prelude.{List, map, Option, option_and_then}
 use Rattle.std.specs.List.{find, flat_map}
 use Rattle.std.specs.FinMap as finite
@@ -31,7 +31,8 @@ port_named key s = find (is_port key.port_name key.proto) s.ports
 abbrev pub info_in : Family → FamilyConfig → Objects → PortKey → Service → Option PortInfo
 info_in family config o key s =
     option_and_then
-    (λ p. info_of family config.node (zone_of o config.node) (sources_of family config o s, p)) (port_named key s)
+    (λ p. info_of family config.node (zone_of o config.node) (sources_of family config o s, p))
+    (port_named key s)
 
 -- what the proxy knows of the port of this name, if there is one that takes part
 abbrev pub info_at : Family → FamilyConfig → Objects → PortKey → Option PortInfo

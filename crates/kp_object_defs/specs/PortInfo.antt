@@ -1,7 +1,8 @@
--- What the proxy knows of one Service port, as kube-proxy's service port info: its destinations, its policies
--- and its endpoints (Kubernetes documents on Services). Only Services with a cluster address take part.
--- Addresses and ranges that stand twice in one list count once, at their first place.
-use Rattle.std.specs.Prelude.{ℕ, ◌==◌, ◌&&◌, ◌||◌, Bool, true, false, List, [], ◌∷◌, map, not, cond, Option, Some, None, option_map, is_some}
+-- What the proxy knows of one Service port, as kube-proxy's service port info: its destinations,
+-- its policies and its endpoints (Kubernetes documents on Services). Only Services with a cluster
+-- address take part. Addresses and ranges that stand twice in one list count once, at their first
+-- place.
+use Rattle.std.specs.Prelude.{ℕ, ◌==◌, ◌&&◌, ◌||◌, Bool, true, false, List, [], map, not, cond, Option, None, option_map, is_some}
 use Rattle.std.specs.List.{filter, filter_map, flat_map}
 use Rattle.std.specs.FinMap as finite
 use Rattle.kp_base.specs.Net.{AddressParts, RangeParts, same_address, same_family}
@@ -32,11 +33,13 @@ same_range a b = same_address a.base b.base && (a.bits == b.bits)
 
 -- the addresses of a family, once each
 abbrev pub addresses_in : Family → List AddressParts → List AddressParts
-addresses_in family addresses = first_places same_address (filter (λ a. same_family a.family family) addresses)
+addresses_in family addresses =
+    first_places same_address (filter (λ a. same_family a.family family) addresses)
 
 -- the ranges of a family, once each
 abbrev pub ranges_in : Family → List RangeParts → List RangeParts
-ranges_in family ranges = first_places same_range (filter (λ r. same_family r.base.family family) ranges)
+ranges_in family ranges =
+    first_places same_range (filter (λ r. same_family r.base.family family) ranges)
 
 -- the address of a cluster address field in a family
 abbrev pub address_at : Family → ClusterAddress → Option AddressParts
@@ -72,7 +75,8 @@ node_port_of s p = cond (has_node_port s.kind) p.node_port None
 
 -- a port with these may be reached from outside the cluster
 abbrev pub is_reachable : List AddressParts → List AddressParts → Option ℕ → Bool
-is_reachable external balancer node_port = not (is_empty external) || (not (is_empty balancer) || is_some node_port)
+is_reachable external balancer node_port =
+    not (is_empty external) || (not (is_empty balancer) || is_some node_port)
 
 -- the name of a Service's port
 abbrev pub port_key_of : Service → ServicePort → PortKey
@@ -80,19 +84,22 @@ port_key_of s p = record { object = s.key; port_name = p.name; proto = p.proto }
 
 -- a port of a Service may be reached from outside the cluster in a family
 abbrev pub is_reachable_in : Family → Service → ServicePort → Bool
-is_reachable_in family s p = is_reachable (addresses_in family s.external) (balancer_in family s) (node_port_of s p)
+is_reachable_in family s p =
+    is_reachable (addresses_in family s.external) (balancer_in family s) (node_port_of s p)
 
 -- the endpoints of a port of a Service that it may send to, in a zone
 abbrev pub lists_of : Family → Service → ServicePort → Option (List ℕ) → List Candidate → Lists
-lists_of family s p zone entries = lists_from s.internal s.outer (is_reachable_in family s p) zone entries
+lists_of family s p zone entries =
+    lists_from s.internal s.outer (is_reachable_in family s p) zone entries
 
--- The source ranges of a Service in a family. No list restricts nobody (an object whose list is empty has
--- none), while a list that has no range of the family admits nobody.
+-- The source ranges of a Service in a family. No list restricts nobody (an object whose list is
+-- empty has none), while a list that has no range of the family admits nobody.
 abbrev pub restriction_in : Family → Option (List RangeParts) → Option (List RangeParts)
 restriction_in family ranges = option_map (ranges_in family) ranges
 
 -- what the proxy knows of a port, whose cluster address and endpoints are these
-abbrev pub info_from : Family → Service → ServicePort → Option (List ℕ) → List Candidate → AddressParts → PortInfo
+abbrev pub info_from :
+    Family → Service → ServicePort → Option (List ℕ) → List Candidate → AddressParts → PortInfo
 info_from family s p zone entries address = record {
   key = port_key_of s p;
   number = p.port;
@@ -107,11 +114,14 @@ info_from family s p zone entries address = record {
   lists = lists_of family s p zone entries;
 }
 
--- what the proxy knows of a port of a Service, on a node in a zone, by what its endpoints are taken from
-abbrev pub info_of : Family → List ℕ → Option (List ℕ) → ServiceSources × ServicePort → Option PortInfo
+-- what the proxy knows of a port of a Service, on a node in a zone, by what its endpoints are taken
+-- from
+abbrev pub info_of :
+    Family → List ℕ → Option (List ℕ) → ServiceSources × ServicePort → Option PortInfo
 info_of family node zone (sources, p) =
     option_map
-    (info_from family sources.service p zone (entries_from family node sources (port_key_of sources.service p)))
+    (info_from family sources.service p zone
+    (entries_from family node sources (port_key_of sources.service p)))
     (cluster_address_in family sources.service)
 
 -- a Service with each of its ports
@@ -128,12 +138,14 @@ service_ports services = values_of (by_key port_key_cmp name_of_port (flat_map p
 
 -- what the proxy knows of the ports of Services, in order, on a node in a zone
 abbrev pub infos_from : Family → List ℕ → Option (List ℕ) → List ServiceSources → List PortInfo
-infos_from family node zone services = filter_map (info_of family node zone) (service_ports services)
+infos_from family node zone services =
+    filter_map (info_of family node zone) (service_ports services)
 
 -- what the proxy knows of all ports, in their order
 abbrev pub port_infos : Family → FamilyConfig → Objects → List PortInfo
 port_infos family config o =
-    infos_from family config.node (zone_of o config.node) (map (sources_of family config o) (finite.values o.services))
+    infos_from family config.node (zone_of o config.node)
+    (map (sources_of family config o) (finite.values o.services))
 
 -- the port may be reached from outside the cluster
 abbrev pub is_accessible : PortInfo → Bool

@@ -1,7 +1,8 @@
 pub mod Lists
-mod Members
 pub mod OwnEntries
 mod OwnKeys
 mod PortByKey
-mod Usable
+mod SameElements
+mod SlicesNow
+pub mod Usable
 pub mod Wanted

@@ -1,9 +1,9 @@
 -- The endpoints of a Service port in order, and its lists.
-use Rattle.std.proofs.Common.{◌≡◌, inl, inr, true≢false, Bool, true, false, cond, not, ◌&&◌, ◌||◌, ℕ, List, [], ◌∷◌, ◌++◌, map, reverse, Contains, Option, Some, None, filter, refl, sym, ap, subst, ◌∙◌, Ordering, is_lt}
-use Rattle.std.specs.List.{list_all, list_any}
+use Rattle.std.proofs.Common.{◌≡◌, true≢false, Bool, true, false, cond, not, ◌&&◌, ◌||◌, ℕ, List, [], ◌∷◌, ◌++◌, map, reverse, Contains, Option, Some, None, filter, refl, sym, ap, subst, ◌∙◌, Ordering, is_lt}
+use Rattle.std.specs.List.{list_all}
 use Rattle.std.specs.FinMap.{is_sorted}
 use Rattle.std.specs.FinMap.Entries.{below_all}
-use Rattle.std.proofs.lemmas.Bool.{and_from, and_parts, or_parts}
+use Rattle.std.proofs.lemmas.Bool.{and_from, and_parts, or_left, or_right}
 use Rattle.kp_base.specs.Keys.{endpoint_cmp}
 use Rattle.kp_base.specs.declared.key.Endpoint.{Endpoint}
 use Rattle.kp_base.proofs.KeyOrder.{endpoint_total, endpoint_exact}
@@ -13,7 +13,7 @@ use Rattle.kp_object_defs.specs.Entries.{counted_once, candidates_from}
 use Rattle.kp_object_defs.specs.Lists.{is_ready, is_serving_terminating, is_local_policy, hints_zone, hints_apply, in_zone, or_else, cluster_endpoints, local_endpoints, has_any_endpoint, used}
 use Rattle.kp_object_defs.specs.Order.{rises}
 use Rattle.kp_object_laws.specs.ListLaws.{are_in_order, endpoints_of, usable, is_usable, local, AreAmong, CountedInOrder, EntriesInOrder, ListsAmongUsable, ListsInOrder, NoneUsable, ClusterListEmpty, LocalListEmpty}
-use Rattle.kp_object_laws.proofs.Members.{first_in, none_in, in_cases, in_filter, from_filter, in_map, from_map}
+use Rattle.kp_lemmas.proofs.Members.{none_passes, without_elements, none_in, in_filter, from_filter, in_map, from_map}
 use Rattle.kp_object_laws.proofs.OwnEntries.{owned, first_in_order}
 use Rattle.kp_object_laws.proofs.Usable.{has_any_is, some_or_else, some_filtered, any_or, is_some_list}
 
@@ -86,20 +86,13 @@ part_filter : (cs : List Candidate) (p : Candidate → Bool) (ds : List Candidat
 unfolding IsPart
 part_filter cs p ds h c d = h c (from_filter p c ds d).0
 
-usable_first : (a b : Bool) → a ≡ true → (a || b) ≡ true
-usable_first a b h = ap (λ x. x || b) h
-
-usable_second : (a b : Bool) → b ≡ true → (a || b) ≡ true
-usable_second true b h = refl
-usable_second false b h = h
-
 ready_usable : (cs : List Candidate) → IsPart (usable cs) (filter is_ready cs)
 unfolding IsPart
-ready_usable cs c d = let (in_cs, is) = from_filter is_ready c cs d in in_filter is_usable c cs in_cs (usable_first (is_ready c) (is_serving_terminating c) is)
+ready_usable cs c d = let (in_cs, is) = from_filter is_ready c cs d in in_filter is_usable c cs in_cs (or_left (is_ready c) (is_serving_terminating c) is)
 
 serving_usable : (cs : List Candidate) → IsPart (usable cs) (filter is_serving_terminating cs)
 unfolding IsPart
-serving_usable cs c d = let (in_cs, is) = from_filter is_serving_terminating c cs d in in_filter is_usable c cs in_cs (usable_second (is_ready c) (is_serving_terminating c) is)
+serving_usable cs c d = let (in_cs, is) = from_filter is_serving_terminating c cs d in in_filter is_usable c cs in_cs (or_right (is_ready c) (is_serving_terminating c) is)
 
 endpoints_among : (cs ds : List Candidate) (b : Bool) → IsPart cs ds → AreAmong cs (used b ds)
 unfolding IsPart
@@ -128,25 +121,12 @@ lists_in_order internal outer accessible zone cs h =
 
 -- ---- Empty lists
 
-without_elements : {X : Type 0} (xs : List X) → ((x : X) → Contains xs x → ⊥) → xs ≡ []
-without_elements [] h = refl
-without_elements (x ∷ xs) h = absurd (h x (first_in x xs))
-
-none_passes : {X : Type 0} (p : X → Bool) (x : X) (xs : List X) → list_any p xs ≡ false → Contains xs x → p x ≡ true → ⊥
-none_passes p x [] h c is = none_in x c
-none_passes p x (y ∷ ys) h c is =
-    let parts = or_parts (p y) (list_any p ys) h in
-    elim (in_cases x y ys c) [
-      | inl e ↦ absurd (true≢false (sym is ∙ ap p (sym e) ∙ parts.0))
-      | inr d ↦ none_passes p x ys parts.1 d is
-    ]
-
 none_among : (cs ds : List Candidate) (es : List Endpoint) → has_any_endpoint cs ≡ false → ((c : Candidate) → Contains ds c → Contains cs c) → AreAmong (usable ds) es → es ≡ []
 none_among cs ds es none part among =
     without_elements es (λ e c.
     let (d, in_usable, is) = from_map (λ (d : Candidate). d.endpoint) e (usable ds) (among e c) in
     let (in_ds, passes) = from_filter is_usable d ds in_usable in
-    none_passes is_usable d cs none (part d in_ds) passes)
+    true≢false (sym passes ∙ none_passes is_usable d cs none (part d in_ds)))
 
 pub none_usable : NoneUsable
 none_usable internal outer accessible zone cs none =

@@ -1,5 +1,5 @@
 -- Elements that stand by their own keys: what a list of them has at a key, and lists of them in order.
-use Rattle.std.proofs.Common.{◌≡◌, inl, inr, Bool, true, false, true≢false, cond, List, [], ◌∷◌, map, reverse, Contains, Option, Some, None, filter, refl, sym, ap, subst, ◌∙◌, is_lt, is_eq, Ordering, Less, Equal, Greater, T}
+use Rattle.std.proofs.Common.{◌≡◌, inl, inr, Bool, true, false, true≢false, cond, List, [], ◌∷◌, map, reverse, Contains, Option, Some, None, filter, refl, sym, ap, subst, ◌∙◌, is_lt, is_eq, Ordering, Less, Equal, Greater}
 use Rattle.std.specs.Ordering.{eq_by_cmp}
 use Rattle.std.specs.Cmp.{IsTotalOrder, tied_itself}
 use Rattle.std.specs.FinMap.{find, put, is_sorted, IsAntisymmetric}
@@ -9,15 +9,13 @@ use Rattle.std.proofs.lemmas.Option.{same_Some}
 use Rattle.std.proofs.lemmas.List.Sorted.{Contains-permutation, IsPermutation-sym, IsPermutation-reverse}
 use Rattle.std.specs.BTreeSet.{insert_key}
 use Rattle.kp_lemmas.proofs.Entries.{put_keys}
+use Rattle.kp_lemmas.proofs.Booleans.{fact_from_true}
 use Rattle.kp_lemmas.proofs.Orders.{one_from_tie, tie_of_itself, less_from_test}
 use Rattle.kp_object_defs.specs.Order.{in_order, by_key, values_of, distinct_in_order}
 use Rattle.kp_object_defs.proofs.InOrder.{find-in_order, sorted-in_order, same_order, map-reverse}
 use Rattle.kp_object_laws.specs.ObjectLaws.{HaveSameElements}
-use Rattle.kp_object_laws.proofs.Members.{first_in, later_in, none_in, in_cases, same_reversed}
-
--- a test that holds, as a fact
-holds : {b : Bool} → b ≡ true → T b
-holds e = subst T (sym e) tt
+use Rattle.kp_lemmas.proofs.Members.{first_in, later_in, none_in, in_cases}
+use Rattle.kp_object_laws.proofs.SameElements.{same_reversed}
 
 -- elements by their own keys
 abbrev pub owned : {K X : Type 0} → (X → K) → List X → List (K × X)
@@ -186,7 +184,7 @@ module _ {K X : Type 0} {R : K → K → Ordering} (total : IsTotalOrder R) (exa
   pub put_in_order : (xs ys : List X) → HaveSameElements xs ys → is_sorted R (owned key ys) ≡ true → values_of (by_key R key xs) ≡ ys
   put_in_order xs ys same sorted =
       ap values_of
-      (same_entries R total exact (by_key R key xs) (owned key ys) (holds (sorted-in_order total (reverse (owned key xs)))) (holds sorted) (λ k.
+      (same_entries R total exact (by_key R key xs) (owned key ys) (fact_from_true (sorted-in_order total (reverse (owned key xs)))) (fact_from_true sorted) (λ k.
       find-in_order total k (reverse (owned key xs))
       ∙ ap (find R k) (sym (map-reverse (λ x. (key x, x)) xs))
       ∙ same_found (reverse xs) ys (same_reversed xs ys same) (in_order_apart ys sorted) k))

@@ -22,21 +22,21 @@ use Rattle.kp_object_laws.proofs.OwnEntries.{owned, own_entries, owned_values}
 -- ---- One map
 
 module _ {X : Type 0} (key_of : X → ObjectKey) where
-  of_none : IsUnderOwnKeys key_of finite.empty
+  pub of_none : IsUnderOwnKeys key_of finite.empty
   of_none key x h = let none : get (finite.empty {X = X} {R = key_cmp}) key ≡ None = get-empty key_cmp key in absurd (cc)
 
   inserted_by : (m : finite.FinMap key_cmp X) (v : X) → IsUnderOwnKeys key_of m → (key : ObjectKey) (x : X) (b : Bool) → eq_by_cmp key_cmp key (key_of v) ≡ b → cond b (Some v) (get m key) ≡ Some x → key_of x ≡ key
   inserted_by m v own key x true e h = ap key_of (sym (same_Some v x h)) ∙ sym (one_from_tie key_exact key (key_of v) e)
   inserted_by m v own key x false e h = own key x h
 
-  of_inserted : (m : finite.FinMap key_cmp X) (v : X) → IsUnderOwnKeys key_of m → IsUnderOwnKeys key_of (finite.insert m (key_of v) v)
+  pub of_inserted : (m : finite.FinMap key_cmp X) (v : X) → IsUnderOwnKeys key_of m → IsUnderOwnKeys key_of (finite.insert m (key_of v) v)
   of_inserted m v own key x h = inserted_by m v own key x (eq_by_cmp key_cmp key (key_of v)) refl (sym (get-insert key_total m (key_of v) v key) ∙ h)
 
   removed_by : (m : finite.FinMap key_cmp X) → IsUnderOwnKeys key_of m → (key : ObjectKey) (x : X) (b : Bool) → cond b None (get m key) ≡ Some x → key_of x ≡ key
   removed_by m own key x true h = absurd (cc)
   removed_by m own key x false h = own key x h
 
-  of_removed : (m : finite.FinMap key_cmp X) (k : ObjectKey) → IsUnderOwnKeys key_of m → IsUnderOwnKeys key_of (finite.remove m k)
+  pub of_removed : (m : finite.FinMap key_cmp X) (k : ObjectKey) → IsUnderOwnKeys key_of m → IsUnderOwnKeys key_of (finite.remove m k)
   of_removed m k own key x h = removed_by m own key x (eq_by_cmp key_cmp key k) (sym (get-remove key_total m k key) ∙ h)
 
 -- ---- All objects

@@ -1,13 +1,14 @@
 -- A Service port is found by its name.
-use Rattle.std.proofs.Common.{◌≡◌, inl, inr, Bool, true, false, true≢false, cond, not, ℕ, List, [], ◌∷◌, ◌++◌, map, reverse, Contains, bytes_eq, Option, Some, None, option_map, option_and_then, filter_map, flat_map, refl, sym, ap, subst, ◌∙◌, T}
+use Rattle.std.proofs.Common.{◌≡◌, inl, inr, Bool, true, false, true≢false, cond, not, ℕ, List, [], ◌∷◌, ◌++◌, map, reverse, Contains, bytes_eq, Option, Some, None, option_map, option_and_then, filter_map, flat_map, refl, sym, ap, subst, ◌∙◌}
 use Rattle.std.specs.List as list
 use Rattle.std.specs.List.{list_any, cons_option, AllByRecursion}
 use Rattle.std.specs.FinMap as finite
 use Rattle.std.specs.FinMap.{find, get}
-use Rattle.std.proofs.lemmas.Bool.{and_from, and_parts, or_parts, not-true, false_from_ne_true}
+use Rattle.std.proofs.lemmas.Bool.{and_from, and_parts, not-true, false_from_ne_true}
 use Rattle.std.proofs.lemmas.List.{map-append}
 use Rattle.std.proofs.lemmas.Option.{same_Some}
 use Rattle.std.proofs.lemmas.Slice.Eq.{bytes_eq-Decides}
+use Rattle.kp_lemmas.proofs.Booleans.{fact_from_true}
 use Rattle.kp_lemmas.proofs.Entries.{sorted_found}
 use Rattle.kp_lemmas.proofs.ListFacts.{all_weaker}
 use Rattle.kp_base.specs.Keys.{port_key_cmp, same_proto}
@@ -33,7 +34,7 @@ use Rattle.kp_object_defs.specs.PortInfo.{PortInfo, port_key_of, info_from, info
 use Rattle.kp_object_defs.specs.PortByKey.{port_keys_of, port_named, info_in, info_at}
 use Rattle.kp_object_defs.proofs.InOrder.{sorted-in_order}
 use Rattle.kp_object_laws.specs.PortLaws.{PortIsNamed, InfoHasKey, InfosByKeys}
-use Rattle.kp_object_laws.proofs.Members.{none_in, in_cases, from_map, from_flat_map}
+use Rattle.kp_lemmas.proofs.Members.{none_in, none_passes, in_cases, from_map, from_flat_map}
 use Rattle.kp_object_laws.proofs.OwnEntries.{owned, found_itself, of_element, keys_of_elements}
 use Rattle.kp_object_laws.proofs.OwnKeys.{values_in_order, found_in_values}
 
@@ -55,12 +56,6 @@ other_port p q other =
     let names : q.name ≡ p.name = (bytes_eq-Decides q.name p.name).0 parts.0 in
     let protos : q.proto ≡ p.proto = same_proto_exact q.proto p.proto parts.1 in
     true≢false (sym (same_port_itself p) ∙ (λ i. is_port (sym names i) (sym protos i) p) ∙ other))
-
-none_passes : {X : Type 0} (test : X → Bool) (x : X) (xs : List X) → list_any test xs ≡ false → Contains xs x → test x ≡ false
-none_passes test x [] h c = absurd (none_in x c)
-none_passes test x (y ∷ ys) h c =
-    let parts = or_parts (test y) (list_any test ys) h in
-    elim (in_cases x y ys c) [ inl e ↦ ap test (sym e) ∙ parts.0 | inr d ↦ none_passes test x ys parts.1 d ]
 
 found_port : (ps : List ServicePort) → distinct_ports ps ≡ true → (p : ServicePort) → Contains ps p → list.find (is_port p.name p.proto) ps ≡ Some p
 found_port [] h p c = absurd (none_in p c)
@@ -130,7 +125,7 @@ module _ (family : Family) (config : FamilyConfig) (o : Objects) (own : AreUnder
       (λ e found.
       let (in_ports, is) = of_element port_key_total port_key_exact name_of_port ports e found in
       ap (info_at family config o) (sym is) ∙ of_port e.1 in_ports)
-      named_ports (sorted_found port_key_total named_ports (subst T (sym (sorted-in_order port_key_total (reverse (owned name_of_port ports)))) tt))
+      named_ports (sorted_found port_key_total named_ports (fact_from_true (sorted-in_order port_key_total (reverse (owned name_of_port ports)))))
 
 made_alike : {A B C : Type 0} (f : A → Option C) (g : B → Option C) (es : List (A × B)) → AllByRecursion (λ e. f e.0 ≡ g e.1) es → filter_map g (map (λ e. e.1) es) ≡ filter_map f (map (λ e. e.0) es)
 made_alike f g [] h = refl

@@ -26,7 +26,7 @@ use Rattle.kp_object_defs.specs.Desired.{selects, desired_of, zone_among, in_nam
 use Rattle.kp_object_defs.specs.Packing.{same_object}
 use Rattle.kp_object_defs.specs.PackingLaws.{have_own_pods}
 use Rattle.kp_object_laws.specs.ObjectLaws.{HaveSameElements, WantedOfObjects, WantedOfOwnPods, DesiredOfOwnPods}
-use Rattle.kp_object_laws.proofs.Members.{same_filtered, same_reversed}
+use Rattle.kp_object_laws.proofs.SameElements.{same_filtered, same_reversed}
 use Rattle.kp_object_laws.proofs.OwnEntries.{owned, put_in_order, by_key_in_order, same_found, filter_in_order, in_order_apart}
 use Rattle.kp_object_laws.proofs.OwnKeys.{values_in_order, found_in_values}
 

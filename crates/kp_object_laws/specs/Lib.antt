@@ -1,3 +1,4 @@
 pub mod ObjectLaws
 pub mod ListLaws
 pub mod PortLaws
+pub mod SliceLaws

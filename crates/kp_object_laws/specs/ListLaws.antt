@@ -57,20 +57,23 @@ HoldsOfLists P =
 -- a port sends to usable candidates alone, of this node where its policy is Local
 abbrev pub ListsAmongUsable : Type 0
 ListsAmongUsable =
-    HoldsOfLists (λ cs lists. AreAmong (usable cs) lists.cluster × AreAmong (usable (local cs)) lists.local)
+    HoldsOfLists (λ cs lists.
+    AreAmong (usable cs) lists.cluster × AreAmong (usable (local cs)) lists.local)
 
 -- lists keep the order of the candidates
 abbrev pub ListsInOrder : Type 0
 ListsInOrder =
     HoldsOfLists (λ cs lists.
-    are_in_order cs ≡ true → (rises endpoint_cmp lists.cluster ≡ true) × (rises endpoint_cmp lists.local ≡ true))
+    are_in_order cs ≡ true
+    → (rises endpoint_cmp lists.cluster ≡ true) × (rises endpoint_cmp lists.local ≡ true))
 
 -- where no candidate is usable, both lists are empty
 abbrev pub NoneUsable : Type 0
 NoneUsable =
     HoldsOfLists (λ cs lists. lists.has_any ≡ false → (lists.cluster ≡ []) × (lists.local ≡ []))
 
--- The list of the cluster, where it is used, is empty exactly where no candidate is usable: hints never empty it.
+-- The list of the cluster, where it is used, is empty exactly where no candidate is usable: hints
+-- never empty it.
 abbrev pub ClusterListEmpty : Type 0
 ClusterListEmpty =
     (internal outer : Policy) (accessible : Bool) (zone : Option (List ℕ)) (cs : List Candidate)
@@ -82,4 +85,5 @@ abbrev pub LocalListEmpty : Type 0
 LocalListEmpty =
     (internal outer : Policy) (accessible : Bool) (zone : Option (List ℕ)) (cs : List Candidate)
     → (is_local_policy internal || (accessible && is_local_policy outer)) ≡ true
-    → is_empty (lists_from internal outer accessible zone cs).local ≡ not (has_any_endpoint (local cs))
+    → is_empty (lists_from internal outer accessible zone cs).local
+    ≡ not (has_any_endpoint (local cs))

@@ -19,7 +19,8 @@ OwnKeysAtFirst = AreUnderOwnKeys no_objects
 
 -- an event keeps it so
 abbrev pub OwnKeysAfterEvent : Type 0
-OwnKeysAfterEvent = (o : Objects) (event : Event) → AreUnderOwnKeys o → AreUnderOwnKeys (objects_step o event)
+OwnKeysAfterEvent =
+    (o : Objects) (event : Event) → AreUnderOwnKeys o → AreUnderOwnKeys (objects_step o event)
 
 -- so it is after any events
 abbrev pub OwnKeysAfterEvents : Type 0
@@ -31,8 +32,8 @@ OwnKeysAfterEvents = (events : List Event) → AreUnderOwnKeys (objects_after ev
 abbrev pub HaveSameElements : {X : Type 0} → List X → List X → Type 0
 HaveSameElements {X} xs ys = (x : X) → Contains xs x ↔ Contains ys x
 
--- The endpoints that a Service wants of the objects' pods and nodes, in whatever order these are given, are those
--- that the controller wants for it.
+-- The endpoints that a Service wants of the objects' pods and nodes, in whatever order these are
+-- given, are those that the controller wants for it.
 abbrev pub WantedOfObjects : Type 0
 WantedOfObjects =
     (family : Family) (o : Objects) (s : Service) (pods : List Pod) (nodes : List Node)

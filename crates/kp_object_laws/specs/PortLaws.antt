@@ -13,7 +13,9 @@ use Rattle.kp_object_defs.specs.PortByKey.{port_keys, port_named, info_at}
 
 -- a port of a Service is found by its name and protocol
 abbrev pub PortIsNamed : Type 0
-PortIsNamed = (s : Service) (p : ServicePort) → Contains s.ports p → port_named (port_key_of s p) s ≡ Some p
+PortIsNamed =
+    (s : Service) (p : ServicePort)
+    → Contains s.ports p → port_named (port_key_of s p) s ≡ Some p
 
 -- what is found by a name has this name
 abbrev pub InfoHasKey : Type 0
@@ -25,4 +27,5 @@ InfoHasKey =
 abbrev pub InfosByKeys : Type 0
 InfosByKeys =
     (family : Family) (config : FamilyConfig) (o : Objects)
-    → AreUnderOwnKeys o → port_infos family config o ≡ filter_map (info_at family config o) (port_keys o)
+    → AreUnderOwnKeys o
+    → port_infos family config o ≡ filter_map (info_at family config o) (port_keys o)

@@ -1,11 +1,12 @@
-//! The laws of objects: each stands under its own key, what the controller wants of them doesn't depend on the order
-//! in which they are given, and the lists of a Service port are made of its endpoints in order. Each law is a clause
-//! of a function that does nothing.
+//! The laws of objects: each stands under its own key, what the controller wants of them doesn't
+//! depend on the order in which they are given, and the lists of a Service port are made of its
+//! endpoints in order. Each law is a clause of a function that does nothing.
 #![tactic(auto)]
 
 ghost use Rattle.kp_object_laws.specs.ListLaws as lists;
 ghost use Rattle.kp_object_laws.specs.ObjectLaws as objects;
 ghost use Rattle.kp_object_laws.specs.PortLaws as ports;
+ghost use Rattle.kp_object_laws.specs.SliceLaws as slices;
 
 /// Each object stands under its own key, after any events.
 pub fn own_keys()
@@ -14,8 +15,8 @@ pub fn own_keys()
     ensures after_events { objects.OwnKeysAfterEvents }
 {}
 
-/// The endpoints that a Service wants of the objects, whose pods and nodes are given in any order, and which are of
-/// different pods.
+/// The endpoints that a Service wants of the objects, whose pods and nodes are given in any order,
+/// and which are of different pods.
 pub fn wanted_endpoints()
     ensures of_objects { objects.WantedOfObjects }
     ensures own_pods { objects.WantedOfOwnPods }
@@ -28,7 +29,8 @@ pub fn endpoints_in_order()
     ensures entries { lists.EntriesInOrder }
 {}
 
-/// The lists of a Service port have usable endpoints alone, in order, and are empty only where none is usable.
+/// The lists of a Service port have usable endpoints alone, in order, and are empty only where none
+/// is usable.
 pub fn lists_of_usable()
     ensures among { lists.ListsAmongUsable }
     ensures in_order { lists.ListsInOrder }
@@ -37,9 +39,21 @@ pub fn lists_of_usable()
     ensures local { lists.LocalListEmpty }
 {}
 
-/// A Service port is found by its name, and what is known of all ports is what is found by their names in order.
+/// A Service port is found by its name, and what is known of all ports is what is found by their
+/// names in order.
 pub fn ports_by_key()
     ensures named { ports.PortIsNamed }
     ensures key { ports.InfoHasKey }
     ensures all { ports.InfosByKeys }
+{}
+
+/// The slices as they are now: as they were fed, until the controller acts at a sync. What packing
+/// asks of a Service's managed slices holds of them at any time.
+pub fn slices_now()
+    ensures as_fed { slices.SlicesAsFed }
+    ensures without_controller { slices.SlicesWithoutController }
+    ensures after_event { slices.SlicesAfterEvent }
+    ensures after_sync { slices.SlicesAfterSync }
+    ensures own_keys { slices.SlicesUnderOwnKeys }
+    ensures can_be_packed { slices.ManagedCanBePacked }
 {}

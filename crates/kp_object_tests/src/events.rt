@@ -1,66 +1,87 @@
 //! Texts of events, with what is read of them; and a journal that is full.
 mod kubectl;
 
-use crate::words::told;
-use kp_base::{Items, ObjectKey};
+use crate::words::{is_fault, is_key};
+use kp_base::Items;
 use kp_events::{Event, EventFault, Journal, JournalFault, Kind, Object, event_of};
-use kp_json::{FieldFault, read_tree};
-use std::alloc::{AllocError, Global};
+use kp_json::read_tree;
+use std::alloc::Global;
 use std::test::Fail;
 
-fn read(alloc: Global, text: &str) -> Result<String, Fail> {
-    let tree = read_tree(alloc, text.as_bytes())?;
-    let root = tree.root();
-    match event_of(alloc, &root) {
-        Ok(events) => Ok(summary(alloc, &events)?),
-        Err(EventFault::NoMemory) => Ok(String::from_str(alloc, "no memory")?),
-        Err(EventFault::NotEvent) => Ok(String::from_str(alloc, "not an event")?),
+/// What an event does, and to which kind of object.
+fn word(event: &Event) -> &'static str {
+    match event {
+        Event::Apply(Object::Service(_)) => "+Service",
+        Event::Apply(Object::EndpointSlice(_)) => "+EndpointSlice",
+        Event::Apply(Object::Pod(_)) => "+Pod",
+        Event::Apply(Object::Node(_)) => "+Node",
+        Event::Delete { kind, .. } => deleted_word(*kind),
+    }
+}
+
+fn deleted_word(kind: Kind) -> &'static str {
+    match kind {
+        Kind::Service => "-Service",
+        Kind::EndpointSlice => "-EndpointSlice",
+        Kind::Pod => "-Pod",
+        Kind::Node => "-Node",
+    }
+}
+
+/// Whether an event is of the object with this key.
+fn is_of(event: &Event, key: &str) -> bool {
+    match event {
+        Event::Apply(Object::Service(service)) => is_key(&service.key, key),
+        Event::Apply(Object::EndpointSlice(slice)) => is_key(&slice.key, key),
+        Event::Apply(Object::Pod(pod)) => is_key(&pod.key, key),
+        Event::Apply(Object::Node(node)) => node.name.as_str() == key,
+        Event::Delete { key: deleted, .. } => is_key(deleted, key),
+    }
+}
+
+/// Whether an event is told by these words.
+fn is_event(event: &Event, wanted: &str) -> bool {
+    match wanted.split_once(" ") {
+        Some((change, key)) => change == word(event) && is_of(event, key),
+        None => false,
+    }
+}
+
+/// Whether events are told by these words, each with a semicolon behind it.
+fn are_events(events: &[Event], wanted: &str) -> bool {
+    let mut rest = wanted;
+    for event in events {
+        match rest.split_once(";") {
+            Some((first, behind)) if is_event(event, first) => rest = behind,
+            _ => return false,
+        }
+    }
+    rest.is_empty()
+}
+
+/// Whether an answer is told by these words.
+fn is_answer(answer: &Result<Items<Event>, EventFault>, wanted: &str) -> bool {
+    match answer {
+        Ok(events) => are_events(events.as_slice(), wanted),
+        Err(EventFault::NotEvent) => wanted == "not an event",
         Err(EventFault::UnsupportedKind { kind }) => {
-            let kind = kind.as_str();
-            Ok(format!(in alloc; "kind {kind}")?)
+            wanted.split_once("kind ") == Some(("", kind.as_str()))
         }
-        Err(EventFault::Bad(bad)) => Ok(told(alloc, FieldFault::Bad(bad))?),
+        Err(EventFault::Bad(bad)) => is_fault(bad, wanted),
+        Err(EventFault::NoMemory) => false,
     }
 }
 
-/// The events, each with its kind and key.
-fn summary(alloc: Global, events: &Items<Event>) -> Result<String, AllocError> {
-    let mut text = String::new(alloc);
-    for event in events.as_slice() {
-        match event {
-            Event::Apply(Object::Service(service)) => {
-                add(alloc, &mut text, "+", Kind::Service, &service.key)?
-            }
-            Event::Apply(Object::EndpointSlice(slice)) => {
-                add(alloc, &mut text, "+", Kind::EndpointSlice, &slice.key)?
-            }
-            Event::Apply(Object::Pod(pod)) => add(alloc, &mut text, "+", Kind::Pod, &pod.key)?,
-            Event::Apply(Object::Node(node)) => {
-                let name = node.name.as_str();
-                text.push_str(format!(in alloc; "+Node {name};")?.as_str())?;
-            }
-            Event::Delete { kind, key } => add(alloc, &mut text, "-", *kind, key)?,
-        }
-    }
-    Ok(text)
+/// Whether a text is read as these words say.
+fn reads_as(alloc: Global, text: &str, wanted: &str) -> Result<bool, Fail> {
+    let tree = read_tree(alloc, text.as_bytes())?;
+    Ok(is_answer(&event_of(alloc, &tree.root()), wanted))
 }
 
-fn add(
-    alloc: Global,
-    text: &mut String,
-    sign: &str,
-    kind: Kind,
-    key: &ObjectKey,
-) -> Result<(), AllocError> {
-    let (namespace, name) = (key.namespace.as_str(), key.name.as_str());
-    text.push_str(format!(in alloc; "{sign}{kind:?} {namespace}/{name};")?.as_str())
-}
-
-/// Whether the text of a row is told as it says behind the arrow.
-fn is_told(alloc: Global, row: &str) -> Result<bool, Fail> {
-    let (text, wanted) = row.split_once(" => ").ok_or("an arrow")?;
-    let told = read(alloc, text)?;
-    Ok(told.as_str() == wanted)
+/// Whether the text of a row is read as it says behind the arrow.
+fn is_row_read(alloc: Global, row: &str) -> Result<bool, Fail> {
+    let (text, wanted) = row.split_once(" =>").ok_or("an arrow")?;
+    reads_as(alloc, text, wanted.trim_start())
 }
 
 /// Texts, and the events that are read of them.
@@ -68,10 +89,10 @@ const EVENTS: &str = r#"5 => not an event
 [] => not an event
 {} => not an event
 {"kind":null} => not an event
-{"kind":5} => WrongType kind 0
+{"kind":5} => WrongType kind
 {"kind":"Ingress","apiVersion":5} => kind Ingress
-{"kind":"Service"} => Missing metadata 0
-{"kind":"Service","apiVersion":5} => WrongType apiVersion 0
+{"kind":"Service"} => Missing metadata
+{"kind":"Service","apiVersion":5} => WrongType apiVersion
 {"kind":"Service","apiVersion":""} => kind Service
 {"kind":"Service","apiVersion":"v2"} => kind Service
 {"kind":"EndpointSlice","apiVersion":"v1"} => kind EndpointSlice
@@ -84,135 +105,99 @@ const EVENTS: &str = r#"5 => not an event
 {"type":"MODIFIED","object":{"kind":"Node","metadata":{"name":"n1"}}} => +Node n1;
 {"type":"DELETED","object":{"kind":"Node","metadata":{"name":"n1","namespace":5}}} => -Node /n1;
 {"type":"DELETED","object":{"kind":"Service","metadata":{"name":"web","labels":5},"spec":5}} => -Service default/web;
-{"type":"DELETED","object":{"kind":"Pod","metadata":{"name":"p","namespace":"A"}}} => BadName object.metadata.namespace 0
+{"type":"DELETED","object":{"kind":"Pod","metadata":{"name":"p","namespace":"A"}}} => BadName object.metadata.namespace
 {"type":"DELETED","object":{"kind":"List"}} => kind List
 {"type":"ERROR","object":5} => not an event
 {"type":"","object":{}} => not an event
-{"type":5,"object":5} => WrongType type 0
-{"type":"ADDED","object":5} => WrongType object 0
+{"type":5,"object":5} => WrongType type
+{"type":"ADDED","object":5} => WrongType object
 {"type":"ADDED","object":{}} => not an event
 {"type":"ADDED","object":{"kind":"List","items":[]}} => kind List
 {"type":"ADDED","object":null,"kind":"Node","metadata":{"name":"n1"}} => +Node n1;
 {"object":{},"kind":"Node","metadata":{"name":"n1"}} => +Node n1;
-{"kind":"List"} => Missing items 0
-{"kind":"List","items":{}} => WrongType items 0
-{"kind":"List","items":[5]} => WrongType items[0] 0
+{"kind":"List"} => Missing items
+{"kind":"List","items":{}} => WrongType items
+{"kind":"List","items":[5]} => WrongType items[0]
 {"kind":"List","items":[{"kind":"List","items":[]}]} => kind List
-{"kind":"List","items":[{"kind":"Node","metadata":{"name":"n1"}},{"kind":"Node","metadata":{"name":"n2"}},{"kind":"Service","metadata":{"name":"web"},"spec":{"ports":[{"port":65536}]}},{}]} => OutOfRange items[2].spec.ports[0].port 0
-{"kind":"List","items":[{"kind":"Node","metadata":{"name":"n1"}},{"kind":"Node","metadata":{"name":"n2"}}]} => +Node n1;+Node n2;"#;
+{"kind":"List","items":[{"kind":"Node","metadata":{"name":"n1"}},{"kind":"Node","metadata":{"name":"n2"}},{"kind":"Service","metadata":{"name":"web"},"spec":{"ports":[{"port":65536}]}},{}]} => OutOfRange items[2].spec.ports[0].port
+{"kind":"List","items":[{"kind":"Node","metadata":{"name":"n1"}},{"kind":"Node","metadata":{"name":"n2"}}]} => +Node n1;+Node n2;
+{"kind":""} => kind 
+{"type":"BOOKMARK","object":5} =>
+{"kind":"List","apiVersion":5,"items":[]} =>"#;
 
 #[test]
 fn events_are_read(rt: HostRuntime) -> Result<(), Fail> {
     for row in EVENTS.lines() {
-        assert!(rt; is_told(rt.alloc(), row)?, "{row}");
+        assert!(rt; is_row_read(rt.alloc(), row)?, "{row}");
     }
-    assert!(rt; is_told(rt.alloc(), r#"{"kind":""} => kind "#)?);
-    assert!(rt; is_told(rt.alloc(), r#"{"type":"BOOKMARK","object":5} => "#)?);
-    assert!(rt;
-        is_told(
-            rt.alloc(),
-            r#"{"kind":"List","apiVersion":5,"items":[]} => "#
-        )?
-    );
     Ok(())
-}
-
-/// Whether a text is read as these events.
-fn reads_as(alloc: Global, text: &str, wanted: &str) -> Result<bool, Fail> {
-    Ok(read(alloc, text)?.as_str() == wanted)
 }
 
 #[test]
 fn what_kubectl_prints_is_read(rt: HostRuntime) -> Result<(), Fail> {
     let alloc = rt.alloc();
-    assert!(rt; reads_as(alloc, kubectl::DEPLOYMENT, "kind Deployment")?);
-    assert!(rt;
-        reads_as(
-            alloc,
-            kubectl::ENDPOINTSLICE,
-            "+EndpointSlice default/web-x;"
-        )?
-    );
-    assert!(rt; reads_as(alloc, kubectl::NODE, "+Node n1;")?);
-    assert!(rt; reads_as(alloc, kubectl::POD, "+Pod default/web-0;")?);
     let events =
         "+Service default/web;+EndpointSlice default/web-x7k2p;+Pod default/web-0;+Node n1;";
     assert!(rt; reads_as(alloc, kubectl::LIST_BY_HAND, events)?);
+    assert!(rt; reads_as(alloc, kubectl::DEPLOYMENT, "kind Deployment")?);
+    let slice = "+EndpointSlice default/web-x;";
+    assert!(rt; reads_as(alloc, kubectl::ENDPOINTSLICE, slice)?);
+    assert!(rt; reads_as(alloc, kubectl::NODE, "+Node n1;")?);
+    assert!(rt; reads_as(alloc, kubectl::POD, "+Pod default/web-0;")?);
     Ok(())
+}
+
+/// Whether a text is read as the Service of this name.
+fn is_service(alloc: Global, text: &str, name: &str) -> Result<bool, Fail> {
+    let events = events(alloc, text)?;
+    match events.as_slice().first() {
+        Some(Event::Apply(Object::Service(service))) => Ok(service.key.name.as_str() == name),
+        _ => Ok(false),
+    }
 }
 
 #[test]
 fn services_that_kubectl_prints_are_read(rt: HostRuntime) -> Result<(), Fail> {
     let alloc = rt.alloc();
-    assert!(rt; reads_as(alloc, kubectl::SERVICE_CLUSTERIP, "+Service default/web;")?);
-    assert!(rt;
-        reads_as(
-            alloc,
-            kubectl::SERVICE_EXTERNALNAME,
-            "+Service default/mail;"
-        )?
-    );
-    assert!(rt; reads_as(alloc, kubectl::SERVICE_HEADLESS, "+Service default/db;")?);
-    assert!(rt;
-        reads_as(
-            alloc,
-            kubectl::SERVICE_LOADBALANCER,
-            "+Service default/edge;"
-        )?
-    );
-    assert!(rt; reads_as(alloc, kubectl::SERVICE_NODEPORT, "+Service default/shop;")?);
+    assert!(rt; is_service(alloc, kubectl::SERVICE_CLUSTERIP, "web")?);
+    assert!(rt; is_service(alloc, kubectl::SERVICE_EXTERNALNAME, "mail")?);
+    assert!(rt; is_service(alloc, kubectl::SERVICE_HEADLESS, "db")?);
+    assert!(rt; is_service(alloc, kubectl::SERVICE_LOADBALANCER, "edge")?);
+    assert!(rt; is_service(alloc, kubectl::SERVICE_NODEPORT, "shop")?);
     Ok(())
 }
 
-/// A list within lists, as deep as JSON is read.
-fn deepest(alloc: Global) -> Result<String, AllocError> {
-    let mut text = String::new(alloc);
-    for _ in 0..127 {
-        text.push_str("[")?;
-    }
-    for _ in 0..127 {
-        text.push_str("]")?;
-    }
-    Ok(text)
-}
+/// Lists of one node, and of two.
+const ONE: &str = r#"{"kind":"List","items":[{"kind":"Node","metadata":{"name":"n"}}]}"#;
 
-#[test]
-fn lists_are_no_events(rt: HostRuntime) -> Result<(), Fail> {
-    let text = deepest(rt.alloc())?;
-    assert_eq!(rt; read(rt.alloc(), text.as_str())?.as_str(), "not an event");
-    Ok(())
-}
+const TWO: &str =
+    r#"{"kind":"List","items":[{"kind":"Node","metadata":{"name":"n"}},{"kind":"Node","metadata":{"name":"n"}}]}"#;
 
-fn nodes(alloc: Global, count: u64) -> Result<Items<Event>, Fail> {
-    let mut text = String::from_str(alloc, r#"{"kind":"List","items":["#)?;
-    for i in 0..count {
-        if i > 0 {
-            text.push_str(",")?;
-        }
-        text.push_str(r#"{"kind":"Node","metadata":{"name":"n"}}"#)?;
-    }
-    text.push_str("]}")?;
-    let tree = read_tree(alloc, text.as_str().as_bytes())?;
-    let root = tree.root();
-    match event_of(alloc, &root) {
+fn events(alloc: Global, text: &str) -> Result<Items<Event>, Fail> {
+    let tree = read_tree(alloc, text.as_bytes())?;
+    match event_of(alloc, &tree.root()) {
         Ok(events) => Ok(events),
         Err(_) => Err(Fail::new("the list was refused")),
     }
 }
 
-/// Whether so many events are taken, and the journal then holds as many.
-fn takes(alloc: Global, journal: &mut Journal, count: u64, held: u64) -> Result<bool, Fail> {
-    Ok(journal.push(nodes(alloc, count)?).is_ok() && journal.events().len() as u64 == held)
+/// Whether the events of a text are taken, and the journal then holds as many.
+fn takes(alloc: Global, journal: &mut Journal, text: &str, held: usize) -> Result<bool, Fail> {
+    Ok(journal.push(events(alloc, text)?).is_ok() && journal.events().len() == held)
 }
 
-/// Whether so many events are given back with the fault, and the journal still holds as many.
-fn gives_back(alloc: Global, journal: &mut Journal, count: u64, held: u64) -> Result<bool, Fail> {
-    match journal.push(nodes(alloc, count)?) {
+/// Whether as many events are given back with the fault that so many are held.
+fn gives_back(
+    alloc: Global,
+    journal: &mut Journal,
+    text: &str,
+    (count, held): (usize, u64),
+) -> Result<bool, Fail> {
+    match journal.push(events(alloc, text)?) {
         Ok(()) => Ok(false),
         Err((fault, events)) => {
-            let all = events.as_slice().len() as u64 == count;
-            let stays = journal.events().len() as u64 == held;
-            Ok(all && stays && fault == JournalFault::JournalFull { count: held })
+            let full = fault == JournalFault::JournalFull { count: held };
+            Ok(full && events.as_slice().len() == count)
         }
     }
 }
@@ -221,11 +206,9 @@ fn gives_back(alloc: Global, journal: &mut Journal, count: u64, held: u64) -> Re
 fn a_full_journal_takes_none_of_the_events(rt: HostRuntime) -> Result<(), Fail> {
     let alloc = rt.alloc();
     let mut journal = Journal::new(alloc, 3);
-    assert!(rt; takes(alloc, &mut journal, 0, 0)?);
-    assert!(rt; takes(alloc, &mut journal, 2, 2)?);
-    assert!(rt; gives_back(alloc, &mut journal, 2, 2)?);
-    assert!(rt; takes(alloc, &mut journal, 1, 3)?);
-    assert!(rt; gives_back(alloc, &mut journal, 1, 3)?);
-    assert!(rt; takes(alloc, &mut journal, 0, 3)?);
+    assert!(rt; takes(alloc, &mut journal, TWO, 2)?);
+    assert!(rt; gives_back(alloc, &mut journal, TWO, (2, 2))?);
+    assert!(rt; takes(alloc, &mut journal, ONE, 3)?);
+    assert!(rt; gives_back(alloc, &mut journal, ONE, (1, 3))?);
     Ok(())
 }

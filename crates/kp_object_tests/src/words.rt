@@ -1,24 +1,51 @@
-//! What was read, in words.
-use kp_base::Text;
-use kp_json::FieldFault;
-use std::alloc::{AllocError, Global};
+//! Faults and keys, held against words.
+use kp_base::{ObjectKey, Text};
+use kp_json::{BadField, FieldFault, Why};
 
-/// A fault in words: why, where, and how many.
-pub(crate) fn told(alloc: Global, fault: FieldFault) -> Result<String, AllocError> {
-    match fault {
-        FieldFault::NoMemory => String::from_str(alloc, "no memory"),
-        FieldFault::Bad(bad) => {
-            let (why, path, count) = (bad.why, bad.path, bad.count);
-            let path = path.as_str();
-            format!(in alloc; "{why:?} {path} {count}")
-        }
+/// A reason in a word.
+fn word(why: Why) -> &'static str {
+    match why {
+        Why::Missing => "Missing",
+        Why::WrongType => "WrongType",
+        Why::OutOfRange => "OutOfRange",
+        Why::BadName => "BadName",
+        Why::BadAddress => "BadAddress",
+        Why::BadCidr => "BadCidr",
+        Why::DuplicatePort => "DuplicatePort",
+        Why::TooMany => "TooMany",
     }
 }
 
-/// A text, or a dash where there is none.
-pub(crate) fn or_dash(text: &Option<Text>) -> &str {
+/// Whether a fault is told by these words: why, and where.
+pub(crate) fn is_fault(bad: &BadField, wanted: &str) -> bool {
+    match wanted.split_once(" ") {
+        Some((why, path)) => why == word(bad.why) && path == bad.path.as_str(),
+        None => false,
+    }
+}
+
+/// Whether an answer is the fault with these words.
+pub(crate) fn is_refused<T>(answer: &Result<T, FieldFault>, wanted: &str) -> bool {
+    match answer {
+        Err(FieldFault::Bad(bad)) => is_fault(bad, wanted),
+        _ => false,
+    }
+}
+
+/// Whether a key is this namespace and name, with a slash between them.
+pub(crate) fn is_key(key: &ObjectKey, wanted: &str) -> bool {
+    match wanted.split_once("/") {
+        Some((namespace, name)) => {
+            namespace == key.namespace.as_str() && name == key.name.as_str()
+        }
+        None => false,
+    }
+}
+
+/// Whether a text is this one; the empty one stands for none.
+pub(crate) fn is_text(text: &Option<Text>, wanted: &str) -> bool {
     match text {
-        Some(text) => text.as_str(),
-        None => "-",
+        Some(text) => text.as_str() == wanted,
+        None => wanted.is_empty(),
     }
 }

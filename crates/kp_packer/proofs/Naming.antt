@@ -1,5 +1,5 @@
 -- Free names, and new slices that have them.
-use Rattle.std.proofs.Common.{◌≡◌, ℕ, zero, suc, ◌+◌, ◌-◌, ◌<◌, ◌≤◌, Bool, true, false, cond, not, ◌||◌, nat_le, min, List, [], ◌∷◌, ◌++◌, map, take, drop, length, get_or, filter, bytes_eq, refl, sym, ap, subst, ◌∙◌, arith}
+use Rattle.std.proofs.Common.{◌≡◌, ℕ, zero, suc, ◌+◌, ◌<◌, ◌≤◌, Bool, true, false, cond, not, ◌||◌, nat_le, min, List, [], ◌∷◌, ◌++◌, map, take, drop, length, get_or, filter, bytes_eq, refl, sym, ap, subst, ◌∙◌, arith}
 use Rattle.std.specs.List.{list_any, zip}
 use Rattle.std.specs.Cmp.Lexicographic.{nat_list_eq_equiv}
 use Rattle.std.proofs.Math.Bool.{or-true, or-false}

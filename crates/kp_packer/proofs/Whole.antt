@@ -1,11 +1,10 @@
 -- All groups together.
-use Rattle.std.proofs.Common.{◌≡◌, ℕ, Bool, true, false, cond, not, ◌&&◌, ◌||◌, List, [], ◌∷◌, map, length, refl, sym, ap, subst, ◌∙◌, filter}
+use Rattle.std.proofs.Common.{◌≡◌, ℕ, Bool, true, cond, not, ◌&&◌, List, [], ◌∷◌, map, refl, sym, ap, ◌∙◌, filter}
 use Rattle.std.specs.List.{list_any, list_all}
-use Rattle.kp_base.specs.declared.key.ObjectKey.{ObjectKey}
 use Rattle.kp_types.specs.declared.slice.SlicePort.{SlicePort}
 use Rattle.kp_types.specs.declared.slice.Slice.{Slice}
 use Rattle.kp_types.specs.declared.slice.Wanted.{Wanted}
-use Rattle.kp_object_defs.specs.Packing.{Packing, pack_group, is_in_group, is_left_over, groups_of, same_object}
+use Rattle.kp_object_defs.specs.Packing.{pack_group, is_in_group, is_left_over, groups_of, same_object}
 use Rattle.kp_object_defs.specs.PackingLaws.{are_distinct, have_own_pods}
 use Rattle.kp_packer.specs.Views.{packings_of}
 use Rattle.kp_packer.proofs.Grouping.{any_map, distinct-filter}

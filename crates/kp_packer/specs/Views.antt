@@ -1,11 +1,9 @@
 -- What the values of the packer are, in the words of the definitions of packing.
-use Rattle.std.specs.Prelude.{◌≡◌, ℕ, ◌&&◌, Bool, List, [], ◌∷◌, ◌++◌, map, take, length, cond, Option, Some, None, slice_get, slice_set, get_or}
-use Rattle.std.specs.List.{list_any, filter, flat_map}
+use Rattle.std.specs.Prelude.{◌≡◌, ℕ, List, [], ◌∷◌, ◌++◌, map, length, Option, Some, None, slice_get, slice_set, get_or}
 use Rattle.std.specs.Map.{lookup}
 use Rattle.std.specs.Borrow.{Bor}
 use Rattle.kp_base.specs.declared.key.ObjectKey.{ObjectKey}
 use Rattle.kp_types.specs.declared.slice.SlicePort.{SlicePort}
-use Rattle.kp_types.specs.declared.slice.SliceEndpoint.{SliceEndpoint}
 use Rattle.kp_types.specs.declared.slice.Slice.{Slice}
 use Rattle.kp_types.specs.declared.slice.Wanted.{Wanted}
 use Rattle.kp_object_defs.specs.Packing as spec
@@ -40,7 +38,8 @@ AtOwnPlaces entries places =
 
 -- a slice with its endpoints by now
 abbrev pub filling_of : Fill → spec.Filling
-filling_of f = record { slice = f.slice.now; endpoints = shown f.endpoints.items; is_changed = f.is_changed }
+filling_of f =
+    record { slice = f.slice.now; endpoints = shown f.endpoints.items; is_changed = f.is_changed }
 
 -- a slice in the first step, and what is left
 abbrev pub keeping_of : Fill → List (Option (Bor Wanted)) → spec.Keeping
@@ -52,7 +51,8 @@ progress_of fills left = record { fillings = map filling_of fills; left = left }
 
 -- the slices of a group, and the endpoints of each new one
 abbrev pub placed_of : Placed → spec.Placed
-placed_of p = record { fillings = map filling_of p.fills.items; made = map (λ v. shown v.items) p.made.items }
+placed_of p =
+    record { fillings = map filling_of p.fills.items; made = map (λ v. shown v.items) p.made.items }
 
 -- with more new slices before the others
 abbrev pub with_made : List (List Wanted) → spec.Placed → spec.Placed
@@ -62,7 +62,8 @@ with_made made p = record p { made = made ++ p.made }
 abbrev pub IsChunked : ℕ → List Wanted → List (List Wanted) → List Wanted → Type 0
 IsChunked most left made rest =
     (fs : List spec.Filling)
-    → spec.place_left (length left) most fs left ≡ with_made made (spec.place_left (length rest) most fs rest)
+    → spec.place_left (length left) most fs left
+    ≡ with_made made (spec.place_left (length rest) most fs rest)
 
 -- a new slice to come
 abbrev pub new_slice_of : NewSlice → spec.NewSlice
@@ -77,10 +78,14 @@ added_at (Some i) x lists = slice_set lists i (get_or lists i [] ++ x ∷ [])
 abbrev pub packing_of : ℕ → List SlicePort → List Slice → List Wanted → spec.Packing
 packing_of most ports slices wanted =
     let placed = spec.packed_group most slices wanted in
-    record { fillings = placed.fillings; made = map (λ more. record { ports = ports; wanted = more }) placed.made }
+    record {
+      fillings = placed.fillings;
+      made = map (λ more. record { ports = ports; wanted = more }) placed.made;
+    }
 
 -- groups, each packed by itself
-abbrev pub packings_of : ℕ → List (List SlicePort) → List (List Slice) → List (List Wanted) → List spec.Packing
+abbrev pub packings_of : ℕ → List (List SlicePort) → List (List Slice) → List (List Wanted)
+    → List spec.Packing
 packings_of most [] slices wanted = []
 packings_of most (g ∷ gs) [] wanted = []
 packings_of most (g ∷ gs) (s ∷ ss) [] = []

@@ -26,7 +26,8 @@ pub struct Filled<'a> {
 impl<'a> Fill<'a> {
     /// Adds endpoints at the end.
     pub fn take_more(&mut self, more: &[&'a Wanted]) -> Result<(), NoMemory>
-        ensures { OnOk result (filling_of self.new ≡ with_more (filling_of self.old) (shown more.now)) }
+        ensures { OnOk result (filling_of self.new
+            ≡ with_more (filling_of self.old) (shown more.now)) }
     {
         for wanted in more {
             self.endpoints.push(&wanted.entry)?;
@@ -39,7 +40,10 @@ impl<'a> Fill<'a> {
     fn fill_up(&mut self, most: usize, left: &[&'a Wanted]) -> Result<usize, NoMemory>
         ensures count { IfOk result (λ count. count ≤ length left.now) }
         ensures filled { IfOk result (λ count. (before : List spec.Filling)
-            → record { fillings = before ++ filling_of self.new ∷ []; left = shown (drop count left.now) }
+            → record {
+              fillings = before ++ filling_of self.new ∷ [];
+              left = shown (drop count left.now);
+            }
             ≡ spec.fill_if self.old.is_changed (most - length (filling_of self.old).endpoints)
             (record { fillings = before; left = shown left.now }) (filling_of self.old)) }
     {

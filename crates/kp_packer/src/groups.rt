@@ -20,7 +20,8 @@ pub fn grouped<'a, T: HasPorts>(
 ) -> Result<Vec<Vec<&'a T>>, NoMemory>
     requires distinct { are_distinct same_ports (map (λ g. g.items) groups.now.keys) ≡ true }
     ensures { IfOk result (λ lists. map (λ v. shown v.items) lists.items
-        ≡ map (λ g. filter (λ x. is_in_group g.items (T.ports_of x)) (shown all.now)) groups.now.keys) }
+        ≡ map (λ g. filter (λ x. is_in_group g.items (T.ports_of x)) (shown all.now))
+        groups.now.keys) }
 {
     let mut lists = empty_lists(alloc, groups.len())?;
     for value in all {
@@ -51,7 +52,8 @@ fn group_of(
     groups: &IndexSet<Vec<SlicePort>>,
     ports: &Items<SlicePort>,
 ) -> Result<Option<usize>, NoMemory>
-    ensures found { IfOk result (λ group. group ≡ position (λ g. is_in_group g.items ports.now) groups.now.keys) }
+    ensures found { IfOk result (λ group. group
+        ≡ position (λ g. is_in_group g.items ports.now) groups.now.keys) }
     ensures within { IfOk result (λ group. IfSome group (λ i. i < length groups.now.keys)) }
 {
     let sorted = sorted_ports(alloc, ports)?;
@@ -64,7 +66,8 @@ fn has_group(
     groups: &IndexSet<Vec<SlicePort>>,
     ports: &Items<SlicePort>,
 ) -> Result<bool, NoMemory>
-    ensures { IfOk result (λ has. has ≡ list_any (λ g. is_in_group g.items ports.now) groups.now.keys) }
+    ensures { IfOk result (λ has. has
+        ≡ list_any (λ g. is_in_group g.items ports.now) groups.now.keys) }
 {
     let sorted = sorted_ports(alloc, ports)?;
     Ok(groups.contains(&sorted))
@@ -87,7 +90,9 @@ pub fn left_over<'a>(
     groups: &IndexSet<Vec<SlicePort>>,
     slices: &'a [Slice],
 ) -> Result<Vec<&'a Slice>, NoMemory>
-    ensures { IfOk result (λ over. shown over.items ≡ filter (λ s. not (list_any (λ g. is_in_group g.items s.ports) groups.now.keys)) slices.now) }
+    ensures { IfOk result (λ over. shown over.items
+        ≡ filter (λ s. not (list_any (λ g. is_in_group g.items s.ports) groups.now.keys))
+        slices.now) }
 {
     let mut over = Vec::new(alloc);
     for slice in slices {

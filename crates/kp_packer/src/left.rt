@@ -10,7 +10,8 @@ use kp_base::{NoMemory, ObjectKey};
 use kp_types::{SliceEndpoint, Wanted};
 use std::alloc::Global;
 
-/// The wanted endpoints of a group, each at its place until a slice keeps it, and the places of their pods.
+/// The wanted endpoints of a group, each at its place until a slice keeps it, and the places of
+/// their pods.
 #[derive(Drop)]
 pub struct Left<'a> {
     pub places: Vec<Option<&'a Wanted>>,
@@ -36,7 +37,8 @@ impl<'a> Left<'a> {
     /// Takes the wanted endpoint that an entry of a slice is of, if it is left.
     pub fn take(&mut self, entry: &SliceEndpoint) -> Option<&'a Wanted>
         requires own { AtOwnPlaces self.old.by_pod.entries self.old.places.items }
-        ensures found { option_copied result ≡ find (is_entry_of entry.now) (left_in self.old.places.items) }
+        ensures found { option_copied result
+            ≡ find (is_entry_of entry.now) (left_in self.old.places.items) }
         ensures rest { left_in self.new.places.items
             ≡ without_first (is_entry_of entry.now) (left_in self.old.places.items) }
         ensures own { AtOwnPlaces self.new.by_pod.entries self.new.places.items }

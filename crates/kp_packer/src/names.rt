@@ -43,7 +43,8 @@ fn new_slice(
     name: &Text,
     new: &NewSlice,
 ) -> Result<Slice, NoMemory>
-    ensures { IfOk result (λ s. s ≡ spec.new_slice V4 service.now (name.now, new_slice_of new.now)) }
+    ensures { IfOk result (λ s. s
+        ≡ spec.new_slice V4 service.now (name.now, new_slice_of new.now)) }
 {
     Ok(Slice {
         key: ObjectKey {
@@ -87,7 +88,8 @@ fn free_names(
     taken: &[Text],
     count: usize,
 ) -> Result<Vec<Text>, NoMemory>
-    ensures { IfOk result (λ names. names.items ≡ take count (spec.free_names service.now taken.now count)) }
+    ensures { IfOk result (λ names. names.items
+        ≡ take count (spec.free_names service.now taken.now count)) }
 {
     let taken_names = set_of(alloc, taken)?;
     let mut names = Vec::new(alloc);
@@ -108,7 +110,8 @@ fn add_free(
     names: &mut Vec<Text>,
 ) -> Result<(), NoMemory>
     ensures { OnOk result (names.new.items ≡ names.old.items
-        ++ filter (λ n. not (list_any (bytes_eq n) taken.now.keys)) (spec.slice_name service.now number ∷ [])) }
+        ++ filter (λ n. not (list_any (bytes_eq n) taken.now.keys))
+        (spec.slice_name service.now number ∷ [])) }
 {
     let name = slice_name(alloc, service, number)?;
     if !taken.contains(&name) {

@@ -45,7 +45,8 @@ pub fn pack<'a>(
     requires names { have_own_names before.now ≡ true }
     requires pods { have_own_pods wanted.now ≡ true }
     requires taken { are_taken taken.now before.now ≡ true }
-    ensures exact { IfOk result (λ p. p ≡ packed_slices V4 service.now before.now wanted.now most taken.now) }
+    ensures exact { IfOk result (λ p. p
+        ≡ packed_slices V4 service.now before.now wanted.now most taken.now) }
     ensures packing { IfOk result (λ p. IsPackingOf most wanted.now p.slices) }
     ensures next { IfOk result (λ p. CanGoOn V4 service.now wanted.now taken.now p) }
 {
@@ -74,7 +75,8 @@ fn packed<'a>(
 ) -> Result<Packed, NoMemory>
     requires some { 1 ≤ most }
     requires pods { have_own_pods wanted.now ≡ true }
-    ensures exact { IfOk result (λ p. p ≡ packed_slices V4 service.now before.now wanted.now most taken.now) }
+    ensures exact { IfOk result (λ p. p
+        ≡ packed_slices V4 service.now before.now wanted.now most taken.now) }
 {
     let before = before.as_slice();
     let wanted = wanted.as_slice();
@@ -139,7 +141,8 @@ fn add_group<'a, 'g>(
         ≡ map filling_of packing.old.fills.items ++ (placed_of placed.entry).fillings) }
     ensures made { OnOk result (map new_slice_of packing.new.made.items
         ≡ map new_slice_of packing.old.made.items
-        ++ map (λ more. record { ports = ports.now.items; wanted = more }) (placed_of placed.entry).made) }
+        ++ map (λ more. record { ports = ports.now.items; wanted = more })
+        (placed_of placed.entry).made) }
 {
     let Placed { fills, made } = placed;
     let mut fills = fills;
@@ -154,7 +157,8 @@ fn add_made<'a, 'g>(
     slices: &mut Vec<NewSlice<'a, 'g>>,
 ) -> Result<(), NoMemory>
     ensures { OnOk result (map new_slice_of slices.new.items ≡ map new_slice_of slices.old.items
-        ++ map (λ more. record { ports = ports.now.items; wanted = more }) (map (λ v. shown v.items) made.entry.items)) }
+        ++ map (λ more. record { ports = ports.now.items; wanted = more })
+        (map (λ v. shown v.items) made.entry.items)) }
 {
     for wanted in made {
         slices.push(NewSlice { ports, wanted })?;
@@ -171,7 +175,8 @@ fn pack_group<'a>(
 ) -> Result<Placed<'a>, NoMemory>
     requires some { 1 ≤ most }
     requires pods { have_own_pods (shown wanted.now) ≡ true }
-    ensures { IfOk result (λ p. placed_of p ≡ spec.packed_group most (shown slices.now) (shown wanted.now)) }
+    ensures { IfOk result (λ p. placed_of p
+        ≡ spec.packed_group most (shown slices.now) (shown wanted.now)) }
 {
     let mut left = Left::of(alloc, wanted)?;
     let kept = keep_all(alloc, most, slices, &mut left)?;
@@ -181,14 +186,16 @@ fn pack_group<'a>(
     place_left(alloc, most, fills, rest)
 }
 
-/// The slices after packing, and the names of those that are new, that stay and differ, and that are gone.
+/// The slices after packing, and the names of those that are new, that stay and differ, and that
+/// are gone.
 fn packed_by(
     alloc: Global,
     left_over: Vec<&Slice>,
     fills: &[Fill],
     made: Vec<Slice>,
 ) -> Result<Packed, NoMemory>
-    ensures { IfOk result (λ p. p ≡ spec.packed_by (shown left_over.entry.items) (map filling_of fills.now) made.items) }
+    ensures { IfOk result (λ p. p
+        ≡ spec.packed_by (shown left_over.entry.items) (map filling_of fills.now) made.items) }
 {
     let created = names_in_order(alloc, &references(alloc, &made)?)?;
     let updated = names_in_order(alloc, &updated_slices(alloc, fills)?)?;

@@ -1,4 +1,5 @@
-//! The third step: what is left goes into new slices, or into the fullest slice that has room for it.
+//! The third step: what is left goes into new slices, or into the fullest slice that has room for
+//! it.
 ghost use Rattle.std.specs.Prelude.{◌≡◌, ◌+◌, ◌<◌, ◌≤◌, map, drop, length, cond, None, Some, IfOk, OnOk};
 ghost use Rattle.std.specs.List.{list_any, position};
 ghost use Rattle.kp_object_defs.specs.Packing as spec;
@@ -50,7 +51,8 @@ fn place_rest<'a>(
 ) -> Result<(), NoMemory>
     requires few { length rest.now < most }
     ensures { OnOk result (placed_of placed.new ≡ with_made (placed_of placed.old).made
-        (spec.place_left (length (shown rest.now)) most (placed_of placed.old).fillings (shown rest.now))) }
+        (spec.place_left (length (shown rest.now)) most (placed_of placed.old).fillings
+        (shown rest.now))) }
 {
     if rest.is_empty() {
         return Ok(());
@@ -110,7 +112,8 @@ fn fill_first<'a>(
     fills: &mut Vec<Fill<'a>>,
 ) -> Result<(), NoMemory>
     ensures { OnOk result (map filling_of fills.new.items
-        ≡ spec.give_first (spec.is_as_full most (length more.now) size) (shown more.now) (map filling_of fills.old.items)) }
+        ≡ spec.give_first (spec.is_as_full most (length more.now) size) (shown more.now)
+        (map filling_of fills.old.items)) }
 {
     if let Some(place) = first_as_full(most, more.len(), size, fills) {
         fills[place].take_more(more)?;

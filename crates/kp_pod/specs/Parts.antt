@@ -4,9 +4,9 @@ use Rattle.std.specs.List.{flat_map}
 use Rattle.kp_json.specs.Places.{Place}
 use Rattle.kp_json.specs.declared.fault.BadField.{BadField}
 use Rattle.kp_json.specs.declared.fault.FieldFault.{FieldFault}
-use Rattle.kp_event_defs.specs.Fields.{text_in, items_in, is_text, address_in, pairs_in, key_from}
+use Rattle.kp_row_defs.specs.Fields.{text_in, items_in, is_text, address_in, pairs_in, key_from}
 use Rattle.kp_event_defs.specs.PodText.{container_ports, is_readiness, is_finished, holds}
-use Rattle.kp_event_defs.specs.Reads.{Refuses}
+use Rattle.kp_row_defs.specs.Reads.{Refuses}
 use Rattle.kp_pod.specs.declared.pod.Metadata.{Metadata}
 use Rattle.kp_pod.specs.declared.spec.PodSpec.{PodSpec}
 use Rattle.kp_pod.specs.declared.status.PodStatus.{PodStatus}

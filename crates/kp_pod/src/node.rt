@@ -2,9 +2,9 @@
 ghost use Rattle.std.specs.Prelude.{◌≡◌, codes};
 ghost use Rattle.kp_json.specs.Answers.{Gives};
 ghost use Rattle.kp_json.specs.Views.{place_of};
-ghost use Rattle.kp_event_defs.specs.Fields.{inner, text_in};
-ghost use Rattle.kp_event_defs.specs.Reads.{Reads};
-ghost use Rattle.kp_event_defs.specs.Rows.{row_fault, rows_fault};
+ghost use Rattle.kp_row_defs.specs.Fields.{inner, text_in};
+ghost use Rattle.kp_row_defs.specs.Reads.{Reads};
+ghost use Rattle.kp_row_defs.specs.Rows.{row_fault, rows_fault};
 ghost use Rattle.kp_event_defs.specs.PodText.{node_metadata_rows, node_from_metadata, zone_row, zone_rows, read_node};
 
 use kp_base::Text;

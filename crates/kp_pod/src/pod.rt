@@ -2,11 +2,11 @@
 ghost use Rattle.std.specs.Prelude.{◌≡◌};
 ghost use Rattle.kp_json.specs.Answers.{Gives};
 ghost use Rattle.kp_json.specs.Views.{place_of};
-ghost use Rattle.kp_event_defs.specs.Reads.{Reads};
-ghost use Rattle.kp_event_defs.specs.Rows.{row_fault, rows_fault};
+ghost use Rattle.kp_row_defs.specs.Reads.{Reads};
+ghost use Rattle.kp_row_defs.specs.Rows.{row_fault, rows_fault};
 ghost use Rattle.kp_event_defs.specs.PodText.{pod_metadata_row, pod_metadata_rows, read_pod};
 ghost use Rattle.kp_pod.specs.Parts.{metadata_from};
-ghost use Rattle.kp_event_defs.specs.Fields.{inner};
+ghost use Rattle.kp_row_defs.specs.Fields.{inner};
 ghost use Rattle.std.specs.Prelude.{codes};
 
 use crate::spec::spec_field;

@@ -3,9 +3,9 @@ ghost use Rattle.std.specs.Prelude.{◌≡◌, ◌++◌, codes, map, OnOk, IfErr
 ghost use Rattle.std.specs.List.{flat_map};
 ghost use Rattle.kp_json.specs.Places.{elements_of};
 ghost use Rattle.kp_json.specs.Views.{place_of};
-ghost use Rattle.kp_event_defs.specs.Fields.{inner, items_in};
-ghost use Rattle.kp_event_defs.specs.Reads.{Reads};
-ghost use Rattle.kp_event_defs.specs.Rows.{each, list_fault, row_fault, rows_fault};
+ghost use Rattle.kp_row_defs.specs.Fields.{inner, items_in};
+ghost use Rattle.kp_row_defs.specs.Reads.{Reads};
+ghost use Rattle.kp_row_defs.specs.Rows.{each, list_fault, row_fault, rows_fault};
 ghost use Rattle.kp_event_defs.specs.PodText.{pod_spec_row, pod_spec_rows, container_rows, container_port_rows, container_port, container_ports};
 ghost use Rattle.kp_pod.specs.Parts.{spec_from, ReadsInto};
 

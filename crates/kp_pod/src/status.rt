@@ -2,9 +2,9 @@
 ghost use Rattle.std.specs.Prelude.{◌≡◌, codes, find, option_map};
 ghost use Rattle.kp_json.specs.Places.{elements_of};
 ghost use Rattle.kp_json.specs.Views.{place_of};
-ghost use Rattle.kp_event_defs.specs.Fields.{inner, items_in, is_text, text_in};
-ghost use Rattle.kp_event_defs.specs.Reads.{Reads};
-ghost use Rattle.kp_event_defs.specs.Rows.{each, list_fault, row_fault, rows_fault};
+ghost use Rattle.kp_row_defs.specs.Fields.{inner, items_in, is_text, text_in};
+ghost use Rattle.kp_row_defs.specs.Reads.{Reads};
+ghost use Rattle.kp_row_defs.specs.Rows.{each, list_fault, row_fault, rows_fault};
 ghost use Rattle.kp_event_defs.specs.PodText.{pod_status_row, pod_status_rows, condition_rows, is_readiness, holds, is_finished};
 ghost use Rattle.kp_pod.specs.Parts.{status_from, condition_from, first_answer};
 

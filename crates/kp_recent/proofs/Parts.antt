@@ -1,7 +1,5 @@
 -- The map of the parts as contracts see it, and what a change of one part makes of it.
 use Rattle.std.proofs.Common.{◌≡◌, ℕ, ◌<◌, ◌==◌, Bool, true, false, cond, List, [], ◌∷◌, map, length, Option, Some, None, Result, Ok, Err, OnOk, OnErr, IfSome, option_map, unwrap_or, refl, ap, sym, ◌∙◌, subst, arith}
-use Rattle.std.specs.declared.cmp.Ordering.{Ordering}
-use Rattle.std.specs.declared.cmp.Ordering.TheVariants.{Less, Equal, Greater}
 use Rattle.std.specs.Ordering.{nat_cmp, eq_by_cmp, is_eq}
 use Rattle.std.specs.Cmp.{IsTotalOrder}
 use Rattle.std.specs.FinMap.{FinMap, IsAntisymmetric, from_entries, get, insert, remove, same_map, nat_cmp-IsAntisymmetric}
@@ -22,6 +20,7 @@ use Rattle.kp_recent.specs.Moments.{sighting, sightings_of, shown_in}
 use Rattle.kp_recent.specs.contracts.key.ListPartOrd.TheImpl as part_ord
 use Rattle.kp_recent.specs.contracts.key.ListPartOrd.TheImpl.Laws as part_laws
 use Rattle.kp_recent.specs.contracts.key.ListPartPartialEq.TheImpl as part_eq
+use Rattle.kp_lemmas.proofs.Orders.{equal_from_test}
 
 abbrev pub Cache : Type 0
 Cache = LruCache AddressParts ℕ
@@ -96,13 +95,8 @@ same_view es fs h = same_map part_total part_exact _ _ (λ q. got fs q ∙ ap so
 
 -- ---- look-ups at equal keys
 
-is_equal : (o : Ordering) → is_eq o ≡ true → o ≡ Equal
-is_equal Less h = absurd (cc)
-is_equal Equal h = refl
-is_equal Greater h = absurd (cc)
-
 one_part : (a b : Shard) → same_part a b ≡ true → a ≡ b
-one_part a b h = part_exact a b (is_equal (shard_cmp a b) (sym (part_ties a b) ∙ h))
+one_part a b h = part_exact a b (equal_from_test (shard_cmp a b) (sym (part_ties a b) ∙ h))
 
 module _ (es : List (Shard × Cache)) (k : Shard) (o : Option Cache) (at : lookup (same_part k) es ≡ o) where
   found_by : (q : Shard) (b : Bool) → same_part k q ≡ b → lookup (same_part q) es ≡ cond b o (lookup (same_part q) es)

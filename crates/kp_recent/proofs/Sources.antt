@@ -1,23 +1,14 @@
 -- The derived test of addresses is that of the definitions.
 use Rattle.std.proofs.Common.{◌≡◌, ℕ, Bool, true, false, ◌&&◌, ◌==◌, refl, ap, sym, ◌∙◌, arith}
-use Rattle.std.specs.Ordering.{is_eq}
-use Rattle.std.specs.declared.cmp.Ordering.{Ordering}
-use Rattle.std.specs.declared.cmp.Ordering.TheVariants.{Less, Equal, Greater}
 use Rattle.std.proofs.lemmas.Bool.Decides.{nat_tests}
 use Rattle.kp_base.specs.declared.address.Family.{Family}
 use Rattle.kp_base.specs.declared.address.Family.TheVariants.{V4, V6}
-use Rattle.kp_base.specs.contracts.address.FamilyPartialEq.TheImpl as family_eq
 use Rattle.kp_base.specs.contracts.address.AddressPartialEq.TheImpl as address_eq
 use Rattle.kp_base.specs.Keys.{address_cmp}
 use Rattle.kp_base.specs.Net.{AddressParts, same_address, same_family}
 use Rattle.kp_base.proofs.KeyOrder.{address_exact, address_ties}
-
--- the derived test of families
-family_same : (a b : Family) → family_eq.ghosts.eq a b ≡ same_family a b
-family_same V4 V4 = refl
-family_same V4 V6 = refl
-family_same V6 V4 = refl
-family_same V6 V6 = refl
+use Rattle.kp_lemmas.proofs.Orders.{equal_from_test}
+use Rattle.kp_base.proofs.SameParts.{family_same}
 
 -- the derived test of addresses
 pub address_same : (a b : AddressParts) → address_eq.ghosts.eq a b ≡ same_address a b
@@ -42,11 +33,6 @@ pub same_swap : (a b : AddressParts) → same_address a b ≡ same_address b a
 same_swap a b =
     λ i. families_swap a.family b.family i && numbers_by a.number b.number (a.number == b.number) refl i
 
-equal : (o : Ordering) → is_eq o ≡ true → o ≡ Equal
-equal Less h = absurd (cc)
-equal Equal h = refl
-equal Greater h = absurd (cc)
-
 -- addresses that pass the test are one
 pub one_address : (a b : AddressParts) → same_address a b ≡ true → a ≡ b
-one_address a b h = address_exact a b (equal (address_cmp a b) (sym (address_ties a b) ∙ address_same a b ∙ h))
+one_address a b h = address_exact a b (equal_from_test (address_cmp a b) (sym (address_ties a b) ∙ address_same a b ∙ h))

@@ -14,8 +14,8 @@ use std::alloc::Global;
 use std::marker::Model;
 use std::num::NonZeroUsize;
 
-/// The lists of sources that were seen of late, by the names of lists. Each is kept in sixteen parts, by the
-/// lowest four bits of the source's address, and a part without a source isn't held.
+/// The lists of sources that were seen of late, by the names of lists. Each is kept in sixteen
+/// parts, by the lowest four bits of the source's address, and a part without a source isn't held.
 #[derive(Drop)]
 pub struct RecentLists {
     alloc: Global,
@@ -35,13 +35,17 @@ impl Model for RecentLists {
 
     ghost coded = { parts_code };
 
-    ghost view = { λ r. record { size = non_zero_usize_get r.size; parts = from_entries (map shown r.parts.entries) } };
+    ghost view = { λ r. record {
+      size = non_zero_usize_get r.size;
+      parts = from_entries (map shown r.parts.entries);
+    } };
 
     ghost invariant = { λ r. IsHeld (non_zero_usize_get r.size) r.parts.entries };
 }
 
 impl RecentLists {
-    /// Lists without a source, whose parts remember so many of them, 1 to 1,000. Only memory can be refused.
+    /// Lists without a source, whose parts remember so many of them, 1 to 1,000. Only memory can
+    /// be refused.
     pub fn new(alloc: Global, size: u32) -> Result<RecentLists, NoMemory>
         requires some { 0 < size }
         requires limit { size ≤ 1000 }
@@ -54,8 +58,8 @@ impl RecentLists {
         })
     }
 
-    /// Whether the source is in the list, with an age of at most so many seconds: `--rcheck --seconds`. A
-    /// moment that lies ahead of `now` has age 0. Looking renews nothing.
+    /// Whether the source is in the list, with an age of at most so many seconds:
+    /// `--rcheck --seconds`. A moment that lies ahead of `now` has age 0. Looking renews nothing.
     pub fn is_live(&self, list: &ChainName, source: &Address, now: u64, seconds: u32) -> bool
         ensures { result ≡ spec.is_live self.now list.now source.now now seconds }
     {
@@ -65,13 +69,14 @@ impl RecentLists {
         }
     }
 
-    /// Sets the source in the list at this moment, in seconds, as the most recent one of its part: `--set`. A
-    /// full part loses its least recently set source. Without memory nothing changes, and a source that is
-    /// there takes none.
+    /// Sets the source in the list at this moment, in seconds, as the most recent one of its part:
+    /// `--set`. A full part loses its least recently set source. Without memory nothing changes,
+    /// and a source that is there takes none.
     pub fn set(&mut self, list: &ChainName, source: &Address, now: u64) -> Result<(), NoMemory>
         ensures ok { OnOk result (self.new ≡ set_at self.old list.now source.now now) }
         ensures err { OnErr result (self.new ≡ self.old) }
-        ensures known { list_any (is_of source.now) (sightings self.old (shard_of list.now source.now)) ≡ true
+        ensures known { list_any (is_of source.now)
+            (sightings self.old (shard_of list.now source.now)) ≡ true
             → IsOk result }
     {
         let key = ListPart::of(list, source);
@@ -84,8 +89,8 @@ impl RecentLists {
         Ok(())
     }
 
-    /// Drops the sources of an age of more than so many seconds from the part of the list that this source is
-    /// in: `--reap`. It takes no memory.
+    /// Drops the sources of an age of more than so many seconds from the part of the list that
+    /// this source is in: `--reap`. It takes no memory.
     pub fn reap(&mut self, list: &ChainName, source: &Address, now: u64, seconds: u32)
         ensures { self.new ≡ reaped self.old list.now source.now now seconds }
     {

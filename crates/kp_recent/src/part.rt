@@ -65,9 +65,11 @@ impl Part {
         }
     }
 
-    /// Sets the source at this moment, as the most recent one. A full part loses its least recently set one.
+    /// Sets the source at this moment, as the most recent one. A full part loses its least
+    /// recently set one.
     pub fn set(&mut self, source: Address, now: u64) -> Result<(), NoMemory>
-        ensures ok { OnOk result (shown_in self.new ≡ with_set self.old.cap source now (shown_in self.old)) }
+        ensures ok { OnOk result (shown_in self.new
+            ≡ with_set self.old.cap source now (shown_in self.old)) }
         ensures some { OnOk result (0 < length self.new.entries) }
         ensures cap { self.new.cap ≡ self.old.cap }
         ensures err { OnErr result (self.new ≡ self.old) }
@@ -128,10 +130,12 @@ fn drop_last_old(seen: &mut LruCache<Address, u64>, now: u64, seconds: u32)
     }
 }
 
-/// Drops the sources of greater age, wherever they are, and answers whether moments fall along the others.
-/// In a turn the last goes, or to the front, so that after all turns the others stand as before.
+/// Drops the sources of greater age, wherever they are, and answers whether moments fall along the
+/// others. In a turn the last goes, or to the front, so that after all turns the others stand as
+/// before.
 fn drop_old(seen: &mut LruCache<Address, u64>, now: u64, seconds: u32) -> bool
-    ensures entries { seen.new ≡ lru_cache (recent_pairs now seconds seen.old.entries) seen.old.cap }
+    ensures entries { seen.new
+        ≡ lru_cache (recent_pairs now seconds seen.old.entries) seen.old.cap }
     ensures falling { IsTrue result → AreFalling seen.new.entries }
 {
     let mut falling = true;
@@ -145,7 +149,8 @@ fn drop_old(seen: &mut LruCache<Address, u64>, now: u64, seconds: u32) -> bool
     falling
 }
 
-/// Drops the last source where its age is greater. Otherwise it goes to the front, and its moment is answered.
+/// Drops the last source where its age is greater. Otherwise it goes to the front, and its moment
+/// is answered.
 fn turn_last(seen: &mut LruCache<Address, u64>, now: u64, seconds: u32) -> Option<u64>
     ensures entries { IfSome (last_entry seen.old.entries) (λ s. seen.new
         ≡ lru_cache (turned now seconds s seen.old.entries) seen.old.cap) }

@@ -4,17 +4,18 @@ ghost use Rattle.kp_types.specs.declared.verdict.Verdict.TheVariants.{To};
 ghost use Rattle.kp_text_defs.specs.Printed as text;
 
 use crate::address::endpoint_text;
-use kp_base::{Endpoint, NoMemory};
+use kp_base::{Endpoint, NoMemory, Text};
 use kp_text_defs::Refusal;
 use kp_types::Verdict;
 use std::alloc::Global;
 
 /// The line of a refusal, by the number of the refused line.
-pub fn refusal_text(alloc: Global, number: u64, refusal: Refusal) -> Result<String, NoMemory>
-    ensures { IfOk result (λ t. string_bytes t ≡ text.refusal_text number refusal) }
+pub fn refusal_text(alloc: Global, number: u64, refusal: Refusal) -> Result<Text, NoMemory>
+    ensures { IfOk result (λ t. t ≡ text.refusal_text number refusal) }
 {
     let words = refusal_words(refusal);
-    Ok(format!(in alloc; "line {number}: refused: {words}\n")?)
+    let line = format!(in alloc; "line {number}: refused: {words}\n")?;
+    Ok(Text::from_string(line))
 }
 
 fn refusal_words(refusal: Refusal) -> &'static str
@@ -33,10 +34,13 @@ pub fn sync_text(
     events: u64,
     written: u64,
     removed: u64,
-) -> Result<String, NoMemory>
-    ensures { IfOk result (λ t. string_bytes t ≡ text.sync_text number events written removed) }
+) -> Result<Text, NoMemory>
+    ensures { IfOk result (λ t. t ≡ text.sync_text number events written removed) }
 {
-    Ok(format!(in alloc; "sync {number}: events {events}, written {written}, removed {removed}\n")?)
+    let line = format!(in alloc;
+        "sync {number}: events {events}, written {written}, removed {removed}\n"
+    )?;
+    Ok(Text::from_string(line))
 }
 
 /// The line of a packet: its number, the sync that it is answered from, and its verdict.
@@ -45,11 +49,12 @@ pub fn answer_text(
     number: u64,
     sync: u64,
     verdict: &Verdict,
-) -> Result<String, NoMemory>
-    ensures { IfOk result (λ t. string_bytes t ≡ text.packet_text number sync verdict.now) }
+) -> Result<Text, NoMemory>
+    ensures { IfOk result (λ t. t ≡ text.packet_text number sync verdict.now) }
 {
     let verdict = verdict_text(alloc, verdict)?;
-    Ok(format!(in alloc; "packet {number} at {sync}: {verdict}\n")?)
+    let line = format!(in alloc; "packet {number} at {sync}: {verdict}\n")?;
+    Ok(Text::from_string(line))
 }
 
 fn verdict_text(alloc: Global, verdict: &Verdict) -> Result<String, NoMemory>

@@ -5,7 +5,7 @@ use Rattle.std.specs.declared.cmp.Ordering.{Ordering}
 use Rattle.std.specs.declared.cmp.Ordering.TheVariants.{Less}
 use Rattle.std.specs.FinMap.Entries.{by_order}
 use Rattle.std.specs.List.{list_all, list_any, flat_map, filter}
-use Rattle.std.proofs.lemmas.Bool.{and_parts, and_from, false≢true}
+use Rattle.std.proofs.lemmas.Bool.{and_parts, and_from, false≢true, not-true}
 use Rattle.std.proofs.lemmas.List.{append-nil}
 use Rattle.std.proofs.lemmas.List.Folds.{list_all-append}
 use Rattle.kp_base.specs.declared.address.Family.{Family}
@@ -23,8 +23,10 @@ use Rattle.kp_restore_defs.specs.RuleText.{is_canonical_rule}
 use Rattle.kp_restore_defs.specs.BatchText.{place_of, edits_in, edit_cmp, are_in_order, is_same_place, edit_each_once, kind_place, is_canonical_edit, is_canonical_batch}
 use Rattle.kp_restore.specs.BatchSteps.{written, removed, edits_of}
 use Rattle.kp_restore.specs.declared.row.Row.{Row}
-use Rattle.kp_restore.proofs.BatchOrder.{less_differs, less_differs_turned, less_turned}
-use Rattle.kp_restore.proofs.BatchRows.{all_from, all_both, none_of, row_of, put_row, rows_of, is_below, rising, fits, all_rows_of, put_first, write_of, remove_of, all_written, all_removed, edits_all, is_in}
+use Rattle.kp_restore.proofs.BatchOrder.{less_differs_turned, less_turned}
+use Rattle.kp_restore.proofs.BatchRows.{all_both, none_of, row_of, put_row, rows_of, is_below, rising, fits, all_rows_of, put_first, write_of, remove_of, all_written, all_removed, edits_all, is_in}
+use Rattle.kp_lemmas.proofs.ListFacts.{test_weaker, test_always}
+use Rattle.kp_lemmas.proofs.Orders.{lesser_text_differs}
 
 -- ---- Rows again
 
@@ -67,8 +69,8 @@ rows_again t (row ∷ rows) h f =
         let bare : row.rules ≡ [] = no_items row.rules (sym (ap (λ b. not b || is_empty row.rules) e) ∙ clear) in
         ap (λ b. rows_of ((cond b [] (write_of t row ∷ []) ++ flat_map (written t) rows) ++ (cond b (remove_of t row ∷ []) [] ++ flat_map (removed t) rows))) e
         ∙ insert_first (record { table = t; chain = row.chain }) (flat_map (written t) rows) (flat_map (removed t) rows)
-        (all_written (λ x. is_below row.chain (row_of x)) t rows ∙ all_from (is_below row.chain) (λ s. s.removed || is_below row.chain s) (λ s l. or_right s.removed (is_below row.chain s) l) rows k.0)
-        (all_removed (λ x. is_below row.chain (row_of x)) t rows ∙ all_from (is_below row.chain) (λ s. not s.removed || is_below row.chain s) (λ s l. or_right (not s.removed) (is_below row.chain s) l) rows k.0)
+        (all_written (λ x. is_below row.chain (row_of x)) t rows ∙ test_weaker (is_below row.chain) (λ s. s.removed || is_below row.chain s) (λ s l. or_right s.removed (is_below row.chain s) l) rows k.0)
+        (all_removed (λ x. is_below row.chain (row_of x)) t rows ∙ test_weaker (is_below row.chain) (λ s. not s.removed || is_below row.chain s) (λ s l. or_right (not s.removed) (is_below row.chain s) l) rows k.0)
         ∙ ap (λ l. record { chain = row.chain; rules = []; removed = true } ∷ l) again
         ∙ (λ i. record { chain = row.chain; rules = sym bare i; removed = sym e i } ∷ rows)
 
@@ -119,7 +121,7 @@ module _ (t : TableName) where
       by false rest =
           and_from _ _
           (all_written (λ x. is_lt (edit_cmp (write_of t r) x)) t rows
-          ∙ all_from (is_below r.chain) (λ s. s.removed || is_lt (edit_cmp (write_of t r) (write_of t s)))
+          ∙ test_weaker (is_below r.chain) (λ s. s.removed || is_lt (edit_cmp (write_of t r) (write_of t s)))
           (λ s l. or_right s.removed _ (ap is_lt (tied_table t (text_cmp r.chain s.chain)) ∙ l)) rows (and_parts _ _ h).0)
           rest
 
@@ -132,22 +134,18 @@ module _ (t : TableName) where
       by true rest =
           and_from _ _
           (all_removed (λ x. is_lt (edit_cmp (remove_of t r) x)) t rows
-          ∙ all_from (is_below r.chain) (λ s. not s.removed || is_lt (edit_cmp (remove_of t r) (remove_of t s)))
+          ∙ test_weaker (is_below r.chain) (λ s. not s.removed || is_lt (edit_cmp (remove_of t r) (remove_of t s)))
           (λ s l. or_right (not s.removed) _ (ap is_lt (tied_table t (text_cmp r.chain s.chain)) ∙ l)) rows (and_parts _ _ h).0)
           rest
-
-  all_true : {X : Type 0} (p : X → Bool) → ((x : X) → p x ≡ true) → (xs : List X) → list_all p xs ≡ true
-  all_true p f [] = refl
-  all_true p f (x ∷ xs) = and_from _ _ (f x) (all_true p f xs)
 
   pub in_order : (rows : List Row) → rising rows ≡ true → are_in_order (edits_of t rows) ≡ true
   in_order rows h =
       order_append (flat_map (written t) rows) (flat_map (removed t) rows) (writes_in_order rows h) (removes_in_order rows h)
       (all_written (λ x. list_all (λ y. is_lt (edit_cmp x y)) (flat_map (removed t) rows)) t rows
-      ∙ all_true (λ r. r.removed || list_all (λ y. is_lt (edit_cmp (write_of t r) y)) (flat_map (removed t) rows))
+      ∙ test_always (λ r. r.removed || list_all (λ y. is_lt (edit_cmp (write_of t r) y)) (flat_map (removed t) rows))
       (λ r. or_right r.removed _
       (all_removed (λ y. is_lt (edit_cmp (write_of t r) y)) t rows
-      ∙ all_true (λ s. not s.removed || is_lt (edit_cmp (write_of t r) (remove_of t s)))
+      ∙ test_always (λ s. not s.removed || is_lt (edit_cmp (write_of t r) (remove_of t s)))
       (λ s. or_right (not s.removed) _ (ap is_lt (tied_table t Less))) rows))
       rows)
 
@@ -164,19 +162,19 @@ module _ (t : TableName) where
           and_from _ _
           (none_of (is_same_place (write_of t r)) (edits_of t rows)
           ∙ edits_all (λ x. not (is_same_place (write_of t r) x)) t rows
-          (all_from (is_below r.chain) (λ s. s.removed || not (is_same_place (write_of t r) (write_of t s)))
-          (λ s l. or_right s.removed _ (apart r.chain s.chain (less_differs r.chain s.chain l))) rows (and_parts _ _ h).0)
-          (all_from (is_below r.chain) (λ s. not s.removed || not (is_same_place (write_of t r) (remove_of t s)))
-          (λ s l. or_right (not s.removed) _ (apart r.chain s.chain (less_differs r.chain s.chain l))) rows (and_parts _ _ h).0))
+          (test_weaker (is_below r.chain) (λ s. s.removed || not (is_same_place (write_of t r) (write_of t s)))
+          (λ s l. or_right s.removed _ (apart r.chain s.chain (lesser_text_differs r.chain s.chain l))) rows (and_parts _ _ h).0)
+          (test_weaker (is_below r.chain) (λ s. not s.removed || not (is_same_place (write_of t r) (remove_of t s)))
+          (λ s l. or_right (not s.removed) _ (apart r.chain s.chain (lesser_text_differs r.chain s.chain l))) rows (and_parts _ _ h).0))
           rest
       by true rest =
           once_insert (flat_map (written t) rows) (flat_map (removed t) rows) (remove_of t r) rest
           (all_written (λ x. not (is_same_place x (remove_of t r))) t rows
-          ∙ all_from (is_below r.chain) (λ s. s.removed || not (is_same_place (write_of t s) (remove_of t r)))
+          ∙ test_weaker (is_below r.chain) (λ s. s.removed || not (is_same_place (write_of t s) (remove_of t r)))
           (λ s l. or_right s.removed _ (apart s.chain r.chain (less_differs_turned r.chain s.chain l))) rows (and_parts _ _ h).0)
           (all_removed (λ x. not (is_same_place (remove_of t r) x)) t rows
-          ∙ all_from (is_below r.chain) (λ s. not s.removed || not (is_same_place (remove_of t r) (remove_of t s)))
-          (λ s l. or_right (not s.removed) _ (apart r.chain s.chain (less_differs r.chain s.chain l))) rows (and_parts _ _ h).0)
+          ∙ test_weaker (is_below r.chain) (λ s. not s.removed || not (is_same_place (remove_of t r) (remove_of t s)))
+          (λ s l. or_right (not s.removed) _ (apart r.chain s.chain (lesser_text_differs r.chain s.chain l))) rows (and_parts _ _ h).0)
 
   within : (name rules built clear : Bool) → (not built && clear) ≡ true → (name && rules) ≡ true → (name && (not built && rules)) ≡ true
   within name rules built clear k l = and_from name (not built && rules) (and_parts name rules l).0 (and_from (not built) rules (and_parts (not built) clear k).0 (and_parts name rules l).1)
@@ -199,8 +197,8 @@ module _ (t : TableName) where
 -- what holds of all edits of rows
 edits_true : (p : Edit → Bool) (t : TableName) → ((r : Row) → p (write_of t r) ≡ true) → ((r : Row) → p (remove_of t r) ≡ true) → (rows : List Row) → list_all p (edits_of t rows) ≡ true
 edits_true p t w x rows =
-    edits_all p t rows (all_true t (λ r. r.removed || p (write_of t r)) (λ r. or_right r.removed _ (w r)) rows)
-    (all_true t (λ r. not r.removed || p (remove_of t r)) (λ r. or_right (not r.removed) _ (x r)) rows)
+    edits_all p t rows (test_always (λ r. r.removed || p (write_of t r)) (λ r. or_right r.removed _ (w r)) rows)
+    (test_always (λ r. not r.removed || p (remove_of t r)) (λ r. or_right (not r.removed) _ (x r)) rows)
 
 -- the edits of both sections
 pub canonical_batch : (family : Family) (n f : List Row) → rising n ≡ true → list_all (fits Nat) n ≡ true → list_all (is_good Nat family) n ≡ true
@@ -231,11 +229,7 @@ filter_none : {X : Type 0} (p : X → Bool) (xs : List X) → list_all (λ x. no
 filter_none p [] h = refl
 filter_none p (x ∷ xs) h =
     let k = and_parts _ _ h in
-    ap (λ b. cond b (x ∷ filter p xs) (filter p xs)) (other (p x) k.0) ∙ filter_none p xs k.1
-  where
-    other : (b : Bool) → not b ≡ true → b ≡ false
-    other false h = refl
-    other true h = absurd (false≢true h)
+    ap (λ b. cond b (x ∷ filter p xs) (filter p xs)) (not-true (p x) k.0) ∙ filter_none p xs k.1
 
 filter_append : {X : Type 0} (p : X → Bool) (xs ys : List X) → filter p (xs ++ ys) ≡ filter p xs ++ filter p ys
 filter_append p [] ys = refl
@@ -301,14 +295,14 @@ both_parts [] h = refl
 both_parts (e ∷ es) h = by (place_of e).table refl (and_parts _ _ h).0 (both_parts es (and_parts _ _ h).1)
   where
     all_later : (place_of e).table ≡ Filter → list_all (λ x. is_lt (edit_cmp e x)) es ≡ true → list_all (is_in Filter) es ≡ true
-    all_later g = all_from (λ x. is_lt (edit_cmp e x)) (is_in Filter) (λ x l. later e x Nat (place_of x).table g refl l) es
+    all_later g = test_weaker (λ x. is_lt (edit_cmp e x)) (is_in Filter) (λ x l. later e x Nat (place_of x).table g refl l) es
 
     by : (t : TableName) → (place_of e).table ≡ t → list_all (λ x. is_lt (edit_cmp e x)) es ≡ true → edits_in Nat es ++ edits_in Filter es ≡ es
         → cond (table_place t == table_place Nat) (e ∷ edits_in Nat es) (edits_in Nat es) ++ cond (table_place t == table_place Filter) (e ∷ edits_in Filter es) (edits_in Filter es) ≡ e ∷ es
     by Nat g all rest = ap (λ l. e ∷ l) rest
     by Filter g all rest =
         let here = all_later g all in
-        (λ i. filter_none (is_in Nat) es (all_from (is_in Filter) (λ x. not (is_in Nat x)) (λ x l. elsewhere (place_of x).table l) es here) i ++ e ∷ filter_all (is_in Filter) es here i)
+        (λ i. filter_none (is_in Nat) es (test_weaker (is_in Filter) (λ x. not (is_in Nat x)) (λ x l. elsewhere (place_of x).table l) es here) i ++ e ∷ filter_all (is_in Filter) es here i)
       where
         elsewhere : (t : TableName) → (table_place t == table_place Filter) ≡ true → not (table_place t == table_place Nat) ≡ true
         elsewhere Nat l = absurd (false≢true l)

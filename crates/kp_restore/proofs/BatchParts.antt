@@ -26,8 +26,9 @@ use Rattle.kp_restore.specs.BatchSteps.{written, removed, edits_of}
 use Rattle.kp_restore.specs.declared.line.Line.{Line}
 use Rattle.kp_restore.specs.declared.line.Line.TheVariants as line
 use Rattle.kp_restore.specs.declared.row.Row.{Row}
-use Rattle.kp_restore.proofs.BatchRows.{all_from, all_both, row_of, put_row, rows_of, fits, write_of, remove_of, is_in, edits_again}
+use Rattle.kp_restore.proofs.BatchRows.{all_both, row_of, put_row, rows_of, fits, write_of, remove_of, is_in, edits_again}
 use Rattle.kp_restore.proofs.BatchEdits.{no_items, is_good}
+use Rattle.kp_lemmas.proofs.ListFacts.{test_weaker}
 
 -- ---- Parts
 
@@ -198,21 +199,21 @@ module _ (family : Family) (t : TableName) where
   good_parts rows g =
       list_all-append (is_canonical_line family) (map declared_part rows) (flat_map rule_parts rows ++ (flat_map removed_part rows ++ line.Commit ∷ []))
       ∙ and_from _ _
-      (all_map (is_canonical_line family) declared_part rows ∙ all_from (is_good t family) (λ r. is_chain_name r.chain) (λ r k. (and_parts _ _ k).0) rows g)
+      (all_map (is_canonical_line family) declared_part rows ∙ test_weaker (is_good t family) (λ r. is_chain_name r.chain) (λ r k. (and_parts _ _ k).0) rows g)
       (list_all-append (is_canonical_line family) (flat_map rule_parts rows) (flat_map removed_part rows ++ line.Commit ∷ [])
       ∙ and_from _ _
       (all_flat (is_canonical_line family) rule_parts rows
-      ∙ all_from (is_good t family) (λ r. list_all (is_canonical_line family) (rule_parts r)) (λ r k. good_rules r.chain r.rules (and_parts _ _ k).0 (and_parts _ _ k).1) rows g)
+      ∙ test_weaker (is_good t family) (λ r. list_all (is_canonical_line family) (rule_parts r)) (λ r k. good_rules r.chain r.rules (and_parts _ _ k).0 (and_parts _ _ k).1) rows g)
       (list_all-append (is_canonical_line family) (flat_map removed_part rows) (line.Commit ∷ [])
       ∙ and_from _ _
       (all_flat (is_canonical_line family) removed_part rows
-      ∙ all_from (is_good t family) (λ r. list_all (is_canonical_line family) (removed_part r)) (λ r k. good_removed r r.removed (and_parts _ _ k).0) rows g)
+      ∙ test_weaker (is_good t family) (λ r. list_all (is_canonical_line family) (removed_part r)) (λ r k. good_removed r r.removed (and_parts _ _ k).0) rows g)
       refl))
     where
       good_rules : (chain : List ℕ) (rules : List Rule) → is_chain_name chain ≡ true → list_all (is_canonical_rule family) rules ≡ true → list_all (is_canonical_line family) (map (line.Ruled chain) rules) ≡ true
       good_rules chain rules n k =
           all_map (is_canonical_line family) (line.Ruled chain) rules
-          ∙ all_from (is_canonical_rule family) (λ rule. is_chain_name chain && is_canonical_rule family rule) (λ rule l. and_from _ _ n l) rules k
+          ∙ test_weaker (is_canonical_rule family) (λ rule. is_chain_name chain && is_canonical_rule family rule) (λ rule l. and_from _ _ n l) rules k
 
       good_removed : (r : Row) (b : Bool) → is_chain_name r.chain ≡ true → list_all (is_canonical_line family) (cond b (line.Removed r.chain ∷ []) []) ≡ true
       good_removed r true n = and_from _ _ n refl
@@ -233,7 +234,7 @@ module _ (family : Family) (t : TableName) where
     where
       rules_good : (chain : List ℕ) (rules : List Rule) → list_all (is_canonical_line family) (map (line.Ruled chain) rules) ≡ true → list_all (is_canonical_rule family) rules ≡ true
       rules_good chain rules k =
-          all_from (λ rule. is_chain_name chain && is_canonical_rule family rule) (is_canonical_rule family) (λ rule l. (and_parts (is_chain_name chain) (is_canonical_rule family rule) l).1) rules
+          test_weaker (λ rule. is_chain_name chain && is_canonical_rule family rule) (is_canonical_rule family) (λ rule l. (and_parts (is_chain_name chain) (is_canonical_rule family rule) l).1) rules
           (sym (all_map (is_canonical_line family) (line.Ruled chain) rules) ∙ k)
 
   pub if_good : (rows : List Row) → list_all (is_canonical_line family) (parts_if t rows) ≡ true → list_all (is_good t family) rows ≡ true

@@ -12,7 +12,6 @@ use Rattle.std.proofs.lemmas.List.Folds.{list_all-append}
 use Rattle.kp_base.specs.Keys.{text_cmp}
 use Rattle.kp_types.specs.Places.{table_place}
 use Rattle.kp_types.specs.declared.chain.TableName.{TableName}
-use Rattle.kp_types.specs.declared.chain.TableName.TheVariants.{Nat, Filter}
 use Rattle.kp_types.specs.declared.chain.ChainAt.{ChainAt}
 use Rattle.kp_types.specs.declared.rule.Rule.{Rule}
 use Rattle.kp_types.specs.declared.rule.Edit.{Edit}
@@ -22,13 +21,12 @@ use Rattle.kp_table_defs.specs.Ranks.{is_built_in}
 use Rattle.kp_restore_defs.specs.BatchText.{place_of, edit_cmp, are_in_order, is_same_place, edit_each_once}
 use Rattle.kp_restore.specs.BatchSteps.{written, removed, edits_of}
 use Rattle.kp_restore.specs.declared.row.Row.{Row}
-use Rattle.kp_restore.proofs.BatchOrder.{is_less, name_itself, tied_names, less_through, greater_turned}
+use Rattle.kp_restore.proofs.BatchOrder.{name_itself, tied_names, less_through, greater_turned}
+use Rattle.kp_lemmas.proofs.ListFacts.{test_weaker}
+use Rattle.kp_lemmas.proofs.Orders.{less_from_test}
+use Rattle.kp_types.proofs.ChainOrder.{one_table_from_test}
 
 -- ---- Tests of all elements
-
-pub all_from : {X : Type 0} (p q : X → Bool) → ((x : X) → p x ≡ true → q x ≡ true) → (xs : List X) → list_all p xs ≡ true → list_all q xs ≡ true
-all_from p q f [] h = refl
-all_from p q f (x ∷ xs) h = let k = and_parts _ _ h in and_from _ _ (f x k.0) (all_from p q f xs k.1)
 
 pub all_both : {X : Type 0} (p q r : X → Bool) → ((x : X) → p x ≡ true → q x ≡ true → r x ≡ true) → (xs : List X) → list_all p xs ≡ true → list_all q xs ≡ true → list_all r xs ≡ true
 all_both p q r f [] g h = refl
@@ -76,7 +74,7 @@ abbrev pub fits : TableName → Row → Bool
 fits table row = not (is_built_in table row.chain) && (not row.removed || is_empty row.rules)
 
 pub below_all : (a b : List ℕ) (rows : List Row) → is_lt (text_cmp a b) ≡ true → list_all (is_below b) rows ≡ true → list_all (is_below a) rows ≡ true
-below_all a b rows h = all_from (is_below b) (is_below a) (λ s k. less_through a b s.chain h k) rows
+below_all a b rows h = test_weaker (is_below b) (is_below a) (λ s k. less_through a b s.chain h k) rows
 
 all_put : (p : Row → Bool) → ((r s : Row) → p r ≡ true → p s ≡ true → p (record r { chain = s.chain }) ≡ true) → (r : Row) (rows : List Row) → p r ≡ true → list_all p rows ≡ true → list_all p (put_row r rows) ≡ true
 all_put p f r [] h all = and_from _ _ h refl
@@ -109,7 +107,7 @@ rising_rows_of (e ∷ es) = rising_put (row_of e) (rows_of es) (rising_rows_of e
 pub put_first : (r : Row) (rows : List Row) → list_all (is_below r.chain) rows ≡ true → put_row r rows ≡ r ∷ rows
 put_first r [] h = refl
 put_first r (s ∷ rows) h =
-    ap (λ o. by_order o (r ∷ s ∷ rows) (record r { chain = s.chain } ∷ rows) (s ∷ put_row r rows)) (is_less (text_cmp r.chain s.chain) (and_parts _ _ h).0)
+    ap (λ o. by_order o (r ∷ s ∷ rows) (record r { chain = s.chain } ∷ rows) (s ∷ put_row r rows)) (less_from_test (text_cmp r.chain s.chain) (and_parts _ _ h).0)
 
 -- ---- Edits of rows
 
@@ -158,12 +156,6 @@ is_in table e = table_place (place_of e).table == table_place table
 tied : (x y : ℕ) → (x == y) ≡ true → nat_cmp x y ≡ Equal
 tied x y h = ap (nat_cmp x) (sym (eqb-true x y h)) ∙ tied_itself nat_cmp_total x
 
-pub same_table : (a b : TableName) → (table_place a == table_place b) ≡ true → a ≡ b
-same_table Nat Nat h = refl
-same_table Nat Filter h = absurd (false≢true h)
-same_table Filter Nat h = absurd (false≢true h)
-same_table Filter Filter h = refl
-
 either_true : (b c : Bool) → (b || c) ≡ true → c ≡ false → b ≡ true
 either_true true c h k = refl
 either_true false c h k = absurd (false≢true (sym k ∙ h))
@@ -203,7 +195,7 @@ none_written t (s ∷ rows) h =
 
 module _ (t : TableName) (at : ChainAt) (h : (table_place at.table == table_place t) ≡ true) where
   place_is : record { table = t; chain = at.chain } ≡ at
-  place_is = λ i. record { table = sym (same_table at.table t h) i; chain = at.chain }
+  place_is = λ i. record { table = sym (one_table_from_test at.table t h) i; chain = at.chain }
 
   compared : (a : Ordering) → ordering_then (nat_cmp (table_place at.table) (table_place t)) a ≡ a
   compared a = ap (λ o. ordering_then o a) (tied (table_place at.table) (table_place t) h)
@@ -231,7 +223,7 @@ module _ (t : TableName) (at : ChainAt) (h : (table_place at.table == table_plac
   remove_before rows before =
       let b = all_edits (λ other. is_lt (edit_cmp (Remove at) other)) t rows before in
       let gone : list_all (λ s. s.removed) rows ≡ true =
-      all_from (λ s. s.removed || is_lt (edit_cmp (Remove at) (write_of t s))) (λ s. s.removed)
+      test_weaker (λ s. s.removed || is_lt (edit_cmp (Remove at) (write_of t s))) (λ s. s.removed)
       (λ s k. either_true s.removed (is_lt (edit_cmp (Remove at) (write_of t s))) k (ap is_lt (compared Greater)))
       rows b.0
       in (

@@ -21,10 +21,13 @@ use Rattle.kp_restore.specs.declared.batch_reader.Part.TheVariants.{Declaring, R
 use Rattle.kp_restore.specs.declared.batch_reader.BatchPhase.{BatchPhase}
 use Rattle.kp_restore.specs.declared.batch_reader.BatchPhase.TheVariants.{Between, Within}
 use Rattle.kp_restore.specs.declared.batch_reader.BatchReader.{BatchReader}
-use Rattle.kp_restore.proofs.BatchOrder.{same_name, less_through}
-use Rattle.kp_restore.proofs.BatchRows.{all_from, is_below, rising, fits}
+use Rattle.kp_restore.proofs.BatchOrder.{less_through}
+use Rattle.kp_restore.proofs.BatchRows.{is_below, rising, fits}
 use Rattle.kp_restore.proofs.BatchParts.{declared_part, rule_parts, removed_part, open_parts, section_parts, parts_if, closed}
 use Rattle.kp_restore.proofs.BatchTaken.{rising_swap, last_more}
+use Rattle.std.proofs.lemmas.Option.{none-some}
+use Rattle.kp_lemmas.proofs.ListFacts.{test_weaker}
+use Rattle.kp_base.proofs.SameParts.{text_test_exact}
 
 -- ---- Rows of a section
 
@@ -58,7 +61,7 @@ no_removes (r ∷ rows) h = let k = and_parts _ _ h in by r.removed k.0 (no_remo
     by false h rest = rest
 
 fresh_kept : (rows : List Row) → list_all is_fresh rows ≡ true → list_all is_kept rows ≡ true
-fresh_kept rows h = all_from is_fresh is_kept (λ r k. (and_parts (not r.removed) (is_empty r.rules) k).0) rows h
+fresh_kept rows h = test_weaker is_fresh is_kept (λ r k. (and_parts (not r.removed) (is_empty r.rules) k).0) rows h
 
 -- ---- What a section's lines say so far
 
@@ -84,9 +87,6 @@ cond_some : {A : Type 0} (b : Bool) (x y : A) → cond b (Some x) None ≡ Some 
 cond_some true x y h = (refl, cc)
 cond_some false x y h = absurd (cc)
 
-none_some : {A : Type 0} (y : A) → None ≡ Some y → ⊥
-none_some y h = cc
-
 rising_more : (rows : List Row) (chain : List ℕ) → rising rows ≡ true → is_behind (slice_get rows (length rows - 1)) chain ≡ true → rising (rows ++ fresh chain ∷ []) ≡ true
 rising_more [] chain h b = refl
 rising_more (r ∷ []) chain h b = and_from _ _ (and_from _ _ b refl) refl
@@ -107,8 +107,8 @@ open_fresh t rows h =
 module _ (edits : List Edit) (t : TableName) where
   declare_holds : (part : Part) (passed left : List Row) (chain : List ℕ) (next : BatchReader) → IsSection t (passed ++ left) → PartHolds part passed left
       → declared edits t part passed chain ≡ Some next → Led edits t (passed ++ left) (line.Declared chain) next
-  declare_holds Ruling passed left chain next s h e = absurd (none_some next e)
-  declare_holds Removing passed left chain next s h e = absurd (none_some next e)
+  declare_holds Ruling passed left chain next s h e = absurd (none-some next e)
+  declare_holds Removing passed left chain next s h e = absurd (none-some next e)
   declare_holds Declaring passed left chain next s h e =
       let all : passed ++ left ≡ passed = ap (λ l. passed ++ l) h.0 ∙ append-nil passed in
       let more : (passed ++ fresh chain ∷ []) ++ [] ≡ passed ++ fresh chain ∷ [] = append-nil (passed ++ fresh chain ∷ []) in
@@ -183,7 +183,7 @@ module _ (edits : List Edit) (t : TableName) where
 
   rule_holds : (passed left all : List Row) (chain : List ℕ) (rule : Rule) (next : BatchReader) → passed ++ left ≡ all → IsSection t all → list_all is_kept all ≡ true → tail_fresh left ≡ true
       → ruled edits t passed left chain rule ≡ Some next → Led edits t all (line.Ruled chain rule) next
-  rule_holds passed [] all chain rule next a s k f e = absurd (none_some next e)
+  rule_holds passed [] all chain rule next a s k f e = absurd (none-some next e)
   rule_holds passed (row ∷ rows) all chain rule next a s k f e =
       by (bytes_eq row.chain chain) refl e
       (rule_holds (passed ++ row ∷ []) rows all chain rule next (append_assoc passed (row ∷ []) rows ∙ a) s k (tail_of rows f))
@@ -210,7 +210,7 @@ module _ (edits : List Edit) (t : TableName) where
             };
             holds = (new_kept, with_rule row rule, rows, refl, f);
             parts = one_rule passed row rule rows kept_all new_kept f
-                ∙ (λ i. open_parts t (a i) ++ line.Ruled (same_name row.chain chain g i) rule ∷ []);
+                ∙ (λ i. open_parts t (a i) ++ line.Ruled (text_test_exact row.chain chain g i) rule ∷ []);
           }
         where
           same : (next : BatchReader) → Some (record { edits = edits; phase = Within t Ruling passed (with_rule row rule ∷ rows) }) ≡ Some next → next ≡ record { edits = edits; phase = Within t Ruling passed (with_rule row rule ∷ rows) }
@@ -227,7 +227,7 @@ module _ (edits : List Edit) (t : TableName) where
       rule_holds [] (passed ++ left) (passed ++ left) chain rule next refl s (fresh_kept (passed ++ left) all) (tail_of (passed ++ left) all) e
   ruled_holds Ruling passed left chain rule next s h e =
       rule_holds passed left (passed ++ left) chain rule next refl s h.0 (ap tail_fresh h.3 ∙ h.4) e
-  ruled_holds Removing passed left chain rule next s h e = absurd (none_some next e)
+  ruled_holds Removing passed left chain rule next s h e = absurd (none-some next e)
 
   -- ---- Removes
 
@@ -261,7 +261,7 @@ module _ (edits : List Edit) (t : TableName) where
 
   remove_holds : (passed left all : List Row) (chain : List ℕ) (next : BatchReader) → passed ++ left ≡ all → IsSection t all → list_all is_kept left ≡ true
       → removed_from edits t passed left chain ≡ Some next → Led edits t all (line.Removed chain) next
-  remove_holds passed [] all chain next a s k e = absurd (none_some next e)
+  remove_holds passed [] all chain next a s k e = absurd (none-some next e)
   remove_holds passed (row ∷ rows) all chain next a s k e =
       by (bytes_eq row.chain chain) refl e
       (remove_holds (passed ++ row ∷ []) rows all chain next (append_assoc passed (row ∷ []) rows ∙ a) s (and_parts _ _ k).1)
@@ -291,7 +291,7 @@ module _ (edits : List Edit) (t : TableName) where
             };
             holds = (kept_ones.1, some_more passed (record row { removed = true }));
             parts = ap (open_parts t) whole ∙ one_remove passed row rows kept_ones.0 kept_ones.1
-                ∙ (λ i. open_parts t (a i) ++ line.Removed (same_name row.chain chain g i) ∷ []);
+                ∙ (λ i. open_parts t (a i) ++ line.Removed (text_test_exact row.chain chain g i) ∷ []);
           }
 
   removed_holds : (part : Part) (passed left : List Row) (chain : List ℕ) (next : BatchReader) → IsSection t (passed ++ left) → PartHolds part passed left
@@ -389,13 +389,13 @@ commit_holds edits t part passed left next xs s e =
 
 step_holds : (edits : List Edit) (phase : BatchPhase) (x : Line) (next : BatchReader) (xs : List Line) → Tells edits phase xs → step_in edits phase x ≡ Some next → Tells next.edits next.phase (xs ++ x ∷ [])
 step_holds edits (Between last) (line.Section t) next xs b e = open_holds edits last t next xs b e
-step_holds edits (Between last) (line.BuiltIn c) next xs b e = absurd (none_some next e)
-step_holds edits (Between last) (line.Declared c) next xs b e = absurd (none_some next e)
-step_holds edits (Between last) (line.Ruled c r) next xs b e = absurd (none_some next e)
-step_holds edits (Between last) (line.Removed c) next xs b e = absurd (none_some next e)
-step_holds edits (Between last) line.Commit next xs b e = absurd (none_some next e)
-step_holds edits (Within t part passed left) (line.Section u) next xs s e = absurd (none_some next e)
-step_holds edits (Within t part passed left) (line.BuiltIn c) next xs s e = absurd (none_some next e)
+step_holds edits (Between last) (line.BuiltIn c) next xs b e = absurd (none-some next e)
+step_holds edits (Between last) (line.Declared c) next xs b e = absurd (none-some next e)
+step_holds edits (Between last) (line.Ruled c r) next xs b e = absurd (none-some next e)
+step_holds edits (Between last) (line.Removed c) next xs b e = absurd (none-some next e)
+step_holds edits (Between last) line.Commit next xs b e = absurd (none-some next e)
+step_holds edits (Within t part passed left) (line.Section u) next xs s e = absurd (none-some next e)
+step_holds edits (Within t part passed left) (line.BuiltIn c) next xs s e = absurd (none-some next e)
 step_holds edits (Within t part passed left) (line.Declared c) next xs s e =
     led_holds edits t part passed left (line.Declared c) next xs s (declare_holds edits t part passed left c next s.section s.holds e)
 step_holds edits (Within t part passed left) (line.Ruled c r) next xs s e =
@@ -414,7 +414,7 @@ run_holds s ys (x ∷ xs) next h e = by (step s x) refl e (λ m k. run_holds m (
     by : (o : Option BatchReader) → step s x ≡ o → option_and_then (λ m. run step m xs) o ≡ Some next
         → ((m : BatchReader) → Tells m.edits m.phase (ys ++ x ∷ []) → run step m xs ≡ Some next → Tells next.edits next.phase ((ys ++ x ∷ []) ++ xs))
         → Tells next.edits next.phase (ys ++ x ∷ xs)
-    by None g e later = absurd (none_some next e)
+    by None g e later = absurd (none-some next e)
     by (Some m) g e later =
         subst (Tells next.edits next.phase) (append_assoc ys (x ∷ []) xs) (later m (step_holds s.edits s.phase x m ys h g) e)
 

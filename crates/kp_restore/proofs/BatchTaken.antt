@@ -2,7 +2,7 @@
 use Rattle.std.proofs.Common.{◌≡◌, ℕ, ◌-◌, suc, Bool, true, false, cond, not, ◌||◌, List, [], ◌∷◌, ◌++◌, map, length, bytes_eq, slice_get, Option, Some, None, refl, sym, ap, subst, ◌∙◌, append_assoc, arith, option_and_then}
 use Rattle.std.specs.Ordering.{is_lt}
 use Rattle.std.specs.List.{list_all, flat_map}
-use Rattle.std.proofs.lemmas.Bool.{and_parts, and_from, false≢true}
+use Rattle.std.proofs.lemmas.Bool.{and_parts, and_from, not-true}
 use Rattle.std.proofs.lemmas.List.{append-nil}
 use Rattle.std.proofs.lemmas.List.Folds.{list_all-append}
 use Rattle.kp_base.specs.Keys.{text_cmp}
@@ -20,9 +20,10 @@ use Rattle.kp_restore.specs.declared.batch_reader.Part.TheVariants.{Declaring, R
 use Rattle.kp_restore.specs.declared.batch_reader.BatchPhase.TheVariants.{Between, Within}
 use Rattle.kp_restore.specs.declared.batch_reader.BatchReader.{BatchReader}
 use Rattle.kp_restore.proofs.Machine.{run_on}
-use Rattle.kp_restore.proofs.BatchOrder.{name_itself, less_differs}
+use Rattle.kp_restore.proofs.BatchOrder.{name_itself}
 use Rattle.kp_restore.proofs.BatchRows.{is_below, rising, fits}
 use Rattle.kp_restore.proofs.BatchParts.{declared_part, rule_parts, removed_part, section_parts}
+use Rattle.kp_lemmas.proofs.Orders.{lesser_text_differs}
 
 -- ---- Runs
 
@@ -83,7 +84,7 @@ apart_more : (l : List Row) (x : Row) (rest : List Row) → Apart l rest → lis
 apart_more l x [] a h = tt
 apart_more l x (r ∷ rest) a h =
     let k = and_parts _ _ h in (
-      list_all-append (λ y. not (bytes_eq y.chain r.chain)) l (x ∷ []) ∙ and_from _ _ a.0 (and_from _ _ (ap not (less_differs x.chain r.chain k.0)) refl),
+      list_all-append (λ y. not (bytes_eq y.chain r.chain)) l (x ∷ []) ∙ and_from _ _ a.0 (and_from _ _ (ap not (lesser_text_differs x.chain r.chain k.0)) refl),
       apart_more l x rest a.1 k.1,
     )
 
@@ -126,13 +127,9 @@ module _ (edits : List Edit) (t : TableName) where
       ∙ ap (λ q. Some (ruling q (with_rule row r ∷ rows))) (sym (append-nil p))
   skip_ruled p (x ∷ l) row rows c r a e =
       let k = and_parts _ _ a in
-      ap (λ b. cond b (Some (ruling p (with_rule x r ∷ (l ++ row ∷ rows)))) (ruled edits t (p ++ x ∷ []) (l ++ row ∷ rows) c r)) (other (bytes_eq x.chain c) k.0)
+      ap (λ b. cond b (Some (ruling p (with_rule x r ∷ (l ++ row ∷ rows)))) (ruled edits t (p ++ x ∷ []) (l ++ row ∷ rows) c r)) (not-true (bytes_eq x.chain c) k.0)
       ∙ skip_ruled (p ++ x ∷ []) l row rows c r k.1 e
       ∙ ap (λ q. Some (ruling q (with_rule row r ∷ rows))) (append_assoc p (x ∷ []) l)
-    where
-      other : (b : Bool) → not b ≡ true → b ≡ false
-      other false h = refl
-      other true h = absurd (false≢true h)
 
   abbrev with_rules : Row → List Rule → Row
   with_rules row rules = record row { rules = row.rules ++ rules }
@@ -211,13 +208,9 @@ module _ (edits : List Edit) (t : TableName) where
       ∙ ap (λ q. with_removed edits t q row rows) (sym (append-nil p))
   skip_removed p (x ∷ l) row rows c a e =
       let k = and_parts _ _ a in
-      ap (λ b. cond b (with_removed edits t p x (l ++ row ∷ rows)) (removed_from edits t (p ++ x ∷ []) (l ++ row ∷ rows) c)) (other (bytes_eq x.chain c) k.0)
+      ap (λ b. cond b (with_removed edits t p x (l ++ row ∷ rows)) (removed_from edits t (p ++ x ∷ []) (l ++ row ∷ rows) c)) (not-true (bytes_eq x.chain c) k.0)
       ∙ skip_removed (p ++ x ∷ []) l row rows c k.1 e
       ∙ ap (λ q. with_removed edits t q row rows) (append_assoc p (x ∷ []) l)
-    where
-      other : (b : Bool) → not b ≡ true → b ≡ false
-      other false h = refl
-      other true h = absurd (false≢true h)
 
   -- the chains are these at the end of the removes
   record AfterRemoves (s : BatchReader) (parts : List Line) (rows : List Row) : Type 0 where

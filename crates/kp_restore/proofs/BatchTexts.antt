@@ -27,11 +27,12 @@ use Rattle.kp_restore.specs.declared.batch_reader.BatchPhase.TheVariants.{Betwee
 use Rattle.kp_restore.specs.declared.batch_reader.BatchReader.{BatchReader}
 use Rattle.kp_restore.proofs.Machine.{IsReader, run_on, same_value}
 use Rattle.kp_restore.proofs.LineTexts.{line_exact, line_plain}
-use Rattle.kp_restore.proofs.BatchRows.{all_both, row_of, rows_of, rising, fits, all_rows_of, is_in, same_table, rising_rows_of, edits_again}
+use Rattle.kp_restore.proofs.BatchRows.{all_both, row_of, rows_of, rising, fits, all_rows_of, is_in, rising_rows_of, edits_again}
 use Rattle.kp_restore.proofs.BatchEdits.{is_good, rows_again, canonical_batch, all_filter, all_kept, order_filter, once_filter, nat_part, filter_part, both_parts}
 use Rattle.kp_restore.proofs.BatchParts.{parts_if, batch_parts, if_printed, good_if, if_good}
 use Rattle.kp_restore.proofs.BatchTaken.{section_run}
 use Rattle.kp_restore.proofs.BatchSound.{IsSection, PartHolds, Behind, Tells, no_rows, told}
+use Rattle.kp_types.proofs.ChainOrder.{one_table_from_test}
 
 -- ---- The sections of a canonical batch
 
@@ -47,11 +48,11 @@ fit_edit : (family : Family) (t : TableName) (e : Edit) → is_in t e ≡ true �
 fit_edit family t (Write at rules) i c =
     let parts = and_parts (is_chain_name at.chain) (not (is_built_in at.table at.chain) && list_all (is_canonical_rule family) rules) c in
     let more = and_parts (not (is_built_in at.table at.chain)) (list_all (is_canonical_rule family) rules) parts.1 in
-    and_from _ _ (subst (λ u. not (is_built_in u at.chain) ≡ true) (same_table at.table t i) more.0) refl
+    and_from _ _ (subst (λ u. not (is_built_in u at.chain) ≡ true) (one_table_from_test at.table t i) more.0) refl
 fit_edit family t (Remove at) i c =
     let parts = and_parts (is_chain_name at.chain) (not (is_built_in at.table at.chain) && true) c in
     let more = and_parts (not (is_built_in at.table at.chain)) true parts.1 in
-    and_from _ _ (subst (λ u. not (is_built_in u at.chain) ≡ true) (same_table at.table t i) more.0) refl
+    and_from _ _ (subst (λ u. not (is_built_in u at.chain) ≡ true) (one_table_from_test at.table t i) more.0) refl
 
 good_edit : (family : Family) (t : TableName) (e : Edit) → is_canonical_edit family e ≡ true → is_good t family (row_of e) ≡ true
 good_edit family t (Write at rules) c =

@@ -18,20 +18,23 @@ use Rattle.kp_types.specs.declared.chain.ChainAt.{ChainAt}
 use Rattle.kp_types.specs.declared.rule.Rule.{Rule}
 use Rattle.kp_types.specs.declared.rule.Edit.{Edit}
 use Rattle.kp_types.specs.declared.rule.Edit.TheVariants.{Write, Remove}
-use Rattle.kp_types.proofs.ChainOrder.{chain_total}
+use Rattle.kp_types.proofs.ChainOrder.{chain_total, one_table_from_test}
 use Rattle.kp_table_defs.specs.Edits.{chains_after_edit, is_found_with, write_if_changed, remove_if_gone, chains_in, table_changes, changes_between}
 use Rattle.kp_table_defs.specs.Ranks.{is_built_in, has_built_in_chains}
 use Rattle.kp_table_defs.specs.Rebuild.{Chains}
-use Rattle.kp_rules.proofs.MapPlaces.{both, less}
-use Rattle.kp_rules.proofs.ChangeLists.{Entries, entries_found, every}
-use Rattle.kp_rules.proofs.ChangesLead.{all_append, In_option, all_filter_map, changes_lead, same_rules_exact}
+use Rattle.kp_rules.proofs.ChangeLists.{Entries}
+use Rattle.kp_rules.proofs.ChangesLead.{In_option, all_filter_map, changes_lead, same_rules_exact}
 use Rattle.kp_restore_defs.specs.RuleText.{is_canonical_rule}
 use Rattle.kp_restore_defs.specs.TableText.{may_stand, is_canonical_chain, is_canonical_table}
 use Rattle.kp_restore_defs.specs.BatchText.{place_of, kind_place, edit_cmp, are_in_order, is_same_place, edit_each_once, is_canonical_edit, is_canonical_batch}
 use Rattle.kp_restore_defs.specs.BatchesBetween.{HaveSameBuiltIn, ChangesAreCanonical, ReadChangesLeadOver}
-use Rattle.kp_restore.proofs.BatchOrder.{same_name}
-use Rattle.kp_restore.proofs.BatchRows.{all_from, none_of, same_table}
+use Rattle.kp_restore.proofs.BatchRows.{none_of}
 use Rattle.kp_restore.proofs.BatchTexts.{batch_texts_differ}
+use Rattle.kp_lemmas.proofs.ListFacts.{test_weaker, all_append, all_weaker}
+use Rattle.kp_lemmas.proofs.Booleans.{both_facts}
+use Rattle.kp_lemmas.proofs.Orders.{less_from_fact}
+use Rattle.kp_lemmas.proofs.Entries.{entries_found}
+use Rattle.kp_base.proofs.SameParts.{text_test_exact}
 
 -- ---- Pairs of a list
 
@@ -58,7 +61,7 @@ pairs_kept R test [] p = tt
 pairs_kept R test (x ∷ xs) p = by (test x) (pairs_kept R test xs p.1)
   where
     by : (b : Bool) → EachPair R (filter test xs) → EachPair R (cond b (x ∷ filter test xs) (filter test xs))
-    by true rest = (every (λ y. R x y × (test y ≡ true)) (R x) (λ y h. h.0) (filter test xs) (all_kept (R x) test xs p.0), rest)
+    by true rest = (all_weaker (λ y. R x y × (test y ≡ true)) (R x) (λ y h. h.0) (filter test xs) (all_kept (R x) test xs p.0), rest)
     by false rest = rest
 
 pairs_given : {X Y : Type 0} (R : X → X → Type 0) (S : Y → Y → Type 0) (f : X → Option Y) → ((a b : X) → R a b → In_option (λ y. In_option (S y) (f b)) (f a)) → (xs : List X) → EachPair R xs → EachPair S (filter_map f xs)
@@ -67,7 +70,7 @@ pairs_given {X = X} {Y = Y} R S f h (x ∷ xs) p = by (f x) (h x) (pairs_given R
   where
     by : (o : Option Y) → ((b : X) → R x b → In_option (λ y. In_option (S y) (f b)) o) → EachPair S (filter_map f xs) → EachPair S (cons_option o (filter_map f xs))
     by None g rest = rest
-    by (Some y) g rest = (all_filter_map (S y) f xs (every (R x) (λ b. In_option (S y) (f b)) g xs p.0), rest)
+    by (Some y) g rest = (all_filter_map (S y) f xs (all_weaker (R x) (λ b. In_option (S y) (f b)) g xs p.0), rest)
 
 all_true : {X : Type 0} (p : X → Bool) (P : X → Type 0) → ((x : X) → P x → p x ≡ true) → (xs : List X) → AllByRecursion P xs → list_all p xs ≡ true
 all_true p P f [] a = refl
@@ -85,11 +88,11 @@ both_hold P Q (x ∷ xs) a b = ((a.0, b.0), both_hold P Q xs a.1 b.1)
 
 below : (e : ChainAt × List Rule) (es : Entries) → T (below_all chain_cmp e.0 es) → AllByRecursion (λ f. chain_cmp e.0 f.0 ≡ Less) es
 below e [] h = tt
-below e (f ∷ es) h = let parts = both _ _ h in (less _ parts.0, below e es parts.1)
+below e (f ∷ es) h = let parts = both_facts _ _ h in (less_from_fact _ parts.0, below e es parts.1)
 
 sorted_pairs : (es : Entries) → T (is_sorted chain_cmp es) → EachPair (λ e f. chain_cmp e.0 f.0 ≡ Less) es
 sorted_pairs [] h = tt
-sorted_pairs (e ∷ es) h = let parts = both _ _ h in (below e es parts.0, sorted_pairs es parts.1)
+sorted_pairs (e ∷ es) h = let parts = both_facts _ _ h in (below e es parts.0, sorted_pairs es parts.1)
 
 -- ---- Edits that may stand one before the other
 
@@ -112,7 +115,7 @@ apart a b other = by (table_place a.table == table_place b.table && bytes_eq a.c
     by false e = refl
     by true e =
         let parts = and_parts (table_place a.table == table_place b.table) (bytes_eq a.chain b.chain) e in
-        absurd (other (λ i. record { table = same_table a.table b.table parts.0 i; chain = same_name a.chain b.chain parts.1 i }))
+        absurd (other (λ i. record { table = one_table_from_test a.table b.table parts.0 i; chain = text_test_exact a.chain b.chain parts.1 i }))
 
 less_apart : (a b : ChainAt) → chain_cmp a b ≡ Less → a ≡ b → ⊥
 less_apart a b h e = false≢true (sym (ap is_lt (tied_itself chain_total a)) ∙ ap (λ c. is_lt (chain_cmp a c)) e ∙ ap is_lt h)
@@ -142,7 +145,7 @@ module _ (family : Family) (before after : Chains) (first : is_canonical_table f
 
   entries_are : (chains : Chains) → is_canonical_table family chains ≡ true → AllByRecursion (IsEntry chains) (entries chains)
   entries_are chains h =
-      both_hold (λ e. get chains e.0 ≡ Some e.1) (λ e. is_canonical_chain family chains e ≡ true) (entries chains) (entries_found chains)
+      both_hold (λ e. get chains e.0 ≡ Some e.1) (λ e. is_canonical_chain family chains e ≡ true) (entries chains) (entries_found chain_total chains)
       (all_hold (is_canonical_chain family chains) (entries chains) (and_parts (has_built_in_chains chains) _ h).1)
 
   -- a write of a chain of the table, as the second table has it
@@ -163,7 +166,7 @@ module _ (family : Family) (before after : Chains) (first : is_canonical_table f
 
       ruled : list_all (is_canonical_rule family) e.1 ≡ true
       ruled =
-          all_from (may_stand family after e.0.table) (is_canonical_rule family) (λ r k. (and_parts (is_canonical_rule family r) _ k).0) e.1
+          test_weaker (may_stand family after e.0.table) (is_canonical_rule family) (λ r k. (and_parts (is_canonical_rule family r) _ k).0) e.1
           (and_parts (is_chain_name e.0.chain) (list_all (may_stand family after e.0.table) e.1) h.0.1).1
 
       other : (b : Bool) → is_built_in e.0.table e.0.chain ≡ b → is_found_with e.1 (get before e.0) ≡ false → not b ≡ true
@@ -172,7 +175,7 @@ module _ (family : Family) (before after : Chains) (first : is_canonical_table f
 
       by : (b : Bool) → is_found_with e.1 (get before e.0) ≡ b → In_option (IsWriteIn table) (cond b None (Some (Write e.0 e.1)))
       by true k = tt
-      by false k = (same_table e.0.table table h.1, (h.0.0, and_from _ _ named (and_from _ _ (other (is_built_in e.0.table e.0.chain) refl k) ruled)))
+      by false k = (one_table_from_test e.0.table table h.1, (h.0.0, and_from _ _ named (and_from _ _ (other (is_built_in e.0.table e.0.chain) refl k) ruled)))
 
   remove_is : (table : TableName) (e : ChainAt × List Rule) → IsEntry before e × (table_place e.0.table == table_place table ≡ true) → In_option (IsRemoveIn table) (remove_if_gone after e)
   remove_is table e h = by (get after e.0) refl
@@ -187,7 +190,7 @@ module _ (family : Family) (before after : Chains) (first : is_canonical_table f
       by : (o : Option (List Rule)) → get after e.0 ≡ o → In_option (IsRemoveIn table) (cond (is_some o) None (Some (Remove e.0)))
       by (Some rules) k = tt
       by None k = (
-        same_table e.0.table table h.1,
+        one_table_from_test e.0.table table h.1,
         (k, and_from _ _ (and_parts (is_chain_name e.0.chain) _ h.0.1).0 (and_from _ _ (other (is_built_in e.0.table e.0.chain) refl k) refl)),
       )
 
@@ -202,14 +205,14 @@ module _ (family : Family) (before after : Chains) (first : is_canonical_table f
   all_writes table =
       let test : ChainAt × List Rule → Bool = λ e. table_place e.0.table == table_place table in
       all_filter_map (IsWriteIn table) (write_if_changed before) (filter test (entries after))
-      (every (λ e. IsEntry after e × (test e ≡ true)) (λ e. In_option (IsWriteIn table) (write_if_changed before e)) (write_is table) (filter test (entries after))
+      (all_weaker (λ e. IsEntry after e × (test e ≡ true)) (λ e. In_option (IsWriteIn table) (write_if_changed before e)) (write_is table) (filter test (entries after))
       (all_kept (IsEntry after) test (entries after) (entries_are after second)))
 
   all_removes : (table : TableName) → AllByRecursion (IsRemoveIn table) (removes table)
   all_removes table =
       let test : ChainAt × List Rule → Bool = λ e. table_place e.0.table == table_place table in
       all_filter_map (IsRemoveIn table) (remove_if_gone after) (filter test (entries before))
-      (every (λ e. IsEntry before e × (test e ≡ true)) (λ e. In_option (IsRemoveIn table) (remove_if_gone after e)) (remove_is table) (filter test (entries before))
+      (all_weaker (λ e. IsEntry before e × (test e ≡ true)) (λ e. In_option (IsRemoveIn table) (remove_if_gone after e)) (remove_is table) (filter test (entries before))
       (all_kept (IsEntry before) test (entries before) (entries_are before first)))
 
   -- a write stands before the removes of its table
@@ -236,8 +239,8 @@ module _ (family : Family) (before after : Chains) (first : is_canonical_table f
       (pairs_kept (λ e f. chain_cmp e.0 f.0 ≡ Less) test (entries after) (sorted_pairs (entries after) (entries_sorted after))))
       (pairs_given (λ e f. chain_cmp e.0 f.0 ≡ Less) StandsBefore (remove_if_gone after) (removes_stand after) (filter test (entries before))
       (pairs_kept (λ e f. chain_cmp e.0 f.0 ≡ Less) test (entries before) (sorted_pairs (entries before) (entries_sorted before))))
-      (every (IsWriteIn table) (λ a. AllByRecursion (StandsBefore a) (removes table))
-      (λ a w. every (IsRemoveIn table) (StandsBefore a) (λ b r. write_stands table a b w r) (removes table) (all_removes table)) (writes table) (all_writes table))
+      (all_weaker (IsWriteIn table) (λ a. AllByRecursion (StandsBefore a) (removes table))
+      (λ a w. all_weaker (IsRemoveIn table) (StandsBefore a) (λ b r. write_stands table a b w r) (removes table) (all_removes table)) (writes table) (all_writes table))
 
   -- ---- Both tables
 
@@ -256,8 +259,8 @@ module _ (family : Family) (before after : Chains) (first : is_canonical_table f
   all_good : (table : TableName) → AllByRecursion (IsGoodIn table) (table_changes before after table)
   all_good table =
       all_append (IsGoodIn table) (writes table) (removes table)
-      (every (IsWriteIn table) (IsGoodIn table) (good_write table) (writes table) (all_writes table))
-      (every (IsRemoveIn table) (IsGoodIn table) (good_remove table) (removes table) (all_removes table))
+      (all_weaker (IsWriteIn table) (IsGoodIn table) (good_write table) (writes table) (all_writes table))
+      (all_weaker (IsRemoveIn table) (IsGoodIn table) (good_remove table) (removes table) (all_removes table))
 
   tables_stand : (a b : Edit) → IsGoodIn Nat a → IsGoodIn Filter b → StandsBefore a b
   tables_stand a b n f =
@@ -269,10 +272,10 @@ module _ (family : Family) (before after : Chains) (first : is_canonical_table f
   canonical : is_canonical_batch family (changes_between before after) ≡ true
   canonical =
       let stand = pairs_append StandsBefore (table_changes before after Nat) (table_changes before after Filter) (changes_stand Nat) (changes_stand Filter)
-      (every (IsGoodIn Nat) (λ a. AllByRecursion (StandsBefore a) (table_changes before after Filter))
-      (λ a n. every (IsGoodIn Filter) (StandsBefore a) (λ b f. tables_stand a b n f) (table_changes before after Filter) (all_good Filter)) (table_changes before after Nat) (all_good Nat)) in
+      (all_weaker (IsGoodIn Nat) (λ a. AllByRecursion (StandsBefore a) (table_changes before after Filter))
+      (λ a n. all_weaker (IsGoodIn Filter) (StandsBefore a) (λ b f. tables_stand a b n f) (table_changes before after Filter) (all_good Filter)) (table_changes before after Nat) (all_good Nat)) in
       let good : (table : TableName) → AllByRecursion (λ e. is_canonical_edit family e ≡ true) (table_changes before after table) =
-      λ table. every (IsGoodIn table) (λ e. is_canonical_edit family e ≡ true) (λ e g. g.1) (table_changes before after table) (all_good table) in
+      λ table. all_weaker (IsGoodIn table) (λ e. is_canonical_edit family e ≡ true) (λ e g. g.1) (table_changes before after table) (all_good table) in
       and_from _ _
       (all_true (is_canonical_edit family) (λ e. is_canonical_edit family e ≡ true) (λ e h. h) (changes_between before after) (all_append (λ e. is_canonical_edit family e ≡ true) _ _ (good Nat) (good Filter)))
       (and_from _ _ (in_order (changes_between before after) stand) (once (changes_between before after) stand))

@@ -21,7 +21,8 @@ use Rattle.kp_restore_defs.specs.TableText.{text_of_lines, table_line, commit_li
 use Rattle.kp_restore_defs.specs.BatchText.{place_of, written_lines, removing_lines, edits_in, edits_section, section_if_edited, batch_text_of}
 use Rattle.kp_restore.specs.Printed.{ended}
 use Rattle.kp_restore.specs.PrintedEdits.{is_in, edits_text, edited_names, with_name, declared_text, written_text, removed_text}
-use Rattle.kp_restore.proofs.Sections.{lines-append, added}
+use Rattle.kp_restore.proofs.Sections.{lines-append}
+use Rattle.kp_lemmas.proofs.ListFacts.{added_twice}
 
 -- ---- names
 
@@ -116,15 +117,15 @@ edits_added table edits names old s1 s2 s3 s4 new some h a b c d e =
     let l2 = flat_map declared_text names in
     let l3 = flat_map (written_text table) edits in
     let l4 = flat_map (removed_text table) edits in
-    added old s1 new l1 (l2 ++ (l3 ++ (l4 ++ ended commit_line))) a
-    (added s1 s2 new l2 (l3 ++ (l4 ++ ended commit_line)) b (added s2 s3 new l3 (l4 ++ ended commit_line) c (added s3 s4 new l4 (ended commit_line) d e)))
+    added_twice old s1 new l1 (l2 ++ (l3 ++ (l4 ++ ended commit_line))) a
+    (added_twice s1 s2 new l2 (l3 ++ (l4 ++ ended commit_line)) b (added_twice s2 s3 new l3 (l4 ++ ended commit_line) c (added_twice s3 s4 new l4 (ended commit_line) d e)))
     ∙ (λ i. old ++ (l1 ++ (l2 ++ (written_are table edits i ++ (removed_are table edits i ++ ended commit_line)))))
     ∙ ap (λ l. old ++ l) (sym (section_parts table es names h) ∙ ap text_of_lines (sym (with_edits table (is_empty es) es (sym (any_edited table edits) ∙ some))))
 
 -- both sections
 pub batch_added : (edits : List Edit) (old s1 new : List ℕ) → s1 ≡ old ++ edits_text Nat edits → new ≡ s1 ++ edits_text Filter edits → new ≡ old ++ batch_text_of edits
 batch_added edits old s1 new p q =
-    added old s1 new (edits_text Nat edits) (edits_text Filter edits) p q
+    added_twice old s1 new (edits_text Nat edits) (edits_text Filter edits) p q
     ∙ ap (λ l. old ++ l) (sym (lines-append (section_if_edited Nat (edits_in Nat edits)) (section_if_edited Filter (edits_in Filter edits))))
 
 -- the names of the edits from one place before

@@ -7,7 +7,6 @@ pub mod BatchTaken
 pub mod BatchTexts
 pub mod Changes
 pub mod EditSections
-pub mod Found
 pub mod LineTexts
 pub mod Machine
 pub mod ReadLines

@@ -12,7 +12,8 @@ use Rattle.kp_restore.specs.declared.line.Line.TheVariants.{Section, BuiltIn, De
 use Rattle.kp_restore.specs.Lines.{line_text, is_canonical_line}
 use Rattle.kp_restore.specs.Pieces.{no_line_feed}
 use Rattle.kp_rule_text.proofs.Rules.{lines_differ}
-use Rattle.kp_restore.proofs.RuleLines.{name_bytes, name_plain, both_plain, rule_plain}
+use Rattle.kp_restore.proofs.RuleLines.{name_plain, both_plain, rule_plain}
+use Rattle.kp_types.proofs.ChainBytes.{name_bytes}
 
 -- ---- No line feed
 

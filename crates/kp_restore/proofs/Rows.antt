@@ -4,8 +4,7 @@ use Rattle.std.specs.List.{list_all, list_any, filter_map, cons_option}
 use Rattle.std.specs.Option.{option_or}
 use Rattle.std.specs.Ordering.{eq_by_cmp, is_lt}
 use Rattle.std.specs.FinMap.{get, get-insert, find}
-use Rattle.std.proofs.lemmas.Bool.{and_parts, and_from}
-use Rattle.std.proofs.lemmas.Slice.Eq.{bytes_eq-Decides}
+use Rattle.std.proofs.lemmas.Bool.{and_parts, and_from, not-true, or_parts}
 use Rattle.std.proofs.lemmas.Map.Text.{is_eq-slice_cmp}
 use Rattle.kp_base.specs.Keys.{text_cmp}
 use Rattle.kp_types.specs.Places.{chain_cmp}
@@ -18,6 +17,8 @@ use Rattle.kp_table_defs.specs.Rebuild.{TableParts}
 use Rattle.kp_restore_defs.specs.TableText.{Row}
 use Rattle.kp_restore.specs.TableSteps.{put}
 use Rattle.kp_restore.proofs.Machine.{some_one}
+use Rattle.kp_restore.proofs.BatchOrder.{name_itself}
+use Rattle.kp_base.proofs.SameParts.{text_test_exact}
 
 -- the place of a chain
 abbrev pub at : TableName → List ℕ → ChainAt
@@ -52,22 +53,12 @@ Agree g (row ∷ rows) = (g row.0 ≡ Some row.1) × Agree g rows
 
 -- ---- Booleans
 
-pub not_false : (b : Bool) → not b ≡ true → b ≡ false
-not_false false h = refl
-not_false true h = absurd (cc)
-
-pub same_true : (x : List ℕ) → bytes_eq x x ≡ true
-same_true x = (bytes_eq-Decides x x).1 refl
-
-pub same_bytes : (x y : List ℕ) → bytes_eq x y ≡ true → x ≡ y
-same_bytes x y h = (bytes_eq-Decides x y).0 h
-
 pub turned_false : (x y : List ℕ) → bytes_eq x y ≡ false → bytes_eq y x ≡ false
 turned_false x y h = by (bytes_eq y x) refl
   where
     by : (b : Bool) → bytes_eq y x ≡ b → b ≡ false
     by false e = refl
-    by true e = let same = same_bytes y x e in absurd (let t : true ≡ false = sym (same_true x) ∙ ap (bytes_eq x) (sym same) ∙ h in cc)
+    by true e = let same = text_test_exact y x e in absurd (let t : true ≡ false = sym (name_itself x) ∙ ap (bytes_eq x) (sym same) ∙ h in cc)
 
 -- ---- Keys
 
@@ -111,19 +102,15 @@ agree_with : (g : List ℕ → Option (List Rule)) (name : List ℕ) (rules : Li
 unfolding Agree
 agree_with g name rules [] h a = tt
 agree_with g name rules (row ∷ rows) h a =
-    let parts = neither (bytes_eq name row.0) _ h in
+    let parts = or_parts (bytes_eq name row.0) _ h in
     (ap (λ b. cond b (Some rules) (g row.0)) (turned_false name row.0 parts.0) ∙ a.0, agree_with g name rules rows parts.1 a.1)
-  where
-    neither : (a b : Bool) → (a || b) ≡ false → (a ≡ false) × (b ≡ false)
-    neither false b h = (refl, h)
-    neither true b h = absurd (cc)
 
 pub agree : (rows : List Row) → distinct (names_of rows) ≡ true → Agree (rules_in rows) rows
 unfolding Agree
 agree [] h = tt
 agree (row ∷ rows) h =
     let p = and_parts _ _ h in
-    (ap (λ b. cond b (Some row.1) (rules_in rows row.0)) (same_true row.0), agree_with (rules_in rows) row.0 row.1 rows (not_false _ p.0) (agree rows p.1))
+    (ap (λ b. cond b (Some row.1) (rules_in rows row.0)) (name_itself row.0), agree_with (rules_in rows) row.0 row.1 rows (not-true _ p.0) (agree rows p.1))
 
 pub agree_front : (g : List ℕ → Option (List Rule)) (rows more : List Row) → Agree g (rows ++ more) → Agree g rows
 unfolding Agree
@@ -157,7 +144,7 @@ one_found p [] h name rules e = absurd (cc)
 one_found p (row ∷ rows) h name rules e = by (bytes_eq name row.0) refl e (one_found p rows (and_parts _ _ h).1 name rules)
   where
     by : (b : Bool) → bytes_eq name row.0 ≡ b → cond b (Some row.1) (rules_in rows name) ≡ Some rules → (rules_in rows name ≡ Some rules → p (name, rules) ≡ true) → p (name, rules) ≡ true
-    by true t e f = (λ i. p (same_bytes name row.0 t i, sym (some_one row.1 rules e) i)) ∙ (and_parts _ _ h).0
+    by true t e f = (λ i. p (text_test_exact name row.0 t i, sym (some_one row.1 rules e) i)) ∙ (and_parts _ _ h).0
     by false t e f = f e
 
 -- ---- Tables with rows
@@ -192,7 +179,7 @@ get_with table t (row ∷ rows) h q =
     ∙ by (bytes_eq q row.0) refl
   where
     by : (b : Bool) → bytes_eq q row.0 ≡ b → option_or (rules_in rows q) (cond b (Some row.1) (get t.chains (at table q))) ≡ option_or (cond b (Some row.1) (rules_in rows q)) (get t.chains (at table q))
-    by true e = ap (λ o. option_or o (Some row.1)) (no_rules rows q (ap (λ n. list_any (bytes_eq n) (names_of rows)) (same_bytes q row.0 e) ∙ not_false _ (and_parts _ _ h).0))
+    by true e = ap (λ o. option_or o (Some row.1)) (no_rules rows q (ap (λ n. list_any (bytes_eq n) (names_of rows)) (text_test_exact q row.0 e) ∙ not-true _ (and_parts _ _ h).0))
     by false e = refl
 
 pub get_with_other : (table other : TableName) → ((a b : List ℕ) → eq_by_cmp chain_cmp (at other a) (at table b) ≡ false) → (t : TableParts) (rows : List Row) (q : List ℕ) → get (with_rows table t rows).chains (at other q) ≡ get t.chains (at other q)

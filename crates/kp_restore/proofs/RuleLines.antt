@@ -1,5 +1,5 @@
 -- No line feed stands in the line of a canonical rule.
-use Rattle.std.proofs.Common.{◌≡◌, ℕ, ◌%◌, ◌^◌, ◌<◌, ◌==◌, Bool, true, false, not, nat_le, nat_lt, List, [], ◌∷◌, ◌++◌, map, codes, decimal, refl, ◌∙◌, inl, inr, arith}
+use Rattle.std.proofs.Common.{◌≡◌, ℕ, ◌%◌, ◌^◌, ◌<◌, ◌==◌, Bool, true, false, not, nat_le, List, [], ◌∷◌, ◌++◌, map, codes, decimal, refl, ◌∙◌, inl, inr, arith}
 use Rattle.std.specs.List.{list_all, flat_map, All}
 use Rattle.std.specs.Net.Text.{dotted_text}
 use Rattle.std.proofs.lemmas.Bool.{and_parts, and_from}
@@ -25,8 +25,11 @@ use Rattle.kp_choice_defs.specs.Draws.{digit_at, probability_text_of}
 use Rattle.kp_restore_defs.specs.RuleText.{joined, range_text, proto_word, not_words, match_words, target_words, rule_line, is_canonical_range, is_port_number, is_canonical_endpoint, is_canonical_match, is_canonical_target, is_canonical_rule}
 use Rattle.kp_rule_text.proofs.AddressWords.{dotted_bytes, is_dotted_byte}
 use Rattle.kp_rule_text.proofs.FamilyWords.{segments_low}
-use Rattle.kp_rule_text.proofs.Words.{all_weaker, number_digits, port_digits}
+use Rattle.kp_rule_text.proofs.Words.{number_digits, port_digits}
 use Rattle.kp_restore.specs.Pieces.{no_line_feed}
+use Rattle.kp_lemmas.proofs.ListFacts.{test_weaker}
+use Rattle.kp_lemmas.proofs.Numbers.{within_32_bits}
+use Rattle.kp_types.proofs.ChainBytes.{name_bytes}
 
 -- ---- Bytes
 
@@ -46,25 +49,22 @@ hex_byte : (b : ℕ) → IsHexOrColon b → no_feed b ≡ true
 hex_byte b (inl h) = grind (arith, nat_tests)
 hex_byte b (inr h) = grind (arith, nat_tests)
 
-pub name_bytes : (name : List ℕ) → is_chain_name name ≡ true → list_all is_chain_byte name ≡ true
-name_bytes name h = (and_parts _ _ (and_parts _ _ h).0).1
-
 pub name_plain : (name : List ℕ) → is_chain_name name ≡ true → no_line_feed name ≡ true
-name_plain name h = all_weaker is_chain_byte no_feed chain_byte name (name_bytes name h)
+name_plain name h = test_weaker is_chain_byte no_feed chain_byte name (name_bytes name h)
 
 pub both_plain : (a b : List ℕ) → no_line_feed a ≡ true → no_line_feed b ≡ true → no_line_feed (a ++ b) ≡ true
 both_plain a b g h = list_all-append no_feed a b ∙ and_from _ _ g h
 
 number_plain : (most n : ℕ) → most < 2 ^ 64 → nat_le n most ≡ true → no_line_feed (decimal n) ≡ true
-number_plain most n small h = all_weaker is_digit no_feed digit_byte (decimal n) (number_digits most small n h)
+number_plain most n small h = test_weaker is_digit no_feed digit_byte (decimal n) (number_digits most small n h)
 
 port_plain : (n : ℕ) → is_port_number n ≡ true → no_line_feed (decimal n) ≡ true
-port_plain n h = all_weaker is_digit no_feed digit_byte (decimal n) (port_digits n h)
+port_plain n h = test_weaker is_digit no_feed digit_byte (decimal n) (port_digits n h)
 
 -- ---- Addresses
 
 dotted_plain : (a b c d : ℕ) → a < 256 → b < 256 → c < 256 → d < 256 → no_line_feed (dotted_text a b c d) ≡ true
-dotted_plain a b c d la lb lc ld = all_weaker is_dotted_byte no_feed dotted_byte (dotted_text a b c d) (dotted_bytes a b c d la lb lc ld)
+dotted_plain a b c d la lb lc ld = test_weaker is_dotted_byte no_feed dotted_byte (dotted_text a b c d) (dotted_bytes a b c d la lb lc ld)
 
 all_plain : (bs : List ℕ) → All IsHexOrColon bs → no_line_feed bs ≡ true
 all_plain [] h = refl
@@ -117,9 +117,6 @@ proto_plain Tcp = refl
 proto_plain Udp = refl
 proto_plain Sctp = refl
 
-seconds_low : (seconds : ℕ) → nat_lt seconds (2 ^ 32) ≡ true → nat_le seconds 4294967295 ≡ true
-seconds_low seconds h = grind (arith, nat_tests)
-
 words_behind : (xs ys : List (List ℕ)) → words_plain xs ≡ true → words_plain ys ≡ true → words_plain (xs ++ ys) ≡ true
 words_behind xs ys g h = list_all-append no_line_feed xs ys ∙ and_from _ _ g h
 
@@ -139,7 +136,7 @@ match_plain family (match.Marked false) h = refl
 match_plain family (match.Statistic p) h = and_from _ _ (probability_plain p) refl
 match_plain family (match.Seen list seconds) h =
     let q = and_parts _ _ h in
-    and_from _ _ (name_plain list q.0) (and_from _ _ (number_plain 4294967295 seconds (omega arith) (seconds_low seconds q.1)) refl)
+    and_from _ _ (name_plain list q.0) (and_from _ _ (number_plain 4294967295 seconds (omega arith) (within_32_bits seconds q.1)) refl)
 match_plain family (match.SetSeen list) h = and_from _ _ (name_plain list h) refl
 
 target_plain : (family : Family) (t : Target) → is_canonical_target family t ≡ true → words_plain (target_words t) ≡ true

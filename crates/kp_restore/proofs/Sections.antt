@@ -16,8 +16,11 @@ use Rattle.kp_table_defs.specs.Edits.{chains_in}
 use Rattle.kp_table_defs.specs.Ranks.{built_in_chains, is_built_in}
 use Rattle.kp_restore_defs.specs.RuleText.{rule_line}
 use Rattle.kp_restore_defs.specs.TableText.{text_of_lines, table_line, commit_line, built_in_line, declared_line, Row, row_at, built_in_rows, other_rows, row_lines, section_of, section_text_of, table_text_of, section_lines}
-use Rattle.kp_restore.proofs.Found.{Entries, entries_found}
+use Rattle.kp_rules.proofs.ChangeLists.{Entries}
 use Rattle.kp_restore.specs.Printed.{ended, place, if_there, built_in_places, is_other, other_places, chain_text, rules_text, rules_at}
+use Rattle.kp_lemmas.proofs.ListFacts.{added_twice}
+use Rattle.kp_lemmas.proofs.Entries.{entries_found}
+use Rattle.kp_types.proofs.ChainOrder.{chain_total}
 
 -- the text of two lists of lines
 pub lines-append : (a b : List (List ℕ)) → text_of_lines (a ++ b) ≡ text_of_lines a ++ text_of_lines b
@@ -104,7 +107,7 @@ module _ (chains : Chains) (table : TableName) where
 
   free_found : AllByRecursion (λ e. get chains e.0 ≡ Some e.1) free_entries
   free_found =
-      all_filter (λ e. get chains e.0 ≡ Some e.1) (is_free table) (chains_in table chains) (all_filter (λ e. get chains e.0 ≡ Some e.1) (is_here table) (entries chains) (entries_found chains))
+      all_filter (λ e. get chains e.0 ≡ Some e.1) (is_free table) (chains_in table chains) (all_filter (λ e. get chains e.0 ≡ Some e.1) (is_here table) (entries chains) (entries_found chain_total chains))
 
   -- the pieces of a section's text
   abbrev pub pieces : List ℕ
@@ -147,10 +150,6 @@ module _ (chains : Chains) (table : TableName) where
       ++ (sym (built_in_rules_are chains table (built_in_chains table)) i
       ++ (sym (ap (flat_map (rules_at chains)) others_are ∙ other_rules_are chains free_entries free_found) i ++ ended commit_line)))))
 
--- bytes that are added behind others
-pub added : (old mid new a b : List ℕ) → mid ≡ old ++ a → new ≡ mid ++ b → new ≡ old ++ (a ++ b)
-added old mid new a b p q = q ∙ ap (λ l. l ++ b) p ∙ append_assoc old a b
-
 -- a section whose pieces are added one after the other
 pub section_added : (chains : Chains) (table : TableName) (bs os : List ChainAt) (old s1 s2 s3 s4 s5 new : List ℕ) → bs ≡ built_in_places chains table → os ≡ other_places chains table
     → s1 ≡ old ++ ended (table_line table) → s2 ≡ s1 ++ flat_map (chain_text (codes " ACCEPT [0:0]")) bs → s3 ≡ s2 ++ flat_map (chain_text (codes " - [0:0]")) os
@@ -160,9 +159,9 @@ section_added chains table bs os old s1 s2 s3 s4 s5 new p q a b c d e f =
     let ro = flat_map (rules_at chains) os in
     let lb = flat_map built_in_text bs in
     let lo = flat_map other_text os in
-    added old s1 new (ended (table_line table)) (lb ++ (lo ++ (rb ++ (ro ++ ended commit_line)))) a
-    (added s1 s2 new lb (lo ++ (rb ++ (ro ++ ended commit_line))) b
-    (added s2 s3 new lo (rb ++ (ro ++ ended commit_line)) c (added s3 s4 new rb (ro ++ ended commit_line) d (added s4 s5 new ro (ended commit_line) e f))))
+    added_twice old s1 new (ended (table_line table)) (lb ++ (lo ++ (rb ++ (ro ++ ended commit_line)))) a
+    (added_twice s1 s2 new lb (lo ++ (rb ++ (ro ++ ended commit_line))) b
+    (added_twice s2 s3 new lo (rb ++ (ro ++ ended commit_line)) c (added_twice s3 s4 new rb (ro ++ ended commit_line) d (added_twice s4 s5 new ro (ended commit_line) e f))))
     ∙ (λ i. old ++ (ended (table_line table) ++ (flat_map built_in_text (p i) ++ (flat_map other_text (q i) ++ (flat_map (rules_at chains) (p i) ++ (flat_map (rules_at chains) (q i) ++ ended commit_line))))))
     ∙ ap (λ l. old ++ l) (sym (section_is chains table))
 
@@ -208,4 +207,4 @@ filter_added chains old s1 s2 new a b c =
 -- both sections
 pub table_added : (chains : Chains) (old s1 new : List ℕ) → s1 ≡ old ++ section_text_of chains Nat → new ≡ s1 ++ section_text_of chains Filter → new ≡ old ++ table_text_of chains
 table_added chains old s1 new p q =
-    added old s1 new (section_text_of chains Nat) (section_text_of chains Filter) p q ∙ ap (λ l. old ++ l) (sym (lines-append (section_lines chains Nat) (section_lines chains Filter)))
+    added_twice old s1 new (section_text_of chains Nat) (section_text_of chains Filter) p q ∙ ap (λ l. old ++ l) (sym (lines-append (section_lines chains Nat) (section_lines chains Filter)))

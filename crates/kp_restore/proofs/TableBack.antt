@@ -2,13 +2,10 @@
 use Rattle.std.proofs.Common.{◌≡◌, ℕ, ◌-◌, ◌==◌, Bool, true, false, cond, not, ◌||◌, List, [], ◌∷◌, ◌++◌, map, length, drop, Option, Some, None, slice_get, bytes_eq, refl, sym, ap, subst, ◌∙◌, append_assoc, option_and_then}
 use Rattle.std.specs.List.{list_all, flat_map}
 use Rattle.std.specs.Ordering.{is_lt}
-use Rattle.std.specs.declared.cmp.Ordering.{Ordering}
-use Rattle.std.specs.declared.cmp.Ordering.TheVariants.{Less, Equal, Greater}
-use Rattle.std.proofs.lemmas.Bool.{and_parts, and_from}
+use Rattle.std.proofs.lemmas.Bool.{and_parts, and_from, not-true}
 use Rattle.std.proofs.lemmas.List.{map-append, append-nil}
 use Rattle.std.proofs.lemmas.List.Folds.{list_all-append}
 use Rattle.kp_base.specs.Keys.{text_cmp}
-use Rattle.kp_base.proofs.KeyOrder.{text_total}
 use Rattle.kp_types.specs.Places.{table_place}
 use Rattle.kp_types.specs.declared.chain.TableName.{TableName}
 use Rattle.kp_types.specs.declared.rule.Rule.{Rule}
@@ -23,10 +20,13 @@ use Rattle.kp_restore.specs.declared.table_reader.Phase.TheVariants.{Opening, De
 use Rattle.kp_restore.specs.Machine.{run}
 use Rattle.kp_restore.specs.TableSteps.{step, put, may_follow, declared, with_rule, ruled, declaring}
 use Rattle.kp_restore.proofs.Machine.{some_one, none_some}
-use Rattle.kp_restore.proofs.Rows.{names_of, rising, with_rows, with_section, same_bytes, not_false}
-use Rattle.kp_restore.proofs.TableRows.{IsSection, table_one}
+use Rattle.kp_restore.proofs.Rows.{names_of, rising, with_rows, with_section}
+use Rattle.kp_restore.proofs.TableRows.{IsSection}
 use Rattle.kp_restore.proofs.TableParts.{row_parts, section_parts}
 use Rattle.kp_restore.proofs.TableRuns.{opening, naming, filling, behind, get_dropped, get_past, next_left, none_left, last_again, keeps_put, keeps_with, all_jump, rows_jump, still_jump, Follow, IsFilling, filling_run, with_names, names_twice, dropped_all, dropped_first, ungrouped}
+use Rattle.kp_restore.proofs.BatchOrder.{less_through}
+use Rattle.kp_types.proofs.ChainOrder.{one_table_from_test}
+use Rattle.kp_base.proofs.SameParts.{text_test_exact}
 
 -- ---- Phases
 
@@ -49,17 +49,9 @@ unfolding Follow
 follow_apart table last [] f = refl
 follow_apart table last (c ∷ cs) f = and_from _ _ (and_parts _ _ f.0).0 (follow_apart table (Some c) cs f.1)
 
-lesser : (a b c : List ℕ) → is_lt (text_cmp a b) ≡ true → is_lt (text_cmp b c) ≡ true → is_lt (text_cmp a c) ≡ true
-lesser a b c g h = ap is_lt (text_total.trans a b c (less _ g) (less _ h))
-  where
-    less : (o : Ordering) → is_lt o ≡ true → o ≡ Less
-    less Less k = refl
-    less Equal k = absurd (cc)
-    less Greater k = absurd (cc)
-
 below_all : (a b : List ℕ) (cs : List (List ℕ)) → is_lt (text_cmp a b) ≡ true → list_all (λ m. is_lt (text_cmp b m)) cs ≡ true → list_all (λ m. is_lt (text_cmp a m)) cs ≡ true
 below_all a b [] g h = refl
-below_all a b (c ∷ cs) g h = let p = and_parts _ _ h in and_from _ _ (lesser a b c g p.0) (below_all a b cs g p.1)
+below_all a b (c ∷ cs) g h = let p = and_parts _ _ h in and_from _ _ (less_through a b c g p.0) (below_all a b cs g p.1)
 
 follow_rises : (table : TableName) (last : List ℕ) (cs : List (List ℕ)) → is_built_in table last ≡ false → Follow table (Some last) cs → (list_all (λ m. is_lt (text_cmp last m)) cs ≡ true) × (rising cs ≡ true)
 unfolding Follow
@@ -67,14 +59,14 @@ follow_rises table last [] b f = (refl, refl)
 follow_rises table last (c ∷ cs) b f =
     let p = and_parts _ _ f.0 in
     let less : is_lt (text_cmp last c) ≡ true = ap (λ x. x || is_lt (text_cmp last c)) (sym b) ∙ p.1 in
-    let rest = follow_rises table c cs (not_false _ p.0) f.1 in
+    let rest = follow_rises table c cs (not-true _ p.0) f.1 in
     (and_from _ _ less (below_all last c cs less rest.0), and_from _ _ rest.0 rest.1)
 
 follow_rising : (table : TableName) (last : Option (List ℕ)) (cs : List (List ℕ)) → Follow table last cs → rising cs ≡ true
 unfolding Follow
 follow_rising table last [] f = refl
 follow_rising table last (c ∷ cs) f =
-    let rest = follow_rises table c cs (not_false _ (and_parts _ _ f.0).0) f.1 in
+    let rest = follow_rises table c cs (not-true _ (and_parts _ _ f.0).0) f.1 in
     and_from _ _ rest.0 rest.1
 
 -- rows by their names
@@ -95,7 +87,7 @@ module _ (e : TableReader) (done : e.phase ≡ Done) where
     where
       by : (b : Bool) → (table_place other == table_place table) ≡ b → option_and_then (λ m. run step m ls) (cond b (Some (naming t table [])) None) ≡ Some e
           → (rest : List Line) × (Section other ∷ ls ≡ Section table ∷ rest) × (run step (naming t table []) rest ≡ Some e)
-      by true k g = (ls, ap (λ n. Section n ∷ ls) (table_one other table k), g)
+      by true k g = (ls, ap (λ n. Section n ∷ ls) (one_table_from_test other table k), g)
       by false k g = absurd (none_some g)
   opening_back t table (BuiltIn chain ∷ ls) h = absurd (none_some h)
   opening_back t table (Declared chain ∷ ls) h = absurd (none_some h)
@@ -122,7 +114,7 @@ module _ (e : TableReader) (done : e.phase ≡ Done) where
             → (other ≡ c → run step (declared t table names other) us ≡ Some e → (ls : List Line) × (us ≡ map BuiltIn left ++ ls) × (run step (naming (with_names table (put t table c []) left) table ((names ++ c ∷ []) ++ left)) ls ≡ Some e))
             → (ls : List Line) × (BuiltIn other ∷ us ≡ map BuiltIn (c ∷ left) ++ ls) × (run step (naming (with_names table t (c ∷ left)) table (names ++ c ∷ left)) ls ≡ Some e)
         by true k g more =
-            let same = same_bytes other c k in
+            let same = text_test_exact other c k in
             let r = more same g in
             (r.0, (λ i. BuiltIn (same i) ∷ r.1 i), ap (λ ns. run step (naming (with_names table (put t table c []) left) table ns) r.0) (sym (append_assoc names (c ∷ []) left)) ∙ r.2)
         by false k g more = absurd (none_some g)
@@ -215,7 +207,7 @@ module _ (e : TableReader) (done : e.phase ≡ Done) where
         by : (b : Bool) → bytes_eq c d ≡ b → option_and_then (λ m. run step m us) (cond b (with_rule t table (c ∷ cs) rules r) (ruled (put t table c rules) table cs [] d r)) ≡ Some e
             → (run step (filling (put t table c rules) table cs []) (Ruled d r ∷ us) ≡ Some e → Filled (c ∷ cs) t rules (Ruled d r ∷ us))
             → Filled (c ∷ cs) t rules (Ruled d r ∷ us)
-        by true k g next = here (same_bytes c d k) (jumps_to_declared t.chains table r.target) refl g
+        by true k g next = here (text_test_exact c d k) (jumps_to_declared t.chains table r.target) refl g
         by false k g next = next g
 
     last_line : (us : List Line) (names : List (List ℕ)) (t : TableParts) (rules : List Rule) → all_jump t.chains table rules ≡ true → run step (filling t table names rules) (Commit ∷ us) ≡ Some e → Filled names t rules (Commit ∷ us)

@@ -31,8 +31,9 @@ use Rattle.kp_restore.proofs.Machine.{IsReader, some_one, none_some, all_front}
 use Rattle.kp_restore.proofs.Rows.{at, rules_in, names_of, distinct, Agree, is_some_rules, no_rules, agree, agree_front, agree_same, all_found, all_there, one_found, with_section, empty_row, syncs_with, get_with, get_with_other}
 use Rattle.kp_restore.proofs.TableRows.{IsSection, section_distinct, rules_there, rows_section, built_in_again, others_again, every_entry, one_entry}
 use Rattle.kp_restore.proofs.TableParts.{row_parts, section_parts, table_parts, table_texts}
-use Rattle.kp_restore.proofs.TableRuns.{opening, naming, filling, behind, Keeps, keeps_with, all_by, jumps_by, all_jump, rows_jump, rows_still_jump, built_in_run, filling_run, with_names, section_run}
+use Rattle.kp_restore.proofs.TableRuns.{opening, naming, filling, behind, Keeps, keeps_with, jumps_by, all_jump, rows_jump, rows_still_jump, built_in_run, filling_run, with_names, section_run}
 use Rattle.kp_restore.proofs.TableBack.{section_back}
+use Rattle.kp_lemmas.proofs.ListFacts.{test_weaker}
 
 -- ---- What a table with a section has
 
@@ -179,17 +180,17 @@ module _ (family : Family) where
     each_row = all_found (λ row. is_canonical_chain family chains (at table row.0, row.1)) (λ n. get chains (at table n)) rows agreed (λ n rules f. one_entry (is_canonical_chain family chains) chains (and_parts _ _ h).1 (at table n) rules f)
 
     names_are_good : names_good (names_of (built_in_rows chains table ++ other_rows chains table)) ≡ true
-    names_are_good = list_all-map is_chain_name (λ (row : Row). row.0) rows ∙ all_by (λ row. is_canonical_chain family chains (at table row.0, row.1)) (λ row. is_chain_name row.0) (λ row c. (and_parts _ _ c).0) rows each_row
+    names_are_good = list_all-map is_chain_name (λ (row : Row). row.0) rows ∙ test_weaker (λ row. is_canonical_chain family chains (at table row.0, row.1)) (λ row. is_chain_name row.0) (λ row c. (and_parts _ _ c).0) rows each_row
 
     rules_are_good : rules_good (built_in_rows chains table ++ other_rows chains table) ≡ true
     rules_are_good =
-        all_by (λ row. is_canonical_chain family chains (at table row.0, row.1)) (λ row. list_all (is_canonical_rule family) row.1)
-        (λ row c. all_by (may_stand family chains table) (is_canonical_rule family) (λ r m. (and_parts _ _ m).0) row.1 (and_parts _ _ c).1) rows each_row
+        test_weaker (λ row. is_canonical_chain family chains (at table row.0, row.1)) (λ row. list_all (is_canonical_rule family) row.1)
+        (λ row c. test_weaker (may_stand family chains table) (is_canonical_rule family) (λ r m. (and_parts _ _ m).0) row.1 (and_parts _ _ c).1) rows each_row
 
     jumps_are_good : rows_jump chains table (built_in_rows chains table ++ other_rows chains table) ≡ true
     jumps_are_good =
-        all_by (λ row. is_canonical_chain family chains (at table row.0, row.1)) (λ row. all_jump chains table row.1)
-        (λ row c. all_by (may_stand family chains table) (λ r. jumps_to_declared chains table r.target) (λ r m. (and_parts _ _ m).1) row.1 (and_parts _ _ c).1) rows each_row
+        test_weaker (λ row. is_canonical_chain family chains (at table row.0, row.1)) (λ row. all_jump chains table row.1)
+        (λ row c. test_weaker (may_stand family chains table) (λ r. jumps_to_declared chains table r.target) (λ r m. (and_parts _ _ m).1) row.1 (and_parts _ _ c).1) rows each_row
 
     parts_good : list_all good (section_parts table (built_in_rows chains table) (other_rows chains table)) ≡ true
     parts_good = section_from table (built_in_rows chains table) (other_rows chains table) names_are_good rules_are_good
@@ -208,8 +209,8 @@ module _ (family : Family) where
     jumps_declared : (t : TableParts) → rows_jump (with_names table t (names_of (built_in_rows chains table ++ other_rows chains table))).chains table (built_in_rows chains table ++ other_rows chains table) ≡ true
     jumps_declared t =
         let u = with_names table t (names_of rows) in
-        all_by (λ row. all_jump chains table row.1) (λ row. all_jump u.chains table row.1)
-        (λ row. all_by (λ r. jumps_to_declared chains table r.target) (λ r. jumps_to_declared u.chains table r.target) (λ r. jumps_by table chains u.chains (declared_there t) r.target) row.1)
+        test_weaker (λ row. all_jump chains table row.1) (λ row. all_jump u.chains table row.1)
+        (λ row. test_weaker (λ r. jumps_to_declared chains table r.target) (λ r. jumps_to_declared u.chains table r.target) (λ r. jumps_by table chains u.chains (declared_there t) r.target) row.1)
         rows jumps_are_good
 
     section_taken : (t : TableParts) (zs : List Line) → run step (opening t table) (section_parts table (built_in_rows chains table) (other_rows chains table) ++ zs) ≡ run step (behind (with_section table t rows) table) zs

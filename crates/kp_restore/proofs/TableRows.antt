@@ -8,21 +8,23 @@ use Rattle.std.specs.Ordering.{eq_by_cmp, is_eq, is_lt}
 use Rattle.std.specs.Cmp.{tied_itself}
 use Rattle.std.specs.FinMap.{entries, entries_sorted, get, get-entries, find, is_sorted}
 use Rattle.std.specs.FinMap.Entries.{below_all, where_key, is_sorted-where_key, find-where_key, same_entries}
-use Rattle.std.proofs.lemmas.Bool.{and_parts, and_from}
+use Rattle.std.proofs.lemmas.Bool.{and_parts, and_from, not-true, or_parts}
 use Rattle.std.proofs.lemmas.List.{map-append}
-use Rattle.std.proofs.lemmas.Map.Text.{is_eq-slice_cmp}
 use Rattle.kp_base.specs.Keys.{text_cmp}
 use Rattle.kp_types.specs.Places.{chain_cmp, table_place}
 use Rattle.kp_types.specs.declared.chain.TableName.{TableName}
 use Rattle.kp_types.specs.declared.chain.TableName.TheVariants.{Nat, Filter}
 use Rattle.kp_types.specs.declared.chain.ChainAt.{ChainAt}
 use Rattle.kp_types.specs.declared.rule.Rule.{Rule}
-use Rattle.kp_types.proofs.ChainOrder.{chain_total, chain_exact}
+use Rattle.kp_types.proofs.ChainOrder.{chain_total, chain_exact, one_table_from_test}
 use Rattle.kp_table_defs.specs.Ranks.{built_in_chains, is_built_in, has_built_in}
 use Rattle.kp_table_defs.specs.Rebuild.{Chains}
 use Rattle.kp_restore_defs.specs.TableText.{Row, row_at, built_in_rows, other_rows}
 use Rattle.kp_restore.proofs.Machine.{some_one}
-use Rattle.kp_restore.proofs.Rows.{at, entries_of, rules_in, names_of, distinct, rising, Agree, not_false, same_bytes, turned_false, find_rows, is_some_rules, no_rules, rules_append, agree, agree_front, agree_same, rows_again}
+use Rattle.kp_restore.proofs.Rows.{at, entries_of, rules_in, names_of, distinct, rising, Agree, turned_false, find_rows, is_some_rules, no_rules, rules_append, agree, agree_front, agree_same, rows_again}
+use Rattle.kp_lemmas.proofs.Orders.{lesser_text_differs, less_from_fact}
+use Rattle.kp_lemmas.proofs.Booleans.{both_facts, true_from_fact}
+use Rattle.kp_base.proofs.SameParts.{text_test_exact}
 
 -- a section's rows: its built-in chains in their order, and the others by their bytes
 pub record IsSection (table : TableName) (built_in others : List Row) : Type 0 where
@@ -32,25 +34,13 @@ pub record IsSection (table : TableName) (built_in others : List Row) : Type 0 w
 
 -- ---- No name stands twice
 
-less_apart : (n m : List ℕ) → is_lt (text_cmp n m) ≡ true → bytes_eq n m ≡ false
-less_apart n m h = sym (is_eq-slice_cmp n m) ∙ by (text_cmp n m) h
-  where
-    by : (o : Ordering) → is_lt o ≡ true → is_eq o ≡ false
-    by Less h = refl
-    by Equal h = absurd (cc)
-    by Greater h = absurd (cc)
-
 none_alike : (n : List ℕ) (ms : List (List ℕ)) → list_all (λ m. is_lt (text_cmp n m)) ms ≡ true → list_any (bytes_eq n) ms ≡ false
 none_alike n [] h = refl
-none_alike n (m ∷ ms) h = let p = and_parts _ _ h in λ i. less_apart n m p.0 i || none_alike n ms p.1 i
+none_alike n (m ∷ ms) h = let p = and_parts _ _ h in λ i. lesser_text_differs n m p.0 i || none_alike n ms p.1 i
 
 rising_distinct : (ns : List (List ℕ)) → rising ns ≡ true → distinct ns ≡ true
 rising_distinct [] h = refl
 rising_distinct (n ∷ ns) h = let p = and_parts _ _ h in λ i. not (none_alike n ns p.0 i) && rising_distinct ns p.1 i
-
-pub neither : (a b : Bool) → (a || b) ≡ false → (a ≡ false) × (b ≡ false)
-neither false b h = (refl, h)
-neither true b h = absurd (cc)
 
 -- none of these names is among those
 abbrev foreign : List (List ℕ) → List (List ℕ) → Bool
@@ -60,20 +50,20 @@ foreign_head : (n : List ℕ) (ns ms : List (List ℕ)) → foreign (n ∷ ns) m
 foreign_head n ns [] h = (refl, refl)
 foreign_head n ns (m ∷ ms) h =
     let p = and_parts _ _ h in
-    let q = neither _ _ (not_false _ p.0) in
+    let q = or_parts _ _ (not-true _ p.0) in
     let rest = foreign_head n ns ms p.1 in
     (λ i. turned_false m n q.0 i || rest.0 i, λ i. not (q.1 i) && rest.1 i)
 
 any_append : (p : List ℕ → Bool) (xs ys : List (List ℕ)) → list_any p xs ≡ false → list_any p ys ≡ false → list_any p (xs ++ ys) ≡ false
 any_append p [] ys g h = h
-any_append p (x ∷ xs) ys g h = let q = neither _ _ g in λ i. q.0 i || any_append p xs ys q.1 h i
+any_append p (x ∷ xs) ys g h = let q = or_parts _ _ g in λ i. q.0 i || any_append p xs ys q.1 h i
 
 distinct_append : (ns ms : List (List ℕ)) → distinct ns ≡ true → distinct ms ≡ true → foreign ns ms ≡ true → distinct (ns ++ ms) ≡ true
 distinct_append [] ms g h f = h
 distinct_append (n ∷ ns) ms g h f =
     let p = and_parts _ _ g in
     let q = foreign_head n ns ms f in
-    λ i. not (any_append (bytes_eq n) ns ms (not_false _ p.0) q.0 i) && distinct_append ns ms p.1 h q.1 i
+    λ i. not (any_append (bytes_eq n) ns ms (not-true _ p.0) q.0 i) && distinct_append ns ms p.1 h q.1 i
 
 built_in_distinct : (table : TableName) → distinct (built_in_chains table) ≡ true
 built_in_distinct Nat = refl
@@ -95,7 +85,7 @@ not_among p name (n ∷ ns) h a =
   where
     by : (b : Bool) → bytes_eq name n ≡ b → b ≡ false
     by false e = refl
-    by true e = let same = same_bytes name n e in absurd (let t : true ≡ false = sym h ∙ ap p same ∙ not_false _ (and_parts _ _ a).0 in cc)
+    by true e = let same = text_test_exact name n e in absurd (let t : true ≡ false = sym h ∙ ap p same ∙ not-true _ (and_parts _ _ a).0 in cc)
 
 module _ (table : TableName) (built_in others : List Row) (s : IsSection table built_in others) where
   pub built_in_there : (name : List ℕ) → is_some (rules_in built_in name) ≡ is_built_in table name
@@ -106,31 +96,18 @@ module _ (table : TableName) (built_in others : List Row) (s : IsSection table b
 
 -- ---- Entries
 
-lessened : (o : Ordering) → T (is_lt o) → o ≡ Less
-lessened Less h = refl
-lessened Equal h = absurd h
-lessened Greater h = absurd h
-
-halves : (a b : Bool) → T (a && b) → T a × T b
-halves true b h = (tt, h)
-halves false b h = absurd h
-
-joined : (a b : Bool) → T a → T b → T (a && b)
-joined true b g h = h
-joined false b g h = g
-
 -- a key below all others isn't found among them
 find_below : (q : ChainAt) (es : List (ChainAt × List Rule)) → T (below_all chain_cmp q es) → find chain_cmp q es ≡ None
 find_below q [] h = refl
 find_below q (e ∷ es) h =
-    let p = halves _ _ h in
-    ap (λ o. cond (is_eq o) (Some e.1) (find chain_cmp q es)) (lessened _ p.0) ∙ find_below q es p.1
+    let p = both_facts _ _ h in
+    ap (λ o. cond (is_eq o) (Some e.1) (find chain_cmp q es)) (less_from_fact _ p.0) ∙ find_below q es p.1
 
 -- what holds of all that is found holds of all entries
 every_in : (p : ChainAt × List Rule → Bool) (es : List (ChainAt × List Rule)) → T (is_sorted chain_cmp es) → ((q : ChainAt) (rules : List Rule) → find chain_cmp q es ≡ Some rules → p (q, rules) ≡ true) → list_all p es ≡ true
 every_in p [] s h = refl
 every_in p (e ∷ es) s h =
-    let c = halves _ _ s in
+    let c = both_facts _ _ s in
     and_from _ _ (h e.0 e.1 (ap (λ o. cond (is_eq o) (Some e.1) (find chain_cmp e.0 es)) (tied_itself chain_total e.0)))
     (every_in p es c.1 (λ q rules f. h q rules (by q rules f (eq_by_cmp chain_cmp q e.0) refl)))
   where
@@ -143,7 +120,7 @@ every_in p (e ∷ es) s h =
     by q rules f false t = f
     by q rules f true t =
         let same : q ≡ e.0 = chain_exact q e.0 (equal _ t) in
-        absurd (let n : None ≡ Some rules = sym (find_below e.0 es (halves _ _ s).0) ∙ ap (λ k. find chain_cmp k es) (sym same) ∙ f in cc)
+        absurd (let n : None ≡ Some rules = sym (find_below e.0 es (both_facts _ _ s).0) ∙ ap (λ k. find chain_cmp k es) (sym same) ∙ f in cc)
 
 pub every_entry : (p : ChainAt × List Rule → Bool) (chains : Chains) → ((q : ChainAt) (rules : List Rule) → get chains q ≡ Some rules → p (q, rules) ≡ true) → list_all p (entries chains) ≡ true
 every_entry p chains h = every_in p (entries chains) (entries_sorted chains) (λ q rules f. h q rules (get-entries chains q ∙ f))
@@ -167,19 +144,9 @@ one_entry p chains a q rules f = one_in p (entries chains) a q rules (sym (get-e
 
 -- ---- The rows of a table
 
-true_of : (b : Bool) → T b → b ≡ true
-true_of true h = refl
-true_of false h = absurd h
-
 pub table_tied : (table : TableName) → (table_place table == table_place table) ≡ true
 table_tied Nat = refl
 table_tied Filter = refl
-
-pub table_one : (a b : TableName) → (table_place a == table_place b) ≡ true → a ≡ b
-table_one Nat Nat h = refl
-table_one Nat Filter h = absurd (cc)
-table_one Filter Nat h = absurd (cc)
-table_one Filter Filter h = refl
 
 table_apart : (table : TableName) (q : ChainAt) (name : List ℕ) → (table_place q.table == table_place table) ≡ false → eq_by_cmp chain_cmp q (at table name) ≡ false
 table_apart table q name h = by q.table table h
@@ -218,7 +185,7 @@ module _ (table : TableName) where
   row_of e = (e.0.chain, e.1)
 
   same_place : (place : ChainAt) → in_table place ≡ true → at table place.chain ≡ place
-  same_place place h = ap (λ t. at t place.chain) (sym (table_one place.table table h))
+  same_place place h = ap (λ t. at t place.chain) (sym (one_table_from_test place.table table h))
 
   entries_again : (es : List (ChainAt × List Rule)) → entries_of table (map row_of (others_in es)) ≡ others_in es
   entries_again [] = refl
@@ -280,9 +247,9 @@ module _ (table : TableName) where
         by : (o : Option (List Rule)) → get chains (at table n) ≡ o → (b : Bool) → bytes_eq name n ≡ b
             → rules_in (filter_map (row_at chains table) ns) name ≡ cond (list_any (bytes_eq name) ns) (get chains (at table name)) None
             → rules_in (cons_option (option_map (λ rules. (n, rules)) o) (filter_map (row_at chains table) ns)) name ≡ cond (b || list_any (bytes_eq name) ns) (get chains (at table name)) None
-        by None g true t h = h ∙ nothing _ _ (ap (λ m. get chains (at table m)) (same_bytes name n t) ∙ g)
+        by None g true t h = h ∙ nothing _ _ (ap (λ m. get chains (at table m)) (text_test_exact name n t) ∙ g)
         by None g false t h = h
-        by (Some rules) g true t h = ap (λ b. cond b (Some rules) (rules_in (filter_map (row_at chains table) ns) name)) t ∙ sym (ap (λ m. get chains (at table m)) (same_bytes name n t) ∙ g)
+        by (Some rules) g true t h = ap (λ b. cond b (Some rules) (rules_in (filter_map (row_at chains table) ns) name)) t ∙ sym (ap (λ m. get chains (at table m)) (text_test_exact name n t) ∙ g)
         by (Some rules) g false t h = ap (λ b. cond b (Some rules) (rules_in (filter_map (row_at chains table) ns) name)) t ∙ h
 
     -- the rows have the rules of each chain
@@ -310,7 +277,7 @@ module _ (table : TableName) where
     rows_section h = record {
       first = first_names (built_in_chains table) h;
       apart = all_other (where_key chain_cmp in_table (entries chains));
-      rising = sym (sorted_names table (other_rows chains table)) ∙ ap (is_sorted chain_cmp) (entries_again (entries chains)) ∙ true_of _ others_sorted;
+      rising = sym (sorted_names table (other_rows chains table)) ∙ ap (is_sorted chain_cmp) (entries_again (entries chains)) ∙ true_from_fact _ others_sorted;
     }
 
     -- a section whose rules the table has is that of its rows

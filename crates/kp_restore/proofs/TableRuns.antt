@@ -4,7 +4,7 @@ use Rattle.std.specs.List.{list_all, list_any, flat_map}
 use Rattle.std.specs.Ordering.{eq_by_cmp, is_lt}
 use Rattle.kp_base.specs.Keys.{text_cmp}
 use Rattle.std.specs.FinMap.{get, get-insert}
-use Rattle.std.proofs.lemmas.Bool.{and_parts, and_from}
+use Rattle.std.proofs.lemmas.Bool.{and_parts, and_from, not-true, or_parts}
 use Rattle.std.proofs.lemmas.List.{map-append, append-nil}
 use Rattle.kp_types.specs.Places.{chain_cmp}
 use Rattle.kp_types.specs.declared.chain.TableName.{TableName}
@@ -22,9 +22,11 @@ use Rattle.kp_restore.specs.declared.table_reader.TableReader.{TableReader}
 use Rattle.kp_restore.specs.declared.table_reader.Phase.TheVariants.{Opening, Declaring, Ruling}
 use Rattle.kp_restore.specs.Machine.{run}
 use Rattle.kp_restore.specs.TableSteps.{step, put, phase_after, is_behind, may_follow, declared, with_rule, ruled, declaring}
-use Rattle.kp_restore.proofs.Rows.{at, names_of, distinct, rising, empty_row, with_rows, with_section, same_true, not_false}
+use Rattle.kp_restore.proofs.Rows.{at, names_of, distinct, rising, empty_row, with_rows, with_section}
 use Rattle.kp_restore.proofs.TableRows.{IsSection, section_distinct, table_tied}
 use Rattle.kp_restore.proofs.TableParts.{row_parts, section_parts}
+use Rattle.kp_restore.proofs.BatchOrder.{name_itself}
+use Rattle.kp_lemmas.proofs.ListFacts.{test_weaker, test_always}
 
 -- ---- States
 
@@ -80,10 +82,6 @@ next_left table names c left h = ap (λ n. drop n (built_in_chains table)) (one_
 pub none_left : (table : TableName) (names : List (List ℕ)) (c : List ℕ) → drop (length names) (built_in_chains table) ≡ [] → drop (length (names ++ c ∷ [])) (built_in_chains table) ≡ []
 none_left table names c h = ap (λ n. drop n (built_in_chains table)) (one_longer names c) ∙ drop_past (built_in_chains table) (length names) h
 
-pub all_by : {A : Type 0} (p q : A → Bool) → ((x : A) → p x ≡ true → q x ≡ true) → (xs : List A) → list_all p xs ≡ true → list_all q xs ≡ true
-all_by p q f [] h = refl
-all_by p q f (x ∷ xs) h = let r = and_parts _ _ h in and_from _ _ (f x r.0) (all_by p q f xs r.1)
-
 -- ---- Jumps
 
 -- a chain of the table that was there still is
@@ -120,15 +118,15 @@ abbrev pub rows_jump : Chains → TableName → List Row → Bool
 rows_jump chains table rows = list_all (λ row. all_jump chains table row.1) rows
 
 pub still_jump : (table : TableName) (t u : TableParts) → Keeps table t u → (rules : List Rule) → all_jump t.chains table rules ≡ true → all_jump u.chains table rules ≡ true
-still_jump table t u k = all_by (λ r. jumps_to_declared t.chains table r.target) (λ r. jumps_to_declared u.chains table r.target) (λ r. jumps_by table t.chains u.chains k r.target)
+still_jump table t u k = test_weaker (λ r. jumps_to_declared t.chains table r.target) (λ r. jumps_to_declared u.chains table r.target) (λ r. jumps_by table t.chains u.chains k r.target)
 
 pub rows_still_jump : (table : TableName) (t u : TableParts) → Keeps table t u → (rows : List Row) → rows_jump t.chains table rows ≡ true → rows_jump u.chains table rows ≡ true
-rows_still_jump table t u k = all_by (λ row. all_jump t.chains table row.1) (λ row. all_jump u.chains table row.1) (λ row. still_jump table t u k row.1)
+rows_still_jump table t u k = test_weaker (λ row. all_jump t.chains table row.1) (λ row. all_jump u.chains table row.1) (λ row. still_jump table t u k row.1)
 
 -- ---- Declarations
 
 step_built_in : (t : TableParts) (table : TableName) (names : List (List ℕ)) (c : List ℕ) → slice_get (built_in_chains table) (length names) ≡ Some c → step (naming t table names) (BuiltIn c) ≡ Some (declared t table names c)
-step_built_in t table names c h = ap (λ o. declaring t table names o (BuiltIn c)) h ∙ ap (λ b. cond b (Some (declared t table names c)) None) (same_true c)
+step_built_in t table names c h = ap (λ o. declaring t table names o (BuiltIn c)) h ∙ ap (λ b. cond b (Some (declared t table names c)) None) (name_itself c)
 
 pub built_in_run : (table : TableName) (left names : List (List ℕ)) (t : TableParts) (ys : List Line) → drop (length names) (built_in_chains table) ≡ left
     → run step (naming t table names) (map BuiltIn left ++ ys) ≡ run step (naming (with_rows table t (map empty_row left)) table (names ++ left)) ys
@@ -183,7 +181,7 @@ rows_fill ((c, r ∷ rs) ∷ rows) zs = tt
 
 step_rule : (t : TableParts) (table : TableName) (c : List ℕ) (left : List (List ℕ)) (rules : List Rule) (r : Rule) → jumps_to_declared t.chains table r.target ≡ true → step (filling t table (c ∷ left) rules) (Ruled c r) ≡ Some (filling t table (c ∷ left) (rules ++ r ∷ []))
 step_rule t table c left rules r j =
-    ap (λ b. cond b (with_rule t table (c ∷ left) rules r) (ruled (put t table c rules) table left [] c r)) (same_true c)
+    ap (λ b. cond b (with_rule t table (c ∷ left) rules r) (ruled (put t table c rules) table left [] c r)) (name_itself c)
     ∙ ap (λ b. cond b (Some (filling t table (c ∷ left) (rules ++ r ∷ []))) None) j
 
 rules_run : (t : TableParts) (table : TableName) (c : List ℕ) (left : List (List ℕ)) (rs rules : List Rule) (ys : List Line) → all_jump t.chains table rs ≡ true
@@ -194,17 +192,13 @@ rules_run t table c left (r ∷ rs) rules ys h =
     ∙ rules_run t table c left rs (rules ++ r ∷ []) ys (and_parts _ _ h).1
     ∙ ap (λ all. run step (filling t table (c ∷ left) all) ys) (append_assoc rules (r ∷ []) rs)
 
-either_false : (a b : Bool) → (a || b) ≡ false → (a ≡ false) × (b ≡ false)
-either_false false b h = (refl, h)
-either_false true b h = absurd (cc)
-
 -- a chain is passed
 pass_run : (t : TableParts) (table : TableName) (c : List ℕ) (left : List (List ℕ)) (rules : List Rule) (rows : List Row) (zs : List Line) → list_any (bytes_eq c) (names_of rows) ≡ false
     → run step (filling t table (c ∷ left) rules) (flat_map row_parts rows ++ Commit ∷ zs) ≡ run step (filling (put t table c rules) table left []) (flat_map row_parts rows ++ Commit ∷ zs)
 pass_run t table c left rules [] zs h = refl
-pass_run t table c left rules ((d, []) ∷ rows) zs h = pass_run t table c left rules rows zs (either_false _ _ h).1
+pass_run t table c left rules ((d, []) ∷ rows) zs h = pass_run t table c left rules rows zs (or_parts _ _ h).1
 pass_run t table c left rules ((d, r ∷ rs) ∷ rows) zs h =
-    ap (λ b. option_and_then (λ m. run step m ((map (Ruled d) rs ++ flat_map row_parts rows) ++ Commit ∷ zs)) (cond b (with_rule t table (c ∷ left) rules r) (ruled (put t table c rules) table left [] d r))) (either_false _ _ h).0
+    ap (λ b. option_and_then (λ m. run step m ((map (Ruled d) rs ++ flat_map row_parts rows) ++ Commit ∷ zs)) (cond b (with_rule t table (c ∷ left) rules r) (ruled (put t table c rules) table left [] d r))) (or_parts _ _ h).0
 
 pub rows_run : (table : TableName) (rows : List Row) (t : TableParts) (zs : List Line) → distinct (names_of rows) ≡ true → rows_jump t.chains table rows ≡ true
     → run step (filling t table (names_of rows) []) (flat_map row_parts rows ++ Commit ∷ zs) ≡ run step (behind (with_rows table t rows) table) zs
@@ -216,7 +210,7 @@ rows_run table (row ∷ rows) t zs d j =
     let next = put t table c row.1 in
     ap (run step (filling t table (c ∷ names_of rows) [])) (append_assoc (row_parts row) (flat_map row_parts rows) (Commit ∷ zs))
     ∙ rules_run t table c (names_of rows) row.1 [] (flat_map row_parts rows ++ Commit ∷ zs) q.0
-    ∙ pass_run t table c (names_of rows) row.1 rows zs (not_false _ p.0)
+    ∙ pass_run t table c (names_of rows) row.1 rows zs (not-true _ p.0)
     ∙ rows_run table rows next zs p.1 (rows_still_jump table t next (keeps_put table table t c row.1) rows q.1)
 
 -- ---- A section
@@ -232,10 +226,6 @@ with_names table t names = with_rows table t (map empty_row names)
 pub names_twice : (table : TableName) (t : TableParts) (xs ys : List (List ℕ)) → with_names table (with_names table t xs) ys ≡ with_names table t (xs ++ ys)
 names_twice table t xs ys = sym (with_append table t (map empty_row xs) (map empty_row ys)) ∙ ap (with_rows table t) (sym (map-append empty_row xs ys))
 
-all_true : {A : Type 0} (p : A → Bool) → ((x : A) → p x ≡ true) → (xs : List A) → list_all p xs ≡ true
-all_true p f [] = refl
-all_true p f (x ∷ xs) = and_from _ _ (f x) (all_true p f xs)
-
 -- names in order may be declared one behind the other
 follow_from : (table : TableName) (last : List ℕ) (cs : List (List ℕ)) → list_all (λ m. is_built_in table last || is_lt (text_cmp last m)) cs ≡ true → list_all (λ m. not (is_built_in table m)) cs ≡ true → rising cs ≡ true
     → Follow table (Some last) cs
@@ -244,15 +234,15 @@ follow_from table last [] b a r = tt
 follow_from table last (c ∷ cs) b a r =
     let p = and_parts _ _ a in
     let q = and_parts _ _ r in
-    (and_from _ _ p.0 (and_parts _ _ b).0, follow_from table c cs (all_by (λ m. is_lt (text_cmp c m)) (λ m. is_built_in table c || is_lt (text_cmp c m)) (λ m l. or_right _ _ l) cs q.0) p.1 q.1)
+    (and_from _ _ p.0 (and_parts _ _ b).0, follow_from table c cs (test_weaker (λ m. is_lt (text_cmp c m)) (λ m. is_built_in table c || is_lt (text_cmp c m)) (λ m l. or_right _ _ l) cs q.0) p.1 q.1)
   where
     or_right : (x y : Bool) → y ≡ true → (x || y) ≡ true
     or_right true y h = refl
     or_right false y h = h
 
 pub follow_first : (table : TableName) (cs : List (List ℕ)) → list_all (λ m. not (is_built_in table m)) cs ≡ true → rising cs ≡ true → Follow table (slice_get (built_in_chains table) (length (built_in_chains table) - 1)) cs
-follow_first Nat cs a r = follow_from Nat (codes "POSTROUTING") cs (all_true (λ m. is_built_in Nat (codes "POSTROUTING") || is_lt (text_cmp (codes "POSTROUTING") m)) (λ m. refl) cs) a r
-follow_first Filter cs a r = follow_from Filter (codes "OUTPUT") cs (all_true (λ m. is_built_in Filter (codes "OUTPUT") || is_lt (text_cmp (codes "OUTPUT") m)) (λ m. refl) cs) a r
+follow_first Nat cs a r = follow_from Nat (codes "POSTROUTING") cs (test_always (λ m. is_built_in Nat (codes "POSTROUTING") || is_lt (text_cmp (codes "POSTROUTING") m)) (λ m. refl) cs) a r
+follow_first Filter cs a r = follow_from Filter (codes "OUTPUT") cs (test_always (λ m. is_built_in Filter (codes "OUTPUT") || is_lt (text_cmp (codes "OUTPUT") m)) (λ m. refl) cs) a r
 
 pub dropped_all : {A : Type 0} (xs ys : List A) → drop (length (xs ++ ys)) xs ≡ []
 dropped_all [] [] = refl

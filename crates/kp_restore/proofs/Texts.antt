@@ -1,8 +1,8 @@
 -- Texts of lines, and the lines of texts.
-use Rattle.std.proofs.Common.{◌≡◌, ℕ, ◌+◌, ◌-◌, ◌==◌, Bool, true, false, cond, not, List, [], ◌∷◌, ◌++◌, length, take, refl, sym, ap, ◌∙◌, append_assoc, length-append, arith}
+use Rattle.std.proofs.Common.{◌≡◌, ℕ, ◌+◌, ◌-◌, ◌==◌, Bool, true, false, cond, List, [], ◌∷◌, ◌++◌, length, take, refl, sym, ap, ◌∙◌, append_assoc, length-append, arith}
 use Rattle.std.specs.List.{list_all, slice_split, onto_first}
 use Rattle.std.proofs.Math.Seq.{take-append-add}
-use Rattle.std.proofs.lemmas.Bool.{and_parts}
+use Rattle.std.proofs.lemmas.Bool.{and_parts, not-true}
 use Rattle.std.proofs.lemmas.List.{append-nil}
 use Rattle.kp_restore_defs.specs.FirstBadLine.{without_last, ended_lines}
 use Rattle.kp_restore_defs.specs.TableText.{text_of_lines}
@@ -12,22 +12,18 @@ use Rattle.kp_restore.specs.Pieces.{no_line_feed}
 abbrev pub pieces : List ℕ → List (List ℕ)
 pieces text = slice_split (λ byte. byte == 10) text
 
-other : (b : Bool) → not b ≡ true → b ≡ false
-other false h = refl
-other true h = absurd (cc)
-
 -- what stands before the first line feed is the first piece
 pub at_line : (line rest : List ℕ) → no_line_feed line ≡ true → pieces (line ++ 10 ∷ rest) ≡ line ∷ pieces rest
 at_line [] rest h = refl
 at_line (b ∷ bs) rest h =
-    ap (λ t. cond t ([] ∷ pieces (bs ++ 10 ∷ rest)) (onto_first b (pieces (bs ++ 10 ∷ rest)))) (other (b == 10) (and_parts _ _ h).0)
+    ap (λ t. cond t ([] ∷ pieces (bs ++ 10 ∷ rest)) (onto_first b (pieces (bs ++ 10 ∷ rest)))) (not-true (b == 10) (and_parts _ _ h).0)
     ∙ ap (onto_first b) (at_line bs rest (and_parts _ _ h).1)
 
 -- a text without a line feed is one piece
 pub one_piece : (text : List ℕ) → no_line_feed text ≡ true → pieces text ≡ text ∷ []
 one_piece [] h = refl
 one_piece (b ∷ bs) h =
-    ap (λ t. cond t ([] ∷ pieces bs) (onto_first b (pieces bs))) (other (b == 10) (and_parts _ _ h).0)
+    ap (λ t. cond t ([] ∷ pieces bs) (onto_first b (pieces bs))) (not-true (b == 10) (and_parts _ _ h).0)
     ∙ ap (onto_first b) (one_piece bs (and_parts _ _ h).1)
 
 -- lines are the first pieces of their text

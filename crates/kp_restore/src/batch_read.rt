@@ -17,13 +17,17 @@ use kp_base::NoMemory;
 use kp_types::Batch;
 use std::alloc::Global;
 
-/// The batch whose edits have this text (iptables-restore(8) with --noflush): a section for each table with an
-/// edit, nat before filter, with a declaration of each chain by its bytes, then the rules of the chains that are
-/// written, and then the removes. Each batch has one text, and no other text is taken.
+/// The batch whose edits have this text (iptables-restore(8) with --noflush): a section for each
+/// table with an edit, nat before filter, with a declaration of each chain by its bytes, then the
+/// rules of the chains that are written, and then the removes. Each batch has one text, and no
+/// other text is taken.
 pub fn read_batch(alloc: Global, bytes: &[u8]) -> Result<Batch, TextFault>
-    ensures ok { IfOk result (λ b. (is_canonical_batch V4 b.edits ≡ true) × (batch_text_of b.edits ≡ bytes.now)) }
-    ensures all { (n : ℕ) → result ≡ Err (BadText n) → (edits : List edit_row.Edit) → is_canonical_batch V4 edits ≡ true → batch_text_of edits ≡ bytes.now → ⊥ }
-    ensures bad { (n : ℕ) → result ≡ Err (BadText n) → IsFirstBadLine (λ edits. is_canonical_batch V4 edits ≡ true) batch_lines bytes.now n }
+    ensures ok { IfOk result (λ b. (is_canonical_batch V4 b.edits ≡ true)
+        × (batch_text_of b.edits ≡ bytes.now)) }
+    ensures all { (n : ℕ) → result ≡ Err (BadText n) → (edits : List edit_row.Edit)
+        → is_canonical_batch V4 edits ≡ true → batch_text_of edits ≡ bytes.now → ⊥ }
+    ensures bad { (n : ℕ) → result ≡ Err (BadText n)
+        → IsFirstBadLine (λ edits. is_canonical_batch V4 edits ≡ true) batch_lines bytes.now n }
 {
     let mut reader = BatchReader::new(alloc);
     let mut rest = bytes;
@@ -45,8 +49,11 @@ fn after_line(
     reader: BatchReader,
     bytes: &[u8],
 ) -> Result<Option<BatchReader>, NoMemory>
-    ensures taken { IfOk result (λ next. IfSome next (λ r. (line : line_row.Line) × (is_canonical_line V4 line ≡ true) × (line_text line ≡ bytes.now) × (step reader line ≡ Some r))) }
-    ensures refused { IfOk result (λ next. next ≡ None → (line : line_row.Line) → is_canonical_line V4 line ≡ true → line_text line ≡ bytes.now → step reader line ≡ None) }
+    ensures taken { IfOk result (λ next. IfSome next (λ r. (line : line_row.Line)
+        × (is_canonical_line V4 line ≡ true) × (line_text line ≡ bytes.now)
+        × (step reader line ≡ Some r))) }
+    ensures refused { IfOk result (λ next. next ≡ None → (line : line_row.Line)
+        → is_canonical_line V4 line ≡ true → line_text line ≡ bytes.now → step reader line ≡ None) }
 {
     match read_line(bytes) {
         Some(line) => reader.step(alloc, line),

@@ -27,7 +27,8 @@ pub(crate) enum BatchPhase {
     Between {
         last: Option<TableName>,
     },
-    /// A section is open. The last line spoke of the chains up to these that are left, or of the first of these.
+    /// A section is open. The last line spoke of the chains up to these that are left, or of the
+    /// first of these.
     Within {
         section: TableName,
         part: Part,
@@ -185,7 +186,8 @@ fn ruled_in(
     chain: ChainName,
     rule: Rule,
 ) -> Result<Option<BatchReader>, NoMemory>
-    ensures { IfOk result (λ next. next ≡ spec.ruled_in edits section part passed left chain rule) }
+    ensures { IfOk result (λ next. next
+        ≡ spec.ruled_in edits section part passed left chain rule) }
 {
     match part {
         Part::Declaring => {
@@ -362,8 +364,10 @@ fn add_edit(
     writes: &mut Vec<Edit>,
     removes: &mut Vec<Edit>,
 ) -> Result<(), NoMemory>
-    ensures writes { OnOk result (writes.new.items ≡ writes.old.items ++ spec.written section row) }
-    ensures removes { OnOk result (removes.new.items ≡ removes.old.items ++ spec.removed section row) }
+    ensures writes { OnOk result (writes.new.items
+        ≡ writes.old.items ++ spec.written section row) }
+    ensures removes { OnOk result (removes.new.items
+        ≡ removes.old.items ++ spec.removed section row) }
 {
     let Row {
         chain,

@@ -14,7 +14,8 @@ pub fn batch_texts_differ()
     ensures { BatchTextsDiffer }
 {}
 
-/// The changes between two canonical tables that agree on the built-in chains are a canonical batch.
+/// The changes between two canonical tables that agree on the built-in chains are a canonical
+/// batch.
 #[tactic(auto, using(crate::proofs::Changes::changes_canonical))]
 pub fn changes_are_canonical()
     ensures { ChangesAreCanonical }

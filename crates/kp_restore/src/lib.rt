@@ -1,5 +1,5 @@
-//! The text that `iptables-restore` loads, both ways: tables and edits are printed, and read back from exactly
-//! these texts.
+//! The text that `iptables-restore` loads, both ways: tables and edits are printed, and read back
+//! from exactly these texts.
 #![tactic(auto)]
 
 mod batch_print;

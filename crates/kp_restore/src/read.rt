@@ -21,8 +21,8 @@ use std::alloc::Global;
 #[derive(Clone, Copy, Debug, PartialEq, Eq)]
 pub enum TextFault {
     /// No table, or no batch, has this text. The lines before this one, counted from 1, begin the
-    /// text of some, and none has this line behind them. It may be the line after the last one that
-    /// is ended.
+    /// text of some, and none has this line behind them. It may be the line after the last one
+    /// that is ended.
     BadText { line: u64 },
     /// Memory ran out.
     NoMemory,

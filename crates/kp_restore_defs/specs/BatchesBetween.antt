@@ -14,9 +14,11 @@ use Rattle.kp_restore_defs.specs.BatchText.{is_canonical_batch, batch_text_of}
 -- each built-in chain is the same in both tables
 abbrev pub HaveSameBuiltIn : Chains → Chains → Type 0
 HaveSameBuiltIn before after =
-    (at : ChainAt) → is_built_in at.table at.chain ≡ true → finite.get before at ≡ finite.get after at
+    (at : ChainAt) → is_built_in at.table at.chain ≡ true
+    → finite.get before at ≡ finite.get after at
 
--- The changes between two canonical tables that agree on the built-in chains are a canonical batch.
+-- The changes between two canonical tables that agree on the built-in chains are a canonical
+-- batch.
 abbrev pub ChangesAreCanonical : Type 0
 ChangesAreCanonical =
     (family : Family) (before after : Chains)

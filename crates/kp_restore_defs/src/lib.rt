@@ -1,3 +1,3 @@
-//! The text that `iptables-restore` loads: of rules, of whole tables, and of edits. There are only definitions
-//! here, in `specs/`.
+//! The text that `iptables-restore` loads: of rules, of whole tables, and of edits. There are only
+//! definitions here, in `specs/`.
 #![tactic(auto)]

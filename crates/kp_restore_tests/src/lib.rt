@@ -2,12 +2,8 @@
 #![tactic(auto)]
 
 #[cfg(test)]
-mod parts;
+mod batches;
 #[cfg(test)]
-mod restore;
+mod rules;
 #[cfg(test)]
-mod restore_batches;
-#[cfg(test)]
-mod restore_printed;
-#[cfg(test)]
-mod rule_text;
+mod tables;

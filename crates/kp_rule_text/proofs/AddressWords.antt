@@ -4,7 +4,6 @@ use Rattle.std.specs.List.{list_all, slice_split}
 use Rattle.std.specs.Net.Text.{dotted_text}
 use Rattle.std.proofs.lemmas.Bool.{and_parts, and_from}
 use Rattle.std.proofs.lemmas.Bool.Decides.{nat_tests, Decides-eqb}
-use Rattle.std.proofs.lemmas.List.Folds.{list_all-append}
 use Rattle.std.proofs.lemmas.Option.{IfSome_then}
 use Rattle.std.proofs.Math.Nat.{div-add-mod, mul-mod_right, sub-zero}
 use Rattle.kp_base.specs.Net.{AddressParts, RangeParts, v4_address, same_family, range_size}
@@ -17,7 +16,8 @@ use Rattle.kp_choice_defs.specs.AddressText.{octet_at, number_text, address_text
 use Rattle.kp_restore_defs.specs.RuleText.{range_text, is_canonical_address, is_canonical_range, is_canonical_endpoint, is_port_number}
 use Rattle.kp_rule_text.specs.WordReading.{port_word, address_word, range_word, endpoint_of, endpoint_word}
 use Rattle.kp_rule_text.proofs.Cuts.{if_kept, cut_is, cut_front}
-use Rattle.kp_rule_text.proofs.Words.{if_then, of_some, is_word_byte, all_weaker, IsWord, exact_sound, exact_complete, printed, digit_is_word, ports}
+use Rattle.kp_rule_text.proofs.Words.{if_then, of_some, is_word_byte, IsWord, exact_sound, exact_complete, printed, digit_is_word, ports}
+use Rattle.kp_lemmas.proofs.ListFacts.{test_weaker, test_append}
 
 -- ---- what is read of an address
 
@@ -93,18 +93,15 @@ dotted_is_word : (b : ℕ) → is_dotted_byte b ≡ true → is_word_byte b ≡ 
 dotted_is_word b h = grind (arith, nat_tests)
 
 dotted_piece : (n : ℕ) → n < 256 → list_all is_dotted_byte (decimal n) ≡ true
-dotted_piece n low = all_weaker is_digit is_dotted_byte digit_is_dotted (decimal n) (printed 255 n (omega (arith, low)) (omega arith)).0
-
-pub both_pieces : (test : ℕ → Bool) (xs ys : List ℕ) → list_all test xs ≡ true → list_all test ys ≡ true → list_all test (xs ++ ys) ≡ true
-both_pieces test xs ys p q = list_all-append test xs ys ∙ and_from _ _ p q
+dotted_piece n low = test_weaker is_digit is_dotted_byte digit_is_dotted (decimal n) (printed 255 n (omega (arith, low)) (omega arith)).0
 
 pub dotted_bytes : (a b c d : ℕ) → a < 256 → b < 256 → c < 256 → d < 256 → list_all is_dotted_byte (dotted_text a b c d) ≡ true
 dotted_bytes a b c d la lb lc ld =
     let text : dotted_text a b c d ≡ decimal a ++ 46 ∷ (decimal b ++ 46 ∷ (decimal c ++ 46 ∷ decimal d)) = simp append_assoc in
     ap (list_all is_dotted_byte) text
-    ∙ both_pieces is_dotted_byte (decimal a) (46 ∷ (decimal b ++ 46 ∷ (decimal c ++ 46 ∷ decimal d))) (dotted_piece a la)
-    (both_pieces is_dotted_byte (decimal b) (46 ∷ (decimal c ++ 46 ∷ decimal d)) (dotted_piece b lb)
-    (both_pieces is_dotted_byte (decimal c) (46 ∷ decimal d) (dotted_piece c lc) (dotted_piece d ld)))
+    ∙ test_append is_dotted_byte (decimal a) (46 ∷ (decimal b ++ 46 ∷ (decimal c ++ 46 ∷ decimal d))) (dotted_piece a la)
+    (test_append is_dotted_byte (decimal b) (46 ∷ (decimal c ++ 46 ∷ decimal d)) (dotted_piece b lb)
+    (test_append is_dotted_byte (decimal c) (46 ∷ decimal d) (dotted_piece c lc) (dotted_piece d ld)))
 
 number_bytes : (n : ℕ) → list_all is_dotted_byte (number_text V4 n) ≡ true
 number_bytes n = dotted_bytes (octet_at n 3) (octet_at n 2) (octet_at n 1) (octet_at n 0) (octet_low n 3) (octet_low n 2) (octet_low n 1) (octet_low n 0)
@@ -128,7 +125,7 @@ addresses = record {
       IfSome_then (address_word V4 word) (exact_sound address_text address_of word)
       (λ a h. (of_some IsValid (address_of word) a (address_valid word) h.0, h.1));
   complete = λ a h. exact_complete address_text address_of a (address_is_read a h);
-  whole = λ a h. all_weaker is_dotted_byte is_word_byte dotted_is_word (address_text a) (address_bytes a h);
+  whole = λ a h. test_weaker is_dotted_byte is_word_byte dotted_is_word (address_text a) (address_bytes a h);
 }
 
 -- ---- ranges
@@ -202,8 +199,8 @@ range_bytes : (r : RangeParts) → IsValidRange r → list_all is_word_byte (ran
 range_bytes r h =
     let facts = range_facts r h in
     let fits : r.bits ≤ 32 = facts.fits in
-    both_pieces is_word_byte (address_text r.base) (47 ∷ decimal r.bits) (all_weaker is_dotted_byte is_word_byte dotted_is_word (address_text r.base) (address_bytes r.base facts.base))
-    (all_weaker is_digit is_word_byte digit_is_word (decimal r.bits) (printed 255 r.bits (omega (arith, fits)) (omega arith)).0)
+    test_append is_word_byte (address_text r.base) (47 ∷ decimal r.bits) (test_weaker is_dotted_byte is_word_byte dotted_is_word (address_text r.base) (address_bytes r.base facts.base))
+    (test_weaker is_digit is_word_byte digit_is_word (decimal r.bits) (printed 255 r.bits (omega (arith, fits)) (omega arith)).0)
 
 pub ranges : IsWord (range_word V4) range_text (is_canonical_range V4)
 ranges = record {

@@ -1,5 +1,5 @@
 -- Words of addresses of each family are read.
-use Rattle.std.proofs.Common.{◌≡◌, ℕ, zero, suc, ◌+◌, ◌*◌, ◌/◌, ◌%◌, ◌^◌, ◌<◌, ◌==◌, List, [], ◌∷◌, ◌++◌, map, Bool, true, not, ◌&&◌, nat_lt, nat_le, codes, decimal, All, Some, option_map, option_and_then, refl, sym, ap, ◌∙◌, inl, inr, arith, lit<, append_assoc}
+use Rattle.std.proofs.Common.{◌≡◌, ℕ, ◌+◌, ◌*◌, ◌/◌, ◌%◌, ◌^◌, ◌<◌, ◌==◌, List, [], ◌∷◌, ◌++◌, Bool, true, not, ◌&&◌, nat_lt, nat_le, codes, decimal, All, Some, option_map, option_and_then, refl, sym, ap, ◌∙◌, inl, inr, arith, lit<, append_assoc}
 use Rattle.std.specs.List.{list_all}
 use Rattle.std.proofs.lemmas.Bool.{and_parts, and_from}
 use Rattle.std.proofs.lemmas.Bool.Decides.{nat_tests}
@@ -17,8 +17,10 @@ use Rattle.kp_choice_defs.specs.AddressText.{segments_of, number_text, address_t
 use Rattle.kp_restore_defs.specs.RuleText.{range_text, is_canonical_address, is_canonical_range, is_canonical_endpoint}
 use Rattle.kp_rule_text.specs.WordReading.{strip, segments_number, address_read, address_word, v6_range_of, range_read, range_word, endpoint_of, endpoint_word}
 use Rattle.kp_rule_text.proofs.Cuts.{cut_front}
-use Rattle.kp_rule_text.proofs.Words.{is_word_byte, all_weaker, IsText, as_text, exact_complete, numbers, ports}
-use Rattle.kp_rule_text.proofs.AddressWords.{ranges, endpoint_complete, both_pieces}
+use Rattle.kp_rule_text.proofs.Words.{is_word_byte, IsText, as_text, exact_complete, numbers, ports}
+use Rattle.kp_rule_text.proofs.AddressWords.{ranges, endpoint_complete}
+use Rattle.kp_lemmas.proofs.ListFacts.{test_weaker, test_append}
+use Rattle.kp_lemmas.proofs.Numbers.{groups_are_segments}
 
 -- ---- IPv6
 
@@ -38,13 +40,8 @@ all_v6 [] h = refl
 all_v6 (b ∷ bs) h = and_from _ _ (hex_is_v6 b (All-head IsHexOrColon b bs h)) (all_v6 bs (All-tail IsHexOrColon b bs h))
 
 -- the groups are below 2^16
-low_groups : (n : ℕ) (places : List ℕ) → AllSegments (map (λ place. n / 2 ^ (16 * place) % 2 ^ 16) places)
-low_groups n [] k = lit< tt
-low_groups n (place ∷ places) zero = omega arith
-low_groups n (place ∷ places) (suc k) = low_groups n places k
-
 pub segments_low : (n : ℕ) → AllSegments (segments_of n)
-segments_low n = low_groups n (7 ∷ 6 ∷ 5 ∷ 4 ∷ 3 ∷ 2 ∷ 1 ∷ 0 ∷ [])
+segments_low n = groups_are_segments n (7 ∷ 6 ∷ 5 ∷ 4 ∷ 3 ∷ 2 ∷ 1 ∷ 0 ∷ [])
 
 v6_bytes : (n : ℕ) → list_all is_v6_byte (number_text V6 n) ≡ true
 v6_bytes n = all_v6 (number_text V6 n) (All-hex_groups_text (segments_of n) (segments_low n))
@@ -120,8 +117,8 @@ module _ (r : RangeParts) (h : is_canonical_range V6 r ≡ true) where
 
   v6_range_bytes : list_all is_word_byte (range_text r) ≡ true
   v6_range_bytes =
-      both_pieces is_word_byte (address_text r.base) (47 ∷ decimal r.bits)
-      (all_weaker is_v6_byte is_word_byte v6_is_word (address_text r.base) (v6_address_bytes r.base v6_base))
+      test_append is_word_byte (address_text r.base) (47 ∷ decimal r.bits)
+      (test_weaker is_v6_byte is_word_byte v6_is_word (address_text r.base) (v6_address_bytes r.base v6_base))
       ((numbers 128 (omega arith)).whole r.bits v6_bits)
 
 v6_shape : (e : Endpoint) → IsV6 e.address → endpoint_text e ≡ codes "[" ++ (address_text e.address ++ 93 ∷ (codes ":" ++ decimal e.port))

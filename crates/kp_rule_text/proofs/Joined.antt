@@ -12,10 +12,7 @@ use Rattle.kp_choice_defs.specs.AddressText.{host_text, address_text}
 use Rattle.kp_choice_defs.specs.Draws.{probability_text_of}
 use Rattle.kp_restore_defs.specs.RuleText.{joined, match_words, target_words, rule_line}
 use Rattle.kp_rule_text.specs.Lines.{spaced, match_text, target_text}
-
--- bytes that are added behind others
-pub added : (old mid new a b : List ℕ) → mid ≡ old ++ a → new ≡ mid ++ b → new ≡ old ++ (a ++ b)
-added old mid new a b p q = q ∙ ap (λ l. l ++ b) p ∙ append_assoc old a b
+use Rattle.kp_lemmas.proofs.ListFacts.{added_twice}
 
 -- the first word of a list that has more
 pub spaced-cons : (w : List ℕ) (ws : List (List ℕ)) (text : List ℕ) → spaced (w ∷ ws) ++ text ≡ w ++ 32 ∷ (spaced ws ++ text)
@@ -64,16 +61,16 @@ pub line_added : (old s1 s2 s3 s4 new chain : List ℕ) (rule : Rule) → s1 ≡
 line_added old s1 s2 s3 s4 new chain rule a b c d e =
     let ms = flat_map match_text rule.matches.items in
     let t = target_text rule.target in
-    added old s1 new (codes "-A ") (chain ++ 32 ∷ (ms ++ t)) a
-    (added s1 s2 new chain (32 ∷ (ms ++ t)) b (added s2 s3 new (32 ∷ []) (ms ++ t) c (added s3 s4 new ms t d e)))
+    added_twice old s1 new (codes "-A ") (chain ++ 32 ∷ (ms ++ t)) a
+    (added_twice s1 s2 new chain (32 ∷ (ms ++ t)) b (added_twice s2 s3 new (32 ∷ []) (ms ++ t) c (added_twice s3 s4 new ms t d e)))
     ∙ ap (λ l. old ++ l) (sym (line_is chain rule))
 
 -- ---- pieces of a match or a target that are added one after the other
 
 pub statistic_added : (old s1 s2 new : List ℕ) (p : ℕ) → s1 ≡ old ++ codes "-m statistic --mode random --probability " → s2 ≡ s1 ++ probability_text_of p → new ≡ s2 ++ codes " " → new ≡ old ++ match_text (match.Statistic p)
 statistic_added old s1 s2 new p a b c =
-    added old s1 new (codes "-m statistic --mode random --probability ") (probability_text_of p ++ codes " ") a
-    (added s1 s2 new (probability_text_of p) (codes " ") b c)
+    added_twice old s1 new (codes "-m statistic --mode random --probability ") (probability_text_of p ++ codes " ") a
+    (added_twice s1 s2 new (probability_text_of p) (codes " ") b c)
 
 seen_text : (list : List ℕ) (seconds : ℕ) → codes "-m recent --name " ++ (list ++ (codes " --rcheck --seconds " ++ (decimal seconds ++ codes " --reap "))) ≡ match_text (match.Seen list seconds)
 seen_text list seconds =
@@ -84,8 +81,8 @@ pub seen_added : (old s1 s2 s3 s4 new list : List ℕ) (seconds : ℕ) → s1 �
 seen_added old s1 s2 s3 s4 new list seconds a b c d e =
     let last = decimal seconds ++ codes " --reap " in
     let timed = codes " --rcheck --seconds " ++ last in
-    added old s1 new (codes "-m recent --name ") (list ++ timed) a
-    (added s1 s2 new list timed b (added s2 s3 new (codes " --rcheck --seconds ") last c (added s3 s4 new (decimal seconds) (codes " --reap ") d e)))
+    added_twice old s1 new (codes "-m recent --name ") (list ++ timed) a
+    (added_twice s1 s2 new list timed b (added_twice s2 s3 new (codes " --rcheck --seconds ") last c (added_twice s3 s4 new (decimal seconds) (codes " --reap ") d e)))
     ∙ ap (λ l. old ++ l) (seen_text list seconds)
 
 dnat_text : (e : Endpoint) → codes "-j DNAT --to-destination " ++ (host_text e.address.family (address_text e.address) ++ (codes ":" ++ decimal e.port)) ≡ target_text (target.Dnat e)
@@ -94,6 +91,6 @@ dnat_text e = sym (ap (λ l. codes "-j DNAT --to-destination " ++ l) (append_ass
 pub dnat_added : (old s1 s2 s3 new : List ℕ) (e : Endpoint) → s1 ≡ old ++ codes "-j DNAT --to-destination " → s2 ≡ s1 ++ host_text e.address.family (address_text e.address) → s3 ≡ s2 ++ codes ":" → new ≡ s3 ++ decimal e.port → new ≡ old ++ target_text (target.Dnat e)
 dnat_added old s1 s2 s3 new e a b c d =
     let host = host_text e.address.family (address_text e.address) in
-    added old s1 new (codes "-j DNAT --to-destination ") (host ++ (codes ":" ++ decimal e.port)) a
-    (added s1 s2 new host (codes ":" ++ decimal e.port) b (added s2 s3 new (codes ":") (decimal e.port) c d))
+    added_twice old s1 new (codes "-j DNAT --to-destination ") (host ++ (codes ":" ++ decimal e.port)) a
+    (added_twice s1 s2 new host (codes ":" ++ decimal e.port) b (added_twice s2 s3 new (codes ":") (decimal e.port) c d))
     ∙ ap (λ l. old ++ l) (dnat_text e)

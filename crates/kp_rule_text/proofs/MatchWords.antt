@@ -23,6 +23,7 @@ use Rattle.kp_rule_text.proofs.Words.{if_then, of_some, is_word_byte, IsWord, Is
 use Rattle.kp_rule_text.proofs.AddressWords.{if_map, ranges}
 use Rattle.kp_rule_text.proofs.FamilyWords.{range_texts}
 use Rattle.kp_rule_text.proofs.Probabilities.{probabilities}
+use Rattle.kp_lemmas.proofs.Numbers.{within_32_bits}
 
 -- a canonical match, whose text stands at the front of what was read before and of the text
 abbrev pub IsFound : List ℕ → List ℕ → Match × List ℕ → Type 0
@@ -161,9 +162,6 @@ seen_shape list seconds rest =
 seconds_low : (n : ℕ) → nat_le n 4294967295 ≡ true → nat_lt n (2 ^ 32) ≡ true
 seconds_low n h = grind (arith, nat_tests)
 
-seconds_fit : (n : ℕ) → nat_lt n (2 ^ 32) ≡ true → nat_le n 4294967295 ≡ true
-seconds_fit n h = grind (arith, nat_tests)
-
 abbrev small_seconds : 4294967295 < 2 ^ 64
 small_seconds = omega arith
 
@@ -264,5 +262,5 @@ match_read family (match.Seen list seconds) rest h none =
     let both = and_parts _ _ h in
     ap (match_of family) (sym (seen_shape list seconds rest))
     ∙ list_read list (codes "--rcheck --seconds " ++ (decimal seconds ++ 32 ∷ (codes "--reap " ++ rest))) both.0
-    ∙ timed_read list seconds rest (seconds_fit seconds both.1)
+    ∙ timed_read list seconds rest (within_32_bits seconds both.1)
 match_read family (match.SetSeen list) rest h none = ap (match_of family) (sym (set_shape list rest)) ∙ list_read list (codes "--set " ++ rest) h

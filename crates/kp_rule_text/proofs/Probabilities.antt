@@ -9,7 +9,8 @@ use Rattle.kp_base.specs.Dotted.{is_digit, digits_number, split_once}
 use Rattle.kp_choice_defs.specs.Draws.{digit_at, probability_text_of}
 use Rattle.kp_rule_text.specs.WordReading.{digits_up_to, probability_of_parts, probability_read, probability_word}
 use Rattle.kp_rule_text.proofs.Cuts.{if_kept, cut_front}
-use Rattle.kp_rule_text.proofs.Words.{if_then, of_some, is_word_byte, all_weaker, IsWord, exact_sound, exact_complete, digit_is_word}
+use Rattle.kp_rule_text.proofs.Words.{if_then, of_some, is_word_byte, IsWord, exact_sound, exact_complete, digit_is_word}
+use Rattle.kp_lemmas.proofs.ListFacts.{test_weaker}
 
 -- at most 1
 abbrev is_probability : ℕ → Bool
@@ -111,5 +112,5 @@ probabilities = record {
   complete = λ p h. exact_complete probability_text_of probability_read p (probability_is_read p (grind (arith, nat_tests)));
   whole = λ p h.
       and_from _ _ (digit_is_word (digit_at p 10) (digit_passes p 10))
-      (all_weaker is_digit is_word_byte digit_is_word (decimals_of p) (digits_pass p (9 ∷ 8 ∷ 7 ∷ 6 ∷ 5 ∷ 4 ∷ 3 ∷ 2 ∷ 1 ∷ 0 ∷ [])));
+      (test_weaker is_digit is_word_byte digit_is_word (decimals_of p) (digits_pass p (9 ∷ 8 ∷ 7 ∷ 6 ∷ 5 ∷ 4 ∷ 3 ∷ 2 ∷ 1 ∷ 0 ∷ [])));
 }

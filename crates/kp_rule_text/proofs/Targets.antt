@@ -1,7 +1,7 @@
 -- Targets: what is read has that text, and the text of a target is read.
 use Rattle.std.proofs.Common.{◌≡◌, ℕ, List, ◌++◌, codes, Bool, true, false, cond, bytes_eq, Option, Some, None, option_map, IfSome, refl, sym, ap, ◌∙◌, true≢false}
 use Rattle.std.specs.List.{list_all}
-use Rattle.std.proofs.lemmas.Bool.{and_parts, false_from_ne_true, false≢true}
+use Rattle.std.proofs.lemmas.Bool.{false_from_ne_true, false≢true}
 use Rattle.std.proofs.lemmas.Option.{IfSome_then}
 use Rattle.std.proofs.lemmas.Slice.Eq.{bytes_eq-Decides}
 use Rattle.kp_base.specs.declared.address.Family.{Family}
@@ -17,6 +17,7 @@ use Rattle.kp_rule_text.proofs.Cuts.{strip_is}
 use Rattle.kp_rule_text.proofs.Words.{if_then, of_some, names}
 use Rattle.kp_rule_text.proofs.AddressWords.{if_map, IsEndpointOf, endpoint_sound}
 use Rattle.kp_rule_text.proofs.FamilyWords.{endpoint_texts}
+use Rattle.kp_types.proofs.ChainBytes.{name_bytes}
 
 -- a canonical target whose text is this behind `-j`
 abbrev IsTarget : List ℕ → Target → Type 0
@@ -74,10 +75,6 @@ target_found text =
 not_named : (chain word : List ℕ) → is_chain_name chain ≡ true → is_chain_name word ≡ false → bytes_eq chain word ≡ false
 not_named chain word named_well other =
     false_from_ne_true (bytes_eq chain word) (λ e. true≢false (sym named_well ∙ ap is_chain_name ((bytes_eq-Decides chain word).0 e) ∙ other))
-
--- the bytes of a name
-name_bytes : (chain : List ℕ) → is_chain_name chain ≡ true → list_all is_chain_byte chain ≡ true
-name_bytes chain h = (and_parts _ _ (and_parts _ _ h).0).1
 
 -- which has no space
 not_destination : (chain rest : List ℕ) → is_chain_name chain ≡ true → chain ≡ codes "DNAT --to-destination " ++ rest → false ≡ true

@@ -1,5 +1,5 @@
 -- Words that stand for values: what is read has the word as its text, and the text of a value is read.
-use Rattle.std.proofs.Common.{◌≡◌, ℕ, ◌^◌, ◌<◌, ◌≤◌, ◌==◌, List, [], ◌∷◌, Bool, true, false, cond, not, ◌&&◌, nat_le, bytes_eq, decimal, Option, Some, None, option_and_then, IfSome, refl, sym, ap, subst, ◌∙◌, arith}
+use Rattle.std.proofs.Common.{◌≡◌, ℕ, ◌^◌, ◌<◌, ◌≤◌, ◌==◌, List, Bool, true, false, cond, not, ◌&&◌, nat_le, bytes_eq, decimal, Option, Some, None, option_and_then, IfSome, refl, sym, ap, subst, ◌∙◌, arith}
 use Rattle.std.specs.List.{list_all}
 use Rattle.std.proofs.lemmas.Bool.{and_parts, and_from, cond-true}
 use Rattle.std.proofs.lemmas.Bool.Decides.{nat_tests}
@@ -11,6 +11,7 @@ use Rattle.kp_types.specs.Chains.{is_chain_byte, is_chain_name}
 use Rattle.kp_restore_defs.specs.RuleText.{is_port_number}
 use Rattle.kp_rule_text.specs.WordReading.{exact, digits_up_to, number_word, port_word, name_word}
 use Rattle.kp_rule_text.proofs.Cuts.{if_kept}
+use Rattle.kp_lemmas.proofs.ListFacts.{test_weaker}
 
 -- what is read and then more of it
 pub if_then : {A B : Type 0} (P : B → Type 0) (f : A → Option B) (o : Option A) → ((a : A) → o ≡ Some a → IfSome (f a) P) → IfSome (option_and_then f o) P
@@ -24,11 +25,6 @@ of_some P o a h e = subst (λ o. IfSome o P) e h
 -- a byte of a word
 abbrev pub is_word_byte : ℕ → Bool
 is_word_byte b = not (b == 32)
-
--- a test that all pass is passed where a weaker one is asked
-pub all_weaker : (p q : ℕ → Bool) → ((b : ℕ) → p b ≡ true → q b ≡ true) → (bs : List ℕ) → list_all p bs ≡ true → list_all q bs ≡ true
-all_weaker p q w [] h = refl
-all_weaker p q w (b ∷ bs) h = let both = and_parts _ _ h in and_from _ _ (w b both.0) (all_weaker p q w bs both.1)
 
 -- words of values that have a text of their own
 pub record IsWord {V : Type 0} (read : List ℕ → Option V) (text_of : V → List ℕ) (is_valid : V → Bool) : Type 0 where
@@ -96,7 +92,7 @@ module _ (most : ℕ) (small : most < 2 ^ 64) where
   numbers = record {
     sound = number_sound;
     complete = number_complete;
-    whole = λ n h. all_weaker is_digit is_word_byte digit_is_word (decimal n) (number_digits n h);
+    whole = λ n h. test_weaker is_digit is_word_byte digit_is_word (decimal n) (number_digits n h);
   }
 
 -- ---- ports
@@ -122,7 +118,7 @@ ports = record {
   complete = λ n h.
       ap (option_and_then (λ (n : ℕ). cond (nat_le 1 n) (Some n) None)) (number_complete 65535 (omega arith) n (port_low n h))
       ∙ cond-true (nat_le 1 n) (Some n) None (port_some n h);
-  whole = λ n h. all_weaker is_digit is_word_byte digit_is_word (decimal n) (port_digits n h);
+  whole = λ n h. test_weaker is_digit is_word_byte digit_is_word (decimal n) (port_digits n h);
 }
 
 -- ---- names
@@ -134,5 +130,5 @@ pub names : IsWord name_word (λ n. n) is_chain_name
 names = record {
   sound = λ word. if_kept (λ n. (is_chain_name n ≡ true) × (n ≡ word)) (is_chain_name word) (Some word) (λ h. (h, refl));
   complete = λ n h. cond-true (is_chain_name n) (Some n) None h;
-  whole = λ n h. all_weaker is_chain_byte is_word_byte chain_byte_is_word n (and_parts _ _ (and_parts _ _ h).0).1;
+  whole = λ n h. test_weaker is_chain_byte is_word_byte chain_byte_is_word n (and_parts _ _ (and_parts _ _ h).0).1;
 }

@@ -1,4 +1,5 @@
-//! Rules as `iptables-restore` takes them: one line for each (iptables(8), iptables-extensions(8)).
+//! Rules as `iptables-restore` takes them: one line for each (iptables(8),
+//! iptables-extensions(8)).
 #![tactic(auto)]
 
 pub mod laws;

@@ -15,13 +15,15 @@ use kp_base::split_once;
 use kp_types::{ChainName, Match, Rule};
 
 /// The chain and the rule whose line this is, if it is one: the words are those of iptables(8) and
-/// iptables-extensions(8), with one space between them; addresses are of IPv4 and have their prefix
-/// length, numbers have no leading zeros, and there are at most four matches. It takes no memory.
+/// iptables-extensions(8), with one space between them; addresses are of IPv4 and have their
+/// prefix length, numbers have no leading zeros, and there are at most four matches. It takes no
+/// memory.
 pub fn read_rule(line: &[u8]) -> Option<(ChainName, Rule)>
     ensures chain { IfSome result (λ r. is_chain_name r.0 ≡ true) }
     ensures rule { IfSome result (λ r. is_canonical_rule V4 r.1 ≡ true) }
     ensures line { IfSome result (λ r. rule_line r.0 r.1 ≡ line.now) }
-    ensures none { result ≡ None → (chain : List ℕ) (rule : declared.Rule) → is_chain_name chain ≡ true
+    ensures none { result ≡ None → (chain : List ℕ) (rule : declared.Rule)
+        → is_chain_name chain ≡ true
         → is_canonical_rule V4 rule ≡ true → rule_line chain rule ≡ line.now → ⊥ }
 {
     rule_of_line(line)

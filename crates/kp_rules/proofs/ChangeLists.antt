@@ -18,22 +18,14 @@ use Rattle.kp_types.proofs.ChainOrder.{chain_total}
 use Rattle.kp_table_defs.specs.Rebuild.{Chains}
 use Rattle.kp_table_defs.specs.Edits.{write_if_changed, remove_if_gone, chains_in, table_changes}
 use Rattle.kp_rules.specs.Changes.{is_in, write_at, remove_at, write_if_found}
-use Rattle.kp_rules.proofs.MapPlaces.{both, less}
+use Rattle.kp_lemmas.proofs.ListFacts.{all_weaker, option_before}
+use Rattle.kp_lemmas.proofs.Entries.{entries_found}
 
 -- chains, as their entries
 abbrev pub Entries : Type 0
 Entries = List (ChainAt × List Rule)
 
--- what each element has by what it had
-pub every : {X : Type 0} (P Q : X → Type 0) → ((x : X) → P x → Q x) → (xs : List X) → AllByRecursion P xs → AllByRecursion Q xs
-every P Q f [] a = tt
-every P Q f (x ∷ xs) a = (f x a.0, every P Q f xs a.1)
-
 -- ---- lists in parts
-
-joined_option : {Y : Type 0} (o : Option Y) (ys : List Y) → cons_option o ys ≡ option_to_list o ++ ys
-joined_option None ys = refl
-joined_option (Some y) ys = refl
 
 -- what was added for the places before one, for it, and for those behind it
 pub added_in_parts : {X Y : Type 0} (h : X → Option Y) (start first second all : List Y) (xs : List X) (x : X) (ys zs : List X)
@@ -42,30 +34,13 @@ added_in_parts h start first second all xs x ys zs e f g l =
     l ∙ ap (λ s. s ++ filter_map h ys) (g ∙ ap (λ s. s ++ option_to_list (h x)) f)
     ∙ append_assoc (start ++ filter_map h xs) (option_to_list (h x)) (filter_map h ys)
     ∙ append_assoc start (filter_map h xs) (option_to_list (h x) ++ filter_map h ys)
-    ∙ ap (λ s. start ++ s) (ap (λ s. filter_map h xs ++ s) (sym (joined_option (h x) (filter_map h ys))) ∙ sym (filter_map-append h xs (x ∷ ys)) ∙ ap (filter_map h) (sym e))
+    ∙ ap (λ s. start ++ s) (ap (λ s. filter_map h xs ++ s) (sym (option_before (h x) (filter_map h ys))) ∙ sym (filter_map-append h xs (x ∷ ys)) ∙ ap (filter_map h) (sym e))
 
 pub on_ok : {X E : Type 0} (r : Result X E) (P Q : Type 0) → (P → Q) → OnOk r P → OnOk r Q
 on_ok (Ok x) P Q f h = f h
 on_ok (Err e) P Q f h = h
 
 -- ---- entries by their keys
-
--- a key behind another is found behind it
-later : (e f : ChainAt × List Rule) (es : Entries) → chain_cmp e.0 f.0 ≡ Less → find chain_cmp f.0 (e ∷ es) ≡ find chain_cmp f.0 es
-later e f es h = ap (λ o. cond (is_eq o) (Some e.1) (find chain_cmp f.0 es)) (chain_total.antisymm f.0 e.0 ∙ ap ordering_reverse h)
-
-found_behind : (e : ChainAt × List Rule) (all es : Entries) → T (below_all chain_cmp e.0 es) → AllByRecursion (λ f. find chain_cmp f.0 all ≡ Some f.1) es → AllByRecursion (λ f. find chain_cmp f.0 (e ∷ all) ≡ Some f.1) es
-found_behind e all [] b a = tt
-found_behind e all (f ∷ es) b a = (later e f all (less (chain_cmp e.0 f.0) (both _ _ b).0) ∙ a.0, found_behind e all es (both _ _ b).1 a.1)
-
--- each entry is what a look-up finds
-found_all : (es : Entries) → T (is_sorted chain_cmp es) → AllByRecursion (λ e. find chain_cmp e.0 es ≡ Some e.1) es
-found_all [] s = tt
-found_all (e ∷ es) s =
-    (ap (λ o. cond (is_eq o) (Some e.1) (find chain_cmp e.0 es)) (tied_itself chain_total e.0), found_behind e es es (both _ _ s).0 (found_all es (both _ _ s).1))
-
-pub entries_found : (m : Chains) → AllByRecursion (λ e. get m e.0 ≡ Some e.1) (entries m)
-entries_found m = every (λ e. find chain_cmp e.0 (entries m) ≡ Some e.1) (λ e. get m e.0 ≡ Some e.1) (λ e h. get-entries m e.0 ∙ h) (entries m) (found_all (entries m) (entries_sorted m))
 
 filtered : {Y : Type 0} (f : ChainAt × List Rule → Option Y) (b : Bool) (e : ChainAt × List Rule) (es : Entries) → cons_option (cond b (f e) None) (filter_map f es) ≡ filter_map f (cond b (e ∷ es) es)
 filtered f true e es = refl
@@ -82,8 +57,8 @@ by_keys f test g (e ∷ es) h = (λ i. cons_option (h.0 i) (by_keys f test g es 
 writes : (before after : Chains) (table : TableName) → filter_map (write_at before after table) (keys after) ≡ filter_map (write_if_changed before) (chains_in table after)
 writes before after table =
     by_keys (write_if_changed before) (λ e. is_in table e.0) (write_at before after table) (entries after)
-    (every (λ e. get after e.0 ≡ Some e.1) (λ e. write_at before after table e.0 ≡ cond (is_in table e.0) (write_if_changed before e) None)
-    (λ e h. ap (λ o. cond (is_in table e.0) (write_if_found before e.0 o) None) h) (entries after) (entries_found after))
+    (all_weaker (λ e. get after e.0 ≡ Some e.1) (λ e. write_at before after table e.0 ≡ cond (is_in table e.0) (write_if_changed before e) None)
+    (λ e h. ap (λ o. cond (is_in table e.0) (write_if_found before e.0 o) None) h) (entries after) (entries_found chain_total after))
 
 all_of : (P : ChainAt × List Rule → Type 0) → ((e : ChainAt × List Rule) → P e) → (es : Entries) → AllByRecursion P es
 all_of P h [] = tt

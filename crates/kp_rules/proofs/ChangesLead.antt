@@ -20,25 +20,14 @@ use Rattle.kp_types.proofs.ChainOrder.{chain_total, chain_exact}
 use Rattle.kp_types.proofs.RuleEquality.{lists_exact, rule_exact, rules_equiv}
 use Rattle.kp_table_defs.specs.Rebuild.{Chains}
 use Rattle.kp_table_defs.specs.Edits.{SameRulesAreEqual, ChangesLeadOver, chains_after_edit, same_rules, is_found_with, write_if_changed, remove_if_gone, chains_in, table_changes, changes_between}
-use Rattle.kp_rules.proofs.ChangeLists.{entries_found, every}
+use Rattle.kp_lemmas.proofs.ListFacts.{all_weaker, all_append, all_filter}
+use Rattle.kp_lemmas.proofs.Entries.{entries_found}
+use Rattle.kp_lemmas.proofs.Orders.{one_from_tie, tie_of_itself}
 
 -- ---- rules
 
 pub same_rules_exact : SameRulesAreEqual
 same_rules_exact a b = (λ h. lists_exact same_rule.ghosts.eq rule_exact a b h, λ e. subst (λ c. same_rules a c ≡ true) e (rules_equiv.refl a))
-
--- ---- keys
-
-equal : (o : Ordering) → is_eq o ≡ true → o ≡ Equal
-equal Less h = absurd (false≢true h)
-equal Equal h = refl
-equal Greater h = absurd (false≢true h)
-
-one_key : (a b : ChainAt) → eq_by_cmp chain_cmp a b ≡ true → a ≡ b
-one_key a b h = chain_exact a b (equal _ h)
-
-itself : (a : ChainAt) → eq_by_cmp chain_cmp a a ≡ true
-itself a = ap is_eq (tied_itself chain_total a)
 
 -- ---- some element of a list
 
@@ -63,14 +52,14 @@ abbrev Agrees : Chains → ChainAt → Chains → Type 0
 Agrees after q m = get m q ≡ get after q
 
 at_write : (after m : Chains) (q at : ChainAt) (rules : List Rule) → get after at ≡ Some rules → (b : Bool) → eq_by_cmp chain_cmp q at ≡ b → Agrees after q m ⊎ (at ≡ q) → cond b (Some rules) (get m q) ≡ get after q
-at_write after m q at rules right true t h = sym right ∙ ap (get after) (sym (one_key q at t))
+at_write after m q at rules right true t h = sym right ∙ ap (get after) (sym (one_from_tie chain_exact q at t))
 at_write after m q at rules right false t (inl h) = h
-at_write after m q at rules right false t (inr e) = absurd (false≢true (sym t ∙ ap (eq_by_cmp chain_cmp q) e ∙ itself q))
+at_write after m q at rules right false t (inr e) = absurd (false≢true (sym t ∙ ap (eq_by_cmp chain_cmp q) e ∙ tie_of_itself chain_total q))
 
 at_remove : (after m : Chains) (q at : ChainAt) → get after at ≡ None → (b : Bool) → eq_by_cmp chain_cmp q at ≡ b → Agrees after q m ⊎ (at ≡ q) → cond b None (get m q) ≡ get after q
-at_remove after m q at right true t h = sym right ∙ ap (get after) (sym (one_key q at t))
+at_remove after m q at right true t h = sym right ∙ ap (get after) (sym (one_from_tie chain_exact q at t))
 at_remove after m q at right false t (inl h) = h
-at_remove after m q at right false t (inr e) = absurd (false≢true (sym t ∙ ap (eq_by_cmp chain_cmp q) e ∙ itself q))
+at_remove after m q at right false t (inr e) = absurd (false≢true (sym t ∙ ap (eq_by_cmp chain_cmp q) e ∙ tie_of_itself chain_total q))
 
 -- after a right edit at a place, or one elsewhere, the chain there is right
 after_edit : (after m : Chains) (q : ChainAt) (e : Edit) → IsRight after e → Agrees after q m ⊎ IsAt q e → Agrees after q (chains_after_edit m e)
@@ -86,10 +75,6 @@ after_edits after m q (e ∷ es) right (inr (inr h)) = after_edits after (chains
 
 -- ---- all changes are right
 
-pub all_append : {X : Type 0} (P : X → Type 0) (xs ys : List X) → AllByRecursion P xs → AllByRecursion P ys → AllByRecursion P (xs ++ ys)
-all_append P [] ys a b = b
-all_append P (x ∷ xs) ys a b = (a.0, all_append P xs ys a.1 b)
-
 -- what holds of a value that is there
 abbrev pub In_option : {X : Type 0} → (X → Type 0) → Option X → Type 0
 In_option P None = Unit {0}
@@ -102,14 +87,6 @@ all_consed P (Some y) ys h a = (h, a)
 pub all_filter_map : {X Y : Type 0} (P : Y → Type 0) (f : X → Option Y) (xs : List X) → AllByRecursion (λ x. In_option P (f x)) xs → AllByRecursion P (filter_map f xs)
 all_filter_map P f [] a = tt
 all_filter_map P f (x ∷ xs) a = all_consed P (f x) (filter_map f xs) a.0 (all_filter_map P f xs a.1)
-
-pub all_filter : {X : Type 0} (P : X → Type 0) (test : X → Bool) (xs : List X) → AllByRecursion P xs → AllByRecursion P (filter test xs)
-all_filter P test [] a = tt
-all_filter P test (x ∷ xs) a = kept (test x) a.0 (all_filter P test xs a.1)
-  where
-    kept : (b : Bool) → P x → AllByRecursion P (filter test xs) → AllByRecursion P (cond b (x ∷ filter test xs) (filter test xs))
-    kept true h rest = (h, rest)
-    kept false h rest = rest
 
 write_right : (before after : Chains) (e : ChainAt × List Rule) → get after e.0 ≡ Some e.1 → In_option (IsRight after) (write_if_changed before e)
 write_right before after e h = kept (is_found_with e.1 (get before e.0))
@@ -129,9 +106,9 @@ table_right : (before after : Chains) (table : TableName) → AllByRecursion (Is
 table_right before after table =
     all_append (IsRight after) _ _
     (all_filter_map (IsRight after) (write_if_changed before) (chains_in table after) (all_filter _ _ (entries after)
-    (every (λ e. get after e.0 ≡ Some e.1) (λ e. In_option (IsRight after) (write_if_changed before e)) (write_right before after) (entries after) (entries_found after))))
+    (all_weaker (λ e. get after e.0 ≡ Some e.1) (λ e. In_option (IsRight after) (write_if_changed before e)) (write_right before after) (entries after) (entries_found chain_total after))))
     (all_filter_map (IsRight after) (remove_if_gone after) (chains_in table before) (all_filter _ _ (entries before)
-    (every (λ e. get before e.0 ≡ Some e.1) (λ e. In_option (IsRight after) (remove_if_gone after e)) (λ e h. remove_right after e) (entries before) (entries_found before))))
+    (all_weaker (λ e. get before e.0 ≡ Some e.1) (λ e. In_option (IsRight after) (remove_if_gone after e)) (λ e h. remove_right after e) (entries before) (entries_found chain_total before))))
 
 all_right : (before after : Chains) → AllByRecursion (IsRight after) (changes_between before after)
 all_right before after = all_append (IsRight after) _ _ (table_right before after Nat) (table_right before after Filter)
@@ -153,7 +130,7 @@ entry_of q v [] h = absurd (cc)
 entry_of q v (e ∷ es) h = by (eq_by_cmp chain_cmp q e.0) refl h (entry_of q v es)
   where
     by : (b : Bool) → eq_by_cmp chain_cmp q e.0 ≡ b → cond b (Some e.1) (find chain_cmp q es) ≡ Some v → (find chain_cmp q es ≡ Some v → Some_of (λ e. (e.0 ≡ q) × (e.1 ≡ v)) es) → Some_of (λ e. (e.0 ≡ q) × (e.1 ≡ v)) (e ∷ es)
-    by true t k rest = inl (sym (one_key q e.0 t), cc)
+    by true t k rest = inl (sym (one_from_tie chain_exact q e.0 t), cc)
     by false t k rest = inr (rest k)
 
 later : (f : ChainAt × List Rule → Option Edit) (q : ChainAt) (e : ChainAt × List Rule) (es : List (ChainAt × List Rule)) (b : Bool) → Some_of (IsAt q) (filter_map f es) → Some_of (IsAt q) (filter_map f (cond b (e ∷ es) es))

@@ -19,21 +19,12 @@ use Rattle.kp_types.specs.declared.rule.Rule.{Rule}
 use Rattle.kp_types.proofs.ChainOrder.{chain_total, chain_exact, chain_ties}
 use Rattle.kp_types.specs.contracts.chain.ChainAtPartialEq.TheImpl as same
 use Rattle.kp_rules.specs.Order.{with_place, without_place}
+use Rattle.kp_lemmas.proofs.Booleans.{both_facts}
+use Rattle.kp_lemmas.proofs.Orders.{less_from_fact}
 
 -- chains, as their entries
 abbrev Entries : Type 0
 Entries = List (ChainAt × List Rule)
-
--- ---- tests
-
-pub both : (a b : Bool) → T (a && b) → T a × T b
-both true b h = (tt, h)
-both false b h = absurd h
-
-pub less : (o : Ordering) → T (is_lt o) → o ≡ Less
-less Less h = refl
-less Equal h = absurd h
-less Greater h = absurd h
 
 -- ---- a chain more
 
@@ -53,7 +44,7 @@ keys-insert m at rules = ap (map (λ e. e.0)) (entries-insert chain_total m at r
 -- a key that was found is among the keys
 there : (at : ChainAt) (es : Entries) → T (is_sorted chain_cmp es) → is_some (find chain_cmp at es) ≡ true → with_place at (map (λ e. e.0) es) ≡ map (λ e. e.0) es
 there at [] s h = absurd (false≢true h)
-there at (e ∷ es) s h = by (chain_cmp at e.0) refl (length-put chain_cmp chain_total at [] (e ∷ es) s) (there at es (both _ _ s).1)
+there at (e ∷ es) s h = by (chain_cmp at e.0) refl (length-put chain_cmp chain_total at [] (e ∷ es) s) (there at es (both_facts _ _ s).1)
   where
     by : (o : Ordering) → chain_cmp at e.0 ≡ o → length (put chain_cmp at [] (e ∷ es)) ≡ cond (is_some (find chain_cmp at (e ∷ es))) (length (e ∷ es)) (length (e ∷ es) + 1)
         → (is_some (find chain_cmp at es) ≡ true → with_place at (map (λ e. e.0) es) ≡ map (λ e. e.0) es)
@@ -101,12 +92,12 @@ keys-remove m at = ap (map (λ e. e.0)) (entries-remove m at) ∙ places_without
 
 below : (x : ChainAt) (es : Entries) → T (below_all chain_cmp x es) → AllByRecursion (λ y. chain_cmp x y ≡ Less) (map (λ e. e.0) es)
 below x [] h = tt
-below x (e ∷ es) h = (less (chain_cmp x e.0) (both _ _ h).0, below x es (both _ _ h).1)
+below x (e ∷ es) h = (less_from_fact (chain_cmp x e.0) (both_facts _ _ h).0, below x es (both_facts _ _ h).1)
 
 sorted_places : (es : Entries) → T (is_sorted chain_cmp es) → IsStrictlySortedBy chain_cmp (map (λ e. e.0) es)
 unfolding IsStrictlySortedBy
 sorted_places [] h = tt
-sorted_places (e ∷ es) h = (below e.0 es (both _ _ h).0, sorted_places es (both _ _ h).1)
+sorted_places (e ∷ es) h = (below e.0 es (both_facts _ _ h).0, sorted_places es (both_facts _ _ h).1)
 
 pub keys-sorted : (m : FinMap chain_cmp (List Rule)) → IsStrictlySortedBy chain_cmp (keys m)
 keys-sorted m = sorted_places (entries m) (entries_sorted m)

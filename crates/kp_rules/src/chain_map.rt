@@ -12,7 +12,8 @@ use kp_types::{ChainAt, Rule};
 use std::alloc::Global;
 use std::marker::Model;
 
-/// Chains by place. Contracts see a finite map, and how many new chains can be written with no more memory.
+/// Chains by place. Contracts see a finite map, and how many new chains can be written with no
+/// more memory.
 #[derive(Drop)]
 pub struct ChainMap {
     rules: IndexMap<ChainAt, Items<Rule>>,
@@ -30,9 +31,13 @@ impl Model for ChainMap {
 
     ghost coded = { roomy_code };
 
-    ghost view = { λ m. record { chains = finite.from_entries {R = chain_cmp} m.rules.entries; room = spare m.rules } };
+    ghost view = { λ m. record {
+      chains = finite.from_entries {R = chain_cmp} m.rules.entries;
+      room = spare m.rules;
+    } };
 
-    ghost invariant = { λ m. m.places ≡ finite.keys (finite.from_entries {R = chain_cmp} m.rules.entries) };
+    ghost invariant = { λ m. m.places
+        ≡ finite.keys (finite.from_entries {R = chain_cmp} m.rules.entries) };
 }
 
 impl ChainMap {

@@ -13,8 +13,8 @@ use kp_base::{Copied, Items, NoMemory};
 use kp_types::{Batch, ChainAt, Edit, Rule, TableName};
 use std::alloc::Global;
 
-/// The edits that lead from one table to another: in nat and then in filter, a write of each chain that is new
-/// or whose rules differ, and then a remove of each that is gone, each by name.
+/// The edits that lead from one table to another: in nat and then in filter, a write of each chain
+/// that is new or whose rules differ, and then a remove of each that is gone, each by name.
 pub fn changed(alloc: Global, before: &Table, after: &Table) -> Result<Batch, NoMemory>
     ensures { IfOk result (λ b. b.edits ≡ changes_between before.now.chains after.now.chains) }
 {
@@ -34,7 +34,8 @@ fn add_changes(
     table: TableName,
     edits: &mut Vec<Edit>,
 ) -> Result<(), NoMemory>
-    ensures { OnOk result (edits.new.items ≡ edits.old.items ++ table_changes before.now.chains after.now.chains table) }
+    ensures { OnOk result (edits.new.items
+        ≡ edits.old.items ++ table_changes before.now.chains after.now.chains table) }
 {
     add_writes(alloc, before, after, table, after.places(), edits)?;
     add_removes(after, table, before.places(), edits)
@@ -49,7 +50,9 @@ fn add_writes(
     places: &Places,
     edits: &mut Vec<Edit>,
 ) -> Result<(), NoMemory>
-    ensures { OnOk result (edits.new.items ≡ edits.old.items ++ filter_map (Changes.write_at before.now.chains after.now.chains table) places.now) }
+    ensures { OnOk result (edits.new.items
+        ≡ edits.old.items
+        ++ filter_map (Changes.write_at before.now.chains after.now.chains table) places.now) }
 {
     let Some((ahead, at, behind)) = places.parts() else {
         return Ok(());
@@ -67,7 +70,8 @@ fn write_at(
     table: TableName,
     at: &ChainAt,
 ) -> Result<Option<Edit>, NoMemory>
-    ensures { IfOk result (λ e. e ≡ Changes.write_at before.now.chains after.now.chains table at.now) }
+    ensures { IfOk result (λ e. e
+        ≡ Changes.write_at before.now.chains after.now.chains table at.now) }
 {
     if !is_in(table, at) {
         return Ok(None);
@@ -91,7 +95,9 @@ fn add_removes(
     places: &Places,
     edits: &mut Vec<Edit>,
 ) -> Result<(), NoMemory>
-    ensures { OnOk result (edits.new.items ≡ edits.old.items ++ filter_map (Changes.remove_at after.now.chains table) places.now) }
+    ensures { OnOk result (edits.new.items
+        ≡ edits.old.items
+        ++ filter_map (Changes.remove_at after.now.chains table) places.now) }
 {
     let Some((ahead, at, behind)) = places.parts() else {
         return Ok(());

@@ -1,5 +1,6 @@
-//! The places of a table's chains, in order: a search tree whose forks count their places, so that the place
-//! at an index is found on the way down. Both sides of a fork are kept in balance by their counts.
+//! The places of a table's chains, in order: a search tree whose forks count their places, so that
+//! the place at an index is found on the way down. Both sides of a fork are kept in balance by
+//! their counts.
 ghost use Rattle.std.specs.Prelude.{◌≡◌, ◌+◌, ◌-◌, ◌^◌, ◌<◌, ◌≤◌, [], ◌∷◌, ◌++◌, length, slice_get, IfOk, MatchOption};
 ghost use Rattle.std.specs.List.Sorted.{IsStrictlySortedBy};
 ghost use Rattle.std.specs.Option.{option_copied};
@@ -107,7 +108,8 @@ impl Places {
 
     /// A place, with those before and behind it.
     pub fn parts(&self) -> Option<(&Places, &ChainAt, &Places)>
-        ensures { MatchOption result (self.now ≡ []) (λ r. self.now ≡ r.0.now ++ r.1.now ∷ r.2.now) }
+        ensures { MatchOption result (self.now ≡ []) (λ r. self.now
+            ≡ r.0.now ++ r.1.now ∷ r.2.now) }
     {
         match &self.root {
             None => None,
@@ -219,12 +221,14 @@ fn balanced(before: Places, fork: Box<Fork>, behind: Places) -> Places
     }
 }
 
-/// Whether a side weighs more than three times the other, where each weighs one more than its places.
+/// Whether a side weighs more than three times the other, where each weighs one more than its
+/// places.
 fn is_heavy(side: &Places, other: &Places) -> bool {
     side.count() / 3 > other.count()
 }
 
-/// Whether the inner part of a heavy side is too heavy to stay in one piece: at least twice the outer part.
+/// Whether the inner part of a heavy side is too heavy to stay in one piece: at least twice the
+/// outer part.
 fn is_inner_heavy(inner: &Places, outer: &Places) -> bool {
     inner.count().div_ceil(2) > outer.count()
 }

@@ -37,7 +37,8 @@ fn is_ranked_at(table: &Table, at: &ChainAt) -> bool
 
 /// Whether each jump of these rules goes to a chain of greater rank than theirs.
 fn jumps_go_on(table: &Table, name: TableName, rank: u8, rules: &[Rule]) -> bool
-    ensures { result ≡ list_all (λ r. Ranks.goes_on table.now.chains name rank r.target) rules.now }
+    ensures { result
+        ≡ list_all (λ r. Ranks.goes_on table.now.chains name rank r.target) rules.now }
 {
     for rule in rules {
         if !goes_on(table, name, rank, &rule.target) {

@@ -57,7 +57,8 @@ pub fn ready_edits(alloc: Global, edits: &[Edit]) -> Result<Vec<ReadyEdit>, NoMe
 /// Makes all edits, in their order.
 pub fn make_all(edits: Vec<ReadyEdit>, chains: &mut ChainMap)
     requires { length edits.items ≤ chains.old.room }
-    ensures { chains.new.chains ≡ fold chains_after_edit chains.old.chains (map edit_of edits.items) }
+    ensures { chains.new.chains
+        ≡ fold chains_after_edit chains.old.chains (map edit_of edits.items) }
 {
     for edit in edits {
         edit.make(chains);

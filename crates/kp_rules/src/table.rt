@@ -77,16 +77,16 @@ impl Table {
         self.chains.places().count()
     }
 
-    /// The place at an index, from 0, among those that have a chain: nat before filter, and then by the bytes
-    /// of the name.
+    /// The place at an index, from 0, among those that have a chain: nat before filter, and then
+    /// by the bytes of the name.
     pub fn place(&self, i: u64) -> Option<&ChainAt>
         ensures { option_copied result ≡ slice_get (finite.keys self.now.chains) i }
     {
         self.chains.place(i)
     }
 
-    /// Whether each chain has a rank and each jump goes to a chain of its table that there is and that has a
-    /// greater rank. It looks at each rule.
+    /// Whether each chain has a rank and each jump goes to a chain of its table that there is and
+    /// that has a greater rank. It looks at each rule.
     pub fn is_ranked(&self) -> bool
         ensures { result ≡ Ranks.is_ranked self.now.chains }
     {
@@ -102,7 +102,8 @@ impl Table {
 
     /// Writes a chain, in place of its old rules where there is one, and leaves the count.
     pub fn put(&mut self, at: ChainAt, rules: Items<Rule>) -> Result<(), NoMemory>
-        ensures ok { OnOk result (self.new ≡ record self.old { chains = finite.insert self.old.chains at rules }) }
+        ensures ok { OnOk result (self.new
+            ≡ record self.old { chains = finite.insert self.old.chains at rules }) }
         ensures err { OnErr result (self.new ≡ self.old) }
     {
         let chain = NewChain::new(self.alloc, at, rules)?;

@@ -1,36 +1,21 @@
 -- A sync, and the table that it makes.
-use Rattle.std.proofs.Common.{◌≡◌, ◌+◌, ◌-◌, ℕ, length, take, false, ap, sym, refl, ◌∙◌, subst, arith}
-use Rattle.std.specs.Prelude.{Option, None, count_by, not, Result, Ok, Err, IfOk}
+use Rattle.std.proofs.Common.{◌≡◌, ◌+◌, ◌-◌, ℕ, length, take, false, ap, sym, refl, ◌∙◌, arith}
+use Rattle.std.specs.Prelude.{None, count_by, not}
 use Rattle.std.proofs.Math.Seq.{take-length}
 use Rattle.std.specs.FinMap.{get}
 use Rattle.kp_base.specs.declared.address.Family.TheVariants.{V4}
 use Rattle.kp_base.specs.declared.config.Config.{Config}
-use Rattle.kp_types.specs.Setting.{config_for}
 use Rattle.kp_object_defs.specs.Objects.{objects_after, no_objects}
 use Rattle.kp_table_defs.specs.Edits.{changes_between, is_write}
 use Rattle.kp_table_defs.specs.Plain.{HasNoRecent}
-use Rattle.kp_table_defs.specs.Rebuild.{TableParts, full_table, full_chains}
+use Rattle.kp_table_defs.specs.Rebuild.{TableParts, full_table}
 use Rattle.kp_table_defs.specs.StandIn.{stand_in_setting}
-use Rattle.kp_text_defs.specs.declared.line.PlainService.{PlainService}
-use Rattle.kp_text_defs.specs.declared.line.PlainSlice.{PlainSlice}
 use Rattle.kp_text_defs.specs.Printed.{sync_text}
 use Rattle.kp_run_defs.specs.Replay.{ReplayState, sync_step, sync_edits, objects_now, objects_covered}
-use Rattle.kp_walk_laws.specs.Laws.{FullTablePlain}
-use Rattle.kp_writer.specs.Plain.{objects_with, plain_infos}
-use Rattle.kp_writer.specs.Laws.{PlainInfos, PlainClusterOnly}
+use Rattle.kp_writer.specs.Plain.{objects_with}
 use Rattle.kp_run.specs.State.{Stands, Steps, IsTableOf}
 use Rattle.kp_run.specs.declared.printed.Printed.TheVariants.{Synced}
 use Rattle.kp_run.specs.declared.state.Replay.{Replay}
-
--- no rule of the plain objects' table asks a recent list
-pub table_plain : FullTablePlain → PlainInfos → PlainClusterOnly → (config : Config) (service : Option PlainService) (slice : Option PlainSlice) (t : TableParts) → t ≡ full_table (stand_in_setting V4 config) (objects_with service slice) → HasNoRecent (get t.chains)
-table_plain plain infos only config service slice t full =
-    subst (λ c. HasNoRecent (get c)) (sym (ap (λ x. x.chains) full ∙ ap (full_chains (stand_in_setting V4 config)) (infos (config_for V4 config) service slice)))
-    (plain (stand_in_setting V4 config) (plain_infos service slice) (λ i has. (only service slice i has).affinity))
-
-pub plain_ok : FullTablePlain → PlainInfos → PlainClusterOnly → (config : Config) (service : Option PlainService) (slice : Option PlainSlice) {E : Type 0} (result : Result TableParts E) → IfOk result (λ t. t ≡ full_table (stand_in_setting V4 config) (objects_with service slice)) → IfOk result (λ t. HasNoRecent (get t.chains))
-plain_ok plain infos only config service slice (Ok t) full = table_plain plain infos only config service slice t full
-plain_ok plain infos only config service slice (Err e) full = tt
 
 -- the table of no object
 pub empty_table : (config : Config) (t : TableParts) → t ≡ full_table (stand_in_setting V4 config) (objects_with None None) → HasNoRecent (get t.chains) → IsTableOf t config no_objects

@@ -2,7 +2,6 @@
 #![tactic(auto)]
 
 mod packet;
-mod plain_table;
 mod printed;
 mod program;
 mod replay;

@@ -31,9 +31,8 @@ impl Replay {
         ensures { (s : spec.ReplayState) → Stands self.now s
             → result ≡ (spec.packet_decision s packet.now).verdict }
     {
-        kp_walk_laws::walk_decides();
-        kp_walk_laws::stand_in_apart();
-        kp_writer::laws::plain_infos();
+        kp_walk_laws::walk_decides_objects();
+        kp_walk_laws::stand_in_prefixed();
         kp_writer::laws::plain_ports();
         let draws = packet.draws.as_slice();
         walk(&self.table, &self.config.addresses, &packet.packet, draws).verdict

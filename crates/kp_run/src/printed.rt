@@ -1,8 +1,8 @@
 //! What a line prints.
-ghost use Rattle.std.specs.Prelude.{◌≡◌, IfOk, string_bytes};
+ghost use Rattle.std.specs.Prelude.{◌≡◌, IfOk};
 ghost use Rattle.kp_run.specs.Printed as spec;
 
-use kp_base::NoMemory;
+use kp_base::{NoMemory, Text};
 use kp_report::{answer_text, refusal_text, sync_text};
 use kp_text_defs::Refusal;
 use kp_types::Verdict;
@@ -28,15 +28,11 @@ pub(crate) enum Printed {
 }
 
 /// The text that a line prints, by its number.
-pub(crate) fn printed_text(
-    alloc: Global,
-    number: u64,
-    printed: &Printed,
-) -> Result<String, NoMemory>
-    ensures { IfOk result (λ t. string_bytes t ≡ spec.printed_text number printed.now) }
+pub(crate) fn printed_text(alloc: Global, number: u64, printed: &Printed) -> Result<Text, NoMemory>
+    ensures { IfOk result (λ t. t ≡ spec.printed_text number printed.now) }
 {
     match printed {
-        Printed::Nothing => Ok(String::new(alloc)),
+        Printed::Nothing => Ok(Text::from_string(String::new(alloc))),
         Printed::Refused(refusal) => refusal_text(alloc, number, *refusal),
         Printed::Synced {
             sync,

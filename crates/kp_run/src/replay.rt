@@ -41,7 +41,7 @@ fn write_printed<K: Sink>(
     ensures read { (fault : LineFault) → result ≡ Err (Stop.Read fault) → ⊥ }
 {
     match printed_text(alloc, number, printed) {
-        Ok(text) => write_text(sink, text.as_bytes()),
+        Ok(text) => write_text(sink, text.as_str().as_bytes()),
         Err(NoMemory) => Err(Stop::NoMemory),
     }
 }

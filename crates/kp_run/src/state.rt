@@ -3,12 +3,12 @@ ghost use Rattle.std.specs.Prelude.{◌≡◌, ◌≤◌, ◌+◌, ℕ, [], true
 ghost use Rattle.kp_run_defs.specs.Replay as spec;
 ghost use Rattle.kp_run.specs.Objects.{service_named, slice_named};
 
-use crate::plain_table::plain_table;
 use crate::printed::Printed;
 use kp_base::{Config, NoMemory, Text};
 use kp_rules::Table;
 use kp_script::{FirstLine, LineFault, default_config, read_line};
 use kp_text_defs::{PlainService, PlainSlice, Refusal};
+use kp_writer::full_table;
 use std::alloc::Global;
 
 /// The most events that are accepted.
@@ -39,7 +39,7 @@ impl Replay {
         ensures { IfOk result (λ r. Stands r spec.initial) }
     {
         let config = default_config(alloc)?;
-        let table = plain_table(alloc, &config, None, None)?;
+        let table = full_table(alloc, &config, None, None)?;
         Ok(Replay {
             fresh: true,
             config,
@@ -117,7 +117,7 @@ impl Replay {
         if !first {
             return Ok(self.refuse(Refusal::NotBuilt));
         }
-        self.table = plain_table(alloc, &config, None, None)?;
+        self.table = full_table(alloc, &config, None, None)?;
         self.config = config;
         Ok(Printed::Nothing)
     }

@@ -3,12 +3,12 @@ ghost use Rattle.std.specs.Prelude.{ℕ, ◌≡◌, ◌≤◌, ◌+◌, not, fal
 ghost use Rattle.kp_table_defs.specs.Edits.{is_write};
 ghost use Rattle.kp_run_defs.specs.Replay as spec;
 
-use crate::plain_table::plain_table;
 use crate::printed::Printed;
 use crate::state::Replay;
 use kp_base::NoMemory;
 use kp_rules::changed;
 use kp_types::Edit;
+use kp_writer::full_table;
 use std::alloc::Global;
 
 impl Replay {
@@ -21,7 +21,7 @@ impl Replay {
             → (number : ℕ) → Steps self.new number p (spec.sync_step s)) }
         ensures syncs { self.new.syncs ≤ self.old.syncs + 1 }
     {
-        let table = plain_table(
+        let table = full_table(
             alloc,
             &self.config,
             self.service.as_ref(),

@@ -1,8 +1,8 @@
 -- Lists of JSON values, and how many of an object's members are present.
-use Rattle.std.proofs.Common.{◌≡◌, ℕ, ◌+◌, List, [], ◌∷◌, map, ap, sym, refl, ◌∙◌, cond, suc, zero-add, add-one, Bool, true, false, arith}
+use Rattle.std.proofs.Common.{◌≡◌, ℕ, ◌+◌, List, [], ◌∷◌, map, ap, sym, refl, ◌∙◌, cond, suc, Bool, true, false, arith}
 use Rattle.std.specs.List.{count_by}
 use Rattle.std.proofs.lemmas.List.Sums.{sum_by-cons}
-use Rattle.std.specs.Prelude.{String, string_bytes, option_map, Option, Some}
+use Rattle.std.specs.Prelude.{String, option_map, Option, Some}
 use Rattle.std.specs.declared.alloc.Global.{Global}
 use Rattle.serde_json.specs.Data.{Data, Items}
 use Rattle.serde_json.specs.View.{view, items_of, items_view, members_view}

@@ -1,5 +1,5 @@
 -- What reading a line answers.
-use Rattle.std.specs.Prelude.{◌≡◌, ℕ, List, Option, Some, None, option_and_then, Result, Ok, Err, ⊤}
+use Rattle.std.specs.Prelude.{◌≡◌, ℕ, List, Some, None, option_and_then, Result, Ok, Err, ⊤}
 use Rattle.kp_text_defs.specs.declared.line.FirstLine.{FirstLine}
 use Rattle.kp_text_defs.specs.Forms.{json_of}
 use Rattle.kp_text_defs.specs.FirstLines.{line_of}

@@ -95,7 +95,8 @@ fn slice_with(
     port: PortNo,
     endpoints: &[Value],
 ) -> Result<Option<PlainSlice>, NoMemory>
-    ensures { IfOk result (λ s. s ≡ form.slice_with ((names.entry.0.now, names.entry.1.now), (port, values_view endpoints.now))) }
+    ensures { IfOk result (λ s. s ≡ form.slice_with
+        ((names.entry.0.now, names.entry.1.now), (port, values_view endpoints.now))) }
 {
     match read_endpoints(alloc, endpoints)? {
         None => Ok(None),
@@ -113,13 +114,22 @@ fn read_endpoints(alloc: Global, values: &[Value]) -> Result<Option<Items<PlainE
 {
     let mut endpoints = Vec::new(alloc);
     for value in values {
-        match endpoint(value) {
+        match endpoint_of(alloc, value)? {
             None => return Ok(None),
-            Some((address, node)) => {
-                let node = Text::of(alloc, node)?;
-                endpoints.push(PlainEndpoint { address, node })?;
-            }
+            Some(endpoint) => endpoints.push(endpoint)?,
         }
     }
     Ok(Some(Items::from_vec(endpoints)))
+}
+
+fn endpoint_of(alloc: Global, value: &Value) -> Result<Option<PlainEndpoint>, NoMemory>
+    ensures { IfOk result (λ e. e ≡ form.endpoint_form (view value.now)) }
+{
+    match endpoint(value) {
+        None => Ok(None),
+        Some((address, node)) => {
+            let node = Text::of(alloc, node)?;
+            Ok(Some(PlainEndpoint { address, node }))
+        }
+    }
 }

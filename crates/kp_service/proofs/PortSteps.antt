@@ -11,7 +11,7 @@ use Rattle.kp_json.specs.Places.{Place}
 use Rattle.kp_json.specs.declared.fault.BadField.{BadField}
 use Rattle.kp_json.specs.Answers.{fault_at}
 use Rattle.kp_json.specs.declared.fault.Why.TheVariants.{DuplicatePort}
-use Rattle.kp_event_defs.specs.Rows.{or_then, ports_fault, port_id, same_id}
+use Rattle.kp_row_defs.specs.Rows.{or_then, ports_fault, port_id, same_id}
 use Rattle.kp_event_defs.specs.ServiceText.{service_port}
 use Rattle.kp_service.specs.SeenIds.{id_of}
 

@@ -11,7 +11,7 @@ use Rattle.kp_base.specs.Keys.{text_cmp, proto_place}
 use Rattle.kp_base.specs.declared.port.Proto.{Proto}
 use Rattle.kp_base.specs.declared.port.Proto.TheVariants.{Sctp, Tcp, Udp}
 use Rattle.kp_base.specs.contracts.port.ProtoOrd.TheImpl as proto_ord
-use Rattle.kp_event_defs.specs.Rows.{same_id}
+use Rattle.kp_row_defs.specs.Rows.{same_id}
 use Rattle.kp_service.specs.SeenIds.{id_cmp}
 use Rattle.kp_service.specs.declared.seen.PortId.{PortId}
 use Rattle.kp_service.specs.contracts.seen.PortIdOrd.TheImpl as id_ord

@@ -1,8 +1,8 @@
 -- The Service that was read, put together.
-use Rattle.std.proofs.Common.{◌≡◌, Bool, true, false, Option, Some, None, Ok, Err, ok_or, unwrap_or, codes, refl, ap, sym, subst, ◌∙◌, ℕ, List}
+use Rattle.std.proofs.Common.{◌≡◌, Bool, true, false, Option, Some, None, Ok, Err, codes, refl, ap, sym, subst, ◌∙◌, ℕ, List}
 use Rattle.std.proofs.Math.Bool.{Bool-set}
-use Rattle.kp_json.specs.Answers.{Gives, ◌>>=◌}
-use Rattle.kp_json.specs.Places.{Place, field_at, member_at}
+use Rattle.kp_json.specs.Answers.{Gives}
+use Rattle.kp_json.specs.Places.{Place, field_at}
 use Rattle.kp_json.specs.declared.fault.BadField.{BadField}
 use Rattle.kp_json.specs.declared.fault.FieldFault.{FieldFault}
 use Rattle.kp_json.specs.declared.fault.FieldFault.TheVariants.{Bad, NoMemory}
@@ -15,9 +15,10 @@ use Rattle.kp_types.specs.declared.service.ServicePort.{ServicePort}
 use Rattle.kp_types.specs.declared.service.ServiceKind.{ServiceKind}
 use Rattle.kp_types.specs.declared.service.ClusterAddress.{ClusterAddress}
 use Rattle.kp_types.specs.declared.service.Policy.{Policy}
-use Rattle.kp_event_defs.specs.Fields.{inner, nowhere, texts_of}
-use Rattle.kp_event_defs.specs.Metadata.{key_row}
-use Rattle.kp_event_defs.specs.Rows.{row_fault, rows_fault, field_fault, inside, needed, optional, any_text, choice, cluster_address_text, texts, truth_value, absent_fault, on_member, or_then}
+use Rattle.kp_row_defs.proofs.Found.{inner_from}
+use Rattle.kp_row_defs.specs.Fields.{inner, texts_of}
+use Rattle.kp_row_defs.specs.Metadata.{key_row}
+use Rattle.kp_row_defs.specs.Rows.{row_fault, rows_fault, field_fault, inside, needed, optional, any_text, choice, cluster_address_text, texts, truth_value, absent_fault, on_member, or_then}
 use Rattle.kp_event_defs.specs.ServiceText.{service_kinds, policies, affinities, ports_row, external_row, affinity_row, ranges_row, service_from, service_spec_rows, status_row, service_ports, service_rows, service_unless, read_service}
 use Rattle.kp_service.specs.Parts.{IsServiceAt, ReadsService}
 use Rattle.std.specs.Prelude.{Result}
@@ -78,15 +79,6 @@ pub read_gives : (p : Place) (r : Result Service FieldFault) → ReadsService r 
 read_gives p (Ok s) (none, at) = given p s (rows_fault service_rows p) (distinct_ports (service_ports p)) refl none at
 read_gives p (Err NoMemory) h = tt
 read_gives p (Err (Bad e)) h = refused p e (rows_fault service_rows p) (distinct_ports (service_ports p)) refl h
-
-found_in : {A : Type 0} (o : Option A) (m : Option Place) (wrong : BadField) (q : Place) → (ok_or o wrong >>= λ x. Ok m) ≡ Ok (Some q) → m ≡ Some q
-found_in None m wrong q h = absurd (cc)
-found_in (Some x) None wrong q h = absurd (cc)
-found_in (Some x) (Some r) wrong q h = search h
-
--- the place of a member that is there
-inner_from : (p : Place) (name : List ℕ) (q : Place) → field_at p name ≡ Ok (Some q) → inner name p ≡ q
-inner_from p name q there = ap (λ m. unwrap_or m nowhere) (found_in _ (member_at p name) _ q there)
 
 -- the same at the place of `spec` that was found
 pub placed : (p spec : Place) (s : Service) → field_at p (codes "spec") ≡ Ok (Some spec) → IsServiceAt p spec s → IsServiceAt p (inner (codes "spec") p) s

@@ -4,8 +4,8 @@ use Rattle.std.specs.List.{filter_map}
 use Rattle.kp_json.specs.Places.{Place}
 use Rattle.kp_json.specs.declared.fault.BadField.{BadField}
 use Rattle.kp_json.specs.declared.fault.FieldFault.{FieldFault}
-use Rattle.kp_event_defs.specs.Fields.{inner, text_in, flag_in, items_in, is_text, chosen, address_at, pairs_in, key_in}
-use Rattle.kp_event_defs.specs.Reads.{Refuses}
+use Rattle.kp_row_defs.specs.Fields.{inner, text_in, flag_in, items_in, is_text, chosen, address_at, pairs_in, key_in}
+use Rattle.kp_row_defs.specs.Reads.{Refuses}
 use Rattle.kp_event_defs.specs.ServiceText.{service_kinds, policies, affinities, cluster_of, service_port, affinity_of, affinity_timeout, ranges_of, ingress_address}
 use Rattle.kp_types.specs.declared.service.Service.{Service}
 use Rattle.kp_types.specs.declared.service.ServiceKind.TheVariants.{ClusterIp}

@@ -3,9 +3,9 @@ ghost use Rattle.std.specs.Prelude.{◌≡◌, codes};
 ghost use Rattle.std.specs.List.{filter_map};
 ghost use Rattle.kp_json.specs.Places.{elements_of};
 ghost use Rattle.kp_json.specs.Views.{place_of};
-ghost use Rattle.kp_event_defs.specs.Fields.{address_at, inner, items_in, range_at, text_in, text_of};
-ghost use Rattle.kp_event_defs.specs.Reads.{Reads};
-ghost use Rattle.kp_event_defs.specs.Rows.{optional, cluster_address_text, field_fault, form_fault, list_fault, row_fault, rows_fault};
+ghost use Rattle.kp_row_defs.specs.Fields.{address_at, inner, items_in, range_at, text_in, text_of};
+ghost use Rattle.kp_row_defs.specs.Reads.{Reads};
+ghost use Rattle.kp_row_defs.specs.Rows.{optional, cluster_address_text, field_fault, form_fault, list_fault, row_fault, rows_fault};
 ghost use Rattle.kp_event_defs.specs.ServiceText.{at_address, cluster_of, external_row, address_rows, ranges_row, range_rows, ranges_of, ingress_rows, ingress_list_rows, load_balancer_rows, status_row, ingress_address};
 
 use kp_base::{Address, Cidr, Items};

@@ -1,9 +1,9 @@
 //! The timeout of session affinity.
 ghost use Rattle.std.specs.Prelude.{◌≡◌, codes, unwrap_or};
 ghost use Rattle.kp_json.specs.Views.{place_of};
-ghost use Rattle.kp_event_defs.specs.Fields.{inner, whole_in};
-ghost use Rattle.kp_event_defs.specs.Reads.{Reads};
-ghost use Rattle.kp_event_defs.specs.Rows.{row_fault, rows_fault};
+ghost use Rattle.kp_row_defs.specs.Fields.{inner, whole_in};
+ghost use Rattle.kp_row_defs.specs.Reads.{Reads};
+ghost use Rattle.kp_row_defs.specs.Rows.{row_fault, rows_fault};
 ghost use Rattle.kp_event_defs.specs.ServiceText.{affinity_row, client_rows, timeout_rows, affinity_of, affinity_timeout};
 
 use kp_fields::whole_field;

@@ -1,9 +1,9 @@
 //! Members of a Service that are one of some texts.
 ghost use Rattle.std.specs.Prelude.{◌≡◌, codes, option_map, false};
 ghost use Rattle.kp_json.specs.Views.{place_of};
-ghost use Rattle.kp_event_defs.specs.Fields.{chosen, is_text, text_in, texts_of};
-ghost use Rattle.kp_event_defs.specs.Reads.{Reads};
-ghost use Rattle.kp_event_defs.specs.Rows.{optional, any_text, choice, field_fault};
+ghost use Rattle.kp_row_defs.specs.Fields.{chosen, is_text, text_in, texts_of};
+ghost use Rattle.kp_row_defs.specs.Reads.{Reads};
+ghost use Rattle.kp_row_defs.specs.Rows.{optional, any_text, choice, field_fault};
 ghost use Rattle.kp_event_defs.specs.ServiceText.{service_kinds, policies, affinities};
 
 use kp_fields::{TextForm, choice_field, text_field};

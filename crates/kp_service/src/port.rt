@@ -2,9 +2,9 @@
 ghost use Rattle.std.specs.Prelude.{◌≡◌, codes, map, option_and_then, true, IfOk};
 ghost use Rattle.kp_json.specs.Places.{elements_of, member_at};
 ghost use Rattle.kp_json.specs.Views.{place_of};
-ghost use Rattle.kp_event_defs.specs.Fields.{items_in, whole_in};
-ghost use Rattle.kp_event_defs.specs.Reads.{Reads};
-ghost use Rattle.kp_event_defs.specs.Rows.{optional, whole, whole_or_text, field_fault, row_fault, rows_fault, port_list_fault};
+ghost use Rattle.kp_row_defs.specs.Fields.{items_in, whole_in};
+ghost use Rattle.kp_row_defs.specs.Reads.{Reads};
+ghost use Rattle.kp_row_defs.specs.Rows.{optional, whole, whole_or_text, field_fault, row_fault, rows_fault, port_list_fault};
 ghost use Rattle.kp_event_defs.specs.ServiceText.{ports_row, service_port_rows, service_port, target_of, not_zero};
 ghost use Rattle.kp_types.specs.Ports.{distinct_ports};
 

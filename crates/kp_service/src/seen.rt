@@ -2,7 +2,7 @@
 ghost use Rattle.std.specs.Prelude.{◌≡◌, ◌||◌, ℕ, List, not, false, IfOk, OnOk, IfErr};
 ghost use Rattle.kp_base.specs.declared.port.Proto.{Proto as SpecProto};
 ghost use Rattle.kp_json.specs.declared.fault.FieldFault.TheVariants.{NoMemory};
-ghost use Rattle.kp_event_defs.specs.Rows.{same_id};
+ghost use Rattle.kp_row_defs.specs.Rows.{same_id};
 ghost use Rattle.kp_service.specs.SeenIds.{has_id};
 
 use kp_base::{Proto, Text};

@@ -3,7 +3,7 @@ ghost use Rattle.std.specs.Prelude.{◌≡◌, codes, None, unwrap_or};
 ghost use Rattle.kp_json.specs.Answers.{Gives};
 ghost use Rattle.kp_json.specs.Views.{place_of};
 ghost use Rattle.kp_event_defs.specs.ServiceText.{read_service, service_rows};
-ghost use Rattle.kp_event_defs.specs.Rows.{rows_fault};
+ghost use Rattle.kp_row_defs.specs.Rows.{rows_fault};
 ghost use Rattle.kp_service.specs.Parts.{ReadsService};
 
 use crate::address::{balancer_field, cluster_field, external_field, ranges_field};

@@ -10,9 +10,9 @@ use Rattle.kp_types.specs.declared.slice.AddressType.{AddressType}
 use Rattle.kp_types.specs.declared.slice.Slice.{Slice}
 use Rattle.kp_types.specs.declared.slice.SliceEndpoint.{SliceEndpoint}
 use Rattle.kp_types.specs.declared.slice.SlicePort.{SlicePort}
-use Rattle.kp_event_defs.specs.Fields.{items_in, texts_of}
-use Rattle.kp_event_defs.specs.Reads.{Reads, Refuses}
-use Rattle.kp_event_defs.specs.Rows.{row_fault, rows_fault, field_fault, needed, choice, or_then, unless_fault}
+use Rattle.kp_row_defs.specs.Fields.{items_in, texts_of}
+use Rattle.kp_row_defs.specs.Reads.{Reads, Refuses}
+use Rattle.kp_row_defs.specs.Rows.{row_fault, rows_fault, field_fault, needed, choice, or_then, unless_fault}
 use Rattle.kp_event_defs.specs.SliceText.{address_types, address_type_in, endpoint_from, slice_port, endpoints_row, metadata_row, ports_row, read_slice, slice_from, slice_rows}
 use Rattle.kp_slice.specs.Metadata.{metadata_at}
 use Rattle.kp_slice.specs.declared.metadata.Metadata.{Metadata}

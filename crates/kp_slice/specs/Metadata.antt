@@ -1,7 +1,7 @@
 -- What is read of a slice's metadata.
 use Rattle.std.specs.Prelude.{codes}
 use Rattle.kp_json.specs.Places.{Place}
-use Rattle.kp_event_defs.specs.Fields.{inner, text_in, is_text, key_from}
+use Rattle.kp_row_defs.specs.Fields.{inner, text_in, is_text, key_from}
 use Rattle.kp_slice.specs.declared.metadata.Metadata.{Metadata}
 use Rattle.kp_slice.specs.declared.metadata.Labels.{Labels}
 

@@ -1,7 +1,7 @@
 -- What is read of an endpoint's conditions.
 use Rattle.std.specs.Prelude.{false, codes, unwrap_or}
 use Rattle.kp_json.specs.Places.{Place}
-use Rattle.kp_event_defs.specs.Fields.{flag_in}
+use Rattle.kp_row_defs.specs.Fields.{flag_in}
 use Rattle.kp_event_defs.specs.SliceText.{ready_in}
 use Rattle.kp_slice.specs.declared.endpoint.Conditions.{Conditions}
 

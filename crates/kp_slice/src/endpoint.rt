@@ -2,9 +2,9 @@
 ghost use Rattle.std.specs.Prelude.{◌≡◌, codes, map, unwrap_or, []};
 ghost use Rattle.kp_json.specs.Places.{elements_at, elements_of};
 ghost use Rattle.kp_json.specs.Views.{place_of};
-ghost use Rattle.kp_event_defs.specs.Fields.{inner, items_in, text_in};
-ghost use Rattle.kp_event_defs.specs.Reads.{Reads};
-ghost use Rattle.kp_event_defs.specs.Rows.{first_item, form_fault, head_fault, list_fault, on_ok, row_fault, rows_fault};
+ghost use Rattle.kp_row_defs.specs.Fields.{inner, items_in, text_in};
+ghost use Rattle.kp_row_defs.specs.Reads.{Reads};
+ghost use Rattle.kp_row_defs.specs.Rows.{first_item, form_fault, head_fault, list_fault, on_ok, row_fault, rows_fault};
 ghost use Rattle.kp_event_defs.specs.SliceText.{address_form, address_of_type, first_of_type, endpoint_rows, endpoint_from, conditions_row, condition_rows, hints_row, hint_list_rows, hint_rows, hint_from, target_row, target_rows, pod_rows, target_pod, named_pod};
 ghost use Rattle.kp_slice.specs.Parts.{conditions_from};
 

@@ -1,9 +1,9 @@
 //! The metadata of a slice.
 ghost use Rattle.std.specs.Prelude.{◌≡◌, codes, option_map};
 ghost use Rattle.kp_json.specs.Views.{place_of};
-ghost use Rattle.kp_event_defs.specs.Fields.{inner, is_text};
-ghost use Rattle.kp_event_defs.specs.Reads.{Reads};
-ghost use Rattle.kp_event_defs.specs.Rows.{row_fault, rows_fault};
+ghost use Rattle.kp_row_defs.specs.Fields.{inner, is_text};
+ghost use Rattle.kp_row_defs.specs.Reads.{Reads};
+ghost use Rattle.kp_row_defs.specs.Rows.{row_fault, rows_fault};
 ghost use Rattle.kp_event_defs.specs.SliceText.{metadata_row, metadata_rows, label_rows, labels_row};
 ghost use Rattle.kp_slice.specs.Metadata.{metadata_at, metadata_from, labels_from};
 

@@ -3,9 +3,9 @@ ghost use Rattle.std.specs.Prelude.{◌≡◌, codes, map, option_map, Some};
 ghost use Rattle.kp_json.specs.Answers.{Gives};
 ghost use Rattle.kp_json.specs.Places.{elements_of};
 ghost use Rattle.kp_json.specs.Views.{place_of};
-ghost use Rattle.kp_event_defs.specs.Fields.{items_in, texts_of};
-ghost use Rattle.kp_event_defs.specs.Reads.{Reads};
-ghost use Rattle.kp_event_defs.specs.Rows.{needed, choice, field_fault, list_fault, row_fault, rows_fault};
+ghost use Rattle.kp_row_defs.specs.Fields.{items_in, texts_of};
+ghost use Rattle.kp_row_defs.specs.Reads.{Reads};
+ghost use Rattle.kp_row_defs.specs.Rows.{needed, choice, field_fault, list_fault, row_fault, rows_fault};
 ghost use Rattle.kp_event_defs.specs.SliceText.{address_types, address_type_of, address_type_in, endpoints_row, endpoint_from, ports_row, slice_port_rows, slice_port, slice_rows, slice_from, read_slice};
 
 use crate::endpoint::endpoints_here;

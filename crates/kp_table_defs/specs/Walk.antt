@@ -1,6 +1,7 @@
--- The walk of a packet through the tables of one address family (iptables(8); the order of the hooks is
--- netfilter's). A chain is walked with a bound on the jumps, and what a jump does is a parameter, so that a
--- law can speak of one chain at a time.
+-- The walk of a packet through the tables of one address family (iptables(8)). The order of the hooks is ours: a
+-- kernel has the same verdicts, since no rule of the filter asks for the source that POSTROUTING changes. A chain
+-- is walked with a bound on the jumps, and what a jump does is a parameter, so that a law can speak of one chain
+-- at a time.
 use Rattle.std.specs.Prelude.{ℕ, suc, zero, Bool, true, false, List, [], ◌∷◌, ◌++◌, not, codes, Option, Some, None}
 use Rattle.kp_base.specs.Net.{AddressParts, is_local_address}
 use Rattle.kp_base.specs.declared.key.Endpoint.{Endpoint}

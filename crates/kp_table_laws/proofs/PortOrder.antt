@@ -1,14 +1,13 @@
 -- What is known of the ports of some objects stands in the order of the ports' names.
-use Rattle.std.proofs.Common.{◌≡◌, Bool, true, false, cond, ◌&&◌, List, [], ◌∷◌, ◌++◌, map, reverse, Option, Some, None, refl, sym, ap, subst, ◌∙◌, T, ℕ, option_map}
-use Rattle.std.specs.declared.cmp.Ordering.{Ordering}
+use Rattle.std.proofs.Common.{◌≡◌, List, [], ◌∷◌, ◌++◌, map, reverse, Option, Some, None, refl, sym, ap, subst, ◌∙◌, T, ℕ, option_map}
 use Rattle.std.specs.declared.cmp.Ordering.TheVariants.{Less, Equal, Greater}
 use Rattle.std.specs.Ordering.{is_lt}
 use Rattle.std.specs.List.{filter_map, flat_map, cons_option, AllByRecursion}
 use Rattle.std.proofs.lemmas.List.{map-append, reverse-append}
-use Rattle.std.specs.Cmp.{IsTotalOrder}
 use Rattle.std.specs.FinMap as finite
 use Rattle.std.specs.FinMap.{is_sorted, put}
 use Rattle.std.specs.FinMap.Entries.{below_all, by_order, is_sorted-put}
+use Rattle.kp_lemmas.proofs.Booleans.{true_from_fact, both_facts, fact_of_both}
 use Rattle.kp_base.specs.Keys.{port_key_cmp}
 use Rattle.kp_base.specs.declared.address.Family.{Family}
 use Rattle.kp_base.specs.declared.key.PortKey.{PortKey}
@@ -16,34 +15,15 @@ use Rattle.kp_base.proofs.KeyOrder.{port_key_total, port_key_exact}
 use Rattle.kp_types.specs.declared.info.ServiceSources.{ServiceSources}
 use Rattle.kp_types.specs.declared.service.ServicePort.{ServicePort}
 use Rattle.kp_object_defs.specs.Order.{in_order, by_key, values_of}
-use Rattle.kp_object_defs.specs.Objects.{Objects, zone_of}
+use Rattle.kp_object_defs.specs.Objects.{zone_of}
 use Rattle.kp_object_defs.specs.Entries.{sources_of, entries_from}
-use Rattle.kp_object_defs.specs.PortInfo.{PortInfo, info_of, name_of_port, ports_of, service_ports, infos_from, port_infos, cluster_address_in, port_key_of, info_from}
+use Rattle.kp_object_defs.specs.PortInfo.{PortInfo, info_of, name_of_port, ports_of, cluster_address_in, port_key_of, info_from}
 use Rattle.kp_table_laws.specs.Laws.{PortsAreInOrder}
 
 -- the name of what is known of a port, if anything is
 abbrev port_key_or : PortKey → Option PortInfo → PortKey
 port_key_or key None = key
 port_key_or key (Some i) = i.key
-
-is_true : (b : Bool) → T b → b ≡ true
-is_true true h = refl
-is_true false h = absurd h
-
-true_holds : {b : Bool} → b ≡ true → T b
-true_holds e = subst T (sym e) tt
-
-both : (a b : Bool) → T a → T b → T (a && b)
-both true b g h = h
-both false b g h = absurd g
-
-first : (a b : Bool) → T (a && b) → T a
-first true b h = tt
-first false b h = absurd h
-
-second : (a b : Bool) → T (a && b) → T b
-second true b h = h
-second false b h = absurd h
 
 module _ {X : Type 0} (key : X → PortKey) where
   -- each entry stands under its own name
@@ -75,19 +55,19 @@ module _ {X : Type 0} (key : X → PortKey) where
     below_made : (k : PortKey) (es : List (PortKey × X)) → UnderOwn es → T (below_all port_key_cmp k es) → T (below_all port_key_cmp k (made es))
     below_made k [] own h = tt
     below_made k (e ∷ es) (own, rest) h =
-        let tail = below_made k es rest (second _ _ h) in
+        let tail = below_made k es rest ((both_facts _ _ h).1) in
         elim (make e.1) as (λ o. make e.1 ≡ o → T (below_all port_key_cmp k (map (λ y. (name y, y)) (cons_option o (filter_map make (values_of es)))))) [
           | None ↦ λ _. tail
-          | Some y ↦ λ is. both _ _ (subst (λ q. T (is_lt (port_key_cmp k q))) (own ∙ sym (named e.1 y is)) (first _ _ h)) tail
+          | Some y ↦ λ is. fact_of_both _ _ (subst (λ q. T (is_lt (port_key_cmp k q))) (own ∙ sym (named e.1 y is)) ((both_facts _ _ h).0)) tail
         ] refl
 
     sorted_made : (es : List (PortKey × X)) → UnderOwn es → T (is_sorted port_key_cmp es) → T (is_sorted port_key_cmp (made es))
     sorted_made [] own h = tt
     sorted_made (e ∷ es) (own, rest) h =
-        let tail = sorted_made es rest (second _ _ h) in
+        let tail = sorted_made es rest ((both_facts _ _ h).1) in
         elim (make e.1) as (λ o. make e.1 ≡ o → T (is_sorted port_key_cmp (map (λ y. (name y, y)) (cons_option o (filter_map make (values_of es)))))) [
           | None ↦ λ _. tail
-          | Some y ↦ λ is. both _ _ (subst (λ q. T (below_all port_key_cmp q (made es))) (own ∙ sym (named e.1 y is)) (below_made e.0 es rest (first _ _ h))) tail
+          | Some y ↦ λ is. fact_of_both _ _ (subst (λ q. T (below_all port_key_cmp q (made es))) (own ∙ sym (named e.1 y is)) (below_made e.0 es rest ((both_facts _ _ h).0))) tail
         ] refl
 
 -- what is known of a port has its name
@@ -111,6 +91,6 @@ pub ports_are_in_order : PortsAreInOrder
 ports_are_in_order family config o =
     let xs = flat_map ports_of (map (sources_of family config o) (finite.values o.services)) in
     let es = by_key port_key_cmp name_of_port xs in
-    is_true _ (sorted_made name_of_port (λ i. i.key) (info_of family config.node (zone_of o config.node)) (has_name family config.node (zone_of o config.node)) es
+    true_from_fact _ (sorted_made name_of_port (λ i. i.key) (info_of family config.node (zone_of o config.node)) (has_name family config.node (zone_of o config.node)) es
     (subst (λ l. UnderOwn name_of_port (in_order port_key_cmp l)) (sym (reversed name_of_port xs)) (own_in_order name_of_port (reverse xs)))
     (sorted_in_order name_of_port (reverse (map (λ x. (name_of_port x, x)) xs))))

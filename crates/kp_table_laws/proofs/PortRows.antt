@@ -1,17 +1,17 @@
 -- The contributions of ports make the full table.
-use Rattle.std.proofs.Common.{◌≡◌, Bool, true, false, List, [], ◌∷◌, ◌++◌, map, refl, sym, ap, subst, ◌∙◌, T}
+use Rattle.std.proofs.Common.{◌≡◌, List, [], ◌∷◌, ◌++◌, map, refl, sym, ap, ◌∙◌}
 use Rattle.std.specs.List.{flat_map}
-use Rattle.std.specs.FinMap.{find, entries, values, from_entries, is_sorted, get, get-from_entries, same_map}
+use Rattle.std.specs.FinMap.{find, entries, values, from_entries, get-from_entries, same_map}
+use Rattle.kp_lemmas.proofs.Booleans.{fact_from_true}
 use Rattle.kp_base.specs.Keys.{port_key_cmp}
 use Rattle.kp_base.proofs.KeyOrder.{port_key_total, port_key_exact}
 use Rattle.kp_types.specs.Places.{chain_cmp}
 use Rattle.kp_types.specs.Setting.{Setting}
 use Rattle.kp_types.specs.declared.chain.ChainAt.{ChainAt}
-use Rattle.kp_types.specs.declared.rule.Rule.{Rule}
 use Rattle.kp_types.proofs.ChainOrder.{chain_total, chain_exact}
 use Rattle.kp_object_defs.specs.PortInfo.{PortInfo, port_infos}
 use Rattle.kp_table_defs.specs.Layout.{nat_rows, nat_rows_with, filter_rows, filter_rows_with, port_rows, rows_of}
-use Rattle.kp_table_defs.specs.Parts.{PortRules, rules_of_port, rules_by_port, rows_of_ports, table_of_ports}
+use Rattle.kp_table_defs.specs.Parts.{rules_of_port, rules_by_port, rows_of_ports}
 use Rattle.kp_table_laws.specs.Laws.{AreInOrder, PortsMakeTheTable, PortsOfObjectsMakeTheTable}
 use Rattle.kp_table_laws.proofs.Found.{found_in_each, found_before, found_in_map, sorted_entries, sorted_keys}
 use Rattle.kp_table_laws.proofs.PortOrder.{ports_are_in_order}
@@ -26,14 +26,11 @@ seconds : {A B C : Type 0} (f : A → B) (g : A → C) (xs : List A) → map (λ
 seconds f g [] = refl
 seconds f g (a ∷ xs) = ap (λ rest. g a ∷ rest) (seconds f g xs)
 
-holds : {b : Bool} → b ≡ true → T b
-holds e = subst T (sym e) tt
-
 -- the contributions of ports in order, one a port
 contributions : (setting : Setting) (infos : List PortInfo) → AreInOrder infos → values (rules_by_port setting infos) ≡ map (rules_of_port setting) infos
 contributions setting infos ordered =
     ap (map (λ e. e.1)) (sorted_entries port_key_cmp port_key_total port_key_exact (map (λ i. (i.key, rules_of_port setting i)) infos)
-    (holds (sym (sorted_keys port_key_cmp (λ i. i.key) (λ i. i) (rules_of_port setting) infos) ∙ ordered)))
+    (fact_from_true (sym (sorted_keys port_key_cmp (λ i. i.key) (λ i. i) (rules_of_port setting) infos) ∙ ordered)))
     ∙ seconds (λ i. i.key) (rules_of_port setting) infos
 
 -- the chains of the contributions: the shared ones are those of the layout, and the ports' own stand by name

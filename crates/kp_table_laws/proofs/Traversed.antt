@@ -1,6 +1,5 @@
 -- The traversal of a chain as a relation is the walk of its rules with as many jumps as it takes.
-use Rattle.std.proofs.Common.{◌≡◌, ◌↔◌, ℕ, zero, suc, ◌+◌, Bool, true, false, cond, List, [], ◌∷◌, Option, Some, None, refl, sym, ap, subst, ◌∙◌, arith, not}
-use Rattle.kp_base.specs.declared.key.Endpoint.{Endpoint}
+use Rattle.std.proofs.Common.{◌≡◌, ℕ, zero, suc, ◌+◌, true, false, List, [], ◌∷◌, Option, Some, None, refl, sym, ap, subst, ◌∙◌, arith, not}
 use Rattle.kp_types.specs.declared.chain.TableName.{TableName}
 use Rattle.kp_types.specs.declared.chain.ChainAt.{ChainAt}
 use Rattle.kp_types.specs.declared.rule.Rule.{Rule}
@@ -8,8 +7,8 @@ use Rattle.kp_types.specs.declared.rule.Target.{Target}
 use Rattle.kp_types.specs.declared.rule.Target.TheVariants as target
 use Rattle.kp_types.specs.declared.walk.Ending.{Ending}
 use Rattle.kp_types.specs.declared.walk.Ending.TheVariants as ending
-use Rattle.kp_table_defs.specs.Matching.{WalkState, Surroundings, Tried, try_all}
-use Rattle.kp_table_defs.specs.Walk.{Outcome, Next, Left, Ended, Stuck, and_then, returned_from, target_outcome, target_if, rule_outcome, rules_outcome, found_outcome, chain_outcome}
+use Rattle.kp_table_defs.specs.Matching.{WalkState, Surroundings, try_all}
+use Rattle.kp_table_defs.specs.Walk.{Outcome, Next, Left, Ended, Stuck, and_then, returned_from, target_outcome, target_if, rules_outcome, found_outcome, chain_outcome}
 use Rattle.kp_table_defs.specs.Traversal as way
 use Rattle.kp_table_defs.specs.Traversal.{Takes, Changes, Ends, ComesBack}
 use Rattle.kp_table_laws.specs.Laws.{is_settled, TraversalIsWalk}

@@ -4,6 +4,4 @@
 #[cfg(test)]
 mod rules;
 #[cfg(test)]
-mod walker;
-#[cfg(test)]
-mod writer;
+mod written;

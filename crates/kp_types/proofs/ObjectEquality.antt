@@ -87,7 +87,8 @@ service_port_exact a b h =
     }
 
 -- equal ports differ among themselves in one way
-same_proof : (a : Service) (ports : List ServicePort) → a.ports ≡ ports → (d : distinct_ports ports ≡ true) → a ≡ record a { ports = ports; distinct = d }
+same_proof : (a : Service) (ports : List ServicePort) → a.ports ≡ ports
+    → (d : distinct_ports ports ≡ true) → a ≡ record a { ports = ports; distinct = d }
 same_proof a ports e =
     subst (λ ps. (d : distinct_ports ps ≡ true) → a ≡ record a { ports = ps; distinct = d }) e
     (λ d. ap (λ p. record a { distinct = p }) (Bool-set _ _ a.distinct d))

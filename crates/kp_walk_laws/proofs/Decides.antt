@@ -52,91 +52,128 @@ state_after config e s (Some t) = sent_to (translated_state config e s t) t.chos
 abbrev leaves : FamilyConfig → Packet → Bool
 leaves config p = is_leaving p.from (is_local_address config.addresses p.target)
 
-leaves_by : (from : Origin) (local : Bool) → is_leaving from local ≡ (is_from_node from || not local)
+leaves_by : (from : Origin) (local : Bool)
+    → is_leaving from local ≡ (is_from_node from || not local)
 leaves_by Wire local = refl
 leaves_by Node local = refl
 
 module _ (config : FamilyConfig) (packet : Packet) (draws : ℕ → ℕ) (lists : RecentParts) where
   -- the state after a translation, from the beginning
   abbrev after : Option Translation → WalkState
-  after t = state_after config (surroundings_of config.addresses packet draws) (initial_state packet lists) t
+  after t = state_after config (surroundings_of config.addresses packet draws)
+      (initial_state packet lists) t
 
-  packet_after : (t : Option Translation) → packet_of (surroundings_of config.addresses packet draws) (after t) ≡ translated packet t
+  packet_after : (t : Option Translation)
+      → packet_of (surroundings_of config.addresses packet draws) (after t) ≡ translated packet t
   packet_after None = refl
   packet_after (Some t) =
-      ap (λ (a : AddressParts). record packet { source = a; target = t.chosen.endpoint.address; port = t.chosen.endpoint.port })
+      ap (λ (a : AddressParts). record packet
+      { source = a; target = t.chosen.endpoint.address; port = t.chosen.endpoint.port })
       (marked_source (is_marked config t.door.kind t.door.info packet.source t.chosen.endpoint) _)
 
   recent_after : (t : Option Translation) → (after t).lists ≡ lists_after t lists
   recent_after None = refl
-  recent_after (Some t) = marked_lists (is_marked config t.door.kind t.door.info packet.source t.chosen.endpoint) _
+  recent_after (Some t) =
+      marked_lists (is_marked config t.door.kind t.door.info packet.source t.chosen.endpoint) _
 
   -- the verdict of the walk is that of the decision
-  same_verdict : (t : Option Translation) (line : Option Line) → verdict_by (option_map line_verdict line) (option_map endpoint_of t) ((after t).marked && leaves config (translated packet t))
+  same_verdict : (t : Option Translation) (line : Option Line)
+      → verdict_by (option_map line_verdict line) (option_map endpoint_of t)
+      ((after t).marked && leaves config (translated packet t))
       ≡ (by_filter config packet t (lists_after t lists) line).verdict
   same_verdict t (Some l) = by_refusal l.refusal
     where
-      by_refusal : (r : Refusal) → verdict_of r ≡ (refused_by r l.door (lists_after t lists)).verdict
+      by_refusal : (r : Refusal) → verdict_of r
+          ≡ (refused_by r l.door (lists_after t lists)).verdict
       by_refusal Rejects = refl
       by_refusal DropsClosed = refl
       by_refusal DropsNoLocal = refl
   same_verdict None None = refl
   same_verdict (Some t) None =
-      ap₂ (λ b c. To t.chosen.endpoint (b && c)) (mark_is (is_marked config t.door.kind t.door.info packet.source t.chosen.endpoint) _ refl)
+      ap₂ (λ b c. To t.chosen.endpoint (b && c))
+      (mark_is (is_marked config t.door.kind t.door.info packet.source t.chosen.endpoint) _ refl)
       (leaves_by packet.from (is_local_address config.addresses t.chosen.endpoint.address))
 
-  same_lists : (t : Option Translation) (line : Option Line) → lists_after t lists ≡ (by_filter config packet t (lists_after t lists) line).lists
+  same_lists : (t : Option Translation) (line : Option Line)
+      → lists_after t lists ≡ (by_filter config packet t (lists_after t lists) line).lists
   same_lists t (Some l) = by_refusal l.refusal
     where
-      by_refusal : (r : Refusal) → lists_after t lists ≡ (refused_by r l.door (lists_after t lists)).lists
+      by_refusal : (r : Refusal) → lists_after t lists
+          ≡ (refused_by r l.door (lists_after t lists)).lists
       by_refusal Rejects = refl
       by_refusal DropsClosed = refl
       by_refusal DropsNoLocal = refl
   same_lists None None = refl
   same_lists (Some t) None = refl
 
-module _ (setting : Setting) (infos : List PortInfo) (packet : Packet) (draws : ℕ → ℕ) (lists : RecentParts) (at : ChainAt → Option (List Rule)) where
+module _ (setting : Setting) (infos : List PortInfo) (packet : Packet) (draws : ℕ → ℕ)
+    (lists : RecentParts) (at : ChainAt → Option (List Rule)) where
   -- the first hook translates
   translated_journey : (t : Option Translation) → (trail : List (List (List ℕ)))
       × (after_hook Translating (journey_at (initial_state packet lists) None None [])
-      (returned_from (first_hook packet.from) (returned_from kube_services (translated_or_next setting (surroundings_of setting.config.addresses packet draws) (initial_state packet lists) t)))
-      ≡ journey_at (state_after setting.config (surroundings_of setting.config.addresses packet draws) (initial_state packet lists) t) (option_map endpoint_of t) None trail)
+      (returned_from (first_hook packet.from)
+      (returned_from kube_services (translated_or_next setting
+      (surroundings_of setting.config.addresses packet draws) (initial_state packet lists) t)))
+      ≡ journey_at (state_after setting.config
+      (surroundings_of setting.config.addresses packet draws) (initial_state packet lists) t)
+      (option_map endpoint_of t) None trail)
   translated_journey None = ([], refl)
   translated_journey (Some t) = (_, refl)
 
   -- from a translation on, the walk goes as the decision does
-  decided : FindsNat setting infos at → FindsFilter setting.family infos at → (t : Option Translation) (trail : List (List (List ℕ))) (j : Journey)
-      → ((i : PortInfo) (k : ℕ) → Contains infos i → i.node_port ≡ Some k → i.address.family ≡ setting.family)
-      → j ≡ journey_at (state_after setting.config (surroundings_of setting.config.addresses packet draws) (initial_state packet lists) t) (option_map endpoint_of t) None trail
-      → ((walked_by (onward (surroundings_of setting.config.addresses packet draws) at j)).verdict ≡ (decision_by setting.config infos packet lists t).verdict)
-      × ((walked_by (onward (surroundings_of setting.config.addresses packet draws) at j)).lists ≡ (decision_by setting.config infos packet lists t).lists)
+  decided : FindsNat setting infos at → FindsFilter setting.family infos at
+      → (t : Option Translation) (trail : List (List (List ℕ))) (j : Journey)
+      → ((i : PortInfo) (k : ℕ) → Contains infos i → i.node_port ≡ Some k
+      → i.address.family ≡ setting.family)
+      → j ≡ journey_at (state_after setting.config
+      (surroundings_of setting.config.addresses packet draws) (initial_state packet lists) t)
+      (option_map endpoint_of t) None trail
+      → ((walked_by (onward (surroundings_of setting.config.addresses packet draws) at j)).verdict
+      ≡ (decision_by setting.config infos packet lists t).verdict)
+      × ((walked_by (onward (surroundings_of setting.config.addresses packet draws) at j)).lists
+      ≡ (decision_by setting.config infos packet lists t).lists)
   decided nat filter t trail j family h =
       let e : Surroundings = surroundings_of setting.config.addresses packet draws in
       let u : WalkState = state_after setting.config e (initial_state packet lists) t in
       let to : Option Endpoint = option_map endpoint_of t in
-      let (later, refused) = filter_journey setting.config setting.family infos e refl at filter u to family e.from trail in
+      let (later, refused) =
+      filter_journey setting.config setting.family infos e refl at filter u to family e.from
+      trail in
       let leaving : Bool = leaves setting.config (packet_of e u) in (
         ap (λ k. (walked_by (onward e at k)).verdict) h
             ∙ ap (λ k. (walked_by (postrouting_if leaving e at k)).verdict) refused
-            ∙ last_verdict setting infos e at nat u to later (option_map line_verdict (filtered setting.config infos (packet_of e u))) leaving
-            ∙ ap (λ p. verdict_by (option_map line_verdict (filtered setting.config infos p)) to (u.marked && leaves setting.config p)) (packet_after setting.config packet draws lists t)
-            ∙ same_verdict setting.config packet draws lists t (filtered setting.config infos (translated packet t)),
+            ∙ last_verdict setting infos e at nat u to later
+            (option_map line_verdict (filtered setting.config infos (packet_of e u))) leaving
+            ∙ ap (λ p. verdict_by (option_map line_verdict (filtered setting.config infos p)) to
+            (u.marked && leaves setting.config p))
+            (packet_after setting.config packet draws lists t)
+            ∙ same_verdict setting.config packet draws lists t
+            (filtered setting.config infos (translated packet t)),
         ap (λ k. (walked_by (onward e at k)).lists) h
             ∙ ap (λ k. (walked_by (postrouting_if leaving e at k)).lists) refused
-            ∙ last_lists setting infos e at nat u to later (option_map line_verdict (filtered setting.config infos (packet_of e u))) leaving
+            ∙ last_lists setting infos e at nat u to later
+            (option_map line_verdict (filtered setting.config infos (packet_of e u))) leaving
             ∙ recent_after setting.config packet draws lists t
-            ∙ same_lists setting.config packet draws lists t (filtered setting.config infos (translated packet t)),
+            ∙ same_lists setting.config packet draws lists t
+            (filtered setting.config infos (translated packet t)),
       )
 
-  -- where a look-up finds the shared chains and those of the ports, walking decides as the objects do
-  pub walk_agrees : setting.pick ≡ pick_by_draws → FindsNat setting infos at → FindsFilter setting.family infos at → ((i : PortInfo) → Contains infos i → IsClusterOnly i × FindsPort setting at i)
-      → ((walk_of at setting.config.addresses packet draws lists).verdict ≡ (decision_from setting infos packet draws lists).verdict)
-      × ((walk_of at setting.config.addresses packet draws lists).lists ≡ (decision_from setting infos packet draws lists).lists)
+  -- where a look-up finds the shared chains and those of the ports, walking decides as the objects
+  -- do
+  pub walk_agrees : setting.pick ≡ pick_by_draws → FindsNat setting infos at
+      → FindsFilter setting.family infos at → ((i : PortInfo) → Contains infos i
+      → IsClusterOnly i × FindsPort setting at i)
+      → ((walk_of at setting.config.addresses packet draws lists).verdict
+      ≡ (decision_from setting infos packet draws lists).verdict)
+      × ((walk_of at setting.config.addresses packet draws lists).lists
+      ≡ (decision_from setting infos packet draws lists).lists)
   walk_agrees by_draws nat filter ports =
       let e : Surroundings = surroundings_of setting.config.addresses packet draws in
       let s : WalkState = initial_state packet lists in
       let t : Option Translation = translation_of setting infos packet draws lists in
       let (trail, first) = translated_journey t in
-      decided nat filter t trail (through e at Translating Nat (first_hook packet.from) (journey_at s None None []))
+      decided nat filter t trail (through e at Translating Nat (first_hook packet.from)
+      (journey_at s None None []))
       (λ i k c h. absurd (none-some k (sym (ports i c).0.node_port ∙ h)))
-      (ap (after_hook Translating (journey_at s None None [])) (first_outcome setting by_draws infos e at nat s refl ports packet.from) ∙ first)
+      (ap (after_hook Translating (journey_at s None None []))
+      (first_outcome setting by_draws infos e at nat s refl ports packet.from) ∙ first)

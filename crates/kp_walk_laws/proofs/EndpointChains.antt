@@ -1,4 +1,5 @@
--- What the chain of an endpoint does: it marks a packet that comes from the endpoint itself, and translates.
+-- What the chain of an endpoint does: it marks a packet that comes from the endpoint itself, and
+-- translates.
 use Rattle.std.proofs.Common.{◌≡◌, ℕ, suc, Bool, true, false, List, [], ◌∷◌, Option, Some, None, refl, ap, ◌∙◌}
 use Rattle.kp_base.specs.Net.{same_address, single_range}
 use Rattle.kp_base.specs.declared.key.Endpoint.{Endpoint}
@@ -43,38 +44,56 @@ seen_if e (Some seconds) list s = with_lists s (set_at s.lists list s.source e.n
 abbrev pub sent_by : Surroundings → Setting → PortInfo → Endpoint → WalkState → Outcome
 sent_by e setting i f s =
     Ended (ending.Dnat f) (endpoint_chain setting i f ∷ [])
-    (seen_if e i.affinity (endpoint_chain setting i f) (marked_if (same_address f.address s.source) s))
+    (seen_if e i.affinity (endpoint_chain setting i f)
+    (marked_if (same_address f.address s.source) s))
 
-module _ (e : Surroundings) (at : ChainAt → Option (List Rule)) (mark : at (record { table = Nat; chain = mark_masq }) ≡ Some (rule_of [] target.SetMark ∷ [])) where
-  -- the chain that marks
-  pub mark_outcome : (n : ℕ) (s : WalkState) → chain_outcome e at Nat (suc n) mark_masq s ≡ Next (record s { marked = true })
-  mark_outcome n s = ap (λ o. found_outcome e (chain_outcome e at Nat n) mark_masq o s) mark
+module _ (e : Surroundings) (at : ChainAt → Option (List Rule))
+    (mark : at (record { table = Nat; chain = mark_masq }) ≡ Some (rule_of [] target.SetMark ∷ []))
+  where
+    -- the chain that marks
+    pub mark_outcome : (n : ℕ) (s : WalkState)
+        → chain_outcome e at Nat (suc n) mark_masq s ≡ Next (record s { marked = true })
+    mark_outcome n s = ap (λ o. found_outcome e (chain_outcome e at Nat n) mark_masq o s) mark
 
-  -- a jump to it under a condition
-  pub mark_by : (n : ℕ) (b : Bool) (s : WalkState) → target_if b (chain_outcome e at Nat (suc n)) (target.Jump mark_masq) s ≡ Next (marked_if b s)
-  mark_by n true s = mark_outcome n s
-  mark_by n false s = refl
+    -- a jump to it under a condition
+    pub mark_by : (n : ℕ) (b : Bool) (s : WalkState)
+        → target_if b (chain_outcome e at Nat (suc n)) (target.Jump mark_masq) s
+        ≡ Next (marked_if b s)
+    mark_by n true s = mark_outcome n s
+    mark_by n false s = refl
 
-  -- the matches of a translation hold for a packet of the port's protocol
-  list_tried : (list : List ℕ) (affinity : Option ℕ) (s : WalkState) → try_all e (set_seen list affinity) s ≡ tried_as (seen_if e affinity list s) true
-  list_tried list None s = refl
-  list_tried list (Some seconds) s = refl
+    -- the matches of a translation hold for a packet of the port's protocol
+    list_tried : (list : List ℕ) (affinity : Option ℕ) (s : WalkState)
+        → try_all e (set_seen list affinity) s ≡ tried_as (seen_if e affinity list s) true
+    list_tried list None s = refl
+    list_tried list (Some seconds) s = refl
 
-  translation_tried : (i : PortInfo) (list : List ℕ) (s : WalkState) → same_proto i.key.proto e.proto ≡ true → try_all e (match.Proto i.key.proto ∷ set_seen list i.affinity) s ≡ tried_as (seen_if e i.affinity list s) true
-  translation_tried i list s h = ap (λ b. and_also (tried_as s b) (try_all e (set_seen list i.affinity))) h ∙ list_tried list i.affinity s
+    translation_tried : (i : PortInfo) (list : List ℕ) (s : WalkState)
+        → same_proto i.key.proto e.proto ≡ true
+        → try_all e (match.Proto i.key.proto ∷ set_seen list i.affinity) s
+        ≡ tried_as (seen_if e i.affinity list s) true
+    translation_tried i list s h =
+        ap (λ b. and_also (tried_as s b) (try_all e (set_seen list i.affinity))) h
+        ∙ list_tried list i.affinity s
 
-  -- the chain of an endpoint
-  pub endpoint_outcome : (setting : Setting) (i : PortInfo) (f : Endpoint) → at (record { table = Nat; chain = endpoint_chain setting i f }) ≡ Some (endpoint_rules setting i f)
-      → (n : ℕ) (s : WalkState) → same_proto i.key.proto e.proto ≡ true
-      → chain_outcome e at Nat (suc (suc n)) (endpoint_chain setting i f) s
-      ≡ sent_by e setting i f s
-  endpoint_outcome setting i f found n s proto =
-      let jump : List ℕ → WalkState → Outcome = chain_outcome e at Nat (suc n) in
-      let name : List ℕ = endpoint_chain setting i f in
-      let own : Bool = same_address f.address s.source in
-      let translate : Rule = rule_of (match.Proto i.key.proto ∷ set_seen name i.affinity) (target.Dnat f) in
-      ap (λ o. found_outcome e jump name o s) found
-      ∙ ap (λ o. returned_from name (and_then o (rules_outcome e jump (translate ∷ []))))
-      (rule_if e jump s (match.Src (single_range f.address) false ∷ []) (target.Jump mark_masq) own (src_tried e jump s f.address) ∙ mark_by n own s)
-      ∙ ap (λ t. returned_from name (and_then (matched_outcome jump (target.Dnat f) t) (λ u. Next u)))
-      (translation_tried i name (marked_if own s) proto)
+    -- the chain of an endpoint
+    pub endpoint_outcome : (setting : Setting) (i : PortInfo) (f : Endpoint)
+        → at (record { table = Nat; chain = endpoint_chain setting i f })
+        ≡ Some (endpoint_rules setting i f)
+        → (n : ℕ) (s : WalkState) → same_proto i.key.proto e.proto ≡ true
+        → chain_outcome e at Nat (suc (suc n)) (endpoint_chain setting i f) s
+        ≡ sent_by e setting i f s
+    endpoint_outcome setting i f found n s proto =
+        let jump : List ℕ → WalkState → Outcome = chain_outcome e at Nat (suc n) in
+        let name : List ℕ = endpoint_chain setting i f in
+        let own : Bool = same_address f.address s.source in
+        let translate : Rule =
+        rule_of (match.Proto i.key.proto ∷ set_seen name i.affinity) (target.Dnat f) in
+        ap (λ o. found_outcome e jump name o s) found
+        ∙ ap (λ o. returned_from name (and_then o (rules_outcome e jump (translate ∷ []))))
+        (rule_if e jump s (match.Src (single_range f.address) false ∷ [])
+        (target.Jump mark_masq) own
+        (src_tried e jump s f.address) ∙ mark_by n own s)
+        ∙ ap (λ t. returned_from name (and_then (matched_outcome jump (target.Dnat f) t)
+        (λ u. Next u)))
+        (translation_tried i name (marked_if own s) proto)

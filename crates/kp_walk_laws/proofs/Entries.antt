@@ -1,29 +1,35 @@
--- Entries in the order of their keys: those of a list, each key once.
-use Rattle.std.proofs.Common.{◌≡◌, ◌⊎◌, inl, inr, Bool, true, false, ◌&&◌, List, [], ◌∷◌, Contains, refl, sym, ap, subst, ◌∙◌, T}
+-- Entries in the order of their keys: those of a list, and each key once.
+use Rattle.std.proofs.Common.{◌≡◌, ◌⊎◌, inl, inr, List, [], ◌∷◌, Contains, refl, sym, ap, subst, ◌∙◌, T}
 use Rattle.std.specs.declared.cmp.Ordering.{Ordering}
 use Rattle.std.specs.declared.cmp.Ordering.TheVariants.{Less, Equal, Greater}
 use Rattle.std.specs.Ordering.{is_lt}
 use Rattle.std.specs.Cmp.{IsTotalOrder, tied_itself}
-use Rattle.std.specs.FinMap.{IsAntisymmetric, entries, empty, from_entries, put, entries-insert, len-entries, len-empty}
-use Rattle.std.specs.FinMap.Entries.{by_order, below_all, is_sorted, is_sorted-put}
-use Rattle.std.proofs.lemmas.List.{nil_from_length}
+use Rattle.std.specs.FinMap.{IsAntisymmetric, entries, from_entries, put, entries-insert}
+use Rattle.std.specs.FinMap.Entries.{by_order, below_all, is_sorted}
+use Rattle.kp_lemmas.proofs.Booleans.{both_facts}
+use Rattle.kp_lemmas.proofs.Entries.{empty_entries}
+use Rattle.kp_lemmas.proofs.Members.{first_in, later_in, none_in, in_cases}
 use Rattle.kp_object_defs.specs.Order.{in_order}
-use Rattle.kp_walk_laws.proofs.Outcomes.{first_in, later_in}
-use Rattle.kp_walk_laws.proofs.Members.{none_in, in_cases}
 
 module _ {K X : Type 0} (R : K → K → Ordering) (exact : IsAntisymmetric R) where
-  put_row : (k : K) (v : X) (e : K × X) (es more : List (K × X)) (f : K × X) → (Contains more f → ((k, v) ≡ f) ⊎ Contains es f)
-      → (o : Ordering) → R k e.0 ≡ o → Contains (by_order o ((k, v) ∷ e ∷ es) ((e.0, v) ∷ es) (e ∷ more)) f → ((k, v) ≡ f) ⊎ Contains (e ∷ es) f
+  put_row : (k : K) (v : X) (e : K × X) (es more : List (K × X)) (f : K × X)
+      → (Contains more f → ((k, v) ≡ f) ⊎ Contains es f)
+      → (o : Ordering) → R k e.0 ≡ o → Contains (by_order o ((k, v) ∷ e ∷ es) ((e.0, v) ∷ es)
+      (e ∷ more)) f → ((k, v) ≡ f) ⊎ Contains (e ∷ es) f
   put_row k v e es more f h Less t c = in_cases f (k, v) (e ∷ es) c
   put_row k v e es more f h Equal t c =
-      elim (in_cases f (e.0, v) es c) [ inl d ↦ inl (ap (λ q. (q, v)) (exact k e.0 t) ∙ d) | inr d ↦ inr (later_in f e es d) ]
+      elim (in_cases f (e.0, v) es c) [
+        | inl d ↦ inl (ap (λ q. (q, v)) (exact k e.0 t) ∙ d)
+        | inr d ↦ inr (later_in f e es d)
+      ]
   put_row k v e es more f h Greater t c =
       elim (in_cases f e more c) [
         | inl d ↦ inr (subst (λ g. Contains (e ∷ es) g) d (first_in e es))
         | inr d ↦ elim (h d) [ inl q ↦ inl q | inr q ↦ inr (later_in f e es q) ]
       ]
 
-  from_put : (k : K) (v : X) (es : List (K × X)) (f : K × X) → Contains (put R k v es) f → ((k, v) ≡ f) ⊎ Contains es f
+  from_put : (k : K) (v : X) (es : List (K × X)) (f : K × X) → Contains (put R k v es) f
+      → ((k, v) ≡ f) ⊎ Contains es f
   from_put k v [] f c = in_cases f (k, v) [] c
   from_put k v (e ∷ es) f c = put_row k v e es (put R k v es) f (from_put k v es f) (R k e.0) refl c
 
@@ -36,44 +42,45 @@ module _ {K X : Type 0} (R : K → K → Ordering) (exact : IsAntisymmetric R) w
         | inr d ↦ later_in f e es (from_in_order es f d)
       ]
 
-both_facts : (a b : Bool) → T (a && b) → T a × T b
-both_facts true b h = (tt, h)
-both_facts false b h = absurd h
-
-not_below : {K : Type 0} {R : K → K → Ordering} → IsTotalOrder R → (j k : K) → j ≡ k → T (is_lt (R j k)) → ⊥
-not_below {R} total j k same h = subst (λ o. T (is_lt o)) (ap (λ i. R i k) same ∙ tied_itself total k) h
+not_below : {K : Type 0} {R : K → K → Ordering} → IsTotalOrder R → (j k : K) → j ≡ k
+    → T (is_lt (R j k)) → ⊥
+not_below {R} total j k same h =
+    subst (λ o. T (is_lt o)) (ap (λ i. R i k) same ∙ tied_itself total k) h
 
 module _ {K X : Type 0} {R : K → K → Ordering} (total : IsTotalOrder R) where
   -- the entries of a map of entries stand in order
   pub entries_in_order : (es : List (K × X)) → entries (from_entries {R = R} es) ≡ in_order R es
-  entries_in_order [] = nil_from_length (entries (empty {X = X} {R = R})) (sym (len-entries (empty {X = X} {R = R})) ∙ len-empty R X)
-  entries_in_order (e ∷ es) = entries-insert total (from_entries es) e.0 e.1 ∙ ap (put R e.0 e.1) (entries_in_order es)
+  entries_in_order [] = empty_entries R
+  entries_in_order (e ∷ es) =
+      entries-insert total (from_entries es) e.0 e.1 ∙ ap (put R e.0 e.1) (entries_in_order es)
 
-  sorted_in_order : (es : List (K × X)) → T (is_sorted R (in_order R es))
-  sorted_in_order [] = tt
-  sorted_in_order (e ∷ es) = is_sorted-put R total e.0 e.1 (in_order R es) (sorted_in_order es)
-
-  below_less : (k : K) (es : List (K × X)) (f : K × X) → T (below_all R k es) → Contains es f → T (is_lt (R k f.0))
+  below_less : (k : K) (es : List (K × X)) (f : K × X) → T (below_all R k es) → Contains es f
+      → T (is_lt (R k f.0))
   below_less k [] f h c = absurd (none_in f c)
   below_less k (e ∷ es) f h c =
       let parts = both_facts (is_lt (R k e.0)) (below_all R k es) h in
-      elim (in_cases f e es c) [ inl d ↦ subst (λ (g : K × X). T (is_lt (R k g.0))) d parts.0 | inr d ↦ below_less k es f parts.1 d ]
+      elim (in_cases f e es c) [
+        | inl d ↦ subst (λ (g : K × X). T (is_lt (R k g.0))) d parts.0
+        | inr d ↦ below_less k es f parts.1 d
+      ]
 
-  one_sorted : (es : List (K × X)) → T (is_sorted R es) → (e f : K × X) → Contains es e → Contains es f → e.0 ≡ f.0 → e ≡ f
+  -- sorted entries have each key once
+  pub one_sorted : (es : List (K × X)) → T (is_sorted R es) → (e f : K × X) → Contains es e
+      → Contains es f → e.0 ≡ f.0 → e ≡ f
   one_sorted [] h e f ce cf same = absurd (none_in e ce)
   one_sorted (g ∷ es) h e f ce cf same =
       let parts = both_facts (below_all R g.0 es) (is_sorted R es) h in
       elim (in_cases e g es ce) [
         | inl d ↦ elim (in_cases f g es cf) [
-            | inl t ↦ sym d ∙ t
-            | inr c ↦ absurd (not_below total g.0 f.0 (ap (λ (p : K × X). p.0) d ∙ same) (below_less g.0 es f parts.0 c))
-          ]
+          | inl t ↦ sym d ∙ t
+          | inr c ↦
+              absurd (not_below total g.0 f.0 (ap (λ (p : K × X). p.0) d ∙ same)
+              (below_less g.0 es f parts.0 c))
+        ]
         | inr c ↦ elim (in_cases f g es cf) [
-            | inl t ↦ absurd (not_below total g.0 e.0 (ap (λ (p : K × X). p.0) t ∙ sym same) (below_less g.0 es e parts.0 c))
-            | inr d ↦ one_sorted es parts.1 e f c d same
-          ]
+          | inl t ↦
+              absurd (not_below total g.0 e.0 (ap (λ (p : K × X). p.0) t ∙ sym same)
+              (below_less g.0 es e parts.0 c))
+          | inr d ↦ one_sorted es parts.1 e f c d same
+        ]
       ]
-
-  -- entries in order have each key once
-  pub one_entry : (es : List (K × X)) (e f : K × X) → Contains (in_order R es) e → Contains (in_order R es) f → e.0 ≡ f.0 → e ≡ f
-  one_entry es = one_sorted (in_order R es) (sorted_in_order es)

@@ -1,5 +1,5 @@
--- What the rules of one port do in the filter: they refuse by the first of the port's lines that the packet
--- fits.
+-- What the rules of one port do in the filter: they refuse by the first of the port's lines that
+-- the packet fits.
 use Rattle.std.proofs.Common.{◌≡◌, ℕ, ◌==◌, Bool, true, false, not, cond, ◌&&◌, List, [], ◌∷◌, ◌++◌, map, Option, Some, None, is_some, refl, sym, ap, ap₂, subst, ◌∙◌}
 use Rattle.std.proofs.lemmas.List.{map-append}
 use Rattle.std.proofs.lemmas.Simd.{map-map}
@@ -54,13 +54,16 @@ and_turn false false false = refl
 
 -- the lines of some doors
 lines_of : {X : Type 0} (r : Refusal) (f g : X → Door) (xs ys : List X) (ds : List Door)
-    → map (line_of r) (map f xs ++ map g ys ++ ds) ≡ map (λ a. line_of r (f a)) xs ++ map (λ a. line_of r (g a)) ys ++ map (line_of r) ds
+    → map (line_of r) (map f xs ++ map g ys ++ ds)
+    ≡ map (λ a. line_of r (f a)) xs ++ map (λ a. line_of r (g a)) ys ++ map (line_of r) ds
 lines_of r f g xs ys ds =
     map-append (line_of r) (map f xs ++ map g ys) ds
     ∙ ap (λ ls. ls ++ map (line_of r) ds) (map-append (line_of r) (map f xs) (map g ys))
-    ∙ ap₂ (λ ks ls. ks ++ ls ++ map (line_of r) ds) (map-map (line_of r) f xs) (map-map (line_of r) g ys)
+    ∙ ap₂ (λ ks ls. ks ++ ls ++ map (line_of r) ds) (map-map (line_of r) f xs)
+    (map-map (line_of r) g ys)
 
-module _ (config : FamilyConfig) (family : Family) (e : Surroundings) (jump : List ℕ → WalkState → Outcome) (s : WalkState) where
+module _ (config : FamilyConfig) (family : Family) (e : Surroundings)
+    (jump : List ℕ → WalkState → Outcome) (s : WalkState) where
   -- rules that refuse as some lines do
   abbrev pub Refuses : List Rule → List Line → Type 0
   Refuses rules lines = FindIn (fits_line config e s) (refusing s) e jump s rules lines
@@ -76,28 +79,36 @@ module _ (config : FamilyConfig) (family : Family) (e : Surroundings) (jump : Li
   pub refusing_last : (l : Line) → IsLast (refusing s l)
   refusing_last l = ended_last (ending_of l.refusal) [] s
 
-  refuse_if : (b : Bool) (rules : List Rule) (lines : List Line) → Refuses rules lines → Refuses (rules_if b rules) (cond b lines [])
+  refuse_if : (b : Bool) (rules : List Rule) (lines : List Line) → Refuses rules lines
+      → Refuses (rules_if b rules) (cond b lines [])
   refuse_if true rules lines h = h
   refuse_if false rules lines h = refl
 
-  by_target : (t : Target) (r : Refusal) (b : Bool) → IsTargetOf t r → target_if b jump t s ≡ cond b (Ended (ending_of r) [] s) (Next s)
+  by_target : (t : Target) (r : Refusal) (b : Bool) → IsTargetOf t r
+      → target_if b jump t s ≡ cond b (Ended (ending_of r) [] s) (Next s)
   by_target t r true h = h
   by_target t r false h = refl
 
   -- a rule for an address of a port
-  line_rule : (i : PortInfo) (kind : DoorKind) (t : Target) (r : Refusal) → IsTargetOf t r → (a : AddressParts)
-      → IsRuleOf (fits_line config e s) (refusing s) e jump s (rule_at i t a) (line_of r (door_at kind i a))
+  line_rule : (i : PortInfo) (kind : DoorKind) (t : Target) (r : Refusal) → IsTargetOf t r
+      → (a : AddressParts)
+      → IsRuleOf (fits_line config e s) (refusing s) e jump s (rule_at i t a)
+      (line_of r (door_at kind i a))
   line_rule i kind t r h a =
       let proto_port : Bool = same_proto i.key.proto e.proto && (i.number == s.port) in
-      rule_if e jump s (match.Dst (single_range a) false ∷ match.Port i.key.proto i.number ∷ []) t (same_address a s.target && proto_port) (door_tried e jump s a i.key.proto i.number)
+      rule_if e jump s (match.Dst (single_range a) false ∷ match.Port i.key.proto i.number ∷ []) t
+      (same_address a s.target && proto_port) (door_tried e jump s a i.key.proto i.number)
       ∙ by_target t r (same_address a s.target && proto_port) h
-      ∙ ap (λ b. cond b (Ended (ending_of r) [] s) (Next s)) (and_swap (same_address a s.target) proto_port)
+      ∙ ap (λ b. cond b (Ended (ending_of r) [] s) (Next s))
+      (and_swap (same_address a s.target) proto_port)
 
   -- rules for addresses of a port
-  line_rules : (i : PortInfo) (kind : DoorKind) (t : Target) (r : Refusal) → IsTargetOf t r → (addresses : List AddressParts)
+  line_rules : (i : PortInfo) (kind : DoorKind) (t : Target) (r : Refusal) → IsTargetOf t r
+      → (addresses : List AddressParts)
       → Refuses (map (rule_at i t) addresses) (map (λ a. line_of r (door_at kind i a)) addresses)
   line_rules i kind t r h addresses =
-      find_in_map (fits_line config e s) (refusing s) refusing_last e jump s (rule_at i t) (λ a. line_of r (door_at kind i a)) addresses (λ a c. line_rule i kind t r h a)
+      find_in_map (fits_line config e s) (refusing s) refusing_last e jump s (rule_at i t)
+      (λ a. line_of r (door_at kind i a)) addresses (λ a c. line_rule i kind t r h a)
 
   nothing_refused : (b c : Bool) → Refuses (rules_if b []) (cond c [] [])
   nothing_refused true true = refl
@@ -107,51 +118,85 @@ module _ (config : FamilyConfig) (family : Family) (e : Surroundings) (jump : Li
 
   -- the firewall's rules of a port
   pub firewall_refuses : (i : PortInfo) → Refuses (firewall_block i) (firewall_lines i)
-  firewall_refuses i = by_balancer i.balancer (line_rules i door.Balancer target.Drop DropsClosed refl i.balancer)
+  firewall_refuses i =
+      by_balancer i.balancer (line_rules i door.Balancer target.Drop DropsClosed refl i.balancer)
     where
-      by_balancer : (balancer : List AddressParts) → Refuses (map (rule_at i target.Drop) balancer) (map (λ a. line_of DropsClosed (door_at door.Balancer i a)) balancer)
-          → Refuses (rules_if (is_some i.ranges && (not (is_empty balancer) && i.lists.has_any)) (map (rule_at i target.Drop) balancer))
-          (cond (is_some i.ranges && i.lists.has_any) (map (λ a. line_of DropsClosed (door_at door.Balancer i a)) balancer) [])
-      by_balancer [] h = nothing_refused (is_some i.ranges && (false && i.lists.has_any)) (is_some i.ranges && i.lists.has_any)
-      by_balancer (a ∷ more) h = refuse_if (is_some i.ranges && i.lists.has_any) (map (rule_at i target.Drop) (a ∷ more)) (map (λ b. line_of DropsClosed (door_at door.Balancer i b)) (a ∷ more)) h
+      by_balancer : (balancer : List AddressParts)
+          → Refuses (map (rule_at i target.Drop) balancer)
+          (map (λ a. line_of DropsClosed (door_at door.Balancer i a)) balancer)
+          → Refuses (rules_if (is_some i.ranges && (not (is_empty balancer) && i.lists.has_any))
+          (map (rule_at i target.Drop) balancer))
+          (cond (is_some i.ranges && i.lists.has_any)
+          (map (λ a. line_of DropsClosed (door_at door.Balancer i a)) balancer) [])
+      by_balancer [] h = nothing_refused (is_some i.ranges && (false && i.lists.has_any))
+          (is_some i.ranges && i.lists.has_any)
+      by_balancer (a ∷ more) h = refuse_if (is_some i.ranges && i.lists.has_any)
+          (map (rule_at i target.Drop) (a ∷ more))
+          (map (λ b. line_of DropsClosed (door_at door.Balancer i b)) (a ∷ more)) h
 
   -- the rule of a cluster address without endpoints
   pub service_refuses : (i : PortInfo) → Refuses (refusal_block i) (service_lines i)
   service_refuses i =
-      refuse_if (is_empty (internal_list i)) (rule_at i (refusal_target i.lists.has_any) i.address ∷ []) (line_of (refusal_by i.lists.has_any) (door_at door.Cluster i i.address) ∷ [])
-      (find_in_one (fits_line config e s) (refusing s) refusing_last e jump s (rule_at i (refusal_target i.lists.has_any) i.address) (line_of (refusal_by i.lists.has_any) (door_at door.Cluster i i.address))
-      (line_rule i door.Cluster (refusal_target i.lists.has_any) (refusal_by i.lists.has_any) (refusal_targets i.lists.has_any) i.address))
+      refuse_if (is_empty (internal_list i))
+      (rule_at i (refusal_target i.lists.has_any) i.address ∷ [])
+      (line_of (refusal_by i.lists.has_any) (door_at door.Cluster i i.address) ∷ [])
+      (find_in_one (fits_line config e s) (refusing s) refusing_last e jump s
+      (rule_at i (refusal_target i.lists.has_any) i.address)
+      (line_of (refusal_by i.lists.has_any) (door_at door.Cluster i i.address))
+      (line_rule i door.Cluster (refusal_target i.lists.has_any) (refusal_by i.lists.has_any)
+      (refusal_targets i.lists.has_any) i.address))
 
   -- the rule of a node port
-  node_refuses : e.node_addresses ≡ config.addresses → (i : PortInfo) (t : Target) (r : Refusal) → IsTargetOf t r → (port : Option ℕ) → ((n : ℕ) → port ≡ Some n → i.address.family ≡ family)
+  node_refuses : e.node_addresses ≡ config.addresses → (i : PortInfo) (t : Target) (r : Refusal)
+      → IsTargetOf t r → (port : Option ℕ) → ((n : ℕ) → port ≡ Some n → i.address.family ≡ family)
       → Refuses (node_port_refusal family i t port) (map (line_of r) (node_door i port))
   node_refuses own i t r h None same = refl
   node_refuses own i t r h (Some n) same =
       let not_loop : Bool = not (range_contains (loopback_range family) s.target) in
       let local : Bool = is_local_address e.node_addresses s.target in
       let proto_port : Bool = same_proto i.key.proto e.proto && (n == s.port) in
-      find_in_one (fits_line config e s) (refusing s) refusing_last e jump s (rule_of (own_addresses family ++ match.Port i.key.proto n ∷ []) t) (line_of r (record { kind = door.Node; info = i; address = None; number = n }))
-      (rule_if e jump s (own_addresses family ++ match.Port i.key.proto n ∷ []) t (not_loop && (local && proto_port))
-      (tried_before s not_loop (local && proto_port) (try_all e (match.DstLocal ∷ match.Port i.key.proto n ∷ []))
-      (tried_before s local proto_port (try_all e (match.Port i.key.proto n ∷ [])) (tried_alone s proto_port)))
+      find_in_one (fits_line config e s) (refusing s) refusing_last e jump s
+      (rule_of (own_addresses family ++ match.Port i.key.proto n ∷ []) t)
+      (line_of r (record { kind = door.Node; info = i; address = None; number = n }))
+      (rule_if e jump s (own_addresses family ++ match.Port i.key.proto n ∷ []) t
+      (not_loop && (local && proto_port))
+      (tried_before s not_loop (local && proto_port)
+      (try_all e (match.DstLocal ∷ match.Port i.key.proto n ∷ []))
+      (tried_before s local proto_port (try_all e (match.Port i.key.proto n ∷ []))
+      (tried_alone s proto_port)))
       ∙ by_target t r (not_loop && (local && proto_port)) h
       ∙ ap (λ b. cond b (Ended (ending_of r) [] s) (Next s)) (and_turn not_loop local proto_port)
-      ∙ ap (λ a. cond (proto_port && (is_local_address a s.target && not_loop)) (Ended (ending_of r) [] s) (Next s)) own
-      ∙ ap (λ f. cond (proto_port && (is_local_address config.addresses s.target && not (range_contains (loopback_range f) s.target))) (Ended (ending_of r) [] s) (Next s)) (sym (same n refl)))
+      ∙ ap (λ a. cond (proto_port && (is_local_address a s.target && not_loop))
+      (Ended (ending_of r) [] s) (Next s)) own
+      ∙ ap (λ f.
+      cond (proto_port && (is_local_address config.addresses s.target
+      && not (range_contains (loopback_range f) s.target))) (Ended (ending_of r) [] s) (Next s))
+      (sym (same n refl)))
 
   -- the rules of a port for what comes from outside
-  pub external_refuses : e.node_addresses ≡ config.addresses → (i : PortInfo) → ((n : ℕ) → i.node_port ≡ Some n → i.address.family ≡ family) → Refuses (external_block family i) (external_lines i)
+  pub external_refuses : e.node_addresses ≡ config.addresses → (i : PortInfo)
+      → ((n : ℕ) → i.node_port ≡ Some n → i.address.family ≡ family)
+      → Refuses (external_block family i) (external_lines i)
   external_refuses own i same =
       let t : Target = refusal_target i.lists.has_any in
       let r : Refusal = refusal_by i.lists.has_any in
       let rules : List AddressParts → List Rule = map (rule_at i t) in
-      let lines : DoorKind → List AddressParts → List Line = λ kind addresses. map (λ a. line_of r (door_at kind i a)) addresses in
+      let lines : DoorKind → List AddressParts → List Line =
+      λ kind addresses. map (λ a. line_of r (door_at kind i a)) addresses in
       let node : List Rule = node_port_refusal family i t i.node_port in
       let node_lines : List Line = map (line_of r) (node_door i i.node_port) in
-      let balancer_part = find_in_append (fits_line config e s) (refusing s) refusing_last e jump s (rules i.external) (rules i.balancer) (lines door.External i.external) (lines door.Balancer i.balancer)
-      (line_rules i door.External t r (refusal_targets i.lists.has_any) i.external) (line_rules i door.Balancer t r (refusal_targets i.lists.has_any) i.balancer) in
-      let all_parts = find_in_append (fits_line config e s) (refusing s) refusing_last e jump s (rules i.external ++ rules i.balancer) node (lines door.External i.external ++ lines door.Balancer i.balancer) node_lines
+      let balancer_part = find_in_append (fits_line config e s) (refusing s) refusing_last e jump s
+      (rules i.external) (rules i.balancer) (lines door.External i.external)
+      (lines door.Balancer i.balancer)
+      (line_rules i door.External t r (refusal_targets i.lists.has_any) i.external)
+      (line_rules i door.Balancer t r (refusal_targets i.lists.has_any) i.balancer) in
+      let all_parts = find_in_append (fits_line config e s) (refusing s) refusing_last e jump s
+      (rules i.external ++ rules i.balancer) node
+      (lines door.External i.external ++ lines door.Balancer i.balancer) node_lines
       balancer_part (node_refuses own i t r (refusal_targets i.lists.has_any) i.node_port same) in
       refuse_if (is_empty (external_list i)) (rules i.external ++ rules i.balancer ++ node)
-      (map (line_of r) (map (door_at door.External i) i.external ++ map (door_at door.Balancer i) i.balancer ++ node_door i i.node_port))
-      (subst (Refuses (rules i.external ++ rules i.balancer ++ node)) (sym (lines_of r (door_at door.External i) (door_at door.Balancer i) i.external i.balancer (node_door i i.node_port))) all_parts)
+      (map (line_of r) (map (door_at door.External i) i.external
+      ++ map (door_at door.Balancer i) i.balancer ++ node_door i i.node_port))
+      (subst (Refuses (rules i.external ++ rules i.balancer ++ node))
+      (sym (lines_of r (door_at door.External i) (door_at door.Balancer i) i.external i.balancer
+      (node_door i i.node_port))) all_parts)

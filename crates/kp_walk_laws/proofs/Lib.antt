@@ -13,12 +13,13 @@ pub mod Journeys
 pub mod Decides
 pub mod NoClash
 pub mod Entries
-pub mod Members
 pub mod Lookups
 pub mod PortLookups
 pub mod StandInNames
 pub mod PlainRows
-pub mod Usable
 pub mod PlainServices
 pub mod Ranked
 pub mod Theorem
+pub mod TwoPorts
+pub mod Members
+pub mod Usable

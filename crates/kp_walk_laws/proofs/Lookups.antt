@@ -2,7 +2,7 @@
 use Rattle.std.proofs.Common.{◌≡◌, suc, zero, Bool, true, false, cond, List, [], ◌∷◌, ◌++◌, Contains, Option, Some, bytes_eq, codes, flat_map, is_some, map, refl, sym, ap, ap₂, ◌∙◌, arith, true≢false, le_of_suc-le-suc}
 use Rattle.std.specs.declared.cmp.Ordering.{Ordering}
 use Rattle.std.specs.declared.cmp.Ordering.TheVariants.{Less, Equal, Greater}
-use Rattle.std.specs.Ordering.{nat_cmp, eq_by_cmp, is_eq, ordering_then}
+use Rattle.std.specs.Ordering.{eq_by_cmp, is_eq, ordering_then}
 use Rattle.std.specs.Cmp.{eq_by_cmp_equiv}
 use Rattle.std.specs.Cmp.Lexicographic.{texts_ties}
 use Rattle.std.specs.FinMap.{find, get, get-from_entries}
@@ -10,13 +10,14 @@ use Rattle.std.specs.FinMap.Entries.{is_some-find}
 use Rattle.std.specs.List.{list_any}
 use Rattle.std.proofs.lemmas.Bool.{or_parts}
 use Rattle.std.proofs.lemmas.Map.Views.{list_any-from_Contains}
+use Rattle.kp_lemmas.proofs.Orders.{equal_from_test, tie_of_itself}
+use Rattle.kp_lemmas.proofs.Members.{first_in, later_in, in_map}
 use Rattle.kp_base.specs.Keys.{text_cmp}
 use Rattle.kp_base.specs.declared.address.Family.{Family}
 use Rattle.kp_base.specs.declared.address.Family.TheVariants.{V4, V6}
 use Rattle.kp_types.specs.Setting.{Setting}
-use Rattle.kp_types.specs.Places.{chain_cmp, table_place}
+use Rattle.kp_types.specs.Places.{chain_cmp, table_cmp}
 use Rattle.kp_types.proofs.ChainOrder.{chain_total, chain_exact}
-use Rattle.kp_types.specs.declared.chain.TableName.{TableName}
 use Rattle.kp_types.specs.declared.chain.TableName.TheVariants.{Nat, Filter}
 use Rattle.kp_types.specs.declared.chain.ChainAt.{ChainAt}
 use Rattle.kp_types.specs.Rules.{rule_of}
@@ -26,13 +27,8 @@ use Rattle.kp_types.specs.declared.rule.Target.TheVariants as target
 use Rattle.kp_object_defs.specs.PortInfo.{PortInfo}
 use Rattle.kp_table_defs.specs.Layout.{row, jump_to, own_addresses, mark_masq, kube_postrouting, kube_node_ports, kube_services, kube_forward, kube_proxy_firewall, kube_external_services, service_block, node_port_block, firewall_block, external_block, refusal_block, nat_rows_with, filter_rows_with, port_rows, rows_of}
 use Rattle.kp_table_defs.specs.Rebuild.{full_chains}
-use Rattle.kp_walk_laws.proofs.Members.{in_map}
-use Rattle.kp_walk_laws.proofs.Outcomes.{first_in, later_in}
 use Rattle.kp_walk_laws.proofs.FirstHook.{FindsNat}
 use Rattle.kp_walk_laws.proofs.FilterChains.{FindsFilter}
-
-abbrev table_cmp : TableName → TableName → Ordering
-table_cmp a b = nat_cmp (table_place a) (table_place b)
 
 -- ---- Rows
 
@@ -40,46 +36,52 @@ table_cmp a b = nat_cmp (table_place a) (table_place b)
 abbrev pub Row : Type 0
 Row = ChainAt × List Rule
 
-pub is_eq_true : (o : Ordering) → is_eq o ≡ true → o ≡ Equal
-is_eq_true Less h = absurd (cc)
-is_eq_true Equal h = refl
-is_eq_true Greater h = absurd (cc)
-
 then_false : (a b : Ordering) → is_eq b ≡ false → is_eq (ordering_then a b) ≡ false
 then_false Less b h = refl
 then_false Equal b h = h
 then_false Greater b h = refl
 
 -- a place of another name is another place
-other_place : (q at : ChainAt) → bytes_eq q.chain at.chain ≡ false → eq_by_cmp chain_cmp q at ≡ false
-other_place q at h = then_false (table_cmp q.table at.table) (text_cmp q.chain at.chain) (sym (texts_ties q.chain at.chain) ∙ h)
+other_place : (q at : ChainAt) → bytes_eq q.chain at.chain ≡ false
+    → eq_by_cmp chain_cmp q at ≡ false
+other_place q at h = then_false (table_cmp q.table at.table) (text_cmp q.chain at.chain)
+    (sym (texts_ties q.chain at.chain) ∙ h)
 
 -- a look-up passes over rows of other names
-pub pass_over : (q : ChainAt) (rows more : List Row) → list_any (λ r. bytes_eq q.chain r.0.chain) rows ≡ false → find chain_cmp q (rows ++ more) ≡ find chain_cmp q more
+pub pass_over : (q : ChainAt) (rows more : List Row)
+    → list_any (λ r. bytes_eq q.chain r.0.chain) rows ≡ false
+    → find chain_cmp q (rows ++ more) ≡ find chain_cmp q more
 pass_over q [] more h = refl
 pass_over q (r ∷ rows) more h =
-    let parts = or_parts (bytes_eq q.chain r.0.chain) (list_any (λ s. bytes_eq q.chain s.0.chain) rows) h in
-    ap (λ b. cond b (Some r.1) (find chain_cmp q (rows ++ more))) (other_place q r.0 parts.0) ∙ pass_over q rows more parts.1
-
--- a place is itself
-same_place : (q : ChainAt) → eq_by_cmp chain_cmp q q ≡ true
-same_place q = (eq_by_cmp_equiv chain_total).refl q
+    let parts = or_parts (bytes_eq q.chain r.0.chain)
+    (list_any (λ s. bytes_eq q.chain s.0.chain) rows) h in
+    ap (λ b. cond b (Some r.1) (find chain_cmp q (rows ++ more))) (other_place q r.0 parts.0)
+    ∙ pass_over q rows more parts.1
 
 -- a row behind the first, which is for another place
-behind_other : (q : ChainAt) (rules : List Rule) (r : Row) (rows : List Row) → eq_by_cmp chain_cmp q r.0 ≡ false → Contains (r ∷ rows) (q, rules) → Contains rows (q, rules)
-behind_other q rules r rows other (zero, l, e) = absurd (true≢false (sym (same_place q) ∙ ap (λ (s : Row). eq_by_cmp chain_cmp q s.0) (sym e) ∙ other))
+behind_other : (q : ChainAt) (rules : List Rule) (r : Row) (rows : List Row)
+    → eq_by_cmp chain_cmp q r.0 ≡ false → Contains (r ∷ rows) (q, rules) → Contains rows (q, rules)
+behind_other q rules r rows other (zero, l, e) =
+    absurd (true≢false (sym (tie_of_itself chain_total q)
+    ∙ ap (λ (s : Row). eq_by_cmp chain_cmp q s.0) (sym e) ∙ other))
 behind_other q rules r rows other (suc k, l, e) = (k, le_of_suc-le-suc l, e)
 
-agreed_by : (q : ChainAt) (rules : List Rule) (r : Row) (found : Option (List Rule)) → (r.0 ≡ q → r.1 ≡ rules) → (b : Bool) → eq_by_cmp chain_cmp q r.0 ≡ b → (b ≡ false → found ≡ Some rules) → cond b (Some r.1) found ≡ Some rules
-agreed_by q rules r found here true t later = ap (λ rs. Some rs) (here (sym (chain_exact q r.0 (is_eq_true (chain_cmp q r.0) t))))
+agreed_by : (q : ChainAt) (rules : List Rule) (r : Row) (found : Option (List Rule))
+    → (r.0 ≡ q → r.1 ≡ rules) → (b : Bool) → eq_by_cmp chain_cmp q r.0 ≡ b
+    → (b ≡ false → found ≡ Some rules) → cond b (Some r.1) found ≡ Some rules
+agreed_by q rules r found here true t later =
+    ap (λ rs. Some rs) (here (sym (chain_exact q r.0 (equal_from_test (chain_cmp q r.0) t))))
 agreed_by q rules r found here false t later = later refl
 
 -- where all rows of a place have the same rules, a look-up finds these
-pub agreed : (q : ChainAt) (rules : List Rule) (rows : List Row) → Contains rows (q, rules) → ((r : Row) → Contains rows r → r.0 ≡ q → r.1 ≡ rules) → find chain_cmp q rows ≡ Some rules
+pub agreed : (q : ChainAt) (rules : List Rule) (rows : List Row) → Contains rows (q, rules)
+    → ((r : Row) → Contains rows r → r.0 ≡ q → r.1 ≡ rules) → find chain_cmp q rows ≡ Some rules
 agreed q rules [] (k, l, e) h = absurd (omega arith)
 agreed q rules (r ∷ rows) stands h =
-    agreed_by q rules r (find chain_cmp q rows) (h r (first_in r rows)) (eq_by_cmp chain_cmp q r.0) refl
-    (λ other. agreed q rules rows (behind_other q rules r rows other stands) (λ s c. h s (later_in s r rows c)))
+    agreed_by q rules r (find chain_cmp q rows) (h r (first_in r rows))
+    (eq_by_cmp chain_cmp q r.0) refl
+    (λ other. agreed q rules rows (behind_other q rules r rows other stands)
+    (λ s c. h s (later_in s r rows c)))
 
 -- ---- Fixed chains
 
@@ -91,7 +93,8 @@ nat_rows_of node_ports services =
     ∷ row Nat (codes "OUTPUT") (jump_to kube_services ∷ [])
     ∷ row Nat (codes "POSTROUTING") (jump_to kube_postrouting ∷ [])
     ∷ row Nat mark_masq (rule_of [] target.SetMark ∷ [])
-    ∷ row Nat kube_postrouting (rule_of (match.Marked true ∷ []) target.Return ∷ rule_of [] target.FlipMark ∷ rule_of [] target.Masquerade ∷ [])
+    ∷ row Nat kube_postrouting (rule_of (match.Marked true ∷ []) target.Return
+    ∷ rule_of [] target.FlipMark ∷ rule_of [] target.Masquerade ∷ [])
     ∷ row Nat kube_node_ports node_ports
     ∷ row Nat kube_services services
     ∷ []
@@ -101,7 +104,8 @@ abbrev filter_rows_of : List Rule → List Rule → List Rule → List Row
 filter_rows_of firewall external services =
     row Filter (codes "INPUT") (jump_to kube_proxy_firewall ∷ jump_to kube_external_services ∷ [])
     ∷ row Filter (codes "FORWARD")
-    (jump_to kube_proxy_firewall ∷ jump_to kube_external_services ∷ jump_to kube_services ∷ jump_to kube_forward ∷ [])
+    (jump_to kube_proxy_firewall ∷ jump_to kube_external_services ∷ jump_to kube_services
+    ∷ jump_to kube_forward ∷ [])
     ∷ row Filter (codes "OUTPUT") (jump_to kube_proxy_firewall ∷ jump_to kube_services ∷ [])
     ∷ row Filter kube_forward (rule_of (match.Marked false ∷ []) target.Accept ∷ [])
     ∷ row Filter kube_proxy_firewall firewall
@@ -111,7 +115,8 @@ filter_rows_of firewall external services =
 
 nat_written : (family : Family) (node_ports services : List Rule)
     → nat_rows_with family node_ports services
-    ≡ nat_rows_of node_ports (services ++ rule_of (own_addresses family) (target.Jump kube_node_ports) ∷ [])
+    ≡ nat_rows_of node_ports (services ++ rule_of (own_addresses family)
+    (target.Jump kube_node_ports) ∷ [])
 nat_written V4 node_ports services = refl
 nat_written V6 node_ports services = refl
 
@@ -129,30 +134,40 @@ module _ (setting : Setting) (infos : List PortInfo) where
   abbrev pub fixed_nat : List Row
   fixed_nat =
       nat_rows_of (flat_map (node_port_block setting) infos)
-      (flat_map (service_block setting) infos ++ rule_of (own_addresses setting.family) (target.Jump kube_node_ports) ∷ [])
+      (flat_map (service_block setting) infos ++ rule_of (own_addresses setting.family)
+      (target.Jump kube_node_ports) ∷ [])
 
   -- and those of filter
   abbrev pub fixed_filter : List Row
   fixed_filter =
-      filter_rows_of (flat_map firewall_block infos) (flat_map (external_block setting.family) infos)
+      filter_rows_of (flat_map firewall_block infos)
+      (flat_map (external_block setting.family) infos)
       (flat_map refusal_block infos)
 
   -- the full table's rows, where the tables of the fixed chains are written out
-  pub rows_written : rows_of setting infos ≡ fixed_nat ++ fixed_filter ++ flat_map (port_rows setting) infos
+  pub rows_written : rows_of setting infos
+      ≡ fixed_nat ++ fixed_filter ++ flat_map (port_rows setting) infos
   rows_written =
       ap₂ (λ rs qs. rs ++ qs ++ flat_map (port_rows setting) infos)
-      (nat_written setting.family (flat_map (node_port_block setting) infos) (flat_map (service_block setting) infos))
-      (filter_written setting.family (flat_map firewall_block infos) (flat_map (external_block setting.family) infos) (flat_map refusal_block infos))
+      (nat_written setting.family (flat_map (node_port_block setting) infos)
+      (flat_map (service_block setting) infos))
+      (filter_written setting.family (flat_map firewall_block infos)
+      (flat_map (external_block setting.family) infos) (flat_map refusal_block infos))
 
-  pub in_rows : (q : ChainAt) → look_up q ≡ find chain_cmp q (fixed_nat ++ fixed_filter ++ flat_map (port_rows setting) infos)
-  in_rows q = get-from_entries chain_total (rows_of setting infos) q ∙ ap (find chain_cmp q) rows_written
+  pub in_rows : (q : ChainAt) → look_up q
+      ≡ find chain_cmp q (fixed_nat ++ fixed_filter ++ flat_map (port_rows setting) infos)
+  in_rows q =
+      get-from_entries chain_total (rows_of setting infos) q ∙ ap (find chain_cmp q) rows_written
 
   -- a look-up of a place that has a row finds rules
-  pub is_found : (q : ChainAt) (rules : List Rule) → Contains (rows_of setting infos) (q, rules) → is_some (look_up q) ≡ true
+  pub is_found : (q : ChainAt) (rules : List Rule) → Contains (rows_of setting infos) (q, rules)
+      → is_some (look_up q) ≡ true
   is_found q rules c =
       ap is_some (get-from_entries chain_total (rows_of setting infos) q)
       ∙ is_some-find chain_cmp q (rows_of setting infos)
-      ∙ list_any-from_Contains (eq_by_cmp_equiv chain_total) q (map (λ r. r.0) (rows_of setting infos)) (in_map (λ r. r.0) (q, rules) (rows_of setting infos) c)
+      ∙ list_any-from_Contains (eq_by_cmp_equiv chain_total) q
+      (map (λ r. r.0) (rows_of setting infos))
+      (in_map (λ r. r.0) (q, rules) (rows_of setting infos) c)
 
   -- the shared chains of nat are found
   pub finds_nat : FindsNat setting infos look_up

@@ -1,5 +1,5 @@
 -- What a look-up in the full table finds of ports: the rules of each chain that they need.
-use Rattle.std.proofs.Common.{◌≡◌, inl, inr, Bool, true, false, not, cond, List, [], ◌∷◌, ◌++◌, map, Contains, Some, None, flat_map, bytes_eq, refl, sym, ap, ap₂, subst, ◌∙◌}
+use Rattle.std.proofs.Common.{◌≡◌, inl, inr, Bool, true, false, not, List, [], ◌∷◌, ◌++◌, map, Contains, Some, None, flat_map, bytes_eq, refl, sym, ap, ap₂, subst, ◌∙◌}
 use Rattle.std.specs.FinMap.{IsAntisymmetric, find, put}
 use Rattle.std.specs.FinMap.Entries.{by_order}
 use Rattle.std.specs.List.{filter, list_any}
@@ -9,6 +9,7 @@ use Rattle.std.proofs.lemmas.List.{map-append}
 use Rattle.std.proofs.lemmas.List.Elements.{Contains-append_left, Contains-append_right, Contains-append_cases}
 use Rattle.std.proofs.lemmas.Map.Views.{Contains-from_any}
 use Rattle.std.proofs.lemmas.Simd.{map-map}
+use Rattle.kp_lemmas.proofs.Members.{first_in, later_in, none_in, in_cases, in_map, from_map, in_flat_map, from_flat_map, in_filter, from_filter}
 use Rattle.kp_base.specs.Keys.{endpoint_cmp}
 use Rattle.kp_base.proofs.KeyOrder.{endpoint_exact}
 use Rattle.kp_base.specs.declared.address.Family.{Family}
@@ -37,9 +38,8 @@ use Rattle.kp_table_defs.specs.Rebuild.{needs, port_keys, endpoint_keys, needed_
 use Rattle.kp_walk_laws.specs.Laws.{HaveOwnKeys, IsPrefixed}
 use Rattle.kp_walk_laws.proofs.Entries.{from_in_order}
 use Rattle.kp_walk_laws.proofs.Lookups.{Row, look_up, fixed_nat, fixed_filter, in_rows, pass_over, agreed}
-use Rattle.kp_walk_laws.proofs.Members.{none_in, in_cases, in_map, from_map, in_flat_map, from_flat_map}
-use Rattle.kp_walk_laws.proofs.NoClash.{one_endpoint, one_of_name}
-use Rattle.kp_walk_laws.proofs.Outcomes.{first_in, later_in}
+use Rattle.kp_choice_defs.proofs.ChainKeys.{one_endpoint}
+use Rattle.kp_walk_laws.proofs.NoClash.{one_of_name}
 use Rattle.kp_walk_laws.proofs.Services.{FindsPort}
 
 -- ---- The chains of one port
@@ -50,9 +50,12 @@ of_kinds f = f Svc ++ f Svl ++ f Ext ++ f Fw
 
 module _ (f : PortChain → List ChainKey) (k : ChainKey) where
   in_kinds : (kind : PortChain) → Contains (f kind) k → Contains (of_kinds f) k
-  in_kinds Svc c = Contains-append_left (f Svc ++ f Svl ++ f Ext) (f Fw) k (Contains-append_left (f Svc ++ f Svl) (f Ext) k (Contains-append_left (f Svc) (f Svl) k c))
-  in_kinds Svl c = Contains-append_left (f Svc ++ f Svl ++ f Ext) (f Fw) k (Contains-append_left (f Svc ++ f Svl) (f Ext) k (Contains-append_right (f Svc) (f Svl) k c))
-  in_kinds Ext c = Contains-append_left (f Svc ++ f Svl ++ f Ext) (f Fw) k (Contains-append_right (f Svc ++ f Svl) (f Ext) k c)
+  in_kinds Svc c = Contains-append_left (f Svc ++ f Svl ++ f Ext) (f Fw) k
+      (Contains-append_left (f Svc ++ f Svl) (f Ext) k (Contains-append_left (f Svc) (f Svl) k c))
+  in_kinds Svl c = Contains-append_left (f Svc ++ f Svl ++ f Ext) (f Fw) k
+      (Contains-append_left (f Svc ++ f Svl) (f Ext) k (Contains-append_right (f Svc) (f Svl) k c))
+  in_kinds Ext c = Contains-append_left (f Svc ++ f Svl ++ f Ext) (f Fw) k
+      (Contains-append_right (f Svc ++ f Svl) (f Ext) k c)
   in_kinds Fw c = Contains-append_right (f Svc ++ f Svl ++ f Ext) (f Fw) k c
 
   from_kinds : Contains (of_kinds f) k → (kind : PortChain) × Contains (f kind) k
@@ -60,9 +63,12 @@ module _ (f : PortChain → List ChainKey) (k : ChainKey) where
       elim (Contains-append_cases (f Svc ++ f Svl ++ f Ext) (f Fw) k c) [
         | inr d ↦ (Fw, d)
         | inl three ↦ elim (Contains-append_cases (f Svc ++ f Svl) (f Ext) k three) [
-            | inr d ↦ (Ext, d)
-            | inl two ↦ elim (Contains-append_cases (f Svc) (f Svl) k two) [ inr d ↦ (Svl, d) | inl d ↦ (Svc, d) ]
+          | inr d ↦ (Ext, d)
+          | inl two ↦ elim (Contains-append_cases (f Svc) (f Svl) k two) [
+            | inr d ↦ (Svl, d)
+            | inl d ↦ (Svc, d)
           ]
+        ]
       ]
 
 -- a key under a condition
@@ -85,8 +91,10 @@ port_of (key.Sep port e) = port
 
 -- the rules of a chain of a port
 abbrev pub key_rules : Setting → PortInfo → ChainKey → List Rule
-key_rules setting i (key.Port Svc port) = list_rules setting i (not (is_local_policy i.internal)) i.lists.cluster
-key_rules setting i (key.Port Svl port) = list_rules setting i (is_local_policy i.internal) i.lists.local
+key_rules setting i (key.Port Svc port) =
+    list_rules setting i (not (is_local_policy i.internal)) i.lists.cluster
+key_rules setting i (key.Port Svl port) =
+    list_rules setting i (is_local_policy i.internal) i.lists.local
 key_rules setting i (key.Port Ext port) = external_rules setting i i.outer
 key_rules setting i (key.Port Fw port) = firewall_chain_rules setting i i.ranges
 key_rules setting i (key.Sep port e) = endpoint_rules setting i e
@@ -95,6 +103,7 @@ key_rules setting i (key.Sep port e) = endpoint_rules setting i e
 abbrev pub row_in : TableName → Setting → PortInfo → ChainKey → Row
 row_in table setting i k = row table (setting.name_of k) (key_rules setting i k)
 
+-- in nat
 abbrev pub row_of : Setting → PortInfo → ChainKey → Row
 row_of setting i k = row_in Nat setting i k
 
@@ -117,23 +126,31 @@ module _ (setting : Setting) where
       let c : List ChainKey = keys_if (needs Ext i) (key.Port Ext i.key) in
       let d : List ChainKey = keys_if (needs Fw i) (key.Port Fw i.key) in
       let e : List ChainKey = map (key.Sep i.key) (all_endpoints i) in
-      ap₂ (λ r s. r ++ s ++ rows_if (needs Ext i) (f (key.Port Ext i.key) ∷ []) ++ rows_if (needs Fw i) (f (key.Port Fw i.key) ∷ []) ++ map (λ x. f (key.Sep i.key x)) (all_endpoints i))
+      ap₂ (λ r s. r ++ s ++ rows_if (needs Ext i)
+      (f (key.Port Ext i.key) ∷ []) ++ rows_if (needs Fw i)
+      (f (key.Port Fw i.key) ∷ []) ++ map (λ x. f (key.Sep i.key x)) (all_endpoints i))
       (row_if f (needs Svc i) (key.Port Svc i.key)) (row_if f (needs Svl i) (key.Port Svl i.key))
-      ∙ ap₂ (λ r s. map f a ++ map f b ++ r ++ s ++ map (λ x. f (key.Sep i.key x)) (all_endpoints i))
+      ∙ ap₂ (λ r s. map f a ++ map f b ++ r ++ s ++ map (λ x. f (key.Sep i.key x))
+      (all_endpoints i))
       (row_if f (needs Ext i) (key.Port Ext i.key)) (row_if f (needs Fw i) (key.Port Fw i.key))
-      ∙ ap₂ (λ r s. r ++ map f c ++ map f d ++ s) (sym (map-append f a b)) (sym (map-map f (key.Sep i.key) (all_endpoints i)))
+      ∙ ap₂ (λ r s. r ++ map f c ++ map f d ++ s) (sym (map-append f a b))
+      (sym (map-map f (key.Sep i.key) (all_endpoints i)))
       ∙ ap (λ r. r ++ map f d ++ map f e) (sym (map-append f (a ++ b) c))
       ∙ ap (λ r. r ++ map f e) (sym (map-append f (a ++ b ++ c) d))
       ∙ sym (map-append f (a ++ b ++ c ++ d) e)
       ∙ ap (λ t. map (row_in t setting i) (own_keys i)) (nat_is setting.family)
 
   -- the row of each key stands among the rows
-  pub row_stands : (i : PortInfo) (k : ChainKey) → Contains (own_keys i) k → Contains (port_rows setting i) (row_of setting i k)
-  row_stands i k c = subst (λ rs. Contains rs (row_of setting i k)) (sym (port_rows_are i)) (in_map (row_of setting i) k (own_keys i) c)
+  pub row_stands : (i : PortInfo) (k : ChainKey) → Contains (own_keys i) k
+      → Contains (port_rows setting i) (row_of setting i k)
+  row_stands i k c = subst (λ rs. Contains rs (row_of setting i k)) (sym (port_rows_are i))
+      (in_map (row_of setting i) k (own_keys i) c)
 
   -- and each row is that of a key
-  pub row_key : (i : PortInfo) (r : Row) → Contains (port_rows setting i) r → (k : ChainKey) × Contains (own_keys i) k × (row_of setting i k ≡ r)
-  row_key i r c = from_map (row_of setting i) r (own_keys i) (subst (λ rs. Contains rs r) (port_rows_are i) c)
+  pub row_key : (i : PortInfo) (r : Row) → Contains (port_rows setting i) r
+      → (k : ChainKey) × Contains (own_keys i) k × (row_of setting i k ≡ r)
+  row_key i r c =
+      from_map (row_of setting i) r (own_keys i) (subst (λ rs. Contains rs r) (port_rows_are i) c)
 
 -- ---- The keys of a port are needed
 
@@ -146,79 +163,88 @@ in_if true x h = first_in x []
 in_if false x h = absurd (cc)
 
 -- what holds of the chains that a port needs holds of its keys
-pub key_cases : (P : ChainKey → Type 0) (i : PortInfo) → ((kind : PortChain) → needs kind i ≡ true → P (key.Port kind i.key))
-    → ((e : Endpoint) → Contains (all_endpoints i) e → P (key.Sep i.key e)) → (k : ChainKey) → Contains (own_keys i) k → P k
+pub key_cases : (P : ChainKey → Type 0) (i : PortInfo)
+    → ((kind : PortChain) → needs kind i ≡ true → P (key.Port kind i.key))
+    → ((e : Endpoint) → Contains (all_endpoints i) e → P (key.Sep i.key e)) → (k : ChainKey)
+    → Contains (own_keys i) k → P k
 key_cases P i ports endpoints k c =
-    elim (Contains-append_cases (of_kinds (kind_key i)) (map (key.Sep i.key) (all_endpoints i)) k c) [
-      | inl d ↦ let (kind, in_it) = from_kinds (kind_key i) k d in let parts = from_if (needs kind i) (key.Port kind i.key) k in_it in subst P parts.1 (ports kind parts.0)
-      | inr d ↦ let (e, stands, is) = from_map (key.Sep i.key) k (all_endpoints i) d in subst P is (endpoints e stands)
+    elim (Contains-append_cases (of_kinds (kind_key i))
+    (map (key.Sep i.key) (all_endpoints i)) k c) [
+      | inl d ↦ let (kind, in_it) = from_kinds (kind_key i) k d in
+          let parts = from_if (needs kind i) (key.Port kind i.key) k in_it in
+          subst P parts.1 (ports kind parts.0)
+      | inr d ↦ let (e, stands, is) = from_map (key.Sep i.key) k (all_endpoints i) d in
+          subst P is (endpoints e stands)
     ]
 
 -- the key of each chain that a port needs is its own
-pub own_kind : (i : PortInfo) (kind : PortChain) → needs kind i ≡ true → Contains (own_keys i) (key.Port kind i.key)
+pub own_kind : (i : PortInfo) (kind : PortChain) → needs kind i ≡ true
+    → Contains (own_keys i) (key.Port kind i.key)
 own_kind i kind h =
-    Contains-append_left (of_kinds (kind_key i)) (map (key.Sep i.key) (all_endpoints i)) (key.Port kind i.key)
-    (in_kinds (kind_key i) (key.Port kind i.key) kind (in_if (needs kind i) (key.Port kind i.key) h))
+    Contains-append_left (of_kinds (kind_key i)) (map (key.Sep i.key) (all_endpoints i))
+    (key.Port kind i.key)
+    (in_kinds (kind_key i) (key.Port kind i.key) kind
+    (in_if (needs kind i) (key.Port kind i.key) h))
 
 -- and so is that of each endpoint
-pub own_endpoint : (i : PortInfo) (e : Endpoint) → Contains (all_endpoints i) e → Contains (own_keys i) (key.Sep i.key e)
+pub own_endpoint : (i : PortInfo) (e : Endpoint) → Contains (all_endpoints i) e
+    → Contains (own_keys i) (key.Sep i.key e)
 own_endpoint i e c =
-    Contains-append_right (of_kinds (kind_key i)) (map (key.Sep i.key) (all_endpoints i)) (key.Sep i.key e)
+    Contains-append_right (of_kinds (kind_key i)) (map (key.Sep i.key) (all_endpoints i))
+    (key.Sep i.key e)
     (in_map (key.Sep i.key) e (all_endpoints i) c)
 
 -- a key is of its port
 key_port : (i : PortInfo) (k : ChainKey) → Contains (own_keys i) k → port_of k ≡ i.key
 key_port i k c = key_cases (λ l. port_of l ≡ i.key) i (λ kind h. refl) (λ e h. refl) k c
 
-passing_in : {X : Type 0} (x : X) (b : Bool) (xs : List X) → b ≡ true → Contains (cond b (x ∷ xs) xs) x
-passing_in x true xs h = first_in x xs
-passing_in x false xs h = absurd (cc)
-
-behind_in : {X : Type 0} (x y : X) (b : Bool) (xs : List X) → Contains xs x → Contains (cond b (y ∷ xs) xs) x
-behind_in x y true xs c = later_in x y xs c
-behind_in x y false xs c = c
-
--- an element that passes is left by a filter
-in_filter : {X : Type 0} (p : X → Bool) (x : X) (xs : List X) → Contains xs x → p x ≡ true → Contains (filter p xs) x
-in_filter p x [] c h = absurd (none_in x c)
-in_filter p x (y ∷ ys) c h =
-    elim (in_cases x y ys c) [
-      | inl e ↦ subst (λ z. Contains (filter p (y ∷ ys)) z) e (passing_in y (p y) (filter p ys) (ap p e ∙ h))
-      | inr d ↦ behind_in x y (p y) (filter p ys) (in_filter p x ys d h)
-    ]
-
-local_by : (i : PortInfo) (f : Endpoint) → Contains i.lists.local f → (b : Bool) → has_endpoint i.lists.cluster f ≡ b → Contains (all_endpoints i) f
+local_by : (i : PortInfo) (f : Endpoint) → Contains i.lists.local f → (b : Bool)
+    → has_endpoint i.lists.cluster f ≡ b → Contains (all_endpoints i) f
 local_by i f c true h =
-    Contains-append_left i.lists.cluster (filter (λ e. not (has_endpoint i.lists.cluster e)) i.lists.local) f
-    (Contains-from_any {eq = λ a b. same_endpoint b a} (λ a b same. sym (one_endpoint b a same)) f i.lists.cluster h)
+    Contains-append_left i.lists.cluster (filter (λ e. not (has_endpoint i.lists.cluster e))
+    i.lists.local) f
+    (Contains-from_any {eq = λ a b. same_endpoint b a}
+    (λ a b same. sym (one_endpoint b a same)) f i.lists.cluster h)
 local_by i f c false h =
-    Contains-append_right i.lists.cluster (filter (λ e. not (has_endpoint i.lists.cluster e)) i.lists.local) f
+    Contains-append_right i.lists.cluster (filter (λ e. not (has_endpoint i.lists.cluster e))
+    i.lists.local) f
     (in_filter (λ e. not (has_endpoint i.lists.cluster e)) f i.lists.local c (ap not h))
 
 -- the endpoints of either list
-pub in_either : (i : PortInfo) (p : Policy) (f : Endpoint) → Contains (list_by_policy p i.lists) f → Contains (all_endpoints i) f
-in_either i Cluster f c = Contains-append_left i.lists.cluster (filter (λ e. not (has_endpoint i.lists.cluster e)) i.lists.local) f c
+pub in_either : (i : PortInfo) (p : Policy) (f : Endpoint) → Contains (list_by_policy p i.lists) f
+    → Contains (all_endpoints i) f
+in_either i Cluster f c = Contains-append_left i.lists.cluster
+    (filter (λ e. not (has_endpoint i.lists.cluster e)) i.lists.local) f c
 in_either i Local f c = local_by i f c (has_endpoint i.lists.cluster f) refl
 
 module _ {K : Type 0} (R : K → K → Ordering) (exact : IsAntisymmetric R) where
+  -- the keys of entries
   abbrev keys : List (K × K) → List K
   keys es = map (λ e. e.0) es
 
-  put_key_by : (k : K) (e : K × K) (es more : List (K × K)) → Contains (keys more) k → (o : Ordering) → R k e.0 ≡ o → Contains (keys (by_order o ((k, k) ∷ e ∷ es) ((e.0, k) ∷ es) (e ∷ more))) k
+  put_key_by : (k : K) (e : K × K) (es more : List (K × K)) → Contains (keys more) k
+      → (o : Ordering) → R k e.0 ≡ o
+      → Contains (keys (by_order o ((k, k) ∷ e ∷ es) ((e.0, k) ∷ es) (e ∷ more))) k
   put_key_by k e es more c Less h = first_in k (e.0 ∷ keys es)
-  put_key_by k e es more c Equal h = subst (λ x. Contains (x ∷ keys es) k) (exact k e.0 h) (first_in k (keys es))
+  put_key_by k e es more c Equal h =
+      subst (λ x. Contains (x ∷ keys es) k) (exact k e.0 h) (first_in k (keys es))
   put_key_by k e es more c Greater h = later_in k e.0 (keys more) c
 
   put_key : (k : K) (es : List (K × K)) → Contains (keys (put R k k es)) k
   put_key k [] = first_in k []
   put_key k (e ∷ es) = put_key_by k e es (put R k k es) (put_key k es) (R k e.0) refl
 
-  keep_by : (x k : K) (e : K × K) (es more : List (K × K)) → (Contains (keys es) x → Contains (keys more) x) → Contains (keys (e ∷ es)) x → (o : Ordering)
+  keep_by : (x k : K) (e : K × K) (es more : List (K × K))
+      → (Contains (keys es) x → Contains (keys more) x) → Contains (keys (e ∷ es)) x
+      → (o : Ordering)
       → Contains (keys (by_order o ((k, k) ∷ e ∷ es) ((e.0, k) ∷ es) (e ∷ more))) x
   keep_by x k e es more later c Less = later_in x k (keys (e ∷ es)) c
   keep_by x k e es more later c Equal = c
   keep_by x k e es more later c Greater =
-      elim (in_cases x e.0 (keys es) c) [ inl d ↦ subst (λ z. Contains (e.0 ∷ keys more) z) d (first_in e.0 (keys more)) | inr d ↦ later_in x e.0 (keys more) (later d) ]
+      elim (in_cases x e.0 (keys es) c) [
+        | inl d ↦ subst (λ z. Contains (e.0 ∷ keys more) z) d (first_in e.0 (keys more))
+        | inr d ↦ later_in x e.0 (keys more) (later d)
+      ]
 
   keep : (x k : K) (es : List (K × K)) → Contains (keys es) x → Contains (keys (put R k k es)) x
   keep x k [] c = absurd (none_in x c)
@@ -235,42 +261,47 @@ module _ {K : Type 0} (R : K → K → Ordering) (exact : IsAntisymmetric R) whe
       ]
 
 -- the keys of a port are among those that are needed
-pub own_needed : (infos : List PortInfo) (i : PortInfo) → Contains infos i → (k : ChainKey) → Contains (own_keys i) k → Contains (needed_keys infos) k
+pub own_needed : (infos : List PortInfo) (i : PortInfo) → Contains infos i → (k : ChainKey)
+    → Contains (own_keys i) k → Contains (needed_keys infos) k
 own_needed infos i c =
     let of_ports : PortChain → List ChainKey = λ kind. port_keys kind infos in
     key_cases (λ k. Contains (needed_keys infos) k) i
-    (λ kind h. Contains-append_left (of_kinds of_ports) (flat_map endpoint_keys infos) (key.Port kind i.key)
-    (in_kinds of_ports (key.Port kind i.key) kind (in_map (λ j. key.Port kind j.key) i (filter (needs kind) infos) (in_filter (needs kind) i infos c h))))
-    (λ e h. Contains-append_right (of_kinds of_ports) (flat_map endpoint_keys infos) (key.Sep i.key e)
+    (λ kind h. Contains-append_left (of_kinds of_ports) (flat_map endpoint_keys infos)
+    (key.Port kind i.key)
+    (in_kinds of_ports (key.Port kind i.key) kind
+    (in_map (λ j. key.Port kind j.key) i (filter (needs kind) infos)
+    (in_filter (needs kind) i infos c h))))
+    (λ e h. Contains-append_right (of_kinds of_ports) (flat_map endpoint_keys infos)
+    (key.Sep i.key e)
     (in_flat_map endpoint_keys i (key.Sep i.key e) infos c
-    (in_map (key.Sep i.key) e (distinct_in_order endpoint_cmp (all_endpoints i)) (in_distinct endpoint_cmp endpoint_exact (all_endpoints i) e h))))
-
-from_filter_by : {X : Type 0} (b : Bool) (x y : X) (xs ys : List X) → (Contains ys x → Contains xs x) → Contains (cond b (y ∷ ys) ys) x → Contains (y ∷ xs) x
-from_filter_by true x y xs ys h c = elim (in_cases x y ys c) [ inl e ↦ subst (Contains (y ∷ xs)) e (first_in y xs) | inr d ↦ later_in x y xs (h d) ]
-from_filter_by false x y xs ys h c = later_in x y xs (h c)
-
--- what a filter leaves is in the list
-from_filter : {X : Type 0} (p : X → Bool) (x : X) (xs : List X) → Contains (filter p xs) x → Contains xs x
-from_filter p x [] c = absurd (none_in x c)
-from_filter p x (y ∷ ys) c = from_filter_by (p y) x y ys (filter p ys) (from_filter p x ys) c
+    (in_map (key.Sep i.key) e (distinct_in_order endpoint_cmp (all_endpoints i))
+    (in_distinct endpoint_cmp endpoint_exact (all_endpoints i) e h))))
 
 -- each element in order is an element
-from_distinct : (es : List Endpoint) (e : Endpoint) → Contains (distinct_in_order endpoint_cmp es) e → Contains es e
+from_distinct : (es : List Endpoint) (e : Endpoint) → Contains (distinct_in_order endpoint_cmp es) e
+    → Contains es e
 from_distinct es e c =
-    let (entry, in_entries, is) = from_map (λ (p : Endpoint × Endpoint). p.0) e (in_order endpoint_cmp (map (λ k. (k, k)) es)) c in
-    let (x, in_es, twice) = from_map (λ k. (k, k)) entry es (from_in_order endpoint_cmp endpoint_exact (map (λ k. (k, k)) es) entry in_entries) in
+    let (entry, in_entries, is) = from_map (λ (p : Endpoint × Endpoint). p.0) e
+    (in_order endpoint_cmp (map (λ k. (k, k)) es)) c in
+    let (x, in_es, twice) = from_map (λ k. (k, k)) entry es
+    (from_in_order endpoint_cmp endpoint_exact (map (λ k. (k, k)) es) entry in_entries) in
     subst (Contains es) (ap (λ (p : Endpoint × Endpoint). p.0) twice ∙ is) in_es
 
 -- what holds of the chains of all ports holds of the needed keys
-pub needed_cases : (infos : List PortInfo) (P : ChainKey → Type 0) → ((kind : PortChain) (i : PortInfo) → Contains infos i → P (key.Port kind i.key))
-    → ((i : PortInfo) (e : Endpoint) → Contains infos i → Contains (all_endpoints i) e → P (key.Sep i.key e)) → (k : ChainKey) → Contains (needed_keys infos) k → P k
+pub needed_cases : (infos : List PortInfo) (P : ChainKey → Type 0)
+    → ((kind : PortChain) (i : PortInfo) → Contains infos i → P (key.Port kind i.key))
+    → ((i : PortInfo) (e : Endpoint) → Contains infos i → Contains (all_endpoints i) e
+    → P (key.Sep i.key e)) → (k : ChainKey) → Contains (needed_keys infos) k → P k
 needed_cases infos P ports endpoints k c =
-    elim (Contains-append_cases (of_kinds (λ kind. port_keys kind infos)) (flat_map endpoint_keys infos) k c) [
+    elim (Contains-append_cases (of_kinds (λ kind. port_keys kind infos))
+    (flat_map endpoint_keys infos) k c) [
       | inl d ↦ let (kind, in_it) = from_kinds (λ kind. port_keys kind infos) k d in
-          let (i, passes, is) = from_map (λ i. key.Port kind i.key) k (filter (needs kind) infos) in_it in
-          subst P is (ports kind i (from_filter (needs kind) i infos passes))
+          let (i, passes, is) =
+          from_map (λ i. key.Port kind i.key) k (filter (needs kind) infos) in_it in
+          subst P is (ports kind i (from_filter (needs kind) i infos passes).0)
       | inr d ↦ let (i, ci, in_its) = from_flat_map endpoint_keys k infos d in
-          let (e, stands, is) = from_map (key.Sep i.key) k (distinct_in_order endpoint_cmp (all_endpoints i)) in_its in
+          let (e, stands, is) = from_map (key.Sep i.key) k
+          (distinct_in_order endpoint_cmp (all_endpoints i)) in_its in
           subst P is (endpoints i e ci (from_distinct (all_endpoints i) e stands))
     ]
 
@@ -278,47 +309,76 @@ needed_cases infos P ports endpoints k c =
 
 module _ (setting : Setting) (infos : List PortInfo) (prefixed : IsPrefixed setting.name_of) where
   -- the name of a port's or an endpoint's chain is no fixed chain's
-  unfixed : (k : ChainKey) → list_any (λ r. bytes_eq (setting.name_of k) r.0.chain) (fixed_nat setting infos ++ fixed_filter setting infos) ≡ false
-  unfixed (key.Port Svc port) = ap (λ n. list_any (λ r. bytes_eq n r.0.chain) (fixed_nat setting infos ++ fixed_filter setting infos)) (prefixed.port Svc port).1
-  unfixed (key.Port Svl port) = ap (λ n. list_any (λ r. bytes_eq n r.0.chain) (fixed_nat setting infos ++ fixed_filter setting infos)) (prefixed.port Svl port).1
-  unfixed (key.Port Ext port) = ap (λ n. list_any (λ r. bytes_eq n r.0.chain) (fixed_nat setting infos ++ fixed_filter setting infos)) (prefixed.port Ext port).1
-  unfixed (key.Port Fw port) = ap (λ n. list_any (λ r. bytes_eq n r.0.chain) (fixed_nat setting infos ++ fixed_filter setting infos)) (prefixed.port Fw port).1
-  unfixed (key.Sep port e) = ap (λ n. list_any (λ r. bytes_eq n r.0.chain) (fixed_nat setting infos ++ fixed_filter setting infos)) (prefixed.endpoint port e).1
+  unfixed : (k : ChainKey) → list_any (λ r. bytes_eq (setting.name_of k) r.0.chain)
+      (fixed_nat setting infos ++ fixed_filter setting infos) ≡ false
+  unfixed (key.Port Svc port) =
+      ap (λ n. list_any (λ r. bytes_eq n r.0.chain)
+      (fixed_nat setting infos ++ fixed_filter setting infos)) (prefixed.port Svc port).1
+  unfixed (key.Port Svl port) =
+      ap (λ n. list_any (λ r. bytes_eq n r.0.chain)
+      (fixed_nat setting infos ++ fixed_filter setting infos)) (prefixed.port Svl port).1
+  unfixed (key.Port Ext port) =
+      ap (λ n. list_any (λ r. bytes_eq n r.0.chain)
+      (fixed_nat setting infos ++ fixed_filter setting infos)) (prefixed.port Ext port).1
+  unfixed (key.Port Fw port) =
+      ap (λ n. list_any (λ r. bytes_eq n r.0.chain)
+      (fixed_nat setting infos ++ fixed_filter setting infos)) (prefixed.port Fw port).1
+  unfixed (key.Sep port e) =
+      ap (λ n. list_any (λ r. bytes_eq n r.0.chain)
+      (fixed_nat setting infos ++ fixed_filter setting infos)) (prefixed.endpoint port e).1
 
   -- so a look-up of it passes over the fixed chains
-  find_made : (k : ChainKey) → look_up setting infos (record { table = Nat; chain = setting.name_of k }) ≡ find chain_cmp (record { table = Nat; chain = setting.name_of k }) (flat_map (port_rows setting) infos)
+  find_made : (k : ChainKey) → look_up setting infos
+      (record { table = Nat; chain = setting.name_of k })
+      ≡ find chain_cmp (record { table = Nat; chain = setting.name_of k })
+      (flat_map (port_rows setting) infos)
   find_made k =
       in_rows setting infos (record { table = Nat; chain = setting.name_of k })
-      ∙ pass_over (record { table = Nat; chain = setting.name_of k }) (fixed_nat setting infos ++ fixed_filter setting infos) (flat_map (port_rows setting) infos) (unfixed k)
+      ∙ pass_over (record { table = Nat; chain = setting.name_of k })
+      (fixed_nat setting infos ++ fixed_filter setting infos) (flat_map (port_rows setting) infos)
+      (unfixed k)
 
-  module _ (own : HaveOwnKeys infos) (apart : first_clash setting.name_of (needed_keys infos) ≡ None) where
+  module _ (own : HaveOwnKeys infos) (apart : first_clash setting.name_of (needed_keys infos)
+      ≡ None) where
     -- all rows of a chain's name have its rules
-    key_agrees : (i : PortInfo) → Contains infos i → (k : ChainKey) → Contains (own_keys i) k → (r : Row) → Contains (flat_map (port_rows setting) infos) r
+    key_agrees : (i : PortInfo) → Contains infos i → (k : ChainKey) → Contains (own_keys i) k
+        → (r : Row) → Contains (flat_map (port_rows setting) infos) r
         → r.0 ≡ record { table = Nat; chain = setting.name_of k } → r.1 ≡ key_rules setting i k
     key_agrees i c k ck r d same =
         let (j, cj, in_j) = from_flat_map (port_rows setting) r infos d in
         let (l, cl, is) = row_key setting j r in_j in
-        let one : l ≡ k = one_of_name setting.name_of (needed_keys infos) apart l k (own_needed infos j cj l cl) (own_needed infos i c k ck)
-            (ap (λ (s : Row). s.0.chain) is ∙ ap (λ (q : ChainAt). q.chain) same) in
-        let port : j ≡ i = own j i cj c (sym (key_port j l cl) ∙ ap port_of one ∙ key_port i k ck) in
+        let one : l ≡ k = one_of_name setting.name_of (needed_keys infos) apart l k
+        (own_needed infos j cj l cl) (own_needed infos i c k ck)
+        (ap (λ (s : Row). s.0.chain) is ∙ ap (λ (q : ChainAt). q.chain) same) in
+        let port : j ≡ i =
+        own j i cj c (sym (key_port j l cl) ∙ ap port_of one ∙ key_port i k ck) in
         ap (λ (s : Row). s.1) (sym is) ∙ ap₂ (λ p m. key_rules setting p m) port one
 
     -- a look-up finds the rules of each chain that a port needs
     pub finds_key : (i : PortInfo) → Contains infos i → (k : ChainKey) → Contains (own_keys i) k
-        → look_up setting infos (record { table = Nat; chain = setting.name_of k }) ≡ Some (key_rules setting i k)
+        → look_up setting infos (record { table = Nat; chain = setting.name_of k })
+        ≡ Some (key_rules setting i k)
     finds_key i c k ck =
         find_made k
-        ∙ agreed (record { table = Nat; chain = setting.name_of k }) (key_rules setting i k) (flat_map (port_rows setting) infos)
-        (in_flat_map (port_rows setting) i (row_of setting i k) infos c (row_stands setting i k ck)) (key_agrees i c k ck)
+        ∙ agreed (record { table = Nat; chain = setting.name_of k }) (key_rules setting i k)
+        (flat_map (port_rows setting) infos)
+        (in_flat_map (port_rows setting) i (row_of setting i k) infos c (row_stands setting i k ck))
+        (key_agrees i c k ck)
 
-    list_found : (i : PortInfo) → Contains infos i → (p : Policy) → i.internal ≡ p → not (is_empty (list_by_policy p i.lists)) ≡ true
-        → look_up setting infos (record { table = Nat; chain = port_chain setting i (chain_of_policy p) }) ≡ Some (list_rules setting i true (list_by_policy p i.lists))
-    list_found i c Cluster h some = finds_key i c (key.Port Svc i.key) (own_kind i Svc some) ∙ ap (λ q. Some (list_rules setting i (not (is_local_policy q)) i.lists.cluster)) h
-    list_found i c Local h some = finds_key i c (key.Port Svl i.key) (own_kind i Svl some) ∙ ap (λ q. Some (list_rules setting i (is_local_policy q) i.lists.local)) h
+    list_found : (i : PortInfo) → Contains infos i → (p : Policy) → i.internal ≡ p
+        → not (is_empty (list_by_policy p i.lists)) ≡ true
+        → look_up setting infos
+        (record { table = Nat; chain = port_chain setting i (chain_of_policy p) })
+        ≡ Some (list_rules setting i true (list_by_policy p i.lists))
+    list_found i c Cluster h some = finds_key i c (key.Port Svc i.key) (own_kind i Svc some)
+        ∙ ap (λ q. Some (list_rules setting i (not (is_local_policy q)) i.lists.cluster)) h
+    list_found i c Local h some = finds_key i c (key.Port Svl i.key) (own_kind i Svl some)
+        ∙ ap (λ q. Some (list_rules setting i (is_local_policy q) i.lists.local)) h
 
     -- and so the chains for traffic to its cluster address
     pub finds_port : (i : PortInfo) → Contains infos i → FindsPort setting (look_up setting infos) i
     finds_port i c = record {
       list = list_found i c i.internal refl;
-      endpoints = λ f cf. finds_key i c (key.Sep i.key f) (own_endpoint i f (in_either i i.internal f cf));
+      endpoints = λ f cf. finds_key i c (key.Sep i.key f)
+          (own_endpoint i f (in_either i i.internal f cf));
     }

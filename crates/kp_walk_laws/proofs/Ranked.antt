@@ -4,6 +4,8 @@ use Rattle.std.specs.FinMap.{entries, get}
 use Rattle.std.specs.List.{list_all}
 use Rattle.std.proofs.lemmas.Bool.{and_from}
 use Rattle.std.proofs.lemmas.List.Elements.{Contains-append_right}
+use Rattle.kp_lemmas.proofs.Members.{first_in, later_in, in_flat_map, all_from, from_all, all_map, all_flat_map}
+use Rattle.kp_lemmas.proofs.ListFacts.{test_append}
 use Rattle.kp_base.specs.Net.{AddressParts, RangeParts}
 use Rattle.kp_base.specs.declared.key.Endpoint.{Endpoint}
 use Rattle.kp_base.specs.declared.address.Family.{Family}
@@ -34,8 +36,6 @@ use Rattle.kp_table_defs.specs.Rebuild.{Chains, full_chains, needs}
 use Rattle.kp_table_defs.specs.StandIn.{hex_text}
 use Rattle.kp_walk_laws.specs.Laws.{IsClusterOnly, IsPrefixed, StandInPrefixed, HashedPrefixed, FullTableRanked}
 use Rattle.kp_walk_laws.proofs.Entries.{from_in_order, entries_in_order}
-use Rattle.kp_walk_laws.proofs.Outcomes.{first_in, later_in}
-use Rattle.kp_walk_laws.proofs.Members.{in_flat_map, all_append, all_map, all_flat_map, all_from, from_all}
 use Rattle.kp_walk_laws.proofs.ListChains.{and_false, plain_list}
 use Rattle.kp_walk_laws.proofs.Lookups.{Row, look_up, fixed_nat, fixed_filter, rows_written, in_rows, is_found, finds_nat, finds_filter}
 use Rattle.kp_walk_laws.proofs.FirstHook.{FindsNat}
@@ -51,54 +51,83 @@ module _ (chains : Chains) where
   GoOn table rank rules = list_all (λ r. goes_on chains table rank r.target) rules ≡ true
 
   -- a jump to a chain that stands and has a greater rank goes on
-  jump_on : (table : TableName) (rank other : ℕ) (chain : List ℕ) → is_some (get chains (record { table = table; chain = chain })) ≡ true → rank_of (record { table = table; chain = chain }) ≡ Some other
+  jump_on : (table : TableName) (rank other : ℕ) (chain : List ℕ)
+      → is_some (get chains (record { table = table; chain = chain })) ≡ true
+      → rank_of (record { table = table; chain = chain }) ≡ Some other
       → nat_lt rank other ≡ true → goes_on chains table rank (target.Jump chain) ≡ true
   jump_on table rank other chain found ranked above =
-      and_from (is_some (get chains (record { table = table; chain = chain }))) (is_above rank (rank_of (record { table = table; chain = chain }))) found (ap (is_above rank) ranked ∙ above)
+      and_from (is_some (get chains (record { table = table; chain = chain })))
+      (is_above rank (rank_of (record { table = table; chain = chain }))) found
+      (ap (is_above rank) ranked ∙ above)
 
   -- rules that stand under a condition
-  on_if : (table : TableName) (rank : ℕ) (b : Bool) (rules : List Rule) → (b ≡ true → GoOn table rank rules) → GoOn table rank (rules_if b rules)
+  on_if : (table : TableName) (rank : ℕ) (b : Bool) (rules : List Rule)
+      → (b ≡ true → GoOn table rank rules) → GoOn table rank (rules_if b rules)
   on_if table rank true rules h = h refl
   on_if table rank false rules h = refl
 
-  refusal_on : (table : TableName) (rank : ℕ) (b : Bool) → goes_on chains table rank (refusal_target b) ≡ true
+  refusal_on : (table : TableName) (rank : ℕ) (b : Bool)
+      → goes_on chains table rank (refusal_target b) ≡ true
   refusal_on table rank true = refl
   refusal_on table rank false = refl
 
-  one_on : (table : TableName) (rank : ℕ) (r : Rule) → goes_on chains table rank r.target ≡ true → GoOn table rank (r ∷ [])
+  one_on : (table : TableName) (rank : ℕ) (r : Rule) → goes_on chains table rank r.target ≡ true
+      → GoOn table rank (r ∷ [])
   one_on table rank r h = and_from (goes_on chains table rank r.target) true h refl
 
-  choice_on : (table : TableName) (rank : ℕ) (name : Endpoint → List ℕ) (es : List Endpoint) → ((f : Endpoint) → Contains es f → goes_on chains table rank (target.Jump (name f)) ≡ true) → GoOn table rank (choice_rules name es)
+  choice_on : (table : TableName) (rank : ℕ) (name : Endpoint → List ℕ) (es : List Endpoint)
+      → ((f : Endpoint) → Contains es f → goes_on chains table rank (target.Jump (name f)) ≡ true)
+      → GoOn table rank (choice_rules name es)
   choice_on table rank name [] h = refl
-  choice_on table rank name (e ∷ []) h = and_from (goes_on chains table rank (target.Jump (name e))) true (h e (first_in e [])) refl
+  choice_on table rank name (e ∷ []) h =
+      and_from (goes_on chains table rank (target.Jump (name e))) true (h e (first_in e [])) refl
   choice_on table rank name (e ∷ f ∷ es) h =
-      and_from (goes_on chains table rank (target.Jump (name e))) (list_all (λ r. goes_on chains table rank r.target) (choice_rules name (f ∷ es))) (h e (first_in e (f ∷ es)))
+      and_from (goes_on chains table rank (target.Jump (name e)))
+      (list_all (λ r. goes_on chains table rank r.target) (choice_rules name (f ∷ es)))
+      (h e (first_in e (f ∷ es)))
       (choice_on table rank name (f ∷ es) (λ g c. h g (later_in g e (f ∷ es) c)))
 
-  marks_on : (table : TableName) (rank : ℕ) (all : Bool) (cluster : Option RangeParts) (i : PortInfo) → goes_on chains table rank (target.Jump mark_masq) ≡ true → GoOn table rank (mark_rules all cluster i)
-  marks_on table rank true cluster i h = and_from (goes_on chains table rank (target.Jump mark_masq)) true h refl
+  marks_on : (table : TableName) (rank : ℕ) (all : Bool) (cluster : Option RangeParts)
+      (i : PortInfo) → goes_on chains table rank (target.Jump mark_masq) ≡ true
+      → GoOn table rank (mark_rules all cluster i)
+  marks_on table rank true cluster i h =
+      and_from (goes_on chains table rank (target.Jump mark_masq)) true h refl
   marks_on table rank false None i h = refl
-  marks_on table rank false (Some r) i h = and_from (goes_on chains table rank (target.Jump mark_masq)) true h refl
+  marks_on table rank false (Some r) i h =
+      and_from (goes_on chains table rank (target.Jump mark_masq)) true h refl
 
   firewall_on : (i : PortInfo) → GoOn Filter 1 (firewall_block i)
-  firewall_on i = on_if Filter 1 (has_firewall i) (map (rule_at i target.Drop) i.balancer) (λ _. all_map (λ r. goes_on chains Filter 1 r.target) (rule_at i target.Drop) i.balancer (λ a c. refl))
+  firewall_on i = on_if Filter 1 (has_firewall i) (map (rule_at i target.Drop) i.balancer)
+      (λ _. all_map (λ r. goes_on chains Filter 1 r.target) (rule_at i target.Drop) i.balancer
+      (λ a c. refl))
 
-  node_refusal_on : (family : Family) (i : PortInfo) (b : Bool) (port : Option ℕ) → GoOn Filter 1 (node_port_refusal family i (refusal_target b) port)
+  node_refusal_on : (family : Family) (i : PortInfo) (b : Bool) (port : Option ℕ)
+      → GoOn Filter 1 (node_port_refusal family i (refusal_target b) port)
   node_refusal_on family i b None = refl
-  node_refusal_on family i b (Some n) = and_from (goes_on chains Filter 1 (refusal_target b)) true (refusal_on Filter 1 b) refl
+  node_refusal_on family i b (Some n) =
+      and_from (goes_on chains Filter 1 (refusal_target b)) true (refusal_on Filter 1 b) refl
 
   external_on : (family : Family) (i : PortInfo) → GoOn Filter 1 (external_block family i)
   external_on family i =
       let t : Target = refusal_target i.lists.has_any in
       let goes : Rule → Bool = λ r. goes_on chains Filter 1 r.target in
-      let refuses : (addresses : List AddressParts) → GoOn Filter 1 (map (rule_at i t) addresses) = λ addresses. all_map goes (rule_at i t) addresses (λ a c. refusal_on Filter 1 i.lists.has_any) in
-      on_if Filter 1 (is_empty (external_list i)) (map (rule_at i t) i.external ++ map (rule_at i t) i.balancer ++ node_port_refusal family i t i.node_port)
-      (λ _. all_append goes (map (rule_at i t) i.external ++ map (rule_at i t) i.balancer) (node_port_refusal family i t i.node_port)
-      (all_append goes (map (rule_at i t) i.external) (map (rule_at i t) i.balancer) (refuses i.external) (refuses i.balancer))
+      let refuses : (addresses : List AddressParts)
+      → GoOn Filter 1 (map (rule_at i t) addresses) = λ addresses. all_map goes
+      (rule_at i t) addresses (λ a c. refusal_on Filter 1 i.lists.has_any) in
+      on_if Filter 1 (is_empty (external_list i))
+      (map (rule_at i t) i.external ++ map (rule_at i t) i.balancer
+      ++ node_port_refusal family i t i.node_port)
+      (λ _. test_append goes (map (rule_at i t) i.external ++ map (rule_at i t) i.balancer)
+      (node_port_refusal family i t i.node_port)
+      (test_append goes (map (rule_at i t) i.external) (map (rule_at i t) i.balancer)
+      (refuses i.external) (refuses i.balancer))
       (node_refusal_on family i i.lists.has_any i.node_port))
 
   rejects_on : (i : PortInfo) → GoOn Filter 1 (refusal_block i)
-  rejects_on i = on_if Filter 1 (is_empty (internal_list i)) (rule_at i (refusal_target i.lists.has_any) i.address ∷ []) (λ _. one_on Filter 1 (rule_at i (refusal_target i.lists.has_any) i.address) (refusal_on Filter 1 i.lists.has_any))
+  rejects_on i = on_if Filter 1 (is_empty (internal_list i))
+      (rule_at i (refusal_target i.lists.has_any) i.address ∷ [])
+      (λ _. one_on Filter 1 (rule_at i (refusal_target i.lists.has_any) i.address)
+      (refusal_on Filter 1 i.lists.has_any))
 
 -- ---- The full table
 
@@ -112,99 +141,144 @@ key_rank (key.Sep port e) = 6
 
 -- a port that answers at its cluster address alone needs no chain for traffic from outside
 no_outside : (i : PortInfo) → IsClusterOnly i → needs Ext i ≡ false
-no_outside i h = ap₂ (λ a b. is_reachable a b i.node_port && i.lists.has_any) h.external h.balancer ∙ ap (λ n. is_reachable [] [] n && i.lists.has_any) h.node_port
+no_outside i h = ap₂ (λ a b. is_reachable a b i.node_port && i.lists.has_any) h.external h.balancer
+    ∙ ap (λ n. is_reachable [] [] n && i.lists.has_any) h.node_port
 
 no_firewall : (i : PortInfo) → IsClusterOnly i → needs Fw i ≡ false
-no_firewall i h = ap (λ b. is_some i.ranges && (not (is_empty b) && i.lists.has_any)) h.balancer ∙ sym (and_false (is_some i.ranges))
+no_firewall i h = ap (λ b. is_some i.ranges && (not (is_empty b) && i.lists.has_any)) h.balancer
+    ∙ sym (and_false (is_some i.ranges))
 
-module _ (setting : Setting) (infos : List PortInfo) (prefixed : IsPrefixed setting.name_of) (plain : (i : PortInfo) → Contains infos i → IsClusterOnly i) where
+module _ (setting : Setting) (infos : List PortInfo) (prefixed : IsPrefixed setting.name_of)
+    (plain : (i : PortInfo) → Contains infos i → IsClusterOnly i) where
+  -- the full table
   abbrev table : Chains
   table = full_chains setting infos
 
+  -- a row has a rank, and its jumps go on
   abbrev IsRankedRow : Row → Type 0
   IsRankedRow r = is_ranked_chain table r ≡ true
 
   -- a chain has its rank by what its name begins with
-  made_rank : (k : ChainKey) → rank_of (record { table = Nat; chain = setting.name_of k }) ≡ Some (key_rank k)
-  made_rank (key.Port Fw port) = ap (λ n. rank_of (record { table = Nat; chain = n })) (prefixed.port Fw port).1
-  made_rank (key.Port Ext port) = ap (λ n. rank_of (record { table = Nat; chain = n })) (prefixed.port Ext port).1
-  made_rank (key.Port Svc port) = ap (λ n. rank_of (record { table = Nat; chain = n })) (prefixed.port Svc port).1
-  made_rank (key.Port Svl port) = ap (λ n. rank_of (record { table = Nat; chain = n })) (prefixed.port Svl port).1
-  made_rank (key.Sep port e) = ap (λ n. rank_of (record { table = Nat; chain = n })) (prefixed.endpoint port e).1
+  made_rank : (k : ChainKey) → rank_of (record { table = Nat; chain = setting.name_of k })
+      ≡ Some (key_rank k)
+  made_rank (key.Port Fw port) =
+      ap (λ n. rank_of (record { table = Nat; chain = n })) (prefixed.port Fw port).1
+  made_rank (key.Port Ext port) =
+      ap (λ n. rank_of (record { table = Nat; chain = n })) (prefixed.port Ext port).1
+  made_rank (key.Port Svc port) =
+      ap (λ n. rank_of (record { table = Nat; chain = n })) (prefixed.port Svc port).1
+  made_rank (key.Port Svl port) =
+      ap (λ n. rank_of (record { table = Nat; chain = n })) (prefixed.port Svl port).1
+  made_rank (key.Sep port e) =
+      ap (λ n. rank_of (record { table = Nat; chain = n })) (prefixed.endpoint port e).1
 
   -- a jump to a chain that a port needs goes on
-  goes : (i : PortInfo) → Contains infos i → (k : ChainKey) → Contains (own_keys i) k → (rank : ℕ) → nat_lt rank (key_rank k) ≡ true
+  goes : (i : PortInfo) → Contains infos i → (k : ChainKey) → Contains (own_keys i) k → (rank : ℕ)
+      → nat_lt rank (key_rank k) ≡ true
       → goes_on table Nat rank (target.Jump (setting.name_of k)) ≡ true
   goes i c k ck rank above =
       let q : ChainAt = record { table = Nat; chain = setting.name_of k } in
       let stands : Contains (rows_of setting infos) (row_of setting i k) =
-          Contains-append_right (nat_rows setting infos ++ filter_rows setting.family infos) (flat_map (port_rows setting) infos) (row_of setting i k)
-          (in_flat_map (port_rows setting) i (row_of setting i k) infos c (row_stands setting i k ck)) in
-      jump_on table Nat rank (key_rank k) (setting.name_of k) (is_found setting infos q (key_rules setting i k) stands) (made_rank k) above
+      Contains-append_right (nat_rows setting infos ++ filter_rows setting.family infos)
+      (flat_map (port_rows setting) infos) (row_of setting i k)
+      (in_flat_map (port_rows setting) i (row_of setting i k) infos c
+      (row_stands setting i k ck)) in
+      jump_on table Nat rank (key_rank k) (setting.name_of k)
+      (is_found setting infos q (key_rules setting i k) stands) (made_rank k) above
 
   marks : (rank : ℕ) → nat_lt rank 7 ≡ true → goes_on table Nat rank (target.Jump mark_masq) ≡ true
-  marks rank h = jump_on table Nat rank 7 mark_masq (ap is_some (finds_nat setting infos).mark) refl h
+  marks rank h =
+      jump_on table Nat rank 7 mark_masq (ap is_some (finds_nat setting infos).mark) refl h
 
   -- the chain of a list
-  list_on : (i : PortInfo) → Contains infos i → (p : Policy) (internal : Bool) → GoOn table Nat 5 (list_rules setting i internal (list_by_policy p i.lists))
+  list_on : (i : PortInfo) → Contains infos i → (p : Policy) (internal : Bool)
+      → GoOn table Nat 5 (list_rules setting i internal (list_by_policy p i.lists))
   list_on i c p internal =
       let rules : List Rule = mark_rules setting.config.masquerade_all setting.config.cluster i in
       let es : List Endpoint = list_by_policy p i.lists in
       subst (GoOn table Nat 5) (sym (plain_list setting i internal es (plain i c).affinity))
-      (all_append (λ r. goes_on table Nat 5 r.target) (rules_if internal rules) (choice_rules (endpoint_chain setting i) es)
-      (on_if table Nat 5 internal rules (λ _. marks_on table Nat 5 setting.config.masquerade_all setting.config.cluster i (marks 5 refl)))
-      (choice_on table Nat 5 (endpoint_chain setting i) es (λ f d. goes i c (key.Sep i.key f) (own_endpoint i f (in_either i p f d)) 5 refl)))
+      (test_append (λ r. goes_on table Nat 5 r.target) (rules_if internal rules)
+      (choice_rules (endpoint_chain setting i) es)
+      (on_if table Nat 5 internal rules (λ _.
+      marks_on table Nat 5 setting.config.masquerade_all setting.config.cluster i (marks 5 refl)))
+      (choice_on table Nat 5 (endpoint_chain setting i) es
+      (λ f d. goes i c (key.Sep i.key f) (own_endpoint i f (in_either i p f d)) 5 refl)))
 
-  kind_ranked : (i : PortInfo) → Contains infos i → (kind : PortChain) → needs kind i ≡ true → IsRankedRow (row_of setting i (key.Port kind i.key))
-  kind_ranked i c Svc need = ap (λ o. jumps_go_on table Nat o (key_rules setting i (key.Port Svc i.key))) (made_rank (key.Port Svc i.key)) ∙ list_on i c Cluster (not (is_local_policy i.internal))
-  kind_ranked i c Svl need = ap (λ o. jumps_go_on table Nat o (key_rules setting i (key.Port Svl i.key))) (made_rank (key.Port Svl i.key)) ∙ list_on i c Local (is_local_policy i.internal)
+  kind_ranked : (i : PortInfo) → Contains infos i → (kind : PortChain) → needs kind i ≡ true
+      → IsRankedRow (row_of setting i (key.Port kind i.key))
+  kind_ranked i c Svc need =
+      ap (λ o. jumps_go_on table Nat o (key_rules setting i (key.Port Svc i.key)))
+      (made_rank (key.Port Svc i.key)) ∙ list_on i c Cluster (not (is_local_policy i.internal))
+  kind_ranked i c Svl need =
+      ap (λ o. jumps_go_on table Nat o (key_rules setting i (key.Port Svl i.key)))
+      (made_rank (key.Port Svl i.key)) ∙ list_on i c Local (is_local_policy i.internal)
   kind_ranked i c Ext need = absurd (true≢false (sym need ∙ no_outside i (plain i c)))
   kind_ranked i c Fw need = absurd (true≢false (sym need ∙ no_firewall i (plain i c)))
 
-  port_ranked : (i : PortInfo) → Contains infos i → (r : Row) → Contains (port_rows setting i) r → IsRankedRow r
+  port_ranked : (i : PortInfo) → Contains infos i → (r : Row) → Contains (port_rows setting i) r
+      → IsRankedRow r
   port_ranked i c r d =
       let (k, ck, is) = row_key setting i r d in
       subst IsRankedRow is (key_cases (λ l. IsRankedRow (row_of setting i l)) i (kind_ranked i c)
-      (λ e in_e. ap (λ o. jumps_go_on table Nat o (endpoint_rules setting i e)) (made_rank (key.Sep i.key e))
+      (λ e in_e. ap (λ o. jumps_go_on table Nat o (endpoint_rules setting i e))
+      (made_rank (key.Sep i.key e))
       ∙ and_from (goes_on table Nat 6 (target.Jump mark_masq)) true (marks 6 refl) refl) k ck)
 
-  to_list : (i : PortInfo) → Contains infos i → (p : Policy) → not (is_empty (list_by_policy p i.lists)) ≡ true → goes_on table Nat 1 (target.Jump (port_chain setting i (chain_of_policy p))) ≡ true
+  to_list : (i : PortInfo) → Contains infos i → (p : Policy)
+      → not (is_empty (list_by_policy p i.lists)) ≡ true
+      → goes_on table Nat 1 (target.Jump (port_chain setting i (chain_of_policy p))) ≡ true
   to_list i c Cluster some = goes i c (key.Port Svc i.key) (own_kind i Svc some) 1 refl
   to_list i c Local some = goes i c (key.Port Svl i.key) (own_kind i Svl some) 1 refl
 
   service_on : (i : PortInfo) → Contains infos i → GoOn table Nat 1 (service_block setting i)
   service_on i c =
-      let rule : Rule = rule_at i (target.Jump (port_chain setting i (chain_of_policy i.internal))) i.address in
+      let rule : Rule =
+      rule_at i (target.Jump (port_chain setting i (chain_of_policy i.internal))) i.address in
       subst (GoOn table Nat 1) (sym (service_block_is setting i (plain i c)))
-      (on_if table Nat 1 (not (is_empty (internal_list i))) (rule ∷ []) (λ some. one_on table Nat 1 rule (to_list i c i.internal some)))
+      (on_if table Nat 1 (not (is_empty (internal_list i))) (rule ∷ [])
+      (λ some. one_on table Nat 1 rule (to_list i c i.internal some)))
 
   module _ (finds : FindsNat setting infos (look_up setting infos)) where
-    services_ranked : GoOn table Nat 1 (flat_map (service_block setting) infos ++ rule_of (own_addresses setting.family) (target.Jump kube_node_ports) ∷ [])
+    services_ranked : GoOn table Nat 1 (flat_map (service_block setting) infos
+        ++ rule_of (own_addresses setting.family) (target.Jump kube_node_ports) ∷ [])
     services_ranked =
-        all_append (λ r. goes_on table Nat 1 r.target) (flat_map (service_block setting) infos) (rule_of (own_addresses setting.family) (target.Jump kube_node_ports) ∷ [])
+        test_append (λ r. goes_on table Nat 1 r.target) (flat_map (service_block setting) infos)
+        (rule_of (own_addresses setting.family) (target.Jump kube_node_ports) ∷ [])
         (all_flat_map (λ r. goes_on table Nat 1 r.target) (service_block setting) infos service_on)
-        (one_on table Nat 1 (rule_of (own_addresses setting.family) (target.Jump kube_node_ports)) (jump_on table Nat 1 2 kube_node_ports (ap is_some finds.node_ports) refl refl))
+        (one_on table Nat 1 (rule_of (own_addresses setting.family) (target.Jump kube_node_ports))
+        (jump_on table Nat 1 2 kube_node_ports (ap is_some finds.node_ports) refl refl))
 
     node_ports_ranked : GoOn table Nat 2 (flat_map (node_port_block setting) infos)
-    node_ports_ranked = all_flat_map (λ r. goes_on table Nat 2 r.target) (node_port_block setting) infos (λ i c. subst (GoOn table Nat 2) (sym (no_node_ports setting i (plain i c))) refl)
+    node_ports_ranked = all_flat_map (λ r. goes_on table Nat 2 r.target)
+        (node_port_block setting) infos (λ i c. subst (GoOn table Nat 2)
+        (sym (no_node_ports setting i (plain i c))) refl)
 
     to_services : GoOn table Nat 0 (jump_to kube_services ∷ [])
-    to_services = one_on table Nat 0 (jump_to kube_services) (jump_on table Nat 0 1 kube_services (ap is_some finds.services) refl refl)
+    to_services = one_on table Nat 0 (jump_to kube_services)
+        (jump_on table Nat 0 1 kube_services (ap is_some finds.services) refl refl)
 
     nat_ranked : list_all (is_ranked_chain table) (fixed_nat setting infos) ≡ true
     nat_ranked =
-        and_from (list_all (λ r. goes_on table Nat 0 r.target) (jump_to kube_services ∷ [])) _ to_services
-        (and_from (list_all (λ r. goes_on table Nat 0 r.target) (jump_to kube_services ∷ [])) _ to_services
-        (and_from (list_all (λ r. goes_on table Nat 0 r.target) (jump_to kube_postrouting ∷ [])) _ (one_on table Nat 0 (jump_to kube_postrouting) (jump_on table Nat 0 1 kube_postrouting (ap is_some finds.masquerade) refl refl))
-        (and_from (list_all (λ r. goes_on table Nat 2 r.target) (flat_map (node_port_block setting) infos)) _ node_ports_ranked
-        (and_from (list_all (λ r. goes_on table Nat 1 r.target) (flat_map (service_block setting) infos ++ rule_of (own_addresses setting.family) (target.Jump kube_node_ports) ∷ [])) true services_ranked refl))))
+        and_from (list_all (λ r. goes_on table Nat 0 r.target) (jump_to kube_services ∷ [])) _
+        to_services
+        (and_from (list_all (λ r. goes_on table Nat 0 r.target) (jump_to kube_services ∷ [])) _
+        to_services
+        (and_from (list_all (λ r. goes_on table Nat 0 r.target) (jump_to kube_postrouting ∷ [])) _
+        (one_on table Nat 0 (jump_to kube_postrouting)
+        (jump_on table Nat 0 1 kube_postrouting (ap is_some finds.masquerade) refl refl))
+        (and_from (list_all (λ r. goes_on table Nat 2 r.target)
+        (flat_map (node_port_block setting) infos)) _ node_ports_ranked
+        (and_from (list_all (λ r. goes_on table Nat 1 r.target)
+        (flat_map (service_block setting) infos ++ rule_of (own_addresses setting.family)
+        (target.Jump kube_node_ports) ∷ [])) true services_ranked refl))))
 
   module _ (finds : FindsFilter setting.family infos (look_up setting infos)) where
     on_firewall : goes_on table Filter 0 (target.Jump kube_proxy_firewall) ≡ true
     on_firewall = jump_on table Filter 0 1 kube_proxy_firewall (ap is_some finds.firewall) refl refl
 
     on_external : goes_on table Filter 0 (target.Jump kube_external_services) ≡ true
-    on_external = jump_on table Filter 0 1 kube_external_services (ap is_some finds.external) refl refl
+    on_external =
+        jump_on table Filter 0 1 kube_external_services (ap is_some finds.external) refl refl
 
     on_services : goes_on table Filter 0 (target.Jump kube_services) ≡ true
     on_services = jump_on table Filter 0 1 kube_services (ap is_some finds.services) refl refl
@@ -213,58 +287,97 @@ module _ (setting : Setting) (infos : List PortInfo) (prefixed : IsPrefixed sett
     on_forward = jump_on table Filter 0 1 kube_forward (ap is_some finds.marked) refl refl
 
     -- a jump before other rules
-    before : (chain : List ℕ) (rules : List Rule) → goes_on table Filter 0 (target.Jump chain) ≡ true → GoOn table Filter 0 rules → GoOn table Filter 0 (jump_to chain ∷ rules)
-    before chain rules h k = and_from (goes_on table Filter 0 (target.Jump chain)) (list_all (λ r. goes_on table Filter 0 r.target) rules) h k
+    before : (chain : List ℕ) (rules : List Rule)
+        → goes_on table Filter 0 (target.Jump chain) ≡ true → GoOn table Filter 0 rules
+        → GoOn table Filter 0 (jump_to chain ∷ rules)
+    before chain rules h k = and_from (goes_on table Filter 0 (target.Jump chain))
+        (list_all (λ r. goes_on table Filter 0 r.target) rules) h k
 
-    input_ranked : GoOn table Filter 0 (jump_to kube_proxy_firewall ∷ jump_to kube_external_services ∷ [])
-    input_ranked = before kube_proxy_firewall (jump_to kube_external_services ∷ []) on_firewall (before kube_external_services [] on_external refl)
+    input_ranked : GoOn table Filter 0 (jump_to kube_proxy_firewall ∷ jump_to kube_external_services
+        ∷ [])
+    input_ranked = before kube_proxy_firewall (jump_to kube_external_services ∷ []) on_firewall
+        (before kube_external_services [] on_external refl)
 
-    forward_ranked : GoOn table Filter 0 (jump_to kube_proxy_firewall ∷ jump_to kube_external_services ∷ jump_to kube_services ∷ jump_to kube_forward ∷ [])
+    forward_ranked : GoOn table Filter 0 (jump_to kube_proxy_firewall
+        ∷ jump_to kube_external_services ∷ jump_to kube_services ∷ jump_to kube_forward ∷ [])
     forward_ranked =
-        before kube_proxy_firewall (jump_to kube_external_services ∷ jump_to kube_services ∷ jump_to kube_forward ∷ []) on_firewall
-        (before kube_external_services (jump_to kube_services ∷ jump_to kube_forward ∷ []) on_external
-        (before kube_services (jump_to kube_forward ∷ []) on_services (before kube_forward [] on_forward refl)))
+        before kube_proxy_firewall (jump_to kube_external_services ∷ jump_to kube_services
+        ∷ jump_to kube_forward ∷ []) on_firewall
+        (before kube_external_services (jump_to kube_services ∷ jump_to kube_forward ∷ [])
+        on_external
+        (before kube_services (jump_to kube_forward ∷ []) on_services
+        (before kube_forward [] on_forward refl)))
 
     output_ranked : GoOn table Filter 0 (jump_to kube_proxy_firewall ∷ jump_to kube_services ∷ [])
-    output_ranked = before kube_proxy_firewall (jump_to kube_services ∷ []) on_firewall (before kube_services [] on_services refl)
+    output_ranked = before kube_proxy_firewall (jump_to kube_services ∷ []) on_firewall
+        (before kube_services [] on_services refl)
 
     filter_ranked : list_all (is_ranked_chain table) (fixed_filter setting infos) ≡ true
     filter_ranked =
-        and_from (list_all (λ r. goes_on table Filter 0 r.target) (jump_to kube_proxy_firewall ∷ jump_to kube_external_services ∷ [])) _ input_ranked
-        (and_from (list_all (λ r. goes_on table Filter 0 r.target) (jump_to kube_proxy_firewall ∷ jump_to kube_external_services ∷ jump_to kube_services ∷ jump_to kube_forward ∷ [])) _ forward_ranked
-        (and_from (list_all (λ r. goes_on table Filter 0 r.target) (jump_to kube_proxy_firewall ∷ jump_to kube_services ∷ [])) _ output_ranked
-        (and_from (list_all (λ r. goes_on table Filter 1 r.target) (flat_map firewall_block infos)) _ (all_flat_map (λ r. goes_on table Filter 1 r.target) firewall_block infos (λ i c. firewall_on table i))
-        (and_from (list_all (λ r. goes_on table Filter 1 r.target) (flat_map (external_block setting.family) infos)) _ (all_flat_map (λ r. goes_on table Filter 1 r.target) (external_block setting.family) infos (λ i c. external_on table setting.family i))
-        (and_from (list_all (λ r. goes_on table Filter 1 r.target) (flat_map refusal_block infos)) true (all_flat_map (λ r. goes_on table Filter 1 r.target) refusal_block infos (λ i c. rejects_on table i)) refl)))))
+        and_from (list_all (λ r. goes_on table Filter 0 r.target)
+        (jump_to kube_proxy_firewall ∷ jump_to kube_external_services ∷ [])) _ input_ranked
+        (and_from (list_all (λ r. goes_on table Filter 0 r.target)
+        (jump_to kube_proxy_firewall ∷ jump_to kube_external_services ∷ jump_to kube_services
+        ∷ jump_to kube_forward ∷ [])) _ forward_ranked
+        (and_from (list_all (λ r. goes_on table Filter 0 r.target)
+        (jump_to kube_proxy_firewall ∷ jump_to kube_services ∷ [])) _ output_ranked
+        (and_from (list_all (λ r. goes_on table Filter 1 r.target) (flat_map firewall_block infos))
+        _ (all_flat_map (λ r. goes_on table Filter 1 r.target) firewall_block infos
+        (λ i c. firewall_on table i))
+        (and_from (list_all (λ r. goes_on table Filter 1 r.target)
+        (flat_map (external_block setting.family) infos)) _
+        (all_flat_map (λ r. goes_on table Filter 1 r.target) (external_block setting.family) infos
+        (λ i c. external_on table setting.family i))
+        (and_from (list_all (λ r. goes_on table Filter 1 r.target) (flat_map refusal_block infos))
+        true (all_flat_map (λ r. goes_on table Filter 1 r.target) refusal_block infos
+        (λ i c. rejects_on table i)) refl)))))
 
   rows_ranked : list_all (is_ranked_chain table) (rows_of setting infos) ≡ true
   rows_ranked =
       ap (list_all (is_ranked_chain table)) (rows_written setting infos)
-      ∙ all_append (is_ranked_chain table) (fixed_nat setting infos ++ fixed_filter setting infos) (flat_map (port_rows setting) infos)
-      (all_append (is_ranked_chain table) (fixed_nat setting infos) (fixed_filter setting infos) (nat_ranked (finds_nat setting infos)) (filter_ranked (finds_filter setting infos)))
-      (all_flat_map (is_ranked_chain table) (port_rows setting) infos (λ i c. all_from (is_ranked_chain table) (port_rows setting i) (port_ranked i c)))
+      ∙ test_append (is_ranked_chain table) (fixed_nat setting infos ++ fixed_filter setting infos)
+      (flat_map (port_rows setting) infos)
+      (test_append (is_ranked_chain table) (fixed_nat setting infos) (fixed_filter setting infos)
+      (nat_ranked (finds_nat setting infos)) (filter_ranked (finds_filter setting infos)))
+      (all_flat_map (is_ranked_chain table) (port_rows setting) infos
+      (λ i c. all_from (is_ranked_chain table) (port_rows setting i) (port_ranked i c)))
 
   table_ranked : is_ranked table ≡ true
   table_ranked =
-      all_from (is_ranked_chain table) (entries table) (λ r c. from_all (is_ranked_chain table) (rows_of setting infos) rows_ranked r (from_in_order chain_cmp chain_exact (rows_of setting infos) r (subst (λ es. Contains es r) (entries_in_order chain_total (rows_of setting infos)) c)))
+      all_from (is_ranked_chain table) (entries table)
+      (λ r c. from_all (is_ranked_chain table) (rows_of setting infos) rows_ranked r
+      (from_in_order chain_cmp chain_exact (rows_of setting infos) r
+      (subst (λ es. Contains es r) (entries_in_order chain_total (rows_of setting infos)) c)))
 
+  -- the full table has a chain
   abbrev has : TableName → List ℕ → Bool
   has at chain = is_some (get table (record { table = at; chain = chain }))
 
   built_in : (at : TableName) → has_built_in table at ≡ true
   built_in Nat =
-      and_from (has Nat (codes "PREROUTING")) _ (ap is_some (in_rows setting infos (record { table = Nat; chain = codes "PREROUTING" })))
-      (and_from (has Nat (codes "INPUT")) _ (ap is_some (in_rows setting infos (record { table = Nat; chain = codes "INPUT" })))
-      (and_from (has Nat (codes "OUTPUT")) _ (ap is_some (in_rows setting infos (record { table = Nat; chain = codes "OUTPUT" })))
-      (and_from (has Nat (codes "POSTROUTING")) true (ap is_some (in_rows setting infos (record { table = Nat; chain = codes "POSTROUTING" }))) refl)))
+      and_from (has Nat (codes "PREROUTING")) _
+      (ap is_some (in_rows setting infos (record { table = Nat; chain = codes "PREROUTING" })))
+      (and_from (has Nat (codes "INPUT")) _ (ap is_some
+      (in_rows setting infos (record { table = Nat; chain = codes "INPUT" })))
+      (and_from (has Nat (codes "OUTPUT")) _
+      (ap is_some (in_rows setting infos (record { table = Nat; chain = codes "OUTPUT" })))
+      (and_from (has Nat (codes "POSTROUTING")) true
+      (ap is_some (in_rows setting infos (record { table = Nat; chain = codes "POSTROUTING" })))
+      refl)))
   built_in Filter =
-      and_from (has Filter (codes "INPUT")) _ (ap is_some (in_rows setting infos (record { table = Filter; chain = codes "INPUT" })))
-      (and_from (has Filter (codes "FORWARD")) _ (ap is_some (in_rows setting infos (record { table = Filter; chain = codes "FORWARD" })))
-      (and_from (has Filter (codes "OUTPUT")) true (ap is_some (in_rows setting infos (record { table = Filter; chain = codes "OUTPUT" }))) refl))
+      and_from (has Filter (codes "INPUT")) _
+      (ap is_some (in_rows setting infos (record { table = Filter; chain = codes "INPUT" })))
+      (and_from (has Filter (codes "FORWARD")) _
+      (ap is_some (in_rows setting infos (record { table = Filter; chain = codes "FORWARD" })))
+      (and_from (has Filter (codes "OUTPUT")) true
+      (ap is_some (in_rows setting infos (record { table = Filter; chain = codes "OUTPUT" })))
+      refl))
 
 pub full_table_ranked_by : FullTableRanked
-full_table_ranked_by setting infos prefixed plain =
-    record { ranked = table_ranked setting infos prefixed plain; built_in = built_in setting infos prefixed plain }
+full_table_ranked_by setting infos prefixed plain = record {
+  ranked = table_ranked setting infos prefixed plain;
+  built_in = built_in setting infos prefixed plain;
+}
 
 pub stand_in_prefixed_by : StandInPrefixed
 stand_in_prefixed_by = record {

@@ -31,7 +31,8 @@ below_if false x n h = omega arith
 pub selected_below : (draws : ℕ → ℕ) (k n : ℕ) → selected_index draws k (suc n) < suc n
 selected_below draws k zero = omega arith
 selected_below draws k (suc n) =
-    below_if (draw_matches (probability_of (suc (suc n))) (draw_at draws k)) (selected_index draws (suc k) (suc n)) (suc n) (selected_below draws (suc k) n)
+    below_if (draw_matches (probability_of (suc (suc n))) (draw_at draws k))
+    (selected_index draws (suc k) (suc n)) (suc n) (selected_below draws (suc k) n)
 
 -- a place in a list has an element
 get_below : {X : Type 0} (xs : List X) (k : ℕ) → k < length xs → is_some (slice_get xs k) ≡ true
@@ -40,67 +41,88 @@ get_below (x ∷ xs) zero h = refl
 get_below (x ∷ xs) (suc k) h = get_below xs k (omega arith)
 
 -- an endpoint is selected of a list that isn't empty
-pub selected_some : {X : Type 0} (draws : ℕ → ℕ) (xs : List X) → not (is_empty xs) ≡ true → is_some (slice_get xs (selected_index draws 0 (length xs))) ≡ true
+pub selected_some : {X : Type 0} (draws : ℕ → ℕ) (xs : List X) → not (is_empty xs) ≡ true
+    → is_some (slice_get xs (selected_index draws 0 (length xs))) ≡ true
 selected_some draws [] h = absurd (cc)
-selected_some draws (x ∷ xs) h = get_below (x ∷ xs) (selected_index draws 0 (suc (length xs))) (selected_below draws 0 (length xs))
+selected_some draws (x ∷ xs) h = get_below (x ∷ xs) (selected_index draws 0 (suc (length xs)))
+    (selected_below draws 0 (length xs))
 
 some_of_map : {X Y : Type 0} (f : X → Y) (o : Option X) → is_some (option_map f o) ≡ is_some o
 some_of_map f None = refl
 some_of_map f (Some x) = refl
 
-some_remembered : (name : Endpoint → List ℕ) (source : AddressParts) (now : ℕ) (c : Option Chosen) → is_some (remembered name source now c) ≡ is_some c
+some_remembered : (name : Endpoint → List ℕ) (source : AddressParts) (now : ℕ) (c : Option Chosen)
+    → is_some (remembered name source now c) ≡ is_some c
 some_remembered name source now None = refl
 some_remembered name source now (Some c) = refl
 
 module _ (setting : Setting) (by_draws : setting.pick ≡ pick_by_draws) where
-  drawn_some : (draws : ℕ → ℕ) (es : List Endpoint) (lists : RecentParts) → not (is_empty es) ≡ true → is_some (drawn setting draws es lists) ≡ true
+  drawn_some : (draws : ℕ → ℕ) (es : List Endpoint) (lists : RecentParts) → not (is_empty es) ≡ true
+      → is_some (drawn setting draws es lists) ≡ true
   drawn_some draws es lists h =
       ap (λ (p : Pick). is_some (drawn_at es (p draws (length es)) lists)) by_draws
-      ∙ some_of_map (drawn_as (selected_index draws 0 (length es)) lists) (slice_get es (selected_index draws 0 (length es)))
+      ∙ some_of_map (drawn_as (selected_index draws 0 (length es)) lists)
+      (slice_get es (selected_index draws 0 (length es)))
       ∙ selected_some draws es h
 
-  found_some : (draws : ℕ → ℕ) (es : List Endpoint) (lists : RecentParts) (found : Option (Endpoint × ℕ)) → not (is_empty es) ≡ true → is_some (found_or setting draws es lists found) ≡ true
+  found_some : (draws : ℕ → ℕ) (es : List Endpoint) (lists : RecentParts)
+      (found : Option (Endpoint × ℕ)) → not (is_empty es) ≡ true
+      → is_some (found_or setting draws es lists found) ≡ true
   found_some draws es lists None h = drawn_some draws es lists h
   found_some draws es lists (Some p) h = refl
 
   -- an endpoint is chosen of a list that isn't empty
-  chosen_some : (port : PortKey) (affinity : Option ℕ) (source : AddressParts) (now : ℕ) (draws : ℕ → ℕ) (es : List Endpoint) (lists : RecentParts)
-      → not (is_empty es) ≡ true → is_some (chosen_endpoint setting port affinity source now draws es lists) ≡ true
+  chosen_some : (port : PortKey) (affinity : Option ℕ) (source : AddressParts) (now : ℕ)
+      (draws : ℕ → ℕ) (es : List Endpoint) (lists : RecentParts)
+      → not (is_empty es) ≡ true
+      → is_some (chosen_endpoint setting port affinity source now draws es lists) ≡ true
   chosen_some port None source now draws es lists h = drawn_some draws es lists h
   chosen_some port (Some seconds) source now draws es lists h =
       let look = live_endpoint (recent_name setting port) source now seconds 0 es lists in
-      some_remembered (recent_name setting port) source now (found_or setting draws es look.lists look.found)
+      some_remembered (recent_name setting port) source now
+      (found_or setting draws es look.lists look.found)
       ∙ found_some draws es look.lists look.found h
 
   -- a door that offers an endpoint translates
-  pub translates : (packet : Packet) (draws : ℕ → ℕ) (lists : RecentParts) (d : Door) → not (is_empty (offer_of setting.config packet d).endpoints) ≡ true
+  pub translates : (packet : Packet) (draws : ℕ → ℕ) (lists : RecentParts) (d : Door)
+      → not (is_empty (offer_of setting.config packet d).endpoints) ≡ true
       → is_some (translation_at setting packet draws lists d) ≡ true
   translates packet draws lists d h =
       some_of_map _ (choice_at setting packet draws lists d)
-      ∙ chosen_some d.info.key d.info.affinity packet.source packet.now draws (offer_of setting.config packet d).endpoints lists h
+      ∙ chosen_some d.info.key d.info.affinity packet.source packet.now draws
+      (offer_of setting.config packet d).endpoints lists h
 
 -- the state of a packet that was translated
 abbrev pub translated_state : FamilyConfig → Surroundings → WalkState → Translation → WalkState
 translated_state config e s t =
     marked_if (is_marked config t.door.kind t.door.info s.source t.chosen.endpoint)
-    (record s { used = used_after e.draws s.used (length t.offer.endpoints); lists = t.chosen.lists })
+    (record s {
+      used = used_after e.draws s.used (length t.offer.endpoints);
+      lists =
+          t.chosen.lists;
+    })
 
 -- the end of the first hook by a translation
 abbrev pub translating : Setting → Surroundings → WalkState → Option Translation → Outcome
 translating setting e s None = Stuck
 translating setting e s (Some t) =
     Ended (ending.Dnat t.chosen.endpoint)
-    (port_chain setting t.door.info (chain_of_policy t.door.info.internal) ∷ endpoint_chain setting t.door.info t.chosen.endpoint ∷ [])
+    (port_chain setting t.door.info (chain_of_policy t.door.info.internal)
+    ∷ endpoint_chain setting t.door.info t.chosen.endpoint ∷ [])
     (translated_state setting.config e s t)
 
 -- what a door does that takes a packet
 abbrev pub taken_by : Setting → Surroundings → WalkState → Door → Outcome
-taken_by setting e s d = translating setting e s (translation_at setting (packet_of e s) e.draws s.lists d)
+taken_by setting e s d =
+    translating setting e s (translation_at setting (packet_of e s) e.draws s.lists d)
 
-translating_last : (setting : Setting) (e : Surroundings) (s : WalkState) (t : Option Translation) → IsLast (translating setting e s t)
+translating_last : (setting : Setting) (e : Surroundings) (s : WalkState) (t : Option Translation)
+    → IsLast (translating setting e s t)
 translating_last setting e s None = stuck_last
 translating_last setting e s (Some t) = ended_last _ _ _
 
 -- nothing is tried behind a door that takes a packet
-pub taken_last : (setting : Setting) (e : Surroundings) (s : WalkState) (d : Door) → IsLast (taken_by setting e s d)
-taken_last setting e s d = translating_last setting e s (translation_at setting (packet_of e s) e.draws s.lists d)
+pub taken_last : (setting : Setting) (e : Surroundings) (s : WalkState) (d : Door)
+    → IsLast (taken_by setting e s d)
+taken_last setting e s d =
+    translating_last setting e s (translation_at setting (packet_of e s) e.draws s.lists d)

@@ -1,5 +1,5 @@
--- The laws of the walk over the full table. For now they speak of Service ports that answer at their cluster
--- address alone.
+-- The laws of the walk over the full table. For now they speak of Service ports that answer at
+-- their cluster address alone.
 use Rattle.std.specs.Prelude.{◌≡◌, ℕ, ◌^◌, ◌<◌, ◌≤◌, true, List, [], ◌++◌, codes, length, None}
 use Rattle.std.specs.List.{Contains}
 use Rattle.std.specs.FinMap.{get, values}
@@ -7,8 +7,9 @@ use Rattle.kp_base.specs.declared.key.PortKey.{PortKey}
 use Rattle.kp_base.specs.declared.key.Endpoint.{Endpoint}
 use Rattle.kp_base.specs.declared.address.Family.{Family}
 use Rattle.kp_base.specs.declared.address.Family.TheVariants.{V4}
+use Rattle.kp_base.specs.declared.config.Config.{Config}
 use Rattle.kp_types.specs.Chains.{is_chain_name}
-use Rattle.kp_types.specs.Setting.{FamilyConfig, Naming, Setting}
+use Rattle.kp_types.specs.Setting.{FamilyConfig, Naming, Setting, config_for}
 use Rattle.kp_types.specs.declared.chain.ChainKey.{ChainKey}
 use Rattle.kp_types.specs.declared.chain.ChainKey.TheVariants as key
 use Rattle.kp_types.specs.declared.chain.TableName.{TableName}
@@ -18,7 +19,7 @@ use Rattle.kp_types.specs.declared.service.Service.{Service}
 use Rattle.kp_types.specs.declared.service.ServiceKind.TheVariants.{ClusterIp}
 use Rattle.kp_choice_defs.specs.Names.{chain_name, first_clash, port_chain_prefix}
 use Rattle.kp_choice_defs.specs.Recent.{RecentParts}
-use Rattle.kp_choice_defs.specs.Settings.{pick_by_draws}
+use Rattle.kp_choice_defs.specs.Settings.{pick_by_draws, setting_of}
 use Rattle.kp_object_defs.specs.Objects.{Objects}
 use Rattle.kp_object_defs.specs.PortInfo.{PortInfo, port_infos}
 use Rattle.kp_door_defs.specs.Decision.{Decided, decision_from, decision_of}
@@ -52,20 +53,24 @@ pub record Agree (w : Walked) (d : Decided) : Type 0 where
   pub verdict : w.verdict ≡ d.verdict
   pub lists : w.lists ≡ d.lists
 
--- Walking the full table decides each packet as the objects do, where no two chains that are needed have one
--- name.
+-- Walking the full table decides each packet as the objects do, where no two chains that are needed
+-- have one name.
 abbrev pub WalkDecides : Type 0
 WalkDecides =
-    (setting : Setting) (infos : List PortInfo) (packet : Packet) (draws : ℕ → ℕ) (lists : RecentParts)
+    (setting : Setting) (infos : List PortInfo) (packet : Packet) (draws : ℕ → ℕ)
+    (lists : RecentParts)
     → setting.pick ≡ pick_by_draws → IsPrefixed setting.name_of → HaveOwnKeys infos
     → ((i : PortInfo) → Contains infos i → IsClusterOnly i)
     → first_clash setting.name_of (needed_keys infos) ≡ None
-    → Agree (walk_of (λ q. get (full_chains setting infos) q) setting.config.addresses packet draws lists)
+    → Agree
+    (walk_of (λ q. get (full_chains setting infos) q) setting.config.addresses packet draws lists)
     (decision_from setting infos packet draws lists)
 
 -- The ports of some objects have keys of their own.
 abbrev pub PortKeysOnce : Type 0
-PortKeysOnce = (family : Family) (config : FamilyConfig) (o : Objects) → HaveOwnKeys (port_infos family config o)
+PortKeysOnce =
+    (family : Family) (config : FamilyConfig) (o : Objects)
+    → HaveOwnKeys (port_infos family config o)
 
 -- So over objects a clash is all that can be in the way.
 abbrev pub WalkDecidesObjects : Type 0
@@ -74,8 +79,22 @@ WalkDecidesObjects =
     → setting.pick ≡ pick_by_draws → IsPrefixed setting.name_of
     → ((i : PortInfo) → Contains (port_infos setting.family setting.config o) i → IsClusterOnly i)
     → clash_of setting o ≡ None
-    → Agree (walk_of (λ q. get (full_table setting o).chains q) setting.config.addresses packet draws lists)
+    → Agree
+    (walk_of (λ q. get (full_table setting o).chains q) setting.config.addresses packet draws lists)
     (decision_of setting o packet draws lists)
+
+-- Under the product's names and picks nothing else is asked.
+abbrev pub ProductDecides : Type 0
+ProductDecides =
+    (family : Family) (config : Config) (o : Objects) (packet : Packet) (draws : ℕ → ℕ)
+    (lists : RecentParts)
+    → ((i : PortInfo)
+    → Contains (port_infos family (config_for family config) o) i → IsClusterOnly i)
+    → clash_of (setting_of family config) o ≡ None
+    → Agree
+    (walk_of (λ q. get (full_table (setting_of family config) o).chains q) config.addresses packet
+    draws lists)
+    (decision_of (setting_of family config) o packet draws lists)
 
 -- an endpoint of IPv4, whose numbers are those that an address and a port may have
 pub record IsSmall (f : Endpoint) : Type 0 where
@@ -97,7 +116,8 @@ StandInNames = (k : ChainKey) → is_chain_name (stand_in_name k) ≡ true
 -- Without session affinity no rule of the full table asks or changes a recent list.
 abbrev pub FullTablePlain : Type 0
 FullTablePlain =
-    (setting : Setting) (infos : List PortInfo) → ((i : PortInfo) → Contains infos i → i.affinity ≡ None)
+    (setting : Setting) (infos : List PortInfo)
+    → ((i : PortInfo) → Contains infos i → i.affinity ≡ None)
     → HasNoRecent (λ q. get (full_chains setting infos) q)
 
 -- a Service of type ClusterIP with no external address or session affinity
@@ -121,7 +141,8 @@ StandInPrefixed = IsPrefixed stand_in_name
 abbrev pub HashedPrefixed : Type 0
 HashedPrefixed = (length : ℕ) → IsPrefixed (chain_name length)
 
--- Each jump of the full table goes to a chain that it has, of a greater rank, and it has the built-in chains.
+-- Each jump of the full table goes to a chain that it has, of a greater rank, and it has the
+-- built-in chains.
 pub record IsSound (chains : Chains) : Type 0 where
   pub ranked : is_ranked chains ≡ true
   pub built_in : (table : TableName) → has_built_in chains table ≡ true

@@ -1,6 +1,7 @@
--- Worked examples of walks: on a node with the address 10.0.0.9, in a cluster whose pods have addresses in
--- 10.244.0.0/16, a Service has the cluster address 10.0.0.1 and the port 80 of TCP, and its endpoints are pods.
-use Rattle.std.specs.Prelude.{◌≡◌, ℕ, ◌+◌, ◌*◌, ◌^◌, true, false, List, [], ◌∷◌, not, codes, Some, None}
+-- Worked examples of walks: on a node with the address 10.0.0.9, in a cluster whose pods have
+-- addresses in 10.244.0.0/16, a Service has the cluster address 10.0.0.1 and the port 80 of TCP,
+-- and its endpoints are pods.
+use Rattle.std.specs.Prelude.{◌≡◌, ℕ, ◌+◌, ◌*◌, ◌^◌, true, false, List, [], ◌∷◌, not, codes, Some, None, is_some}
 use Rattle.std.specs.FinMap as map
 use Rattle.std.proofs.Common.{lit≤}
 use Rattle.kp_base.specs.Net.{AddressParts, v4_address}
@@ -10,18 +11,24 @@ use Rattle.kp_base.specs.declared.port.Proto.TheVariants.{Tcp, Udp}
 use Rattle.kp_base.specs.declared.key.Endpoint.{Endpoint}
 use Rattle.kp_base.specs.declared.config.Config.{Config}
 use Rattle.kp_types.specs.Places.{chain_cmp}
+use Rattle.kp_types.specs.Setting.{Setting}
 use Rattle.kp_types.specs.declared.packet.Packet.{Packet}
 use Rattle.kp_types.specs.declared.packet.Origin.TheVariants.{Wire}
 use Rattle.kp_types.specs.declared.service.Policy.TheVariants.{Cluster}
 use Rattle.kp_types.specs.declared.verdict.Verdict.{Verdict}
 use Rattle.kp_types.specs.declared.verdict.Verdict.TheVariants.{To, Rejected, LeftAlone}
 use Rattle.kp_choice_defs.specs.Draws.{draw_of_list}
+use Rattle.kp_choice_defs.specs.Names.{first_clash}
 use Rattle.kp_choice_defs.specs.Recent.{RecentParts}
+use Rattle.kp_choice_defs.specs.Settings.{setting_of}
 use Rattle.kp_object_defs.specs.Desired.{is_empty}
 use Rattle.kp_object_defs.specs.PortInfo.{PortInfo}
+use Rattle.kp_door_defs.specs.Decision.{decision_from}
 use Rattle.kp_table_defs.specs.Layout.{rows_of}
+use Rattle.kp_table_defs.specs.Rebuild.{full_chains, needed_keys}
 use Rattle.kp_table_defs.specs.StandIn.{stand_in_setting}
 use Rattle.kp_table_defs.specs.Walk.{walk_of}
+use Rattle.kp_walk_laws.specs.Laws.{Agree}
 
 -- the address 10.0.0.0 + n
 abbrev pub host : ℕ → AddressParts
@@ -56,12 +63,16 @@ config = record {
 abbrev pub endpoint_at : ℕ → Endpoint
 endpoint_at n = record { address = pod n; port = 8080 }
 
--- the Service's port, with these endpoints
-abbrev pub port_with : List Endpoint → PortInfo
-port_with es = record {
-  key = record { object = record { namespace = codes "default"; name = codes "web" }; port_name = codes "http"; proto = Tcp };
+-- a port of a Service of this name, at the address 10.0.0.0 + n, with these endpoints
+abbrev pub port_of : List ℕ → ℕ → List Endpoint → PortInfo
+port_of name n es = record {
+  key = record {
+    object = record { namespace = codes "default"; name = name };
+    port_name = codes "http";
+    proto = Tcp;
+  };
   number = 80;
-  address = host 1;
+  address = host n;
   external = [];
   balancer = [];
   node_port = None;
@@ -72,19 +83,39 @@ port_with es = record {
   lists = record { cluster = es; local = []; has_any = not (is_empty es) };
 }
 
+-- the Service's port, with these endpoints
+abbrev pub port_with : List Endpoint → PortInfo
+port_with es = port_of (codes "web") 1 es
+
 -- recent lists of no source
 abbrev pub no_lists : RecentParts
 no_lists = record { size = 100; parts = map.empty }
 
+-- a packet from the network to the address 10.0.0.0 + n
+abbrev pub packet_to : ℕ → AddressParts → Proto → Packet
+packet_to n source proto = record {
+  from = Wire;
+  source = source;
+  target = host n;
+  proto = proto;
+  port = 80;
+  now = 0;
+}
+
 -- a packet from the network to the Service
 abbrev pub packet_from : AddressParts → Proto → Packet
-packet_from source proto = record { from = Wire; source = source; target = host 1; proto = proto; port = 80; now = 0 }
+packet_from source proto = packet_to 1 source proto
 
--- the verdict of the walk of a packet with these draws, where the Service has these endpoints
+-- the verdict of the walk of a packet with these draws, over the table of some ports
+abbrev pub verdict_in : Setting → List PortInfo → Packet → List ℕ → Verdict
+verdict_in setting infos packet draws =
+    (walk_of (λ q. map.find chain_cmp q (rows_of setting infos)) setting.config.addresses
+    packet (draw_of_list draws) no_lists).verdict
+
+-- the verdict where the Service has these endpoints
 abbrev pub verdict_on : List Endpoint → Packet → List ℕ → Verdict
 verdict_on endpoints packet draws =
-    (walk_of (λ q. map.find chain_cmp q (rows_of (stand_in_setting V4 config) (port_with endpoints ∷ []))) config.addresses
-    packet (draw_of_list draws) no_lists).verdict
+    verdict_in (stand_in_setting V4 config) (port_with endpoints ∷ []) packet draws
 
 -- three endpoints
 abbrev pub three : List Endpoint
@@ -92,19 +123,25 @@ three = endpoint_at 1 ∷ endpoint_at 2 ∷ endpoint_at 3 ∷ []
 
 -- a packet of a pod goes to the one endpoint, whatever is drawn
 abbrev pub OneEndpoint : Type 0
-OneEndpoint = verdict_on (endpoint_at 1 ∷ []) (packet_from (pod 5) Tcp) [] ≡ To (endpoint_at 1) false
+OneEndpoint =
+    verdict_on (endpoint_at 1 ∷ []) (packet_from (pod 5) Tcp) [] ≡ To (endpoint_at 1) false
 
 -- the first of three has one third of the draws
 abbrev pub FirstOfThree : Type 0
-FirstOfThree = verdict_on three (packet_from (pod 5) Tcp) (715827882 ∷ []) ≡ To (endpoint_at 1) false
+FirstOfThree =
+    verdict_on three (packet_from (pod 5) Tcp) (715827882 ∷ []) ≡ To (endpoint_at 1) false
 
 -- the second has one half of those that are left
 abbrev pub SecondOfThree : Type 0
-SecondOfThree = verdict_on three (packet_from (pod 5) Tcp) (715827883 ∷ 1073741823 ∷ []) ≡ To (endpoint_at 2) false
+SecondOfThree =
+    verdict_on three (packet_from (pod 5) Tcp) (715827883 ∷ 1073741823 ∷ [])
+    ≡ To (endpoint_at 2) false
 
 -- and the third has the rest
 abbrev pub ThirdOfThree : Type 0
-ThirdOfThree = verdict_on three (packet_from (pod 5) Tcp) (715827883 ∷ 1073741824 ∷ []) ≡ To (endpoint_at 3) false
+ThirdOfThree =
+    verdict_on three (packet_from (pod 5) Tcp) (715827883 ∷ 1073741824 ∷ [])
+    ≡ To (endpoint_at 3) false
 
 -- what an endpoint sends to itself is masqueraded
 abbrev pub ToItself : Type 0
@@ -121,3 +158,38 @@ NoEndpoints = verdict_on [] (packet_from (pod 5) Tcp) [] ≡ Rejected
 -- a packet of another protocol is no Service's
 abbrev pub OtherProtocol : Type 0
 OtherProtocol = verdict_on three (packet_from (pod 5) Udp) (0 ∷ []) ≡ LeftAlone
+
+-- the setting of a configuration under which names are prefixes alone
+abbrev pub prefixes : Setting
+prefixes = setting_of V4 (record config { name_length = 0; name_to = lit≤ tt })
+
+-- two Services, one of them without endpoints
+abbrev pub two_ports : List PortInfo
+two_ports = port_with (endpoint_at 1 ∷ []) ∷ port_of (codes "api") 2 [] ∷ []
+
+-- The lists of both would have one name, but only one is needed, and so nothing clashes:
+abbrev pub TwoUnclashed : Type 0
+TwoUnclashed = first_clash prefixes.name_of (needed_keys two_ports) ≡ None
+
+-- the one with an endpoint sends to it
+abbrev pub FirstOfTwo : Type 0
+FirstOfTwo = verdict_in prefixes two_ports (packet_to 1 (pod 5) Tcp) [] ≡ To (endpoint_at 1) false
+
+-- and the other one rejects
+abbrev pub SecondOfTwo : Type 0
+SecondOfTwo = verdict_in prefixes two_ports (packet_to 2 (pod 5) Tcp) [] ≡ Rejected
+
+-- and so each packet is decided as the objects do
+abbrev pub TwoDecided : Type 0
+TwoDecided =
+    (packet : Packet) (draws : ℕ → ℕ) (lists : RecentParts)
+    → Agree
+    (walk_of (λ q. map.get (full_chains prefixes two_ports) q) config.addresses packet draws lists)
+    (decision_from prefixes two_ports packet draws lists)
+
+-- With endpoints behind both, the lists clash.
+abbrev pub TwoClashed : Type 0
+TwoClashed =
+    is_some (first_clash prefixes.name_of
+    (needed_keys
+    (port_with (endpoint_at 1 ∷ []) ∷ port_of (codes "api") 2 (endpoint_at 2 ∷ []) ∷ []))) ≡ true

@@ -1,13 +1,14 @@
-//! Laws of the walk over the full table: where walking its rules sends a packet, the objects say that it goes.
+//! Laws of the walk over the full table: where walking its rules sends a packet, the objects say
+//! that it goes.
 //! Each law is the contract of a function that does nothing.
 #![tactic(auto)]
 
-ghost use Rattle.kp_walk_laws.specs.Laws.{WalkDecides, WalkDecidesObjects, PortKeysOnce, StandInApart, StandInNames, FullTablePlain, FullTableRanked, StandInPrefixed, HashedPrefixed, PlainPorts};
-ghost use Rattle.kp_walk_laws.specs.Rows.{OneEndpoint, FirstOfThree, SecondOfThree, ThirdOfThree, ToItself, FromOutside, NoEndpoints, OtherProtocol};
+ghost use Rattle.kp_walk_laws.specs.Laws.{WalkDecides, WalkDecidesObjects, ProductDecides, PortKeysOnce, StandInApart, StandInNames, FullTablePlain, FullTableRanked, StandInPrefixed, HashedPrefixed, PlainPorts};
+ghost use Rattle.kp_walk_laws.specs.Rows.{OneEndpoint, FirstOfThree, SecondOfThree, ThirdOfThree, ToItself, FromOutside, NoEndpoints, OtherProtocol, TwoUnclashed, FirstOfTwo, SecondOfTwo, TwoDecided, TwoClashed};
 
-/// Walking the full table of Service ports that answer at their cluster address alone gives each packet
-/// the verdict that the objects give it, and leaves the recent lists that they leave, where no two chains that
-/// are needed have one name.
+/// Walking the full table of Service ports that answer at their cluster address alone gives each
+/// packet the verdict that the objects give it, and leaves the recent lists that they leave, where
+/// no two chains that are needed have one name.
 #[tactic(auto, using(crate::proofs::Theorem::walk_decides_by))]
 pub fn walk_decides()
     ensures { WalkDecides }
@@ -16,6 +17,11 @@ pub fn walk_decides()
 /// So it does over objects, whose ports have keys of their own.
 pub fn walk_decides_objects()
     ensures { WalkDecidesObjects }
+{}
+
+/// And under the product's names and picks nothing else is asked.
+pub fn product_decides()
+    ensures { ProductDecides }
 {}
 
 /// The ports of some objects have keys of their own.
@@ -72,4 +78,14 @@ pub fn worked_walks()
     ensures outside { FromOutside }
     ensures none { NoEndpoints }
     ensures other { OtherProtocol }
+{}
+
+/// Walks over two Services, one of them without endpoints, whose chains have prefixes for names.
+#[tactic(auto, using(crate::proofs::TwoPorts::two_decided_by))]
+pub fn worked_prefixes()
+    ensures unclashed { TwoUnclashed }
+    ensures first { FirstOfTwo }
+    ensures second { SecondOfTwo }
+    ensures decided { TwoDecided }
+    ensures clashed { TwoClashed }
 {}

@@ -15,12 +15,7 @@ pub(crate) fn is_local(node: &[Address], address: &Address) -> bool
 fn is_among(addresses: &[Address], address: &Address) -> bool
     ensures { result ≡ list_any (λ one. same_address one address.now) addresses.now }
 {
-    for one in addresses {
-        if one == address {
-            return true;
-        }
-    }
-    false
+    addresses.iter().any(|one: &Address| one == address)
 }
 
 fn is_loopback(address: &Address) -> bool

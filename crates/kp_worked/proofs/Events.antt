@@ -28,13 +28,13 @@ use Rattle.kp_worked.specs.Decisions.{decided}
 use Rattle.kp_worked.specs.Setting.{setting, other_pod, to_web}
 
 -- the objects of each kind, with their keys, in any order
-record Listed : Type 0 where
-  services : List (ObjectKey × Service)
-  slices : List (ObjectKey × Slice)
-  pods : List (ObjectKey × Pod)
-  nodes : List (ObjectKey × Node)
+pub record Listed : Type 0 where
+  pub services : List (ObjectKey × Service)
+  pub slices : List (ObjectKey × Slice)
+  pub pods : List (ObjectKey × Pod)
+  pub nodes : List (ObjectKey × Node)
 
-abbrev as_objects : Listed → Objects
+abbrev pub as_objects : Listed → Objects
 as_objects l = record {
   services = finite.from_entries l.services;
   slices = finite.from_entries l.slices;
@@ -54,11 +54,11 @@ without_listed l kind.EndpointSlice key = record l { slices = without key_cmp ke
 without_listed l kind.Pod key = record l { pods = without key_cmp key l.pods }
 without_listed l kind.Node key = record l { nodes = without key_cmp key l.nodes }
 
-abbrev step : Listed → Event → Listed
+abbrev pub step : Listed → Event → Listed
 step l (Apply object) = with_listed l object
 step l (Delete kind key) = without_listed l kind key
 
-step_is : (l : Listed) (e : Event) → objects_step (as_objects l) e ≡ as_objects (step l e)
+pub step_is : (l : Listed) (e : Event) → objects_step (as_objects l) e ≡ as_objects (step l e)
 step_is l (Apply (object.Service s)) = refl
 step_is l (Apply (object.EndpointSlice s)) = refl
 step_is l (Apply (object.Pod p)) = refl
@@ -68,7 +68,7 @@ step_is l (Delete kind.EndpointSlice key) = ap (λ m. record (as_objects l) { sl
 step_is l (Delete kind.Pod key) = ap (λ m. record (as_objects l) { pods = m }) (sym (removed_are key_total key_exact l.pods key))
 step_is l (Delete kind.Node key) = ap (λ m. record (as_objects l) { nodes = m }) (sym (removed_are key_total key_exact l.nodes key))
 
-steps_are : (l : Listed) (events : List Event) → fold objects_step (as_objects l) events ≡ as_objects (fold step l events)
+pub steps_are : (l : Listed) (events : List Event) → fold objects_step (as_objects l) events ≡ as_objects (fold step l events)
 steps_are l [] = refl
 steps_are l (e ∷ es) = ap (λ o. fold objects_step o es) (step_is l e) ∙ steps_are (step l e) es
 
@@ -87,13 +87,13 @@ infos_by services slices pods node =
     (record { service = s; wanted = desired_from V4 (λ name. option_and_then (λ n. n.zone) (node (node_key name))) s pods; slices = unmanaged (filter (is_of_service s.key) slices) })
     (record { service = s; wanted = []; slices = filter (is_of_service s.key) slices })) services)
 
-abbrev in_key_order : {X : Type 0} → List (ObjectKey × X) → List X
+abbrev pub in_key_order : {X : Type 0} → List (ObjectKey × X) → List X
 in_key_order es = values_of (in_order key_cmp es)
 
-values_are : {X : Type 0} (es : List (ObjectKey × X)) → finite.values (finite.from_entries {R = key_cmp} es) ≡ in_key_order es
+pub values_are : {X : Type 0} (es : List (ObjectKey × X)) → finite.values (finite.from_entries {R = key_cmp} es) ≡ in_key_order es
 values_are es = ap (map (λ e. e.1)) (entries_are key_total es)
 
-found_are : {X : Type 0} (es : List (ObjectKey × X)) → ◌≡◌ {A = ObjectKey → Option X} (finite.get (finite.from_entries {R = key_cmp} es)) (λ q. finite.find key_cmp q es)
+pub found_are : {X : Type 0} (es : List (ObjectKey × X)) → ◌≡◌ {A = ObjectKey → Option X} (finite.get (finite.from_entries {R = key_cmp} es)) (λ q. finite.find key_cmp q es)
 found_are es = λ i q. finite.get-from_entries key_total es q i
 
 infos_are : (l : Listed) → port_infos V4 setting.config (as_objects l) ≡ infos_by (in_key_order l.services) (in_key_order l.slices) (in_key_order l.pods) (λ q. finite.find key_cmp q l.nodes)

@@ -13,3 +13,4 @@ pub mod Walks
 pub mod Events
 pub mod SourceRanges
 pub mod Families
+pub mod SlicesNow

@@ -1,5 +1,5 @@
--- Worked examples of a load balancer's source ranges that hold no address of the client's family (Kubernetes
--- documents on Services, loadBalancerSourceRanges): they admit nobody.
+-- Worked examples of a load balancer's source ranges that hold no address of the client's family
+-- (Kubernetes documents on Services, loadBalancerSourceRanges): they admit nobody.
 use Rattle.std.specs.Prelude.{◌≡◌, ◌*◌, ◌^◌, true, List, [], ◌∷◌, Option, Some, None}
 use Rattle.kp_base.specs.Net.{RangeParts}
 use Rattle.kp_base.specs.declared.address.Family.TheVariants.{V6}
@@ -44,7 +44,8 @@ OtherFamilyReason = reason_for (Some (local_ipv6 ∷ [])) ≡ reason.Closed door
 
 -- and so it is for the full table
 abbrev pub OtherFamilyWalked : Type 0
-OtherFamilyWalked = walk_on (balanced_for (Some (local_ipv6 ∷ []))) (first ∷ []) to_balancer [] ≡ Dropped
+OtherFamilyWalked =
+    walk_on (balanced_for (Some (local_ipv6 ∷ []))) (first ∷ []) to_balancer [] ≡ Dropped
 
 -- a list is left without a range where all its texts are passed over as IPv6: it admits nobody
 abbrev pub NoRangeLeft : Type 0

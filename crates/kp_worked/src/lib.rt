@@ -13,6 +13,7 @@ ghost use Rattle.kp_worked.specs.Lists as lists;
 ghost use Rattle.kp_worked.specs.Masquerades as masquerades;
 ghost use Rattle.kp_worked.specs.Names as names;
 ghost use Rattle.kp_worked.specs.Packing as packing;
+ghost use Rattle.kp_worked.specs.SlicesNow as slices_now;
 ghost use Rattle.kp_worked.specs.SourceRanges as ranges;
 ghost use Rattle.kp_worked.specs.Walks as walks;
 ghost use Rattle.kp_worked.specs.Wanted as wanted;
@@ -256,4 +257,14 @@ pub fn worked_packing()
     ensures groups { packing.Groups }
     ensures state { packing.ChangedState }
     ensures unchanged { packing.Unchanged }
+{}
+
+/// Slices as they are now, over syncs.
+pub fn worked_slices_now()
+    ensures before { slices_now.BeforeSync }
+    ensures first { slices_now.AfterSync }
+    ensures change { slices_now.AfterChange }
+    ensures second { slices_now.AfterSecondSync }
+    ensures service_goes { slices_now.AfterServiceGoes }
+    ensures third { slices_now.AfterThirdSync }
 {}

@@ -5,41 +5,23 @@ use Rattle.std.specs.declared.cmp.Ordering.TheVariants.{Less, Equal, Greater}
 use Rattle.std.specs.Ordering.{is_eq, eq_by_cmp}
 use Rattle.std.specs.Cmp.{IsTotalOrder, tied_itself}
 use Rattle.std.specs.BTreeSet.{insert_key}
-use Rattle.std.specs.List.{filter, AllByRecursion}
-use Rattle.std.specs.FinMap.{FinMap, IsAntisymmetric, empty, entries, from_entries, find, put, same_map, get-from_entries, entries-insert, len-empty, len-entries}
+use Rattle.std.specs.List.{AllByRecursion}
+use Rattle.std.specs.FinMap.{IsAntisymmetric, find, put}
 use Rattle.std.specs.FinMap.Entries.{by_order}
-use Rattle.std.proofs.lemmas.List.{nil_from_length}
 use mathlib.Core.List.{reverse-cons}
 use Rattle.std.proofs.lemmas.List.Elements.{Contains-append_cases}
+use Rattle.kp_lemmas.proofs.Elements.{none_in, in_cases, first_in, later_in}
+use Rattle.kp_lemmas.proofs.Entries.{put_keys}
+use Rattle.kp_lemmas.proofs.Orders.{equal_from_test}
+use Rattle.kp_object_defs.proofs.InOrder.{same_order}
 use Rattle.kp_object_defs.specs.Order.{in_order, distinct_in_order}
-use Rattle.kp_walk_laws.proofs.Members.{none_in, in_cases}
-use Rattle.kp_walk_laws.proofs.Outcomes.{first_in, later_in}
-use Rattle.kp_writer.proofs.Ordered.{put_keys}
-
-equal : (o : Ordering) → is_eq o ≡ true → o ≡ Equal
-equal Less h = absurd (cc)
-equal Equal h = refl
-equal Greater h = absurd (cc)
-
-module _ {K X : Type 0} {R : K → K → Ordering} (total : IsTotalOrder R) where
-  -- entries in order are those of a finite map
-  in_order-entries : (es : List (K × X)) → entries (from_entries {R = R} es) ≡ in_order R es
-  in_order-entries [] = nil_from_length (entries (empty {X = X} {R = R})) (sym (len-entries (empty {X = X} {R = R})) ∙ len-empty R X)
-  in_order-entries (e ∷ es) = entries-insert total (from_entries es) e.0 e.1 ∙ ap (put R e.0 e.1) (in_order-entries es)
-
-  -- so those that are found alike are in one order
-  in_order_same : IsAntisymmetric R → (es fs : List (K × X)) → ((q : K) → find R q es ≡ find R q fs) → in_order R es ≡ in_order R fs
-  in_order_same exact es fs h =
-      sym (in_order-entries es)
-      ∙ ap (λ (m : FinMap R X). entries m) (same_map total exact (from_entries es) (from_entries fs) (λ q. get-from_entries total es q ∙ h q ∙ sym (get-from_entries total fs q)))
-      ∙ in_order-entries fs
 
 module _ {K : Type 0} {R : K → K → Ordering} (total : IsTotalOrder R) (exact : IsAntisymmetric R) where
   abbrev twice : List K → List (K × K)
   twice ks = map (λ k. (k, k)) ks
 
   found_by : (k x : K) (xs : List K) → (Contains xs k → find R k (twice xs) ≡ Some k) → Contains (x ∷ xs) k → (b : Bool) → eq_by_cmp R k x ≡ b → cond b (Some x) (find R k (twice xs)) ≡ Some k
-  found_by k x xs later c true h = ap (λ y. Some y) (sym (exact k x (equal (R k x) h)))
+  found_by k x xs later c true h = ap (λ y. Some y) (sym (exact k x (equal_from_test (R k x) h)))
   found_by k x xs later c false h =
       elim (in_cases k x xs c) [
         | inl e ↦ absurd (not_itself (sym (ap is_eq (tied_itself total k)) ∙ ap (λ y. eq_by_cmp R k y) (sym e) ∙ h))
@@ -55,7 +37,7 @@ module _ {K : Type 0} {R : K → K → Ordering} (total : IsTotalOrder R) (exact
   found k (x ∷ xs) c = found_by k x xs (found k xs) c (eq_by_cmp R k x) refl
 
   absorbed_by : (q k : K) (ks : List K) → find R k (twice ks) ≡ Some k → (b : Bool) → eq_by_cmp R q k ≡ b → cond b (Some k) (find R q (twice ks)) ≡ find R q (twice ks)
-  absorbed_by q k ks h true t = sym h ∙ ap (λ x. find R x (twice ks)) (sym (exact q k (equal (R q k) t)))
+  absorbed_by q k ks h true t = sym h ∙ ap (λ x. find R x (twice ks)) (sym (exact q k (equal_from_test (R q k) t)))
   absorbed_by q k ks h false t = refl
 
   absorbed : (xs ks : List K) → ((k : K) → Contains xs k → Contains ks k) → (q : K) → find R q (twice (xs ++ ks)) ≡ find R q (twice ks)
@@ -66,7 +48,7 @@ module _ {K : Type 0} {R : K → K → Ordering} (total : IsTotalOrder R) (exact
 
   -- elements in front that stand behind too change nothing
   pub distinct_absorbs : (xs ks : List K) → ((k : K) → Contains xs k → Contains ks k) → distinct_in_order R (xs ++ ks) ≡ distinct_in_order R ks
-  distinct_absorbs xs ks h = ap (map (λ e. e.0)) (in_order_same total exact (twice (xs ++ ks)) (twice ks) (absorbed xs ks h))
+  distinct_absorbs xs ks h = ap (map (λ e. e.0)) (same_order total exact (twice (xs ++ ks)) (twice ks) (absorbed xs ks h))
 
 module _ {K X : Type 0} (R : K → K → Ordering) (f : X → K) where
   -- the keys of entries that are named by themselves
@@ -93,18 +75,9 @@ module _ {K X : Type 0} (R : K → K → Ordering) (exact : IsAntisymmetric R) (
   in_order_all [] ps = tt
   in_order_all (e ∷ es) (p, ps) = put_all e.0 e.1 (in_order R es) p (in_order_all es ps)
 
--- ---- Elements of reversed and filtered lists
+-- ---- Elements of reversed lists
 
-filter_in_by : {X : Type 0} (b : Bool) (x y : X) (xs ys : List X) → (Contains ys x → Contains xs x) → Contains (cond b (y ∷ ys) ys) x → Contains (y ∷ xs) x
-filter_in_by true x y xs ys h c = elim (in_cases x y ys c) [ inl e ↦ subst (Contains (y ∷ xs)) e (first_in y xs) | inr d ↦ later_in x y xs (h d) ]
-filter_in_by false x y xs ys h c = later_in x y xs (h c)
-
--- what a filter leaves is in the list
-pub from_filter : {X : Type 0} (p : X → Bool) (x : X) (xs : List X) → Contains (filter p xs) x → Contains xs x
-from_filter p x [] c = absurd (none_in x c)
-from_filter p x (y ∷ ys) c = filter_in_by (p y) x y ys (filter p ys) (from_filter p x ys) c
-
--- and what is in the reversed list is in the list
+-- what is in the reversed list is in the list
 pub from_reverse : {X : Type 0} (x : X) (xs : List X) → Contains (reverse xs) x → Contains xs x
 from_reverse x [] c = c
 from_reverse x (y ∷ ys) c =

@@ -4,8 +4,11 @@ use Rattle.std.specs.declared.cmp.Ordering.{Ordering}
 use Rattle.std.specs.Cmp.{IsTotalOrder}
 use Rattle.std.specs.List.{filter, cons_option, AllByRecursion}
 use Rattle.std.specs.FinMap as finite
-use Rattle.std.proofs.lemmas.List.{nil_from_length, append-nil, map-append}
+use Rattle.std.proofs.lemmas.List.{append-nil, map-append}
 use Rattle.std.proofs.lemmas.List.Elements.{Contains-append_cases}
+use Rattle.kp_lemmas.proofs.Elements.{from_map, in_map, from_filter}
+use Rattle.kp_lemmas.proofs.Entries.{empty_entries}
+use Rattle.kp_lemmas.proofs.ListFacts.{map_some}
 use Rattle.kp_base.specs.Net.{same_family}
 use Rattle.kp_base.specs.Keys.{key_cmp, endpoint_cmp}
 use Rattle.kp_base.proofs.KeyOrder.{key_total, endpoint_total, endpoint_exact}
@@ -25,23 +28,19 @@ use Rattle.kp_text_defs.specs.declared.line.PlainService.{PlainService}
 use Rattle.kp_text_defs.specs.declared.line.PlainEndpoint.{PlainEndpoint}
 use Rattle.kp_text_defs.specs.declared.line.PlainSlice.{PlainSlice}
 use Rattle.kp_text_defs.specs.FirstLines.{plain_service, plain_slice, plain_port, plain_endpoint, default_key}
-use Rattle.kp_walk_laws.proofs.Members.{from_map, in_map}
 use Rattle.kp_walk_laws.proofs.Usable.{has_any_is}
 use Rattle.kp_writer.specs.Laws.{PlainInfos}
 use Rattle.kp_writer.specs.Plain.{services_with, slices_with, objects_with, endpoint_at, slice_endpoints, endpoints_of, plain_key, plain_info, plain_infos}
-use Rattle.kp_writer.proofs.Distinct.{distinct_absorbs, named_keys, in_order_all, from_filter, from_reverse, all_of, each_of}
+use Rattle.kp_writer.proofs.Distinct.{distinct_absorbs, named_keys, in_order_all, from_reverse, all_of, each_of}
 
 -- ---- Finite maps of one entry at most
 
 module _ {K X : Type 0} (R : K → K → Ordering) where
-  no_entries : finite.entries (finite.empty {X = X} {R = R}) ≡ []
-  no_entries = nil_from_length (finite.entries (finite.empty {X = X} {R = R})) (sym (finite.len-entries (finite.empty {X = X} {R = R})) ∙ finite.len-empty R X)
-
   no_values : finite.values (finite.empty {X = X} {R = R}) ≡ []
-  no_values = ap (map (λ e. e.1)) no_entries
+  no_values = ap (map (λ e. e.1)) (empty_entries R)
 
   one_value : IsTotalOrder R → (k : K) (x : X) → finite.values (finite.insert (finite.empty {R = R}) k x) ≡ x ∷ []
-  one_value total k x = ap (map (λ e. e.1)) (finite.entries-insert total (finite.empty {R = R}) k x ∙ ap (finite.put R k x) no_entries)
+  one_value total k x = ap (map (λ e. e.1)) (finite.entries-insert total (finite.empty {R = R}) k x ∙ ap (finite.put R k x) (empty_entries R))
 
 services_are : (s : PlainService) → finite.values (services_with (Some s)) ≡ plain_service s ∷ []
 services_are s = one_value key_cmp key_total (default_key s.name) (plain_service s)
@@ -109,7 +108,7 @@ module _ (cs : List Candidate) (staying : AllByRecursion IsStaying cs) where
   here = reverse (filter (λ c. c.local) cs)
 
   from_here : (c : Candidate) → Contains here c → Contains cs c
-  from_here c h = from_filter (λ d. d.local) c cs (from_reverse c (filter (λ d. d.local) cs) h)
+  from_here c h = (from_filter (λ d. d.local) c cs (from_reverse c (filter (λ d. d.local) cs) h)).0
 
   both_stay : AllByRecursion IsStaying (here ++ cs)
   both_stay = all_of IsStaying (here ++ cs) (λ c h. elim (Contains-append_cases here cs c h) [ inl d ↦ each_of IsStaying cs staying c (from_here c d) | inr d ↦ each_of IsStaying cs staying c d ])
@@ -174,10 +173,6 @@ module _ (node : List ℕ) (s : PlainService) where
 
 -- ---- What is known of the port
 
-same_empty : {X Y : Type 0} (f : X → Y) (xs : List X) → not (is_empty xs) ≡ not (is_empty (map f xs))
-same_empty f [] = refl
-same_empty f (x ∷ xs) = refl
-
 module _ (s : PlainService) (entries : List Candidate) (staying : AllByRecursion IsStaying entries) where
   -- what is known with these lists
   abbrev known : List Endpoint → Bool → PortInfo
@@ -186,7 +181,7 @@ module _ (s : PlainService) (entries : List Candidate) (staying : AllByRecursion
   info_is : info_from V4 (plain_service s) (plain_port s.port s.target) None entries s.address ≡ plain_info s (map (λ c. c.endpoint) entries)
   info_is = λ k.
       known (map (λ c. c.endpoint) (all_chosen entries staying k))
-      ((has_any_is None entries ∙ ap (λ cs. not (is_empty cs)) (all_chosen entries staying) ∙ same_empty (λ c. c.endpoint) entries) k)
+      ((has_any_is None entries ∙ ap (λ cs. not (is_empty cs)) (all_chosen entries staying) ∙ map_some (λ c. c.endpoint) entries) k)
 
 and_false : (b : Bool) → (b && false) ≡ false
 and_false true = refl

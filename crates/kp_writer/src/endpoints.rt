@@ -6,7 +6,6 @@ ghost use Rattle.kp_base.specs.Keys.{endpoint_cmp};
 ghost use Rattle.kp_object_defs.specs.Order.{distinct_in_order};
 ghost use Rattle.kp_writer.specs.Plain.{endpoint_at, slice_endpoints, endpoints_of};
 
-use crate::rows::push_some;
 use kp_base::{Endpoint, Family, Items, NoMemory, PortNo};
 use kp_text_defs::{PlainEndpoint, PlainService, PlainSlice};
 use std::alloc::Global;
@@ -42,11 +41,12 @@ fn at_port(alloc: Global, slice: &PlainSlice) -> Result<Vec<Endpoint>, NoMemory>
     ensures { IfOk result (λ es. es.items
         ≡ filter_map (endpoint_at slice.now.port) slice.now.endpoints) }
 {
-    let mut found = Vec::new(alloc);
-    for endpoint in slice.endpoints.as_slice() {
-        push_some(&mut found, endpoint_of(slice.port, endpoint))?;
-    }
-    Ok(found)
+    let endpoints = slice.endpoints.as_slice().iter();
+    Ok(
+        endpoints
+            .filter_map(|endpoint: &PlainEndpoint| endpoint_of(slice.port, endpoint))
+            .collect(alloc)?,
+    )
 }
 
 fn endpoint_of(port: PortNo, endpoint: &PlainEndpoint) -> Option<Endpoint>

@@ -1,8 +1,10 @@
 //! The full table, row by row.
 ghost use Rattle.std.specs.Prelude.{◌≡◌, ◌∷◌, [], IfOk};
+ghost use Rattle.std.specs.FinMap.{get};
 ghost use Rattle.std.specs.Option.{option_copied};
 ghost use Rattle.kp_base.specs.declared.address.Family.TheVariants.{V4};
 ghost use Rattle.kp_table_defs.specs.Layout as layout;
+ghost use Rattle.kp_table_defs.specs.Plain.{HasNoRecent};
 ghost use Rattle.kp_table_defs.specs.Rebuild as rebuild;
 ghost use Rattle.kp_table_defs.specs.StandIn.{stand_in_setting};
 ghost use Rattle.kp_writer.specs.Plain.{objects_with, plain_info, plain_infos};
@@ -22,6 +24,22 @@ use std::alloc::Global;
 /// iptables mode lays it out (Kubernetes documents on virtual IPs). Its count of batches is 0. The
 /// only error is want of memory.
 pub fn full_table(
+    alloc: Global,
+    config: &Config,
+    service: Option<&PlainService>,
+    slice: Option<&PlainSlice>,
+) -> Result<Table, NoMemory>
+    ensures full { IfOk result (λ t. t ≡ rebuild.full_table (stand_in_setting V4 config.now)
+        (objects_with (option_copied service.entry) (option_copied slice.entry))) }
+    // No rule asks a recent list.
+    ensures plain { IfOk result (λ t. HasNoRecent (get t.chains)) }
+{
+    kp_walk_laws::full_table_plain();
+    laws::plain_ports();
+    whole_table(alloc, config, service, slice)
+}
+
+fn whole_table(
     alloc: Global,
     config: &Config,
     service: Option<&PlainService>,

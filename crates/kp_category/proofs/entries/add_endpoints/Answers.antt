@@ -2,7 +2,7 @@ use Rattle.std.proofs.Common.{◌++◌, ap, ◌∙◌}
 use Rattle.std.specs.Option.{option_to_list}
 use Rattle.kp_base.specs.declared.address.Family.TheVariants.{V4}
 use Rattle.kp_object_defs.specs.Entries.{candidate_of}
-use Rattle.kp_category.proofs.Steps.{filter_map_step}
+use Rattle.kp_lemmas.proofs.ListFacts.{filter_map_step}
 use Rattle.kp_category.proofs.entries.add_endpoints.Goals as goal
 
 pub loop-endpoint-preserved : goal.loop-endpoint-preserved

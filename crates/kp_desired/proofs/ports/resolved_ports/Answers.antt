@@ -4,7 +4,7 @@ use Rattle.std.specs.Option.{option_to_list}
 use Rattle.std.proofs.lemmas.List.{take_all}
 use Rattle.kp_desired.specs.Numbers.{named, number_among, resolved_in}
 use Rattle.kp_desired.proofs.PortNumbers.{resolved-same}
-use Rattle.kp_desired.proofs.Steps.{filter_map_step}
+use Rattle.kp_lemmas.proofs.ListFacts.{filter_map_step}
 use Rattle.kp_desired.proofs.ports.resolved_ports.Goals as goal
 
 pub loop-port-preserved : goal.loop-port-preserved

@@ -2,8 +2,8 @@ use Rattle.std.proofs.Common.{◌≡◌, ◌++◌, map}
 use Rattle.std.specs.Result.{result_err}
 use Rattle.kp_json.specs.Places.{members_of, text_at}
 use Rattle.kp_json.specs.Views.{place_of, members_left}
-use Rattle.kp_event_defs.specs.Fields.{pair_of}
-use Rattle.kp_event_defs.specs.Rows.{first_in}
+use Rattle.kp_row_defs.specs.Fields.{pair_of}
+use Rattle.kp_row_defs.specs.Rows.{first_in}
 use Rattle.kp_fields.proofs.labels.pairs_here.Given as goal
 
 -- The pairs so far and those of the members that are left are all. None so far is at fault.

@@ -1,4 +1,4 @@
-use Rattle.std.proofs.Common.{rules, ◌≡◌, ◌∙◌, ◌<◌, ◌++◌, ◌∷◌, [], Some, IfSome, List, map, length, get_or, slice_set, ap, sym, subst, Vec, Global, Bor}
+use Rattle.std.proofs.Common.{rules, ◌≡◌, ◌∙◌, ◌<◌, ◌++◌, ◌∷◌, [], IfSome, map, length, get_or, slice_set, ap, sym, subst}
 use Rattle.std.proofs.lemmas.List.{map-append, map-set, get_or-map}
 use Rattle.kp_packer.specs.Views.{shown, added_at}
 use Rattle.kp_packer.proofs.groups.add_at.Goals as goal

@@ -1,7 +1,6 @@
-use Rattle.std.proofs.Common.{rules, ◌≡◌, ◌+◌, ◌∙◌, ◌<◌, ◌++◌, ◌∷◌, [], refl, IfSome, List, map, take, length, ap, sym, subst, filter, replicate}
+use Rattle.std.proofs.Common.{rules, ◌≡◌, ◌+◌, ◌∙◌, ◌<◌, ◌++◌, ◌∷◌, [], refl, IfSome, map, take, length, ap, sym, subst, filter, replicate}
 use Rattle.std.specs.List.{position}
 use Rattle.std.proofs.lemmas.List.{take_more, map-append, length-map}
-use Rattle.kp_types.specs.declared.slice.SlicePort.{SlicePort}
 use Rattle.kp_object_defs.specs.Packing.{is_in_group}
 use Rattle.kp_packer.specs.Views.{shown, added_at}
 use Rattle.kp_packer.proofs.Grouping.{one_grown, all_empty}

@@ -1,4 +1,4 @@
-use Rattle.std.proofs.Common.{rules, ◌≡◌, ◌≤◌, ◌<◌, ◌∙◌, length, ap}
+use Rattle.std.proofs.Common.{rules, ◌≤◌, ◌<◌, ◌∙◌, length, ap}
 use Rattle.kp_packer.proofs.Naming.{add_name, keep_names}
 use Rattle.kp_packer.proofs.names.free_names.Goals.{then-len-count+in_ok-add_free, else-len-count}
 use Rattle.kp_packer.proofs.names.free_names.Goals as goal

@@ -1,8 +1,4 @@
-use Rattle.std.proofs.Common.{rules, ◌≡◌, ◌+◌, ◌∙◌, ◌∷◌, ◌++◌, [], ◌||◌, Bool, ℕ, List, true, false, cond, bytes_eq, take, refl, ap, sym}
-use Rattle.std.specs.List.{list_any}
-use Rattle.std.specs.Cmp.Lexicographic.{nat_list_eq_equiv}
-use Rattle.std.proofs.lemmas.List.{take_more}
-use Rattle.std.proofs.lemmas.List.Folds.{list_any-append}
+use Rattle.std.proofs.Common.{rules, ◌≡◌, ◌∙◌, true, cond, bytes_eq}
 use Rattle.kp_packer.proofs.Naming.{one_more_name}
 use Rattle.kp_packer.proofs.names.set_of.Goals as goal
 

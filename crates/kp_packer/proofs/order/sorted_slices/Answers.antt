@@ -1,4 +1,4 @@
-use Rattle.std.proofs.Common.{rules, ◌≡◌, ◌∙◌, ap, sym, refl}
+use Rattle.std.proofs.Common.{rules, ◌≡◌, ◌∙◌, sym, refl}
 use Rattle.std.specs.FinMap.{put}
 use Rattle.kp_base.specs.Keys.{text_cmp}
 use Rattle.kp_object_defs.proofs.InOrder.{insert-put, by_key-push}

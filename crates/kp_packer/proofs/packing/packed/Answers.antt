@@ -1,9 +1,8 @@
-use Rattle.std.proofs.Common.{rules, ◌≡◌, ◌∙◌, List, map, length, ap, sym, filter}
+use Rattle.std.proofs.Common.{◌≡◌, ◌∙◌, map, length, ap, sym, filter}
 use Rattle.std.specs.List.{flat_map}
 use Rattle.std.proofs.lemmas.List.{length-map}
 use Rattle.std.proofs.lemmas.Result.{IfOk-weaker}
 use Rattle.kp_base.specs.declared.address.Family.TheVariants.{V4}
-use Rattle.kp_types.specs.declared.slice.Slice.{Slice}
 use Rattle.kp_object_defs.specs.Packing as spec
 use Rattle.kp_object_defs.specs.Packing.{is_in_group, is_left_over}
 use Rattle.kp_object_defs.specs.PackingLaws.{are_distinct}

@@ -1,4 +1,4 @@
-use Rattle.std.proofs.Common.{rules, ◌≡◌, ◌∙◌, Bool, Some, None, ap, sym, map, length, get_or, slice_set, subst}
+use Rattle.std.proofs.Common.{rules, ◌≡◌, ◌∙◌, Bool, Some, None, ap, length}
 use Rattle.std.specs.List.{position}
 use Rattle.kp_object_defs.specs.Packing as spec
 use Rattle.kp_packer.specs.Views.{shown, filling_of}

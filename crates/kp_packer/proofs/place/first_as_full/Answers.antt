@@ -1,4 +1,4 @@
-use Rattle.std.proofs.Common.{◌≡◌, ◌∙◌, ◌≤◌, Bool, ap, sym, false, take, length, arith}
+use Rattle.std.proofs.Common.{◌∙◌, ◌≤◌, Bool, ap, sym, length, arith}
 use Rattle.std.specs.List.{list_any}
 use Rattle.std.proofs.lemmas.List.{take_all}
 use Rattle.kp_object_defs.specs.Packing as spec

@@ -1,5 +1,5 @@
 -- New slices were made of the first endpoints.
-use Rattle.std.proofs.Common.{◌≡◌, ◌≤◌, ◌-◌, map, drop, length}
+use Rattle.std.proofs.Common.{◌≤◌, ◌-◌, map, drop, length}
 use Rattle.kp_packer.specs.Views.{shown, IsChunked}
 use Rattle.kp_packer.proofs.place.full_chunks.Given as goal
 

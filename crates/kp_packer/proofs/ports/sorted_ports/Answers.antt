@@ -1,7 +1,6 @@
-use Rattle.std.proofs.Common.{rules, ◌≡◌, ◌∙◌, ap, sym, refl, subst}
-use Rattle.std.specs.List.Sorted.{IsSortedBy, IsStableBy}
+use Rattle.std.proofs.Common.{rules, ◌≡◌, subst}
+use Rattle.std.specs.List.Sorted.{IsStableBy}
 use Rattle.std.proofs.lemmas.Fn.{always_returns_same}
-use Rattle.kp_object_defs.specs.Packing.{sorted_ports}
 use Rattle.kp_packer.proofs.PortOrder.{port_lt, ports_rank, ports_sorted}
 use Rattle.kp_packer.proofs.ports.sorted_ports.Goals as goal
 

@@ -2,7 +2,7 @@ use Rattle.std.proofs.Common.{◌≡◌, ◌++◌, map}
 use Rattle.std.specs.List.{flat_map}
 use Rattle.kp_json.specs.Places.{elements_of}
 use Rattle.kp_json.specs.Views.{place_of, elements_left}
-use Rattle.kp_event_defs.specs.Rows.{first_in, rows_fault}
+use Rattle.kp_row_defs.specs.Rows.{first_in, rows_fault}
 use Rattle.kp_event_defs.specs.PodText.{container_rows, container_ports}
 use Rattle.kp_pod.proofs.spec.containers_here.Given as goal
 

@@ -1,7 +1,7 @@
 use Rattle.std.proofs.Common.{◌≡◌, map, unwrap_or, find}
 use Rattle.kp_json.specs.Places.{elements_of}
 use Rattle.kp_json.specs.Views.{place_of, elements_left}
-use Rattle.kp_event_defs.specs.Rows.{first_in, rows_fault}
+use Rattle.kp_row_defs.specs.Rows.{first_in, rows_fault}
 use Rattle.kp_event_defs.specs.PodText.{condition_rows, is_readiness, holds}
 use Rattle.kp_pod.proofs.status.conditions_here.Given as goal
 

@@ -1,4 +1,4 @@
-use Rattle.std.proofs.Common.{◌≡◌, ◌+◌, ap, ◌∙◌, sym, add_comm, arith}
+use Rattle.std.proofs.Common.{ap, ◌∙◌, sym, arith}
 use Rattle.std.specs.List.{count_by}
 use Rattle.serde_json.specs.View.{view}
 use Rattle.kp_text_defs.specs.Forms.{is_present}

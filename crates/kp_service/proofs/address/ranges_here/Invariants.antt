@@ -2,8 +2,8 @@ use Rattle.std.proofs.Common.{◌≡◌, ◌++◌, map}
 use Rattle.std.specs.List.{filter_map}
 use Rattle.kp_json.specs.Places.{elements_of}
 use Rattle.kp_json.specs.Views.{place_of, elements_left}
-use Rattle.kp_event_defs.specs.Rows.{first_in, rows_fault}
-use Rattle.kp_event_defs.specs.Fields.{range_at}
+use Rattle.kp_row_defs.specs.Rows.{first_in, rows_fault}
+use Rattle.kp_row_defs.specs.Fields.{range_at}
 use Rattle.kp_event_defs.specs.ServiceText.{range_rows}
 use Rattle.kp_service.proofs.address.ranges_here.Given as goal
 

@@ -1,7 +1,7 @@
 use Rattle.std.proofs.Common.{[], map}
 use Rattle.kp_json.specs.Places.{elements_of}
 use Rattle.kp_json.specs.Views.{place_of, elements_left}
-use Rattle.kp_event_defs.specs.Rows.{ports_fault, rows_fault}
+use Rattle.kp_row_defs.specs.Rows.{ports_fault, rows_fault}
 use Rattle.kp_event_defs.specs.ServiceText.{service_port_rows, service_port}
 use Rattle.kp_service.specs.SeenIds.{has_id}
 use Rattle.kp_service.proofs.PortSteps.{IsSoFar}

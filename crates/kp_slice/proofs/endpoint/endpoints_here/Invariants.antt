@@ -1,7 +1,7 @@
 use Rattle.std.proofs.Common.{◌≡◌, ◌++◌, map}
 use Rattle.kp_json.specs.Places.{elements_of}
 use Rattle.kp_json.specs.Views.{place_of, elements_left}
-use Rattle.kp_event_defs.specs.Rows.{first_in, rows_fault}
+use Rattle.kp_row_defs.specs.Rows.{first_in, rows_fault}
 use Rattle.kp_event_defs.specs.SliceText.{endpoint_rows, endpoint_from}
 use Rattle.kp_slice.proofs.endpoint.endpoints_here.Given as goal
 

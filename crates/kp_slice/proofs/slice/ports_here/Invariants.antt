@@ -1,7 +1,7 @@
 use Rattle.std.proofs.Common.{◌≡◌, ◌++◌, map}
 use Rattle.kp_json.specs.Places.{elements_of}
 use Rattle.kp_json.specs.Views.{place_of, elements_left}
-use Rattle.kp_event_defs.specs.Rows.{first_in, rows_fault}
+use Rattle.kp_row_defs.specs.Rows.{first_in, rows_fault}
 use Rattle.kp_event_defs.specs.SliceText.{slice_port_rows, slice_port}
 use Rattle.kp_slice.proofs.slice.ports_here.Given as goal
 

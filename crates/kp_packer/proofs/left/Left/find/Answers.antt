@@ -1,8 +1,7 @@
-use Rattle.std.proofs.Common.{rules, ◌≡◌, true, false, Some, None, slice_get, option_map, option_and_then, refl, sym, ap, ◌∙◌, Bor}
-use Rattle.std.specs.List.{find}
+use Rattle.std.proofs.Common.{rules, ◌≡◌, true, false, Some, None, slice_get, option_map, option_and_then, sym, ap, ◌∙◌}
 use Rattle.kp_object_defs.specs.Packing.{is_entry_of, same_option}
 use Rattle.kp_base.specs.Net.{same_address}
-use Rattle.kp_packer.specs.Views.{left_in, place_in}
+use Rattle.kp_packer.specs.Views.{place_in}
 use Rattle.kp_packer.proofs.Places.{candidate, no_candidate, other_address, one_left, only_one, its_entry}
 use Rattle.kp_packer.proofs.left.Left.find.Goals as goal
 

@@ -1,4 +1,4 @@
-use Rattle.std.proofs.Common.{rules, ◌≡◌, ◌+◌, ◌++◌, ◌∷◌, [], Some, None, map, take, sym, ap, ◌∙◌}
+use Rattle.std.proofs.Common.{rules, ◌≡◌, ◌++◌, ◌∷◌, [], None, take, sym, ap, ◌∙◌}
 use Rattle.std.proofs.lemmas.List.{take_more, map-append}
 use Rattle.kp_packer.specs.Views.{shown, left_in}
 use Rattle.kp_packer.proofs.Places.{left-push, left-push_none}

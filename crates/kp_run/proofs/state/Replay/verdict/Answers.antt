@@ -3,5 +3,7 @@ use Rattle.kp_run.proofs.state.Replay.verdict.Goals as goal
 
 pub returns : goal.returns
 returns c =
-    verdict_is c.walk_decides.ensures c.stand_in_apart.ensures c.plain_infos.ensures c.plain_ports.ensures.cluster_only c.plain_ports.ensures.one c.plain_ports.ensures.small
-    c.args.self.now c.args.packet.now c.as_slice-draws.result.now c.walk.result c.as_slice-draws.ensures c.walk.ensures.walk
+    verdict_is c.walk_decides_objects.ensures c.stand_in_prefixed.ensures
+    c.plain_ports.ensures.cluster_only c.plain_ports.ensures.no_clash c.args.self.now
+    c.args.packet.now c.as_slice-draws.result.now c.walk.result c.as_slice-draws.ensures
+    c.walk.ensures.walk

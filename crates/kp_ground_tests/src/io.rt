@@ -1,0 +1,122 @@
+//! Lines that are read and bytes that are written, through each source and sink.
+use kp_base::{Items, NoMemory};
+use kp_io::{
+    Failed, LineFault, LineReader, MemorySink, MemorySource, NextLine, RealSink, RealSource, Sink,
+    Source, SureSink, SureSource, write_whole,
+};
+use std::alloc::Global;
+use std::io::BufWriter;
+use std::test::Fail;
+
+fn items_of<T: Copy>(alloc: Global, items: &[T]) -> Result<Items<T>, NoMemory> {
+    Ok(Items::from_vec(Vec::from_slice(alloc, items)?))
+}
+
+/// Whether a reader gives this line next, with its number.
+fn gives_line<S: Source>(
+    reader: &mut LineReader,
+    source: &mut S,
+    number: u64,
+    line: &[u8],
+) -> bool {
+    reader.next_line(source) == Ok(NextLine::Line { number }) && reader.bytes() == line
+}
+
+/// Whether a reader tells the end, after so many lines.
+fn ends<S: Source>(reader: &mut LineReader, source: &mut S, lines: u64) -> bool {
+    reader.next_line(source) == Ok(NextLine::End { lines }) && reader.bytes().is_empty()
+}
+
+/// Whether a reader gives these two lines, and then the end for good.
+fn gives_two<S: Source>(
+    reader: &mut LineReader,
+    source: &mut S,
+    first: &[u8],
+    second: &[u8],
+) -> bool {
+    gives_line(reader, source, 1, first)
+        && gives_line(reader, source, 2, second)
+        && ends(reader, source, 2)
+        && ends(reader, source, 2)
+}
+
+/// Whether a text that comes in pieces of this size has these two lines.
+fn has_lines(
+    alloc: Global,
+    piece: u64,
+    text: &[u8],
+    first: &[u8],
+    second: &[u8],
+) -> Result<bool, NoMemory> {
+    if piece == 0 {
+        return Ok(false);
+    }
+    let mut reader = LineReader::new(alloc)?;
+    let mut source = SureSource::new(items_of(alloc, text)?, piece);
+    Ok(gives_two(&mut reader, &mut source, first, second))
+}
+
+#[test]
+fn lines_do_not_depend_on_the_pieces(rt: HostRuntime) -> Result<(), Fail> {
+    for piece in 1..9u64 {
+        assert!(rt; has_lines(rt.alloc(), piece, b"one\ntwo", b"one", b"two")?);
+        assert!(rt; has_lines(rt.alloc(), piece, b"\nthe second\r\n", b"", b"the second\r")?);
+    }
+    let mut reader = LineReader::new(rt.alloc())?;
+    assert!(rt; ends(&mut reader, &mut RealSource::new(b"".as_slice()), 0));
+    Ok(())
+}
+
+#[test]
+fn a_failed_read_is_told_and_changes_nothing(rt: HostRuntime) -> Result<(), Fail> {
+    let mut reader = LineReader::new(rt.alloc())?;
+    let fails = items_of(rt.alloc(), &[1u64, 3])?;
+    let mut source = MemorySource::new(items_of(rt.alloc(), b"one\ntwo")?, 2, fails);
+    assert!(rt;
+        reader.next_line(&mut source) == Err(LineFault::ReadFault),
+        "the first read"
+    );
+    assert!(rt;
+        reader.next_line(&mut source) == Err(LineFault::ReadFault),
+        "within a line"
+    );
+    assert!(rt; reader.bytes().is_empty());
+    assert!(rt; gives_two(&mut reader, &mut source, b"one", b"two"));
+    Ok(())
+}
+
+#[test]
+fn a_failed_write_comes_after_a_part(rt: HostRuntime) -> Result<(), Fail> {
+    let mut sink = MemorySink::new(rt.alloc(), 1, items_of(rt.alloc(), &[3u64, 4])?);
+    assert!(rt; write_whole(&mut sink, b"abc") == Err(Failed));
+    assert!(rt; sink.flush() == Err(Failed), "a flush counts as a call");
+    assert!(rt; write_whole(&mut sink, b"c") == Ok(()) && sink.flush() == Ok(()));
+    assert!(rt; sink.written() == b"abc".as_slice());
+    Ok(())
+}
+
+#[test]
+fn a_sure_sink_takes_a_piece(rt: HostRuntime) {
+    let mut sink = SureSink::new(rt.alloc(), 2);
+    assert!(rt; sink.write(b"abc") == Ok(2) && sink.flush() == Ok(()));
+    assert!(rt; sink.written() == b"ab".as_slice());
+}
+
+#[test]
+fn real_ends_pass_everything_on(rt: HostRuntime) -> Result<(), Fail> {
+    let mut reader = LineReader::new(rt.alloc())?;
+    let mut source = RealSource::new(b"one\ntwo".as_slice());
+    assert!(rt; gives_two(&mut reader, &mut source, b"one", b"two"));
+    let mut writer = BufWriter::with_capacity(rt.alloc(), 16, Vec::new(rt.alloc()))?;
+    assert!(rt; write_whole(&mut RealSink::new(&mut writer), b"three") == Ok(()));
+    assert!(rt;
+        writer.get_ref().as_slice().is_empty(),
+        "small writes are gathered"
+    );
+    assert!(rt; RealSink::new(&mut writer).flush() == Ok(()));
+    assert!(rt;
+        writer.get_ref().as_slice() == b"three".as_slice(),
+        "a flush reaches the writer"
+    );
+    Ok(())
+}

@@ -1,0 +1,4 @@
+pub mod Fields
+pub mod Metadata
+pub mod Reads
+pub mod Rows
