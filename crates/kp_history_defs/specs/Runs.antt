@@ -16,17 +16,12 @@ use Rattle.kp_table_defs.specs.Edits.{changes_between}
 use Rattle.kp_table_defs.specs.Parts.{RulesByPort, table_of_ports}
 use Rattle.kp_table_defs.specs.Rebuild.{clash_of}
 use Rattle.kp_table_defs.specs.Walk.{Walked, walk_of}
+use Rattle.kp_history_defs.specs.declared.fed.Fed.{Fed}
 use Rattle.kp_history_defs.specs.Affected.{affected_ports}
 use Rattle.kp_history_defs.specs.History.{counts_of, table_after}
 use Rattle.kp_history_defs.specs.KeptRules.{with_rules_of}
 
 -- ---- The state of a run
-
--- an event, the stream that fed it, and its number in that stream, from 1
-pub record Fed : Type 0 where
-  pub stream : ℕ
-  pub number : ℕ
-  pub event : Event
 
 -- Where a run stands: what each stream has fed; the queue and the journal; the records, and how
 -- many of them are published; the contributions of the ports as they were at the last record, and
@@ -89,7 +84,7 @@ abbrev pub after_feed : ℕ → Event → RunState → RunState
 after_feed stream event s = record s {
   fed = at_number s.fed stream (s.fed stream ++ event ∷ []);
   queue = s.queue
-      ++ record { stream = stream; number = suc (length (s.fed stream)); event = event } ∷ [];
+      ++ record { feeder = stream; number = suc (length (s.fed stream)); event = event } ∷ [];
 }
 
 -- the queue's front is taken, and the ports that it affects are touched
@@ -181,10 +176,10 @@ IsRun setting steps state = IsRunFrom setting initial steps state
 
 -- an event was fed by this stream
 abbrev pub is_of_stream : ℕ → Fed → Bool
-is_of_stream stream f = stream == f.stream
+is_of_stream stream f = stream == f.feeder
 
 -- the events of a stream with their numbers, from the next after n on
 abbrev pub numbered : ℕ → ℕ → List Event → List Fed
 numbered stream n [] = []
 numbered stream n (e ∷ es) =
-    record { stream = stream; number = suc n; event = e } ∷ numbered stream (suc n) es
+    record { feeder = stream; number = suc n; event = e } ∷ numbered stream (suc n) es

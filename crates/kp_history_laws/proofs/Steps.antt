@@ -6,7 +6,8 @@ use Rattle.std.proofs.lemmas.List.Elements.{filter-append}
 use Rattle.kp_types.specs.Setting.{Setting}
 use Rattle.kp_types.specs.declared.event.Event.{Event}
 use Rattle.kp_types.specs.declared.sync.SyncRecord.{SyncRecord}
-use Rattle.kp_history_defs.specs.Runs.{RunState, Fed, Step, Feed, Take, Sync, Refuse, Publish, Read, Tell, IsRun, IsRunFrom, IsAllowed, initial, state_after, after_take, at_number, longer, is_of_stream, numbered, published_records, next_record}
+use Rattle.kp_history_defs.specs.declared.fed.Fed.{Fed}
+use Rattle.kp_history_defs.specs.Runs.{RunState, Step, Feed, Take, Sync, Refuse, Publish, Read, Tell, IsRun, IsRunFrom, IsAllowed, initial, state_after, after_take, at_number, longer, is_of_stream, numbered, published_records, next_record}
 use Rattle.kp_history_laws.specs.RunLaws.{RunsJoin, RunsSplit, StreamsKeepOrder, SeenIsPublished, PublishedAreRecords, SeenOnlyGrows, BeginsWith}
 
 -- ---- Runs
@@ -33,34 +34,34 @@ runs_split setting (step ∷ first) second s u (next, leads, rest) =
 -- ---- Streams
 
 -- one more event of a stream has the next number
-numbered_push : (stream n : ℕ) (es : List Event) (e : Event) → numbered stream n (es ++ e ∷ []) ≡ numbered stream n es ++ record { stream = stream; number = suc (n + length es); event = e } ∷ []
-numbered_push stream n [] e = ap (λ (m : ℕ). let f : Fed = record { stream = stream; number = suc m; event = e } in f ∷ []) (omega arith)
+numbered_push : (stream n : ℕ) (es : List Event) (e : Event) → numbered stream n (es ++ e ∷ []) ≡ numbered stream n es ++ record { feeder = stream; number = suc (n + length es); event = e } ∷ []
+numbered_push stream n [] e = ap (λ (m : ℕ). let f : Fed = record { feeder = stream; number = suc m; event = e } in f ∷ []) (omega arith)
 numbered_push stream n (x ∷ es) e =
     let more : suc n + length es ≡ n + suc (length es) = omega arith in
-    ap (λ rest. record { stream = stream; number = suc n; event = x } ∷ rest)
-    (numbered_push stream (suc n) es e ∙ ap (λ (m : ℕ). numbered stream (suc n) es ++ record { stream = stream; number = suc m; event = e } ∷ []) more)
+    ap (λ rest. record { feeder = stream; number = suc n; event = x } ∷ rest)
+    (numbered_push stream (suc n) es e ∙ ap (λ (m : ℕ). numbered stream (suc n) es ++ record { feeder = stream; number = suc m; event = e } ∷ []) more)
 
 -- in the journal and then the queue, each stream's events are numbered in order
 abbrev InOrder : RunState → Type 0
 InOrder s = (stream : ℕ) → filter (is_of_stream stream) (s.journal ++ s.queue) ≡ numbered stream 0 (s.fed stream)
 
 fed_by : (s : RunState) (by : ℕ) (e : Event) (stream : ℕ) → InOrder s → (b : Bool) → (stream == by) ≡ b
-    → filter (is_of_stream stream) (s.journal ++ s.queue) ++ cond b (record { stream = by; number = suc (length (s.fed by)); event = e } ∷ []) []
+    → filter (is_of_stream stream) (s.journal ++ s.queue) ++ cond b (record { feeder = by; number = suc (length (s.fed by)); event = e } ∷ []) []
     ≡ numbered stream 0 (cond b (s.fed by ++ e ∷ []) (s.fed stream))
 fed_by s by e stream holds true is =
     let same : stream ≡ by = eqb-true stream by is in
     let none : length (s.fed by) ≡ 0 + length (s.fed by) = omega arith in
-    ap (λ fed. fed ++ record { stream = by; number = suc (length (s.fed by)); event = e } ∷ []) (holds stream ∙ ap (λ (m : ℕ). numbered m 0 (s.fed m)) same)
-    ∙ ap (λ (m : ℕ). numbered by 0 (s.fed by) ++ record { stream = by; number = suc m; event = e } ∷ []) none
+    ap (λ fed. fed ++ record { feeder = by; number = suc (length (s.fed by)); event = e } ∷ []) (holds stream ∙ ap (λ (m : ℕ). numbered m 0 (s.fed m)) same)
+    ∙ ap (λ (m : ℕ). numbered by 0 (s.fed by) ++ record { feeder = by; number = suc m; event = e } ∷ []) none
     ∙ sym (numbered_push by 0 (s.fed by) e)
     ∙ ap (λ (m : ℕ). numbered m 0 (s.fed by ++ e ∷ [])) (sym same)
 fed_by s by e stream holds false is = append-nil (filter (is_of_stream stream) (s.journal ++ s.queue)) ∙ holds stream
 
 fed_in_order : (s : RunState) (by : ℕ) (e : Event) → InOrder s → (stream : ℕ)
-    → filter (is_of_stream stream) (s.journal ++ (s.queue ++ record { stream = by; number = suc (length (s.fed by)); event = e } ∷ []))
+    → filter (is_of_stream stream) (s.journal ++ (s.queue ++ record { feeder = by; number = suc (length (s.fed by)); event = e } ∷ []))
     ≡ numbered stream 0 (at_number s.fed by (s.fed by ++ e ∷ []) stream)
 fed_in_order s by e holds stream =
-    let f : Fed = record { stream = by; number = suc (length (s.fed by)); event = e } in
+    let f : Fed = record { feeder = by; number = suc (length (s.fed by)); event = e } in
     ap (filter (is_of_stream stream)) (sym (append_assoc s.journal s.queue (f ∷ [])))
     ∙ filter-append (is_of_stream stream) (s.journal ++ s.queue) (f ∷ [])
     ∙ fed_by s by e stream holds (stream == by) refl
