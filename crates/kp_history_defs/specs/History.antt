@@ -3,10 +3,13 @@
 -- covers.
 use Rattle.std.specs.Prelude.{◌≡◌, ◌≤◌, ℕ, suc, List, map, sum, take, length, Some, None, slice_get}
 use Rattle.std.specs.List.{fold}
+use Rattle.kp_base.specs.declared.address.Family.{Family}
+use Rattle.kp_base.specs.declared.config.Config.{Config}
 use Rattle.kp_types.specs.Setting.{Setting}
 use Rattle.kp_types.specs.declared.event.Event.{Event}
 use Rattle.kp_types.specs.declared.sync.SyncRecord.{SyncRecord}
 use Rattle.kp_object_defs.specs.Objects.{Objects, no_objects, objects_after}
+use Rattle.kp_object_defs.specs.SlicesNow.{Slices, slices_now}
 use Rattle.kp_table_defs.specs.Edits.{changes_between, table_after_batch}
 use Rattle.kp_table_defs.specs.Rebuild.{Chains, TableParts, clash_of, full_table}
 
@@ -26,6 +29,11 @@ objects_covered events counts n = objects_after (covered events counts n)
 abbrev pub chains_covered : Setting → List Event → List ℕ → ℕ → Chains
 chains_covered setting events counts n =
     (full_table setting (objects_covered events counts n)).chains
+
+-- the slices now, where these records were made: the controller packed them at each
+abbrev pub slices_after : List Family → Config → List Event → List SyncRecord → Slices
+slices_after families config events records =
+    slices_now families config events (counts_of records)
 
 -- the table after records, from a given one on
 abbrev pub table_from : TableParts → List SyncRecord → TableParts

@@ -1,20 +1,25 @@
 -- Every interleaving: what each step keeps of the history, and what follows of tables and reads.
-use Rattle.std.proofs.Common.{◌≡◌, ℕ, ◌+◌, ◌-◌, ◌≤◌, length, arith, Bool, true, false, List, [], ◌∷◌, sum, refl, sym, ap, subst, ◌∙◌}
+use Rattle.std.proofs.Common.{◌≡◌, ℕ, ◌+◌, ◌-◌, ◌≤◌, length, arith, Bool, true, false, List, [], ◌∷◌, ◌++◌, sum, refl, sym, ap, subst, ◌∙◌}
 use Rattle.std.specs.FinMap as finite
 use Rattle.std.proofs.lemmas.List.{length-map, map_push}
 use Rattle.kp_types.specs.Setting.{Setting}
+use Rattle.kp_types.specs.declared.sync.SyncRecord.{SyncRecord}
 use Rattle.kp_object_defs.specs.Objects.{Objects}
+use Rattle.kp_base.specs.declared.address.Family.{Family}
+use Rattle.kp_base.specs.declared.config.Config.{Config}
+use Rattle.kp_object_defs.specs.SlicesNow.{slices_now, controller_step}
+use Rattle.kp_object_laws.specs.SliceLaws.{SlicesAfterEvent, SlicesAfterSync}
 use Rattle.kp_object_laws.specs.ObjectLaws.{OwnKeysAfterEvents}
 use Rattle.kp_table_laws.specs.Laws.{PortsOfObjectsMakeTheTable}
 use Rattle.kp_table_defs.specs.Walk.{walk_of}
 use Rattle.kp_door_defs.specs.Decision.{decision_of}
 use Rattle.kp_history_defs.specs.History.{counts_of, objects_covered}
 use Rattle.kp_history_defs.specs.declared.fed.Fed.{Fed}
-use Rattle.kp_history_defs.specs.Runs.{RunState, Step, Feed, Take, Sync, Refuse, Publish, Read, Tell, IsRun, IsAllowed, initial, state_after, after_take, events_of, objects_now, next_record}
+use Rattle.kp_history_defs.specs.Runs.{RunState, Step, Feed, Take, Sync, Refuse, Publish, Read, Tell, IsRun, IsAllowed, initial, state_after, after_take, after_sync, events_of, objects_now, next_record}
 use Rattle.kp_history_laws.specs.EventLaws.{has_port, UnaffectedInputs}
 use Rattle.kp_history_laws.specs.HistoryLaws.{ExactTables}
 use Rattle.kp_history_laws.specs.KeptLaws.{EnoughByRules}
-use Rattle.kp_history_laws.specs.RunLaws.{HistoryIsExact, TouchedHoldChanged, TablesAreFull, ReadsDecide, IsDecided, objects_recorded}
+use Rattle.kp_history_laws.specs.RunLaws.{HistoryIsExact, TouchedHoldChanged, TablesAreFull, ReadsDecide, IsDecided, SlicesOfSteps, slices_in, slices_after_take, objects_recorded}
 use Rattle.kp_history_laws.proofs.Changed.{changed_inputs}
 use Rattle.kp_history_laws.proofs.Synced.{IsSynced, nothing_synced, taken_synced, synced}
 use Rattle.kp_history_laws.proofs.Steps.{kept_by_steps, run_seen}
@@ -74,3 +79,28 @@ module _ (own : OwnKeysAfterEvents) (unaffected : UnaffectedInputs) (enough : En
       subst (λ a. IsDecided a (decision_of setting covers packet draws lists))
       (sym (step.allowed ∙ ap (λ chains. walk_of (λ at. finite.get chains at) setting.config.addresses packet draws lists) full))
       (decides covers packet draws lists (no_clash_covered setting (events_of s.journal) s.records s.published exact le))
+
+-- ---- Slices
+
+module _ (families : List Family) (config : Config) (setting : Setting) (s : RunState) (within : sum (counts_of s.records) ≤ length (events_of s.journal)) where
+  slices_taken : SlicesAfterEvent → (queue : List Fed) → slices_in families config (after_take setting queue s) ≡ slices_after_take queue (slices_in families config s)
+  slices_taken after_event [] = refl
+  slices_taken after_event (f ∷ rest) =
+      ap (λ events. slices_now families config events (counts_of s.records)) (map_push (λ (g : Fed). g.event) s.journal f)
+      ∙ after_event families config (events_of s.journal) (counts_of s.records) f.event within
+
+  slices_synced : SlicesAfterSync → slices_in families config (after_sync setting s) ≡ controller_step families config (objects_now s) (slices_in families config s)
+  slices_synced at_sync =
+      ap (slices_now families config (events_of s.journal)) (map_push (λ (r : SyncRecord). r.events) s.records (next_record setting s))
+      ∙ ap (λ (n : ℕ). slices_now families config (events_of s.journal) (counts_of s.records ++ (n - sum (counts_of s.records)) ∷ [])) (sym (length-map s.journal (λ (f : Fed). f.event)))
+      ∙ at_sync families config (events_of s.journal) (counts_of s.records) within
+
+module _ (after_event : SlicesAfterEvent) (at_sync : SlicesAfterSync) (exact : HistoryIsExact) where
+  pub slices_of_steps : SlicesOfSteps
+  slices_of_steps families config setting steps s run (Feed stream e) allowed = refl
+  slices_of_steps families config setting steps s run Take allowed = slices_taken families config setting s (exact setting steps s run).within after_event s.queue
+  slices_of_steps families config setting steps s run Sync allowed = slices_synced families config setting s (exact setting steps s run).within at_sync
+  slices_of_steps families config setting steps s run Refuse allowed = refl
+  slices_of_steps families config setting steps s run Publish allowed = refl
+  slices_of_steps families config setting steps s run (Read worker packet draws lists answer) allowed = refl
+  slices_of_steps families config setting steps s run (Tell worker n) allowed = refl

@@ -1,18 +1,22 @@
 -- What holds in every interleaving: of each state that a run leads to, whatever its steps.
-use Rattle.std.specs.Prelude.{◌≡◌, ◌≤◌, ℕ, true, List, ◌++◌, take, length, None}
+use Rattle.std.specs.Prelude.{◌≡◌, ◌≤◌, ℕ, true, List, [], ◌∷◌, ◌++◌, take, length, None}
 use Rattle.std.specs.List.{filter}
 use Rattle.std.specs.FinMap as finite
+use Rattle.kp_base.specs.declared.address.Family.{Family}
+use Rattle.kp_base.specs.declared.config.Config.{Config}
 use Rattle.kp_base.specs.declared.key.PortKey.{PortKey}
 use Rattle.kp_types.specs.Setting.{Setting}
 use Rattle.kp_types.specs.declared.packet.Packet.{Packet}
 use Rattle.kp_choice_defs.specs.Recent.{RecentParts}
 use Rattle.kp_object_defs.specs.Objects.{Objects}
+use Rattle.kp_object_defs.specs.SlicesNow.{Slices, slices_step, controller_step}
 use Rattle.kp_door_defs.specs.Decision.{Decided, decision_of}
 use Rattle.kp_table_defs.specs.Rebuild.{clash_of, full_table}
 use Rattle.kp_table_defs.specs.Walk.{Walked, walk_of}
-use Rattle.kp_history_defs.specs.History.{IsExactHistory, counts_of, objects_covered, chains_covered, table_after}
+use Rattle.kp_history_defs.specs.declared.fed.Fed.{Fed}
+use Rattle.kp_history_defs.specs.History.{IsExactHistory, counts_of, objects_covered, chains_covered, slices_after, table_after}
 use Rattle.kp_history_defs.specs.Inputs.{changed_ports}
-use Rattle.kp_history_defs.specs.Runs.{RunState, Step, Read, IsRun, IsRunFrom, IsStep, events_of, objects_now, is_of_stream, numbered}
+use Rattle.kp_history_defs.specs.Runs.{RunState, Step, Feed, Take, Sync, Refuse, Publish, Read, Tell, IsAllowed, IsRun, IsRunFrom, IsStep, events_of, objects_now, state_after, is_of_stream, numbered}
 use Rattle.kp_history_laws.specs.EventLaws.{has_port}
 use Rattle.kp_history_laws.specs.HistoryLaws.{all_covered}
 
@@ -29,6 +33,28 @@ RunsSplit =
     (setting : Setting) (first second : List Step) (s u : RunState)
     → IsRunFrom setting s (first ++ second) u
     → (t : RunState) × IsRunFrom setting s first t × IsRunFrom setting t second u
+
+-- the slices where the front of a queue is taken
+abbrev pub slices_after_take : List Fed → Slices → Slices
+slices_after_take [] slices = slices
+slices_after_take (f ∷ rest) slices = slices_step slices f.event
+
+-- the slices in a state of a run, under these families and this configuration
+abbrev pub slices_in : List Family → Config → RunState → Slices
+slices_in families config s = slices_after families config (events_of s.journal) s.records
+
+-- the slices after a step: an event that is taken changes them at once, and a sync as the
+-- controller packs them over the objects that it covers
+abbrev pub slices_after_step : List Family → Config → RunState → Step → Slices
+slices_after_step families config s (Feed stream event) = slices_in families config s
+slices_after_step families config s Take = slices_after_take s.queue (slices_in families config s)
+slices_after_step families config s Sync =
+    controller_step families config (objects_now s) (slices_in families config s)
+slices_after_step families config s Refuse = slices_in families config s
+slices_after_step families config s Publish = slices_in families config s
+slices_after_step families config s (Read worker packet draws lists answer) =
+    slices_in families config s
+slices_after_step families config s (Tell worker n) = slices_in families config s
 
 -- what holds of each state that a run leads to
 abbrev pub HoldsOfRuns : (Setting → RunState → Type 0) → Type 0
@@ -57,6 +83,14 @@ TablesAreFull =
     HoldsOfRuns (λ setting s. (n : ℕ) → n ≤ length s.records
     → (table_after setting (take n s.records)).chains
     ≡ chains_covered setting (events_of s.journal) (counts_of s.records) n)
+
+-- The slices change by such steps.
+abbrev pub SlicesOfSteps : Type 0
+SlicesOfSteps =
+    (families : List Family) (config : Config)
+    → HoldsOfRuns (λ setting s. (step : Step) → IsAllowed setting s step
+    → slices_in families config (state_after setting s step)
+    ≡ slices_after_step families config s step)
 
 -- Each stream's events in the journal and then the queue are what it fed, in order, each once.
 abbrev pub StreamsKeepOrder : Type 0

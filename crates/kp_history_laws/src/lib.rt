@@ -81,6 +81,7 @@ pub fn interleavings()
     ensures history { runs.HistoryIsExact }
     ensures touched { runs.TouchedHoldChanged }
     ensures tables { runs.TablesAreFull }
+    ensures slices { runs.SlicesOfSteps }
     ensures streams { runs.StreamsKeepOrder }
     ensures published { runs.PublishedAreRecords }
     ensures seen { runs.SeenIsPublished }
@@ -88,6 +89,7 @@ pub fn interleavings()
     ensures reads { runs.ReadsDecide }
 {
     kp_object_laws::own_keys();
+    kp_object_laws::slices_now();
     kp_table_laws::ports_of_objects_make_the_table();
     unaffected_ports();
     kept_rules();
