@@ -1,0 +1,5 @@
+pub mod Affected
+pub mod History
+pub mod Inputs
+pub mod KeptRules
+pub mod Runs

@@ -1,0 +1,10 @@
+mod Affected
+mod Changed
+mod EveryRun
+mod Histories
+mod Kept
+mod Ports
+mod Steps
+mod Synced
+mod Tables
+mod Values

@@ -1,0 +1,156 @@
+-- The ports of objects, and what is known of a port by its inputs.
+use Rattle.std.proofs.Common.{◌≡◌, ℕ, Bool, true, false, true≢false, cond, ◌&&◌, ◌||◌, List, [], ◌∷◌, ◌++◌, map, bytes_eq, filter, flat_map, Option, Some, None, option_map, option_and_then, is_some, refl, sym, ap, ◌∙◌}
+use Rattle.std.specs.List as list
+use Rattle.std.specs.Ordering.{eq_by_cmp}
+use Rattle.std.specs.FinMap as finite
+use Rattle.std.specs.FinMap.{find, get, get-entries}
+use Rattle.std.specs.FinMap.Entries.{is_some-find}
+use Rattle.std.proofs.lemmas.Bool.{and_parts}
+use Rattle.std.proofs.lemmas.Option.{same_Some}
+use Rattle.std.proofs.lemmas.List.Folds.{list_any-append}
+use Rattle.std.proofs.lemmas.Slice.Eq.{bytes_eq-Decides}
+use Rattle.kp_lemmas.proofs.Orders.{one_from_tie, tie_of_itself}
+use Rattle.kp_base.specs.Keys.{key_cmp, port_key_cmp, same_proto}
+use Rattle.kp_base.specs.declared.key.ObjectKey.{ObjectKey}
+use Rattle.kp_base.specs.declared.key.PortKey.{PortKey}
+use Rattle.kp_base.proofs.KeyOrder.{port_key_total, port_key_exact}
+use Rattle.kp_base.proofs.SameParts.{same_proto_exact}
+use Rattle.kp_types.specs.Ports.{is_port}
+use Rattle.kp_types.specs.Setting.{FamilyConfig, Setting}
+use Rattle.kp_base.specs.declared.address.Family.{Family}
+use Rattle.kp_types.specs.declared.info.ServiceSources.{ServiceSources}
+use Rattle.kp_types.specs.declared.service.Service.{Service}
+use Rattle.kp_types.specs.declared.service.ServicePort.{ServicePort}
+use Rattle.kp_object_defs.specs.Desired.{is_reconciled}
+use Rattle.kp_object_defs.specs.Entries.{sources_of, entries_from}
+use Rattle.kp_object_defs.specs.Objects.{Objects, zone_of}
+use Rattle.kp_object_defs.specs.OwnKeys.{AreUnderOwnKeys}
+use Rattle.kp_object_defs.specs.Order.{in_order, distinct_in_order}
+use Rattle.kp_object_defs.specs.PortInfo.{PortInfo, port_key_of, info_from, info_of, cluster_address_in}
+use Rattle.kp_object_defs.specs.PortByKey.{port_keys_of, port_keys, port_named, info_in, info_at}
+use Rattle.kp_object_defs.proofs.InOrder.{find-in_order}
+use Rattle.kp_history_defs.specs.Inputs.{PortInputs, inputs_in, inputs_of, ports_of_either}
+use Rattle.kp_history_laws.specs.EventLaws.{has_port}
+
+-- ---- Lists of ports
+
+-- of the ports that pass a test
+pub has_filtered : (p : PortKey → Bool) (keys : List PortKey) (key : PortKey) → has_port (filter p keys) key ≡ (p key && has_port keys key)
+has_filtered p [] key = none (p key)
+  where
+    none : (b : Bool) → false ≡ (b && false)
+    none true = refl
+    none false = refl
+has_filtered p (k ∷ ks) key = by (has_filtered p ks key) (eq_by_cmp port_key_cmp key k) refl (p k) refl
+  where
+    first : (b : Bool) → (b && true) ≡ b
+    first true = refl
+    first false = refl
+
+    by : has_port (filter p ks) key ≡ (p key && has_port ks key) → (b : Bool) → eq_by_cmp port_key_cmp key k ≡ b → (c : Bool) → p k ≡ c
+        → has_port (cond c (k ∷ filter p ks) (filter p ks)) key ≡ (p key && (b || has_port ks key))
+    by rest true is true passes =
+        ap (λ t. t || has_port (filter p ks) key) is
+        ∙ sym (first (p key) ∙ ap p (one_from_tie port_key_exact key k is) ∙ passes)
+    by rest true is false fails =
+        let never : p key ≡ false = ap p (one_from_tie port_key_exact key k is) ∙ fails in
+        rest ∙ ap (λ t. t && has_port ks key) never ∙ sym (ap (λ t. t && true) never)
+    by rest false is true passes = ap (λ t. t || has_port (filter p ks) key) is ∙ rest
+    by rest false is false fails = rest
+
+-- of ports once each in order
+pub has_distinct : (keys : List PortKey) (key : PortKey) → has_port (distinct_in_order port_key_cmp keys) key ≡ has_port keys key
+has_distinct keys key =
+    sym (is_some-find port_key_cmp key (in_order port_key_cmp (map (λ k. (k, k)) keys)))
+    ∙ ap is_some (find-in_order port_key_total key (map (λ k. (k, k)) keys))
+    ∙ is_some-find port_key_cmp key (map (λ k. (k, k)) keys)
+    ∙ ap (λ ks. has_port ks key) (themselves keys)
+  where
+    themselves : (ks : List PortKey) → map (λ (e : PortKey × PortKey). e.0) (map (λ k. (k, k)) ks) ≡ ks
+    themselves [] = refl
+    themselves (k ∷ ks) = ap (λ rest. k ∷ rest) (themselves ks)
+
+-- of the ports of Services before or after
+pub has_either : (before after : Objects) (key : PortKey) → has_port (ports_of_either before after) key ≡ (has_port (port_keys before) key || has_port (port_keys after) key)
+has_either before after key =
+    has_distinct (flat_map port_keys_of (finite.values before.services) ++ flat_map port_keys_of (finite.values after.services)) key
+    ∙ list_any-append (eq_by_cmp port_key_cmp key) (flat_map port_keys_of (finite.values before.services)) (flat_map port_keys_of (finite.values after.services))
+    ∙ (λ i. sym (has_distinct (flat_map port_keys_of (finite.values before.services)) key) i || sym (has_distinct (flat_map port_keys_of (finite.values after.services)) key) i)
+
+-- ---- A port that is found has its name among the ports
+
+or_true : (a : Bool) → (a || true) ≡ true
+or_true true = refl
+or_true false = refl
+
+named_in : (s : Service) (key : PortKey) → s.key ≡ key.object → (ps : List ServicePort) (p : ServicePort) → list.find (is_port key.port_name key.proto) ps ≡ Some p
+    → has_port (map (port_key_of s) ps) key ≡ true
+named_in s key own [] p h = absurd (cc)
+named_in s key own (q ∷ qs) p h = by (named_in s key own qs p) (is_port key.port_name key.proto q) refl h
+  where
+    by : (list.find (is_port key.port_name key.proto) qs ≡ Some p → has_port (map (port_key_of s) qs) key ≡ true) → (b : Bool) → is_port key.port_name key.proto q ≡ b → cond b (Some q) (list.find (is_port key.port_name key.proto) qs) ≡ Some p
+        → has_port (port_key_of s q ∷ map (port_key_of s) qs) key ≡ true
+    by rest true is h =
+        let parts = and_parts (bytes_eq q.name key.port_name) (same_proto q.proto key.proto) is in
+        let same : port_key_of s q ≡ key = λ i. record { object = own i; port_name = (bytes_eq-Decides q.name key.port_name).0 parts.0 i; proto = same_proto_exact q.proto key.proto parts.1 i } in
+        ap (λ b. b || has_port (map (port_key_of s) qs) key) (ap (eq_by_cmp port_key_cmp key) same ∙ tie_of_itself port_key_total key)
+    by rest false is h =
+        ap (λ b. eq_by_cmp port_key_cmp key (port_key_of s q) || b) (rest h) ∙ or_true (eq_by_cmp port_key_cmp key (port_key_of s q))
+
+among_entries : (key : PortKey) (s : Service) → has_port (port_keys_of s) key ≡ true → (es : List (ObjectKey × Service)) → find key_cmp key.object es ≡ Some s
+    → has_port (flat_map port_keys_of (map (λ e. e.1) es)) key ≡ true
+among_entries key s has [] h = absurd (cc)
+among_entries key s has (e ∷ es) h =
+    list_any-append (eq_by_cmp port_key_cmp key) (port_keys_of e.1) (flat_map port_keys_of (map (λ f. f.1) es))
+    ∙ by (among_entries key s has es) (eq_by_cmp key_cmp key.object e.0) h
+  where
+    by : (find key_cmp key.object es ≡ Some s → has_port (flat_map port_keys_of (map (λ f. f.1) es)) key ≡ true) → (b : Bool) → cond b (Some e.1) (find key_cmp key.object es) ≡ Some s → (has_port (port_keys_of e.1) key || has_port (flat_map port_keys_of (map (λ f. f.1) es)) key) ≡ true
+    by rest true h = ap (λ b. b || has_port (flat_map port_keys_of (map (λ f. f.1) es)) key) (ap (λ t. has_port (port_keys_of t) key) (same_Some e.1 s h) ∙ has)
+    by rest false h = ap (λ b. has_port (port_keys_of e.1) key || b) (rest h) ∙ or_true (has_port (port_keys_of e.1) key)
+
+module _ (setting : Setting) (o : Objects) (own : AreUnderOwnKeys o) (key : PortKey) where
+  -- a port that isn't among the ports of the objects has no inputs
+  pub no_inputs : has_port (port_keys o) key ≡ false → inputs_of setting o key ≡ None
+  no_inputs none = service (get o.services key.object) refl
+    where
+      port : (s : Service) → get o.services key.object ≡ Some s → (found : Option ServicePort) → port_named key s ≡ found → option_map (inputs_in setting o s) found ≡ None
+      port s at None is = refl
+      port s at (Some p) is =
+          absurd (true≢false (sym (has_distinct (flat_map port_keys_of (finite.values o.services)) key
+          ∙ among_entries key s (named_in s key (own.services key.object s at) s.ports p is) (finite.entries o.services) (sym (get-entries o.services key.object) ∙ at)) ∙ none))
+
+      service : (found : Option Service) → get o.services key.object ≡ found → option_and_then (λ s. option_map (inputs_in setting o s) (port_named key s)) found ≡ None
+      service None at = refl
+      service (Some s) at = port s at (port_named key s) refl
+
+-- ---- What is known of a port
+
+service_by : (b : Bool) (x y : ServiceSources) → x.service ≡ y.service → (cond b x y).service ≡ y.service
+service_by true x y h = h
+service_by false x y h = refl
+
+sources_service : (family : Family) (config : FamilyConfig) (o : Objects) (s : Service) → (sources_of family config o s).service ≡ s
+sources_service family config o s = service_by (is_reconciled config s) _ _ refl
+
+-- what is known of a port with these inputs
+abbrev pub info_by : Setting → PortKey → PortInputs → Option PortInfo
+info_by setting key inputs =
+    option_and_then (λ p. option_map (info_from setting.family inputs.service p inputs.zone inputs.entries) (cluster_address_in setting.family inputs.service)) (port_named key inputs.service)
+
+-- the inputs of a port tell what is known of it
+pub info_by_inputs : (setting : Setting) (o : Objects) (key : PortKey) → info_at setting.family setting.config o key ≡ option_and_then (info_by setting key) (inputs_of setting o key)
+info_by_inputs setting o key = service (get o.services key.object)
+  where
+    port : (s : Service) (found : Option ServicePort) → port_named key s ≡ found
+        → option_and_then (λ p. info_of setting.family setting.config.node (zone_of o setting.config.node) (sources_of setting.family setting.config o s, p)) found
+        ≡ option_and_then (info_by setting key) (option_map (inputs_in setting o s) found)
+    port s None is = refl
+    port s (Some p) is =
+        let from : ServiceSources = sources_of setting.family setting.config o s in
+        let zone : Option (List ℕ) = zone_of o setting.config.node in
+        ap (λ t. option_map (info_from setting.family t p zone (entries_from setting.family setting.config.node from (port_key_of t p))) (cluster_address_in setting.family t)) (sources_service setting.family setting.config o s)
+        ∙ ap (option_and_then (λ q. option_map (info_from setting.family s q zone (entries_from setting.family setting.config.node from (port_key_of s p))) (cluster_address_in setting.family s))) (sym is)
+
+    service : (found : Option Service) → option_and_then (info_in setting.family setting.config o key) found ≡ option_and_then (info_by setting key) (option_and_then (λ s. option_map (inputs_in setting o s) (port_named key s)) found)
+    service None = refl
+    service (Some s) = port s (port_named key s) refl

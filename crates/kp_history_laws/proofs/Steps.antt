@@ -1,0 +1,212 @@
+-- What each step keeps holds of each run; the order of each stream's events; and what workers have seen.
+use Rattle.std.proofs.Common.{◌≡◌, ℕ, suc, ◌+◌, ◌<◌, ◌≤◌, ◌==◌, Bool, true, false, cond, List, [], ◌∷◌, ◌++◌, filter, take, drop, length, nat_lt, refl, sym, ap, subst, ◌∙◌, arith, append_assoc, take-append-drop}
+use Rattle.std.proofs.lemmas.Bool.{eqb-true, ltb-true}
+use Rattle.std.proofs.lemmas.List.{append-nil, length-take-le, length_push, take-append-le, take-take}
+use Rattle.std.proofs.lemmas.List.Elements.{filter-append}
+use Rattle.kp_types.specs.Setting.{Setting}
+use Rattle.kp_types.specs.declared.event.Event.{Event}
+use Rattle.kp_types.specs.declared.sync.SyncRecord.{SyncRecord}
+use Rattle.kp_history_defs.specs.declared.fed.Fed.{Fed}
+use Rattle.kp_history_defs.specs.Runs.{RunState, Step, Feed, Take, Sync, Refuse, Publish, Read, Tell, IsRun, IsRunFrom, IsAllowed, initial, state_after, after_take, at_number, longer, is_of_stream, numbered, published_records, next_record}
+use Rattle.kp_history_laws.specs.RunLaws.{RunsJoin, RunsSplit, StreamsKeepOrder, SeenIsPublished, PublishedAreRecords, SeenOnlyGrows, BeginsWith}
+
+-- ---- Runs
+
+module _ (setting : Setting) (P : RunState → Type 0) (kept : (s : RunState) (step : Step) → IsAllowed setting s step → P s → P (state_after setting s step)) where
+  -- what each step keeps is kept by steps
+  pub kept_by_steps : (steps : List Step) (s t : RunState) → P s → IsRunFrom setting s steps t → P t
+  kept_by_steps [] s t holds is = subst P (sym is) holds
+  kept_by_steps (step ∷ steps) s t holds (next, leads, rest) =
+      kept_by_steps steps next t (subst P (sym leads.leads) (kept s step leads.allowed holds)) rest
+
+-- ---- Steps before and behind
+
+pub runs_join : RunsJoin
+runs_join setting [] second s t u before behind = subst (λ from. IsRunFrom setting from second u) before behind
+runs_join setting (step ∷ first) second s t u (next, leads, before) behind =
+    (next, leads, runs_join setting first second next t u before behind)
+
+pub runs_split : RunsSplit
+runs_split setting [] second s u all = (s, refl, all)
+runs_split setting (step ∷ first) second s u (next, leads, rest) =
+    let (t, before, behind) = runs_split setting first second next u rest in (t, (next, leads, before), behind)
+
+-- ---- Streams
+
+-- one more event of a stream has the next number
+numbered_push : (stream n : ℕ) (es : List Event) (e : Event) → numbered stream n (es ++ e ∷ []) ≡ numbered stream n es ++ record { feeder = stream; number = suc (n + length es); event = e } ∷ []
+numbered_push stream n [] e = ap (λ (m : ℕ). let f : Fed = record { feeder = stream; number = suc m; event = e } in f ∷ []) (omega arith)
+numbered_push stream n (x ∷ es) e =
+    let more : suc n + length es ≡ n + suc (length es) = omega arith in
+    ap (λ rest. record { feeder = stream; number = suc n; event = x } ∷ rest)
+    (numbered_push stream (suc n) es e ∙ ap (λ (m : ℕ). numbered stream (suc n) es ++ record { feeder = stream; number = suc m; event = e } ∷ []) more)
+
+-- in the journal and then the queue, each stream's events are numbered in order
+abbrev InOrder : RunState → Type 0
+InOrder s = (stream : ℕ) → filter (is_of_stream stream) (s.journal ++ s.queue) ≡ numbered stream 0 (s.fed stream)
+
+fed_by : (s : RunState) (by : ℕ) (e : Event) (stream : ℕ) → InOrder s → (b : Bool) → (stream == by) ≡ b
+    → filter (is_of_stream stream) (s.journal ++ s.queue) ++ cond b (record { feeder = by; number = suc (length (s.fed by)); event = e } ∷ []) []
+    ≡ numbered stream 0 (cond b (s.fed by ++ e ∷ []) (s.fed stream))
+fed_by s by e stream holds true is =
+    let same : stream ≡ by = eqb-true stream by is in
+    let none : length (s.fed by) ≡ 0 + length (s.fed by) = omega arith in
+    ap (λ fed. fed ++ record { feeder = by; number = suc (length (s.fed by)); event = e } ∷ []) (holds stream ∙ ap (λ (m : ℕ). numbered m 0 (s.fed m)) same)
+    ∙ ap (λ (m : ℕ). numbered by 0 (s.fed by) ++ record { feeder = by; number = suc m; event = e } ∷ []) none
+    ∙ sym (numbered_push by 0 (s.fed by) e)
+    ∙ ap (λ (m : ℕ). numbered m 0 (s.fed by ++ e ∷ [])) (sym same)
+fed_by s by e stream holds false is = append-nil (filter (is_of_stream stream) (s.journal ++ s.queue)) ∙ holds stream
+
+fed_in_order : (s : RunState) (by : ℕ) (e : Event) → InOrder s → (stream : ℕ)
+    → filter (is_of_stream stream) (s.journal ++ (s.queue ++ record { feeder = by; number = suc (length (s.fed by)); event = e } ∷ []))
+    ≡ numbered stream 0 (at_number s.fed by (s.fed by ++ e ∷ []) stream)
+fed_in_order s by e holds stream =
+    let f : Fed = record { feeder = by; number = suc (length (s.fed by)); event = e } in
+    ap (filter (is_of_stream stream)) (sym (append_assoc s.journal s.queue (f ∷ [])))
+    ∙ filter-append (is_of_stream stream) (s.journal ++ s.queue) (f ∷ [])
+    ∙ fed_by s by e stream holds (stream == by) refl
+
+taken_in_order : (setting : Setting) (s : RunState) → InOrder s → (queue : List Fed) → s.queue ≡ queue → InOrder (after_take setting queue s)
+taken_in_order setting s holds [] is stream = holds stream
+taken_in_order setting s holds (f ∷ rest) is stream =
+    ap (filter (is_of_stream stream)) (append_assoc s.journal (f ∷ []) rest ∙ ap (λ queue. s.journal ++ queue) (sym is)) ∙ holds stream
+
+step_in_order : (setting : Setting) (s : RunState) (step : Step) → IsAllowed setting s step → InOrder s → InOrder (state_after setting s step)
+step_in_order setting s (Feed by e) allowed holds = fed_in_order s by e holds
+step_in_order setting s Take allowed holds = taken_in_order setting s holds s.queue refl
+step_in_order setting s Sync allowed holds = holds
+step_in_order setting s Refuse allowed holds = holds
+step_in_order setting s Publish allowed holds = holds
+step_in_order setting s (Read worker packet draws lists answer) allowed holds = holds
+step_in_order setting s (Tell worker n) allowed holds = holds
+
+pub streams_keep_order : StreamsKeepOrder
+streams_keep_order setting steps s run =
+    kept_by_steps setting InOrder (step_in_order setting) steps initial s (λ stream. refl) run
+
+-- ---- What workers have seen
+
+-- the first of the published records
+abbrev pub IsFirst : RunState → List SyncRecord → Type 0
+IsFirst s seen = (n : ℕ) × (n ≤ s.published) × (seen ≡ take n s.records)
+
+pub record IsSeen (s : RunState) : Type 0 where
+  pub published : s.published ≤ length s.records
+  pub seen : (worker : ℕ) → IsFirst s (s.seen worker)
+
+-- the worker that a step is of has seen these, and the others what they had
+of_worker : (s : RunState) (worker : ℕ) (these : List SyncRecord) → IsFirst s these → ((w : ℕ) → IsFirst s (s.seen w)) → (w : ℕ) → IsFirst s (at_number s.seen worker these w)
+of_worker s worker these first seen w = by (w == worker)
+  where
+    by : (b : Bool) → IsFirst s (cond b these (s.seen w))
+    by true = first
+    by false = seen w
+
+longer_first : (s : RunState) (n : ℕ) (seen : List SyncRecord) → n ≤ s.published → IsFirst s seen → (b : Bool) → IsFirst s (cond b (take n s.records) seen)
+longer_first s n seen told first true = (n, told, refl)
+longer_first s n seen told first false = first
+
+step_seen : (setting : Setting) (s : RunState) (step : Step) → IsAllowed setting s step → IsSeen s → IsSeen (state_after setting s step)
+step_seen setting s (Feed by e) allowed h = record { published = h.published; seen = h.seen }
+step_seen setting s Take allowed h = taken s.queue
+  where
+    taken : (queue : List Fed) → IsSeen (after_take setting queue s)
+    taken [] = record { published = h.published; seen = h.seen }
+    taken (f ∷ rest) = record { published = h.published; seen = h.seen }
+step_seen setting s Sync allowed h = record {
+  published = more (next_record setting s);
+  seen = λ worker. let (n, told, is) = h.seen worker in (n, told, is ∙ sym (take-append-le n s.records (next_record setting s ∷ []) (within n told)));
+}
+  where
+    within : (n : ℕ) → n ≤ s.published → n ≤ length s.records
+    within n told = let most = h.published in omega arith
+
+    more : (r : SyncRecord) → s.published ≤ length (s.records ++ r ∷ [])
+    more r = let most = h.published in let one = length_push s.records r in omega arith
+step_seen setting s Refuse allowed h = h
+step_seen setting s Publish allowed h = record {
+  published = omega arith;
+  seen = λ worker. let (n, told, is) = h.seen worker in (n, within n told, is);
+}
+  where
+    within : (n : ℕ) → n ≤ s.published → n ≤ length s.records
+    within n told = let most = h.published in omega arith
+step_seen setting s (Read worker packet draws lists answer) allowed h = record {
+  published = h.published;
+  seen = of_worker s worker (published_records s) (s.published, omega arith, refl) h.seen;
+}
+step_seen setting s (Tell worker n) allowed h = record {
+  published = h.published;
+  seen = of_worker s worker (longer (s.seen worker) (take n s.records)) (longer_first s n (s.seen worker) allowed (h.seen worker) (nat_lt (length (s.seen worker)) (length (take n s.records)))) h.seen;
+}
+
+pub run_seen : (setting : Setting) (steps : List Step) (s : RunState) → IsRun setting steps s → IsSeen s
+run_seen setting steps s run =
+    kept_by_steps setting IsSeen (step_seen setting) steps initial s (record { published = omega arith; seen = λ worker. (0, omega arith, refl) }) run
+
+pub seen_is_published : SeenIsPublished
+seen_is_published setting steps s run worker = (run_seen setting steps s run).seen worker
+
+pub published_are_records : PublishedAreRecords
+published_are_records setting steps s run = (run_seen setting steps s run).published
+
+-- ---- What was seen is seen
+
+same_list : (xs : List SyncRecord) → BeginsWith xs xs
+same_list xs = ([], sym (append-nil xs))
+
+begins_through : (xs ys zs : List SyncRecord) → BeginsWith xs ys → BeginsWith ys zs → BeginsWith xs zs
+begins_through xs ys zs (r, p) (q, s) = (q ++ r, p ∙ ap (λ front. front ++ r) s ∙ append_assoc zs q r)
+
+-- the first records begin with fewer of them
+more_of : (n m : ℕ) (xs seen : List SyncRecord) → n ≤ m → seen ≡ take n xs → BeginsWith (take m xs) seen
+more_of n m xs seen le is =
+    (drop n (take m xs), sym (take-append-drop n (take m xs)) ∙ ap (λ front. front ++ drop n (take m xs)) (take-take n m xs le ∙ sym is))
+
+abbrev Grows : (ℕ → List SyncRecord) → (ℕ → List SyncRecord) → Type 0
+Grows after before = (w : ℕ) → BeginsWith (after w) (before w)
+
+worker_grows : (seen : ℕ → List SyncRecord) (worker : ℕ) (these : List SyncRecord) → BeginsWith these (seen worker) → Grows (at_number seen worker these) seen
+worker_grows seen worker these more w = by (w == worker) refl
+  where
+    by : (b : Bool) → (w == worker) ≡ b → BeginsWith (cond b these (seen w)) (seen w)
+    by true is = subst (λ (m : ℕ). BeginsWith these (seen m)) (sym (eqb-true w worker is)) more
+    by false is = same_list (seen w)
+
+step_grows : (setting : Setting) (s : RunState) (step : Step) → IsAllowed setting s step → IsSeen s → Grows (state_after setting s step).seen s.seen
+step_grows setting s (Feed by e) allowed h w = same_list (s.seen w)
+step_grows setting s Take allowed h w = taken s.queue
+  where
+    taken : (queue : List Fed) → BeginsWith ((after_take setting queue s).seen w) (s.seen w)
+    taken [] = same_list (s.seen w)
+    taken (f ∷ rest) = same_list (s.seen w)
+step_grows setting s Sync allowed h w = same_list (s.seen w)
+step_grows setting s Refuse allowed h w = same_list (s.seen w)
+step_grows setting s Publish allowed h w = same_list (s.seen w)
+step_grows setting s (Read worker packet draws lists answer) allowed h w =
+    let (n, told, is) = h.seen worker in worker_grows s.seen worker (published_records s) (more_of n s.published s.records (s.seen worker) told is) w
+step_grows setting s (Tell worker m) allowed h w =
+    worker_grows s.seen worker (longer (s.seen worker) (take m s.records)) (by (nat_lt (length (s.seen worker)) (length (take m s.records))) refl) w
+  where
+    by : (b : Bool) → nat_lt (length (s.seen worker)) (length (take m s.records)) ≡ b → BeginsWith (cond b (take m s.records) (s.seen worker)) (s.seen worker)
+    by true is =
+        let (n, told, was) = h.seen worker in
+        let most = h.published in
+        let less : length (s.seen worker) < length (take m s.records) = ltb-true (length (s.seen worker)) (length (take m s.records)) is in
+        let n_long : length (take n s.records) ≡ n = length-take-le n s.records (omega arith) in
+        let m_long : length (take m s.records) ≡ m = length-take-le m s.records (omega arith) in
+        let same = ap length was in
+        more_of n m s.records (s.seen worker) (omega arith) was
+    by false is = same_list (s.seen worker)
+
+-- what holds while steps follow a state: what was seen there is seen
+record HasGrown (before s : RunState) : Type 0 where
+  is_seen : IsSeen s
+  grows : Grows s.seen before.seen
+
+pub seen_only_grows : SeenOnlyGrows
+seen_only_grows setting steps more s t run after =
+    (kept_by_steps setting (HasGrown s) (λ u step allowed h. record {
+      is_seen = step_seen setting u step allowed h.is_seen;
+      grows = λ w. begins_through ((state_after setting u step).seen w) (u.seen w) (s.seen w) (step_grows setting u step allowed h.is_seen w) (h.grows w);
+    }) more s t (record { is_seen = run_seen setting steps s run; grows = λ w. same_list (s.seen w) }) after).grows

@@ -1,0 +1,63 @@
+-- Exact histories: how they grow, and that their tables are full tables.
+use Rattle.std.specs.Prelude.{◌≡◌, ◌≤◌, ◌+◌, ◌-◌, ◌^◌, ℕ, suc, List, [], ◌∷◌, ◌++◌, sum, take, length}
+use Rattle.kp_types.specs.Setting.{Setting}
+use Rattle.kp_types.specs.declared.event.Event.{Event}
+use Rattle.kp_types.specs.declared.sync.SyncRecord.{SyncRecord}
+use Rattle.kp_object_defs.specs.Objects.{Objects, objects_after}
+use Rattle.kp_history_defs.specs.History.{IsExactHistory, IsExactRecord, counts_of, chains_covered, objects_covered, table_after}
+
+-- the objects that all records cover
+abbrev pub all_covered : List Event → List SyncRecord → Objects
+all_covered events records = objects_covered events (counts_of records) (length records)
+
+-- with a record, all events are covered
+abbrev pub CoversRest : List Event → List SyncRecord → SyncRecord → Type 0
+CoversRest events records r = sum (counts_of records) + r.events ≡ length events
+
+-- Without records a history is exact.
+abbrev pub ExactWithoutRecords : Type 0
+ExactWithoutRecords = (setting : Setting) (events : List Event) → IsExactHistory setting events []
+
+-- An exact history stays so where more events come,
+abbrev pub ExactByEvents : Type 0
+ExactByEvents =
+    (setting : Setting) (events more : List Event) (records : List SyncRecord)
+    → IsExactHistory setting events records → IsExactHistory setting (events ++ more) records
+
+-- and where a record comes that covers the rest of the events, and leads from the objects that
+-- were covered to those of all events.
+abbrev pub ExactByRecord : Type 0
+ExactByRecord =
+    (setting : Setting) (events : List Event) (records : List SyncRecord) (r : SyncRecord)
+    → IsExactHistory setting events records → CoversRest events records r
+    → IsExactRecord setting (all_covered events records) (objects_after events)
+    (suc (length records)) r
+    → IsExactHistory setting events (records ++ r ∷ [])
+
+-- More events change nothing of what is covered,
+abbrev pub CoveredStays : Type 0
+CoveredStays =
+    (setting : Setting) (events more : List Event) (records : List SyncRecord)
+    → IsExactHistory setting events records
+    → all_covered (events ++ more) records ≡ all_covered events records
+
+-- and with a record that covers the rest of the events, all are covered.
+abbrev pub CoveredByRecord : Type 0
+CoveredByRecord =
+    (events : List Event) (records : List SyncRecord) (r : SyncRecord)
+    → CoversRest events records r → all_covered events (records ++ r ∷ []) ≡ objects_after events
+
+-- After the first n records of an exact history, the chains are those of the full table of what
+-- they cover.
+abbrev pub ExactTables : Type 0
+ExactTables =
+    (setting : Setting) (events : List Event) (records : List SyncRecord) (n : ℕ)
+    → IsExactHistory setting events records → n ≤ length records
+    → (table_after setting (take n records)).chains
+    ≡ chains_covered setting events (counts_of records) n
+
+-- The table's count is that of the records, up to its type's end.
+abbrev pub TableCounted : Type 0
+TableCounted =
+    (setting : Setting) (records : List SyncRecord) → length records ≤ 2 ^ 64 - 1
+    → (table_after setting records).syncs ≡ length records

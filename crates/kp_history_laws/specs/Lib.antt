@@ -1,0 +1,5 @@
+pub mod EventLaws
+pub mod HistoryLaws
+pub mod KeptLaws
+pub mod PortLaws
+pub mod RunLaws
