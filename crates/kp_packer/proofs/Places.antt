@@ -13,6 +13,7 @@ use Rattle.kp_types.specs.declared.slice.SliceEndpoint.{SliceEndpoint}
 use Rattle.kp_types.specs.declared.slice.Wanted.{Wanted}
 use Rattle.kp_object_defs.specs.Packing.{same_object, same_option, is_entry_of, without_first}
 use Rattle.kp_object_defs.specs.PackingLaws.{are_distinct}
+use Rattle.kp_pack_laws.proofs.Pods.{object_exact}
 use Rattle.kp_packer.specs.Views.{shown, left_in, place_in, AtOwnPlaces, IsPlaceOf}
 
 some_none : {X : Type 0} {x : X} → Some x ≡ None → ⊥
@@ -70,12 +71,6 @@ module _ (p : Wanted → Bool) where
       ap (λ l. v.now ∷ l) (one_taken places i w at fits (later (Some v) places i only))
       ∙ sym (ap (λ b. cond b (left_in places) (v.now ∷ without_first p (left_in places))) (fails v i (only 0 v refl) (p v.now) refl))
 
--- the same object
-pub one_object : (a b : ObjectKey) → same_object a b ≡ true → a ≡ b
-one_object a b h =
-    let parts = and_parts (bytes_eq a.namespace b.namespace) (bytes_eq a.name b.name) h in
-    λ i. record { namespace = (bytes_eq-Decides a.namespace b.namespace).0 parts.0 i; name = (bytes_eq-Decides a.name b.name).0 parts.1 i }
-
 -- the endpoint at the place of an entry's pod
 abbrev pub candidate : List (Bor ObjectKey × ℕ) → List (Option (Bor Wanted)) → Option ObjectKey → Option (Bor Wanted)
 candidate entries places pod =
@@ -85,7 +80,7 @@ module _ (entries : List (Bor ObjectKey × ℕ)) (places : List (Option (Bor Wan
   -- an entry's endpoint stands at the place of the entry's pod
   placed : (pod : Option ObjectKey) (i : ℕ) (w : Bor Wanted) → slice_get places i ≡ Some (Some w) → same_option same_object pod (Some w.now.pod) ≡ true → option_and_then (place_in entries) pod ≡ Some i
   placed None i w at same = absurd (true≢false (sym same))
-  placed (Some q) i w at same = ap (place_in entries) (one_object q w.now.pod same) ∙ (own i w at).stands
+  placed (Some q) i w at same = ap (place_in entries) (object_exact q w.now.pod same) ∙ (own i w at).stands
 
   seen : (pod : Option ObjectKey) (i : ℕ) (w : Bor Wanted) → slice_get places i ≡ Some (Some w) → option_and_then (place_in entries) pod ≡ Some i → candidate entries places pod ≡ Some w
   seen None i w at is = absurd (some_none (sym is))
@@ -202,12 +197,12 @@ module _ (old new : List (Bor ObjectKey × ℕ)) (places : List (Option (Bor Wan
   old_alone false q i lt is = is
 
   new_alone : (b : Bool) (q : ObjectKey) → same_object x.now.pod q ≡ b → Within old (length places) → cond b (Some (length places)) (place_in old q) ≡ Some (length places) → q ≡ x.now.pod
-  new_alone true q same within is = sym (one_object x.now.pod q same)
+  new_alone true q same within is = sym (object_exact x.now.pod q same)
   new_alone false q same within is = let below = within q (length places) is in absurd (omega (arith, below))
 
   apart_back : (a b : ObjectKey) (t : Bool) → same_object a b ≡ t → same_object b a ≡ false → t ≡ false
   apart_back a b true same other =
-      absurd (true≢false (sym (ap (same_object b) (one_object a b same) ∙ (λ j. nat_list_eq_equiv.refl b.namespace j && nat_list_eq_equiv.refl b.name j)) ∙ other))
+      absurd (true≢false (sym (ap (same_object b) (object_exact a b same) ∙ (λ j. nat_list_eq_equiv.refl b.namespace j && nat_list_eq_equiv.refl b.name j)) ∙ other))
   apart_back a b false same other = refl
 
   older : AtOwnPlaces old places → list_any (λ v. same_object v.pod x.now.pod) (left_in places) ≡ false → (i : ℕ) (w : Bor Wanted) → slice_get places i ≡ Some (Some w) → IsPlaceOf new i w.now.pod

@@ -4,7 +4,6 @@ use Rattle.std.specs.List.{list_any, position, position_or_len}
 use Rattle.std.proofs.lemmas.Bool.{or_parts}
 use Rattle.std.proofs.Math.Bool.{or-true, or-false}
 use Rattle.std.proofs.lemmas.Bool.Decides.{nat_tests}
-use Rattle.std.proofs.lemmas.Option.{same_Some}
 use Rattle.std.proofs.lemmas.List.{length-drop, take_all, append-nil}
 use Rattle.std.proofs.Math.ListN.{drop_of_length-le}
 use Rattle.std.proofs.lemmas.List.Folds.{list_any-append}
@@ -169,10 +168,6 @@ module _ {X : Type 0} (p : X → Bool) (n : X → ℕ) where
           ∙ (λ i. cond (or-false (list_any p xs) i) (Some (fold (λ size x. max size (n x)) 0 (append-nil (filter p xs) i))) None)
 
 -- what an option that depends on a test tells of the test
-pub when_some : {X : Type 0} (b : Bool) (x y : X) → cond b (Some x) None ≡ Some y → (b ≡ true) × (x ≡ y)
-when_some true x y h = (refl, same_Some x y h)
-when_some false x y h = absurd (cc)
-
 pub when_none : {X : Type 0} (b : Bool) (x : X) → cond b (Some x) None ≡ None → b ≡ false
 when_none true x h = absurd (cc)
 when_none false x h = refl

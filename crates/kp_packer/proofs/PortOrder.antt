@@ -12,6 +12,7 @@ use Rattle.std.proofs.lemmas.Bool.{and_parts, not-true}
 use Rattle.std.proofs.lemmas.Cmp.{on_total, then_total, nat_cmp_total, nat_list_cmp_total}
 use Rattle.std.proofs.lemmas.List.MinMax.{ranks_by}
 use Rattle.std.proofs.lemmas.List.Sorted.{sorted_far}
+use Rattle.kp_lemmas.proofs.ListFacts.{all_weaker}
 use Rattle.kp_base.specs.Keys.{proto_place}
 use Rattle.kp_types.specs.declared.slice.SlicePort.{SlicePort}
 use Rattle.kp_object_defs.specs.Packing.{port_cmp, port_in_place, sorted_ports}
@@ -21,10 +22,6 @@ use Rattle.kp_object_defs.specs.Packing.{port_cmp, port_in_place, sorted_ports}
 all_cond : {X : Type 0} (P : X → Type 0) (b : Bool) (xs ys : List X) → AllByRecursion P xs → AllByRecursion P ys → AllByRecursion P (cond b xs ys)
 all_cond P true xs ys all others = all
 all_cond P false xs ys all others = others
-
-all_also : {X : Type 0} (P Q : X → Type 0) → ((x : X) → P x → Q x) → (xs : List X) → AllByRecursion P xs → AllByRecursion Q xs
-all_also P Q then [] all = tt
-all_also P Q then (x ∷ xs) all = (then x all.0, all_also P Q then xs all.1)
 
 all_indexed : {X : Type 0} (P : X → Type 0) (xs : List X) → ((k : ℕ) (d : X) → k < length xs → P (get_or xs k d)) → AllByRecursion P xs
 all_indexed P [] h = tt
@@ -66,7 +63,7 @@ module _ {X : Type 0} (lt : X → X → Bool) (o : IsStrictWeakOrder lt) where
 
   rises_by : (p q : X) (qs : List X) → Rises (q ∷ qs) → Rises (into p qs) → (b : Bool) → lt q p ≡ b → Rises (cond b (q ∷ into p qs) (p ∷ q ∷ qs))
   rises_by p q qs up rest true e = (all_into (λ y. lt y q ≡ false) p qs (o.one_way q p e) up.0, rest)
-  rises_by p q qs up rest false e = ((e, all_also (λ y. lt y q ≡ false) (λ y. lt y p ≡ false) (λ y h. o.chain y q p h e) qs up.0), up)
+  rises_by p q qs up rest false e = ((e, all_weaker (λ y. lt y q ≡ false) (λ y. lt y p ≡ false) (λ y h. o.chain y q p h e) qs up.0), up)
 
   rises_into : (p : X) (qs : List X) → Rises qs → Rises (into p qs)
   rises_into p [] up = (tt, tt)

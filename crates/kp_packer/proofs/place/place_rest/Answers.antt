@@ -3,7 +3,8 @@ use Rattle.std.specs.List.{list_any}
 use Rattle.std.proofs.lemmas.List.{map-append, length-map}
 use Rattle.kp_object_defs.specs.Packing as spec
 use Rattle.kp_packer.specs.Views.{shown, filling_of}
-use Rattle.kp_packer.proofs.Placing.{last_in_one, last_alone, when_some, when_none}
+use Rattle.std.proofs.lemmas.Option.{cond_some}
+use Rattle.kp_packer.proofs.Placing.{last_in_one, last_alone, when_none}
 use Rattle.kp_packer.proofs.place.place_rest.Goals as goal
 
 pub returns-in_ok-fill_first-in-Some : goal.returns-in_ok-fill_first-in-Some
@@ -14,7 +15,7 @@ returns-in_ok-fill_first-in-Some c =
     let most = c.args.most in
     let count : length left ≡ length c.args.rest.now = length-map c.args.rest.now (λ b. b.now) in
     let found : cond (list_any (spec.has_room most (length c.args.rest.now)) fs) (Some (spec.fullest most (length c.args.rest.now) fs)) None ≡ Some c.in-Some.size = search rules in
-    let told = when_some (list_any (spec.has_room most (length c.args.rest.now)) fs) (spec.fullest most (length c.args.rest.now) fs) c.in-Some.size found in
+    let told = cond_some (list_any (spec.has_room most (length c.args.rest.now)) fs) (spec.fullest most (length c.args.rest.now) fs) c.in-Some.size found in
     let some : 1 ≤ length c.args.rest.now = search rules in
     sym (last_in_one most fs left (omega (arith, some, count)) (omega (arith, c.requires.few, count))
     (ap (λ n. list_any (spec.has_room most n) fs) count ∙ told.0)
