@@ -1,5 +1,4 @@
 pub mod Booleans
-pub mod Elements
 pub mod Entries
 pub mod Equality
 pub mod ListFacts

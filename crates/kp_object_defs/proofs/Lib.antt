@@ -1,2 +1,3 @@
 pub mod AllOf
 pub mod InOrder
+pub mod SameObjects

@@ -1,11 +1,8 @@
 -- The entries of the endpoints that a Service wants name their pods.
-use Rattle.std.proofs.Common.{◌≡◌, Bool, true, false, cond, ◌&&◌, ℕ, List, [], ◌∷◌, bytes_eq, Option, Some, None, option_and_then, filter, filter_map, refl}
+use Rattle.std.proofs.Common.{◌≡◌, Bool, true, false, cond, ℕ, List, [], ◌∷◌, Option, Some, None, option_and_then, filter, filter_map, refl}
 use Rattle.std.specs.FinMap as finite
-use Rattle.std.proofs.lemmas.Bool.{and_from}
-use Rattle.std.proofs.lemmas.Slice.Eq.{bytes_eq-Decides}
 use Rattle.kp_base.specs.Net.{AddressParts}
 use Rattle.kp_base.specs.declared.address.Family.{Family}
-use Rattle.kp_base.specs.declared.key.ObjectKey.{ObjectKey}
 use Rattle.kp_types.specs.declared.service.Service.{Service}
 use Rattle.kp_types.specs.declared.slice.SlicePort.{SlicePort}
 use Rattle.kp_types.specs.declared.slice.Wanted.{Wanted}
@@ -13,6 +10,7 @@ use Rattle.kp_types.specs.declared.pod.Pod.{Pod}
 use Rattle.kp_object_defs.specs.Objects.{zone_of}
 use Rattle.kp_object_defs.specs.Desired.{selects, desired_of, zone_among, in_name_order, with_ports, entry_of, resolved_ports, address_in}
 use Rattle.kp_object_defs.specs.Packing.{same_option, same_object}
+use Rattle.kp_object_defs.proofs.SameObjects.{object_itself}
 use Rattle.kp_object_defs.proofs.AllOf.{holds_of, all_filter_map}
 use Rattle.kp_object_laws.specs.ObjectLaws.{WantedNamePods, DesiredNamePods}
 
@@ -20,15 +18,10 @@ use Rattle.kp_object_laws.specs.ObjectLaws.{WantedNamePods, DesiredNamePods}
 abbrev names_pod : Wanted → Bool
 names_pod w = same_option same_object w.entry.pod (Some w.pod)
 
-itself : (key : ObjectKey) → same_object key key ≡ true
-itself key =
-    and_from (bytes_eq key.namespace key.namespace) (bytes_eq key.name key.name)
-    ((bytes_eq-Decides key.namespace key.namespace).1 refl) ((bytes_eq-Decides key.name key.name).1 refl)
-
 of_ports : (s : Service) (pod : Pod) (zone : Option (List ℕ)) (a : AddressParts) (ports : List SlicePort)
     → holds_of names_pod (with_ports pod (entry_of s pod zone a) ports) ≡ true
 of_ports s pod zone a [] = refl
-of_ports s pod zone a (p ∷ ps) = itself pod.key
+of_ports s pod zone a (p ∷ ps) = object_itself pod.key
 
 of_address : (s : Service) (pod : Pod) (zone : Option (List ℕ)) (address : Option AddressParts)
     → holds_of names_pod (option_and_then (λ a. with_ports pod (entry_of s pod zone a) (resolved_ports s pod)) address) ≡ true

@@ -10,24 +10,11 @@ use Rattle.kp_base.specs.declared.key.ObjectKey.{ObjectKey}
 use Rattle.kp_types.specs.declared.slice.Slice.{Slice}
 use Rattle.kp_types.specs.declared.slice.Wanted.{Wanted}
 use Rattle.kp_object_defs.specs.Packing.{same_option, same_object, sorted_ports}
+use Rattle.kp_object_defs.proofs.SameObjects.{object_exact, object_itself}
 use Rattle.kp_object_defs.specs.PackingLaws.{have_own_pods, entries_name_pods, entries_with_ports, IsPackingOf}
 use Rattle.std.proofs.lemmas.Simd.{map-map}
 use Rattle.kp_pack_laws.proofs.Shuffles.{mapped_pieces, same_pieces, all_of}
 use Rattle.kp_pack_laws.proofs.Distinct.{distinct_from_test}
-
--- ---- the test of pods
-
-pub object_exact : (a b : ObjectKey) → same_object a b ≡ true → a ≡ b
-object_exact a b h =
-    let p = and_parts (bytes_eq a.namespace b.namespace) (bytes_eq a.name b.name) h in
-    let namespace = (bytes_eq-Decides a.namespace b.namespace).0 p.0 in
-    let name = (bytes_eq-Decides a.name b.name).0 p.1 in
-    λ i. record { namespace = namespace i; name = name i }
-
-pub object_same : (a : ObjectKey) → same_object a a ≡ true
-object_same a =
-    and_from (bytes_eq a.namespace a.namespace) (bytes_eq a.name a.name)
-    (nat_list_eq_equiv.refl a.namespace) (nat_list_eq_equiv.refl a.name)
 
 pub object_turned : (a b : ObjectKey) → same_object a b ≡ same_object b a
 object_turned a b =
@@ -45,7 +32,7 @@ pod_exact (Some a) (Some b) h = ap Some (object_exact a b h)
 
 pub pod_same : (a : Option ObjectKey) → same_pod a a ≡ true
 pod_same None = refl
-pod_same (Some a) = object_same a
+pod_same (Some a) = object_itself a
 
 pub pod_turned : (a b : Option ObjectKey) → same_pod a b ≡ same_pod b a
 pod_turned None None = refl

@@ -14,7 +14,8 @@ use Rattle.kp_object_defs.specs.Packing.{Filling, Keeping, Progress, same_option
 use Rattle.kp_lemmas.proofs.ListFacts.{all_both, all_weaker}
 use Rattle.kp_pack_laws.proofs.Shuffles.{all_unmapped}
 use Rattle.kp_pack_laws.proofs.Keeping.{not_some}
-use Rattle.kp_pack_laws.proofs.Pods.{object_same, object_turned, same_pod, pod_exact, pod_same, pod_turned, AreNamed, ArePodsApart}
+use Rattle.kp_object_defs.proofs.SameObjects.{object_itself}
+use Rattle.kp_pack_laws.proofs.Pods.{object_turned, same_pod, pod_exact, pod_same, pod_turned, AreNamed, ArePodsApart}
 
 -- ---- an entry says the same as itself
 
@@ -51,7 +52,7 @@ entries_same (e ∷ es) =
 own_entry : (w : Wanted) → w.entry.pod ≡ Some w.pod → is_entry_of w.entry w ≡ true
 own_entry w named =
     and_from (same_pod w.entry.pod (Some w.pod)) _
-    (ap (λ p. same_pod p (Some w.pod)) named ∙ object_same w.pod) (address_same w.entry.address)
+    (ap (λ p. same_pod p (Some w.pod)) named ∙ object_itself w.pod) (address_same w.entry.address)
 
 other_entry : (v w : Wanted) → w.entry.pod ≡ Some w.pod → same_object w.pod v.pod ≡ false
     → is_entry_of w.entry v ≡ false

@@ -13,7 +13,7 @@ use Rattle.kp_types.specs.declared.slice.SliceEndpoint.{SliceEndpoint}
 use Rattle.kp_types.specs.declared.slice.Wanted.{Wanted}
 use Rattle.kp_object_defs.specs.Packing.{same_object, same_option, is_entry_of, without_first}
 use Rattle.kp_object_defs.specs.PackingLaws.{are_distinct}
-use Rattle.kp_pack_laws.proofs.Pods.{object_exact}
+use Rattle.kp_object_defs.proofs.SameObjects.{object_exact}
 use Rattle.kp_packer.specs.Views.{shown, left_in, place_in, AtOwnPlaces, IsPlaceOf}
 
 some_none : {X : Type 0} {x : X} → Some x ≡ None → ⊥

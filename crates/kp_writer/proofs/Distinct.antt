@@ -10,7 +10,7 @@ use Rattle.std.specs.FinMap.{IsAntisymmetric, find, put}
 use Rattle.std.specs.FinMap.Entries.{by_order}
 use mathlib.Core.List.{reverse-cons}
 use Rattle.std.proofs.lemmas.List.Elements.{Contains-append_cases}
-use Rattle.kp_lemmas.proofs.Elements.{none_in, in_cases, first_in, later_in}
+use Rattle.kp_lemmas.proofs.Members.{none_in, in_cases, first_in, later_in}
 use Rattle.kp_lemmas.proofs.Entries.{put_keys}
 use Rattle.kp_lemmas.proofs.Orders.{equal_from_test}
 use Rattle.kp_object_defs.proofs.InOrder.{same_order}

@@ -5,7 +5,7 @@ use Rattle.std.specs.Prelude.{Result, Ok, Err, IfOk}
 use Rattle.std.specs.List.{cons_option, AllByRecursion}
 use Rattle.std.specs.FinMap.{get}
 use Rattle.std.proofs.lemmas.List.{append-nil}
-use Rattle.kp_lemmas.proofs.Elements.{none_in, in_cases, from_map, first_in, later_in}
+use Rattle.kp_lemmas.proofs.Members.{none_in, in_cases, from_map, first_in, later_in}
 use Rattle.kp_base.proofs.SameParts.{same_family_exact}
 use Rattle.kp_base.specs.Net.{same_family}
 use Rattle.kp_base.specs.Keys.{endpoint_cmp}

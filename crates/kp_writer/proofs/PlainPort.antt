@@ -6,7 +6,7 @@ use Rattle.std.specs.List.{filter, cons_option, AllByRecursion}
 use Rattle.std.specs.FinMap as finite
 use Rattle.std.proofs.lemmas.List.{append-nil, map-append}
 use Rattle.std.proofs.lemmas.List.Elements.{Contains-append_cases}
-use Rattle.kp_lemmas.proofs.Elements.{from_map, in_map, from_filter}
+use Rattle.kp_lemmas.proofs.Members.{from_map, in_map, from_filter}
 use Rattle.kp_lemmas.proofs.Entries.{empty_entries}
 use Rattle.kp_lemmas.proofs.ListFacts.{map_some}
 use Rattle.kp_base.specs.Net.{same_family}
