@@ -2,9 +2,10 @@
 #![tactic(auto)]
 
 mod entries;
-mod lists;
+mod policies;
 mod reach;
 mod topology;
 
 pub use entries::candidates;
-pub use lists::categorise;
+pub use kp_types::{Candidate, Lists};
+pub use policies::categorise;

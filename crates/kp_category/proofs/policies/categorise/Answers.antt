@@ -3,7 +3,7 @@ use Rattle.std.proofs.lemmas.Result.{IfOk-weaker}
 use Rattle.kp_object_defs.specs.Entries.{family_among}
 use Rattle.kp_object_defs.specs.PortInfo.{lists_of}
 use Rattle.kp_category.proofs.Families.{in_one_family}
-use Rattle.kp_category.proofs.lists.categorise.Goals as goal
+use Rattle.kp_category.proofs.policies.categorise.Goals as goal
 
 pub returns-clause-family : goal.returns-clause-family
 returns-clause-family c = λ family all.

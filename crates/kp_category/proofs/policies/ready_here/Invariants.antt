@@ -2,7 +2,7 @@
 use Rattle.std.proofs.Common.{◌≡◌, take, map}
 use Rattle.std.specs.List.{filter}
 use Rattle.kp_object_defs.specs.Lists.{is_ready}
-use Rattle.kp_category.proofs.lists.ready_here.Given as goal
+use Rattle.kp_category.proofs.policies.ready_here.Given as goal
 
 abbrev pub invariant-loop-endpoint : goal.invariant-loop-endpoint
 invariant-loop-endpoint l =
