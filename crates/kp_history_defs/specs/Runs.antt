@@ -130,8 +130,9 @@ answer_of setting s packet draws lists =
     walk_of (λ at. finite.get (table_after setting (published_records s)).chains at)
     setting.config.addresses packet draws lists
 
--- where a step may be made, and with which answer: an empty queue has no front; a sync is refused
--- exactly where the objects have a clash; only what isn't published is, and of no more is told
+-- Where a step may be made: the queue has a front to take; a sync is accepted where the objects have
+-- no clash, and else refused; there are records to publish; a read has the answer of the published
+-- table; and a worker is told of published records alone.
 abbrev pub IsAllowed : Setting → RunState → Step → Type 0
 IsAllowed setting s (Feed stream event) = Unit {0}
 IsAllowed setting s Take = is_empty s.queue ≡ false

@@ -1,11 +1,11 @@
 -- The values of a finite map that pass a test: a change of a value that doesn't pass leaves them.
-use Rattle.std.proofs.Common.{◌≡◌, Bool, true, false, cond, List, [], ◌∷◌, map, filter, Option, Some, None, refl, sym, ap, subst, ◌∙◌, is_lt, is_eq, Ordering, T}
+use Rattle.std.proofs.Common.{◌≡◌, Bool, true, false, cond, List, [], ◌∷◌, map, filter, Option, Some, None, refl, sym, ap, ◌∙◌, is_lt, is_eq, Ordering}
 use Rattle.std.specs.Ordering.{eq_by_cmp}
 use Rattle.std.specs.Cmp.{IsTotalOrder}
 use Rattle.std.specs.FinMap.{FinMap, find, is_sorted, get, insert, remove, entries, values, entries_sorted, get-entries, get-insert, get-remove, IsAntisymmetric}
 use Rattle.std.specs.FinMap.Entries.{below_all, same_entries}
 use Rattle.std.proofs.lemmas.Bool.{and_from, and_parts}
-use Rattle.kp_lemmas.proofs.Booleans.{true_from_fact}
+use Rattle.kp_lemmas.proofs.Booleans.{true_from_fact, fact_from_true}
 use Rattle.kp_lemmas.proofs.Orders.{one_from_tie, less_from_test}
 
 module _ {K X : Type 0} {R : K → K → Ordering} (total : IsTotalOrder R) (exact : IsAntisymmetric R) (p : X → Bool) where
@@ -76,16 +76,13 @@ module _ {K X : Type 0} {R : K → K → Ordering} (total : IsTotalOrder R) (exa
       sym (values_passed (entries m))
       ∙ ap (map (λ (e : K × X). e.1))
       (same_entries R total exact (passed (entries m)) (passed (entries n))
-      (is_fact (sorted_passed (entries m) (sorted m))) (is_fact (sorted_passed (entries n) (sorted n))) (λ q.
+      (fact_from_true (sorted_passed (entries m) (sorted m))) (fact_from_true (sorted_passed (entries n) (sorted n))) (λ q.
       find_passed q (entries m) (sorted m)
       ∙ ap passing (sym (get-entries m q))
       ∙ alike q
       ∙ ap passing (get-entries n q)
       ∙ sym (find_passed q (entries n) (sorted n))))
       ∙ values_passed (entries n)
-    where
-      is_fact : {b : Bool} → b ≡ true → T b
-      is_fact e = subst T (sym e) tt
 
   changed_by : (m : FinMap R X) (k q : K) (o : Option X) → passing (get m k) ≡ None → passing o ≡ None → (b : Bool) → eq_by_cmp R q k ≡ b
       → passing (cond b o (get m q)) ≡ passing (get m q)

@@ -84,7 +84,7 @@ TablesAreFull =
     → (table_after setting (take n s.records)).chains
     ≡ chains_covered setting (events_of s.journal) (counts_of s.records) n)
 
--- The slices change by such steps.
+-- Along a run, whatever the families and the configuration, the slices change so at each step.
 abbrev pub SlicesOfSteps : Type 0
 SlicesOfSteps =
     (families : List Family) (config : Config)
