@@ -7,9 +7,10 @@ ghost use Rattle.kp_object_defs.specs.Objects.{no_objects, objects_step, objects
 ghost use Rattle.kp_object_defs.specs.Objects.{with_object, without_object};
 ghost use Rattle.kp_store.specs.LookUps as find;
 
+use crate::indexed::Indexed;
 use crate::keyed::Keyed;
 use crate::nodes::Nodes;
-use crate::selections::{copies, keys_selecting, pods_selected, slices_owned};
+use crate::selections::{copies, keys_selecting, pods_selected};
 use kp_base::{Copied, Items, NoMemory, ObjectKey, Text};
 use kp_types::{Event, Kind, Node, Object, Pod, Service, Slice};
 use std::alloc::Global;
@@ -19,7 +20,7 @@ use std::marker::Model;
 #[derive(Drop)]
 pub struct Objects {
     services: Keyed<Service>,
-    slices: Keyed<Slice>,
+    slices: Indexed<Slice, ObjectKey>,
     pods: Keyed<Pod>,
     nodes: Nodes,
 }
@@ -47,7 +48,7 @@ impl Objects {
     {
         Objects {
             services: Keyed::new(alloc),
-            slices: Keyed::new(alloc),
+            slices: Indexed::new(alloc),
             pods: Keyed::new(alloc),
             nodes: Nodes::new(alloc),
         }
@@ -71,10 +72,7 @@ impl Objects {
     {
         match event {
             Event::Apply(object) => self.put(alloc, object),
-            Event::Delete { kind, key } => {
-                self.take(*kind, key);
-                Ok(())
-            }
+            Event::Delete { kind, key } => self.take(alloc, *kind, key),
         }
     }
 
@@ -85,21 +83,31 @@ impl Objects {
     {
         match object {
             Object::Service(s) => self.services.put(s.key.copy(alloc)?, s.copy(alloc)?),
-            Object::EndpointSlice(s) => self.slices.put(s.key.copy(alloc)?, s.copy(alloc)?),
+            Object::EndpointSlice(s) => self.slices.put(alloc, s.key.copy(alloc)?, s.copy(alloc)?),
             Object::Pod(p) => self.pods.put(p.key.copy(alloc)?, p.copy(alloc)?),
             Object::Node(n) => self.nodes.put(n.name.copy(alloc)?, n.copy(alloc)?),
         }
     }
 
     /// Takes out an object, if it is there.
-    fn take(&mut self, kind: Kind, key: &ObjectKey)
-        ensures { self.new ≡ without_object self.old kind key.now }
+    fn take(&mut self, alloc: Global, kind: Kind, key: &ObjectKey) -> Result<(), NoMemory>
+        ensures ok { OnOk result (self.new ≡ without_object self.old kind key.now) }
+        ensures err { OnErr result (self.new ≡ self.old) }
     {
         match kind {
-            Kind::Service => self.services.take(key),
-            Kind::EndpointSlice => self.slices.take(key),
-            Kind::Pod => self.pods.take(key),
-            Kind::Node => self.nodes.take(key),
+            Kind::Service => {
+                self.services.take(key);
+                Ok(())
+            }
+            Kind::EndpointSlice => self.slices.take(alloc, key),
+            Kind::Pod => {
+                self.pods.take(key);
+                Ok(())
+            }
+            Kind::Node => {
+                self.nodes.take(key);
+                Ok(())
+            }
         }
     }
 
@@ -142,7 +150,8 @@ impl Objects {
     pub fn slices_of(&self, alloc: Global, service: &ObjectKey) -> Result<Items<Slice>, NoMemory>
         ensures { IfOk result (λ ss. ss ≡ entries.slices_of self.now service.now) }
     {
-        slices_owned(alloc, self.slices.values(alloc)?.as_slice(), service)
+        let found = self.slices.found(alloc, service)?;
+        copies(alloc, found.as_slice())
     }
 
     /// The pods that a Service selects, in order of their keys. A Service that isn't there selects

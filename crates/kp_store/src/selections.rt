@@ -2,11 +2,10 @@
 ghost use Rattle.std.specs.Prelude.{◌≡◌, map, IfOk};
 ghost use Rattle.std.specs.List.{filter};
 ghost use Rattle.kp_object_defs.specs.Desired as Desired;
-ghost use Rattle.kp_object_defs.specs.Entries.{is_of_service};
 
 use kp_base::{Copied, Items, NoMemory, ObjectKey};
 use kp_desired::selects;
-use kp_types::{Pod, Service, Slice};
+use kp_types::{Pod, Service};
 use std::alloc::Global;
 
 /// Copies of all.
@@ -36,34 +35,6 @@ pub fn keys_selecting<'a>(
         }
     }
     Ok(Items::from_vec(keys))
-}
-
-/// The slices whose label names a Service of their namespace.
-pub fn slices_owned<'a>(
-    alloc: Global,
-    slices: &[&'a Slice],
-    service: &ObjectKey,
-) -> Result<Items<Slice>, NoMemory>
-    ensures { IfOk result (λ ss. ss
-        ≡ filter (is_of_service service.now) (map (λ s. s.now) slices.now)) }
-{
-    let mut owned = Vec::new(alloc);
-    for slice in slices {
-        if belongs(slice, service) {
-            owned.push(slice.copy(alloc)?)?;
-        }
-    }
-    Ok(Items::from_vec(owned))
-}
-
-/// Whether a slice's label names a Service of its namespace.
-fn belongs(slice: &Slice, service: &ObjectKey) -> bool
-    ensures { result ≡ is_of_service service.now slice.now }
-{
-    match &slice.service {
-        Some(name) => slice.key.namespace == service.namespace && *name == service.name,
-        None => false,
-    }
 }
 
 /// The pods that a Service selects.
