@@ -1,12 +1,12 @@
 -- The objects of the keys in a bucket are those with its tag.
-use Rattle.std.proofs.Common.{◌≡◌, ◌&&◌, Bool, true, false, cond, List, [], ◌∷◌, map, filter, Option, Some, None, is_some, refl, sym, ap, subst, ◌∙◌, T, Bor}
+use Rattle.std.proofs.Common.{◌≡◌, Bool, true, false, cond, List, [], ◌∷◌, map, filter, Option, Some, None, is_some, refl, sym, ap, subst, ◌∙◌, T, Bor}
 use Rattle.std.specs.declared.cmp.Ordering.{Ordering}
 use Rattle.std.specs.List.{filter_map, cons_option, AllByRecursion}
-use Rattle.std.specs.Ordering.{eq_by_cmp, is_eq, is_lt}
+use Rattle.std.specs.Ordering.{eq_by_cmp, is_lt}
 use Rattle.std.specs.FinMap as finite
 use Rattle.std.specs.FinMap.{FinMap, find, is_sorted, entries, entries_sorted, get, get-entries, contains_key}
 use Rattle.std.specs.FinMap.Entries.{below_all, same_entries}
-use Rattle.kp_lemmas.proofs.Booleans.{both_facts, fact_of_both, true_from_fact, fact_from_true}
+use Rattle.kp_lemmas.proofs.Booleans.{both_facts, fact_of_both, true_from_fact}
 use Rattle.kp_lemmas.proofs.Orders.{less_is_other, one_from_tie}
 use Rattle.kp_lemmas.proofs.ListFacts.{all_filter}
 use Rattle.kp_lemmas.proofs.Entries.{entries_found}

@@ -1,4 +1,4 @@
-use Rattle.std.proofs.Common.{[], ◌++◌, ap, ◌∙◌, Bor}
+use Rattle.std.proofs.Common.{[], ◌++◌, ◌∙◌, Bor}
 use Rattle.std.specs.FinMap as finite
 use Rattle.std.specs.Option.{option_to_list}
 use Rattle.kp_base.specs.declared.key.ObjectKey.{ObjectKey}

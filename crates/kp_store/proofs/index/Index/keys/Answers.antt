@@ -1,8 +1,6 @@
 use Rattle.std.proofs.Common.{map, sym, ap, ◌∙◌}
 use Rattle.std.specs.FinMap as finite
-use Rattle.std.specs.Map.{lookup}
 use Rattle.std.specs.Option.{unwrap_or}
-use Rattle.std.specs.Ordering.{eq_by_cmp}
 use Rattle.kp_base.specs.Keys.{key_cmp}
 use Rattle.kp_lemmas.proofs.Entries.{empty_entries}
 use Rattle.kp_store.specs.Indexes.{Bucket, bucket}

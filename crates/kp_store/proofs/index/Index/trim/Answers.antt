@@ -1,6 +1,6 @@
-use Rattle.std.proofs.Common.{◌≡◌, ◌&&◌, Bool, not, true, ap, ◌∙◌}
+use Rattle.std.proofs.Common.{◌&&◌, not, ap, ◌∙◌}
 use Rattle.kp_store.proofs.Buckets.{trim_step, trim_none}
-use Rattle.kp_store.specs.Indexes.{has, is_pair, is_among}
+use Rattle.kp_store.specs.Indexes.{is_pair, is_among}
 use Rattle.kp_store.proofs.index.Index.trim.Goals as goal
 
 pub loop-tag-init : goal.loop-tag-init
