@@ -1,0 +1,198 @@
+-- What stands in which bucket once a key is added to one or removed.
+use Rattle.std.proofs.Common.{◌≡◌, ℕ, zero, suc, ◌+◌, ◌<◌, ◌&&◌, ◌||◌, Bool, true, false, not, cond, List, [], ◌∷◌, ◌++◌, take, length, get_or, Option, Some, None, is_some, Result, Ok, Err, OnOk, OnErr, IfOk, refl, sym, ap, ◌∙◌}
+use Rattle.std.specs.declared.cmp.Ordering.{Ordering}
+use Rattle.std.specs.declared.cmp.Ordering.TheVariants.{Equal}
+use Rattle.std.specs.Map.{lookup}
+use Rattle.std.specs.Option.{unwrap_or}
+use Rattle.std.specs.Ordering.{eq_by_cmp, is_eq}
+use Rattle.std.specs.Cmp.{IsTotalOrder, eq_by_cmp_equiv}
+use Rattle.std.specs.FinMap.{get, get-empty, get-insert, get-remove, insert, remove, empty, contains_key}
+use Rattle.std.proofs.lemmas.List.{take_more}
+use Rattle.std.proofs.lemmas.List.Folds.{list_any-append}
+use Rattle.kp_lemmas.proofs.Orders.{equal_from_test}
+use Rattle.kp_base.specs.Keys.{key_cmp}
+use Rattle.kp_base.specs.declared.key.ObjectKey.{ObjectKey}
+use Rattle.kp_base.proofs.KeyOrder.{key_total}
+use Rattle.kp_store.specs.Indexes.{Bucket, has, is_among, is_pair, is_tag_of, is_lost}
+
+-- what follows from a call's clause at Ok, and at Err
+pub on_ok : {A E P Q : Type 0} (r : Result A E) → OnOk r P → (P → Q) → OnOk r Q
+on_ok (Ok a) p f = f p
+on_ok (Err e) p f = tt
+
+pub on_err : {A E P Q : Type 0} (r : Result A E) → OnErr r P → (P → Q) → OnErr r Q
+on_err (Ok a) p f = tt
+on_err (Err e) p f = f p
+
+pub if_ok : {A E : Type 0} (P Q : A → Type 0) (r : Result A E) → ((a : A) → P a → Q a) → IfOk r P → IfOk r Q
+if_ok P Q (Ok a) f p = f a p
+if_ok P Q (Err e) f p = tt
+
+-- ---- truth values
+
+pub or_none : (b : Bool) → b || false ≡ b
+or_none true = refl
+or_none false = refl
+
+pub and_none : (b : Bool) → b && false ≡ false
+and_none true = refl
+and_none false = refl
+
+one_more : (e b m old : Bool) → (e && b) || ((b && m) || old) ≡ (b && (m || e)) || old
+one_more true true true old = refl
+one_more true true false old = refl
+one_more true false m old = refl
+one_more false true true old = refl
+one_more false true false old = refl
+one_more false false m old = refl
+
+one_less : (e b c m n old : Bool) → (e ≡ true → c ≡ n) → not ((e && b) && not c) && (not (b && (m && not n)) && old) ≡ not (b && ((m || e) && not n)) && old
+one_less false b c true n old same = refl
+one_less false b c false n old same = refl
+one_less true false c m n old same = refl
+one_less true true true m false old same = let h : true ≡ false = same refl in absurd (cc)
+one_less true true false m true old same = let h : false ≡ true = same refl in absurd (cc)
+one_less true true true true true old same = refl
+one_less true true true false true old same = refl
+one_less true true false true false old same = refl
+one_less true true false false false old same = refl
+
+pub back : (b m n some old : Bool) → (b ≡ true → old ≡ n) → (some ≡ true → m ≡ true) → not (b && (m && not n)) && ((b && some) || old) ≡ old
+back false m n some old same all = refl
+back true m true some false same all = let h : false ≡ true = same refl in absurd (cc)
+back true m false some true same all = let h : true ≡ false = same refl in absurd (cc)
+back true true true true true same all = refl
+back true true true false true same all = refl
+back true false true true true same all = refl
+back true false true false true same all = refl
+back true true false some false same all = refl
+back true false false true false same all = let h : false ≡ true = all refl in absurd (cc)
+back true false false false false same all = refl
+
+or_later : (a p q : Bool) → (p ≡ true → q ≡ true) → a || p ≡ true → a || q ≡ true
+or_later true p q f h = refl
+or_later false p q f h = f h
+
+-- ---- one bucket
+
+some_or : {X : Type 0} (b : Bool) (x : X) (o : Option X) → is_some (cond b (Some x) o) ≡ b || is_some o
+some_or true x o = refl
+some_or false x o = refl
+
+some_and : {X : Type 0} (b : Bool) (o : Option X) → is_some (cond b None o) ≡ not b && is_some o
+some_and true o = refl
+some_and false o = refl
+
+in_inserted : (m : Bucket) (key k : ObjectKey) → contains_key (insert m key tt) k ≡ eq_by_cmp key_cmp k key || contains_key m k
+in_inserted m key k = ap is_some (get-insert key_total m key tt k) ∙ some_or (eq_by_cmp key_cmp k key) tt (get m k)
+
+in_removed : (m : Bucket) (key k : ObjectKey) → contains_key (remove m key) k ≡ not (eq_by_cmp key_cmp k key) && contains_key m k
+in_removed m key k = ap is_some (get-remove key_total m key k) ∙ some_and (eq_by_cmp key_cmp k key) (get m k)
+
+module _ {T : Type 0} (cmp : T → T → Ordering) (total : IsTotalOrder cmp) where
+  -- tags that tie have one bucket
+  lookup_tied : (tag t : T) → cmp tag t ≡ Equal → (es : List (T × Bucket)) → lookup (eq_by_cmp cmp t) es ≡ lookup (eq_by_cmp cmp tag) es
+  lookup_tied tag t tie [] = refl
+  lookup_tied tag t tie (e ∷ es) = λ i. cond (is_eq (sym (total.congr tag t e.0 tie) i)) (Some e.1) (lookup_tied tag t tie es i)
+
+  among_tied : (tag t : T) → cmp tag t ≡ Equal → (tags : List T) → is_among cmp tags t ≡ is_among cmp tags tag
+  among_tied tag t tie [] = refl
+  among_tied tag t tie (u ∷ us) = λ i. is_eq (sym (total.congr tag t u tie) i) || among_tied tag t tie us i
+
+  module _ (es fs : List (T × Bucket)) (tag : T) (w : Bucket) (h : (t : T) → lookup (eq_by_cmp cmp t) fs ≡ cond (eq_by_cmp cmp tag t) (Some w) (lookup (eq_by_cmp cmp t) es)) where
+    -- what the new bucket is, and that others stay
+    here : (t : T) (k : ObjectKey) → eq_by_cmp cmp tag t ≡ true → has cmp fs t k ≡ contains_key w k
+    here t k e = ap (λ o. contains_key (unwrap_or o empty) k) (h t ∙ ap (λ b. cond b (Some w) (lookup (eq_by_cmp cmp t) es)) e)
+
+    before : (t : T) (k : ObjectKey) → eq_by_cmp cmp tag t ≡ true → contains_key (unwrap_or (lookup (eq_by_cmp cmp tag) es) empty) k ≡ has cmp es t k
+    before t k e = ap (λ o. contains_key (unwrap_or o empty) k) (sym (lookup_tied tag t (equal_from_test (cmp tag t) e) es))
+
+    elsewhere : (t : T) (k : ObjectKey) → eq_by_cmp cmp tag t ≡ false → has cmp fs t k ≡ has cmp es t k
+    elsewhere t k e = ap (λ o. contains_key (unwrap_or o empty) k) (h t ∙ ap (λ b. cond b (Some w) (lookup (eq_by_cmp cmp t) es)) e)
+
+    turned : (t : T) (b : Bool) → eq_by_cmp cmp tag t ≡ b → eq_by_cmp cmp t tag ≡ b
+    turned t b e = (eq_by_cmp_equiv total).symm t tag ∙ e
+
+    added_by : (key : ObjectKey) → w ≡ insert (unwrap_or (lookup (eq_by_cmp cmp tag) es) empty) key tt → (t : T) (k : ObjectKey) (b : Bool) → eq_by_cmp cmp tag t ≡ b → has cmp fs t k ≡ is_pair cmp tag key t k || has cmp es t k
+    added_by key is t k true e =
+        here t k e
+        ∙ ap (λ m. contains_key m k) is
+        ∙ in_inserted (unwrap_or (lookup (eq_by_cmp cmp tag) es) empty) key k
+        ∙ ap (λ b. eq_by_cmp key_cmp k key || b) (before t k e)
+        ∙ ap (λ b. (b && eq_by_cmp key_cmp k key) || has cmp es t k) (sym (turned t true e))
+    added_by key is t k false e =
+        elsewhere t k e
+        ∙ ap (λ b. (b && eq_by_cmp key_cmp k key) || has cmp es t k) (sym (turned t false e))
+
+    pub added : (key : ObjectKey) → w ≡ insert (unwrap_or (lookup (eq_by_cmp cmp tag) es) empty) key tt → (t : T) (k : ObjectKey) → has cmp fs t k ≡ is_pair cmp tag key t k || has cmp es t k
+    added key is t k = added_by key is t k (eq_by_cmp cmp tag t) refl
+
+    removed_by : (key : ObjectKey) → w ≡ remove (unwrap_or (lookup (eq_by_cmp cmp tag) es) empty) key → (t : T) (k : ObjectKey) (b : Bool) → eq_by_cmp cmp tag t ≡ b → has cmp fs t k ≡ not (is_pair cmp tag key t k) && has cmp es t k
+    removed_by key is t k true e =
+        here t k e
+        ∙ ap (λ m. contains_key m k) is
+        ∙ in_removed (unwrap_or (lookup (eq_by_cmp cmp tag) es) empty) key k
+        ∙ ap (λ b. not (eq_by_cmp key_cmp k key) && b) (before t k e)
+        ∙ ap (λ b. not (b && eq_by_cmp key_cmp k key) && has cmp es t k) (sym (turned t true e))
+    removed_by key is t k false e =
+        elsewhere t k e
+        ∙ ap (λ b. not (b && eq_by_cmp key_cmp k key) && has cmp es t k) (sym (turned t false e))
+
+    pub removed : (key : ObjectKey) → w ≡ remove (unwrap_or (lookup (eq_by_cmp cmp tag) es) empty) key → (t : T) (k : ObjectKey) → has cmp fs t k ≡ not (is_pair cmp tag key t k) && has cmp es t k
+    removed key is t k = removed_by key is t k (eq_by_cmp cmp tag t) refl
+
+    stayed_by : w ≡ unwrap_or (lookup (eq_by_cmp cmp tag) es) empty → (t : T) (k : ObjectKey) (b : Bool) → eq_by_cmp cmp tag t ≡ b → has cmp fs t k ≡ has cmp es t k
+    stayed_by is t k true e = here t k e ∙ ap (λ m. contains_key m k) is ∙ before t k e
+    stayed_by is t k false e = elsewhere t k e
+
+    -- a bucket that was written back as it was
+    pub stayed : w ≡ unwrap_or (lookup (eq_by_cmp cmp tag) es) empty → (t : T) (k : ObjectKey) → has cmp fs t k ≡ has cmp es t k
+    stayed is t k = stayed_by is t k (eq_by_cmp cmp tag t) refl
+
+  -- a tag that has no bucket has no keys to remove
+  pub none_removed : (es : List (T × Bucket)) (tag : T) (key : ObjectKey) → lookup (eq_by_cmp cmp tag) es ≡ None → (t : T) (k : ObjectKey) → has cmp es t k ≡ not (is_pair cmp tag key t k) && has cmp es t k
+  none_removed es tag key none t k = by (eq_by_cmp cmp tag t) refl
+    where
+      by : (b : Bool) → eq_by_cmp cmp tag t ≡ b → has cmp es t k ≡ not (is_pair cmp tag key t k) && has cmp es t k
+      by true e =
+          let nothing : has cmp es t k ≡ false = ap (λ o. contains_key (unwrap_or o empty) k) (lookup_tied tag t (equal_from_test (cmp tag t) e) es ∙ none) ∙ ap is_some (get-empty key_cmp k) in
+          nothing ∙ sym (and_none (not (is_pair cmp tag key t k))) ∙ ap (λ b. not (is_pair cmp tag key t k) && b) (sym nothing)
+      by false e = ap (λ b. not (b && eq_by_cmp key_cmp k key) && has cmp es t k) (sym ((eq_by_cmp_equiv total).symm t tag ∙ e))
+
+  -- ---- tags one after the other
+
+  among_more : (tags : List T) (i : ℕ) (tag t : T) → i < length tags → tag ≡ get_or tags i tag → is_among cmp (take (i + 1) tags) t ≡ is_among cmp (take i tags) t || eq_by_cmp cmp t tag
+  among_more tags i tag t lt is =
+      ap (λ us. is_among cmp us t) (take_more tags i tag lt ∙ ap (λ u. take i tags ++ u ∷ []) (sym is))
+      ∙ list_any-append (eq_by_cmp cmp t) (take i tags) (tag ∷ [])
+      ∙ ap (λ b. is_among cmp (take i tags) t || b) (or_none (eq_by_cmp cmp t tag))
+
+  -- one more tag was added
+  pub add_step : (tags : List T) (i : ℕ) (tag : T) → i < length tags → tag ≡ get_or tags i tag → (key : ObjectKey) (t : T) (k : ObjectKey) (old : Bool) → is_pair cmp tag key t k || (is_tag_of cmp (take i tags) key t k || old) ≡ is_tag_of cmp (take (i + 1) tags) key t k || old
+  add_step tags i tag lt is key t k old =
+      one_more (eq_by_cmp cmp t tag) (eq_by_cmp key_cmp k key) (is_among cmp (take i tags) t) old
+      ∙ ap (λ b. (eq_by_cmp key_cmp k key && b) || old) (sym (among_more tags i tag t lt is))
+
+  -- one more tag that is gone
+  pub trim_step : (gone kept : List T) (i : ℕ) (tag : T) → i < length gone → tag ≡ get_or gone i tag → (key : ObjectKey) (t : T) (k : ObjectKey) (old : Bool) → not (is_pair cmp tag key t k && not (is_among cmp kept tag)) && (not (is_lost cmp (take i gone) kept key t k) && old) ≡ not (is_lost cmp (take (i + 1) gone) kept key t k) && old
+  trim_step gone kept i tag lt is key t k old =
+      one_less (eq_by_cmp cmp t tag) (eq_by_cmp key_cmp k key) (is_among cmp kept tag) (is_among cmp (take i gone) t) (is_among cmp kept t) old (λ e. among_tied t tag (equal_from_test (cmp t tag) e) kept)
+      ∙ ap (λ b. not (eq_by_cmp key_cmp k key && (b && not (is_among cmp kept t))) && old) (sym (among_more gone i tag t lt is))
+
+  among_some : (i : ℕ) (tags : List T) (t : T) → is_among cmp (take i tags) t ≡ true → is_among cmp tags t ≡ true
+  among_some zero tags t h = absurd (cc)
+  among_some (suc i) [] t h = h
+  among_some (suc i) (u ∷ us) t h = or_later (eq_by_cmp cmp t u) (is_among cmp (take i us) t) (is_among cmp us t) (among_some i us t) h
+
+  -- tags that were added in part, and removed again
+  pub undone : (tags kept : List T) (i : ℕ) (key : ObjectKey) (t : T) (k : ObjectKey) (old : Bool) → (eq_by_cmp key_cmp k key ≡ true → old ≡ is_among cmp kept t) → not (is_lost cmp tags kept key t k) && (is_tag_of cmp (take i tags) key t k || old) ≡ old
+  undone tags kept i key t k old same = back (eq_by_cmp key_cmp k key) (is_among cmp tags t) (is_among cmp kept t) (is_among cmp (take i tags) t) old same (among_some i tags t)
+
+-- nothing is gone, and nothing is added
+pub trim_none : (b old : Bool) → old ≡ not (b && false) && old
+trim_none true old = refl
+trim_none false old = refl
+
+pub add_none : (b old : Bool) → old ≡ (b && false) || old
+add_none true old = refl
+add_none false old = refl

@@ -1,0 +1,119 @@
+-- The objects of the keys in a bucket are those with its tag.
+use Rattle.std.proofs.Common.{◌≡◌, Bool, true, false, cond, List, [], ◌∷◌, map, filter, Option, Some, None, is_some, refl, sym, ap, subst, ◌∙◌, T, Bor}
+use Rattle.std.specs.declared.cmp.Ordering.{Ordering}
+use Rattle.std.specs.List.{filter_map, cons_option, AllByRecursion}
+use Rattle.std.specs.Ordering.{eq_by_cmp, is_lt}
+use Rattle.std.specs.FinMap as finite
+use Rattle.std.specs.FinMap.{FinMap, find, is_sorted, entries, entries_sorted, get, get-entries, contains_key}
+use Rattle.std.specs.FinMap.Entries.{below_all, same_entries}
+use Rattle.kp_lemmas.proofs.Booleans.{both_facts, fact_of_both, true_from_fact}
+use Rattle.kp_lemmas.proofs.Orders.{less_is_other, one_from_tie}
+use Rattle.kp_lemmas.proofs.ListFacts.{all_filter}
+use Rattle.kp_lemmas.proofs.Entries.{entries_found}
+use Rattle.kp_base.specs.Keys.{key_cmp}
+use Rattle.kp_base.specs.declared.key.ObjectKey.{ObjectKey}
+use Rattle.kp_base.proofs.KeyOrder.{key_total, key_exact}
+use Rattle.kp_store.specs.Indexes.{Bucket, is_among, is_tagged}
+
+-- what references show
+pub map_shown : {K X : Type 0} (f : K → Option X) (ks : List (Bor K)) → filter_map (λ k. f k.now) ks ≡ filter_map f (map (λ k. k.now) ks)
+map_shown f [] = refl
+map_shown f (k ∷ ks) = ap (cons_option (f k.now)) (map_shown f ks)
+
+-- options of nothing
+one_option : (a b : Option (Unit {0})) → is_some a ≡ is_some b → a ≡ b
+one_option None None e = refl
+one_option None (Some b) e = absurd (cc)
+one_option (Some a) None e = absurd (cc)
+one_option (Some a) (Some b) e = refl
+
+-- keys without their values
+abbrev bare : {K X : Type 0} → List (K × X) → List (K × Unit {0})
+bare es = map (λ e. (e.0, tt)) es
+
+bare_keys : {K X : Type 0} (es : List (K × X)) → map (λ e. e.0) (bare es) ≡ map (λ e. e.0) es
+bare_keys [] = refl
+bare_keys (e ∷ es) = ap (λ ks. e.0 ∷ ks) (bare_keys es)
+
+module _ {X : Type 0} (p : X → Bool) where
+  -- the entries whose values pass
+  abbrev passing : List (ObjectKey × X) → List (ObjectKey × X)
+  passing es = filter (λ e. p e.1) es
+
+  below_passing : (k : ObjectKey) (es : List (ObjectKey × X)) → T (below_all key_cmp k es) → T (below_all key_cmp k (bare (passing es)))
+  below_passing k [] h = tt
+  below_passing k (e ∷ es) h =
+      let both = both_facts (is_lt (key_cmp k e.0)) (below_all key_cmp k es) h in
+      let rest = below_passing k es both.1 in
+      elim (p e.1) as (λ b. T (below_all key_cmp k (bare (cond b (e ∷ passing es) (passing es))))) [
+        | true ↦ fact_of_both (is_lt (key_cmp k e.0)) (below_all key_cmp k (bare (passing es))) both.0 rest
+        | false ↦ rest
+      ]
+
+  sorted_passing : (es : List (ObjectKey × X)) → T (is_sorted key_cmp es) → T (is_sorted key_cmp (bare (passing es)))
+  sorted_passing [] h = tt
+  sorted_passing (e ∷ es) h =
+      let both = both_facts (below_all key_cmp e.0 es) (is_sorted key_cmp es) h in
+      let rest = sorted_passing es both.1 in
+      elim (p e.1) as (λ b. T (is_sorted key_cmp (bare (cond b (e ∷ passing es) (passing es))))) [
+        | true ↦ fact_of_both (below_all key_cmp e.0 (bare (passing es))) (is_sorted key_cmp (bare (passing es))) (below_passing e.0 es both.0) rest
+        | false ↦ rest
+      ]
+
+  -- the value, if there is one, passes
+  abbrev passes : Option X → Bool
+  passes None = false
+  passes (Some x) = p x
+
+  -- a key that is below all is not found
+  below_none : {Y : Type 0} (k : ObjectKey) (es : List (ObjectKey × Y)) → T (below_all key_cmp k es) → is_some (find key_cmp k es) ≡ false
+  below_none k [] h = refl
+  below_none k (e ∷ es) h =
+      let both = both_facts (is_lt (key_cmp k e.0)) (below_all key_cmp k es) h in
+      ap (λ b. is_some (cond b (Some e.1) (find key_cmp k es))) (less_is_other (key_cmp k e.0) (true_from_fact (is_lt (key_cmp k e.0)) both.0))
+      ∙ below_none k es both.1
+
+  found_by : (k : ObjectKey) (e : ObjectKey × X) (es : List (ObjectKey × X)) → T (below_all key_cmp e.0 es) → is_some (find key_cmp k (bare (passing es))) ≡ passes (find key_cmp k es) → (t b : Bool) → eq_by_cmp key_cmp k e.0 ≡ t → p e.1 ≡ b → is_some (find key_cmp k (bare (cond b (e ∷ passing es) (passing es)))) ≡ passes (cond t (Some e.1) (find key_cmp k es))
+  found_by k e es below rest true true at is = ap (λ t. is_some (cond t (Some tt) (find key_cmp k (bare (passing es))))) at ∙ sym is
+  found_by k e es below rest true false at is =
+      below_none k (bare (passing es)) (below_passing k es (subst (λ q. T (below_all key_cmp q es)) (sym (one_from_tie key_exact k e.0 at)) below))
+      ∙ sym is
+  found_by k e es below rest false true at is = ap (λ t. is_some (cond t (Some tt) (find key_cmp k (bare (passing es))))) at ∙ rest
+  found_by k e es below rest false false at is = rest
+
+  found_passing : (k : ObjectKey) (es : List (ObjectKey × X)) → T (is_sorted key_cmp es) → is_some (find key_cmp k (bare (passing es))) ≡ passes (find key_cmp k es)
+  found_passing k [] h = refl
+  found_passing k (e ∷ es) h =
+      let both = both_facts (below_all key_cmp e.0 es) (is_sorted key_cmp es) h in
+      found_by k e es both.0 (found_passing k es both.1) (eq_by_cmp key_cmp k e.0) (p e.1) refl refl
+
+  values_passing : (es : List (ObjectKey × X)) → map (λ e. e.1) (passing es) ≡ filter p (map (λ e. e.1) es)
+  values_passing [] = refl
+  values_passing (e ∷ es) =
+      elim (p e.1) as (λ b. map (λ e. e.1) (cond b (e ∷ passing es) (passing es)) ≡ cond b (e.1 ∷ filter p (map (λ e. e.1) es)) (filter p (map (λ e. e.1) es))) [
+        | true ↦ ap (λ xs. e.1 ∷ xs) (values_passing es)
+        | false ↦ values_passing es
+      ]
+
+  got_all : (m : FinMap key_cmp X) (es : List (ObjectKey × X)) → AllByRecursion (λ e. get m e.0 ≡ Some e.1) es → filter_map (get m) (map (λ e. e.0) es) ≡ map (λ e. e.1) es
+  got_all m [] all = refl
+  got_all m (e ∷ es) all = λ i. cons_option (all.0 i) (got_all m es all.1 i)
+
+  -- a bucket that has the keys whose values pass has them in order
+  bucket_keys : (m : FinMap key_cmp X) (keys : Bucket) → ((k : ObjectKey) → contains_key keys k ≡ passes (get m k)) → finite.keys keys ≡ map (λ e. e.0) (passing (entries m))
+  bucket_keys m keys has =
+      ap (map (λ e. e.0)) (same_entries key_cmp key_total key_exact (entries keys) (bare (passing (entries m))) (entries_sorted keys) (sorted_passing (entries m) (entries_sorted m)) (λ k. one_option (find key_cmp k (entries keys)) (find key_cmp k (bare (passing (entries m)))) (ap is_some (sym (get-entries keys k)) ∙ has k ∙ ap passes (get-entries m k) ∙ sym (found_passing k (entries m) (entries_sorted m)))))
+      ∙ bare_keys (passing (entries m))
+
+  found_passes : (m : FinMap key_cmp X) (keys : Bucket) → ((k : ObjectKey) → contains_key keys k ≡ passes (get m k)) → filter_map (get m) (finite.keys keys) ≡ filter p (finite.values m)
+  found_passes m keys has =
+      ap (filter_map (get m)) (bucket_keys m keys has)
+      ∙ got_all m (passing (entries m)) (all_filter (λ e. get m e.0 ≡ Some e.1) (λ e. p e.1) (entries m) (entries_found key_total m))
+      ∙ values_passing (entries m)
+
+pub found_all : {T X : Type 0} (cmp : T → T → Ordering) (tags : X → List T) (tag : T) (m : FinMap key_cmp X) (keys : Bucket) → ((k : ObjectKey) → contains_key keys k ≡ is_tagged cmp tags tag (get m k)) → filter_map (get m) (finite.keys keys) ≡ filter (λ x. is_among cmp (tags x) tag) (finite.values m)
+found_all {X} cmp tags tag m keys has = found_passes (λ x. is_among cmp (tags x) tag) m keys (λ k. has k ∙ same (get m k))
+  where
+    same : (o : Option X) → is_tagged cmp tags tag o ≡ passes (λ x. is_among cmp (tags x) tag) o
+    same None = refl
+    same (Some x) = refl

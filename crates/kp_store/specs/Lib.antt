@@ -1,0 +1,5 @@
+pub mod Indexes
+pub mod LookUps
+pub mod Named
+pub mod Stored
+pub mod Tags

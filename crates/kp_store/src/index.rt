@@ -1,0 +1,165 @@
+//! Keys of objects by what the objects are found by.
+ghost use Rattle.std.specs.Prelude.{◌≡◌, ◌&&◌, ◌||◌, not, [], map, None, IfOk, OnOk, OnErr};
+ghost use Rattle.std.specs.Ordering.{eq_by_cmp};
+ghost use Rattle.std.specs.FinMap as finite;
+ghost use Rattle.std.specs.Map.{lookup};
+ghost use Rattle.kp_base.specs.declared.key.ObjectKey.{ObjectKey};
+ghost use Rattle.kp_store.specs.Indexes.{bucket, has, is_among, is_pair, is_tag_of, is_lost};
+ghost use Rattle.kp_store.specs.Indexes.{IsPartly};
+
+use crate::keyed::Keyed;
+use kp_base::{Copied, NoMemory, ObjectKey};
+use std::alloc::Global;
+use std::cmp::{Ord, Ordering};
+use std::collections::BTreeMap;
+use std::marker::Model;
+
+/// A bucket of keys for each tag. Contracts see the buckets, in order of their tags.
+#[derive(Drop)]
+pub struct Index<T: Ord> {
+    buckets: BTreeMap<T, Keyed<()>>,
+}
+
+impl<T: Ord> Model for Index<T> {
+    ghost use Rattle.std.specs.Prelude.{List};
+    ghost use Rattle.kp_store.specs.Indexes.{Bucket};
+    ghost use Rattle.kp_store.specs.Stored.{buckets_code};
+
+    ghost Value = { List (T × Bucket) };
+
+    ghost coded = { buckets_code T.code };
+
+    ghost view = { λ i. i.buckets.entries };
+}
+
+impl<T: Ord + Drop> Index<T> {
+    /// No keys.
+    pub fn new(alloc: Global) -> Index<T>
+        ensures { result ≡ [] }
+    {
+        Index {
+            buckets: BTreeMap::new(alloc),
+        }
+    }
+
+    /// The keys of a tag, in order.
+    pub fn keys(&self, alloc: Global, tag: &T) -> Result<Vec<&ObjectKey>, NoMemory>
+        ensures { IfOk result (λ ks. map (λ k. k.now) ks.items
+            ≡ finite.keys (bucket T.cmp self.now tag.now)) }
+    {
+        match self.buckets.get(tag) {
+            Some(bucket) => bucket.keys(alloc),
+            None => Ok(Vec::new(alloc)),
+        }
+    }
+
+    /// Adds a key to the bucket of a tag. Where memory is out, all stays.
+    fn add(&mut self, alloc: Global, tag: T, key: ObjectKey) -> Result<(), NoMemory>
+        ensures ok { OnOk result ((t : T) (k : ObjectKey) → has T.cmp self.new t k
+            ≡ is_pair T.cmp tag key t k || has T.cmp self.old t k) }
+        ensures err { OnErr result ((t : T) (k : ObjectKey) → has T.cmp self.new t k
+            ≡ has T.cmp self.old t k) }
+    {
+        match self.buckets.get_mut(&tag) {
+            Some(bucket) => bucket.put(key, ()),
+            None => add_bucket(alloc, &mut self.buckets, tag, key),
+        }
+    }
+
+    /// Removes a key from the bucket of a tag.
+    fn remove(&mut self, tag: &T, key: &ObjectKey)
+        ensures { (t : T) (k : ObjectKey) → has T.cmp self.new t k
+            ≡ not (is_pair T.cmp tag.now key.now t k) && has T.cmp self.old t k }
+    {
+        match self.buckets.get_mut(tag) {
+            Some(bucket) => {
+                bucket.take(key);
+            }
+            None => return,
+        }
+    }
+
+    /// Removes a key from the bucket of a tag, unless the tag is kept.
+    fn remove_unless(&mut self, tag: &T, kept: &[T], key: &ObjectKey)
+        ensures { (t : T) (k : ObjectKey) → has T.cmp self.new t k
+            ≡ not (is_pair T.cmp tag.now key.now t k && not (is_among T.cmp kept.now tag.now))
+            && has T.cmp self.old t k }
+    {
+        if !is_one_of(tag, kept) {
+            self.remove(tag, key);
+        }
+    }
+
+    /// Removes a key from the buckets of the tags that are gone and not kept.
+    pub fn trim(&mut self, gone: &[T], kept: &[T], key: &ObjectKey)
+        ensures { (t : T) (k : ObjectKey) → has T.cmp self.new t k
+            ≡ not (is_lost T.cmp gone.now kept.now key.now t k) && has T.cmp self.old t k }
+    {
+        for tag in gone {
+            self.remove_unless(tag, kept, key);
+        }
+    }
+}
+
+impl<T: Ord + Copied> Index<T> {
+    /// Adds a key to the buckets of its tags. Where memory is out, it may stand in some of them.
+    fn add_each(&mut self, alloc: Global, tags: &[T], key: &ObjectKey) -> Result<(), NoMemory>
+        ensures ok { OnOk result ((t : T) (k : ObjectKey) → has T.cmp self.new t k
+            ≡ is_tag_of T.cmp tags.now key.now t k || has T.cmp self.old t k) }
+        ensures err { OnErr result (IsPartly T.cmp tags.now key.now self.old self.new) }
+    {
+        for tag in tags {
+            self.add(alloc, tag.copy(alloc)?, key.copy(alloc)?)?;
+        }
+        Ok(())
+    }
+
+    /// Adds a key to the buckets of its tags, where it stands in those of the tags that are kept.
+    /// Where memory is out, all stays.
+    pub fn add_all(
+        &mut self,
+        alloc: Global,
+        tags: &[T],
+        kept: &[T],
+        key: &ObjectKey,
+    ) -> Result<(), NoMemory>
+        requires { (t : T) → has T.cmp self.old t key.now ≡ is_among T.cmp kept.now t }
+        ensures ok { OnOk result ((t : T) (k : ObjectKey) → has T.cmp self.new t k
+            ≡ is_tag_of T.cmp tags.now key.now t k || has T.cmp self.old t k) }
+        ensures err { OnErr result ((t : T) (k : ObjectKey) → has T.cmp self.new t k
+            ≡ has T.cmp self.old t k) }
+    {
+        match self.add_each(alloc, tags, key) {
+            Ok(()) => Ok(()),
+            Err(refused) => {
+                self.trim(tags, kept, key);
+                Err(refused)
+            }
+        }
+    }
+}
+
+/// Whether a tag is among tags.
+fn is_one_of<T: Ord>(tag: &T, tags: &[T]) -> bool
+    ensures { result ≡ is_among T.cmp tags.now tag.now }
+{
+    tags.iter().any(|other| tag.cmp(other) == Ordering::Equal)
+}
+
+/// Adds a bucket of one key, where there is none of its tag.
+fn add_bucket<T: Ord + Drop>(
+    alloc: Global,
+    buckets: &mut BTreeMap<T, Keyed<()>>,
+    tag: T,
+    key: ObjectKey,
+) -> Result<(), NoMemory>
+    requires { lookup (eq_by_cmp T.cmp tag) buckets.old.entries ≡ None }
+    ensures ok { OnOk result ((t : T) (k : ObjectKey) → has T.cmp buckets.new.entries t k
+        ≡ is_pair T.cmp tag key t k || has T.cmp buckets.old.entries t k) }
+    ensures err { OnErr result (buckets.new.entries ≡ buckets.old.entries) }
+{
+    let mut bucket = Keyed::new(alloc);
+    bucket.put(key, ())?;
+    buckets.insert(tag, bucket)?;
+    Ok(())
+}

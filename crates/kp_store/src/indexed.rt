@@ -1,0 +1,164 @@
+//! Objects of one kind by their keys, with an index of what they are found by.
+ghost use Rattle.std.specs.Prelude.{◌≡◌, ◌++◌, List, map, IfOk, OnOk, OnErr, option_copied};
+ghost use Rattle.std.specs.List.{filter, filter_map};
+ghost use Rattle.std.specs.FinMap as finite;
+ghost use Rattle.std.specs.Option.{option_to_list};
+ghost use Rattle.kp_store.specs.Indexes.{is_among, is_tagged};
+
+use crate::index::Index;
+use crate::keyed::Keyed;
+use kp_base::{Copied, Items, NoMemory, ObjectKey};
+use std::alloc::Global;
+use std::cmp::Ord;
+use std::marker::Model;
+
+/// An object that is found by tags.
+pub trait Tagged<T: Ord>: Copied {
+    ghost tags: { Self → List T };
+
+    /// The tags of the object.
+    fn tags(&self, alloc: Global) -> Result<Items<T>, NoMemory>
+        ensures { IfOk result (λ ts. ts ≡ tags self.now) };
+}
+
+/// Objects of one kind, which contracts see as a finite map from their keys. The index has in the
+/// bucket of each tag the keys of the objects with this tag.
+#[derive(Drop)]
+pub struct Indexed<X: Tagged<T>, T: Ord + Copied> {
+    objects: Keyed<X>,
+    index: Index<T>,
+}
+
+impl<X: Tagged<T>, T: Ord + Copied> Model for Indexed<X, T> {
+    ghost use Rattle.std.specs.FinMap as finite;
+    ghost use Rattle.kp_base.specs.Keys.{key_cmp};
+    ghost use Rattle.kp_store.specs.Indexes.{IsIndexOf};
+    ghost use Rattle.kp_store.specs.Stored.{keyed_code};
+
+    ghost Value = { finite.FinMap key_cmp X };
+
+    ghost coded = { keyed_code X.code };
+
+    ghost view = { λ s. s.objects };
+
+    ghost invariant = { λ s. IsIndexOf T.cmp X.tags s.objects s.index };
+}
+
+impl<X: Tagged<T>, T: Ord + Copied> Indexed<X, T> {
+    /// No objects.
+    pub fn new(alloc: Global) -> Indexed<X, T>
+        ensures { result ≡ finite.empty }
+    {
+        Indexed {
+            objects: Keyed::new(alloc),
+            index: Index::new(alloc),
+        }
+    }
+
+    /// The object of a key, if there is one.
+    pub fn get(&self, key: &ObjectKey) -> Option<&X>
+        ensures { option_copied result ≡ finite.get self.now key.now }
+    {
+        self.objects.get(key)
+    }
+
+    /// The objects, in order of their keys.
+    pub fn values(&self, alloc: Global) -> Result<Vec<&X>, NoMemory>
+        ensures { IfOk result (λ xs. map (λ x. x.now) xs.items ≡ finite.values self.now) }
+    {
+        self.objects.values(alloc)
+    }
+
+    /// The keys, in order.
+    pub fn keys(&self, alloc: Global) -> Result<Vec<&ObjectKey>, NoMemory>
+        ensures { IfOk result (λ ks. map (λ k. k.now) ks.items ≡ finite.keys self.now) }
+    {
+        self.objects.keys(alloc)
+    }
+
+    /// The objects with a tag, in order of their keys.
+    pub fn found(&self, alloc: Global, tag: &T) -> Result<Vec<&X>, NoMemory>
+        ensures { IfOk result (λ xs. map (λ x. x.now) xs.items
+            ≡ filter (λ x. is_among T.cmp (X.tags x) tag.now) (finite.values self.now)) }
+    {
+        let keys = self.index.keys(alloc, tag)?;
+        let found = found_at(alloc, &self.objects, keys.as_slice())?;
+        Ok(found)
+    }
+
+    /// Puts an object in place of the one of its key. Where memory is out, all stays.
+    pub fn put(&mut self, alloc: Global, key: ObjectKey, object: X) -> Result<(), NoMemory>
+        ensures ok { OnOk result (self.new ≡ finite.insert self.old key object) }
+        ensures err { OnErr result (self.new ≡ self.old) }
+    {
+        let new = object.tags(alloc)?;
+        let old = tags_at(alloc, &self.objects, &key)?;
+        let copy = key.copy(alloc)?;
+        self.index
+            .add_all(alloc, new.as_slice(), old.as_slice(), &key)?;
+        match self.objects.put(copy, object) {
+            Ok(()) => {
+                self.index.trim(old.as_slice(), new.as_slice(), &key);
+                Ok(())
+            }
+            Err(refused) => {
+                self.index.trim(new.as_slice(), old.as_slice(), &key);
+                Err(refused)
+            }
+        }
+    }
+
+    /// Takes out the object of a key, if there is one. Where memory is out, all stays.
+    pub fn take(&mut self, alloc: Global, key: &ObjectKey) -> Result<(), NoMemory>
+        ensures ok { OnOk result (self.new ≡ finite.remove self.old key.now) }
+        ensures err { OnErr result (self.new ≡ self.old) }
+    {
+        let old = tags_at(alloc, &self.objects, key)?;
+        let none = Items::new(alloc);
+        self.index.trim(old.as_slice(), none.as_slice(), key);
+        self.objects.take(key);
+        Ok(())
+    }
+}
+
+/// The tags of the object of a key: none where there is no object.
+fn tags_at<X: Tagged<T>, T: Ord + Copied>(
+    alloc: Global,
+    objects: &Keyed<X>,
+    key: &ObjectKey,
+) -> Result<Items<T>, NoMemory>
+    ensures { IfOk result (λ ts. (t : T) → is_among T.cmp ts t
+        ≡ is_tagged T.cmp X.tags t (finite.get objects.now key.now)) }
+{
+    match objects.get(key) {
+        Some(object) => object.tags(alloc),
+        None => Ok(Items::new(alloc)),
+    }
+}
+
+/// The objects of keys, where they are there.
+fn found_at<'a, X: Drop>(
+    alloc: Global,
+    objects: &'a Keyed<X>,
+    keys: &[&ObjectKey],
+) -> Result<Vec<&'a X>, NoMemory>
+    ensures { IfOk result (λ xs. map (λ x. x.now) xs.items
+        ≡ filter_map (λ k. finite.get objects.now k.now) keys.now) }
+{
+    let mut found = Vec::new(alloc);
+    for key in keys {
+        add_found(&mut found, objects.get(*key))?;
+    }
+    Ok(found)
+}
+
+/// Adds an object, if there is one.
+fn add_found<'a, X>(found: &mut Vec<&'a X>, object: Option<&'a X>) -> Result<(), NoMemory>
+    ensures { OnOk result (map (λ x. x.now) found.new.items
+        ≡ map (λ x. x.now) found.old.items ++ option_to_list (option_copied object.entry)) }
+{
+    if let Some(object) = object {
+        found.push(object)?;
+    }
+    Ok(())
+}

@@ -1,0 +1,12 @@
+//! The objects of the cluster, after events.
+#![tactic(auto)]
+
+mod index;
+mod indexed;
+mod keyed;
+mod nodes;
+mod objects;
+mod selections;
+mod tags;
+
+pub use objects::Objects;

@@ -1,0 +1,174 @@
+//! The objects of the cluster.
+ghost use Rattle.std.specs.Prelude.{◌≡◌, IfOk, OnOk, OnErr, option_copied};
+ghost use Rattle.std.specs.FinMap as finite;
+ghost use Rattle.kp_object_defs.specs.Entries as entries;
+ghost use Rattle.kp_object_defs.specs.Objects as objects;
+ghost use Rattle.kp_object_defs.specs.Objects.{no_objects, objects_step, objects_after};
+ghost use Rattle.kp_object_defs.specs.Objects.{with_object, without_object};
+ghost use Rattle.kp_store.specs.LookUps as find;
+
+use crate::indexed::Indexed;
+use crate::keyed::Keyed;
+use crate::nodes::Nodes;
+use crate::selections::{copies, keys_selecting, pods_selected};
+use kp_base::{Copied, Items, NoMemory, ObjectKey, Text};
+use kp_types::{Event, Kind, Node, Object, Pod, Service, Slice};
+use std::alloc::Global;
+use std::marker::Model;
+
+/// The objects of the cluster after events, which contracts see as four finite maps.
+#[derive(Drop)]
+pub struct Objects {
+    services: Keyed<Service>,
+    slices: Indexed<Slice, ObjectKey>,
+    pods: Keyed<Pod>,
+    nodes: Nodes,
+}
+
+impl Model for Objects {
+    ghost use Rattle.kp_object_defs.specs.Objects as objects;
+    ghost use Rattle.kp_store.specs.Stored.{objects_code};
+
+    ghost Value = { objects.Objects };
+
+    ghost coded = { objects_code };
+
+    ghost view = { λ o. record {
+      services = o.services;
+      slices = o.slices;
+      pods = o.pods;
+      nodes = o.nodes;
+    } };
+}
+
+impl Objects {
+    /// No objects.
+    pub fn new(alloc: Global) -> Objects
+        ensures { result ≡ no_objects }
+    {
+        Objects {
+            services: Keyed::new(alloc),
+            slices: Indexed::new(alloc),
+            pods: Keyed::new(alloc),
+            nodes: Nodes::new(alloc),
+        }
+    }
+
+    /// The objects after events, the first event first.
+    pub fn from_events(alloc: Global, events: &[Event]) -> Result<Objects, NoMemory>
+        ensures { IfOk result (λ o. o ≡ objects_after events.now) }
+    {
+        let mut objects = Objects::new(alloc);
+        for event in events {
+            objects.apply(alloc, event)?;
+        }
+        Ok(objects)
+    }
+
+    /// Applies one more event. Where memory is out, all stays.
+    pub fn apply(&mut self, alloc: Global, event: &Event) -> Result<(), NoMemory>
+        ensures ok { OnOk result (self.new ≡ objects_step self.old event.now) }
+        ensures err { OnErr result (self.new ≡ self.old) }
+    {
+        match event {
+            Event::Apply(object) => self.put(alloc, object),
+            Event::Delete { kind, key } => self.take(alloc, *kind, key),
+        }
+    }
+
+    /// Puts a copy of an object in place of the old one.
+    fn put(&mut self, alloc: Global, object: &Object) -> Result<(), NoMemory>
+        ensures ok { OnOk result (self.new ≡ with_object self.old object.now) }
+        ensures err { OnErr result (self.new ≡ self.old) }
+    {
+        match object {
+            Object::Service(s) => self.services.put(s.key.copy(alloc)?, s.copy(alloc)?),
+            Object::EndpointSlice(s) => self.slices.put(alloc, s.key.copy(alloc)?, s.copy(alloc)?),
+            Object::Pod(p) => self.pods.put(p.key.copy(alloc)?, p.copy(alloc)?),
+            Object::Node(n) => self.nodes.put(n.name.copy(alloc)?, n.copy(alloc)?),
+        }
+    }
+
+    /// Takes out an object, if it is there.
+    fn take(&mut self, alloc: Global, kind: Kind, key: &ObjectKey) -> Result<(), NoMemory>
+        ensures ok { OnOk result (self.new ≡ without_object self.old kind key.now) }
+        ensures err { OnErr result (self.new ≡ self.old) }
+    {
+        match kind {
+            Kind::Service => {
+                self.services.take(key);
+                Ok(())
+            }
+            Kind::EndpointSlice => self.slices.take(alloc, key),
+            Kind::Pod => {
+                self.pods.take(key);
+                Ok(())
+            }
+            Kind::Node => {
+                self.nodes.take(key);
+                Ok(())
+            }
+        }
+    }
+
+    /// The Service of a key, if there is one.
+    pub fn service(&self, key: &ObjectKey) -> Option<&Service>
+        ensures { option_copied result ≡ finite.get self.now.services key.now }
+    {
+        self.services.get(key)
+    }
+
+    /// The keys of all Services, in order.
+    pub fn services(&self, alloc: Global) -> Result<Items<ObjectKey>, NoMemory>
+        ensures { IfOk result (λ ks. ks ≡ finite.keys self.now.services) }
+    {
+        copies(alloc, self.services.keys(alloc)?.as_slice())
+    }
+
+    /// All nodes, in order of their names.
+    pub fn nodes(&self, alloc: Global) -> Result<Items<Node>, NoMemory>
+        ensures { IfOk result (λ ns. ns ≡ finite.values self.now.nodes) }
+    {
+        copies(alloc, self.nodes.values(alloc)?.as_slice())
+    }
+
+    /// The keys of the Services that select a pod, in order. A pod that isn't there has none.
+    pub fn services_of_pod(
+        &self,
+        alloc: Global,
+        pod: &ObjectKey,
+    ) -> Result<Items<ObjectKey>, NoMemory>
+        ensures { IfOk result (λ ks. ks ≡ find.services_of_pod self.now pod.now) }
+    {
+        match self.pods.get(pod) {
+            Some(pod) => keys_selecting(alloc, self.services.values(alloc)?.as_slice(), pod),
+            None => Ok(Items::new(alloc)),
+        }
+    }
+
+    /// The slices of a Service, in order of their keys.
+    pub fn slices_of(&self, alloc: Global, service: &ObjectKey) -> Result<Items<Slice>, NoMemory>
+        ensures { IfOk result (λ ss. ss ≡ entries.slices_of self.now service.now) }
+    {
+        let found = self.slices.found(alloc, service)?;
+        copies(alloc, found.as_slice())
+    }
+
+    /// The pods that a Service selects, in order of their keys. A Service that isn't there selects
+    /// none.
+    pub fn pods_of(&self, alloc: Global, service: &ObjectKey) -> Result<Items<Pod>, NoMemory>
+        ensures { IfOk result (λ ps. ps ≡ find.pods_of self.now service.now) }
+    {
+        match self.services.get(service) {
+            Some(service) => pods_selected(alloc, self.pods.values(alloc)?.as_slice(), service),
+            None => Ok(Items::new(alloc)),
+        }
+    }
+
+    /// The zone of a node, if it is there and has one.
+    pub fn zone_of(&self, node: &Text) -> Option<&Text>
+        ensures { option_copied result ≡ objects.zone_of self.now node.now }
+    {
+        self.nodes.zone_of(node)
+    }
+}
