@@ -1,0 +1,5 @@
+//! Tests of kp_store.
+#![tactic(auto)]
+
+#[cfg(test)]
+mod objects;
