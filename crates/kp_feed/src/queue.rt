@@ -1,5 +1,5 @@
 //! The queue.
-ghost use Rattle.std.specs.Prelude.{◌≡◌, ◌<◌, ◌-◌, ◌^◌, ◌++◌, suc, length, map, List, IfOk, IfErr, IfSome, IfNone};
+ghost use Rattle.std.specs.Prelude.{◌≡◌, ◌<◌, ◌-◌, ◌^◌, [], ◌∷◌, ◌++◌, suc, length, map, List, IfOk, IfErr, IfSome, IfNone};
 ghost use Rattle.std.specs.List.{AllByRecursion};
 ghost use Rattle.kp_history_defs.specs.declared.fed.Fed.{Fed};
 ghost use Rattle.kp_feed.specs.Feeding.{AreWhole, IsNext};
@@ -39,24 +39,36 @@ pub fn feed_queue(
     ensures feeders { IfOk result (λ r. r.1 ≡ calls.new_feeders r.0 feeders) }
     ensures taker { IfOk result (λ r. r.2 ≡ calls.new_taker r.0 feeders) }
 {
-    let (queue, mut seat) = RuledSegQueue::with_rule(alloc)?;
+    let (queue, seat) = RuledSegQueue::with_rule(alloc)?;
+    let feed = Feed { queue };
+    let mut taker = TakePass { seat };
     let mut passes = Items::new(alloc);
     for feeder in 0..feeders {
-        let pass = queue.another::<Makes>(&mut seat);
-        let pass = FeedPass {
-            feeder,
-            count: 0,
-            seat: pass,
-        };
+        let pass = feed.new_feeder(&mut taker, feeder);
         if passes.push(pass).is_err() {
+            let Feed { queue } = feed;
             queue.destroy();
             return Err(NoMemory);
         }
     }
-    Ok((Feed { queue }, passes, TakePass { seat }))
+    Ok((feed, passes, taker))
 }
 
 impl Feed {
+    /// The pass of one more feeder.
+    fn new_feeder(&self, taker: &mut TakePass, feeder: u32) -> FeedPass
+        requires taker { taker.old.queue ≡ self.now }
+        requires next { taker.old.feeders ≡ feeder }
+        ensures taker { taker.new ≡ calls.with_feeder taker.old }
+        ensures pass { result ≡ calls.new_feeder self.now feeder }
+    {
+        FeedPass {
+            feeder,
+            count: 0,
+            seat: self.queue.another::<Makes>(&mut taker.seat),
+        }
+    }
+
     /// Adds an event at the back, as the next of this feeder, and answers its number. Where memory
     /// is out it hands the event back.
     pub fn feed<R: Wait>(
@@ -107,8 +119,17 @@ impl Feed {
         ensures { taker.new ≡ calls.with_ended taker.old passes }
     {
         for pass in passes.into_vec() {
-            self.queue.absorb::<Ends>(&mut taker.seat, pass.seat);
+            self.end_one(taker, pass);
         }
+    }
+
+    /// Ends one feeder.
+    fn end_one(&self, taker: &mut TakePass, pass: FeedPass)
+        requires taker { taker.old.queue ≡ self.now }
+        requires pass { pass.queue ≡ self.now }
+        ensures { taker.new ≡ calls.with_ended taker.old (pass ∷ []) }
+    {
+        self.queue.absorb::<Ends>(&mut taker.seat, pass.seat);
     }
 
     /// Ends the last feeders and the queue, and answers how many events are left in it.
