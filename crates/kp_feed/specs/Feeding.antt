@@ -1,7 +1,7 @@
 -- The rule of the event queue: what was taken and then what the queue holds is, for each feeder,
 -- what it fed, numbered from 1. A feeder that isn't yet made has fed nothing, and what one that
 -- ended has fed stays.
-use Rattle.std.specs.Prelude.{◌≡◌, ℕ, suc, ◌+◌, ◌<◌, ◌≤◌, Bool, true, false, List, [], ◌∷◌, ◌++◌, filter, length}
+use Rattle.std.specs.Prelude.{◌≡◌, ℕ, suc, ◌<◌, ◌≤◌, true, false, List, [], ◌∷◌, ◌++◌, filter, length}
 use Rattle.std.specs.List.{AllByRecursion}
 use mathlib.Core.Option.{Option, some, none}
 use lib.ListN.{get_elem?}

@@ -20,6 +20,6 @@ abbrev pub taker_code : Coded Taker
 taker_code =
     code_by (QueueId × (ℕ × (List Fed × List Ended)))
     (coded× queue_code (coded× coded_ℕ
-        (coded× (coded_list fed_row.the_row.coded) (coded_list ended_row.the_row.coded))))
+    (coded× (coded_list fed_row.the_row.coded) (coded_list ended_row.the_row.coded))))
     (λ t. (t.queue, (t.feeders, (t.taken, t.ended))))
     (λ p. record { queue = p.0; feeders = p.1.0; taken = p.1.1.0; ended = p.1.1.1 }) (λ _. refl)

@@ -21,9 +21,9 @@ impl Model for FeedPass {
     ghost coded = { feeder_code };
 
     ghost view = { λ p. record {
-        queue = p.seat.web;
-        feeder = p.feeder;
-        fed = p.seat.me.view.client.fed;
+      queue = p.seat.web;
+      feeder = p.feeder;
+      fed = p.seat.me.view.client.fed;
     } };
 
     ghost invariant = { λ p. (p.seat.me.hand ≡ None) × (p.seat.me.spare ≡ None)

@@ -3,8 +3,8 @@ ghost use Rattle.kp_feed.specs.Feeding as spec;
 
 use crossbeam_queue::protocol::{Join, Lesson, Outcome, Protocol, Split};
 use kp_base::Items;
-use kp_types::Event;
 use kp_history_defs::Fed;
+use kp_types::Event;
 
 /// What a feeder that ended has fed.
 pub struct Ended {

@@ -19,10 +19,10 @@ impl Model for TakePass {
     ghost coded = { taker_code };
 
     ghost view = { λ t. record {
-        queue = t.seat.web;
-        feeders = t.seat.me.view.client.made;
-        taken = t.seat.me.view.client.taken;
-        ended = t.seat.me.view.client.ended;
+      queue = t.seat.web;
+      feeders = t.seat.me.view.client.made;
+      taken = t.seat.me.view.client.taken;
+      ended = t.seat.me.view.client.ended;
     } };
 
     ghost invariant = { λ t. (t.seat.me.hand ≡ None) × (t.seat.me.spare ≡ None) × (t.seat.id ≡ 0) };
