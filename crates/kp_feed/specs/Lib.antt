@@ -1,0 +1,4 @@
+pub mod Feeding
+pub mod Passes
+pub mod Taking
+pub mod Calls
