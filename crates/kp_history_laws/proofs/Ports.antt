@@ -29,6 +29,7 @@ use Rattle.kp_object_defs.specs.Order.{in_order, distinct_in_order}
 use Rattle.kp_object_defs.specs.PortInfo.{PortInfo, port_key_of, info_from, info_of, cluster_address_in}
 use Rattle.kp_object_defs.specs.PortByKey.{port_keys_of, port_keys, port_named, info_in, info_at}
 use Rattle.kp_object_defs.proofs.InOrder.{find-in_order}
+use Rattle.kp_object_laws.proofs.PortByKey.{sources_service}
 use Rattle.kp_history_defs.specs.Inputs.{PortInputs, inputs_in, inputs_of, ports_of_either}
 use Rattle.kp_history_laws.specs.EventLaws.{has_port}
 
@@ -124,13 +125,6 @@ module _ (setting : Setting) (o : Objects) (own : AreUnderOwnKeys o) (key : Port
       service (Some s) at = port s at (port_named key s) refl
 
 -- ---- What is known of a port
-
-service_by : (b : Bool) (x y : ServiceSources) → x.service ≡ y.service → (cond b x y).service ≡ y.service
-service_by true x y h = h
-service_by false x y h = refl
-
-sources_service : (family : Family) (config : FamilyConfig) (o : Objects) (s : Service) → (sources_of family config o s).service ≡ s
-sources_service family config o s = service_by (is_reconciled config s) _ _ refl
 
 -- what is known of a port with these inputs
 abbrev pub info_by : Setting → PortKey → PortInputs → Option PortInfo
