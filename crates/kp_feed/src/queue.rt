@@ -136,7 +136,8 @@ impl Feed {
     pub fn finish<R: Wait>(self, rt: &R, passes: Items<FeedPass>, taker: TakePass) -> u64
         requires taker { taker.queue ≡ self }
         requires passes { AllByRecursion (λ p. p.queue ≡ self) passes }
-        ensures { (left : List Fed) × (length left ≡ result) × AreWhole (taker.taken ++ left) (taker.ended ++ map calls.ended_of passes) taker.feeders }
+        ensures { (left : List Fed) × (length left ≡ result) × AreWhole (taker.taken ++ left)
+            (taker.ended ++ map calls.ended_of passes) taker.feeders }
     {
         let mut taker = taker;
         self.end(&mut taker, passes);
