@@ -6,6 +6,7 @@ use Rattle.std.proofs.lemmas.List.Elements.{filter-append}
 use Rattle.kp_types.specs.declared.event.Event.{Event}
 use Rattle.kp_history_defs.specs.declared.fed.Fed.{Fed}
 use Rattle.kp_history_defs.specs.Runs.{at_number, is_of_stream, numbered}
+use Rattle.kp_history_defs.proofs.Numbered.{numbered_push}
 use Rattle.kp_lemmas.specs.Lists.{is_empty}
 use Rattle.kp_feed.specs.Feeding.{Delivers}
 
@@ -18,14 +19,6 @@ pub at_else : {A : Type 0} (f : ℕ → A) (n : ℕ) (x : A) (m : ℕ) → m ≢
 at_else f n x m other = ap (λ b. cond b x (f m)) (ne_eqb m n other)
 
 -- ---- One more event
-
--- it has the next number
-numbered_push : (p n : ℕ) (es : List Event) (e : Event) → numbered p n (es ++ e ∷ []) ≡ numbered p n es ++ record { feeder = p; number = suc (n + length es); event = e } ∷ []
-numbered_push p n [] e = ap (λ (m : ℕ). let f : Fed = record { feeder = p; number = suc m; event = e } in f ∷ []) (omega arith)
-numbered_push p n (x ∷ es) e =
-    let more : suc n + length es ≡ n + suc (length es) = omega arith in
-    ap (λ rest. record { feeder = p; number = suc n; event = x } ∷ rest)
-    (numbered_push p (suc n) es e ∙ ap (λ (m : ℕ). numbered p (suc n) es ++ record { feeder = p; number = suc m; event = e } ∷ []) more)
 
 pushed_by : (before : List Fed) (fed : ℕ → List Event) (f : Fed) → f.number ≡ suc (length (fed f.feeder)) → ((p : ℕ) → Delivers before p (fed p))
     → (p : ℕ) (b : Bool) → (p == f.feeder) ≡ b

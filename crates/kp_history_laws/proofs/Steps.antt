@@ -8,6 +8,7 @@ use Rattle.kp_types.specs.declared.event.Event.{Event}
 use Rattle.kp_types.specs.declared.sync.SyncRecord.{SyncRecord}
 use Rattle.kp_history_defs.specs.declared.fed.Fed.{Fed}
 use Rattle.kp_history_defs.specs.Runs.{RunState, Step, Feed, Take, Sync, Refuse, Publish, Read, Tell, IsRun, IsRunFrom, IsAllowed, initial, state_after, after_take, at_number, longer, is_of_stream, numbered, published_records, next_record}
+use Rattle.kp_history_defs.proofs.Numbered.{numbered_push}
 use Rattle.kp_history_laws.specs.RunLaws.{RunsJoin, RunsSplit, StreamsKeepOrder, SeenIsPublished, PublishedAreRecords, SeenOnlyGrows, BeginsWith}
 
 -- ---- Runs
@@ -32,14 +33,6 @@ runs_split setting (step ∷ first) second s u (next, leads, rest) =
     let (t, before, behind) = runs_split setting first second next u rest in (t, (next, leads, before), behind)
 
 -- ---- Streams
-
--- one more event of a stream has the next number
-numbered_push : (stream n : ℕ) (es : List Event) (e : Event) → numbered stream n (es ++ e ∷ []) ≡ numbered stream n es ++ record { feeder = stream; number = suc (n + length es); event = e } ∷ []
-numbered_push stream n [] e = ap (λ (m : ℕ). let f : Fed = record { feeder = stream; number = suc m; event = e } in f ∷ []) (omega arith)
-numbered_push stream n (x ∷ es) e =
-    let more : suc n + length es ≡ n + suc (length es) = omega arith in
-    ap (λ rest. record { feeder = stream; number = suc n; event = x } ∷ rest)
-    (numbered_push stream (suc n) es e ∙ ap (λ (m : ℕ). numbered stream (suc n) es ++ record { feeder = stream; number = suc m; event = e } ∷ []) more)
 
 -- in the journal and then the queue, each stream's events are numbered in order
 abbrev InOrder : RunState → Type 0

@@ -7,6 +7,7 @@ use Rattle.std.specs.FinMap.Entries.{below_all, same_entries}
 use Rattle.std.proofs.lemmas.Bool.{and_from, and_parts}
 use Rattle.kp_lemmas.proofs.Booleans.{true_from_fact, fact_from_true}
 use Rattle.kp_lemmas.proofs.Orders.{one_from_tie, less_from_test}
+use Rattle.kp_object_laws.proofs.OwnEntries.{missing}
 
 module _ {K X : Type 0} {R : K → K → Ordering} (total : IsTotalOrder R) (exact : IsAntisymmetric R) (p : X → Bool) where
   -- a value that passes, if there is one
@@ -46,19 +47,13 @@ module _ {K X : Type 0} {R : K → K → Ordering} (total : IsTotalOrder R) (exa
         | false ↦ rest
       ]
 
-  missing : (k : K) (es : List (K × X)) → below_all R k es ≡ true → find R k es ≡ None
-  missing k [] h = refl
-  missing k (e ∷ es) h =
-      let parts = and_parts (is_lt (R k e.0)) (below_all R k es) h in
-      ap (λ o. cond (is_eq o) (Some e.1) (find R k es)) (less_from_test (R k e.0) parts.0) ∙ missing k es parts.1
-
   found_by : (q : K) (e : K × X) (es : List (K × X)) → below_all R e.0 es ≡ true → find R q (passed es) ≡ passing (find R q es)
       → (b : Bool) → eq_by_cmp R q e.0 ≡ b → (c : Bool) → p e.1 ≡ c
       → find R q (cond c (e ∷ passed es) (passed es)) ≡ passing (cond b (Some e.1) (find R q es))
   found_by q e es below rest true is true passes =
       ap (λ t. cond t (Some e.1) (find R q (passed es))) is ∙ sym (ap (λ t. cond t (Some e.1) None) passes)
   found_by q e es below rest true is false fails =
-      rest ∙ ap passing (ap (λ k. find R k es) (one_from_tie exact q e.0 is) ∙ missing e.0 es below)
+      rest ∙ ap passing (ap (λ k. find R k es) (one_from_tie exact q e.0 is) ∙ missing R e.0 es below)
       ∙ sym (ap (λ t. cond t (Some e.1) None) fails)
   found_by q e es below rest false is true passes = ap (λ t. cond t (Some e.1) (find R q (passed es))) is ∙ rest
   found_by q e es below rest false is false fails = rest

@@ -21,6 +21,13 @@ use Rattle.kp_object_laws.proofs.SameElements.{same_reversed}
 abbrev pub owned : {K X : Type 0} → (X → K) → List X → List (K × X)
 owned key xs = map (λ x. (key x, x)) xs
 
+-- a key below all that stand is not found
+pub missing : {K X : Type 0} (R : K → K → Ordering) (k : K) (es : List (K × X)) → below_all R k es ≡ true → find R k es ≡ None
+missing R k [] h = refl
+missing R k (e ∷ es) h =
+    let parts = and_parts (is_lt (R k e.0)) (below_all R k es) h in
+    ap (λ o. cond (is_eq o) (Some e.1) (find R k es)) (less_from_test (R k e.0) parts.0) ∙ missing R k es parts.1
+
 module _ {K X : Type 0} {R : K → K → Ordering} (total : IsTotalOrder R) (exact : IsAntisymmetric R) (key : X → K) where
   -- ---- Look-ups
 
@@ -192,12 +199,6 @@ module _ {K X : Type 0} {R : K → K → Ordering} (total : IsTotalOrder R) (exa
 
   -- ---- Maps whose values stand under their own keys
 
-  missing : (k : K) (es : List (K × X)) → below_all R k es ≡ true → find R k es ≡ None
-  missing k [] h = refl
-  missing k (e ∷ es) h =
-      let parts = and_parts (is_lt (R k e.0)) (below_all R k es) h in
-      ap (λ o. cond (is_eq o) (Some e.1) (find R k es)) (less_from_test (R k e.0) parts.0) ∙ missing k es parts.1
-
   -- what is found at a key has it
   abbrev pub FoundOwn : List (K × X) → Type 0
   FoundOwn es = (k : K) (x : X) → find R k es ≡ Some x → key x ≡ k
@@ -206,7 +207,7 @@ module _ {K X : Type 0} {R : K → K → Ordering} (total : IsTotalOrder R) (exa
   found_later e es below own k x h = own k x (by (eq_by_cmp R k e.0) refl)
     where
       by : (b : Bool) → eq_by_cmp R k e.0 ≡ b → cond b (Some e.1) (find R k es) ≡ Some x
-      by true p = let none : find R k es ≡ None = ap (λ m. find R m es) (one_from_tie exact k e.0 p) ∙ missing e.0 es below in absurd (cc)
+      by true p = let none : find R k es ≡ None = ap (λ m. find R m es) (one_from_tie exact k e.0 p) ∙ missing R e.0 es below in absurd (cc)
       by false p = h
 
   -- entries in order under what is found are under their own keys
