@@ -13,11 +13,11 @@ use Rattle.kp_run_defs.specs.Replay.{ReplayState, packet_decision}
 use Rattle.kp_walk_laws.specs.Laws.{WalkDecidesObjects, StandInPrefixed}
 use Rattle.kp_walker.specs.Answers.{answered}
 use Rattle.kp_writer.specs.Plain.{objects_with}
-use Rattle.kp_writer.specs.Laws.{PlainClusterOnly, PlainNoClash}
+use Rattle.kp_writer.specs.Laws.{PlainNoClash}
 use Rattle.kp_run.specs.State.{Stands}
 use Rattle.kp_run.specs.declared.state.Replay.{Replay}
 
-module _ (decides : WalkDecidesObjects) (prefixed : StandInPrefixed) (only : PlainClusterOnly) (no_clash : PlainNoClash) where
+module _ (decides : WalkDecidesObjects) (prefixed : StandInPrefixed) (no_clash : PlainNoClash) where
   pub verdict_is : (r : Replay) (p : PacketForm) (draws : List ℕ) (a : Answer) → draws ≡ p.draws
       → ((lists : RecentParts) → answered a lists
       ≡ walk_of (get r.table.chains) r.config.addresses p.packet (draw_of_list draws) lists)
@@ -27,7 +27,6 @@ module _ (decides : WalkDecidesObjects) (prefixed : StandInPrefixed) (only : Pla
       let objects = objects_with st.table.service st.table.slice in
       let agree =
       decides setting objects p.packet (draw_of_list p.draws) s.lists refl prefixed
-      (only setting.config st.table.service st.table.slice)
       (no_clash s.config st.table.service st.table.slice st.table.small) in
       ap (λ w. w.verdict) (walks s.lists)
       ∙ (λ i. (walk_of (get (st.table.full i).chains) (st.config i).addresses p.packet

@@ -1,6 +1,5 @@
 -- The walk decides a packet as the objects do, where a look-up finds the chains of the ports.
-use Rattle.std.proofs.Common.{◌≡◌, ℕ, Bool, true, false, not, ◌&&◌, ◌||◌, List, [], Contains, Option, Some, None, option_map, refl, sym, ap, ap₂, ◌∙◌}
-use Rattle.std.proofs.lemmas.Option.{none-some}
+use Rattle.std.proofs.Common.{◌≡◌, ℕ, Bool, true, false, not, ◌&&◌, ◌||◌, List, [], ◌∷◌, Contains, Option, Some, None, option_map, refl, ap, ap₂, ◌∙◌}
 use Rattle.kp_base.specs.Net.{AddressParts, is_local_address}
 use Rattle.kp_base.specs.declared.key.Endpoint.{Endpoint}
 use Rattle.kp_types.specs.Setting.{FamilyConfig, Setting}
@@ -11,21 +10,22 @@ use Rattle.kp_types.specs.declared.packet.Origin.{Origin}
 use Rattle.kp_types.specs.declared.packet.Origin.TheVariants.{Wire, Node}
 use Rattle.kp_types.specs.declared.rule.Rule.{Rule}
 use Rattle.kp_types.specs.declared.verdict.Verdict.TheVariants.{To}
+use Rattle.kp_types.specs.declared.walk.Ending.TheVariants as ending
 use Rattle.kp_choice_defs.specs.Recent.{RecentParts}
 use Rattle.kp_choice_defs.specs.Settings.{pick_by_draws}
 use Rattle.kp_object_defs.specs.PortInfo.{PortInfo}
 use Rattle.kp_door_defs.specs.Decision.{Translation, translation_of, translated, lists_after, refused_by, by_filter, decision_by, decision_from}
 use Rattle.kp_door_defs.specs.Filter.{Refusal, Rejects, DropsClosed, DropsNoLocal, Line, filtered}
 use Rattle.kp_door_defs.specs.Marks.{is_from_node, is_marked}
-use Rattle.kp_table_defs.specs.Layout.{kube_services}
 use Rattle.kp_table_defs.specs.Matching.{WalkState, Surroundings}
-use Rattle.kp_table_defs.specs.Walk.{sent_to, Journey, Translating, after_hook, returned_from, through, first_hook, is_leaving, onward, verdict_by, walked_by, initial_state, surroundings_of, walk_of, postrouting_if}
+use Rattle.kp_table_defs.specs.Walk.{Outcome, sent_to, Journey, Translating, after_hook, chain_outcome, most_chains, through, first_hook, is_leaving, onward, verdict_by, walked_by, initial_state, surroundings_of, walk_of, postrouting_if}
 use Rattle.kp_table_defs.specs.Walk.Outcome.{Next}
-use Rattle.kp_walk_laws.specs.Laws.{IsClusterOnly}
+use Rattle.kp_walk_laws.specs.Laws.{IsKnown}
+use Rattle.kp_walk_laws.proofs.Outcomes.{pathless, next_of, ended_of}
 use Rattle.kp_walk_laws.proofs.EndpointChains.{marked_if, marked_source}
 use Rattle.kp_walk_laws.proofs.Matches.{packet_of}
-use Rattle.kp_walk_laws.proofs.Services.{FindsPort}
-use Rattle.kp_walk_laws.proofs.Translations.{translated_state, translating}
+use Rattle.kp_walk_laws.proofs.DoorRules.{LeadsTo}
+use Rattle.kp_walk_laws.proofs.Arrivals.{arrived_state, arriving}
 use Rattle.kp_walk_laws.proofs.FirstHook.{FindsNat, first_outcome}
 use Rattle.kp_walk_laws.proofs.FilterChains.{FindsFilter}
 use Rattle.kp_walk_laws.proofs.Journeys.{verdict_of, line_verdict, journey_at, filter_journey, last_verdict, last_lists}
@@ -47,7 +47,7 @@ endpoint_of t = t.chosen.endpoint
 -- the state after the first hook
 abbrev pub state_after : FamilyConfig → Surroundings → WalkState → Option Translation → WalkState
 state_after config e s None = s
-state_after config e s (Some t) = sent_to (translated_state config e s t) t.chosen.endpoint
+state_after config e s (Some t) = sent_to (arrived_state config e s t) t.chosen.endpoint
 
 -- the packet leaves the node
 abbrev leaves : FamilyConfig → Packet → Bool
@@ -110,16 +110,26 @@ module _ (config : FamilyConfig) (packet : Packet) (draws : ℕ → ℕ) (lists 
 module _ (setting : Setting) (infos : List PortInfo) (packet : Packet) (draws : ℕ → ℕ)
     (lists : RecentParts) (at : ChainAt → Option (List Rule)) where
   -- the first hook translates
-  translated_journey : (t : Option Translation) → (trail : List (List (List ℕ)))
-      × (after_hook Translating (journey_at (initial_state packet lists) None None [])
-      (returned_from (first_hook packet.from)
-      (returned_from kube_services (translating (Next (initial_state packet lists)) setting
-      (surroundings_of setting.config.addresses packet draws) (initial_state packet lists) t)))
+  translated_journey : (t : Option Translation) (o : Outcome)
+      → pathless o ≡ pathless (arriving (Next (initial_state packet lists)) setting
+      (surroundings_of setting.config.addresses packet draws) (initial_state packet lists) t)
+      → (trail : List (List (List ℕ)))
+      × (after_hook Translating (journey_at (initial_state packet lists) None None []) o
       ≡ journey_at (state_after setting.config
       (surroundings_of setting.config.addresses packet draws) (initial_state packet lists) t)
       (option_map endpoint_of t) None trail)
-  translated_journey None = ([], refl)
-  translated_journey (Some t) = (_, refl)
+  translated_journey None o h = (
+    [],
+    ap (after_hook Translating (journey_at (initial_state packet lists) None None []))
+        (next_of o (initial_state packet lists) h),
+  )
+  translated_journey (Some t) o h =
+      let (path, is) = ended_of o (ending.Dnat t.chosen.endpoint)
+      (arrived_state setting.config (surroundings_of setting.config.addresses packet draws)
+      (initial_state packet lists) t) h in (
+        path ∷ [],
+        ap (after_hook Translating (journey_at (initial_state packet lists) None None [])) is,
+      )
 
   -- from a translation on, the walk goes as the decision does
   decided : FindsNat setting infos at → FindsFilter setting.family infos at
@@ -159,11 +169,13 @@ module _ (setting : Setting) (infos : List PortInfo) (packet : Packet) (draws : 
             (filtered setting.config infos (translated packet t)),
       )
 
-  -- where a look-up finds the shared chains and those of the ports, walking decides as the objects
-  -- do
+  -- where a look-up finds the shared chains, and those of the ports do what their doors do, walking
+  -- decides as the objects do
   pub walk_agrees : setting.pick ≡ pick_by_draws → FindsNat setting infos at
       → FindsFilter setting.family infos at → ((i : PortInfo) → Contains infos i
-      → IsClusterOnly i × FindsPort setting at i)
+      → IsKnown setting.family i
+      × LeadsTo setting (surroundings_of setting.config.addresses packet draws) at
+      (initial_state packet lists) i)
       → ((walk_of at setting.config.addresses packet draws lists).verdict
       ≡ (decision_from setting infos packet draws lists).verdict)
       × ((walk_of at setting.config.addresses packet draws lists).lists
@@ -172,9 +184,9 @@ module _ (setting : Setting) (infos : List PortInfo) (packet : Packet) (draws : 
       let e : Surroundings = surroundings_of setting.config.addresses packet draws in
       let s : WalkState = initial_state packet lists in
       let t : Option Translation = translation_of setting infos packet draws lists in
-      let (trail, first) = translated_journey t in
+      let (trail, first) = translated_journey t
+      (chain_outcome e at Nat most_chains (first_hook packet.from) s)
+      (first_outcome setting by_draws infos e refl at nat s ports packet.from) in
       decided nat filter t trail (through e at Translating Nat (first_hook packet.from)
       (journey_at s None None []))
-      (λ i k c h. absurd (none-some k (sym (ports i c).0.node_port ∙ h)))
-      (ap (after_hook Translating (journey_at s None None []))
-      (first_outcome setting by_draws infos e at nat s refl ports packet.from) ∙ first)
+      (λ i k c h. (ports i c).0.address) first

@@ -35,6 +35,11 @@ pub marked_used : (b : Bool) (s : WalkState) → (marked_if b s).used ≡ s.used
 marked_used true s = refl
 marked_used false s = refl
 
+-- the mark leaves the recent lists
+pub marked_lists : (b : Bool) (s : WalkState) → (marked_if b s).lists ≡ s.lists
+marked_lists true s = refl
+marked_lists false s = refl
+
 -- the state in which the source was put into a recent list under session affinity
 abbrev pub seen_if : Surroundings → Option ℕ → List ℕ → WalkState → WalkState
 seen_if e None list s = s

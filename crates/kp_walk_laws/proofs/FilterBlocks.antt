@@ -1,6 +1,7 @@
 -- What the rules of one port do in the filter: they refuse by the first of the port's lines that
 -- the packet fits.
 use Rattle.std.proofs.Common.{◌≡◌, ℕ, ◌==◌, Bool, true, false, not, cond, ◌&&◌, List, [], ◌∷◌, ◌++◌, map, Option, Some, None, is_some, refl, sym, ap, ap₂, subst, ◌∙◌}
+use Rattle.std.proofs.Math.Bool.{and_comm}
 use Rattle.std.proofs.lemmas.List.{map-append}
 use Rattle.std.proofs.lemmas.Simd.{map-map}
 use Rattle.kp_base.specs.Net.{AddressParts, same_address, single_range, range_contains, loopback_range, is_local_address}
@@ -22,11 +23,10 @@ use Rattle.kp_door_defs.specs.Doors.{Door, door_at, node_door, fits}
 use Rattle.kp_door_defs.specs.Filter.{Refusal, Rejects, DropsClosed, DropsNoLocal, Line, line_of, refusal_by, firewall_lines, external_lines, service_lines}
 use Rattle.kp_table_defs.specs.Matching.{WalkState, Surroundings, try_all}
 use Rattle.kp_table_defs.specs.Layout.{rule_at, rules_if, firewall_block, external_block, refusal_block, refusal_target, node_port_refusal, own_addresses}
-use Rattle.kp_table_defs.specs.Walk.{Outcome, target_if, target_outcome}
+use Rattle.kp_table_defs.specs.Walk.{Outcome, target_if, target_outcome, rule_outcome}
 use Rattle.kp_table_defs.specs.Walk.Outcome.{Next, Ended}
-use Rattle.kp_walk_laws.proofs.Outcomes.{FindIn, IsRuleOf, IsLast, ended_last, find_in_one, find_in_map, find_in_append}
+use Rattle.kp_walk_laws.proofs.Outcomes.{FindIn, IsRuleOf, IsLast, pathless_by, ended_last, find_in_one, find_in_map, find_in_append}
 use Rattle.kp_walk_laws.proofs.Matches.{packet_of, rule_if, door_tried, tried_alone, tried_before}
-use Rattle.kp_walk_laws.proofs.ListChains.{and_swap}
 
 -- the end of a hook by a refusal
 abbrev pub ending_of : Refusal → Ending
@@ -96,11 +96,13 @@ module _ (config : FamilyConfig) (family : Family) (e : Surroundings)
       (line_of r (door_at kind i a))
   line_rule i kind t r h a =
       let proto_port : Bool = same_proto i.key.proto e.proto && (i.number == s.port) in
-      rule_if e jump s (match.Dst (single_range a) false ∷ match.Port i.key.proto i.number ∷ []) t
+      pathless_by (rule_outcome e jump (rule_at i t a) s)
+      (fits_line config e s (line_of r (door_at kind i a))) (ending_of r) s s
+      (rule_if e jump s (match.Dst (single_range a) false ∷ match.Port i.key.proto i.number ∷ []) t
       (same_address a s.target && proto_port) (door_tried e jump s a i.key.proto i.number)
       ∙ by_target t r (same_address a s.target && proto_port) h
       ∙ ap (λ b. cond b (Ended (ending_of r) [] s) (Next s))
-      (and_swap (same_address a s.target) proto_port)
+      (and_comm (same_address a s.target) proto_port))
 
   -- rules for addresses of a port
   line_rules : (i : PortInfo) (kind : DoorKind) (t : Target) (r : Refusal) → IsTargetOf t r
@@ -155,9 +157,11 @@ module _ (config : FamilyConfig) (family : Family) (e : Surroundings)
       let not_loop : Bool = not (range_contains (loopback_range family) s.target) in
       let local : Bool = is_local_address e.node_addresses s.target in
       let proto_port : Bool = same_proto i.key.proto e.proto && (n == s.port) in
-      find_in_one (fits_line config e s) (refusing s) refusing_last e jump s
-      (rule_of (own_addresses family ++ match.Port i.key.proto n ∷ []) t)
-      (line_of r (record { kind = door.Node; info = i; address = None; number = n }))
+      let rule : Rule = rule_of (own_addresses family ++ match.Port i.key.proto n ∷ []) t in
+      let line : Line =
+      line_of r (record { kind = door.Node; info = i; address = None; number = n }) in
+      find_in_one (fits_line config e s) (refusing s) refusing_last e jump s rule line
+      (pathless_by (rule_outcome e jump rule s) (fits_line config e s line) (ending_of r) s s
       (rule_if e jump s (own_addresses family ++ match.Port i.key.proto n ∷ []) t
       (not_loop && (local && proto_port))
       (tried_before s not_loop (local && proto_port)
@@ -171,7 +175,7 @@ module _ (config : FamilyConfig) (family : Family) (e : Surroundings)
       ∙ ap (λ f.
       cond (proto_port && (is_local_address config.addresses s.target
       && not (range_contains (loopback_range f) s.target))) (Ended (ending_of r) [] s) (Next s))
-      (sym (same n refl)))
+      (sym (same n refl))))
 
   -- the rules of a port for what comes from outside
   pub external_refuses : e.node_addresses ≡ config.addresses → (i : PortInfo)

@@ -19,7 +19,7 @@ use Rattle.kp_table_defs.specs.Layout.{jump_to, kube_proxy_firewall, kube_extern
 use Rattle.kp_table_defs.specs.Matching.{WalkState, Surroundings}
 use Rattle.kp_table_defs.specs.Walk.{Outcome, and_then, found_outcome, returned_from, target_if, rules_outcome, chain_outcome}
 use Rattle.kp_table_defs.specs.Walk.Outcome.{Next, Ended}
-use Rattle.kp_walk_laws.proofs.Outcomes.{or_next, and_then_next, find_in_each}
+use Rattle.kp_walk_laws.proofs.Outcomes.{or_next, and_then_next, pathless, next_of, ended_of, find_in_each}
 use Rattle.kp_walk_laws.proofs.Matches.{rule_if, tried_alone}
 use Rattle.kp_walk_laws.proofs.FilterBlocks.{ending_of, refusing, fits_line, Refuses, refusing_last, firewall_refuses, external_refuses, service_refuses}
 
@@ -36,9 +36,12 @@ IsFiltered (Some l) s o = (path : List (List ℕ)) × (o ≡ Ended (ending_of l.
 
 -- rules that refuse, as a chain
 refused_chain : (chain : List ℕ) (found : Option Line) (s : WalkState) (o : Outcome)
-    → o ≡ or_next (option_map (refusing s) found) s → IsRefused found s (returned_from chain o)
-refused_chain chain None s o h = ap (returned_from chain) h
-refused_chain chain (Some l) s o h = (chain ∷ [], ap (returned_from chain) h)
+    → pathless o ≡ or_next (option_map (refusing s) found) s
+    → IsRefused found s (returned_from chain o)
+refused_chain chain None s o h = ap (returned_from chain) (next_of o s h)
+refused_chain chain (Some l) s o h =
+    let (path, is) = ended_of o (ending_of l.refusal) s h in
+    (chain ∷ path, ap (returned_from chain) is)
 
 -- a chain before what is behind it in a hook
 filtered_then : (a b : Option Line) (s : WalkState) (o : Outcome) (next : WalkState → Outcome)

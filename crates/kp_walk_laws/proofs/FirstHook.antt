@@ -1,5 +1,5 @@
 -- What the first hook does: it translates as the first door says that takes the packet.
-use Rattle.std.proofs.Common.{◌≡◌, Bool, true, false, not, cond, List, [], ◌∷◌, ◌++◌, Contains, Option, Some, None, is_some, option_map, option_and_then, flat_map, codes, refl, sym, ap, ◌∙◌}
+use Rattle.std.proofs.Common.{◌≡◌, ℕ, Bool, true, false, not, cond, List, [], ◌∷◌, ◌++◌, Contains, Option, Some, None, is_some, option_map, option_and_then, flat_map, codes, refl, sym, ap, ◌∙◌}
 use Rattle.std.specs.List.{find}
 use Rattle.std.proofs.lemmas.Bool.{and_parts}
 use Rattle.std.proofs.lemmas.Option.{same_Some}
@@ -19,13 +19,15 @@ use Rattle.kp_door_defs.specs.Decision.{Translation, translation_at, translation
 use Rattle.kp_door_defs.specs.Doors.{Door, doors_of, fits, offer_of, takes, taking_door}
 use Rattle.kp_table_defs.specs.Layout.{jump_to, mark_masq, kube_services, kube_node_ports, kube_postrouting, service_block, node_port_block, own_addresses}
 use Rattle.kp_table_defs.specs.Matching.{WalkState, Surroundings}
-use Rattle.kp_table_defs.specs.Walk.{found_outcome, returned_from, chain_outcome, first_hook, most_chains}
+use Rattle.kp_table_defs.specs.Walk.{Outcome, found_outcome, returned_from, rules_outcome, chain_outcome, first_hook, most_chains}
 use Rattle.kp_table_defs.specs.Walk.Outcome.{Next, Stuck}
-use Rattle.kp_walk_laws.specs.Laws.{IsClusterOnly}
+use Rattle.kp_walk_laws.specs.Laws.{IsKnown}
 use Rattle.kp_walk_laws.proofs.Matches.{packet_of}
-use Rattle.kp_walk_laws.proofs.Outcomes.{or_next, and_then_next}
-use Rattle.kp_walk_laws.proofs.Translations.{translates, translating, taken_by}
-use Rattle.kp_walk_laws.proofs.Services.{FindsPort, services_outcome}
+use Rattle.kp_walk_laws.proofs.Outcomes.{or_next, and_then_next, pathless, pathless_returned}
+use Rattle.kp_walk_laws.proofs.Translations.{translates}
+use Rattle.kp_walk_laws.proofs.Arrivals.{arriving, arrives}
+use Rattle.kp_walk_laws.proofs.DoorRules.{LeadsTo}
+use Rattle.kp_walk_laws.proofs.Services.{services_send}
 
 -- a look-up finds the shared chains of nat
 pub record FindsNat (setting : Setting) (infos : List PortInfo)
@@ -60,18 +62,18 @@ found_passes test (y ∷ ys) x h =
     passes_by test x y (find test ys) (found_passes test ys x) (test y) refl h
 
 module _ (setting : Setting) (by_draws : setting.pick ≡ pick_by_draws) (infos : List PortInfo)
-    (e : Surroundings) (at : ChainAt → Option (List Rule)) (finds : FindsNat setting infos at)
-    (s : WalkState) where
+    (e : Surroundings) (own : e.node_addresses ≡ setting.config.addresses)
+    (at : ChainAt → Option (List Rule)) (finds : FindsNat setting infos at) (s : WalkState) where
   same_translation : (t : Option Translation) → is_some t ≡ true
-      → translating Stuck setting e s t ≡ translating (Next s) setting e s t
+      → pathless (arriving Stuck setting e s t) ≡ pathless (arriving (Next s) setting e s t)
   same_translation None h = absurd (cc)
   same_translation (Some t) h = refl
 
   -- the door that takes the packet translates it
   by_door : (d : Option Door) → taking_door setting.config infos (packet_of e s) ≡ d
-      → or_next (option_map (taken_by setting e s) d) s
-      ≡ translating (Next s) setting e s
-      (option_and_then (translation_at setting (packet_of e s) e.draws s.lists) d)
+      → or_next (option_map (λ c. pathless (arrives setting e s c)) d) s
+      ≡ pathless (arriving (Next s) setting e s
+      (option_and_then (translation_at setting (packet_of e s) e.draws s.lists) d))
   by_door None h = refl
   by_door (Some d) h =
       same_translation (translation_at setting (packet_of e s) e.draws s.lists d)
@@ -86,18 +88,39 @@ module _ (setting : Setting) (by_draws : setting.pick ≡ pick_by_draws) (infos 
   first_rules Wire = finds.prerouting
   first_rules Node = finds.output
 
+  -- chains change nothing but the way to a translation
+  through_chain : (chain : List ℕ) (t : Option Translation)
+      → pathless (returned_from chain (pathless (arriving (Next s) setting e s t)))
+      ≡ pathless (arriving (Next s) setting e s t)
+  through_chain chain None = refl
+  through_chain chain (Some t) = refl
+
+  -- rules that translate, as a chain
+  chain_translates : (chain : List ℕ) (o : Outcome) (t : Option Translation)
+      → pathless o ≡ pathless (arriving (Next s) setting e s t)
+      → pathless (returned_from chain o) ≡ pathless (arriving (Next s) setting e s t)
+  chain_translates chain o t h =
+      pathless_returned chain o ∙ ap (λ p. pathless (returned_from chain p)) h
+      ∙ through_chain chain t
+
   -- the first hook translates as the objects say
-  pub first_outcome : s.used ≡ 0 → ((i : PortInfo) → Contains infos i
-      → IsClusterOnly i × FindsPort setting at i) → (from : Origin)
-      → chain_outcome e at Nat most_chains (first_hook from) s
-      ≡ returned_from (first_hook from) (returned_from kube_services
-      (translating (Next s) setting e s (translation_of setting infos
-      (packet_of e s) e.draws s.lists)))
-  first_outcome fresh ports from =
-      ap (λ o. found_outcome e (chain_outcome e at Nat 7) (first_hook from) o s) (first_rules from)
-      ∙ ap (returned_from (first_hook from))
-      (and_then_next (chain_outcome e at Nat 7 kube_services s)
-      ∙ ap (λ o. found_outcome e (chain_outcome e at Nat 6) kube_services o s) finds.services
-      ∙ ap (returned_from kube_services)
-      (services_outcome setting by_draws e at finds.mark 3 s fresh infos ports finds.node_ports
+  pub first_outcome : ((i : PortInfo) → Contains infos i
+      → IsKnown setting.family i × LeadsTo setting e at s i) → (from : Origin)
+      → pathless (chain_outcome e at Nat most_chains (first_hook from) s)
+      ≡ pathless (arriving (Next s) setting e s (translation_of setting infos
+      (packet_of e s) e.draws s.lists))
+  first_outcome ports from =
+      let t : Option Translation =
+      translation_of setting infos (packet_of e s) e.draws s.lists in
+      let rules : List Rule =
+      flat_map (service_block setting) infos ++ rule_of (own_addresses setting.family)
+      (target.Jump kube_node_ports) ∷ [] in
+      ap (λ o. pathless (found_outcome e (chain_outcome e at Nat 7) (first_hook from) o s))
+      (first_rules from)
+      ∙ chain_translates (first_hook from)
+      (rules_outcome e (chain_outcome e at Nat 7) (jump_to kube_services ∷ []) s) t
+      (ap pathless (and_then_next (chain_outcome e at Nat 7 kube_services s)
+      ∙ ap (λ o. found_outcome e (chain_outcome e at Nat 6) kube_services o s) finds.services)
+      ∙ chain_translates kube_services (rules_outcome e (chain_outcome e at Nat 6) rules s) t
+      (services_send setting e own at s infos ports 0 finds.node_ports
       ∙ by_door (taking_door setting.config infos (packet_of e s)) refl))

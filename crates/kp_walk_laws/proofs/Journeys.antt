@@ -1,5 +1,6 @@
 -- What hooks make of a journey, and its verdict.
 use Rattle.std.proofs.Common.{◌≡◌, inl, inr, ℕ, Bool, true, false, ◌&&◌, List, [], ◌∷◌, ◌++◌, Contains, Option, Some, None, option_map, flat_map, append-nil, codes, refl, sym, ap, ◌∙◌}
+use Rattle.std.proofs.Math.Bool.{and-false, and-true}
 use Rattle.std.specs.Option.{option_or}
 use Rattle.std.proofs.lemmas.List.Folds.{find-append}
 use Rattle.kp_base.specs.Net.{is_local_address}
@@ -22,7 +23,6 @@ use Rattle.kp_walk_laws.proofs.FilterBlocks.{ending_of, fits_line}
 use Rattle.kp_walk_laws.proofs.FilterChains.{IsFiltered, FindsFilter, first_line, hook_chain, hook_filtered}
 use Rattle.kp_walk_laws.proofs.FirstHook.{FindsNat}
 use Rattle.kp_walk_laws.proofs.Postrouting.{masked_by, postrouting_outcome}
-use Rattle.kp_walk_laws.proofs.ListChains.{and_true, and_false}
 
 -- the verdict of a refusal
 abbrev pub verdict_of : Refusal → Verdict
@@ -158,8 +158,8 @@ module _ (setting : Setting) (infos : List PortInfo) (e : Surroundings)
   last_verdict None true =
       ap (λ o. (walked_by (after_hook Masquerading (journey_at s to None trail) o)).verdict)
       (postrouting_outcome setting infos e at finds 6 s)
-      ∙ masked_verdict s.marked ∙ ap (verdict_by None to) (and_true s.marked)
-  last_verdict None false = ap (verdict_by None to) (and_false s.marked)
+      ∙ masked_verdict s.marked ∙ ap (verdict_by None to) (sym (and-true s.marked))
+  last_verdict None false = ap (verdict_by None to) (sym (and-false s.marked))
 
   -- and the recent lists
   pub last_lists : (stopped : Option Verdict) (leaving : Bool)

@@ -2,8 +2,14 @@ pub mod Outcomes
 pub mod Matches
 pub mod EndpointChains
 pub mod ChoiceRules
-pub mod ListChains
+pub mod NeededChains
+pub mod Arrivals
+pub mod AffinityRules
 pub mod Translations
+pub mod Choices
+pub mod ListChains
+pub mod DoorRules
+pub mod ServiceBlocks
 pub mod Services
 pub mod FilterBlocks
 pub mod FilterChains
@@ -17,7 +23,9 @@ pub mod Lookups
 pub mod PortLookups
 pub mod StandInNames
 pub mod PlainRows
-pub mod PlainServices
+pub mod ExternalChains
+pub mod OwnChains
+pub mod KnownPorts
 pub mod Ranked
 pub mod Theorem
-pub mod TwoPorts
+pub mod WorkedPorts

@@ -1,6 +1,7 @@
 -- What the chain of a list does: it marks what comes to the cluster address from outside the
--- cluster, and goes to the endpoint that the draws select.
-use Rattle.std.proofs.Common.{◌≡◌, ℕ, suc, ◌-◌, ◌^◌, ◌==◌, min, Bool, true, false, not, ◌&&◌, ◌||◌, List, [], ◌∷◌, ◌++◌, length, Contains, slice_get, Option, Some, None, is_some, append-nil, refl, ap, ◌∙◌}
+-- cluster, and goes to the endpoint that is chosen.
+use Rattle.std.proofs.Common.{◌≡◌, ℕ, suc, ◌==◌, Bool, true, false, not, ◌&&◌, ◌||◌, List, [], ◌∷◌, ◌++◌, length, Contains, Option, Some, None, is_some, refl, sym, ap, ◌∙◌}
+use Rattle.std.proofs.Math.Bool.{and_comm, and-false, and-true}
 use Rattle.kp_base.specs.Net.{RangeParts, same_address, single_range, range_contains}
 use Rattle.kp_base.specs.declared.key.Endpoint.{Endpoint}
 use Rattle.kp_types.specs.Setting.{Setting}
@@ -12,17 +13,20 @@ use Rattle.kp_types.specs.declared.packet.Packet.{Packet}
 use Rattle.kp_types.specs.declared.rule.Match.TheVariants as match
 use Rattle.kp_types.specs.declared.rule.Rule.{Rule}
 use Rattle.kp_types.specs.declared.rule.Target.TheVariants as target
-use Rattle.kp_choice_defs.specs.Draws.{selected_index}
+use Rattle.kp_choice_defs.specs.Settings.{pick_by_draws}
+use Rattle.kp_object_defs.specs.Desired.{is_empty}
 use Rattle.kp_object_defs.specs.PortInfo.{PortInfo}
+use Rattle.kp_door_defs.specs.Choice.{chosen_endpoint}
 use Rattle.kp_door_defs.specs.Doors.{is_in_range}
 use Rattle.kp_table_defs.specs.Matching.{WalkState, Surroundings, try_all}
 use Rattle.kp_table_defs.specs.Layout.{mark_masq, mark_rules, affinity_rules, choice_rules, list_rules, rules_if, rule_at, endpoint_chain, endpoint_rules}
 use Rattle.kp_table_defs.specs.Walk.{Outcome, and_then, rule_outcome, rules_outcome, chain_outcome}
 use Rattle.kp_table_defs.specs.Walk.Outcome.{Next}
-use Rattle.kp_walk_laws.proofs.Outcomes.{ended_last, and_then_next, rules_append}
+use Rattle.kp_walk_laws.proofs.Outcomes.{and_then_next, rules_append}
 use Rattle.kp_walk_laws.proofs.Matches.{packet_of, rule_if, door_tried, tried_before}
-use Rattle.kp_walk_laws.proofs.EndpointChains.{marked_if, marked_used, sent_by, mark_by, endpoint_outcome}
-use Rattle.kp_walk_laws.proofs.ChoiceRules.{used_after, outcome_at, with_used, choice_outcome}
+use Rattle.kp_walk_laws.proofs.EndpointChains.{marked_if, mark_by, endpoint_outcome}
+use Rattle.kp_walk_laws.proofs.Arrivals.{chosen_outcome}
+use Rattle.kp_walk_laws.proofs.Choices.{chooses}
 
 -- the packet is for the cluster address of a port
 abbrev pub is_for_address : PortInfo → Packet → Bool
@@ -33,34 +37,6 @@ is_for_address i p =
 abbrev pub marks_packet : Bool → Option RangeParts → PortInfo → Packet → Bool
 marks_packet all cluster i p =
     is_for_address i p && (all || (is_some cluster && not (is_in_range cluster p.source)))
-
-pub and_true : (b : Bool) → b ≡ (b && true)
-and_true true = refl
-and_true false = refl
-
-pub and_false : (b : Bool) → false ≡ (b && false)
-and_false true = refl
-and_false false = refl
-
-pub and_swap : (b c : Bool) → (b && c) ≡ (c && b)
-and_swap true true = refl
-and_swap true false = refl
-and_swap false true = refl
-and_swap false false = refl
-
--- without session affinity the chain of a list marks and chooses
-pub plain_list : (setting : Setting) (i : PortInfo) (internal : Bool) (es : List Endpoint)
-    → i.affinity ≡ None
-    → list_rules setting i internal es ≡ rules_if internal
-    (mark_rules setting.config.masquerade_all setting.config.cluster i)
-    ++ choice_rules (endpoint_chain setting i) es
-plain_list setting i internal es plain =
-    ap (λ a. rules_if internal (mark_rules setting.config.masquerade_all setting.config.cluster i)
-    ++ affinity_rules (endpoint_chain setting i) a es ++ choice_rules (endpoint_chain setting i) es)
-    plain
-    ∙ ap (λ rs. rs ++ choice_rules (endpoint_chain setting i) es)
-    (append-nil (rules_if internal (mark_rules setting.config.masquerade_all setting.config.cluster
-    i)))
 
 module _ (e : Surroundings) (at : ChainAt → Option (List Rule))
     (mark : at (record { table = Nat; chain = mark_masq }) ≡ Some (rule_of [] target.SetMark ∷ []))
@@ -87,9 +63,9 @@ module _ (e : Surroundings) (at : ChainAt → Option (List Rule))
         ∷ match.Port i.key.proto i.number
         ∷ []) (target.Jump mark_masq) here (door_tried e jump s i.address i.key.proto i.number)
         ∙ mark_by e at mark n here s)
-        (and_true here)
+        (sym (and-true here))
     mark_rules_outcome n false None i s =
-        ap (λ x. Next (marked_if x s)) (and_false (is_for_address i (packet_of e s)))
+        ap (λ x. Next (marked_if x s)) (sym (and-false (is_for_address i (packet_of e s))))
     mark_rules_outcome n false (Some cluster) i s =
         let jump : List ℕ → WalkState → Outcome = chain_outcome e at Nat (suc n) in
         let here : Bool = is_for_address i (packet_of e s) in
@@ -104,10 +80,10 @@ module _ (e : Surroundings) (at : ChainAt → Option (List Rule))
         (match.Dst (single_range i.address) false ∷ match.Port i.key.proto i.number ∷ []))
         (door_tried e jump s i.address i.key.proto i.number))
         ∙ mark_by e at mark n (outside && here) s)
-        (and_swap outside here)
+        (and_comm outside here)
 
     -- the mark rules where they stand
-    marks_if : (n : ℕ) (internal all : Bool) (cluster : Option RangeParts) (i : PortInfo)
+    pub marks_if : (n : ℕ) (internal all : Bool) (cluster : Option RangeParts) (i : PortInfo)
         (s : WalkState)
         → rules_outcome e (chain_outcome e at Nat (suc n))
         (rules_if internal (mark_rules all cluster i)) s
@@ -115,35 +91,31 @@ module _ (e : Surroundings) (at : ChainAt → Option (List Rule))
     marks_if n true all cluster i s = mark_rules_outcome n all cluster i s
     marks_if n false all cluster i s = refl
 
-    -- the chain of a list, without session affinity
-    pub list_outcome : (setting : Setting) (i : PortInfo) (internal : Bool) (es : List Endpoint)
-        → i.affinity ≡ None
-        → ((f : Endpoint) → Contains es f
-        → at (record { table = Nat; chain = endpoint_chain setting i f })
-        ≡ Some (endpoint_rules setting i f))
-        → (n k : ℕ) (s : WalkState) → min s.used (2 ^ 32 - 1) ≡ min k (2 ^ 32 - 1)
-        → same_proto i.key.proto e.proto ≡ true
-        → rules_outcome e (chain_outcome e at Nat (suc (suc n)))
-        (list_rules setting i internal es) s
-        ≡ outcome_at (sent_by e setting i) (slice_get es (selected_index e.draws k (length es)))
-        (with_used (marked_if (internal && marks_packet setting.config.masquerade_all
-        setting.config.cluster i (packet_of e s)) s) (used_after e.draws s.used (length es)))
-    list_outcome setting i internal es plain found n k s place proto =
-        let jump : List ℕ → WalkState → Outcome = chain_outcome e at Nat (suc (suc n)) in
-        let marking : Bool =
-        internal && marks_packet setting.config.masquerade_all setting.config.cluster i
-        (packet_of e s) in
-        let t : WalkState = marked_if marking s in
-        ap (λ rs. rules_outcome e jump rs s) (plain_list setting i internal es plain)
-        ∙ rules_append e jump (rules_if internal
-        (mark_rules setting.config.masquerade_all setting.config.cluster i))
-        (choice_rules (endpoint_chain setting i) es) s
-        ∙ ap (λ o. and_then o (rules_outcome e jump (choice_rules (endpoint_chain setting i) es)))
-        (marks_if (suc n) internal setting.config.masquerade_all setting.config.cluster i s)
-        ∙ choice_outcome e jump (endpoint_chain setting i) (sent_by e setting i)
-        (λ f u. ended_last _ _ _) es
-        (λ f c u. endpoint_outcome e at mark setting i f (found f c) n u proto)
-        k t (ap (λ u. min u (2 ^ 32 - 1)) (marked_used marking s) ∙ place)
-        ∙ ap (λ u. outcome_at (sent_by e setting i)
-        (slice_get es (selected_index e.draws k (length es)))
-        (with_used t (used_after e.draws u (length es)))) (marked_used marking s)
+module _ (setting : Setting) (by_draws : setting.pick ≡ pick_by_draws) (e : Surroundings)
+    (at : ChainAt → Option (List Rule))
+    (mark : at (record { table = Nat; chain = mark_masq }) ≡ Some (rule_of [] target.SetMark ∷ []))
+    (i : PortInfo) (proto : same_proto i.key.proto e.proto ≡ true) where
+  -- the chain of a list that isn't empty
+  pub list_outcome : (internal : Bool) (es : List Endpoint) → not (is_empty es) ≡ true
+      → ((f : Endpoint) → Contains es f
+      → at (record { table = Nat; chain = endpoint_chain setting i f })
+      ≡ Some (endpoint_rules setting i f))
+      → (n : ℕ) (s : WalkState) → s.used ≡ 0
+      → rules_outcome e (chain_outcome e at Nat (suc (suc n))) (list_rules setting i internal es) s
+      ≡ chosen_outcome setting i e (internal && marks_packet setting.config.masquerade_all
+      setting.config.cluster i (packet_of e s)) (length es) s
+      (chosen_endpoint setting i.key i.affinity s.source e.now e.draws es s.lists)
+  list_outcome internal es some found n s fresh =
+      let jump : List ℕ → WalkState → Outcome = chain_outcome e at Nat (suc (suc n)) in
+      let marks : List Rule = rules_if internal
+      (mark_rules setting.config.masquerade_all setting.config.cluster i) in
+      let seen : List Rule = affinity_rules (endpoint_chain setting i) i.affinity es in
+      let draws : List Rule = choice_rules (endpoint_chain setting i) es in
+      rules_append e jump (marks ++ seen) draws s
+      ∙ ap (λ o. and_then o (rules_outcome e jump draws)) (rules_append e jump marks seen s
+      ∙ ap (λ o. and_then o (rules_outcome e jump seen)) (marks_if e at mark (suc n) internal
+      setting.config.masquerade_all setting.config.cluster i s))
+      ∙ chooses setting i e by_draws jump es some
+      (λ f c u. endpoint_outcome e at mark setting i f (found f c) n u proto)
+      (internal && marks_packet setting.config.masquerade_all setting.config.cluster i
+      (packet_of e s)) s fresh

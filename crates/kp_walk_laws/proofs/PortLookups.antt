@@ -29,18 +29,17 @@ use Rattle.kp_types.specs.declared.rule.Rule.{Rule}
 use Rattle.kp_types.specs.declared.service.Policy.{Policy}
 use Rattle.kp_types.specs.declared.service.Policy.TheVariants.{Cluster, Local}
 use Rattle.kp_choice_defs.specs.Names.{first_clash, same_endpoint}
-use Rattle.kp_object_defs.specs.Desired.{is_empty}
-use Rattle.kp_object_defs.specs.Lists.{is_local_policy, list_by_policy}
+use Rattle.kp_object_defs.specs.Lists.{list_by_policy}
 use Rattle.kp_object_defs.specs.Order.{in_order, distinct_in_order}
 use Rattle.kp_object_defs.specs.PortInfo.{PortInfo}
-use Rattle.kp_table_defs.specs.Layout.{row, rows_if, nat_table, list_rules, external_rules, firewall_chain_rules, endpoint_rules, all_endpoints, has_endpoint, chain_of_policy, port_chain, port_rows}
+use Rattle.kp_table_defs.specs.Layout.{row, rows_if, nat_table, endpoint_rules, all_endpoints, has_endpoint, port_rows}
 use Rattle.kp_table_defs.specs.Rebuild.{needs, port_keys, endpoint_keys, needed_keys}
 use Rattle.kp_walk_laws.specs.Laws.{HaveOwnKeys, IsPrefixed}
+use Rattle.kp_walk_laws.proofs.Arrivals.{FindsChains, chain_rules}
 use Rattle.kp_walk_laws.proofs.Entries.{from_in_order}
 use Rattle.kp_walk_laws.proofs.Lookups.{Row, look_up, fixed_nat, fixed_filter, in_rows, pass_over, agreed}
 use Rattle.kp_choice_defs.proofs.ChainKeys.{one_endpoint}
 use Rattle.kp_walk_laws.proofs.NoClash.{one_of_name}
-use Rattle.kp_walk_laws.proofs.Services.{FindsPort}
 
 -- ---- The chains of one port
 
@@ -91,12 +90,7 @@ port_of (key.Sep port e) = port
 
 -- the rules of a chain of a port
 abbrev pub key_rules : Setting → PortInfo → ChainKey → List Rule
-key_rules setting i (key.Port Svc port) =
-    list_rules setting i (not (is_local_policy i.internal)) i.lists.cluster
-key_rules setting i (key.Port Svl port) =
-    list_rules setting i (is_local_policy i.internal) i.lists.local
-key_rules setting i (key.Port Ext port) = external_rules setting i i.outer
-key_rules setting i (key.Port Fw port) = firewall_chain_rules setting i i.ranges
+key_rules setting i (key.Port kind port) = chain_rules setting i kind
 key_rules setting i (key.Sep port e) = endpoint_rules setting i e
 
 -- the row of a chain of a port
@@ -365,20 +359,10 @@ module _ (setting : Setting) (infos : List PortInfo) (prefixed : IsPrefixed sett
         (in_flat_map (port_rows setting) i (row_of setting i k) infos c (row_stands setting i k ck))
         (key_agrees i c k ck)
 
-    list_found : (i : PortInfo) → Contains infos i → (p : Policy) → i.internal ≡ p
-        → not (is_empty (list_by_policy p i.lists)) ≡ true
-        → look_up setting infos
-        (record { table = Nat; chain = port_chain setting i (chain_of_policy p) })
-        ≡ Some (list_rules setting i true (list_by_policy p i.lists))
-    list_found i c Cluster h some = finds_key i c (key.Port Svc i.key) (own_kind i Svc some)
-        ∙ ap (λ q. Some (list_rules setting i (not (is_local_policy q)) i.lists.cluster)) h
-    list_found i c Local h some = finds_key i c (key.Port Svl i.key) (own_kind i Svl some)
-        ∙ ap (λ q. Some (list_rules setting i (is_local_policy q) i.lists.local)) h
-
-    -- and so the chains for traffic to its cluster address
-    pub finds_port : (i : PortInfo) → Contains infos i → FindsPort setting (look_up setting infos) i
-    finds_port i c = record {
-      list = list_found i c i.internal refl;
-      endpoints = λ f cf. finds_key i c (key.Sep i.key f)
-          (own_endpoint i f (in_either i i.internal f cf));
+    -- and so all chains of a port
+    pub finds_chains : (i : PortInfo) → Contains infos i
+        → FindsChains setting (look_up setting infos) i
+    finds_chains i c = record {
+      port = λ kind need. finds_key i c (key.Port kind i.key) (own_kind i kind need);
+      endpoint = λ f cf. finds_key i c (key.Sep i.key f) (own_endpoint i f cf);
     }

@@ -1,5 +1,5 @@
 -- Each jump of the full table goes to a chain that stands and has a greater rank.
-use Rattle.std.proofs.Common.{◌≡◌, ℕ, Bool, true, false, not, ◌&&◌, nat_lt, List, [], ◌∷◌, ◌++◌, map, Contains, Option, Some, None, is_some, flat_map, codes, append-nil, refl, sym, ap, ap₂, subst, ◌∙◌, true≢false}
+use Rattle.std.proofs.Common.{◌≡◌, ℕ, Bool, true, false, not, nat_lt, List, [], ◌∷◌, ◌++◌, map, Contains, Option, Some, None, is_some, flat_map, codes, append-nil, refl, sym, ap, subst, ◌∙◌}
 use Rattle.std.specs.FinMap.{entries, get}
 use Rattle.std.specs.List.{list_all}
 use Rattle.std.proofs.lemmas.Bool.{and_from}
@@ -20,6 +20,7 @@ use Rattle.kp_types.specs.declared.chain.ChainKey.{ChainKey}
 use Rattle.kp_types.specs.declared.chain.ChainKey.TheVariants as key
 use Rattle.kp_types.specs.declared.chain.PortChain.{PortChain}
 use Rattle.kp_types.specs.declared.chain.PortChain.TheVariants.{Svc, Svl, Ext, Fw}
+use Rattle.kp_types.specs.declared.rule.Match.TheVariants as match
 use Rattle.kp_types.specs.declared.rule.Rule.{Rule}
 use Rattle.kp_types.specs.declared.rule.Target.{Target}
 use Rattle.kp_types.specs.declared.rule.Target.TheVariants as target
@@ -29,20 +30,20 @@ use Rattle.kp_choice_defs.specs.AddressText.{endpoint_text}
 use Rattle.kp_choice_defs.specs.Names.{hash_text, port_text, port_chain_prefix}
 use Rattle.kp_object_defs.specs.Desired.{is_empty}
 use Rattle.kp_object_defs.specs.Lists.{is_local_policy, list_by_policy}
-use Rattle.kp_object_defs.specs.PortInfo.{PortInfo, internal_list, external_list, is_reachable}
-use Rattle.kp_table_defs.specs.Layout.{rule_at, jump_to, choice_rules, mark_rules, rules_if, list_rules, endpoint_rules, endpoint_chain, port_chain, chain_of_policy, mark_masq, kube_services, kube_node_ports, kube_postrouting, kube_proxy_firewall, kube_external_services, kube_forward, service_block, node_port_block, has_firewall, firewall_block, node_port_refusal, external_block, refusal_block, refusal_target, own_addresses, nat_rows, filter_rows, port_rows, rows_of}
+use Rattle.kp_object_defs.specs.PortInfo.{PortInfo, internal_list, external_list, port_infos}
+use Rattle.kp_table_defs.specs.Layout.{rule_at, jump_to, affinity_rules, balancer_chain, choice_rules, external_rules, firewall_chain_rules, node_port_rules, pod_rules, mark_rules, rules_if, list_rules, endpoint_rules, endpoint_chain, port_chain, chain_of_policy, mark_masq, kube_services, kube_node_ports, kube_postrouting, kube_proxy_firewall, kube_external_services, kube_forward, service_block, node_port_block, has_firewall, firewall_block, node_port_refusal, external_block, refusal_block, refusal_target, own_addresses, nat_rows, filter_rows, port_rows, rows_of}
 use Rattle.kp_table_defs.specs.Ranks.{rank_of, is_above, goes_on, jumps_go_on, is_ranked_chain, is_ranked, has_built_in}
 use Rattle.kp_table_defs.specs.Rebuild.{Chains, full_chains, needs}
 use Rattle.kp_table_defs.specs.StandIn.{hex_text}
-use Rattle.kp_walk_laws.specs.Laws.{IsClusterOnly, IsPrefixed, StandInPrefixed, HashedPrefixed, FullTableRanked}
+use Rattle.kp_walk_laws.specs.Laws.{OffersAny, IsPrefixed, StandInPrefixed, HashedPrefixed, FullTableRanked, FullTableRankedObjects}
 use Rattle.kp_object_defs.proofs.InOrder.{entries_in_order}
 use Rattle.kp_walk_laws.proofs.Entries.{from_in_order}
-use Rattle.kp_walk_laws.proofs.ListChains.{and_false, plain_list}
+use Rattle.kp_walk_laws.proofs.NeededChains.{balancer_needs, external_needs, needs_external, needs_list, node_port_needs}
+use Rattle.kp_walk_laws.proofs.KnownPorts.{known_ports_by}
 use Rattle.kp_walk_laws.proofs.Lookups.{Row, look_up, fixed_nat, fixed_filter, rows_written, in_rows, is_found, finds_nat, finds_filter}
 use Rattle.kp_walk_laws.proofs.FirstHook.{FindsNat}
 use Rattle.kp_walk_laws.proofs.FilterChains.{FindsFilter}
 use Rattle.kp_walk_laws.proofs.PortLookups.{own_keys, row_of, key_rules, row_stands, row_key, key_cases, own_kind, own_endpoint, in_either}
-use Rattle.kp_walk_laws.proofs.Services.{service_block_is, no_node_ports}
 
 -- ---- Rules that go on
 
@@ -76,6 +77,15 @@ module _ (chains : Chains) where
       → GoOn table rank (r ∷ [])
   one_on table rank r h = and_from (goes_on chains table rank r.target) true h refl
 
+  affinity_on : (table : TableName) (rank : ℕ) (name : Endpoint → List ℕ) (affinity : Option ℕ)
+      (es : List Endpoint)
+      → ((f : Endpoint) → Contains es f → goes_on chains table rank (target.Jump (name f)) ≡ true)
+      → GoOn table rank (affinity_rules name affinity es)
+  affinity_on table rank name None es h = refl
+  affinity_on table rank name (Some seconds) es h =
+      all_map (λ r. goes_on chains table rank r.target)
+      (λ f. rule_of (match.Seen (name f) seconds ∷ []) (target.Jump (name f))) es h
+
   choice_on : (table : TableName) (rank : ℕ) (name : Endpoint → List ℕ) (es : List Endpoint)
       → ((f : Endpoint) → Contains es f → goes_on chains table rank (target.Jump (name f)) ≡ true)
       → GoOn table rank (choice_rules name es)
@@ -96,6 +106,20 @@ module _ (chains : Chains) where
   marks_on table rank false None i h = refl
   marks_on table rank false (Some r) i h =
       and_from (goes_on chains table rank (target.Jump mark_masq)) true h refl
+
+  pods_on : (table : TableName) (rank : ℕ) (cluster : Option RangeParts) (svc : List ℕ)
+      → goes_on chains table rank (target.Jump svc) ≡ true
+      → GoOn table rank (pod_rules cluster svc)
+  pods_on table rank None svc h = refl
+  pods_on table rank (Some r) svc h =
+      one_on table rank (rule_of (match.Src r false ∷ []) (target.Jump svc)) h
+
+  node_port_on : (table : TableName) (rank : ℕ) (i : PortInfo) (t : Target) (port : Option ℕ)
+      → (is_some port ≡ true → goes_on chains table rank t ≡ true)
+      → GoOn table rank (node_port_rules i t port)
+  node_port_on table rank i t None h = refl
+  node_port_on table rank i t (Some n) h =
+      one_on table rank (rule_of (match.Port i.key.proto n ∷ []) t) (h refl)
 
   firewall_on : (i : PortInfo) → GoOn Filter 1 (firewall_block i)
   firewall_on i = on_if Filter 1 (has_firewall i) (map (rule_at i target.Drop) i.balancer)
@@ -140,17 +164,8 @@ key_rank (key.Port Svc port) = 5
 key_rank (key.Port Svl port) = 5
 key_rank (key.Sep port e) = 6
 
--- a port that answers at its cluster address alone needs no chain for traffic from outside
-no_outside : (i : PortInfo) → IsClusterOnly i → needs Ext i ≡ false
-no_outside i h = ap₂ (λ a b. is_reachable a b i.node_port && i.lists.has_any) h.external h.balancer
-    ∙ ap (λ n. is_reachable [] [] n && i.lists.has_any) h.node_port
-
-no_firewall : (i : PortInfo) → IsClusterOnly i → needs Fw i ≡ false
-no_firewall i h = ap (λ b. is_some i.ranges && (not (is_empty b) && i.lists.has_any)) h.balancer
-    ∙ sym (and_false (is_some i.ranges))
-
 module _ (setting : Setting) (infos : List PortInfo) (prefixed : IsPrefixed setting.name_of)
-    (plain : (i : PortInfo) → Contains infos i → IsClusterOnly i) where
+    (any : (i : PortInfo) → Contains infos i → OffersAny i) where
   -- the full table
   abbrev table : Chains
   table = full_chains setting infos
@@ -191,19 +206,66 @@ module _ (setting : Setting) (infos : List PortInfo) (prefixed : IsPrefixed sett
   marks rank h =
       jump_on table Nat rank 7 mark_masq (ap is_some (finds_nat setting infos).mark) refl h
 
+  -- a jump to a chain that a port needs
+  to_kind : (i : PortInfo) → Contains infos i → (kind : PortChain) → needs kind i ≡ true
+      → (rank : ℕ) → nat_lt rank (key_rank (key.Port kind i.key)) ≡ true
+      → goes_on table Nat rank (target.Jump (port_chain setting i kind)) ≡ true
+  to_kind i c kind need rank above =
+      goes i c (key.Port kind i.key) (own_kind i kind need) rank above
+
   -- the chain of a list
   list_on : (i : PortInfo) → Contains infos i → (p : Policy) (internal : Bool)
       → GoOn table Nat 5 (list_rules setting i internal (list_by_policy p i.lists))
   list_on i c p internal =
       let rules : List Rule = mark_rules setting.config.masquerade_all setting.config.cluster i in
       let es : List Endpoint = list_by_policy p i.lists in
-      subst (GoOn table Nat 5) (sym (plain_list setting i internal es (plain i c).affinity))
+      let name : Endpoint → List ℕ = endpoint_chain setting i in
+      let to : (f : Endpoint) → Contains es f
+      → goes_on table Nat 5 (target.Jump (name f)) ≡ true = λ f d.
+      goes i c (key.Sep i.key f) (own_endpoint i f (in_either i p f d)) 5 refl in
+      test_append (λ r. goes_on table Nat 5 r.target)
+      (rules_if internal rules ++ affinity_rules name i.affinity es) (choice_rules name es)
       (test_append (λ r. goes_on table Nat 5 r.target) (rules_if internal rules)
-      (choice_rules (endpoint_chain setting i) es)
-      (on_if table Nat 5 internal rules (λ _.
+      (affinity_rules name i.affinity es) (on_if table Nat 5 internal rules (λ _.
       marks_on table Nat 5 setting.config.masquerade_all setting.config.cluster i (marks 5 refl)))
-      (choice_on table Nat 5 (endpoint_chain setting i) es
-      (λ f d. goes i c (key.Sep i.key f) (own_endpoint i f (in_either i p f d)) 5 refl)))
+      (affinity_on table Nat 5 name i.affinity es to)) (choice_on table Nat 5 name es to)
+
+  -- the chain of what comes in from outside
+  external_ranked : (i : PortInfo) → Contains infos i → needs Ext i ≡ true → (p : Policy)
+      → GoOn table Nat 4 (external_rules setting i p)
+  external_ranked i c need p =
+      let svc : goes_on table Nat 4 (target.Jump (port_chain setting i Svc)) ≡ true =
+      to_kind i c Svc (needs_list i (any i c) need) 4 refl in
+      by_policy svc p
+    where
+      by_policy : goes_on table Nat 4 (target.Jump (port_chain setting i Svc)) ≡ true
+          → (p : Policy) → GoOn table Nat 4 (external_rules setting i p)
+      by_policy svc Cluster =
+          and_from (goes_on table Nat 4 (target.Jump mark_masq)) _ (marks 4 refl)
+          (one_on table Nat 4 (jump_to (port_chain setting i Svc)) svc)
+      by_policy svc Local =
+          let here : Bool = not (is_empty i.lists.local) in
+          let local : List Rule = rules_if here (jump_to (port_chain setting i Svl) ∷ []) in
+          test_append (λ r. goes_on table Nat 4 r.target)
+          (pod_rules setting.config.cluster (port_chain setting i Svc))
+          (rule_of (match.SrcLocal ∷ []) (target.Jump mark_masq)
+          ∷ rule_of (match.SrcLocal ∷ []) (target.Jump (port_chain setting i Svc)) ∷ local)
+          (pods_on table Nat 4 setting.config.cluster (port_chain setting i Svc) svc)
+          (and_from (goes_on table Nat 4 (target.Jump mark_masq)) _ (marks 4 refl)
+          (and_from (goes_on table Nat 4 (target.Jump (port_chain setting i Svc)))
+          (list_all (λ r. goes_on table Nat 4 r.target) local) svc
+          (on_if table Nat 4 here (jump_to (port_chain setting i Svl) ∷ [])
+          (λ some. one_on table Nat 4 (jump_to (port_chain setting i Svl))
+          (to_kind i c Svl some 4 refl)))))
+
+  -- and that of source ranges
+  firewall_ranked : (i : PortInfo) → Contains infos i → needs Fw i ≡ true
+      → (r : Option (List RangeParts)) → GoOn table Nat 3 (firewall_chain_rules setting i r)
+  firewall_ranked i c need None = refl
+  firewall_ranked i c need (Some ranges) =
+      all_map (λ r. goes_on table Nat 3 r.target)
+      (λ r. rule_of (match.Src r false ∷ []) (target.Jump (port_chain setting i Ext))) ranges
+      (λ r d. to_kind i c Ext (needs_external i need) 3 refl)
 
   kind_ranked : (i : PortInfo) → Contains infos i → (kind : PortChain) → needs kind i ≡ true
       → IsRankedRow (row_of setting i (key.Port kind i.key))
@@ -213,8 +275,12 @@ module _ (setting : Setting) (infos : List PortInfo) (prefixed : IsPrefixed sett
   kind_ranked i c Svl need =
       ap (λ o. jumps_go_on table Nat o (key_rules setting i (key.Port Svl i.key)))
       (made_rank (key.Port Svl i.key)) ∙ list_on i c Local (is_local_policy i.internal)
-  kind_ranked i c Ext need = absurd (true≢false (sym need ∙ no_outside i (plain i c)))
-  kind_ranked i c Fw need = absurd (true≢false (sym need ∙ no_firewall i (plain i c)))
+  kind_ranked i c Ext need =
+      ap (λ o. jumps_go_on table Nat o (key_rules setting i (key.Port Ext i.key)))
+      (made_rank (key.Port Ext i.key)) ∙ external_ranked i c need i.outer
+  kind_ranked i c Fw need =
+      ap (λ o. jumps_go_on table Nat o (key_rules setting i (key.Port Fw i.key)))
+      (made_rank (key.Port Fw i.key)) ∙ firewall_ranked i c need i.ranges
 
   port_ranked : (i : PortInfo) → Contains infos i → (r : Row) → Contains (port_rows setting i) r
       → IsRankedRow r
@@ -228,16 +294,44 @@ module _ (setting : Setting) (infos : List PortInfo) (prefixed : IsPrefixed sett
   to_list : (i : PortInfo) → Contains infos i → (p : Policy)
       → not (is_empty (list_by_policy p i.lists)) ≡ true
       → goes_on table Nat 1 (target.Jump (port_chain setting i (chain_of_policy p))) ≡ true
-  to_list i c Cluster some = goes i c (key.Port Svc i.key) (own_kind i Svc some) 1 refl
-  to_list i c Local some = goes i c (key.Port Svl i.key) (own_kind i Svl some) 1 refl
+  to_list i c Cluster some = to_kind i c Svc some 1 refl
+  to_list i c Local some = to_kind i c Svl some 1 refl
+
+  -- chains of load-balancer addresses have greater ranks than KUBE-SERVICES
+  balancer_above : (i : PortInfo) (r : Option (List RangeParts))
+      → nat_lt 1 (key_rank (key.Port (balancer_chain r) i.key)) ≡ true
+  balancer_above i None = refl
+  balancer_above i (Some ranges) = refl
 
   service_on : (i : PortInfo) → Contains infos i → GoOn table Nat 1 (service_block setting i)
   service_on i c =
-      let rule : Rule =
+      let passes : Rule → Bool = λ r. goes_on table Nat 1 r.target in
+      let inside : Rule =
       rule_at i (target.Jump (port_chain setting i (chain_of_policy i.internal))) i.address in
-      subst (GoOn table Nat 1) (sym (service_block_is setting i (plain i c)))
-      (on_if table Nat 1 (not (is_empty (internal_list i))) (rule ∷ [])
-      (λ some. one_on table Nat 1 rule (to_list i c i.internal some)))
+      let external : List Rule =
+      map (rule_at i (target.Jump (port_chain setting i Ext))) i.external in
+      let balancer : List Rule =
+      map (rule_at i (target.Jump (port_chain setting i (balancer_chain i.ranges)))) i.balancer in
+      test_append passes (rules_if (not (is_empty (internal_list i))) (inside ∷ []))
+      (rules_if i.lists.has_any (external ++ balancer))
+      (on_if table Nat 1 (not (is_empty (internal_list i))) (inside ∷ [])
+      (λ some. one_on table Nat 1 inside (to_list i c i.internal some)))
+      (on_if table Nat 1 i.lists.has_any (external ++ balancer) (λ any.
+      test_append passes external balancer
+      (all_map passes (rule_at i (target.Jump (port_chain setting i Ext))) i.external
+      (λ a d. to_kind i c Ext (external_needs i any a d) 1 refl))
+      (all_map passes
+      (rule_at i (target.Jump (port_chain setting i (balancer_chain i.ranges)))) i.balancer
+      (λ a d. to_kind i c (balancer_chain i.ranges) (balancer_needs i any a d) 1
+      (balancer_above i i.ranges)))))
+
+  node_port_block_on : (i : PortInfo) → Contains infos i
+      → GoOn table Nat 2 (node_port_block setting i)
+  node_port_block_on i c =
+      let t : Target = target.Jump (port_chain setting i Ext) in
+      on_if table Nat 2 i.lists.has_any (node_port_rules i t i.node_port) (λ any.
+      node_port_on table Nat 2 i t i.node_port
+      (λ port. to_kind i c Ext (node_port_needs i any port) 2 refl))
 
   module _ (finds : FindsNat setting infos (look_up setting infos)) where
     services_ranked : GoOn table Nat 1 (flat_map (service_block setting) infos
@@ -251,8 +345,7 @@ module _ (setting : Setting) (infos : List PortInfo) (prefixed : IsPrefixed sett
 
     node_ports_ranked : GoOn table Nat 2 (flat_map (node_port_block setting) infos)
     node_ports_ranked = all_flat_map (λ r. goes_on table Nat 2 r.target)
-        (node_port_block setting) infos (λ i c. subst (GoOn table Nat 2)
-        (sym (no_node_ports setting i (plain i c))) refl)
+        (node_port_block setting) infos node_port_block_on
 
     to_services : GoOn table Nat 0 (jump_to kube_services ∷ [])
     to_services = one_on table Nat 0 (jump_to kube_services)
@@ -375,10 +468,15 @@ module _ (setting : Setting) (infos : List PortInfo) (prefixed : IsPrefixed sett
       refl))
 
 pub full_table_ranked_by : FullTableRanked
-full_table_ranked_by setting infos prefixed plain = record {
-  ranked = table_ranked setting infos prefixed plain;
-  built_in = built_in setting infos prefixed plain;
+full_table_ranked_by setting infos prefixed any = record {
+  ranked = table_ranked setting infos prefixed any;
+  built_in = built_in setting infos prefixed any;
 }
+
+pub full_table_ranked_objects_by : FullTableRankedObjects
+full_table_ranked_objects_by setting o prefixed =
+    full_table_ranked_by setting (port_infos setting.family setting.config o) prefixed
+    (λ i c. (known_ports_by setting.family setting.config o i c).any)
 
 pub stand_in_prefixed_by : StandInPrefixed
 stand_in_prefixed_by = record {

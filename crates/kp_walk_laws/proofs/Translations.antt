@@ -3,25 +3,15 @@ use Rattle.std.proofs.Common.{◌≡◌, ℕ, suc, zero, ◌<◌, Bool, true, fa
 use Rattle.kp_base.specs.Net.{AddressParts}
 use Rattle.kp_base.specs.declared.key.Endpoint.{Endpoint}
 use Rattle.kp_base.specs.declared.key.PortKey.{PortKey}
-use Rattle.kp_types.specs.Setting.{FamilyConfig, Pick, Setting}
+use Rattle.kp_types.specs.Setting.{Pick, Setting}
 use Rattle.kp_types.specs.declared.packet.Packet.{Packet}
-use Rattle.kp_types.specs.declared.walk.Ending.TheVariants as ending
 use Rattle.kp_choice_defs.specs.Draws.{draw_at, draw_matches, probability_of, selected_index}
 use Rattle.kp_choice_defs.specs.Recent.{RecentParts}
 use Rattle.kp_choice_defs.specs.Settings.{pick_by_draws}
 use Rattle.kp_object_defs.specs.Desired.{is_empty}
 use Rattle.kp_door_defs.specs.Choice.{Chosen, chosen_endpoint, drawn_as, drawn_at, drawn, found_or, live_endpoint, recent_name, remembered}
-use Rattle.kp_door_defs.specs.Decision.{Translation, translation_at, choice_at}
+use Rattle.kp_door_defs.specs.Decision.{translation_at, choice_at}
 use Rattle.kp_door_defs.specs.Doors.{Door, offer_of}
-use Rattle.kp_door_defs.specs.Marks.{is_marked}
-use Rattle.kp_table_defs.specs.Layout.{port_chain, endpoint_chain, chain_of_policy}
-use Rattle.kp_table_defs.specs.Matching.{WalkState, Surroundings}
-use Rattle.kp_table_defs.specs.Walk.{Outcome}
-use Rattle.kp_table_defs.specs.Walk.Outcome.{Ended, Stuck}
-use Rattle.kp_walk_laws.proofs.Matches.{packet_of}
-use Rattle.kp_walk_laws.proofs.Outcomes.{IsLast, ended_last, stuck_last}
-use Rattle.kp_walk_laws.proofs.EndpointChains.{marked_if}
-use Rattle.kp_walk_laws.proofs.ChoiceRules.{used_after}
 
 below_if : (b : Bool) (x n : ℕ) → x < n → (if b then 0 else suc x) < suc n
 below_if true x n h = omega arith
@@ -91,38 +81,3 @@ module _ (setting : Setting) (by_draws : setting.pick ≡ pick_by_draws) where
       some_of_map _ (choice_at setting packet draws lists d)
       ∙ chosen_some d.info.key d.info.affinity packet.source packet.now draws
       (offer_of setting.config packet d).endpoints lists h
-
--- the state of a packet that was translated
-abbrev pub translated_state : FamilyConfig → Surroundings → WalkState → Translation → WalkState
-translated_state config e s t =
-    marked_if (is_marked config t.door.kind t.door.info s.source t.chosen.endpoint)
-    (record s {
-      used = used_after e.draws s.used (length t.offer.endpoints);
-      lists =
-          t.chosen.lists;
-    })
-
--- the end of the first hook by a translation, and what comes where there is none
-abbrev pub translating : Outcome → Setting → Surroundings → WalkState → Option Translation → Outcome
-translating otherwise setting e s None = otherwise
-translating otherwise setting e s (Some t) =
-    Ended (ending.Dnat t.chosen.endpoint)
-    (port_chain setting t.door.info (chain_of_policy t.door.info.internal)
-    ∷ endpoint_chain setting t.door.info t.chosen.endpoint ∷ [])
-    (translated_state setting.config e s t)
-
--- what a door does that takes a packet
-abbrev pub taken_by : Setting → Surroundings → WalkState → Door → Outcome
-taken_by setting e s d =
-    translating Stuck setting e s (translation_at setting (packet_of e s) e.draws s.lists d)
-
-translating_last : (setting : Setting) (e : Surroundings) (s : WalkState) (t : Option Translation)
-    → IsLast (translating Stuck setting e s t)
-translating_last setting e s None = stuck_last
-translating_last setting e s (Some t) = ended_last _ _ _
-
--- nothing is tried behind a door that takes a packet
-pub taken_last : (setting : Setting) (e : Surroundings) (s : WalkState) (d : Door)
-    → IsLast (taken_by setting e s d)
-taken_last setting e s d =
-    translating_last setting e s (translation_at setting (packet_of e s) e.draws s.lists d)

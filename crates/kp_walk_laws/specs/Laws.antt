@@ -1,27 +1,25 @@
--- The laws of the walk over the full table. For now they speak of Service ports that answer at
--- their cluster address alone.
-use Rattle.std.specs.Prelude.{◌≡◌, ℕ, ◌^◌, ◌<◌, ◌≤◌, true, List, [], ◌++◌, codes, length, None}
+-- The laws of the walk over the full table.
+use Rattle.std.specs.Prelude.{◌≡◌, ℕ, ◌^◌, ◌<◌, ◌≤◌, true, false, not, List, [], ◌++◌, codes, length, None}
 use Rattle.std.specs.List.{Contains}
-use Rattle.std.specs.FinMap.{get, values}
+use Rattle.std.specs.FinMap.{get}
 use Rattle.kp_base.specs.declared.key.PortKey.{PortKey}
 use Rattle.kp_base.specs.declared.key.Endpoint.{Endpoint}
 use Rattle.kp_base.specs.declared.address.Family.{Family}
 use Rattle.kp_base.specs.declared.address.Family.TheVariants.{V4}
 use Rattle.kp_base.specs.declared.config.Config.{Config}
 use Rattle.kp_types.specs.Chains.{is_chain_name}
-use Rattle.kp_types.specs.Setting.{FamilyConfig, Naming, Setting, config_for}
+use Rattle.kp_types.specs.Setting.{FamilyConfig, Naming, Setting}
 use Rattle.kp_types.specs.declared.chain.ChainKey.{ChainKey}
 use Rattle.kp_types.specs.declared.chain.ChainKey.TheVariants as key
 use Rattle.kp_types.specs.declared.chain.TableName.{TableName}
 use Rattle.kp_types.specs.declared.chain.PortChain.{PortChain}
 use Rattle.kp_types.specs.declared.packet.Packet.{Packet}
-use Rattle.kp_types.specs.declared.service.Service.{Service}
-use Rattle.kp_types.specs.declared.service.ServiceKind.TheVariants.{ClusterIp}
 use Rattle.kp_choice_defs.specs.Names.{chain_name, first_clash, port_chain_prefix}
 use Rattle.kp_choice_defs.specs.Recent.{RecentParts}
 use Rattle.kp_choice_defs.specs.Settings.{pick_by_draws, setting_of}
+use Rattle.kp_object_defs.specs.Desired.{is_empty}
 use Rattle.kp_object_defs.specs.Objects.{Objects}
-use Rattle.kp_object_defs.specs.PortInfo.{PortInfo, port_infos}
+use Rattle.kp_object_defs.specs.PortInfo.{PortInfo, is_accessible, port_infos}
 use Rattle.kp_door_defs.specs.Decision.{Decided, decision_from, decision_of}
 use Rattle.kp_table_defs.specs.Layout.{all_endpoints}
 use Rattle.kp_table_defs.specs.Plain.{HasNoRecent}
@@ -30,12 +28,17 @@ use Rattle.kp_table_defs.specs.StandIn.{stand_in_name}
 use Rattle.kp_table_defs.specs.Rebuild.{Chains, clash_of, full_chains, full_table, needed_keys}
 use Rattle.kp_table_defs.specs.Walk.{Walked, walk_of}
 
--- a port that answers at its cluster address alone, without session affinity
-pub record IsClusterOnly (i : PortInfo) : Type 0 where
-  pub external : i.external ≡ []
-  pub balancer : i.balancer ≡ []
-  pub node_port : i.node_port ≡ None
-  pub affinity : i.affinity ≡ None
+-- A port that may be reached from outside the cluster has endpoints in the list of the whole
+-- cluster where it has any.
+abbrev pub OffersAny : PortInfo → Type 0
+OffersAny i = is_accessible i ≡ true → i.lists.has_any ≡ not (is_empty i.lists.cluster)
+
+-- What holds of each port that is known of objects: its address is of the family, and where no
+-- endpoint is usable, it has none.
+pub record IsKnown (family : Family) (i : PortInfo) : Type 0 where
+  pub address : i.address.family ≡ family
+  pub none : i.lists.has_any ≡ false → (i.lists.cluster ≡ []) × (i.lists.local ≡ [])
+  pub any : OffersAny i
 
 -- each port of a list has a key of its own
 abbrev pub HaveOwnKeys : List PortInfo → Type 0
@@ -60,7 +63,7 @@ WalkDecides =
     (setting : Setting) (infos : List PortInfo) (packet : Packet) (draws : ℕ → ℕ)
     (lists : RecentParts)
     → setting.pick ≡ pick_by_draws → IsPrefixed setting.name_of → HaveOwnKeys infos
-    → ((i : PortInfo) → Contains infos i → IsClusterOnly i)
+    → ((i : PortInfo) → Contains infos i → IsKnown setting.family i)
     → first_clash setting.name_of (needed_keys infos) ≡ None
     → Agree
     (walk_of (λ q. get (full_chains setting infos) q) setting.config.addresses packet draws lists)
@@ -72,12 +75,17 @@ PortKeysOnce =
     (family : Family) (config : FamilyConfig) (o : Objects)
     → HaveOwnKeys (port_infos family config o)
 
+-- What is known of them is so.
+abbrev pub KnownPorts : Type 0
+KnownPorts =
+    (family : Family) (config : FamilyConfig) (o : Objects) (i : PortInfo)
+    → Contains (port_infos family config o) i → IsKnown family i
+
 -- So over objects a clash is all that can be in the way.
 abbrev pub WalkDecidesObjects : Type 0
 WalkDecidesObjects =
     (setting : Setting) (o : Objects) (packet : Packet) (draws : ℕ → ℕ) (lists : RecentParts)
     → setting.pick ≡ pick_by_draws → IsPrefixed setting.name_of
-    → ((i : PortInfo) → Contains (port_infos setting.family setting.config o) i → IsClusterOnly i)
     → clash_of setting o ≡ None
     → Agree
     (walk_of (λ q. get (full_table setting o).chains q) setting.config.addresses packet draws lists)
@@ -88,8 +96,6 @@ abbrev pub ProductDecides : Type 0
 ProductDecides =
     (family : Family) (config : Config) (o : Objects) (packet : Packet) (draws : ℕ → ℕ)
     (lists : RecentParts)
-    → ((i : PortInfo)
-    → Contains (port_infos family (config_for family config) o) i → IsClusterOnly i)
     → clash_of (setting_of family config) o ≡ None
     → Agree
     (walk_of (λ q. get (full_table (setting_of family config) o).chains q) config.addresses packet
@@ -120,19 +126,6 @@ FullTablePlain =
     → ((i : PortInfo) → Contains infos i → i.affinity ≡ None)
     → HasNoRecent (λ q. get (full_chains setting infos) q)
 
--- a Service of type ClusterIP with no external address or session affinity
-pub record IsPlainService (s : Service) : Type 0 where
-  pub kind : s.kind ≡ ClusterIp
-  pub external : s.external ≡ []
-  pub affinity : s.affinity ≡ None
-
--- The ports of such Services answer at their cluster addresses alone.
-abbrev pub PlainPorts : Type 0
-PlainPorts =
-    (family : Family) (config : FamilyConfig) (o : Objects)
-    → ((s : Service) → Contains (values o.services) s → IsPlainService s)
-    → (i : PortInfo) → Contains (port_infos family config o) i → IsClusterOnly i
-
 -- The stand-in names begin so.
 abbrev pub StandInPrefixed : Type 0
 StandInPrefixed = IsPrefixed stand_in_name
@@ -151,4 +144,10 @@ pub record IsSound (chains : Chains) : Type 0 where
 abbrev pub FullTableRanked : Type 0
 FullTableRanked =
     (setting : Setting) (infos : List PortInfo) → IsPrefixed setting.name_of
-    → ((i : PortInfo) → Contains infos i → IsClusterOnly i) → IsSound (full_chains setting infos)
+    → ((i : PortInfo) → Contains infos i → OffersAny i) → IsSound (full_chains setting infos)
+
+-- Over objects nothing else is asked.
+abbrev pub FullTableRankedObjects : Type 0
+FullTableRankedObjects =
+    (setting : Setting) (o : Objects) → IsPrefixed setting.name_of
+    → IsSound (full_table setting o).chains

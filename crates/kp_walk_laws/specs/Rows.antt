@@ -1,10 +1,10 @@
 -- Worked examples of walks: on a node with the address 10.0.0.9, in a cluster whose pods have
 -- addresses in 10.244.0.0/16, a Service has the cluster address 10.0.0.1 and the port 80 of TCP,
 -- and its endpoints are pods.
-use Rattle.std.specs.Prelude.{◌≡◌, ℕ, ◌+◌, ◌*◌, ◌^◌, true, false, List, [], ◌∷◌, not, codes, Some, None, is_some}
+use Rattle.std.specs.Prelude.{◌≡◌, ℕ, ◌+◌, ◌*◌, ◌^◌, true, false, List, [], ◌∷◌, not, codes, Option, Some, None, is_some}
 use Rattle.std.specs.FinMap as map
 use Rattle.std.proofs.Common.{lit≤}
-use Rattle.kp_base.specs.Net.{AddressParts, v4_address}
+use Rattle.kp_base.specs.Net.{AddressParts, RangeParts, v4_address}
 use Rattle.kp_base.specs.declared.address.Family.TheVariants.{V4}
 use Rattle.kp_base.specs.declared.port.Proto.{Proto}
 use Rattle.kp_base.specs.declared.port.Proto.TheVariants.{Tcp, Udp}
@@ -13,10 +13,10 @@ use Rattle.kp_base.specs.declared.config.Config.{Config}
 use Rattle.kp_types.specs.Places.{chain_cmp}
 use Rattle.kp_types.specs.Setting.{Setting}
 use Rattle.kp_types.specs.declared.packet.Packet.{Packet}
-use Rattle.kp_types.specs.declared.packet.Origin.TheVariants.{Wire}
-use Rattle.kp_types.specs.declared.service.Policy.TheVariants.{Cluster}
+use Rattle.kp_types.specs.declared.packet.Origin.TheVariants.{Wire, Node}
+use Rattle.kp_types.specs.declared.service.Policy.TheVariants.{Cluster, Local}
 use Rattle.kp_types.specs.declared.verdict.Verdict.{Verdict}
-use Rattle.kp_types.specs.declared.verdict.Verdict.TheVariants.{To, Rejected, LeftAlone}
+use Rattle.kp_types.specs.declared.verdict.Verdict.TheVariants.{To, Rejected, Dropped, LeftAlone}
 use Rattle.kp_choice_defs.specs.Draws.{draw_of_list}
 use Rattle.kp_choice_defs.specs.Names.{first_clash}
 use Rattle.kp_choice_defs.specs.Recent.{RecentParts}
@@ -193,3 +193,69 @@ TwoClashed =
     is_some (first_clash prefixes.name_of
     (needed_keys
     (port_with (endpoint_at 1 ∷ []) ∷ port_of (codes "api") 2 (endpoint_at 2 ∷ []) ∷ []))) ≡ true
+
+-- ---- Every kind of door
+
+-- the addresses 192.0.2.0 to 192.0.2.255
+abbrev pub clients : RangeParts
+clients = record { base = v4_address (192 * 2 ^ 24 + 2 * 2 ^ 8); bits = 24 }
+
+-- the address 192.0.2.n
+abbrev pub client : ℕ → AddressParts
+client n = v4_address (192 * 2 ^ 24 + 2 * 2 ^ 8 + n)
+
+-- A Service at 10.0.0.1, at 10.0.0.7 outside, at the load balancer 10.0.0.8 for these clients, and
+-- at the port 30080 of the nodes, of whose three endpoints the first is on this node. What comes
+-- from outside goes to that one alone.
+abbrev pub every_door : Option ℕ → PortInfo
+every_door affinity = record (port_of (codes "web") 1 three) {
+  external = host 7 ∷ [];
+  balancer = host 8 ∷ [];
+  node_port = Some 30080;
+  ranges = Some (clients ∷ []);
+  affinity = affinity;
+  outer = Local;
+  lists = record { cluster = three; local = endpoint_at 1 ∷ []; has_any = true };
+}
+
+-- the verdict on a packet to its doors, without session affinity
+abbrev pub verdict_at : Packet → List ℕ → Verdict
+verdict_at packet draws =
+    verdict_in (stand_in_setting V4 config) (every_door None ∷ []) packet draws
+
+-- a client's packet to the outer address goes to this node's endpoint, and keeps its source
+abbrev pub ClientOutside : Type 0
+ClientOutside = verdict_at (packet_to 7 (client 5) Tcp) [] ≡ To (endpoint_at 1) false
+
+-- a pod's goes to any endpoint
+abbrev pub PodOutside : Type 0
+PodOutside =
+    verdict_at (packet_to 7 (pod 5) Tcp) (715827883 ∷ 0 ∷ []) ≡ To (endpoint_at 2) false
+
+-- the node's own does too, and is masqueraded
+abbrev pub NodeOutside : Type 0
+NodeOutside =
+    verdict_at (record (packet_to 7 (host 9) Tcp) { from = Node }) (715827883 ∷ 0 ∷ [])
+    ≡ To (endpoint_at 2) true
+
+-- the load balancer admits a client of its range
+abbrev pub ClientAdmitted : Type 0
+ClientAdmitted = verdict_at (packet_to 8 (client 255) Tcp) [] ≡ To (endpoint_at 1) false
+
+-- and no other one
+abbrev pub OtherDropped : Type 0
+OtherDropped = verdict_at (packet_to 8 (host 5) Tcp) [] ≡ Dropped
+
+-- the node port is open at the node's address
+abbrev pub ClientAtNode : Type 0
+ClientAtNode =
+    verdict_at (record (packet_to 9 (client 5) Tcp) { port = 30080 }) [] ≡ To (endpoint_at 1) false
+
+-- With session affinity too, the walk of each packet to it is decided as the objects do.
+abbrev pub EveryDoorDecided : Type 0
+EveryDoorDecided =
+    (affinity : Option ℕ) (packet : Packet) (draws : ℕ → ℕ) (lists : RecentParts)
+    → Agree
+    (walk_of (λ q. map.get (full_chains (stand_in_setting V4 config) (every_door affinity ∷ [])) q)
+    config.addresses packet draws lists)
+    (decision_from (stand_in_setting V4 config) (every_door affinity ∷ []) packet draws lists)

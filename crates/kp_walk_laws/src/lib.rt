@@ -3,18 +3,18 @@
 //! Each law is the contract of a function that does nothing.
 #![tactic(auto)]
 
-ghost use Rattle.kp_walk_laws.specs.Laws.{WalkDecides, WalkDecidesObjects, ProductDecides, PortKeysOnce, StandInApart, StandInNames, FullTablePlain, FullTableRanked, StandInPrefixed, HashedPrefixed, PlainPorts};
-ghost use Rattle.kp_walk_laws.specs.Rows.{OneEndpoint, FirstOfThree, SecondOfThree, ThirdOfThree, ToItself, FromOutside, NoEndpoints, OtherProtocol, TwoUnclashed, FirstOfTwo, SecondOfTwo, TwoDecided, TwoClashed};
+ghost use Rattle.kp_walk_laws.specs.Laws.{WalkDecides, WalkDecidesObjects, ProductDecides, PortKeysOnce, KnownPorts, StandInApart, StandInNames, FullTablePlain, FullTableRanked, FullTableRankedObjects, StandInPrefixed, HashedPrefixed};
+ghost use Rattle.kp_walk_laws.specs.Rows.{OneEndpoint, FirstOfThree, SecondOfThree, ThirdOfThree, ToItself, FromOutside, NoEndpoints, OtherProtocol, TwoUnclashed, FirstOfTwo, SecondOfTwo, TwoDecided, TwoClashed, ClientOutside, PodOutside, NodeOutside, ClientAdmitted, OtherDropped, ClientAtNode, EveryDoorDecided};
 
-/// Walking the full table of Service ports that answer at their cluster address alone gives each
-/// packet the verdict that the objects give it, and leaves the recent lists that they leave, where
-/// no two chains that are needed have one name.
+/// Walking the full table of any Service ports, with every kind of door, with session affinity or
+/// without it, gives each packet the verdict that the objects give it, and leaves the recent lists
+/// that they leave, where no two chains that are needed have one name.
 #[tactic(auto, using(crate::proofs::Theorem::walk_decides_by))]
 pub fn walk_decides()
     ensures { WalkDecides }
 {}
 
-/// So it does over objects, whose ports have keys of their own.
+/// So it does over objects, whose ports are such as the law asks for.
 pub fn walk_decides_objects()
     ensures { WalkDecidesObjects }
 {}
@@ -27,6 +27,11 @@ pub fn product_decides()
 /// The ports of some objects have keys of their own.
 pub fn port_keys_once()
     ensures { PortKeysOnce }
+{}
+
+/// What is known of them is such as the law of walking asks for.
+pub fn known_ports()
+    ensures { KnownPorts }
 {}
 
 /// The names that stand in for those of hashes give the chains of one port no clash.
@@ -52,6 +57,11 @@ pub fn full_table_ranked()
     ensures { FullTableRanked }
 {}
 
+/// And so has that of any objects.
+pub fn full_table_ranked_objects()
+    ensures { FullTableRankedObjects }
+{}
+
 /// The stand-in names begin as kube-proxy's names do.
 #[tactic(auto, using(crate::proofs::Ranked::stand_in_prefixed_by))]
 pub fn stand_in_prefixed()
@@ -61,11 +71,6 @@ pub fn stand_in_prefixed()
 /// Hashed names begin so too.
 pub fn hashed_prefixed()
     ensures { HashedPrefixed }
-{}
-
-/// The ports of plain Services of type ClusterIP answer at their cluster addresses alone.
-pub fn plain_ports()
-    ensures { PlainPorts }
 {}
 
 /// Walks of a few packets, worked out.
@@ -81,11 +86,23 @@ pub fn worked_walks()
 {}
 
 /// Walks over two Services, one of them without endpoints, whose chains have prefixes for names.
-#[tactic(auto, using(crate::proofs::TwoPorts::two_decided_by))]
+#[tactic(auto, using(crate::proofs::WorkedPorts::two_decided_by))]
 pub fn worked_prefixes()
     ensures unclashed { TwoUnclashed }
     ensures first { FirstOfTwo }
     ensures second { SecondOfTwo }
     ensures decided { TwoDecided }
     ensures clashed { TwoClashed }
+{}
+
+/// Walks to a Service with every kind of door.
+#[tactic(auto, using(crate::proofs::WorkedPorts::every_door_by))]
+pub fn worked_doors()
+    ensures client { ClientOutside }
+    ensures pod { PodOutside }
+    ensures node { NodeOutside }
+    ensures admitted { ClientAdmitted }
+    ensures other { OtherDropped }
+    ensures node_port { ClientAtNode }
+    ensures decided { EveryDoorDecided }
 {}

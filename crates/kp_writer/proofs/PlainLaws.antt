@@ -1,5 +1,5 @@
--- The port of the plain objects answers at its cluster address alone, its chains don't clash, and no rule of
--- the table asks a recent list.
+-- The port of the plain objects has no session affinity, its chains don't clash, and no rule of the table asks
+-- a recent list.
 use Rattle.std.proofs.Common.{◌≡◌, inl, inr, ℕ, ◌<◌, ◌≤◌, lit≤, length, ap, ◌∙◌, ◌^◌, Bool, true, false, cond, bytes_eq, List, [], ◌∷◌, map, Contains, Option, Some, None, option_map, filter_map, refl, sym, subst}
 use Rattle.std.specs.Prelude.{Result, Ok, Err, IfOk}
 use Rattle.std.specs.List.{cons_option, AllByRecursion}
@@ -24,9 +24,9 @@ use Rattle.kp_table_defs.specs.StandIn.{stand_in_name, stand_in_setting}
 use Rattle.kp_text_defs.specs.declared.line.PlainService.{PlainService}
 use Rattle.kp_text_defs.specs.declared.line.PlainEndpoint.{PlainEndpoint}
 use Rattle.kp_text_defs.specs.declared.line.PlainSlice.{PlainSlice}
-use Rattle.kp_walk_laws.specs.Laws.{FullTablePlain, IsClusterOnly, IsSmall}
+use Rattle.kp_walk_laws.specs.Laws.{FullTablePlain, IsSmall}
 use Rattle.kp_walk_laws.proofs.StandInNames.{stand_in_apart_by}
-use Rattle.kp_writer.specs.Laws.{PlainClusterOnly, PlainNoClash}
+use Rattle.kp_writer.specs.Laws.{PlainNoAffinity, PlainNoClash}
 use Rattle.kp_writer.specs.Plain.{IsSmallSlice, objects_with, endpoint_at, slice_endpoints, endpoints_of, plain_info, plain_infos}
 use Rattle.kp_writer.proofs.Distinct.{in_order_all, each_of}
 use Rattle.kp_writer.proofs.PlainPort.{plain_infos_by}
@@ -77,16 +77,17 @@ module _ (s : PlainService) (slice : Option PlainSlice) where
   port_small : IsSmallSlice slice → (f : Endpoint) → Contains (all_endpoints port) f → IsSmall f
   port_small small f c = each_small (slice_endpoints s slice) (slice_small s slice small) f (subst (λ es. Contains es f) (append-nil (endpoints_of s slice)) c)
 
-port_cluster_only : (s : PlainService) (es : List Endpoint) → IsClusterOnly (plain_info s es)
-port_cluster_only s es = record { external = refl; balancer = refl; node_port = refl; affinity = refl }
+known_no_affinity : (service : Option PlainService) (slice : Option PlainSlice) (i : PortInfo)
+    → Contains (plain_infos service slice) i → i.affinity ≡ None
+known_no_affinity None slice i c = absurd (none_in i c)
+known_no_affinity (Some s) slice i c =
+    each_port s slice (λ j. j.affinity ≡ None) refl (same_family s.address.family V4) i c
 
-known_cluster_only : (service : Option PlainService) (slice : Option PlainSlice) (i : PortInfo) → Contains (plain_infos service slice) i → IsClusterOnly i
-known_cluster_only None slice i c = absurd (none_in i c)
-known_cluster_only (Some s) slice i c = each_port s slice IsClusterOnly (port_cluster_only s (endpoints_of s slice)) (same_family s.address.family V4) i c
-
--- the port answers at its cluster address alone
-pub plain_cluster_only_by : PlainClusterOnly
-plain_cluster_only_by config service slice i c = known_cluster_only service slice i (subst (λ is. Contains is i) (plain_infos_by config service slice) c)
+-- the port has no session affinity
+pub plain_no_affinity_by : PlainNoAffinity
+plain_no_affinity_by config service slice i c =
+    known_no_affinity service slice i
+    (subst (λ is. Contains is i) (plain_infos_by config service slice) c)
 
 known_no_clash : (service : Option PlainService) (slice : Option PlainSlice) → IsSmallSlice slice → first_clash stand_in_name (needed_keys (plain_infos service slice)) ≡ None
 known_no_clash None slice small = stand_in_apart_by [] (lit≤ tt) (λ i f c. absurd (none_in i c))
@@ -102,21 +103,21 @@ plain_no_clash_by config service slice small =
     ∙ known_no_clash service slice small
 
 -- no rule of the plain objects' table asks a recent list
-pub table_plain : FullTablePlain → PlainClusterOnly → (config : Config)
+pub table_plain : FullTablePlain → PlainNoAffinity → (config : Config)
     (service : Option PlainService) (slice : Option PlainSlice) (t : TableParts)
     → t ≡ full_table (stand_in_setting V4 config) (objects_with service slice)
     → HasNoRecent (get t.chains)
-table_plain plain only config service slice t full =
+table_plain plain none config service slice t full =
     let setting = stand_in_setting V4 config in
     subst (λ t. HasNoRecent (get t.chains)) (sym full)
     (plain setting (port_infos V4 setting.config (objects_with service slice))
-    (λ i has. (only setting.config service slice i has).affinity))
+    (none setting.config service slice))
 
-pub plain_ok : FullTablePlain → PlainClusterOnly → (config : Config)
+pub plain_ok : FullTablePlain → PlainNoAffinity → (config : Config)
     (service : Option PlainService) (slice : Option PlainSlice) {E : Type 0}
     (result : Result TableParts E)
     → IfOk result (λ t. t ≡ full_table (stand_in_setting V4 config) (objects_with service slice))
     → IfOk result (λ t. HasNoRecent (get t.chains))
-plain_ok plain only config service slice (Ok t) full =
-    table_plain plain only config service slice t full
-plain_ok plain only config service slice (Err e) full = tt
+plain_ok plain none config service slice (Ok t) full =
+    table_plain plain none config service slice t full
+plain_ok plain none config service slice (Err e) full = tt

@@ -9,7 +9,6 @@ use Rattle.kp_table_defs.specs.Rebuild.{clash_of}
 use Rattle.kp_table_defs.specs.StandIn.{stand_in_setting}
 use Rattle.kp_text_defs.specs.declared.line.PlainService.{PlainService}
 use Rattle.kp_text_defs.specs.declared.line.PlainSlice.{PlainSlice}
-use Rattle.kp_walk_laws.specs.Laws.{IsClusterOnly}
 use Rattle.kp_writer.specs.Plain.{IsSmallSlice, objects_with, plain_infos}
 
 -- What is known of ports by the plain objects is what the general definition says.
@@ -18,12 +17,12 @@ PlainInfos =
     (config : FamilyConfig) (service : Option PlainService) (slice : Option PlainSlice)
     → port_infos V4 config (objects_with service slice) ≡ plain_infos service slice
 
--- The port answers at its cluster address alone.
-abbrev pub PlainClusterOnly : Type 0
-PlainClusterOnly =
+-- The port has no session affinity.
+abbrev pub PlainNoAffinity : Type 0
+PlainNoAffinity =
     (config : FamilyConfig) (service : Option PlainService) (slice : Option PlainSlice)
     (i : PortInfo) → Contains (port_infos V4 config (objects_with service slice)) i
-    → IsClusterOnly i
+    → i.affinity ≡ None
 
 -- Its chains don't clash under the stand-in names, where the slice has the numbers that addresses
 -- and ports may have.

@@ -1,0 +1,109 @@
+-- The ports of some objects have keys of their own, and what is known of them hangs together.
+use Rattle.std.proofs.Common.{◌≡◌, inl, inr, Bool, true, false, not, cond, ℕ, List, [], ◌∷◌, map, Contains, Option, Some, None, option_map, filter_map, refl, sym, ap, subst, ◌∙◌, T}
+use Rattle.std.proofs.lemmas.Bool.{or_right}
+use Rattle.std.specs.FinMap.{values}
+use Rattle.std.specs.List.{cons_option}
+use Rattle.std.proofs.Math.Bool.{not-not}
+use Rattle.std.proofs.lemmas.Option.{same_Some}
+use Rattle.kp_lemmas.proofs.Members.{first_in, later_in, none_in, in_cases, in_map}
+use Rattle.kp_base.specs.Net.{AddressParts, same_family}
+use Rattle.kp_base.specs.declared.address.Family.{Family}
+use Rattle.kp_base.specs.declared.key.PortKey.{PortKey}
+use Rattle.kp_base.proofs.KeyOrder.{port_key_total}
+use Rattle.kp_base.proofs.SameParts.{same_family_exact}
+use Rattle.kp_types.specs.declared.info.ServiceSources.{ServiceSources}
+use Rattle.kp_types.specs.declared.lists.Candidate.{Candidate}
+use Rattle.kp_types.specs.declared.service.ClusterAddress.{ClusterAddress}
+use Rattle.kp_types.specs.declared.service.ClusterAddress.TheVariants.{Absent, Headless, At}
+use Rattle.kp_types.specs.declared.service.Service.{Service}
+use Rattle.kp_types.specs.declared.service.ServicePort.{ServicePort}
+use Rattle.kp_object_defs.specs.Desired.{is_external_name}
+use Rattle.kp_object_defs.specs.Entries.{sources_of, entries_from}
+use Rattle.kp_object_defs.specs.Lists.{is_local_policy, has_any_endpoint}
+use Rattle.kp_object_defs.specs.Objects.{zone_of}
+use Rattle.kp_object_defs.specs.PortInfo.{PortInfo, port_infos, address_at, cluster_address_in, is_reachable_in, port_key_of, info_from, info_of, service_ports}
+use Rattle.kp_object_laws.proofs.Lists.{none_usable, cluster_empty}
+use Rattle.kp_table_laws.proofs.PortOrder.{ports_are_in_order}
+use Rattle.kp_walk_laws.specs.Laws.{IsKnown, KnownPorts, PortKeysOnce}
+use Rattle.kp_walk_laws.proofs.Entries.{one_sorted}
+
+from_filter_by : {A B : Type 0} (h : A → Option B) (y : B) (x : A) (xs : List A) (more : List B)
+    → (Contains more y → (w : A) × Contains xs w × (h w ≡ Some y)) → (o : Option B) → h x ≡ o
+    → Contains (cons_option o more) y → (w : A) × Contains (x ∷ xs) w × (h w ≡ Some y)
+from_filter_by h y x xs more later None e c = let (w, d, same) =
+    later c in (w, later_in w x xs d, same)
+from_filter_by h y x xs more later (Some z) e c =
+    elim (in_cases y z more c) [
+      | inl d ↦ (x, first_in x xs, e ∙ ap (λ v. Some v) d)
+      | inr d ↦ let (w, k, same) = later d in (w, later_in w x xs k, same)
+    ]
+
+-- what a filter with a function leaves comes of an element
+from_filter_map : {A B : Type 0} (h : A → Option B) (y : B) (xs : List A)
+    → Contains (filter_map h xs) y → (x : A) × Contains xs x × (h x ≡ Some y)
+from_filter_map h y [] c = absurd (none_in y c)
+from_filter_map h y (x ∷ xs) c =
+    from_filter_by h y x xs (filter_map h xs) (from_filter_map h y xs) (h x) refl c
+
+from_option_map : {A B : Type 0} (f : A → B) (o : Option A) (y : B) → option_map f o ≡ Some y
+    → (x : A) × (o ≡ Some x) × (f x ≡ y)
+from_option_map f None y h = absurd (cc)
+from_option_map f (Some x) y h = (x, refl, same_Some (f x) y h)
+
+-- an address of a family is of it
+in_family_by : (family : Family) (a b : AddressParts) (same : Bool)
+    → same_family a.family family ≡ same → cond same (Some a) None ≡ Some b → b.family ≡ family
+in_family_by family a b true is h =
+    ap (λ (c : AddressParts). c.family) (sym (same_Some a b h))
+    ∙ same_family_exact a.family family is
+in_family_by family a b false is h = absurd (cc)
+
+at_family : (family : Family) (field : ClusterAddress) (b : AddressParts)
+    → address_at family field ≡ Some b → b.family ≡ family
+at_family family Absent b h = absurd (cc)
+at_family family Headless b h = absurd (cc)
+at_family family (At a) b h = in_family_by family a b (same_family a.family family) refl h
+
+unless_name : (family : Family) (field : ClusterAddress) (b : AddressParts) (name : Bool)
+    → cond name None (address_at family field) ≡ Some b → b.family ≡ family
+unless_name family field b true h = absurd (cc)
+unless_name family field b false h = at_family family field b h
+
+-- a cluster address in a family is of it
+cluster_family : (family : Family) (s : Service) (b : AddressParts)
+    → cluster_address_in family s ≡ Some b → b.family ≡ family
+cluster_family family s b h = unless_name family s.cluster b (is_external_name s.kind) h
+
+-- what is known of a port
+known_from : (family : Family) (s : Service) (p : ServicePort) (zone : Option (List ℕ))
+    (entries : List Candidate) (address : AddressParts)
+    → cluster_address_in family s ≡ Some address
+    → IsKnown family (info_from family s p zone entries address)
+known_from family s p zone entries address h = record {
+  address = cluster_family family s address h;
+  none = none_usable s.internal s.outer (is_reachable_in family s p) zone entries;
+  any = λ reachable. sym (not-not (has_any_endpoint entries))
+      ∙ ap not (sym (cluster_empty s.internal s.outer (is_reachable_in family s p) zone entries
+      (or_right (not (is_local_policy s.internal)) (is_reachable_in family s p) reachable)));
+}
+
+pub known_ports_by : KnownPorts
+known_ports_by family config o i c =
+    let zone : Option (List ℕ) = zone_of o config.node in
+    let services : List ServiceSources = map (sources_of family config o) (values o.services) in
+    let (sp, in_ports, made) =
+    from_filter_map (info_of family config.node zone) i (service_ports services) c in
+    let entries : List Candidate =
+    entries_from family config.node sp.0 (port_key_of sp.0.service sp.1) in
+    let (address, found, is) = from_option_map (info_from family sp.0.service sp.1 zone entries)
+    (cluster_address_in family sp.0.service) i made in
+    subst (IsKnown family) is (known_from family sp.0.service sp.1 zone entries address found)
+
+pub port_keys_once_by : PortKeysOnce
+port_keys_once_by family config o i j ci cj same =
+    let infos : List PortInfo = port_infos family config o in
+    let named : PortInfo → PortKey × PortInfo = λ k. (k.key, k) in
+    ap (λ (e : PortKey × PortInfo). e.1)
+    (one_sorted port_key_total (map named infos)
+    (subst T (sym (ports_are_in_order family config o)) tt)
+    (named i) (named j) (in_map named i infos ci) (in_map named j infos cj) same)
