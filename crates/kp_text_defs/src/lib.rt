@@ -8,6 +8,7 @@ mod line_refusal;
 mod packet;
 mod refusal;
 mod script;
+mod stream;
 
 pub use draws::Draws;
 pub use line::{FirstLine, PacketForm, PlainEndpoint, PlainService, PlainSlice};
@@ -15,3 +16,4 @@ pub use line_refusal::LineRefusal;
 pub use packet::PacketLine;
 pub use refusal::Refusal;
 pub use script::{Op, ScriptLine, Shown};
+pub use stream::Stream;
