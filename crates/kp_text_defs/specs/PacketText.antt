@@ -1,6 +1,6 @@
 -- Packets of lines (this project's choice): the first packet of a connection, as the rules see it, and the draws of its
 -- statistic tests.
-use Rattle.std.specs.Prelude.{get_or, ℕ, ◌<◌, ◌^◌, false, List, [], ◌∷◌, map, codes, Option, Some, None, option_and_then, unwrap_or, Result}
+use Rattle.std.specs.Prelude.{get_or, ℕ, ◌<◌, ◌^◌, false, List, [], ◌∷◌, map, codes, Option, Some, None, option_map, option_and_then, unwrap_or, Result}
 use Rattle.std.proofs.Common.{lit<, lit≤, lt_of_le_of_lt}
 use Rattle.std.proofs.lemmas.List.Elements.{All-map, All-nil}
 use Rattle.kp_base.specs.Net.{AddressParts, v4_address}
@@ -61,22 +61,30 @@ packet_from p = record {
 abbrev pub draw_from : Place → ℕ
 draw_from p = between 0 2147483647 (unwrap_or (whole_of p) 0)
 
+-- the draws of a list
+abbrev pub draw_list : Place → List ℕ
+draw_list p = map draw_from (elements_of p)
+
+-- the draws that a packet lists, if it lists any
+abbrev pub listed_in : Place → Option (List ℕ)
+listed_in p = option_map draw_list (member_at p (codes "draws"))
+
 -- a list of draws goes before a seed, and without both there are none
-abbrev pub draws_of : Option Place → Option ℕ → Draws
-draws_of (Some list) seed = draws.List (map draw_from (elements_of list))
+abbrev pub draws_of : Option (List ℕ) → Option ℕ → Draws
+draws_of (Some list) seed = draws.List list
 draws_of None (Some seed) = draws.Seed seed
 draws_of None None = draws.List []
 
 -- the draws of a packet
 abbrev pub draws_from : Place → Draws
-draws_from p = draws_of (member_at p (codes "draws")) (whole_in (codes "seed") p)
+draws_from p = draws_of (listed_in p) (whole_in (codes "seed") p)
 
 -- a draw is low
 pub draw_is_low : (p : Place) → draw_from p < 2 ^ 31
 draw_is_low p = lt_of_le_of_lt (between_to 0 2147483647 (unwrap_or (whole_of p) 0) (lit≤ tt)) (lit< tt)
 
 -- the draws that are listed are low
-pub draws_are_low : (list : Option Place) (seed : Option ℕ) → AreLow (listed (draws_of list seed))
+pub draws_are_low : (list : Option Place) (seed : Option ℕ) → AreLow (listed (draws_of (option_map draw_list list) seed))
 draws_are_low (Some list) seed =
     All-map (λ draw. draw < 2 ^ 31) draw_from (elements_of list) (λ i default _within. draw_is_low (get_or (elements_of list) i default))
 draws_are_low None (Some seed) = All-nil _

@@ -117,10 +117,14 @@ op_of first p show = as_op op.Show (read_shown p)
 abbrev pub command_of : List ℕ → Result Command LineRefusal
 command_of name = or_refusal (UnknownOp name) (lookup (bytes_eq name) commands)
 
+-- the operation of a command by its name
+abbrev pub op_named : Bool → Place → List ℕ → Result Op LineRefusal
+op_named first p name = command_of name >>= op_of first p
+
 -- the operation of a line by its member `op`; without one it is an event text
 abbrev pub op_at : Bool → Place → Option Place → Result Op LineRefusal
 op_at first p None = of_events (read_events p)
-op_at first p (Some q) = of_members (text_at q) >>= command_of >>= op_of first p
+op_at first p (Some q) = of_members (text_at q) >>= op_named first p
 
 -- the line at a place, or why it is refused
 abbrev pub read_script : Bool → Place → Result ScriptLine LineRefusal

@@ -9,6 +9,7 @@ mod packet;
 mod refusal;
 mod script;
 mod stream;
+pub mod worked;
 
 pub use draws::Draws;
 pub use line::{FirstLine, PacketForm, PlainEndpoint, PlainService, PlainSlice};
