@@ -1,3 +1,4 @@
 pub mod Each
 pub mod Json
+pub mod ScriptJson
 pub mod Values

@@ -1,2 +1,3 @@
 pub mod Lines
+pub mod ScriptAnswers
 pub mod Views

@@ -1,3 +1,9 @@
+pub mod Bounds
+pub mod ConfigText
 pub mod FirstLines
 pub mod Forms
+pub mod ListedDraws
+pub mod PacketText
 pub mod Printed
+pub mod ScriptLines
+pub mod StreamNames

@@ -2,8 +2,19 @@
 //! types that only lines have, there are only definitions here, in `specs/`.
 #![tactic(auto)]
 
+mod draws;
 mod line;
+mod line_refusal;
+mod packet;
 mod refusal;
+mod script;
+mod stream;
+pub mod worked;
 
+pub use draws::Draws;
 pub use line::{FirstLine, PacketForm, PlainEndpoint, PlainService, PlainSlice};
+pub use line_refusal::LineRefusal;
+pub use packet::PacketLine;
 pub use refusal::Refusal;
+pub use script::{Op, ScriptLine, Shown};
+pub use stream::Stream;

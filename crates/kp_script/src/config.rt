@@ -1,0 +1,163 @@
+//! Lines that set the configuration.
+ghost use Rattle.std.specs.Prelude.{◌≡◌, ◌≤◌, codes, option_and_then, unwrap_or, IfOk};
+ghost use Rattle.std.specs.List.{filter_map};
+ghost use Rattle.kp_json.specs.Places.{elements_of};
+ghost use Rattle.kp_json.specs.Views.{place_of};
+ghost use Rattle.kp_row_defs.specs.Fields.{address_at, flag_in, items_in, range_of_text, text_in};
+ghost use Rattle.kp_row_defs.specs.Reads.{Reads};
+ghost use Rattle.kp_row_defs.specs.Rows.{each, field_fault, list_fault, name_text, optional, range_text, row_fault, rows_fault, truth_value, whole};
+ghost use Rattle.kp_text_defs.specs.ConfigText.{config_from, config_rows, node_address_rows, number_in};
+
+use kp_base::{Address, Cidr, Config, Items, Text};
+use kp_fields::{
+    TextForm, address_here, copied_text, flag_field, range_here, text_field, whole_field,
+};
+use kp_json::{FieldFault, Spot};
+use std::alloc::Global;
+
+/// The configuration.
+pub(crate) fn config_of<'a>(alloc: Global, spot: &'a Spot<'a>) -> Result<Config, FieldFault>
+    ensures { Reads (λ c. c) result (rows_fault config_rows (place_of spot.now))
+        (config_from (place_of spot.now)) }
+{
+    let node = node_field(alloc, spot)?;
+    let addresses = addresses_field(alloc, spot)?;
+    let cluster = range_field(alloc, spot, "clusterCIDR")?;
+    let masquerade_all = flag_or(alloc, spot, "masqueradeAll", false)?;
+    let controller = flag_or(alloc, spot, "controller", true)?;
+    let max_per_slice = count_field(alloc, spot, "maxEndpointsPerSlice", 100, 100)?;
+    let max_events = number_field(alloc, spot, "maxEvents", 1, 1000000, 1000000)?;
+    let recent_size = count_field(alloc, spot, "recentSize", 1000, 100)?;
+    let name_length = name_length_field(alloc, spot)?;
+    Ok(Config {
+        node,
+        addresses,
+        cluster,
+        masquerade_all,
+        controller,
+        max_per_slice,
+        max_events,
+        recent_size,
+        name_length,
+    })
+}
+
+/// The name of the node.
+fn node_field<'a>(alloc: Global, spot: &'a Spot<'a>) -> Result<Text, FieldFault>
+    ensures { Reads (λ t. t) result
+        (field_fault (codes "node") optional name_text (place_of spot.now))
+        (unwrap_or (text_in (codes "node") (place_of spot.now)) (codes "node")) }
+{
+    let name = text_field(alloc, spot, "node", TextForm::Name)?;
+    copied_text(alloc, name.unwrap_or("node"))
+}
+
+/// The addresses of the node. Those of another family are passed over.
+fn addresses_field<'a>(alloc: Global, spot: &'a Spot<'a>) -> Result<Items<Address>, FieldFault>
+    ensures { Reads (λ v. v) result
+        (row_fault (each (codes "nodeAddresses") node_address_rows) (place_of spot.now))
+        (filter_map address_at (items_in (codes "nodeAddresses") (place_of spot.now))) }
+{
+    match spot.field(alloc, "nodeAddresses")? {
+        None => Ok(Items::new(alloc)),
+        Some(list) => addresses_here(alloc, &list),
+    }
+}
+
+fn addresses_here<'a>(alloc: Global, list: &'a Spot<'a>) -> Result<Items<Address>, FieldFault>
+    ensures { Reads (λ v. v) result (list_fault (rows_fault node_address_rows) (place_of list.now))
+        (filter_map address_at (elements_of (place_of list.now))) }
+{
+    let mut addresses = Vec::new(alloc);
+    for element in list.elements(alloc)? {
+        if let Some(address) = address_here(alloc, &element)? {
+            addresses.push(address)?;
+        }
+    }
+    Ok(Items::from_vec(addresses))
+}
+
+/// The range of a member that may be absent. One of another family is passed over.
+fn range_field<'a>(
+    alloc: Global,
+    spot: &'a Spot<'a>,
+    name: &'a str,
+) -> Result<Option<Cidr>, FieldFault>
+    ensures { Reads (λ r. r) result
+        (field_fault name.now optional range_text (place_of spot.now))
+        (option_and_then range_of_text (text_in name.now (place_of spot.now))) }
+{
+    match spot.field(alloc, name)? {
+        None => Ok(None),
+        Some(member) => match member.as_text() {
+            Some(text) if text.is_empty() => Ok(None),
+            _ => range_here(alloc, &member),
+        },
+    }
+}
+
+/// A truth value, or else a default.
+pub(crate) fn flag_or<'a>(
+    alloc: Global,
+    spot: &'a Spot<'a>,
+    name: &'a str,
+    default: bool,
+) -> Result<bool, FieldFault>
+    ensures { Reads (λ b. b) result (field_fault name.now optional truth_value (place_of spot.now))
+        (unwrap_or (flag_in name.now (place_of spot.now)) default) }
+{
+    let flag = flag_field(alloc, spot, name)?;
+    Ok(flag.unwrap_or(default))
+}
+
+/// A number within bounds, or else a default.
+fn number_field<'a>(
+    alloc: Global,
+    spot: &'a Spot<'a>,
+    name: &'a str,
+    least: u64,
+    most: u64,
+    default: u64,
+) -> Result<u64, FieldFault>
+    requires from { least ≤ default }
+    requires to { default ≤ most }
+    ensures number { Reads (λ n. n) result
+        (field_fault name.now optional (whole least most) (place_of spot.now))
+        (number_in least most default name.now (place_of spot.now)) }
+    ensures bounds { IfOk result (λ n. (least ≤ n) × (n ≤ most)) }
+{
+    match whole_field(alloc, spot, name, least, most)? {
+        None => Ok(default),
+        Some(number) => Ok(number),
+    }
+}
+
+/// A number from 1 on, or else a default.
+fn count_field<'a>(
+    alloc: Global,
+    spot: &'a Spot<'a>,
+    name: &'a str,
+    most: u32,
+    default: u32,
+) -> Result<u32, FieldFault>
+    requires from { 1 ≤ default }
+    requires to { default ≤ most }
+    ensures number { Reads (λ n. n) result
+        (field_fault name.now optional (whole 1 most) (place_of spot.now))
+        (number_in 1 most default name.now (place_of spot.now)) }
+    ensures bounds { IfOk result (λ n. (1 ≤ n) × (n ≤ most)) }
+{
+    let number = number_field(alloc, spot, name, 1, most as u64, default as u64)?;
+    Ok(number as u32)
+}
+
+/// How many characters of its hash a chain's name has.
+fn name_length_field<'a>(alloc: Global, spot: &'a Spot<'a>) -> Result<u8, FieldFault>
+    ensures number { Reads (λ n. n) result
+        (field_fault (codes "nameLength") optional (whole 0 16) (place_of spot.now))
+        (number_in 0 16 16 (codes "nameLength") (place_of spot.now)) }
+    ensures bounds { IfOk result (λ n. n ≤ 16) }
+{
+    let number = number_field(alloc, spot, "nameLength", 0, 16, 16)?;
+    Ok(number as u8)
+}

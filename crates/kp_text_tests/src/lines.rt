@@ -1,0 +1,370 @@
+//! Script lines, with what each is read as.
+use kp_base::{Address, Config, PortNo, Proto, Text};
+use kp_json::{BadField, Why};
+use kp_script::{Draws, LineRefusal, Op, PacketLine, ScriptFault, ScriptLine, Shown, line_of};
+use kp_types::{Origin, Packet};
+use std::alloc::Global;
+use std::test::Fail;
+
+/// A reason in a word.
+fn why_word(why: Why) -> &'static str {
+    match why {
+        Why::Missing => "Missing",
+        Why::WrongType => "WrongType",
+        Why::OutOfRange => "OutOfRange",
+        Why::BadName => "BadName",
+        Why::BadAddress => "BadAddress",
+        Why::BadCidr => "BadCidr",
+        Why::DuplicatePort => "DuplicatePort",
+        Why::TooMany => "TooMany",
+    }
+}
+
+/// What an operation is, in a word.
+fn op_word(op: &Op) -> &'static str {
+    match op {
+        Op::Config(_) => "config",
+        Op::Events(events) if events.as_slice().is_empty() => "no events",
+        Op::Events(events) if events.as_slice().len() == 1 => "an event",
+        Op::Events(_) => "events",
+        Op::Sync => "sync",
+        Op::Packet(_) => "packet",
+        Op::Explain(_) => "explain",
+        Op::Show(Shown::Slices) => "slices",
+        Op::Show(Shown::Endpoints) => "endpoints",
+        Op::Show(Shown::Nat) => "nat",
+        Op::Show(Shown::Filter) => "filter",
+        Op::Show(Shown::Batch) => "batch",
+    }
+}
+
+/// Whether a fault is told by these words: why, and where.
+fn is_fault(bad: &BadField, wanted: &str) -> bool {
+    match wanted.split_once(" ") {
+        Some((why, path)) => why == why_word(bad.why) && path == bad.path.as_str(),
+        None => false,
+    }
+}
+
+/// Whether words are a first one and this text.
+fn is_named(first: &str, text: &Text, wanted: &str) -> bool {
+    wanted.split_once(first) == Some(("", text.as_str()))
+}
+
+/// Whether a refusal is told by these words.
+fn is_refusal(refusal: &LineRefusal, wanted: &str) -> bool {
+    match refusal {
+        LineRefusal::BadJson => wanted == "bad json",
+        LineRefusal::NotEvent => wanted == "not an event",
+        LineRefusal::UnsupportedKind { kind } => is_named("kind ", kind, wanted),
+        LineRefusal::Bad(bad) => is_fault(bad, wanted),
+        LineRefusal::UnknownOp { op } => is_named("op ", op, wanted),
+        LineRefusal::ConfigLate => wanted == "config is late",
+        _ => false,
+    }
+}
+
+/// Whether a line is told by these words: what it asks for, and its stream unless that is `main`.
+fn is_line(line: &ScriptLine, wanted: &str) -> bool {
+    match wanted.split_once(" of ") {
+        Some((op, stream)) => op == op_word(&line.op) && stream == line.by.name(),
+        None => wanted == op_word(&line.op) && line.by.name() == "main",
+    }
+}
+
+/// Whether an answer is told by these words.
+fn is_answer(answer: &Result<ScriptLine, ScriptFault>, wanted: &str) -> bool {
+    match answer {
+        Ok(line) => is_line(line, wanted),
+        Err(ScriptFault::Refused(refusal)) => is_refusal(refusal, wanted),
+        Err(ScriptFault::NoMemory) => false,
+    }
+}
+
+/// Whether the line of a row is read as it says behind the arrow.
+fn is_row_read(alloc: Global, row: &str, first: bool) -> Result<bool, Fail> {
+    let (line, wanted) = row.split_once(" => ").ok_or("an arrow")?;
+    Ok(is_answer(&line_of(alloc, line.as_bytes(), first), wanted))
+}
+
+/// The form of lines, their streams and their commands.
+const COMMANDS: &str = r#"{"op":"sync" => bad json
+[] => not an event
+"sync" => not an event
+null => not an event
+{"by":1,"op":"pull"} => WrongType by
+{"by":"","op":"sync"} => BadName by
+{"by":"A","op":"config","node":1} => BadName by
+{"by":"a1234567890123456789012345678901234567890123456789012345678901234","op":"sync"} => BadName by
+{"by":"a12345678901234567890123456789012345678901234567890123456789012","op":"sync"} => sync of a12345678901234567890123456789012345678901234567890123456789012
+{"by":null,"op":"sync"} => sync
+{"by":"main","op":"sync"} => sync
+{"by":"s-1","op":"sync"} => sync of s-1
+{"op":1} => WrongType op
+{"op":"pull","node":1} => op pull
+{"op":"Sync"} => op Sync
+{"op":""} => op 
+{"op":null} => not an event
+{"op":"sync","src":1} => sync
+{"op":"show"} => Missing what
+{"op":"show","what":null} => Missing what
+{"op":"show","what":""} => Missing what
+{"op":"show","what":1} => WrongType what
+{"op":"show","what":"table"} => OutOfRange what
+{"op":"show","what":"slices"} => slices
+{"op":"show","what":"endpoints"} => endpoints
+{"op":"show","what":"nat"} => nat
+{"op":"show","what":"filter"} => filter
+{"op":"show","what":"batch"} => batch
+{"op":"event"} => Missing event
+{"op":"event","event":[]} => not an event
+{"op":"event","event":{"kind":"Ingress"}} => kind Ingress
+{"op":"event","event":{"kind":"Pod"}} => Missing event.metadata
+{"op":"event","event":{"kind":"List","items":[{"kind":"Node","metadata":{}}]}} => Missing event.items[0].metadata.name
+{"op":"event","event":{"by":1,"op":1,"kind":"Node","metadata":{"name":"n1"}}} => an event
+{"kind":"Node","metadata":{"name":"n1"},"by":"s1"} => an event of s1
+{"kind":"Node","metadata":{}} => Missing metadata.name
+{"type":"BOOKMARK","object":{}} => no events
+{"kind":"List","items":[{"kind":"Node","metadata":{"name":"n1"}},{"kind":"Node","metadata":{"name":"n2"}}]} => events"#;
+
+/// The members of a configuration.
+const CONFIGS: &str = r#"{"op":"config"} => config
+{"op":"config","node":1,"nodeAddresses":1} => WrongType node
+{"op":"config","node":"N"} => BadName node
+{"op":"config","node":""} => config
+{"op":"config","node":"n1"} => config
+{"op":"config","nodeAddresses":"10.0.0.1"} => WrongType nodeAddresses
+{"op":"config","nodeAddresses":["10.0.0.1",null]} => WrongType nodeAddresses[1]
+{"op":"config","nodeAddresses":["10.0.0.1",""]} => BadAddress nodeAddresses[1]
+{"op":"config","nodeAddresses":["10.0.0.01"],"clusterCIDR":1} => BadAddress nodeAddresses[0]
+{"op":"config","nodeAddresses":["fd00::1"]} => config
+{"op":"config","clusterCIDR":1} => WrongType clusterCIDR
+{"op":"config","clusterCIDR":"10.244.0.0"} => BadCidr clusterCIDR
+{"op":"config","clusterCIDR":"10.244.0.0/33"} => BadCidr clusterCIDR
+{"op":"config","clusterCIDR":"10.244.0.0/32"} => config
+{"op":"config","clusterCIDR":"0.0.0.0/0"} => config
+{"op":"config","clusterCIDR":"10.244.0.0/16,fd00::/56"} => config
+{"op":"config","clusterCIDR":""} => config
+{"op":"config","masqueradeAll":"true"} => WrongType masqueradeAll
+{"op":"config","controller":0} => WrongType controller
+{"op":"config","maxEndpointsPerSlice":"1"} => WrongType maxEndpointsPerSlice
+{"op":"config","maxEndpointsPerSlice":0} => OutOfRange maxEndpointsPerSlice
+{"op":"config","maxEndpointsPerSlice":101} => OutOfRange maxEndpointsPerSlice
+{"op":"config","maxEndpointsPerSlice":1} => config
+{"op":"config","maxEndpointsPerSlice":100} => config
+{"op":"config","maxEvents":1.0} => WrongType maxEvents
+{"op":"config","maxEvents":0} => OutOfRange maxEvents
+{"op":"config","maxEvents":1000001} => OutOfRange maxEvents
+{"op":"config","maxEvents":1} => config
+{"op":"config","maxEvents":1000000} => config
+{"op":"config","recentSize":true} => WrongType recentSize
+{"op":"config","recentSize":0} => OutOfRange recentSize
+{"op":"config","recentSize":1001} => OutOfRange recentSize
+{"op":"config","recentSize":1} => config
+{"op":"config","recentSize":1000} => config
+{"op":"config","nameLength":-1} => WrongType nameLength
+{"op":"config","nameLength":17} => OutOfRange nameLength
+{"op":"config","nameLength":0} => config
+{"op":"config","nameLength":16} => config"#;
+
+/// Lines behind the first one.
+const LATER: &str = r#"{"op":"config"} => config is late
+{"op":"config","node":1} => config is late
+{"op":"config","by":1} => WrongType by
+{"op":"configure"} => op configure
+{"op":"sync"} => sync"#;
+
+/// The members of a packet, each put into a line that has the others.
+const MEMBERS: &str = r#""src":"10.244.9.9" => Missing dst
+"dst":"10.96.0.10" => Missing src
+"src":null,"dst":"10.96.0.10","dport":80 => Missing src
+"src":1,"dst":1 => WrongType src
+"src":"","dst":"10.96.0.10","dport":80 => BadAddress src
+"src":"fd00::1","dst":"10.96.0.10","dport":80 => BadAddress src
+"src":"10.244.9.9","dst":1,"dport":80 => WrongType dst
+"src":"10.244.9.9","dst":"10.96.0.256","dport":0 => BadAddress dst
+"src":"10.244.9.9","dst":"10.96.0.10" => Missing dport
+"src":"10.244.9.9","dst":"10.96.0.10","dport":"80" => WrongType dport
+"src":"10.244.9.9","dst":"10.96.0.10","dport":0 => OutOfRange dport
+"src":"10.244.9.9","dst":"10.96.0.10","dport":65536 => OutOfRange dport
+"src":"10.244.9.9","dst":"10.96.0.10","dport":1 => packet
+"src":"10.244.9.9","dst":"10.96.0.10","dport":65535 => packet
+"from":1,"src":1 => WrongType from
+"from":"pod","src":"10.244.9.9","dst":"10.96.0.10","dport":80 => OutOfRange from
+"from":"","src":"10.244.9.9","dst":"10.96.0.10","dport":80 => packet
+"from":"node","src":"10.244.9.9","dst":"10.96.0.10","dport":80 => packet
+"proto":1,"src":"10.244.9.9","dst":"10.96.0.10","dport":0 => WrongType proto
+"proto":"tcp","src":"10.244.9.9","dst":"10.96.0.10","dport":80 => OutOfRange proto
+"proto":"","src":"10.244.9.9","dst":"10.96.0.10","dport":80 => packet
+"sport":"1","src":"10.244.9.9","dst":"10.96.0.10","dport":0 => WrongType sport
+"sport":65536,"src":"10.244.9.9","dst":"10.96.0.10","dport":80 => OutOfRange sport
+"sport":65535,"src":"10.244.9.9","dst":"10.96.0.10","dport":80 => packet
+"sport":0,"src":"10.244.9.9","dst":"10.96.0.10","dport":80 => packet
+"now":18446744073709551616,"src":"10.244.9.9","dst":"10.96.0.10","dport":80 => WrongType now
+"now":18446744073709551615,"src":"10.244.9.9","dst":"10.96.0.10","dport":80 => packet
+"draws":1,"src":"10.244.9.9","dst":"10.96.0.10","dport":80 => WrongType draws
+"draws":[0,"1"],"src":"10.244.9.9","dst":"10.96.0.10","dport":80 => WrongType draws[1]
+"draws":[0,2147483648],"seed":-1,"src":"10.244.9.9","dst":"10.96.0.10","dport":80 => OutOfRange draws[1]
+"draws":[0,2147483647],"src":"10.244.9.9","dst":"10.96.0.10","dport":80 => packet
+"seed":-1,"draws":[],"src":"10.244.9.9","dst":"10.96.0.10","dport":80 => WrongType seed
+"seed":18446744073709551615,"src":"10.244.9.9","dst":"10.96.0.10","dport":80 => packet
+"trail":1,"src":"10.244.9.9","dst":"10.96.0.10","dport":80 => WrongType trail
+"trail":true,"src":"10.244.9.9","dst":"10.96.0.10","dport":80 => packet"#;
+
+#[test]
+fn commands_and_events_are_read(rt: HostRuntime) -> Result<(), Fail> {
+    for row in COMMANDS.lines() {
+        assert!(rt; is_row_read(rt.alloc(), row, true)?, "{row}");
+    }
+    Ok(())
+}
+
+#[test]
+fn configurations_are_read(rt: HostRuntime) -> Result<(), Fail> {
+    for row in CONFIGS.lines() {
+        assert!(rt; is_row_read(rt.alloc(), row, true)?, "{row}");
+    }
+    for row in LATER.lines() {
+        assert!(rt; is_row_read(rt.alloc(), row, false)?, "{row}");
+    }
+    Ok(())
+}
+
+/// Whether a line of this command with a row's members is read as the row says behind the arrow.
+fn are_members_read(alloc: Global, op: &str, row: &str) -> Result<bool, Fail> {
+    let (members, wanted) = row.split_once(" => ").ok_or("an arrow")?;
+    let line = format!(in alloc; "{{\"op\":\"{op}\",{members}}}")?;
+    let wanted = if wanted == "packet" { op } else { wanted };
+    Ok(is_answer(&line_of(alloc, line.as_bytes(), false), wanted))
+}
+
+#[test]
+fn packets_are_read(rt: HostRuntime) -> Result<(), Fail> {
+    for row in MEMBERS.lines() {
+        assert!(rt; are_members_read(rt.alloc(), "packet", row)?, "{row}");
+        assert!(rt; are_members_read(rt.alloc(), "explain", row)?, "{row}");
+    }
+    Ok(())
+}
+
+/// A packet line with so many draws.
+fn many_draws(alloc: Global, count: usize) -> Result<String, Fail> {
+    let mut text = String::from_str(alloc, r#"{"op":"packet","src":"1.2.3.4","dst":"1.2.3.4","#)?;
+    text.push_str(r#""dport":80,"draws":["#)?;
+    for _ in 1..count {
+        text.push_str("7,")?;
+    }
+    text.push_str("7]}")?;
+    Ok(text)
+}
+
+#[test]
+fn a_packet_has_at_most_a_thousand_draws(rt: HostRuntime) -> Result<(), Fail> {
+    let alloc = rt.alloc();
+    let most = many_draws(alloc, 1000)?;
+    assert!(rt; is_answer(&line_of(alloc, most.as_bytes(), false), "packet"));
+    let more = many_draws(alloc, 1001)?;
+    match line_of(alloc, more.as_bytes(), false) {
+        Err(ScriptFault::Refused(LineRefusal::Bad(bad))) => {
+            assert!(rt; is_fault(&bad, "TooMany draws"));
+            assert_eq!(rt; bad.count, 1001);
+        }
+        _ => assert!(rt; false, "1001 draws were taken"),
+    }
+    Ok(())
+}
+
+/// The packet line that a text is.
+fn packet(alloc: Global, text: &str) -> Result<PacketLine, Fail> {
+    match line_of(alloc, text.as_bytes(), false) {
+        Ok(ScriptLine {
+            op: Op::Packet(packet),
+            ..
+        }) => Ok(packet),
+        _ => Err(Fail::new("a packet line")),
+    }
+}
+
+/// Whether the draws are these.
+fn are_draws(draws: &Draws, wanted: &[u32]) -> bool {
+    match draws {
+        Draws::List(list) => list.as_slice() == wanted,
+        Draws::Seed(_) => false,
+    }
+}
+
+#[test]
+fn a_packet_has_the_values_of_its_members(rt: HostRuntime) -> Result<(), Fail> {
+    let alloc = rt.alloc();
+    let line = r#"{"op":"packet","from":"node","src":"10.244.9.9","dst":"10.96.0.10","proto":"UDP","sport":9,"dport":53,"now":7,"draws":[5,6],"seed":1,"trail":true}"#;
+    let read = packet(alloc, line)?;
+    let wanted = Packet {
+        from: Origin::Node,
+        source: Address::v4(183_765_257),
+        target: Address::v4(174_063_626),
+        proto: Proto::Udp,
+        port: PortNo::new(53).ok_or("a port")?,
+        now: 7,
+    };
+    assert_eq!(rt; read.packet, wanted);
+    assert!(rt; are_draws(&read.draws, &[5, 6]));
+    assert!(rt; read.trail);
+    Ok(())
+}
+
+#[test]
+fn a_packet_has_defaults(rt: HostRuntime) -> Result<(), Fail> {
+    let alloc = rt.alloc();
+    let line = r#"{"op":"packet","src":"10.244.9.9","dst":"10.96.0.10","dport":80}"#;
+    let read = packet(alloc, line)?;
+    assert!(rt; read.packet.from == Origin::Wire && read.packet.proto == Proto::Tcp);
+    assert!(rt; read.packet.now == 0 && !read.trail);
+    assert!(rt; are_draws(&read.draws, &[]));
+    let line = r#"{"op":"packet","src":"1.2.3.4","dst":"1.2.3.4","dport":80,"seed":9,"draws":[]}"#;
+    let read = packet(alloc, line)?;
+    assert!(rt; are_draws(&read.draws, &[]));
+    let line = r#"{"op":"packet","src":"1.2.3.4","dst":"1.2.3.4","dport":80,"seed":9}"#;
+    match packet(alloc, line)?.draws {
+        Draws::Seed(seed) => assert_eq!(rt; seed, 9),
+        Draws::List(_) => assert!(rt; false, "a seed was taken as a list"),
+    }
+    Ok(())
+}
+
+/// The configuration that a text is.
+fn config(alloc: Global, text: &str) -> Result<Config, Fail> {
+    match line_of(alloc, text.as_bytes(), true) {
+        Ok(ScriptLine {
+            op: Op::Config(config),
+            ..
+        }) => Ok(config),
+        _ => Err(Fail::new("a configuration")),
+    }
+}
+
+#[test]
+fn a_configuration_has_the_values_of_its_members(rt: HostRuntime) -> Result<(), Fail> {
+    let alloc = rt.alloc();
+    let line = r#"{"op":"config","node":"n1","nodeAddresses":["10.0.0.1","fd00::1","10.0.0.2"],"clusterCIDR":"10.244.9.9/16","masqueradeAll":true,"controller":false,"maxEndpointsPerSlice":2,"maxEvents":3,"recentSize":4,"nameLength":5}"#;
+    let read = config(alloc, line)?;
+    assert_eq!(rt; read.node.as_str(), "n1");
+    let addresses = [Address::v4(167_772_161), Address::v4(167_772_162)];
+    assert!(rt; read.addresses.as_slice() == addresses.as_slice());
+    let range = read.cluster.ok_or("a range")?;
+    assert!(rt; range.base() == Address::v4(183_762_944) && range.bits() == 16);
+    assert!(rt; read.masquerade_all && !read.controller);
+    assert!(rt; read.max_per_slice == 2 && read.max_events == 3);
+    assert!(rt; read.recent_size == 4 && read.name_length == 5);
+    Ok(())
+}
+
+#[test]
+fn a_configuration_has_defaults(rt: HostRuntime) -> Result<(), Fail> {
+    let read = config(rt.alloc(), r#"{"op":"config","node":"","clusterCIDR":"fd00::/56"}"#)?;
+    assert_eq!(rt; read.node.as_str(), "node");
+    assert!(rt; read.addresses.as_slice().is_empty() && read.cluster.is_none());
+    assert!(rt; !read.masquerade_all && read.controller);
+    assert!(rt; read.max_per_slice == 100 && read.max_events == 1000000);
+    assert!(rt; read.recent_size == 100 && read.name_length == 16);
+    Ok(())
+}
