@@ -1,3 +1,4 @@
 pub mod FirstLines
 pub mod Forms
+pub mod Keys
 pub mod Printed
