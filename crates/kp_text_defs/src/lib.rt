@@ -4,6 +4,8 @@
 
 mod line;
 mod refusal;
+mod totals;
 
 pub use line::{FirstLine, PacketForm, PlainEndpoint, PlainService, PlainSlice};
 pub use refusal::Refusal;
+pub use totals::Totals;
