@@ -5,8 +5,6 @@
 mod address;
 mod groups;
 mod pieces;
-mod quote;
 
 pub use address::{AddressText, address_text, endpoint_text};
-pub use pieces::{proto_word, push, push_address, push_endpoint, push_number, push_port};
-pub use quote::push_quoted;
+pub use pieces::{push, push_address, push_endpoint, push_labelled, push_number};

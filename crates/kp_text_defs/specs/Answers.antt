@@ -1,6 +1,6 @@
 -- Trails and explained answers as the program prints them (this project's choice).
 use Rattle.std.specs.Prelude.{ℕ, List, [], ◌∷◌, ◌++◌, codes, decimal}
-use Rattle.std.specs.List.{flat_map, join_with_byte}
+use Rattle.std.specs.List.{flat_map}
 use Rattle.kp_types.specs.declared.verdict.Pass.{Pass}
 use Rattle.kp_types.specs.declared.verdict.Trail.{Trail}
 use Rattle.kp_types.specs.declared.decision.DoorKind.{DoorKind}
@@ -18,14 +18,27 @@ use Rattle.kp_text_defs.specs.Printed.{verdict_text}
 
 -- ---- Trails
 
+-- a name behind another one
+abbrev pub next_chain_text : List ℕ → List ℕ
+next_chain_text chain = codes " " ++ chain
+
+-- names with spaces between them
+abbrev pub chains_text : List (List ℕ) → List ℕ
+chains_text [] = []
+chains_text (chain ∷ chains) = chain ++ flat_map next_chain_text chains
+
 -- the chains of a traversal that a rule ended
 abbrev pub pass_text : Pass → List ℕ
-pass_text pass = join_with_byte 32 pass.chains.items
+pass_text pass = chains_text pass.chains.items
+
+-- a traversal behind another one
+abbrev pub next_pass_text : Pass → List ℕ
+next_pass_text pass = codes ", " ++ pass_text pass
 
 -- the traversals that a rule ended
 abbrev pub passes_text : List Pass → List ℕ
 passes_text [] = codes "none"
-passes_text (pass ∷ passes) = pass_text pass ++ flat_map (λ p. codes ", " ++ pass_text p) passes
+passes_text (pass ∷ passes) = pass_text pass ++ flat_map next_pass_text passes
 
 -- the trail of a packet, by its line
 abbrev pub trail_text : ℕ → Trail → List ℕ

@@ -9,6 +9,7 @@ use Rattle.kp_types.specs.declared.event.Object.TheVariants as object
 use Rattle.kp_types.specs.declared.event.Event.{Event}
 use Rattle.kp_types.specs.declared.event.Event.TheVariants.{Apply, Delete}
 use Rattle.kp_text_defs.specs.Keys.{object_text, chain_key_text}
+use Rattle.kp_text_defs.specs.Printed.{counts_text}
 use Rattle.kp_text_defs.specs.declared.totals.Totals.{Totals}
 
 -- ---- Events
@@ -47,9 +48,7 @@ event_text place stream number event =
 
 -- a record, by its number: the events since the last one, the chains that were written and those removed
 abbrev pub record_text : ℕ → ℕ → ℕ → ℕ → List ℕ
-record_text number events written removed =
-    codes "record " ++ decimal number ++ codes ": events " ++ decimal events ++ codes ", written " ++ decimal written
-    ++ codes ", removed " ++ decimal removed ++ codes "\n"
+record_text number events written removed = codes "record " ++ decimal number ++ counts_text events written removed
 
 -- a sync of a live run, by its line and its record
 abbrev pub live_sync_text : ℕ → ℕ → List ℕ
@@ -78,9 +77,13 @@ verdicts_text totals =
     codes ", to " ++ decimal totals.to ++ codes ", rejected " ++ decimal totals.rejected ++ codes ", dropped "
     ++ decimal totals.dropped ++ codes ", left alone " ++ decimal totals.left_alone
 
+-- the chains that were written and removed
+abbrev pub changes_text : Totals → List ℕ
+changes_text totals =
+    codes ", written " ++ decimal totals.written ++ codes ", removed " ++ decimal totals.removed ++ codes "\n"
+
 -- the one line of the generator
 abbrev pub totals_text : Totals → List ℕ
 totals_text totals =
     codes "gen: events " ++ decimal totals.events ++ codes ", syncs " ++ decimal totals.syncs ++ codes ", packets "
-    ++ decimal totals.packets ++ verdicts_text totals ++ codes ", written " ++ decimal totals.written ++ codes ", removed "
-    ++ decimal totals.removed ++ codes "\n"
+    ++ decimal totals.packets ++ verdicts_text totals ++ changes_text totals

@@ -1,6 +1,5 @@
 -- EndpointSlices as the program prints them (this project's choice).
-use Rattle.std.specs.Prelude.{ℕ, ◌+◌, Bool, true, false, List, [], ◌∷◌, ◌++◌, length, flat_map, codes, decimal, Option, Some, None, if◌then◌else◌}
-use Rattle.std.specs.List.{join_with_byte}
+use Rattle.std.specs.Prelude.{ℕ, ◌+◌, Bool, true, false, List, [], ◌∷◌, ◌++◌, length, flat_map, codes, decimal, Option, Some, None}
 use Rattle.kp_base.specs.Net.{AddressParts}
 use Rattle.kp_base.specs.declared.key.ObjectKey.{ObjectKey}
 use Rattle.kp_types.specs.declared.slice.AddressType.{AddressType}
@@ -16,10 +15,14 @@ abbrev pub text_or_dash : Option (List ℕ) → List ℕ
 text_or_dash (Some text) = text
 text_or_dash None = codes "-"
 
+-- a text behind another one
+abbrev pub next_text : List ℕ → List ℕ
+next_text text = codes "," ++ text
+
 -- texts with commas between them, or a dash where there are none
 abbrev pub texts_or_dash : List (List ℕ) → List ℕ
 texts_or_dash [] = codes "-"
-texts_or_dash (text ∷ texts) = text ++ flat_map (λ t. codes "," ++ t) texts
+texts_or_dash (text ∷ texts) = text ++ flat_map next_text texts
 
 -- ---- A slice
 
@@ -43,10 +46,14 @@ number_or_star None = codes "*"
 abbrev pub slice_port_text : SlicePort → List ℕ
 slice_port_text port = port.name ++ codes ":" ++ number_or_star port.port ++ codes "/" ++ proto_text port.proto
 
+-- a port behind another one
+abbrev pub next_port_text : SlicePort → List ℕ
+next_port_text port = codes "," ++ slice_port_text port
+
 -- the ports of a slice with commas between them, or a dash where there are none
 abbrev pub slice_ports_text : List SlicePort → List ℕ
 slice_ports_text [] = codes "-"
-slice_ports_text (port ∷ ports) = slice_port_text port ++ flat_map (λ p. codes "," ++ slice_port_text p) ports
+slice_ports_text (port ∷ ports) = slice_port_text port ++ flat_map next_port_text ports
 
 -- what a slice is of
 abbrev pub slice_head_text : Slice → List ℕ
