@@ -157,7 +157,7 @@ pub fn push_live_sync(text: &mut String, number: u64, sync: u64) -> Result<(), N
 /// The last line of a live run before its table: the last record, or the clash that the last sync
 /// met.
 pub fn final_text(alloc: Global, sync: u64, clash: Option<&Clash>) -> Result<Text, NoMemory>
-    ensures { IfOk result (λ t. t ≡ spec.final_text sync (option_map (λ c. c.now) clash)) }
+    ensures { IfOk result (λ t. t ≡ spec.final_text sync (option_map (λ c. c.now) clash.entry)) }
 {
     let mut text = String::new(alloc);
     push_final(&mut text, sync, clash)?;
@@ -167,7 +167,7 @@ pub fn final_text(alloc: Global, sync: u64, clash: Option<&Clash>) -> Result<Tex
 /// Adds the last line of a live run before its table.
 pub fn push_final(text: &mut String, sync: u64, clash: Option<&Clash>) -> Result<(), NoMemory>
     ensures { OnOk result (string_bytes text.new
-        ≡ string_bytes text.old ++ spec.final_text sync (option_map (λ c. c.now) clash)) }
+        ≡ string_bytes text.old ++ spec.final_text sync (option_map (λ c. c.now) clash.entry)) }
 {
     push(text, "final: ")?;
     push_end(text, sync, clash)?;
@@ -177,7 +177,7 @@ pub fn push_final(text: &mut String, sync: u64, clash: Option<&Clash>) -> Result
 /// Adds how a live run ended.
 fn push_end(text: &mut String, sync: u64, clash: Option<&Clash>) -> Result<(), NoMemory>
     ensures { OnOk result (string_bytes text.new
-        ≡ string_bytes text.old ++ spec.end_text sync (option_map (λ c. c.now) clash)) }
+        ≡ string_bytes text.old ++ spec.end_text sync (option_map (λ c. c.now) clash.entry)) }
 {
     match clash {
         Some(clash) => {

@@ -56,11 +56,22 @@ fn push_slice(text: &mut String, slice: &Slice) -> Result<(), NoMemory>
     ensures { OnOk result (string_bytes text.new
         ≡ string_bytes text.old ++ spec.slice_text slice.now) }
 {
-    push(text, "slice ")?;
     push_head(text, slice)?;
+    push_tail(text, slice)
+}
+
+/// Adds what a slice has.
+fn push_tail(text: &mut String, slice: &Slice) -> Result<(), NoMemory>
+    ensures { OnOk result (string_bytes text.new
+        ≡ string_bytes text.old ++ spec.slice_tail_text slice.now) }
+{
     push(text, ", ports ")?;
     push_ports(text, slice.ports.as_slice())?;
-    push_labelled(text, ", endpoints ", slice.endpoints.as_slice().len() as u64)?;
+    push_labelled(
+        text,
+        ", endpoints ",
+        slice.endpoints.as_slice().len() as u64,
+    )?;
     push(text, "\n")
 }
 
@@ -69,6 +80,7 @@ fn push_head(text: &mut String, slice: &Slice) -> Result<(), NoMemory>
     ensures { OnOk result (string_bytes text.new
         ≡ string_bytes text.old ++ spec.slice_head_text slice.now) }
 {
+    push(text, "slice ")?;
     push_object(text, &slice.key)?;
     push(text, ": ")?;
     push(text, address_type_word(slice.family))?;
@@ -96,7 +108,7 @@ fn managed_word(managed: bool) -> &'static str
 
 /// A text, or a dash where there is none.
 pub(crate) fn text_or_dash(text: Option<&Text>) -> &str
-    ensures { result.now ≡ spec.text_or_dash (option_map (λ t. t.now) text) }
+    ensures { result.now ≡ spec.text_or_dash (option_map (λ t. t.now) text.entry) }
 {
     match text {
         Some(text) => text.as_str(),

@@ -21,11 +21,19 @@ pub fn push_totals(text: &mut String, totals: &Totals) -> Result<(), NoMemory>
     ensures { OnOk result (string_bytes text.new
         ≡ string_bytes text.old ++ spec.totals_text totals.now) }
 {
-    push_labelled(text, "gen: events ", totals.events)?;
-    push_labelled(text, ", syncs ", totals.syncs)?;
-    push_labelled(text, ", packets ", totals.packets)?;
+    push_run(text, totals)?;
     push_verdicts(text, totals)?;
     push_changes(text, totals)
+}
+
+/// Adds what was run.
+fn push_run(text: &mut String, totals: &Totals) -> Result<(), NoMemory>
+    ensures { OnOk result (string_bytes text.new
+        ≡ string_bytes text.old ++ spec.run_text totals.now) }
+{
+    push_labelled(text, "gen: events ", totals.events)?;
+    push_labelled(text, ", syncs ", totals.syncs)?;
+    push_labelled(text, ", packets ", totals.packets)
 }
 
 /// Adds what became of the packets.
@@ -33,8 +41,22 @@ fn push_verdicts(text: &mut String, totals: &Totals) -> Result<(), NoMemory>
     ensures { OnOk result (string_bytes text.new
         ≡ string_bytes text.old ++ spec.verdicts_text totals.now) }
 {
+    push_answered(text, totals)?;
+    push_unanswered(text, totals)
+}
+
+fn push_answered(text: &mut String, totals: &Totals) -> Result<(), NoMemory>
+    ensures { OnOk result (string_bytes text.new
+        ≡ string_bytes text.old ++ spec.answered_text totals.now) }
+{
     push_labelled(text, ", to ", totals.to)?;
-    push_labelled(text, ", rejected ", totals.rejected)?;
+    push_labelled(text, ", rejected ", totals.rejected)
+}
+
+fn push_unanswered(text: &mut String, totals: &Totals) -> Result<(), NoMemory>
+    ensures { OnOk result (string_bytes text.new
+        ≡ string_bytes text.old ++ spec.unanswered_text totals.now) }
+{
     push_labelled(text, ", dropped ", totals.dropped)?;
     push_labelled(text, ", left alone ", totals.left_alone)
 }

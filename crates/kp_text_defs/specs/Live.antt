@@ -71,11 +71,23 @@ final_text number clash = codes "final: " ++ end_text number clash ++ codes "\n"
 
 -- ---- The generator
 
--- what became of the generated packets
+-- what was run
+abbrev pub run_text : Totals → List ℕ
+run_text totals =
+    codes "gen: events " ++ decimal totals.events ++ codes ", syncs " ++ decimal totals.syncs ++ codes ", packets "
+    ++ decimal totals.packets
+
+-- the packets that went to an endpoint, and those that were rejected
+abbrev pub answered_text : Totals → List ℕ
+answered_text totals = codes ", to " ++ decimal totals.to ++ codes ", rejected " ++ decimal totals.rejected
+
+-- the packets that were dropped, and those that were left alone
+abbrev pub unanswered_text : Totals → List ℕ
+unanswered_text totals = codes ", dropped " ++ decimal totals.dropped ++ codes ", left alone " ++ decimal totals.left_alone
+
+-- what became of the packets
 abbrev pub verdicts_text : Totals → List ℕ
-verdicts_text totals =
-    codes ", to " ++ decimal totals.to ++ codes ", rejected " ++ decimal totals.rejected ++ codes ", dropped "
-    ++ decimal totals.dropped ++ codes ", left alone " ++ decimal totals.left_alone
+verdicts_text totals = answered_text totals ++ unanswered_text totals
 
 -- the chains that were written and removed
 abbrev pub changes_text : Totals → List ℕ
@@ -84,6 +96,4 @@ changes_text totals =
 
 -- the one line of the generator
 abbrev pub totals_text : Totals → List ℕ
-totals_text totals =
-    codes "gen: events " ++ decimal totals.events ++ codes ", syncs " ++ decimal totals.syncs ++ codes ", packets "
-    ++ decimal totals.packets ++ verdicts_text totals ++ changes_text totals
+totals_text totals = run_text totals ++ verdicts_text totals ++ changes_text totals

@@ -58,14 +58,18 @@ slice_ports_text (port ∷ ports) = slice_port_text port ++ flat_map next_port_t
 -- what a slice is of
 abbrev pub slice_head_text : Slice → List ℕ
 slice_head_text slice =
-    object_text slice.key ++ codes ": " ++ address_type_text slice.family ++ codes ", " ++ managed_text slice.managed
-    ++ codes ", service " ++ text_or_dash slice.service
+    codes "slice " ++ object_text slice.key ++ codes ": " ++ address_type_text slice.family ++ codes ", "
+    ++ managed_text slice.managed ++ codes ", service " ++ text_or_dash slice.service
+
+-- what a slice has
+abbrev pub slice_tail_text : Slice → List ℕ
+slice_tail_text slice =
+    codes ", ports " ++ slice_ports_text slice.ports ++ codes ", endpoints " ++ decimal (length slice.endpoints)
+    ++ codes "\n"
 
 -- the line of a slice
 abbrev pub slice_text : Slice → List ℕ
-slice_text slice =
-    codes "slice " ++ slice_head_text slice ++ codes ", ports " ++ slice_ports_text slice.ports ++ codes ", endpoints "
-    ++ decimal (length slice.endpoints) ++ codes "\n"
+slice_text slice = slice_head_text slice ++ slice_tail_text slice
 
 -- ---- The endpoints of a slice
 
