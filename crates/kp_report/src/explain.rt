@@ -68,12 +68,7 @@ fn push_reason(text: &mut String, reason: &Reason) -> Result<(), NoMemory>
 }
 
 /// Adds a door, and what keeps a packet from its endpoints.
-fn push_shut(
-    text: &mut String,
-    kind: DoorKind,
-    port: &PortKey,
-    words: &str,
-) -> Result<(), NoMemory>
+fn push_shut(text: &mut String, kind: DoorKind, port: &PortKey, words: &str) -> Result<(), NoMemory>
     ensures { OnOk result (string_bytes text.new
         ≡ string_bytes text.old ++ (spec.door_text kind port.now ++ words.now)) }
 {

@@ -74,11 +74,7 @@ pub(crate) fn push_chain_key(text: &mut String, key: &ChainKey) -> Result<(), No
     }
 }
 
-fn push_endpoint_key(
-    text: &mut String,
-    port: &PortKey,
-    endpoint: &Endpoint,
-) -> Result<(), NoMemory>
+fn push_endpoint_key(text: &mut String, port: &PortKey, endpoint: &Endpoint) -> Result<(), NoMemory>
     ensures { OnOk result (string_bytes text.new
         ≡ string_bytes text.old ++ spec.chain_key_text (Sep port.now endpoint.now)) }
 {

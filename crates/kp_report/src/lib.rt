@@ -1,5 +1,5 @@
-//! The lines that the program prints. Each `push_` call adds a line to a text that may be used again
-//! for the next one; the `_text` call beside it gives the line alone.
+//! The lines that the program prints. Each `push_` call adds a line to a text that may be used
+//! again for the next one; the `_text` call beside it gives the line alone.
 #![tactic(auto)]
 
 mod answer;

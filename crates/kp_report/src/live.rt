@@ -10,7 +10,8 @@ use kp_print::{push, push_labelled};
 use kp_types::{Clash, Event, Kind, Object};
 use std::alloc::Global;
 
-/// The line of an event of the journal: its place from 1, its stream, and its number in that stream.
+/// The line of an event of the journal: its place from 1, its stream, and its number in that
+/// stream.
 pub fn event_text(
     alloc: Global,
     place: u64,

@@ -132,11 +132,7 @@ fn push_behind_colon(text: &mut String, count: u64) -> Result<(), NoMemory>
 }
 
 /// The line of a refusal of the first path.
-pub fn first_refusal_text(
-    alloc: Global,
-    number: u64,
-    refusal: Refusal,
-) -> Result<Text, NoMemory>
+pub fn first_refusal_text(alloc: Global, number: u64, refusal: Refusal) -> Result<Text, NoMemory>
     ensures { IfOk result (λ t. t ≡ first.refusal_text number refusal) }
 {
     let mut text = String::new(alloc);

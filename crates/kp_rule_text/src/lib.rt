@@ -8,6 +8,7 @@ mod print;
 mod read;
 mod split;
 mod target;
+mod text;
 mod word;
 
 pub use print::push_rule;

@@ -2,9 +2,7 @@
 use crate::names::{first_endpoint, web};
 use arrayvec::ArrayVec;
 use kp_report::{explain_text, trail_text};
-use kp_types::{
-    ChainName, ChosenBy, Decision, DoorKind, ListKind, Pass, Reason, Trail, Verdict,
-};
+use kp_types::{ChainName, ChosenBy, Decision, DoorKind, ListKind, Pass, Reason, Trail, Verdict};
 use std::alloc::Global;
 use std::test::Fail;
 
@@ -35,7 +33,8 @@ fn decisions_for_a_packet(rt: HostRuntime) -> Result<(), Fail> {
             place: 1,
         },
     };
-    let want = "explain 5 at 1: to 10.244.1.2:8080; door cluster default/web/TCP list cluster size 2 by draws place 1\n";
+    let want =
+        "explain 5 at 1: to 10.244.1.2:8080; door cluster default/web/TCP list cluster size 2 by draws place 1\n";
     assert!(rt; is_explained(alloc, chosen, want)?);
     let kept = Decision {
         verdict: Verdict::To {
@@ -51,7 +50,8 @@ fn decisions_for_a_packet(rt: HostRuntime) -> Result<(), Fail> {
             place: 1,
         },
     };
-    let want = "explain 5 at 1: to 10.244.1.2:8080 masked; door node default/web:http/TCP list local size 1 by affinity place 1\n";
+    let want =
+        "explain 5 at 1: to 10.244.1.2:8080 masked; door node default/web:http/TCP list local size 1 by affinity place 1\n";
     assert!(rt; is_explained(alloc, kept, want)?);
     Ok(())
 }

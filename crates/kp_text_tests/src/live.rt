@@ -66,10 +66,14 @@ fn events(rt: HostRuntime) -> Result<(), Fail> {
 fn records_and_syncs(rt: HostRuntime) -> Result<(), Fail> {
     let alloc = rt.alloc();
     let record = record_text(alloc, 1, 2, 3, 0)?;
-    assert_eq!(rt; record.as_str(), "record 1: events 2, written 3, removed 0\n");
+    assert_eq!(rt;
+        record.as_str(),
+        "record 1: events 2, written 3, removed 0\n"
+    );
     assert_eq!(rt; live_sync_text(alloc, 4, 1)?.as_str(), "sync 4: record 1\n");
     assert_eq!(rt; final_text(alloc, 2, None)?.as_str(), "final: record 2\n");
-    let refused = "final: refused: chain name KUBE-SEP- of default/web/TCP 10.244.1.2:8080 and of default/web/TCP 10.244.2.3:8080\n";
+    let refused =
+        "final: refused: chain name KUBE-SEP- of default/web/TCP 10.244.1.2:8080 and of default/web/TCP 10.244.2.3:8080\n";
     let clash = clash(alloc)?;
     assert_eq!(rt; final_text(alloc, 0, Some(&clash))?.as_str(), refused);
     Ok(())
@@ -89,7 +93,8 @@ fn totals_of_the_generator(rt: HostRuntime) -> Result<(), Fail> {
         written: 1,
         removed: 0,
     };
-    let want = "gen: events 5, syncs 2, packets 16, to 0, rejected 16, dropped 0, left alone 0, written 1, removed 0\n";
+    let want =
+        "gen: events 5, syncs 2, packets 16, to 0, rejected 16, dropped 0, left alone 0, written 1, removed 0\n";
     assert_eq!(rt; totals_text(alloc, &totals)?.as_str(), want);
     Ok(())
 }

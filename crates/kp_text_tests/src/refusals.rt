@@ -17,11 +17,7 @@ fn is_printed(alloc: Global, refusal: LineRefusal, want: &str) -> Result<bool, F
 fn is_member(alloc: Global, why: Why, path: &str, want: &str) -> Result<bool, Fail> {
     let path = PathText::of(alloc, path)?;
     let count = 1001;
-    is_printed(
-        alloc,
-        LineRefusal::Bad(BadField { why, path, count }),
-        want,
-    )
+    is_printed(alloc, LineRefusal::Bad(BadField { why, path, count }), want)
 }
 
 /// The endpoints of web in chains of one name.

@@ -55,6 +55,7 @@ fn syncs_and_refusals_are_printed(rt: HostRuntime) -> Result<(), Fail> {
 
 #[test]
 fn words_that_do_not_fit(rt: HostRuntime) {
-    let usage = "usage: kproxy replay [--workers N] | kproxy live | kproxy gen SEED SERVICES PODS\n";
+    let usage =
+        "usage: kproxy replay [--workers N] | kproxy live | kproxy gen SEED SERVICES PODS\n";
     assert_eq!(rt; usage_text(), usage);
 }

@@ -95,7 +95,8 @@ fn bare(alloc: Global) -> Result<Slice, Fail> {
 fn slices_and_endpoints(rt: HostRuntime) -> Result<(), Fail> {
     let alloc = rt.alloc();
     let slices = Items::from_vec(vec![in alloc; managed(alloc)?, own(alloc)?, bare(alloc)?]?);
-    let lines = "slice default/web-abc12: IPv4, managed, service web, ports :8080/TCP, endpoints 3\n\
+    let lines =
+        "slice default/web-abc12: IPv4, managed, service web, ports :8080/TCP, endpoints 3\n\
         slice default/own: FQDN, own, service -, ports dns:53/UDP,sip:*/SCTP, endpoints 1\n\
         slice default/six: IPv6, own, service -, ports -, endpoints 0\n";
     assert_eq!(rt; slices_text(alloc, &slices, false)?.as_str(), lines);

@@ -1,5 +1,8 @@
--- The words of the command line (this project's choice): which of them fit, and what they say.
-use Rattle.std.specs.Prelude.{ℕ, ◌==◌, ◌&&◌, ◌^◌, ◌-◌, nat_le, Bool, true, false, List, [], ◌∷◌, length, drop, Option, Some, None, option_map, option_and_then, if◌then◌else◌, codes, bytes_eq, take, list_all}
+-- The words of the command line (this project's choice): which of them fit, and what they say. A mode is
+-- its name and its numbers. With `replay` the option `--workers` may stand before or behind it, in one
+-- word with its value behind `=`, or in two. So no other word that begins with a dash fits.
+use Rattle.std.specs.Prelude.{ℕ, ◌&&◌, ◌^◌, ◌-◌, nat_le, Bool, List, [], ◌∷◌, length, drop, take, Option, Some, None, option_map, option_and_then, if◌then◌else◌, codes, bytes_eq}
+use Rattle.std.specs.List.{list_all}
 use Rattle.std.specs.Str.Parse.{digits_value}
 use Rattle.kp_words.specs.declared.mode.Mode.{Mode}
 use Rattle.kp_words.specs.declared.mode.Mode.TheVariants.{Replay, Live, Gen}
@@ -10,100 +13,72 @@ use Rattle.kp_words.specs.declared.mode.Mode.TheVariants.{Replay, Live, Gen}
 abbrev pub is_digit : ℕ → Bool
 is_digit byte = nat_le 48 byte && nat_le byte 57
 
+-- how many digits a number may have
+abbrev pub is_number_length : ℕ → Bool
+is_number_length length = nat_le 1 length && nat_le length 20
+
 -- 1 to 20 decimal digits; zeros may lead
 abbrev pub is_number : List ℕ → Bool
-is_number word = nat_le 1 (length word) && (nat_le (length word) 20 && list_all is_digit word)
+is_number word = is_number_length (length word) && list_all is_digit word
+
+-- a number between these two
+abbrev pub within : ℕ → ℕ → ℕ → Option ℕ
+within least most number = if nat_le least number && nat_le number most then Some number else None
 
 -- the number of a word, where it is one between these two
 abbrev pub number_of : ℕ → ℕ → List ℕ → Option ℕ
-number_of least most word =
-    if is_number word && (nat_le least (digits_value 10 word) && nat_le (digits_value 10 word) most)
-    then Some (digits_value 10 word) else None
-
--- ---- The option and the plain words
-
--- the plain words, and the values of the option, each in order
-pub record Parts : Type 0 where
-  pub plain : List (List ℕ)
-  pub workers : List (List ℕ)
-
--- the word begins with a dash
-abbrev pub is_dashed : List ℕ → Bool
-is_dashed [] = false
-is_dashed (byte ∷ bytes) = byte == 45
-
--- the option before its value
-abbrev pub is_option : List ℕ → Bool
-is_option word = bytes_eq word (codes "--workers")
-
--- the option with its value
-abbrev pub is_option_with_value : List ℕ → Bool
-is_option_with_value word = bytes_eq (take 10 word) (codes "--workers=")
-
--- one more plain word
-abbrev pub with_plain : List ℕ → Parts → Parts
-with_plain word parts = record parts { plain = word ∷ parts.plain }
-
--- one more value of the option
-abbrev pub with_workers : List ℕ → Parts → Parts
-with_workers value parts = record parts { workers = value ∷ parts.workers }
-
--- The words as plain words and values of the option `--workers`, which stands in one word with its value
--- behind `=`, or before the word of its value. There are none where another word begins with a dash, or
--- the option has no value.
-abbrev mutual
-  pub parts_of : List (List ℕ) → Option Parts
-  parts_of [] = Some (record { plain = []; workers = [] })
-  parts_of (word ∷ words) =
-      if is_option word then parts_behind words
-      else (if is_option_with_value word then option_map (with_workers (drop 10 word)) (parts_of words)
-      else (if is_dashed word then None
-      else option_map (with_plain word) (parts_of words)))
-
-  -- the same behind the option, where its value stands first
-  pub parts_behind : List (List ℕ) → Option Parts
-  parts_behind [] = None
-  parts_behind (word ∷ words) = if is_dashed word then None else option_map (with_workers word) (parts_of words)
+number_of least most word = if is_number word then within least most (digits_value 10 word) else None
 
 -- ---- Modes
 
--- `replay`, by the values of the option: one worker without it, else 1 to 64
-abbrev pub replay_of : List (List ℕ) → Option Mode
-replay_of [] = Some (Replay 1)
-replay_of (value ∷ []) = option_map Replay (number_of 1 64 value)
-replay_of (value ∷ other ∷ values) = None
+-- `replay` with 1 to 64 workers
+abbrev pub replay_with : List ℕ → Option Mode
+replay_with value = option_map Replay (number_of 1 64 value)
 
--- `gen`, by its three numbers: the seed, 1 to 10,000 Services, 0 to 60,000 pods
-abbrev pub gen_of : List (List ℕ) → Option Mode
-gen_of (seed ∷ services ∷ pods ∷ []) =
-    option_and_then (λ s. option_and_then (λ n. option_map (λ p. Gen s n p) (number_of 0 60000 pods))
-    (number_of 1 10000 services)) (number_of 0 (2 ^ 64 - 1) seed)
-gen_of _ = None
+-- `gen`, by its seed, 1 to 10,000 Services and 0 to 60,000 pods
+abbrev pub gen_of : List ℕ → List ℕ → List ℕ → Option Mode
+gen_of seed services pods =
+    option_and_then (λ s. option_and_then (λ n. option_map (Gen s n) (number_of 0 60000 pods)) (number_of 1 10000 services))
+    (number_of 0 (2 ^ 64 - 1) seed)
 
--- a mode, where no word stands behind its name
-abbrev pub alone : Option Mode → List (List ℕ) → Option Mode
-alone mode [] = mode
-alone mode (word ∷ words) = None
+-- a mode that is its name alone
+abbrev pub named_mode : List ℕ → Option Mode
+named_mode name =
+    if bytes_eq name (codes "replay") then Some (Replay 1)
+    else (if bytes_eq name (codes "live") then Some Live
+    else None)
 
--- a mode, where the option isn't given
-abbrev pub without_option : Option Mode → List (List ℕ) → Option Mode
-without_option mode [] = mode
-without_option mode (value ∷ values) = None
+-- the option with its value in one word
+abbrev pub workers_word : List ℕ → Option Mode
+workers_word word = if bytes_eq (take 10 word) (codes "--workers=") then replay_with (drop 10 word) else None
 
--- the mode of a name, of the words behind it and of the values of the option: one row a mode
-abbrev pub named_mode : List ℕ → List (List ℕ) → List (List ℕ) → Option Mode
-named_mode name words values =
-    if bytes_eq name (codes "replay") then alone (replay_of values) words
-    else (if bytes_eq name (codes "live") then without_option (alone (Some Live) words) values
-    else (if bytes_eq name (codes "gen") then without_option (gen_of words) values
-    else None))
+-- the option in one word, behind `replay` or before it
+abbrev pub mode_of_two : List ℕ → List ℕ → Option Mode
+mode_of_two first second =
+    if bytes_eq first (codes "replay") then workers_word second
+    else (if bytes_eq second (codes "replay") then workers_word first
+    else None)
 
--- the mode of the plain words and of the values of the option
-abbrev pub mode_of_parts : List (List ℕ) → List (List ℕ) → Option Mode
-mode_of_parts [] values = None
-mode_of_parts (name ∷ words) values = named_mode name words values
+-- the option in two words, behind `replay` or before it
+abbrev pub mode_of_three : List ℕ → List ℕ → List ℕ → Option Mode
+mode_of_three first second third =
+    if bytes_eq first (codes "replay") && bytes_eq second (codes "--workers") then replay_with third
+    else (if bytes_eq first (codes "--workers") && bytes_eq third (codes "replay") then replay_with second
+    else None)
+
+-- a mode with three numbers
+abbrev pub mode_of_four : List ℕ → List ℕ → List ℕ → List ℕ → Option Mode
+mode_of_four name a b c = if bytes_eq name (codes "gen") then gen_of a b c else None
+
+-- the mode of the words behind the program's name
+abbrev pub mode_of_rest : List (List ℕ) → Option Mode
+mode_of_rest (name ∷ []) = named_mode name
+mode_of_rest (first ∷ second ∷ []) = mode_of_two first second
+mode_of_rest (first ∷ second ∷ third ∷ []) = mode_of_three first second third
+mode_of_rest (name ∷ a ∷ b ∷ c ∷ []) = mode_of_four name a b c
+mode_of_rest _ = None
 
 -- the mode that the words say, of which the first is the program's name; none where they don't fit
 abbrev pub mode_of : List (List ℕ) → Option Mode
 mode_of [] = None
-mode_of (program ∷ words) = option_and_then (λ parts. mode_of_parts parts.plain parts.workers) (parts_of words)
+mode_of (program ∷ words) = mode_of_rest words

@@ -3,7 +3,5 @@
 
 mod mode;
 mod number;
-mod read;
 
-pub use mode::Mode;
-pub use read::read_words;
+pub use mode::{Mode, read_words};
