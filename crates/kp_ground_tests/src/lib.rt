@@ -1,4 +1,4 @@
-//! Tests of kp_base, kp_types, kp_io and kp_json, and worked examples of their definitions.
+//! Tests of kp_base, kp_types, kp_io, kp_json and kp_words, and worked examples of their definitions.
 #![tactic(auto)]
 
 #[cfg(test)]
@@ -9,6 +9,8 @@ mod io;
 mod json;
 #[cfg(test)]
 mod types;
+#[cfg(test)]
+mod words;
 mod worked;
 
 pub use worked::{

@@ -1,5 +1,4 @@
 pub mod Clashes
-pub mod Feeding
 pub mod NameBytes
 pub mod Quanta
 pub mod SameKeys

@@ -1,7 +1,6 @@
 //! Names of the chains of Services, and clashes of names.
 #![tactic(auto)]
 
-mod address;
 mod base32;
 mod clash;
 mod fault;

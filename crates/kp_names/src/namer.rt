@@ -4,9 +4,8 @@ ghost use Rattle.kp_choice_defs.specs.Names as spec;
 ghost use Rattle.kp_choice_defs.specs.Names.{base32};
 ghost use Rattle.kp_names.specs.Prefix.{is_name_prefix};
 
-use crate::address::feed_endpoint;
 use crate::base32::push_quantum;
-use crate::text::feed_port;
+use crate::text::{feed_endpoint, feed_port};
 use arrayvec::ArrayString;
 use kp_base::{Endpoint, PortKey};
 use kp_types::{ChainKey, ChainName, PortChain};

@@ -1,10 +1,12 @@
 //! The texts that names of chains are hashes of.
 ghost use Rattle.std.specs.Prelude.{◌≡◌, ℕ, List, ◌++◌};
 ghost use Rattle.sha2.specs.Hashers.{Holds256};
+ghost use Rattle.kp_choice_defs.specs.AddressText.{endpoint_text as text_of_endpoint};
 ghost use Rattle.kp_choice_defs.specs.Names as spec;
 ghost use Rattle.kp_choice_defs.specs.Names.{port_text};
 
-use kp_base::{PortKey, Proto};
+use kp_base::{Endpoint, PortKey, Proto};
+use kp_print::endpoint_text;
 use sha2::{Digest, Sha256};
 
 /// A protocol in lower case.
@@ -39,4 +41,12 @@ fn feed_port_name(hasher: &mut Sha256, name: &str)
         hasher.update(b":");
         hasher.update(name.as_bytes());
     }
+}
+
+/// Adds an endpoint's text to what is hashed.
+pub fn feed_endpoint(hasher: &mut Sha256, endpoint: &Endpoint)
+    ensures { (m : List ℕ) → Holds256 hasher.old m
+        → Holds256 hasher.new (m ++ text_of_endpoint endpoint.now) }
+{
+    hasher.update(endpoint_text(endpoint).as_str().as_bytes());
 }

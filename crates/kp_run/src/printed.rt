@@ -3,7 +3,7 @@ ghost use Rattle.std.specs.Prelude.{◌≡◌, IfOk};
 ghost use Rattle.kp_run.specs.Printed as spec;
 
 use kp_base::{NoMemory, Text};
-use kp_report::{answer_text, refusal_text, sync_text};
+use kp_report::{answer_text, first_refusal_text, sync_text};
 use kp_text_defs::Refusal;
 use kp_types::Verdict;
 use std::alloc::Global;
@@ -33,7 +33,7 @@ pub(crate) fn printed_text(alloc: Global, number: u64, printed: &Printed) -> Res
 {
     match printed {
         Printed::Nothing => Ok(Text::from_string(String::new(alloc))),
-        Printed::Refused(refusal) => refusal_text(alloc, number, *refusal),
+        Printed::Refused(refusal) => first_refusal_text(alloc, number, *refusal),
         Printed::Synced {
             sync,
             events,

@@ -9,6 +9,7 @@ mod packet;
 mod refusal;
 mod script;
 mod stream;
+mod totals;
 pub mod worked;
 
 pub use draws::Draws;
@@ -18,3 +19,4 @@ pub use packet::PacketLine;
 pub use refusal::Refusal;
 pub use script::{Op, ScriptLine, Shown};
 pub use stream::Stream;
+pub use totals::Totals;

@@ -2,8 +2,18 @@
 #![tactic(auto)]
 
 #[cfg(test)]
+mod explain;
+#[cfg(test)]
 mod lines;
+#[cfg(test)]
+mod live;
+#[cfg(test)]
+mod names;
+#[cfg(test)]
+mod refusals;
 #[cfg(test)]
 mod report;
 #[cfg(test)]
 mod script;
+#[cfg(test)]
+mod slices;

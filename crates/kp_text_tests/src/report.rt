@@ -1,6 +1,6 @@
 //! The printed lines, as the format has them.
 use kp_base::{Address, Endpoint, NoMemory, PortNo};
-use kp_report::{answer_text, refusal_text, sync_text};
+use kp_report::{answer_text, first_refusal_text, sync_text, usage_text};
 use kp_text_defs::Refusal;
 use kp_types::Verdict;
 use std::alloc::Global;
@@ -38,7 +38,7 @@ fn answers_are_printed(rt: HostRuntime) -> Result<(), Fail> {
 
 /// Whether the refusal of a line is printed so.
 fn is_refusal(alloc: Global, line: u64, refusal: Refusal, want: &str) -> Result<bool, NoMemory> {
-    Ok(refusal_text(alloc, line, refusal)?.as_str() == want)
+    Ok(first_refusal_text(alloc, line, refusal)?.as_str() == want)
 }
 
 #[test]
@@ -51,4 +51,11 @@ fn syncs_and_refusals_are_printed(rt: HostRuntime) -> Result<(), Fail> {
     let not_built = "line 5: refused: not built yet\n";
     assert!(rt; is_refusal(alloc, 5, Refusal::NotBuilt, not_built)?);
     Ok(())
+}
+
+#[test]
+fn words_that_do_not_fit(rt: HostRuntime) {
+    let usage =
+        "usage: kproxy replay [--workers N] | kproxy live | kproxy gen SEED SERVICES PODS\n";
+    assert_eq!(rt; usage_text(), usage);
 }
