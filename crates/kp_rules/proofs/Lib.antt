@@ -1,6 +1,11 @@
 pub mod ChangeLists
 pub mod ChangesLead
+mod KeyedPlaces
 pub mod MapPlaces
+mod NextPlaces
+mod OtherPlaces
+mod PlacesFound
 mod PlaceOrder
 mod RankedPlaces
 mod RankedWalk
+pub mod Skipping

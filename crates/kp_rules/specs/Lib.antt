@@ -1,6 +1,9 @@
 pub mod Changes
+pub mod Destinations
+pub mod Index
 pub mod Order
 pub mod Ranked
 pub mod Ready
 pub mod Roomy
+pub mod Skipped
 pub mod Tree

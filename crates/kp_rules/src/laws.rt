@@ -1,6 +1,7 @@
 //! Laws of the definitions that tables rest on, for all tables. Each is a call that does nothing.
 ghost use Rattle.kp_table_defs.specs.Edits.{ChangesLeadOver, SameRulesAreEqual};
 ghost use Rattle.kp_table_defs.specs.RankedWalk.{RankedWalksEnd};
+ghost use Rattle.kp_rules.specs.Skipped.{SkippedRulesDoNothing};
 
 /// The changes from one table to another, made in the first, give the chains of the second.
 #[tactic(auto, using(crate::proofs::ChangesLead::changes_lead))]
@@ -17,4 +18,10 @@ pub fn same_rules_are_equal()
 /// No walk of a hook gets stuck on a ranked table that has its built-in chains.
 pub fn ranked_walks_end()
     ensures { RankedWalksEnd }
+{}
+
+/// A walk from a place of a chain does what it does from the next rule that may match its packet.
+#[tactic(auto, using(crate::proofs::Skipping::skipped_rules_do_nothing))]
+pub fn skipped_rules_do_nothing()
+    ensures { SkippedRulesDoNothing }
 {}

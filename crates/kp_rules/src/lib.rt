@@ -1,8 +1,11 @@
 //! Tables of chains of rules, edits of a table, and the edits that lead from one table to another.
 #![tactic(auto)]
 
+mod chain;
 mod chain_map;
 mod changes;
+mod destination;
+mod index;
 pub mod laws;
 mod new_chain;
 mod places;
@@ -10,6 +13,8 @@ mod ranks;
 mod ready;
 mod table;
 
+pub use chain::Chain;
 pub use changes::changed;
+pub use destination::Destination;
 pub use kp_types::{Batch, ChainAt, ChainName, ChainText, Edit, Match, Rule, TableName, Target};
 pub use table::Table;
