@@ -8,4 +8,5 @@ mod PlacesFound
 mod PlaceOrder
 mod RankedPlaces
 mod RankedWalk
+mod ReadyLimits
 pub mod Skipping

@@ -1,15 +1,15 @@
 -- A walk from a place of a chain is the walk from the next place of a rule that concerns the packet.
 use Rattle.std.proofs.Common.{◌≡◌, ◌≤◌, ◌<◌, ◌-◌, ◌^◌, ◌/◌, ◌&&◌, ◌==◌, ℕ, zero, suc, Bool, true, false, cond, List, [], ◌∷◌, drop, length, Option, Some, None, option_map, option_and_then, refl, sym, ap, ◌∙◌, subst, arith}
 use Rattle.std.proofs.lemmas.Bool.{true≢false, false≢true, and_parts, and_from, eqb-true, eq-eqb, false_from_ne_true}
-use Rattle.kp_base.specs.Net.{AddressParts, RangeParts, width, range_size, range_contains, same_family, same_address}
+use Rattle.kp_base.specs.Net.{AddressParts, RangeParts, width, range_contains, same_address}
 use Rattle.kp_base.proofs.SameParts.{same_family_exact}
 use Rattle.kp_types.specs.Ports.{same_proto}
 use Rattle.kp_types.specs.declared.rule.Match.{Match}
 use Rattle.kp_types.specs.declared.rule.Match.TheVariants.{Src, Dst, Proto, Port, SrcLocal, DstLocal, Marked, Statistic, Seen, SetSeen}
 use Rattle.kp_types.specs.declared.rule.Rule.{Rule}
-use Rattle.kp_table_defs.specs.Matching.{WalkState, Surroundings, Tried, try_match, try_all, tried_as, and_also}
-use Rattle.kp_table_defs.specs.Walk.{Outcome, Next, and_then, rule_outcome, rules_outcome, matched_outcome}
-use Rattle.kp_rules.specs.Destinations.{destination_asked, destination_at, port_asked, is_asked, concerns, next_for, next_place, same_destination}
+use Rattle.kp_table_defs.specs.Matching.{WalkState, Surroundings, Tried, try_all, tried_as, and_also}
+use Rattle.kp_table_defs.specs.Walk.{Outcome, Next, and_then, rules_outcome, matched_outcome}
+use Rattle.kp_rules.specs.Destinations.{destination_asked, destination_at, port_asked, is_asked, concerns, next_for}
 use Rattle.kp_rules.specs.Skipped.{destination_in, outcome_from, SkippedRulesDoNothing}
 use Rattle.kp_rules.specs.declared.destination.Destination.{Destination}
 

@@ -1,6 +1,6 @@
 -- Rules that ask for one destination first, and the next of a chain's rules that may match a packet. What a rule's
 -- matches ask is told by the table's definitions.
-use Rattle.std.specs.Prelude.{ℕ, zero, suc, ◌==◌, ◌&&◌, Bool, true, false, not, cond, List, [], ◌∷◌, Option, Some, None, option_map, option_and_then}
+use Rattle.std.specs.Prelude.{ℕ, zero, suc, ◌==◌, ◌&&◌, Bool, true, not, cond, List, [], ◌∷◌, Option, Some, None, option_map, option_and_then}
 use Rattle.kp_base.specs.Net.{AddressParts, width, same_address}
 use Rattle.kp_base.specs.declared.port.Proto as protocol
 use Rattle.kp_types.specs.Ports.{same_proto}

@@ -56,8 +56,3 @@ abbrev pub earlier : Option ℕ → Option ℕ → Option ℕ
 earlier None q = q
 earlier (Some p) None = Some p
 earlier (Some p) (Some q) = Some (min p q)
-
--- the places of all rules
-pub record HasPlaces (rules : List Rule) (ks : List KeyedPlace) (ps : List ℕ) : Type 0 where
-  pub keyed : AreKeyed rules ks
-  pub others : ps ≡ other_places rules

@@ -1,9 +1,12 @@
 //! A chain's rules, with what finds those that may match a packet.
-ghost use Rattle.std.specs.Prelude.{◌≡◌, IfOk};
+ghost use Rattle.std.specs.Prelude.{◌≡◌, slice_get, IfOk};
+ghost use Rattle.std.specs.Option.{option_and_then};
 ghost use Rattle.kp_rules.specs.Destinations as Destinations;
+ghost use Rattle.kp_rules.specs.Limits as Limits;
 
 use crate::destination::Destination;
 use crate::index::{KeyedPlace, earlier, keyed_places, next_keyed, next_other, other_places};
+use crate::limits::{limit_at, limits_of};
 use kp_base::{Items, NoMemory};
 use kp_types::Rule;
 use std::alloc::Global;
@@ -15,6 +18,7 @@ pub struct Chain {
     rules: Items<Rule>,
     keyed: Vec<KeyedPlace>,
     others: Vec<u64>,
+    limits: Vec<Option<u32>>,
 }
 
 impl Model for Chain {
@@ -22,7 +26,7 @@ impl Model for Chain {
     ghost use Rattle.std.specs.Coded.{coded_list};
     ghost use Rattle.kp_types.specs.declared.rule.Rule.{Rule};
     ghost use Rattle.kp_types.specs.contracts.rule.Rule as rule_row;
-    ghost use Rattle.kp_rules.specs.Index.{HasPlaces};
+    ghost use Rattle.kp_rules.specs.Walking.{IsReady};
 
     ghost Value = { List Rule };
 
@@ -30,7 +34,7 @@ impl Model for Chain {
 
     ghost view = { λ c. c.rules };
 
-    ghost invariant = { λ c. HasPlaces c.rules c.keyed.items c.others.items };
+    ghost invariant = { λ c. IsReady c.rules c.keyed.items c.others.items c.limits.items };
 }
 
 impl Chain {
@@ -40,10 +44,12 @@ impl Chain {
     {
         let keyed = keyed_places(alloc, rules.as_slice())?;
         let others = other_places(alloc, rules.as_slice())?;
+        let limits = limits_of(alloc, rules.as_slice())?;
         Ok(Chain {
             rules,
             keyed,
             others,
+            limits,
         })
     }
 
@@ -70,5 +76,13 @@ impl Chain {
             next_other(self.others.as_slice(), from),
             next_keyed(self.keyed.as_slice(), from, to),
         )
+    }
+
+    /// The limit of the draw of the rule at this place, where a draw is its only match: it matches
+    /// exactly at draws below it. A walk needs not read such a rule's matches.
+    pub fn limit(&self, place: u64) -> Option<u32>
+        ensures { result ≡ option_and_then Limits.limit_of (slice_get self.now place) }
+    {
+        limit_at(self.limits.as_slice(), place as usize)
     }
 }

@@ -146,7 +146,7 @@ fn search_other(others: &[u64], from: u64) -> Option<u64>
 }
 
 /// The element at an index.
-fn element<T>(items: &[T], i: usize) -> Option<&T>
+pub(crate) fn element<T>(items: &[T], i: usize) -> Option<&T>
     ensures { option_copied result ≡ slice_get items.now i }
 {
     items.get(i)

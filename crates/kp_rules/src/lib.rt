@@ -7,6 +7,7 @@ mod changes;
 mod destination;
 mod index;
 pub mod laws;
+mod limits;
 mod new_chain;
 mod places;
 mod ranks;

@@ -1,6 +1,5 @@
-use Rattle.std.proofs.Common.{rules, ◌≡◌, true, false, List, Some, None, sym, ap, ◌∙◌}
+use Rattle.std.proofs.Common.{rules, sym}
 use Rattle.std.specs.Ordering.{is_lt}
-use Rattle.std.specs.List.Sorted.{IsPartitionPoint}
 use Rattle.std.proofs.lemmas.List.Sorted.{IsPartitionPoint-from_clause}
 use Rattle.kp_rules.specs.declared.index.KeyedPlace.{KeyedPlace}
 use Rattle.kp_rules.specs.contracts.index.KeyedPlaceOrd.TheImpl as order

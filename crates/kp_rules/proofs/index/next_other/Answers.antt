@@ -1,4 +1,4 @@
-use Rattle.std.proofs.Common.{rules, Some, slice_get, sym, ap, ◌∙◌}
+use Rattle.std.proofs.Common.{rules, slice_get, sym, ap, ◌∙◌}
 use Rattle.kp_rules.proofs.OtherPlaces.{other_itself}
 use Rattle.kp_rules.proofs.index.next_other.Goals as goal
 
