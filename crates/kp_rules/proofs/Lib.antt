@@ -1,6 +1,12 @@
 pub mod ChangeLists
 pub mod ChangesLead
+mod KeyedPlaces
 pub mod MapPlaces
+mod NextPlaces
+mod OtherPlaces
+mod PlacesFound
 mod PlaceOrder
 mod RankedPlaces
 mod RankedWalk
+mod ReadyLimits
+pub mod Skipping

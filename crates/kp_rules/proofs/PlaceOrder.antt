@@ -10,6 +10,7 @@ use Rattle.std.proofs.lemmas.List.Elements.{filter-append}
 use Rattle.kp_types.specs.Places.{chain_cmp}
 use Rattle.kp_types.specs.declared.chain.ChainAt.{ChainAt}
 use Rattle.kp_types.proofs.ChainOrder.{chain_total}
+use Rattle.kp_lemmas.proofs.Orders.{equal_from_test}
 use Rattle.kp_rules.specs.Order.{with_place, without_place}
 
 -- ---- lists in order
@@ -95,6 +96,15 @@ length-with_place at (x ∷ ps) = by (chain_cmp at x) (length-with_place at ps)
     by Equal h = omega arith
     by Greater h = omega arith
 
+pub with_place-least : (at : ChainAt) (ps : List ChainAt) → length ps ≤ length (with_place at ps)
+with_place-least at [] = omega arith
+with_place-least at (x ∷ ps) = by (chain_cmp at x) (with_place-least at ps)
+  where
+    by : (o : Ordering) → length ps ≤ length (with_place at ps) → length (x ∷ ps) ≤ length (by_order o (at ∷ x ∷ ps) (x ∷ ps) (x ∷ with_place at ps))
+    by Less h = omega arith
+    by Equal h = omega arith
+    by Greater h = omega (arith, h)
+
 -- ---- one place less
 
 -- no place of a list is this one
@@ -141,3 +151,16 @@ length-without_place at (x ∷ ps) = by (eq_by_cmp chain_cmp at x) (length-witho
     by : (b : Bool) → length (without_place at ps) ≤ length ps → length (cond (not b) (x ∷ without_place at ps) (without_place at ps)) ≤ length (x ∷ ps)
     by true h = omega arith
     by false h = omega arith
+
+-- no more than one place is taken out
+without_place-one : (at x : ChainAt) (ps : List ChainAt) → AllByRecursion (λ y. chain_cmp x y ≡ Less) ps → length ps ≤ length (without_place at ps) + 1
+    → (b : Bool) → eq_by_cmp chain_cmp at x ≡ b → length (x ∷ ps) ≤ length (cond (not b) (x ∷ without_place at ps) (without_place at ps)) + 1
+without_place-one at x ps below h true e =
+    let none = without_place-none at ps (every (λ y. chain_cmp x y ≡ Less) (λ y. eq_by_cmp chain_cmp at y ≡ false) (λ y g. ap is_eq (chain_total.congr at x y (equal_from_test _ e) ∙ g)) ps below) in
+    omega (arith, ap length none)
+without_place-one at x ps below h false e = omega (arith, h)
+
+pub without_place-least : (at : ChainAt) (ps : List ChainAt) → IsStrictlySortedBy chain_cmp ps → length ps ≤ length (without_place at ps) + 1
+unfolding IsStrictlySortedBy
+without_place-least at [] s = omega arith
+without_place-least at (x ∷ ps) s = without_place-one at x ps s.0 (without_place-least at ps s.1) (eq_by_cmp chain_cmp at x) refl

@@ -4,11 +4,12 @@ ghost use Rattle.std.specs.FinMap as finite;
 ghost use Rattle.std.specs.Option.{option_copied};
 ghost use Rattle.kp_types.specs.Places.{chain_cmp};
 
+use crate::chain::Chain;
 use crate::new_chain::NewChain;
 use crate::places::Places;
 use indexmap::IndexMap;
-use kp_base::{Copied, Items, NoMemory};
-use kp_types::{ChainAt, Rule};
+use kp_base::{Copied, NoMemory};
+use kp_types::ChainAt;
 use std::alloc::Global;
 use std::marker::Model;
 
@@ -16,7 +17,7 @@ use std::marker::Model;
 /// more memory.
 #[derive(Drop)]
 pub struct ChainMap {
-    rules: IndexMap<ChainAt, Items<Rule>>,
+    rules: IndexMap<ChainAt, Chain>,
     places: Places,
 }
 
@@ -51,8 +52,8 @@ impl ChainMap {
         }
     }
 
-    /// The rules of a chain.
-    pub fn get(&self, at: &ChainAt) -> Option<&Items<Rule>>
+    /// A chain.
+    pub fn get(&self, at: &ChainAt) -> Option<&Chain>
         ensures { option_copied result ≡ finite.get self.now.chains at.now }
     {
         self.rules.get(at)
@@ -114,7 +115,7 @@ impl ChainMap {
 }
 
 /// The chains of these entries.
-fn chains_of(alloc: Global, entries: &IndexMap<ChainAt, Items<Rule>>) -> Result<ChainMap, NoMemory>
+fn chains_of(alloc: Global, entries: &IndexMap<ChainAt, Chain>) -> Result<ChainMap, NoMemory>
     ensures { IfOk result (λ chains. chains.chains
         ≡ finite.from_entries {R = chain_cmp} entries.now.entries) }
 {
@@ -122,7 +123,7 @@ fn chains_of(alloc: Global, entries: &IndexMap<ChainAt, Items<Rule>>) -> Result<
     chains.reserve(entries.len())?;
     for i in (0..entries.len()).rev() {
         if let Some((at, rules)) = entries.get_index(i) {
-            chains.write(NewChain::new(alloc, at.same(), rules.copy(alloc)?)?);
+            chains.write(NewChain::new(alloc, at.same(), rules.items().copy(alloc)?)?);
         }
     }
     Ok(chains)

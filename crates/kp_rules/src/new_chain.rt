@@ -1,6 +1,7 @@
 //! A chain that is to be written.
 ghost use Rattle.std.specs.Prelude.{◌≡◌, [], ◌∷◌, IfOk};
 
+use crate::chain::Chain;
 use crate::places::Places;
 use kp_base::{Items, NoMemory};
 use kp_types::{ChainAt, Rule};
@@ -10,7 +11,7 @@ use std::alloc::Global;
 #[derive(Drop)]
 pub struct NewChain {
     pub at: ChainAt,
-    pub rules: Items<Rule>,
+    pub rules: Chain,
     pub one: Places,
     ghost placed: { one ≡ at ∷ [] },
 }
@@ -22,6 +23,7 @@ impl NewChain {
         ensures rules { IfOk result (λ c. c.rules ≡ rules) }
     {
         let one = Places::one(alloc, at.same())?;
+        let rules = Chain::of(alloc, rules)?;
         Ok(NewChain { at, rules, one })
     }
 }

@@ -1,11 +1,12 @@
 //! The places of a table's chains, in order: a search tree whose forks count their places, so that
-//! the place at an index is found on the way down. Both sides of a fork are kept in balance by
-//! their counts.
-ghost use Rattle.std.specs.Prelude.{◌≡◌, ◌+◌, ◌-◌, ◌^◌, ◌<◌, ◌≤◌, [], ◌∷◌, ◌++◌, length, slice_get, IfOk, MatchOption};
+//! the place at an index is found on the way down. Neither side of a fork weighs more than three
+//! times the other, which holds of every tree, so that the way down is short.
+ghost use Rattle.std.specs.Prelude.{◌≡◌, ◌+◌, ◌-◌, ◌^◌, ◌<◌, ◌≤◌, [], ◌∷◌, ◌++◌, length, slice_get, IfOk, IfSome, MatchOption, MatchBool, ◌*◌};
 ghost use Rattle.std.specs.List.Sorted.{IsStrictlySortedBy};
 ghost use Rattle.std.specs.Option.{option_copied};
 ghost use Rattle.kp_types.specs.Places.{chain_cmp};
 ghost use Rattle.kp_rules.specs.Order.{with_place, without_place};
+ghost use Rattle.kp_rules.specs.Tree.{weight, AreEven, AreNearlyEven, AreApart};
 
 use kp_base::NoMemory;
 use kp_types::ChainAt;
@@ -173,6 +174,7 @@ impl Places {
     fn open(self) -> Option<(Places, Box<Fork>, Places)>
         ensures parts { MatchOption result (self ≡ []) (λ r. self ≡ r.0 ++ r.1.value.at ∷ r.2) }
         ensures small { length self < 2 ^ 64 }
+        ensures even { IfSome result (λ r. AreEven r.0 r.2) }
     {
         match self.root {
             None => None,
@@ -199,6 +201,7 @@ impl Places {
 /// The place of a fork between two sides, in the fork's memory.
 fn joined(before: Places, mut fork: Box<Fork>, behind: Places) -> Places
     requires fits { length before + length behind < 2 ^ 64 - 1 }
+    requires even { AreEven before behind }
     ensures { result ≡ before ++ fork.value.at ∷ behind }
 {
     fork.count = before.count() + behind.count() + 1;
@@ -207,9 +210,11 @@ fn joined(before: Places, mut fork: Box<Fork>, behind: Places) -> Places
     Places { root: Some(fork) }
 }
 
-/// The same, where one side may have become too heavy for the other.
+/// The same, where one side may have become too heavy for the other, by one place that was put into
+/// it or taken out of the other.
 fn balanced(before: Places, fork: Box<Fork>, behind: Places) -> Places
     requires fits { length before + length behind < 2 ^ 64 - 1 }
+    requires nearly { AreNearlyEven before behind }
     ensures { result ≡ before ++ fork.value.at ∷ behind }
 {
     if is_heavy(&before, &behind) {
@@ -223,19 +228,27 @@ fn balanced(before: Places, fork: Box<Fork>, behind: Places) -> Places
 
 /// Whether a side weighs more than three times the other, where each weighs one more than its
 /// places.
-fn is_heavy(side: &Places, other: &Places) -> bool {
+fn is_heavy(side: &Places, other: &Places) -> bool
+    ensures { MatchBool result (3 * weight other.now < weight side.now)
+        (weight side.now ≤ 3 * weight other.now) }
+{
     side.count() / 3 > other.count()
 }
 
-/// Whether the inner part of a heavy side is too heavy to stay in one piece: at least twice the
-/// outer part.
-fn is_inner_heavy(inner: &Places, outer: &Places) -> bool {
+/// Whether the inner part of a heavy side is too heavy to stay in one piece: it weighs at least
+/// twice the outer part.
+fn is_inner_heavy(inner: &Places, outer: &Places) -> bool
+    ensures { MatchBool result (2 * weight outer.now ≤ weight inner.now)
+        (weight inner.now < 2 * weight outer.now) }
+{
     inner.count().div_ceil(2) > outer.count()
 }
 
 /// The same, with a part of the places before the fork lifted over it or behind it.
 fn lighter_before(before: Places, fork: Box<Fork>, behind: Places) -> Places
     requires fits { length before + length behind < 2 ^ 64 - 1 }
+    requires heavy { 3 * weight behind < weight before }
+    requires nearly { weight before ≤ 3 * weight behind + 3 }
     ensures { result ≡ before ++ fork.value.at ∷ behind }
 {
     match before.open() {
@@ -253,6 +266,8 @@ fn lighter_before(before: Places, fork: Box<Fork>, behind: Places) -> Places
 /// The same, with a part of the places behind the fork lifted over it or before it.
 fn lighter_behind(before: Places, fork: Box<Fork>, behind: Places) -> Places
     requires fits { length before + length behind < 2 ^ 64 - 1 }
+    requires heavy { 3 * weight before < weight behind }
+    requires nearly { weight behind ≤ 3 * weight before + 3 }
     ensures { result ≡ before ++ fork.value.at ∷ behind }
 {
     match behind.open() {
@@ -276,6 +291,7 @@ fn split_inner(
     last: Places,
 ) -> Places
     requires fits { length first + length inner + length last < 2 ^ 64 - 2 }
+    requires apart { AreApart first inner last }
     ensures { result ≡ first ++ low.value.at ∷ (inner ++ high.value.at ∷ last) }
 {
     match inner.open() {
@@ -289,6 +305,7 @@ fn split_inner(
 /// The places of two sides.
 fn appended(before: Places, behind: Places) -> Places
     requires fits { length before + length behind < 2 ^ 64 }
+    requires even { AreEven before behind }
     ensures { result ≡ before ++ behind }
 {
     match behind.split_first() {

@@ -1,16 +1,19 @@
 //! The chains of one node's tables, and how often they were edited.
 ghost use Rattle.std.specs.Prelude.{◌≡◌, length, slice_get, IfOk, OnOk, OnErr};
 ghost use Rattle.std.specs.FinMap as finite;
-ghost use Rattle.std.specs.Option.{option_copied};
+ghost use Rattle.std.specs.Option.{option_copied, option_and_then};
 ghost use Rattle.kp_table_defs.specs.Edits.{table_after_batch};
 ghost use Rattle.kp_table_defs.specs.Ranks as Ranks;
+ghost use Rattle.kp_rules.specs.Destinations.{next_for};
 
+use crate::chain::Chain;
 use crate::chain_map::ChainMap;
+use crate::destination::Destination;
 use crate::new_chain::NewChain;
 use crate::places::Places;
 use crate::ranks::are_ranked;
 use crate::ready::{make_all, ready_edits};
-use kp_base::{Copied, Items, NoMemory};
+use kp_base::{Address, Copied, Items, NoMemory, PortNo, Proto};
 use kp_types::{Batch, ChainAt, Rule};
 use std::alloc::Global;
 use std::marker::Model;
@@ -67,7 +70,44 @@ impl Table {
     pub fn chain(&self, at: &ChainAt) -> Option<&Items<Rule>>
         ensures { option_copied result ≡ finite.get self.now.chains at.now }
     {
+        match self.chains.get(at) {
+            None => None,
+            Some(chain) => Some(chain.items()),
+        }
+    }
+
+    /// The chain at this place, as a walk reads it.
+    pub fn walked(&self, at: &ChainAt) -> Option<&Chain>
+        ensures { option_copied result ≡ finite.get self.now.chains at.now }
+    {
         self.chains.get(at)
+    }
+
+    /// The least place, from 0, at or after `from` of a rule of the chain at this place that may
+    /// match packets to this address and port: one whose first two matches ask for them, or for no
+    /// one address and a port. `None` where there is no such rule, or no such chain. It takes no
+    /// memory.
+    pub fn next_for(
+        &self,
+        at: &ChainAt,
+        from: u64,
+        proto: &Proto,
+        target: &Address,
+        port: &PortNo,
+    ) -> Option<u64>
+        ensures { result ≡ option_and_then (λ rules. next_for
+            (record { address = target.now; proto = proto.now; port = port.now }) rules from)
+            (finite.get self.now.chains at.now) }
+    {
+        let to = Destination {
+            address: *target,
+            proto: *proto,
+            port: *port,
+        };
+        match self.chains.get(at) {
+            None => None,
+            Some(chain) => chain.next_for(from, &to),
+        }
     }
 
     /// How many places have a chain.

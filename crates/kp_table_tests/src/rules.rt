@@ -1,9 +1,12 @@
 //! Tables of a few chains, and each call once with enough memory.
 use arrayvec::ArrayVec;
-use kp_base::{Items, NoMemory};
-use kp_rules::laws::{changes_lead_over, ranked_walks_end, same_rules_are_equal};
+use kp_base::{Address, Cidr, Items, NoMemory, PortNo, Proto};
+use kp_rules::laws::{
+    changes_lead_over, next_rules_of_a_service, ranked_walks_end, same_rules_are_equal,
+    skipped_rules_do_nothing,
+};
 use kp_rules::{Table, changed};
-use kp_types::{Batch, ChainAt, ChainName, Edit, Rule, TableName, Target};
+use kp_types::{Batch, ChainAt, ChainName, Edit, Match, Rule, TableName, Target};
 use std::alloc::{AllocError, Global};
 use std::test::Fail;
 
@@ -107,5 +110,67 @@ fn a_jump_goes_to_a_chain_that_is_there(rt: HostRuntime) -> Result<(), Fail> {
     changes_lead_over();
     same_rules_are_equal();
     ranked_walks_end();
+    skipped_rules_do_nothing();
+    next_rules_of_a_service();
+    Ok(())
+}
+
+/// KUBE-SERVICES for port 80 of 10.96.0.10, and a chain of draws.
+fn table_of_a_service(alloc: Global) -> Result<Table, Fail> {
+    let mut matches = ArrayVec::new();
+    let range = Cidr::single(Address::v4(0x0a60_000a));
+    let port = PortNo::new(80).ok_or("a port")?;
+    let proto = Proto::Tcp;
+    matches.push(Match::Dst { range, not: false });
+    matches.push(Match::Port { proto, port });
+    let mut local = ArrayVec::new();
+    local.push(Match::DstLocal);
+    let mut half = ArrayVec::new();
+    half.push(Match::Statistic { p: 5_000_000_000 });
+    let mut rules = Vec::new(alloc);
+    rules.push(Rule::of(matches, Target::Jump(named("KUBE-SVC-A")?)))?;
+    rules.push(Rule::of(local, Target::Jump(named("KUBE-NODEPORTS")?)))?;
+    rules.push(Rule::of(half, Target::Return))?;
+    let mut table = Table::bare(alloc)?;
+    table.put(services()?, Items::from_vec(rules))?;
+    Ok(table)
+}
+
+fn services() -> Result<ChainAt, Fail> {
+    let chain = named("KUBE-SERVICES")?;
+    Ok(ChainAt {
+        table: TableName::Nat,
+        chain,
+    })
+}
+
+#[test]
+fn rules_of_other_destinations_are_passed_over(rt: HostRuntime) -> Result<(), Fail> {
+    let alloc = rt.alloc();
+    let table = table_of_a_service(alloc)?;
+    let at = services()?;
+    let port = PortNo::new(80).ok_or("a port")?;
+    // from a place, to 10.96.0.0 and this, over a protocol
+    let rows: [(u64, u32, Proto, Option<u64>); 5] = [
+        (0, 10, Proto::Tcp, Some(0)),
+        (0, 11, Proto::Tcp, Some(1)),
+        (0, 10, Proto::Udp, Some(1)),
+        (2, 10, Proto::Tcp, Some(2)),
+        (3, 10, Proto::Tcp, None),
+    ];
+    for (from, host, proto, want) in rows {
+        let target = Address::v4(0x0a60_0000 + host);
+        assert_eq!(rt; table.next_for(&at, from, &proto, &target, &port), want);
+    }
+    let chain = table.walked(&at).ok_or("a chain")?;
+    let limits = (chain.limit(0), chain.limit(2), chain.limit(3));
+    assert_eq!(rt; limits, (None, Some(1_073_741_824), None));
+    assert_eq!(rt; chain.rules().len(), 3);
+    let elsewhere = ChainAt {
+        table: TableName::Filter,
+        chain: named("KUBE-SERVICES")?,
+    };
+    let none = table.next_for(&elsewhere, 0, &Proto::Tcp, &Address::v4(1), &port);
+    assert_eq!(rt; none, None);
     Ok(())
 }

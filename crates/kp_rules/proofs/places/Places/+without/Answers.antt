@@ -3,7 +3,7 @@ use Rattle.std.specs.List.Sorted.{IsStrictlySortedBy}
 use Rattle.kp_types.specs.Places.{chain_cmp}
 use Rattle.kp_types.proofs.ChainOrder.{chain_matches}
 use Rattle.kp_rules.specs.Order.{without_place}
-use Rattle.kp_rules.proofs.PlaceOrder.{sorted_front, sorted_back, without_place-before, without_place-behind, without_place-there, length-without_place}
+use Rattle.kp_rules.proofs.PlaceOrder.{sorted_front, sorted_back, without_place-before, without_place-behind, without_place-there, length-without_place, without_place-least}
 use Rattle.kp_rules.proofs.places.Places.+without.Goals as goal
 
 pub without-requires : goal.without-requires
@@ -14,11 +14,17 @@ without-requires t c =
 
 pub balanced-requires : goal.balanced-requires
 balanced-requires t c =
-    record { fits = omega (arith, c.in-Some.ensures.small, ap length c.in-Some.ensures.parts, length-append c.in-Some.before (c.in-Some.fork.value.at ∷ c.in-Some.behind), ap length c.without.ensures, length-without_place c.args.at.now c.in-Some.before) }
+    record {
+      fits = omega (arith, c.in-Some.ensures.small, ap length c.in-Some.ensures.parts, length-append c.in-Some.before (c.in-Some.fork.value.at ∷ c.in-Some.behind), ap length c.without.ensures, length-without_place c.args.at.now c.in-Some.before);
+      nearly = record {
+        before = omega (arith, c.in-Some.ensures.even.before, ap length c.without.ensures, length-without_place c.args.at.now c.in-Some.before, without_place-least c.args.at.now c.in-Some.before (sorted_front c.in-Some.before (c.in-Some.fork.value.at ∷ c.in-Some.behind) (subst (IsStrictlySortedBy chain_cmp) c.in-Some.ensures.parts c.requires)));
+        behind = omega (arith, c.in-Some.ensures.even.behind, ap length c.without.ensures, length-without_place c.args.at.now c.in-Some.before, without_place-least c.args.at.now c.in-Some.before (sorted_front c.in-Some.before (c.in-Some.fork.value.at ∷ c.in-Some.behind) (subst (IsStrictlySortedBy chain_cmp) c.in-Some.ensures.parts c.requires)));
+      };
+    }
 
 pub appended-requires : goal.appended-requires
 appended-requires t c =
-    record { fits = omega (arith, c.in-Some.ensures.small, ap length c.in-Some.ensures.parts, length-append c.in-Some.before (c.in-Some.fork.value.at ∷ c.in-Some.behind)) }
+    record { fits = omega (arith, c.in-Some.ensures.small, ap length c.in-Some.ensures.parts, length-append c.in-Some.before (c.in-Some.fork.value.at ∷ c.in-Some.behind)); even = c.in-Some.ensures.even }
 
 pub without-requires-in-Greater : goal.without-requires-in-Greater
 without-requires-in-Greater t c =
@@ -28,7 +34,13 @@ without-requires-in-Greater t c =
 
 pub balanced-requires-in-Greater : goal.balanced-requires-in-Greater
 balanced-requires-in-Greater t c =
-    record { fits = omega (arith, c.in-Some.ensures.small, ap length c.in-Some.ensures.parts, length-append c.in-Some.before (c.in-Some.fork.value.at ∷ c.in-Some.behind), ap length c.without-in-Greater.ensures, length-without_place c.args.at.now c.in-Some.behind) }
+    record {
+      fits = omega (arith, c.in-Some.ensures.small, ap length c.in-Some.ensures.parts, length-append c.in-Some.before (c.in-Some.fork.value.at ∷ c.in-Some.behind), ap length c.without-in-Greater.ensures, length-without_place c.args.at.now c.in-Some.behind);
+      nearly = record {
+        before = omega (arith, c.in-Some.ensures.even.before, ap length c.without-in-Greater.ensures, length-without_place c.args.at.now c.in-Some.behind, without_place-least c.args.at.now c.in-Some.behind (sorted_back c.in-Some.before c.in-Some.fork.value.at c.in-Some.behind (subst (IsStrictlySortedBy chain_cmp) c.in-Some.ensures.parts c.requires)));
+        behind = omega (arith, c.in-Some.ensures.even.behind, ap length c.without-in-Greater.ensures, length-without_place c.args.at.now c.in-Some.behind, without_place-least c.args.at.now c.in-Some.behind (sorted_back c.in-Some.before c.in-Some.fork.value.at c.in-Some.behind (subst (IsStrictlySortedBy chain_cmp) c.in-Some.ensures.parts c.requires)));
+      };
+    }
 
 pub returns-in-Less : goal.returns-in-Less
 returns-in-Less t c =

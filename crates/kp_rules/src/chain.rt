@@ -1,0 +1,88 @@
+//! A chain's rules, with what finds those that may match a packet.
+ghost use Rattle.std.specs.Prelude.{◌≡◌, slice_get, IfOk};
+ghost use Rattle.std.specs.Option.{option_and_then};
+ghost use Rattle.kp_rules.specs.Destinations as Destinations;
+ghost use Rattle.kp_rules.specs.Limits as Limits;
+
+use crate::destination::Destination;
+use crate::index::{KeyedPlace, earlier, keyed_places, next_keyed, next_other, other_places};
+use crate::limits::{limit_at, limits_of};
+use kp_base::{Items, NoMemory};
+use kp_types::Rule;
+use std::alloc::Global;
+use std::marker::Model;
+
+/// The rules of a chain, as a walk reads them. Contracts see the list of rules.
+#[derive(Drop)]
+pub struct Chain {
+    rules: Items<Rule>,
+    keyed: Vec<KeyedPlace>,
+    others: Vec<u64>,
+    limits: Vec<Option<u32>>,
+}
+
+impl Model for Chain {
+    ghost use Rattle.std.specs.Prelude.{List};
+    ghost use Rattle.std.specs.Coded.{coded_list};
+    ghost use Rattle.kp_types.specs.declared.rule.Rule.{Rule};
+    ghost use Rattle.kp_types.specs.contracts.rule.Rule as rule_row;
+    ghost use Rattle.kp_rules.specs.Walking.{IsReady};
+
+    ghost Value = { List Rule };
+
+    ghost coded = { coded_list rule_row.the_row.coded };
+
+    ghost view = { λ c. c.rules };
+
+    ghost invariant = { λ c. IsReady c.rules c.keyed.items c.others.items c.limits.items };
+}
+
+impl Chain {
+    /// The chain of these rules.
+    pub(crate) fn of(alloc: Global, rules: Items<Rule>) -> Result<Chain, NoMemory>
+        ensures { IfOk result (λ chain. chain ≡ rules) }
+    {
+        let keyed = keyed_places(alloc, rules.as_slice())?;
+        let others = other_places(alloc, rules.as_slice())?;
+        let limits = limits_of(alloc, rules.as_slice())?;
+        Ok(Chain {
+            rules,
+            keyed,
+            others,
+            limits,
+        })
+    }
+
+    /// The rules as a list.
+    pub(crate) fn items(&self) -> &Items<Rule>
+        ensures { result.now ≡ self.now }
+    {
+        &self.rules
+    }
+
+    /// The rules.
+    pub fn rules(&self) -> &[Rule]
+        ensures { result.now ≡ self.now }
+    {
+        self.rules.as_slice()
+    }
+
+    /// The least place, from 0, at or after `from` of a rule that may match packets to this
+    /// destination: one that asks for it, or for none. It takes no memory.
+    pub fn next_for(&self, from: u64, to: &Destination) -> Option<u64>
+        ensures { result ≡ Destinations.next_for to.now self.now from }
+    {
+        earlier(
+            next_other(self.others.as_slice(), from),
+            next_keyed(self.keyed.as_slice(), from, to),
+        )
+    }
+
+    /// The limit of the draw of the rule at this place, where a draw is its only match: it matches
+    /// exactly at draws below it. A walk needs not read such a rule's matches.
+    pub fn limit(&self, place: u64) -> Option<u32>
+        ensures { result ≡ option_and_then Limits.limit_of (slice_get self.now place) }
+    {
+        limit_at(self.limits.as_slice(), place as usize)
+    }
+}
