@@ -1,7 +1,7 @@
 -- The lines that are built by now (this project's choice; objects after the Kubernetes API, Service v1 and
 -- EndpointSlice discovery.k8s.io/v1): a configuration, a Service with one port, a slice with one port, a sync
 -- and a packet. Each is an object with exactly these members, in any order.
-use Rattle.std.specs.Prelude.{ℕ, ◌&&◌, ◌≡◌, Bool, true, false, List, [], ◌∷◌, map, codes, cond, Option, Some, None, option_map, refl}
+use Rattle.std.specs.Prelude.{ℕ, ◌&&◌, Bool, true, false, List, [], ◌∷◌, map, codes, cond, Option, Some, None, option_map, refl}
 use Rattle.std.proofs.Common.{lit≤}
 use Rattle.serde_json.specs.Data.{Data}
 use Rattle.kp_base.specs.Net.{AddressParts, RangeParts}

@@ -1,3 +1,9 @@
+pub mod Answers
 pub mod FirstLines
 pub mod Forms
+pub mod Keys
+pub mod ListedDraws
+pub mod Live
 pub mod Printed
+pub mod Refusals
+pub mod Slices

@@ -1,5 +1,5 @@
 -- The lines that the program prints (this project's choice).
-use Rattle.std.specs.Prelude.{ℕ, Bool, true, false, List, [], ◌∷◌, ◌++◌, codes, decimal}
+use Rattle.std.specs.Prelude.{ℕ, Bool, true, false, List, [], ◌++◌, codes, decimal}
 use Rattle.kp_types.specs.declared.verdict.Verdict.{Verdict}
 use Rattle.kp_types.specs.declared.verdict.Verdict.TheVariants.{To, Rejected, Dropped, LeftAlone}
 use Rattle.kp_text_defs.specs.declared.refusal.Refusal.{Refusal}
@@ -16,11 +16,15 @@ abbrev pub refusal_text : ℕ → Refusal → List ℕ
 refusal_text number refusal =
     codes "line " ++ decimal number ++ codes ": refused: " ++ refusal_words refusal ++ codes "\n"
 
--- a sync, by its number: the events since the last one, the chains that were written and those removed
+-- the events since the last sync, the chains that were written and those removed
+abbrev pub counts_text : ℕ → ℕ → ℕ → List ℕ
+counts_text events written removed =
+    codes ": events " ++ decimal events ++ codes ", written " ++ decimal written ++ codes ", removed " ++ decimal removed
+    ++ codes "\n"
+
+-- a sync, by its number, and what it did
 abbrev pub sync_text : ℕ → ℕ → ℕ → ℕ → List ℕ
-sync_text number events written removed =
-    codes "sync " ++ decimal number ++ codes ": events " ++ decimal events ++ codes ", written " ++ decimal written
-    ++ codes ", removed " ++ decimal removed ++ codes "\n"
+sync_text number events written removed = codes "sync " ++ decimal number ++ counts_text events written removed
 
 -- whether the source is masqueraded
 abbrev pub masked_text : Bool → List ℕ

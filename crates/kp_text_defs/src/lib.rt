@@ -2,8 +2,18 @@
 //! types that only lines have, there are only definitions here, in `specs/`.
 #![tactic(auto)]
 
+mod draws;
 mod line;
+mod line_refusal;
+mod packet;
 mod refusal;
+mod script;
+mod totals;
 
+pub use draws::Draws;
 pub use line::{FirstLine, PacketForm, PlainEndpoint, PlainService, PlainSlice};
+pub use line_refusal::LineRefusal;
+pub use packet::PacketLine;
 pub use refusal::Refusal;
+pub use script::{Op, ScriptLine, Shown};
+pub use totals::Totals;

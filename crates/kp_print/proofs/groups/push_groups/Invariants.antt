@@ -1,0 +1,11 @@
+use Rattle.std.proofs.Common.{◌≡◌, ◌∷◌, ◌++◌, ◌+◌, ◌*◌, ◌≤◌, get_or, take}
+use Rattle.std.specs.Net.Text.{groups_text}
+use Rattle.arrayvec.specs.ArrayString.{array_string_len}
+use Rattle.kp_print.proofs.groups.push_groups.Given as goal
+
+-- the first group and those so far were added
+abbrev pub invariant-loop-group : goal.invariant-loop-group
+invariant-loop-group l = record {
+  text : l.text.bytes ≡ l.fn.text.bytes ++ groups_text (get_or l.groups 0 0 ∷ take l.group-index l.rest);
+  short : array_string_len l.text ≤ array_string_len l.fn.text + 5 * (l.group-index + 1);
+}
