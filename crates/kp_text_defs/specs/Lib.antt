@@ -1,9 +1,14 @@
 pub mod Answers
+pub mod Bounds
+pub mod ConfigText
 pub mod FirstLines
 pub mod Forms
 pub mod Keys
 pub mod ListedDraws
 pub mod Live
+pub mod PacketText
 pub mod Printed
 pub mod Refusals
+pub mod ScriptLines
 pub mod Slices
+pub mod StreamNames

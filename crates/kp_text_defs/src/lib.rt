@@ -8,6 +8,7 @@ mod line_refusal;
 mod packet;
 mod refusal;
 mod script;
+mod stream;
 mod totals;
 
 pub use draws::Draws;
@@ -16,4 +17,5 @@ pub use line_refusal::LineRefusal;
 pub use packet::PacketLine;
 pub use refusal::Refusal;
 pub use script::{Op, ScriptLine, Shown};
+pub use stream::Stream;
 pub use totals::Totals;

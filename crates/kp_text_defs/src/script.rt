@@ -1,6 +1,7 @@
 //! The lines of a script.
 use crate::packet::PacketLine;
-use kp_base::{Config, Items, Text};
+use crate::stream::Stream;
+use kp_base::{Config, Items};
 use kp_types::Event;
 
 /// What a line shows.
@@ -34,7 +35,7 @@ pub enum Op {
 /// A line that was read.
 #[derive(Drop)]
 pub struct ScriptLine {
-    /// The stream that the line belongs to: `main` where none is named.
-    pub by: Text,
+    /// The stream that the line belongs to.
+    pub by: Stream,
     pub op: Op,
 }
