@@ -1,7 +1,7 @@
 -- The text of a replay (this project's choice): a plain fold over the lines of the input, whose state is the
 -- events that were accepted and how many of them the last sync covers. A packet is answered by the decision
 -- on the objects that the last sync covers; a sync prints how the full table changed.
-use Rattle.std.specs.Prelude.{ℕ, suc, ◌+◌, ◌-◌, ◌==◌, ◌&&◌, ◌||◌, nat_lt, Bool, true, false, List, [], ◌∷◌, ◌++◌, map, length, take, not, cond, bytes_eq, Option, Some, None, count_by}
+use Rattle.std.specs.Prelude.{ℕ, suc, ◌+◌, ◌-◌, ◌==◌, ◌&&◌, ◌||◌, nat_lt, Bool, true, false, List, [], ◌∷◌, ◌++◌, length, take, not, cond, bytes_eq, Option, Some, None, count_by}
 use Rattle.std.specs.List.{list_all, fold}
 use Rattle.std.specs.FinMap as finite
 use Rattle.serde_json.specs.Data.{Data}

@@ -1,5 +1,5 @@
 -- The words of the command line (this project's choice).
-use Rattle.std.specs.Prelude.{ℕ, Bool, true, false, List, [], ◌∷◌, codes, bytes_eq}
+use Rattle.std.specs.Prelude.{ℕ, Bool, false, List, [], ◌∷◌, codes, bytes_eq}
 
 -- the program's name, and the one word that is built by now
 abbrev pub words_fit : List (List ℕ) → Bool
