@@ -1,2 +1,2 @@
-pub mod PlainTables
+pub mod SetSteps
 pub mod Steps

@@ -10,7 +10,8 @@ mod journey;
 mod local;
 mod matching;
 mod progress;
+mod recorder;
 mod walking;
 
 pub use kp_types::{Answer, Origin, Packet, Pass, Trail, Verdict};
-pub use walking::walk;
+pub use walking::{verdict_of, walk};
