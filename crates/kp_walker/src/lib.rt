@@ -11,7 +11,9 @@ mod local;
 mod matching;
 mod progress;
 mod recorder;
+mod sound;
 mod walking;
 
 pub use kp_types::{Answer, Origin, Packet, Pass, Trail, Verdict};
+pub use sound::can_walk;
 pub use walking::{verdict_of, walk};
