@@ -16,8 +16,8 @@ use Rattle.kp_types.specs.declared.rule.Target.{Target}
 use Rattle.kp_types.specs.declared.rule.Target.TheVariants as target
 use Rattle.kp_types.specs.declared.verdict.Verdict.{Verdict}
 use Rattle.kp_choice_defs.specs.Recent.{RecentParts, is_of, sightings, shard_of}
-use Rattle.kp_table_defs.specs.Matching.{WalkState, Surroundings, Tried, try_match, try_all}
-use Rattle.kp_table_defs.specs.Walk.{Outcome, Next, Left, Ended, Stuck, Journey, Translating, Filtering, Masquerading, rule_outcome, chain_outcome, most_chains, through, filter_hooks, first_hook, routed_hook, is_for_node, is_leaving, initial_state, surroundings_of}
+use Rattle.kp_table_defs.specs.Matching.{WalkState, Surroundings, try_match, try_all}
+use Rattle.kp_table_defs.specs.Walk.{Outcome, Next, Left, Ended, Stuck, Journey, Translating, Filtering, rule_outcome, chain_outcome, most_chains, through, filter_hooks, first_hook, routed_hook, is_for_node, is_leaving, initial_state, surroundings_of}
 
 -- a fact of the state where matches held
 abbrev pub OnHeld : Bool → Type 0 → Type 0

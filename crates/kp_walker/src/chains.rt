@@ -28,17 +28,20 @@ impl<F: Fn(u64, u32) -> u32> Hook<'_, F> {
         lists: &mut RecentLists,
         recorder: &mut R,
     ) -> Result<Flow, NoMemory>
-        requires stated { IsStated (F.pre self.now.around.now.draws.now) (F.post self.now.around.now.draws.now) }
+        requires stated { IsStated (F.pre self.now.around.now.draws.now)
+            (F.post self.now.around.now.draws.now) }
         requires new { R.way recorder.old ≡ [] }
         requires room { depth ≤ 8 }
         ensures outcome { IfOk result (λ flow. (draws : _)
             → AreDraws (F.post self.now.around.now.draws.now) self.now.around.now.number draws
             → outcome_of self.now.header flow (R.way recorder.new) lists.new ≡ shorn R.keeps
-            (jump_of self.now draws depth chain.now (state_of self.now.header progress lists.old))) }
+            (jump_of self.now draws depth chain.now
+            (state_of self.now.header progress lists.old))) }
         ensures way { IfOk result (λ flow. IsThrough flow depth (R.way recorder.new)) }
         ensures refused { OnErr result ((draws : _)
             → AreDraws (F.post self.now.around.now.draws.now) self.now.around.now.number draws
-            → sets_of self.now draws depth chain.now (state_of self.now.header progress lists.old) lists.new) }
+            → sets_of self.now draws depth chain.now
+            (state_of self.now.header progress lists.old) lists.new) }
         ensures trail { R.trail recorder.new ≡ R.trail recorder.old }
     {
         if depth == 0 {
@@ -67,19 +70,21 @@ impl<F: Fn(u64, u32) -> u32> Hook<'_, F> {
         lists: &mut RecentLists,
         recorder: &mut R,
     ) -> Result<Flow, NoMemory>
-        requires stated { IsStated (F.pre self.now.around.now.draws.now) (F.post self.now.around.now.draws.now) }
+        requires stated { IsStated (F.pre self.now.around.now.draws.now)
+            (F.post self.now.around.now.draws.now) }
         requires new { R.way recorder.old ≡ [] }
         requires room { depth < 8 }
         ensures outcome { IfOk result (λ flow. (draws : _)
             → AreDraws (F.post self.now.around.now.draws.now) self.now.around.now.number draws
             → outcome_of self.now.header flow (R.way recorder.new) lists.new ≡ shorn R.keeps
-            (rules_outcome (surroundings_of self.now.around.now draws) (jump_of self.now draws depth) rules.now
-            (state_of self.now.header progress lists.old))) }
+            (rules_outcome (surroundings_of self.now.around.now draws)
+            (jump_of self.now draws depth) rules.now (state_of self.now.header progress lists.old))) }
         ensures way { IfOk result (λ flow. IsThrough flow depth (R.way recorder.new)) }
         ensures refused { OnErr result ((draws : _)
             → AreDraws (F.post self.now.around.now.draws.now) self.now.around.now.number draws
             → RulesSet (surroundings_of self.now.around.now draws) (jump_of self.now draws depth)
-            (sets_of self.now draws depth) rules.now (state_of self.now.header progress lists.old) lists.new) }
+            (sets_of self.now draws depth) rules.now
+            (state_of self.now.header progress lists.old) lists.new) }
         ensures trail { R.trail recorder.new ≡ R.trail recorder.old }
     {
         let mut progress = progress;
@@ -103,14 +108,15 @@ impl<F: Fn(u64, u32) -> u32> Hook<'_, F> {
         lists: &mut RecentLists,
         recorder: &mut R,
     ) -> Result<Flow, NoMemory>
-        requires stated { IsStated (F.pre self.now.around.now.draws.now) (F.post self.now.around.now.draws.now) }
+        requires stated { IsStated (F.pre self.now.around.now.draws.now)
+            (F.post self.now.around.now.draws.now) }
         requires new { R.way recorder.old ≡ [] }
         requires room { depth < 8 }
         ensures outcome { IfOk result (λ flow. (draws : _)
             → AreDraws (F.post self.now.around.now.draws.now) self.now.around.now.number draws
             → outcome_of self.now.header flow (R.way recorder.new) lists.new ≡ shorn R.keeps
-            (rule_outcome (surroundings_of self.now.around.now draws) (jump_of self.now draws depth) rule.now
-            (state_of self.now.header progress lists.old))) }
+            (rule_outcome (surroundings_of self.now.around.now draws)
+            (jump_of self.now draws depth) rule.now (state_of self.now.header progress lists.old))) }
         ensures way { IfOk result (λ flow. IsThrough flow depth (R.way recorder.new)) }
         ensures refused { OnErr result ((draws : _)
             → AreDraws (F.post self.now.around.now.draws.now) self.now.around.now.number draws

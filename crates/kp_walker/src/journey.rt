@@ -65,7 +65,8 @@ impl<R: Recorder> Journey<R> {
             → journey_of R.trail self.old before ≡ told R.keeps j
             → outcome_of self.old.header flow (R.way self.old.recorder) lists ≡ shorn R.keeps o
             → (o ≡ walk.Stuck → ⊥)
-            → journey_of R.trail self.new lists ≡ told R.keeps (walk.after_hook (stage_of stage) j o) }
+            → journey_of R.trail self.new lists
+            ≡ told R.keeps (walk.after_hook (stage_of stage) j o) }
         ensures room { length (R.trail self.new.recorder) ≤ length (R.trail self.old.recorder) + 1 }
         ensures way { R.way self.new.recorder ≡ [] }
     {
@@ -99,7 +100,8 @@ impl<R: Recorder> Journey<R> {
     /// Translates the packet's destination.
     fn send_to(&mut self, endpoint: Endpoint)
         ensures sent { (lists : RecentParts) → MovesAs R.keeps (journey_of R.trail self.old lists)
-            (journey_of R.trail self.new lists) (walk.ended_by walk.Translating (Ending.Dnat endpoint)) }
+            (journey_of R.trail self.new lists)
+            (walk.ended_by walk.Translating (Ending.Dnat endpoint)) }
         ensures recorder { self.new.recorder ≡ self.old.recorder }
     {
         self.header.target = endpoint.address;

@@ -22,7 +22,8 @@ impl<F: Fn(u64, u32) -> u32> Hook<'_, F> {
         progress: Progress,
         lists: &mut RecentLists,
     ) -> Result<Tried, NoMemory>
-        requires { IsStated (F.pre self.now.around.now.draws.now) (F.post self.now.around.now.draws.now) }
+        requires { IsStated (F.pre self.now.around.now.draws.now)
+            (F.post self.now.around.now.draws.now) }
         ensures ok { IfOk result (λ t. (draws : _)
             → AreDraws (F.post self.now.around.now.draws.now) self.now.around.now.number draws
             → tried_of self.now.header t lists.new
@@ -55,7 +56,8 @@ impl<F: Fn(u64, u32) -> u32> Hook<'_, F> {
         progress: Progress,
         lists: &mut RecentLists,
     ) -> Result<Tried, NoMemory>
-        requires { IsStated (F.pre self.now.around.now.draws.now) (F.post self.now.around.now.draws.now) }
+        requires { IsStated (F.pre self.now.around.now.draws.now)
+            (F.post self.now.around.now.draws.now) }
         ensures ok { IfOk result (λ t. (draws : _)
             → AreDraws (F.post self.now.around.now.draws.now) self.now.around.now.number draws
             → tried_of self.now.header t lists.new
@@ -91,7 +93,8 @@ impl<F: Fn(u64, u32) -> u32> Hook<'_, F> {
 
     /// Tries a statistic match by the next draw.
     fn try_draw(&self, p: u64, progress: Progress) -> Tried
-        requires { IsStated (F.pre self.now.around.now.draws.now) (F.post self.now.around.now.draws.now) }
+        requires { IsStated (F.pre self.now.around.now.draws.now)
+            (F.post self.now.around.now.draws.now) }
         ensures { (draws lists : _)
             → AreDraws (F.post self.now.around.now.draws.now) self.now.around.now.number draws
             → tried_of self.now.header result lists

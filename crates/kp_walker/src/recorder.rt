@@ -1,5 +1,6 @@
 //! Who keeps the trail of a walk.
-ghost use Rattle.std.specs.Prelude.{◌≡◌, ◌<◌, ◌≤◌, ◌+◌, Bool, true, false, ℕ, List, [], ◌∷◌, ◌++◌, length};
+ghost use Rattle.std.specs.Prelude.{◌≡◌, ◌<◌, ◌≤◌, ◌+◌, ◌∷◌, ◌++◌, [], length};
+ghost use Rattle.std.specs.Prelude.{ℕ, Bool, true, false, List};
 ghost use Rattle.kp_walker.specs.Shorn.{path_if, trail_if};
 
 use arrayvec::ArrayVec;
