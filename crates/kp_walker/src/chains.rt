@@ -78,7 +78,8 @@ impl<F: Fn(u64, u32) -> u32> Hook<'_, F> {
             → AreDraws (F.post self.now.around.now.draws.now) self.now.around.now.number draws
             → outcome_of self.now.header flow (R.way recorder.new) lists.new ≡ shorn R.keeps
             (rules_outcome (surroundings_of self.now.around.now draws)
-            (jump_of self.now draws depth) rules.now (state_of self.now.header progress lists.old))) }
+            (jump_of self.now draws depth) rules.now
+            (state_of self.now.header progress lists.old))) }
         ensures way { IfOk result (λ flow. IsThrough flow depth (R.way recorder.new)) }
         ensures refused { OnErr result ((draws : _)
             → AreDraws (F.post self.now.around.now.draws.now) self.now.around.now.number draws
@@ -116,7 +117,8 @@ impl<F: Fn(u64, u32) -> u32> Hook<'_, F> {
             → AreDraws (F.post self.now.around.now.draws.now) self.now.around.now.number draws
             → outcome_of self.now.header flow (R.way recorder.new) lists.new ≡ shorn R.keeps
             (rule_outcome (surroundings_of self.now.around.now draws)
-            (jump_of self.now draws depth) rule.now (state_of self.now.header progress lists.old))) }
+            (jump_of self.now draws depth) rule.now
+            (state_of self.now.header progress lists.old))) }
         ensures way { IfOk result (λ flow. IsThrough flow depth (R.way recorder.new)) }
         ensures refused { OnErr result ((draws : _)
             → AreDraws (F.post self.now.around.now.draws.now) self.now.around.now.number draws
