@@ -4,4 +4,6 @@
 #[cfg(test)]
 mod rules;
 #[cfg(test)]
+mod walking;
+#[cfg(test)]
 mod written;

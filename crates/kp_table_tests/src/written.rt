@@ -1,13 +1,11 @@
 //! The table of a Service and a slice, beside rules written out by hand, and packets on it.
-ghost use Rattle.std.specs.Prelude.{IfOk};
-ghost use Rattle.std.specs.FinMap.{get};
-ghost use Rattle.kp_table_defs.specs.Plain.{HasNoRecent};
-
 use kp_base::{Address, Cidr, Config, Items, NoMemory, PortNo, Proto, Text};
+use kp_draws::{DrawSource, draw_of_list};
+use kp_recent::RecentLists;
 use kp_rules::{ChainAt, ChainName, Match, Rule, Table, TableName, Target};
 use kp_text_defs::{PlainEndpoint, PlainService, PlainSlice};
 use kp_types::{Answer, Origin, Packet, Verdict};
-use kp_walker::walk;
+use kp_walker::{can_walk, walk};
 use kp_writer::full_table;
 use kp_writer::laws::{plain_infos, plain_ports};
 use std::alloc::{AllocError, Global};
@@ -63,9 +61,7 @@ fn slice(alloc: Global, service: &str, hosts: &[u16]) -> Result<PlainSlice, Fail
 }
 
 /// The full table of the Service web, and of a slice of a Service with these pods.
-fn table_of(alloc: Global, owner: &str, hosts: &[u16]) -> Result<Table, Fail>
-    ensures { IfOk result (λ t. HasNoRecent (get t.chains)) }
-{
+fn table_of(alloc: Global, owner: &str, hosts: &[u16]) -> Result<Table, Fail> {
     let (web, slice) = (web(alloc)?, slice(alloc, owner, hosts)?);
     Ok(full_table(alloc, &config(alloc)?, Some(&web), Some(&slice))?)
 }
@@ -164,10 +160,14 @@ fn verdict_text(verdict: Verdict) -> &'static str {
 }
 
 /// What becomes of a packet with the draw 0, in words.
-fn answer(alloc: Global, table: &Table, packet: &Packet) -> Result<String, Fail>
-    requires { HasNoRecent (get table.now.chains) }
-{
-    Ok(text_of(alloc, &walk(table, &node(alloc)?, packet, &[0]))?)
+fn answer(alloc: Global, table: &Table, packet: &Packet) -> Result<String, Fail> {
+    if !can_walk(table) {
+        return Err(Fail::from("a table"));
+    }
+    let draws = DrawSource::new(|_number: u64, k: u32| draw_of_list(&[0], k));
+    let mut lists = RecentLists::new(alloc, 100)?;
+    let answer = walk(table, &node(alloc)?, 1, packet, &draws, &mut lists)?;
+    Ok(text_of(alloc, &answer)?)
 }
 
 /// The Service's cluster address, 10.96.0.10.

@@ -1,2 +1,3 @@
-pub mod PlainTables
+pub mod BuiltIn
+pub mod SetSteps
 pub mod Steps

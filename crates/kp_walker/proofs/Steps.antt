@@ -1,16 +1,19 @@
 -- Chains and rules, one step at a time.
-use Rattle.std.proofs.lemmas.List.{at_drop_more, map-append}
-use Rattle.std.proofs.Common.{◌≡◌, ℕ, zero, suc, ◌+◌, ◌<◌, List, [], ◌∷◌, ◌++◌, map, false, is_some, Option, Some, None, drop, length, get_or, refl, sym, ap, ◌∙◌, arith}
+use Rattle.std.proofs.lemmas.List.{at_drop_more}
+use Rattle.std.proofs.Common.{◌≡◌, ℕ, zero, suc, ◌+◌, ◌<◌, Bool, true, false, List, [], ◌∷◌, ◌++◌, Option, Some, None, is_some, drop, length, get_or, refl, sym, ap, ◌∙◌, arith}
 use Rattle.kp_types.specs.declared.chain.ChainAt.{ChainAt}
 use Rattle.kp_types.specs.declared.chain.TableName.{TableName}
-use Rattle.kp_types.specs.declared.verdict.Pass.{Pass}
+use Rattle.kp_types.specs.declared.packet.Packet.{Packet}
 use Rattle.kp_types.specs.declared.verdict.Verdict.{Verdict}
+use Rattle.kp_types.specs.declared.walk.Ending.{Ending}
 use Rattle.kp_types.specs.declared.rule.Rule.{Rule}
 use Rattle.kp_choice_defs.specs.Recent.{RecentParts}
 use Rattle.kp_table_defs.specs.Matching.{Surroundings, WalkState}
 use Rattle.kp_table_defs.specs.Walk as walk
 use Rattle.kp_table_defs.specs.Walk.{Outcome, chain_outcome, found_outcome, rules_outcome, rule_outcome, and_then}
 use Rattle.kp_walker.specs.Flow.{outcome_of}
+use Rattle.kp_walker.specs.Journeys.{MovesAs, beginning}
+use Rattle.kp_walker.specs.Shorn.{path_if, trail_if, shorn, told}
 use Rattle.kp_walker.specs.declared.flow.Flow.{Flow}
 use Rattle.kp_walker.specs.declared.header.Header.{Header}
 use Rattle.kp_walker.specs.declared.flow.Flow.TheVariants.{Next, Left, Ended, Stuck}
@@ -30,31 +33,90 @@ rules_from e jump rules i rule s more here =
     at_drop_more (λ rs. rules_outcome e jump rs s) rules i rule more
     ∙ ap (λ r. and_then (rule_outcome e jump r s) (rules_outcome e jump (drop (i + 1) rules))) (sym here)
 
+-- an outcome that goes on is so, whether its way is kept or not
+pub went_next : (keeps : Bool) (o : Outcome) (then : WalkState) → walk.Next then ≡ shorn keeps o → o ≡ walk.Next then
+went_next keeps (walk.Next s) then is = sym is
+went_next keeps (walk.Left s) then is = cc
+went_next keeps (walk.Ended end path s) then is = cc
+went_next keeps walk.Stuck then is = cc
+
 -- a rule that goes on leaves the rest to the rules behind it
-pub went_on : (e : Surroundings) (jump : List ℕ → WalkState → Outcome) (rules : List Rule) (i : ℕ) (rule : Rule) (s then : WalkState) → i < length rules → rule ≡ get_or rules i rule → walk.Next then ≡ rule_outcome e jump rule s → rules_outcome e jump (drop (i + 1) rules) then ≡ rules_outcome e jump (drop i rules) s
-went_on e jump rules i rule s then more here next =
-    ap (λ o. and_then o (rules_outcome e jump (drop (i + 1) rules))) next
+pub went_on : (keeps : Bool) (e : Surroundings) (jump : List ℕ → WalkState → Outcome) (rules : List Rule) (i : ℕ) (rule : Rule) (s then : WalkState) → i < length rules → rule ≡ get_or rules i rule → walk.Next then ≡ shorn keeps (rule_outcome e jump rule s) → rules_outcome e jump (drop (i + 1) rules) then ≡ rules_outcome e jump (drop i rules) s
+went_on keeps e jump rules i rule s then more here next =
+    ap (λ o. and_then o (rules_outcome e jump (drop (i + 1) rules)))
+    (sym (went_next keeps (rule_outcome e jump rule s) then next))
     ∙ sym (rules_from e jump rules i rule s more here)
 
 -- an outcome other than Next stays
-stays : (header : Header) (flow : Flow) (path : List (List ℕ)) (lists : RecentParts) (next : WalkState → Outcome) → ((p : Progress) → flow ≡ Next p → ⊥) → and_then (outcome_of header flow path lists) next ≡ outcome_of header flow path lists
-stays header (Next p) path lists next other = absurd (other p refl)
-stays header (Left p) path lists next other = refl
-stays header (Ended end p) path lists next other = refl
-stays header Stuck path lists next other = refl
+stays : (keeps : Bool) (header : Header) (flow : Flow) (path : List (List ℕ)) (lists : RecentParts) (o : Outcome) (next : WalkState → Outcome) → ((p : Progress) → flow ≡ Next p → ⊥) → outcome_of header flow path lists ≡ shorn keeps o → outcome_of header flow path lists ≡ shorn keeps (and_then o next)
+stays keeps header (Next p) path lists o next other is = absurd (other p refl)
+stays keeps header (Left p) path lists (walk.Next s) next other is = cc
+stays keeps header (Ended end p) path lists (walk.Next s) next other is = cc
+stays keeps header Stuck path lists (walk.Next s) next other is = cc
+stays keeps header flow path lists (walk.Left s) next other is = is
+stays keeps header flow path lists (walk.Ended end way s) next other is = is
+stays keeps header flow path lists walk.Stuck next other is = is
 
 -- a rule that doesn't go on is the outcome of the rules from it on
-pub ended_here : (e : Surroundings) (jump : List ℕ → WalkState → Outcome) (rules : List Rule) (i : ℕ) (rule : Rule) (s : WalkState) (header : Header) (flow : Flow) (path : List (List ℕ)) (lists : RecentParts) → i < length rules → rule ≡ get_or rules i rule → ((p : Progress) → flow ≡ Next p → ⊥) → outcome_of header flow path lists ≡ rule_outcome e jump rule s → outcome_of header flow path lists ≡ rules_outcome e jump (drop i rules) s
-ended_here e jump rules i rule s header flow path lists more here other is =
-    sym (stays header flow path lists (rules_outcome e jump (drop (i + 1) rules)) other)
-    ∙ ap (λ o. and_then o (rules_outcome e jump (drop (i + 1) rules))) is
-    ∙ sym (rules_from e jump rules i rule s more here)
+pub ended_here : (keeps : Bool) (e : Surroundings) (jump : List ℕ → WalkState → Outcome) (rules : List Rule) (i : ℕ) (rule : Rule) (s : WalkState) (header : Header) (flow : Flow) (path : List (List ℕ)) (lists : RecentParts) → i < length rules → rule ≡ get_or rules i rule → ((p : Progress) → flow ≡ Next p → ⊥) → outcome_of header flow path lists ≡ shorn keeps (rule_outcome e jump rule s) → outcome_of header flow path lists ≡ shorn keeps (rules_outcome e jump (drop i rules) s)
+ended_here keeps e jump rules i rule s header flow path lists more here other is =
+    stays keeps header flow path lists (rule_outcome e jump rule s) (rules_outcome e jump (drop (i + 1) rules)) other is
+    ∙ ap (shorn keeps) (sym (rules_from e jump rules i rule s more here))
 
--- the names on the ways of a trail, with one way more
-pub pass_added : (old new : List Pass) (pass : Pass) → new ≡ old ++ pass ∷ [] → map (λ p. p.chains.items) new ≡ map (λ p. p.chains.items) old ++ pass.chains.items ∷ []
-pass_added old new pass added = ap (map (λ p. p.chains.items)) added ∙ map-append (λ p. p.chains.items) old (pass ∷ [])
+-- behind a jump nothing more is told of an outcome
+pub shorn_returned : (keeps : Bool) (chain : List ℕ) (o : Outcome) → shorn keeps (walk.returned_from chain (shorn keeps o)) ≡ shorn keeps (walk.returned_from chain o)
+shorn_returned keeps chain (walk.Next s) = refl
+shorn_returned keeps chain (walk.Left s) = refl
+shorn_returned true chain (walk.Ended end path s) = refl
+shorn_returned false chain (walk.Ended end path s) = refl
+shorn_returned keeps chain walk.Stuck = refl
+
+-- the trail with one way more
+trail_added : (keeps : Bool) (old j : List (List (List ℕ))) (way path : List (List ℕ)) → old ≡ trail_if keeps j → way ≡ path_if keeps path → trail_if keeps (old ++ way ∷ []) ≡ trail_if keeps (j ++ path ∷ [])
+trail_added true old j way path trail is = λ i. trail i ++ is i ∷ []
+trail_added false old j way path trail is = refl
+
+-- a rule ended the traversal of a hook, and then its way is the last of the trail
+pub ended_taken : (keeps : Bool) (stage : walk.Stage) (end : Ending) (s : WalkState) (way : List (List ℕ)) (trail : List (List (List ℕ))) (old new j : walk.Journey) (o : Outcome) → old ≡ told keeps j → walk.Ended end way s ≡ shorn keeps o → trail ≡ trail_if keeps (old.trail ++ way ∷ []) → MovesAs keeps (record (walk.in_state old s) { trail = trail }) new (walk.ended_by stage end) → new ≡ told keeps (walk.after_hook stage j o)
+ended_taken keeps stage end s way trail old new j (walk.Next t) start came kept moves = cc
+ended_taken keeps stage end s way trail old new j (walk.Left t) start came kept moves = cc
+ended_taken keeps stage end s way trail old new j walk.Stuck start came kept moves = cc
+ended_taken keeps stage end s way trail old new j (walk.Ended other path t) start came kept moves =
+    let same_end : end ≡ other = cc in
+    let same_state : s ≡ t = cc in
+    let same_way : way ≡ path_if keeps path = cc in
+    let added = kept ∙ trail_added keeps old.trail j.trail way path (ap (λ w. w.trail) start) same_way in
+    moves (record (walk.in_state j t) { trail = j.trail ++ path ∷ [] })
+    (λ i. record (walk.in_state (start i) (same_state i)) { trail = added i })
+    ∙ ap (λ (z : Ending). told keeps (walk.ended_by stage z (record (walk.in_state j t) { trail = j.trail ++ path ∷ [] }))) same_end
+
+-- ---- hooks
+
+-- how a journey that is told so far stands
+pub told_state : (keeps : Bool) (old j : walk.Journey) → old ≡ told keeps j → old.state ≡ j.state
+told_state keeps old j start = ap (λ w. w.state) start
+
+-- a hook of a packet that was stopped before
+pub passed_by : (keeps : Bool) (e : Surroundings) (at : ChainAt → Option (List Rule)) (stage : walk.Stage) (table : TableName) (chain : List ℕ) (old : walk.Journey) → is_some old.stopped ≡ true → MovesAs keeps old old (walk.through e at stage table chain)
+passed_by keeps e at stage table chain old stopped j start =
+    start ∙ ap (told keeps) (unmoved j.stopped (sym (ap (λ w. is_some w.stopped) start) ∙ stopped))
+  where
+    unmoved : (v : Option Verdict) → is_some v ≡ true → j ≡ walk.through_unless v e at stage table chain j
+    unmoved (Some v) some = refl
+    unmoved None some = cc
 
 -- a hook of a packet that nothing stopped before
-pub still_on : (stopped : Option Verdict) (e : Surroundings) (at : ChainAt → Option (List Rule)) (stage : walk.Stage) (table : TableName) (chain : List ℕ) (j : walk.Journey) → is_some stopped ≡ false → walk.after_hook stage j (chain_outcome e at table walk.most_chains chain j.state) ≡ walk.through_unless stopped e at stage table chain j
-still_on (Some v) e at stage table chain j on = cc
-still_on None e at stage table chain j on = refl
+pub still_on : (keeps : Bool) (e : Surroundings) (at : ChainAt → Option (List Rule)) (stage : walk.Stage) (table : TableName) (chain : List ℕ) (old new : walk.Journey) → is_some old.stopped ≡ false → ((j : walk.Journey) → old ≡ told keeps j → new ≡ told keeps (walk.after_hook stage j (chain_outcome e at table walk.most_chains chain old.state))) → MovesAs keeps old new (walk.through e at stage table chain)
+still_on keeps e at stage table chain old new on hook j start =
+    hook j start
+    ∙ ap (λ s. told keeps (walk.after_hook stage j (chain_outcome e at table walk.most_chains chain s))) (told_state keeps old j start)
+    ∙ ap (told keeps) (moved j.stopped (sym (ap (λ w. is_some w.stopped) start) ∙ on))
+  where
+    moved : (v : Option Verdict) → is_some v ≡ false → walk.after_hook stage j (chain_outcome e at table walk.most_chains chain j.state) ≡ walk.through_unless v e at stage table chain j
+    moved (Some v) none = cc
+    moved None none = refl
+
+-- a packet's journey begins with no trail
+pub told_beginning : (keeps : Bool) (packet : Packet) (lists : RecentParts) → beginning packet lists ≡ told keeps (beginning packet lists)
+told_beginning true packet lists = refl
+told_beginning false packet lists = refl

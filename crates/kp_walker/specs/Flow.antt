@@ -1,14 +1,13 @@
--- What the flow of a walk means, and what its pass has by then.
+-- What the flow of a walk means, and what its way has by then.
 use Rattle.std.specs.Prelude.{◌≡◌, ℕ, ◌≤◌, List, [], length}
-use Rattle.kp_types.specs.declared.verdict.Pass.{Pass}
 use Rattle.kp_choice_defs.specs.Recent.{RecentParts}
 use Rattle.kp_table_defs.specs.Matching.{WalkState}
 use Rattle.kp_table_defs.specs.Walk as walk
 use Rattle.kp_walker.specs.Progress.{state_of}
+use Rattle.kp_walker.specs.Sets.{ChainSets}
 use Rattle.kp_walker.specs.Surroundings.{surroundings_of, lookup_of}
 use Rattle.kp_walker.specs.declared.header.Header.{Header}
 use Rattle.kp_walker.specs.declared.hook.Hook.{Hook}
-use Rattle.kp_walker.specs.declared.progress.Progress.{Progress}
 use Rattle.kp_walker.specs.declared.flow.Flow.{Flow}
 use Rattle.kp_walker.specs.declared.flow.Flow.TheVariants.{Next, Left, Ended, Stuck}
 
@@ -27,10 +26,11 @@ IsThrough (Ended end p) n path = length path ≤ n
 IsThrough Stuck n path = path ≡ []
 
 -- what a jump does, with at most so many chains on the way
-abbrev pub jump_of : Hook → ℕ → List ℕ → WalkState → walk.Outcome
-jump_of h depth = walk.chain_outcome (surroundings_of h.around) (lookup_of h.around) h.table depth
+abbrev pub jump_of : {F : Type 0} → Hook F → (ℕ → ℕ) → ℕ → List ℕ → WalkState → walk.Outcome
+jump_of h draws depth =
+    walk.chain_outcome (surroundings_of h.around.now draws) (lookup_of h.around.now) h.table depth
 
--- walking from this progress went as the function says, for any recent lists, which stay as they are
-abbrev pub RunsAs : Hook → Progress → Flow → Pass → (WalkState → walk.Outcome) → Type 0
-RunsAs h p flow pass walking =
-    (lists : RecentParts) → outcome_of h.header flow pass.chains.items lists ≡ walking (state_of h.header p lists)
+-- what of a jump comes to a set that takes memory
+abbrev pub sets_of : {F : Type 0} → Hook F → (ℕ → ℕ) → ℕ → List ℕ → WalkState → RecentParts → Type 0
+sets_of h draws depth =
+    ChainSets (surroundings_of h.around.now draws) (lookup_of h.around.now) h.table depth

@@ -1,10 +1,10 @@
 -- What a packet's journey through the hooks means in the walk.
-use Rattle.std.specs.Prelude.{◌≡◌, ℕ, false, [], length, None}
+use Rattle.std.specs.Prelude.{◌≡◌, ℕ, Bool, false, List, [], None}
 use Rattle.kp_types.specs.declared.packet.Packet.{Packet}
 use Rattle.kp_choice_defs.specs.Recent.{RecentParts}
 use Rattle.kp_table_defs.specs.Walk as walk
-use Rattle.kp_walker.specs.Answers.{names_of}
 use Rattle.kp_walker.specs.Progress.{state_of}
+use Rattle.kp_walker.specs.Shorn.{told}
 use Rattle.kp_walker.specs.declared.journey.Stage.{Stage}
 use Rattle.kp_walker.specs.declared.journey.Stage.TheVariants.{Translating, Filtering, Masquerading}
 use Rattle.kp_walker.specs.declared.journey.Journey.{Journey}
@@ -15,19 +15,15 @@ stage_of Translating = walk.Translating
 stage_of Filtering = walk.Filtering
 stage_of Masquerading = walk.Masquerading
 
--- the journey with these recent lists
-abbrev pub journey_of : Journey → RecentParts → walk.Journey
-journey_of j lists = record {
+-- the journey, with the trail that its recorder has, and these recent lists
+abbrev pub journey_of : {R : Type 0} → (R → List (List (List ℕ))) → Journey R → RecentParts → walk.Journey
+journey_of trail_of j lists = record {
   state = state_of j.header j.progress lists;
   translated = j.translated;
   masked = j.masked;
   stopped = j.stopped;
-  trail = names_of j.trail;
+  trail = trail_of j.recorder;
 }
-
--- how many hooks were ended by a rule
-abbrev pub hooks_ended : Journey → ℕ
-hooks_ended j = length j.trail.passes.items
 
 -- the beginning of a packet's journey
 abbrev pub beginning : Packet → RecentParts → walk.Journey
@@ -39,6 +35,10 @@ beginning packet lists = record {
   trail = [];
 }
 
--- the journey went on as the function says, for any recent lists, which stay as they are
-abbrev pub MovesAs : Journey → Journey → (walk.Journey → walk.Journey) → Type 0
-MovesAs old new moving = (lists : RecentParts) → journey_of new lists ≡ moving (journey_of old lists)
+-- the journey went on as the function says, as far as it is told
+abbrev pub MovesAs : Bool → walk.Journey → walk.Journey → (walk.Journey → walk.Journey) → Type 0
+MovesAs keeps old new moving = (j : walk.Journey) → old ≡ told keeps j → new ≡ told keeps (moving j)
+
+-- the journey stopped at a set that takes memory, and these are the recent lists by then
+abbrev pub StopsAs : Bool → walk.Journey → RecentParts → (walk.Journey → RecentParts → Type 0) → Type 0
+StopsAs keeps old lists sets = (j : walk.Journey) → old ≡ told keeps j → sets j lists

@@ -2,4 +2,6 @@ pub mod Answers
 pub mod Flow
 pub mod Journeys
 pub mod Progress
+pub mod Sets
+pub mod Shorn
 pub mod Surroundings

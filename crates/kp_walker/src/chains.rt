@@ -1,95 +1,145 @@
 //! Chains and their rules.
-ghost use Rattle.std.specs.Prelude.{◌≡◌, ◌≤◌, ◌<◌, true, []};
-ghost use Rattle.std.specs.List.{All};
-ghost use Rattle.kp_table_defs.specs.Plain.{HasNoRecent, is_plain};
+ghost use Rattle.std.specs.Prelude.{◌≡◌, ◌≤◌, ◌<◌, [], OnOk, OnErr, IfOk};
+ghost use Rattle.kp_choice_defs.specs.Draws.{IsStated, AreDraws};
 ghost use Rattle.kp_table_defs.specs.Walk.{rules_outcome, rule_outcome};
-ghost use Rattle.kp_walker.specs.Flow.{jump_of, IsThrough, RunsAs};
-ghost use Rattle.kp_walker.specs.Surroundings.{surroundings_of, lookup_of};
+ghost use Rattle.kp_walker.specs.Flow.{jump_of, sets_of, outcome_of, IsThrough};
+ghost use Rattle.kp_walker.specs.Progress.{state_of};
+ghost use Rattle.kp_walker.specs.Sets.{RuleSets, RulesSet};
+ghost use Rattle.kp_walker.specs.Shorn.{shorn};
+ghost use Rattle.kp_walker.specs.Surroundings.{surroundings_of};
 
 use crate::flow::Flow;
 use crate::hook::Hook;
 use crate::progress::Progress;
-use kp_types::{ChainAt, ChainName, Ending, Pass, Rule, Target};
+use crate::recorder::Recorder;
+use kp_base::NoMemory;
+use kp_recent::RecentLists;
+use kp_types::{ChainAt, ChainName, Ending, Rule, Target};
 
-impl Hook<'_> {
+impl<F: Fn(u64, u32) -> u32> Hook<'_, F> {
     /// Walks a chain, with at most `depth` chains on the way. Where a rule ends the traversal, the
-    /// pass has the chains on the way to it.
+    /// recorder is told the chains on the way to it.
     #[cycle(walk)]
-    pub(crate) fn run_chain(
+    pub(crate) fn run_chain<R: Recorder>(
         &self,
-        chain: ChainName,
+        chain: &ChainName,
         depth: usize,
         progress: Progress,
-        pass: &mut Pass,
-    ) -> Flow
-        requires plain { HasNoRecent (lookup_of self.now.around) }
-        requires new { pass.old.chains.items ≡ [] }
+        lists: &mut RecentLists,
+        recorder: &mut R,
+    ) -> Result<Flow, NoMemory>
+        requires stated { IsStated (F.pre self.now.around.now.draws.now)
+            (F.post self.now.around.now.draws.now) }
+        requires new { R.way recorder.old ≡ [] }
         requires room { depth ≤ 8 }
-        ensures outcome { RunsAs self.now progress result pass.new (jump_of self.now depth chain) }
-        ensures pass { IsThrough result depth pass.new.chains.items }
+        ensures outcome { IfOk result (λ flow. (draws : _)
+            → AreDraws (F.post self.now.around.now.draws.now) self.now.around.now.number draws
+            → outcome_of self.now.header flow (R.way recorder.new) lists.new ≡ shorn R.keeps
+            (jump_of self.now draws depth chain.now
+            (state_of self.now.header progress lists.old))) }
+        ensures way { IfOk result (λ flow. IsThrough flow depth (R.way recorder.new)) }
+        ensures refused { OnErr result ((draws : _)
+            → AreDraws (F.post self.now.around.now.draws.now) self.now.around.now.number draws
+            → sets_of self.now draws depth chain.now
+            (state_of self.now.header progress lists.old) lists.new) }
+        ensures trail { R.trail recorder.new ≡ R.trail recorder.old }
     {
         if depth == 0 {
-            return Flow::Stuck;
+            return Ok(Flow::Stuck);
         }
         let at = ChainAt {
             table: self.table,
-            chain,
+            chain: chain.same(),
         };
         match self.around.chains.chain(&at) {
-            None => Flow::Stuck,
+            None => Ok(Flow::Stuck),
             Some(rules) => {
-                let flow = self.run_rules(rules.as_slice(), depth - 1, progress, pass);
-                flow.returned_from(at.chain, pass)
+                let flow = self.run_rules(rules.as_slice(), depth - 1, progress, lists, recorder)?;
+                Ok(flow.returned_from(chain, recorder))
             }
         }
     }
 
     /// Walks rules in order, up to the first that ends the walk of the chain.
     #[cycle(walk)]
-    fn run_rules(&self, rules: &[Rule], depth: usize, progress: Progress, pass: &mut Pass) -> Flow
-        requires plain { HasNoRecent (lookup_of self.now.around) }
-        requires rules { All (λ r. is_plain r ≡ true) rules.now }
-        requires new { pass.old.chains.items ≡ [] }
+    fn run_rules<R: Recorder>(
+        &self,
+        rules: &[Rule],
+        depth: usize,
+        progress: Progress,
+        lists: &mut RecentLists,
+        recorder: &mut R,
+    ) -> Result<Flow, NoMemory>
+        requires stated { IsStated (F.pre self.now.around.now.draws.now)
+            (F.post self.now.around.now.draws.now) }
+        requires new { R.way recorder.old ≡ [] }
         requires room { depth < 8 }
-        ensures outcome { RunsAs self.now progress result pass.new
-            (rules_outcome (surroundings_of self.now.around) (jump_of self.now depth) rules.now) }
-        ensures pass { IsThrough result depth pass.new.chains.items }
+        ensures outcome { IfOk result (λ flow. (draws : _)
+            → AreDraws (F.post self.now.around.now.draws.now) self.now.around.now.number draws
+            → outcome_of self.now.header flow (R.way recorder.new) lists.new ≡ shorn R.keeps
+            (rules_outcome (surroundings_of self.now.around.now draws)
+            (jump_of self.now draws depth) rules.now
+            (state_of self.now.header progress lists.old))) }
+        ensures way { IfOk result (λ flow. IsThrough flow depth (R.way recorder.new)) }
+        ensures refused { OnErr result ((draws : _)
+            → AreDraws (F.post self.now.around.now.draws.now) self.now.around.now.number draws
+            → RulesSet (surroundings_of self.now.around.now draws) (jump_of self.now draws depth)
+            (sets_of self.now draws depth) rules.now
+            (state_of self.now.header progress lists.old) lists.new) }
+        ensures trail { R.trail recorder.new ≡ R.trail recorder.old }
     {
         let mut progress = progress;
         for rule in rules {
-            match self.run_rule(rule, depth, progress, pass) {
+            let flow = self.run_rule(rule, depth, progress, lists, recorder)?;
+            match flow {
                 Flow::Next(next) => progress = next,
-                flow => return flow,
+                _ => return Ok(flow),
             }
         }
-        Flow::Next(progress)
+        Ok(Flow::Next(progress))
     }
 
     /// Walks one rule: its target, where its matches hold.
     #[cycle(walk)]
-    fn run_rule(&self, rule: &Rule, depth: usize, progress: Progress, pass: &mut Pass) -> Flow
-        requires plain { HasNoRecent (lookup_of self.now.around) }
-        requires rule { is_plain rule.now ≡ true }
-        requires new { pass.old.chains.items ≡ [] }
+    fn run_rule<R: Recorder>(
+        &self,
+        rule: &Rule,
+        depth: usize,
+        progress: Progress,
+        lists: &mut RecentLists,
+        recorder: &mut R,
+    ) -> Result<Flow, NoMemory>
+        requires stated { IsStated (F.pre self.now.around.now.draws.now)
+            (F.post self.now.around.now.draws.now) }
+        requires new { R.way recorder.old ≡ [] }
         requires room { depth < 8 }
-        ensures outcome { RunsAs self.now progress result pass.new
-            (rule_outcome (surroundings_of self.now.around) (jump_of self.now depth) rule.now) }
-        ensures pass { IsThrough result depth pass.new.chains.items }
+        ensures outcome { IfOk result (λ flow. (draws : _)
+            → AreDraws (F.post self.now.around.now.draws.now) self.now.around.now.number draws
+            → outcome_of self.now.header flow (R.way recorder.new) lists.new ≡ shorn R.keeps
+            (rule_outcome (surroundings_of self.now.around.now draws)
+            (jump_of self.now draws depth) rule.now
+            (state_of self.now.header progress lists.old))) }
+        ensures way { IfOk result (λ flow. IsThrough flow depth (R.way recorder.new)) }
+        ensures refused { OnErr result ((draws : _)
+            → AreDraws (F.post self.now.around.now.draws.now) self.now.around.now.number draws
+            → RuleSets (surroundings_of self.now.around.now draws) (sets_of self.now draws depth)
+            rule.now (state_of self.now.header progress lists.old) lists.new) }
+        ensures trail { R.trail recorder.new ≡ R.trail recorder.old }
     {
-        let tried = self.try_all(rule.matches.as_slice(), progress);
+        let tried = self.try_all(rule.matches.as_slice(), progress, lists)?;
         if !tried.holds {
-            return Flow::Next(tried.progress);
+            return Ok(Flow::Next(tried.progress));
         }
         match &rule.target {
-            Target::Jump(chain) => self.run_chain(chain.same(), depth, tried.progress, pass),
-            Target::Return => Flow::Left(tried.progress),
-            Target::Accept => Flow::Ended(Ending::Accept, tried.progress),
-            Target::Drop => Flow::Ended(Ending::Drop, tried.progress),
-            Target::Reject => Flow::Ended(Ending::Reject, tried.progress),
-            Target::SetMark => Flow::Next(tried.progress.with_mark(true)),
-            Target::FlipMark => Flow::Next(tried.progress.with_mark(!tried.progress.marked)),
-            Target::Dnat(endpoint) => Flow::Ended(Ending::Dnat(*endpoint), tried.progress),
-            Target::Masquerade => Flow::Ended(Ending::Masquerade, tried.progress),
+            Target::Jump(chain) => self.run_chain(chain, depth, tried.progress, lists, recorder),
+            Target::Return => Ok(Flow::Left(tried.progress)),
+            Target::Accept => Ok(Flow::Ended(Ending::Accept, tried.progress)),
+            Target::Drop => Ok(Flow::Ended(Ending::Drop, tried.progress)),
+            Target::Reject => Ok(Flow::Ended(Ending::Reject, tried.progress)),
+            Target::SetMark => Ok(Flow::Next(tried.progress.with_mark(true))),
+            Target::FlipMark => Ok(Flow::Next(tried.progress.with_mark(!tried.progress.marked))),
+            Target::Dnat(endpoint) => Ok(Flow::Ended(Ending::Dnat(*endpoint), tried.progress)),
+            Target::Masquerade => Ok(Flow::Ended(Ending::Masquerade, tried.progress)),
         }
     }
 }

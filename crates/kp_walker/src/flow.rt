@@ -4,7 +4,8 @@ ghost use Rattle.kp_choice_defs.specs.Recent.{RecentParts};
 ghost use Rattle.kp_table_defs.specs.Walk as walk;
 
 use crate::progress::Progress;
-use kp_types::{ChainName, Ending, Pass};
+use crate::recorder::Recorder;
+use kp_types::{ChainName, Ending};
 
 /// How a walk goes on behind a rule, rules or a chain.
 #[derive(Clone, Copy, Debug, PartialEq, Eq)]
@@ -21,22 +22,24 @@ pub(crate) enum Flow {
 
 impl Flow {
     ghost use Rattle.kp_walker.specs.Flow.{outcome_of, IsThrough};
+    ghost use Rattle.kp_walker.specs.Shorn.{shorn};
     ghost use Rattle.kp_walker.specs.declared.header.Header.{Header};
 
     /// The flow behind a jump to the chain. Where a traversal was ended, the chain comes before
     /// those on the way.
-    pub(crate) fn returned_from(self, chain: ChainName, pass: &mut Pass) -> Flow
-        requires pass { IsThrough self 7 pass.old.chains.items }
+    pub(crate) fn returned_from<R: Recorder>(self, chain: &ChainName, recorder: &mut R) -> Flow
+        requires way { IsThrough self 7 (R.way recorder.old) }
         ensures outcome { (header : Header) (lists : RecentParts) →
-            outcome_of header result pass.new.chains.items lists
-            ≡ walk.returned_from chain (outcome_of header self pass.old.chains.items lists) }
-        ensures pass { (n : ℕ) → IsThrough self n pass.old.chains.items
-            → IsThrough result (n + 1) pass.new.chains.items }
+            outcome_of header result (R.way recorder.new) lists ≡ shorn R.keeps
+            (walk.returned_from chain.now (outcome_of header self (R.way recorder.old) lists)) }
+        ensures way { (n : ℕ) → IsThrough self n (R.way recorder.old)
+            → IsThrough result (n + 1) (R.way recorder.new) }
+        ensures trail { R.trail recorder.new ≡ R.trail recorder.old }
     {
         match self {
             Flow::Next(progress) | Flow::Left(progress) => Flow::Next(progress),
             Flow::Ended(ending, progress) => {
-                pass.chains.insert(0, chain);
+                recorder.come_from(chain);
                 Flow::Ended(ending, progress)
             }
             Flow::Stuck => Flow::Stuck,

@@ -1,109 +1,222 @@
 //! The hooks that a packet meets.
-ghost use Rattle.std.specs.Prelude.{◌≡◌, ◌+◌, ◌<◌, ◌≤◌};
+ghost use Rattle.std.specs.Prelude.{◌≡◌, ◌+◌, ◌<◌, ◌≤◌, true, [], length, OnOk, OnErr};
 ghost use Rattle.kp_base.specs.Net.{is_local_address};
-ghost use Rattle.kp_table_defs.specs.Plain.{HasNoRecent};
+ghost use Rattle.kp_choice_defs.specs.Draws.{IsStated, AreDraws};
+ghost use Rattle.kp_table_defs.specs.Ranks.{is_built_in};
 ghost use Rattle.kp_table_defs.specs.Walk as walk;
-ghost use Rattle.kp_walker.specs.Journeys.{stage_of, hooks_ended, MovesAs};
-ghost use Rattle.kp_walker.specs.Surroundings.{surroundings_of, lookup_of};
+ghost use Rattle.kp_walker.specs.Journeys.{stage_of, journey_of, MovesAs, StopsAs};
+ghost use Rattle.kp_walker.specs.Sets as sets;
+ghost use Rattle.kp_walker.specs.Surroundings.{surroundings_of, lookup_of, IsSound};
 
 use crate::hook::{Hook, Surroundings};
 use crate::journey::{Journey, Stage};
 use crate::local::is_local;
-use kp_types::{ChainName, Origin, Pass, TableName};
+use crate::recorder::Recorder;
+use kp_base::NoMemory;
+use kp_recent::RecentLists;
+use kp_rules::laws::ranked_walks_end;
+use kp_types::{ChainName, Origin, TableName};
 
 /// The most chains on a way.
 const MOST_CHAINS: usize = 8;
 
-impl Surroundings<'_> {
+impl<F: Fn(u64, u32) -> u32> Surroundings<'_, F> {
     /// The first hook, where the packet may be translated.
-    pub(crate) fn enter(&self, journey: &mut Journey)
-        requires plain { HasNoRecent (lookup_of self.now) }
-        requires room { hooks_ended journey.old < 4 }
-        ensures hook { MovesAs journey.old journey.new
-            (walk.through (surroundings_of self.now) (lookup_of self.now) walk.Translating
-            TableName.Nat (walk.first_hook self.now.packet.now.from)) }
-        ensures room { hooks_ended journey.new ≤ hooks_ended journey.old + 1 }
+    pub(crate) fn enter<R: Recorder>(
+        &self,
+        journey: &mut Journey<R>,
+        lists: &mut RecentLists,
+    ) -> Result<(), NoMemory>
+        requires stated { IsStated (F.pre self.now.draws.now) (F.post self.now.draws.now) }
+        requires sound { IsSound self.now.chains.now.chains }
+        requires way { R.way journey.old.recorder ≡ [] }
+        requires room { length (R.trail journey.old.recorder) < 4 }
+        ensures hook { OnOk result ((draws : _)
+            → AreDraws (F.post self.now.draws.now) self.now.number draws
+            → MovesAs R.keeps (journey_of R.trail journey.old lists.old)
+            (journey_of R.trail journey.new lists.new)
+            (walk.through (surroundings_of self.now draws) (lookup_of self.now) walk.Translating
+            TableName.Nat (walk.first_hook self.now.packet.now.from))) }
+        ensures refused { OnErr result ((draws : _)
+            → AreDraws (F.post self.now.draws.now) self.now.number draws
+            → StopsAs R.keeps (journey_of R.trail journey.old lists.old) lists.new
+            (sets.HookSets (surroundings_of self.now draws) (lookup_of self.now)
+            TableName.Nat (walk.first_hook self.now.packet.now.from))) }
+        ensures way { OnOk result (R.way journey.new.recorder ≡ []) }
+        ensures room { length (R.trail journey.new.recorder)
+            ≤ length (R.trail journey.old.recorder) + 1 }
     {
         let hook = first_hook(self.packet.from);
-        self.through(Stage::Translating, TableName::Nat, hook, journey);
+        self.through(Stage::Translating, TableName::Nat, &hook, journey, lists)
     }
 
     /// The way after the first hook: through the filter, and out of the node.
-    pub(crate) fn onward(&self, journey: &mut Journey)
-        requires plain { HasNoRecent (lookup_of self.now) }
-        requires room { hooks_ended journey.old < 2 }
-        ensures { MovesAs journey.old journey.new
-            (walk.onward (surroundings_of self.now) (lookup_of self.now)) }
+    pub(crate) fn onward<R: Recorder>(
+        &self,
+        journey: &mut Journey<R>,
+        lists: &mut RecentLists,
+    ) -> Result<(), NoMemory>
+        requires stated { IsStated (F.pre self.now.draws.now) (F.post self.now.draws.now) }
+        requires sound { IsSound self.now.chains.now.chains }
+        requires way { R.way journey.old.recorder ≡ [] }
+        requires room { length (R.trail journey.old.recorder) < 2 }
+        ensures way_on { OnOk result ((draws : _)
+            → AreDraws (F.post self.now.draws.now) self.now.number draws
+            → MovesAs R.keeps (journey_of R.trail journey.old lists.old)
+            (journey_of R.trail journey.new lists.new)
+            (walk.onward (surroundings_of self.now draws) (lookup_of self.now))) }
+        ensures refused { OnErr result ((draws : _)
+            → AreDraws (F.post self.now.draws.now) self.now.number draws
+            → StopsAs R.keeps (journey_of R.trail journey.old lists.old) lists.new
+            (sets.OnwardSets (surroundings_of self.now draws) (lookup_of self.now))) }
     {
         let from = self.packet.from;
         let for_node = is_local(self.node, &journey.header.target);
-        self.filter(from, for_node, journey);
-        self.leave(is_leaving(from, for_node), journey);
+        self.filter(from, for_node, journey, lists)?;
+        self.leave(is_leaving(from, for_node), journey, lists)
     }
 
     /// The last hook, where the packet leaves the node and may be masqueraded.
-    fn leave(&self, leaving: bool, journey: &mut Journey)
-        requires plain { HasNoRecent (lookup_of self.now) }
-        requires room { hooks_ended journey.old < 4 }
-        ensures { MovesAs journey.old journey.new
-            (walk.postrouting_if leaving (surroundings_of self.now) (lookup_of self.now)) }
+    fn leave<R: Recorder>(
+        &self,
+        leaving: bool,
+        journey: &mut Journey<R>,
+        lists: &mut RecentLists,
+    ) -> Result<(), NoMemory>
+        requires stated { IsStated (F.pre self.now.draws.now) (F.post self.now.draws.now) }
+        requires sound { IsSound self.now.chains.now.chains }
+        requires way { R.way journey.old.recorder ≡ [] }
+        requires room { length (R.trail journey.old.recorder) < 4 }
+        ensures hook { OnOk result ((draws : _)
+            → AreDraws (F.post self.now.draws.now) self.now.number draws
+            → MovesAs R.keeps (journey_of R.trail journey.old lists.old)
+            (journey_of R.trail journey.new lists.new)
+            (walk.postrouting_if leaving (surroundings_of self.now draws) (lookup_of self.now))) }
+        ensures refused { OnErr result ((draws : _)
+            → AreDraws (F.post self.now.draws.now) self.now.number draws
+            → StopsAs R.keeps (journey_of R.trail journey.old lists.old) lists.new
+            (sets.PostroutingSets leaving (surroundings_of self.now draws) (lookup_of self.now))) }
     {
         if leaving {
             let hook = ChainName::new("POSTROUTING");
-            self.through(Stage::Masquerading, TableName::Nat, hook, journey);
+            self.through(Stage::Masquerading, TableName::Nat, &hook, journey, lists)
+        } else {
+            Ok(())
         }
     }
 
     /// The hooks of the filter table.
-    fn filter(&self, from: Origin, for_node: bool, journey: &mut Journey)
-        requires plain { HasNoRecent (lookup_of self.now) }
-        requires room { hooks_ended journey.old < 2 }
+    fn filter<R: Recorder>(
+        &self,
+        from: Origin,
+        for_node: bool,
+        journey: &mut Journey<R>,
+        lists: &mut RecentLists,
+    ) -> Result<(), NoMemory>
+        requires stated { IsStated (F.pre self.now.draws.now) (F.post self.now.draws.now) }
+        requires sound { IsSound self.now.chains.now.chains }
+        requires way { R.way journey.old.recorder ≡ [] }
+        requires room { length (R.trail journey.old.recorder) < 2 }
         requires for_node { for_node
             ≡ is_local_address self.now.node.now journey.old.header.target }
-        ensures hooks { MovesAs journey.old journey.new
-            (walk.filter_hooks from (surroundings_of self.now) (lookup_of self.now)) }
-        ensures room { hooks_ended journey.new < 4 }
+        ensures hooks { OnOk result ((draws : _)
+            → AreDraws (F.post self.now.draws.now) self.now.number draws
+            → MovesAs R.keeps (journey_of R.trail journey.old lists.old)
+            (journey_of R.trail journey.new lists.new)
+            (walk.filter_hooks from (surroundings_of self.now draws) (lookup_of self.now))) }
+        ensures refused { OnErr result ((draws : _)
+            → AreDraws (F.post self.now.draws.now) self.now.number draws
+            → StopsAs R.keeps (journey_of R.trail journey.old lists.old) lists.new
+            (sets.FilterSets from (surroundings_of self.now draws) (lookup_of self.now))) }
+        ensures way { OnOk result (R.way journey.new.recorder ≡ []) }
+        ensures room { length (R.trail journey.new.recorder) < 4 }
     {
         match from {
             Origin::Wire => {
-                self.through(
-                    Stage::Filtering,
-                    TableName::Filter,
-                    routed_hook(for_node),
-                    journey,
-                );
+                let hook = routed_hook(for_node);
+                self.through(Stage::Filtering, TableName::Filter, &hook, journey, lists)
             }
             Origin::Node => {
                 let hook = ChainName::new("OUTPUT");
-                self.through(Stage::Filtering, TableName::Filter, hook, journey);
-                if for_node {
-                    let hook = ChainName::new("INPUT");
-                    self.through(Stage::Filtering, TableName::Filter, hook, journey);
-                }
+                self.through(Stage::Filtering, TableName::Filter, &hook, journey, lists)?;
+                self.come_in(for_node, journey, lists)
             }
         }
     }
 
-    /// A hook, unless something stopped the packet before.
-    fn through(&self, stage: Stage, table: TableName, chain: ChainName, journey: &mut Journey)
-        requires plain { HasNoRecent (lookup_of self.now) }
-        requires room { hooks_ended journey.old < 4 }
-        ensures hook { MovesAs journey.old journey.new
-            (walk.through (surroundings_of self.now) (lookup_of self.now) (stage_of stage) table
-            chain) }
-        ensures room { hooks_ended journey.new ≤ hooks_ended journey.old + 1 }
+    /// INPUT, where a packet of the node stays in it.
+    fn come_in<R: Recorder>(
+        &self,
+        for_node: bool,
+        journey: &mut Journey<R>,
+        lists: &mut RecentLists,
+    ) -> Result<(), NoMemory>
+        requires stated { IsStated (F.pre self.now.draws.now) (F.post self.now.draws.now) }
+        requires sound { IsSound self.now.chains.now.chains }
+        requires way { R.way journey.old.recorder ≡ [] }
+        requires room { length (R.trail journey.old.recorder) < 4 }
+        ensures hook { OnOk result ((draws : _)
+            → AreDraws (F.post self.now.draws.now) self.now.number draws
+            → MovesAs R.keeps (journey_of R.trail journey.old lists.old)
+            (journey_of R.trail journey.new lists.new)
+            (walk.input_if for_node (surroundings_of self.now draws) (lookup_of self.now))) }
+        ensures refused { OnErr result ((draws : _)
+            → AreDraws (F.post self.now.draws.now) self.now.number draws
+            → StopsAs R.keeps (journey_of R.trail journey.old lists.old) lists.new
+            (sets.InputSets for_node (surroundings_of self.now draws) (lookup_of self.now))) }
+        ensures way { OnOk result (R.way journey.new.recorder ≡ []) }
+        ensures room { length (R.trail journey.new.recorder)
+            ≤ length (R.trail journey.old.recorder) + 1 }
     {
+        if for_node {
+            let hook = ChainName::new("INPUT");
+            self.through(Stage::Filtering, TableName::Filter, &hook, journey, lists)
+        } else {
+            Ok(())
+        }
+    }
+
+    /// A hook, unless something stopped the packet before.
+    fn through<R: Recorder>(
+        &self,
+        stage: Stage,
+        table: TableName,
+        chain: &ChainName,
+        journey: &mut Journey<R>,
+        lists: &mut RecentLists,
+    ) -> Result<(), NoMemory>
+        requires stated { IsStated (F.pre self.now.draws.now) (F.post self.now.draws.now) }
+        requires sound { IsSound self.now.chains.now.chains }
+        requires built_in { is_built_in table chain.now ≡ true }
+        requires way { R.way journey.old.recorder ≡ [] }
+        requires room { length (R.trail journey.old.recorder) < 4 }
+        ensures hook { OnOk result ((draws : _)
+            → AreDraws (F.post self.now.draws.now) self.now.number draws
+            → MovesAs R.keeps (journey_of R.trail journey.old lists.old)
+            (journey_of R.trail journey.new lists.new)
+            (walk.through (surroundings_of self.now draws) (lookup_of self.now) (stage_of stage)
+            table chain.now)) }
+        ensures refused { OnErr result ((draws : _)
+            → AreDraws (F.post self.now.draws.now) self.now.number draws
+            → StopsAs R.keeps (journey_of R.trail journey.old lists.old) lists.new
+            (sets.HookSets (surroundings_of self.now draws) (lookup_of self.now) table chain.now)) }
+        ensures way { OnOk result (R.way journey.new.recorder ≡ []) }
+        ensures room { length (R.trail journey.new.recorder)
+            ≤ length (R.trail journey.old.recorder) + 1 }
+    {
+        ranked_walks_end();
         if journey.stopped.is_some() {
-            return;
+            return Ok(());
         }
         let hook = Hook {
-            around: *self,
+            around: self,
             table,
             header: journey.header,
         };
-        let mut pass = Pass::default();
-        let flow = hook.run_chain(chain, MOST_CHAINS, journey.progress, &mut pass);
-        journey.after_hook(stage, flow, pass);
+        let (progress, recorder) = (journey.progress, &mut journey.recorder);
+        let flow = hook.run_chain(chain, MOST_CHAINS, progress, lists, recorder)?;
+        journey.after_hook(stage, flow);
+        Ok(())
     }
 }
 

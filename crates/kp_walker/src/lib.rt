@@ -10,7 +10,10 @@ mod journey;
 mod local;
 mod matching;
 mod progress;
+mod recorder;
+mod sound;
 mod walking;
 
 pub use kp_types::{Answer, Origin, Packet, Pass, Trail, Verdict};
-pub use walking::walk;
+pub use sound::can_walk;
+pub use walking::{verdict_of, walk};

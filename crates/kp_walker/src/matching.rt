@@ -1,70 +1,107 @@
 //! The matches of a rule.
-ghost use Rattle.std.specs.Prelude.{◌≡◌, true};
-ghost use Rattle.std.specs.List.{list_all};
-ghost use Rattle.kp_choice_defs.specs.Draws.{draw_matches};
+ghost use Rattle.std.specs.Prelude.{◌≡◌, OnOk, OnErr, IfOk};
+ghost use Rattle.kp_choice_defs.specs.Draws.{IsStated, AreDraws, draw_matches};
+ghost use Rattle.kp_choice_defs.specs.Recent as recent;
 ghost use Rattle.kp_table_defs.specs.Matching as walk;
-ghost use Rattle.kp_table_defs.specs.Plain.{is_plain_match};
-ghost use Rattle.kp_walker.specs.Progress.{TriesAs};
+ghost use Rattle.kp_walker.specs.Progress.{state_of, tried_of};
+ghost use Rattle.kp_walker.specs.Sets.{MatchSets, MatchesSet};
 ghost use Rattle.kp_walker.specs.Surroundings.{surroundings_of};
 
 use crate::hook::Hook;
 use crate::local::is_local;
 use crate::progress::{Progress, Tried};
-use kp_draws::draw_of_list;
-use kp_types::Match;
+use kp_base::NoMemory;
+use kp_recent::RecentLists;
+use kp_types::{ChainName, Match};
 
-impl Hook<'_> {
+impl<F: Fn(u64, u32) -> u32> Hook<'_, F> {
     /// Tries matches from the left, up to the first that fails.
-    pub(crate) fn try_all(&self, matches: &[Match], progress: Progress) -> Tried
-        requires { list_all is_plain_match matches.now ≡ true }
-        ensures { TriesAs self.now progress result
-            (walk.try_all (surroundings_of self.now.around) matches.now) }
+    pub(crate) fn try_all(
+        &self,
+        matches: &[Match],
+        progress: Progress,
+        lists: &mut RecentLists,
+    ) -> Result<Tried, NoMemory>
+        requires { IsStated (F.pre self.now.around.now.draws.now)
+            (F.post self.now.around.now.draws.now) }
+        ensures ok { IfOk result (λ t. (draws : _)
+            → AreDraws (F.post self.now.around.now.draws.now) self.now.around.now.number draws
+            → tried_of self.now.header t lists.new
+            ≡ walk.try_all (surroundings_of self.now.around.now draws) matches.now
+            (state_of self.now.header progress lists.old)) }
+        ensures err { OnErr result ((draws : _)
+            → AreDraws (F.post self.now.around.now.draws.now) self.now.around.now.number draws
+            → MatchesSet (surroundings_of self.now.around.now draws) matches.now
+            (state_of self.now.header progress lists.old) lists.new) }
     {
         let mut progress = progress;
         for matched in matches {
-            let tried = self.try_match(matched, progress);
+            let tried = self.try_match(matched, progress, lists)?;
             if !tried.holds {
-                return tried;
+                return Ok(tried);
             }
             progress = tried.progress;
         }
-        Tried {
+        Ok(Tried {
             holds: true,
             progress,
-        }
+        })
     }
 
-    /// Tries one match. A draw counts as used whether or not the test holds.
-    fn try_match(&self, matched: &Match, progress: Progress) -> Tried
-        requires { is_plain_match matched.now ≡ true }
-        ensures { TriesAs self.now progress result
-            (walk.try_match (surroundings_of self.now.around) matched.now) }
+    /// Tries one match. A draw counts as used whether or not the test holds. Only a set of a source
+    /// that its list lacks takes memory.
+    fn try_match(
+        &self,
+        matched: &Match,
+        progress: Progress,
+        lists: &mut RecentLists,
+    ) -> Result<Tried, NoMemory>
+        requires { IsStated (F.pre self.now.around.now.draws.now)
+            (F.post self.now.around.now.draws.now) }
+        ensures ok { IfOk result (λ t. (draws : _)
+            → AreDraws (F.post self.now.around.now.draws.now) self.now.around.now.number draws
+            → tried_of self.now.header t lists.new
+            ≡ walk.try_match (surroundings_of self.now.around.now draws) matched.now
+            (state_of self.now.header progress lists.old)) }
+        ensures err { OnErr result
+            (MatchSets matched.now (state_of self.now.header progress lists.old) lists.new) }
     {
         match matched {
+            Match::Statistic { p } => Ok(self.try_draw(*p, progress)),
+            Match::Seen { list, seconds } => {
+                Ok(progress.tried(self.look_up(list, *seconds, lists)))
+            }
+            Match::SetSeen { list } => {
+                lists.set(list, &self.header.source, self.around.packet.now)?;
+                Ok(progress.tried(true))
+            }
             Match::Src { range, not } => {
-                progress.tried(range.contains(&self.header.source) != *not)
+                Ok(progress.tried(range.contains(&self.header.source) != *not))
             }
             Match::Dst { range, not } => {
-                progress.tried(range.contains(&self.header.target) != *not)
+                Ok(progress.tried(range.contains(&self.header.target) != *not))
             }
-            Match::Proto { proto } => progress.tried(*proto == self.around.packet.proto),
-            Match::Port { proto, port } => {
-                progress.tried(*proto == self.around.packet.proto && *port == self.header.port)
-            }
-            Match::SrcLocal => progress.tried(is_local(self.around.node, &self.header.source)),
-            Match::DstLocal => progress.tried(is_local(self.around.node, &self.header.target)),
-            Match::Marked { not } => progress.tried(progress.marked != *not),
-            Match::Statistic { p } => self.try_draw(*p, progress),
-            Match::Seen { .. } | Match::SetSeen { .. } => unreachable!(),
+            Match::Proto { proto } => Ok(progress.tried(*proto == self.around.packet.proto)),
+            Match::Port { proto, port } => Ok(progress.tried(
+                *proto == self.around.packet.proto && *port == self.header.port,
+            )),
+            Match::SrcLocal => Ok(progress.tried(is_local(self.around.node, &self.header.source))),
+            Match::DstLocal => Ok(progress.tried(is_local(self.around.node, &self.header.target))),
+            Match::Marked { not } => Ok(progress.tried(progress.marked != *not)),
         }
     }
 
     /// Tries a statistic match by the next draw.
     fn try_draw(&self, p: u64, progress: Progress) -> Tried
-        ensures { TriesAs self.now progress result
-            (walk.try_match (surroundings_of self.now.around) (Match.Statistic p)) }
+        requires { IsStated (F.pre self.now.around.now.draws.now)
+            (F.post self.now.around.now.draws.now) }
+        ensures { (draws lists : _)
+            → AreDraws (F.post self.now.around.now.draws.now) self.now.around.now.number draws
+            → tried_of self.now.header result lists
+            ≡ walk.try_match (surroundings_of self.now.around.now draws) (Match.Statistic p)
+            (state_of self.now.header progress lists) }
     {
-        let draw = draw_of_list(self.around.draws, progress.used);
+        let draw = self.around.draws.draw(self.around.number, progress.used);
         Tried {
             holds: is_drawn(p, draw),
             progress: Progress {
@@ -72,6 +109,19 @@ impl Hook<'_> {
                 used: progress.used.saturating_add(1),
             },
         }
+    }
+
+    /// Whether the source is in the list within the timeout. What is past it is dropped.
+    fn look_up(&self, list: &ChainName, seconds: u32, lists: &mut RecentLists) -> bool
+        ensures live { result ≡ recent.is_live lists.old list.now self.now.header.source
+            self.now.around.now.packet.now.now seconds }
+        ensures lists { lists.new ≡ recent.reaped lists.old list.now self.now.header.source
+            self.now.around.now.packet.now.now seconds }
+    {
+        let (source, now) = (&self.header.source, self.around.packet.now);
+        let is_live = lists.is_live(list, source, now, seconds);
+        lists.reap(list, source, now, seconds);
+        is_live
     }
 }
 

@@ -1,59 +1,115 @@
-use Rattle.std.proofs.Common.{◌-◌, ◌∙◌, sym, ap, arith, option_copied, None, Some}
+use Rattle.std.proofs.Common.{◌-◌, ◌∙◌, sym, ap, subst, arith, option_copied, None, Some}
 use Rattle.std.proofs.lemmas.List.{at_drop_all}
 use Rattle.kp_table_defs.specs.Walk.{rules_outcome, returned_from}
-use Rattle.kp_walker.specs.Flow.{jump_of}
+use Rattle.kp_walker.specs.Flow.{jump_of, sets_of, outcome_of, IsThrough}
 use Rattle.kp_walker.specs.Progress.{state_of}
+use Rattle.kp_walker.specs.Sets.{RulesSet}
+use Rattle.kp_walker.specs.Shorn.{shorn}
 use Rattle.kp_walker.specs.Surroundings.{surroundings_of, lookup_of}
-use Rattle.kp_walker.proofs.Steps.{chain_found, went_on, ended_here}
+use Rattle.kp_walker.proofs.SetSteps.{on_err, rule_here, rule_behind, chain_sets}
+use Rattle.kp_walker.proofs.Steps.{chain_found, went_on, went_next, ended_here, shorn_returned}
 use Rattle.kp_walker.proofs.hook.Hook.+walk.Goals as goal
 
 -- the jump goes to no chain
 pub run_chain-returns-in-None-clause-outcome : goal.run_chain-returns-in-None-clause-outcome
-run_chain-returns-in-None-clause-outcome t c lists =
+run_chain-returns-in-None-clause-outcome g t c draws drawn =
     let h = c.args.self.now in
-    chain_found (surroundings_of h.around) (lookup_of h.around) h.table c.args.depth (c.args.depth - 1) c.args.chain
-    (state_of h.header c.args.progress lists) None (omega arith)
-    (sym (ap option_copied c.in-None.is) ∙ c.chain.ensures)
+    ap (shorn g.R.Recorder.keeps)
+    (chain_found (surroundings_of h.around.now draws) (lookup_of h.around.now) h.table c.args.depth (c.args.depth - 1)
+    c.args.chain.now (state_of h.header c.args.progress c.args.lists.now) None (omega arith)
+    (sym (ap option_copied c.in-None.is) ∙ c.chain.ensures
+    ∙ ap (λ chain. lookup_of h.around.now (record { table = h.table; chain = chain })) c.same.ensures))
 
 -- what the chain's rules do, and back behind the jump
-pub run_chain-returns-in-Some-clause-outcome : goal.run_chain-returns-in-Some-clause-outcome
-run_chain-returns-in-Some-clause-outcome t c lists =
+pub run_chain-returns-in_ok-flow-in-Some-clause-outcome : goal.run_chain-returns-in_ok-flow-in-Some-clause-outcome
+run_chain-returns-in_ok-flow-in-Some-clause-outcome g t c draws drawn =
     let h = c.args.self.now in
-    let e = surroundings_of h.around in
-    let s = state_of h.header c.args.progress lists in
-    c.returned_from.ensures.outcome h.header lists
-    ∙ ap (returned_from c.args.chain) (c.run_rules-flow.ensures.outcome lists)
-    ∙ ap (λ rules. returned_from c.args.chain (rules_outcome e (jump_of h (c.args.depth - 1)) rules s)) c.as_slice.ensures
-    ∙ chain_found e (lookup_of h.around) h.table c.args.depth (c.args.depth - 1) c.args.chain s
-    (Some c.in-Some.rules.now) (omega arith) (sym (ap option_copied c.in-Some.is) ∙ c.chain.ensures)
+    let e = surroundings_of h.around.now draws in
+    let s = state_of h.header c.args.progress c.args.lists.now in
+    let keeps = g.R.Recorder.keeps in
+    let less = c.args.depth - 1 in
+    c.returned_from.ensures.outcome h.header c.run_rules.new.lists
+    ∙ ap (λ o. shorn keeps (returned_from c.args.chain.now o)) (c.in_ok-flow-in-Some.ensures.outcome draws drawn)
+    ∙ shorn_returned keeps c.args.chain.now (rules_outcome e (jump_of h draws less) c.as_slice.result.now s)
+    ∙ ap (λ rules. shorn keeps (returned_from c.args.chain.now (rules_outcome e (jump_of h draws less) rules s)))
+    c.as_slice.ensures
+    ∙ ap (shorn keeps) (chain_found e (lookup_of h.around.now) h.table c.args.depth less c.args.chain.now s
+    (Some c.in-Some.rules.now) (omega arith) (sym (ap option_copied c.in-Some.is) ∙ c.chain.ensures
+    ∙ ap (λ chain. lookup_of h.around.now (record { table = h.table; chain = chain })) c.same.ensures))
+
+-- the chain's rules come to the set
+pub run_chain-returns-in_err-flow-in-Some-clause-refused : goal.run_chain-returns-in_err-flow-in-Some-clause-refused
+run_chain-returns-in_err-flow-in-Some-clause-refused g t c = on_err c.from_residual.result (λ draws drawn.
+    let h = c.args.self.now in
+    let e = surroundings_of h.around.now draws in
+    let s = state_of h.header c.args.progress c.args.lists.now in
+    let less = c.args.depth - 1 in
+    chain_sets e (lookup_of h.around.now) h.table c.args.depth less c.args.chain.now s c.run_rules.new.lists
+    (Some c.in-Some.rules.now) (omega arith) (sym (ap option_copied c.in-Some.is) ∙ c.chain.ensures
+    ∙ ap (λ chain. lookup_of h.around.now (record { table = h.table; chain = chain })) c.same.ensures)
+    (subst (λ rules. RulesSet e (jump_of h draws less) (sets_of h draws less) rules s c.run_rules.new.lists)
+    c.as_slice.ensures (c.in_err-flow-in-Some.ensures.refused draws drawn)))
+
+-- a rule comes to the set
+pub run_rules-returns-in_err-flow-clause-refused : goal.run_rules-returns-in_err-flow-clause-refused
+run_rules-returns-in_err-flow-clause-refused g t c = on_err c.from_residual.result (λ draws drawn.
+    let h = c.args.self.now in
+    c.loop-rule.invariant.sets draws drawn c.run_rule.new.lists
+    (rule_here (surroundings_of h.around.now draws) (jump_of h draws c.args.depth) (sets_of h draws c.args.depth)
+    c.args.rules.now c.loop-rule.rule-index c.rule-item.result
+    (state_of h.header c.loop-rule.progress c.loop-rule.lists) c.run_rule.new.lists c.loop-rule-test.true
+    c.rule-item.is (c.in_err-flow.ensures.refused draws drawn)))
 
 -- the rule goes on
 pub run_rules-loop-rule-preserved : goal.run_rules-loop-rule-preserved
-run_rules-loop-rule-preserved t c = record {
-  same = λ lists.
-      let h = c.args.self.now in
-      went_on (surroundings_of h.around) (jump_of h c.args.depth) c.args.rules.now c.loop-rule.rule-index
-      c.rule-item.result (state_of h.header c.loop-rule.progress lists) (state_of h.header c.in-Next.next lists)
-      c.loop-rule-test.true c.rule-item.is (c.in-Next.ensures.outcome lists)
-      ∙ c.loop-rule.invariant.same lists;
-  new = c.in-Next.ensures.pass;
-}
+run_rules-loop-rule-preserved g t c =
+    let h = c.args.self.now in
+    let rules = c.args.rules.now in
+    let i = c.loop-rule.rule-index in
+    let s = state_of h.header c.loop-rule.progress c.loop-rule.lists in
+    let then = state_of h.header c.in-Next.next c.run_rule.new.lists in
+    record {
+      same = λ draws drawn.
+          went_on g.R.Recorder.keeps (surroundings_of h.around.now draws) (jump_of h draws c.args.depth) rules i
+          c.rule-item.result s then c.loop-rule-test.true c.rule-item.is
+          (sym (ap (λ f. outcome_of h.header f (g.R.Recorder.way c.run_rule.new.recorder) c.run_rule.new.lists) c.in-Next.is)
+          ∙ c.in_ok-flow.ensures.outcome draws drawn)
+          ∙ c.loop-rule.invariant.same draws drawn;
+      sets = λ draws drawn left set.
+          c.loop-rule.invariant.sets draws drawn left
+          (rule_behind (surroundings_of h.around.now draws) (jump_of h draws c.args.depth) (sets_of h draws c.args.depth)
+          rules i c.rule-item.result s then left c.loop-rule-test.true c.rule-item.is
+          (went_next g.R.Recorder.keeps _ then
+          (sym (ap (λ f. outcome_of h.header f (g.R.Recorder.way c.run_rule.new.recorder) c.run_rule.new.lists) c.in-Next.is)
+          ∙ c.in_ok-flow.ensures.outcome draws drawn))
+          set);
+      new = subst (λ f. IsThrough f c.args.depth (g.R.Recorder.way c.run_rule.new.recorder)) c.in-Next.is
+          c.in_ok-flow.ensures.way;
+      trail = c.in_ok-flow.ensures.trail ∙ c.loop-rule.invariant.trail;
+    }
 
 -- the rule does not go on
-pub run_rules-returns-in_default-clause-outcome : goal.run_rules-returns-in_default-clause-outcome
-run_rules-returns-in_default-clause-outcome t c lists =
-    let h = c.args.self.now in
-    ended_here (surroundings_of h.around) (jump_of h c.args.depth) c.args.rules.now c.loop-rule.rule-index
-    c.rule-item.result (state_of h.header c.loop-rule.progress lists) h.header c.run_rule.result
-    c.run_rule.new.pass.chains.items lists c.loop-rule-test.true c.rule-item.is c.in_default.not-Next
-    (c.run_rule.ensures.outcome lists)
-    ∙ c.loop-rule.invariant.same lists
+pub run_rules-returns-in_default : goal.run_rules-returns-in_default
+run_rules-returns-in_default g t c = record {
+  outcome = λ draws drawn.
+      let h = c.args.self.now in
+      ended_here g.R.Recorder.keeps (surroundings_of h.around.now draws) (jump_of h draws c.args.depth)
+      c.args.rules.now c.loop-rule.rule-index c.rule-item.result
+      (state_of h.header c.loop-rule.progress c.loop-rule.lists) h.header c.in_ok-flow.flow
+      (g.R.Recorder.way c.run_rule.new.recorder) c.run_rule.new.lists c.loop-rule-test.true c.rule-item.is
+      c.in_default.not-Next (c.in_ok-flow.ensures.outcome draws drawn)
+      ∙ ap (shorn g.R.Recorder.keeps) (c.loop-rule.invariant.same draws drawn);
+  way = c.in_ok-flow.ensures.way;
+  refused = tt;
+  trail = c.in_ok-flow.ensures.trail ∙ c.loop-rule.invariant.trail;
+}
 
 -- no rule is left
 pub run_rules-returns-clause-outcome : goal.run_rules-returns-clause-outcome
-run_rules-returns-clause-outcome t c lists =
+run_rules-returns-clause-outcome g t c draws drawn =
     let h = c.args.self.now in
-    let s = state_of h.header c.loop-rule.progress lists in
-    sym (at_drop_all (λ rules. rules_outcome (surroundings_of h.around) (jump_of h c.args.depth) rules s)
+    let s = state_of h.header c.loop-rule.progress c.loop-rule.lists in
+    ap (shorn g.R.Recorder.keeps)
+    (sym (at_drop_all (λ rules. rules_outcome (surroundings_of h.around.now draws) (jump_of h draws c.args.depth) rules s)
     c.args.rules.now c.loop-rule.rule-index c.loop-rule-test.false)
-    ∙ c.loop-rule.invariant.same lists
+    ∙ c.loop-rule.invariant.same draws drawn)

@@ -1,4 +1,6 @@
 use Rattle.kp_walker.proofs.hook.Hook.try_match.Goals as goal
 
-pub returns-in-Statistic : goal.returns-in-Statistic
-returns-in-Statistic c lists = rw c.in-Statistic.is (c.try_draw.ensures lists)
+-- a draw is tried
+pub returns-in-Statistic-clause-ok : goal.returns-in-Statistic-clause-ok
+returns-in-Statistic-clause-ok g c draws drawn =
+    rw c.in-Statistic.is (c.try_draw.ensures draws c.args.lists.now drawn)

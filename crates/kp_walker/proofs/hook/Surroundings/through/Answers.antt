@@ -2,13 +2,24 @@ use Rattle.std.proofs.Common.{◌∙◌, ap, sym}
 use Rattle.kp_table_defs.specs.Walk as walk
 use Rattle.kp_walker.specs.Surroundings.{surroundings_of, lookup_of}
 use Rattle.kp_walker.specs.Journeys.{stage_of, journey_of}
+use Rattle.kp_walker.specs.Progress.{state_of}
 use Rattle.kp_walker.proofs.Steps.{still_on}
 use Rattle.kp_walker.proofs.hook.Surroundings.through.Goals as goal
 
--- nothing stopped the packet before
+-- nothing stopped the packet before, and its walk doesn't get stuck
 pub returns-clause-hook : goal.returns-clause-hook
-returns-clause-hook c lists =
-    let j = journey_of c.args.journey.now lists in
-    c.after_hook.ensures.hook lists
-    ∙ ap (walk.after_hook (stage_of c.args.stage) j) (c.run_chain-flow.ensures.outcome lists)
-    ∙ still_on c.args.journey.now.stopped (surroundings_of c.args.self.now) (lookup_of c.args.self.now) (stage_of c.args.stage) c.args.table c.args.chain j (sym c.if-is_some.ensures)
+returns-clause-hook g c draws drawn =
+    let e = surroundings_of c.args.self.now draws in
+    let at = lookup_of c.args.self.now in
+    let trail = g.R.Recorder.trail in
+    let old = c.args.journey.now in
+    let before = c.args.lists.now in
+    let s = state_of old.header old.progress before in
+    still_on g.R.Recorder.keeps e at (stage_of c.args.stage) c.args.table c.args.chain.now (journey_of trail old before)
+    (journey_of trail c.after_hook.new.self c.run_chain.new.lists) (sym c.if-is_some.ensures)
+    (λ j start. c.after_hook.ensures.hook j (walk.chain_outcome e at c.args.table walk.most_chains c.args.chain.now s)
+    before c.run_chain.new.lists
+    (ap (λ t. record (journey_of trail old before) { trail = t }) c.in_ok-flow.ensures.trail ∙ start)
+    (c.in_ok-flow.ensures.outcome draws drawn)
+    (c.ranked_walks_end.ensures c.args.self.now.chains.now.chains c.requires.sound.ranked c.requires.sound.built_in
+    c.args.table c.args.chain.now c.requires.built_in e s))

@@ -1,16 +1,17 @@
-use Rattle.std.proofs.Common.{◌∙◌, ap}
-use Rattle.kp_table_defs.specs.Walk as walk
+use Rattle.std.proofs.Common.{sym, ◌∙◌, ap}
 use Rattle.kp_walker.specs.Journeys.{stage_of, journey_of}
 use Rattle.kp_walker.specs.Progress.{state_of}
-use Rattle.kp_walker.proofs.Steps.{pass_added}
+use Rattle.kp_walker.specs.Flow.{outcome_of}
+use Rattle.kp_walker.proofs.Steps.{ended_taken}
 use Rattle.kp_walker.proofs.journey.Journey.after_hook.Goals as goal
 
--- the pass is the last of the trail by then
+-- the way is the last of the trail by then
 pub returns-in-Ended-clause-hook : goal.returns-in-Ended-clause-hook
-returns-in-Ended-clause-hook c lists =
+returns-in-Ended-clause-hook g c j o before lists start came on =
     let old = c.args.self.now in
-    let j = walk.in_state (journey_of old lists) (state_of old.header c.in-Ended.progress lists) in
-    rw c.in-Ended.is
-    (c.ended_by.ensures.ended lists
-    ∙ ap (λ trail. walk.ended_by (stage_of c.args.stage) c.in-Ended.ending (record j { trail = trail }))
-    (pass_added old.trail.passes.items c.push.new.self.items c.args.pass c.push.ensures.items))
+    let way = g.R.Recorder.way old.recorder in
+    ended_taken g.R.Recorder.keeps (stage_of c.args.stage) c.in-Ended.ending
+    (state_of old.header c.in-Ended.progress lists) way (g.R.Recorder.trail c.end_hook.new.self)
+    (journey_of g.R.Recorder.trail old before) (journey_of g.R.Recorder.trail c.ended_by.new.self lists) j o start
+    (sym (ap (λ flow. outcome_of old.header flow way lists) c.in-Ended.is) ∙ came)
+    c.end_hook.ensures.trail (c.ended_by.ensures.ended lists)
