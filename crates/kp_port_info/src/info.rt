@@ -31,8 +31,7 @@ pub fn cluster_address(service: &Service) -> Option<Address>
 {
     match service.cluster {
         ClusterAddress::At(address)
-            if service.kind != ServiceKind::ExternalName && address.family() == Family::V4 =>
-        {
+            if service.kind != ServiceKind::ExternalName && address.family() == Family::V4 => {
             Some(address)
         }
         _ => None,

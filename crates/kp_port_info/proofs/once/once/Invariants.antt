@@ -9,5 +9,5 @@ use Rattle.kp_port_info.proofs.once.once.Given as goal
 abbrev pub invariant-loop-item : goal.invariant-loop-item
 invariant-loop-item g l = record {
   found : l.found.items ≡ first_places (eq_by_cmp g.T.Ord.cmp) (take l.item-index l.items);
-  seen : (x : g.T) → contains g.T.Ord.cmp l.seen x ≡ list_any (λ z. eq_by_cmp g.T.Ord.cmp z x) l.found.items;
+  seen : (x : _) → contains g.T.Ord.cmp l.seen x ≡ list_any (λ z. eq_by_cmp g.T.Ord.cmp z x) l.found.items;
 }
