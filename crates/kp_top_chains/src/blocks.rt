@@ -13,7 +13,7 @@ ghost use Rattle.kp_top_chains.specs.Blocks.{blocks_of};
 
 use crate::rows::outside_loopback;
 use kp_base::{Address, Cidr, Config, Endpoint, Items, NoMemory, PortNo};
-use kp_port_chains::rules::{add_rules_at, rule1, rule3, rule_at};
+use kp_port_chains::rules::{add_rules_at, rule_at, rule1, rule3};
 use kp_port_chains::{has_firewall, port_chain};
 use kp_types::{Match, Policy, PortChain, PortInfo, Rule, Target};
 use std::alloc::Global;
@@ -63,11 +63,7 @@ fn service_block(alloc: Global, config: &Config, info: &PortInfo) -> Result<Item
 }
 
 /// Adds the rule of the cluster address, where the list of the internal policy isn't empty.
-fn add_cluster_rule(
-    rules: &mut Vec<Rule>,
-    config: &Config,
-    info: &PortInfo,
-) -> Result<(), NoMemory>
+fn add_cluster_rule(rules: &mut Vec<Rule>, config: &Config, info: &PortInfo) -> Result<(), NoMemory>
     ensures { OnOk result (rules.new.items ≡ rules.old.items
         ++ layout.rules_if (not (is_empty (spec.internal_list info.now)))
         (layout.rule_at info.now (target.Jump (layout.port_chain (setting_of V4 config.now)
@@ -82,11 +78,7 @@ fn add_cluster_rule(
 }
 
 /// Adds the rules of external and of load-balancer addresses, where some endpoint serves.
-fn add_outer_rules(
-    rules: &mut Vec<Rule>,
-    config: &Config,
-    info: &PortInfo,
-) -> Result<(), NoMemory>
+fn add_outer_rules(rules: &mut Vec<Rule>, config: &Config, info: &PortInfo) -> Result<(), NoMemory>
     ensures { OnOk result (rules.new.items ≡ rules.old.items
         ++ layout.rules_if info.now.lists.has_any
         (map (layout.rule_at info.now (target.Jump (layout.port_chain (setting_of V4 config.now)
@@ -97,7 +89,13 @@ fn add_outer_rules(
     if !info.lists.has_any {
         return Ok(());
     }
-    add_rules_to(rules, config, info, PortChain::Ext, info.external.as_slice())?;
+    add_rules_to(
+        rules,
+        config,
+        info,
+        PortChain::Ext,
+        info.external.as_slice(),
+    )?;
     let kind = balancer_chain(&info.ranges);
     add_rules_to(rules, config, info, kind, info.balancer.as_slice())
 }
@@ -153,11 +151,7 @@ fn balancer_chain(ranges: &Option<Items<Cidr>>) -> PortChain
 }
 
 /// In KUBE-NODEPORTS of nat: the node port, where some endpoint serves.
-fn node_port_block(
-    alloc: Global,
-    config: &Config,
-    info: &PortInfo,
-) -> Result<Items<Rule>, NoMemory>
+fn node_port_block(alloc: Global, config: &Config, info: &PortInfo) -> Result<Items<Rule>, NoMemory>
     ensures { IfOk result (λ rs. rs
         ≡ layout.node_port_block (setting_of V4 config.now) info.now) }
 {

@@ -21,7 +21,13 @@ fn fixed_rows(alloc: Global) -> Result<Vec<ChainText>, NoMemory>
     let mut rows = Vec::new(alloc);
     nat_rows(alloc, &mut rows, Items::new(alloc), Items::new(alloc))?;
     let empty = Items::new(alloc);
-    filter_rows(alloc, &mut rows, empty, Items::new(alloc), Items::new(alloc))?;
+    filter_rows(
+        alloc,
+        &mut rows,
+        empty,
+        Items::new(alloc),
+        Items::new(alloc),
+    )?;
     Ok(rows)
 }
 
