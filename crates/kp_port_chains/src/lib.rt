@@ -8,6 +8,7 @@ mod endpoints;
 mod external;
 mod lists;
 mod named;
+mod port;
 pub mod rules;
 
 pub use chains::{has_firewall, info_chains, is_accessible};
@@ -15,3 +16,4 @@ pub use count::{count_chains, count_rules};
 pub use endpoints::all_endpoints;
 pub use external::port_chain;
 pub use kp_types::{ChainText, PortInfo};
+pub use port::{counted_chains, port_chains};
