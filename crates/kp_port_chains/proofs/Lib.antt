@@ -1,0 +1,4 @@
+pub mod ChoiceSteps
+pub mod Counts
+pub mod OtherEndpoints
+pub mod PortRows
