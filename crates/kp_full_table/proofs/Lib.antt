@@ -1,4 +1,0 @@
-pub mod Clashes
-pub mod Ordered
-pub mod PartSteps
-pub mod Rows
