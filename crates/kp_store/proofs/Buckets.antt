@@ -83,7 +83,7 @@ some_and : {X : Type 0} (b : Bool) (o : Option X) → is_some (cond b None o) �
 some_and true o = refl
 some_and false o = refl
 
-in_inserted : (m : Bucket) (key k : ObjectKey) → contains_key (insert m key tt) k ≡ eq_by_cmp key_cmp k key || contains_key m k
+pub in_inserted : (m : Bucket) (key k : ObjectKey) → contains_key (insert m key tt) k ≡ eq_by_cmp key_cmp k key || contains_key m k
 in_inserted m key k = ap is_some (get-insert key_total m key tt k) ∙ some_or (eq_by_cmp key_cmp k key) tt (get m k)
 
 in_removed : (m : Bucket) (key k : ObjectKey) → contains_key (remove m key) k ≡ not (eq_by_cmp key_cmp k key) && contains_key m k

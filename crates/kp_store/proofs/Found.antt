@@ -61,7 +61,7 @@ module _ {X : Type 0} (p : X → Bool) where
       ]
 
   -- the value, if there is one, passes
-  abbrev passes : Option X → Bool
+  abbrev pub passes : Option X → Bool
   passes None = false
   passes (Some x) = p x
 
@@ -105,7 +105,7 @@ module _ {X : Type 0} (p : X → Bool) where
       ap (map (λ e. e.0)) (same_entries key_cmp key_total key_exact (entries keys) (bare (passing (entries m))) (entries_sorted keys) (sorted_passing (entries m) (entries_sorted m)) (λ k. one_option (find key_cmp k (entries keys)) (find key_cmp k (bare (passing (entries m)))) (ap is_some (sym (get-entries keys k)) ∙ has k ∙ ap passes (get-entries m k) ∙ sym (found_passing k (entries m) (entries_sorted m)))))
       ∙ bare_keys (passing (entries m))
 
-  found_passes : (m : FinMap key_cmp X) (keys : Bucket) → ((k : ObjectKey) → contains_key keys k ≡ passes (get m k)) → filter_map (get m) (finite.keys keys) ≡ filter p (finite.values m)
+  pub found_passes : (m : FinMap key_cmp X) (keys : Bucket) → ((k : ObjectKey) → contains_key keys k ≡ passes (get m k)) → filter_map (get m) (finite.keys keys) ≡ filter p (finite.values m)
   found_passes m keys has =
       ap (filter_map (get m)) (bucket_keys m keys has)
       ∙ got_all m (passing (entries m)) (all_filter (λ e. get m e.0 ≡ Some e.1) (λ e. p e.1) (entries m) (entries_found key_total m))

@@ -2,5 +2,8 @@ pub mod Buckets
 pub mod Changed
 pub mod Found
 pub mod NodeNames
+pub mod OwnObjects
 pub mod Owners
+pub mod Selected
 pub mod SortedEntries
+pub mod Unions

@@ -1,3 +1,4 @@
+pub mod Destinations
 pub mod Indexes
 pub mod LookUps
 pub mod Named

@@ -1,8 +1,18 @@
 -- What the objects of each kind are found by.
-use Rattle.std.specs.Prelude.{ℕ, List, option_map}
+use Rattle.std.specs.Prelude.{ℕ, List, [], ◌∷◌, ◌++◌, map, Option, option_map, slice_get}
+use Rattle.std.specs.List.{flat_map}
 use Rattle.std.specs.Option.{option_to_list}
+use Rattle.kp_base.specs.Net.{AddressParts}
 use Rattle.kp_base.specs.declared.key.ObjectKey.{ObjectKey}
+use Rattle.kp_base.specs.declared.key.Pair.{Pair}
+use Rattle.kp_types.specs.declared.pod.Pod.{Pod}
+use Rattle.kp_types.specs.declared.service.Service.{Service}
+use Rattle.kp_types.specs.declared.service.ServicePort.{ServicePort}
 use Rattle.kp_types.specs.declared.slice.Slice.{Slice}
+use Rattle.kp_store.specs.Destinations.{cluster_addresses}
+use Rattle.kp_store.specs.declared.tags.Label.{Label}
+use Rattle.kp_store.specs.declared.tags.ServiceTag.{ServiceTag}
+use Rattle.kp_store.specs.declared.tags.ServiceTag.TheVariants.{Selector, At, NodePort}
 
 -- the key of the Service of this name in the slice's namespace
 abbrev pub owner_key : Slice → List ℕ → ObjectKey
@@ -11,3 +21,43 @@ owner_key s name = record { namespace = s.key.namespace; name = name }
 -- the Service that the slice's label names, if it names one
 abbrev pub owners_of : Slice → List ObjectKey
 owners_of s = option_to_list (option_map (owner_key s) s.service)
+
+-- a pair in a namespace
+abbrev pub label_in : List ℕ → Pair → Label
+label_in namespace pair = record { namespace = namespace; key = pair.key; value = pair.value }
+
+-- a pod's labels, in its namespace
+abbrev pub labels_of : Pod → List Label
+labels_of pod = map (label_in pod.key.namespace) pod.labels
+
+-- the tag of a selector that begins with a pair
+abbrev pub selector_of : List ℕ → Pair → ServiceTag
+selector_of namespace pair = Selector (label_in namespace pair)
+
+-- the tags of the selectors that begin with a label of a pod
+abbrev pub selected_by : Pod → List ServiceTag
+selected_by pod = map (selector_of pod.key.namespace) pod.labels
+
+-- the tag of a Service's selector, by its first pair
+abbrev pub selector_tags : Service → List ServiceTag
+selector_tags s = option_to_list (option_map (selector_of s.key.namespace) (slice_get s.selector 0))
+
+-- the tag of a port at an address
+abbrev pub tag_at : ServicePort → AddressParts → ServiceTag
+tag_at p a = At a p.port p.proto
+
+-- the tag of a port at a node port
+abbrev pub node_tag : ServicePort → ℕ → ServiceTag
+node_tag p number = NodePort number p.proto
+
+-- the tags of a port of a Service
+abbrev pub tags_of_port : Service → ServicePort → List ServiceTag
+tags_of_port s p =
+    map (tag_at p) (cluster_addresses s.cluster)
+    ++ map (tag_at p) s.external
+    ++ map (tag_at p) s.balancer
+    ++ option_to_list (option_map (node_tag p) p.node_port)
+
+-- the tags of a Service: the first pair of its selector, and the destinations of its ports
+abbrev pub tags_of : Service → List ServiceTag
+tags_of s = selector_tags s ++ flat_map (tags_of_port s) s.ports

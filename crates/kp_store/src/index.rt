@@ -2,6 +2,7 @@
 ghost use Rattle.std.specs.Prelude.{◌≡◌, ◌&&◌, ◌||◌, not, [], map, None, IfOk, OnOk, OnErr};
 ghost use Rattle.std.specs.Ordering.{eq_by_cmp};
 ghost use Rattle.std.specs.FinMap as finite;
+ghost use Rattle.std.specs.List.{list_any};
 ghost use Rattle.std.specs.Map.{lookup};
 ghost use Rattle.kp_base.specs.declared.key.ObjectKey.{ObjectKey};
 ghost use Rattle.kp_store.specs.Indexes.{bucket, has, is_among, is_pair, is_tag_of, is_lost};
@@ -51,6 +52,18 @@ impl<T: Ord + Drop> Index<T> {
             Some(bucket) => bucket.keys(alloc),
             None => Ok(Vec::new(alloc)),
         }
+    }
+
+    /// The keys of any of some tags.
+    pub fn keys_of_any(&self, alloc: Global, tags: &[T]) -> Result<Keyed<()>, NoMemory>
+        ensures { IfOk result (λ ks. (k : ObjectKey) → finite.contains_key ks k
+            ≡ list_any (λ t. has T.cmp self.now t k) tags.now) }
+    {
+        let mut keys = Keyed::new(alloc);
+        for tag in tags {
+            keys.put_all(alloc, self.keys(alloc, tag)?.as_slice())?;
+        }
+        Ok(keys)
     }
 
     /// Adds a key to the bucket of a tag. Where memory is out, all stays.

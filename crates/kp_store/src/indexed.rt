@@ -1,6 +1,6 @@
 //! Objects of one kind by their keys, with an index of what they are found by.
 ghost use Rattle.std.specs.Prelude.{◌≡◌, ◌++◌, List, map, IfOk, OnOk, OnErr, option_copied};
-ghost use Rattle.std.specs.List.{filter, filter_map};
+ghost use Rattle.std.specs.List.{filter, filter_map, list_any};
 ghost use Rattle.std.specs.FinMap as finite;
 ghost use Rattle.std.specs.Option.{option_to_list};
 ghost use Rattle.kp_store.specs.Indexes.{is_among, is_tagged};
@@ -82,6 +82,18 @@ impl<X: Tagged<T>, T: Ord + Copied> Indexed<X, T> {
             ≡ filter (λ x. is_among T.cmp (X.tags x) tag.now) (finite.values self.now)) }
     {
         let keys = self.index.keys(alloc, tag)?;
+        let found = found_at(alloc, &self.objects, keys.as_slice())?;
+        Ok(found)
+    }
+
+    /// The objects with any of some tags, in order of their keys.
+    pub fn found_any(&self, alloc: Global, tags: &[T]) -> Result<Vec<&X>, NoMemory>
+        ensures { IfOk result (λ xs. map (λ x. x.now) xs.items
+            ≡ filter (λ x. list_any (is_among T.cmp (X.tags x)) tags.now)
+            (finite.values self.now)) }
+    {
+        let union = self.index.keys_of_any(alloc, tags)?;
+        let keys = union.keys(alloc)?;
         let found = found_at(alloc, &self.objects, keys.as_slice())?;
         Ok(found)
     }

@@ -1,8 +1,12 @@
 //! Objects of one kind by their keys.
-ghost use Rattle.std.specs.Prelude.{◌≡◌, map, IfOk, OnOk, OnErr, option_copied};
+ghost use Rattle.std.specs.Prelude.{◌≡◌, ◌||◌, map, IfOk, OnOk, OnErr, option_copied};
+ghost use Rattle.std.specs.List.{list_any};
+ghost use Rattle.std.specs.Ordering.{eq_by_cmp};
+ghost use Rattle.kp_base.specs.Keys.{key_cmp};
+ghost use Rattle.kp_base.specs.declared.key.ObjectKey.{ObjectKey};
 ghost use Rattle.std.specs.FinMap as finite;
 
-use kp_base::{NoMemory, ObjectKey};
+use kp_base::{Copied, NoMemory, ObjectKey};
 use std::alloc::Global;
 use std::collections::BTreeMap;
 use std::marker::Model;
@@ -70,5 +74,18 @@ impl<X: Drop> Keyed<X> {
         ensures { self.new ≡ finite.remove self.old key.now }
     {
         self.entries.remove(key);
+    }
+}
+
+impl Keyed<()> {
+    /// Puts keys.
+    pub fn put_all(&mut self, alloc: Global, keys: &[&ObjectKey]) -> Result<(), NoMemory>
+        ensures { OnOk result ((k : ObjectKey) → finite.contains_key self.new k
+            ≡ list_any (λ q. eq_by_cmp key_cmp k q.now) keys.now || finite.contains_key self.old k) }
+    {
+        for key in keys {
+            self.put(key.copy(alloc)?, ())?;
+        }
+        Ok(())
     }
 }

@@ -55,7 +55,7 @@ impl Nodes {
     }
 
     /// The node of a name, if there is one.
-    fn get(&self, name: &Text) -> Option<&Node>
+    pub fn get(&self, name: &Text) -> Option<&Node>
         ensures { option_copied result ≡ finite.get self.now (node_key name.now) }
     {
         self.by_name.get(name)

@@ -1,17 +1,20 @@
 //! The objects of the cluster.
-ghost use Rattle.std.specs.Prelude.{◌≡◌, IfOk, OnOk, OnErr, option_copied};
+ghost use Rattle.std.specs.Prelude.{◌≡◌, map, Some, IfOk, OnOk, OnErr, option_copied};
+ghost use Rattle.std.specs.List.{filter};
 ghost use Rattle.std.specs.FinMap as finite;
 ghost use Rattle.kp_object_defs.specs.Entries as entries;
 ghost use Rattle.kp_object_defs.specs.Objects as objects;
 ghost use Rattle.kp_object_defs.specs.Objects.{no_objects, objects_step, objects_after};
 ghost use Rattle.kp_object_defs.specs.Objects.{with_object, without_object};
+ghost use Rattle.kp_object_defs.specs.OwnKeys.{AreUnderOwnKeys};
+ghost use Rattle.kp_store.specs.Destinations.{answers};
 ghost use Rattle.kp_store.specs.LookUps as find;
 
 use crate::indexed::Indexed;
-use crate::keyed::Keyed;
 use crate::nodes::Nodes;
-use crate::selections::{copies, keys_selecting, pods_selected};
-use kp_base::{Copied, Items, NoMemory, ObjectKey, Text};
+use crate::selections::{copies, keys_selecting, pods_selected, services_answering};
+use crate::tags::{Label, ServiceTag, label_in, selected_by};
+use kp_base::{Address, Copied, Items, NoMemory, ObjectKey, PortNo, Proto, Text};
 use kp_types::{Event, Kind, Node, Object, Pod, Service, Slice};
 use std::alloc::Global;
 use std::marker::Model;
@@ -19,14 +22,15 @@ use std::marker::Model;
 /// The objects of the cluster after events, which contracts see as four finite maps.
 #[derive(Drop)]
 pub struct Objects {
-    services: Keyed<Service>,
+    services: Indexed<Service, ServiceTag>,
     slices: Indexed<Slice, ObjectKey>,
-    pods: Keyed<Pod>,
+    pods: Indexed<Pod, Label>,
     nodes: Nodes,
 }
 
 impl Model for Objects {
     ghost use Rattle.kp_object_defs.specs.Objects as objects;
+    ghost use Rattle.kp_object_defs.specs.OwnKeys.{AreUnderOwnKeys};
     ghost use Rattle.kp_store.specs.Stored.{objects_code};
 
     ghost Value = { objects.Objects };
@@ -39,6 +43,13 @@ impl Model for Objects {
       pods = o.pods;
       nodes = o.nodes;
     } };
+
+    ghost invariant = { λ o. AreUnderOwnKeys (record {
+      services = o.services;
+      slices = o.slices;
+      pods = o.pods;
+      nodes = o.nodes;
+    }) };
 }
 
 impl Objects {
@@ -47,9 +58,9 @@ impl Objects {
         ensures { result ≡ no_objects }
     {
         Objects {
-            services: Keyed::new(alloc),
+            services: Indexed::new(alloc),
             slices: Indexed::new(alloc),
-            pods: Keyed::new(alloc),
+            pods: Indexed::new(alloc),
             nodes: Nodes::new(alloc),
         }
     }
@@ -82,9 +93,9 @@ impl Objects {
         ensures err { OnErr result (self.new ≡ self.old) }
     {
         match object {
-            Object::Service(s) => self.services.put(s.key.copy(alloc)?, s.copy(alloc)?),
+            Object::Service(s) => self.services.put(alloc, s.key.copy(alloc)?, s.copy(alloc)?),
             Object::EndpointSlice(s) => self.slices.put(alloc, s.key.copy(alloc)?, s.copy(alloc)?),
-            Object::Pod(p) => self.pods.put(p.key.copy(alloc)?, p.copy(alloc)?),
+            Object::Pod(p) => self.pods.put(alloc, p.key.copy(alloc)?, p.copy(alloc)?),
             Object::Node(n) => self.nodes.put(n.name.copy(alloc)?, n.copy(alloc)?),
         }
     }
@@ -95,15 +106,9 @@ impl Objects {
         ensures err { OnErr result (self.new ≡ self.old) }
     {
         match kind {
-            Kind::Service => {
-                self.services.take(key);
-                Ok(())
-            }
+            Kind::Service => self.services.take(alloc, key),
             Kind::EndpointSlice => self.slices.take(alloc, key),
-            Kind::Pod => {
-                self.pods.take(key);
-                Ok(())
-            }
+            Kind::Pod => self.pods.take(alloc, key),
             Kind::Node => {
                 self.nodes.take(key);
                 Ok(())
@@ -116,6 +121,15 @@ impl Objects {
         ensures { option_copied result ≡ finite.get self.now.services key.now }
     {
         self.services.get(key)
+    }
+
+    /// All Services, in order of their keys. Each object stands under its own key.
+    pub fn all_services(&self, alloc: Global) -> Result<Vec<&Service>, NoMemory>
+        ensures found { IfOk result (λ ss. map (λ s. s.now) ss.items
+            ≡ finite.values self.now.services) }
+        ensures own_keys { AreUnderOwnKeys self.now }
+    {
+        self.services.values(alloc)
     }
 
     /// The keys of all Services, in order.
@@ -141,7 +155,11 @@ impl Objects {
         ensures { IfOk result (λ ks. ks ≡ find.services_of_pod self.now pod.now) }
     {
         match self.pods.get(pod) {
-            Some(pod) => keys_selecting(alloc, self.services.values(alloc)?.as_slice(), pod),
+            Some(pod) => {
+                let tags = selected_by(alloc, pod)?;
+                let found = self.services.found_any(alloc, tags.as_slice())?;
+                keys_selecting(alloc, found.as_slice(), pod)
+            }
             None => Ok(Items::new(alloc)),
         }
     }
@@ -160,9 +178,51 @@ impl Objects {
         ensures { IfOk result (λ ps. ps ≡ find.pods_of self.now service.now) }
     {
         match self.services.get(service) {
-            Some(service) => pods_selected(alloc, self.pods.values(alloc)?.as_slice(), service),
+            Some(service) => self.pods_selected_by(alloc, service),
             None => Ok(Items::new(alloc)),
         }
+    }
+
+    /// The pods that a Service selects: each has the first pair of its selector among its labels.
+    fn pods_selected_by(&self, alloc: Global, service: &Service) -> Result<Items<Pod>, NoMemory>
+        ensures { IfOk result (λ ps. ps ≡ find.selected self.now (Some service.now)) }
+    {
+        match service.selector.as_slice().first() {
+            Some(pair) => {
+                let label = label_in(alloc, &service.key.namespace, pair)?;
+                let found = self.pods.found(alloc, &label)?;
+                pods_selected(alloc, found.as_slice(), service)
+            }
+            None => Ok(Items::new(alloc)),
+        }
+    }
+
+    /// The Services of which a port may answer at an address and number, whatever the family, or
+    /// has the number as its node port, in order of their keys.
+    pub fn services_at(
+        &self,
+        alloc: Global,
+        proto: Proto,
+        address: &Address,
+        number: PortNo,
+    ) -> Result<Vec<&Service>, NoMemory>
+        ensures found { IfOk result (λ ss. map (λ s. s.now) ss.items
+            ≡ filter (answers proto address.now number) (finite.values self.now.services)) }
+        ensures own_keys { AreUnderOwnKeys self.now }
+    {
+        let tags = [
+            ServiceTag::At(*address, number, proto),
+            ServiceTag::NodePort(number, proto),
+        ];
+        let found = self.services.found_any(alloc, &tags[..])?;
+        services_answering(alloc, found.as_slice(), proto, address, number)
+    }
+
+    /// The node of a name, if there is one.
+    pub fn node(&self, name: &Text) -> Option<&Node>
+        ensures { option_copied result ≡ finite.get self.now.nodes (objects.node_key name.now) }
+    {
+        self.nodes.get(name)
     }
 
     /// The zone of a node, if it is there and has one.

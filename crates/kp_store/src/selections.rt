@@ -2,10 +2,11 @@
 ghost use Rattle.std.specs.Prelude.{◌≡◌, map, IfOk};
 ghost use Rattle.std.specs.List.{filter};
 ghost use Rattle.kp_object_defs.specs.Desired as Desired;
+ghost use Rattle.kp_store.specs.Destinations as spec;
 
-use kp_base::{Copied, Items, NoMemory, ObjectKey};
+use kp_base::{Address, Copied, Items, NoMemory, ObjectKey, PortNo, Proto};
 use kp_desired::selects;
-use kp_types::{Pod, Service};
+use kp_types::{ClusterAddress, Pod, Service};
 use std::alloc::Global;
 
 /// Copies of all.
@@ -35,6 +36,74 @@ pub fn keys_selecting<'a>(
         }
     }
     Ok(Items::from_vec(keys))
+}
+
+/// The Services that may answer at an address and number, or that have the number as a node port.
+pub fn services_answering<'a>(
+    alloc: Global,
+    services: &[&'a Service],
+    proto: Proto,
+    address: &Address,
+    number: PortNo,
+) -> Result<Vec<&'a Service>, NoMemory>
+    ensures { IfOk result (λ ss. map (λ s. s.now) ss.items
+        ≡ filter (spec.answers proto address.now number) (map (λ s. s.now) services.now)) }
+{
+    let mut answering = Vec::new(alloc);
+    for service in services {
+        if answers(service, proto, address, number) {
+            answering.push(*service)?;
+        }
+    }
+    Ok(answering)
+}
+
+/// Whether a port of a Service may answer at an address and number, or has the number as its node
+/// port.
+fn answers(service: &Service, proto: Proto, address: &Address, number: PortNo) -> bool
+    ensures { result ≡ spec.answers proto address.now number service.now }
+{
+    let has_address = is_address_of(service, address);
+    service.ports.as_slice().iter().any(|port| {
+        port.proto == proto
+            && (port.port == number && has_address || is_node_port(port.node_port, number))
+    })
+}
+
+/// Whether a number is the node port, if there is one.
+fn is_node_port(node_port: Option<PortNo>, number: PortNo) -> bool
+    ensures { result ≡ spec.is_node_port number node_port }
+{
+    match node_port {
+        Some(own) => own == number,
+        None => false,
+    }
+}
+
+/// Whether an address is one of a Service.
+fn is_address_of(service: &Service, address: &Address) -> bool
+    ensures { result ≡ spec.is_address_of address.now service.now }
+{
+    is_cluster_address(service, address)
+        || has_address(service.external.as_slice(), address)
+        || has_address(service.balancer.as_slice(), address)
+}
+
+/// Whether an address is the cluster address of a Service.
+fn is_cluster_address(service: &Service, address: &Address) -> bool
+    ensures { result ≡ spec.has_address address.now (spec.cluster_addresses service.now.cluster) }
+{
+    match service.cluster {
+        ClusterAddress::At(cluster) => cluster == *address,
+        _ => false,
+    }
+}
+
+/// Whether an address is among addresses.
+fn has_address(addresses: &[Address], address: &Address) -> bool
+    ensures { result ≡ spec.has_address address.now addresses.now }
+{
+    addresses.iter().any(|one| *one == *address)
 }
 
 /// The pods that a Service selects.

@@ -1,8 +1,54 @@
 //! What the objects of each kind are found by.
+ghost use Rattle.std.specs.Prelude.{◌≡◌, ◌++◌, map, IfOk, OnOk, option_map};
+ghost use Rattle.std.specs.Option.{option_to_list};
+ghost use Rattle.kp_store.specs.Destinations.{cluster_addresses};
+ghost use Rattle.kp_store.specs.Tags as spec;
+
 use crate::indexed::Tagged;
-use kp_base::{Copied, Items, NoMemory, ObjectKey};
-use kp_types::Slice;
+use kp_base::{Address, Copied, Items, NoMemory, ObjectKey, Pair, PortNo, Proto, Text};
+use kp_types::{ClusterAddress, Pod, Service, ServicePort, Slice};
 use std::alloc::Global;
+
+/// A label in a namespace, which a pod has or a Service selects by.
+#[derive(PartialEq, Eq, PartialOrd, Ord, Drop)]
+pub struct Label {
+    pub namespace: Text,
+    pub key: Text,
+    pub value: Text,
+}
+
+/// What a Service is found by.
+#[derive(PartialEq, Eq, PartialOrd, Ord, Drop)]
+pub enum ServiceTag {
+    /// The first pair of its selector.
+    Selector(Label),
+    /// An address and the number of a port.
+    At(Address, PortNo, Proto),
+    /// A node port.
+    NodePort(PortNo, Proto),
+}
+
+impl Copied for Label {
+    fn copy(&self, alloc: Global) -> Result<Label, NoMemory> {
+        Ok(Label {
+            namespace: self.namespace.copy(alloc)?,
+            key: self.key.copy(alloc)?,
+            value: self.value.copy(alloc)?,
+        })
+    }
+}
+
+impl Copied for ServiceTag {
+    fn copy(&self, alloc: Global) -> Result<ServiceTag, NoMemory> {
+        match self {
+            ServiceTag::Selector(label) => Ok(ServiceTag::Selector(label.copy(alloc)?)),
+            ServiceTag::At(address, number, proto) => {
+                Ok(ServiceTag::At(*address, *number, *proto))
+            }
+            ServiceTag::NodePort(number, proto) => Ok(ServiceTag::NodePort(*number, *proto)),
+        }
+    }
+}
 
 /// A slice is found by the Service that its label names.
 impl Tagged<ObjectKey> for Slice {
@@ -22,4 +68,135 @@ impl Tagged<ObjectKey> for Slice {
             None => Ok(Items::new(alloc)),
         }
     }
+}
+
+/// A pod is found by each of its labels.
+impl Tagged<Label> for Pod {
+    ghost use Rattle.kp_store.specs.Tags.{labels_of};
+
+    ghost tags = { labels_of };
+
+    fn tags(&self, alloc: Global) -> Result<Items<Label>, NoMemory> {
+        let mut labels = Vec::new(alloc);
+        for pair in self.labels.as_slice() {
+            labels.push(label_in(alloc, &self.key.namespace, pair)?)?;
+        }
+        Ok(Items::from_vec(labels))
+    }
+}
+
+/// A Service is found by the first pair of its selector, by each address and number that its ports
+/// have, and by its node ports.
+impl Tagged<ServiceTag> for Service {
+    ghost use Rattle.kp_store.specs.Tags.{tags_of};
+
+    ghost tags = { tags_of };
+
+    fn tags(&self, alloc: Global) -> Result<Items<ServiceTag>, NoMemory> {
+        let mut tags = Vec::new(alloc);
+        add_selector_tag(alloc, &mut tags, self)?;
+        for port in self.ports.as_slice() {
+            add_tags_of_port(&mut tags, self, port)?;
+        }
+        Ok(Items::from_vec(tags))
+    }
+}
+
+/// A label in a namespace.
+pub fn label_in(alloc: Global, namespace: &Text, pair: &Pair) -> Result<Label, NoMemory>
+    ensures { IfOk result (λ l. l ≡ spec.label_in namespace.now pair.now) }
+{
+    Ok(Label {
+        namespace: namespace.copy(alloc)?,
+        key: pair.key.copy(alloc)?,
+        value: pair.value.copy(alloc)?,
+    })
+}
+
+/// The tag of a Service whose selector begins with a pair.
+fn selector_of(alloc: Global, namespace: &Text, pair: &Pair) -> Result<ServiceTag, NoMemory>
+    ensures { IfOk result (λ t. t ≡ spec.selector_of namespace.now pair.now) }
+{
+    Ok(ServiceTag::Selector(label_in(alloc, namespace, pair)?))
+}
+
+/// The tags of the Services whose selector begins with a label of a pod.
+pub fn selected_by(alloc: Global, pod: &Pod) -> Result<Vec<ServiceTag>, NoMemory>
+    ensures { IfOk result (λ ts. ts.items ≡ spec.selected_by pod.now) }
+{
+    let mut tags = Vec::new(alloc);
+    for pair in pod.labels.as_slice() {
+        tags.push(selector_of(alloc, &pod.key.namespace, pair)?)?;
+    }
+    Ok(tags)
+}
+
+/// Adds the tag of a Service's selector, if it has one.
+fn add_selector_tag(
+    alloc: Global,
+    tags: &mut Vec<ServiceTag>,
+    service: &Service,
+) -> Result<(), NoMemory>
+    ensures { OnOk result (tags.new.items ≡ tags.old.items ++ spec.selector_tags service.now) }
+{
+    if let Some(pair) = service.selector.as_slice().first() {
+        tags.push(selector_of(alloc, &service.key.namespace, pair)?)?;
+    }
+    Ok(())
+}
+
+/// Adds the tags of a port of a Service.
+fn add_tags_of_port(
+    tags: &mut Vec<ServiceTag>,
+    service: &Service,
+    port: &ServicePort,
+) -> Result<(), NoMemory>
+    ensures { OnOk result (tags.new.items
+        ≡ tags.old.items ++ spec.tags_of_port service.now port.now) }
+{
+    add_cluster_tag(tags, service, port)?;
+    add_tags_at(tags, port, service.external.as_slice())?;
+    add_tags_at(tags, port, service.balancer.as_slice())?;
+    add_node_tag(tags, port)
+}
+
+/// Adds the tag of a port at its cluster address, if it has one.
+fn add_cluster_tag(
+    tags: &mut Vec<ServiceTag>,
+    service: &Service,
+    port: &ServicePort,
+) -> Result<(), NoMemory>
+    ensures { OnOk result (tags.new.items
+        ≡ tags.old.items ++ map (spec.tag_at port.now) (cluster_addresses service.now.cluster)) }
+{
+    if let ClusterAddress::At(address) = service.cluster {
+        tags.push(ServiceTag::At(address, port.port, port.proto))?;
+    }
+    Ok(())
+}
+
+/// Adds the tag of a node port, if there is one.
+fn add_node_tag(tags: &mut Vec<ServiceTag>, port: &ServicePort) -> Result<(), NoMemory>
+    ensures { OnOk result (tags.new.items ≡ tags.old.items
+        ++ option_to_list (option_map (spec.node_tag port.now) port.now.node_port)) }
+{
+    if let Some(number) = port.node_port {
+        tags.push(ServiceTag::NodePort(number, port.proto))?;
+    }
+    Ok(())
+}
+
+/// Adds the tags of a port at some addresses.
+fn add_tags_at(
+    tags: &mut Vec<ServiceTag>,
+    port: &ServicePort,
+    addresses: &[Address],
+) -> Result<(), NoMemory>
+    ensures { OnOk result (tags.new.items
+        ≡ tags.old.items ++ map (spec.tag_at port.now) addresses.now) }
+{
+    for address in addresses {
+        tags.push(ServiceTag::At(*address, port.port, port.proto))?;
+    }
+    Ok(())
 }

@@ -1,0 +1,3 @@
+pub mod Affinity
+pub mod NameOrder
+pub mod Once

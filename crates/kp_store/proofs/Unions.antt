@@ -1,0 +1,72 @@
+-- The keys of several buckets, and the objects with any of several tags.
+use Rattle.std.proofs.Common.{◌≡◌, ℕ, ◌+◌, ◌<◌, ◌||◌, Bool, true, false, List, [], ◌∷◌, ◌++◌, map, take, length, get_or, filter, Option, Some, None, cond, is_some, refl, sym, ap, ◌∙◌, Bor}
+use Rattle.std.specs.declared.cmp.Ordering.{Ordering}
+use Rattle.std.specs.List.{list_any, filter_map}
+use Rattle.std.specs.Ordering.{eq_by_cmp}
+use Rattle.std.specs.FinMap as finite
+use Rattle.std.specs.FinMap.{FinMap, find, get, get-entries, contains_key, entries}
+use Rattle.std.proofs.lemmas.List.{take_more}
+use Rattle.std.proofs.lemmas.List.Folds.{list_any-append}
+use Rattle.kp_base.specs.Keys.{key_cmp}
+use Rattle.kp_base.specs.declared.key.ObjectKey.{ObjectKey}
+use Rattle.kp_store.specs.Indexes.{Bucket, is_among, is_tagged}
+use Rattle.kp_store.proofs.Buckets.{or_none}
+use Rattle.kp_store.proofs.Found.{passes, found_passes}
+
+or_turned : (a b : Bool) → a || b ≡ b || a
+or_turned true true = refl
+or_turned true false = refl
+or_turned false true = refl
+or_turned false false = refl
+
+-- a test of one more element
+any_more : {X : Type 0} (p : X → Bool) (xs : List X) (i : ℕ) (x : X) → i < length xs → x ≡ get_or xs i x → p x || list_any p (take i xs) ≡ list_any p (take (i + 1) xs)
+any_more p xs i x lt is =
+    or_turned (p x) (list_any p (take i xs))
+    ∙ ap (λ b. list_any p (take i xs) || b) (sym (or_none (p x)))
+    ∙ sym (list_any-append p (take i xs) (x ∷ []))
+    ∙ ap (list_any p) (sym (take_more xs i x lt ∙ ap (λ y. take i xs ++ y ∷ []) (sym is)))
+
+-- one more key was put
+pub put_more : (keys : List (Bor ObjectKey)) (i : ℕ) (q : Bor ObjectKey) (k : ObjectKey) (old : Bool) → i < length keys → q ≡ get_or keys i q → eq_by_cmp key_cmp k q.now || (list_any (λ (x : Bor ObjectKey). eq_by_cmp key_cmp k x.now) (take i keys) || old) ≡ list_any (λ (x : Bor ObjectKey). eq_by_cmp key_cmp k x.now) (take (i + 1) keys) || old
+put_more keys i q k old lt is =
+    or_first (eq_by_cmp key_cmp k q.now) (list_any (λ x. eq_by_cmp key_cmp k x.now) (take i keys)) old
+    ∙ ap (λ b. b || old) (any_more (λ (x : Bor ObjectKey). eq_by_cmp key_cmp k x.now) keys i q lt is)
+  where
+    or_first : (a b c : Bool) → a || (b || c) ≡ (a || b) || c
+    or_first true b c = refl
+    or_first false b c = refl
+
+-- a key is among the keys of a map
+pub among_keys : {X : Type 0} (m : FinMap key_cmp X) (k : ObjectKey) → list_any (eq_by_cmp key_cmp k) (finite.keys m) ≡ contains_key m k
+among_keys {X} m k = among (entries m) ∙ ap is_some (sym (get-entries m k))
+  where
+    by : (b : Bool) (x : X) (o : Option X) (rest : Bool) → rest ≡ is_some o → b || rest ≡ is_some (cond b (Some x) o)
+    by true x o rest h = refl
+    by false x o rest h = h
+
+    among : (es : List (ObjectKey × X)) → list_any (eq_by_cmp key_cmp k) (map (λ e. e.0) es) ≡ is_some (find key_cmp k es)
+    among [] = refl
+    among (e ∷ es) = by (eq_by_cmp key_cmp k e.0) e.1 (find key_cmp k es) (list_any (eq_by_cmp key_cmp k) (map (λ e. e.0) es)) (among es)
+
+-- what references show
+pub any_shown : (k : ObjectKey) (qs : List (Bor ObjectKey)) → list_any (λ (q : Bor ObjectKey). eq_by_cmp key_cmp k q.now) qs ≡ list_any (eq_by_cmp key_cmp k) (map (λ q. q.now) qs)
+any_shown k [] = refl
+any_shown k (q ∷ qs) = ap (λ b. eq_by_cmp key_cmp k q.now || b) (any_shown k qs)
+
+-- the keys of one more bucket
+pub union_more : {T : Type 0} (in_bucket : T → Bool) (tags : List T) (i : ℕ) (t : T) (new old : Bool) → i < length tags → t ≡ get_or tags i t → new ≡ in_bucket t || old → old ≡ list_any in_bucket (take i tags) → new ≡ list_any in_bucket (take (i + 1) tags)
+union_more in_bucket tags i t new old lt is added before =
+    added ∙ ap (λ b. in_bucket t || b) before ∙ any_more in_bucket tags i t lt is
+
+-- the objects of the keys with any of the tags
+pub found_any : {T X : Type 0} (cmp : T → T → Ordering) (tags : X → List T) (wanted : List T) (m : FinMap key_cmp X) (keys : Bucket) → ((k : ObjectKey) → contains_key keys k ≡ list_any (λ t. is_tagged cmp tags t (get m k)) wanted) → filter_map (get m) (finite.keys keys) ≡ filter (λ x. list_any (is_among cmp (tags x)) wanted) (finite.values m)
+found_any {T} {X} cmp tags wanted m keys has = found_passes (λ x. list_any (is_among cmp (tags x)) wanted) m keys (λ k. has k ∙ same (get m k))
+  where
+    never : (ts : List T) → list_any (λ _. false) ts ≡ false
+    never [] = refl
+    never (t ∷ ts) = never ts
+
+    same : (o : Option X) → list_any (λ t. is_tagged cmp tags t o) wanted ≡ passes (λ x. list_any (is_among cmp (tags x)) wanted) o
+    same None = never wanted
+    same (Some x) = refl

@@ -1,0 +1,12 @@
+-- The keys so far were put.
+use Rattle.std.proofs.Common.{◌≡◌, ◌||◌, take}
+use Rattle.std.specs.List.{list_any}
+use Rattle.std.specs.Ordering.{eq_by_cmp}
+use Rattle.std.specs.FinMap as finite
+use Rattle.kp_base.specs.Keys.{key_cmp}
+use Rattle.kp_base.specs.declared.key.ObjectKey.{ObjectKey}
+use Rattle.kp_store.proofs.keyed.Keyed+unit.put_all.Given as goal
+
+abbrev pub invariant-loop-key : goal.invariant-loop-key
+invariant-loop-key l =
+    (k : ObjectKey) → finite.contains_key l.self k ≡ list_any (λ q. eq_by_cmp key_cmp k q.now) (take l.key-index l.keys) || finite.contains_key l.fn.self k

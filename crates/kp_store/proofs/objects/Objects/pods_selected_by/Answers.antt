@@ -1,0 +1,28 @@
+use Rattle.std.proofs.Common.{◌≡◌, List, map, filter, rules, sym, ap, ◌∙◌, Bor}
+use Rattle.std.specs.FinMap as finite
+use Rattle.kp_types.specs.declared.pod.Pod.{Pod}
+use Rattle.kp_object_defs.specs.Desired.{selects}
+use Rattle.kp_object_defs.specs.Objects.{Objects}
+use Rattle.kp_store.specs.Indexes.{is_among}
+use Rattle.kp_store.specs.Tags.{labels_of, label_in}
+use Rattle.kp_store.specs.contracts.tags.LabelOrd.TheImpl as label_ord
+use Rattle.kp_store.specs.contracts.tags.LabelOrd.TheImpl.Laws as label_laws
+use Rattle.kp_store.proofs.Buckets.{if_ok}
+use Rattle.kp_store.proofs.Selected.{filter_within, has_first, none_left, none_selected}
+use Rattle.kp_store.proofs.objects.Objects.pods_selected_by.Goals as goal
+
+pub returns-in_ok-found-in-Some : goal.returns-in_ok-found-in-Some
+returns-in_ok-found-in-Some c =
+    let s = c.args.service.now in
+    let pair = c.in-Some.pair.now in
+    let pods = finite.values c.self.inside.pods in
+    if_ok _ _ c.pods_selected.result (λ ps is.
+    is
+    ∙ ap (λ (xs : List (Bor Pod)). filter (selects s) (map (λ p. p.now) xs)) c.as_slice-in-Some.ensures.value
+    ∙ ap (filter (selects s)) c.in_ok-found-in-Some.ensures
+    ∙ ap (λ l. filter (selects s) (filter (λ p. is_among label_ord.ghosts.cmp (labels_of p) l) pods)) c.in_ok-label-in-Some.ensures
+    ∙ filter_within _ (selects s) (has_first label_ord.ghosts.cmp label_laws.total-law s pair (search rules)) pods
+    ∙ ap (λ (o : Objects). filter (selects s) (finite.values o.pods)) c.self.view_is) c.pods_selected.ensures
+
+pub returns-in-None : goal.returns-in-None
+returns-in-None c = c.new.ensures ∙ sym (none_left (selects c.args.service.now) (none_selected c.args.service.now (search rules)) (finite.values c.args.self.now.pods))
