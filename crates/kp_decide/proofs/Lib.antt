@@ -1,3 +1,0 @@
-pub mod Affinity
-pub mod NameOrder
-pub mod Once

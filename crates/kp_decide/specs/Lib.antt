@@ -1,4 +1,0 @@
-pub mod Names
-pub mod Shown
-pub mod Stored
-pub mod Told
