@@ -277,10 +277,12 @@ fn a_packet_has_at_most_a_thousand_draws(rt: HostRuntime) -> Result<(), Fail> {
 /// The packet line that a text is.
 fn packet(alloc: Global, text: &str) -> Result<PacketLine, Fail> {
     match line_of(alloc, text.as_bytes(), false) {
-        Ok(ScriptLine {
-            op: Op::Packet(packet),
-            ..
-        }) => Ok(packet),
+        Ok(
+            ScriptLine {
+                op: Op::Packet(packet),
+                ..
+            },
+        ) => Ok(packet),
         _ => Err(Fail::new("a packet line")),
     }
 }
@@ -296,7 +298,8 @@ fn are_draws(draws: &Draws, wanted: &[u32]) -> bool {
 #[test]
 fn a_packet_has_the_values_of_its_members(rt: HostRuntime) -> Result<(), Fail> {
     let alloc = rt.alloc();
-    let line = r#"{"op":"packet","from":"node","src":"10.244.9.9","dst":"10.96.0.10","proto":"UDP","sport":9,"dport":53,"now":7,"draws":[5,6],"seed":1,"trail":true}"#;
+    let line =
+        r#"{"op":"packet","from":"node","src":"10.244.9.9","dst":"10.96.0.10","proto":"UDP","sport":9,"dport":53,"now":7,"draws":[5,6],"seed":1,"trail":true}"#;
     let read = packet(alloc, line)?;
     let wanted = Packet {
         from: Origin::Node,
@@ -334,10 +337,12 @@ fn a_packet_has_defaults(rt: HostRuntime) -> Result<(), Fail> {
 /// The configuration that a text is.
 fn config(alloc: Global, text: &str) -> Result<Config, Fail> {
     match line_of(alloc, text.as_bytes(), true) {
-        Ok(ScriptLine {
-            op: Op::Config(config),
-            ..
-        }) => Ok(config),
+        Ok(
+            ScriptLine {
+                op: Op::Config(config),
+                ..
+            },
+        ) => Ok(config),
         _ => Err(Fail::new("a configuration")),
     }
 }
@@ -345,7 +350,8 @@ fn config(alloc: Global, text: &str) -> Result<Config, Fail> {
 #[test]
 fn a_configuration_has_the_values_of_its_members(rt: HostRuntime) -> Result<(), Fail> {
     let alloc = rt.alloc();
-    let line = r#"{"op":"config","node":"n1","nodeAddresses":["10.0.0.1","fd00::1","10.0.0.2"],"clusterCIDR":"10.244.9.9/16","masqueradeAll":true,"controller":false,"maxEndpointsPerSlice":2,"maxEvents":3,"recentSize":4,"nameLength":5}"#;
+    let line =
+        r#"{"op":"config","node":"n1","nodeAddresses":["10.0.0.1","fd00::1","10.0.0.2"],"clusterCIDR":"10.244.9.9/16","masqueradeAll":true,"controller":false,"maxEndpointsPerSlice":2,"maxEvents":3,"recentSize":4,"nameLength":5}"#;
     let read = config(alloc, line)?;
     assert_eq!(rt; read.node.as_str(), "n1");
     let addresses = [Address::v4(167_772_161), Address::v4(167_772_162)];
@@ -360,7 +366,10 @@ fn a_configuration_has_the_values_of_its_members(rt: HostRuntime) -> Result<(), 
 
 #[test]
 fn a_configuration_has_defaults(rt: HostRuntime) -> Result<(), Fail> {
-    let read = config(rt.alloc(), r#"{"op":"config","node":"","clusterCIDR":"fd00::/56"}"#)?;
+    let read = config(
+        rt.alloc(),
+        r#"{"op":"config","node":"","clusterCIDR":"fd00::/56"}"#,
+    )?;
     assert_eq!(rt; read.node.as_str(), "node");
     assert!(rt; read.addresses.as_slice().is_empty() && read.cluster.is_none());
     assert!(rt; !read.masquerade_all && read.controller);

@@ -21,7 +21,7 @@ pub too_large : {E : Type 0} (least most : ℕ) (word : List ℕ) (r : Result �
     → list_all is_digit word ≡ true → most < 2 ^ 64 → None ≡ within least most (digits_value 10 word)
 too_large least most word r e failed parsed some digits fits =
     let refused = subst (λ x. OkIff x ((0 < length word) × (digits_value 10 word < 2 ^ 64)) (digits_value 10 word)) failed
-        (parse_digits own 64 word r parsed digits) in
+    (parse_digits own 64 word r parsed digits) in
     elim (cases_lt (digits_value 10 word) (2 ^ 64)) [
       | inl less ↦ absurd (refused (some, less))
       | inr more ↦ above least most (digits_value 10 word) (omega arith)
