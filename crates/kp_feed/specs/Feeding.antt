@@ -48,6 +48,7 @@ FitsTaker pass fed taken at v =
     × ((p : ℕ) → v.made ≤ p → (pass p ≡ none) × (fed p ≡ []))
     × AllByRecursion (FitsEnded pass fed v.made) v.ended
 
+-- what is known in a view fits both
 abbrev pub Fits : (ℕ → Option ℕ) → (ℕ → List Event) → List Fed → ℕ → Known → Type 0
 Fits pass fed taken at v = FitsFeeder pass fed at v × FitsTaker pass fed taken at v
 
@@ -68,6 +69,7 @@ at_first = record { feeds = false; feeder = 0; fed = []; taken = []; made = 0; e
 abbrev pub made_one : Known → Known
 made_one v = record v { made = suc v.made }
 
+-- the feeder that is made
 abbrev pub newcomer : Known → Known
 newcomer v = record at_first { feeds = true; feeder = v.made }
 

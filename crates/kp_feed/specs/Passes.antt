@@ -8,6 +8,7 @@ use Rattle.kp_types.specs.contracts.event.Event as event_row
 abbrev pub QueueId : Type 0
 QueueId = ℕ × ℕ
 
+-- queues told apart by numbers
 abbrev pub queue_code : Coded QueueId
 queue_code = coded× coded_ℕ coded_ℕ
 
@@ -17,6 +18,7 @@ pub record Feeder : Type 0 where
   pub feeder : ℕ
   pub fed : List Event
 
+-- feeders told apart by numbers
 abbrev pub feeder_code : Coded Feeder
 feeder_code =
     code_by (QueueId × (ℕ × List Event))

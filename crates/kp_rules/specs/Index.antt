@@ -22,6 +22,7 @@ abbrev pub place_unless : ℕ → Option Destination → Option ℕ
 place_unless place None = Some place
 place_unless place (Some to) = None
 
+-- that of a rule with its place
 abbrev pub other_place : ℕ × Rule → Option ℕ
 other_place (place, r) = place_unless place (destination_of r)
 

@@ -24,5 +24,6 @@ only_limit [] = None
 only_limit (m ∷ []) = limit_of_match m
 only_limit (m ∷ n ∷ ms) = None
 
+-- the limit below which a draw alone makes a rule match, where it asks for nothing else
 abbrev pub limit_of : Rule → Option ℕ
 limit_of r = only_limit r.matches.items

@@ -34,6 +34,7 @@ pub record IsBalanced (f : Fork) : Type 0 where
   pub fits : f.count < 2 ^ 64
   pub even : AreEven f.before f.behind
 
+-- so is a side, if there is any
 abbrev pub IsCounted : Option (Box Fork Global) → Type 0
 IsCounted None = Unit {0}
 IsCounted (Some f) = IsBalanced f.value
@@ -46,5 +47,6 @@ pub record IsHeavySide (out mid far : List ChainAt) : Type 0 where
   pub heavy : 3 * weight far < weight out + weight mid
   pub nearly : weight out + weight mid ≤ 3 * weight far + 3
 
+-- the middle was a part of either side
 abbrev pub AreApart : List ChainAt → List ChainAt → List ChainAt → Type 0
 AreApart first inner last = IsHeavySide first inner last ⊎ IsHeavySide last inner first

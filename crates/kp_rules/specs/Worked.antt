@@ -24,11 +24,14 @@ services =
 abbrev pub next_to : ℕ → ℕ → Option ℕ
 next_to x from = next_for (record { address = host x; proto = Tcp; port = 80 }) services from
 
+-- a packet to the Service meets its rule
 abbrev pub ToTheService : Type 0
 ToTheService = next_to 10 0 ≡ Some 0
 
+-- a packet to another host meets the rule that isn't keyed
 abbrev pub ToAnother : Type 0
 ToAnother = next_to 11 0 ≡ Some 1
 
+-- and behind the last rule there is none
 abbrev pub BehindTheLast : Type 0
 BehindTheLast = next_to 10 2 ≡ None
