@@ -23,11 +23,11 @@ module _ (setting : Setting) where
     blocks =
         block
         ∙ (λ k. record {
-        services = sym (append-nil (service_block setting i)) k;
-        node_ports = sym (append-nil (node_port_block setting i)) k;
-        firewall = sym (append-nil (firewall_block i)) k;
-        external = sym (append-nil (external_block setting.family i)) k;
-        refusals = sym (append-nil (refusal_block i)) k;
+          services = sym (append-nil (service_block setting i)) k;
+          node_ports = sym (append-nil (node_port_block setting i)) k;
+          firewall = sym (append-nil (firewall_block i)) k;
+          external = sym (append-nil (external_block setting.family i)) k;
+          refusals = sym (append-nil (refusal_block i)) k;
         });
   }
 
@@ -53,11 +53,11 @@ module _ (setting : Setting) where
         blocks
         ∙ (λ k. joined_blocks (of_a.blocks k) (of_b.blocks k))
         ∙ (λ k. record {
-        services = sym (flat_map-append (service_block setting) xs ys) k;
-        node_ports = sym (flat_map-append (node_port_block setting) xs ys) k;
-        firewall = sym (flat_map-append firewall_block xs ys) k;
-        external = sym (flat_map-append (external_block setting.family) xs ys) k;
-        refusals = sym (flat_map-append refusal_block xs ys) k;
+          services = sym (flat_map-append (service_block setting) xs ys) k;
+          node_ports = sym (flat_map-append (node_port_block setting) xs ys) k;
+          firewall = sym (flat_map-append firewall_block xs ys) k;
+          external = sym (flat_map-append (external_block setting.family) xs ys) k;
+          refusals = sym (flat_map-append refusal_block xs ys) k;
         });
   }
 

@@ -71,11 +71,7 @@ fn add_endpoint_keys(
 }
 
 /// Adds the keys of the chains of a port's endpoints, in order.
-fn add_keys_of(
-    alloc: Global,
-    keys: &mut Vec<ChainKey>,
-    info: &PortInfo,
-) -> Result<(), NoMemory>
+fn add_keys_of(alloc: Global, keys: &mut Vec<ChainKey>, info: &PortInfo) -> Result<(), NoMemory>
     ensures { OnOk result (keys.new.items ≡ keys.old.items ++ spec.endpoint_keys info.now) }
 {
     let endpoints = in_order(alloc, all_endpoints(alloc, info)?)?;
