@@ -1,0 +1,4 @@
+pub mod Clashes
+pub mod Ordered
+pub mod PartSteps
+pub mod Rows

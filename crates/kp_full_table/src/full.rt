@@ -1,0 +1,103 @@
+//! The full table of what is known of the ports.
+ghost use Rattle.std.specs.Prelude.{◌≡◌, ◌+◌, ◌++◌, ◌≤◌, List, None, IfOk, IfErr, OnOk};
+ghost use Rattle.kp_base.specs.declared.address.Family.TheVariants.{V4};
+ghost use Rattle.kp_choice_defs.specs.Names.{chain_name, first_clash};
+ghost use Rattle.kp_choice_defs.specs.Settings.{setting_of};
+ghost use Rattle.kp_base.specs.declared.config.Config.{Config};
+ghost use Rattle.kp_object_defs.specs.PortInfo.{PortInfo};
+ghost use Rattle.kp_table_defs.specs.Layout as layout;
+ghost use Rattle.kp_table_defs.specs.Rebuild.{full_chains, needed_keys};
+ghost use Rattle.kp_port_chains.specs.Rows.{rows_of_texts};
+ghost use Rattle.kp_full_table.specs.Faults.{TellsClash};
+ghost use Rattle.kp_full_table.specs.Parts.{IsPartOf, all_rule_count};
+
+use crate::fault::TableFault;
+use crate::keys::needed_keys;
+use crate::part::{Part, joined, no_part, part_of_port};
+use kp_base::{Config, NoMemory, Steps};
+use kp_names::Namer;
+use kp_rules::Table;
+use kp_top_chains::{filter_rows, nat_rows, table_of};
+use kp_types::{ChainText, PortInfo};
+use std::alloc::Global;
+use std::sync::ledger::Ledger;
+
+/// The full table of the ports of IPv4, laid out as kube-proxy's iptables mode lays it out
+/// (Kubernetes documents on virtual IPs), with a count of batches of 0. It is refused exactly where
+/// two different chains that are needed have one name; the clash is the one whose first chain comes
+/// first, and of those the one whose second chain does. A step is taken for each rule of a port.
+pub fn table_of_infos<L: Ledger>(
+    alloc: Global,
+    config: &Config,
+    infos: &[PortInfo],
+    steps: &mut Steps<L>,
+) -> Result<Table, TableFault>
+    ensures full { IfOk result (λ t. t ≡ record {
+      chains = full_chains (setting_of V4 config.now) infos.now;
+      syncs = 0;
+    }) }
+    ensures no_clash { OnOk result (
+        first_clash (chain_name config.now.name_length) (needed_keys infos.now) ≡ None) }
+    ensures clash { IfErr result (TellsClash
+        (first_clash (chain_name config.now.name_length) (needed_keys infos.now))) }
+    ensures steps { OnOk result (steps.new
+        ≡ steps.old + all_rule_count (setting_of V4 config.now) infos.now) }
+    ensures bound { steps.new
+        ≤ steps.old + all_rule_count (setting_of V4 config.now) infos.now }
+{
+    let keys = needed_keys(alloc, infos)?;
+    Namer::new(config.name_length).check_names(alloc, &keys)?;
+    let part = part_of_ports(alloc, config, infos, steps)?;
+    Ok(table_of_part(alloc, part)?)
+}
+
+/// What all ports contribute, in their order.
+fn part_of_ports<L: Ledger>(
+    alloc: Global,
+    config: &Config,
+    infos: &[PortInfo],
+    steps: &mut Steps<L>,
+) -> Result<Part, NoMemory>
+    ensures part { IfOk result (IsPartOf (setting_of V4 config.now) infos.now) }
+    ensures steps { OnOk result (steps.new
+        ≡ steps.old + all_rule_count (setting_of V4 config.now) infos.now) }
+    ensures bound { steps.new
+        ≤ steps.old + all_rule_count (setting_of V4 config.now) infos.now }
+{
+    let mut part = no_part(alloc);
+    for info in infos {
+        part = joined(part, part_of_port(alloc, config, info, steps)?)?;
+    }
+    Ok(part)
+}
+
+/// The table of what all ports contribute.
+fn table_of_part(alloc: Global, part: Part) -> Result<Table, NoMemory>
+    ensures { (config : Config) (infos : List PortInfo) → IsPartOf (setting_of V4 config) infos part
+        → IfOk result (λ t. t
+        ≡ record { chains = full_chains (setting_of V4 config) infos; syncs = 0 }) }
+{
+    let rows = rows_of_part(alloc, part)?;
+    table_of(alloc, rows)
+}
+
+/// The rows of what all ports contribute, between the fixed rules.
+fn rows_of_part(alloc: Global, part: Part) -> Result<Vec<ChainText>, NoMemory>
+    ensures { IfOk result (λ rows. rows_of_texts rows.items
+        ≡ layout.nat_rows_with V4 part.blocks.node_ports part.blocks.services
+        ++ layout.filter_rows_with V4 part.blocks.firewall part.blocks.external
+        part.blocks.refusals ++ rows_of_texts part.chains) }
+{
+    let Part { chains, blocks } = part;
+    let mut rows = Vec::new(alloc);
+    nat_rows(alloc, &mut rows, blocks.node_ports, blocks.services)?;
+    filter_rows(
+        alloc,
+        &mut rows,
+        blocks.firewall,
+        blocks.external,
+        blocks.refusals,
+    )?;
+    rows.append(&mut chains.into_vec())?;
+    Ok(rows)
+}
