@@ -1,4 +1,3 @@
 pub mod Clashes
 pub mod Ordered
 pub mod PartSteps
-pub mod Rows

@@ -1,5 +1,5 @@
 -- Endpoints once each, in order: one more of them, taken off the end of a list.
-use Rattle.std.proofs.Common.{◌≡◌, List, [], ◌∷◌, map, ap, sym, ◌∙◌}
+use Rattle.std.proofs.Common.{◌≡◌, List, ◌∷◌, map, ap, sym, ◌∙◌}
 use Rattle.std.specs.BTreeSet.{insert_key}
 use Rattle.kp_lemmas.proofs.Entries.{put_keys}
 use Rattle.kp_base.specs.Keys.{endpoint_cmp}
