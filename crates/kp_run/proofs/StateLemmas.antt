@@ -10,6 +10,7 @@ use Rattle.kp_base.specs.declared.config.Config.{Config}
 use Rattle.kp_types.specs.declared.event.Event.{Event}
 use Rattle.kp_types.specs.declared.event.Event.TheVariants.{Apply}
 use Rattle.kp_types.specs.declared.event.Object.TheVariants as object
+use Rattle.kp_choice_defs.specs.Recent.{RecentParts}
 use Rattle.kp_object_defs.specs.Objects.{objects_after, objects_step, no_objects}
 use Rattle.kp_table_defs.specs.Rebuild.{TableParts}
 use Rattle.kp_text_defs.specs.declared.line.FirstLine.{FirstLine}
@@ -70,10 +71,10 @@ module _ (r : Replay) (s : ReplayState) (st : Stands r s) where
   slice_refused r' number printed p h steps = event_refused r' number printed (Apply (object.EndpointSlice (plain_slice p))) _ s (slice_test p.name ∙ h) steps
 
   -- a configuration as the first line is taken
-  pub config_taken : (number : ℕ) (config : Config) (table : TableParts) (first : Bool) → first ≡ true → s.fresh ≡ false → (first ≡ true → s.events ≡ []) → IsTableOf table config no_objects
-      → Steps (record r { table = table; lists = no_sources config.recent_size; config = config }) number Nothing (config_step number config first s)
-  config_taken number config table first h read none whole =
-      subst (λ b. Steps (record r { table = table; lists = no_sources config.recent_size; config = config }) number Nothing (config_step number config b s)) (sym h)
+  pub config_taken : (number : ℕ) (config : Config) (table : TableParts) (lists : RecentParts) (first : Bool) → lists ≡ no_sources config.recent_size → first ≡ true → s.fresh ≡ false → (first ≡ true → s.events ≡ []) → IsTableOf table config no_objects
+      → Steps (record r { table = table; lists = lists; config = config }) number Nothing (config_step number config first s)
+  config_taken number config table lists first made h read none whole =
+      subst (λ b. Steps (record r { table = table; lists = lists; config = config }) number Nothing (config_step number config b s)) (sym h)
       (record {
         text = refl;
         state = record {
@@ -88,7 +89,7 @@ module _ (r : Replay) (s : ReplayState) (st : Stands r s) where
           unread = st.unread;
           syncs = st.syncs;
           table = subst (λ es. IsTableOf table config (objects_after es)) (sym (nothing_covered (none h))) whole;
-          lists = refl;
+          lists = made;
           refused = st.refused;
         };
       })

@@ -9,7 +9,7 @@ ghost use Rattle.kp_run.specs.State.{IsSmallPacket};
 
 use crate::printed::Printed;
 use crate::state::Replay;
-use kp_base::{Address, Items, NoMemory};
+use kp_base::{Config, NoMemory};
 use kp_draws::{DrawSource, draw_of_list};
 use kp_recent::RecentLists;
 use kp_rules::Table;
@@ -33,7 +33,7 @@ impl Replay {
         kp_walk_laws::full_table_ranked_objects();
         kp_walk_laws::stand_in_prefixed();
         kp_writer::laws::plain_ports();
-        let verdict = walked(&self.table, &self.config.addresses, packet, &mut self.lists)?;
+        let verdict = walked(&self.table, &self.config, packet, &mut self.lists)?;
         Ok(Printed::Answered {
             sync: self.syncs,
             verdict,
@@ -41,10 +41,10 @@ impl Replay {
     }
 }
 
-/// Where the rules send a packet on the node with these addresses, by the packet's draws.
+/// Where the rules send a packet on the node of this configuration, by the packet's draws.
 fn walked(
     table: &Table,
-    node: &Items<Address>,
+    config: &Config,
     packet: &PacketForm,
     lists: &mut RecentLists,
 ) -> Result<Verdict, NoMemory>
@@ -52,10 +52,10 @@ fn walked(
     requires built_in { has_built_in_chains table.now.chains ≡ true }
     requires small { IsSmallPacket packet.now }
     ensures verdict { IfOk result (λ verdict. verdict
-        ≡ (walk_of (get table.now.chains) node.now packet.now.packet
+        ≡ (walk_of (get table.now.chains) config.now.addresses packet.now.packet
         (draws.draw_of_list packet.now.draws) lists.old).verdict) }
     ensures lists { OnOk result (lists.new
-        ≡ (walk_of (get table.now.chains) node.now packet.now.packet
+        ≡ (walk_of (get table.now.chains) config.now.addresses packet.now.packet
         (draws.draw_of_list packet.now.draws) lists.old).lists) }
 {
     let drawn = packet.draws.as_slice();
@@ -64,5 +64,5 @@ fn walked(
             ensures { result ≡ draws.draw_of_list drawn.entry.now k }
         { draw_of_list(drawn, k) },
     );
-    verdict_of(table, node, 1, &packet.packet, &source, lists)
+    verdict_of(table, &config.addresses, 1, &packet.packet, &source, lists)
 }

@@ -6,8 +6,8 @@ use Rattle.kp_run.proofs.SmallLines.{small_read}
 use Rattle.kp_run.proofs.StateLemmas.{no_longer_first, line_taken, line_bad, line_unbuilt, if_ok}
 use Rattle.kp_run.proofs.state.Replay.take_line.Goals as goal
 
-pub take_form-requires-small : goal.take_form-requires-small
-take_form-requires-small c = small_read (json_of c.args.bytes.now) c.in-Ok.line c.in-Ok.ensures
+pub take_form-requires-clause-small : goal.take_form-requires-clause-small
+take_form-requires-clause-small c = small_read (json_of c.args.bytes.now) c.in-Ok.line c.in-Ok.ensures
 
 pub returns-in-Ok-clause-steps : goal.returns-in-Ok-clause-steps
 returns-in-Ok-clause-steps c =
