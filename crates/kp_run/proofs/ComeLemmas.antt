@@ -13,8 +13,9 @@ use Rattle.kp_io.proofs.Told.{Grows-nil, Grows-trans, FromTold-trans}
 use Rattle.kp_run_defs.specs.Replay.{ReplayState, Replayed, initial, nothing_yet, replay_line, replay_of, line_step}
 use Rattle.kp_run.specs.declared.state.Replay.{Replay}
 use Rattle.kp_run.specs.State.{Stands}
+use Rattle.kp_writer.specs.Plain.{objects_with}
 use Rattle.kp_io.specs.declared.next_line.TheConstants.{INPUT_LIMIT}
-use Rattle.kp_run.specs.State.{IsReady}
+use Rattle.kp_run.specs.State.{IsReady, IsFull}
 use Rattle.kp_run.specs.Outcome.{Come, TakesLine, WritesAll, WritesFront, GrowsFront}
 
 -- before the first line
@@ -128,9 +129,13 @@ too_long limit None c new p h = tt
 too_long limit (Some xs) None new p h = absurd p
 too_long limit (Some xs) (Some ys) new p h = omega arith
 
+-- the program's table is the full one of some objects
+full_of : (r : Replay) (s : ReplayState) → Stands r s → IsFull r.table
+full_of r s st = record { config = s.config; objects = objects_with st.table.service st.table.slice; full = st.table.full }
+
 -- the program is ready for the next line
 pub come_ready : (r : Replay) (n number : ℕ) (left rest written now : Option (List ℕ)) → Come r n left rest written now → r.syncs ≤ n → number ≡ n + 1 → number < 2 ^ 64 → IsReady r
-come_ready r n number left rest written now come syncs one fits = record { plain = come.stands.table.plain; covers = come.stands.covers; syncs = omega (arith, syncs, one, fits) }
+come_ready r n number left rest written now come syncs one fits = record { table = full_of r (replay_of come.lines).state come.stands; covers = come.stands.covers; syncs = omega (arith, syncs, one, fits) }
 
 -- a front of one text is a front of the same text
 pub front_as : {T E : Type 0} (result : Result T E) (written now : Option (List ℕ)) (x y : List ℕ) → x ≡ y → OnErr result (GrowsFront written now x) → OnErr result (GrowsFront written now y)

@@ -1,6 +1,7 @@
--- The numbers of a slice line are such as the texts of addresses and ports write.
+-- The numbers of a slice line are such as the texts of addresses and ports write, and the draws of a packet line are
+-- below 2^31.
 use Rattle.std.proofs.Common.{◌≡◌, ◌≤◌, ◌<◌, ◌^◌, ◌+◌, ◌*◌, ℕ, List, [], ◌∷◌, map, Bool, true, false, cond, ap, sym, refl, ◌∙◌, subst, arith}
-use Rattle.std.specs.Prelude.{◌==◌, Option, Some, None, option_map, ◌&&◌, nat_le, ⊤, codes}
+use Rattle.std.specs.Prelude.{◌==◌, Option, Some, None, option_map, option_and_then, ◌&&◌, nat_le, ⊤, codes}
 use Rattle.std.specs.List.{All, AllByRecursion, slice_split}
 use Rattle.std.proofs.lemmas.List.Elements.{All-nil, All-cons, All-contains}
 use Rattle.std.proofs.lemmas.Bool.{leb-true, and_parts}
@@ -11,12 +12,13 @@ use Rattle.kp_base.specs.Net.{AddressParts}
 use Rattle.kp_base.specs.Dotted.{address_of, four_numbers, decimal_up_to, is_decimal, digits_number}
 use Rattle.kp_text_defs.specs.declared.line.FirstLine.{FirstLine}
 use Rattle.kp_text_defs.specs.declared.line.FirstLine.TheVariants as line
+use Rattle.kp_text_defs.specs.declared.line.PacketForm.{PacketForm}
 use Rattle.kp_text_defs.specs.declared.line.PlainEndpoint.{PlainEndpoint}
 use Rattle.kp_text_defs.specs.declared.line.PlainSlice.{PlainSlice}
 use Rattle.kp_text_defs.specs.Forms.{◌>>=◌, kept_if, member_at, has_members, list_at, only, each, at_most, name_of, whole_of, port_of, address_form}
-use Rattle.kp_text_defs.specs.FirstLines.{or_else, line_of, packet_form, is_sync, slice_form, service_form, config_form, slice_parts, slice_with, is_slice, slice_metadata_form, slice_port_form, endpoint_form}
+use Rattle.kp_text_defs.specs.FirstLines.{or_else, line_of, packet_form, packet_parts, packet_with, plain_packet, is_sync, slice_form, service_form, config_form, slice_parts, slice_with, is_slice, slice_metadata_form, slice_port_form, endpoint_form}
 use Rattle.kp_writer.specs.Plain.{IsSmallSlice}
-use Rattle.kp_run.specs.State.{IsSmallLine}
+use Rattle.kp_run.specs.State.{IsSmallLine, IsSmallPacket}
 
 -- what a bind comes from
 bound : {A B : Type 0} (o : Option A) (f : A → Option B) (x : B) → (o >>= f) ≡ Some x → (y : A) × (o ≡ Some y) × (f y ≡ Some x)
@@ -118,6 +120,24 @@ slice_small d p h =
       λ e has _. All-contains IsSmallOne p.endpoints e (subst (All IsSmallOne) (ap (λ x. x.endpoints) endpoints.2) (each_small parts.0.1.1 endpoints.0 endpoints.1)) has,
     )
 
+-- a draw is at most 2147483647
+draw_small : (d : Data) (n : ℕ) → whole_of 0 2147483647 d ≡ Some n → n < 2 ^ 31
+draw_small d n h = let most : n ≤ 2147483647 = whole_most 0 2147483647 d n h in omega (arith, most)
+
+draws_small : (ds : List Data) (ns : List ℕ) → each (whole_of 0 2147483647) ds ≡ Some ns → All (λ draw. draw < 2 ^ 31) ns
+draws_small [] ns h = subst (All (λ draw. draw < 2 ^ 31)) (same_Some _ _ h) (All-nil (λ draw. draw < 2 ^ 31))
+draws_small (d ∷ ds) ns h =
+    let first = bound (whole_of 0 2147483647 d) (λ x. option_map (λ xs. x ∷ xs) (each (whole_of 0 2147483647) ds)) ns h in
+    let rest = mapped (λ xs. first.0 ∷ xs) (each (whole_of 0 2147483647) ds) ns first.2 in
+    subst (All (λ draw. draw < 2 ^ 31)) rest.2
+    (All-cons (λ draw. draw < 2 ^ 31) first.0 rest.0 (draw_small d first.0 first.1) (draws_small ds rest.0 rest.1))
+
+packet_small : (d : Data) (p : PacketForm) → packet_form d ≡ Some p → IsSmallPacket p
+packet_small d p h =
+    let parts = bound (packet_parts d) packet_with p h in
+    let draws = mapped (plain_packet parts.0.0.0 parts.0.0.1.0 parts.0.0.1.1) (each (whole_of 0 2147483647) parts.0.1) p parts.2 in
+    subst (All (λ draw. draw < 2 ^ 31)) (ap (λ x. x.draws) draws.2) (draws_small parts.0.1 draws.0 draws.1)
+
 module _ (P : FirstLine → Type 0) where
   by_map : {A : Type 0} (f : A → FirstLine) (o : Option A) → ((y : A) → o ≡ Some y → P (f y)) → (x : FirstLine) → option_map f o ≡ Some x → P x
   by_map f o g x h = let y = mapped f o x h in subst P y.2 (g y.0 y.1)
@@ -130,10 +150,15 @@ module _ (P : FirstLine → Type 0) where
   by_test t y p x h = subst P (same_Some _ _ (tested t (Some y) x h)) p
 
 -- whatever a line is, its numbers are
-pub small_line : (d : Data) (x : FirstLine) → line_of d ≡ Some x → IsSmallLine x
+small_line : (d : Data) (x : FirstLine) → line_of d ≡ Some x → IsSmallLine x
 small_line d =
-    by_or IsSmallLine (option_map line.Packet (packet_form d)) _ (by_map IsSmallLine line.Packet (packet_form d) (λ y h. tt))
+    by_or IsSmallLine (option_map line.Packet (packet_form d)) _ (by_map IsSmallLine line.Packet (packet_form d) (packet_small d))
     (by_or IsSmallLine (cond (is_sync d) (Some line.Sync) None) _ (by_test IsSmallLine (is_sync d) line.Sync tt)
     (by_or IsSmallLine (option_map line.Slice (slice_form d)) _ (by_map IsSmallLine line.Slice (slice_form d) (slice_small d))
     (by_or IsSmallLine (option_map line.Service (service_form d)) _ (by_map IsSmallLine line.Service (service_form d) (λ y h. tt))
     (by_map IsSmallLine line.Config (config_form d) (λ y h. tt)))))
+
+-- so are those of a line that was read
+pub small_read : (o : Option Data) (x : FirstLine) → option_and_then line_of o ≡ Some x → IsSmallLine x
+small_read None x h = absurd (cc)
+small_read (Some d) x h = small_line d x h

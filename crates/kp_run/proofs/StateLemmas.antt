@@ -10,6 +10,7 @@ use Rattle.kp_base.specs.declared.config.Config.{Config}
 use Rattle.kp_types.specs.declared.event.Event.{Event}
 use Rattle.kp_types.specs.declared.event.Event.TheVariants.{Apply}
 use Rattle.kp_types.specs.declared.event.Object.TheVariants as object
+use Rattle.kp_choice_defs.specs.Recent.{RecentParts}
 use Rattle.kp_object_defs.specs.Objects.{objects_after, objects_step, no_objects}
 use Rattle.kp_table_defs.specs.Rebuild.{TableParts}
 use Rattle.kp_text_defs.specs.declared.line.FirstLine.{FirstLine}
@@ -18,15 +19,14 @@ use Rattle.kp_text_defs.specs.declared.line.PlainSlice.{PlainSlice}
 use Rattle.kp_text_defs.specs.declared.refusal.Refusal.TheVariants.{NotBuilt, BadJson}
 use Rattle.kp_text_defs.specs.Forms.{json_of}
 use Rattle.kp_text_defs.specs.FirstLines.{plain_service, plain_slice, line_of}
-use Rattle.kp_run_defs.specs.Replay.{ReplayState, accept, refuse, config_step, event_step, form_step, json_step, text_step, line_step, is_blank, services_named, slices_named, has_room, objects_now}
+use Rattle.kp_run_defs.specs.Replay.{ReplayState, no_sources, accept, refuse, config_step, event_step, form_step, json_step, text_step, line_step, is_blank, services_named, slices_named, has_room, objects_now}
 use Rattle.kp_writer.specs.Plain.{objects_with, IsSmallSlice}
 use Rattle.kp_run.specs.Objects.{service_named, slice_named}
-use Rattle.kp_run.specs.State.{Stands, Steps, IsTableOf, IsSmallLine, service_step, slice_step, accepts_service, accepts_slice}
+use Rattle.kp_run.specs.State.{Stands, Steps, IsTableOf, service_step, slice_step, accepts_service, accepts_slice}
 use Rattle.kp_run.specs.declared.printed.Printed.{Printed}
 use Rattle.kp_run.specs.declared.printed.Printed.TheVariants.{Nothing}
 use Rattle.kp_run.specs.declared.state.Replay.{Replay}
 use Rattle.kp_run.proofs.ObjectLemmas.{services_are_named, slices_are_named, service_applied, slice_applied}
-use Rattle.kp_run.proofs.SmallLines.{small_line}
 
 -- what holds of what a result holds
 pub if_ok : {T E : Type 0} (P Q : T → Type 0) (result : Result T E) → IfOk result P → ((x : T) → P x → Q x) → IfOk result Q
@@ -71,10 +71,10 @@ module _ (r : Replay) (s : ReplayState) (st : Stands r s) where
   slice_refused r' number printed p h steps = event_refused r' number printed (Apply (object.EndpointSlice (plain_slice p))) _ s (slice_test p.name ∙ h) steps
 
   -- a configuration as the first line is taken
-  pub config_taken : (number : ℕ) (config : Config) (table : TableParts) (first : Bool) → first ≡ true → s.fresh ≡ false → (first ≡ true → s.events ≡ []) → IsTableOf table config no_objects
-      → Steps (record r { table = table; config = config }) number Nothing (config_step number config first s)
-  config_taken number config table first h read none whole =
-      subst (λ b. Steps (record r { table = table; config = config }) number Nothing (config_step number config b s)) (sym h)
+  pub config_taken : (number : ℕ) (config : Config) (table : TableParts) (lists : RecentParts) (first : Bool) → lists ≡ no_sources config.recent_size → first ≡ true → s.fresh ≡ false → (first ≡ true → s.events ≡ []) → IsTableOf table config no_objects
+      → Steps (record r { table = table; lists = lists; config = config }) number Nothing (config_step number config first s)
+  config_taken number config table lists first made h read none whole =
+      subst (λ b. Steps (record r { table = table; lists = lists; config = config }) number Nothing (config_step number config b s)) (sym h)
       (record {
         text = refl;
         state = record {
@@ -89,6 +89,7 @@ module _ (r : Replay) (s : ReplayState) (st : Stands r s) where
           unread = st.unread;
           syncs = st.syncs;
           table = subst (λ es. IsTableOf table config (objects_after es)) (sym (nothing_covered (none h))) whole;
+          lists = made;
           refused = st.refused;
         };
       })
@@ -116,6 +117,7 @@ module _ (r : Replay) (s : ReplayState) (st : Stands r s) where
           unread = λ f. absurd (cc);
           syncs = st.syncs;
           table = same_table (Apply (object.Service (plain_service p)));
+          lists = st.lists;
           refused = st.refused;
         };
       })
@@ -139,6 +141,7 @@ module _ (r : Replay) (s : ReplayState) (st : Stands r s) where
           unread = λ f. absurd (cc);
           syncs = st.syncs;
           table = same_table (Apply (object.EndpointSlice (plain_slice p)));
+          lists = st.lists;
           refused = st.refused;
         };
       })
@@ -157,6 +160,7 @@ no_longer_first r s st = record {
   unread = λ f. absurd (cc);
   syncs = st.syncs;
   table = st.table;
+  lists = st.lists;
   refused = st.refused;
 }
 
@@ -164,9 +168,9 @@ module _ (r : Replay) (number : ℕ) (printed : Printed) (s : ReplayState) where
   some_line : (first : Bool) (line : FirstLine) (o : Option FirstLine) → o ≡ Some line → Steps r number printed (form_step number first line s) → Steps r number printed (json_step number first o s)
   some_line first line o e steps = subst (λ o. Steps r number printed (json_step number first o s)) (sym e) steps
 
-  some_text : (first : Bool) (line : FirstLine) (o : Option Data) → option_and_then line_of o ≡ Some line → (IsSmallLine line → Steps r number printed (form_step number first line s)) → Steps r number printed (text_step number first o s)
+  some_text : (first : Bool) (line : FirstLine) (o : Option Data) → option_and_then line_of o ≡ Some line → Steps r number printed (form_step number first line s) → Steps r number printed (text_step number first o s)
   some_text first line None e steps = absurd (cc)
-  some_text first line (Some d) e steps = some_line first line (line_of d) e (steps (small_line d line e))
+  some_text first line (Some d) e steps = some_line first line (line_of d) e steps
 
   bad_text : (first : Bool) (o : Option Data) → o ≡ None → Steps r number printed (refuse number BadJson s) → Steps r number printed (text_step number first o s)
   bad_text first o e steps = subst (λ o. Steps r number printed (text_step number first o s)) (sym e) steps
@@ -181,10 +185,10 @@ module _ (r : Replay) (number : ℕ) (printed : Printed) (s : ReplayState) (byte
   not_blank steps = subst (λ b. Steps r number printed (cond b (accept s) (text_step number s.fresh (json_of bytes) (record s { fresh = false })))) written steps
 
   -- a line that has a form
-  pub line_taken : (first : Bool) (line : FirstLine) → first ≡ s.fresh → option_and_then line_of (json_of bytes) ≡ Some line → (IsSmallLine line → Steps r number printed (form_step number first line (record s { fresh = false }))) → Steps r number printed (line_step number bytes s)
+  pub line_taken : (first : Bool) (line : FirstLine) → first ≡ s.fresh → option_and_then line_of (json_of bytes) ≡ Some line → Steps r number printed (form_step number first line (record s { fresh = false })) → Steps r number printed (line_step number bytes s)
   line_taken first line f e steps =
       not_blank (some_text r number printed (record s { fresh = false }) s.fresh line (json_of bytes) e
-      (λ small. subst (λ b. Steps r number printed (form_step number b line (record s { fresh = false }))) f (steps small)))
+      (subst (λ b. Steps r number printed (form_step number b line (record s { fresh = false }))) f steps))
 
   -- a line that is no JSON
   pub line_bad : json_of bytes ≡ None → Steps r number printed (refuse number BadJson (record s { fresh = false })) → Steps r number printed (line_step number bytes s)

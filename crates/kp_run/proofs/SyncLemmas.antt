@@ -2,12 +2,10 @@
 use Rattle.std.proofs.Common.{◌≡◌, ◌+◌, ◌-◌, ℕ, length, take, false, ap, sym, refl, ◌∙◌, arith}
 use Rattle.std.specs.Prelude.{None, count_by, not}
 use Rattle.std.proofs.Math.Seq.{take-length}
-use Rattle.std.specs.FinMap.{get}
 use Rattle.kp_base.specs.declared.address.Family.TheVariants.{V4}
 use Rattle.kp_base.specs.declared.config.Config.{Config}
 use Rattle.kp_object_defs.specs.Objects.{objects_after, no_objects}
 use Rattle.kp_table_defs.specs.Edits.{changes_between, is_write}
-use Rattle.kp_table_defs.specs.Plain.{HasNoRecent}
 use Rattle.kp_table_defs.specs.Rebuild.{TableParts, full_table}
 use Rattle.kp_table_defs.specs.StandIn.{stand_in_setting}
 use Rattle.kp_text_defs.specs.Printed.{sync_text}
@@ -18,10 +16,10 @@ use Rattle.kp_run.specs.declared.printed.Printed.TheVariants.{Synced}
 use Rattle.kp_run.specs.declared.state.Replay.{Replay}
 
 -- the table of no object
-pub empty_table : (config : Config) (t : TableParts) → t ≡ full_table (stand_in_setting V4 config) (objects_with None None) → HasNoRecent (get t.chains) → IsTableOf t config no_objects
-empty_table config t full plain = record { service = None; slice = None; small = tt; objects = refl; full = full; plain = plain }
+pub empty_table : (config : Config) (t : TableParts) → t ≡ full_table (stand_in_setting V4 config) (objects_with None None) → IsTableOf t config no_objects
+empty_table config t full = record { service = None; slice = None; small = tt; objects = refl; full = full }
 
-module _ (r : Replay) (s : ReplayState) (st : Stands r s) (t : TableParts) (full : t ≡ full_table (stand_in_setting V4 r.config) (objects_with r.service r.slice)) (plain : HasNoRecent (get t.chains)) where
+module _ (r : Replay) (s : ReplayState) (st : Stands r s) (t : TableParts) (full : t ≡ full_table (stand_in_setting V4 r.config) (objects_with r.service r.slice)) where
   old_table : r.table ≡ full_table (stand_in_setting V4 s.config) (objects_covered s)
   old_table = st.table.full ∙ ap (full_table (stand_in_setting V4 s.config)) (sym st.table.objects)
 
@@ -56,8 +54,8 @@ module _ (r : Replay) (s : ReplayState) (st : Stands r s) (t : TableParts) (full
         small = st.small;
         objects = covers_all;
         full = full ∙ (λ i. full_table (stand_in_setting V4 (st.config i)) (objects_with r.service r.slice));
-        plain = plain;
       };
+      lists = st.lists;
       refused = st.refused;
     };
   }

@@ -5,6 +5,7 @@ ghost use Rattle.kp_run.specs.Objects.{service_named, slice_named};
 
 use crate::printed::Printed;
 use kp_base::{Config, NoMemory, Text};
+use kp_recent::RecentLists;
 use kp_rules::Table;
 use kp_script::{FirstLine, LineFault, default_config, read_line};
 use kp_text_defs::{PlainService, PlainSlice, Refusal};
@@ -15,7 +16,8 @@ use std::alloc::Global;
 const MOST_EVENTS: u64 = 1_000_000;
 
 /// Where a replay stands: its configuration, the objects of the accepted events and how many there
-/// were, the table of those that the last sync covers, and how many syncs there were.
+/// were, the table of those that the last sync covers, how many syncs there were, and the sources
+/// that packets came from of late.
 #[derive(Drop)]
 pub(crate) struct Replay {
     pub(crate) fresh: bool,
@@ -26,6 +28,7 @@ pub(crate) struct Replay {
     pub(crate) covered: u64,
     pub(crate) syncs: u64,
     pub(crate) table: Table,
+    pub(crate) lists: RecentLists,
     pub(crate) refused: bool,
 }
 
@@ -40,6 +43,7 @@ impl Replay {
     {
         let config = default_config(alloc)?;
         let table = full_table(alloc, &config, None, None)?;
+        let lists = RecentLists::new(alloc, config.recent_size)?;
         Ok(Replay {
             fresh: true,
             config,
@@ -49,6 +53,7 @@ impl Replay {
             covered: 0,
             syncs: 0,
             table,
+            lists,
             refused: false,
         })
     }
@@ -88,9 +93,10 @@ impl Replay {
         first: bool,
         line: FirstLine,
     ) -> Result<Printed, NoMemory>
-        requires { IsReady self.old }
+        requires ready { IsReady self.old }
+        requires small { IsSmallLine line }
         ensures steps { IfOk result (λ p. (s : spec.ReplayState) → Stands self.old s
-            → s.fresh ≡ false → (first ≡ true → s.events ≡ []) → IsSmallLine line
+            → s.fresh ≡ false → (first ≡ true → s.events ≡ [])
             → (number : ℕ) → Steps self.new number p (spec.form_step number first line s)) }
         ensures syncs { self.new.syncs ≤ self.old.syncs + 1 }
     {
@@ -99,7 +105,7 @@ impl Replay {
             FirstLine::Service(service) => Ok(self.take_service(service)),
             FirstLine::Slice(slice) => Ok(self.take_slice(slice)),
             FirstLine::Sync => self.sync(alloc),
-            FirstLine::Packet(packet) => Ok(self.answer(&packet)),
+            FirstLine::Packet(packet) => self.answer(&packet),
         }
     }
 
@@ -118,6 +124,7 @@ impl Replay {
             return Ok(self.refuse(Refusal::NotBuilt));
         }
         self.table = full_table(alloc, &config, None, None)?;
+        self.lists = RecentLists::new(alloc, config.recent_size)?;
         self.config = config;
         Ok(Printed::Nothing)
     }
@@ -148,8 +155,8 @@ impl Replay {
     }
 
     fn take_slice(&mut self, slice: PlainSlice) -> Printed
+        requires { IsSmallSlice (Some slice) }
         ensures steps { (s : spec.ReplayState) → Stands self.old s → s.fresh ≡ false
-            → IsSmallSlice (Some slice)
             → (number : ℕ) → Steps self.new number result (slice_step number slice s) }
         ensures syncs { self.new.syncs ≡ self.old.syncs }
     {

@@ -1,4 +1,7 @@
 //! Walks of packets over tables of a few chains: affinity, full parts of recent lists, and trails.
+ghost use Rattle.std.specs.Prelude.{◌≡◌, ◌<◌, ◌^◌, ◌%◌};
+ghost use Rattle.kp_choice_defs.specs.Draws as spec;
+
 use arrayvec::ArrayVec;
 use kp_base::{Address, Endpoint, Items, NoMemory, PortNo, Proto};
 use kp_draws::{DrawSource, draw_of_list};
@@ -121,7 +124,13 @@ fn ways(alloc: Global, size: u32, packets: &[(u32, u64, &[u32])]) -> Result<Stri
     let node = Items::from_vec(Vec::new(alloc));
     let mut text = String::new(alloc);
     for (host, now, drawn) in packets {
-        let draws = DrawSource::new(|_number: u64, k: u32| draw_of_list(drawn, k));
+        let drawn: &[u32] = drawn;
+        let draws = DrawSource::new(
+            |_number: u64, k: u32| -> u32
+                ensures value { result ≡ spec.draw_of_list drawn.entry.now k % 2 ^ 31 }
+                ensures low { result < 2 ^ 31 }
+            { draw_of_list(drawn, k) % 2_147_483_648 },
+        );
         let verdict = verdict_of(&table, &node, 1, &packet(*host, *now)?, &draws, &mut lists)?;
         text.push_str(format!(in alloc; "{} ", last_number(verdict))?.as_str())?;
     }

@@ -14,6 +14,6 @@ returns-clause-steps c = λ s st read number.
     synced c.args.self.now s st c.in_ok-table.table
     (c.in_ok-table.ensures.full ∙ (λ i. full_table (stand_in_setting V4 c.args.self.now.config)
     (objects_with (c.as_ref.ensures.value i) (c.as_ref-2.ensures.value i))))
-    c.in_ok-table.ensures.plain number _ _ read
+    number _ _ read
     (c.counts-written.ensures.written ∙ ap (count_by is_write) edits)
     (c.counts-written.ensures.removed ∙ ap (count_by (λ e. not (is_write e))) edits)

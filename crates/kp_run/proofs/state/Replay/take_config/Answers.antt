@@ -8,5 +8,5 @@ returns-then-not-first-clause-steps c = λ s st read none number.
 
 pub returns-clause-steps : goal.returns-clause-steps
 returns-clause-steps c = λ s st read none number.
-    config_taken c.args.self.now s st number c.args.config c.in_ok-self.field-0 c.args.first c.if-not-first.false read none
-    (empty_table c.args.config c.in_ok-self.field-0 c.in_ok-self.ensures.full c.in_ok-self.ensures.plain)
+    config_taken c.args.self.now s st number c.args.config c.in_ok-self.field-0 c.in_ok-self-2.field-0 c.args.first c.in_ok-self-2.ensures c.if-not-first.false read none
+    (empty_table c.args.config c.in_ok-self.field-0 c.in_ok-self.ensures.full)
