@@ -4,8 +4,6 @@
 #[cfg(test)]
 mod explain;
 #[cfg(test)]
-mod lines;
-#[cfg(test)]
 mod live;
 #[cfg(test)]
 mod names;

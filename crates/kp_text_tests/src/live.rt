@@ -22,43 +22,38 @@ fn delete(alloc: Global, kind: Kind) -> Result<Event, Fail> {
     })
 }
 
+/// The apply of a Node.
+fn applied_node(alloc: Global) -> Result<Event, Fail> {
+    Ok(Event::Apply(Object::Node(Node {
+        name: Text::of(alloc, "n1")?,
+        zone: None,
+    })))
+}
+
+/// The delete of a Node.
+fn deleted_node(alloc: Global) -> Result<Event, Fail> {
+    Ok(Event::Delete {
+        kind: Kind::Node,
+        key: ObjectKey {
+            namespace: Text::of(alloc, "")?,
+            name: Text::of(alloc, "n1")?,
+        },
+    })
+}
+
 #[test]
 fn events(rt: HostRuntime) -> Result<(), Fail> {
     let alloc = rt.alloc();
-    let node = Node {
-        name: Text::of(alloc, "n1")?,
-        zone: None,
-    };
-    let key = ObjectKey {
-        namespace: Text::of(alloc, "")?,
-        name: Text::of(alloc, "n1")?,
-    };
-    let gone = Event::Delete {
-        kind: Kind::Node,
-        key,
-    };
-    let table = [
-        (
-            Event::Apply(Object::Node(node)),
-            "event 2: main 1 apply Node n1\n",
-        ),
-        (gone, "event 2: main 1 delete Node n1\n"),
-        (
-            delete(alloc, Kind::Service)?,
-            "event 2: main 1 delete Service default/web\n",
-        ),
-        (
-            delete(alloc, Kind::EndpointSlice)?,
-            "event 2: main 1 delete EndpointSlice default/web\n",
-        ),
-        (
-            delete(alloc, Kind::Pod)?,
-            "event 2: main 1 delete Pod default/web\n",
-        ),
-    ];
-    for (event, want) in table {
-        assert!(rt; is_event(alloc, event, want)?);
-    }
+    let applied = "event 2: main 1 apply Node n1\n";
+    assert!(rt; is_event(alloc, applied_node(alloc)?, applied)?);
+    let deleted = "event 2: main 1 delete Node n1\n";
+    assert!(rt; is_event(alloc, deleted_node(alloc)?, deleted)?);
+    let service = "event 2: main 1 delete Service default/web\n";
+    assert!(rt; is_event(alloc, delete(alloc, Kind::Service)?, service)?);
+    let slice = "event 2: main 1 delete EndpointSlice default/web\n";
+    assert!(rt; is_event(alloc, delete(alloc, Kind::EndpointSlice)?, slice)?);
+    let pod = "event 2: main 1 delete Pod default/web\n";
+    assert!(rt; is_event(alloc, delete(alloc, Kind::Pod)?, pod)?);
     Ok(())
 }
 

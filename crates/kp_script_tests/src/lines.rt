@@ -264,9 +264,10 @@ fn a_packet_has_at_most_a_thousand_draws(rt: HostRuntime) -> Result<(), Fail> {
     let most = many_draws(alloc, 1000)?;
     assert!(rt; is_answer(&line_of(alloc, most.as_bytes(), false), "packet"));
     let more = many_draws(alloc, 1001)?;
-    match line_of(alloc, more.as_bytes(), false) {
+    let refused = line_of(alloc, more.as_bytes(), false);
+    match &refused {
         Err(ScriptFault::Refused(LineRefusal::Bad(bad))) => {
-            assert!(rt; is_fault(&bad, "TooMany draws"));
+            assert!(rt; is_fault(bad, "TooMany draws"));
             assert_eq!(rt; bad.count, 1001);
         }
         _ => assert!(rt; false, "1001 draws were taken"),
@@ -274,16 +275,19 @@ fn a_packet_has_at_most_a_thousand_draws(rt: HostRuntime) -> Result<(), Fail> {
     Ok(())
 }
 
+/// The packet line of an operation.
+fn packet_of(op: Op) -> Result<PacketLine, Fail> {
+    match op {
+        Op::Packet(packet) => Ok(packet),
+        _other => Err(Fail::new("a packet line")),
+    }
+}
+
 /// The packet line that a text is.
 fn packet(alloc: Global, text: &str) -> Result<PacketLine, Fail> {
     match line_of(alloc, text.as_bytes(), false) {
-        Ok(
-            ScriptLine {
-                op: Op::Packet(packet),
-                ..
-            },
-        ) => Ok(packet),
-        _ => Err(Fail::new("a packet line")),
+        Ok(line) => packet_of(line.op),
+        Err(_fault) => Err(Fail::new("a line")),
     }
 }
 
@@ -334,16 +338,19 @@ fn a_packet_has_defaults(rt: HostRuntime) -> Result<(), Fail> {
     Ok(())
 }
 
+/// The configuration of an operation.
+fn config_of(op: Op) -> Result<Config, Fail> {
+    match op {
+        Op::Config(config) => Ok(config),
+        _other => Err(Fail::new("a configuration")),
+    }
+}
+
 /// The configuration that a text is.
 fn config(alloc: Global, text: &str) -> Result<Config, Fail> {
     match line_of(alloc, text.as_bytes(), true) {
-        Ok(
-            ScriptLine {
-                op: Op::Config(config),
-                ..
-            },
-        ) => Ok(config),
-        _ => Err(Fail::new("a configuration")),
+        Ok(line) => config_of(line.op),
+        Err(_fault) => Err(Fail::new("a line")),
     }
 }
 
