@@ -10,69 +10,74 @@ use Rattle.kp_io.specs.Lines.{LosesLine, lines_of}
 use Rattle.kp_io.specs.Reader.{ReaderState, fresh_reader, to_come, HandedOut, answers_unasked}
 use Rattle.kp_io.proofs.HandedOut.{handed_none, handed_line, handed_all}
 use Rattle.kp_io.proofs.Told.{Grows-nil, Grows-trans, FromTold-trans}
-use Rattle.kp_run_defs.specs.Replay.{ReplayState, Replayed, initial, nothing_yet, replay_line, replay_of, line_step}
-use Rattle.kp_run.specs.declared.state.Replay.{Replay}
-use Rattle.kp_run.specs.State.{Stands}
-use Rattle.kp_writer.specs.Plain.{objects_with}
+use Rattle.kp_run_defs.specs.ReplayText.{Standing, Progress, beginning, at_start, after_line, replay_of, line_at}
 use Rattle.kp_io.specs.declared.next_line.TheConstants.{INPUT_LIMIT}
-use Rattle.kp_run.specs.State.{IsReady, IsFull}
+use Rattle.kp_run.specs.Steps.{IsReady}
 use Rattle.kp_run.specs.Outcome.{Come, TakesLine, WritesAll, WritesFront, GrowsFront}
+use Rattle.kp_run.proofs.FirstLines.{next_ready}
 
 -- before the first line
-pub come_none : (r : Replay) (left written : Option (List ℕ)) → Stands r initial → Come r 0 left (to_come fresh_reader left) written written
-come_none r left written st = record { lines = []; handed = handed_none left; stands = st; grown = Grows-nil written; counted = refl }
+pub come_none : (s : Standing) (left written : Option (List ℕ)) → s ≡ beginning → Come s 0 left (to_come fresh_reader left) written written
+come_none s left written st = record { lines = []; handed = handed_none left; stands = st; ready = subst IsReady (sym st) (λ e. record { events = refl; counts = refl }); grown = Grows-nil written; counted = refl }
 
-one_more : (lines : List (List ℕ)) (bytes : List ℕ) → replay_of (lines ++ bytes ∷ []) ≡ replay_line (replay_of lines) bytes
-one_more lines bytes = fold-append replay_line nothing_yet lines (bytes ∷ [])
+one_more : (lines : List (List ℕ)) (bytes : List ℕ) → replay_of (lines ++ bytes ∷ []) ≡ after_line (replay_of lines) bytes
+one_more lines bytes = fold-append after_line at_start lines (bytes ∷ [])
+
+-- the line of a number at a place, as the replay takes it
+same_line : (p : Progress) (number : ℕ) (bytes : List ℕ) (s : Standing) → s ≡ p.at → number ≡ suc p.number → line_at number bytes s ≡ line_at (suc p.number) bytes p.at
+same_line p number bytes s at one = λ i. line_at (one i) bytes (at i)
 
 -- one more line
-pub come_more : (r new : Replay) (n number : ℕ) (bytes : List ℕ) (left rest after written now later : Option (List ℕ)) → Come r n left rest written now → number ≡ n + 1 → FromTold (LosesLine bytes) rest after
-    → ((s : ReplayState) → Stands r s → TakesLine r new number bytes s now later) → Come new number left after written later
-come_more r new n number bytes left rest after written now later come one loses takes =
-    let s = (replay_of come.lines).state in
-    let same : suc (replay_of come.lines).number ≡ number = ap suc come.counted ∙ sym (add-one n) ∙ sym one in
-    let taken = subst (λ k. TakesLine r new k bytes s now later) (sym same) (takes s come.stands) in
+pub come_more : (s new : Standing) (n number : ℕ) (bytes : List ℕ) (left rest after written now later : Option (List ℕ)) → Come s n left rest written now → number ≡ n + 1 → FromTold (LosesLine bytes) rest after
+    → TakesLine (line_at number bytes s) new now later → Come new number left after written later
+come_more s new n number bytes left rest after written now later come one loses takes =
+    let p = replay_of come.lines in
+    let next : number ≡ suc p.number = one ∙ add-one n ∙ ap suc (sym come.counted) in
+    let same = same_line p number bytes s come.stands next in
     record {
       lines = come.lines ++ bytes ∷ [];
       handed = handed_line come.lines bytes left rest after come.handed loses;
-      stands = subst (λ p. Stands new p.state) (sym (one_more come.lines bytes)) taken.stands;
-      grown = subst (λ p. Grows written later p.text) (sym (one_more come.lines bytes)) (Grows-trans written now later _ _ come.grown taken.grown);
-      counted = ap (λ p. p.number) (one_more come.lines bytes) ∙ same;
+      stands = takes.stands ∙ ap (λ l. l.next) same ∙ ap (λ q. q.at) (sym (one_more come.lines bytes));
+      ready = subst IsReady (sym takes.stands) (next_ready number bytes s come.ready);
+      grown =
+          subst (λ q. Grows written later q.text) (sym (one_more come.lines bytes))
+          (subst (λ l. Grows written later (p.text ++ l.text)) same (Grows-trans written now later _ _ come.grown takes.grown));
+      counted = ap (λ q. q.number) (one_more come.lines bytes) ∙ sym next;
     }
 
-finished : (limit taken : ℕ) (r : Replay) (left end written now : Option (List ℕ)) (lines : List (List ℕ)) → limit ≡ INPUT_LIMIT → Stands r (replay_of lines).state → Grows written now (replay_of lines).text → IfSome left (λ text. lines_of text ≡ lines)
-    → FromTold (λ xs ys. length xs ≡ length ys + taken) left end → IsAtEnd end → taken ≤ limit → IfSome left (λ text. WritesAll r.refused text written now)
-finished limit taken r None end written now lines same st grown all took ended short = tt
-finished limit taken r (Some text) None written now lines same st grown all took ended short = absurd took
-finished limit taken r (Some text) (Some ys) written now lines same st grown all took ended short =
+finished : (limit taken : ℕ) (s : Standing) (left end written now : Option (List ℕ)) (lines : List (List ℕ)) → limit ≡ INPUT_LIMIT → s ≡ (replay_of lines).at → Grows written now (replay_of lines).text → IfSome left (λ text. lines_of text ≡ lines)
+    → FromTold (λ xs ys. length xs ≡ length ys + taken) left end → IsAtEnd end → taken ≤ limit → IfSome left (λ text. WritesAll s.refused text written now)
+finished limit taken s None end written now lines same st grown all took ended short = tt
+finished limit taken s (Some text) None written now lines same st grown all took ended short = absurd took
+finished limit taken s (Some text) (Some ys) written now lines same st grown all took ended short =
     record {
       grown = subst (λ ls. Grows written now (replay_of ls).text) (sym all) grown;
-      told = subst (λ ls. r.refused ≡ (replay_of ls).state.refused) (sym all) st.refused;
+      told = subst (λ ls. s.refused ≡ (replay_of ls).at.refused) (sym all) (ap (λ t. t.refused) st);
       short = subst (λ l. length text ≤ l) same (omega (arith, took, ap length ended, short));
     }
 
 -- at the end
-pub come_all : (r : Replay) (n taken : ℕ) (left rest after end written now : Option (List ℕ)) → Come r n left rest written now → FromTold (λ text rest. (text ≡ []) × (rest ≡ [])) rest after
-    → FromTold (λ xs ys. length xs ≡ length ys + taken) left end → IsAtEnd end → taken ≤ INPUT_LIMIT → IfSome left (λ text. WritesAll r.refused text written now)
-come_all r n taken left rest after end written now come ended took is_end short =
-    finished INPUT_LIMIT taken r left end written now come.lines refl come.stands come.grown (handed_all come.lines left rest after come.handed ended) took is_end short
+pub come_all : (s : Standing) (n taken : ℕ) (left rest after end written now : Option (List ℕ)) → Come s n left rest written now → FromTold (λ text rest. (text ≡ []) × (rest ≡ [])) rest after
+    → FromTold (λ xs ys. length xs ≡ length ys + taken) left end → IsAtEnd end → taken ≤ INPUT_LIMIT → IfSome left (λ text. WritesAll s.refused text written now)
+come_all s n taken left rest after end written now come ended took is_end short =
+    finished INPUT_LIMIT taken s left end written now come.lines refl come.stands come.grown (handed_all come.lines left rest after come.handed ended) took is_end short
 
 -- what was written is a front of a text that begins with it
 pub front_is : (whole x rest : List ℕ) (written now : Option (List ℕ)) → whole ≡ x ++ rest → Grows written now x → GrowsFront written now whole
 front_is whole x rest written now e grown = (length x, subst (Grows written now) (sym (ap (take (length x)) e ∙ take-append_seam x rest)) grown)
 
 -- more lines only add to the text
-text_grows : (p : Replayed) (ls : List (List ℕ)) → (ys : List ℕ) × ((fold replay_line p ls).text ≡ p.text ++ ys)
+text_grows : (p : Progress) (ls : List (List ℕ)) → (ys : List ℕ) × ((fold after_line p ls).text ≡ p.text ++ ys)
 text_grows p [] = ([], sym (append-nil p.text))
 text_grows p (l ∷ ls) =
-    let step = line_step (suc p.number) l p.state in
-    let more = text_grows (replay_line p l) ls in
+    let step = line_at (suc p.number) l p.at in
+    let more = text_grows (after_line p l) ls in
     (step.text ++ more.0, more.1 ∙ append_assoc p.text step.text more.0)
 
 all_text : (lines more : List (List ℕ)) → (ys : List ℕ) × ((replay_of (lines ++ more)).text ≡ (replay_of lines).text ++ ys)
 all_text lines more =
     let grows = text_grows (replay_of lines) more in
-    (grows.0, ap (λ p. p.text) (fold-append replay_line nothing_yet lines more) ∙ grows.1)
+    (grows.0, ap (λ p. p.text) (fold-append after_line at_start lines more) ∙ grows.1)
 
 -- the text of the lines that were handed out is a front of the whole
 front_of : (lines : List (List ℕ)) (left rest written now : Option (List ℕ)) → HandedOut lines left rest → Grows written now (replay_of lines).text → WritesFront left written now
@@ -83,8 +88,8 @@ front_of lines (Some text) (Some ys) written now handed grown =
     front_is (replay_of (lines_of text)).text (replay_of lines).text all.0 written now (ap (λ ls. (replay_of ls).text) handed ∙ all.1) grown
 
 -- before a line
-pub come_front : (r : Replay) (n : ℕ) (left rest written now : Option (List ℕ)) → Come r n left rest written now → WritesFront left written now
-come_front r n left rest written now come = front_of come.lines left rest written now come.handed come.grown
+pub come_front : (s : Standing) (n : ℕ) (left rest written now : Option (List ℕ)) → Come s n left rest written now → WritesFront left written now
+come_front s n left rest written now come = front_of come.lines left rest written now come.handed come.grown
 
 part_is : (a b z : List ℕ) (k : ℕ) → (a ++ b) ++ z ≡ (a ++ take k b) ++ (drop k b ++ z)
 part_is a b z k =
@@ -93,25 +98,25 @@ part_is a b z k =
     ∙ append_assoc (a ++ take k b) (drop k b) z
 
 part_of : (lines : List (List ℕ)) (bytes : List ℕ) (left after written now later : Option (List ℕ)) → HandedOut (lines ++ bytes ∷ []) left after → Grows written now (replay_of lines).text
-    → GrowsFront now later (line_step (suc (replay_of lines).number) bytes (replay_of lines).state).text → WritesFront left written later
+    → GrowsFront now later (line_at (suc (replay_of lines).number) bytes (replay_of lines).at).text → WritesFront left written later
 part_of lines bytes None after written now later handed grown front = tt
 part_of lines bytes (Some text) None written now later handed grown front = absurd handed
 part_of lines bytes (Some text) (Some ys) written now later handed grown front =
     let p = replay_of lines in
-    let step = line_step (suc p.number) bytes p.state in
+    let step = line_at (suc p.number) bytes p.at in
     let all = all_text (lines ++ bytes ∷ []) (lines_of ys) in
     front_is (replay_of (lines_of text)).text (p.text ++ take front.0 step.text) (drop front.0 step.text ++ all.0) written later
     (ap (λ ls. (replay_of ls).text) handed ∙ all.1 ∙ ap (λ q. q.text ++ all.0) (one_more lines bytes) ∙ part_is p.text step.text all.0 front.0)
     (Grows-trans written now later p.text (take front.0 step.text) grown front.1)
 
 -- within a line
-pub come_part : (r : Replay) (n number : ℕ) (bytes : List ℕ) (left rest after written now later : Option (List ℕ)) → Come r n left rest written now → number ≡ n + 1 → FromTold (LosesLine bytes) rest after
-    → ((s : ReplayState) → Stands r s → GrowsFront now later (line_step number bytes s).text) → WritesFront left written later
-come_part r n number bytes left rest after written now later come one loses front =
+pub come_part : (s : Standing) (n number : ℕ) (bytes : List ℕ) (left rest after written now later : Option (List ℕ)) → Come s n left rest written now → number ≡ n + 1 → FromTold (LosesLine bytes) rest after
+    → GrowsFront now later (line_at number bytes s).text → WritesFront left written later
+come_part s n number bytes left rest after written now later come one loses front =
     let p = replay_of come.lines in
-    let same : number ≡ suc p.number = one ∙ add-one n ∙ ap suc (sym come.counted) in
+    let next : number ≡ suc p.number = one ∙ add-one n ∙ ap suc (sym come.counted) in
     part_of come.lines bytes left after written now later (handed_line come.lines bytes left rest after come.handed loses) come.grown
-    (subst (λ k. GrowsFront now later (line_step k bytes p.state).text) same (front p.state come.stands))
+    (subst (λ l. GrowsFront now later l.text) (same_line p number bytes s come.stands next) front)
 
 -- nothing was taken yet
 pub taken_none : (left : Option (List ℕ)) → FromTold (λ xs ys. length xs ≡ length ys + 0) left left
@@ -128,14 +133,6 @@ pub too_long : (limit : ℕ) (a c : Option (List ℕ)) (new : ℕ) → FromTold 
 too_long limit None c new p h = tt
 too_long limit (Some xs) None new p h = absurd p
 too_long limit (Some xs) (Some ys) new p h = omega arith
-
--- the program's table is the full one of some objects
-full_of : (r : Replay) (s : ReplayState) → Stands r s → IsFull r.table
-full_of r s st = record { config = s.config; objects = objects_with st.table.service st.table.slice; full = st.table.full }
-
--- the program is ready for the next line
-pub come_ready : (r : Replay) (n number : ℕ) (left rest written now : Option (List ℕ)) → Come r n left rest written now → r.syncs ≤ n → number ≡ n + 1 → number < 2 ^ 64 → IsReady r
-come_ready r n number left rest written now come syncs one fits = record { table = full_of r (replay_of come.lines).state come.stands; covers = come.stands.covers; syncs = omega (arith, syncs, one, fits) }
 
 -- a front of one text is a front of the same text
 pub front_as : {T E : Type 0} (result : Result T E) (written now : Option (List ℕ)) (x y : List ℕ) → x ≡ y → OnErr result (GrowsFront written now x) → OnErr result (GrowsFront written now y)

@@ -1,7 +1,4 @@
 pub mod ComeLemmas
-pub mod ObjectLemmas
-pub mod PacketLemmas
-pub mod SmallLines
-pub mod StateLemmas
-pub mod SyncLemmas
+pub mod FirstLines
+pub mod TrailLemmas
 pub mod UsageLemmas

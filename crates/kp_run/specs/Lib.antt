@@ -1,5 +1,3 @@
 pub mod Codes
-pub mod Objects
 pub mod Outcome
-pub mod Printed
-pub mod State
+pub mod Steps

@@ -1,36 +1,40 @@
 -- What a replay has written, and how it ends.
-use Rattle.std.specs.Prelude.{◌≡◌, ◌<◌, ◌≤◌, ℕ, Bool, true, false, List, length, take, Option, IfSome, ◌⊎◌}
+use Rattle.std.specs.Prelude.{◌≡◌, ◌<◌, ◌≤◌, ℕ, Bool, true, false, List, length, take, Option, Some, None, IfSome, ◌⊎◌}
 use Rattle.kp_io.specs.Told.{Grows, IsFlushed}
 use Rattle.kp_io.specs.Lines.{lines_of}
 use Rattle.kp_io.specs.Reader.{HandedOut}
 use Rattle.kp_io.specs.Faults.{Rose}
 use Rattle.kp_io.specs.declared.next_line.TheConstants.{INPUT_LIMIT}
+use Rattle.kp_words.specs.declared.mode.Mode.{Mode}
+use Rattle.kp_words.specs.declared.mode.Mode.TheVariants as mode
 use Rattle.kp_text_defs.specs.Printed.{usage_text}
-use Rattle.kp_run_defs.specs.Replay.{replay_of, line_step, ReplayState}
-use Rattle.kp_run.specs.declared.state.Replay.{Replay}
+use Rattle.kp_run_defs.specs.ReplayText.{Standing, Line, replay_of}
 use Rattle.kp_run.specs.declared.status.Status.{Status}
 use Rattle.kp_run.specs.declared.status.Status.TheVariants.{Done, NoMemory, Usage, LinesRefused, ReadFault, WriteFault, InputTooLong}
-use Rattle.kp_run.specs.State.{Stands}
+use Rattle.kp_run.specs.Steps.{IsReady}
 
--- How far the program has come: the lines that were handed out, the replay of these lines, where the program
--- stands, and what it has written.
-pub record Come (r : Replay) (number : ℕ) (input rest written now : Option (List ℕ)) : Type 0 where
+-- ---- On the way
+
+-- How far the program has come: the lines that were handed out, where it stands after them, ready for the next one,
+-- and what it has written.
+pub record Come (s : Standing) (number : ℕ) (input rest written now : Option (List ℕ)) : Type 0 where
   pub lines : List (List ℕ)
   pub handed : HandedOut lines input rest
-  pub stands : Stands r (replay_of lines).state
+  pub stands : s ≡ (replay_of lines).at
+  pub ready : IsReady s
   pub grown : Grows written now (replay_of lines).text
   pub counted : (replay_of lines).number ≡ number
 
--- the program takes a line as the replay does, and writes its text
-pub record TakesLine (old new : Replay) (number : ℕ) (bytes : List ℕ) (s : ReplayState) (written now : Option (List ℕ)) : Type 0 where
-  pub stands : Stands new (line_step number bytes s).state
-  pub grown : Grows written now (line_step number bytes s).text
+-- the program stands where a line leads, and has written what the line prints
+pub record TakesLine (line : Line) (new : Standing) (written now : Option (List ℕ)) : Type 0 where
+  pub stands : new ≡ line.next
+  pub grown : Grows written now line.text
 
 -- The whole text of an input was written, and this is whether a line of it was refused. The input is no longer
 -- than may be read.
 pub record WritesAll (refused : Bool) (text : List ℕ) (written now : Option (List ℕ)) : Type 0 where
   pub grown : Grows written now (replay_of (lines_of text)).text
-  pub told : refused ≡ (replay_of (lines_of text)).state.refused
+  pub told : refused ≡ (replay_of (lines_of text)).at.refused
   pub short : length text ≤ INPUT_LIMIT
 
 -- a front of a text was written
@@ -45,20 +49,63 @@ WritesFront left written now = IfSome left (λ text. GrowsFront written now (rep
 abbrev pub IsTooLong : Option (List ℕ) → Type 0
 IsTooLong left = IfSome left (λ text. INPUT_LIMIT < length text)
 
+-- ---- Ends
+
+-- what a source shows: the bytes that are left, where it tells them, and how often a read has failed
+pub record Input : Type 0 where
+  pub left : Option (List ℕ)
+  pub faults : ℕ
+
+-- what a sink shows: what it was given and how much of that is flushed, where it tells them, and how often a write
+-- or a flush has failed
+pub record Output : Type 0 where
+  pub written : Option (List ℕ)
+  pub flushed : Option ℕ
+  pub faults : ℕ
+
+-- what the ends of the program show
+pub record Outside : Type 0 where
+  pub input : Input
+  pub output : Output
+
+-- a source that shows these
+abbrev pub source_of : Option (List ℕ) → ℕ → Input
+source_of left faults = record { left = left; faults = faults }
+
+-- a sink that shows these
+abbrev pub sink_of : Option (List ℕ) → Option ℕ → ℕ → Output
+sink_of written flushed faults = record { written = written; flushed = flushed; faults = faults }
+
+-- the ends that show these
+abbrev pub ends_of : Input → Output → Outside
+ends_of from to = record { input = from; output = to }
+
+-- all that was written is flushed
+abbrev pub IsOut : Output → Type 0
+IsOut now = IsFlushed now.flushed now.written
+
+-- the whole text was written and flushed, and this is whether a line was refused
+abbrev pub EndsWhole : Bool → Outside → Outside → Type 0
+EndsWhole refused old new =
+    IfSome old.input.left (λ text. WritesAll refused text old.output.written new.output.written) × IsOut new.output
+
+-- a front of the whole text was written
+abbrev pub EndsFront : Outside → Outside → Type 0
+EndsFront old new = WritesFront old.input.left old.output.written new.output.written
+
 -- What holds of each status: where the run read its input to its end and wrote all, the whole text was written
 -- and flushed, and whether a line was refused is told; else a front of that text was written, which is flushed
 -- where reading stopped the run. A fault of a read or a write is told only where the count of faults rose, and an
 -- input that is too long only where it is. Want of memory is free.
-abbrev pub Ends : Status → Option (List ℕ) → Option (List ℕ) → Option (List ℕ) → Option ℕ → ℕ → ℕ → ℕ → ℕ → Type 0
-Ends Done left written now flushed r r' w w' =
-    IfSome left (λ text. WritesAll false text written now) × IsFlushed flushed now
-Ends LinesRefused left written now flushed r r' w w' =
-    IfSome left (λ text. WritesAll true text written now) × IsFlushed flushed now
-Ends NoMemory left written now flushed r r' w w' = WritesFront left written now
-Ends Usage left written now flushed r r' w w' = ⊥
-Ends ReadFault left written now flushed r r' w w' = Rose r r' × WritesFront left written now × IsFlushed flushed now
-Ends WriteFault left written now flushed r r' w w' = Rose w w' × WritesFront left written now
-Ends InputTooLong left written now flushed r r' w w' = IsTooLong left × WritesFront left written now × IsFlushed flushed now
+abbrev pub Ends : Status → Outside → Outside → Type 0
+Ends Done old new = EndsWhole false old new
+Ends LinesRefused old new = EndsWhole true old new
+Ends NoMemory old new = EndsFront old new
+Ends Usage old new = ⊥
+Ends ReadFault old new =
+    Rose old.input.faults new.input.faults × EndsFront old new × IsOut new.output
+Ends WriteFault old new = Rose old.output.faults new.output.faults × EndsFront old new
+Ends InputTooLong old new = IsTooLong old.input.left × EndsFront old new × IsOut new.output
 
 -- the status of an input that was read to its end
 abbrev pub status_if : Bool → Status
@@ -69,18 +116,27 @@ status_if false = Done
 abbrev pub IsStatusOr : Status → Status → Type 0 → Type 0 → Type 0
 IsStatusOr result given P Q = ((result ≡ given) × P) ⊎ ((result ≡ WriteFault) × Q)
 
--- how a run ends whose words don't fit: the usage line was written and flushed, or a write failed behind a front of
--- that line
-abbrev pub EndsUsage : Status → Option (List ℕ) → Option (List ℕ) → Option ℕ → ℕ → ℕ → Type 0
-EndsUsage Usage written now flushed w w' = Grows written now usage_text × IsFlushed flushed now
-EndsUsage WriteFault written now flushed w w' = Rose w w' × GrowsFront written now usage_text
-EndsUsage Done written now flushed w w' = ⊥
-EndsUsage NoMemory written now flushed w w' = ⊥
-EndsUsage LinesRefused written now flushed w w' = ⊥
-EndsUsage ReadFault written now flushed w w' = ⊥
-EndsUsage InputTooLong written now flushed w w' = ⊥
+-- how a run ends that writes the usage line: it was written and flushed, or a write failed behind a front of it
+abbrev pub EndsUsage : Status → Output → Output → Type 0
+EndsUsage Usage old new = Grows old.written new.written usage_text × IsOut new
+EndsUsage WriteFault old new =
+    Rose old.faults new.faults × GrowsFront old.written new.written usage_text
+EndsUsage Done old new = ⊥
+EndsUsage NoMemory old new = ⊥
+EndsUsage LinesRefused old new = ⊥
+EndsUsage ReadFault old new = ⊥
+EndsUsage InputTooLong old new = ⊥
 
--- how a run ends, by whether its words fit
-abbrev pub Runs : Bool → Status → Option (List ℕ) → Option (List ℕ) → Option (List ℕ) → Option ℕ → ℕ → ℕ → ℕ → ℕ → Type 0
-Runs true status left written now flushed r r' w w' = Ends status left written now flushed r r' w w'
-Runs false status left written now flushed r r' w w' = EndsUsage status written now flushed w w'
+-- ---- By words
+
+-- the words ask for a replay; the other modes are not served yet
+abbrev pub asks_replay : Option Mode → Bool
+asks_replay None = false
+asks_replay (Some (mode.Replay workers)) = true
+asks_replay (Some mode.Live) = false
+asks_replay (Some (mode.Gen seed services pods)) = false
+
+-- how a run ends: as a replay, where the words ask for one, or else with the usage line
+abbrev pub Runs : Bool → Status → Outside → Outside → Type 0
+Runs true status old new = Ends status old new
+Runs false status old new = EndsUsage status old.output new.output

@@ -1,14 +1,16 @@
 //! The program as a library: a replay of lines over any source and sink.
 #![tactic(auto)]
 
-mod packet;
-mod printed;
+mod ending;
+mod lines;
+mod packets;
 mod program;
 mod replay;
-mod state;
+mod shown;
 mod status;
-mod sync;
+mod syncs;
 
+pub use lines::replay_one;
 pub use program::run;
-pub use replay::replay_one;
+pub use replay::Replay;
 pub use status::Status;

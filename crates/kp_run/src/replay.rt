@@ -1,205 +1,169 @@
-//! A replay of lines.
-ghost use Rattle.std.specs.Prelude.{◌≡◌, ◌≤◌, ◌+◌, ℕ, [], Err, IfSome, IfOk, OnOk, OnErr};
-ghost use Rattle.kp_io.specs.Faults.{Rose};
-ghost use Rattle.kp_io.specs.Told.{Grows, IsFlushed};
-ghost use Rattle.kp_io.specs.Reader.{fresh_reader};
-ghost use Rattle.kp_io.specs.declared.next_line.LineFault.{LineFault};
-ghost use Rattle.kp_run_defs.specs.Replay as spec;
-ghost use Rattle.kp_run.specs.Printed as spec_printed;
-ghost use Rattle.kp_run.specs.State as state;
-ghost use Rattle.kp_run.specs.Outcome as outcome;
-ghost use Rattle.kp_run.specs.declared.replay.Stop.{Stop};
+//! Where a replay stands, and the lines that it takes.
+ghost use Rattle.std.specs.Prelude.{◌≡◌, ◌<◌, ◌-◌, ◌^◌, [], false, length, string_bytes, IfOk, OnOk};
+ghost use Rattle.kp_run_defs.specs.ReplayText as spec;
 
-use crate::printed::{Printed, printed_text};
-use crate::state::Replay;
-use crate::status::Status;
-use kp_base::NoMemory;
-use kp_io::{Failed, LineFault, LineReader, NextLine, Sink, Source, write_whole};
+use kp_base::{Config, Items, NoMemory};
+use kp_plane::{JournalFault, Plane};
+use kp_recent::RecentLists;
+use kp_report::push_refusal;
+use kp_script::{LineRefusal, Op, ScriptFault, default_config, line_of};
+use kp_types::Event;
 use std::alloc::Global;
 
-/// Why a replay stopped before the end of its input.
-#[derive(Clone, Copy, Debug, PartialEq, Eq)]
-enum Stop {
-    NoMemory,
-    Write,
-    Read(LineFault),
+/// The most bytes that a line may have, without its line feed.
+const LONGEST_LINE: usize = 16_777_216;
+
+/// Where a replay of lines stands: its events, records and tables, the sources that packets came
+/// from of late, and whether a line was refused.
+#[derive(Drop)]
+pub struct Replay {
+    /// Whether no line but blank ones was read.
+    pub(crate) fresh: bool,
+    pub(crate) plane: Plane,
+    pub(crate) lists: RecentLists,
+    pub(crate) refused: bool,
 }
 
-/// Writes what a line prints.
-fn write_printed<K: Sink>(
-    alloc: Global,
-    number: u64,
-    printed: &Printed,
-    sink: &mut K,
-) -> Result<(), Stop>
-    ensures whole { OnOk result (Grows (K.written sink.old) (K.written sink.new)
-        (spec_printed.printed_text number printed.now)) }
-    ensures front { OnErr result (outcome.GrowsFront (K.written sink.old) (K.written sink.new)
-        (spec_printed.printed_text number printed.now)) }
-    ensures later { K.faults sink.old ≤ K.faults sink.new }
-    ensures write { result ≡ Err Stop.Write → Rose (K.faults sink.old) (K.faults sink.new) }
-    ensures read { (fault : LineFault) → result ≡ Err (Stop.Read fault) → ⊥ }
-{
-    match printed_text(alloc, number, printed) {
-        Ok(text) => write_text(sink, text.as_str().as_bytes()),
-        Err(NoMemory) => Err(Stop::NoMemory),
+impl Replay {
+    ghost use Rattle.kp_run.specs.Steps.{standing_of, IsReady, Takes, HasNoEvents, MayTake};
+
+    /// Before the first line.
+    pub fn new(alloc: Global) -> Result<Replay, NoMemory>
+        ensures { IfOk result (λ r. standing_of r ≡ spec.beginning) }
+    {
+        let config = default_config(alloc)?;
+        let lists = RecentLists::new(alloc, config.recent_size)?;
+        Ok(Replay {
+            fresh: true,
+            plane: Plane::new(alloc, config)?,
+            lists,
+            refused: false,
+        })
     }
-}
 
-fn write_text<K: Sink>(sink: &mut K, text: &[u8]) -> Result<(), Stop>
-    ensures whole { OnOk result (Grows (K.written sink.old) (K.written sink.new) text.now) }
-    ensures front { OnErr result
-        (outcome.GrowsFront (K.written sink.old) (K.written sink.new) text.now) }
-    ensures later { K.faults sink.old ≤ K.faults sink.new }
-    ensures write { result ≡ Err Stop.Write → Rose (K.faults sink.old) (K.faults sink.new) }
-    ensures other { (stop : Stop) → result ≡ Err stop → stop ≡ Stop.Write }
-{
-    match write_whole(sink, text) {
-        Ok(()) => Ok(()),
-        Err(_) => Err(Stop::Write),
+    /// Takes the line of this number, and adds what it prints to the text. Without memory the
+    /// replay and the text are of no more use.
+    pub fn take_line(
+        &mut self,
+        alloc: Global,
+        number: u64,
+        bytes: &[u8],
+        text: &mut String,
+    ) -> Result<(), NoMemory>
+        requires { IsReady (standing_of self.old) }
+        ensures { OnOk result (Takes (spec.line_at number bytes.now (standing_of self.old))
+            self.new (string_bytes text.old) (string_bytes text.new)) }
+    {
+        if bytes.len() > LONGEST_LINE {
+            self.fresh = false;
+            return self.refuse(alloc, number, &LineRefusal::TooLongLine, text);
+        }
+        if is_blank(bytes) {
+            return Ok(());
+        }
+        self.take_script(alloc, number, bytes, text)
     }
-}
 
-/// Takes a line, and writes what it prints.
-fn replay_line<K: Sink>(
-    alloc: Global,
-    replay: &mut Replay,
-    number: u64,
-    bytes: &[u8],
-    sink: &mut K,
-) -> Result<(), Stop>
-    requires { state.IsReady replay.old }
-    ensures whole { (s : spec.ReplayState) → state.Stands replay.old s → OnOk result
-        (outcome.TakesLine replay.old replay.new number bytes.now s
-        (K.written sink.old) (K.written sink.new)) }
-    ensures front { (s : spec.ReplayState) → state.Stands replay.old s → OnErr result
-        (outcome.GrowsFront (K.written sink.old) (K.written sink.new)
-        (spec.line_step number bytes.now s).text) }
-    ensures syncs { replay.new.syncs ≤ replay.old.syncs + 1 }
-    ensures later { K.faults sink.old ≤ K.faults sink.new }
-    ensures write { result ≡ Err Stop.Write → Rose (K.faults sink.old) (K.faults sink.new) }
-    ensures read { (fault : LineFault) → result ≡ Err (Stop.Read fault) → ⊥ }
-{
-    match replay.take_line(alloc, bytes) {
-        Ok(printed) => write_printed(alloc, number, &printed, sink),
-        Err(NoMemory) => Err(Stop::NoMemory),
+    /// Takes a line that is neither too long nor blank.
+    fn take_script(
+        &mut self,
+        alloc: Global,
+        number: u64,
+        bytes: &[u8],
+        text: &mut String,
+    ) -> Result<(), NoMemory>
+        requires { IsReady (standing_of self.old) }
+        ensures { OnOk result (Takes (spec.script_line number bytes.now (standing_of self.old))
+            self.new (string_bytes text.old) (string_bytes text.new)) }
+    {
+        let first = self.fresh;
+        self.fresh = false;
+        match line_of(alloc, bytes, first) {
+            Ok(line) => self.take_op(alloc, number, line.op, text),
+            Err(ScriptFault::Refused(refusal)) => self.refuse(alloc, number, &refusal, text),
+            Err(ScriptFault::NoMemory) => Err(NoMemory),
+        }
     }
-}
 
-/// Takes the lines of a source to its end, and writes what they print.
-fn replay_lines<S: Source, K: Sink>(
-    alloc: Global,
-    replay: &mut Replay,
-    reader: &mut LineReader,
-    source: &mut S,
-    sink: &mut K,
-) -> Result<(), Stop>
-    requires fresh { reader.old ≡ fresh_reader }
-    requires start { state.Stands replay.old spec.initial }
-    ensures front { outcome.WritesFront (S.left source.old)
-        (K.written sink.old) (K.written sink.new) }
-    ensures all { OnOk result (IfSome (S.left source.old)
-        (λ text. outcome.WritesAll replay.new.refused text
-        (K.written sink.old) (K.written sink.new))) }
-    ensures later { K.faults sink.old ≤ K.faults sink.new }
-    ensures read_later { S.faults source.old ≤ S.faults source.new }
-    ensures write { result ≡ Err Stop.Write → Rose (K.faults sink.old) (K.faults sink.new) }
-    ensures read { result ≡ Err (Stop.Read LineFault.ReadFault)
-        → Rose (S.faults source.old) (S.faults source.new) }
-    ensures long { result ≡ Err (Stop.Read LineFault.InputTooLong)
-        → outcome.IsTooLong (S.left source.old) }
-{
-    'lines: loop {
-        match reader.next_line(source) {
-            Ok(NextLine::Line { number }) => {
-                replay_line(alloc, replay, number, reader.bytes(), sink)?;
+    /// Tells that the line is refused.
+    pub(crate) fn refuse(
+        &mut self,
+        alloc: Global,
+        number: u64,
+        refusal: &LineRefusal,
+        text: &mut String,
+    ) -> Result<(), NoMemory>
+        ensures { OnOk result (Takes (spec.refuse number refusal.now (standing_of self.old))
+            self.new (string_bytes text.old) (string_bytes text.new)) }
+    {
+        self.refused = true;
+        push_refusal(alloc, text, number, refusal)
+    }
+
+    /// Does what a line asks for.
+    fn take_op(
+        &mut self,
+        alloc: Global,
+        number: u64,
+        op: Op,
+        text: &mut String,
+    ) -> Result<(), NoMemory>
+        requires { MayTake (standing_of self.old) op }
+        ensures { OnOk result (Takes (spec.op_line number op (standing_of self.old))
+            self.new (string_bytes text.old) (string_bytes text.new)) }
+    {
+        match op {
+            Op::Config(config) => self.take_config(alloc, config),
+            Op::Events(events) => self.take_events(alloc, number, events, text),
+            Op::Sync => self.sync(alloc, number, text),
+            Op::Packet(packet) => self.answer(number, &packet, text),
+            Op::Explain(packet) => self.explain(alloc, number, &packet, text),
+            Op::Show(what) => self.show(alloc, what, text),
+        }
+    }
+
+    /// Takes a configuration, which stands before all events.
+    fn take_config(&mut self, alloc: Global, config: Config) -> Result<(), NoMemory>
+        requires { HasNoEvents (standing_of self.old) }
+        ensures { OnOk result (standing_of self.new
+            ≡ (spec.config_line config (standing_of self.old)).next) }
+    {
+        self.lists = RecentLists::new(alloc, config.recent_size)?;
+        self.plane = Plane::new(alloc, config)?;
+        Ok(())
+    }
+
+    /// Accepts events, all of them or none.
+    fn take_events(
+        &mut self,
+        alloc: Global,
+        number: u64,
+        events: Items<Event>,
+        text: &mut String,
+    ) -> Result<(), NoMemory>
+        ensures { OnOk result (Takes (spec.events_line number events
+            (spec.has_room (standing_of self.old) (length events)) (standing_of self.old))
+            self.new (string_bytes text.old) (string_bytes text.new)) }
+    {
+        match self.plane.accept(events) {
+            Ok(()) => Ok(()),
+            Err((JournalFault::JournalFull { count }, _)) => {
+                self.refuse(alloc, number, &LineRefusal::JournalFull { count }, text)
             }
-            Ok(NextLine::End { lines: _ }) => return Ok(()),
-            Err(fault) => return Err(Stop::Read(fault)),
+            Err((JournalFault::NoMemory, _)) => Err(NoMemory),
         }
     }
 }
 
-/// Replays the lines of a source, and writes what they print to a sink. It waits for nobody.
-pub fn replay_one<S: Source, K: Sink>(alloc: Global, source: &mut S, sink: &mut K) -> Status
-    ensures { outcome.Ends result (S.left source.old) (K.written sink.old) (K.written sink.new)
-        (K.flushed sink.new) (S.faults source.old) (S.faults source.new)
-        (K.faults sink.old) (K.faults sink.new) }
+/// Whether a line has only spaces, tabs and carriage returns.
+fn is_blank(bytes: &[u8]) -> bool
+    ensures { result ≡ spec.is_blank bytes.now }
 {
-    match replay_all(alloc, source, sink) {
-        Ok(refused) => flushed(sink, if_refused(refused)),
-        Err(Stop::NoMemory | Stop::Read(LineFault::NoMemory)) => Status::NoMemory,
-        Err(Stop::Write) => Status::WriteFault,
-        Err(Stop::Read(LineFault::ReadFault)) => flushed(sink, Status::ReadFault),
-        Err(Stop::Read(LineFault::InputTooLong)) => flushed(sink, Status::InputTooLong),
-    }
+    bytes.iter().all(|byte: &u8| is_blank_byte(*byte))
 }
 
-fn if_refused(refused: bool) -> Status
-    ensures { result ≡ outcome.status_if refused }
+fn is_blank_byte(byte: u8) -> bool
+    ensures { result ≡ spec.is_blank_byte byte }
 {
-    if refused {
-        Status::LinesRefused
-    } else {
-        Status::Done
-    }
+    byte == b' ' || byte == b'\t' || byte == b'\r'
 }
-
-/// Flushes the sink. The status is the one given, or a fault of the sink.
-fn flushed<K: Sink>(sink: &mut K, status: Status) -> Status
-    ensures kept { Grows (K.written sink.old) (K.written sink.new) [] }
-    ensures later { K.faults sink.old ≤ K.faults sink.new }
-    ensures cases { outcome.IsStatusOr result status
-        (IsFlushed (K.flushed sink.new) (K.written sink.new))
-        (Rose (K.faults sink.old) (K.faults sink.new)) }
-{
-    match sink.flush() {
-        Ok(()) => status,
-        Err(_) => Status::WriteFault,
-    }
-}
-
-/// Replays all lines, and answers whether one was refused.
-fn replay_all<S: Source, K: Sink>(alloc: Global, source: &mut S, sink: &mut K) -> Result<bool, Stop>
-    ensures front { outcome.WritesFront (S.left source.old)
-        (K.written sink.old) (K.written sink.new) }
-    ensures all { IfOk result (λ refused. IfSome (S.left source.old)
-        (λ text. outcome.WritesAll refused text (K.written sink.old) (K.written sink.new))) }
-    ensures later { K.faults sink.old ≤ K.faults sink.new }
-    ensures read_later { S.faults source.old ≤ S.faults source.new }
-    ensures write { result ≡ Err Stop.Write → Rose (K.faults sink.old) (K.faults sink.new) }
-    ensures read { result ≡ Err (Stop.Read LineFault.ReadFault)
-        → Rose (S.faults source.old) (S.faults source.new) }
-    ensures long { result ≡ Err (Stop.Read LineFault.InputTooLong)
-        → outcome.IsTooLong (S.left source.old) }
-{
-    let (mut replay, mut reader) = match begin(alloc) {
-        Ok(both) => both,
-        Err(_) => return Err(Stop::NoMemory),
-    };
-    replay_lines(alloc, &mut replay, &mut reader, source, sink)?;
-    Ok(replay.refused)
-}
-
-fn begin(alloc: Global) -> Result<(Replay, LineReader), NoMemory>
-    ensures { IfOk result (λ b. state.Stands b.0 spec.initial × (b.1 ≡ fresh_reader)) }
-{
-    let replay = Replay::new(alloc)?;
-    let reader = LineReader::new(alloc)?;
-    Ok((replay, reader))
-}
-
-/// Writes the usage line.
-pub(crate) fn usage<K: Sink>(sink: &mut K) -> Status
-    ensures { outcome.EndsUsage result (K.written sink.old) (K.written sink.new)
-        (K.flushed sink.new) (K.faults sink.old) (K.faults sink.new) }
-{
-    match write_text(sink, USAGE.as_bytes()) {
-        Ok(()) => flushed(sink, Status::Usage),
-        Err(_) => Status::WriteFault,
-    }
-}
-
-/// What is written where the words don't fit.
-const USAGE: &str =
-    "usage: kproxy replay [--workers N] | kproxy live | kproxy gen SEED SERVICES PODS\n";
