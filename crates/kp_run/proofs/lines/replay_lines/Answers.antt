@@ -1,0 +1,70 @@
+use Rattle.std.proofs.Common.{◌≤◌, sym, subst, rules, arith}
+use Rattle.std.specs.Io.KnownBytes.{IsAtEnd}
+use Rattle.kp_io.specs.Told.{FromTold}
+use Rattle.kp_io.specs.Lines.{LosesLine}
+use Rattle.kp_io.specs.Reader.{to_come}
+use Rattle.kp_io.specs.declared.next_line.TheConstants.{INPUT_LIMIT}
+use Rattle.kp_run.specs.Outcome.{Come}
+use Rattle.kp_run.specs.Steps.{standing_of}
+use Rattle.kp_run.proofs.ComeLemmas.{come_none, come_more, come_all, come_front, come_part, taken_none, taken_more, by_end, ended_unasked}
+use Rattle.kp_run.proofs.lines.replay_lines.Goals as goal
+
+-- the line that was handed out was taken, and its text was written
+pub lines-preserved : goal.lines-preserved
+lines-preserved g c =
+    let counts = rw c.in-Ok-Line.field-0-is at c.in-Ok-Line.ensures.counts in
+    let answer = rw c.in-Ok-Line.field-0-is at c.in-Ok-Line.ensures.answer in
+    let again = rw c.in-Ok-Line.field-0-is at c.in-Ok-Line.ensures.again in
+    let rest = to_come c.lines.reader (g.S.Source.left c.lines.source) in
+    let after = to_come c.next_line.new.self (g.S.Source.left c.next_line.new.source) in
+    let left = g.S.Source.left c.args.source.now in
+    let start = g.K.Sink.written c.args.sink.now in
+    let later = g.K.Sink.written c.replay_line.new.sink in
+    record {
+      come =
+          subst (λ k. Come (standing_of c.replay_line.new.replay) k left after start later) (sym counts.1)
+          (come_more (standing_of c.lines.replay) (standing_of c.replay_line.new.replay) c.lines.reader.number c.in-Ok-Line.number c.bytes.result.now
+          left rest after start (g.K.Sink.written c.lines.sink) later c.lines.invariant.come counts.0
+          (subst (λ b. FromTold (LosesLine b) rest after) (sym c.bytes.ensures) answer)
+          c.in_ok-replay_line-in-Ok-Line.ensures.whole);
+      taken = taken_more left (g.S.Source.left c.lines.source) (g.S.Source.left c.next_line.new.source) c.lines.reader.taken c.next_line.new.self.taken c.lines.invariant.taken c.in-Ok-Line.ensures.input.all;
+      ended = λ ended. by_end (IsAtEnd (g.S.Source.left c.next_line.new.source)) c.lines.reader.ended (λ was. let h = again was in absurd (cc)) (λ was. c.in-Ok-Line.ensures.ended was ended);
+      read = search rules;
+      wrote = search rules;
+    }
+
+pub returns-in_err-replay_line-in-Ok-Line-clause-front : goal.returns-in_err-replay_line-in-Ok-Line-clause-front
+returns-in_err-replay_line-in-Ok-Line-clause-front g c =
+    let counts = rw c.in-Ok-Line.field-0-is at c.in-Ok-Line.ensures.counts in
+    let answer = rw c.in-Ok-Line.field-0-is at c.in-Ok-Line.ensures.answer in
+    let rest = to_come c.lines.reader (g.S.Source.left c.lines.source) in
+    let after = to_come c.next_line.new.self (g.S.Source.left c.next_line.new.source) in
+    come_part (standing_of c.lines.replay) c.lines.reader.number c.in-Ok-Line.number c.bytes.result.now (g.S.Source.left c.args.source.now) rest after
+    (g.K.Sink.written c.args.sink.now) (g.K.Sink.written c.lines.sink) (g.K.Sink.written c.replay_line.new.sink) c.lines.invariant.come counts.0
+    (subst (λ b. FromTold (LosesLine b) rest after) (sym c.bytes.ensures) answer)
+    c.in_err-replay_line-in-Ok-Line.ensures.front
+
+pub returns-in-Ok-End-clause-front : goal.returns-in-Ok-End-clause-front
+returns-in-Ok-End-clause-front g c =
+    come_front (standing_of c.lines.replay) c.lines.reader.number (g.S.Source.left c.args.source.now) (to_come c.lines.reader (g.S.Source.left c.lines.source))
+    (g.K.Sink.written c.args.sink.now) (g.K.Sink.written c.lines.sink) c.lines.invariant.come
+
+pub returns-in-Ok-End-clause-all : goal.returns-in-Ok-End-clause-all
+returns-in-Ok-End-clause-all g c =
+    let counts = rw c.in-Ok-End.field-0-is at c.in-Ok-End.ensures.counts in
+    let answer = rw c.in-Ok-End.field-0-is at c.in-Ok-End.ensures.answer in
+    let left = g.S.Source.left c.args.source.now in
+    let end = g.S.Source.left c.next_line.new.source in
+    let limit : c.next_line.new.self.taken ≤ INPUT_LIMIT = search rules in
+    come_all (standing_of c.lines.replay) c.lines.reader.number c.next_line.new.self.taken left (to_come c.lines.reader (g.S.Source.left c.lines.source)) (to_come c.next_line.new.self end) end
+    (g.K.Sink.written c.args.sink.now) (g.K.Sink.written c.lines.sink) c.lines.invariant.come answer
+    (taken_more left (g.S.Source.left c.lines.source) end c.lines.reader.taken c.next_line.new.self.taken c.lines.invariant.taken c.in-Ok-End.ensures.input.all)
+    (by_end (IsAtEnd end) c.lines.reader.ended
+    (λ was. subst (λ source. IsAtEnd (g.S.Source.left source)) (sym (c.in-Ok-End.ensures.unasked (ended_unasked c.lines.reader was))) (c.lines.invariant.ended was))
+    (λ was. c.in-Ok-End.ensures.ended was counts.3))
+    limit
+
+pub returns-in-Err-clause-front : goal.returns-in-Err-clause-front
+returns-in-Err-clause-front g c =
+    come_front (standing_of c.lines.replay) c.lines.reader.number (g.S.Source.left c.args.source.now) (to_come c.lines.reader (g.S.Source.left c.lines.source))
+    (g.K.Sink.written c.args.sink.now) (g.K.Sink.written c.lines.sink) c.lines.invariant.come
