@@ -1,4 +1,4 @@
-use Rattle.std.proofs.Common.{refl}
+use Rattle.std.proofs.Common.{rules}
 use Rattle.kp_run_defs.specs.ReplayText.{draws_at}
 use Rattle.kp_run.proofs.DrawLemmas.{draw_low}
 use Rattle.kp_run.proofs.OpLemmas.{if_ok}
@@ -7,9 +7,9 @@ use Rattle.kp_run.proofs.packets.answer_to.Goals as goal
 pub returns-clause-walk : goal.returns-clause-walk
 returns-clause-walk c =
     if_ok _ _ c.walk.result c.walk.ensures.walk (λ answer at.
-    at (draws_at c.args.number c.args.line.now.draws) (λ k small. record { value = refl; low = draw_low c.args.number c.args.line.now.draws k c.args.line.now.low }))
+    at (draws_at c.args.number c.args.line.now.draws) (λ k small. (search rules, draw_low c.args.number c.args.line.now.draws k c.args.line.now.low)))
 
 pub returns-clause-decided : goal.returns-clause-decided
 returns-clause-decided c =
     if_ok _ _ c.walk.result c.walk.ensures.decided (λ answer at.
-    at (draws_at c.args.number c.args.line.now.draws) (λ k small. record { value = refl; low = draw_low c.args.number c.args.line.now.draws k c.args.line.now.low }))
+    at (draws_at c.args.number c.args.line.now.draws) (λ k small. (search rules, draw_low c.args.number c.args.line.now.draws k c.args.line.now.low)))
