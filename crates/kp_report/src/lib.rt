@@ -19,7 +19,7 @@ pub use live::{
     event_text, final_text, live_sync_text, push_event, push_final, push_live_sync, push_record,
     record_text,
 };
-pub use refusal::{first_refusal_text, push_refusal, refusal_text};
+pub use refusal::{push_refusal, refusal_text};
 pub use slice::{push_slices, slices_text};
 pub use sync::{push_sync, sync_text, usage_text};
 pub use totals::{push_totals, totals_text};

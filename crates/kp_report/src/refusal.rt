@@ -1,7 +1,6 @@
 //! Refusals of lines.
 ghost use Rattle.std.specs.Prelude.{◌≡◌, ◌++◌, IfOk, OnOk, string_bytes, codes, decimal};
 ghost use Rattle.kp_text_defs.specs.Keys.{json_text};
-ghost use Rattle.kp_text_defs.specs.Printed as first;
 ghost use Rattle.kp_text_defs.specs.Refusals as spec;
 
 use crate::key::push_quoted;
@@ -9,7 +8,7 @@ use crate::live::push_clash;
 use kp_base::{NoMemory, Text};
 use kp_json::{BadField, Why};
 use kp_print::{push, push_labelled};
-use kp_text_defs::{LineRefusal, Refusal};
+use kp_text_defs::LineRefusal;
 use std::alloc::Global;
 
 /// The line of a refusal, by the number of the refused line.
@@ -129,32 +128,4 @@ fn push_behind_colon(text: &mut String, count: u64) -> Result<(), NoMemory>
         ≡ string_bytes text.old ++ (codes ": " ++ decimal count)) }
 {
     push_labelled(text, ": ", count)
-}
-
-/// The line of a refusal of the first path.
-pub fn first_refusal_text(alloc: Global, number: u64, refusal: Refusal) -> Result<Text, NoMemory>
-    ensures { IfOk result (λ t. t ≡ first.refusal_text number refusal) }
-{
-    let mut text = String::new(alloc);
-    push_first_refusal(&mut text, number, refusal)?;
-    Ok(Text::from_string(text))
-}
-
-fn push_first_refusal(text: &mut String, number: u64, refusal: Refusal) -> Result<(), NoMemory>
-    ensures { OnOk result (string_bytes text.new
-        ≡ string_bytes text.old ++ first.refusal_text number refusal) }
-{
-    push_labelled(text, "line ", number)?;
-    push(text, ": refused: ")?;
-    push(text, first_refusal_words(refusal))?;
-    push(text, "\n")
-}
-
-fn first_refusal_words(refusal: Refusal) -> &'static str
-    ensures { result.now ≡ first.refusal_words refusal }
-{
-    match refusal {
-        Refusal::BadJson => "bad json",
-        Refusal::NotBuilt => "not built yet",
-    }
 }

@@ -7,7 +7,7 @@ use Rattle.kp_types.specs.declared.chain.Clash.{Clash}
 use Rattle.kp_types.specs.declared.event.Event.{Event}
 use Rattle.kp_event_defs.specs.EventText.{Refused, read_events}
 use Rattle.kp_text_defs.specs.ConfigText.{read_config}
-use Rattle.kp_text_defs.specs.Forms.{json_of}
+use Rattle.kp_text_defs.specs.JsonText.{json_of}
 use Rattle.kp_text_defs.specs.PacketText.{read_packet}
 use Rattle.kp_text_defs.specs.ScriptLines.{◌>>=◌, or_refusal, of_members, of_events, read_stream, read_shown, Command, config, event, sync, packet, explain, show, op_of, command_of, op_named, op_at, read_script, line_of}
 use Rattle.kp_text_defs.specs.declared.line_refusal.LineRefusal.{LineRefusal}

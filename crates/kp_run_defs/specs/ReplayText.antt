@@ -37,7 +37,7 @@ use Rattle.kp_text_defs.specs.declared.script.Shown.{Shown}
 use Rattle.kp_text_defs.specs.declared.script.Shown.TheVariants as shown
 use Rattle.kp_text_defs.specs.declared.script.ScriptLine.{ScriptLine}
 use Rattle.kp_text_defs.specs.Answers.{explain_text, chains_text}
-use Rattle.kp_text_defs.specs.FirstLines.{default_config}
+use Rattle.kp_text_defs.specs.ConfigText.{default_config}
 use Rattle.kp_text_defs.specs.Printed.{packet_text, sync_text}
 use Rattle.kp_text_defs.specs.Refusals.{refusal_text}
 use Rattle.kp_text_defs.specs.ScriptLines.{line_of}

@@ -5,13 +5,7 @@ use Rattle.std.specs.Str.{is_utf8}
 use Rattle.std.proofs.lemmas.Str.{IsUtf8-from_is_utf8, is_utf8-from_IsUtf8}
 use Rattle.serde_json.specs.Data.{Data}
 use Rattle.serde_json.specs.Read.{read}
-use Rattle.std.specs.Prelude.{Err}
-use Rattle.serde_json.specs.Errors.{IsMemory}
-use Rattle.serde_json.specs.declared.error.Error.{Error}
-use Rattle.kp_text_defs.specs.Forms.{json_of}
-use Rattle.kp_script.specs.Lines.{Parses, IsJsonFault}
-use Rattle.kp_script.specs.declared.line.LineFault.{LineFault}
-use Rattle.kp_script.specs.declared.line.LineFault.TheVariants.{BadJson, NotBuilt, NoMemory}
+use Rattle.kp_text_defs.specs.JsonText.{json_of}
 
 -- text that is read
 pub json_read : (bs : List ℕ) (d : Data) → IsUtf8 bs → read bs ≡ Some d → json_of bs ≡ Some d
@@ -24,9 +18,3 @@ by_test bs false e h = refl
 -- bytes that are no text, or text that isn't read
 pub json_none : (bs : List ℕ) → (IsUtf8 bs → read bs ≡ None) → json_of bs ≡ None
 json_none bs h = by_test bs (is_utf8 bs) refl h
-
--- why the reader gave no value
-pub refused : (error : Error) (bs : List ℕ) (f : LineFault) → IsJsonFault error f → (¬ (IsMemory error) → IsUtf8 bs → read bs ≡ None) → Parses (Err f) bs
-refused error bs NoMemory h k = tt
-refused error bs BadJson h k = json_none bs (k h)
-refused error bs NotBuilt h k = absurd h

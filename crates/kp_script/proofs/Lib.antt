@@ -1,4 +1,2 @@
-pub mod Each
 pub mod Json
 pub mod ScriptJson
-pub mod Values

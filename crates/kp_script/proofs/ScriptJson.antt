@@ -6,7 +6,7 @@ use Rattle.serde_json.specs.Read.{read}
 use Rattle.kp_json.specs.Trees.{ReadsAs}
 use Rattle.kp_json.specs.declared.fault.JsonFault.{JsonFault}
 use Rattle.kp_json.specs.declared.fault.JsonFault.TheVariants as json
-use Rattle.kp_text_defs.specs.Forms.{json_of}
+use Rattle.kp_text_defs.specs.JsonText.{json_of}
 use Rattle.kp_text_defs.specs.ScriptLines.{or_refusal}
 use Rattle.kp_text_defs.specs.declared.line_refusal.LineRefusal.TheVariants.{BadJson}
 use Rattle.kp_script.proofs.Json.{json_read, json_none}

@@ -6,14 +6,31 @@ ghost use Rattle.kp_json.specs.Views.{place_of};
 ghost use Rattle.kp_row_defs.specs.Fields.{address_at, flag_in, items_in, range_of_text, text_in};
 ghost use Rattle.kp_row_defs.specs.Reads.{Reads};
 ghost use Rattle.kp_row_defs.specs.Rows.{each, field_fault, list_fault, name_text, optional, range_text, row_fault, rows_fault, truth_value, whole};
-ghost use Rattle.kp_text_defs.specs.ConfigText.{config_from, config_rows, node_address_rows, number_in};
+ghost use Rattle.kp_text_defs.specs.ConfigText.{config_from, config_rows, default_config, node_address_rows, number_in};
 
-use kp_base::{Address, Cidr, Config, Items, Text};
+use kp_base::{Address, Cidr, Config, Items, NoMemory, Text};
 use kp_fields::{
     TextForm, address_here, copied_text, flag_field, range_here, text_field, whole_field,
 };
 use kp_json::{FieldFault, Spot};
 use std::alloc::Global;
+
+/// The configuration of a script that sets none.
+pub fn default_config(alloc: Global) -> Result<Config, NoMemory>
+    ensures { IfOk result (λ c. c ≡ default_config) }
+{
+    Ok(Config {
+        node: Text::of(alloc, "node")?,
+        addresses: Items::new(alloc),
+        cluster: None,
+        masquerade_all: false,
+        controller: true,
+        max_per_slice: 100,
+        max_events: 1_000_000,
+        recent_size: 100,
+        name_length: 16,
+    })
+}
 
 /// The configuration.
 pub(crate) fn config_of<'a>(alloc: Global, spot: &'a Spot<'a>) -> Result<Config, FieldFault>

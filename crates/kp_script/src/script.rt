@@ -7,7 +7,7 @@ ghost use Rattle.kp_row_defs.specs.Rows.{row_fault};
 ghost use Rattle.kp_row_defs.specs.Fields.{chosen, text_in};
 ghost use Rattle.kp_text_defs.specs.declared.line_refusal.LineRefusal.TheVariants.{BadJson, UnknownOp};
 ghost use Rattle.kp_text_defs.specs.declared.script.Op.{Op as SpecOp};
-ghost use Rattle.kp_text_defs.specs.Forms.{json_of};
+ghost use Rattle.kp_text_defs.specs.JsonText.{json_of};
 ghost use Rattle.kp_text_defs.specs.ScriptLines.{config_op, event_op, line_of, op_at, op_named, or_refusal, read_script, show_row, shows};
 ghost use Rattle.kp_script.specs.ScriptAnswers.{GivesScript, Told, of_json_fault};
 

@@ -1,7 +1,9 @@
 //! Script lines, with what each is read as.
 use kp_base::{Address, Config, PortNo, Proto, Text};
 use kp_json::{BadField, Why};
-use kp_script::{Draws, LineRefusal, Op, PacketLine, ScriptFault, ScriptLine, Shown, line_of};
+use kp_script::{
+    Draws, LineRefusal, Op, PacketLine, ScriptFault, ScriptLine, Shown, default_config, line_of,
+};
 use kp_types::{Origin, Packet};
 use std::alloc::Global;
 use std::test::Fail;
@@ -371,16 +373,24 @@ fn a_configuration_has_the_values_of_its_members(rt: HostRuntime) -> Result<(), 
     Ok(())
 }
 
+/// Whether each member is what it is where nothing is said of it.
+fn has_defaults(config: &Config) -> bool {
+    config.node.as_str() == "node"
+        && config.addresses.as_slice().is_empty()
+        && config.cluster.is_none()
+        && !config.masquerade_all
+        && config.controller
+        && config.max_per_slice == 100
+        && config.max_events == 1_000_000
+        && config.recent_size == 100
+        && config.name_length == 16
+}
+
 #[test]
 fn a_configuration_has_defaults(rt: HostRuntime) -> Result<(), Fail> {
-    let read = config(
-        rt.alloc(),
-        r#"{"op":"config","node":"","clusterCIDR":"fd00::/56"}"#,
-    )?;
-    assert_eq!(rt; read.node.as_str(), "node");
-    assert!(rt; read.addresses.as_slice().is_empty() && read.cluster.is_none());
-    assert!(rt; !read.masquerade_all && read.controller);
-    assert!(rt; read.max_per_slice == 100 && read.max_events == 1000000);
-    assert!(rt; read.recent_size == 100 && read.name_length == 16);
+    let alloc = rt.alloc();
+    let empty = r#"{"op":"config","node":"","clusterCIDR":"fd00::/56"}"#;
+    assert!(rt; has_defaults(&config(alloc, empty)?));
+    assert!(rt; has_defaults(&default_config(alloc)?));
     Ok(())
 }

@@ -1,6 +1,6 @@
 -- The configuration of a line (this project's choice): what the proxy of one node is told before any event. A member
 -- that is absent has the default of its row.
-use Rattle.std.specs.Prelude.{ℕ, true, false, List, codes, option_and_then, unwrap_or, Result}
+use Rattle.std.specs.Prelude.{ℕ, true, false, List, [], codes, None, option_and_then, unwrap_or, Result}
 use Rattle.std.specs.List.{filter_map}
 use Rattle.std.proofs.Common.{lit≤, le_trans}
 use Rattle.kp_base.specs.declared.config.Config.{Config}
@@ -9,6 +9,27 @@ use Rattle.kp_json.specs.declared.fault.BadField.{BadField}
 use Rattle.kp_row_defs.specs.Fields.{text_in, flag_in, whole_in, items_in, address_at, range_of_text}
 use Rattle.kp_row_defs.specs.Rows.{Rows, done, ◌▸◌, field, each, itself, optional, name_text, address_text, range_text, whole, truth_value, rows_fault, unless_fault}
 use Rattle.kp_text_defs.specs.Bounds.{between, between_from, between_to}
+
+-- the configuration without a line that says otherwise
+abbrev pub default_config : Config
+default_config = record {
+  node = codes "node";
+  addresses = [];
+  cluster = None;
+  masquerade_all = false;
+  controller = true;
+  max_per_slice = 100;
+  max_events = 1000000;
+  recent_size = 100;
+  name_length = 16;
+  slice_from = lit≤ tt;
+  slice_to = lit≤ tt;
+  events_from = lit≤ tt;
+  events_to = lit≤ tt;
+  recent_from = lit≤ tt;
+  recent_to = lit≤ tt;
+  name_to = lit≤ tt;
+}
 
 -- the rows of an address of the node
 abbrev pub node_address_rows : Rows

@@ -1,8 +1,7 @@
 pub mod Answers
 pub mod Bounds
 pub mod ConfigText
-pub mod FirstLines
-pub mod Forms
+pub mod JsonText
 pub mod Keys
 pub mod ListedDraws
 pub mod Live

@@ -2,19 +2,7 @@
 use Rattle.std.specs.Prelude.{ℕ, Bool, true, false, List, [], ◌∷◌, ◌++◌, codes, decimal}
 use Rattle.kp_types.specs.declared.verdict.Verdict.{Verdict}
 use Rattle.kp_types.specs.declared.verdict.Verdict.TheVariants.{To, Rejected, Dropped, LeftAlone}
-use Rattle.kp_text_defs.specs.declared.refusal.Refusal.{Refusal}
-use Rattle.kp_text_defs.specs.declared.refusal.Refusal.TheVariants.{BadJson, NotBuilt}
 use Rattle.kp_choice_defs.specs.AddressText.{endpoint_text}
-
--- why a line is refused
-abbrev pub refusal_words : Refusal → List ℕ
-refusal_words BadJson = codes "bad json"
-refusal_words NotBuilt = codes "not built yet"
-
--- a refused line, by its number
-abbrev pub refusal_text : ℕ → Refusal → List ℕ
-refusal_text number refusal =
-    codes "line " ++ decimal number ++ codes ": refused: " ++ refusal_words refusal ++ codes "\n"
 
 -- the events since the last sync, the chains that were written and those removed
 abbrev pub counts_text : ℕ → ℕ → ℕ → List ℕ

@@ -10,7 +10,7 @@ use Rattle.kp_types.specs.declared.event.Event.{Event}
 use Rattle.kp_row_defs.specs.Fields.{text_in, chosen, texts_of}
 use Rattle.kp_row_defs.specs.Rows.{Row, field, needed, optional, filled_port_name_text, choice, row_fault, unless_fault}
 use Rattle.kp_event_defs.specs.EventText.{Refused, not_event, unsupported, bad_field, read_events}
-use Rattle.kp_text_defs.specs.Forms.{json_of}
+use Rattle.kp_text_defs.specs.JsonText.{json_of}
 use Rattle.kp_text_defs.specs.StreamNames.{stream_of}
 use Rattle.kp_text_defs.specs.declared.script.Op.{Op}
 use Rattle.kp_text_defs.specs.declared.script.Op.TheVariants as op

@@ -3,20 +3,16 @@
 #![tactic(auto)]
 
 mod draws;
-mod line;
 mod line_refusal;
 mod packet;
-mod refusal;
 mod script;
 mod stream;
 mod totals;
 pub mod worked;
 
 pub use draws::Draws;
-pub use line::{FirstLine, PacketForm, PlainEndpoint, PlainService, PlainSlice};
 pub use line_refusal::LineRefusal;
 pub use packet::PacketLine;
-pub use refusal::Refusal;
 pub use script::{Op, ScriptLine, Shown};
 pub use stream::Stream;
 pub use totals::Totals;

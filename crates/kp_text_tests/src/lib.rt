@@ -1,4 +1,4 @@
-//! Tests of kp_script and kp_report.
+//! Tests of kp_report and of the names of streams.
 #![tactic(auto)]
 
 #[cfg(test)]
@@ -11,7 +11,5 @@ mod names;
 mod refusals;
 #[cfg(test)]
 mod report;
-#[cfg(test)]
-mod script;
 #[cfg(test)]
 mod slices;

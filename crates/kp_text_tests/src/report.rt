@@ -1,7 +1,6 @@
 //! The printed lines, as the format has them.
 use kp_base::{Address, Endpoint, NoMemory, PortNo};
-use kp_report::{answer_text, first_refusal_text, sync_text, usage_text};
-use kp_text_defs::Refusal;
+use kp_report::{answer_text, sync_text, usage_text};
 use kp_types::Verdict;
 use std::alloc::Global;
 use std::test::Fail;
@@ -36,20 +35,10 @@ fn answers_are_printed(rt: HostRuntime) -> Result<(), Fail> {
     Ok(())
 }
 
-/// Whether the refusal of a line is printed so.
-fn is_refusal(alloc: Global, line: u64, refusal: Refusal, want: &str) -> Result<bool, NoMemory> {
-    Ok(first_refusal_text(alloc, line, refusal)?.as_str() == want)
-}
-
 #[test]
-fn syncs_and_refusals_are_printed(rt: HostRuntime) -> Result<(), Fail> {
-    let alloc = rt.alloc();
-    let text = sync_text(alloc, 1, 2, 4, 0)?;
+fn syncs_are_printed(rt: HostRuntime) -> Result<(), Fail> {
+    let text = sync_text(rt.alloc(), 1, 2, 4, 0)?;
     assert_eq!(rt; text.as_str(), "sync 1: events 2, written 4, removed 0\n");
-    let bad = "line 6: refused: bad json\n";
-    assert!(rt; is_refusal(alloc, 6, Refusal::BadJson, bad)?);
-    let not_built = "line 5: refused: not built yet\n";
-    assert!(rt; is_refusal(alloc, 5, Refusal::NotBuilt, not_built)?);
     Ok(())
 }
 

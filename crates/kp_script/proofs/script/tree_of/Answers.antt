@@ -1,6 +1,6 @@
 use Rattle.std.proofs.Common.{Err, ap, sym, subst}
 use Rattle.serde_json.specs.Data.{Data}
-use Rattle.kp_text_defs.specs.Forms.{json_of}
+use Rattle.kp_text_defs.specs.JsonText.{json_of}
 use Rattle.kp_text_defs.specs.ScriptLines.{or_refusal}
 use Rattle.kp_text_defs.specs.declared.line_refusal.LineRefusal.TheVariants.{BadJson}
 use Rattle.kp_script.specs.ScriptAnswers.{Told}

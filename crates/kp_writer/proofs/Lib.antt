@@ -1,6 +1,0 @@
-pub mod ChoiceSteps
-pub mod Distinct
-pub mod Ordered
-pub mod PlainLaws
-pub mod PlainPort
-pub mod RowLemmas
