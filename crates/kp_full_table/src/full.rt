@@ -1,5 +1,5 @@
 //! The full table of the objects, and of what is known of the ports.
-ghost use Rattle.std.specs.Prelude.{◌≡◌, ◌+◌, ◌++◌, ◌≤◌, List, None, IfOk, IfErr, OnOk, ⊥};
+ghost use Rattle.std.specs.Prelude.{◌≡◌, ◌+◌, ◌++◌, ◌≤◌, List, None, IfOk, IfErr, OnOk};
 ghost use Rattle.kp_base.specs.declared.address.Family.TheVariants.{V4};
 ghost use Rattle.kp_choice_defs.specs.Names.{chain_name, first_clash};
 ghost use Rattle.kp_choice_defs.specs.Settings.{setting_of};

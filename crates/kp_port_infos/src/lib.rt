@@ -3,6 +3,8 @@
 #![tactic(auto)]
 
 mod infos;
+mod ports;
+mod sources;
 
 pub use infos::{infos_of_services, port_infos};
 pub use kp_types::PortInfo;
