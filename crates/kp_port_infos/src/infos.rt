@@ -5,7 +5,7 @@ ghost use Rattle.std.specs.List.{filter_map, flat_map};
 ghost use Rattle.kp_base.specs.Keys.{port_key_cmp};
 ghost use Rattle.kp_base.specs.declared.address.Family.TheVariants.{V4};
 ghost use Rattle.kp_types.specs.Setting.{config_for};
-ghost use Rattle.kp_types.specs.declared.info.ServiceSources.{ServiceSources};
+ghost use Rattle.kp_types.specs.declared.info.ServiceSources.{ServiceSources as Sources};
 ghost use Rattle.kp_types.specs.declared.service.ServicePort.{ServicePort};
 ghost use Rattle.kp_object_defs.specs.Entries.{sources_of};
 ghost use Rattle.kp_object_defs.specs.Objects.{zone_of};
@@ -13,13 +13,13 @@ ghost use Rattle.kp_object_defs.specs.Order.{distinct_in_order};
 ghost use Rattle.kp_object_defs.specs.OwnKeys.{AreUnderOwnKeys};
 ghost use Rattle.kp_object_defs.specs.PortByKey.{info_at, port_keys_of};
 ghost use Rattle.kp_object_defs.specs.PortInfo as spec;
-ghost use Rattle.kp_port_infos.specs.Known.{AreStored, known_ports};
+ghost use Rattle.kp_port_infos.specs.Known.{AreStored, known_ports, sources_in};
 
 use crate::ports::add_port;
 use crate::sources::sources_in_part;
 use kp_base::{Config, NoMemory, PortKey};
 use kp_store::Objects;
-use kp_types::{PortInfo, Service};
+use kp_types::{PortInfo, Service, ServiceSources};
 use std::alloc::Global;
 use std::collections::BTreeMap;
 
@@ -91,7 +91,29 @@ fn add_service(
 ) -> Result<(), NoMemory>
     requires own_keys { AreUnderOwnKeys objects.now }
     requires stored { get objects.now.services service.now.key ≡ Some service.now }
-    ensures { (before : List (ServiceSources × ServicePort)) → known.old.entries
+    ensures { (before : List (Sources × ServicePort)) → known.old.entries
+        ≡ known_ports V4 config.now.node (zone_of objects.now config.now.node) before →
+        OnOk result (known.new.entries
+        ≡ known_ports V4 config.now.node (zone_of objects.now config.now.node)
+        (before ++ spec.ports_of
+        (sources_of V4 (config_for V4 config.now) objects.now service.now))) }
+{
+    let sources = sources_in_part(alloc, objects, config, service)?;
+    add_ports(alloc, known, objects, config, service, &sources)
+}
+
+/// Adds what is known of the ports of a Service, by what its endpoints are taken from.
+fn add_ports(
+    alloc: Global,
+    known: &mut BTreeMap<PortKey, Option<PortInfo>>,
+    objects: &Objects,
+    config: &Config,
+    service: &Service,
+    sources: &Option<ServiceSources>,
+) -> Result<(), NoMemory>
+    requires taken { sources.now
+        ≡ sources_in V4 (config_for V4 config.now) objects.now service.now }
+    ensures { (before : List (Sources × ServicePort)) → known.old.entries
         ≡ known_ports V4 config.now.node (zone_of objects.now config.now.node) before →
         OnOk result (known.new.entries
         ≡ known_ports V4 config.now.node (zone_of objects.now config.now.node)
@@ -99,9 +121,8 @@ fn add_service(
         (sources_of V4 (config_for V4 config.now) objects.now service.now))) }
 {
     let zone = objects.zone_of(&config.node);
-    let sources = sources_in_part(alloc, objects, config, service)?;
     for port in service.ports.as_slice() {
-        add_port(alloc, known, config, zone, service, &sources, port)?;
+        add_port(alloc, known, config, zone, service, sources, port)?;
     }
     Ok(())
 }

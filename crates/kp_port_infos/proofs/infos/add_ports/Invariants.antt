@@ -7,7 +7,7 @@ use Rattle.kp_types.specs.declared.service.ServicePort.{ServicePort}
 use Rattle.kp_object_defs.specs.Objects.{zone_of}
 use Rattle.kp_port_infos.specs.Known.{known_ports}
 use Rattle.kp_port_infos.proofs.KnownPorts.{with_ports}
-use Rattle.kp_port_infos.proofs.infos.add_service.Given as goal
+use Rattle.kp_port_infos.proofs.infos.add_ports.Given as goal
 
 abbrev pub invariant-loop-port : goal.invariant-loop-port
 invariant-loop-port l =

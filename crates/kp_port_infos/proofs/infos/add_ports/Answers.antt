@@ -9,7 +9,7 @@ use Rattle.kp_object_defs.specs.Objects.{zone_of}
 use Rattle.kp_object_defs.specs.PortInfo.{port_key_of}
 use Rattle.kp_port_infos.specs.Known.{known_in_part, known_ports}
 use Rattle.kp_port_infos.proofs.KnownPorts.{next_port, with_ports}
-use Rattle.kp_port_infos.proofs.infos.add_service.Goals as goal
+use Rattle.kp_port_infos.proofs.infos.add_ports.Goals as goal
 
 pub loop-port-preserved : goal.loop-port-preserved
 loop-port-preserved c before h =
@@ -25,6 +25,6 @@ loop-port-preserved c before h =
         ∙ sym (take_more items i p c.loop-port-test.true)
         ∙ ap (take (i + 1)) c.as_slice-port-items.ensures in
     c.in_ok-add_port.ensures
-    ∙ (λ j. put port_key_cmp (port_key_of s p) (known_in_part V4 config.node (c.zone_of-zone.ensures j) p (c.in_ok-sources.ensures j)) (c.loop-port.invariant before h j))
+    ∙ (λ j. put port_key_cmp (port_key_of s p) (known_in_part V4 config.node (c.zone_of-zone.ensures j) p (c.requires.taken j)) (c.loop-port.invariant before h j))
     ∙ next_port V4 config o s before (take i s.ports) p
     ∙ ap (λ (ps : List ServicePort). known_ports V4 config.node (zone_of o config.node) (before ++ with_ports V4 config o s ps)) next
