@@ -1,0 +1,29 @@
+-- Slices in place of others.
+use Rattle.std.proofs.Common.{◌≡◌, List, [], ◌∷◌, ◌++◌, map, filter, not, refl, sym, ap, ◌∙◌}
+use Rattle.std.specs.FinMap as finite
+use Rattle.kp_base.specs.Keys.{key_cmp}
+use Rattle.kp_base.specs.declared.key.ObjectKey.{ObjectKey}
+use Rattle.kp_types.specs.declared.slice.Slice.{Slice}
+use Rattle.kp_base.specs.declared.address.Family.TheVariants.{V4}
+use Rattle.kp_object_defs.specs.OwnKeys.{IsUnderOwnKeys}
+use Rattle.kp_object_defs.specs.PackingLaws.{is_managed_for}
+use Rattle.kp_object_defs.specs.SlicesNow.{Slices, managed_slices, with_managed}
+use Rattle.kp_controller.specs.Replaced.{with_slices, without_keys}
+use Rattle.kp_controller.proofs.Kept.{without_passing}
+
+-- the last of them may be put in first
+pub put_last : (more : List Slice) (s : Slice) (m : Slices) → with_slices (more ++ s ∷ []) m ≡ with_slices more (finite.insert m s.key s)
+put_last [] s m = refl
+put_last (t ∷ more) s m = ap (λ rest. finite.insert rest t.key t) (put_last more s m)
+
+-- put into a map of entries, they stand before these
+pub before_entries : (more : List Slice) (es : List (ObjectKey × Slice)) → with_slices more (finite.from_entries {R = key_cmp} es) ≡ finite.from_entries {R = key_cmp} (map (λ s. (s.key, s)) more ++ es)
+before_entries [] es = refl
+before_entries (s ∷ more) es = ap (λ m. finite.insert m s.key s) (before_entries more es)
+
+-- what packing makes stands in place of the managed slices
+pub repacked : (service : ObjectKey) (packed : List Slice) (old rest : Slices) → IsUnderOwnKeys (λ (s : Slice). s.key) old → rest ≡ without_keys (map (λ s. s.key) (managed_slices V4 service old)) old
+    → with_slices packed rest ≡ with_managed V4 service packed old
+repacked service packed old rest own is =
+    ap (with_slices packed) (is ∙ without_passing (is_managed_for V4 service) old own)
+    ∙ before_entries packed (filter (λ e. not (is_managed_for V4 service e.1)) (finite.entries old))

@@ -1,0 +1,13 @@
+use Rattle.std.proofs.Common.{◌++◌, ap, sym, ◌∙◌}
+use Rattle.std.specs.Option.{option_to_list}
+use Rattle.kp_controller.specs.Replaced.{with_slices}
+use Rattle.kp_controller.proofs.Packed.{put_last}
+use Rattle.kp_controller.proofs.replaced.put_all.Goals as goal
+
+pub loop-slice-preserved : goal.loop-slice-preserved
+loop-slice-preserved c =
+    let rest = c.pop.new.self.items in
+    ap (with_slices rest) c.in_ok-put.ensures.ok
+    ∙ sym (put_last rest c.in-Some.slice c.loop-slice.slices)
+    ∙ ap (λ ss. with_slices ss c.loop-slice.slices) (sym c.in-Some.ensures.items)
+    ∙ c.loop-slice.invariant

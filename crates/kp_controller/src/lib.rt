@@ -1,0 +1,12 @@
+//! The EndpointSlices: as events change them at once, and as the EndpointSlice controller makes
+//! them at a sync.
+#![tactic(auto)]
+
+mod leftovers;
+mod managed;
+mod replaced;
+mod slice_map;
+mod step;
+
+pub use slice_map::SliceMap;
+pub use step::control;

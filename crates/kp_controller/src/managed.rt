@@ -1,0 +1,132 @@
+//! The slices that the controller manages for one Service.
+ghost use Rattle.std.specs.Prelude.{◌≡◌, map, bytes_eq, Some, IfOk, OnOk};
+ghost use Rattle.std.specs.FinMap.{get};
+ghost use Rattle.std.specs.List.{filter};
+ghost use Rattle.kp_base.specs.declared.address.Family.TheVariants.{V4};
+ghost use Rattle.kp_object_defs.specs.Entries as entries;
+ghost use Rattle.kp_object_defs.specs.OwnKeys.{AreUnderOwnKeys, IsUnderOwnKeys};
+ghost use Rattle.kp_object_defs.specs.PackingLaws as laws;
+ghost use Rattle.kp_object_defs.specs.SlicesNow as now;
+ghost use Rattle.kp_object_defs.specs.SlicesNow.{after_packing};
+
+use crate::replaced::{put_all, take_all};
+use crate::slice_map::SliceMap;
+use kp_base::{Config, Copied, Items, NoMemory, ObjectKey, Text};
+use kp_object_laws::{slices_now, wanted_endpoints};
+use kp_packer::pack;
+use kp_port_infos::wanted_of;
+use kp_store::Objects;
+use kp_types::{AddressType, Service, Slice};
+use std::alloc::Global;
+
+/// Packs a Service of the objects: its managed IPv4 slices hold the endpoints that it wants.
+pub fn pack_service(
+    alloc: Global,
+    config: &Config,
+    objects: &Objects,
+    service: &Service,
+    slices: &mut SliceMap,
+) -> Result<(), NoMemory>
+    requires own { AreUnderOwnKeys objects.now }
+    requires stored { get objects.now.services service.now.key ≡ Some service.now }
+    ensures { OnOk result (slices.new
+        ≡ after_packing config.now.max_per_slice objects.now service.now slices.old V4) }
+{
+    let (managed, packed) = packed_now(alloc, config, objects, service, slices)?;
+    take_all(managed.as_slice(), slices);
+    put_all(alloc, packed, slices)
+}
+
+/// The keys of a Service's managed IPv4 slices, and what packing makes of these slices.
+fn packed_now(
+    alloc: Global,
+    config: &Config,
+    objects: &Objects,
+    service: &Service,
+    slices: &SliceMap,
+) -> Result<(Items<ObjectKey>, Items<Slice>), NoMemory>
+    requires own { AreUnderOwnKeys objects.now }
+    requires stored { get objects.now.services service.now.key ≡ Some service.now }
+    ensures own_keys { IsUnderOwnKeys (λ s. s.key) slices.now }
+    ensures managed { IfOk result (λ (managed, _). managed
+        ≡ map (λ s. s.key) (now.managed_slices V4 service.now.key slices.now)) }
+    ensures packed { IfOk result (λ (_, packed). packed ≡ (now.packed_now V4
+        config.now.max_per_slice objects.now service.now slices.now).slices) }
+{
+    let all = slices.all(alloc)?;
+    let before = managed_among(alloc, &service.key, all.as_slice())?;
+    let taken = names_among(alloc, &service.key.namespace, all.as_slice())?;
+    let wanted = wanted_of(alloc, objects, service)?;
+    slices_now();
+    wanted_endpoints();
+    let most = config.max_per_slice;
+    let packed = pack(alloc, &service.key, &before, &wanted, most, &taken)?;
+    Ok((keys_of(alloc, before.as_slice())?, packed.slices))
+}
+
+/// The slices among these that the controller manages for a Service in IPv4.
+fn managed_among<'a>(
+    alloc: Global,
+    service: &ObjectKey,
+    slices: &[&'a Slice],
+) -> Result<Items<Slice>, NoMemory>
+    ensures { IfOk result (λ ss. ss
+        ≡ filter (laws.is_managed_for V4 service.now) (map (λ s. s.now) slices.now)) }
+{
+    let mut managed = Vec::new(alloc);
+    for slice in slices {
+        if is_managed_for(service, slice) {
+            managed.push(slice.copy(alloc)?)?;
+        }
+    }
+    Ok(Items::from_vec(managed))
+}
+
+/// Whether the controller manages a slice for a Service in IPv4.
+fn is_managed_for(service: &ObjectKey, slice: &Slice) -> bool
+    ensures { result ≡ laws.is_managed_for V4 service.now slice.now }
+{
+    slice.managed
+        && slice.family == AddressType::Ipv4
+        && slice.key.namespace == service.namespace
+        && is_named(&slice.service, &service.name)
+}
+
+/// Whether there is a name, and it is this one.
+fn is_named(name: &Option<Text>, wanted: &Text) -> bool
+    ensures { result ≡ entries.is_named wanted.now name.now }
+{
+    match name {
+        Some(name) => *name == *wanted,
+        None => false,
+    }
+}
+
+/// The names of the slices among these that are in a namespace.
+fn names_among<'a>(
+    alloc: Global,
+    namespace: &Text,
+    slices: &[&'a Slice],
+) -> Result<Items<Text>, NoMemory>
+    ensures { IfOk result (λ ns. ns ≡ map (λ s. s.key.name)
+        (filter (λ s. bytes_eq s.key.namespace namespace.now) (map (λ s. s.now) slices.now))) }
+{
+    let mut names = Vec::new(alloc);
+    for slice in slices {
+        if slice.key.namespace == *namespace {
+            names.push(slice.key.name.copy(alloc)?)?;
+        }
+    }
+    Ok(Items::from_vec(names))
+}
+
+/// The keys of slices.
+fn keys_of(alloc: Global, slices: &[Slice]) -> Result<Items<ObjectKey>, NoMemory>
+    ensures { IfOk result (λ ks. ks ≡ map (λ s. s.key) slices.now) }
+{
+    let mut keys = Vec::new(alloc);
+    for slice in slices {
+        keys.push(slice.key.copy(alloc)?)?;
+    }
+    Ok(Items::from_vec(keys))
+}
