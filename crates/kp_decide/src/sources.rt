@@ -78,7 +78,7 @@ fn desired_of(
 
 /// The slices that the controller doesn't manage.
 fn unmanaged(alloc: Global, slices: Items<Slice>) -> Result<Items<Slice>, NoMemory>
-    ensures { IfOk result (λ ss. ss ≡ spec.unmanaged slices.entry) }
+    ensures { IfOk result (λ ss. ss ≡ spec.unmanaged slices) }
 {
     let mut unmanaged = Vec::new(alloc);
     for slice in slices.into_vec() {
