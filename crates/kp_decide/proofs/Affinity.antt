@@ -1,11 +1,12 @@
 -- Session affinity by lists that stay as they are: dropping what is past the timeout changes no look.
-use Rattle.std.proofs.Common.{◌≡◌, ℕ, zero, suc, ◌+◌, ◌&&◌, ◌||◌, Bool, true, false, cond, List, [], ◌∷◌, filter, slice_get, Option, Some, None, option_map, option_and_then, refl, sym, ap, ◌∙◌, not, length, nat_lt, ⊥, arith}
+use Rattle.std.proofs.Common.{◌≡◌, ℕ, zero, suc, ◌+◌, ◌&&◌, ◌||◌, Bool, true, false, cond, List, [], ◌∷◌, filter, slice_get, Option, Some, None, option_map, option_and_then, refl, sym, ap, ◌∙◌, not, length, nat_lt, ◌<◌, ◌≤◌, ◌⊎◌, inl, inr, get_or, ⊥, arith}
 use Rattle.std.proofs.lemmas.Bool.Decides.{nat_tests}
 use Rattle.std.specs.declared.cmp.Ordering.{Ordering}
 use Rattle.std.specs.Cmp.{IsTotalOrder}
 use Rattle.std.specs.Ordering.{nat_cmp, eq_by_cmp}
 use Rattle.std.specs.List.{list_any, position, position_or_len}
-use Rattle.std.specs.Option.{unwrap_or}
+use Rattle.std.specs.Option.{unwrap_or, IfSome}
+use Rattle.std.proofs.lemmas.Option.{same_Some, slice_get_cases}
 use Rattle.std.specs.FinMap.{get, get-insert, get-remove, IsAntisymmetric, nat_cmp-IsAntisymmetric}
 use Rattle.std.proofs.lemmas.Cmp.{on_total, then_total, nat_cmp_total}
 use Rattle.std.proofs.lemmas.Map.Lookups.{exact_pairs}
@@ -176,3 +177,21 @@ module _ (setting : Setting) (port : PortKey) (seconds : ℕ) (source : AddressP
       remembered_told (recent_name setting port) source now (found_or_drawn setting draws es look)
       ∙ ap (λ f. option_map choice_of (found_or setting draws es look.lists f)) (found_at_place (recent_name setting port) source now seconds lists es ∙ ap (option_and_then (placed (recent_name setting port) source now seconds lists es)) (sym is))
       ∙ of_found look.lists o within
+
+-- a place within a list has an element
+not_past : {X : Type 0} (xs : List X) (i : ℕ) → i < length xs → slice_get xs i ≡ None → ⊥
+not_past xs i within none = by (slice_get_cases xs i).1
+  where
+    by : ((x : X) × (i < length xs) × (slice_get xs i ≡ Some x) × (get_or xs i x ≡ x)) ⊎ ((length xs ≤ i) × (slice_get xs i ≡ None)) → ⊥
+    by (inl found) = absurd (cc)
+    by (inr past) = omega (arith)
+
+-- the choice of a port with an affinity timeout, by the place at which the source was seen
+pub choice_seen : (setting : Setting) (port : PortKey) (affinity : Option ℕ) (seconds : ℕ) → affinity ≡ Some seconds → (source : AddressParts) (now : ℕ) (draws : ℕ → ℕ) (es : List Endpoint) (lists : RecentParts) (o : Option ℕ) → o ≡ position (is_seen (recent_name setting port) source now seconds lists es) es → IfSome o (λ i. i < length es) → option_map choice_of (chosen_endpoint setting port affinity source now draws es lists) ≡ choice_by setting draws es lists o
+choice_seen setting port affinity seconds timeout source now draws es lists o is within =
+    ap (λ a. option_map choice_of (chosen_endpoint setting port a source now draws es lists)) timeout
+    ∙ choice_is setting port seconds source now draws es lists o is (in_list o within)
+  where
+    in_list : (o : Option ℕ) → IfSome o (λ i. i < length es) → (i : ℕ) → o ≡ Some i → slice_get es i ≡ None → ⊥
+    in_list None w i h none = absurd (cc)
+    in_list (Some j) w i h none = not_past es j w (ap (slice_get es) (same_Some j i h) ∙ none)
