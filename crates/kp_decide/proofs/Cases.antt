@@ -1,0 +1,36 @@
+-- The decision with a translation, without one, and by ports that are enough.
+use Rattle.std.proofs.Common.{◌≡◌, ℕ, List, Option, Some, None, option_map, option_and_then, ap}
+use Rattle.std.proofs.lemmas.Option.{same_Some}
+use Rattle.kp_types.specs.Setting.{FamilyConfig, Setting}
+use Rattle.kp_types.specs.declared.packet.Packet.{Packet}
+use Rattle.kp_object_defs.specs.PortInfo.{PortInfo}
+use Rattle.kp_choice_defs.specs.Recent.{RecentParts}
+use Rattle.kp_door_defs.specs.Decision as definition
+use Rattle.kp_door_defs.specs.Decision.{translation_at, translation_of}
+use Rattle.kp_door_defs.specs.Doors.{taking_door}
+use Rattle.kp_door_defs.specs.Filter.{filtered}
+use Rattle.kp_decide.specs.Names.{AreEnough}
+use Rattle.kp_decide.specs.Told.{translation_told}
+use Rattle.kp_decide.specs.declared.translation.Translation.{Translation}
+
+-- all ports are enough
+pub all_enough : (config : FamilyConfig) (packet : Packet) (some all : List PortInfo) → some ≡ all → AreEnough config packet some all
+all_enough config packet some all h = record {
+  door = ap (λ infos. taking_door config infos packet) h;
+  line = ap (λ infos. filtered config infos packet) h;
+}
+
+-- ports that are enough translate alike
+pub same_translation : (setting : Setting) (packet : Packet) (draws : ℕ → ℕ) (lists : RecentParts) (some all : List PortInfo) → AreEnough setting.config packet some all → translation_of setting some packet draws lists ≡ translation_of setting all packet draws lists
+same_translation setting packet draws lists some all h =
+    ap (option_and_then (translation_at setting packet draws lists)) h.door
+
+-- what is told of a translation is told of the one that there is
+pub of_translation : (P : Option definition.Translation → Type 0) (t : Option definition.Translation) (shown : Translation) → Some shown ≡ option_map translation_told t → ((u : definition.Translation) → shown ≡ translation_told u → P (Some u)) → P t
+of_translation P None shown h k = absurd (cc)
+of_translation P (Some u) shown h k = k u (same_Some shown (translation_told u) h)
+
+-- no translation is told of none
+pub of_none : (P : Option definition.Translation → Type 0) (t : Option definition.Translation) → None ≡ option_map translation_told t → P None → P t
+of_none P None h k = k
+of_none P (Some u) h k = absurd (cc)
