@@ -1,5 +1,5 @@
 -- Session affinity by lists that stay as they are: dropping what is past the timeout changes no look.
-use Rattle.std.proofs.Common.{◌≡◌, ℕ, zero, suc, ◌+◌, ◌&&◌, ◌||◌, Bool, true, false, cond, List, [], ◌∷◌, filter, slice_get, Option, Some, None, option_map, option_and_then, refl, sym, ap, ◌∙◌, not, length, nat_lt, ◌<◌, ◌≤◌, ◌⊎◌, inl, inr, get_or, ⊥, arith}
+use Rattle.std.proofs.Common.{◌≡◌, ℕ, zero, suc, ◌+◌, ◌&&◌, ◌||◌, Bool, true, false, cond, List, [], ◌∷◌, filter, slice_get, Option, Some, None, option_map, option_and_then, refl, sym, ap, ◌∙◌, not, length, nat_lt, ◌<◌, ◌≤◌, ◌⊎◌, inl, inr, get_or, arith}
 use Rattle.std.proofs.lemmas.Bool.Decides.{nat_tests}
 use Rattle.std.specs.declared.cmp.Ordering.{Ordering}
 use Rattle.std.specs.Cmp.{IsTotalOrder}
@@ -48,52 +48,64 @@ set_sightings lists at q (s ∷ ss) =
     ap (λ o. unwrap_or o []) (get-insert shard_total lists.parts at (s ∷ ss) q)
     ∙ or_none_put (eq_by_cmp shard_cmp q at) (s ∷ ss) (get lists.parts q)
 
--- dropping what isn't within leaves what is
-still_within : (p w : Sighting → Bool) (ss : List Sighting) → list_any w (filter p (filter w ss)) ≡ list_any w (filter p ss)
-still_within p w [] = refl
-still_within p w (s ∷ ss) = by (w s) (p s) refl refl
-  where
-    by : (a b : Bool) → w s ≡ a → p s ≡ b → list_any w (filter p (cond a (s ∷ filter w ss) (filter w ss))) ≡ list_any w (cond b (s ∷ filter p ss) (filter p ss))
-    by true true is at = ap (λ c. list_any w (cond c (s ∷ filter p (filter w ss)) (filter p (filter w ss)))) at ∙ ap (λ rest. w s || rest) (still_within p w ss)
-    by true false is at = ap (λ c. list_any w (cond c (s ∷ filter p (filter w ss)) (filter p (filter w ss)))) at ∙ still_within p w ss
-    by false true is at = still_within p w ss ∙ ap (λ c. c || list_any w (filter p ss)) (sym is)
-    by false false is at = still_within p w ss
+module _ (p w : Sighting → Bool) where
+  -- one more sighting, by whether it is within and whether it is looked for
+  still_by : (s : Sighting) (ss : List Sighting) → list_any w (filter p (filter w ss)) ≡ list_any w (filter p ss) → (a b : Bool) → w s ≡ a → p s ≡ b → list_any w (filter p (cond a (s ∷ filter w ss) (filter w ss))) ≡ list_any w (cond b (s ∷ filter p ss) (filter p ss))
+  still_by s ss same true true is has = ap (λ c. list_any w (cond c (s ∷ filter p (filter w ss)) (filter p (filter w ss)))) has ∙ ap (λ rest. w s || rest) same
+  still_by s ss same true false is has = ap (λ c. list_any w (cond c (s ∷ filter p (filter w ss)) (filter p (filter w ss)))) has ∙ same
+  still_by s ss same false true is has = same ∙ ap (λ c. c || list_any w (filter p ss)) (sym is)
+  still_by s ss same false false is has = same
 
--- a look after a list was reaped
-pub live_still : (lists : RecentParts) (m n : List ℕ) (source : AddressParts) (now seconds : ℕ) → is_live (reaped lists m source now seconds) n source now seconds ≡ is_live lists n source now seconds
-live_still lists m n source now seconds = by (eq_by_cmp shard_cmp q at) refl
-  where
-    abbrev at : Shard
-    at = shard_of m source
-    abbrev q : Shard
-    q = shard_of n source
-    abbrev w : Sighting → Bool
-    w = is_within now seconds
-    abbrev kept : List Sighting
-    kept = filter (is_within now seconds) (sightings lists (shard_of m source))
+  -- dropping what isn't within leaves what is
+  still_within : (ss : List Sighting) → list_any w (filter p (filter w ss)) ≡ list_any w (filter p ss)
+  still_within [] = refl
+  still_within (s ∷ ss) = still_by s ss (still_within ss) (w s) (p s) refl refl
 
-    by : (b : Bool) → eq_by_cmp shard_cmp q at ≡ b → list_any w (filter (is_of source) (sightings (with_sightings lists at kept) q)) ≡ list_any w (filter (is_of source) (sightings lists q))
-    by true e =
-        ap (λ ss. list_any w (filter (is_of source) ss)) (set_sightings lists at q kept ∙ ap (λ b. cond b kept (sightings lists q)) e)
-        ∙ still_within (is_of source) w (sightings lists at)
-        ∙ ap (λ s. list_any w (filter (is_of source) (sightings lists s))) (sym (one_from_tie shard_exact q at e))
-    by false e = ap (λ ss. list_any w (filter (is_of source) ss)) (set_sightings lists at q kept ∙ ap (λ b. cond b kept (sightings lists q)) e)
+module _ (lists : RecentParts) (m n : List ℕ) (source : AddressParts) (now seconds : ℕ) where
+  abbrev reaped_at : Shard
+  reaped_at = shard_of m source
+
+  abbrev looked : Shard
+  looked = shard_of n source
+
+  abbrev recently : Sighting → Bool
+  recently = is_within now seconds
+
+  abbrev kept : List Sighting
+  kept = filter recently (sightings lists reaped_at)
+
+  by_shard : (b : Bool) → eq_by_cmp shard_cmp looked reaped_at ≡ b → list_any recently (filter (is_of source) (sightings (with_sightings lists reaped_at kept) looked)) ≡ list_any recently (filter (is_of source) (sightings lists looked))
+  by_shard true e =
+      ap (λ ss. list_any recently (filter (is_of source) ss)) (set_sightings lists reaped_at looked kept ∙ ap (λ b. cond b kept (sightings lists looked)) e)
+      ∙ still_within (is_of source) recently (sightings lists reaped_at)
+      ∙ ap (λ s. list_any recently (filter (is_of source) (sightings lists s))) (sym (one_from_tie shard_exact looked reaped_at e))
+  by_shard false e = ap (λ ss. list_any recently (filter (is_of source) ss)) (set_sightings lists reaped_at looked kept ∙ ap (λ b. cond b kept (sightings lists looked)) e)
+
+  -- a look after a list was reaped
+  pub live_still : is_live (reaped lists m source now seconds) n source now seconds ≡ is_live lists n source now seconds
+  live_still = by_shard (eq_by_cmp shard_cmp looked reaped_at) refl
 
 -- ---- all endpoints
 
 -- the first place of a list with one more element in front
 position_cons : {X : Type 0} (p : X → Bool) (x : X) (xs : List X) → position p (x ∷ xs) ≡ cond (p x) (Some 0) (option_map suc (position p xs))
-position_cons p x xs = by (p x) refl
+position_cons p x xs = by (p x)
   where
-    later : (a b : ℕ) (c : Bool) → nat_lt a b ≡ c → cond (nat_lt (suc a) (suc b)) (Some (suc a)) None ≡ option_map suc (cond (nat_lt a b) (Some a) None)
-    later a b true is = ap (λ d. cond d (Some (suc a)) None) (by grind (arith, nat_tests)) ∙ sym (ap (λ d. option_map suc (cond d (Some a) None)) is)
-    later a b false is = ap (λ d. cond d (Some (suc a)) None) (by grind (arith, nat_tests)) ∙ sym (ap (λ d. option_map suc (cond d (Some a) None)) is)
+    later : (a b : ℕ) (c : Bool) → nat_lt a b ≡ c → cond (nat_lt (1 + a) (suc b)) (Some (1 + a)) None ≡ option_map suc (cond (nat_lt a b) (Some a) None)
+    later a b true is =
+        let more : nat_lt (1 + a) (suc b) ≡ true = grind (arith, nat_tests) in
+        let next : 1 + a ≡ suc a = omega arith in
+        ap (λ d. cond d (Some (1 + a)) None) more ∙ ap Some next ∙ sym (ap (λ d. option_map suc (cond d (Some a) None)) is)
+    later a b false is =
+        let more : nat_lt (1 + a) (suc b) ≡ false = grind (arith, nat_tests) in
+        ap (λ d. cond d (Some (1 + a)) None) more ∙ sym (ap (λ d. option_map suc (cond d (Some a) None)) is)
 
-    by : (b : Bool) → p x ≡ b → position p (x ∷ xs) ≡ cond b (Some 0) (option_map suc (position p xs))
-    by true is = ap (λ b. cond (nat_lt (cond (not b) (suc (position_or_len p xs)) 0) (suc (length xs))) (Some (cond (not b) (suc (position_or_len p xs)) 0)) None) is
-    by false is =
-        ap (λ b. cond (nat_lt (cond (not b) (suc (position_or_len p xs)) 0) (suc (length xs))) (Some (cond (not b) (suc (position_or_len p xs)) 0)) None) is
-        ∙ later (position_or_len p xs) (length xs) (nat_lt (position_or_len p xs) (length xs)) refl
+    none_before : (n : ℕ) → nat_lt 0 (suc n) ≡ true
+    none_before n = grind (arith, nat_tests)
+
+    by : (b : Bool) → cond (nat_lt (cond (not b) (1 + position_or_len p xs) 0) (suc (length xs))) (Some (cond (not b) (1 + position_or_len p xs) 0)) None ≡ cond b (Some 0) (option_map suc (position p xs))
+    by true = ap (λ d. cond d (Some 0) None) (none_before (length xs))
+    by false = later (position_or_len p xs) (length xs) (nat_lt (position_or_len p xs) (length xs)) refl
 
 module _ (name : Endpoint → List ℕ) (source : AddressParts) (now seconds : ℕ) (lists : RecentParts) (all : List Endpoint) where
   -- the source is seen at an endpoint
@@ -104,35 +116,34 @@ module _ (name : Endpoint → List ℕ) (source : AddressParts) (now seconds : �
   abbrev pub placed : ℕ → Option (Endpoint × ℕ)
   placed i = option_map (λ e. (e, i)) (slice_get all i)
 
+  -- places counted from the next one
+  shifted : (place : ℕ) (o : Option ℕ) → option_and_then (λ i. placed (suc place + i)) o ≡ option_and_then (λ i. placed (place + i)) (option_map suc o)
+  shifted place None = refl
+  shifted place (Some i) = ap placed (omega arith)
+
+  -- one more endpoint, by whether the source is seen there
+  found_by : (place : ℕ) (e : Endpoint) (es : List Endpoint) (left : RecentParts) → slice_get all (place + 0) ≡ Some e → (live_endpoint name source now seconds (suc place) es left).found ≡ option_and_then (λ i. placed (suc place + i)) (position is_seen es) → (a b : Bool) → a ≡ b → (cond a (record { found = Some (e, place); lists = left }) (live_endpoint name source now seconds (suc place) es left)).found ≡ option_and_then (λ i. placed (place + i)) (cond b (Some 0) (option_map suc (position is_seen es)))
+  found_by place e es left first rest true true same = ap (λ i. Some (e, i)) (omega arith) ∙ sym (ap (option_map (λ f. (f, place + 0))) first)
+  found_by place e es left first rest false false same = rest ∙ shifted place (position is_seen es)
+  found_by place e es left first rest true false same = absurd (cc)
+  found_by place e es left first rest false true same = absurd (cc)
+
+  -- a look from a place on, at lists that look like these
   found_from : (place : ℕ) (es : List Endpoint) (left : RecentParts) → ((n : List ℕ) → is_live left n source now seconds ≡ is_live lists n source now seconds) → ((j : ℕ) → slice_get es j ≡ slice_get all (place + j)) → (live_endpoint name source now seconds place es left).found ≡ option_and_then (λ i. placed (place + i)) (position is_seen es)
-  found_from place [] left agree at = refl
-  found_from place (e ∷ es) left agree at =
-      by (is_live left (name e) source now seconds) (is_seen e) refl (agree (name e))
+  found_from place [] left agree there = refl
+  found_from place (e ∷ es) left agree there =
+      found_by place e es (reaped left (name e) source now seconds) (sym (there 0))
+      (found_from (suc place) es (reaped left (name e) source now seconds) (λ n. live_still left (name e) n source now seconds ∙ agree n) (λ j. there (suc j) ∙ ap (slice_get all) (omega arith)))
+      (is_live left (name e) source now seconds) (is_seen e) (agree (name e))
       ∙ ap (option_and_then (λ i. placed (place + i))) (sym (position_cons is_seen e es))
-    where
-      first : slice_get all (place + 0) ≡ Some e
-      first = sym (at 0)
-
-      rest : (live_endpoint name source now seconds (suc place) es (reaped left (name e) source now seconds)).found ≡ option_and_then (λ i. placed (suc place + i)) (position is_seen es)
-      rest = found_from (suc place) es (reaped left (name e) source now seconds) (λ n. live_still left (name e) n source now seconds ∙ agree n) (λ j. at (suc j) ∙ ap (slice_get all) (by omega arith))
-
-      shifted : (o : Option ℕ) → option_and_then (λ i. placed (suc place + i)) o ≡ option_and_then (λ i. placed (place + i)) (option_map suc o)
-      shifted None = refl
-      shifted (Some i) = ap placed (by omega arith)
-
-      by : (a b : Bool) → is_live left (name e) source now seconds ≡ a → a ≡ b → (cond a (record { found = Some (e, place); lists = reaped left (name e) source now seconds }) (live_endpoint name source now seconds (suc place) es (reaped left (name e) source now seconds))).found ≡ option_and_then (λ i. placed (place + i)) (cond b (Some 0) (option_map suc (position is_seen es)))
-      by true true is same = ap (λ i. Some (e, i)) (by omega arith) ∙ sym (ap (option_map (λ f. (f, place + 0))) first)
-      by false false is same = rest ∙ shifted (position is_seen es)
-      by true false is same = absurd (cc)
-      by false true is same = absurd (cc)
 
   -- the endpoint that a look finds is that of the first place at which the source is seen
   pub found_at_place : (live_endpoint name source now seconds 0 all lists).found ≡ option_and_then placed (position is_seen all)
-  found_at_place = found_from 0 all lists (λ n. refl) (λ j. refl) ∙ none_before (position is_seen all)
+  found_at_place = found_from 0 all lists (λ n. refl) (λ j. ap (slice_get all) (omega arith)) ∙ none_before (position is_seen all)
     where
       none_before : (o : Option ℕ) → option_and_then (λ i. placed (0 + i)) o ≡ option_and_then placed o
       none_before None = refl
-      none_before (Some i) = refl
+      none_before (Some i) = ap placed (omega arith)
 
 -- ---- the choice
 
@@ -180,11 +191,9 @@ module _ (setting : Setting) (port : PortKey) (seconds : ℕ) (source : AddressP
 
 -- a place within a list has an element
 not_past : {X : Type 0} (xs : List X) (i : ℕ) → i < length xs → slice_get xs i ≡ None → ⊥
-not_past xs i within none = by (slice_get_cases xs i).1
-  where
-    by : ((x : X) × (i < length xs) × (slice_get xs i ≡ Some x) × (get_or xs i x ≡ x)) ⊎ ((length xs ≤ i) × (slice_get xs i ≡ None)) → ⊥
-    by (inl found) = absurd (cc)
-    by (inr past) = omega (arith)
+not_past [] i below none = omega (arith)
+not_past (x ∷ xs) zero below none = absurd (cc)
+not_past (x ∷ xs) (suc i) below none = not_past xs i (omega (arith)) none
 
 -- the choice of a port with an affinity timeout, by the place at which the source was seen
 pub choice_seen : (setting : Setting) (port : PortKey) (affinity : Option ℕ) (seconds : ℕ) → affinity ≡ Some seconds → (source : AddressParts) (now : ℕ) (draws : ℕ → ℕ) (es : List Endpoint) (lists : RecentParts) (o : Option ℕ) → o ≡ position (is_seen (recent_name setting port) source now seconds lists es) es → IfSome o (λ i. i < length es) → option_map choice_of (chosen_endpoint setting port affinity source now draws es lists) ≡ choice_by setting draws es lists o

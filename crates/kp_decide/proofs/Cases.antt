@@ -9,7 +9,7 @@ use Rattle.kp_door_defs.specs.Decision as definition
 use Rattle.kp_door_defs.specs.Decision.{translation_at, translation_of}
 use Rattle.kp_door_defs.specs.Doors.{taking_door}
 use Rattle.kp_door_defs.specs.Filter.{filtered}
-use Rattle.kp_decide.specs.Names.{AreEnough}
+use Rattle.kp_decide.specs.Enough.{AreEnough}
 use Rattle.kp_decide.specs.Told.{translation_told}
 use Rattle.kp_decide.specs.declared.translation.Translation.{Translation}
 

@@ -1,4 +1,4 @@
-pub mod Names
+pub mod Enough
 pub mod Shown
 pub mod Stored
 pub mod Told

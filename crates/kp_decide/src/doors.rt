@@ -60,12 +60,7 @@ fn first_taking<'a>(config: &Config, packet: &Packet, doors: Vec<Door<'a>>) -> O
     ensures { result
         ≡ find (spec.takes (config_for V4 config.now) packet.entry.now) doors.entry.items }
 {
-    for door in doors {
-        if takes(config, packet, &door) {
-            return Some(door);
-        }
-    }
-    None
+    doors.into_iter().find(|door| takes(config, packet, door))
 }
 
 /// Adds the doors of ports at addresses, port by port.

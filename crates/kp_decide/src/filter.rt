@@ -33,12 +33,7 @@ fn first_fitting<'a>(config: &Config, packet: &Packet, lines: Vec<Line<'a>>) -> 
     ensures { result
         ≡ find (λ l. doors.fits config.now.addresses packet.entry.now l.door) lines.entry.items }
 {
-    for line in lines {
-        if fits(config, packet, &line.door) {
-            return Some(line);
-        }
-    }
-    None
+    lines.into_iter().find(|line| fits(config, packet, &line.door))
 }
 
 /// Adds the lines of the hooks that a packet passes.

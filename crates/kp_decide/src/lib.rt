@@ -1,20 +1,11 @@
-//! The decision on a packet by the objects alone: which door takes it, which endpoint it goes to,
-//! whether it is masqueraded, and what the filter says.
+//! The decision.
 #![tactic(auto)]
 
 mod choice;
-mod decision;
-mod destinations;
 mod doors;
 mod filter;
-mod infos;
 mod lines;
 mod local;
 mod masquerade;
 mod offers;
-mod ports;
-mod sources;
 mod translation;
-
-pub use decision::decide;
-pub use kp_types::{ChosenBy, Decision, DoorKind, ListKind, Reason};

@@ -8,7 +8,7 @@ use Rattle.kp_decide.proofs.Affinity.{choice_by, choice_seen}
 use Rattle.kp_decide.proofs.choice.chosen_endpoint.Goals as goal
 
 pub returns-in-Some-live_place : goal.returns-in-Some-live_place
-returns-in-Some-live_place c draws are =
+returns-in-Some-live_place g c draws are =
     let setting = setting_of V4 c.args.config.now in
     let es = c.args.endpoints.now in
     let lists = c.args.lists.now in
@@ -20,7 +20,7 @@ returns-in-Some-live_place c draws are =
     ∙ sym (choice_seen setting c.args.info.now.key c.args.info.now.affinity c.in-Some.seconds c.in-Some.is c.args.packet.now.source c.args.packet.now.now draws es lists c.live_place.result c.live_place.ensures.place c.live_place.ensures.within)
 
 pub returns-in-None-live_place : goal.returns-in-None-live_place
-returns-in-None-live_place c draws are =
+returns-in-None-live_place g c draws are =
     let setting = setting_of V4 c.args.config.now in
     let es = c.args.endpoints.now in
     let lists = c.args.lists.now in
