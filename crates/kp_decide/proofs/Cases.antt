@@ -1,5 +1,5 @@
 -- The decision with a translation, without one, and by ports that are enough.
-use Rattle.std.proofs.Common.{◌≡◌, ℕ, List, Option, Some, None, option_map, option_and_then, ap}
+use Rattle.std.proofs.Common.{◌≡◌, ℕ, List, Option, Some, None, option_map, option_and_then, refl, ap}
 use Rattle.std.proofs.lemmas.Option.{same_Some}
 use Rattle.kp_types.specs.Setting.{FamilyConfig, Setting}
 use Rattle.kp_types.specs.declared.packet.Packet.{Packet}
@@ -7,11 +7,22 @@ use Rattle.kp_object_defs.specs.PortInfo.{PortInfo}
 use Rattle.kp_choice_defs.specs.Recent.{RecentParts}
 use Rattle.kp_door_defs.specs.Decision as definition
 use Rattle.kp_door_defs.specs.Decision.{translation_at, translation_of}
-use Rattle.kp_door_defs.specs.Doors.{taking_door}
+use Rattle.kp_door_defs.specs.Choice.{Chosen}
+use Rattle.kp_door_defs.specs.Doors.{Door, Offer, taking_door}
 use Rattle.kp_door_defs.specs.Filter.{filtered}
 use Rattle.kp_decide.specs.Enough.{AreEnough}
-use Rattle.kp_decide.specs.Told.{translation_told}
+use Rattle.kp_decide.specs.Told.{choice_of, translation_told}
+use Rattle.kp_decide.specs.declared.choice.Choice.{Choice}
 use Rattle.kp_decide.specs.declared.translation.Translation.{Translation}
+
+-- a translation at a door that makes this offer
+abbrev pub translated_by : Door → Offer → Choice → Translation
+translated_by d o c = record { door = d; offer = o; choice = c }
+
+-- what is told of the translation by a choice is made of what is told of the choice
+pub told_at : (d : Door) (o : Offer) (c : Option Chosen) → option_map translation_told (option_map (λ x. record { door = d; offer = o; chosen = x }) c) ≡ option_map (translated_by d o) (option_map choice_of c)
+told_at d o None = refl
+told_at d o (Some c) = refl
 
 -- all ports are enough
 pub all_enough : (config : FamilyConfig) (packet : Packet) (some all : List PortInfo) → some ≡ all → AreEnough config packet some all

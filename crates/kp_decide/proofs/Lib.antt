@@ -1,2 +1,3 @@
 pub mod Affinity
 pub mod Cases
+pub mod FirstFound
