@@ -9,7 +9,6 @@ use Rattle.kp_door_defs.specs.Decision as definition
 use Rattle.kp_door_defs.specs.Decision.{translation_at, translation_of}
 use Rattle.kp_door_defs.specs.Choice.{Chosen}
 use Rattle.kp_door_defs.specs.Doors.{Door, Offer, taking_door}
-use Rattle.kp_door_defs.specs.Filter.{filtered}
 use Rattle.kp_decide.specs.Enough.{AreEnough}
 use Rattle.kp_decide.specs.Told.{choice_of, translation_told}
 use Rattle.kp_decide.specs.declared.choice.Choice.{Choice}
@@ -23,13 +22,6 @@ translated_by d o c = record { door = d; offer = o; choice = c }
 pub told_at : (d : Door) (o : Offer) (c : Option Chosen) → option_map translation_told (option_map (λ x. record { door = d; offer = o; chosen = x }) c) ≡ option_map (translated_by d o) (option_map choice_of c)
 told_at d o None = refl
 told_at d o (Some c) = refl
-
--- all ports are enough
-pub all_enough : (config : FamilyConfig) (packet : Packet) (some all : List PortInfo) → some ≡ all → AreEnough config packet some all
-all_enough config packet some all h = record {
-  door = ap (λ infos. taking_door config infos packet) h;
-  line = ap (λ infos. filtered config infos packet) h;
-}
 
 -- ports that are enough translate alike
 pub same_translation : (setting : Setting) (packet : Packet) (draws : ℕ → ℕ) (lists : RecentParts) (some all : List PortInfo) → AreEnough setting.config packet some all → translation_of setting some packet draws lists ≡ translation_of setting all packet draws lists

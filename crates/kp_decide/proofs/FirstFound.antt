@@ -26,20 +26,20 @@ module _ {A D : Type 0} (p : D → Bool) (f : A → List D) where
   -- what is left out gives nothing
   pub narrowed : {K : Type 0} (known : K → Option A) (kept : K → Bool) → ((k : K) (a : A) → kept k ≡ false → known k ≡ Some a → find p (f a) ≡ None) → (ks : List K) → find p (flat_map f (filter_map known (filter kept ks))) ≡ find p (flat_map f (filter_map known ks))
   narrowed known kept none [] = refl
-  narrowed {K} known kept none (k ∷ ks) = by (kept k) refl
+  narrowed {K} known kept none (k ∷ ks) = by (kept k) refl (narrowed known kept none ks)
     where
-      by : (b : Bool) → kept k ≡ b → find p (flat_map f (filter_map known (cond b (k ∷ filter kept ks) (filter kept ks)))) ≡ find p (flat_map f (cons_option (known k) (filter_map known ks)))
-      by true is = same_front (known k) (filter_map known (filter kept ks)) (filter_map known ks) (narrowed known kept none ks)
-      by false is = empty_front (known k) (filter_map known (filter kept ks)) (filter_map known ks) (λ a at. none k a is at) (narrowed known kept none ks)
+      by : (b : Bool) → kept k ≡ b → find p (flat_map f (filter_map known (filter kept ks))) ≡ find p (flat_map f (filter_map known ks)) → find p (flat_map f (filter_map known (cond b (k ∷ filter kept ks) (filter kept ks)))) ≡ find p (flat_map f (cons_option (known k) (filter_map known ks)))
+      by true is rest = same_front (known k) (filter_map known (filter kept ks)) (filter_map known ks) rest
+      by false is rest = empty_front (known k) (filter_map known (filter kept ks)) (filter_map known ks) (λ a at. none k a is at) rest
 
 -- where none passes, none is found
 pub none_found : {D : Type 0} (p : D → Bool) (ds : List D) → list_any p ds ≡ false → find p ds ≡ None
 none_found p [] h = refl
-none_found {D} p (d ∷ ds) h = by (p d) refl h
+none_found {D} p (d ∷ ds) h = by (p d) h (none_found p ds)
   where
-    by : (b : Bool) → p d ≡ b → b || list_any p ds ≡ false → cond b (Some d) (find p ds) ≡ None
-    by true is g = absurd (cc)
-    by false is g = none_found p ds g
+    by : (b : Bool) → b || list_any p ds ≡ false → (list_any p ds ≡ false → find p ds ≡ None) → cond b (Some d) (find p ds) ≡ None
+    by true g rest = absurd (cc)
+    by false g rest = rest g
 
 -- none of the values passes
 pub none_mapped : {X D : Type 0} (p : D → Bool) (f : X → D) (xs : List X) → ((x : X) → Contains xs x → p (f x) ≡ false) → list_any p (map f xs) ≡ false

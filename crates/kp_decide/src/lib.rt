@@ -1,7 +1,9 @@
-//! The decision.
+//! The decision on a packet by the objects alone: which door takes it, which endpoint it goes to,
+//! whether it is masqueraded, and what the filter says.
 #![tactic(auto)]
 
 mod choice;
+mod decision;
 mod doors;
 mod filter;
 mod lines;
@@ -9,3 +11,6 @@ mod local;
 mod masquerade;
 mod offers;
 mod translation;
+
+pub use decision::decide;
+pub use kp_types::{ChosenBy, Decision, DoorKind, ListKind, Reason};
