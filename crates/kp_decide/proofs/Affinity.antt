@@ -159,9 +159,13 @@ remembered_told : (name : Endpoint → List ℕ) (source : AddressParts) (now : 
 remembered_told name source now None = refl
 remembered_told name source now (Some c) = refl
 
--- the choice of a place that was seen
+-- the choice of an endpoint at a place, from 1, that was seen
+abbrev pub seen_at : ℕ → Endpoint → Choice
+seen_at place e = record { endpoint = e; place = place; by = Affinity }
+
+-- the choice of a place, from 0, that was seen
 abbrev pub seen_choice : List Endpoint → ℕ → Option Choice
-seen_choice es i = option_map (λ e. record { endpoint = e; place = i; by = Affinity }) (slice_get es i)
+seen_choice es i = option_map (seen_at (suc i)) (slice_get es i)
 
 -- the choice by a place that was seen, or else by draws
 abbrev pub choice_by : Setting → (ℕ → ℕ) → List Endpoint → RecentParts → Option ℕ → Option Choice
@@ -177,7 +181,7 @@ module _ (setting : Setting) (port : PortKey) (seconds : ℕ) (source : AddressP
   of_found left None within = drawn_alike es _ left lists
   of_found left (Some i) within = at (slice_get es i) refl
     where
-      at : (g : Option Endpoint) → slice_get es i ≡ g → option_map choice_of (found_or setting draws es left (option_map (λ e. (e, i)) g)) ≡ option_map (λ e. record { endpoint = e; place = i; by = Affinity }) g
+      at : (g : Option Endpoint) → slice_get es i ≡ g → option_map choice_of (found_or setting draws es left (option_map (λ e. (e, i)) g)) ≡ option_map (seen_at (suc i)) g
       at None none = absurd (within i refl none)
       at (Some e) some = refl
 

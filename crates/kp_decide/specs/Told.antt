@@ -11,9 +11,9 @@ use Rattle.kp_door_defs.specs.Marks.{is_masqueraded}
 use Rattle.kp_decide.specs.declared.choice.Choice.{Choice}
 use Rattle.kp_decide.specs.declared.translation.Translation.{Translation}
 
--- the endpoint, its place and how it was chosen
+-- the endpoint, its place from 1 and how it was chosen
 abbrev pub choice_of : Chosen → Choice
-choice_of c = record { endpoint = c.endpoint; place = c.place; by = c.by }
+choice_of c = record { endpoint = c.endpoint; place = suc c.place; by = c.by }
 
 -- a translation without the recent lists
 abbrev pub translation_told : definition.Translation → Translation
@@ -27,5 +27,5 @@ told d = record { verdict = d.verdict; reason = d.reason }
 abbrev pub passed_by : FamilyConfig → Packet → Translation → Decision
 passed_by config packet t = record {
   verdict = To t.choice.endpoint (is_masqueraded config t.door.kind t.door.info packet t.choice.endpoint);
-  reason = reason.Door t.door.kind t.door.info.key t.offer.kind (length t.offer.endpoints) t.choice.by (suc t.choice.place);
+  reason = reason.Door t.door.kind t.door.info.key t.offer.kind (length t.offer.endpoints) t.choice.by t.choice.place;
 }

@@ -14,11 +14,11 @@ use kp_names::Namer;
 use kp_recent::RecentLists;
 use kp_types::{ChosenBy, Packet, PortInfo};
 
-/// An endpoint of a list at its place, from 0, and how it was chosen.
+/// An endpoint of a list at its place, from 1, and how it was chosen.
 #[derive(Clone, Copy)]
 pub struct Choice {
     pub endpoint: Endpoint,
-    pub place: usize,
+    pub place: u64,
     pub by: ChosenBy,
 }
 
@@ -42,7 +42,7 @@ pub fn chosen_endpoint<F: Fn(u64, u32) -> u32>(
         Some(seconds) => match live_place(config, packet, lists, &info.key, seconds, endpoints) {
             Some(place) => Some(Choice {
                 endpoint: endpoints[place],
-                place,
+                place: place as u64 + 1,
                 by: ChosenBy::Affinity,
             }),
             None => drawn(number, draws, endpoints),
@@ -89,7 +89,7 @@ fn drawn<F: Fn(u64, u32) -> u32>(
     let place = draws.pick(number, endpoints.len() as u64) as usize;
     Some(Choice {
         endpoint: endpoints[place],
-        place,
+        place: place as u64 + 1,
         by: ChosenBy::Draws,
     })
 }

@@ -169,7 +169,7 @@ fn passed(
             list: offer.kind,
             size: offer.endpoints.len() as u64,
             by: choice.by,
-            place: choice.place as u64 + 1,
+            place: choice.place,
         },
     })
 }

@@ -14,22 +14,22 @@ returns-in-Some g c draws are =
     let packet = c.args.packet.now in
     let lists = c.args.lists.now in
     let all = port_infos V4 setting.config c.args.objects.now in
-    let some = c.as_slice.result.now in
-    let enough : AreEnough setting.config packet some all = subst (λ is. AreEnough setting.config packet is all) (sym c.as_slice.ensures.value) c.in_ok-infos.ensures in
+    let some = c.as_slice-infos.result.now in
+    let enough : AreEnough setting.config packet some all = subst (λ is. AreEnough setting.config packet is all) (sym c.as_slice-infos.ensures.value) c.in_ok-infos.ensures in
     of_translation (λ t. IfOk c.decide_translated.result (λ d. d ≡ told (decision_by setting.config all packet lists t)))
     (translation_of setting all packet draws lists) c.in-Some.translation
-    (sym c.in-Some.is ∙ c.in_ok-translation_of.ensures draws are ∙ ap (option_map translation_told) (same_translation setting packet draws lists some all enough))
+    (sym c.in-Some.is ∙ c.in_ok-translation.ensures draws are ∙ ap (option_map translation_told) (same_translation setting packet draws lists some all enough))
     (λ t is. c.decide_translated.ensures t lists is)
 
-pub returns-in-None : goal.returns-in-None
-returns-in-None g c draws are =
+pub returns : goal.returns
+returns g c draws are =
     let setting = setting_of V4 c.args.config.now in
     let packet = c.args.packet.now in
     let lists = c.args.lists.now in
     let all = port_infos V4 setting.config c.args.objects.now in
-    let some = c.as_slice.result.now in
-    let enough : AreEnough setting.config packet some all = subst (λ is. AreEnough setting.config packet is all) (sym c.as_slice.ensures.value) c.in_ok-infos.ensures in
+    let some = c.as_slice-infos.result.now in
+    let enough : AreEnough setting.config packet some all = subst (λ is. AreEnough setting.config packet is all) (sym c.as_slice-infos.ensures.value) c.in_ok-infos.ensures in
     of_none (λ t. IfOk c.decide_untranslated.result (λ d. d ≡ told (decision_by setting.config all packet lists t)))
     (translation_of setting all packet draws lists)
-    (sym c.in-None.is ∙ c.in_ok-translation_of.ensures draws are ∙ ap (option_map translation_told) (same_translation setting packet draws lists some all enough))
+    (sym c.in-None.is ∙ c.in_ok-translation.ensures draws are ∙ ap (option_map translation_told) (same_translation setting packet draws lists some all enough))
     (c.decide_untranslated.ensures lists all enough)

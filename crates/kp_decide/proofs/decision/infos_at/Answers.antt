@@ -13,11 +13,8 @@ use Rattle.kp_decide.specs.Enough.{AreEnough}
 use Rattle.kp_decide.proofs.Enough.{enough}
 use Rattle.kp_decide.proofs.decision.infos_at.Goals as goal
 
-pub infos_of_services-requires-own_keys : goal.infos_of_services-requires-own_keys
-infos_of_services-requires-own_keys c = c.services_at.ensures.own_keys
-
-pub infos_of_services-requires-stored : goal.infos_of_services-requires-stored
-infos_of_services-requires-stored c =
+pub infos_of_services-requires-clause-stored : goal.infos_of_services-requires-clause-stored
+infos_of_services-requires-clause-stored c =
     let o = c.args.objects.now in
     let packet = c.args.packet.now in
     let found = ap (map (λ s. s.now)) c.as_slice.ensures.value ∙ c.in_ok-services.ensures.found in
