@@ -1,12 +1,14 @@
-//! The full table of what is known of the ports.
+//! The full table of the objects, and of what is known of the ports.
 ghost use Rattle.std.specs.Prelude.{◌≡◌, ◌+◌, ◌++◌, ◌≤◌, List, None, IfOk, IfErr, OnOk};
 ghost use Rattle.kp_base.specs.declared.address.Family.TheVariants.{V4};
 ghost use Rattle.kp_choice_defs.specs.Names.{chain_name, first_clash};
 ghost use Rattle.kp_choice_defs.specs.Settings.{setting_of};
 ghost use Rattle.kp_base.specs.declared.config.Config.{Config};
+ghost use Rattle.kp_types.specs.Setting.{config_for};
+ghost use Rattle.kp_object_defs.specs.PortInfo as known;
 ghost use Rattle.kp_object_defs.specs.PortInfo.{PortInfo};
 ghost use Rattle.kp_table_defs.specs.Layout as layout;
-ghost use Rattle.kp_table_defs.specs.Rebuild.{full_chains, needed_keys};
+ghost use Rattle.kp_table_defs.specs.Rebuild.{clash_of, full_chains, full_table, needed_keys};
 ghost use Rattle.kp_port_chains.specs.Rows.{rows_of_texts};
 ghost use Rattle.kp_full_table.specs.Faults.{TellsClash};
 ghost use Rattle.kp_full_table.specs.Parts.{IsPartOf, all_rule_count};
@@ -16,11 +18,36 @@ use crate::keys::needed_keys;
 use crate::part::{Part, joined, no_part, part_of_port};
 use kp_base::{Config, NoMemory, Steps};
 use kp_names::Namer;
+use kp_port_infos::port_infos;
 use kp_rules::Table;
+use kp_store::Objects;
 use kp_top_chains::{filter_rows, nat_rows, table_of};
 use kp_types::{ChainText, PortInfo};
 use std::alloc::Global;
 use std::sync::ledger::Ledger;
+
+/// The full table of the objects in IPv4, laid out as kube-proxy's iptables mode lays it out
+/// (Kubernetes documents on virtual IPs), with a count of batches of 0. It is refused exactly where
+/// two different chains that are needed have one name; the clash is the one whose first chain comes
+/// first, and of those the one whose second chain does. A step is taken for each rule of a port.
+pub fn rebuild<L: Ledger>(
+    alloc: Global,
+    objects: &Objects,
+    config: &Config,
+    steps: &mut Steps<L>,
+) -> Result<Table, TableFault>
+    requires stub { ⊥ }
+    ensures full { IfOk result (λ t. t ≡ full_table (setting_of V4 config.now) objects.now) }
+    ensures no_clash { OnOk result (clash_of (setting_of V4 config.now) objects.now ≡ None) }
+    ensures clash { IfErr result (TellsClash (clash_of (setting_of V4 config.now) objects.now)) }
+    ensures steps { OnOk result (steps.new ≡ steps.old + all_rule_count (setting_of V4 config.now)
+        (known.port_infos V4 (config_for V4 config.now) objects.now)) }
+    ensures bound { steps.new ≤ steps.old + all_rule_count (setting_of V4 config.now)
+        (known.port_infos V4 (config_for V4 config.now) objects.now) }
+{
+    let infos = port_infos(alloc, objects, config)?;
+    table_of_infos(alloc, config, infos.as_slice(), steps)
+}
 
 /// The full table of the ports of IPv4, laid out as kube-proxy's iptables mode lays it out
 /// (Kubernetes documents on virtual IPs), with a count of batches of 0. It is refused exactly where

@@ -1,4 +1,4 @@
-//! The full table of what is known of the ports: what each port contributes, joined in order of
+//! The full table of the objects, and of what is known of the ports: what each port contributes, joined in order of
 //! the ports between the fixed rules, unless two chains that are needed have one name.
 #![tactic(auto)]
 
@@ -8,6 +8,6 @@ mod keys;
 mod part;
 
 pub use fault::TableFault;
-pub use full::table_of_infos;
+pub use full::{rebuild, table_of_infos};
 pub use kp_types::{Clash, PortInfo};
 pub use part::{Part, part_of_port};

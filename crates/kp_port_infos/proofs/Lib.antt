@@ -1,0 +1,4 @@
+pub mod KnownPorts
+pub mod OwnValues
+pub mod PodNodes
+pub mod StoredServices
