@@ -1,12 +1,11 @@
 -- Session affinity by lists that stay as they are: dropping what is past the timeout changes no look.
-use Rattle.std.proofs.Common.{◌≡◌, ℕ, zero, suc, ◌+◌, ◌&&◌, ◌||◌, Bool, true, false, cond, List, [], ◌∷◌, filter, slice_get, Option, Some, None, option_map, option_and_then, refl, sym, ap, ◌∙◌, not, length, nat_lt, ◌<◌, ◌≤◌, ◌⊎◌, inl, inr, get_or, arith}
+use Rattle.std.proofs.Common.{◌≡◌, ℕ, zero, suc, ◌+◌, ◌||◌, Bool, true, false, cond, List, [], ◌∷◌, filter, slice_get, Option, Some, None, option_map, option_and_then, refl, sym, ap, ◌∙◌, not, length, nat_lt, ◌<◌, arith}
 use Rattle.std.proofs.lemmas.Bool.Decides.{nat_tests}
-use Rattle.std.specs.declared.cmp.Ordering.{Ordering}
 use Rattle.std.specs.Cmp.{IsTotalOrder}
 use Rattle.std.specs.Ordering.{nat_cmp, eq_by_cmp}
 use Rattle.std.specs.List.{list_any, position, position_or_len}
 use Rattle.std.specs.Option.{unwrap_or, IfSome}
-use Rattle.std.proofs.lemmas.Option.{same_Some, slice_get_cases}
+use Rattle.std.proofs.lemmas.Option.{same_Some}
 use Rattle.std.specs.FinMap.{get, get-insert, get-remove, IsAntisymmetric, nat_cmp-IsAntisymmetric}
 use Rattle.std.proofs.lemmas.Cmp.{on_total, then_total, nat_cmp_total}
 use Rattle.std.proofs.lemmas.Map.Lookups.{exact_pairs}
@@ -19,7 +18,7 @@ use Rattle.kp_base.proofs.KeyOrder.{text_total, text_exact}
 use Rattle.kp_types.specs.Setting.{Setting}
 use Rattle.kp_types.specs.declared.decision.ChosenBy.TheVariants.{Affinity}
 use Rattle.kp_choice_defs.specs.Recent.{RecentParts, Shard, Sighting, is_live, is_of, is_within, reaped, shard_cmp, shard_of, sightings, with_sightings}
-use Rattle.kp_door_defs.specs.Choice.{Chosen, Look, chosen_endpoint, drawn, drawn_as, drawn_at, found_or, found_or_drawn, live_endpoint, recent_name, remembered}
+use Rattle.kp_door_defs.specs.Choice.{Chosen, chosen_endpoint, drawn, drawn_as, drawn_at, found_or, found_or_drawn, live_endpoint, recent_name, remembered}
 use Rattle.kp_decide.specs.declared.choice.Choice.{Choice}
 use Rattle.kp_decide.specs.Told.{choice_of}
 

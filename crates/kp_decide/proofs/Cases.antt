@@ -1,14 +1,14 @@
 -- The decision with a translation, without one, and by ports that are enough.
-use Rattle.std.proofs.Common.{◌≡◌, ℕ, List, Option, Some, None, option_map, option_and_then, refl, ap}
+use Rattle.std.proofs.Common.{◌≡◌, ℕ, List, Option, Some, None, option_map, option_and_then, refl, sym, ap, ◌∙◌}
 use Rattle.std.proofs.lemmas.Option.{same_Some}
-use Rattle.kp_types.specs.Setting.{FamilyConfig, Setting}
+use Rattle.kp_types.specs.Setting.{Setting}
 use Rattle.kp_types.specs.declared.packet.Packet.{Packet}
 use Rattle.kp_object_defs.specs.PortInfo.{PortInfo}
 use Rattle.kp_choice_defs.specs.Recent.{RecentParts}
 use Rattle.kp_door_defs.specs.Decision as definition
 use Rattle.kp_door_defs.specs.Decision.{translation_at, translation_of}
-use Rattle.kp_door_defs.specs.Choice.{Chosen}
-use Rattle.kp_door_defs.specs.Doors.{Door, Offer, taking_door}
+use Rattle.kp_door_defs.specs.Choice.{Chosen, chosen_endpoint}
+use Rattle.kp_door_defs.specs.Doors.{Door, Offer}
 use Rattle.kp_decide.specs.Enough.{AreEnough}
 use Rattle.kp_decide.specs.Told.{choice_of, translation_told}
 use Rattle.kp_decide.specs.declared.choice.Choice.{Choice}
@@ -19,9 +19,21 @@ abbrev pub translated_by : Door → Offer → Choice → Translation
 translated_by d o c = record { door = d; offer = o; choice = c }
 
 -- what is told of the translation by a choice is made of what is told of the choice
-pub told_at : (d : Door) (o : Offer) (c : Option Chosen) → option_map translation_told (option_map (λ x. record { door = d; offer = o; chosen = x }) c) ≡ option_map (translated_by d o) (option_map choice_of c)
+told_at : (d : Door) (o : Offer) (c : Option Chosen) → option_map translation_told (option_map (λ x. record { door = d; offer = o; chosen = x }) c) ≡ option_map (translated_by d o) (option_map choice_of c)
 told_at d o None = refl
 told_at d o (Some c) = refl
+
+-- the translation by an offer and a choice that are told
+pub told_translation : (d : Door) (made offer : Offer) (choice : Choice) (c : Option Chosen) → made ≡ offer → Some choice ≡ option_map choice_of c → Some (translated_by d made choice) ≡ option_map translation_told (option_map (λ x. record { door = d; offer = offer; chosen = x }) c)
+told_translation d made offer choice c same is =
+    ap (λ o. Some (translated_by d o choice)) same
+    ∙ ap (option_map (translated_by d offer)) is
+    ∙ sym (told_at d offer c)
+
+-- the same door with the same offer chooses alike
+pub same_choice : (setting : Setting) (packet : Packet) (draws : ℕ → ℕ) (lists : RecentParts) {seen d : Door} {made offer : Offer} → seen ≡ d → made ≡ offer → option_map choice_of (chosen_endpoint setting seen.info.key seen.info.affinity packet.source packet.now draws made.endpoints lists) ≡ option_map choice_of (chosen_endpoint setting d.info.key d.info.affinity packet.source packet.now draws offer.endpoints lists)
+same_choice setting packet draws lists door_is offer_is =
+    λ i. option_map choice_of (chosen_endpoint setting (door_is i).info.key (door_is i).info.affinity packet.source packet.now draws (offer_is i).endpoints lists)
 
 -- ports that are enough translate alike
 pub same_translation : (setting : Setting) (packet : Packet) (draws : ℕ → ℕ) (lists : RecentParts) (some all : List PortInfo) → AreEnough setting.config packet some all → translation_of setting some packet draws lists ≡ translation_of setting all packet draws lists

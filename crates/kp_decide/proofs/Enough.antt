@@ -1,6 +1,6 @@
 -- The ports of the Services that may answer a packet give it the door and the line that all ports give it.
-use Rattle.std.proofs.Common.{◌≡◌, Bool, false, List, [], ◌∷◌, ◌++◌, filter, filter_map, flat_map, Contains, Option, Some, None, option_and_then, refl, sym, ap, ◌∙◌}
-use Rattle.std.specs.List.{find, list_any}
+use Rattle.std.proofs.Common.{◌≡◌, Bool, false, List, [], ◌∷◌, ◌++◌, filter, filter_map, flat_map, Option, Some, None, option_and_then, refl, sym, ap, ◌∙◌}
+use Rattle.std.specs.List.{find}
 use Rattle.std.specs.FinMap as finite
 use Rattle.std.specs.FinMap.{get}
 use Rattle.kp_lemmas.proofs.Members.{none_passes}

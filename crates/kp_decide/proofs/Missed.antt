@@ -183,4 +183,3 @@ module _ (family : Family) (config : FamilyConfig) (packet : Packet) (s : Servic
       none_found (λ (l : Line). fitting l.door) (service_lines i)
       (none_used (λ (l : Line). fitting l.door) (is_empty (internal_list i)) (line_of (refusal_by i.lists.has_any) (door_at door.Cluster i i.address) ∷ [])
       (or_from (fitting (door_at door.Cluster i i.address)) false misses_cluster refl))
-

@@ -1,8 +1,6 @@
 -- How the parts of a decision are stored.
-use Rattle.std.specs.Prelude.{◌≡◌, ℕ, zero, suc, List, Option, refl}
+use Rattle.std.specs.Prelude.{◌≡◌, ℕ, zero, suc, refl}
 use Rattle.std.specs.Coded.{Coded, code_by, coded×, coded_list, coded_option, coded_ℕ}
-use Rattle.kp_base.specs.Net.{AddressParts}
-use Rattle.kp_base.specs.declared.key.Endpoint.{Endpoint}
 use Rattle.kp_base.specs.contracts.address.Address as address_row
 use Rattle.kp_base.specs.contracts.key.Endpoint as endpoint_row
 use Rattle.kp_types.specs.contracts.decision.DoorKind as kind_row

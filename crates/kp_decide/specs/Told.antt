@@ -1,5 +1,5 @@
 -- What is told of a translation and of a decision, which leave recent lists behind too.
-use Rattle.std.specs.Prelude.{ℕ, suc, List, length, Option, Some, None, option_map}
+use Rattle.std.specs.Prelude.{suc, length}
 use Rattle.kp_types.specs.Setting.{FamilyConfig}
 use Rattle.kp_types.specs.declared.packet.Packet.{Packet}
 use Rattle.kp_types.specs.declared.decision.Decision.{Decision}

@@ -64,10 +64,7 @@ fn first_taking<'a>(config: &Config, packet: &Packet, doors: Vec<Door<'a>>) -> O
 }
 
 /// Adds the doors of ports at addresses, port by port.
-fn add_address_doors<'a>(
-    doors: &mut Vec<Door<'a>>,
-    infos: &'a [PortInfo],
-) -> Result<(), NoMemory>
+fn add_address_doors<'a>(doors: &mut Vec<Door<'a>>, infos: &'a [PortInfo]) -> Result<(), NoMemory>
     ensures { OnOk result (doors.new.items
         ≡ doors.old.items ++ flat_map spec.address_doors infos.now) }
 {
@@ -167,8 +164,6 @@ fn is_at(config: &Config, door: &Door<'_>, target: &Address) -> bool
 {
     match door.address {
         Some(address) => address == *target,
-        None => {
-            is_local(config, target) && !is_loopback(door.info.address.family(), target)
-        }
+        None => { is_local(config, target) && !is_loopback(door.info.address.family(), target) }
     }
 }

@@ -33,7 +33,9 @@ fn first_fitting<'a>(config: &Config, packet: &Packet, lines: Vec<Line<'a>>) -> 
     ensures { result
         ≡ find (λ l. doors.fits config.now.addresses packet.entry.now l.door) lines.entry.items }
 {
-    lines.into_iter().find(|line| fits(config, packet, &line.door))
+    lines
+        .into_iter()
+        .find(|line| fits(config, packet, &line.door))
 }
 
 /// Adds the lines of the hooks that a packet passes.

@@ -72,10 +72,7 @@ pub fn add_external<'a>(
 }
 
 /// Adds the lines of cluster addresses.
-pub fn add_services<'a>(
-    lines: &mut Vec<Line<'a>>,
-    infos: &'a [PortInfo],
-) -> Result<(), NoMemory>
+pub fn add_services<'a>(lines: &mut Vec<Line<'a>>, infos: &'a [PortInfo]) -> Result<(), NoMemory>
     ensures { OnOk result (lines.new.items
         ≡ lines.old.items ++ flat_map spec.service_lines infos.now) }
 {

@@ -3,7 +3,7 @@ use Rattle.std.proofs.lemmas.Result.{on_ok_weaker}
 use Rattle.std.proofs.lemmas.Simd.{map-map}
 use Rattle.kp_types.specs.declared.decision.DoorKind.TheVariants as door
 use Rattle.kp_door_defs.specs.Doors.{door_at}
-use Rattle.kp_door_defs.specs.Filter.{DropsClosed, firewall_lines, line_of}
+use Rattle.kp_door_defs.specs.Filter.{DropsClosed, line_of}
 use Rattle.kp_decide.proofs.lines.add_firewall_lines.Goals as goal
 
 pub returns-in_ok-add_doors_at : goal.returns-in_ok-add_doors_at
