@@ -67,9 +67,11 @@ pub record TakesInput {T : Type 0} (result : Result T LineFault) (old new : ℕ)
   pub all : FromTold (λ xs ys. length xs + old ≡ length ys + new) before after
   pub limit : IsErrOf result InputTooLong ↔ (INPUT_LIMIT < new)
 
--- The count did not fall, and a fault of reading is told only where it rose. By then all whole lines
--- of what was taken have been handed out: the bytes that are held end none.
+-- The count did not fall, a fault of reading is told only where it rose, and any other answer leaves it as
+-- it was. By the fault all whole lines of what was taken have been handed out: the bytes that are held end
+-- none.
 pub record HasReadCause {T : Type 0} (result : Result T LineFault) (before now : ℕ) (held : List ℕ) : Type 0 where
   pub later : before ≤ now
   pub failed : IsErrOf result ReadFault → Rose before now
+  pub kept : ¬ IsErrOf result ReadFault → now ≡ before
   pub handed : IsErrOf result ReadFault → list_any is_line_feed held ≡ false

@@ -4,6 +4,7 @@
 
 mod chunk;
 mod gather;
+mod laws;
 mod line_reader;
 mod memory_sink;
 mod memory_source;
@@ -16,6 +17,7 @@ mod sure_sink;
 mod sure_source;
 
 pub use chunk::BUFFER_SIZE;
+pub use laws::limits_are_numbers;
 pub use line_reader::LineReader;
 pub use memory_sink::MemorySink;
 pub use memory_source::MemorySource;

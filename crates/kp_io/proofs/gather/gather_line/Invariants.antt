@@ -15,7 +15,7 @@ invariant-loop-chunk g l = record {
   more : l.initial.taken ≤ l.taken;
   all : FromTold (λ xs ys. length xs + l.initial.taken ≡ length ys + l.taken) (g.S.Source.left l.initial.source) (g.S.Source.left l.source);
   most : l.taken ≤ INPUT_LIMIT;
-  later : g.S.Source.faults l.initial.source ≤ g.S.Source.faults l.source;
+  same : g.S.Source.faults l.source ≡ g.S.Source.faults l.initial.source;
   unasked : list_any is_line_feed l.initial.chunk ≡ true → (l.source ≡ l.initial.source) × (l.chunk ≡ l.initial.chunk);
 }
 
