@@ -3,7 +3,7 @@
 use Rattle.std.specs.Prelude.{◌≡◌, ℕ, ◌≤◌, ◌<◌, List, [], ◌++◌, length, take, Option, None, Some, ⊤, Result, IfOk, OnErr}
 
 -- where the content was told before, it is told now, and P holds of the two
-abbrev pub FromTold : (List ℕ → List ℕ → Type 0) → Option (List ℕ) → Option (List ℕ) → Type 0
+abbrev pub FromTold : {X Y : Type 0} → (X → Y → Type 0) → Option X → Option Y → Type 0
 FromTold P None now = ⊤
 FromTold P (Some before) None = ⊥
 FromTold P (Some before) (Some now) = P before now

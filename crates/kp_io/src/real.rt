@@ -3,7 +3,7 @@
 ghost use Rattle.std.specs.Prelude.{◌≡◌, ◌≤◌, None, length, take, IfOk};
 ghost use Rattle.std.specs.Io.{ReadsAtMost};
 ghost use Rattle.std.specs.Io.KnownBytes.{Appends, Keeps, ReadConsumes, WriteAppends};
-ghost use Rattle.kp_io.specs.Faults.{Rose, HasCause};
+ghost use Rattle.kp_io.specs.Faults.{Rose, HasCause, one_more};
 ghost use Rattle.kp_io.specs.Told.{TakesFront};
 
 use crate::sink::Sink;
@@ -20,24 +20,30 @@ const TRIES: u64 = u64::MAX;
 #[derive(Drop)]
 pub struct RealSource<R> {
     reader: R,
+    asked: u64,
     faults: u64,
 }
 
 impl<R> Model for RealSource<R> {
-    ghost use Rattle.kp_io.specs.Real.{Counted};
+    ghost use Rattle.kp_io.specs.Real.{CountedReader};
 
-    ghost Value = { Counted R };
+    ghost Value = { CountedReader R };
 
-    ghost view = { λ s. record { inner = s.reader; faults = s.faults } };
+    ghost view = { λ s. record { inner = s.reader; asked = s.asked; faults = s.faults } };
 }
 
 impl<R: Read> RealSource<R> {
     /// A source that gives what the reader gives.
     pub fn new(reader: R) -> RealSource<R>
         ensures reader { result.inner ≡ reader }
+        ensures asked { result.asked ≡ 0 }
         ensures faults { result.faults ≡ 0 }
     {
-        RealSource { reader, faults: 0 }
+        RealSource {
+            reader,
+            asked: 0,
+            faults: 0,
+        }
     }
 }
 
@@ -46,7 +52,10 @@ impl<R: Read> Source for RealSource<R> {
 
     ghost faults = { λ s. s.faults };
 
+    ghost asked = { λ s. s.asked };
+
     fn read(&mut self, buf: &mut [u8]) -> Result<usize, Failed> {
+        self.asked = self.asked.saturating_add(1);
         match read_again(&mut self.reader, buf) {
             Ok(count) => Ok(count),
             Err(_) => {
