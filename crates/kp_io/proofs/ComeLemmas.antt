@@ -1,16 +1,19 @@
 -- What a reader's call answers, from what the search for the end of a line found.
-use Rattle.std.proofs.Common.{◌≡◌, ℕ, ◌+◌, ◌-◌, ◌<◌, ◌≤◌, Bool, true, false, not, List, [], ◌∷◌, ◌++◌, length, take, drop, Option, None, Some, Ok, Err, refl, ap, sym, ◌∙◌, append_assoc, append-nil, length-append, arith}
-use Rattle.std.specs.Prelude.{if◌then◌else◌, ◌||◌}
+use Rattle.std.proofs.Common.{◌≡◌, ℕ, ◌+◌, ◌-◌, ◌<◌, ◌≤◌, Bool, true, false, not, cond, List, [], ◌∷◌, ◌++◌, length, take, drop, Option, None, Some, Ok, Err, Result, refl, ap, sym, ◌∙◌, append_assoc, append-nil, length-append, subst, arith}
+use Rattle.std.specs.Prelude.{if◌then◌else◌, ◌||◌, nat_lt}
 use Rattle.std.specs.List.{list_any}
 use Rattle.std.proofs.Math.Seq.{take-append_seam}
+use Rattle.std.proofs.lemmas.Bool.Decides.{nat_tests}
 use Rattle.std.proofs.lemmas.List.{take-append-drop}
 use Rattle.std.proofs.lemmas.List.Folds.{list_any-append}
-use Rattle.kp_io.specs.Gather.{LinePart, IsPart, no_part, part_size, given_part, given_from, told_from, Gathers}
+use Rattle.kp_io.specs.Gather.{LinePart, IsPart, no_part, part_size, given_part, given_from, told_from, feeds_of, Gathers}
 use Rattle.kp_io.specs.Lines.{is_line_feed, given_lines}
 use Rattle.kp_io.specs.Reader.{ReaderState, given_behind, to_come, up_to, feeds_up_to, Answers, Counts, Stays, AsksUntilFeed}
 use Rattle.kp_io.specs.Told.{FromTold}
 use Rattle.kp_io.specs.declared.next_line.LineFault.{LineFault}
 use Rattle.kp_io.specs.declared.next_line.LineFault.TheVariants.{TooLongLine, ReadFault, InputTooLong, NoMemory}
+use Rattle.kp_io.specs.declared.next_line.NextLine.{NextLine}
+use Rattle.kp_io.specs.declared.next_line.NextLine.TheVariants.{Line}
 use Rattle.kp_io.proofs.FeedLemmas.{feeds_behind}
 use Rattle.kp_io.proofs.GatherLemmas.{given_last, no_feed_first}
 use Rattle.kp_io.proofs.Told.{FromTold-map}
@@ -48,6 +51,18 @@ end_answers was now old part was_chunk chunk (Some x) (Some y) none holds end p 
   come_none now y end,
 )
 
+-- a line is handed out where it may have so many bytes
+pub short_answers : (result : Result NextLine LineFault) (part : LinePart) (line : List ℕ) (number : ℕ) (before after : Option (List (Option (List ℕ)))) → FromTold (λ come rest. come ≡ given_part part ∷ rest) before after → line ≡ part.bytes → part.skipping ≡ false → result ≡ Ok (Line number) → Answers result line before after
+short_answers result part line number before after come line_is short result_is =
+    subst (λ r. Answers r line before after) (sym result_is)
+    (subst (λ one. FromTold (λ come rest. come ≡ one ∷ rest) before after) (λ i. cond (short i) None (Some (sym line_is i))) come)
+
+-- nothing is handed out of a line that is too long
+pub long_answers : (result : Result NextLine LineFault) (part : LinePart) (line : List ℕ) (number : ℕ) (before after : Option (List (Option (List ℕ)))) → FromTold (λ come rest. come ≡ given_part part ∷ rest) before after → part.skipping ≡ true → result ≡ Err (TooLongLine number) → Answers result line before after
+long_answers result part line number before after come long result_is =
+    subst (λ r. Answers r line before after) (sym result_is)
+    (subst (λ one. FromTold (λ come rest. come ≡ one ∷ rest) before after) (λ i. cond (long i) None (Some part.bytes)) come)
+
 -- after a fault the same is to come
 fault_keeps : (fault : LineFault) (was now : ReaderState) (old part : LinePart) (was_chunk chunk : List ℕ) (before left : Option (List ℕ)) → Holds was old was_chunk → Holds now part chunk → Gathers (Err fault) part chunk (told_from old was_chunk before) left → FromTold (λ come rest. rest ≡ come) (to_come was before) (to_come now left)
 fault_keeps fault was now old part was_chunk chunk None left holds next p = tt
@@ -80,6 +95,22 @@ told_same (Some x) = refl
 -- a source that was not asked
 pub unasked_source : {S : Type 0} (left : S → Option (List ℕ)) (asked : S → ℕ) (source : S) → AsksUntilFeed left asked source source
 unasked_source left asked source = record { last = source; once = omega arith; none = no_feed_first (left source) }
+
+-- one byte at most goes past the limit
+pub over_fits : (limit taken n : ℕ) → (limit < taken → (taken ≡ limit + 1) × (n ≡ 1)) → taken ≤ limit + n
+over_fits limit taken n over = by_more (nat_lt limit taken) refl
+  where
+    by_more : (b : Bool) → nat_lt limit taken ≡ b → taken ≤ limit + n
+    by_more true h =
+        let more : limit < taken = grind (arith, nat_tests) in
+        let one = over more in
+        omega (arith, one.0, one.1)
+    by_more false h = grind (arith, nat_tests)
+
+-- a whole line takes a line feed away
+pub one_feed : (whole : Bool) → whole ≡ true → feeds_of (Ok whole) ≡ 1
+one_feed true h = refl
+one_feed false h = absurd (cc)
 
 first_or : (b c : Bool) → (b || c) ≡ false → b ≡ false
 first_or true c h = h

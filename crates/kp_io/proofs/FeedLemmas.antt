@@ -1,5 +1,5 @@
 -- How many line feeds are to come up to the limit of the input, from one step of a search to the next.
-use Rattle.std.proofs.Common.{◌≡◌, ℕ, suc, ◌+◌, ◌-◌, ◌<◌, ◌≤◌, Bool, true, false, cond, List, [], ◌∷◌, ◌++◌, length, take, Option, None, Some, refl, ap, sym, ◌∙◌, append_assoc, append-nil, length-append, zero-add, add_comm, arith}
+use Rattle.std.proofs.Common.{◌≡◌, ℕ, suc, ◌+◌, ◌-◌, ◌<◌, ◌≤◌, Bool, true, false, cond, List, [], ◌∷◌, ◌++◌, length, take, Option, None, Some, refl, ap, sym, ◌∙◌, append_assoc, append-nil, length-append, zero-add, add-zero, add_comm, arith}
 use Rattle.std.specs.Prelude.{count_by}
 use Rattle.std.specs.Io.KnownBytes.{Consumes}
 use Rattle.std.specs.List.{list_any, before_first, after_first}
@@ -57,7 +57,7 @@ module _ (limit : ℕ) where
   -- as many are to come once bytes are taken
   pub feeds_taken : (chunk text : List ℕ) (taken : ℕ) → feeds_up_to limit [] taken (chunk ++ text) ≡ feeds_up_to limit chunk (taken + length chunk) text
   feeds_taken chunk text taken =
-      let same : limit + length [] - taken ≡ limit + length chunk - (taken + length chunk) = omega arith in
+      let same : limit + length {A = ℕ} [] - taken ≡ limit + length chunk - (taken + length chunk) = omega arith in
       ap (λ n. count_by is_line_feed (take n (chunk ++ text))) same
 
   -- as many are to come as before the first step
@@ -76,3 +76,10 @@ module _ (limit : ℕ) where
   feeds_more first old chunk start taken now before left end h fits same =
       FromTold-consumes (λ xs ys. feeds_up_to limit first start xs ≡ feeds_up_to limit old taken ys) (λ xs ys. feeds_up_to limit first start xs ≡ feeds_up_to limit chunk now ys) chunk
       (λ xs ys zs p e. p ∙ feeds_unfound old ys taken h fits ∙ ap (λ c. feeds_up_to limit c taken ys) (after_first-none old h) ∙ ap (feeds_up_to limit [] taken) e ∙ feeds_taken chunk zs taken ∙ ap (λ n. feeds_up_to limit chunk n zs) (sym same)) before left end
+
+  -- the same, in the words of a search that found no line
+  pub feeds_stop : (first old chunk : List ℕ) (start taken now : ℕ) (before left end : Option (List ℕ)) → list_any is_line_feed old ≡ false → taken ≤ limit → now ≡ taken + length chunk → FromTold (λ xs ys. feeds_up_to limit first start xs ≡ feeds_up_to limit old taken ys) before left → Consumes left end chunk → FromTold (λ xs ys. feeds_up_to limit first start xs ≡ feeds_up_to limit chunk now ys + 0) before end
+  feeds_stop first old chunk start taken now before left end h fits same p q =
+      FromTold-map (λ xs ys. feeds_up_to limit first start xs ≡ feeds_up_to limit chunk now ys) (λ xs ys. feeds_up_to limit first start xs ≡ feeds_up_to limit chunk now ys + 0)
+      (λ xs ys e. e ∙ sym (add-zero (feeds_up_to limit chunk now ys))) before end
+      (feeds_more first old chunk start taken now before left end h fits same p q)

@@ -189,7 +189,7 @@ no_feed_first (Some text) = record { bytes = []; front = refl; feedless = refl }
 -- how many bytes stand before and behind the first line feed
 pub found_length : (chunk : List ℕ) → list_any is_line_feed chunk ≡ true → length chunk ≡ length (before_first is_line_feed chunk) + (1 + length (after_first is_line_feed chunk))
 found_length chunk h =
-    ap length (split_at_line_feed chunk h) ∙ length-append (before_first is_line_feed chunk) (10 ∷ after_first is_line_feed chunk)
+    omega (arith, ap length (split_at_line_feed chunk h), length-append (before_first is_line_feed chunk) (10 ∷ after_first is_line_feed chunk))
 
 -- the bytes before the first line feed are no more than all
 pub before_within : (chunk : List ℕ) → length (before_first is_line_feed chunk) ≤ length chunk

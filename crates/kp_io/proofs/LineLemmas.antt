@@ -51,7 +51,7 @@ pub after_first-none : (text : List ℕ) → list_any is_line_feed text ≡ fals
 after_first-none text h = grind (arith, common_steps, position_or_len-none text h)
 
 -- the first of several pieces stays, also where it is empty
-without_empty_last-more : (piece : List ℕ) (pieces : List (List ℕ)) → 0 < length pieces → without_empty_last (piece ∷ pieces) ≡ piece ∷ without_empty_last pieces
+pub without_empty_last-more : (piece : List ℕ) (pieces : List (List ℕ)) → 0 < length pieces → without_empty_last (piece ∷ pieces) ≡ piece ∷ without_empty_last pieces
 without_empty_last-more piece [] h = absurd (omega arith)
 without_empty_last-more [] (next ∷ pieces) h = refl
 without_empty_last-more (x ∷ xs) (next ∷ pieces) h = refl

@@ -6,7 +6,7 @@ use Rattle.kp_io.specs.Gather.{told_from}
 use Rattle.kp_io.specs.Lines.{is_line_feed}
 use Rattle.kp_io.specs.declared.next_line.TheConstants.{INPUT_LIMIT}
 use Rattle.kp_io.proofs.ComeLemmas.{unasked_source}
-use Rattle.kp_io.proofs.FeedLemmas.{feeds_first, feeds_line, feeds_more}
+use Rattle.kp_io.proofs.FeedLemmas.{feeds_first, feeds_line, feeds_more, feeds_stop}
 use Rattle.kp_io.proofs.GatherLemmas.{gathered_is, gathered_size, found_length, kept_first, kept_found, kept_none, kept_read, kept_end, feed_clash, read_first, read_more, read_taken, read_no_feed, before_within, asked_once}
 use Rattle.kp_io.proofs.LineLemmas.{after_first-none}
 use Rattle.kp_io.proofs.gather.gather_line.Goals as goal
@@ -73,7 +73,7 @@ pub returns-in_err-count-clause-feeds : goal.returns-in_err-count-clause-feeds
 returns-in_err-count-clause-feeds g c =
     let fault = err_from_is_err_and c.from_residual-in_err-count.result c.from_residual-in_err-count.ensures.1 in
     rw fault.1
-    (feeds_more INPUT_LIMIT c.args.chunk.now c.loop-chunk.chunk c.fill.new.self c.args.taken.now c.loop-chunk.taken c.loop-chunk.taken
+    (feeds_stop INPUT_LIMIT c.args.chunk.now c.loop-chunk.chunk c.fill.new.self c.args.taken.now c.loop-chunk.taken c.loop-chunk.taken
     (g.S.Source.left c.args.source.now) (g.S.Source.left c.loop-chunk.source) (g.S.Source.left c.fill.new.source)
     (sym c.in_ok-gather.ensures.whole ∙ c.if-branch.false) c.loop-chunk.invariant.most (omega (arith, ap length c.in_err-count.ensures.err))
     c.loop-chunk.invariant.feeds c.fill.ensures.bytes)
@@ -97,7 +97,7 @@ returns-then-count-eq0-clause-gathers g c =
 
 pub returns-then-count-eq0-clause-feeds : goal.returns-then-count-eq0-clause-feeds
 returns-then-count-eq0-clause-feeds g c =
-    feeds_more INPUT_LIMIT c.args.chunk.now c.loop-chunk.chunk c.fill.new.self c.args.taken.now c.loop-chunk.taken c.loop-chunk.taken
+    feeds_stop INPUT_LIMIT c.args.chunk.now c.loop-chunk.chunk c.fill.new.self c.args.taken.now c.loop-chunk.taken c.loop-chunk.taken
     (g.S.Source.left c.args.source.now) (g.S.Source.left c.loop-chunk.source) (g.S.Source.left c.fill.new.source)
     (sym c.in_ok-gather.ensures.whole ∙ c.if-branch.false) c.loop-chunk.invariant.most (omega (arith, c.in_ok-count.ensures.count.0, c.if-count-eq0.true))
     c.loop-chunk.invariant.feeds c.fill.ensures.bytes
@@ -121,7 +121,7 @@ returns-then-taken-gt-INPUT_LIMIT-clause-gathers g c =
 pub returns-then-taken-gt-INPUT_LIMIT-clause-feeds :
     goal.returns-then-taken-gt-INPUT_LIMIT-clause-feeds
 returns-then-taken-gt-INPUT_LIMIT-clause-feeds g c =
-    feeds_more INPUT_LIMIT c.args.chunk.now c.loop-chunk.chunk c.fill.new.self c.args.taken.now c.loop-chunk.taken (c.loop-chunk.taken + c.in_ok-count.count)
+    feeds_stop INPUT_LIMIT c.args.chunk.now c.loop-chunk.chunk c.fill.new.self c.args.taken.now c.loop-chunk.taken (c.loop-chunk.taken + c.in_ok-count.count)
     (g.S.Source.left c.args.source.now) (g.S.Source.left c.loop-chunk.source) (g.S.Source.left c.fill.new.source)
     (sym c.in_ok-gather.ensures.whole ∙ c.if-branch.false) c.loop-chunk.invariant.most (ap (λ n. c.loop-chunk.taken + n) c.in_ok-count.ensures.count.0)
     c.loop-chunk.invariant.feeds c.fill.ensures.bytes
