@@ -81,7 +81,7 @@ none_by true long line text h e = ap (λ rest. None ∷ given_lines rest) (after
 none_by false true line text h e =
     let first = before_first is_line_feed text in
     let long : given_of (before_first is_line_feed (line ++ text)) ≡ None =
-        ap given_of (before_first-behind line text h) ∙ ap (λ b. cond b None (Some (line ++ first))) (still_long line first e) in
+    ap given_of (before_first-behind line text h) ∙ ap (λ b. cond b None (Some (line ++ first))) (still_long line first e) in
     given_first (line ++ text) (long_some line text e) ∙ (λ i. long i ∷ given_lines (after_first-behind line text h i))
 none_by false false line text h e = refl
 

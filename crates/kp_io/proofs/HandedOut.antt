@@ -1,6 +1,6 @@
 -- What a reader has given of a text, from one call to the next. A caller's loop keeps `HandedOut` of what it has
 -- been given: it starts with nothing, each line adds one, and at the end it is all.
-use Rattle.std.proofs.Common.{◌≡◌, ℕ, suc, ◌+◌, ◌-◌, ◌<◌, ◌≤◌, Bool, true, false, cond, List, [], ◌∷◌, ◌++◌, length, take, Option, None, Some, IfSome, refl, ap, sym, ◌∙◌, append_assoc, append-nil, arith}
+use Rattle.std.proofs.Common.{◌≡◌, ℕ, zero, suc, ◌+◌, ◌-◌, ◌<◌, Bool, true, false, cond, List, [], ◌∷◌, ◌++◌, length, take, Option, None, Some, IfSome, refl, ap, sym, ◌∙◌, append_assoc, append-nil, arith}
 use Rattle.std.specs.Prelude.{map, count_by}
 use Rattle.std.specs.List.{list_any, slice_split, onto_first}
 use Rattle.std.proofs.Math.Seq.{take-append_seam}
@@ -42,34 +42,36 @@ handed_all given (Some x) (Some y) (Some z) p q = p ∙ ap (λ rest. given ++ re
 -- ---- What was given before a fault
 
 take_onto : (n x : ℕ) (ps qs : List (List ℕ)) → 0 < length ps → 0 < length qs → take n ps ≡ take n qs → take n (onto_first x ps) ≡ take n (onto_first x qs)
-take_onto 0 x ps qs l m e = refl
+take_onto zero x ps qs l m e = refl
 take_onto (suc n) x [] qs l m e = absurd (omega arith)
 take_onto (suc n) x (p ∷ ps) [] l m e = absurd (omega arith)
 take_onto (suc n) x (p ∷ ps) (q ∷ qs) l m e = ap (onto_first x) e
 
+feeds_more : (x : ℕ) (xs : List ℕ) (b : Bool) → is_line_feed x ≡ b → count_by is_line_feed (x ∷ xs) ≡ cond b 1 0 + count_by is_line_feed xs
+feeds_more x xs b h = sum_by-cons (λ byte. cond (is_line_feed byte) 1 0) x xs ∙ ap (λ t. cond t 1 0 + count_by is_line_feed xs) h
+
+split_more : (x : ℕ) (xs ys : List ℕ) (b : Bool) → is_line_feed x ≡ b → take (count_by is_line_feed xs) (slice_split is_line_feed (xs ++ ys)) ≡ take (count_by is_line_feed xs) (slice_split is_line_feed xs)
+    → take (count_by is_line_feed (x ∷ xs)) (slice_split is_line_feed (x ∷ (xs ++ ys))) ≡ take (count_by is_line_feed (x ∷ xs)) (slice_split is_line_feed (x ∷ xs))
+split_more x xs ys true h front =
+    let more : count_by is_line_feed (x ∷ xs) ≡ suc (count_by is_line_feed xs) = omega (arith, feeds_more x xs true h) in
+    (λ i. take (more i) (slice_split-cons_yes is_line_feed x (xs ++ ys) h i))
+    ∙ ap (λ pieces. [] ∷ pieces) front
+    ∙ (λ i. take (sym more i) (sym (slice_split-cons_yes is_line_feed x xs h) i))
+split_more x xs ys false h front =
+    let same : count_by is_line_feed (x ∷ xs) ≡ count_by is_line_feed xs = omega (arith, feeds_more x xs false h) in
+    (λ i. take (same i) (slice_split-cons_no is_line_feed x (xs ++ ys) h i))
+    ∙ take_onto (count_by is_line_feed xs) x (slice_split is_line_feed (xs ++ ys)) (slice_split is_line_feed xs)
+    (omega (arith, length-slice_split is_line_feed (xs ++ ys))) (omega (arith, length-slice_split is_line_feed xs)) front
+    ∙ (λ i. take (sym same i) (sym (slice_split-cons_no is_line_feed x xs h) i))
+
 -- the pieces that a line feed ends stay behind what is added
 split_front : (xs ys : List ℕ) → take (count_by is_line_feed xs) (slice_split is_line_feed (xs ++ ys)) ≡ take (count_by is_line_feed xs) (slice_split is_line_feed xs)
 split_front [] ys = refl
-split_front (x ∷ xs) ys = by_feed (is_line_feed x) refl
-  where
-    by_feed : (b : Bool) → is_line_feed x ≡ b → take (count_by is_line_feed (x ∷ xs)) (slice_split is_line_feed (x ∷ (xs ++ ys))) ≡ take (count_by is_line_feed (x ∷ xs)) (slice_split is_line_feed (x ∷ xs))
-    by_feed true h =
-        let one = sum_by-cons (λ byte. cond (is_line_feed byte) 1 0) x xs ∙ ap (λ b. cond b 1 0 + count_by is_line_feed xs) h in
-        let more : count_by is_line_feed (x ∷ xs) ≡ suc (count_by is_line_feed xs) = omega (arith, one) in
-        (λ i. take (more i) (slice_split-cons_yes is_line_feed x (xs ++ ys) h i))
-        ∙ ap (λ pieces. [] ∷ pieces) (split_front xs ys)
-        ∙ (λ i. take (sym more i) (sym (slice_split-cons_yes is_line_feed x xs h) i))
-    by_feed false h =
-        let none = sum_by-cons (λ byte. cond (is_line_feed byte) 1 0) x xs ∙ ap (λ b. cond b 1 0 + count_by is_line_feed xs) h in
-        let same : count_by is_line_feed (x ∷ xs) ≡ count_by is_line_feed xs = omega (arith, none) in
-        (λ i. take (same i) (slice_split-cons_no is_line_feed x (xs ++ ys) h i))
-        ∙ take_onto (count_by is_line_feed xs) x (slice_split is_line_feed (xs ++ ys)) (slice_split is_line_feed xs)
-        (omega (arith, length-slice_split is_line_feed (xs ++ ys))) (omega (arith, length-slice_split is_line_feed xs)) (split_front xs ys)
-        ∙ (λ i. take (sym same i) (sym (slice_split-cons_no is_line_feed x xs h) i))
+split_front (x ∷ xs) ys = split_more x xs ys (is_line_feed x) refl (split_front xs ys)
 
 -- all pieces but the last are lines
 take_lines : (n : ℕ) (pieces : List (List ℕ)) → n < length pieces → take n (without_empty_last pieces) ≡ take n pieces
-take_lines 0 pieces h = refl
+take_lines zero pieces h = refl
 take_lines (suc n) [] h = absurd (omega arith)
 take_lines (suc n) (p ∷ []) h = absurd (omega arith)
 take_lines (suc n) (p ∷ (q ∷ ps)) h =
@@ -89,24 +91,21 @@ handed_before given rest text more h count =
     ∙ take-map given_of (count_by is_line_feed text) (lines_of (text ++ more))
     ∙ ap (map given_of) (ended_front text more)
 
+zero_less : (k : ℕ) → 0 ≡ 0 - k
+zero_less k = omega arith
+
+less_none : (k : ℕ) → k ≡ k - 0
+less_none k = omega arith
+
+one_less : (n k : ℕ) → n - k ≡ suc n - suc k
+one_less n k = omega arith
+
 take_both : {X : Type 0} (n : ℕ) (xs ys : List X) → take n (xs ++ ys) ≡ take n xs ++ take (n - length xs) ys
-take_both 0 [] ys = ap (λ n. take n ys) (zero_less 0)
-  where
-    zero_less : (k : ℕ) → 0 ≡ 0 - k
-    zero_less k = omega arith
+take_both zero [] ys = ap (λ n. take n ys) (zero_less 0)
 take_both (suc n) [] ys = ap (λ k. take k ys) (less_none (suc n))
-  where
-    less_none : (k : ℕ) → k ≡ k - 0
-    less_none k = omega arith
-take_both 0 (x ∷ xs) ys = ap (λ n. take n ys) (zero_less (length (x ∷ xs)))
-  where
-    zero_less : (k : ℕ) → 0 ≡ 0 - k
-    zero_less k = omega arith
+take_both zero (x ∷ xs) ys = ap (λ n. take n ys) (zero_less (length (x ∷ xs)))
 take_both (suc n) (x ∷ xs) ys =
     ap (λ l. x ∷ l) (take_both n xs ys) ∙ ap (λ k. x ∷ (take n xs ++ take k ys)) (one_less n (length xs))
-  where
-    one_less : (n k : ℕ) → n - k ≡ suc n - suc k
-    one_less n k = omega arith
 
 -- where a reader holds no whole line, it has handed out as many lines as line feeds were taken up to the limit
 pub lines_are_feeds : (limit number taken : ℕ) (was held left : List ℕ) → length was ≡ taken → feeds_up_to limit [] 0 (was ++ left) ≡ feeds_up_to limit held taken left + number → list_any is_line_feed (up_to limit held taken []) ≡ false → number ≡ count_by is_line_feed (take limit was)

@@ -1,7 +1,7 @@
 -- One step after another, of contents that are told or not.
-use Rattle.std.proofs.Common.{Result, Ok, Err, ◌≡◌, ℕ, ◌+◌, List, [], ◌++◌, take, drop, Option, None, Some, ap, sym, ◌∙◌, append_assoc, append-nil, subst}
+use Rattle.std.proofs.Common.{◌≡◌, ℕ, ◌+◌, List, [], ◌++◌, take, drop, Option, None, Some, ap, sym, ◌∙◌, append_assoc, append-nil, subst}
 use Rattle.std.proofs.Math.Seq.{take-add}
-use Rattle.std.specs.Io.KnownBytes.{Keeps, Consumes, Appends, ReadConsumes, WriteAppends}
+use Rattle.std.specs.Io.KnownBytes.{Consumes}
 use Rattle.kp_io.specs.Told.{FromTold, ToTold, Grows}
 
 -- where a content is told from its start on, two steps are one
@@ -47,31 +47,3 @@ pub Grows-more : (a b c : Option (List ℕ)) (bytes rest : List ℕ) (i n : ℕ)
 Grows-more a b c bytes rest i n e p q =
     subst (Grows a c) (ap (λ r. take i bytes ++ take n r) e ∙ sym (take-add i n bytes))
     (Grows-trans a b c (take i bytes) (take n rest) p q)
-
-keeps_consumes : (a b c : Option (List ℕ)) (bytes : List ℕ) → Keeps a b → Consumes b c bytes → Consumes a c bytes
-keeps_consumes None b c bytes k p = tt
-keeps_consumes (Some x) None c bytes k p = absurd k
-keeps_consumes (Some x) (Some y) None bytes k p = absurd p
-keeps_consumes (Some x) (Some y) (Some z) bytes k p = sym k ∙ p
-
-keeps_appends : (a b c : Option (List ℕ)) (bytes : List ℕ) → Keeps a b → Appends b c bytes → Appends a c bytes
-keeps_appends None b c bytes k p = tt
-keeps_appends (Some x) None c bytes k p = absurd k
-keeps_appends (Some x) (Some y) None bytes k p = absurd p
-keeps_appends (Some x) (Some y) (Some z) bytes k p = p ∙ ap (λ l. l ++ bytes) k
-
-pub keeps_twice : (a b c : Option (List ℕ)) → Keeps a b → Keeps b c → Keeps a c
-keeps_twice None b c k p = tt
-keeps_twice (Some x) None c k p = absurd k
-keeps_twice (Some x) (Some y) None k p = absurd p
-keeps_twice (Some x) (Some y) (Some z) k p = p ∙ k
-
--- a read behind reads that took nothing
-pub reads_on : {E : Type 0} (a b c : Option (List ℕ)) (result : Result ℕ E) (buf : List ℕ) → Keeps a b → ReadConsumes b c result buf → ReadConsumes a c result buf
-reads_on a b c (Ok n) buf k p = (keeps_consumes a b c (take n buf) k p.0, p.1)
-reads_on a b c (Err e) buf k p = keeps_twice a b c k p
-
--- a write behind writes that took nothing
-pub writes_on : {E : Type 0} (a b c : Option (List ℕ)) (result : Result ℕ E) (buf : List ℕ) → Keeps a b → WriteAppends b c result buf → WriteAppends a c result buf
-writes_on a b c (Ok n) buf k p = keeps_appends a b c (take n buf) k p
-writes_on a b c (Err e) buf k p = keeps_twice a b c k p

@@ -4,7 +4,6 @@ use Rattle.std.specs.List.{list_any}
 use Rattle.kp_io.specs.Lines.{is_line_feed, given_lines}
 use Rattle.kp_io.specs.Reader.{given_behind}
 use Rattle.kp_io.specs.Told.{FromTold}
-use Rattle.kp_io.specs.declared.chunk.TheConstants.{BUFFER_SIZE}
 use Rattle.kp_io.specs.declared.next_line.TheConstants.{LINE_LIMIT}
 use Rattle.kp_io.specs.declared.next_line.LineFault.{LineFault}
 

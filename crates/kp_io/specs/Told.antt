@@ -1,6 +1,6 @@
 -- Contents that are told or not (this project's choice). None tells nothing, and then nothing is said
 -- of it.
-use Rattle.std.specs.Prelude.{◌≡◌, ℕ, ◌≤◌, ◌<◌, List, [], ◌++◌, length, take, Option, None, Some, ⊤, Result, IfOk, OnErr}
+use Rattle.std.specs.Prelude.{◌≡◌, ℕ, ◌≤◌, ◌<◌, List, ◌++◌, length, take, Option, None, Some, ⊤, Result, IfOk, OnErr}
 
 -- where the content was told before, it is told now, and P holds of the two
 abbrev pub FromTold : {X Y : Type 0} → (X → Y → Type 0) → Option X → Option Y → Type 0

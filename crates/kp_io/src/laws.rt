@@ -9,5 +9,4 @@ pub fn limits_are_numbers()
     ensures input { INPUT_LIMIT ≡ 4294967296 }
     ensures line { LINE_LIMIT ≡ 16777216 }
     ensures buffer { BUFFER_SIZE ≡ 65536 }
-{
-}
+{}

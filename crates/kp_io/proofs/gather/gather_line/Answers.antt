@@ -1,9 +1,7 @@
-use Rattle.std.proofs.Common.{rules, ◌≡◌, ◌+◌, ◌≤◌, ℕ, List, [], Ok, Err, true, false, length, Option, refl, ap, sym, ◌∙◌, arith}
-use Rattle.std.specs.List.{list_any}
+use Rattle.std.proofs.Common.{rules, ◌≡◌, ◌+◌, length, refl, ap, sym, ◌∙◌, arith}
 use Rattle.std.proofs.lemmas.List.{nil_from_length}
 use Rattle.std.proofs.lemmas.Result.{err_from_is_err_and}
 use Rattle.kp_io.specs.Gather.{told_from}
-use Rattle.kp_io.specs.Lines.{is_line_feed}
 use Rattle.kp_io.specs.declared.next_line.TheConstants.{INPUT_LIMIT}
 use Rattle.kp_io.proofs.ComeLemmas.{unasked_source}
 use Rattle.kp_io.proofs.FeedLemmas.{feeds_first, feeds_line, feeds_more, feeds_stop}

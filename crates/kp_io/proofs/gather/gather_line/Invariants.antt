@@ -1,4 +1,4 @@
-use Rattle.std.proofs.Common.{◌≡◌, ◌+◌, ◌-◌, ◌≤◌, ◌++◌, false, true, length}
+use Rattle.std.proofs.Common.{◌≡◌, ◌+◌, ◌-◌, ◌≤◌, ◌++◌, true, length}
 use Rattle.std.specs.List.{list_any}
 use Rattle.kp_io.specs.Gather.{IsPart, part_size, given_from, told_from, LosesRead}
 use Rattle.kp_io.specs.Lines.{is_line_feed}

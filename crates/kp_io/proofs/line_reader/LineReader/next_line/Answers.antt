@@ -1,4 +1,4 @@
-use Rattle.std.proofs.Common.{rules, ◌≡◌, ◌+◌, ◌≤◌, ◌∷◌, ◌++◌, true, false, not, length, Ok, refl, ap, sym, List, ℕ, arith}
+use Rattle.std.proofs.Common.{rules, ◌≡◌, ◌+◌, ◌≤◌, ◌∷◌, ◌++◌, true, not, length, Ok, refl, ap, sym, arith}
 use Rattle.std.specs.List.{list_any}
 use Rattle.kp_io.specs.Gather.{feeds_of, given_part}
 use Rattle.kp_io.specs.Lines.{is_line_feed}
@@ -37,15 +37,15 @@ returns-clause-answer g c =
     let before = to_come was (g.S.Source.left c.args.source.now) in
     let after = to_come now (g.S.Source.left c.gather_line.new.source) in
     let come : FromTold (λ come rest. come ≡ given_part part ∷ rest) before after =
-        line_answers c.in_ok-whole.whole was now inside.part part inside.chunk chunk (given_part part) (g.S.Source.left c.args.source.now) (g.S.Source.left c.gather_line.new.source)
-        c.in_ok-whole.ensures.part (record { open_ = c.if-self.false; held = refl; skips = refl })
-        (λ yes. record { open_ = ap not yes; held = ap (λ p. p.bytes ++ chunk) next; skips = ap (λ p. p.skipping) next })
-        (λ no. ap not no)
-        (λ no. elim c.else-not-whole.branch [ else-not-whole-via-then-not-whole+else-is_empty w ↦ search rules | else-not-whole-via-else-not-whole w ↦ search rules ])
-        refl c.in_ok-whole.ensures.gathers in
+    line_answers c.in_ok-whole.whole was now inside.part part inside.chunk chunk (given_part part) (g.S.Source.left c.args.source.now) (g.S.Source.left c.gather_line.new.source)
+    c.in_ok-whole.ensures.part (record { open_ = c.if-self.false; held = refl; skips = refl })
+    (λ yes. record { open_ = ap not yes; held = ap (λ p. p.bytes ++ chunk) next; skips = ap (λ p. p.skipping) next })
+    (λ no. ap not no)
+    (λ no. elim c.else-not-whole.branch [ else-not-whole-via-then-not-whole+else-is_empty w ↦ search rules | else-not-whole-via-else-not-whole w ↦ search rules ])
+    refl c.in_ok-whole.ensures.gathers in
     rw (← c.self.view_is)
     (elim c.if-hand_out.branch [
-      then-hand_out w ↦ short_answers c.if-hand_out.result part c.hand_out.new.line.items (inside.number + 1) before after come c.hand_out.ensures.line (search rules) w.result-is
+      | then-hand_out w ↦ short_answers c.if-hand_out.result part c.hand_out.new.line.items (inside.number + 1) before after come c.hand_out.ensures.line (search rules) w.result-is
       | else-hand_out w ↦ long_answers c.if-hand_out.result part c.hand_out.new.line.items (inside.number + 1) before after come (search rules) w.result-is
     ])
 
