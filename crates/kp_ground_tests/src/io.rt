@@ -1,8 +1,8 @@
 //! Lines that are read and bytes that are written, through each source and sink.
 use kp_base::{Items, NoMemory};
 use kp_io::{
-    Failed, LineFault, LineReader, MemorySink, MemorySource, NextLine, RealSink, RealSource, Sink,
-    Source, SureSink, SureSource, write_whole,
+    Failed, LINE_LIMIT, LineFault, LineReader, MemorySink, MemorySource, NextLine, RealSink,
+    RealSource, Sink, Source, SureSink, SureSource, write_whole,
 };
 use std::alloc::Global;
 use std::io::BufWriter;
@@ -82,6 +82,57 @@ fn a_failed_read_is_told_and_changes_nothing(rt: HostRuntime) -> Result<(), Fail
     );
     assert!(rt; reader.bytes().is_empty());
     assert!(rt; gives_two(&mut reader, &mut source, b"one", b"two"));
+    Ok(())
+}
+
+/// Three lines, of which the second has so many bytes.
+fn three_lines(alloc: Global, length: usize) -> Result<Items<u8>, NoMemory> {
+    let mut text = Vec::from_slice(alloc, b"one\n")?;
+    let long = Vec::from_elem(alloc, b'x', length)?;
+    text.extend_from_slice(&long)?;
+    text.extend_from_slice(b"\nthree")?;
+    Ok(Items::from_vec(text))
+}
+
+/// Whether a reader tells that the second line is too long, and goes on with the third.
+fn skips_the_second<S: Source>(reader: &mut LineReader, source: &mut S) -> bool {
+    reader.next_line(source) == Err(LineFault::TooLongLine { number: 2 })
+        && reader.bytes().is_empty()
+        && gives_line(reader, source, 3, b"three")
+        && ends(reader, source, 3)
+}
+
+#[test]
+fn a_line_of_the_most_bytes_is_given(rt: HostRuntime) -> Result<(), Fail> {
+    let mut reader = LineReader::new(rt.alloc())?;
+    let mut source = SureSource::new(three_lines(rt.alloc(), LINE_LIMIT)?, 65536);
+    assert!(rt; gives_line(&mut reader, &mut source, 1, b"one"));
+    assert!(rt; reader.next_line(&mut source) == Ok(NextLine::Line { number: 2 }));
+    assert!(rt; reader.bytes().len() == 16_777_216);
+    assert!(rt; gives_line(&mut reader, &mut source, 3, b"three"));
+    Ok(())
+}
+
+#[test]
+fn a_longer_line_is_skipped_to_its_end(rt: HostRuntime) -> Result<(), Fail> {
+    for more in [1, 300_000] {
+        let mut reader = LineReader::new(rt.alloc())?;
+        let text = three_lines(rt.alloc(), LINE_LIMIT + more)?;
+        let mut source = SureSource::new(text, 65536);
+        assert!(rt; gives_line(&mut reader, &mut source, 1, b"one"));
+        assert!(rt; skips_the_second(&mut reader, &mut source), "{more} bytes more");
+    }
+    Ok(())
+}
+
+#[test]
+fn a_read_may_fail_within_a_line_that_is_skipped(rt: HostRuntime) -> Result<(), Fail> {
+    let mut reader = LineReader::new(rt.alloc())?;
+    let text = three_lines(rt.alloc(), LINE_LIMIT + 300_000)?;
+    let mut source = MemorySource::new(text, 65536, items_of(rt.alloc(), &[259u64])?);
+    assert!(rt; gives_line(&mut reader, &mut source, 1, b"one"));
+    assert!(rt; reader.next_line(&mut source) == Err(LineFault::ReadFault));
+    assert!(rt; skips_the_second(&mut reader, &mut source));
     Ok(())
 }
 

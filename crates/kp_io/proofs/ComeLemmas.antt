@@ -1,23 +1,149 @@
--- The text that is still to come: what is held, and what a source has left.
-use Rattle.std.proofs.Common.{◌≡◌, ℕ, ◌+◌, ◌<◌, Bool, true, false, not, List, [], ◌∷◌, ◌++◌, length, Option, None, Some, Ok, refl, ap, sym, ◌∙◌, append_assoc, append-nil, length-append}
+-- What a reader's call answers, from what the search for the end of a line found.
+use Rattle.std.proofs.Common.{◌≡◌, ℕ, ◌+◌, ◌-◌, ◌<◌, ◌≤◌, Bool, true, false, cond, List, [], ◌∷◌, ◌++◌, length, take, drop, Option, None, Some, Ok, Err, Result, refl, ap, sym, ◌∙◌, append_assoc, append-nil, length-append, subst, arith}
+use Rattle.std.specs.Prelude.{if◌then◌else◌, ◌||◌, nat_lt}
 use Rattle.std.specs.List.{list_any}
-use Rattle.std.specs.Io.KnownBytes.{prepend_known}
-use Rattle.kp_io.specs.Gather.{Gathers}
-use Rattle.kp_io.specs.Lines.{is_line_feed, LosesLine}
-use Rattle.kp_io.specs.Reader.{ReaderState, to_come}
+use Rattle.std.proofs.Math.Seq.{take-append_seam}
+use Rattle.std.proofs.lemmas.Bool.Decides.{nat_tests}
+use Rattle.std.proofs.lemmas.List.{take-append-drop}
+use Rattle.std.proofs.lemmas.List.Folds.{list_any-append}
+use Rattle.kp_io.specs.Gather.{LinePart, IsPart, no_part, part_size, given_part, given_from, told_from, feeds_of, Gathers}
+use Rattle.kp_io.specs.Lines.{is_line_feed}
+use Rattle.kp_io.specs.Reader.{ReaderState, given_behind, to_come, up_to, feeds_up_to, Answers, Counts, Stays, AsksUntilFeed}
 use Rattle.kp_io.specs.Told.{FromTold}
-use Rattle.kp_io.proofs.LineLemmas.{loses_line, loses_last}
+use Rattle.kp_io.specs.declared.next_line.LineFault.{LineFault}
+use Rattle.kp_io.specs.declared.next_line.LineFault.TheVariants.{TooLongLine, ReadFault, InputTooLong, NoMemory}
+use Rattle.kp_io.specs.declared.next_line.NextLine.{NextLine}
+use Rattle.kp_io.specs.declared.next_line.NextLine.TheVariants.{Line}
+use Rattle.kp_io.proofs.FeedLemmas.{feeds_behind}
+use Rattle.kp_io.proofs.GatherLemmas.{given_last, no_feed_first}
+use Rattle.kp_io.proofs.Told.{FromTold-map}
 
--- bytes that only move stay as many
-pub length_kept : (front back gathered chunk : List ℕ) → front ++ back ≡ gathered ++ chunk → length front + length back ≡ length gathered + length chunk
-length_kept front back gathered chunk e = sym (length-append front back) ∙ ap length e ∙ length-append gathered chunk
+-- a reader that holds a part and a chunk, and has not met the end
+pub record Holds (reader : ReaderState) (part : LinePart) (chunk : List ℕ) : Type 0 where
+  pub open_ : reader.ended ≡ false
+  pub held : reader.held ≡ part.bytes ++ chunk
+  pub skips : reader.skipping ≡ part.skipping
 
--- what a search for the end of a line gathered is the first line of the text to come
-pub gathers_line : (whole : Bool) (was now : ReaderState) (line chunk : List ℕ) (before left : Option (List ℕ)) → was.ended ≡ false → now.ended ≡ not whole → now.held ≡ chunk → list_any is_line_feed line ≡ false → (whole ≡ false → 0 < length line) → Gathers (Ok whole) line chunk (prepend_known was.held before) left → FromTold (LosesLine line) (to_come was before) (to_come now left)
-gathers_line whole was now line chunk None left open_ end held none some p = tt
-gathers_line true was now line chunk (Some x) None open_ end held none some p = absurd p
-gathers_line false was now line chunk (Some x) None open_ end held none some p = absurd p.0
-gathers_line true was now line chunk (Some x) (Some y) open_ end held none some p =
-    rw (open_, end, held) (loses_line line (was.held ++ x) (chunk ++ y) none (p ∙ append_assoc line (10 ∷ []) (chunk ++ y)))
-gathers_line false was now line chunk (Some x) (Some y) open_ end held none some p =
-    rw (open_, end) (loses_last line (was.held ++ x) [] none (some refl) (sym p.0 ∙ ap (λ l. line ++ l) p.1 ∙ append-nil line) refl)
+-- what is to come of such a reader
+come_of : (reader : ReaderState) (part : LinePart) (chunk text : List ℕ) → Holds reader part chunk → (if reader.ended then [] else given_behind reader.skipping (reader.held ++ text)) ≡ given_from part (chunk ++ text)
+come_of reader part chunk text h = rw (h.open_, h.held, h.skips) (ap (given_behind part.skipping) (append_assoc part.bytes chunk text))
+
+-- what is to come of a reader that has met the end
+come_none : (reader : ReaderState) (text : List ℕ) → reader.ended ≡ true → (if reader.ended then [] else given_behind reader.skipping (reader.held ++ text)) ≡ []
+come_none reader text h = rw h refl
+
+-- a line that was gathered is the first that was to come
+pub line_answers : (whole : Bool) (was now : ReaderState) (old part : LinePart) (was_chunk chunk : List ℕ) (one : Option (List ℕ)) (before left : Option (List ℕ)) → IsPart part → Holds was old was_chunk → (whole ≡ true → Holds now no_part chunk) → (whole ≡ false → now.ended ≡ true) → (whole ≡ false → 0 < part_size part) → one ≡ given_part part → Gathers (Ok whole) part chunk (told_from old was_chunk before) left → FromTold (λ come rest. come ≡ one ∷ rest) (to_come was before) (to_come now left)
+line_answers whole was now old part was_chunk chunk one None left is holds next end some given p = tt
+line_answers true was now old part was_chunk chunk one (Some x) None is holds next end some given p = absurd p
+line_answers false was now old part was_chunk chunk one (Some x) None is holds next end some given p = absurd p
+line_answers true was now old part was_chunk chunk one (Some x) (Some y) is holds next end some given p =
+    come_of was old was_chunk x holds ∙ p ∙ (λ i. sym given i ∷ sym (come_of now no_part chunk y (next refl)) i)
+line_answers false was now old part was_chunk chunk one (Some x) (Some y) is holds next end some given p =
+    come_of was old was_chunk x holds ∙ p ∙ given_last part is (some refl) ∙ (λ i. sym given i ∷ sym (come_none now y (end refl)) i)
+
+-- none was to come at the end
+pub end_answers : (was now : ReaderState) (old part : LinePart) (was_chunk chunk : List ℕ) (before left : Option (List ℕ)) → part ≡ no_part → Holds was old was_chunk → now.ended ≡ true → Gathers (Ok false) part chunk (told_from old was_chunk before) left → FromTold (λ come rest. (come ≡ []) × (rest ≡ [])) (to_come was before) (to_come now left)
+end_answers was now old part was_chunk chunk None left none holds end p = tt
+end_answers was now old part was_chunk chunk (Some x) None none holds end p = absurd p
+end_answers was now old part was_chunk chunk (Some x) (Some y) none holds end p = (
+  come_of was old was_chunk x holds ∙ p ∙ ap (λ l. given_from l []) none,
+  come_none now y end,
+)
+
+-- a line is handed out where it may have so many bytes
+pub short_answers : (result : Result NextLine LineFault) (part : LinePart) (line : List ℕ) (number : ℕ) (before after : Option (List (Option (List ℕ)))) → FromTold (λ come rest. come ≡ given_part part ∷ rest) before after → line ≡ part.bytes → part.skipping ≡ false → result ≡ Ok (Line number) → Answers result line before after
+short_answers result part line number before after come line_is short result_is =
+    subst (λ r. Answers r line before after) (sym result_is)
+    (subst (λ one. FromTold (λ come rest. come ≡ one ∷ rest) before after) (λ i. cond (short i) None (Some (sym line_is i))) come)
+
+-- nothing is handed out of a line that is too long
+pub long_answers : (result : Result NextLine LineFault) (part : LinePart) (line : List ℕ) (number : ℕ) (before after : Option (List (Option (List ℕ)))) → FromTold (λ come rest. come ≡ given_part part ∷ rest) before after → part.skipping ≡ true → result ≡ Err (TooLongLine number) → Answers result line before after
+long_answers result part line number before after come long result_is =
+    subst (λ r. Answers r line before after) (sym result_is)
+    (subst (λ one. FromTold (λ come rest. come ≡ one ∷ rest) before after) (λ i. cond (long i) None (Some part.bytes)) come)
+
+-- after a fault the same is to come
+fault_keeps : (fault : LineFault) (was now : ReaderState) (old part : LinePart) (was_chunk chunk : List ℕ) (before left : Option (List ℕ)) → Holds was old was_chunk → Holds now part chunk → Gathers (Err fault) part chunk (told_from old was_chunk before) left → FromTold (λ come rest. rest ≡ come) (to_come was before) (to_come now left)
+fault_keeps fault was now old part was_chunk chunk None left holds next p = tt
+fault_keeps fault was now old part was_chunk chunk (Some x) None holds next p = absurd p
+fault_keeps fault was now old part was_chunk chunk (Some x) (Some y) holds next p =
+    come_of now part chunk y next ∙ sym p ∙ sym (come_of was old was_chunk x holds)
+
+by_fault : (fault : LineFault) (line : List ℕ) (before after : Option (List (Option (List ℕ)))) → ((number : ℕ) → fault ≡ TooLongLine number → ⊥) → FromTold (λ come rest. rest ≡ come) before after → Answers (Err fault) line before after
+by_fault (TooLongLine number) line before after other p = absurd (other number refl)
+by_fault ReadFault line before after other p = p
+by_fault InputTooLong line before after other p = p
+by_fault NoMemory line before after other p = p
+
+pub fault_answers : (fault : LineFault) (line : List ℕ) (was now : ReaderState) (old part : LinePart) (was_chunk chunk : List ℕ) (before left : Option (List ℕ)) → ((number : ℕ) → fault ≡ TooLongLine number → ⊥) → Holds was old was_chunk → Holds now part chunk → Gathers (Err fault) part chunk (told_from old was_chunk before) left → Answers (Err fault) line (to_come was before) (to_come now left)
+fault_answers fault line was now old part was_chunk chunk before left other holds next p =
+    by_fault fault line (to_come was before) (to_come now left) other (fault_keeps fault was now old part was_chunk chunk before left holds next p)
+
+-- a fault counts no line
+pub fault_counts : (fault : LineFault) (old new : ReaderState) → ((number : ℕ) → fault ≡ TooLongLine number → ⊥) → Stays old new → Counts (Err fault) old new
+fault_counts (TooLongLine number) old new other p = absurd (other number refl)
+fault_counts ReadFault old new other p = p
+fault_counts InputTooLong old new other p = p
+fault_counts NoMemory old new other p = p
+
+-- a text that is not read stays
+pub told_same : {X : Type 0} (a : Option X) → FromTold (λ old new. new ≡ old) a a
+told_same None = tt
+told_same (Some x) = refl
+
+-- a source that was not asked
+pub unasked_source : {S : Type 0} (left : S → Option (List ℕ)) (asked : S → ℕ) (source : S) → AsksUntilFeed left asked source source
+unasked_source left asked source = record { last = source; once = omega arith; none = no_feed_first (left source) }
+
+-- one byte at most goes past the limit
+pub over_fits : (limit taken n : ℕ) → (limit < taken → (taken ≡ limit + 1) × (n ≡ 1)) → taken ≤ limit + n
+over_fits limit taken n over = by_more (nat_lt limit taken) refl
+  where
+    by_more : (b : Bool) → nat_lt limit taken ≡ b → taken ≤ limit + n
+    by_more true h =
+        let more : limit < taken = grind (arith, nat_tests) in
+        let one = over more in
+        omega (arith, one.0, one.1)
+    by_more false h = grind (arith, nat_tests)
+
+-- a whole line takes a line feed away
+pub one_feed : (whole : Bool) → whole ≡ true → feeds_of (Ok whole) ≡ 1
+one_feed true h = refl
+one_feed false h = absurd (cc)
+
+first_or : (b c : Bool) → (b || c) ≡ false → b ≡ false
+first_or true c h = h
+first_or false c h = refl
+
+module _ (limit : ℕ) where
+  -- no line is held where nothing is held behind a part of one
+  pub holds_none_read : (bytes : List ℕ) (taken : ℕ) → list_any is_line_feed bytes ≡ false → list_any is_line_feed (up_to limit (bytes ++ []) taken []) ≡ false
+  holds_none_read bytes taken h =
+      let all = (bytes ++ []) ++ [] in
+      let room = limit + length (bytes ++ []) - taken in
+      let same : all ≡ bytes = append-nil (bytes ++ []) ∙ append-nil bytes in
+      first_or (list_any is_line_feed (take room all)) (list_any is_line_feed (drop room all))
+      (sym (list_any-append is_line_feed (take room all) (drop room all)) ∙ ap (list_any is_line_feed) (take-append-drop room all ∙ same) ∙ h)
+
+  -- nor where one byte goes past the limit
+  pub holds_none_over : (bytes chunk : List ℕ) (taken : ℕ) → list_any is_line_feed bytes ≡ false → length chunk ≡ 1 → taken ≡ limit + 1 → list_any is_line_feed (up_to limit (bytes ++ chunk) taken []) ≡ false
+  holds_none_over bytes chunk taken h one over =
+      let room : limit + length (bytes ++ chunk) - taken ≡ length bytes = omega (arith, length-append bytes chunk, one, over) in
+      ap (λ n. list_any is_line_feed (take n ((bytes ++ chunk) ++ []))) room
+      ∙ ap (λ l. list_any is_line_feed (take (length bytes) l)) (append_assoc bytes chunk [])
+      ∙ ap (list_any is_line_feed) (take-append_seam bytes (chunk ++ []))
+      ∙ h
+
+  -- the line feeds that are to come, and the lines
+  pub feeds_answer : (b c b' c' : List ℕ) (taken now more number next : ℕ) (before left : Option (List ℕ)) → list_any is_line_feed b ≡ false → list_any is_line_feed b' ≡ false → taken ≤ limit + length c → now ≤ limit + length c' → next ≡ number + more → FromTold (λ xs ys. feeds_up_to limit c taken xs ≡ feeds_up_to limit c' now ys + more) before left → FromTold (λ xs ys. feeds_up_to limit (b ++ c) taken xs + number ≡ feeds_up_to limit (b' ++ c') now ys + next) before left
+  feeds_answer b c b' c' taken now more number next before left h h' fits fits' one =
+      FromTold-map (λ xs ys. feeds_up_to limit c taken xs ≡ feeds_up_to limit c' now ys + more)
+      (λ xs ys. feeds_up_to limit (b ++ c) taken xs + number ≡ feeds_up_to limit (b' ++ c') now ys + next)
+      (λ xs ys p.
+      ap (λ n. n + number) (feeds_behind limit b c xs taken h fits ∙ p)
+      ∙ shifted more (feeds_up_to limit c' now ys) number next one
+      ∙ ap (λ n. n + next) (sym (feeds_behind limit b' c' ys now h' fits'))) before left
+    where
+      shifted : (a x n m : ℕ) → m ≡ n + a → (x + a) + n ≡ x + m
+      shifted a x n m e = omega (arith, e)

@@ -1,34 +1,122 @@
--- The lines that a reader has handed out, from one call to the next. A caller's loop keeps `HandedOut` of
--- the lines that it has had: it starts with none, each line adds one, and at the end they are all.
-use Rattle.std.proofs.Common.{◌≡◌, ℕ, List, [], ◌∷◌, ◌++◌, Option, None, Some, IfSome, refl, ap, sym, ◌∙◌, append_assoc, append-nil}
-use Rattle.std.specs.Io.KnownBytes.{Keeps}
-use Rattle.kp_io.specs.Lines.{lines_of, LosesLine}
-use Rattle.kp_io.specs.Reader.{HandedOut, fresh_reader, to_come}
+-- What a reader has given of a text, from one call to the next. A caller's loop keeps `HandedOut` of what it has
+-- been given: it starts with nothing, each line adds one, and at the end it is all.
+use Rattle.std.proofs.Common.{◌≡◌, ℕ, zero, suc, ◌+◌, ◌-◌, ◌<◌, Bool, true, false, cond, List, [], ◌∷◌, ◌++◌, length, take, Option, None, Some, IfSome, refl, ap, sym, ◌∙◌, append_assoc, append-nil, arith}
+use Rattle.std.specs.Prelude.{map, count_by}
+use Rattle.std.specs.List.{list_any, slice_split, onto_first}
+use Rattle.std.proofs.Math.Seq.{take-append_seam}
+use Rattle.std.proofs.lemmas.List.{take-map}
+use Rattle.std.proofs.lemmas.List.Splits.{slice_split-cons_yes, slice_split-cons_no, length-slice_split}
+use Rattle.std.proofs.lemmas.List.Sums.{sum_by-cons}
+use Rattle.kp_io.specs.Lines.{is_line_feed, without_empty_last, lines_of, ended_lines, given_of, given_lines}
+use Rattle.kp_io.specs.Reader.{HandedOut, fresh_reader, to_come, up_to, feeds_up_to}
 use Rattle.kp_io.specs.Told.{FromTold}
+use Rattle.kp_io.proofs.FeedLemmas.{feeds-append, feeds_none}
+use Rattle.kp_io.proofs.LineLemmas.{without_empty_last-more}
 
--- a fresh reader has handed out no line
+-- a fresh reader has given nothing
 pub handed_none : (left : Option (List ℕ)) → HandedOut [] left (to_come fresh_reader left)
 handed_none None = tt
 handed_none (Some text) = refl
 
--- one more line was handed out
-pub handed_line : (lines : List (List ℕ)) (line : List ℕ) (a b c : Option (List ℕ)) → HandedOut lines a b → FromTold (LosesLine line) b c → HandedOut (lines ++ line ∷ []) a c
-handed_line lines line None b c p q = tt
-handed_line lines line (Some x) None c p q = absurd p
-handed_line lines line (Some x) (Some y) None p q = absurd q
-handed_line lines line (Some x) (Some y) (Some z) p q =
-    p ∙ ap (λ ls. lines ++ ls) q.lines ∙ sym (append_assoc lines (line ∷ []) (lines_of z))
+-- one more line was given, or told to be too long
+pub handed_given : (given : List (Option (List ℕ))) (one : Option (List ℕ)) (a : Option (List ℕ)) (b c : Option (List (Option (List ℕ)))) → HandedOut given a b → FromTold (λ old new. old ≡ one ∷ new) b c → HandedOut (given ++ one ∷ []) a c
+handed_given given one None b c p q = tt
+handed_given given one (Some x) None c p q = absurd p
+handed_given given one (Some x) (Some y) None p q = absurd q
+handed_given given one (Some x) (Some y) (Some z) p q = p ∙ ap (λ rest. given ++ rest) q ∙ sym (append_assoc given (one ∷ []) z)
 
--- a fault changes nothing
-pub handed_kept : (lines : List (List ℕ)) (a b c : Option (List ℕ)) → HandedOut lines a b → Keeps b c → HandedOut lines a c
-handed_kept lines None b c p q = tt
-handed_kept lines (Some x) None c p q = absurd p
-handed_kept lines (Some x) (Some y) None p q = absurd q
-handed_kept lines (Some x) (Some y) (Some z) p q = p ∙ ap (λ t. lines ++ lines_of t) (sym q)
+-- another fault changes nothing
+pub handed_kept : (given : List (Option (List ℕ))) (a : Option (List ℕ)) (b c : Option (List (Option (List ℕ)))) → HandedOut given a b → FromTold (λ old new. new ≡ old) b c → HandedOut given a c
+handed_kept given None b c p q = tt
+handed_kept given (Some x) None c p q = absurd p
+handed_kept given (Some x) (Some y) None p q = absurd q
+handed_kept given (Some x) (Some y) (Some z) p q = p ∙ ap (λ rest. given ++ rest) (sym q)
 
--- at the end all lines were handed out
-pub handed_all : (lines : List (List ℕ)) (a b c : Option (List ℕ)) → HandedOut lines a b → FromTold (λ text rest. (text ≡ []) × (rest ≡ [])) b c → IfSome a (λ text. lines_of text ≡ lines)
-handed_all lines None b c p q = tt
-handed_all lines (Some x) None c p q = absurd p
-handed_all lines (Some x) (Some y) None p q = absurd q
-handed_all lines (Some x) (Some y) (Some z) p q = p ∙ ap (λ t. lines ++ lines_of t) q.0 ∙ append-nil lines
+-- at the end all was given
+pub handed_all : (given : List (Option (List ℕ))) (a : Option (List ℕ)) (b c : Option (List (Option (List ℕ)))) → HandedOut given a b → FromTold (λ old new. (old ≡ []) × (new ≡ [])) b c → IfSome a (λ text. given_lines text ≡ given)
+handed_all given None b c p q = tt
+handed_all given (Some x) None c p q = absurd p
+handed_all given (Some x) (Some y) None p q = absurd q
+handed_all given (Some x) (Some y) (Some z) p q = p ∙ ap (λ rest. given ++ rest) q.0 ∙ append-nil given
+
+-- ---- What was given before a fault
+
+take_onto : (n x : ℕ) (ps qs : List (List ℕ)) → 0 < length ps → 0 < length qs → take n ps ≡ take n qs → take n (onto_first x ps) ≡ take n (onto_first x qs)
+take_onto zero x ps qs l m e = refl
+take_onto (suc n) x [] qs l m e = absurd (omega arith)
+take_onto (suc n) x (p ∷ ps) [] l m e = absurd (omega arith)
+take_onto (suc n) x (p ∷ ps) (q ∷ qs) l m e = ap (onto_first x) e
+
+feeds_more : (x : ℕ) (xs : List ℕ) (b : Bool) → is_line_feed x ≡ b → count_by is_line_feed (x ∷ xs) ≡ cond b 1 0 + count_by is_line_feed xs
+feeds_more x xs b h = sum_by-cons (λ byte. cond (is_line_feed byte) 1 0) x xs ∙ ap (λ t. cond t 1 0 + count_by is_line_feed xs) h
+
+split_more : (x : ℕ) (xs ys : List ℕ) (b : Bool) → is_line_feed x ≡ b → take (count_by is_line_feed xs) (slice_split is_line_feed (xs ++ ys)) ≡ take (count_by is_line_feed xs) (slice_split is_line_feed xs)
+    → take (count_by is_line_feed (x ∷ xs)) (slice_split is_line_feed (x ∷ (xs ++ ys))) ≡ take (count_by is_line_feed (x ∷ xs)) (slice_split is_line_feed (x ∷ xs))
+split_more x xs ys true h front =
+    let more : count_by is_line_feed (x ∷ xs) ≡ suc (count_by is_line_feed xs) = omega (arith, feeds_more x xs true h) in
+    (λ i. take (more i) (slice_split-cons_yes is_line_feed x (xs ++ ys) h i))
+    ∙ ap (λ pieces. [] ∷ pieces) front
+    ∙ (λ i. take (sym more i) (sym (slice_split-cons_yes is_line_feed x xs h) i))
+split_more x xs ys false h front =
+    let same : count_by is_line_feed (x ∷ xs) ≡ count_by is_line_feed xs = omega (arith, feeds_more x xs false h) in
+    (λ i. take (same i) (slice_split-cons_no is_line_feed x (xs ++ ys) h i))
+    ∙ take_onto (count_by is_line_feed xs) x (slice_split is_line_feed (xs ++ ys)) (slice_split is_line_feed xs)
+    (omega (arith, length-slice_split is_line_feed (xs ++ ys))) (omega (arith, length-slice_split is_line_feed xs)) front
+    ∙ (λ i. take (sym same i) (sym (slice_split-cons_no is_line_feed x xs h) i))
+
+-- the pieces that a line feed ends stay behind what is added
+split_front : (xs ys : List ℕ) → take (count_by is_line_feed xs) (slice_split is_line_feed (xs ++ ys)) ≡ take (count_by is_line_feed xs) (slice_split is_line_feed xs)
+split_front [] ys = refl
+split_front (x ∷ xs) ys = split_more x xs ys (is_line_feed x) refl (split_front xs ys)
+
+-- all pieces but the last are lines
+take_lines : (n : ℕ) (pieces : List (List ℕ)) → n < length pieces → take n (without_empty_last pieces) ≡ take n pieces
+take_lines zero pieces h = refl
+take_lines (suc n) [] h = absurd (omega arith)
+take_lines (suc n) (p ∷ []) h = absurd (omega arith)
+take_lines (suc n) (p ∷ (q ∷ ps)) h =
+    ap (take (suc n)) (without_empty_last-more p (q ∷ ps) (omega arith)) ∙ ap (λ l. p ∷ l) (take_lines n (q ∷ ps) (omega arith))
+
+-- the first lines of a text, as many as a front of it has line feeds, are those that end in that front
+ended_front : (text more : List ℕ) → take (count_by is_line_feed text) (lines_of (text ++ more)) ≡ ended_lines text
+ended_front text more =
+    take_lines (count_by is_line_feed text) (slice_split is_line_feed (text ++ more)) (omega (arith, length-slice_split is_line_feed (text ++ more), feeds-append text more))
+    ∙ split_front text more
+
+-- where as many lines were given as a front of the text has line feeds, they are the lines that end in that front
+pub handed_before : (given rest : List (Option (List ℕ))) (text more : List ℕ) → given_lines (text ++ more) ≡ given ++ rest → length given ≡ count_by is_line_feed text → given ≡ map given_of (ended_lines text)
+handed_before given rest text more h count =
+    sym (take-append_seam given rest) ∙ ap (λ n. take n (given ++ rest)) count
+    ∙ ap (take (count_by is_line_feed text)) (sym h)
+    ∙ take-map given_of (count_by is_line_feed text) (lines_of (text ++ more))
+    ∙ ap (map given_of) (ended_front text more)
+
+zero_less : (k : ℕ) → 0 ≡ 0 - k
+zero_less k = omega arith
+
+less_none : (k : ℕ) → k ≡ k - 0
+less_none k = omega arith
+
+one_less : (n k : ℕ) → n - k ≡ suc n - suc k
+one_less n k = omega arith
+
+take_both : {X : Type 0} (n : ℕ) (xs ys : List X) → take n (xs ++ ys) ≡ take n xs ++ take (n - length xs) ys
+take_both zero [] ys = ap (λ n. take n ys) (zero_less 0)
+take_both (suc n) [] ys = ap (λ k. take k ys) (less_none (suc n))
+take_both zero (x ∷ xs) ys = ap (λ n. take n ys) (zero_less (length (x ∷ xs)))
+take_both (suc n) (x ∷ xs) ys =
+    ap (λ l. x ∷ l) (take_both n xs ys) ∙ ap (λ k. x ∷ (take n xs ++ take k ys)) (one_less n (length xs))
+
+-- where a reader holds no whole line, it has handed out as many lines as line feeds were taken up to the limit
+pub lines_are_feeds : (limit number taken : ℕ) (was held left : List ℕ) → length was ≡ taken → feeds_up_to limit [] 0 (was ++ left) ≡ feeds_up_to limit held taken left + number → list_any is_line_feed (up_to limit held taken []) ≡ false → number ≡ count_by is_line_feed (take limit was)
+lines_are_feeds limit number taken was held left size feeds none =
+    let room = limit + length held - taken in
+    let before : limit + length {A = ℕ} [] - 0 ≡ limit = omega arith in
+    let same : room - length held ≡ limit - length was = omega (arith, size) in
+    let all = ap (λ n. count_by is_line_feed (take n (was ++ left))) before ∙ ap (count_by is_line_feed) (take_both limit was left) ∙ feeds-append (take limit was) (take (limit - length was) left) in
+    let some = ap (count_by is_line_feed) (take_both room held left ∙ ap (λ k. take room held ++ take k left) same) ∙ feeds-append (take room held) (take (limit - length was) left) in
+    let no = feeds_none (take room held) (ap (λ l. list_any is_line_feed (take room l)) (sym (append-nil held)) ∙ none) in
+    counted (count_by is_line_feed (take limit was)) (count_by is_line_feed (take room held)) (count_by is_line_feed (take (limit - length was) left)) number (sym all ∙ feeds ∙ ap (λ n. n + number) some) no
+  where
+    counted : (a b c n : ℕ) → a + c ≡ (b + c) + n → b ≡ 0 → n ≡ a
+    counted a b c n e f = omega (arith, e, f)

@@ -1,4 +1,6 @@
 pub mod ComeLemmas
+pub mod FeedLemmas
+pub mod GatherLemmas
 pub mod HandedOut
 pub mod LineLemmas
 pub mod Told

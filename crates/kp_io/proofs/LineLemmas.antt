@@ -1,13 +1,12 @@
 -- Texts, lines and line feeds.
-use Rattle.std.proofs.Common.{nat_lt, is_some, position, Some, None, ◌≡◌, ℕ, suc, ◌+◌, ◌<◌, Bool, true, false, not, cond, List, [], ◌∷◌, ◌++◌, length, take, drop, append_assoc, refl, ap, sym, ◌∙◌, subst, arith}
+use Rattle.std.proofs.Common.{nat_lt, is_some, position, map, Some, None, ◌≡◌, ℕ, suc, ◌+◌, ◌<◌, Bool, true, false, not, cond, List, [], ◌∷◌, ◌++◌, length, take, drop, refl, ap, sym, ◌∙◌, arith}
 use Rattle.std.specs.List.{list_any, position_or_len, before_first, after_first, slice_split}
 use Rattle.std.proofs.lemmas.Bool.Decides.{nat_tests}
 use Rattle.std.proofs.lemmas.Grind.{common_steps}
 use Rattle.std.proofs.lemmas.List.Splits.{slice_split_first, slice_split-cons_no, length-slice_split}
-use Rattle.std.proofs.lemmas.List.Folds.{list_any-append}
-use Rattle.std.proofs.Math.Seq.{take-append_seam, drop-append-add}
+use Rattle.std.proofs.Math.Seq.{take-append_seam, take-append-add, drop-append-add}
 use Rattle.std.proofs.lemmas.List.{take_all, length-append}
-use Rattle.kp_io.specs.Lines.{is_line_feed, without_empty_last, lines_of, LosesLine}
+use Rattle.kp_io.specs.Lines.{is_line_feed, without_empty_last, lines_of, given_of, given_lines}
 
 -- a line's first line feed is the one behind it
 pub position_or_len-line : (line rest : List ℕ) → list_any is_line_feed line ≡ false → position_or_len is_line_feed (line ++ 10 ∷ rest) ≡ length line
@@ -51,7 +50,7 @@ pub after_first-none : (text : List ℕ) → list_any is_line_feed text ≡ fals
 after_first-none text h = grind (arith, common_steps, position_or_len-none text h)
 
 -- the first of several pieces stays, also where it is empty
-without_empty_last-more : (piece : List ℕ) (pieces : List (List ℕ)) → 0 < length pieces → without_empty_last (piece ∷ pieces) ≡ piece ∷ without_empty_last pieces
+pub without_empty_last-more : (piece : List ℕ) (pieces : List (List ℕ)) → 0 < length pieces → without_empty_last (piece ∷ pieces) ≡ piece ∷ without_empty_last pieces
 without_empty_last-more piece [] h = absurd (omega arith)
 without_empty_last-more [] (next ∷ pieces) h = refl
 without_empty_last-more (x ∷ xs) (next ∷ pieces) h = refl
@@ -76,23 +75,35 @@ pub lines_of-last : (line : List ℕ) → list_any is_line_feed line ≡ false �
 lines_of-last [] h some = absurd (omega arith)
 lines_of-last (x ∷ xs) h some = rw (slice_split-none (x ∷ xs) h) refl
 
--- a text loses a line that ends with a line feed
-pub loses_line : (line text rest : List ℕ) → list_any is_line_feed line ≡ false → text ≡ line ++ 10 ∷ rest → LosesLine line text rest
-loses_line line text rest h e =
-    subst (λ t. LosesLine line t rest) (sym e) (record {
-      line_is = sym (before_first-line line rest h);
-      rest_is = sym (after_first-line line rest h);
-      lines = lines_of-line line rest h;
-    })
+-- the first line feed of a text behind bytes without one
+position_or_len-behind : (front text : List ℕ) → list_any is_line_feed front ≡ false → position_or_len is_line_feed (front ++ text) ≡ length front + position_or_len is_line_feed text
+position_or_len-behind [] text h = omega arith
+position_or_len-behind (x ∷ xs) text h = grind (arith, common_steps, position_or_len-behind xs text)
 
--- a text loses its last line, that no line feed ends
-pub loses_last : (line text rest : List ℕ) → list_any is_line_feed line ≡ false → 0 < length line → text ≡ line → rest ≡ [] → LosesLine line text rest
-loses_last line text rest h some e n =
-    subst (λ t. LosesLine line t rest) (sym e) (subst (λ r. LosesLine line line r) (sym n) (record {
-      line_is = sym (before_first-none line h);
-      rest_is = sym (after_first-none line h);
-      lines = lines_of-last line h some;
-    }))
+pub before_first-behind : (front text : List ℕ) → list_any is_line_feed front ≡ false → before_first is_line_feed (front ++ text) ≡ front ++ before_first is_line_feed text
+before_first-behind front text h =
+    ap (λ n. take n (front ++ text)) (position_or_len-behind front text h) ∙ take-append-add front text (position_or_len is_line_feed text)
+
+pub after_first-behind : (front text : List ℕ) → list_any is_line_feed front ≡ false → after_first is_line_feed (front ++ text) ≡ after_first is_line_feed text
+after_first-behind front text h =
+    let further : position_or_len is_line_feed (front ++ text) + 1 ≡ length front + (position_or_len is_line_feed text + 1) = omega (arith, position_or_len-behind front text h) in
+    ap (λ n. drop n (front ++ text)) further ∙ drop-append-add front text (position_or_len is_line_feed text + 1)
+
+-- a text that is not empty has a first line, which stands before the first line feed
+lines_first : (text : List ℕ) → 0 < length text → lines_of text ≡ before_first is_line_feed text ∷ lines_of (after_first is_line_feed text)
+lines_first text some = by_feed (list_any is_line_feed text) refl
+  where
+    by_feed : (b : Bool) → list_any is_line_feed text ≡ b → lines_of text ≡ before_first is_line_feed text ∷ lines_of (after_first is_line_feed text)
+    by_feed true h =
+        ap lines_of (split_at_line_feed text h)
+        ∙ lines_of-line (before_first is_line_feed text) (after_first is_line_feed text) (list_any-before_first text)
+    by_feed false h =
+        lines_of-last text h some
+        ∙ (λ i. sym (before_first-none text h) i ∷ lines_of (sym (after_first-none text h) i))
+
+-- what is given of a text begins with what is given of its first line
+pub given_first : (text : List ℕ) → 0 < length text → given_lines text ≡ given_of (before_first is_line_feed text) ∷ given_lines (after_first is_line_feed text)
+given_first text some = ap (map given_of) (lines_first text some)
 
 -- the first line feed stands within the text where there is one
 line_feed-within : (text : List ℕ) → nat_lt (position_or_len is_line_feed text) (length text) ≡ list_any is_line_feed text
@@ -107,25 +118,10 @@ is_some-position text = by_test (nat_lt (position_or_len is_line_feed text) (len
     by_test true = refl
     by_test false = refl
 
--- the place that a search finds
-position-some : (text : List ℕ) (at : ℕ) → Some at ≡ position is_line_feed text → at ≡ position_or_len is_line_feed text
-position-some text at = by_test (nat_lt (position_or_len is_line_feed text) (length text))
-  where
-    by_test : (b : Bool) → Some at ≡ cond b (Some (position_or_len is_line_feed text)) None → at ≡ position_or_len is_line_feed text
-    by_test true h = cc
-    by_test false h = cc
-
--- the line feed that a search finds stands between the bytes before it and those behind it
-pub found_between : (front text : List ℕ) (at : ℕ) → Some at ≡ position is_line_feed text → front ++ text ≡ (front ++ take at text) ++ 10 ∷ drop (at + 1) text
-found_between front text at h =
-    let found : list_any is_line_feed text ≡ true = sym (ap is_some h ∙ is_some-position text) in
-    rw (position-some text at h, append_assoc) (ap (λ l. front ++ l) (split_at_line_feed text found))
-
--- no line feed stands before the one that a search finds
-pub none_before_found : (front text : List ℕ) (at : ℕ) → Some at ≡ position is_line_feed text → list_any is_line_feed front ≡ false → list_any is_line_feed (front ++ take at text) ≡ false
-none_before_found front text at h none =
-    rw (position-some text at h) (list_any-append is_line_feed front (before_first is_line_feed text) ∙ rw (none, list_any-before_first text) refl)
+-- there is one where a search finds one
+pub some_found : (text : List ℕ) (at : ℕ) → Some at ≡ position is_line_feed text → true ≡ list_any is_line_feed text
+some_found text at h = ap is_some h ∙ is_some-position text
 
 -- there is none where a search finds none
-pub none_found : (text : List ℕ) → None ≡ position is_line_feed text → list_any is_line_feed text ≡ false
-none_found text h = sym (ap is_some h ∙ is_some-position text)
+pub none_found : (text : List ℕ) → None ≡ position is_line_feed text → false ≡ list_any is_line_feed text
+none_found text h = ap is_some h ∙ is_some-position text

@@ -1,14 +1,28 @@
 -- One step after another, of contents that are told or not.
 use Rattle.std.proofs.Common.{◌≡◌, ℕ, ◌+◌, List, [], ◌++◌, take, drop, Option, None, Some, ap, sym, ◌∙◌, append_assoc, append-nil, subst}
 use Rattle.std.proofs.Math.Seq.{take-add}
+use Rattle.std.specs.Io.KnownBytes.{Consumes}
 use Rattle.kp_io.specs.Told.{FromTold, ToTold, Grows}
 
 -- where a content is told from its start on, two steps are one
-pub FromTold-trans : (P Q R : List ℕ → List ℕ → Type 0) → ((x y z : List ℕ) → P x y → Q y z → R x z) → (a b c : Option (List ℕ)) → FromTold P a b → FromTold Q b c → FromTold R a c
+pub FromTold-trans : {X Y Z : Type 0} (P : X → Y → Type 0) (Q : Y → Z → Type 0) (R : X → Z → Type 0) → ((x : X) (y : Y) (z : Z) → P x y → Q y z → R x z) → (a : Option X) (b : Option Y) (c : Option Z) → FromTold P a b → FromTold Q b c → FromTold R a c
 FromTold-trans P Q R join None b c p q = tt
 FromTold-trans P Q R join (Some x) None c p q = absurd p
 FromTold-trans P Q R join (Some x) (Some y) None p q = absurd q
 FromTold-trans P Q R join (Some x) (Some y) (Some z) p q = join x y z p q
+
+-- what is told of a step may be told in other words
+pub FromTold-map : {X Y : Type 0} (P Q : X → Y → Type 0) → ((x : X) (y : Y) → P x y → Q x y) → (a : Option X) (b : Option Y) → FromTold P a b → FromTold Q a b
+FromTold-map P Q f None b p = tt
+FromTold-map P Q f (Some x) None p = absurd p
+FromTold-map P Q f (Some x) (Some y) p = f x y p
+
+-- one more read of a source
+pub FromTold-consumes : {X : Type 0} (P Q : X → List ℕ → Type 0) (bytes : List ℕ) → ((x : X) (y z : List ℕ) → P x y → y ≡ bytes ++ z → Q x z) → (a : Option X) (b c : Option (List ℕ)) → FromTold P a b → Consumes b c bytes → FromTold Q a c
+FromTold-consumes P Q bytes f None b c p q = tt
+FromTold-consumes P Q bytes f (Some x) None c p q = absurd p
+FromTold-consumes P Q bytes f (Some x) (Some y) None p q = absurd q
+FromTold-consumes P Q bytes f (Some x) (Some y) (Some z) p q = f x y z p q
 
 -- where a content is told up to its end, two steps are one
 pub ToTold-trans : (P Q R : List ℕ → List ℕ → Type 0) → ((x y z : List ℕ) → P x y → Q y z → R x z) → (a b c : Option (List ℕ)) → ToTold P a b → ToTold Q b c → ToTold R a c

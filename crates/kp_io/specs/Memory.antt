@@ -1,16 +1,13 @@
 -- Sources and sinks in memory (this project's choice), which tests hand to the program: they cut
 -- what they give and take into pieces, and fail where they are told to.
-use Rattle.std.specs.Prelude.{◌≡◌, ℕ, ◌+◌, ◌-◌, ◌^◌, ◌↔◌, min, Bool, true, if◌then◌else◌, List, [], Option, None, Some, Result, is_err, IsErr, Contains}
+use Rattle.std.specs.Prelude.{◌≡◌, ℕ, ◌↔◌, Bool, true, if◌then◌else◌, List, [], Option, None, Some, Result, is_err, IsErr, Contains}
+use Rattle.kp_io.specs.Faults.{one_more}
 
 -- the calls, from 1, that are to fail, and how many there were and how many of them failed
 pub record FaultPlan : Type 0 where
   pub fails : List ℕ
   pub calls : ℕ
   pub faults : ℕ
-
--- one more, or the end of the type
-abbrev pub one_more : ℕ → ℕ
-one_more count = min (count + 1) (2 ^ 64 - 1)
 
 -- the plan that no call has met yet
 abbrev pub fresh_plan : List ℕ → FaultPlan
@@ -23,10 +20,11 @@ pub record Meets {T E : Type 0} (result : Result T E) (old new : FaultPlan) : Ty
   pub failed : IsErr result ↔ Contains old.fails new.calls
   pub counted : new.faults ≡ (if is_err result then one_more old.faults else old.faults)
 
--- a source: the bytes that are left, and the most that one read gives
+-- a source: the bytes that are left, the most that one read gives, and how many reads there were
 pub record SourceParts : Type 0 where
   pub left : List ℕ
   pub piece : ℕ
+  pub asked : ℕ
 
 -- a sink: the bytes that it keeps, whether they are all that was written, how many of them were
 -- flushed, and the most that one write takes

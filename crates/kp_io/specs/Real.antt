@@ -1,7 +1,13 @@
--- Readers and writers of std, with a count of their failures.
+-- Readers and writers of std, with counts of what became of them.
 use Rattle.std.specs.Prelude.{ℕ}
 
--- a reader or a writer, and how often it has failed
+-- a reader, how often it was asked, and how often it has failed
+pub record CountedReader (X : Type 0) : Type 0 where
+  pub inner : X
+  pub asked : ℕ
+  pub faults : ℕ
+
+-- a writer, and how often it has failed
 pub record Counted (X : Type 0) : Type 0 where
   pub inner : X
   pub faults : ℕ

@@ -1,9 +1,9 @@
 -- Contents that are told or not (this project's choice). None tells nothing, and then nothing is said
 -- of it.
-use Rattle.std.specs.Prelude.{◌≡◌, ℕ, ◌≤◌, ◌<◌, List, [], ◌++◌, length, take, Option, None, Some, ⊤, Result, IfOk, OnErr}
+use Rattle.std.specs.Prelude.{◌≡◌, ℕ, ◌≤◌, ◌<◌, List, ◌++◌, length, take, Option, None, Some, ⊤, Result, IfOk, OnErr}
 
 -- where the content was told before, it is told now, and P holds of the two
-abbrev pub FromTold : (List ℕ → List ℕ → Type 0) → Option (List ℕ) → Option (List ℕ) → Type 0
+abbrev pub FromTold : {X Y : Type 0} → (X → Y → Type 0) → Option X → Option Y → Type 0
 FromTold P None now = ⊤
 FromTold P (Some before) None = ⊥
 FromTold P (Some before) (Some now) = P before now
@@ -19,12 +19,12 @@ abbrev pub Grows : Option (List ℕ) → Option (List ℕ) → List ℕ → Type
 Grows before now bytes = ToTold (λ xs ys. ys ≡ xs ++ bytes) before now
 
 -- A write takes bytes from the front of a piece, at least one of a piece that is not empty, or it
--- fails and takes none.
+-- fails and the content is what it was.
 pub record TakesFront {E : Type 0} (result : Result ℕ E) (bytes : List ℕ) (before now : Option (List ℕ)) : Type 0 where
   pub bound : IfOk result (λ n. n ≤ length bytes)
   pub some : IfOk result (λ n. 0 < length bytes → 0 < n)
   pub taken : IfOk result (λ n. Grows before now (take n bytes))
-  pub kept : OnErr result (Grows before now [])
+  pub kept : OnErr result (now ≡ before)
 
 -- no less is flushed than before, where that is told
 abbrev pub NoLess : Option ℕ → Option ℕ → Type 0

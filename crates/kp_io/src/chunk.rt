@@ -1,7 +1,7 @@
 //! The buffer that a reader hands to its source.
-ghost use Rattle.std.specs.Prelude.{◌≡◌, ◌≤◌, ℕ, [], length, drop, IfOk, OnErr};
+ghost use Rattle.std.specs.Prelude.{◌≡◌, ◌<◌, ◌≤◌, ℕ, [], length, drop, IfOk, OnErr};
 ghost use Rattle.std.specs.Io.KnownBytes.{Consumes, IsAtEnd};
-ghost use Rattle.kp_io.specs.Faults.{HasCause};
+ghost use Rattle.kp_io.specs.Faults.{HasCause, one_more};
 
 use crate::source::{Failed, Source};
 use kp_base::NoMemory;
@@ -59,18 +59,22 @@ impl Chunk {
     }
 
     /// Takes the next bytes from the source, where all of the last ones were used, and says how
-    /// many.
-    pub(crate) fn fill<S: Source>(&mut self, source: &mut S) -> Result<usize, Failed>
-        requires { self.old ≡ [] }
-        ensures count { IfOk result (λ n. (n ≡ length self.new) × (n ≤ BUFFER_SIZE)) }
+    /// many. It asks for at most so many.
+    pub(crate) fn fill<S: Source>(&mut self, most: usize, source: &mut S) -> Result<usize, Failed>
+        requires empty { self.old ≡ [] }
+        requires some { 0 < most }
+        requires room { most ≤ BUFFER_SIZE }
+        ensures count { IfOk result (λ n. (n ≡ length self.new) × (n ≤ most)) }
         ensures bytes { Consumes (S.left source.old) (S.left source.new) self.new }
         ensures ended { IfOk result (λ n. n ≡ 0 → IsAtEnd (S.left source.new)) }
         ensures err { OnErr result (self.new ≡ []) }
         ensures cause { HasCause (S.faults source.old) (S.faults source.new) result }
+        ensures asked { S.asked source.new ≡ one_more (S.asked source.old) }
     {
         self.start = 0;
         self.end = 0;
-        self.end = source.read(self.buffer.as_mut_slice())?;
+        let (room, _) = self.buffer.split_at_mut(most);
+        self.end = source.read(room)?;
         Ok(self.end)
     }
 }

@@ -1,12 +1,16 @@
 //! The search for the end of a line, from one read of the source to the next.
-ghost use Rattle.std.specs.Prelude.{◌≡◌, ◌+◌, ◌≤◌, ◌++◌, List, ℕ, Ok, true, false, length};
-ghost use Rattle.std.specs.List.{list_any, position};
-ghost use Rattle.std.specs.Io.KnownBytes.{prepend_known, IsAtEnd};
+ghost use Rattle.std.specs.Prelude.{◌≡◌, ◌+◌, ◌≤◌, ◌<◌, ℕ, [], Ok, Err, true, false, length};
+ghost use Rattle.std.specs.Prelude.{IfOk, OnOk, OnErr, IsErrOf};
+ghost use Rattle.std.specs.List.{list_any, position, before_first, after_first};
+ghost use Rattle.std.specs.Io.KnownBytes.{IsAtEnd};
 ghost use Rattle.kp_io.specs.Lines.{is_line_feed};
-ghost use Rattle.kp_io.specs.Gather.{Moves, Gathers, feeds_of};
-ghost use Rattle.kp_io.specs.Reader.{TakesInput, HasReadCause};
+ghost use Rattle.kp_io.specs.Told.{FromTold};
+ghost use Rattle.kp_io.specs.Gather.{longer, part_size, told_from, feeds_of, IsPart, Gathers};
+ghost use Rattle.kp_io.specs.Reader.{feeds_up_to, TakesInput, HasReadCause, AsksUntilFeed};
+ghost use Rattle.kp_io.specs.declared.next_line.LineFault.TheVariants.{ReadFault, TooLongLine};
 
 use crate::chunk::{BUFFER_SIZE, Chunk};
+use crate::line_part::LinePart;
 use crate::next_line::{INPUT_LIMIT, LineFault};
 use crate::source::Source;
 use kp_base::NoMemory;
@@ -20,56 +24,80 @@ fn line_feed_at(bytes: &[u8]) -> Option<usize>
 
 /// Moves the bytes before the chunk's first line feed behind those that were gathered, and takes
 /// the line feed away. Says whether there is one; else all bytes move.
-fn gather(gathered: &mut Vec<u8>, chunk: &mut Chunk) -> Result<bool, NoMemory>
-    ensures moves { Moves result (gathered.old.items ++ chunk.old) gathered.new.items chunk.new }
-    ensures unfound { result ≡ Ok false → list_any is_line_feed chunk.old ≡ false }
-    ensures line { list_any is_line_feed gathered.old.items ≡ false
-        → list_any is_line_feed gathered.new.items ≡ false }
+fn gather(part: &mut LinePart, chunk: &mut Chunk) -> Result<bool, NoMemory>
+    requires { IsPart part.old }
+    ensures whole { IfOk result (λ whole. whole ≡ list_any is_line_feed chunk.old) }
+    ensures part { OnOk result (part.new ≡ longer part.old (before_first is_line_feed chunk.old)) }
+    ensures rest { OnOk result (chunk.new ≡ after_first is_line_feed chunk.old) }
+    ensures err { OnErr result ((part.new ≡ part.old) × (chunk.new ≡ chunk.old)) }
 {
     let bytes = chunk.as_slice();
     match line_feed_at(bytes) {
         Some(at) => {
             let (line, _) = bytes.split_at(at);
-            gathered.extend_from_slice(line)?;
+            part.add(line)?;
             chunk.advance(at + 1);
             Ok(true)
         }
         None => {
             let count = bytes.len();
-            gathered.extend_from_slice(bytes)?;
+            part.add(bytes)?;
             chunk.advance(count);
             Ok(false)
         }
     }
 }
 
+/// How many bytes a reader asks for that took so many: no more than it may take, and then one more,
+/// which tells that there are too many.
+fn bytes_to_ask(taken: u64) -> usize
+    requires { taken ≤ INPUT_LIMIT }
+    ensures some { 0 < result }
+    ensures buffer { result ≤ BUFFER_SIZE }
+    ensures limit { taken < INPUT_LIMIT → taken + result ≤ INPUT_LIMIT }
+    ensures over { taken + result ≤ INPUT_LIMIT + 1 }
+{
+    if taken == INPUT_LIMIT {
+        return 1;
+    }
+    BUFFER_SIZE.min((INPUT_LIMIT - taken) as usize)
+}
+
 /// Gathers bytes up to the next line feed, and reads while there is none. Says whether there was
 /// one before the source ended.
 pub(crate) fn gather_line<S: Source>(
-    gathered: &mut Vec<u8>,
+    part: &mut LinePart,
     chunk: &mut Chunk,
     taken: &mut u64,
     source: &mut S,
 ) -> Result<bool, LineFault>
-    requires gathered { list_any is_line_feed gathered.old.items ≡ false }
+    requires part { IsPart part.old }
     requires taken { taken.old ≤ INPUT_LIMIT }
-    ensures gathers { Gathers result gathered.new.items chunk.new
-        (prepend_known (gathered.old.items ++ chunk.old) (S.left source.old)) (S.left source.new) }
-    ensures line { list_any is_line_feed gathered.new.items ≡ false }
-    ensures size { feeds_of result + length gathered.new.items + length chunk.new + taken.old
-        ≡ length gathered.old.items + length chunk.old + taken.new }
+    requires chunk { length chunk.old ≤ BUFFER_SIZE }
+    ensures part { IsPart part.new }
+    ensures chunk { length chunk.new ≤ BUFFER_SIZE }
+    ensures gathers { Gathers result part.new chunk.new
+        (told_from part.old chunk.old (S.left source.old)) (S.left source.new) }
+    ensures size { feeds_of result + part_size part.new + length chunk.new + taken.old
+        ≤ part_size part.old + length chunk.old + taken.new }
+    ensures feeds { FromTold (λ xs ys. feeds_up_to INPUT_LIMIT chunk.old taken.old xs
+        ≡ feeds_up_to INPUT_LIMIT chunk.new taken.new ys + feeds_of result)
+        (S.left source.old) (S.left source.new) }
     ensures input { TakesInput result taken.old taken.new (S.left source.old) (S.left source.new) }
-    ensures most { taken.new ≤ INPUT_LIMIT + BUFFER_SIZE }
-    ensures cause { HasReadCause result (S.faults source.old) (S.faults source.new)
-        (gathered.new.items ++ chunk.new) }
+    ensures over { INPUT_LIMIT < taken.new
+        → (taken.new ≡ INPUT_LIMIT + 1) × (length chunk.new ≡ 1) }
+    ensures cause { HasReadCause result (S.faults source.old) (S.faults source.new) }
+    ensures read { IsErrOf result ReadFault → chunk.new ≡ [] }
+    ensures other { (number : ℕ) → result ≡ Err (TooLongLine number) → ⊥ }
     ensures unasked { list_any is_line_feed chunk.old ≡ true → source.new ≡ source.old }
-    ensures ended { result ≡ Ok false → IsAtEnd (S.left source.new) }
+    ensures asked { AsksUntilFeed S.left S.asked source.old source.new }
+    ensures ended { result ≡ Ok false → IsAtEnd (S.left source.new) × (chunk.new ≡ []) }
 {
     loop {
-        if gather(gathered, chunk)? {
+        if gather(part, chunk)? {
             return Ok(true);
         }
-        let count = chunk.fill(source)?;
+        let count = chunk.fill(bytes_to_ask(*taken), source)?;
         if count == 0 {
             return Ok(false);
         }

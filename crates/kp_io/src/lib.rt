@@ -4,6 +4,8 @@
 
 mod chunk;
 mod gather;
+mod laws;
+mod line_part;
 mod line_reader;
 mod memory_sink;
 mod memory_source;
@@ -16,10 +18,11 @@ mod sure_sink;
 mod sure_source;
 
 pub use chunk::BUFFER_SIZE;
+pub use laws::limits_are_numbers;
 pub use line_reader::LineReader;
 pub use memory_sink::MemorySink;
 pub use memory_source::MemorySource;
-pub use next_line::{INPUT_LIMIT, LineFault, NextLine};
+pub use next_line::{INPUT_LIMIT, LINE_LIMIT, LineFault, NextLine};
 pub use real::{RealSink, RealSource};
 pub use sink::{Sink, write_whole};
 pub use source::{Failed, Source};

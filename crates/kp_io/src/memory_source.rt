@@ -2,7 +2,7 @@
 ghost use Rattle.std.specs.Prelude.{◌≡◌, ◌≤◌, Some, min, length, IfOk, OnErr};
 ghost use Rattle.std.specs.Io.{ReadsAtMost};
 ghost use Rattle.std.specs.Io.KnownBytes.{ReadConsumes};
-ghost use Rattle.kp_io.specs.Faults.{HasCause};
+ghost use Rattle.kp_io.specs.Faults.{HasCause, one_more};
 ghost use Rattle.kp_io.specs.Memory.{fresh_plan, Meets};
 
 use crate::plan::Plan;
@@ -46,11 +46,14 @@ impl Source for MemorySource {
 
     ghost faults = { λ s. s.plan.faults };
 
+    ghost asked = { λ s. s.plan.calls };
+
     fn read(&mut self, buf: &mut [u8]) -> Result<usize, Failed>
         ensures bound { ReadsAtMost result buf.new }
         ensures bytes { ReadConsumes
             (Some self.old.source.left) (Some self.new.source.left) result buf.new }
         ensures cause { HasCause self.old.plan.faults self.new.plan.faults result }
+        ensures asked { self.new.plan.calls ≡ one_more self.old.plan.calls }
         ensures planned { Meets result self.old.plan self.new.plan }
         ensures count { IfOk result (λ n. n
             ≡ min self.old.source.piece (min (length buf.old) (length self.old.source.left))) }

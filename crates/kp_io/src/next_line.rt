@@ -13,12 +13,18 @@ pub enum NextLine {
     End { lines: u64 },
 }
 
-/// The most bytes that a reader takes in its life.
+/// The most bytes that the input may have.
 pub const INPUT_LIMIT: u64 = 4_294_967_296;
 
-/// Why a reader gave no line.
+/// The most bytes that a line may have, without its line feed.
+pub const LINE_LIMIT: usize = 16_777_216;
+
+/// Why a reader gave no line, and not the end.
 #[derive(Clone, Copy, Debug, PartialEq, Eq)]
 pub enum LineFault {
+    /// The line of this number has more bytes than the limit. It was skipped to its end, and the
+    /// next call goes on with the next line.
+    TooLongLine { number: u64 },
     /// A read of the source failed. What was taken is kept, and the next call goes on.
     ReadFault,
     /// More bytes than the limit were taken.

@@ -1,37 +1,49 @@
 //! The real ends: std's readers and writers. What they give and take is the outside, of which
 //! nothing is told; their failures are counted.
-ghost use Rattle.std.specs.Prelude.{◌≡◌, ◌≤◌, None, take, IfOk};
-ghost use Rattle.std.specs.Io.KnownBytes.{Appends, Keeps};
-ghost use Rattle.kp_io.specs.Faults.{Rose, HasCause};
+ghost use Rattle.std.specs.Prelude.{◌≡◌, ◌≤◌, None, length, take, IfOk};
+ghost use Rattle.std.specs.Io.{ReadsAtMost};
+ghost use Rattle.std.specs.Io.KnownBytes.{Appends, Keeps, ReadConsumes, WriteAppends};
+ghost use Rattle.kp_io.specs.Faults.{Rose, HasCause, one_more};
 ghost use Rattle.kp_io.specs.Told.{TakesFront};
 
 use crate::sink::Sink;
 use crate::source::{Failed, Source};
-use std::io::{Read, Write};
+use std::io;
+use std::io::{ErrorKind, Read, Write};
 use std::marker::Model;
+
+/// How often a call that a signal interrupts is tried again before that is a failure: for ever, as
+/// far as anyone waits.
+const TRIES: u64 = u64::MAX;
 
 /// A source over a reader of std. It tells what its reader tells: of a file or a terminal, nothing.
 #[derive(Drop)]
 pub struct RealSource<R> {
     reader: R,
+    asked: u64,
     faults: u64,
 }
 
 impl<R> Model for RealSource<R> {
-    ghost use Rattle.kp_io.specs.Real.{Counted};
+    ghost use Rattle.kp_io.specs.Real.{CountedReader};
 
-    ghost Value = { Counted R };
+    ghost Value = { CountedReader R };
 
-    ghost view = { λ s. record { inner = s.reader; faults = s.faults } };
+    ghost view = { λ s. record { inner = s.reader; asked = s.asked; faults = s.faults } };
 }
 
 impl<R: Read> RealSource<R> {
     /// A source that gives what the reader gives.
     pub fn new(reader: R) -> RealSource<R>
         ensures reader { result.inner ≡ reader }
+        ensures asked { result.asked ≡ 0 }
         ensures faults { result.faults ≡ 0 }
     {
-        RealSource { reader, faults: 0 }
+        RealSource {
+            reader,
+            asked: 0,
+            faults: 0,
+        }
     }
 }
 
@@ -40,8 +52,11 @@ impl<R: Read> Source for RealSource<R> {
 
     ghost faults = { λ s. s.faults };
 
+    ghost asked = { λ s. s.asked };
+
     fn read(&mut self, buf: &mut [u8]) -> Result<usize, Failed> {
-        match self.reader.read(buf) {
+        self.asked = self.asked.saturating_add(1);
+        match read_again(&mut self.reader, buf) {
             Ok(count) => Ok(count),
             Err(_) => {
                 self.faults = self.faults.saturating_add(1);
@@ -49,6 +64,34 @@ impl<R: Read> Source for RealSource<R> {
             }
         }
     }
+}
+
+/// Reads, and again where a signal interrupts the read, which is no failure.
+fn read_again<R: Read>(reader: &mut R, buf: &mut [u8]) -> io::Result<usize>
+    ensures bound { ReadsAtMost result buf.new }
+    ensures bytes { ReadConsumes (R.remaining reader.old) (R.remaining reader.new) result buf.new }
+{
+    for _ in 0..TRIES {
+        match reader.read(buf) {
+            Err(error) if error.kind() == ErrorKind::Interrupted => {}
+            answer => return answer,
+        }
+    }
+    reader.read(buf)
+}
+
+/// Writes, and again where a signal interrupts the write, which is no failure.
+fn write_again<W: Write>(writer: &mut W, bytes: &[u8]) -> io::Result<usize>
+    ensures bound { IfOk result (λ n. n ≤ length bytes.now) }
+    ensures bytes { WriteAppends (W.contents writer.old) (W.contents writer.new) result bytes.now }
+{
+    for _ in 0..TRIES {
+        match writer.write(bytes) {
+            Err(error) if error.kind() == ErrorKind::Interrupted => {}
+            answer => return answer,
+        }
+    }
+    writer.write(bytes)
 }
 
 /// A sink over a writer of std, of whose content it tells nothing. Hand it a writer with a buffer,
@@ -100,7 +143,7 @@ impl<W: Write> Sink for RealSink<W> {
         ensures passed { IfOk result (λ n.
             Appends (W.contents self.old.inner) (W.contents self.new.inner) (take n bytes.now)) }
     {
-        match self.writer.write(bytes) {
+        match write_again(&mut self.writer, bytes) {
             Ok(0) if !bytes.is_empty() => Err(self.fail()),
             Ok(count) => Ok(count),
             Err(_) => Err(self.fail()),

@@ -87,6 +87,7 @@ impl Sink for SureSink {
             (told_bytes self.new) }
         ensures cause { HasCause 0 0 result }
         ensures sure { result ≡ Ok tt }
+        ensures same { (self.new.kept ≡ self.old.kept) × (self.new.complete ≡ self.old.complete) }
         ensures piece { self.new.piece ≡ self.old.piece }
     {
         self.flushed = self.kept.len();

@@ -2,7 +2,7 @@
 ghost use Rattle.std.specs.Prelude.{◌≡◌, ◌≤◌, Ok, Some, min, length};
 ghost use Rattle.std.specs.Io.{ReadsAtMost};
 ghost use Rattle.std.specs.Io.KnownBytes.{ReadConsumes};
-ghost use Rattle.kp_io.specs.Faults.{HasCause};
+ghost use Rattle.kp_io.specs.Faults.{HasCause, one_more};
 
 use crate::source::{Failed, Source};
 use kp_base::Items;
@@ -14,6 +14,7 @@ pub struct SureSource {
     bytes: Items<u8>,
     position: usize,
     piece: u64,
+    asked: u64,
 }
 
 impl Model for SureSource {
@@ -22,7 +23,11 @@ impl Model for SureSource {
 
     ghost Value = { SourceParts };
 
-    ghost view = { λ s. record { left = drop s.position s.bytes; piece = s.piece } };
+    ghost view = { λ s. record {
+      left = drop s.position s.bytes;
+      piece = s.piece;
+      asked = s.asked;
+    } };
 
     ghost invariant = { λ s. (s.position ≤ length s.bytes) × (1 ≤ s.piece) };
 }
@@ -33,11 +38,13 @@ impl SureSource {
         requires { 1 ≤ piece }
         ensures left { result.left ≡ bytes }
         ensures piece { result.piece ≡ piece }
+        ensures asked { result.asked ≡ 0 }
     {
         SureSource {
             bytes,
             position: 0,
             piece,
+            asked: 0,
         }
     }
 }
@@ -47,14 +54,18 @@ impl Source for SureSource {
 
     ghost faults = { λ s. 0 };
 
+    ghost asked = { λ s. s.asked };
+
     fn read(&mut self, buf: &mut [u8]) -> Result<usize, Failed>
         ensures bound { ReadsAtMost result buf.new }
         ensures bytes { ReadConsumes (Some self.old.left) (Some self.new.left) result buf.new }
         ensures cause { HasCause 0 0 result }
+        ensures asked { self.new.asked ≡ one_more self.old.asked }
         ensures sure { result
             ≡ Ok (min self.old.piece (min (length buf.old) (length self.old.left))) }
         ensures piece { self.new.piece ≡ self.old.piece }
     {
+        self.asked = self.asked.saturating_add(1);
         let (_, left) = self.bytes.as_slice().split_at(self.position);
         let count = left.len().min(buf.len()).min(self.piece as usize);
         let (given, _) = left.split_at(count);

@@ -1,22 +1,27 @@
-use Rattle.std.proofs.Common.{◌≡◌, ◌+◌, ◌-◌, ◌≤◌, ◌++◌, false, true, length}
+use Rattle.std.proofs.Common.{◌≡◌, ◌+◌, ◌-◌, ◌≤◌, ◌++◌, true, length}
 use Rattle.std.specs.List.{list_any}
-use Rattle.std.specs.Io.KnownBytes.{Keeps, prepend_known}
+use Rattle.kp_io.specs.Gather.{IsPart, part_size, given_from, told_from, LosesRead}
 use Rattle.kp_io.specs.Lines.{is_line_feed}
+use Rattle.kp_io.specs.Reader.{feeds_up_to, AsksUntilFeed}
 use Rattle.kp_io.specs.Told.{FromTold}
+use Rattle.kp_io.specs.declared.chunk.TheConstants.{BUFFER_SIZE}
 use Rattle.kp_io.specs.declared.next_line.TheConstants.{INPUT_LIMIT}
 use Rattle.kp_io.proofs.gather.gather_line.Given as goal
 
--- the text to come is what was gathered, the chunk and what is left, and the gathered bytes end no line
+-- what is to come is the part, the chunk and what is left, and only the chunk may have a line feed of what was read
 abbrev pub invariant-loop-chunk : goal.invariant-loop-chunk
 invariant-loop-chunk g l = record {
-  kept : Keeps (prepend_known (l.initial.gathered.items ++ l.initial.chunk) (g.S.Source.left l.initial.source)) (prepend_known (l.gathered.items ++ l.chunk) (g.S.Source.left l.source));
-  line : list_any is_line_feed l.gathered.items ≡ false;
-  size : length l.gathered.items + length l.chunk + l.initial.taken ≡ length l.initial.gathered.items + length l.initial.chunk + l.taken;
+  part : IsPart l.part;
+  room : length l.chunk ≤ BUFFER_SIZE;
+  kept : FromTold (λ come rest. come ≡ given_from l.part (l.chunk ++ rest)) (told_from l.initial.part l.initial.chunk (g.S.Source.left l.initial.source)) (g.S.Source.left l.source);
+  size : part_size l.part + length l.chunk + l.initial.taken ≤ part_size l.initial.part + length l.initial.chunk + l.taken;
+  feeds : FromTold (λ xs ys. feeds_up_to INPUT_LIMIT l.initial.chunk l.initial.taken xs ≡ feeds_up_to INPUT_LIMIT l.chunk l.taken ys) (g.S.Source.left l.initial.source) (g.S.Source.left l.source);
+  read : FromTold (LosesRead l.initial.taken l.taken l.chunk) (g.S.Source.left l.initial.source) (g.S.Source.left l.source);
   more : l.initial.taken ≤ l.taken;
-  all : FromTold (λ xs ys. length xs + l.initial.taken ≡ length ys + l.taken) (g.S.Source.left l.initial.source) (g.S.Source.left l.source);
   most : l.taken ≤ INPUT_LIMIT;
-  later : g.S.Source.faults l.initial.source ≤ g.S.Source.faults l.source;
+  same : g.S.Source.faults l.source ≡ g.S.Source.faults l.initial.source;
   unasked : list_any is_line_feed l.initial.chunk ≡ true → (l.source ≡ l.initial.source) × (l.chunk ≡ l.initial.chunk);
+  asked : AsksUntilFeed g.S.Source.left g.S.Source.asked l.initial.source l.source;
 }
 
 -- each turn but the last takes at least one byte
