@@ -1,95 +1,120 @@
 -- How far the program has come, from one line to the next.
-use Rattle.std.proofs.Common.{◌≡◌, ◌+◌, ◌^◌, ◌<◌, ◌≤◌, length, arith, ℕ, suc, List, [], ◌∷◌, ◌++◌, take, drop, ap, sym, refl, ◌∙◌, subst, add-one, append-nil, append_assoc, take-append-drop}
-use Rattle.std.specs.Prelude.{Option, Some, None, IfSome, Result, OnErr, Bool, true, false, ◌||◌}
+use Rattle.std.proofs.Common.{◌≡◌, ◌+◌, ◌<◌, ◌≤◌, length, arith, ℕ, suc, Bool, true, false, cond, List, [], ◌∷◌, ◌++◌, map, take, drop, ap, sym, refl, ◌∙◌, subst, add-one, append-nil, append_assoc, take-append-drop, length-append}
+use Rattle.std.specs.Prelude.{Option, Some, None, IfSome, Result, OnErr, ◌||◌, nat_lt}
 use Rattle.std.specs.Io.KnownBytes.{IsAtEnd}
-use Rattle.std.proofs.Math.Seq.{take-append_seam}
 use Rattle.std.specs.List.{fold}
+use Rattle.std.proofs.Math.Seq.{take-append_seam}
 use Rattle.std.proofs.lemmas.List.Sums.{fold-append}
 use Rattle.kp_io.specs.Told.{Grows, FromTold}
-use Rattle.kp_io.specs.Lines.{LosesLine, lines_of}
-use Rattle.kp_io.specs.Reader.{ReaderState, fresh_reader, to_come, HandedOut, answers_unasked}
-use Rattle.kp_io.proofs.HandedOut.{handed_none, handed_line, handed_all}
+use Rattle.kp_io.specs.Lines.{lines_of, given_of, given_lines}
+use Rattle.kp_io.specs.Reader.{ReaderState, LosesTaken, fresh_reader, to_come, HandedOut, answers_unasked}
+use Rattle.kp_io.specs.declared.next_line.TheConstants.{INPUT_LIMIT, LINE_LIMIT}
+use Rattle.kp_io.proofs.HandedOut.{handed_none, handed_given, handed_all}
 use Rattle.kp_io.proofs.Told.{Grows-nil, Grows-trans, FromTold-trans}
-use Rattle.kp_run_defs.specs.ReplayText.{Standing, Progress, beginning, at_start, after_line, replay_of, line_at}
-use Rattle.kp_io.specs.declared.next_line.TheConstants.{INPUT_LIMIT}
-use Rattle.kp_run.specs.Steps.{IsReady}
+use Rattle.kp_text_defs.specs.declared.line_refusal.LineRefusal.TheVariants.{TooLongLine}
+use Rattle.kp_run_defs.specs.ReplayText.{Standing, Line, Progress, beginning, at_start, with_line, after_line, replay_of, line_at, refuse, short_line}
 use Rattle.kp_run.specs.Outcome.{Come, TakesLine, WritesAll, WritesFront, GrowsFront}
+use Rattle.kp_run.specs.Steps.{IsReady, given_line, after_given, replay_given}
 use Rattle.kp_run.proofs.FirstLines.{next_ready}
+
+-- ---- Lines and lines as they are given
+
+by_size : (number : ℕ) (bytes : List ℕ) (s : Standing) (b : Bool) → cond b (refuse number TooLongLine (record s { fresh = false })) (short_line number bytes s) ≡ given_line number (cond b None (Some bytes)) s
+by_size number bytes s true = refl
+by_size number bytes s false = refl
+
+line_given : (number : ℕ) (bytes : List ℕ) (s : Standing) → line_at number bytes s ≡ given_line number (given_of bytes) s
+line_given number bytes s = by_size number bytes s (nat_lt LINE_LIMIT (length bytes))
+
+lines_given : (r : Progress) (lines : List (List ℕ)) → fold after_line r lines ≡ fold after_given r (map given_of lines)
+lines_given r [] = refl
+lines_given r (bytes ∷ lines) =
+    lines_given (after_line r bytes) lines
+    ∙ ap (λ l. fold after_given (with_line r l) (map given_of lines)) (line_given (suc r.number) bytes r.at)
+
+-- the replay of a text whose lines were given so
+whole_text : (text : List ℕ) (given : List (Option (List ℕ))) → given_lines text ≡ given → replay_of (lines_of text) ≡ replay_given given
+whole_text text given all = lines_given at_start (lines_of text) ∙ ap replay_given all
+
+-- ---- From one line to the next
 
 -- before the first line
 pub come_none : (s : Standing) (left written : Option (List ℕ)) → s ≡ beginning → Come s 0 left (to_come fresh_reader left) written written
-come_none s left written st = record { lines = []; handed = handed_none left; stands = st; ready = subst IsReady (sym st) (λ e. record { events = refl; counts = refl }); grown = Grows-nil written; counted = refl }
+come_none s left written st = record { given = []; handed = handed_none left; stands = st; ready = subst IsReady (sym st) (λ e. record { events = refl; counts = refl }); grown = Grows-nil written; counted = refl }
 
-one_more : (lines : List (List ℕ)) (bytes : List ℕ) → replay_of (lines ++ bytes ∷ []) ≡ after_line (replay_of lines) bytes
-one_more lines bytes = fold-append after_line at_start lines (bytes ∷ [])
+one_more : (given : List (Option (List ℕ))) (one : Option (List ℕ)) → replay_given (given ++ one ∷ []) ≡ after_given (replay_given given) one
+one_more given one = fold-append after_given at_start given (one ∷ [])
 
 -- the line of a number at a place, as the replay takes it
-same_line : (p : Progress) (number : ℕ) (bytes : List ℕ) (s : Standing) → s ≡ p.at → number ≡ suc p.number → line_at number bytes s ≡ line_at (suc p.number) bytes p.at
-same_line p number bytes s at one = λ i. line_at (one i) bytes (at i)
+same_line : (p : Progress) (number : ℕ) (one : Option (List ℕ)) (s : Standing) → s ≡ p.at → number ≡ suc p.number → given_line number one s ≡ given_line (suc p.number) one p.at
+same_line p number one s at next = λ i. given_line (next i) one (at i)
 
 -- one more line
-pub come_more : (s new : Standing) (n number : ℕ) (bytes : List ℕ) (left rest after written now later : Option (List ℕ)) → Come s n left rest written now → number ≡ n + 1 → FromTold (LosesLine bytes) rest after
-    → TakesLine (line_at number bytes s) new now later → Come new number left after written later
-come_more s new n number bytes left rest after written now later come one loses takes =
-    let p = replay_of come.lines in
-    let next : number ≡ suc p.number = one ∙ add-one n ∙ ap suc (sym come.counted) in
-    let same = same_line p number bytes s come.stands next in
+pub come_more : (s new : Standing) (n number : ℕ) (one : Option (List ℕ)) (left : Option (List ℕ)) (rest after : Option (List (Option (List ℕ)))) (written now later : Option (List ℕ)) → Come s n left rest written now → number ≡ n + 1 → FromTold (λ xs ys. xs ≡ one ∷ ys) rest after
+    → TakesLine (given_line number one s) new now later → Come new number left after written later
+come_more s new n number one left rest after written now later come count loses takes =
+    let p = replay_given come.given in
+    let next : number ≡ suc p.number = count ∙ add-one n ∙ ap suc (sym come.counted) in
+    let same = same_line p number one s come.stands next in
     record {
-      lines = come.lines ++ bytes ∷ [];
-      handed = handed_line come.lines bytes left rest after come.handed loses;
-      stands = takes.stands ∙ ap (λ l. l.next) same ∙ ap (λ q. q.at) (sym (one_more come.lines bytes));
-      ready = subst IsReady (sym takes.stands) (next_ready number bytes s come.ready);
+      given = come.given ++ one ∷ [];
+      handed = handed_given come.given one left rest after come.handed loses;
+      stands = takes.stands ∙ ap (λ l. l.next) same ∙ ap (λ q. q.at) (sym (one_more come.given one));
+      ready = subst IsReady (sym takes.stands) (next_ready number one s come.ready);
       grown =
-          subst (λ q. Grows written later q.text) (sym (one_more come.lines bytes))
+          subst (λ q. Grows written later q.text) (sym (one_more come.given one))
           (subst (λ l. Grows written later (p.text ++ l.text)) same (Grows-trans written now later _ _ come.grown takes.grown));
-      counted = ap (λ q. q.number) (one_more come.lines bytes) ∙ sym next;
+      counted = ap (λ q. q.number) (one_more come.given one) ∙ sym next;
     }
 
-finished : (limit taken : ℕ) (s : Standing) (left end written now : Option (List ℕ)) (lines : List (List ℕ)) → limit ≡ INPUT_LIMIT → s ≡ (replay_of lines).at → Grows written now (replay_of lines).text → IfSome left (λ text. lines_of text ≡ lines)
+finished : (limit taken : ℕ) (s : Standing) (left end written now : Option (List ℕ)) (given : List (Option (List ℕ))) → limit ≡ INPUT_LIMIT → s ≡ (replay_given given).at → Grows written now (replay_given given).text → IfSome left (λ text. given_lines text ≡ given)
     → FromTold (λ xs ys. length xs ≡ length ys + taken) left end → IsAtEnd end → taken ≤ limit → IfSome left (λ text. WritesAll s.refused text written now)
-finished limit taken s None end written now lines same st grown all took ended short = tt
-finished limit taken s (Some text) None written now lines same st grown all took ended short = absurd took
-finished limit taken s (Some text) (Some ys) written now lines same st grown all took ended short =
+finished limit taken s None end written now given same st grown all took ended short = tt
+finished limit taken s (Some text) None written now given same st grown all took ended short = absurd took
+finished limit taken s (Some text) (Some ys) written now given same st grown all took ended short =
+    let whole = whole_text text given all in
     record {
-      grown = subst (λ ls. Grows written now (replay_of ls).text) (sym all) grown;
-      told = subst (λ ls. s.refused ≡ (replay_of ls).at.refused) (sym all) (ap (λ t. t.refused) st);
+      grown = subst (λ p. Grows written now p.text) (sym whole) grown;
+      told = ap (λ t. t.refused) st ∙ ap (λ p. p.at.refused) (sym whole);
       short = subst (λ l. length text ≤ l) same (omega (arith, took, ap length ended, short));
     }
 
 -- at the end
-pub come_all : (s : Standing) (n taken : ℕ) (left rest after end written now : Option (List ℕ)) → Come s n left rest written now → FromTold (λ text rest. (text ≡ []) × (rest ≡ [])) rest after
+pub come_all : (s : Standing) (n taken : ℕ) (left : Option (List ℕ)) (rest after : Option (List (Option (List ℕ)))) (end written now : Option (List ℕ)) → Come s n left rest written now → FromTold (λ old new. (old ≡ []) × (new ≡ [])) rest after
     → FromTold (λ xs ys. length xs ≡ length ys + taken) left end → IsAtEnd end → taken ≤ INPUT_LIMIT → IfSome left (λ text. WritesAll s.refused text written now)
 come_all s n taken left rest after end written now come ended took is_end short =
-    finished INPUT_LIMIT taken s left end written now come.lines refl come.stands come.grown (handed_all come.lines left rest after come.handed ended) took is_end short
+    finished INPUT_LIMIT taken s left end written now come.given refl come.stands come.grown (handed_all come.given left rest after come.handed ended) took is_end short
+
+-- ---- Fronts
 
 -- what was written is a front of a text that begins with it
 pub front_is : (whole x rest : List ℕ) (written now : Option (List ℕ)) → whole ≡ x ++ rest → Grows written now x → GrowsFront written now whole
 front_is whole x rest written now e grown = (length x, subst (Grows written now) (sym (ap (take (length x)) e ∙ take-append_seam x rest)) grown)
 
 -- more lines only add to the text
-text_grows : (p : Progress) (ls : List (List ℕ)) → (ys : List ℕ) × ((fold after_line p ls).text ≡ p.text ++ ys)
+text_grows : (p : Progress) (more : List (Option (List ℕ))) → (ys : List ℕ) × ((fold after_given p more).text ≡ p.text ++ ys)
 text_grows p [] = ([], sym (append-nil p.text))
-text_grows p (l ∷ ls) =
-    let step = line_at (suc p.number) l p.at in
-    let more = text_grows (after_line p l) ls in
+text_grows p (one ∷ ones) =
+    let step = given_line (suc p.number) one p.at in
+    let more = text_grows (after_given p one) ones in
     (step.text ++ more.0, more.1 ∙ append_assoc p.text step.text more.0)
 
-all_text : (lines more : List (List ℕ)) → (ys : List ℕ) × ((replay_of (lines ++ more)).text ≡ (replay_of lines).text ++ ys)
-all_text lines more =
-    let grows = text_grows (replay_of lines) more in
-    (grows.0, ap (λ p. p.text) (fold-append after_line at_start lines more) ∙ grows.1)
+all_text : (given more : List (Option (List ℕ))) → (ys : List ℕ) × ((replay_given (given ++ more)).text ≡ (replay_given given).text ++ ys)
+all_text given more =
+    let grows = text_grows (replay_given given) more in
+    (grows.0, ap (λ p. p.text) (fold-append after_given at_start given more) ∙ grows.1)
 
 -- the text of the lines that were handed out is a front of the whole
-front_of : (lines : List (List ℕ)) (left rest written now : Option (List ℕ)) → HandedOut lines left rest → Grows written now (replay_of lines).text → WritesFront left written now
-front_of lines None rest written now handed grown = tt
-front_of lines (Some text) None written now handed grown = absurd handed
-front_of lines (Some text) (Some ys) written now handed grown =
-    let all = all_text lines (lines_of ys) in
-    front_is (replay_of (lines_of text)).text (replay_of lines).text all.0 written now (ap (λ ls. (replay_of ls).text) handed ∙ all.1) grown
+front_of : (given : List (Option (List ℕ))) (left : Option (List ℕ)) (rest : Option (List (Option (List ℕ)))) (written now : Option (List ℕ)) → HandedOut given left rest → Grows written now (replay_given given).text → WritesFront left written now
+front_of given None rest written now handed grown = tt
+front_of given (Some text) None written now handed grown = absurd handed
+front_of given (Some text) (Some more) written now handed grown =
+    let all = all_text given more in
+    front_is (replay_of (lines_of text)).text (replay_given given).text all.0 written now (ap (λ p. p.text) (whole_text text (given ++ more) handed) ∙ all.1) grown
 
 -- before a line
-pub come_front : (s : Standing) (n : ℕ) (left rest written now : Option (List ℕ)) → Come s n left rest written now → WritesFront left written now
-come_front s n left rest written now come = front_of come.lines left rest written now come.handed come.grown
+pub come_front : (s : Standing) (n : ℕ) (left : Option (List ℕ)) (rest : Option (List (Option (List ℕ)))) (written now : Option (List ℕ)) → Come s n left rest written now → WritesFront left written now
+come_front s n left rest written now come = front_of come.given left rest written now come.handed come.grown
 
 part_is : (a b z : List ℕ) (k : ℕ) → (a ++ b) ++ z ≡ (a ++ take k b) ++ (drop k b ++ z)
 part_is a b z k =
@@ -97,36 +122,41 @@ part_is a b z k =
     ∙ ap (λ x. x ++ z) (sym (append_assoc a (take k b) (drop k b)))
     ∙ append_assoc (a ++ take k b) (drop k b) z
 
-part_of : (lines : List (List ℕ)) (bytes : List ℕ) (left after written now later : Option (List ℕ)) → HandedOut (lines ++ bytes ∷ []) left after → Grows written now (replay_of lines).text
-    → GrowsFront now later (line_at (suc (replay_of lines).number) bytes (replay_of lines).at).text → WritesFront left written later
-part_of lines bytes None after written now later handed grown front = tt
-part_of lines bytes (Some text) None written now later handed grown front = absurd handed
-part_of lines bytes (Some text) (Some ys) written now later handed grown front =
-    let p = replay_of lines in
-    let step = line_at (suc p.number) bytes p.at in
-    let all = all_text (lines ++ bytes ∷ []) (lines_of ys) in
+part_of : (given : List (Option (List ℕ))) (one : Option (List ℕ)) (left : Option (List ℕ)) (after : Option (List (Option (List ℕ)))) (written now later : Option (List ℕ)) → HandedOut (given ++ one ∷ []) left after → Grows written now (replay_given given).text
+    → GrowsFront now later (given_line (suc (replay_given given).number) one (replay_given given).at).text → WritesFront left written later
+part_of given one None after written now later handed grown front = tt
+part_of given one (Some text) None written now later handed grown front = absurd handed
+part_of given one (Some text) (Some more) written now later handed grown front =
+    let p = replay_given given in
+    let step = given_line (suc p.number) one p.at in
+    let all = all_text (given ++ one ∷ []) more in
     front_is (replay_of (lines_of text)).text (p.text ++ take front.0 step.text) (drop front.0 step.text ++ all.0) written later
-    (ap (λ ls. (replay_of ls).text) handed ∙ all.1 ∙ ap (λ q. q.text ++ all.0) (one_more lines bytes) ∙ part_is p.text step.text all.0 front.0)
+    (ap (λ q. q.text) (whole_text text ((given ++ one ∷ []) ++ more) handed) ∙ all.1 ∙ ap (λ q. q.text ++ all.0) (one_more given one) ∙ part_is p.text step.text all.0 front.0)
     (Grows-trans written now later p.text (take front.0 step.text) grown front.1)
 
 -- within a line
-pub come_part : (s : Standing) (n number : ℕ) (bytes : List ℕ) (left rest after written now later : Option (List ℕ)) → Come s n left rest written now → number ≡ n + 1 → FromTold (LosesLine bytes) rest after
-    → GrowsFront now later (line_at number bytes s).text → WritesFront left written later
-come_part s n number bytes left rest after written now later come one loses front =
-    let p = replay_of come.lines in
-    let next : number ≡ suc p.number = one ∙ add-one n ∙ ap suc (sym come.counted) in
-    part_of come.lines bytes left after written now later (handed_line come.lines bytes left rest after come.handed loses) come.grown
-    (subst (λ l. GrowsFront now later l.text) (same_line p number bytes s come.stands next) front)
+pub come_part : (s : Standing) (n number : ℕ) (one : Option (List ℕ)) (left : Option (List ℕ)) (rest after : Option (List (Option (List ℕ)))) (written now later : Option (List ℕ)) → Come s n left rest written now → number ≡ n + 1 → FromTold (λ xs ys. xs ≡ one ∷ ys) rest after
+    → GrowsFront now later (given_line number one s).text → WritesFront left written later
+come_part s n number one left rest after written now later come count loses front =
+    let p = replay_given come.given in
+    let next : number ≡ suc p.number = count ∙ add-one n ∙ ap suc (sym come.counted) in
+    part_of come.given one left after written now later (handed_given come.given one left rest after come.handed loses) come.grown
+    (subst (λ l. GrowsFront now later l.text) (same_line p number one s come.stands next) front)
+
+-- ---- What was taken
 
 -- nothing was taken yet
 pub taken_none : (left : Option (List ℕ)) → FromTold (λ xs ys. length xs ≡ length ys + 0) left left
 taken_none None = tt
 taken_none (Some xs) = omega arith
 
+longer : (x y z bytes : List ℕ) (old new : ℕ) → length x ≡ length y + old → y ≡ bytes ++ z → old + length bytes ≡ new → length x ≡ length z + new
+longer x y z bytes old new e front size = omega (arith, e, ap length front ∙ length-append bytes z, size)
+
 -- what one more call took
-pub taken_more : (a b c : Option (List ℕ)) (old new : ℕ) → FromTold (λ xs ys. length xs ≡ length ys + old) a b → FromTold (λ xs ys. length xs + old ≡ length ys + new) b c → FromTold (λ xs ys. length xs ≡ length ys + new) a c
+pub taken_more : (a b c : Option (List ℕ)) (old new : ℕ) → FromTold (λ xs ys. length xs ≡ length ys + old) a b → FromTold (LosesTaken old new) b c → FromTold (λ xs ys. length xs ≡ length ys + new) a c
 taken_more a b c old new p q =
-    FromTold-trans (λ xs ys. length xs ≡ length ys + old) (λ xs ys. length xs + old ≡ length ys + new) (λ xs ys. length xs ≡ length ys + new) (λ x y z e f. omega arith) a b c p q
+    FromTold-trans (λ xs ys. length xs ≡ length ys + old) (LosesTaken old new) (λ xs ys. length xs ≡ length ys + new) (λ x y z e l. longer x y z l.bytes old new e l.front l.size) a b c p q
 
 -- an input of which more than the limit was taken is longer than that
 pub too_long : (limit : ℕ) (a c : Option (List ℕ)) (new : ℕ) → FromTold (λ xs ys. length xs ≡ length ys + new) a c → limit < new → IfSome a (λ text. limit < length text)

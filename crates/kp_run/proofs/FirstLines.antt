@@ -16,8 +16,8 @@ use Rattle.kp_text_defs.specs.declared.script.Op.{Op}
 use Rattle.kp_text_defs.specs.declared.script.Op.TheVariants as op
 use Rattle.kp_text_defs.specs.declared.script.ScriptLine.{ScriptLine}
 use Rattle.kp_text_defs.specs.declared.stream.Stream.{Stream}
-use Rattle.kp_run_defs.specs.ReplayText.{Standing, Line, refuse, quiet, events_line, sync_line, op_line, read_line, script_line, short_line, line_at, is_blank, is_too_long}
-use Rattle.kp_run.specs.Steps.{HasNoEvents, IsReady, MayTake}
+use Rattle.kp_run_defs.specs.ReplayText.{Standing, Line, refuse, quiet, events_line, sync_line, op_line, read_line, script_line, is_blank}
+use Rattle.kp_run.specs.Steps.{HasNoEvents, IsReady, MayTake, given_line}
 
 -- ---- What is read from a later line
 
@@ -124,9 +124,8 @@ either true x y h k = h
 either false x y h k = k
 
 -- behind a line the next one may come
-pub next_ready : (number : ℕ) (bytes : List ℕ) (s : Standing) → IsReady s → IsReady (line_at number bytes s).next
-next_ready number bytes s ready =
-    let later = record s { fresh = false } in
-    either (is_too_long bytes) (refuse number TooLongLine later) (short_line number bytes s) (no_longer (refuse number TooLongLine later).next refl)
-    (either (is_blank bytes) (quiet s) (script_line number bytes s) ready
-    (no_longer (script_line number bytes s).next (read_fresh number (line_of bytes s.fresh) later)))
+pub next_ready : (number : ℕ) (given : Option (List ℕ)) (s : Standing) → IsReady s → IsReady (given_line number given s).next
+next_ready number None s ready = no_longer (refuse number TooLongLine (record s { fresh = false })).next refl
+next_ready number (Some bytes) s ready =
+    either (is_blank bytes) (quiet s) (script_line number bytes s) ready
+    (no_longer (script_line number bytes s).next (read_fresh number (line_of bytes s.fresh) (record s { fresh = false })))

@@ -11,19 +11,19 @@ use Rattle.kp_text_defs.specs.Printed.{usage_text}
 use Rattle.kp_run_defs.specs.ReplayText.{Standing, Line, replay_of}
 use Rattle.kp_run.specs.declared.status.Status.{Status}
 use Rattle.kp_run.specs.declared.status.Status.TheVariants.{Done, NoMemory, Usage, LinesRefused, ReadFault, WriteFault, InputTooLong}
-use Rattle.kp_run.specs.Steps.{IsReady}
+use Rattle.kp_run.specs.Steps.{IsReady, replay_given}
 
 -- ---- On the way
 
--- How far the program has come: the lines that were handed out, where it stands after them, ready for the next one,
--- and what it has written.
-pub record Come (s : Standing) (number : ℕ) (input rest written now : Option (List ℕ)) : Type 0 where
-  pub lines : List (List ℕ)
-  pub handed : HandedOut lines input rest
-  pub stands : s ≡ (replay_of lines).at
+-- How far the program has come: the lines that were given, where it stands after them, ready for the next one, and
+-- what it has written.
+pub record Come (s : Standing) (number : ℕ) (input : Option (List ℕ)) (rest : Option (List (Option (List ℕ)))) (written now : Option (List ℕ)) : Type 0 where
+  pub given : List (Option (List ℕ))
+  pub handed : HandedOut given input rest
+  pub stands : s ≡ (replay_given given).at
   pub ready : IsReady s
-  pub grown : Grows written now (replay_of lines).text
-  pub counted : (replay_of lines).number ≡ number
+  pub grown : Grows written now (replay_given given).text
+  pub counted : (replay_given given).number ≡ number
 
 -- the program stands where a line leads, and has written what the line prints
 pub record TakesLine (line : Line) (new : Standing) (written now : Option (List ℕ)) : Type 0 where

@@ -1,6 +1,8 @@
 -- What a replay shows, and what a line does to it.
-use Rattle.std.specs.Prelude.{◌≡◌, ◌++◌, ℕ, true, List, [], ⊤}
-use Rattle.kp_run_defs.specs.ReplayText.{Standing, Line}
+use Rattle.std.specs.Prelude.{◌≡◌, ◌++◌, ℕ, suc, true, false, List, [], Option, Some, None, ⊤}
+use Rattle.std.specs.List.{fold}
+use Rattle.kp_run_defs.specs.ReplayText.{Standing, Line, Progress, at_start, with_line, refuse, short_line}
+use Rattle.kp_text_defs.specs.declared.line_refusal.LineRefusal.TheVariants.{TooLongLine}
 use Rattle.kp_text_defs.specs.declared.script.Op.{Op}
 use Rattle.kp_text_defs.specs.declared.script.Op.TheVariants as op
 use Rattle.kp_run.specs.declared.replay.Replay.{Replay}
@@ -24,6 +26,19 @@ pub record HasNoEvents (s : Standing) : Type 0 where
 -- before the first line there are no events
 abbrev pub IsReady : Standing → Type 0
 IsReady s = s.fresh ≡ true → HasNoEvents s
+
+-- a line as a reader gives it: nothing of one that is too long
+abbrev pub given_line : ℕ → Option (List ℕ) → Standing → Line
+given_line number None s = refuse number TooLongLine (record s { fresh = false })
+given_line number (Some bytes) s = short_line number bytes s
+
+-- one more line as it is given
+abbrev pub after_given : Progress → Option (List ℕ) → Progress
+after_given r given = with_line r (given_line (suc r.number) given r.at)
+
+-- the replay of lines as they are given
+abbrev pub replay_given : List (Option (List ℕ)) → Progress
+replay_given given = fold after_given at_start given
 
 -- what is asked for may come: a configuration before all events
 abbrev pub MayTake : Standing → Op → Type 0

@@ -4,10 +4,9 @@ ghost use Rattle.kp_io.specs.Faults.{Rose};
 ghost use Rattle.kp_io.specs.Told.{Grows, IsFlushed};
 ghost use Rattle.kp_run.specs.Outcome as outcome;
 ghost use Rattle.kp_run.specs.declared.ending.Stop.{Stop};
-ghost use Rattle.kp_io.specs.declared.next_line.LineFault.{LineFault};
 
 use crate::status::Status;
-use kp_io::{LineFault, Sink, write_whole};
+use kp_io::{Sink, write_whole};
 use kp_report::usage_text;
 
 /// Why a replay stopped before the end of its input.
@@ -15,7 +14,8 @@ use kp_report::usage_text;
 pub(crate) enum Stop {
     NoMemory,
     Write,
-    Read(LineFault),
+    Read,
+    InputTooLong,
 }
 
 /// Writes a text whole, or a front of it.

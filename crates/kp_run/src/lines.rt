@@ -1,11 +1,10 @@
 //! A replay of lines.
-ghost use Rattle.std.specs.Prelude.{◌≡◌, ◌≤◌, ℕ, Err, IfSome, IfOk, OnOk, OnErr};
+ghost use Rattle.std.specs.Prelude.{◌≡◌, ◌≤◌, Some, None, Err, IfSome, IfOk, OnOk, OnErr};
 ghost use Rattle.kp_io.specs.Faults.{Rose};
 ghost use Rattle.kp_io.specs.Reader.{fresh_reader};
-ghost use Rattle.kp_io.specs.declared.next_line.LineFault.{LineFault};
 ghost use Rattle.kp_run_defs.specs.ReplayText as spec;
 ghost use Rattle.kp_run.specs.Outcome as outcome;
-ghost use Rattle.kp_run.specs.Steps.{standing_of, IsReady};
+ghost use Rattle.kp_run.specs.Steps.{standing_of, given_line, IsReady};
 ghost use Rattle.kp_run.specs.declared.ending.Stop.{Stop};
 
 use crate::ending::{Stop, flushed, if_refused, write_text};
@@ -25,10 +24,10 @@ pub fn replay_one<S: Source, K: Sink>(alloc: Global, source: &mut S, sink: &mut 
 {
     match replay_all(alloc, source, sink) {
         Ok(refused) => flushed(sink, if_refused(refused)),
-        Err(Stop::NoMemory | Stop::Read(LineFault::NoMemory)) => Status::NoMemory,
+        Err(Stop::NoMemory) => Status::NoMemory,
         Err(Stop::Write) => Status::WriteFault,
-        Err(Stop::Read(LineFault::ReadFault)) => flushed(sink, Status::ReadFault),
-        Err(Stop::Read(LineFault::InputTooLong)) => flushed(sink, Status::InputTooLong),
+        Err(Stop::Read) => flushed(sink, Status::ReadFault),
+        Err(Stop::InputTooLong) => flushed(sink, Status::InputTooLong),
     }
 }
 
@@ -41,10 +40,8 @@ fn replay_all<S: Source, K: Sink>(alloc: Global, source: &mut S, sink: &mut K) -
     ensures later { K.faults sink.old ≤ K.faults sink.new }
     ensures read_later { S.faults source.old ≤ S.faults source.new }
     ensures write { result ≡ Err Stop.Write → Rose (K.faults sink.old) (K.faults sink.new) }
-    ensures read { result ≡ Err (Stop.Read LineFault.ReadFault)
-        → Rose (S.faults source.old) (S.faults source.new) }
-    ensures long { result ≡ Err (Stop.Read LineFault.InputTooLong)
-        → outcome.IsTooLong (S.left source.old) }
+    ensures read { result ≡ Err Stop.Read → Rose (S.faults source.old) (S.faults source.new) }
+    ensures long { result ≡ Err Stop.InputTooLong → outcome.IsTooLong (S.left source.old) }
 {
     let (mut replay, mut reader) = match begin(alloc) {
         Ok(both) => both,
@@ -80,10 +77,8 @@ fn replay_lines<S: Source, K: Sink>(
     ensures later { K.faults sink.old ≤ K.faults sink.new }
     ensures read_later { S.faults source.old ≤ S.faults source.new }
     ensures write { result ≡ Err Stop.Write → Rose (K.faults sink.old) (K.faults sink.new) }
-    ensures read { result ≡ Err (Stop.Read LineFault.ReadFault)
-        → Rose (S.faults source.old) (S.faults source.new) }
-    ensures long { result ≡ Err (Stop.Read LineFault.InputTooLong)
-        → outcome.IsTooLong (S.left source.old) }
+    ensures read { result ≡ Err Stop.Read → Rose (S.faults source.old) (S.faults source.new) }
+    ensures long { result ≡ Err Stop.InputTooLong → outcome.IsTooLong (S.left source.old) }
 {
     let mut text = String::new(alloc);
     'lines: loop {
@@ -91,8 +86,13 @@ fn replay_lines<S: Source, K: Sink>(
             Ok(NextLine::Line { number }) => {
                 replay_line(alloc, replay, number, reader.bytes(), &mut text, sink)?;
             }
+            Err(LineFault::TooLongLine { number }) => {
+                replay_long_line(alloc, replay, number, &mut text, sink)?;
+            }
             Ok(NextLine::End { lines: _ }) => return Ok(()),
-            Err(fault) => return Err(Stop::Read(fault)),
+            Err(LineFault::ReadFault) => return Err(Stop::Read),
+            Err(LineFault::InputTooLong) => return Err(Stop::InputTooLong),
+            Err(LineFault::NoMemory) => return Err(Stop::NoMemory),
         }
     }
 }
@@ -108,16 +108,42 @@ fn replay_line<K: Sink>(
 ) -> Result<(), Stop>
     requires { IsReady (standing_of replay.old) }
     ensures whole { OnOk result (outcome.TakesLine
-        (spec.line_at number bytes.now (standing_of replay.old)) (standing_of replay.new)
+        (given_line number (Some bytes.now) (standing_of replay.old)) (standing_of replay.new)
         (K.written sink.old) (K.written sink.new)) }
     ensures front { OnErr result (outcome.GrowsFront (K.written sink.old) (K.written sink.new)
-        (spec.line_at number bytes.now (standing_of replay.old)).text) }
+        (given_line number (Some bytes.now) (standing_of replay.old)).text) }
     ensures later { K.faults sink.old ≤ K.faults sink.new }
     ensures write { result ≡ Err Stop.Write → Rose (K.faults sink.old) (K.faults sink.new) }
-    ensures read { (fault : LineFault) → result ≡ Err (Stop.Read fault) → ⊥ }
+    ensures read { result ≡ Err Stop.Read → ⊥ }
+    ensures long { result ≡ Err Stop.InputTooLong → ⊥ }
 {
     text.clear();
     match replay.take_line(alloc, number, bytes, text) {
+        Ok(()) => write_text(sink, text.as_bytes()),
+        Err(NoMemory) => Err(Stop::NoMemory),
+    }
+}
+
+/// Refuses a line that is too long, and writes so.
+fn replay_long_line<K: Sink>(
+    alloc: Global,
+    replay: &mut Replay,
+    number: u64,
+    text: &mut String,
+    sink: &mut K,
+) -> Result<(), Stop>
+    ensures whole { OnOk result (outcome.TakesLine
+        (given_line number None (standing_of replay.old)) (standing_of replay.new)
+        (K.written sink.old) (K.written sink.new)) }
+    ensures front { OnErr result (outcome.GrowsFront (K.written sink.old) (K.written sink.new)
+        (given_line number None (standing_of replay.old)).text) }
+    ensures later { K.faults sink.old ≤ K.faults sink.new }
+    ensures write { result ≡ Err Stop.Write → Rose (K.faults sink.old) (K.faults sink.new) }
+    ensures read { result ≡ Err Stop.Read → ⊥ }
+    ensures long { result ≡ Err Stop.InputTooLong → ⊥ }
+{
+    text.clear();
+    match replay.refuse_long(alloc, number, text) {
         Ok(()) => write_text(sink, text.as_bytes()),
         Err(NoMemory) => Err(Stop::NoMemory),
     }

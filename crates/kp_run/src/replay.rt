@@ -1,5 +1,5 @@
 //! Where a replay stands, and the lines that it takes.
-ghost use Rattle.std.specs.Prelude.{◌≡◌, ◌<◌, ◌-◌, ◌^◌, [], false, length, string_bytes, IfOk, OnOk};
+ghost use Rattle.std.specs.Prelude.{◌≡◌, ◌<◌, ◌-◌, ◌^◌, [], false, length, string_bytes, None, IfOk, OnOk};
 ghost use Rattle.kp_run_defs.specs.ReplayText as spec;
 
 use kp_base::{Config, Items, NoMemory};
@@ -9,9 +9,6 @@ use kp_report::push_refusal;
 use kp_script::{LineRefusal, Op, ScriptFault, default_config, line_of};
 use kp_types::Event;
 use std::alloc::Global;
-
-/// The most bytes that a line may have, without its line feed.
-const LONGEST_LINE: usize = 16_777_216;
 
 /// Where a replay of lines stands: its events, records and tables, the sources that packets came
 /// from of late, and whether a line was refused.
@@ -25,7 +22,7 @@ pub struct Replay {
 }
 
 impl Replay {
-    ghost use Rattle.kp_run.specs.Steps.{standing_of, IsReady, Takes, HasNoEvents, MayTake};
+    ghost use Rattle.kp_run.specs.Steps.{standing_of, IsReady, Takes, HasNoEvents, MayTake, given_line};
 
     /// Before the first line.
     pub fn new(alloc: Global) -> Result<Replay, NoMemory>
@@ -41,8 +38,8 @@ impl Replay {
         })
     }
 
-    /// Takes the line of this number, and adds what it prints to the text. Without memory the
-    /// replay and the text are of no more use.
+    /// Takes the line of this number, which isn't too long, and adds what it prints to the text.
+    /// Without memory the replay and the text are of no more use.
     pub fn take_line(
         &mut self,
         alloc: Global,
@@ -51,17 +48,27 @@ impl Replay {
         text: &mut String,
     ) -> Result<(), NoMemory>
         requires { IsReady (standing_of self.old) }
-        ensures { OnOk result (Takes (spec.line_at number bytes.now (standing_of self.old))
+        ensures { OnOk result (Takes (spec.short_line number bytes.now (standing_of self.old))
             self.new (string_bytes text.old) (string_bytes text.new)) }
     {
-        if bytes.len() > LONGEST_LINE {
-            self.fresh = false;
-            return self.refuse(alloc, number, &LineRefusal::TooLongLine, text);
-        }
         if is_blank(bytes) {
             return Ok(());
         }
         self.take_script(alloc, number, bytes, text)
+    }
+
+    /// Refuses the line of this number, of which nothing is given, as too long.
+    pub fn refuse_long(
+        &mut self,
+        alloc: Global,
+        number: u64,
+        text: &mut String,
+    ) -> Result<(), NoMemory>
+        ensures { OnOk result (Takes (given_line number None (standing_of self.old))
+            self.new (string_bytes text.old) (string_bytes text.new)) }
+    {
+        self.fresh = false;
+        self.refuse(alloc, number, &LineRefusal::TooLongLine, text)
     }
 
     /// Takes a line that is neither too long nor blank.

@@ -1,7 +1,7 @@
-use Rattle.std.proofs.Common.{◌≤◌, sym, subst, rules, arith}
+use Rattle.std.proofs.Common.{◌≡◌, ◌∷◌, ◌≤◌, sym, subst, rules, arith}
 use Rattle.std.specs.Io.KnownBytes.{IsAtEnd}
 use Rattle.kp_io.specs.Told.{FromTold}
-use Rattle.kp_io.specs.Lines.{LosesLine}
+use Rattle.std.specs.Prelude.{Some, None}
 use Rattle.kp_io.specs.Reader.{to_come}
 use Rattle.kp_io.specs.declared.next_line.TheConstants.{INPUT_LIMIT}
 use Rattle.kp_run.specs.Outcome.{Come}
@@ -23,12 +23,36 @@ lines-preserved g c =
     record {
       come =
           subst (λ k. Come (standing_of c.replay_line.new.replay) k left after start later) (sym counts.1)
-          (come_more (standing_of c.lines.replay) (standing_of c.replay_line.new.replay) c.lines.reader.number c.in-Ok-Line.number c.bytes.result.now
+          (come_more (standing_of c.lines.replay) (standing_of c.replay_line.new.replay) c.lines.reader.number c.in-Ok-Line.number (Some c.bytes.result.now)
           left rest after start (g.K.Sink.written c.lines.sink) later c.lines.invariant.come counts.0
-          (subst (λ b. FromTold (LosesLine b) rest after) (sym c.bytes.ensures) answer)
+          (subst (λ b. FromTold (λ xs ys. xs ≡ Some b ∷ ys) rest after) (sym c.bytes.ensures) answer)
           c.in_ok-replay_line-in-Ok-Line.ensures.whole);
       taken = taken_more left (g.S.Source.left c.lines.source) (g.S.Source.left c.next_line.new.source) c.lines.reader.taken c.next_line.new.self.taken c.lines.invariant.taken c.in-Ok-Line.ensures.input.all;
       ended = λ ended. by_end (IsAtEnd (g.S.Source.left c.next_line.new.source)) c.lines.reader.ended (λ was. let h = again was in absurd (cc)) (λ was. c.in-Ok-Line.ensures.ended was ended);
+      read = search rules;
+      wrote = search rules;
+    }
+
+-- a line that is too long was refused
+pub lines-preserved-2 : goal.lines-preserved-2
+lines-preserved-2 g c =
+    let counts = rw c.in-Err-TooLongLine.field-0-is at c.in-Err-TooLongLine.ensures.counts in
+    let answer = rw c.in-Err-TooLongLine.field-0-is at c.in-Err-TooLongLine.ensures.answer in
+    let again = rw c.in-Err-TooLongLine.field-0-is at c.in-Err-TooLongLine.ensures.again in
+    let rest = to_come c.lines.reader (g.S.Source.left c.lines.source) in
+    let after = to_come c.next_line.new.self (g.S.Source.left c.next_line.new.source) in
+    let left = g.S.Source.left c.args.source.now in
+    let start = g.K.Sink.written c.args.sink.now in
+    let later = g.K.Sink.written c.replay_long_line.new.sink in
+    record {
+      come =
+          subst (λ k. Come (standing_of c.replay_long_line.new.replay) k left after start later) (sym counts.1.0)
+          (come_more (standing_of c.lines.replay) (standing_of c.replay_long_line.new.replay) c.lines.reader.number c.in-Err-TooLongLine.number (None)
+          left rest after start (g.K.Sink.written c.lines.sink) later c.lines.invariant.come counts.0
+          answer
+          c.in_ok-replay_long_line-in-Err-TooLongLine.ensures.whole);
+      taken = taken_more left (g.S.Source.left c.lines.source) (g.S.Source.left c.next_line.new.source) c.lines.reader.taken c.next_line.new.self.taken c.lines.invariant.taken c.in-Err-TooLongLine.ensures.input.all;
+      ended = λ ended. by_end (IsAtEnd (g.S.Source.left c.next_line.new.source)) c.lines.reader.ended (λ was. let h = again was in absurd (cc)) (λ was. c.in-Err-TooLongLine.ensures.ended was ended);
       read = search rules;
       wrote = search rules;
     }
@@ -39,9 +63,9 @@ returns-in_err-replay_line-in-Ok-Line-clause-front g c =
     let answer = rw c.in-Ok-Line.field-0-is at c.in-Ok-Line.ensures.answer in
     let rest = to_come c.lines.reader (g.S.Source.left c.lines.source) in
     let after = to_come c.next_line.new.self (g.S.Source.left c.next_line.new.source) in
-    come_part (standing_of c.lines.replay) c.lines.reader.number c.in-Ok-Line.number c.bytes.result.now (g.S.Source.left c.args.source.now) rest after
+    come_part (standing_of c.lines.replay) c.lines.reader.number c.in-Ok-Line.number (Some c.bytes.result.now) (g.S.Source.left c.args.source.now) rest after
     (g.K.Sink.written c.args.sink.now) (g.K.Sink.written c.lines.sink) (g.K.Sink.written c.replay_line.new.sink) c.lines.invariant.come counts.0
-    (subst (λ b. FromTold (LosesLine b) rest after) (sym c.bytes.ensures) answer)
+    (subst (λ b. FromTold (λ xs ys. xs ≡ Some b ∷ ys) rest after) (sym c.bytes.ensures) answer)
     c.in_err-replay_line-in-Ok-Line.ensures.front
 
 pub returns-in-Ok-End-clause-front : goal.returns-in-Ok-End-clause-front
@@ -64,7 +88,27 @@ returns-in-Ok-End-clause-all g c =
     (λ was. c.in-Ok-End.ensures.ended was counts.3))
     limit
 
-pub returns-in-Err-clause-front : goal.returns-in-Err-clause-front
-returns-in-Err-clause-front g c =
+pub returns-in_err-replay_long_line-in-Err-TooLongLine-clause-front : goal.returns-in_err-replay_long_line-in-Err-TooLongLine-clause-front
+returns-in_err-replay_long_line-in-Err-TooLongLine-clause-front g c =
+    let counts = rw c.in-Err-TooLongLine.field-0-is at c.in-Err-TooLongLine.ensures.counts in
+    let answer = rw c.in-Err-TooLongLine.field-0-is at c.in-Err-TooLongLine.ensures.answer in
+    let rest = to_come c.lines.reader (g.S.Source.left c.lines.source) in
+    let after = to_come c.next_line.new.self (g.S.Source.left c.next_line.new.source) in
+    come_part (standing_of c.lines.replay) c.lines.reader.number c.in-Err-TooLongLine.number None (g.S.Source.left c.args.source.now) rest after
+    (g.K.Sink.written c.args.sink.now) (g.K.Sink.written c.lines.sink) (g.K.Sink.written c.replay_long_line.new.sink) c.lines.invariant.come counts.0
+    answer c.in_err-replay_long_line-in-Err-TooLongLine.ensures.front
+
+pub returns-in-Err-ReadFault-clause-front : goal.returns-in-Err-ReadFault-clause-front
+returns-in-Err-ReadFault-clause-front g c =
+    come_front (standing_of c.lines.replay) c.lines.reader.number (g.S.Source.left c.args.source.now) (to_come c.lines.reader (g.S.Source.left c.lines.source))
+    (g.K.Sink.written c.args.sink.now) (g.K.Sink.written c.lines.sink) c.lines.invariant.come
+
+pub returns-in-Err-InputTooLong-clause-front : goal.returns-in-Err-InputTooLong-clause-front
+returns-in-Err-InputTooLong-clause-front g c =
+    come_front (standing_of c.lines.replay) c.lines.reader.number (g.S.Source.left c.args.source.now) (to_come c.lines.reader (g.S.Source.left c.lines.source))
+    (g.K.Sink.written c.args.sink.now) (g.K.Sink.written c.lines.sink) c.lines.invariant.come
+
+pub returns-in-Err-NoMemory-clause-front : goal.returns-in-Err-NoMemory-clause-front
+returns-in-Err-NoMemory-clause-front g c =
     come_front (standing_of c.lines.replay) c.lines.reader.number (g.S.Source.left c.args.source.now) (to_come c.lines.reader (g.S.Source.left c.lines.source))
     (g.K.Sink.written c.args.sink.now) (g.K.Sink.written c.lines.sink) c.lines.invariant.come
