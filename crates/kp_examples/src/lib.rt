@@ -2,4 +2,14 @@
 #![tactic(auto)]
 
 #[cfg(test)]
-mod tests;
+mod doors;
+#[cfg(test)]
+mod endings;
+#[cfg(test)]
+mod events;
+#[cfg(test)]
+mod packets;
+#[cfg(test)]
+mod row;
+#[cfg(test)]
+mod tables;
