@@ -30,7 +30,10 @@ fn rules_of_other_destinations_are_passed_over(rt: HostRuntime) -> Result<(), Fa
         let target = Address::v4(0x0a60_0000 + host);
         assert_eq!(rt; table.next_for(&at, from, &proto, &target, &port), want);
     }
-    assert_eq!(rt; table.next_for(&in_nat("X")?, 0, &Proto::Tcp, &Address::v4(1), &port), None);
+    assert_eq!(rt;
+        table.next_for(&in_nat("X")?, 0, &Proto::Tcp, &Address::v4(1), &port),
+        None
+    );
     Ok(())
 }
 
@@ -39,7 +42,10 @@ fn a_draw_alone_has_its_limit_ready(rt: HostRuntime) -> Result<(), Fail> {
     let table = table_of(rt.alloc(), TABLE)?;
     let chain = table.walked(&in_nat("KUBE-SVC-A")?).ok_or("a chain")?;
     assert_eq!(rt; chain.rules().len(), 4);
-    assert_eq!(rt; (chain.limit(0), chain.limit(2)), (None, Some(1_073_741_824)));
+    assert_eq!(rt;
+        (chain.limit(0), chain.limit(2)),
+        (None, Some(1_073_741_824))
+    );
     assert_eq!(rt; (chain.limit(3), chain.limit(4)), (None, None));
     Ok(())
 }

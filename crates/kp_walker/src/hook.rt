@@ -30,8 +30,11 @@ impl<F> Hook<'_, F> {
 
     /// Where the packet goes by now.
     pub(crate) fn destination(&self) -> Destination
-        ensures { result ≡ record { address = self.now.header.target;
-            proto = self.now.around.now.packet.now.proto; port = self.now.header.port } }
+        ensures { result ≡ record {
+          address = self.now.header.target;
+          proto = self.now.around.now.packet.now.proto;
+          port = self.now.header.port;
+        } }
     {
         Destination {
             address: self.header.target,

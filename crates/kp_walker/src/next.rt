@@ -16,11 +16,7 @@ pub(crate) struct NextRule<'a> {
 }
 
 /// The first rule at or after a place that may match packets to this destination.
-pub(crate) fn next_rule<'a>(
-    chain: &'a Chain,
-    from: u64,
-    to: &Destination,
-) -> Option<NextRule<'a>>
+pub(crate) fn next_rule<'a>(chain: &'a Chain, from: u64, to: &Destination) -> Option<NextRule<'a>>
     ensures next { IfSome result (λ n. IsNext to.now chain.now from n.place n.rule.now n.limit) }
     ensures none { result ≡ None → next_for to.now chain.now from ≡ None }
 {

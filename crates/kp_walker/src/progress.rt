@@ -30,8 +30,11 @@ impl Progress {
     /// What a draw tells. It counts as used whether or not its test holds, and the count stands
     /// still at its type's end.
     pub(crate) fn drawn(self, holds: bool) -> Tried
-        ensures { result ≡ record { holds = holds; progress
-            = record { marked = self.marked; used = min (self.used + 1) (2 ^ 32 - 1) } } }
+        ensures { result ≡ record {
+          holds = holds;
+          progress
+              = record { marked = self.marked; used = min (self.used + 1) (2 ^ 32 - 1) };
+        } }
     {
         Tried {
             holds,
