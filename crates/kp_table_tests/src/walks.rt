@@ -65,8 +65,8 @@ fn end_of(
     Ok(last_number(verdict_of(table, &node, 1, packet, &draws, lists)?))
 }
 
-/// Packets of a host outside at a moment, with their draws, and the number of the endpoint that each
-/// goes to: the moment of the first one that goes elsewhere.
+/// Packets of a host outside at a moment, with their draws, and the number of the endpoint that
+/// each goes to: the moment of the first one that goes elsewhere.
 fn first_wrong(
     alloc: Global,
     size: u32,

@@ -63,8 +63,8 @@ impl<F: Fn(u64, u32) -> u32> Hook<'_, F> {
         }
     }
 
-    /// Walks the rules that may match the packet in order, up to the first that ends the walk of the
-    /// chain.
+    /// Walks the rules that may match the packet, in order, up to the first that ends the walk of
+    /// the chain.
     #[cycle(walk)]
     fn run_rules<R: Recorder>(
         &self,
