@@ -1,3 +1,5 @@
 pub mod BuiltIn
+pub mod ReadyMatches
 pub mod SetSteps
+pub mod SkippedSets
 pub mod Steps

@@ -10,8 +10,14 @@ use Rattle.kp_choice_defs.specs.Recent.{RecentParts}
 use Rattle.kp_table_defs.specs.Matching.{WalkState, Surroundings, Tried, try_match}
 use Rattle.kp_table_defs.specs.Walk as walk
 use Rattle.kp_table_defs.specs.Walk.{Outcome, chain_outcome, rule_outcome}
+use Rattle.kp_rules.specs.Destinations.{next_for}
+use Rattle.kp_rules.specs.Skipped.{destination_in}
+use Rattle.kp_rules.specs.declared.destination.Destination.{Destination}
 use Rattle.kp_walker.specs.Journeys.{StopsAs}
+use Rattle.kp_walker.specs.Next.{IsNext}
 use Rattle.kp_walker.specs.Sets.{OnHeld, OnNext, MatchSets, MatchesSet, RuleSets, RulesSet, FoundSets, ChainSets, ThroughSets, HookSets}
+use Rattle.kp_walker.proofs.SkippedSets.{set_further}
+use Rattle.kp_walker.proofs.Steps.{at_place}
 
 -- what stands behind an error
 pub on_err : {A E P : Type 0} (r : Result A E) → P → OnErr r P
@@ -33,18 +39,20 @@ match_behind e ms i m s t left more here tried holds sets =
     (inr (subst (λ x. OnHeld (try_match e x s).holds (MatchesSet e (drop (i + 1) ms) (try_match e x s).state left)) here
     (subst (λ (z : Tried). OnHeld z.holds (MatchesSet e (drop (i + 1) ms) z.state left)) tried held)))
 
--- a rule at a place comes to the set
-pub rule_here : (e : Surroundings) (jump : List ℕ → WalkState → Outcome) (sets : List ℕ → WalkState → RecentParts → Type 0) (rules : List Rule) (i : ℕ) (rule : Rule) (s : WalkState) (left : RecentParts) → i < length rules → rule ≡ get_or rules i rule → RuleSets e sets rule s left → RulesSet e jump sets (drop i rules) s left
-rule_here e jump sets rules i rule s left more here set =
-    subst (λ xs. RulesSet e jump sets xs s left) (sym (at_drop_more (λ xs. xs) rules i rule more))
-    (inl (subst (λ r. RuleSets e sets r s left) here set))
+-- the next rule that may match the packet comes to the set
+pub rule_here : (e : Surroundings) (jump : List ℕ → WalkState → Outcome) (sets : List ℕ → WalkState → RecentParts → Type 0) (s : WalkState) (to : Destination) (rules : List Rule) (from place : ℕ) (rule : Rule) (limit : Option ℕ) (left : RecentParts) → to ≡ destination_in e s → IsNext to rules from place rule limit → RuleSets e sets rule s left → RulesSet e jump sets (drop from rules) s left
+rule_here e jump sets s to rules from place rule limit left heading next set =
+    set_further e s jump sets left rules from place (ap (λ d. next_for d rules from) (sym heading) ∙ next.next)
+    (subst (λ xs. RulesSet e jump sets xs s left) (sym (at_drop_more (λ xs. xs) rules place rule next.within))
+    (inl (subst (λ r. RuleSets e sets r s left) (at_place rules place rule next.here) set)))
 
 -- the rules behind one that goes on come to the set
-pub rule_behind : (e : Surroundings) (jump : List ℕ → WalkState → Outcome) (sets : List ℕ → WalkState → RecentParts → Type 0) (rules : List Rule) (i : ℕ) (rule : Rule) (s then : WalkState) (left : RecentParts) → i < length rules → rule ≡ get_or rules i rule → rule_outcome e jump rule s ≡ walk.Next then → RulesSet e jump sets (drop (i + 1) rules) then left → RulesSet e jump sets (drop i rules) s left
-rule_behind e jump sets rules i rule s then left more here next set =
-    subst (λ xs. RulesSet e jump sets xs s left) (sym (at_drop_more (λ xs. xs) rules i rule more))
-    (inr (subst (λ o. OnNext o (λ t. RulesSet e jump sets (drop (i + 1) rules) t left))
-    (sym next ∙ ap (λ r. rule_outcome e jump r s) here) set))
+pub rule_behind : (e : Surroundings) (jump : List ℕ → WalkState → Outcome) (sets : List ℕ → WalkState → RecentParts → Type 0) (s then : WalkState) (to : Destination) (rules : List Rule) (from place : ℕ) (rule : Rule) (limit : Option ℕ) (left : RecentParts) → to ≡ destination_in e s → IsNext to rules from place rule limit → rule_outcome e jump rule s ≡ walk.Next then → RulesSet e jump sets (drop (place + 1) rules) then left → RulesSet e jump sets (drop from rules) s left
+rule_behind e jump sets s then to rules from place rule limit left heading next on set =
+    set_further e s jump sets left rules from place (ap (λ d. next_for d rules from) (sym heading) ∙ next.next)
+    (subst (λ xs. RulesSet e jump sets xs s left) (sym (at_drop_more (λ xs. xs) rules place rule next.within))
+    (inr (subst (λ o. OnNext o (λ t. RulesSet e jump sets (drop (place + 1) rules) t left))
+    (sym on ∙ ap (λ r. rule_outcome e jump r s) (at_place rules place rule next.here)) set)))
 
 -- a chain comes to the set where the rules that its look-up finds do, with room for one chain less
 pub chain_sets : (e : Surroundings) (at : ChainAt → Option (List Rule)) (table : TableName) (n less : ℕ) (chain : List ℕ) (s : WalkState) (left : RecentParts) (found : Option (List Rule)) → less + 1 ≡ n → found ≡ at (record { table = table; chain = chain }) → FoundSets e (chain_outcome e at table less) (ChainSets e at table less) found s left → ChainSets e at table n chain s left

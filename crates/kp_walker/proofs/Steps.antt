@@ -1,6 +1,7 @@
 -- Chains and rules, one step at a time.
 use Rattle.std.proofs.lemmas.List.{at_drop_more}
-use Rattle.std.proofs.Common.{◌≡◌, ℕ, zero, suc, ◌+◌, ◌<◌, Bool, true, false, List, [], ◌∷◌, ◌++◌, Option, Some, None, is_some, drop, length, get_or, refl, sym, ap, ◌∙◌, arith}
+use Rattle.std.proofs.lemmas.Option.{unwrap_or-slice_get}
+use Rattle.std.proofs.Common.{◌≡◌, ℕ, zero, suc, ◌+◌, Bool, true, false, List, [], ◌∷◌, ◌++◌, Option, Some, None, is_some, drop, get_or, slice_get, unwrap_or, refl, sym, ap, subst, ◌∙◌, arith}
 use Rattle.kp_types.specs.declared.chain.ChainAt.{ChainAt}
 use Rattle.kp_types.specs.declared.chain.TableName.{TableName}
 use Rattle.kp_types.specs.declared.packet.Packet.{Packet}
@@ -11,8 +12,13 @@ use Rattle.kp_choice_defs.specs.Recent.{RecentParts}
 use Rattle.kp_table_defs.specs.Matching.{Surroundings, WalkState}
 use Rattle.kp_table_defs.specs.Walk as walk
 use Rattle.kp_table_defs.specs.Walk.{Outcome, chain_outcome, found_outcome, rules_outcome, rule_outcome, and_then}
+use Rattle.kp_rules.specs.Destinations.{next_for}
+use Rattle.kp_rules.specs.Skipped.{destination_in}
+use Rattle.kp_rules.specs.declared.destination.Destination.{Destination}
+use Rattle.kp_rules.proofs.Skipping.{passed_over, passed_all}
 use Rattle.kp_walker.specs.Flow.{outcome_of}
 use Rattle.kp_walker.specs.Journeys.{MovesAs, beginning}
+use Rattle.kp_walker.specs.Next.{IsNext}
 use Rattle.kp_walker.specs.Shorn.{path_if, trail_if, shorn, told}
 use Rattle.kp_walker.specs.declared.flow.Flow.{Flow}
 use Rattle.kp_walker.specs.declared.header.Header.{Header}
@@ -27,11 +33,20 @@ chain_found e at table (suc n) less chain s found room look =
     ap (λ m. found_outcome e (chain_outcome e at table m) chain found s) same
     ∙ ap (λ f. found_outcome e (chain_outcome e at table n) chain f s) look
 
--- the rules from a place on are the rule there, and then those behind it
-rules_from : (e : Surroundings) (jump : List ℕ → WalkState → Outcome) (rules : List Rule) (i : ℕ) (rule : Rule) (s : WalkState) → i < length rules → rule ≡ get_or rules i rule → rules_outcome e jump (drop i rules) s ≡ and_then (rule_outcome e jump rule s) (rules_outcome e jump (drop (i + 1) rules))
-rules_from e jump rules i rule s more here =
-    at_drop_more (λ rs. rules_outcome e jump rs s) rules i rule more
-    ∙ ap (λ r. and_then (rule_outcome e jump r s) (rules_outcome e jump (drop (i + 1) rules))) (sym here)
+-- a rule that stands at a place
+pub at_place : (rules : List Rule) (place : ℕ) (rule : Rule) → slice_get rules place ≡ Some rule → rule ≡ get_or rules place rule
+at_place rules place rule here = sym (ap (λ o. unwrap_or o rule) here) ∙ unwrap_or-slice_get rules place rule
+
+-- the rules from a place on are the next one that may match the packet, and then those behind it
+rules_from : (e : Surroundings) (jump : List ℕ → WalkState → Outcome) (s : WalkState) (rules : List Rule) (from place : ℕ) (rule : Rule) (limit : Option ℕ) → IsNext (destination_in e s) rules from place rule limit → rules_outcome e jump (drop from rules) s ≡ and_then (rule_outcome e jump rule s) (rules_outcome e jump (drop (place + 1) rules))
+rules_from e jump s rules from place rule limit is =
+    passed_over e s jump rules from place is.next
+    ∙ at_drop_more (λ rs. rules_outcome e jump rs s) rules place rule is.within
+    ∙ ap (λ r. and_then (rule_outcome e jump r s) (rules_outcome e jump (drop (place + 1) rules))) (sym (at_place rules place rule is.here))
+
+-- and where there is none, all is done
+pub none_left : (e : Surroundings) (jump : List ℕ → WalkState → Outcome) (s : WalkState) (to : Destination) (rules : List Rule) (from : ℕ) → to ≡ destination_in e s → next_for to rules from ≡ None → rules_outcome e jump (drop from rules) s ≡ walk.Next s
+none_left e jump s to rules from heading none = passed_all e s jump rules from (ap (λ d. next_for d rules from) (sym heading) ∙ none)
 
 -- an outcome that goes on is so, whether its way is kept or not
 pub went_next : (keeps : Bool) (o : Outcome) (then : WalkState) → walk.Next then ≡ shorn keeps o → o ≡ walk.Next then
@@ -41,11 +56,11 @@ went_next keeps (walk.Ended end path s) then is = cc
 went_next keeps walk.Stuck then is = cc
 
 -- a rule that goes on leaves the rest to the rules behind it
-pub went_on : (keeps : Bool) (e : Surroundings) (jump : List ℕ → WalkState → Outcome) (rules : List Rule) (i : ℕ) (rule : Rule) (s then : WalkState) → i < length rules → rule ≡ get_or rules i rule → walk.Next then ≡ shorn keeps (rule_outcome e jump rule s) → rules_outcome e jump (drop (i + 1) rules) then ≡ rules_outcome e jump (drop i rules) s
-went_on keeps e jump rules i rule s then more here next =
-    ap (λ o. and_then o (rules_outcome e jump (drop (i + 1) rules)))
+pub went_on : (keeps : Bool) (e : Surroundings) (jump : List ℕ → WalkState → Outcome) (s then : WalkState) (to : Destination) (rules : List Rule) (from place : ℕ) (rule : Rule) (limit : Option ℕ) → to ≡ destination_in e s → IsNext to rules from place rule limit → walk.Next then ≡ shorn keeps (rule_outcome e jump rule s) → rules_outcome e jump (drop (place + 1) rules) then ≡ rules_outcome e jump (drop from rules) s
+went_on keeps e jump s then to rules from place rule limit heading is next =
+    ap (λ o. and_then o (rules_outcome e jump (drop (place + 1) rules)))
     (sym (went_next keeps (rule_outcome e jump rule s) then next))
-    ∙ sym (rules_from e jump rules i rule s more here)
+    ∙ sym (rules_from e jump s rules from place rule limit (subst (λ d. IsNext d rules from place rule limit) heading is))
 
 -- an outcome other than Next stays
 stays : (keeps : Bool) (header : Header) (flow : Flow) (path : List (List ℕ)) (lists : RecentParts) (o : Outcome) (next : WalkState → Outcome) → ((p : Progress) → flow ≡ Next p → ⊥) → outcome_of header flow path lists ≡ shorn keeps o → outcome_of header flow path lists ≡ shorn keeps (and_then o next)
@@ -57,11 +72,11 @@ stays keeps header flow path lists (walk.Left s) next other is = is
 stays keeps header flow path lists (walk.Ended end way s) next other is = is
 stays keeps header flow path lists walk.Stuck next other is = is
 
--- a rule that doesn't go on is the outcome of the rules from it on
-pub ended_here : (keeps : Bool) (e : Surroundings) (jump : List ℕ → WalkState → Outcome) (rules : List Rule) (i : ℕ) (rule : Rule) (s : WalkState) (header : Header) (flow : Flow) (path : List (List ℕ)) (lists : RecentParts) → i < length rules → rule ≡ get_or rules i rule → ((p : Progress) → flow ≡ Next p → ⊥) → outcome_of header flow path lists ≡ shorn keeps (rule_outcome e jump rule s) → outcome_of header flow path lists ≡ shorn keeps (rules_outcome e jump (drop i rules) s)
-ended_here keeps e jump rules i rule s header flow path lists more here other is =
-    stays keeps header flow path lists (rule_outcome e jump rule s) (rules_outcome e jump (drop (i + 1) rules)) other is
-    ∙ ap (shorn keeps) (sym (rules_from e jump rules i rule s more here))
+-- a rule that doesn't go on is the outcome of the rules from a place on
+pub ended_here : (keeps : Bool) (e : Surroundings) (jump : List ℕ → WalkState → Outcome) (s : WalkState) (to : Destination) (rules : List Rule) (from place : ℕ) (rule : Rule) (limit : Option ℕ) (header : Header) (flow : Flow) (path : List (List ℕ)) (lists : RecentParts) → to ≡ destination_in e s → IsNext to rules from place rule limit → ((p : Progress) → flow ≡ Next p → ⊥) → outcome_of header flow path lists ≡ shorn keeps (rule_outcome e jump rule s) → outcome_of header flow path lists ≡ shorn keeps (rules_outcome e jump (drop from rules) s)
+ended_here keeps e jump s to rules from place rule limit header flow path lists heading next other is =
+    stays keeps header flow path lists (rule_outcome e jump rule s) (rules_outcome e jump (drop (place + 1) rules)) other is
+    ∙ ap (shorn keeps) (sym (rules_from e jump s rules from place rule limit (subst (λ d. IsNext d rules from place rule limit) heading next)))
 
 -- behind a jump nothing more is told of an outcome
 pub shorn_returned : (keeps : Bool) (chain : List ℕ) (o : Outcome) → shorn keeps (walk.returned_from chain (shorn keeps o)) ≡ shorn keeps (walk.returned_from chain o)

@@ -1,6 +1,7 @@
 pub mod Answers
 pub mod Flow
 pub mod Journeys
+pub mod Next
 pub mod Progress
 pub mod Sets
 pub mod Shorn

@@ -1,6 +1,7 @@
 //! Chains and their rules.
 ghost use Rattle.std.specs.Prelude.{◌≡◌, ◌≤◌, ◌<◌, [], OnOk, OnErr, IfOk};
 ghost use Rattle.kp_choice_defs.specs.Draws.{IsStated, AreDraws};
+ghost use Rattle.kp_rules.specs.Limits.{limit_of};
 ghost use Rattle.kp_table_defs.specs.Walk.{rules_outcome, rule_outcome};
 ghost use Rattle.kp_walker.specs.Flow.{jump_of, sets_of, outcome_of, IsThrough};
 ghost use Rattle.kp_walker.specs.Progress.{state_of};
@@ -10,11 +11,13 @@ ghost use Rattle.kp_walker.specs.Surroundings.{surroundings_of};
 
 use crate::flow::Flow;
 use crate::hook::Hook;
+use crate::next::{NextRule, next_rule};
 use crate::progress::Progress;
 use crate::recorder::Recorder;
 use kp_base::NoMemory;
 use kp_recent::RecentLists;
-use kp_types::{ChainAt, ChainName, Ending, Rule, Target};
+use kp_rules::Chain;
+use kp_types::{ChainAt, ChainName, Ending, Target};
 
 impl<F: Fn(u64, u32) -> u32> Hook<'_, F> {
     /// Walks a chain, with at most `depth` chains on the way. Where a rule ends the traversal, the
@@ -51,20 +54,21 @@ impl<F: Fn(u64, u32) -> u32> Hook<'_, F> {
             table: self.table,
             chain: chain.same(),
         };
-        match self.around.chains.chain(&at) {
+        match self.around.chains.walked(&at) {
             None => Ok(Flow::Stuck),
-            Some(rules) => {
-                let flow = self.run_rules(rules.as_slice(), depth - 1, progress, lists, recorder)?;
+            Some(found) => {
+                let flow = self.run_rules(found, depth - 1, progress, lists, recorder)?;
                 Ok(flow.returned_from(chain, recorder))
             }
         }
     }
 
-    /// Walks rules in order, up to the first that ends the walk of the chain.
+    /// Walks the rules that may match the packet, in order, up to the first that ends the walk of
+    /// the chain.
     #[cycle(walk)]
     fn run_rules<R: Recorder>(
         &self,
-        rules: &[Rule],
+        chain: &Chain,
         depth: usize,
         progress: Progress,
         lists: &mut RecentLists,
@@ -78,23 +82,26 @@ impl<F: Fn(u64, u32) -> u32> Hook<'_, F> {
             → AreDraws (F.post self.now.around.now.draws.now) self.now.around.now.number draws
             → outcome_of self.now.header flow (R.way recorder.new) lists.new ≡ shorn R.keeps
             (rules_outcome (surroundings_of self.now.around.now draws)
-            (jump_of self.now draws depth) rules.now
+            (jump_of self.now draws depth) chain.now
             (state_of self.now.header progress lists.old))) }
         ensures way { IfOk result (λ flow. IsThrough flow depth (R.way recorder.new)) }
         ensures refused { OnErr result ((draws : _)
             → AreDraws (F.post self.now.around.now.draws.now) self.now.around.now.number draws
             → RulesSet (surroundings_of self.now.around.now draws) (jump_of self.now draws depth)
-            (sets_of self.now draws depth) rules.now
+            (sets_of self.now draws depth) chain.now
             (state_of self.now.header progress lists.old) lists.new) }
         ensures trail { R.trail recorder.new ≡ R.trail recorder.old }
     {
+        let to = self.destination();
         let mut progress = progress;
-        for rule in rules {
-            let flow = self.run_rule(rule, depth, progress, lists, recorder)?;
+        let mut from = 0;
+        while let Some(next) = next_rule(chain, from, &to) {
+            let flow = self.run_rule(&next, depth, progress, lists, recorder)?;
             match flow {
-                Flow::Next(next) => progress = next,
+                Flow::Next(after) => progress = after,
                 _ => return Ok(flow),
             }
+            from = next.place + 1;
         }
         Ok(Flow::Next(progress))
     }
@@ -103,7 +110,7 @@ impl<F: Fn(u64, u32) -> u32> Hook<'_, F> {
     #[cycle(walk)]
     fn run_rule<R: Recorder>(
         &self,
-        rule: &Rule,
+        next: &NextRule<'_>,
         depth: usize,
         progress: Progress,
         lists: &mut RecentLists,
@@ -113,24 +120,25 @@ impl<F: Fn(u64, u32) -> u32> Hook<'_, F> {
             (F.post self.now.around.now.draws.now) }
         requires new { R.way recorder.old ≡ [] }
         requires room { depth < 8 }
+        requires ready { next.now.limit ≡ limit_of next.now.rule.now }
         ensures outcome { IfOk result (λ flow. (draws : _)
             → AreDraws (F.post self.now.around.now.draws.now) self.now.around.now.number draws
             → outcome_of self.now.header flow (R.way recorder.new) lists.new ≡ shorn R.keeps
             (rule_outcome (surroundings_of self.now.around.now draws)
-            (jump_of self.now draws depth) rule.now
+            (jump_of self.now draws depth) next.now.rule.now
             (state_of self.now.header progress lists.old))) }
         ensures way { IfOk result (λ flow. IsThrough flow depth (R.way recorder.new)) }
         ensures refused { OnErr result ((draws : _)
             → AreDraws (F.post self.now.around.now.draws.now) self.now.around.now.number draws
             → RuleSets (surroundings_of self.now.around.now draws) (sets_of self.now draws depth)
-            rule.now (state_of self.now.header progress lists.old) lists.new) }
+            next.now.rule.now (state_of self.now.header progress lists.old) lists.new) }
         ensures trail { R.trail recorder.new ≡ R.trail recorder.old }
     {
-        let tried = self.try_all(rule.matches.as_slice(), progress, lists)?;
+        let tried = self.try_rule(next.rule, next.limit, progress, lists)?;
         if !tried.holds {
             return Ok(Flow::Next(tried.progress));
         }
-        match &rule.target {
+        match &next.rule.target {
             Target::Jump(chain) => self.run_chain(chain, depth, tried.progress, lists, recorder),
             Target::Return => Ok(Flow::Left(tried.progress)),
             Target::Accept => Ok(Flow::Ended(Ending::Accept, tried.progress)),

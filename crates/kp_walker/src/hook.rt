@@ -2,7 +2,7 @@
 use crate::header::Header;
 use kp_base::Address;
 use kp_draws::DrawSource;
-use kp_rules::Table;
+use kp_rules::{Destination, Table};
 use kp_types::{Packet, TableName};
 
 /// What a walk may ask: the chains of a table, the node's addresses, the packet as it came, and the
@@ -23,4 +23,23 @@ pub(crate) struct Hook<'a, F> {
     pub(crate) around: &'a Surroundings<'a, F>,
     pub(crate) table: TableName,
     pub(crate) header: Header,
+}
+
+impl<F> Hook<'_, F> {
+    ghost use Rattle.std.specs.Prelude.{◌≡◌};
+
+    /// Where the packet goes by now.
+    pub(crate) fn destination(&self) -> Destination
+        ensures { result ≡ record {
+          address = self.now.header.target;
+          proto = self.now.around.now.packet.now.proto;
+          port = self.now.header.port;
+        } }
+    {
+        Destination {
+            address: self.header.target,
+            proto: self.around.packet.proto,
+            port: self.header.port,
+        }
+    }
 }

@@ -9,6 +9,7 @@ mod hooks;
 mod journey;
 mod local;
 mod matching;
+mod next;
 mod progress;
 mod recorder;
 mod sound;

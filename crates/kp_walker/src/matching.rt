@@ -1,7 +1,8 @@
 //! The matches of a rule.
-ghost use Rattle.std.specs.Prelude.{◌≡◌, OnOk, OnErr, IfOk};
-ghost use Rattle.kp_choice_defs.specs.Draws.{IsStated, AreDraws, draw_matches};
+ghost use Rattle.std.specs.Prelude.{◌≡◌, nat_lt, OnOk, OnErr, IfOk};
+ghost use Rattle.kp_choice_defs.specs.Draws.{IsStated, AreDraws, draw_at, draw_matches};
 ghost use Rattle.kp_choice_defs.specs.Recent as recent;
+ghost use Rattle.kp_rules.specs.Limits.{limit_of};
 ghost use Rattle.kp_table_defs.specs.Matching as walk;
 ghost use Rattle.kp_walker.specs.Progress.{state_of, tried_of};
 ghost use Rattle.kp_walker.specs.Sets.{MatchSets, MatchesSet};
@@ -12,11 +13,52 @@ use crate::local::is_local;
 use crate::progress::{Progress, Tried};
 use kp_base::NoMemory;
 use kp_recent::RecentLists;
-use kp_types::{ChainName, Match};
+use kp_types::{ChainName, Match, Rule};
 
 impl<F: Fn(u64, u32) -> u32> Hook<'_, F> {
+    /// Tries the matches of a rule with this limit of its draw.
+    pub(crate) fn try_rule(
+        &self,
+        rule: &Rule,
+        limit: Option<u32>,
+        progress: Progress,
+        lists: &mut RecentLists,
+    ) -> Result<Tried, NoMemory>
+        requires stated { IsStated (F.pre self.now.around.now.draws.now)
+            (F.post self.now.around.now.draws.now) }
+        requires limit { limit ≡ limit_of rule.now }
+        ensures ok { IfOk result (λ t. (draws : _)
+            → AreDraws (F.post self.now.around.now.draws.now) self.now.around.now.number draws
+            → tried_of self.now.header t lists.new
+            ≡ walk.try_all (surroundings_of self.now.around.now draws) rule.now.matches.items
+            (state_of self.now.header progress lists.old)) }
+        ensures err { OnErr result ((draws : _)
+            → AreDraws (F.post self.now.around.now.draws.now) self.now.around.now.number draws
+            → MatchesSet (surroundings_of self.now.around.now draws) rule.now.matches.items
+            (state_of self.now.header progress lists.old) lists.new) }
+    {
+        match limit {
+            None => self.try_all(rule.matches.as_slice(), progress, lists),
+            Some(limit) => Ok(self.try_limit(limit, progress)),
+        }
+    }
+
+    /// Compares the next draw with a limit.
+    fn try_limit(&self, limit: u32, progress: Progress) -> Tried
+        requires { IsStated (F.pre self.now.around.now.draws.now)
+            (F.post self.now.around.now.draws.now) }
+        ensures { (draws lists : _)
+            → AreDraws (F.post self.now.around.now.draws.now) self.now.around.now.number draws
+            → tried_of self.now.header result lists
+            ≡ walk.tried_as (walk.with_draw (state_of self.now.header progress lists))
+            (nat_lt (draw_at draws progress.used) limit) }
+    {
+        let draw = self.around.draws.draw(self.around.number, progress.used);
+        progress.drawn(draw < limit)
+    }
+
     /// Tries matches from the left, up to the first that fails.
-    pub(crate) fn try_all(
+    fn try_all(
         &self,
         matches: &[Match],
         progress: Progress,
@@ -102,13 +144,7 @@ impl<F: Fn(u64, u32) -> u32> Hook<'_, F> {
             (state_of self.now.header progress lists) }
     {
         let draw = self.around.draws.draw(self.around.number, progress.used);
-        Tried {
-            holds: is_drawn(p, draw),
-            progress: Progress {
-                marked: progress.marked,
-                used: progress.used.saturating_add(1),
-            },
-        }
+        progress.drawn(is_drawn(p, draw))
     }
 
     /// Whether the source is in the list within the timeout. What is past it is dropped.

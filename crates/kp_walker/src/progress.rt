@@ -1,5 +1,5 @@
 //! How far a packet has come through the rules of a hook.
-ghost use Rattle.std.specs.Prelude.{◌≡◌};
+ghost use Rattle.std.specs.Prelude.{◌≡◌, ◌+◌, ◌-◌, ◌^◌, min};
 
 /// What changes on a packet's way through the rules of a hook: the mark, and how many draws were
 /// used.
@@ -24,6 +24,24 @@ impl Progress {
         Tried {
             holds,
             progress: self,
+        }
+    }
+
+    /// What a draw tells. It counts as used whether or not its test holds, and the count stands
+    /// still at its type's end.
+    pub(crate) fn drawn(self, holds: bool) -> Tried
+        ensures { result ≡ record {
+          holds = holds;
+          progress
+              = record { marked = self.marked; used = min (self.used + 1) (2 ^ 32 - 1) };
+        } }
+    {
+        Tried {
+            holds,
+            progress: Progress {
+                marked: self.marked,
+                used: self.used.saturating_add(1),
+            },
         }
     }
 

@@ -1,4 +1,4 @@
-use Rattle.std.proofs.Common.{◌≡◌, ℕ, ◌+◌, ◌*◌, [], drop}
+use Rattle.std.proofs.Common.{◌≡◌, ℕ, ◌+◌, ◌-◌, ◌*◌, [], drop, length}
 use Rattle.kp_choice_defs.specs.Draws.{AreDraws}
 use Rattle.kp_choice_defs.specs.Recent.{RecentParts}
 use Rattle.kp_table_defs.specs.Walk.{rules_outcome}
@@ -18,25 +18,29 @@ decreases-run_rules g l = 3 * l.depth + 2
 abbrev pub decreases-run_rule : goal.decreases-run_rule
 decreases-run_rule g l = 3 * l.depth + 1
 
--- what is left does from here what all do from the start
-abbrev pub invariant-run_rules-loop-rule : goal.invariant-run_rules-loop-rule
-invariant-run_rules-loop-rule g l = record {
+-- the rules from a place on do what all do from the start
+abbrev pub invariant-run_rules-loop-next : goal.invariant-run_rules-loop-next
+invariant-run_rules-loop-next g l = record {
   same : (draws : ℕ → ℕ)
       → AreDraws (λ number k draw. g.F.Fn.post l.self.around.now.draws.now (number, (k, tt)) draw)
       l.self.around.now.number draws
       → rules_outcome (surroundings_of l.self.around.now draws) (jump_of l.self draws l.depth)
-      (drop l.rule-index l.rules) (state_of l.self.header l.progress l.lists)
+      (drop l.from l.chain) (state_of l.self.header l.progress l.lists)
       ≡ rules_outcome (surroundings_of l.self.around.now draws) (jump_of l.self draws l.depth)
-      l.rules (state_of l.self.header l.fn.progress l.fn.lists);
+      l.chain (state_of l.self.header l.fn.progress l.fn.lists);
   sets : (draws : ℕ → ℕ)
       → AreDraws (λ number k draw. g.F.Fn.post l.self.around.now.draws.now (number, (k, tt)) draw)
       l.self.around.now.number draws
       → (left : RecentParts) → RulesSet (surroundings_of l.self.around.now draws)
       (jump_of l.self draws l.depth) (sets_of l.self draws l.depth)
-      (drop l.rule-index l.rules) (state_of l.self.header l.progress l.lists) left
+      (drop l.from l.chain) (state_of l.self.header l.progress l.lists) left
       → RulesSet (surroundings_of l.self.around.now draws)
       (jump_of l.self draws l.depth) (sets_of l.self draws l.depth)
-      l.rules (state_of l.self.header l.fn.progress l.fn.lists) left;
+      l.chain (state_of l.self.header l.fn.progress l.fn.lists) left;
   new : g.R.Recorder.way l.recorder ≡ [];
   trail : g.R.Recorder.trail l.recorder ≡ g.R.Recorder.trail l.fn.recorder;
 }
+
+-- and each time fewer of them are left
+abbrev pub decreases-run_rules-loop-next : goal.decreases-run_rules-loop-next
+decreases-run_rules-loop-next g l = length l.chain - l.from

@@ -1,0 +1,40 @@
+//! The next of a chain's rules that may match a packet.
+ghost use Rattle.std.specs.Prelude.{◌≡◌, ◌+◌, ◌<◌, ◌^◌, length, slice_get, Some, None, IfSome};
+ghost use Rattle.kp_rules.specs.Destinations.{next_for};
+ghost use Rattle.kp_walker.specs.Next.{IsNext};
+
+use kp_rules::{Chain, Destination};
+use kp_types::Rule;
+
+/// A rule to be walked: its place in its chain, and the limit of its draw, where a draw is its only
+/// match.
+#[derive(Drop)]
+pub(crate) struct NextRule<'a> {
+    pub(crate) place: u64,
+    pub(crate) rule: &'a Rule,
+    pub(crate) limit: Option<u32>,
+}
+
+/// The first rule at or after a place that may match packets to this destination.
+pub(crate) fn next_rule<'a>(chain: &'a Chain, from: u64, to: &Destination) -> Option<NextRule<'a>>
+    ensures next { IfSome result (λ n. IsNext to.now chain.now from n.place n.rule.now n.limit) }
+    ensures none { result ≡ None → next_for to.now chain.now from ≡ None }
+{
+    match chain.next_for(from, to) {
+        None => None,
+        Some(place) => Some(NextRule {
+            place,
+            rule: rule_at(chain.rules(), place),
+            limit: chain.limit(place),
+        }),
+    }
+}
+
+/// The rule at a place.
+fn rule_at(rules: &[Rule], place: u64) -> &Rule
+    requires { place < length rules.now }
+    ensures rule { slice_get rules.now place ≡ Some result.now }
+    ensures fits { place + 1 < 2 ^ 64 }
+{
+    &rules[place as usize]
+}
