@@ -1,5 +1,5 @@
 -- What the calls change in the passes.
-use Rattle.std.specs.Prelude.{ℕ, zero, suc, List, [], ◌∷◌, ◌++◌, map}
+use Rattle.std.specs.Prelude.{◌≡◌, ℕ, zero, suc, List, [], ◌∷◌, ◌++◌, map}
 use Rattle.kp_types.specs.declared.event.Event.{Event}
 use Rattle.kp_history_defs.specs.declared.fed.Fed.{Fed}
 use Rattle.kp_feed.specs.declared.rule.Ended.{Ended}
@@ -14,6 +14,10 @@ new_feeder queue n = record { queue = queue; feeder = n; fed = [] }
 abbrev pub new_feeders : QueueId → ℕ → List Feeder
 new_feeders queue zero = []
 new_feeders queue (suc n) = new_feeders queue n ++ new_feeder queue n ∷ []
+
+-- it is one of this queue's, and has fed nothing
+abbrev pub IsNew : QueueId → Feeder → Type 0
+IsNew queue pass = (pass.queue ≡ queue) × (pass.fed ≡ [])
 
 -- a taker that has taken nothing
 abbrev pub new_taker : QueueId → ℕ → Taker

@@ -32,11 +32,13 @@ impl Model for Feed {
 }
 
 /// A queue, the passes of so many feeders, numbered from 0, and the pass of the taker.
+#[tactic(auto, using(crate::proofs::Newcomers::all_new))]
 pub fn feed_queue(
     alloc: Global,
     feeders: u32,
 ) -> Result<(Feed, Items<FeedPass>, TakePass), NoMemory>
     ensures feeders { IfOk result (λ r. r.1 ≡ calls.new_feeders r.0 feeders) }
+    ensures new { IfOk result (λ r. AllByRecursion (calls.IsNew r.0) r.1) }
     ensures taker { IfOk result (λ r. r.2 ≡ calls.new_taker r.0 feeders) }
 {
     let (queue, seat) = RuledSegQueue::with_rule(alloc)?;
