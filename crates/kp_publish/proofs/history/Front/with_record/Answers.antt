@@ -1,0 +1,60 @@
+use Rattle.std.proofs.Common.{◌≡◌, ◌+◌, ◌-◌, ◌^◌, ◌==◌, ◌<◌, true, false, [], ◌∷◌, ◌++◌, length, sym, ◌∙◌, ap, arith, length-append}
+use Rattle.std.proofs.lemmas.Bool.Decides.{nat_tests}
+use Rattle.kp_publish.specs.declared.entry.Entry.TheVariants.{Record}
+use Rattle.kp_publish.specs.Entries.{records_of, is_ended}
+use Rattle.kp_publish.proofs.Beginnings.{open_length, records_snoc}
+use Rattle.kp_publish.proofs.Writing.{writes_moves, written}
+use Rattle.kp_publish.proofs.history.Front.with_record.Goals as goal
+
+pub overflow_add-entries : goal.overflow_add-entries
+overflow_add-entries g c =
+    let log = c.self.inside.seen.log in
+    let is_open : is_ended log ≡ false = ap is_ended c.self.view_is ∙ c.requires.open in
+    let room : length (records_of log) < 2 ^ 64 - 1 = rw c.self.view_is c.requires.room in
+    omega (arith, c.self.invariant.0, open_length log is_open, room)
+
+pub compare_exchange-found-requires : goal.compare_exchange-found-requires
+compare_exchange-found-requires g c =
+    let h = c.args.head.now.head_is in
+    let again = c.again-seen.ensures in
+    let offer = c.plain-offer.ensures in
+    let pen = c.no_pen-pen.ensures in
+    let book = ap (λ s. s.book) again ∙ (c.self.invariant.2 ∙ sym (ap (λ w. w.book) h)) in (
+      ap (λ w. w.tracked) h,
+      book,
+      pen.0 ∙ book,
+      offer.0,
+      rw (ap (λ w. w.key) h, pen.1, offer.1, offer.3, again) (writes_moves c.self.inside.seen.log (Record c.args.next.now) c.self.inside.entries (sym c.self.invariant.0)),
+    )
+
+pub overflow_add-result : goal.overflow_add-result
+overflow_add-result g c =
+    let log = c.self.inside.seen.log in
+    let is_open : is_ended log ≡ false = ap is_ended c.self.view_is ∙ c.requires.open in
+    let room : length (records_of log) < 2 ^ 64 - 1 = rw c.self.view_is c.requires.room in
+    omega (arith, c.self.invariant.0, open_length log is_open, room)
+
+pub invariant_of-result : goal.invariant_of-result
+invariant_of-result g c =
+    let log = c.self.inside.seen.log in
+    let r = c.args.next.now in
+    let found = c.compare_exchange-found.result in
+    let is_open : is_ended log ≡ false = ap is_ended c.self.view_is ∙ c.requires.open in
+    let hit : (found == c.self.inside.entries) ≡ true = grind (arith, nat_tests, c.if-found-entries.false) in
+    let new : c.compare_exchange-found.new.seen.log ≡ log ++ Record r ∷ [] =
+    written (found == c.self.inside.entries) hit c.compare_exchange-found.ensures.7
+    ∙ (λ i. ap (λ s. s.log) c.again-seen.ensures i ++ c.plain-offer.ensures.1 i ∷ []) in
+    let more : length (log ++ Record r ∷ []) ≡ length log + 1 = length-append log (Record r ∷ []) in
+    let more' : length (records_of (log ++ Record r ∷ [])) ≡ length (records_of log) + 1 =
+    ap length (records_snoc log r is_open) ∙ length-append (records_of log) (r ∷ []) in (
+      omega (arith, c.self.invariant.0, more, ap length new),
+      omega (arith, c.self.invariant.1, more', ap (λ l. length (records_of l)) new),
+      c.compare_exchange-found.ensures.0 ∙ (ap (λ s. s.book) c.again-seen.ensures ∙ c.self.invariant.2),
+    )
+
+pub returns : goal.returns
+returns g c =
+    let found = c.compare_exchange-found.result in
+    let hit : (found == c.self.inside.entries) ≡ true = grind (arith, nat_tests, c.if-found-entries.false) in
+    written (found == c.self.inside.entries) hit c.compare_exchange-found.ensures.7
+    ∙ (λ i. (ap (λ s. s.log) c.again-seen.ensures ∙ c.self.view_is) i ++ c.plain-offer.ensures.1 i ∷ [])

@@ -1,0 +1,4 @@
+pub mod Entries
+pub mod Knows
+pub mod Pending
+pub mod Steps
