@@ -1,5 +1,5 @@
 -- Beginnings of one list, and what records and ends they have.
-use Rattle.std.proofs.Common.{◌≡◌, suc, ◌≤◌, true, false, List, [], ◌∷◌, ◌++◌, length, refl, ap, sym, ◌∙◌, subst, arith, length-append}
+use Rattle.std.proofs.Common.{◌≡◌, suc, ◌+◌, ◌≤◌, true, false, List, [], ◌∷◌, ◌++◌, length, refl, ap, sym, ◌∙◌, subst, arith, length-append}
 use mathlib.Core.List.{IsPrefix}
 use Rattle.kp_types.specs.declared.sync.SyncRecord.{SyncRecord}
 use Rattle.kp_publish.specs.declared.entry.Entry.{Entry}
@@ -79,3 +79,39 @@ pub open_snoc : (xs : List Entry) (r : SyncRecord) → is_ended xs ≡ false →
 open_snoc [] r e = refl
 open_snoc (Record x ∷ xs) r e = open_snoc xs r e
 open_snoc (End ∷ xs) r e = absurd (cc e)
+
+pub count_snoc : (xs : List Entry) (r : SyncRecord) → is_ended xs ≡ false → length (records_of xs) + 1 ≡ length (records_of (xs ++ Record r ∷ []))
+count_snoc xs r e = sym (ap length (records_snoc xs r e) ∙ length-append (records_of xs) (r ∷ []))
+
+-- an end adds no record
+pub records_end : (xs : List Entry) → records_of (xs ++ End ∷ []) ≡ records_of xs
+records_end [] = refl
+records_end (Record r ∷ xs) = ap (λ rs. r ∷ rs) (records_end xs)
+records_end (End ∷ xs) = refl
+
+pub count_end : (xs : List Entry) → length (records_of xs) ≡ length (records_of (xs ++ End ∷ []))
+count_end xs = ap length (sym (records_end xs))
+
+pub ended_snoc : (xs : List Entry) → is_ended (xs ++ End ∷ []) ≡ true
+ended_snoc [] = refl
+ended_snoc (Record r ∷ xs) = ended_snoc xs
+ended_snoc (End ∷ xs) = refl
+
+-- a history that begins with an ended one is ended
+pub ended_more : (xs rest : List Entry) → is_ended xs ≡ true → is_ended (xs ++ rest) ≡ true
+ended_more [] rest e = absurd (cc e)
+ended_more (Record r ∷ xs) rest e = ended_more xs rest e
+ended_more (End ∷ xs) rest e = refl
+
+pub ended_begin : (xs zs : List Entry) → IsPrefix xs zs → is_ended xs ≡ true → is_ended zs ≡ true
+ended_begin xs zs p e = ap is_ended (sym p.1) ∙ ended_more xs p.0 e
+
+-- what goes on from a list goes on from each beginning of it
+pub goes_on_through : (later longer earlier : List Entry) → IsPrefix earlier longer → GoesOnFrom later longer → GoesOnFrom later earlier
+goes_on_through later longer earlier p on =
+    let first = begins_records earlier longer p in record {
+      begins = (first.0 ++ on.begins.0, sym (append-assoc (records_of earlier) first.0 on.begins.0) ∙ (ap (λ rs. rs ++ on.begins.0) first.1 ∙ on.begins.1));
+      ended = λ e.
+          let all : records_of longer ≡ records_of earlier = ended_records earlier longer p e in
+          on.ended (ended_begin earlier longer p e) ∙ all;
+    }

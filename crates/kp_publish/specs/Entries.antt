@@ -1,5 +1,5 @@
 -- What a history of publishing holds: records, and its end. Nothing counts behind the end.
-use Rattle.std.specs.Prelude.{◌≡◌, Bool, true, false, List, [], ◌∷◌}
+use Rattle.std.specs.Prelude.{◌≡◌, ◌<◌, ◌^◌, Bool, true, false, List, [], ◌∷◌, ◌++◌, length}
 use mathlib.Core.List.{IsPrefix}
 use Rattle.kp_types.specs.declared.sync.SyncRecord.{SyncRecord}
 use Rattle.kp_table_defs.specs.Rebuild.{TableParts}
@@ -34,3 +34,18 @@ table_of start log = table_from start (records_of log)
 pub record IsReady (t : TableParts) : Type 0 where
   pub ranked : is_ranked t.chains ≡ true
   pub built_in : has_built_in_chains t.chains ≡ true
+
+-- A record goes behind an open history: readers may walk the table after it, and its number is a
+-- 64-bit one.
+pub record Adds (start : TableParts) (before : List Entry) (next : SyncRecord) (after : List Entry) : Type 0 where
+  pub is_open : is_ended before ≡ false
+  pub adds : after ≡ before ++ Record next ∷ []
+  pub ready : IsReady (table_of start after)
+  pub room : length (records_of after) < 2 ^ 64
+
+-- A table stands for an open history, and counts its records.
+pub record StandsFor (start table : TableParts) (front : List Entry) : Type 0 where
+  pub is_open : is_ended front ≡ false
+  pub folded : table ≡ table_of start front
+  pub ready : IsReady table
+  pub count : table.syncs ≡ length (records_of front)

@@ -1,14 +1,24 @@
-//! Tables that are published beside readers.
+//! Tables that are published beside readers: two copies, of which readers take one without a lock
+//! while the publisher changes the other. What a reader sees is the table after a list of records
+//! that goes on from all that it saw before or learned of.
 #![tactic(auto)]
 
+mod copies;
 mod entry;
+mod fault;
+mod front;
 mod history;
+pub mod laws;
+mod start;
 mod publisher;
 mod reader;
 mod shown;
 
 pub use entry::Entry;
-pub use history::{Front, Opened, Publication};
-pub use publisher::{PublishFault, Publisher};
+pub use fault::PublishFault;
+pub use front::Front;
+pub use history::{Opened, Publication};
+pub use kp_types::SyncRecord;
+pub use start::publication;
+pub use publisher::Publisher;
 pub use reader::{Reader, View};
-pub use shown::{Addition, Shown};

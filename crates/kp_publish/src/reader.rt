@@ -1,9 +1,10 @@
 //! Readers, and what they see.
-ghost use Rattle.std.specs.Prelude.{◌≡◌, length};
+ghost use Rattle.std.specs.Prelude.{◌≡◌, [], length};
 ghost use mathlib.Core.List.{IsPrefix};
-ghost use Rattle.kp_publish.specs.Entries.{records_of, table_of, GoesOnFrom, IsReady};
+ghost use Rattle.kp_publish.specs.Entries.{records_of, GoesOnFrom, StandsFor};
 
-use crate::history::{Front, Publication};
+use crate::front::Front;
+use crate::history::Publication;
 use crate::shown::Shown;
 use crossbeam_utils::rule::Unruled;
 use kp_rules::Table;
@@ -53,12 +54,16 @@ impl<J: Publication> Reader<J> {
     /// A reader that has seen nothing.
     pub(crate) fn new(
         place: reader::Reader<Shown<J>, (), Unruled>,
-        seen: Front<J>,
-        told: Front<J>,
+        nothing: Front<J>,
     ) -> Reader<J>
-        ensures { result ≡ record { seen = seen; told = told } }
+        requires { nothing ≡ [] }
+        ensures { result ≡ record { seen = []; told = [] } }
     {
-        Reader { place, seen, told }
+        Reader {
+            place,
+            seen: nothing.again(),
+            told: nothing,
+        }
     }
 
     /// Takes the published table. It tries again until it has it, and one that goes on from all
@@ -104,9 +109,9 @@ impl<J: Publication> Reader<J> {
 
 impl<J: Publication> View<J> {
     /// The table after the records that are seen, from the one that the publication started from.
+    /// It counts them, and may be walked.
     pub fn table(&self) -> &Table
-        ensures table { result.now ≡ table_of J.start self.now.seen }
-        ensures ready { IsReady result.now }
+        ensures { StandsFor J.start result.now self.now.seen }
     {
         self.reading.get().table()
     }

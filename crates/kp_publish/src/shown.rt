@@ -1,10 +1,10 @@
 //! The value that readers take, and the records that it takes in.
-ghost use Rattle.std.specs.Prelude.{◌≡◌, ◌++◌, ◌∷◌, [], false};
-ghost use Rattle.kp_publish.specs.Entries.{is_ended, records_of, table_of, IsReady};
-ghost use Rattle.kp_publish.specs.declared.entry.Entry.TheVariants.{Record};
+ghost use Rattle.std.specs.Prelude.{◌≡◌};
+ghost use Rattle.kp_publish.specs.Entries.{table_of, Adds, StandsFor};
 
 use crate::entry::Entry;
-use crate::history::{Front, Publication};
+use crate::front::Front;
+use crate::history::Publication;
 use kp_rules::Table;
 use kp_types::SyncRecord;
 use left_right::Absorb;
@@ -20,24 +20,21 @@ pub struct Addition<J: Publication> {
 }
 
 impl<J: Publication> Model for Addition<J> {
-    ghost use Rattle.std.specs.Prelude.{◌≡◌, List, ◌++◌, ◌∷◌, [], false};
+    ghost use Rattle.std.specs.Prelude.{List};
     ghost use Rattle.kp_publish.specs.declared.entry.Entry.{Entry};
-    ghost use Rattle.kp_publish.specs.declared.entry.Entry.TheVariants.{Record};
-    ghost use Rattle.kp_publish.specs.Entries.{is_ended, table_of, IsReady};
+    ghost use Rattle.kp_publish.specs.Entries.{Adds};
 
     ghost Value = { List Entry };
 
     ghost view = { λ a. a.after };
 
-    ghost invariant = { λ a. (is_ended a.before ≡ false) × (a.after ≡ a.before ++ Record a.next ∷ []) × IsReady (table_of J.start a.after) };
+    ghost invariant = { λ a. Adds J.start a.before a.next a.after };
 }
 
 impl<J: Publication> Addition<J> {
     /// The record, after one history and before the other.
     pub(crate) fn new(next: SyncRecord, before: Front<J>, after: Front<J>) -> Addition<J>
-        requires open { is_ended before ≡ false }
-        requires adds { after ≡ before ++ Record next ∷ [] }
-        requires ready { IsReady (table_of J.start after) }
+        requires { Adds J.start before next after }
         ensures { result ≡ after }
     {
         Addition {
@@ -56,39 +53,43 @@ pub struct Shown<J: Publication> {
 }
 
 impl<J: Publication> Model for Shown<J> {
-    ghost use Rattle.std.specs.Prelude.{◌≡◌, List, false};
+    ghost use Rattle.std.specs.Prelude.{List};
     ghost use Rattle.kp_publish.specs.declared.entry.Entry.{Entry};
-    ghost use Rattle.kp_publish.specs.Entries.{is_ended, table_of, IsReady};
+    ghost use Rattle.kp_publish.specs.Entries.{StandsFor};
 
     ghost Value = { List Entry };
 
     ghost view = { λ s. s.front };
 
-    ghost invariant = { λ s. (is_ended s.front ≡ false) × (s.table ≡ table_of J.start s.front) × IsReady s.table };
+    ghost invariant = { λ s. StandsFor J.start s.table s.front };
 }
 
 impl<J: Publication> Shown<J> {
-    /// The table that a publication starts from.
+    /// A table that stands for a history.
     pub(crate) fn new(table: Table, front: Front<J>) -> Shown<J>
-        requires start { (front ≡ []) × (table ≡ J.start) }
-        requires ready { IsReady table }
-        ensures { result ≡ [] }
+        requires { StandsFor J.start table front }
+        ensures { result ≡ front }
     {
         Shown { table, front }
     }
 
     /// The table.
     pub(crate) fn table(&self) -> &Table
-        ensures table { result.now ≡ table_of J.start self.now }
-        ensures ready { IsReady result.now }
+        ensures { StandsFor J.start result.now self.now }
     {
         &self.table
     }
 
+    /// The table, for good.
+    pub(crate) fn into_table(self) -> Table
+        ensures { result ≡ table_of J.start self }
+    {
+        self.table
+    }
+
     /// The history that it stands for.
     pub(crate) fn front(&self) -> &Front<J>
-        ensures front { result.now ≡ self.now }
-        ensures open { is_ended self.now ≡ false }
+        ensures { result.now ≡ self.now }
     {
         &self.front
     }
@@ -109,6 +110,7 @@ impl<J: Publication> Absorb<Addition<J>> for Shown<J> {
         addition: &Addition<J>,
         _other: &Shown<J>,
     ) -> Result<(), AllocError> {
+        // Additions come in order, but the trait doesn't say it.
         if !self.front.is_same(&addition.before) {
             return Err(AllocError);
         }

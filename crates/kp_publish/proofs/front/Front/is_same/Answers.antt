@@ -3,7 +3,7 @@ use Rattle.std.proofs.lemmas.Bool.Decides.{nat_tests}
 use mathlib.Core.List.{IsPrefix}
 use Rattle.kp_publish.specs.declared.entry.Entry.{Entry}
 use Rattle.kp_publish.proofs.Beginnings.{prefix_same}
-use Rattle.kp_publish.proofs.history.Front.is_same.Goals as goal
+use Rattle.kp_publish.proofs.front.Front.is_same.Goals as goal
 
 pub returns : goal.returns
 returns g c same =

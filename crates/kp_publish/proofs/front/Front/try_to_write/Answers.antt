@@ -4,7 +4,7 @@ use Rattle.kp_publish.specs.declared.entry.Entry.TheVariants.{Record}
 use Rattle.kp_publish.specs.Entries.{records_of, is_ended}
 use Rattle.kp_publish.proofs.Beginnings.{open_length, records_snoc}
 use Rattle.kp_publish.proofs.Writing.{writes_moves, written}
-use Rattle.kp_publish.proofs.history.Front.with_record.Goals as goal
+use Rattle.kp_publish.proofs.front.Front.try_to_write.Goals as goal
 
 pub overflow_add-entries : goal.overflow_add-entries
 overflow_add-entries g c =

@@ -4,7 +4,7 @@ use mathlib.Core.List.{IsPrefix}
 use Rattle.kp_publish.specs.declared.entry.Entry.{Entry}
 use Rattle.kp_publish.specs.Entries.{records_of}
 use Rattle.kp_publish.proofs.Beginnings.{goes_on}
-use Rattle.kp_publish.proofs.history.Front.goes_on_from.Goals as goal
+use Rattle.kp_publish.proofs.front.Front.goes_on_from.Goals as goal
 
 pub returns-clause-goes_on : goal.returns-clause-goes_on
 returns-clause-goes_on g c long =
