@@ -1,5 +1,5 @@
 -- Beginnings of one list, and what records and ends they have.
-use Rattle.std.proofs.Common.{◌≡◌, suc, ◌+◌, ◌≤◌, true, false, List, [], ◌∷◌, ◌++◌, length, refl, ap, sym, ◌∙◌, subst, arith, length-append}
+use Rattle.std.proofs.Common.{◌≡◌, suc, ◌+◌, ◌≤◌, true, false, List, [], ◌∷◌, ◌++◌, length, refl, ap, sym, ◌∙◌, subst, arith, length-append, append_assoc}
 use mathlib.Core.List.{IsPrefix}
 use Rattle.kp_types.specs.declared.sync.SyncRecord.{SyncRecord}
 use Rattle.kp_publish.specs.declared.entry.Entry.{Entry}
@@ -110,7 +110,7 @@ ended_begin xs zs p e = ap is_ended (sym p.1) ∙ ended_more xs p.0 e
 pub goes_on_through : (later longer earlier : List Entry) → IsPrefix earlier longer → GoesOnFrom later longer → GoesOnFrom later earlier
 goes_on_through later longer earlier p on =
     let first = begins_records earlier longer p in record {
-      begins = (first.0 ++ on.begins.0, sym (append-assoc (records_of earlier) first.0 on.begins.0) ∙ (ap (λ rs. rs ++ on.begins.0) first.1 ∙ on.begins.1));
+      begins = (first.0 ++ on.begins.0, sym (append_assoc (records_of earlier) first.0 on.begins.0) ∙ (ap (λ rs. rs ++ on.begins.0) first.1 ∙ on.begins.1));
       ended = λ e.
           let all : records_of longer ≡ records_of earlier = ended_records earlier longer p e in
           on.ended (ended_begin earlier longer p e) ∙ all;

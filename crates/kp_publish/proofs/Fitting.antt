@@ -1,9 +1,10 @@
 -- What a publisher says stays true of its copies.
-use Rattle.std.proofs.Common.{◌≡◌, true, false, List, [], ◌∷◌, ◌++◌, refl, ap, sym, ◌∙◌}
+use Rattle.std.proofs.Common.{◌≡◌, true, false, List, [], ◌∷◌, ◌++◌, Option, None, refl, ap, sym, ◌∙◌}
+use Rattle.std.specs.List.{fold}
 use Rattle.kp_publish.specs.declared.entry.Entry.{Entry}
 use Rattle.kp_publish.specs.declared.entry.Entry.TheVariants.{End}
 use Rattle.kp_publish.specs.Entries.{records_of, is_ended}
-use Rattle.kp_publish.specs.Pending.{Fits}
+use Rattle.kp_publish.specs.Pending.{Fits, after, newest_of}
 use Rattle.kp_publish.proofs.Beginnings.{records_end, ended_snoc}
 
 -- readers take the same, and the same is pending
@@ -45,3 +46,12 @@ fits_first published newest shown kept p s k = record {
   is_open = λ _. (p ∙ sym s, sym (k ∙ s));
   records = ap records_of (p ∙ sym s);
 }
+
+-- where nothing is held and nothing logged, readers take all
+pub none_kept : (shown : List Entry) (logged : List (List Entry)) (held : Option (List Entry)) → held ≡ None → logged ≡ []
+    → newest_of after shown logged held ≡ shown
+none_kept shown logged held h l = rw (h, l) refl
+
+pub all_kept : (shown : List Entry) (logged : List (List Entry)) (held : Option (List Entry)) → held ≡ None
+    → fold after shown logged ≡ newest_of after shown logged held
+all_kept shown logged held h = rw h refl

@@ -1,5 +1,5 @@
 //! The two copies of a table, and what readers don't see yet.
-ghost use Rattle.std.specs.Prelude.{◌≡◌, ◌+◌, ◌-◌, ◌^◌, ◌<◌, ◌++◌, ◌∷◌, [], drop, length, false, OnOk, OnErr, IfErr};
+ghost use Rattle.std.specs.Prelude.{◌≡◌, ◌+◌, ◌-◌, ◌^◌, ◌<◌, ◌++◌, ◌∷◌, [], drop, fold, length, false, OnOk, OnErr, IfErr};
 ghost use Rattle.kp_history_defs.specs.History.{table_from};
 ghost use Rattle.kp_publish.specs.Entries.{records_of, is_ended, table_of, IsReady};
 ghost use Rattle.kp_publish.specs.Pending.{after, newest_of};
@@ -65,6 +65,27 @@ fn settle<J: Publication>(
             Ok(()) => None,
             Err(back) => Some(back),
         },
+    }
+}
+
+/// Has readers take a copy with all that is pending.
+fn show<J: Publication, R: Wait>(
+    rt: &R,
+    writer: &mut Writer<Shown<J>, Addition<J>, (), Unruled>,
+) -> Result<(), NoMemory>
+    ensures shown { OnOk result (writer.new.desk.shown.value ≡ fold after
+            writer.old.desk.shown.value (drop writer.old.behind writer.old.log.items)) }
+    ensures none { OnOk result (drop writer.new.behind writer.new.log.items ≡ []) }
+    ensures same { OnErr result (writer.new.desk.shown.value ≡ writer.old.desk.shown.value) }
+    ensures pending { OnErr result (drop writer.new.behind writer.new.log.items
+        ≡ drop writer.old.behind writer.old.log.items) }
+{
+    let shown = replace_with(writer, rt, |writer, rt| {
+        writer.publish_as::<Unruled, R>(rt)
+    });
+    match shown {
+        Ok(()) => Ok(()),
+        Err(_) => Err(NoMemory),
     }
 }
 
@@ -136,16 +157,9 @@ impl<J: Publication> Copies<J, Shown<J>, Addition<J>> {
         if self.held.is_some() {
             return Err(NoMemory);
         }
-        let shown = replace_with(&mut self.writer, rt, |writer, rt| {
-            writer.publish_as::<Unruled, R>(rt)
-        });
-        match shown {
-            Ok(()) => {
-                self.published = self.newest.again();
-                Ok(())
-            }
-            Err(_) => Err(NoMemory),
-        }
+        show(rt, &mut self.writer)?;
+        self.published = self.newest.again();
+        Ok(())
     }
 
     /// Ends the history, of which nothing is pending.

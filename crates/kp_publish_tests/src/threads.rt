@@ -102,7 +102,7 @@ fn last_seen<J: Publication + Send + Sync, R: Threads + Wait + Sync>(
 }
 
 #[test]
-fn counts_never_fall_and_tables_are_those_after_so_many_records(rt: HostRuntime) -> Result<(), NoMemory> {
+fn counts_never_fall(rt: HostRuntime) -> Result<(), NoMemory> {
     let start = fixed_chains(rt.alloc())?;
     let seen = last_seen::<Brand, _>(&rt, rt.alloc(), Opened::new(), &start)?;
     assert!(rt; seen == (Some(RECORDS), Some(RECORDS)));

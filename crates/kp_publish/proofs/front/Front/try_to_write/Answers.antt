@@ -1,8 +1,7 @@
 use Rattle.std.proofs.Common.{◌≡◌, ◌+◌, ◌-◌, ◌^◌, ◌==◌, ◌<◌, true, false, [], ◌∷◌, ◌++◌, length, sym, ◌∙◌, ap, arith, length-append}
 use Rattle.std.proofs.lemmas.Bool.Decides.{nat_tests}
-use Rattle.kp_publish.specs.declared.entry.Entry.TheVariants.{Record}
 use Rattle.kp_publish.specs.Entries.{records_of, is_ended}
-use Rattle.kp_publish.proofs.Beginnings.{open_length, records_snoc}
+use Rattle.kp_publish.proofs.Beginnings.{open_length}
 use Rattle.kp_publish.proofs.Writing.{writes_moves, written}
 use Rattle.kp_publish.proofs.front.Front.try_to_write.Goals as goal
 
@@ -24,7 +23,7 @@ compare_exchange-found-requires g c =
       book,
       pen.0 ∙ book,
       offer.0,
-      rw (ap (λ w. w.key) h, pen.1, offer.1, offer.3, again) (writes_moves c.self.inside.seen.log (Record c.args.next.now) c.self.inside.entries (sym c.self.invariant.0)),
+      rw (ap (λ w. w.key) h, pen.1, offer.1, offer.3, again) (writes_moves c.self.inside.seen.log (g.X.Entered.entry c.args.next.now) c.self.inside.entries (sym c.self.invariant.0)),
     )
 
 pub overflow_add-result : goal.overflow_add-result
@@ -37,18 +36,16 @@ overflow_add-result g c =
 pub invariant_of-result : goal.invariant_of-result
 invariant_of-result g c =
     let log = c.self.inside.seen.log in
-    let r = c.args.next.now in
+    let e = g.X.Entered.entry c.args.next.now in
     let found = c.compare_exchange-found.result in
-    let is_open : is_ended log ≡ false = ap is_ended c.self.view_is ∙ c.requires.open in
     let hit : (found == c.self.inside.entries) ≡ true = grind (arith, nat_tests, c.if-found-entries.false) in
-    let new : c.compare_exchange-found.new.seen.log ≡ log ++ Record r ∷ [] =
+    let new : c.compare_exchange-found.new.seen.log ≡ log ++ e ∷ [] =
     written (found == c.self.inside.entries) hit c.compare_exchange-found.ensures.7
     ∙ (λ i. ap (λ s. s.log) c.again-seen.ensures i ++ c.plain-offer.ensures.1 i ∷ []) in
-    let more : length (log ++ Record r ∷ []) ≡ length log + 1 = length-append log (Record r ∷ []) in
-    let more' : length (records_of (log ++ Record r ∷ [])) ≡ length (records_of log) + 1 =
-    ap length (records_snoc log r is_open) ∙ length-append (records_of log) (r ∷ []) in (
+    let more : length (log ++ e ∷ []) ≡ length log + 1 = length-append log (e ∷ []) in
+    let records : c.args.records ≡ length (records_of (log ++ e ∷ [])) = rw c.self.view_is c.requires.records in (
       omega (arith, c.self.invariant.0, more, ap length new),
-      omega (arith, c.self.invariant.1, more', ap (λ l. length (records_of l)) new),
+      records ∙ ap (λ l. length (records_of l)) (sym new),
       c.compare_exchange-found.ensures.0 ∙ (ap (λ s. s.book) c.again-seen.ensures ∙ c.self.invariant.2),
     )
 
