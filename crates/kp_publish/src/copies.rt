@@ -45,7 +45,7 @@ impl<J: Publication, T: Absorb<O, State = [Entry; 0]> + Drop, O: Drop> Model for
 
     ghost invariant = { λ c. Fits c.published c.newest (T.state c.writer.desk.shown.value)
         (newest_of T.applied (T.state c.writer.desk.shown.value)
-            (drop c.writer.behind c.writer.log.items) c.held) };
+        (drop c.writer.behind c.writer.log.items) c.held) };
 }
 
 /// Hands what is held to the writer, and gives it back where there is no room.
@@ -55,9 +55,9 @@ fn settle<J: Publication>(
 ) -> Option<Addition<J>>
     ensures shown { writer.new.desk.shown.value ≡ writer.old.desk.shown.value }
     ensures newest { newest_of after writer.new.desk.shown.value
-            (drop writer.new.behind writer.new.log.items) result
+        (drop writer.new.behind writer.new.log.items) result
         ≡ newest_of after writer.old.desk.shown.value
-            (drop writer.old.behind writer.old.log.items) held }
+        (drop writer.old.behind writer.old.log.items) held }
 {
     match held {
         None => None,
@@ -74,7 +74,7 @@ fn show<J: Publication, R: Wait>(
     writer: &mut Writer<Shown<J>, Addition<J>, (), Unruled>,
 ) -> Result<(), NoMemory>
     ensures shown { OnOk result (writer.new.desk.shown.value ≡ fold after
-            writer.old.desk.shown.value (drop writer.old.behind writer.old.log.items)) }
+        writer.old.desk.shown.value (drop writer.old.behind writer.old.log.items)) }
     ensures none { OnOk result (drop writer.new.behind writer.new.log.items ≡ []) }
     ensures same { OnErr result (writer.new.desk.shown.value ≡ writer.old.desk.shown.value) }
     ensures pending { OnErr result (drop writer.new.behind writer.new.log.items

@@ -74,6 +74,7 @@ impl Publication for Brand {
 }
 
 /// An empty history, which is no publication's yet. Contracts see which one it is.
+#[derive(Drop)]
 pub struct Opened {
     head: Word<Entry, u64, Counted>,
     seen: Seen<Entry, u64, Counted>,

@@ -9,16 +9,16 @@ mod fault;
 mod front;
 mod history;
 pub mod laws;
-mod start;
 mod publisher;
 mod reader;
 mod shown;
+mod start;
 
 pub use entry::Entry;
 pub use fault::PublishFault;
 pub use front::Front;
 pub use history::{Opened, Publication};
 pub use kp_types::SyncRecord;
-pub use start::publication;
 pub use publisher::Publisher;
 pub use reader::{Reader, View};
+pub use start::publication;

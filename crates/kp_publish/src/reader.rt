@@ -52,10 +52,7 @@ impl<J: Publication> Model for View<J> {
 
 impl<J: Publication> Reader<J> {
     /// A reader that has seen nothing.
-    pub(crate) fn new(
-        place: reader::Reader<Shown<J>, (), Unruled>,
-        nothing: Front<J>,
-    ) -> Reader<J>
+    pub(crate) fn new(place: reader::Reader<Shown<J>, (), Unruled>, nothing: Front<J>) -> Reader<J>
         requires { nothing ≡ [] }
         ensures { result ≡ record { seen = []; told = [] } }
     {

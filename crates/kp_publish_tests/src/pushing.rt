@@ -19,14 +19,20 @@ fn place() -> ChainAt {
     }
 }
 
+fn only<T: Drop>(alloc: Global, item: T) -> Result<Items<T>, NoMemory> {
+    let mut items = Items::new(alloc);
+    match items.push(item) {
+        Ok(()) => Ok(items),
+        Err(_) => Err(NoMemory),
+    }
+}
+
 /// The edit that writes a number into the chain.
 fn batch_of(alloc: Global, number: u64) -> Result<Batch, NoMemory> {
     let mut matches = ArrayVec::new();
     matches.push(Match::Statistic { p: number });
-    let mut rules = Items::new(alloc);
-    rules.push(Rule::of(matches, Target::Accept))?;
-    let mut edits = Items::new(alloc);
-    edits.push(Edit::Write { at: place(), rules })?;
+    let rules = only(alloc, Rule::of(matches, Target::Accept))?;
+    let edits = only(alloc, Edit::Write { at: place(), rules })?;
     Ok(Batch { edits })
 }
 

@@ -21,21 +21,19 @@ const RECORDS: u64 = 10_000;
 fn push_all<J: Publication, R: Wait>(
     rt: &R,
     alloc: Global,
-    publisher: Publisher<J>,
+    publisher: &mut Publisher<J>,
     own: Table,
     done: &AtomicU32,
-) -> Publisher<J>
-    requires { StandsFor J.start own publisher.newest }
+)
+    requires { StandsFor J.start own publisher.old.newest }
 {
-    let mut publisher = publisher;
     let mut own = own;
     for turn in 0..RECORDS {
-        if push(rt, alloc, &mut publisher, &mut own).is_none() {
+        if push(rt, alloc, publisher, &mut own).is_none() {
             break;
         }
     }
     done.store(1, Ordering::SeqCst);
-    publisher
 }
 
 /// How many records the reader saw last, once the publisher is done. None where a count fell, or a
@@ -76,19 +74,19 @@ fn last_seen<J: Publication + Send + Sync, R: Threads + Wait + Sync>(
         return Err(NoMemory);
     }
     let own = start.copy(alloc)?;
-    let (publisher, readers) = publication::<J, R>(rt, alloc, opened, start, 2)?;
+    let (mut publisher, readers) = publication::<J, R>(rt, alloc, opened, start, 2)?;
     let mut readers = readers.into_vec().into_iter();
     let (Some(first), Some(second)) = (readers.next(), readers.next()) else {
         publisher.into_table(rt);
         return Err(NoMemory);
     };
     let count = AtomicU32::new(0);
-    let done = &count;
-    let (publisher, seen) = thread::join(
+    let (done, publishing) = (&count, &mut publisher);
+    let (_, seen) = thread::join(
         rt,
         move ||
-            requires { StandsFor J.start own publisher.newest }
-        { push_all(rt, alloc, publisher, own, done) },
+            requires { StandsFor J.start own publishing.now.newest }
+        { push_all(rt, alloc, publishing, own, done) },
         move || {
             thread::join(
                 rt,
