@@ -1,0 +1,5 @@
+//! Tests of the event queue with threads.
+#![tactic(auto)]
+
+#[cfg(test)]
+mod threads;

@@ -1,0 +1,5 @@
+pub mod Beginnings
+pub mod Fitting
+pub mod Readers
+pub mod Tables
+pub mod Writing

@@ -1,0 +1,12 @@
+-- What becomes of a record that isn't published.
+use Rattle.std.specs.Prelude.{◌≡◌, List, [], ◌∷◌, ◌++◌}
+use Rattle.kp_types.specs.declared.sync.SyncRecord.{SyncRecord}
+use Rattle.kp_publish.specs.declared.entry.Entry.TheVariants.{Record}
+use Rattle.kp_publish.specs.declared.fault.PublishFault.{PublishFault}
+use Rattle.kp_publish.specs.declared.fault.PublishFault.TheVariants.{NoMemoryBack, NoMemoryPending}
+use Rattle.kp_publish.specs.Pending.{Keeps}
+
+-- it comes back and all is as before, or it is kept behind those that are pending
+abbrev pub IsKeptOrBack : PublishFault → SyncRecord → Keeps → Keeps → Type 0
+IsKeptOrBack (NoMemoryBack back) next before now = (back ≡ next) × (now ≡ before)
+IsKeptOrBack NoMemoryPending next before now = now.newest ≡ before.newest ++ Record next ∷ []

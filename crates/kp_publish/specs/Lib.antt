@@ -1,0 +1,5 @@
+pub mod Entries
+pub mod Faults
+pub mod Knows
+pub mod Pending
+pub mod Steps

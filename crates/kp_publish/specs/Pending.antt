@@ -1,0 +1,31 @@
+-- What a publisher has taken in and not published.
+use Rattle.std.specs.Prelude.{◌≡◌, false, List, refl, Option, Some, None}
+use Rattle.std.specs.List.{fold}
+use Rattle.std.specs.Coded.{Coded, code_by, coded×, coded_list}
+use Rattle.kp_publish.specs.declared.entry.Entry.{Entry}
+use Rattle.kp_publish.specs.contracts.entry.Entry as entry_row
+use Rattle.kp_publish.specs.Entries.{records_of, is_ended}
+
+-- the history that is published, and the one with what is pending
+pub record Keeps : Type 0 where
+  pub published : List Entry
+  pub newest : List Entry
+
+-- it is stored as a pair
+abbrev pub keeps_code : Coded Keeps
+keeps_code = code_by (List Entry × List Entry) (coded× (coded_list entry_row.the_row.coded) (coded_list entry_row.the_row.coded)) (λ k. (k.published, k.newest)) (λ p. record { published = p.0; newest = p.1 }) (λ _. refl)
+
+-- An addition is the history after it.
+abbrev pub after : List Entry → List Entry → List Entry
+after before addition = addition
+
+-- the newest history: the published one, then what is pending, and then the one held
+abbrev pub newest_of : {O : Type 0} → (List Entry → O → List Entry) → List Entry → List O → Option O → List Entry
+newest_of applied shown pending (Some held) = applied (fold applied shown pending) held
+newest_of applied shown pending None = fold applied shown pending
+
+-- What a publisher says, beside the history of the copy that readers take and that with what is
+-- pending. Until it is closed they are the same; then no record is pending.
+pub record Fits (published newest shown pending : List Entry) : Type 0 where
+  pub is_open : is_ended newest ≡ false → (published ≡ shown) × (newest ≡ pending)
+  pub records : records_of published ≡ records_of shown

@@ -1,0 +1,192 @@
+//! The two copies of a table, and what readers don't see yet.
+ghost use Rattle.std.specs.Prelude.{◌≡◌, ◌+◌, ◌-◌, ◌^◌, ◌<◌, ◌++◌, ◌∷◌, [], drop, fold, length, false, OnOk, OnErr, IfErr};
+ghost use Rattle.kp_history_defs.specs.History.{table_from};
+ghost use Rattle.kp_publish.specs.Entries.{records_of, is_ended, table_of, IsReady};
+ghost use Rattle.kp_publish.specs.Pending.{after, newest_of};
+ghost use Rattle.kp_publish.specs.declared.entry.Entry.TheVariants.{Record, End};
+
+use crate::entry::Entry;
+use crate::front::Front;
+use crate::history::{Head, Publication};
+use crate::shown::{Addition, Shown};
+use core::mem::replace_with;
+use crossbeam_utils::rule::Unruled;
+use kp_base::NoMemory;
+use kp_rules::Table;
+use kp_types::SyncRecord;
+use left_right::Absorb;
+use left_right::writer::Writer;
+use std::marker::Model;
+use std::sync::Wait;
+
+/// The copy that readers take, the other one, and the records that are pending. Contracts see the
+/// history that is published, and that with what is pending.
+///
+/// The bound is the parameters' own, since one on `Shown` itself is proved twice, and not to the
+/// same value.
+pub struct Copies<J: Publication, T: Absorb<O, State = [Entry; 0]> + Drop, O: Drop> {
+    head: Head<J>,
+    writer: Writer<T, O, (), Unruled>,
+    published: Front<J>,
+    newest: Front<J>,
+    // The last record, where the writer had no room for it.
+    held: Option<O>,
+}
+
+impl<J: Publication, T: Absorb<O, State = [Entry; 0]> + Drop, O: Drop> Model for Copies<J, T, O> {
+    ghost use Rattle.std.specs.Prelude.{drop};
+    ghost use Rattle.kp_publish.specs.Pending.{Fits, Keeps, keeps_code, newest_of};
+
+    ghost Value = { Keeps };
+
+    ghost coded = { keeps_code };
+
+    ghost view = { λ c. record { published = c.published; newest = c.newest } };
+
+    ghost invariant = { λ c. Fits c.published c.newest (T.state c.writer.desk.shown.value)
+        (newest_of T.applied (T.state c.writer.desk.shown.value)
+        (drop c.writer.behind c.writer.log.items) c.held) };
+}
+
+/// Hands what is held to the writer, and gives it back where there is no room.
+fn settle<J: Publication>(
+    writer: &mut Writer<Shown<J>, Addition<J>, (), Unruled>,
+    held: Option<Addition<J>>,
+) -> Option<Addition<J>>
+    ensures shown { writer.new.desk.shown.value ≡ writer.old.desk.shown.value }
+    ensures newest { newest_of after writer.new.desk.shown.value
+        (drop writer.new.behind writer.new.log.items) result
+        ≡ newest_of after writer.old.desk.shown.value
+        (drop writer.old.behind writer.old.log.items) held }
+{
+    match held {
+        None => None,
+        Some(addition) => match writer.append(addition) {
+            Ok(()) => None,
+            Err(back) => Some(back),
+        },
+    }
+}
+
+/// Has readers take a copy with all that is pending.
+fn show<J: Publication, R: Wait>(
+    rt: &R,
+    writer: &mut Writer<Shown<J>, Addition<J>, (), Unruled>,
+) -> Result<(), NoMemory>
+    ensures shown { OnOk result (writer.new.desk.shown.value ≡ fold after
+        writer.old.desk.shown.value (drop writer.old.behind writer.old.log.items)) }
+    ensures none { OnOk result (drop writer.new.behind writer.new.log.items ≡ []) }
+    ensures same { OnErr result (writer.new.desk.shown.value ≡ writer.old.desk.shown.value) }
+    ensures pending { OnErr result (drop writer.new.behind writer.new.log.items
+        ≡ drop writer.old.behind writer.old.log.items) }
+{
+    let shown = replace_with(writer, rt, |writer, rt| {
+        writer.publish_as::<Unruled, R>(rt)
+    });
+    match shown {
+        Ok(()) => Ok(()),
+        Err(_) => Err(NoMemory),
+    }
+}
+
+impl<J: Publication> Copies<J, Shown<J>, Addition<J>> {
+    /// Copies that readers take at a history, with nothing pending.
+    pub(crate) fn new(
+        head: Head<J>,
+        writer: Writer<Shown<J>, Addition<J>, (), Unruled>,
+        front: Front<J>,
+    ) -> Copies<J, Shown<J>, Addition<J>>
+        requires shown { writer.desk.shown.value ≡ front }
+        requires pending { drop writer.behind writer.log.items ≡ [] }
+        ensures { result ≡ record { published = front; newest = front } }
+    {
+        Copies {
+            head,
+            writer,
+            published: front.again(),
+            newest: front,
+            held: None,
+        }
+    }
+
+    /// The front of what is published.
+    pub(crate) fn published(&self) -> &Front<J>
+        ensures { result.now ≡ self.now.published }
+    {
+        &self.published
+    }
+
+    /// The front of what is published and of what is pending.
+    pub(crate) fn newest(&self) -> &Front<J>
+        ensures { result.now ≡ self.now.newest }
+    {
+        &self.newest
+    }
+
+    /// Takes in a record, behind those that are pending. It comes back where there is no room.
+    pub(crate) fn take_in<R: Wait>(&mut self, rt: &R, next: SyncRecord) -> Result<(), SyncRecord>
+        requires open { is_ended self.old.newest ≡ false }
+        requires number { next.sync ≡ length (records_of self.old.newest) + 1 }
+        requires ready { IsReady (table_from J.start (records_of self.old.newest ++ next ∷ [])) }
+        ensures published { self.new.published ≡ self.old.published }
+        ensures ok { OnOk result (self.new.newest ≡ self.old.newest ++ Record next ∷ []) }
+        ensures err { OnErr result (self.new ≡ self.old) }
+        ensures back { IfErr result (λ r. r ≡ next) }
+    {
+        let held = self.held.take();
+        self.held = settle(&mut self.writer, held);
+        if self.held.is_some() {
+            return Err(next);
+        }
+        let after = self.newest.with_record(rt, &self.head, &next);
+        let addition = Addition::new(next, self.newest.again(), after.again());
+        self.newest = after;
+        self.held = settle(&mut self.writer, Some(addition));
+        Ok(())
+    }
+
+    /// Publishes what is pending.
+    pub(crate) fn publish<R: Wait>(&mut self, rt: &R) -> Result<(), NoMemory>
+        requires open { is_ended self.old.newest ≡ false }
+        ensures newest { self.new.newest ≡ self.old.newest }
+        ensures ok { OnOk result (self.new.published ≡ self.new.newest) }
+        ensures err { OnErr result (self.new ≡ self.old) }
+    {
+        let held = self.held.take();
+        self.held = settle(&mut self.writer, held);
+        if self.held.is_some() {
+            return Err(NoMemory);
+        }
+        show(rt, &mut self.writer)?;
+        self.published = self.newest.again();
+        Ok(())
+    }
+
+    /// Ends the history, of which nothing is pending.
+    pub(crate) fn end<R: Wait>(&mut self, rt: &R)
+        requires open { is_ended self.old.newest ≡ false }
+        requires whole { self.old.published ≡ self.old.newest }
+        requires room { length (records_of self.old.newest) < 2 ^ 64 - 1 }
+        ensures newest { self.new.newest ≡ self.old.newest ++ End ∷ [] }
+        ensures published { self.new.published ≡ self.new.newest }
+    {
+        let end = self.newest.with_end(rt, &self.head);
+        self.published = end.again();
+        self.newest = end;
+    }
+
+    /// The table that readers take, once none is inside any more.
+    pub(crate) fn into_table<R: Wait>(self, rt: &R) -> Table
+        ensures { result ≡ table_of J.start self.published }
+    {
+        let Copies {
+            head: _head,
+            writer,
+            published: _published,
+            newest: _newest,
+            held: _held,
+        } = self;
+        let shown = writer.take(rt);
+        Box::into_inner(shown).into_table()
+    }
+}
