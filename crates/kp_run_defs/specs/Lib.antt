@@ -1,3 +1,4 @@
+pub mod GenText
 pub mod Replay
 pub mod ReplayText
 pub mod Words
