@@ -1,7 +1,5 @@
 //! Pods, and their deletes.
-ghost use Rattle.std.specs.Prelude.{◌≡◌, ◌*◌, ◌<◌, ◌++◌, replicate, OnOk, string_bytes};
-ghost use Rattle.std.specs.Int.{w64, to_le_bytes};
-ghost use Rattle.rand_chacha.specs.ChaCha.{key_of};
+ghost use Rattle.std.specs.Prelude.{◌≡◌, ◌<◌, ◌++◌, OnOk, string_bytes};
 ghost use Rattle.kp_gen_defs.specs.Script as spec;
 
 use crate::pieces::push_all;
@@ -24,27 +22,21 @@ pub(crate) fn push_pod(text: &mut String, plan: ScriptPlan, place: u64) -> Resul
     ensures { OnOk result (string_bytes text.new
         ≡ string_bytes text.old ++ spec.pod_line plan place) }
 {
-    let mut words = pod_words(plan.seed, place);
-    let service = words.next_word() as u64 % plan.services;
-    let node = words.next_word() as u64 % 3;
-    let ready = words.next_word() % 8 != 0;
+    let service = word(plan.seed, 3 * place) as u64 % plan.services;
+    let node = word(plan.seed, 3 * place + 1) as u64 % 3;
+    let ready = word(plan.seed, 3 * place + 2) % 8 != 0;
     push_placed_pod(text, place, service, node, ready)
 }
 
-/// The words of a seed, from those of a Pod on.
-fn pod_words(seed: u64, place: u64) -> ChaCha8Rng
-    requires { place < 60000 }
-    ensures { result ≡ record {
-        key = key_of (to_le_bytes w64 seed ++ replicate 24 0);
-        stream = 0;
-        word_pos = 3 * place;
-    } }
+/// The word of a seed at a place of its stream 0.
+fn word(seed: u64, place: u64) -> u32
+    ensures { result ≡ spec.word_of seed place }
 {
     let mut key = [0; 32];
     key[..8].copy_from_slice(&seed.to_le_bytes());
     let mut words = ChaCha8Rng::from_seed(key);
-    words.set_word_pos(3 * place as u128);
-    words
+    words.set_word_pos(place as u128);
+    words.next_word()
 }
 
 /// Adds a Pod of a Service on a Node.

@@ -24,10 +24,6 @@ pub record IsPlan (plan : ScriptPlan) : Type 0 where
 abbrev pub word_of : ℕ → ℕ → ℕ
 word_of seed k = word_at 4 (key_of (to_le_bytes w64 seed ++ replicate 24 0)) 0 k
 
--- the words of a Pod are three, one behind the other
-abbrev pub pod_word : ScriptPlan → ℕ → ℕ → ℕ
-pod_word plan j place = word_of plan.seed (3 * j + place)
-
 -- ---- Lines of objects
 
 -- the configuration, of a node with an address and a range of Pods
@@ -83,11 +79,12 @@ placed_pod_line j service node ready = concat (
     ∷ codes "\"},\"status\":{\"phase\":\"Running\",\"podIP\":\"" ∷ pod_address j
     ∷ codes "\",\"conditions\":[{\"type\":\"Ready\",\"status\":\"" ∷ status_text ready ∷ codes "\"}]}}" ∷ [])
 
--- a Pod: p0 and those that follow, of which the words choose the Service, the Node, and whether it is ready, as seven of
--- eight are
+-- a Pod: p0 and those that follow, of which the next three words choose the Service, the Node, and whether it is
+-- ready, as seven of eight are
 abbrev pub pod_line : ScriptPlan → ℕ → List ℕ
 pod_line plan j =
-    placed_pod_line j (pod_word plan j 0 % plan.services) (pod_word plan j 1 % 3) (not (pod_word plan j 2 % 8 == 0))
+    placed_pod_line j (word_of plan.seed (3 * j) % plan.services) (word_of plan.seed (3 * j + 1) % 3)
+    (not (word_of plan.seed (3 * j + 2) % 8 == 0))
 
 -- the delete of a Pod, as a watch tells it
 abbrev pub delete_line : ℕ → List ℕ
