@@ -1,6 +1,6 @@
 -- The line of the generator (this project's choice): the sums over the syncs and the packets of the replay of its
 -- script. A sum stands still at 2^64 - 1.
-use Rattle.std.specs.Prelude.{ℕ, suc, ◌+◌, ◌-◌, ◌^◌, min, not, cond, List, count_by, Option, Some, None, Result, Ok, Err}
+use Rattle.std.specs.Prelude.{ℕ, suc, ◌+◌, ◌-◌, ◌^◌, min, false, not, cond, List, count_by, Option, Some, None, Result, Ok, Err}
 use Rattle.std.specs.List.{fold}
 use Rattle.kp_types.specs.declared.chain.Clash.{Clash}
 use Rattle.kp_types.specs.declared.rule.Edit.{Edit}
