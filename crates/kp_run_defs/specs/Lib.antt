@@ -1,1 +1,2 @@
+pub mod GenText
 pub mod ReplayText
