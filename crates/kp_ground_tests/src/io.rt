@@ -120,7 +120,10 @@ fn a_longer_line_is_skipped_to_its_end(rt: HostRuntime) -> Result<(), Fail> {
         let text = three_lines(rt.alloc(), LINE_LIMIT + more)?;
         let mut source = SureSource::new(text, 65536);
         assert!(rt; gives_line(&mut reader, &mut source, 1, b"one"));
-        assert!(rt; skips_the_second(&mut reader, &mut source), "{more} bytes more");
+        assert!(rt;
+            skips_the_second(&mut reader, &mut source),
+            "{more} bytes more"
+        );
     }
     Ok(())
 }
@@ -169,5 +172,8 @@ fn real_ends_pass_everything_on(rt: HostRuntime) -> Result<(), Fail> {
         writer.get_ref().as_slice() == b"three".as_slice(),
         "a flush reaches the writer"
     );
+    let long = Vec::from_elem(rt.alloc(), b'x', 100_000)?;
+    assert!(rt; write_whole(&mut RealSink::new(&mut writer), &long) == Ok(()));
+    assert!(rt; writer.get_ref().len() >= 100_000, "no piece is too long");
     Ok(())
 }
