@@ -1,5 +1,5 @@
 #!/bin/sh
-# Writes the lines that the program reads today: one Service, one slice, a sync and packets. A
+# Writes the lines of one Service, one slice, a sync and packets. A
 # packet's three draws are 11 times its number, so that most stop at the first statistic test, and
 # the last some thousand of 200,000 go through all of them.
 #   bench/one_service.sh ENDPOINTS PACKETS

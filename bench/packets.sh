@@ -1,7 +1,7 @@
 #!/usr/bin/env bash
 # Lines a second of `kproxy replay` beside those of `jq -c .` on the same files in the same run: one
 # slice of 1,000 endpoints, and packets.
-#   bench/first_path.sh [PACKETS]
+#   bench/packets.sh [PACKETS]
 set -eu
 cd "$(dirname "$0")/.."
 many=${1:-200000}
