@@ -15,12 +15,8 @@ use Rattle.kp_plane.specs.Invariant.{IsAtPlace, IsFed, IsSlicesAt}
 use Rattle.kp_plane.specs.declared.slices_at.SlicesAt.{SlicesAt}
 
 -- what the counts up to a place and the next one come to
-pub sum_next : (counts : List ℕ) (k count : ℕ) → k < length counts → count ≡ get_or counts k count → sum (take (k + 1) counts) ≡ sum (take k counts) + count
-sum_next counts k count few is =
-    ap sum (one_more counts k count few is) ∙ sum_by_push (λ (m : ℕ). m) (take k counts) count
-  where
-    one_more : (xs : List ℕ) (i x : ℕ) → i < length xs → x ≡ get_or xs i x → take (i + 1) xs ≡ take i xs ++ x ∷ []
-    one_more xs i x few is = take_more xs i x few ∙ ap (λ (y : ℕ). take i xs ++ y ∷ []) (sym is)
+pub sum_next : (counts : List ℕ) (k : ℕ) → k < length counts → sum (take (k + 1) counts) ≡ sum (take k counts) + get_or counts k 0
+sum_next counts k few = ap sum (take_more counts k 0 few) ∙ sum_by_push (λ (m : ℕ). m) (take k counts) (get_or counts k 0)
 
 -- the counts rise
 sum_rises : (counts : List ℕ) (k : ℕ) → sum (take k counts) ≤ sum (take (k + 1) counts)
@@ -85,13 +81,14 @@ module _ (by_event : SlicesAfterEvent) (config : Config) (events : List Event) (
       }
 
   -- over one more sync
-  pub next_sync : SlicesAfterSync → (count : ℕ) → s.syncs < length counts → count ≡ get_or counts s.syncs count → sum counts ≤ length events
-      → (fed : SlicesAt) → IsFed events (s.covered + count) s fed → (made : Slices) → made ≡ controller_step (V4 ∷ []) config fed.place.objects fed.slices
-      → IsSlicesAt config events counts (record { slices = made; place = fed.place; syncs = fed.syncs + 1; covered = s.covered + count })
-  next_sync by_sync count more found within fed f made step =
-      let to = s.covered + count in
+  pub next_sync : SlicesAfterSync → s.syncs < length counts → sum counts ≤ length events
+      → (fed : SlicesAt) → IsFed events (s.covered + get_or counts s.syncs 0) s fed → (made : Slices) → made ≡ controller_step (V4 ∷ []) config fed.place.objects fed.slices
+      → IsSlicesAt config events counts (record { slices = made; place = fed.place; syncs = fed.syncs + 1; covered = s.covered + get_or counts s.syncs 0 })
+  next_sync by_sync more within fed f made step =
       let k = s.syncs in
-      let all : sum (take (k + 1) counts) ≡ to = sum_next counts k count more found ∙ ap (λ (n : ℕ). n + count) (sym is.covered) in
+      let count = get_or counts k 0 in
+      let to = s.covered + count in
+      let all : sum (take (k + 1) counts) ≡ to = sum_next counts k more ∙ ap (λ (n : ℕ). n + count) (sym is.covered) in
       let part = sum_by-take-le (λ (m : ℕ). m) counts (k + 1) in
       let later : s.place.at ≤ to = subst (λ (n : ℕ). s.place.at ≤ n) all (is.to more) in
       let inside : to ≤ length events = omega arith in
@@ -102,7 +99,7 @@ module _ (by_event : SlicesAfterEvent) (config : Config) (events : List Event) (
       let left : length (take to events) - sum (take k counts) ≡ count = omega arith in
       let few : sum (take k counts) ≤ length (take to events) = omega arith in
       let counted : take (fed.syncs + 1) counts ≡ take k counts ++ (length (take to events) - sum (take k counts)) ∷ [] =
-      ap (λ (n : ℕ). take (n + 1) counts) f.syncs ∙ take_more counts k count more ∙ ap (λ (n : ℕ). take k counts ++ n ∷ []) (sym found ∙ sym left) in
+      ap (λ (n : ℕ). take (n + 1) counts) f.syncs ∙ take_more counts k 0 more ∙ ap (λ (n : ℕ). take k counts ++ n ∷ []) (sym left) in
       let rises = sum_rises counts (k + 1) in
       record {
         place = f.place;
@@ -117,3 +114,12 @@ module _ (by_event : SlicesAfterEvent) (config : Config) (events : List Event) (
             ∙ ap (slices_now (V4 ∷ []) config (take to events)) (sym counted)
             ∙ ap (λ (n : ℕ). slices_now (V4 ∷ []) config (take n events) (take (fed.syncs + 1) counts)) (sym f.at);
       }
+
+-- behind all events and all syncs they are the slices now
+pub at_all : (config : Config) (events : List Event) (counts : List ℕ) (s : SlicesAt) → IsSlicesAt config events counts s → s.place.at ≡ length events → length counts ≤ s.syncs
+    → s.slices ≡ slices_now (V4 ∷ []) config events counts
+at_all config events counts s is at all =
+    is.slices
+    ∙ ap (λ (n : ℕ). slices_now (V4 ∷ []) config (take n events) (take s.syncs counts)) at
+    ∙ ap (λ es. slices_now (V4 ∷ []) config es (take s.syncs counts)) (take_all (length events) events (le_refl (length events)))
+    ∙ ap (slices_now (V4 ∷ []) config events) (take_all s.syncs counts all)

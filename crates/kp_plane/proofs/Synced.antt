@@ -1,6 +1,7 @@
 -- What one more sync adds.
-use Rattle.std.proofs.Common.{◌≡◌, ◌≤◌, ◌+◌, ◌-◌, ◌^◌, min, ℕ, suc, List, [], ◌∷◌, ◌++◌, map, take, length, sum, Some, None, refl, sym, ap, subst, ◌∙◌, arith, le_refl, Bool, true, false, ◌<◌, nat_lt, nat_tests}
+use Rattle.std.proofs.Common.{◌≡◌, ◌≤◌, ◌+◌, ◌-◌, ◌^◌, min, ℕ, suc, List, [], ◌∷◌, ◌++◌, map, take, length, sum, Some, None, refl, sym, ap, subst, ◌∙◌, arith, le_refl, Bool, true, false, ◌<◌, nat_lt}
 use Rattle.std.specs.List.{fold}
+use Rattle.std.proofs.lemmas.Bool.Decides.{nat_tests}
 use Rattle.std.proofs.lemmas.List.{take_all, take-append-le, length-map, length_push, map_push}
 use Rattle.std.proofs.lemmas.List.Sums.{sum_by_push}
 use Rattle.kp_types.specs.declared.event.Event.{Event}
@@ -12,9 +13,13 @@ use Rattle.kp_base.specs.declared.address.Family.TheVariants.{V4}
 use Rattle.kp_object_defs.specs.SlicesNow.{slices_now}
 use Rattle.kp_table_defs.specs.Edits.{ChangesLeadOver, SameRulesAreEqual, chains_after_edit, changes_between, table_after_batch}
 use Rattle.kp_table_defs.specs.Rebuild.{TableParts, clash_of, full_table}
+use Rattle.kp_types.specs.declared.packet.Packet.{Packet}
+use Rattle.kp_choice_defs.specs.Recent.{RecentParts}
+use Rattle.kp_door_defs.specs.Decision.{decision_of}
+use Rattle.kp_decide.specs.Told.{told}
 use Rattle.kp_history_defs.specs.History.{IsExactRecord, chains_covered, counts_of, objects_covered}
 use Rattle.kp_history_laws.specs.HistoryLaws.{all_covered, CoversRest, ExactByRecord}
-use Rattle.kp_plane.specs.Parts.{PlaneParts, HasExactHistory, setting_in, syncs_in, uncovered_in, objects_in, table_in, chains_in, last_edits, last_batch_in, batch_after, next_edits, synced}
+use Rattle.kp_plane.specs.Parts.{PlaneParts, HasExactHistory, setting_in, syncs_in, uncovered_in, objects_in, explained_in, table_in, chains_in, last_edits, last_batch_in, batch_after, next_edits, synced}
 use Rattle.kp_plane.specs.Invariant.{IsAtPlace, IsHistory, IsPlane, IsSlicesAt}
 use Rattle.kp_plane.specs.declared.history.History.{History}
 use Rattle.kp_plane.specs.declared.place.ObjectsAt.{ObjectsAt}
@@ -191,3 +196,20 @@ pub no_edits : SameRulesAreEqual → (p : PlaneParts) (h : History) → IsHistor
 no_edits same p h is none =
     ap (λ o. changes_between (chains_in p) (full_table (setting_in p) o).chains) (sym (nothing_new p h is none))
     ∙ no_changes same (chains_in p)
+
+-- a clash of all objects, by equal parts
+pub same_clash : (p q : PlaneParts) → p ≡ q → (o : Objects) → o ≡ objects_after p.events → clash_of (setting_in p) o ≡ clash_of (setting_in q) (objects_after q.events)
+same_clash p q same o is = ap (clash_of (setting_in p)) is ∙ ap (λ r. clash_of (setting_in r) (objects_after r.events)) same
+
+-- the edits that lead to their full table
+pub made_edits : (p q : PlaneParts) → p ≡ q → (t u : TableParts) (o : Objects) → t ≡ table_in p → u ≡ full_table (setting_in p) o → o ≡ objects_after p.events → changes_between t.chains u.chains ≡ next_edits q
+made_edits p q same t u o old full is =
+    (λ i. changes_between (old i).chains (full i).chains)
+    ∙ ap (λ o. changes_between (chains_in p) (full_table (setting_in p) o).chains) is
+    ∙ ap next_edits same
+
+-- the decision on the objects that the last sync covers
+pub same_decision : (p q : PlaneParts) → p ≡ q → (o : Objects) → o ≡ objects_in p → (packet : Packet) (drawn : ℕ → ℕ) (lists : RecentParts)
+    → told (decision_of (setting_in p) o packet drawn lists) ≡ explained_in q packet drawn lists
+same_decision p q same o is packet drawn lists =
+    ap (λ o. told (decision_of (setting_in p) o packet drawn lists)) is ∙ ap (λ r. explained_in r packet drawn lists) same

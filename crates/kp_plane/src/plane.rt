@@ -364,7 +364,10 @@ impl Plane {
             });
         }
         self.latest.advance(alloc, events, events.len())?;
-        let table = rebuild(alloc, &self.latest.objects, &self.config, steps)?;
+        let table = match rebuild(alloc, &self.latest.objects, &self.config, steps) {
+            Ok(table) => table,
+            Err(fault) => return Err(fault),
+        };
         Ok(changed(alloc, &self.history.table, &table)?)
     }
 

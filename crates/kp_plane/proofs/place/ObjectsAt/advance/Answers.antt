@@ -6,10 +6,10 @@ pub loop-at-preserved : goal.loop-at-preserved
 loop-at-preserved c =
     let events = c.args.events.now in
     let event = c.index-events-at.result in
-    let same : c.loop-at.self.at ≡ c.loop-at.at = c.loop-at.invariant.0.1 in
+    let same : c.loop-at.self.at ≡ c.loop-at.at = c.loop-at.invariant.1 in
     let few : c.loop-at.self.at < length events = omega (arith, same, c.loop-at-test.true, c.requires.within) in (
-      next_place events c.loop-at.self (record { objects = c.apply.new.self; at = c.loop-at.at + 1 }) event c.loop-at.invariant.0.0 few
+      next_place events c.loop-at.self (record { objects = c.apply.new.self; at = c.loop-at.at + 1 }) event c.loop-at.invariant.0 few
           (c.index-events-at.is ∙ ap (λ (n : ℕ). get_or events n event) (sym same)) c.in_ok-apply.ensures.ok (ap (λ (n : ℕ). n + 1) (sym same)),
       refl,
-      omega (arith, c.loop-at.invariant.1),
+      omega (arith, c.loop-at.invariant.2),
     )

@@ -22,8 +22,8 @@ returns-clause-verdict g c =
     IfOk-weaker c.verdict_of.result _ _
     (λ verdict h drawn are.
     h drawn are
-    ∙ ap (λ w. w.verdict) (same_walk c.self.inside.history.table p c.self.inside.config.addresses is same c.args.packet.entry.now drawn c.args.lists.now)
-    ∙ (c.decides.ensures.agree c.args.packet.entry.now drawn c.args.lists.now).verdict)
+    ∙ ap (λ w. w.verdict) (same_walk c.self.inside.history.table p c.self.inside.config.addresses is same c.args.packet.now drawn c.args.lists.now)
+    ∙ (c.decides.ensures.agree c.args.packet.now drawn c.args.lists.now).verdict)
     c.verdict_of.ensures.verdict
 
 pub returns-clause-lists : goal.returns-clause-lists
@@ -34,8 +34,8 @@ returns-clause-lists g c =
     on_ok_weaker c.verdict_of.result
     (λ h drawn are.
     h drawn are
-    ∙ ap (λ w. w.lists) (same_walk c.self.inside.history.table p c.self.inside.config.addresses is same c.args.packet.entry.now drawn c.args.lists.now)
-    ∙ (c.decides.ensures.agree c.args.packet.entry.now drawn c.args.lists.now).lists)
+    ∙ ap (λ w. w.lists) (same_walk c.self.inside.history.table p c.self.inside.config.addresses is same c.args.packet.now drawn c.args.lists.now)
+    ∙ (c.decides.ensures.agree c.args.packet.now drawn c.args.lists.now).lists)
     c.verdict_of.ensures.lists
 
 pub returns-clause-refused : goal.returns-clause-refused
@@ -44,5 +44,5 @@ returns-clause-refused g c =
     let is = c.self.invariant.history.table ∙ ap table_in c.self.view_is in
     let same = ap (λ q. q.config.addresses) c.self.view_is in
     on_err_weaker c.verdict_of.result
-    (λ h drawn are. same_sets c.self.inside.history.table p c.self.inside.config.addresses is same c.args.packet.entry.now drawn c.args.lists.now c.verdict_of.new.lists (h drawn are))
+    (λ h drawn are. same_sets c.self.inside.history.table p c.self.inside.config.addresses is same c.args.packet.now drawn c.args.lists.now c.verdict_of.new.lists (h drawn are))
     c.verdict_of.ensures.refused

@@ -21,11 +21,20 @@ returns-clause-walk g c =
     let is = c.self.invariant.history.table ∙ ap table_in c.self.view_is in
     let same = ap (λ q. q.config.addresses) c.self.view_is in
     IfOk-weaker c.walk.result _ _
-    (λ answer h drawn are. h drawn are ∙ same_walk c.self.inside.history.table p c.self.inside.config.addresses is same c.args.packet.entry.now drawn c.args.lists.now)
+    (λ answer h drawn are. h drawn are ∙ same_walk c.self.inside.history.table p c.self.inside.config.addresses is same c.args.packet.now drawn c.args.lists.now)
     c.walk.ensures.walk
 
 pub returns-clause-decided : goal.returns-clause-decided
-returns-clause-decided g c = ?
+returns-clause-decided g c =
+    let p = c.args.self.now in
+    let is = c.self.invariant.history.table ∙ ap table_in c.self.view_is in
+    let same = ap (λ q. q.config.addresses) c.self.view_is in
+    IfOk-weaker c.walk.result _ _
+    (λ answer h drawn are.
+    subst (λ w. Agree w (decided_in p c.args.packet.now drawn c.args.lists.now))
+    (sym (h drawn are ∙ same_walk c.self.inside.history.table p c.self.inside.config.addresses is same c.args.packet.now drawn c.args.lists.now))
+    (c.decides.ensures.agree c.args.packet.now drawn c.args.lists.now))
+    c.walk.ensures.walk
 
 pub returns-clause-refused : goal.returns-clause-refused
 returns-clause-refused g c =
@@ -33,5 +42,5 @@ returns-clause-refused g c =
     let is = c.self.invariant.history.table ∙ ap table_in c.self.view_is in
     let same = ap (λ q. q.config.addresses) c.self.view_is in
     on_err_weaker c.walk.result
-    (λ h drawn are. same_sets c.self.inside.history.table p c.self.inside.config.addresses is same c.args.packet.entry.now drawn c.args.lists.now c.walk.new.lists (h drawn are))
+    (λ h drawn are. same_sets c.self.inside.history.table p c.self.inside.config.addresses is same c.args.packet.now drawn c.args.lists.now c.walk.new.lists (h drawn are))
     c.walk.ensures.refused
