@@ -2,4 +2,6 @@
 #![tactic(auto)]
 
 #[cfg(test)]
+mod destinations;
+#[cfg(test)]
 mod objects;

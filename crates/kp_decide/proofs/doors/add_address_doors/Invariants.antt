@@ -1,0 +1,9 @@
+-- The doors of the ports so far were added.
+use Rattle.std.proofs.Common.{◌≡◌, ◌++◌, take}
+use Rattle.std.specs.List.{flat_map}
+use Rattle.kp_door_defs.specs.Doors.{address_doors}
+use Rattle.kp_decide.proofs.doors.add_address_doors.Given as goal
+
+abbrev pub invariant-loop-info : goal.invariant-loop-info
+invariant-loop-info l =
+    l.doors.items ≡ l.initial.doors.items ++ flat_map address_doors (take l.info-index l.infos)

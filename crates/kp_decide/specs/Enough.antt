@@ -1,0 +1,12 @@
+-- Which ports are enough to decide a packet.
+use Rattle.std.specs.Prelude.{◌≡◌, List}
+use Rattle.kp_types.specs.Setting.{FamilyConfig}
+use Rattle.kp_types.specs.declared.packet.Packet.{Packet}
+use Rattle.kp_object_defs.specs.PortInfo.{PortInfo}
+use Rattle.kp_door_defs.specs.Doors.{taking_door}
+use Rattle.kp_door_defs.specs.Filter.{filtered}
+
+-- some ports give a packet the door and the line that all give it
+pub record AreEnough (config : FamilyConfig) (packet : Packet) (some all : List PortInfo) : Type 0 where
+  pub door : taking_door config some packet ≡ taking_door config all packet
+  pub line : filtered config some packet ≡ filtered config all packet

@@ -1,0 +1,4 @@
+pub mod Enough
+pub mod Shown
+pub mod Stored
+pub mod Told

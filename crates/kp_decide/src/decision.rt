@@ -1,0 +1,175 @@
+//! The decision on a packet: the filter's refusal, or its translation, or neither.
+ghost use Rattle.std.specs.Prelude.{◌≡◌, ℕ, List, IfOk, None, Some};
+ghost use Rattle.kp_base.specs.declared.address.Family.TheVariants.{V4};
+ghost use Rattle.kp_choice_defs.specs.Draws.{IsStated, AreDraws};
+ghost use Rattle.kp_choice_defs.specs.Recent.{RecentParts};
+ghost use Rattle.kp_choice_defs.specs.Settings.{setting_of};
+ghost use Rattle.kp_types.specs.Setting.{config_for};
+ghost use Rattle.kp_types.specs.declared.packet.Packet.{Packet};
+ghost use Rattle.kp_object_defs.specs.PortInfo as known;
+ghost use Rattle.kp_types.specs.declared.info.PortInfo.{PortInfo};
+ghost use Rattle.kp_door_defs.specs.Decision as spec;
+ghost use Rattle.kp_decide.specs.Enough.{AreEnough};
+ghost use Rattle.kp_decide.specs.Told.{told, translation_told, passed_by};
+
+use crate::filter::filtered;
+use crate::lines::{Line, Refusal};
+use crate::masquerade::is_masqueraded;
+use crate::translation::{Translation, translation_of};
+use kp_base::{Config, Copied, Endpoint, NoMemory};
+use kp_draws::DrawSource;
+use kp_port_infos::infos_of_services;
+use kp_recent::RecentLists;
+use kp_store::Objects;
+use kp_types::{Decision, Packet, PortInfo, Reason, Verdict};
+use std::alloc::Global;
+
+/// The decision on a packet by the objects alone, with its reason (Kubernetes documents on virtual
+/// IPs and service proxies). The number is the packet's for its draws. The recent lists stay as they
+/// are. Only memory can be refused.
+pub fn decide<F: Fn(u64, u32) -> u32>(
+    alloc: Global,
+    objects: &Objects,
+    config: &Config,
+    number: u64,
+    packet: &Packet,
+    draws: &DrawSource<F>,
+    lists: &RecentLists,
+) -> Result<Decision, NoMemory>
+    requires { IsStated (F.pre draws.now) (F.post draws.now) }
+    ensures { (drawn : ℕ → ℕ) → AreDraws (F.post draws.now) number drawn → IfOk result (λ d. d
+        ≡ told (spec.decision_of (setting_of V4 config.now) objects.now packet.entry.now drawn
+        lists.now)) }
+{
+    let infos = infos_at(alloc, objects, config, packet)?;
+    let infos = infos.as_slice();
+    match translation_of(alloc, config, infos, number, packet, draws, lists)? {
+        Some(translation) => decide_translated(alloc, objects, config, packet, translation),
+        None => decide_untranslated(alloc, config, infos, packet),
+    }
+}
+
+/// What the proxy knows of the ports of the Services that may answer a packet.
+fn infos_at(
+    alloc: Global,
+    objects: &Objects,
+    config: &Config,
+    packet: &Packet,
+) -> Result<Vec<PortInfo>, NoMemory>
+    ensures { IfOk result (λ is. AreEnough (config_for V4 config.now) packet.entry.now is.items
+        (known.port_infos V4 (config_for V4 config.now) objects.now)) }
+{
+    let services = objects.services_at(alloc, packet.proto, &packet.target, packet.port)?;
+    infos_of_services(alloc, objects, config, services.as_slice())
+}
+
+/// The decision on a packet that is translated.
+fn decide_translated(
+    alloc: Global,
+    objects: &Objects,
+    config: &Config,
+    packet: &Packet,
+    translation: Translation<'_>,
+) -> Result<Decision, NoMemory>
+    ensures { (t : spec.Translation) (lists : RecentParts) →
+        translation.entry ≡ translation_told t → IfOk result (λ d. d
+        ≡ told (spec.decision_by (config_for V4 config.now)
+        (known.port_infos V4 (config_for V4 config.now) objects.now) packet.entry.now lists
+        (Some t))) }
+{
+    let sent = sent_to(packet, &translation.choice.endpoint);
+    let infos = infos_at(alloc, objects, config, &sent)?;
+    match filtered(alloc, config, infos.as_slice(), &sent)? {
+        Some(line) => refused_by(alloc, line),
+        None => passed(alloc, config, packet, translation),
+    }
+}
+
+/// The decision on a packet that isn't translated, by the ports that it may be for.
+fn decide_untranslated(
+    alloc: Global,
+    config: &Config,
+    infos: &[PortInfo],
+    packet: &Packet,
+) -> Result<Decision, NoMemory>
+    ensures { (lists : RecentParts) (all : List PortInfo) →
+        AreEnough (config_for V4 config.now) packet.entry.now infos.now all →
+        IfOk result (λ d. d ≡ told
+        (spec.decision_by (config_for V4 config.now) all packet.entry.now lists None)) }
+{
+    match filtered(alloc, config, infos, packet)? {
+        Some(line) => refused_by(alloc, line),
+        None => Ok(Decision {
+            verdict: Verdict::LeftAlone,
+            reason: Reason::NoDoor,
+        }),
+    }
+}
+
+/// A packet with the destination of an endpoint.
+fn sent_to(packet: &Packet, endpoint: &Endpoint) -> Packet
+    ensures { result ≡ spec.sent_to packet.entry.now endpoint.now }
+{
+    Packet {
+        from: packet.from,
+        source: packet.source,
+        target: endpoint.address,
+        proto: packet.proto,
+        port: endpoint.port,
+        now: packet.now,
+    }
+}
+
+/// The decision of a line of the filter.
+fn refused_by(alloc: Global, line: Line<'_>) -> Result<Decision, NoMemory>
+    ensures { (lists : RecentParts) → IfOk result (λ d. d
+        ≡ told (spec.refused_by line.entry.refusal line.entry.door lists)) }
+{
+    let kind = line.door.kind;
+    let port = line.door.info.key.copy(alloc)?;
+    match line.refusal {
+        Refusal::Rejects => Ok(Decision {
+            verdict: Verdict::Rejected,
+            reason: Reason::NoEndpoints { kind, port },
+        }),
+        Refusal::DropsClosed => Ok(Decision {
+            verdict: Verdict::Dropped,
+            reason: Reason::Closed { kind, port },
+        }),
+        Refusal::DropsNoLocal => Ok(Decision {
+            verdict: Verdict::Dropped,
+            reason: Reason::NoLocal { kind, port },
+        }),
+    }
+}
+
+/// The decision on a packet that goes to an endpoint.
+fn passed(
+    alloc: Global,
+    config: &Config,
+    packet: &Packet,
+    translation: Translation<'_>,
+) -> Result<Decision, NoMemory>
+    ensures { IfOk result (λ d. d
+        ≡ passed_by (config_for V4 config.now) packet.entry.now translation.entry) }
+{
+    let Translation {
+        door,
+        offer,
+        choice,
+    } = translation;
+    Ok(Decision {
+        verdict: Verdict::To {
+            endpoint: choice.endpoint,
+            masked: is_masqueraded(config, packet, &door, &choice.endpoint),
+        },
+        reason: Reason::Door {
+            kind: door.kind,
+            port: door.info.key.copy(alloc)?,
+            list: offer.kind,
+            size: offer.endpoints.len() as u64,
+            by: choice.by,
+            place: choice.place,
+        },
+    })
+}

@@ -1,0 +1,16 @@
+//! The decision on a packet by the objects alone: which door takes it, which endpoint it goes to,
+//! whether it is masqueraded, and what the filter says.
+#![tactic(auto)]
+
+mod choice;
+mod decision;
+mod doors;
+mod filter;
+mod lines;
+mod local;
+mod masquerade;
+mod offers;
+mod translation;
+
+pub use decision::decide;
+pub use kp_types::{ChosenBy, Decision, DoorKind, ListKind, Reason};
