@@ -2,8 +2,12 @@
 ghost use Rattle.std.specs.Prelude.{◌≡◌, ◌%◌, ◌^◌, ◌<◌};
 ghost use Rattle.kp_choice_defs.specs.Draws as spec;
 
-use crate::scenes::{Scene, config, object, objects, port};
-use kp_base::{Address, Endpoint, PortKey, Proto, Text};
+use crate::lines::{
+    AT_NODE, DELETED, FINISHED_POD, HALF_HINTED, HINTED, INNER_LOCAL, LEAVING, WITH_NODE_PORT,
+    NODE_PORT_LOCAL, OF_OTHER, ONLY_SECOND, OUTSIDE, OUTSIDE_LOCAL, OUTSIDE_OTHER, RANGES, RENEWED,
+    SELECTING, STICKY, THREE, TWO, UNREADY_POD, WEB, WEB_POD, ZONE_A, config, objects_of,
+};
+use kp_base::{Address, Endpoint, ObjectKey, PortKey, PortNo, Proto, Text};
 use kp_decide::decide;
 use kp_draws::{DrawSource, draw_of_list};
 use kp_names::Namer;
@@ -20,7 +24,7 @@ const CLIENT: &[u8] = b"192.0.2.7";
 const STRANGER: &[u8] = b"192.0.3.7";
 const NODE: &[u8] = b"10.0.0.1";
 const LOOPBACK: &[u8] = b"127.0.0.1";
-const WEB: &[u8] = b"10.96.0.10";
+const CLUSTER: &[u8] = b"10.96.0.10";
 const EXTERNAL: &[u8] = b"203.0.113.5";
 const BALANCER: &[u8] = b"203.0.113.9";
 
@@ -44,9 +48,9 @@ enum Want {
     LeftAlone,
 }
 
-/// Objects; where a TCP packet comes from, its source, target and port; its draws.
+/// The lines of objects; where a TCP packet comes from, its source, target and port; its draws.
 type Row = (
-    Scene,
+    &'static [&'static str],
     Origin,
     (&'static [u8], &'static [u8], u64),
     &'static [u32],
@@ -62,33 +66,33 @@ const ALL: ListKind = ListKind::Cluster;
 const NODE_PORT: DoorKind = DoorKind::Node;
 
 const ROWS: [Row; 27] = [
-    (Scene::Three, Wire, (POD, WEB, 80), &[FIRST_OF_THREE], To(EP1, false, Cluster, ALL, 3, Draws, 1)),
-    (Scene::Three, Wire, (POD, WEB, 80), &[FIRST_OF_THREE + 1, 0], To(EP2, false, Cluster, ALL, 3, Draws, 2)),
-    (Scene::Three, Wire, (POD, WEB, 80), &[], To(EP3, false, Cluster, ALL, 3, Draws, 3)),
-    (Scene::Three, Wire, (EP1, WEB, 80), &[0], To(EP1, true, Cluster, ALL, 3, Draws, 1)),
-    (Scene::Three, Wire, (CLIENT, WEB, 80), &[0], To(EP1, true, Cluster, ALL, 3, Draws, 1)),
-    (Scene::Three, Wire, (POD, WEB, 81), &[0], LeftAlone),
-    (Scene::Deleted, Wire, (POD, WEB, 80), &[0], LeftAlone),
-    (Scene::Empty, Wire, (POD, WEB, 80), &[], NoEndpoints(Cluster)),
-    (Scene::Empty, Node, (NODE, WEB, 80), &[], NoEndpoints(Cluster)),
-    (Scene::InnerElsewhere, Wire, (POD, WEB, 80), &[], NoLocal(Cluster)),
-    (Scene::InnerEmpty, Wire, (POD, WEB, 80), &[], NoEndpoints(Cluster)),
-    (Scene::Leaving, Wire, (POD, WEB, 80), &[0], To(EP1, false, Cluster, ALL, 2, Draws, 1)),
-    (Scene::Renewed, Wire, (POD, WEB, 80), &[0], To(EP2, false, Cluster, ALL, 1, Draws, 1)),
-    (Scene::Hinted, Wire, (POD, WEB, 80), &[], To(EP2, false, Cluster, ALL, 2, Draws, 2)),
-    (Scene::HalfHinted, Wire, (POD, WEB, 80), &[], To(EP3, false, Cluster, ALL, 3, Draws, 3)),
-    (Scene::NodePortElsewhere, Wire, (CLIENT, NODE, 30080), &[], NoLocal(NODE_PORT)),
-    (Scene::NodePortElsewhere, Wire, (POD, NODE, 30080), &[], To(EP2, false, NODE_PORT, ALL, 1, Draws, 1)),
-    (Scene::NodePortElsewhere, Node, (LOOPBACK, LOOPBACK, 30080), &[], LeftAlone),
-    (Scene::NodePortHere, Wire, (CLIENT, NODE, 30080), &[], To(NODE, false, NODE_PORT, ALL, 1, Draws, 1)),
-    (Scene::ExternalEmpty, Wire, (CLIENT, EXTERNAL, 80), &[], NoEndpoints(External)),
-    (Scene::ExternalEmpty, Node, (NODE, EXTERNAL, 80), &[], LeftAlone),
-    (Scene::Balancer, Wire, (CLIENT, BALANCER, 80), &[0], To(EP1, true, Balancer, ALL, 2, Draws, 1)),
-    (Scene::Balancer, Wire, (STRANGER, BALANCER, 80), &[0], Closed(Balancer)),
-    (Scene::TwoExternal, Wire, (CLIENT, EXTERNAL, 80), &[], To(EP9, true, External, ALL, 1, Draws, 1)),
-    (Scene::PodReady, Wire, (POD, WEB, 80), &[], To(EP1, false, Cluster, ALL, 1, Draws, 1)),
-    (Scene::PodUnready, Wire, (POD, WEB, 80), &[], NoEndpoints(Cluster)),
-    (Scene::PodFinished, Wire, (POD, WEB, 80), &[], NoEndpoints(Cluster)),
+    (&[WEB, THREE], Wire, (POD, CLUSTER, 80), &[FIRST_OF_THREE], To(EP1, false, Cluster, ALL, 3, Draws, 1)),
+    (&[WEB, THREE], Wire, (POD, CLUSTER, 80), &[FIRST_OF_THREE + 1, 0], To(EP2, false, Cluster, ALL, 3, Draws, 2)),
+    (&[WEB, THREE], Wire, (POD, CLUSTER, 80), &[], To(EP3, false, Cluster, ALL, 3, Draws, 3)),
+    (&[WEB, THREE], Wire, (EP1, CLUSTER, 80), &[0], To(EP1, true, Cluster, ALL, 3, Draws, 1)),
+    (&[WEB, THREE], Wire, (CLIENT, CLUSTER, 80), &[0], To(EP1, true, Cluster, ALL, 3, Draws, 1)),
+    (&[WEB, THREE], Wire, (POD, CLUSTER, 81), &[0], LeftAlone),
+    (&[WEB, THREE, DELETED], Wire, (POD, CLUSTER, 80), &[0], LeftAlone),
+    (&[WEB], Wire, (POD, CLUSTER, 80), &[], NoEndpoints(Cluster)),
+    (&[WEB], Node, (NODE, CLUSTER, 80), &[], NoEndpoints(Cluster)),
+    (&[INNER_LOCAL, ONLY_SECOND], Wire, (POD, CLUSTER, 80), &[], NoLocal(Cluster)),
+    (&[INNER_LOCAL], Wire, (POD, CLUSTER, 80), &[], NoEndpoints(Cluster)),
+    (&[WEB, LEAVING], Wire, (POD, CLUSTER, 80), &[0], To(EP1, false, Cluster, ALL, 2, Draws, 1)),
+    (&[WEB, RENEWED], Wire, (POD, CLUSTER, 80), &[0], To(EP2, false, Cluster, ALL, 1, Draws, 1)),
+    (&[ZONE_A, WEB, HINTED], Wire, (POD, CLUSTER, 80), &[], To(EP2, false, Cluster, ALL, 2, Draws, 2)),
+    (&[ZONE_A, WEB, HALF_HINTED], Wire, (POD, CLUSTER, 80), &[], To(EP3, false, Cluster, ALL, 3, Draws, 3)),
+    (&[NODE_PORT_LOCAL, ONLY_SECOND], Wire, (CLIENT, NODE, 30080), &[], NoLocal(NODE_PORT)),
+    (&[NODE_PORT_LOCAL, ONLY_SECOND], Wire, (POD, NODE, 30080), &[], To(EP2, false, NODE_PORT, ALL, 1, Draws, 1)),
+    (&[NODE_PORT_LOCAL, ONLY_SECOND], Node, (LOOPBACK, LOOPBACK, 30080), &[], LeftAlone),
+    (&[WITH_NODE_PORT, AT_NODE], Wire, (CLIENT, NODE, 30080), &[], To(NODE, false, NODE_PORT, ALL, 1, Draws, 1)),
+    (&[OUTSIDE], Wire, (CLIENT, EXTERNAL, 80), &[], NoEndpoints(External)),
+    (&[OUTSIDE], Node, (NODE, EXTERNAL, 80), &[], LeftAlone),
+    (&[RANGES, TWO], Wire, (CLIENT, BALANCER, 80), &[0], To(EP1, true, Balancer, ALL, 2, Draws, 1)),
+    (&[RANGES, TWO], Wire, (STRANGER, BALANCER, 80), &[0], Closed(Balancer)),
+    (&[OUTSIDE_LOCAL, ONLY_SECOND, OUTSIDE_OTHER, OF_OTHER], Wire, (CLIENT, EXTERNAL, 80), &[], To(EP9, true, External, ALL, 1, Draws, 1)),
+    (&[SELECTING, WEB_POD], Wire, (POD, CLUSTER, 80), &[], To(EP1, false, Cluster, ALL, 1, Draws, 1)),
+    (&[SELECTING, UNREADY_POD], Wire, (POD, CLUSTER, 80), &[], NoEndpoints(Cluster)),
+    (&[SELECTING, FINISHED_POD], Wire, (POD, CLUSTER, 80), &[], NoEndpoints(Cluster)),
 ];
 
 /// A TCP packet.
@@ -102,7 +106,7 @@ fn packet(
         source: Address::parse(source)?,
         target: Address::parse(target)?,
         proto: Proto::Tcp,
-        port: port(number)?,
+        port: PortNo::new(number).ok_or("a port")?,
         now,
     })
 }
@@ -111,7 +115,7 @@ fn packet(
 fn endpoint(address: &[u8]) -> Result<Endpoint, Fail> {
     Ok(Endpoint {
         address: Address::parse(address)?,
-        port: port(8080)?,
+        port: PortNo::new(8080).ok_or("a port")?,
     })
 }
 
@@ -140,47 +144,79 @@ fn is_web(port: &PortKey) -> bool {
 
 /// Whether a decision is what is wanted.
 fn is_wanted(decision: &Decision, want: &Want) -> Result<bool, Fail> {
-    Ok(match (*want, &decision.reason) {
-        (
-            To(address, masked, kind, list, size, by, place),
-            Reason::Door {
-                kind: own_kind,
-                port,
-                list: own_list,
-                size: own_size,
-                by: own_by,
-                place: own_place,
-            },
-        ) => {
+    let reason = &decision.reason;
+    match *want {
+        To(address, masked, kind, list, size, by, place) => {
             let endpoint = endpoint(address)?;
-            decision.verdict == Verdict::To { endpoint, masked }
-                && kind == *own_kind
-                && is_web(port)
-                && list == *own_list
-                && size == *own_size
-                && by == *own_by
-                && place == *own_place
+            Ok(decision.verdict == Verdict::To { endpoint, masked }
+                && is_door(reason, kind, list, size)
+                && is_place(reason, by, place))
         }
-        (NoEndpoints(kind), Reason::NoEndpoints { kind: own, port }) => {
-            decision.verdict == Verdict::Rejected && kind == *own && is_web(port)
+        NoEndpoints(kind) => {
+            Ok(decision.verdict == Verdict::Rejected && is_no_endpoints(reason, kind))
         }
-        (NoLocal(kind), Reason::NoLocal { kind: own, port }) => {
-            decision.verdict == Verdict::Dropped && kind == *own && is_web(port)
-        }
-        (Closed(kind), Reason::Closed { kind: own, port }) => {
-            decision.verdict == Verdict::Dropped && kind == *own && is_web(port)
-        }
-        (LeftAlone, Reason::NoDoor) => decision.verdict == Verdict::LeftAlone,
+        NoLocal(kind) => Ok(decision.verdict == Verdict::Dropped && is_no_local(reason, kind)),
+        Closed(kind) => Ok(decision.verdict == Verdict::Dropped && is_closed(reason, kind)),
+        LeftAlone => Ok(decision.verdict == Verdict::LeftAlone && is_no_door(reason)),
+    }
+}
+
+/// Whether a reason is a door with this list of so many endpoints.
+fn is_door(reason: &Reason, wanted: DoorKind, of: ListKind, many: u64) -> bool {
+    match reason {
+        Reason::Door {
+            kind,
+            port,
+            list,
+            size,
+            ..
+        } => *kind == wanted && is_web(port) && *list == of && *size == many,
         _ => false,
-    })
+    }
+}
+
+/// Whether a reason has an endpoint at this place, chosen this way.
+fn is_place(reason: &Reason, chosen: ChosenBy, wanted: u64) -> bool {
+    match reason {
+        Reason::Door { by, place, .. } => *by == chosen && *place == wanted,
+        _ => false,
+    }
+}
+
+fn is_no_endpoints(reason: &Reason, wanted: DoorKind) -> bool {
+    match reason {
+        Reason::NoEndpoints { kind, port } => *kind == wanted && is_web(port),
+        _ => false,
+    }
+}
+
+fn is_no_local(reason: &Reason, wanted: DoorKind) -> bool {
+    match reason {
+        Reason::NoLocal { kind, port } => *kind == wanted && is_web(port),
+        _ => false,
+    }
+}
+
+fn is_closed(reason: &Reason, wanted: DoorKind) -> bool {
+    match reason {
+        Reason::Closed { kind, port } => *kind == wanted && is_web(port),
+        _ => false,
+    }
+}
+
+fn is_no_door(reason: &Reason) -> bool {
+    match reason {
+        Reason::NoDoor => true,
+        _ => false,
+    }
 }
 
 #[test]
 fn packets_go_where_the_objects_say(rt: HostRuntime) -> Result<(), Fail> {
     let alloc = rt.alloc();
     let lists = RecentLists::new(alloc, 100)?;
-    for (scene, from, way, draws, want) in &ROWS[..] {
-        let objects = objects(alloc, *scene)?;
+    for (lines, from, way, draws, want) in &ROWS[..] {
+        let objects = objects_of(alloc, *lines)?;
         let packet = packet(*from, *way, 0)?;
         let decision = decided(alloc, &objects, &packet, *draws, &lists)?;
         assert!(rt; is_wanted(&decision, want)?);
@@ -191,10 +227,13 @@ fn packets_go_where_the_objects_say(rt: HostRuntime) -> Result<(), Fail> {
 #[test]
 fn affinity_is_seen_and_stays(rt: HostRuntime) -> Result<(), Fail> {
     let alloc = rt.alloc();
-    let objects = objects(alloc, Scene::Sticky)?;
+    let objects = objects_of(alloc, &[STICKY, THREE])?;
     let mut lists = RecentLists::new(alloc, 100)?;
     let key = PortKey {
-        object: object(alloc, "web")?,
+        object: ObjectKey {
+            namespace: Text::of(alloc, "default")?,
+            name: Text::of(alloc, "web")?,
+        },
         port_name: Text::of(alloc, "")?,
         proto: Proto::Tcp,
     };
@@ -206,7 +245,7 @@ fn affinity_is_seen_and_stays(rt: HostRuntime) -> Result<(), Fail> {
         (100 + 10_800, To(EP2, false, Cluster, ALL, 3, Affinity, 2)),
     ];
     for (now, want) in rows {
-        let packet = packet(Wire, (POD, WEB, 80), now)?;
+        let packet = packet(Wire, (POD, CLUSTER, 80), now)?;
         let decision = decided(alloc, &objects, &packet, &[0], &lists)?;
         assert!(rt; is_wanted(&decision, &want)?);
     }

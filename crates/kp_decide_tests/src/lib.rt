@@ -4,4 +4,4 @@
 #[cfg(test)]
 mod decisions;
 #[cfg(test)]
-mod scenes;
+mod lines;
