@@ -36,8 +36,20 @@ fn check_words(
 fn words_choose_what_is_done(rt: HostRuntime) -> Result<(), Fail> {
     let alloc = rt.alloc();
     check_words(&rt, alloc, "kproxy replay", SYNCED, Status::Done)?;
-    check_words(&rt, alloc, "kproxy --workers 4 replay", SYNCED, Status::Done)?;
-    check_words(&rt, alloc, "kproxy replay --workers 0", USAGE, Status::Usage)?;
+    check_words(
+        &rt,
+        alloc,
+        "kproxy --workers 4 replay",
+        SYNCED,
+        Status::Done,
+    )?;
+    check_words(
+        &rt,
+        alloc,
+        "kproxy replay --workers 0",
+        USAGE,
+        Status::Usage,
+    )?;
     check_words(&rt, alloc, "kproxy live", USAGE, Status::Usage)?;
     check_words(&rt, alloc, "kproxy", USAGE, Status::Usage)
 }

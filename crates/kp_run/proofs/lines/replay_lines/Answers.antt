@@ -10,8 +10,8 @@ use Rattle.kp_run.proofs.ComeLemmas.{come_none, come_more, come_all, come_front,
 use Rattle.kp_run.proofs.lines.replay_lines.Goals as goal
 
 -- the line that was handed out was taken, and its text was written
-pub lines-preserved : goal.lines-preserved
-lines-preserved g c =
+pub lines-preserved-in-Continue-1 : goal.lines-preserved-in-Continue-1
+lines-preserved-in-Continue-1 g c =
     let counts = rw c.in-Ok-Line.field-0-is at c.in-Ok-Line.ensures.counts in
     let answer = rw c.in-Ok-Line.field-0-is at c.in-Ok-Line.ensures.answer in
     let again = rw c.in-Ok-Line.field-0-is at c.in-Ok-Line.ensures.again in
@@ -34,8 +34,8 @@ lines-preserved g c =
     }
 
 -- a line that is too long was refused
-pub lines-preserved-2 : goal.lines-preserved-2
-lines-preserved-2 g c =
+pub lines-preserved : goal.lines-preserved
+lines-preserved g c =
     let counts = rw c.in-Err-TooLongLine.field-0-is at c.in-Err-TooLongLine.ensures.counts in
     let answer = rw c.in-Err-TooLongLine.field-0-is at c.in-Err-TooLongLine.ensures.answer in
     let again = rw c.in-Err-TooLongLine.field-0-is at c.in-Err-TooLongLine.ensures.again in
@@ -46,7 +46,7 @@ lines-preserved-2 g c =
     let later = g.K.Sink.written c.replay_long_line.new.sink in
     record {
       come =
-          subst (λ k. Come (standing_of c.replay_long_line.new.replay) k left after start later) (sym counts.1.0)
+          subst (λ k. Come (standing_of c.replay_long_line.new.replay) k left after start later) (sym counts.1)
           (come_more (standing_of c.lines.replay) (standing_of c.replay_long_line.new.replay) c.lines.reader.number c.in-Err-TooLongLine.number (None)
           left rest after start (g.K.Sink.written c.lines.sink) later c.lines.invariant.come counts.0
           answer

@@ -1,0 +1,86 @@
+-- More events change nothing of what syncs cover.
+use Rattle.std.proofs.Common.{◌≡◌, ◌≤◌, ◌+◌, ◌-◌, ℕ, List, [], ◌∷◌, ◌++◌, take, length, sum, refl, sym, ap, subst, ◌∙◌, arith, Result, Ok, Err, OnOk, OnErr}
+use Rattle.std.proofs.lemmas.List.{take-append-le, length-append}
+use Rattle.std.proofs.lemmas.List.Sums.{sum_by-take-le}
+use Rattle.kp_base.specs.declared.address.Family.TheVariants.{V4}
+use Rattle.kp_types.specs.declared.event.Event.{Event}
+use Rattle.kp_object_defs.specs.Objects.{Objects, objects_after}
+use Rattle.kp_object_defs.specs.SlicesNow.{slices_now}
+use Rattle.kp_table_defs.specs.Edits.{changes_between}
+use Rattle.kp_table_defs.specs.Rebuild.{clash_of, full_table}
+use Rattle.kp_history_defs.specs.History.{objects_covered, chains_covered}
+use Rattle.kp_history_laws.specs.HistoryLaws.{ExactByEvents}
+use Rattle.kp_events.specs.JournalContents.{Contents, HasRoom}
+use Rattle.kp_events.specs.JournalContents as journal
+use Rattle.kp_plane.specs.Parts.{PlaneParts, HasExactHistory, setting_in, syncs_in, table_in, chains_in, last_edits, last_batch_in, batch_after, with_events}
+use Rattle.kp_plane.specs.Invariant.{IsAtPlace, IsHistory, IsPlane, IsSlicesAt}
+use Rattle.kp_plane.specs.declared.history.History.{History}
+use Rattle.kp_plane.specs.declared.place.ObjectsAt.{ObjectsAt}
+use Rattle.kp_plane.specs.declared.slices_at.SlicesAt.{SlicesAt}
+
+-- the counts of an exact history cover events that there are
+pub within : (p : PlaneParts) → HasExactHistory p → sum p.counts ≤ length p.events
+within p h = subst (λ counts. sum counts ≤ length p.events) h.counted h.exact.within
+
+module _ (p : PlaneParts) (more : List Event) where
+  pub covered_same : HasExactHistory p → (n : ℕ) → objects_covered (p.events ++ more) p.counts n ≡ objects_covered p.events p.counts n
+  covered_same h n =
+      let part = sum_by-take-le (λ (m : ℕ). m) p.counts n in
+      let all = within p h in
+      ap objects_after (take-append-le (sum (take n p.counts)) p.events more (omega arith))
+
+  exact_same : ExactByEvents → HasExactHistory p → HasExactHistory (with_events p more)
+  exact_same stays h = record { records = h.records; counted = h.counted; exact = stays (setting_in p) p.events more h.records h.exact }
+
+  chains_same : HasExactHistory p → (n : ℕ) → chains_covered (setting_in p) (p.events ++ more) p.counts n ≡ chains_covered (setting_in p) p.events p.counts n
+  chains_same h n = ap (λ o. (full_table (setting_in p) o).chains) (covered_same h n)
+
+  history_same : ExactByEvents → (h : History) → IsHistory p h → IsHistory (with_events p more) h
+  history_same stays h is = record {
+    counts = is.counts;
+    covered = is.covered;
+    table = is.table ∙ (λ i. record { chains = sym (chains_same is.exact (syncs_in p)) i; syncs = syncs_in p });
+    last = is.last ∙ (λ i. batch_after p.counts (changes_between (sym (chains_same is.exact (syncs_in p - 1)) i) (sym (chains_same is.exact (syncs_in p)) i)));
+    exact = exact_same stays is.exact;
+    no_clash = ap (clash_of (setting_in p)) (covered_same is.exact (syncs_in p)) ∙ is.no_clash;
+  }
+
+  place_same : (o : ObjectsAt) → IsAtPlace p.events o → IsAtPlace (p.events ++ more) o
+  place_same o is = record {
+    within = let longer = length-append p.events more in let le = is.within in omega arith;
+    objects = is.objects ∙ ap objects_after (sym (take-append-le o.at p.events more is.within));
+  }
+
+  slices_same : (s : SlicesAt) → IsSlicesAt p.config p.events p.counts s → IsSlicesAt p.config (p.events ++ more) p.counts s
+  slices_same s is = record {
+    place = place_same s.place is.place;
+    syncs = is.syncs;
+    covered = is.covered;
+    from = is.from;
+    to = is.to;
+    slices = is.slices ∙ ap (λ es. slices_now (V4 ∷ []) p.config es (take s.syncs p.counts)) (sym (take-append-le s.place.at p.events more is.place.within));
+  }
+
+  -- what holds of a plane's fields still does where more events are accepted
+  pub plane_same : ExactByEvents → (most : ℕ) (h : History) (latest explained : ObjectsAt) (slices : SlicesAt) → length (p.events ++ more) ≤ most → IsPlane p most h latest explained slices → IsPlane (with_events p more) most h latest explained slices
+  plane_same stays most h latest explained slices room is = record {
+    limit = is.limit;
+    room = room;
+    history = history_same stays h is.history;
+    latest_at = place_same latest is.latest_at;
+    explained_at = place_same explained is.explained_at;
+    to = is.to;
+    slices_at = slices_same slices is.slices_at;
+  }
+
+-- a journal's answer keeps what holds of all fields
+pub accepted : ExactByEvents → {E : Type 0} (r : Result (Unit {0}) E) (p : PlaneParts) (more : List Event) (before after : Contents) (h : History) (latest explained : ObjectsAt) (slices : SlicesAt)
+    → OnOk r (after ≡ journal.with_events before more) → OnOk r (HasRoom before (length more)) → OnErr r (after ≡ before)
+    → IsPlane (record p { events = before.events }) before.most h latest explained slices
+    → IsPlane (record p { events = after.events }) after.most h latest explained slices
+accepted stays (Ok x) p more before after h latest explained slices ok fits err is =
+    let longer = length-append before.events more in
+    subst (λ (j : Contents). IsPlane (record p { events = j.events }) j.most h latest explained slices) (sym ok)
+    (plane_same (record p { events = before.events }) more stays before.most h latest explained slices (omega (arith, longer, fits)) is)
+accepted stays (Err e) p more before after h latest explained slices ok fits err is =
+    subst (λ (j : Contents). IsPlane (record p { events = j.events }) j.most h latest explained slices) (sym err) is

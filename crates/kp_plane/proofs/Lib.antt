@@ -1,0 +1,7 @@
+mod Accepted
+mod Places
+mod SlicesAtPlaces
+mod Start
+mod Synced
+mod Unchanged
+mod Walks

@@ -1,0 +1,41 @@
+use Rattle.std.proofs.Common.{◌≡◌, List, None, length, sym, ap, subst, ◌∙◌}
+use Rattle.kp_object_defs.specs.Objects.{objects_after}
+use Rattle.kp_table_defs.specs.Rebuild.{clash_of}
+use Rattle.kp_full_table.specs.Faults.{TellsClash}
+use Rattle.kp_plane.specs.Parts.{PlaneParts, setting_in, objects_in, next_edits}
+use Rattle.kp_plane.proofs.Synced.{at_end, made_edits, no_edits, nothing_new, same_clash}
+use Rattle.kp_plane.proofs.plane.Plane.next_batch.Goals as goal
+
+pub returns-then-events-self-clause-batch : goal.returns-then-events-self-clause-batch
+returns-then-events-self-clause-batch g c =
+    let p : PlaneParts = record { config = c.self.inside.config; events = c.self.inside.journal.events; counts = c.self.inside.history.counts.items } in
+    let none = ap length (sym c.events-events.ensures) ∙ c.if-events-self.true in
+    c.new.ensures
+    ∙ sym (no_edits c.same_rules_are_equal.ensures p c.self.inside.history c.self.invariant.history none)
+    ∙ ap next_edits c.self.view_is
+
+pub returns-then-events-self-clause-no_clash : goal.returns-then-events-self-clause-no_clash
+returns-then-events-self-clause-no_clash g c =
+    let p : PlaneParts = record { config = c.self.inside.config; events = c.self.inside.journal.events; counts = c.self.inside.history.counts.items } in
+    let none = ap length (sym c.events-events.ensures) ∙ c.if-events-self.true in
+    sym (same_clash p c.args.self.now c.self.view_is (objects_in p) (nothing_new p c.self.inside.history c.self.invariant.history none))
+    ∙ c.self.invariant.history.no_clash
+
+pub returns-clause-batch : goal.returns-clause-batch
+returns-clause-batch g c =
+    let p : PlaneParts = record { config = c.self.inside.config; events = c.self.inside.journal.events; counts = c.self.inside.history.counts.items } in
+    let all = at_end c.events-events.result.now c.advance.new.self c.advance.ensures.place c.in_ok-advance.ensures.ok ∙ ap objects_after c.events-events.ensures in
+    c.in_ok-changed.ensures
+    ∙ made_edits p c.args.self.now c.self.view_is c.self.inside.history.table c.in-Ok.table c.advance.new.self.objects c.self.invariant.history.table c.in-Ok.ensures.full all
+
+pub returns-clause-no_clash : goal.returns-clause-no_clash
+returns-clause-no_clash g c =
+    let p : PlaneParts = record { config = c.self.inside.config; events = c.self.inside.journal.events; counts = c.self.inside.history.counts.items } in
+    let all = at_end c.events-events.result.now c.advance.new.self c.advance.ensures.place c.in_ok-advance.ensures.ok ∙ ap objects_after c.events-events.ensures in
+    sym (same_clash p c.args.self.now c.self.view_is c.advance.new.self.objects all) ∙ c.in-Ok.ensures.no_clash
+
+pub returns-in-Err-clause-clash : goal.returns-in-Err-clause-clash
+returns-in-Err-clause-clash g c =
+    let p : PlaneParts = record { config = c.self.inside.config; events = c.self.inside.journal.events; counts = c.self.inside.history.counts.items } in
+    let all = at_end c.events-events.result.now c.advance.new.self c.advance.ensures.place c.in_ok-advance.ensures.ok ∙ ap objects_after c.events-events.ensures in
+    subst (λ clash. TellsClash clash c.in-Err.fault) (same_clash p c.args.self.now c.self.view_is c.advance.new.self.objects all) c.in-Err.ensures.clash

@@ -1,0 +1,59 @@
+-- What holds of a plane's fields, by the parts that contracts see.
+use Rattle.std.specs.Prelude.{◌≡◌, ◌≤◌, ◌<◌, ◌+◌, ◌-◌, ℕ, List, [], ◌∷◌, length, sum, take, drop, None}
+use Rattle.std.specs.List.{fold}
+use Rattle.kp_base.specs.declared.address.Family.TheVariants.{V4}
+use Rattle.kp_base.specs.declared.config.Config.{Config}
+use Rattle.kp_types.specs.declared.event.Event.{Event}
+use Rattle.kp_object_defs.specs.Objects.{objects_after}
+use Rattle.kp_object_defs.specs.SlicesNow.{slices_now, slices_step}
+use Rattle.kp_table_defs.specs.Rebuild.{clash_of}
+use Rattle.kp_plane.specs.Parts.{PlaneParts, HasExactHistory, setting_in, objects_in, table_in, last_batch_in}
+use Rattle.kp_plane.specs.declared.history.History.{History}
+use Rattle.kp_plane.specs.declared.place.ObjectsAt.{ObjectsAt}
+use Rattle.kp_plane.specs.declared.slices_at.SlicesAt.{SlicesAt}
+
+-- objects at a place of the journal are those of the events before it
+pub record IsAtPlace (events : List Event) (o : ObjectsAt) : Type 0 where
+  pub within : o.at ≤ length events
+  pub objects : o.objects ≡ objects_after (take o.at events)
+
+-- what is held of the syncs: how many events they cover, their table, and the batch of the last;
+-- what they cover has no clash
+pub record IsHistory (p : PlaneParts) (h : History) : Type 0 where
+  pub counts : h.counts.items ≡ p.counts
+  pub covered : h.covered ≡ sum p.counts
+  pub table : h.table ≡ table_in p
+  pub last : h.last ≡ last_batch_in p
+  pub exact : HasExactHistory p
+  pub no_clash : clash_of (setting_in p) (objects_in p) ≡ None
+
+-- Slices at a place of the journal are those of the events and of the syncs before it: it stands
+-- behind what these syncs cover, and at or before what one more covers.
+pub record IsSlicesAt (config : Config) (events : List Event) (counts : List ℕ) (s : SlicesAt) : Type 0 where
+  pub place : IsAtPlace events s.place
+  pub syncs : s.syncs ≤ length counts
+  pub covered : s.covered ≡ sum (take s.syncs counts)
+  pub from : s.covered ≤ s.place.at
+  pub to : s.syncs < length counts → s.place.at ≤ sum (take (s.syncs + 1) counts)
+  pub slices : s.slices ≡ slices_now (V4 ∷ []) config (take s.place.at events) (take s.syncs counts)
+
+-- slices at a later place of the journal, after no more syncs
+pub record IsFed (events : List Event) (to : ℕ) (before after : SlicesAt) : Type 0 where
+  pub place : IsAtPlace events after.place
+  pub at : after.place.at ≡ to
+  pub syncs : after.syncs ≡ before.syncs
+  pub covered : after.covered ≡ before.covered
+  pub slices : after.slices
+      ≡ fold slices_step before.slices
+      (take (to - before.place.at) (drop before.place.at events))
+
+-- what holds of all fields: the latest objects stand at any place of the journal, and those for
+-- explanations at or before what the last sync covers
+pub record IsPlane (p : PlaneParts) (most : ℕ) (h : History) (latest explained : ObjectsAt) (slices : SlicesAt) : Type 0 where
+  pub limit : most ≡ p.config.max_events
+  pub room : length p.events ≤ most
+  pub history : IsHistory p h
+  pub latest_at : IsAtPlace p.events latest
+  pub explained_at : IsAtPlace p.events explained
+  pub to : explained.at ≤ sum p.counts
+  pub slices_at : IsSlicesAt p.config p.events p.counts slices

@@ -1,0 +1,71 @@
+//! The syncs so far.
+ghost use Rattle.std.specs.Prelude.{◌<◌, ◌^◌, length};
+
+use kp_base::NoMemory;
+use kp_rules::Table;
+use kp_top_chains::fixed_chains;
+use kp_types::Batch;
+use std::alloc::Global;
+
+/// How many events each sync covers more than the one before it, how many all of them cover, the
+/// table after them, and the batch of the last.
+#[derive(Drop)]
+pub(crate) struct History {
+    pub(crate) counts: Vec<u64>,
+    pub(crate) covered: u64,
+    pub(crate) table: Table,
+    pub(crate) last: Option<Batch>,
+}
+
+impl History {
+    ghost use Rattle.std.specs.Prelude.{◌≡◌, ◌≤◌, List, [], length, None, IfOk, OnOk, OnErr};
+    ghost use Rattle.kp_base.specs.declared.config.Config.{Config};
+    ghost use Rattle.kp_types.specs.declared.event.Event.{Event};
+    ghost use Rattle.kp_object_defs.specs.Objects.{objects_after};
+    ghost use Rattle.kp_table_defs.specs.Rebuild.{clash_of};
+    ghost use Rattle.kp_plane.specs.Invariant.{IsHistory};
+    ghost use Rattle.kp_plane.specs.Parts.{PlaneParts, next_edits, setting_in, synced};
+
+    /// Before the first sync.
+    pub(crate) fn new(alloc: Global) -> Result<History, NoMemory>
+        ensures { (config : Config) (events : List Event) → IfOk result
+            (IsHistory (record { config = config; events = events; counts = [] })) }
+    {
+        kp_history_laws::exact_histories();
+        Ok(History {
+            counts: Vec::new(alloc),
+            covered: 0,
+            table: fixed_chains(alloc)?,
+            last: None,
+        })
+    }
+
+    /// Makes the batch of a sync, after which so many events are covered. Where memory is out, all
+    /// stays.
+    pub(crate) fn record(&mut self, covered: u64, batch: Batch) -> Result<(), NoMemory>
+        requires { self.old.covered ≤ covered }
+        ensures ok { (p : PlaneParts) → IsHistory p self.old → covered ≡ length p.events
+            → clash_of (setting_in p) (objects_after p.events) ≡ None
+            → batch.edits ≡ next_edits p → OnOk result (IsHistory (synced p) self.new) }
+        ensures err { (p : PlaneParts) → IsHistory p self.old → OnErr result (IsHistory p self.new) }
+    {
+        kp_history_laws::exact_histories();
+        kp_rules::laws::changes_lead_over();
+        self.counts.push(covered - self.covered)?;
+        fits_memory(self.counts.as_slice());
+        if let Err(refused) = self.table.apply(&batch) {
+            let _ = self.counts.pop();
+            return Err(refused);
+        }
+        self.covered = covered;
+        self.last = Some(batch);
+        Ok(())
+    }
+}
+
+/// A list in memory has less than 2^64 elements.
+fn fits_memory<T>(items: &[T])
+    ensures { length items.now < 2 ^ 64 }
+{
+    items.len();
+}

@@ -1,0 +1,17 @@
+//! One order of events: events are accepted, syncs bring the table up to them, and packets are
+//! answered by the last sync.
+#![tactic(auto)]
+
+mod history;
+pub mod laws;
+mod note;
+mod place;
+mod plane;
+mod slices_at;
+
+pub use kp_events::{Journal, JournalFault};
+pub use kp_full_table::TableFault;
+pub use kp_rules::Table;
+pub use kp_types::{Answer, Batch, Decision, SyncRecord};
+pub use note::SyncNote;
+pub use plane::Plane;

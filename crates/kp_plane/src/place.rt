@@ -1,0 +1,51 @@
+//! The objects at a place of the journal.
+use kp_base::NoMemory;
+use kp_store::Objects;
+use kp_types::Event;
+use std::alloc::Global;
+
+/// The objects after the first events of a journal, and how many of them these are.
+#[derive(Drop)]
+pub(crate) struct ObjectsAt {
+    pub(crate) objects: Objects,
+    pub(crate) at: usize,
+}
+
+impl ObjectsAt {
+    ghost use Rattle.std.specs.Prelude.{◌≡◌, ◌≤◌, List, length, OnOk};
+    ghost use Rattle.kp_types.specs.declared.event.Event.{Event};
+    ghost use Rattle.kp_plane.specs.Invariant.{IsAtPlace};
+
+    /// Before the first event.
+    pub(crate) fn start(alloc: Global) -> ObjectsAt
+        ensures start { result.at ≡ 0 }
+        ensures place { (events : List Event) → IsAtPlace events result }
+    {
+        ObjectsAt {
+            objects: Objects::new(alloc),
+            at: 0,
+        }
+    }
+
+    /// Goes on to a later place of the journal. Where memory is out, it stands on the way there.
+    pub(crate) fn advance(
+        &mut self,
+        alloc: Global,
+        events: &[Event],
+        to: usize,
+    ) -> Result<(), NoMemory>
+        requires place { IsAtPlace events.now self.old }
+        requires later { self.old.at ≤ to }
+        requires within { to ≤ length events.now }
+        ensures place { IsAtPlace events.now self.new }
+        ensures from { self.old.at ≤ self.new.at }
+        ensures to { self.new.at ≤ to }
+        ensures ok { OnOk result (self.new.at ≡ to) }
+    {
+        for at in self.at..to {
+            self.objects.apply(alloc, &events[at])?;
+            self.at = at + 1;
+        }
+        Ok(())
+    }
+}

@@ -1,0 +1,400 @@
+//! The plane.
+ghost use Rattle.std.specs.Prelude.{◌≡◌, ◌≤◌, ℕ, [], length, sum, count_by, not, true, None, IfOk, IfErr, OnOk, OnErr};
+ghost use Rattle.std.specs.Option.{option_copied};
+ghost use Rattle.kp_choice_defs.specs.Draws.{IsStated, AreDraws};
+ghost use Rattle.kp_choice_defs.specs.Recent.{RecentParts};
+ghost use Rattle.kp_events.specs.JournalContents.{HasRoom, Refuses};
+ghost use Rattle.kp_full_table.specs.Faults.{TellsClash};
+ghost use Rattle.kp_object_defs.specs.Objects.{objects_after};
+ghost use Rattle.kp_types.specs.declared.packet.Packet.{Packet};
+ghost use Rattle.kp_plane.specs.Notes.{last_note};
+ghost use Rattle.kp_plane.specs.Parts as parts;
+ghost use Rattle.kp_plane.specs.Parts.{HasExactHistory, IsNextRecord, setting_in};
+ghost use Rattle.kp_plane.specs.Parts.{decided_in, explained_in, walked_in};
+ghost use Rattle.kp_table_defs.specs.Edits.{is_write};
+ghost use Rattle.kp_table_defs.specs.Ranks.{is_ranked, has_built_in_chains};
+ghost use Rattle.kp_table_defs.specs.Rebuild.{clash_of};
+ghost use Rattle.kp_walk_laws.specs.Laws.{Agree};
+ghost use Rattle.kp_walker.specs.Answers.{answered};
+
+use crate::history::History;
+use crate::laws::walk_decides;
+use crate::note::SyncNote;
+use crate::place::ObjectsAt;
+use crate::slices_at::SlicesAt;
+use kp_base::{Config, Copied, Items, NoMemory, Steps};
+use kp_decide::decide;
+use kp_draws::DrawSource;
+use kp_events::{Journal, JournalFault};
+use kp_full_table::{TableFault, rebuild};
+use kp_recent::RecentLists;
+use kp_rules::{Table, changed};
+use kp_types::{Answer, Batch, Decision, Edit, Event, Packet, Slice, SyncRecord, Verdict};
+use std::alloc::Global;
+use std::marker::Model;
+use std::mem::replace;
+use std::sync::ledger::Ledger;
+
+/// One order of events: those that were accepted, and the syncs that cover the first of them.
+#[derive(Drop)]
+pub struct Plane {
+    config: Config,
+    journal: Journal,
+    history: History,
+    /// The objects of the latest sync, which may have been refused.
+    latest: ObjectsAt,
+    /// The objects of the last accepted sync, where a refused one has led the others on.
+    explained: ObjectsAt,
+    /// The slices, where they were last asked for.
+    slices: SlicesAt,
+}
+
+impl Model for Plane {
+    ghost use Rattle.kp_plane.specs.Invariant.{IsPlane};
+    ghost use Rattle.kp_plane.specs.Parts.{PlaneParts, parts_code};
+
+    ghost Value = { PlaneParts };
+
+    ghost coded = { parts_code };
+
+    ghost view = { λ s. record {
+      config = s.config;
+      events = s.journal.events;
+      counts = s.history.counts.items;
+    } };
+
+    ghost invariant = { λ s. IsPlane
+        (record {
+          config = s.config;
+          events = s.journal.events;
+          counts = s.history.counts.items;
+        })
+        s.journal.most s.history s.latest s.explained s.slices };
+}
+
+impl Plane {
+    /// No event and no sync.
+    pub fn new(alloc: Global, config: Config) -> Result<Plane, NoMemory>
+        ensures { IfOk result (λ p. p ≡ record { config = config; events = []; counts = [] }) }
+    {
+        let history = History::new(alloc)?;
+        let journal = Journal::new(alloc, config.max_events);
+        Ok(Plane {
+            config,
+            journal,
+            history,
+            latest: ObjectsAt::start(alloc),
+            explained: ObjectsAt::start(alloc),
+            slices: SlicesAt::start(alloc),
+        })
+    }
+
+    /// The configuration.
+    pub fn config(&self) -> &Config
+        ensures { result.now ≡ self.now.config }
+    {
+        &self.config
+    }
+
+    /// The journal of the accepted events.
+    pub fn journal(&self) -> &Journal
+        ensures { result.now ≡ parts.journal_in self.now }
+    {
+        &self.journal
+    }
+
+    /// How many events the last sync covers.
+    pub fn covered(&self) -> u64
+        ensures count { result ≡ sum self.now.counts }
+        ensures within { result ≤ length self.now.events }
+    {
+        self.history.covered
+    }
+
+    /// How many syncs were accepted.
+    pub fn syncs(&self) -> u64
+        ensures { result ≡ parts.syncs_in self.now }
+    {
+        self.history.counts.len() as u64
+    }
+
+    /// The table: the full one of the objects that the last sync covers, with a count of the
+    /// syncs. The syncs are an exact history.
+    pub fn table(&self) -> &Table
+        ensures table { result.now ≡ parts.table_in self.now }
+        ensures exact { HasExactHistory self.now }
+    {
+        &self.history.table
+    }
+
+    /// The batch of the last sync. There is none exactly before the first.
+    pub fn last_batch(&self) -> Option<&Batch>
+        ensures { option_copied result ≡ parts.last_batch_in self.now }
+    {
+        self.history.last.as_ref()
+    }
+
+    /// Accepts all of these events, or none and gives them back.
+    pub fn accept(&mut self, events: Items<Event>) -> Result<(), (JournalFault, Items<Event>)>
+        ensures ok { OnOk result (self.new ≡ parts.with_events self.old events) }
+        ensures fits { OnOk result (HasRoom (parts.journal_in self.old) (length events)) }
+
+        // On a refusal nothing is accepted, and the caller gets the events back.
+        ensures cause { IfErr result (λ (fault, _).
+            Refuses (parts.journal_in self.old) (length events) fault) }
+        ensures back { IfErr result (λ (_, returned). returned ≡ events) }
+        ensures err { OnErr result (self.new ≡ self.old) }
+    {
+        kp_history_laws::exact_histories();
+        self.journal.push(events)
+    }
+
+    /// Brings the table up to all events, and answers the record of that. It is refused exactly
+    /// where two different chains that the objects need have one name. After a refusal all stays,
+    /// and no event is lost.
+    pub fn sync<L: Ledger>(
+        &mut self,
+        alloc: Global,
+        steps: &mut Steps<L>,
+    ) -> Result<SyncRecord, TableFault>
+        ensures record { IfOk result (IsNextRecord self.old) }
+        ensures ok { OnOk result (self.new ≡ parts.synced self.old) }
+        ensures clash { IfErr result (TellsClash
+            (clash_of (setting_in self.old) (objects_after self.old.events))) }
+        ensures err { OnErr result (self.new ≡ self.old) }
+    {
+        let batch = self.next_batch(alloc, steps)?;
+        let copy = batch.copy(alloc)?;
+        let events = self.uncovered();
+        self.keep(batch)?;
+        Ok(SyncRecord {
+            sync: self.syncs(),
+            events,
+            batch: copy,
+        })
+    }
+
+    /// Does what `sync` does, and answers its record's counts alone: no edit is copied.
+    pub fn sync_noted<L: Ledger>(
+        &mut self,
+        alloc: Global,
+        steps: &mut Steps<L>,
+    ) -> Result<SyncNote, TableFault>
+        ensures note { IfOk result (λ n. n
+            ≡ last_note (parts.uncovered_in self.old) self.new) }
+        ensures no_clash { OnOk result (
+            clash_of (setting_in self.old) (objects_after self.old.events) ≡ None) }
+        ensures ok { OnOk result (self.new ≡ parts.synced self.old) }
+        ensures clash { IfErr result (TellsClash
+            (clash_of (setting_in self.old) (objects_after self.old.events))) }
+        ensures err { OnErr result (self.new ≡ self.old) }
+    {
+        let batch = self.next_batch(alloc, steps)?;
+        let (written, removed) = counts(batch.edits.as_slice());
+        let events = self.uncovered();
+        self.keep(batch)?;
+        Ok(SyncNote {
+            sync: self.syncs(),
+            events,
+            written,
+            removed,
+        })
+    }
+
+    /// Walks a packet of this number through the table: its verdict and the recent lists are those
+    /// of the decision on the objects that the last sync covers. Only a set of a source that its
+    /// recent list lacks takes memory, and where it gets none the lists stay as they are by then.
+    pub fn walk<F: Fn(u64, u32) -> u32>(
+        &self,
+        number: u64,
+        packet: &Packet,
+        draws: &DrawSource<F>,
+        lists: &mut RecentLists,
+    ) -> Result<Answer, NoMemory>
+        requires stated { IsStated (F.pre draws.now) (F.post draws.now) }
+        ensures walk { IfOk result (λ answer. (drawn : ℕ → ℕ)
+            → AreDraws (F.post draws.now) number drawn
+            → answered answer lists.new
+            ≡ walked_in self.now packet.entry.now drawn lists.old) }
+        ensures decided { IfOk result (λ answer. (drawn : ℕ → ℕ)
+            → AreDraws (F.post draws.now) number drawn
+            → Agree (answered answer lists.new)
+            (decided_in self.now packet.entry.now drawn lists.old)) }
+        ensures refused { OnErr result ((drawn : ℕ → ℕ) → AreDraws (F.post draws.now) number drawn
+            → parts.ComesToSetIn self.now packet.entry.now drawn lists.old lists.new) }
+    {
+        self.decides();
+        kp_walker::walk(
+            &self.history.table,
+            &self.config.addresses,
+            number,
+            packet,
+            draws,
+            lists,
+        )
+    }
+
+    /// What becomes of a packet: the same walk, of which no trail is kept.
+    pub fn verdict_of<F: Fn(u64, u32) -> u32>(
+        &self,
+        number: u64,
+        packet: &Packet,
+        draws: &DrawSource<F>,
+        lists: &mut RecentLists,
+    ) -> Result<Verdict, NoMemory>
+        requires stated { IsStated (F.pre draws.now) (F.post draws.now) }
+        ensures verdict { IfOk result (λ verdict. (drawn : ℕ → ℕ)
+            → AreDraws (F.post draws.now) number drawn
+            → verdict ≡ (decided_in self.now packet.entry.now drawn lists.old).verdict) }
+        ensures lists { OnOk result ((drawn : ℕ → ℕ) → AreDraws (F.post draws.now) number drawn
+            → lists.new ≡ (decided_in self.now packet.entry.now drawn lists.old).lists) }
+        ensures refused { OnErr result ((drawn : ℕ → ℕ) → AreDraws (F.post draws.now) number drawn
+            → parts.ComesToSetIn self.now packet.entry.now drawn lists.old lists.new) }
+    {
+        self.decides();
+        kp_walker::verdict_of(
+            &self.history.table,
+            &self.config.addresses,
+            number,
+            packet,
+            draws,
+            lists,
+        )
+    }
+
+    /// The decision on a packet by the objects that the last sync covers, with its reason. The
+    /// recent lists stay as they are.
+    pub fn explain<F: Fn(u64, u32) -> u32>(
+        &mut self,
+        alloc: Global,
+        number: u64,
+        packet: &Packet,
+        draws: &DrawSource<F>,
+        lists: &RecentLists,
+    ) -> Result<Decision, NoMemory>
+        requires stated { IsStated (F.pre draws.now) (F.post draws.now) }
+        ensures decided { (drawn : ℕ → ℕ) → AreDraws (F.post draws.now) number drawn
+            → IfOk result (λ d. d
+            ≡ explained_in self.old packet.entry.now drawn lists.now) }
+        ensures stays { self.new ≡ self.old }
+    {
+        let covered = self.history.covered as usize;
+        if self.latest.at == covered {
+            return decide(
+                alloc,
+                &self.latest.objects,
+                &self.config,
+                number,
+                packet,
+                draws,
+                lists,
+            );
+        }
+        self.explained
+            .advance(alloc, self.journal.events(), covered)?;
+        decide(
+            alloc,
+            &self.explained.objects,
+            &self.config,
+            number,
+            packet,
+            draws,
+            lists,
+        )
+    }
+
+    /// The slices by now, in order of their keys: as they were fed, and as the controller made
+    /// them at each sync.
+    pub fn slices(&mut self, alloc: Global) -> Result<Items<Slice>, NoMemory>
+        ensures slices { IfOk result (λ ss. ss ≡ parts.slices_in self.old) }
+        ensures stays { self.new ≡ self.old }
+    {
+        // Where memory is out on the way, they are made from the start once more.
+        let slices = replace(&mut self.slices, SlicesAt::start(alloc));
+        self.slices = slices.caught_up(
+            alloc,
+            &self.config,
+            self.journal.events(),
+            self.history.counts.as_slice(),
+        )?;
+        self.slices.slices.copies(alloc)
+    }
+
+    /// What walking the table rests on: its jumps go to chains of greater ranks, it has the built-in
+    /// chains, and it sends each packet where the objects say.
+    fn decides(&self)
+        ensures ranked { is_ranked (parts.chains_in self.now) ≡ true }
+        ensures built_in { has_built_in_chains (parts.chains_in self.now) ≡ true }
+        ensures agree { (packet : Packet) (drawn : ℕ → ℕ) (lists : RecentParts)
+            → Agree (walked_in self.now packet drawn lists)
+            (decided_in self.now packet drawn lists) }
+    {
+        let _ = &self.history;
+        kp_walk_laws::full_table_ranked_objects();
+        kp_walk_laws::hashed_prefixed();
+        walk_decides();
+    }
+
+    /// How many events no sync covers yet.
+    fn uncovered(&self) -> u64
+        ensures { result ≡ parts.uncovered_in self.now }
+    {
+        self.journal.events().len() as u64 - self.history.covered
+    }
+
+    /// The batch that leads to the full table of all events' objects. Where no event came since the
+    /// last sync it is empty, and nothing is looked at.
+    fn next_batch<L: Ledger>(
+        &mut self,
+        alloc: Global,
+        steps: &mut Steps<L>,
+    ) -> Result<Batch, TableFault>
+        ensures batch { IfOk result (λ b. b.edits ≡ parts.next_edits self.old) }
+        ensures no_clash { OnOk result (
+            clash_of (setting_in self.old) (objects_after self.old.events) ≡ None) }
+        ensures clash { IfErr result (TellsClash
+            (clash_of (setting_in self.old) (objects_after self.old.events))) }
+        ensures stays { self.new ≡ self.old }
+    {
+        kp_rules::laws::same_rules_are_equal();
+        let events = self.journal.events();
+        if events.len() as u64 == self.history.covered {
+            return Ok(Batch {
+                edits: Items::new(alloc),
+            });
+        }
+        self.latest.advance(alloc, events, events.len())?;
+        let table = match rebuild(alloc, &self.latest.objects, &self.config, steps) {
+            Ok(table) => table,
+            Err(fault) => return Err(fault),
+        };
+        Ok(changed(alloc, &self.history.table, &table)?)
+    }
+
+    /// Makes the batch of a sync of all events.
+    fn keep(&mut self, batch: Batch) -> Result<(), NoMemory>
+        requires edits { batch.edits ≡ parts.next_edits self.old }
+        requires no_clash { clash_of (setting_in self.old) (objects_after self.old.events) ≡ None }
+        ensures last { parts.last_edits (parts.synced self.old) ≡ parts.next_edits self.old }
+        ensures ok { OnOk result (self.new ≡ parts.synced self.old) }
+        ensures err { OnErr result (self.new ≡ self.old) }
+    {
+        let covered = self.journal.events().len() as u64;
+        self.history.record(covered, batch)
+    }
+}
+
+/// How many edits are writes, and how many are removes.
+fn counts(edits: &[Edit]) -> (u64, u64)
+    ensures written { result.0 ≡ count_by is_write edits.now }
+    ensures removed { result.1 ≡ count_by (λ e. not (is_write e)) edits.now }
+{
+    let (mut written, mut removed) = (0, 0);
+    for edit in edits {
+        match edit {
+            Edit::Write { .. } => written += 1,
+            Edit::Remove { .. } => removed += 1,
+        }
+    }
+    (written, removed)
+}
