@@ -7,6 +7,7 @@ mod blocks;
 mod filter;
 mod fixed;
 mod nat;
+mod port;
 mod rows;
 mod table;
 
@@ -14,4 +15,5 @@ pub use blocks::{Blocks, info_blocks};
 pub use filter::filter_rows;
 pub use fixed::fixed_chains;
 pub use nat::nat_rows;
+pub use port::port_block;
 pub use table::table_of;
