@@ -36,7 +36,6 @@ pub fn rebuild<L: Ledger>(
     config: &Config,
     steps: &mut Steps<L>,
 ) -> Result<Table, TableFault>
-    requires stub { ⊥ }
     ensures full { IfOk result (λ t. t ≡ full_table (setting_of V4 config.now) objects.now) }
     ensures no_clash { OnOk result (clash_of (setting_of V4 config.now) objects.now ≡ None) }
     ensures clash { IfErr result (TellsClash (clash_of (setting_of V4 config.now) objects.now)) }

@@ -1,5 +1,6 @@
-//! The full table of the objects, and of what is known of the ports: what each port contributes, joined in order of
-//! the ports between the fixed rules, unless two chains that are needed have one name.
+//! The full table of the objects, and of what is known of the ports: what each port contributes,
+//! joined in order of the ports between the fixed rules, unless two chains that are needed have one
+//! name.
 #![tactic(auto)]
 
 mod fault;

@@ -2,7 +2,7 @@
 use Rattle.std.proofs.Common.{◌≡◌, Bool, List, [], ◌∷◌, ◌++◌, map, reverse, Contains, Option, option_and_then, filter, filter_map, flat_map, Some, refl, sym, ap, subst, ◌∙◌}
 use Rattle.std.specs.List.{cons_option, AllByRecursion}
 use Rattle.std.specs.FinMap as finite
-use Rattle.std.specs.FinMap.{find, get}
+use Rattle.std.specs.FinMap.{find}
 use Rattle.std.proofs.lemmas.List.{map-append}
 use Rattle.kp_lemmas.proofs.Booleans.{fact_from_true}
 use Rattle.kp_lemmas.proofs.Entries.{sorted_found}

@@ -76,11 +76,7 @@ fn is_reconciled(config: &Config, service: &Service) -> bool
 
 /// The endpoints that the controller wants for a Service of the objects. Of the nodes only those of
 /// its pods are looked at.
-fn wanted_of(
-    alloc: Global,
-    objects: &Objects,
-    service: &Service,
-) -> Result<Items<Wanted>, NoMemory>
+fn wanted_of(alloc: Global, objects: &Objects, service: &Service) -> Result<Items<Wanted>, NoMemory>
     requires own_keys { AreUnderOwnKeys objects.now }
     requires stored { get objects.now.services service.now.key ≡ Some service.now }
     ensures { IfOk result (λ ws. ws ≡ desired.desired_endpoints_of V4 objects.now service.now) }

@@ -20,10 +20,10 @@ loop-port-preserved c before h =
     let i = c.loop-port.port-index in
     let items = c.as_slice-port-items.result.now in
     let next : take i s.ports ++ p ∷ [] ≡ take (i + 1) s.ports =
-        ap (λ ps. take i ps ++ p ∷ []) (sym c.as_slice-port-items.ensures)
-        ∙ ap (λ q. take i items ++ q ∷ []) c.port-item.is
-        ∙ sym (take_more items i p c.loop-port-test.true)
-        ∙ ap (take (i + 1)) c.as_slice-port-items.ensures in
+    ap (λ ps. take i ps ++ p ∷ []) (sym c.as_slice-port-items.ensures)
+    ∙ ap (λ q. take i items ++ q ∷ []) c.port-item.is
+    ∙ sym (take_more items i p c.loop-port-test.true)
+    ∙ ap (take (i + 1)) c.as_slice-port-items.ensures in
     c.in_ok-add_port.ensures
     ∙ (λ j. put port_key_cmp (port_key_of s p) (known_in_part V4 config.node (c.zone_of-zone.ensures j) p (c.requires.taken j)) (c.loop-port.invariant before h j))
     ∙ next_port V4 config o s before (take i s.ports) p

@@ -1,5 +1,5 @@
 -- The ports so far were added to those of before.
-use Rattle.std.proofs.Common.{◌≡◌, List, ◌++◌, take, map}
+use Rattle.std.proofs.Common.{◌≡◌, List, ◌++◌, take}
 use Rattle.kp_base.specs.declared.address.Family.TheVariants.{V4}
 use Rattle.kp_types.specs.Setting.{config_for}
 use Rattle.kp_types.specs.declared.info.ServiceSources.{ServiceSources}

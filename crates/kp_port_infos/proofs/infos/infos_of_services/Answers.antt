@@ -1,4 +1,4 @@
-use Rattle.std.proofs.Common.{◌≡◌, ℕ, List, map, filter_map, flat_map, Option, Ok, ap, ◌∙◌, rules}
+use Rattle.std.proofs.Common.{ℕ, List, map, filter_map, flat_map, Option, Ok, ap, ◌∙◌, rules}
 use Rattle.std.proofs.lemmas.Iterator.{items_from_collect}
 use Rattle.std.proofs.lemmas.Iterator.Consumers.{YieldsList-at, YieldsList-from_filter_map, YieldsList-from_rest}
 use Rattle.kp_base.specs.Keys.{port_key_cmp}

@@ -1,4 +1,4 @@
-use Rattle.std.proofs.Common.{◌≡◌, Some, ap, filter, filter_map, ◌∙◌}
+use Rattle.std.proofs.Common.{◌≡◌, ap, filter_map, ◌∙◌}
 use Rattle.std.proofs.lemmas.Result.{IfOk-weaker}
 use Rattle.kp_base.specs.declared.address.Family.TheVariants.{V4}
 use Rattle.kp_object_defs.specs.Desired.{desired_among, desired_endpoints_of}
