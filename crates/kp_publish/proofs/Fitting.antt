@@ -1,5 +1,5 @@
 -- What a publisher says stays true of its copies.
-use Rattle.std.proofs.Common.{◌≡◌, true, false, List, [], ◌∷◌, ◌++◌, Option, None, refl, ap, sym, ◌∙◌}
+use Rattle.std.proofs.Common.{◌≡◌, false, List, [], ◌∷◌, ◌++◌, Option, None, refl, ap, sym, ◌∙◌}
 use Rattle.std.specs.List.{fold}
 use Rattle.kp_publish.specs.declared.entry.Entry.{Entry}
 use Rattle.kp_publish.specs.declared.entry.Entry.TheVariants.{End}

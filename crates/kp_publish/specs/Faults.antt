@@ -1,5 +1,5 @@
 -- What becomes of a record that isn't published.
-use Rattle.std.specs.Prelude.{◌≡◌, List, [], ◌∷◌, ◌++◌}
+use Rattle.std.specs.Prelude.{◌≡◌, [], ◌∷◌, ◌++◌}
 use Rattle.kp_types.specs.declared.sync.SyncRecord.{SyncRecord}
 use Rattle.kp_publish.specs.declared.entry.Entry.TheVariants.{Record}
 use Rattle.kp_publish.specs.declared.fault.PublishFault.{PublishFault}

@@ -1,6 +1,6 @@
 //! Records that write their own number into a chain.
-ghost use Rattle.std.specs.Prelude.{◌≡◌, false, IfSome};
-ghost use Rattle.kp_publish.specs.Entries.{is_ended, StandsFor};
+ghost use Rattle.std.specs.Prelude.{OnOk};
+ghost use Rattle.kp_publish.specs.Entries.{StandsFor};
 
 use arrayvec::ArrayVec;
 use kp_base::{Items, NoMemory};
@@ -51,25 +51,31 @@ pub fn number_in(table: &Table) -> u64 {
 }
 
 /// Publishes one record more, and answers its number. `own` is the table that readers then take.
+#[tactic(auto, using(crate::proofs::Pushes::ready_after, crate::proofs::Pushes::stands_after))]
 pub fn push<J: Publication, R: Wait>(
     rt: &R,
     alloc: Global,
     publisher: &mut Publisher<J>,
     own: &mut Table,
-) -> Option<u64>
+) -> Result<u64, NoMemory>
     requires { StandsFor J.start own.old publisher.old.newest }
-    ensures { IfSome result (λ _. StandsFor J.start own.new publisher.new.newest) }
+    ensures { OnOk result (StandsFor J.start own.new publisher.new.newest) }
 {
-    let sync = own.syncs().checked_add(1)?;
-    let batch = batch_of(alloc, sync).ok()?;
-    own.apply(&batch).ok()?;
+    let Some(sync) = own.syncs().checked_add(1) else {
+        return Err(NoMemory);
+    };
+    let batch = batch_of(alloc, sync)?;
+    own.apply(&batch)?;
     if !can_walk(own) {
-        return None;
+        return Err(NoMemory);
     }
     let next = SyncRecord {
         sync,
         events: 1,
         batch,
     };
-    publisher.push_and_publish(rt, next).ok()
+    match publisher.push_and_publish(rt, next) {
+        Ok(number) => Ok(number),
+        Err(_) => Err(NoMemory),
+    }
 }

@@ -29,7 +29,7 @@ fn push_all<J: Publication, R: Wait>(
 {
     let mut own = own;
     for turn in 0..RECORDS {
-        if push(rt, alloc, publisher, &mut own).is_none() {
+        if push(rt, alloc, publisher, &mut own).is_err() {
             break;
         }
     }

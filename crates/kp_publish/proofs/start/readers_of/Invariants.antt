@@ -1,5 +1,4 @@
 use Rattle.std.proofs.Common.{◌≡◌, [], replicate}
-use Rattle.kp_publish.specs.Knows.{Knows}
 use Rattle.kp_publish.proofs.start.readers_of.Given as goal
 
 abbrev pub invariant-loop-turn : goal.invariant-loop-turn

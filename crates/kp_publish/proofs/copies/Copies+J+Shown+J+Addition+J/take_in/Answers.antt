@@ -1,4 +1,4 @@
-use Rattle.std.proofs.Common.{◌≡◌, ◌+◌, ◌<◌, ◌^◌, ◌++◌, ◌∷◌, [], false, length, sym, ap, ◌∙◌, subst, arith}
+use Rattle.std.proofs.Common.{◌≡◌, ◌+◌, ◌++◌, ◌∷◌, [], false, length, sym, ap, ◌∙◌, subst, arith}
 use Rattle.kp_history_defs.specs.History.{table_from}
 use Rattle.kp_publish.specs.declared.entry.Entry.TheVariants.{Record}
 use Rattle.kp_publish.specs.Entries.{records_of, is_ended, IsReady}

@@ -1,4 +1,4 @@
-use Rattle.std.proofs.Common.{◌≡◌, refl, sym, ap, ◌∙◌, subst}
+use Rattle.std.proofs.Common.{refl}
 use Rattle.kp_table_defs.specs.Edits.{table_after_batch}
 use Rattle.kp_publish.specs.Entries.{StandsFor}
 use Rattle.kp_publish.proofs.Tables.{stands_next}
