@@ -1,7 +1,0 @@
-//! Tests of the decision on a packet.
-#![tactic(auto)]
-
-#[cfg(test)]
-mod decisions;
-#[cfg(test)]
-mod lines;
