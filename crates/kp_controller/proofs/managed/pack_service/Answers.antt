@@ -1,8 +1,8 @@
 use Rattle.std.proofs.Common.{ap, ◌∙◌}
 use Rattle.std.proofs.lemmas.Result.{on_ok_weaker}
 use Rattle.kp_base.specs.declared.address.Family.TheVariants.{V4}
-use Rattle.kp_object_defs.specs.SlicesNow.{after_packing, packed_now, with_managed}
-use Rattle.kp_controller.specs.Replaced.{with_slices, without_keys}
+use Rattle.kp_object_defs.specs.SlicesNow.{with_managed}
+use Rattle.kp_controller.specs.Replaced.{without_keys}
 use Rattle.kp_controller.proofs.Packed.{repacked}
 use Rattle.kp_controller.proofs.managed.pack_service.Goals as goal
 

@@ -1,5 +1,4 @@
-use Rattle.std.proofs.Common.{◌++◌, ap, sym, ◌∙◌}
-use Rattle.std.specs.Option.{option_to_list}
+use Rattle.std.proofs.Common.{ap, sym, ◌∙◌}
 use Rattle.kp_controller.specs.Replaced.{with_slices}
 use Rattle.kp_controller.proofs.Packed.{put_last}
 use Rattle.kp_controller.proofs.replaced.put_all.Goals as goal
