@@ -1,10 +1,10 @@
 -- More events change nothing of what syncs cover.
-use Rattle.std.proofs.Common.{◌≡◌, ◌≤◌, ◌+◌, ◌-◌, ℕ, List, [], ◌∷◌, ◌++◌, take, length, sum, refl, sym, ap, subst, ◌∙◌, arith, Result, Ok, Err, OnOk, OnErr}
+use Rattle.std.proofs.Common.{◌≡◌, ◌≤◌, ◌-◌, ℕ, List, [], ◌∷◌, ◌++◌, take, length, sum, sym, ap, subst, ◌∙◌, arith, Result, Ok, Err, OnOk, OnErr}
 use Rattle.std.proofs.lemmas.List.{take-append-le, length-append}
 use Rattle.std.proofs.lemmas.List.Sums.{sum_by-take-le}
 use Rattle.kp_base.specs.declared.address.Family.TheVariants.{V4}
 use Rattle.kp_types.specs.declared.event.Event.{Event}
-use Rattle.kp_object_defs.specs.Objects.{Objects, objects_after}
+use Rattle.kp_object_defs.specs.Objects.{objects_after}
 use Rattle.kp_object_defs.specs.SlicesNow.{slices_now}
 use Rattle.kp_table_defs.specs.Edits.{changes_between}
 use Rattle.kp_table_defs.specs.Rebuild.{clash_of, full_table}
@@ -12,7 +12,7 @@ use Rattle.kp_history_defs.specs.History.{objects_covered, chains_covered}
 use Rattle.kp_history_laws.specs.HistoryLaws.{ExactByEvents}
 use Rattle.kp_events.specs.JournalContents.{Contents, HasRoom}
 use Rattle.kp_events.specs.JournalContents as journal
-use Rattle.kp_plane.specs.Parts.{PlaneParts, HasExactHistory, setting_in, syncs_in, table_in, chains_in, last_edits, last_batch_in, batch_after, with_events}
+use Rattle.kp_plane.specs.Parts.{PlaneParts, HasExactHistory, setting_in, syncs_in, batch_after, with_events}
 use Rattle.kp_plane.specs.Invariant.{IsAtPlace, IsHistory, IsPlane, IsSlicesAt}
 use Rattle.kp_plane.specs.declared.history.History.{History}
 use Rattle.kp_plane.specs.declared.place.ObjectsAt.{ObjectsAt}

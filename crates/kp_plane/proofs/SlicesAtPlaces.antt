@@ -1,17 +1,16 @@
 -- Slices at places of a journal.
-use Rattle.std.proofs.Common.{◌≡◌, ◌≤◌, ◌<◌, ◌+◌, ◌-◌, ℕ, zero, suc, List, [], ◌∷◌, ◌++◌, take, drop, length, sum, Some, None, refl, sym, ap, subst, ◌∙◌, arith, le_refl, append-nil, get_or, take-take}
+use Rattle.std.proofs.Common.{◌≡◌, ◌≤◌, ◌<◌, ◌+◌, ◌-◌, ℕ, List, [], ◌∷◌, ◌++◌, take, drop, length, sum, sym, ap, subst, ◌∙◌, arith, le_refl, append-nil, get_or, take-take}
 use Rattle.std.specs.List.{fold}
 use Rattle.std.proofs.Math.Seq.{take-add}
-use Rattle.std.proofs.lemmas.List.{append_assoc, length-append, length-take-le, take-append-le, take_all, take_more, length_push}
+use Rattle.std.proofs.lemmas.List.{append_assoc, length-take-le, take_all, take_more, length_push}
 use Rattle.std.proofs.lemmas.List.Sums.{sum_by_push, sum_by-take-le}
-use Rattle.kp_base.specs.declared.address.Family.{Family}
 use Rattle.kp_base.specs.declared.address.Family.TheVariants.{V4}
 use Rattle.kp_base.specs.declared.config.Config.{Config}
 use Rattle.kp_types.specs.declared.event.Event.{Event}
-use Rattle.kp_object_defs.specs.Objects.{Objects, objects_after}
+use Rattle.kp_object_defs.specs.Objects.{objects_after}
 use Rattle.kp_object_defs.specs.SlicesNow.{Slices, slices_step, controller_step, slices_now}
 use Rattle.kp_object_laws.specs.SliceLaws.{SlicesAfterEvent, SlicesAfterSync}
-use Rattle.kp_plane.specs.Invariant.{IsAtPlace, IsFed, IsSlicesAt}
+use Rattle.kp_plane.specs.Invariant.{IsFed, IsSlicesAt}
 use Rattle.kp_plane.specs.declared.slices_at.SlicesAt.{SlicesAt}
 
 -- what the counts up to a place and the next one come to

@@ -1,5 +1,5 @@
 -- Before the first event.
-use Rattle.std.proofs.Common.{◌≡◌, ◌≤◌, ℕ, length, subst, arith, List, [], ◌++◌, map, None, refl, sym, ap, ◌∙◌, append-nil}
+use Rattle.std.proofs.Common.{◌≡◌, ◌≤◌, ℕ, length, subst, arith, List, [], ◌++◌, map, None, sym, ap, ◌∙◌, append-nil}
 use Rattle.std.specs.FinMap as finite
 use Rattle.kp_lemmas.proofs.Entries.{empty_entries}
 use Rattle.kp_base.specs.Keys.{key_cmp}

@@ -1,6 +1,5 @@
 -- What one more sync adds.
-use Rattle.std.proofs.Common.{◌≡◌, ◌≤◌, ◌+◌, ◌-◌, ◌^◌, min, ℕ, suc, List, [], ◌∷◌, ◌++◌, map, take, length, sum, Some, None, refl, sym, ap, subst, ◌∙◌, arith, le_refl, Bool, true, false, ◌<◌, nat_lt}
-use Rattle.std.specs.List.{fold}
+use Rattle.std.proofs.Common.{◌≡◌, ◌≤◌, ◌+◌, ◌-◌, ◌^◌, min, ℕ, suc, List, [], ◌∷◌, ◌++◌, take, length, sum, Some, None, refl, sym, ap, subst, ◌∙◌, arith, le_refl, Bool, true, false, ◌<◌, nat_lt}
 use Rattle.std.proofs.lemmas.Bool.Decides.{nat_tests}
 use Rattle.std.proofs.lemmas.List.{take_all, take-append-le, length-map, length_push, map_push}
 use Rattle.std.proofs.lemmas.List.Sums.{sum_by_push}
@@ -11,15 +10,15 @@ use Rattle.kp_types.specs.declared.sync.SyncRecord.{SyncRecord}
 use Rattle.kp_object_defs.specs.Objects.{Objects, objects_after}
 use Rattle.kp_base.specs.declared.address.Family.TheVariants.{V4}
 use Rattle.kp_object_defs.specs.SlicesNow.{slices_now}
-use Rattle.kp_table_defs.specs.Edits.{ChangesLeadOver, SameRulesAreEqual, chains_after_edit, changes_between, table_after_batch}
+use Rattle.kp_table_defs.specs.Edits.{ChangesLeadOver, SameRulesAreEqual, changes_between, table_after_batch}
 use Rattle.kp_table_defs.specs.Rebuild.{TableParts, clash_of, full_table}
 use Rattle.kp_types.specs.declared.packet.Packet.{Packet}
 use Rattle.kp_choice_defs.specs.Recent.{RecentParts}
 use Rattle.kp_door_defs.specs.Decision.{decision_of}
 use Rattle.kp_decide.specs.Told.{told}
-use Rattle.kp_history_defs.specs.History.{IsExactRecord, chains_covered, counts_of, objects_covered}
+use Rattle.kp_history_defs.specs.History.{chains_covered, objects_covered}
 use Rattle.kp_history_laws.specs.HistoryLaws.{all_covered, CoversRest, ExactByRecord}
-use Rattle.kp_plane.specs.Parts.{PlaneParts, HasExactHistory, setting_in, syncs_in, uncovered_in, objects_in, explained_in, table_in, chains_in, last_edits, last_batch_in, batch_after, next_edits, synced}
+use Rattle.kp_plane.specs.Parts.{PlaneParts, HasExactHistory, setting_in, syncs_in, uncovered_in, objects_in, explained_in, table_in, chains_in, last_edits, batch_after, next_edits, synced}
 use Rattle.kp_plane.specs.Invariant.{IsAtPlace, IsHistory, IsPlane, IsSlicesAt}
 use Rattle.kp_plane.specs.declared.history.History.{History}
 use Rattle.kp_plane.specs.declared.place.ObjectsAt.{ObjectsAt}

@@ -1,16 +1,15 @@
 -- A plane's table can be walked.
 use Rattle.std.specs.FinMap.{get}
-use Rattle.std.proofs.Common.{List, ◌≡◌, ◌&&◌, ℕ, true, None, subst, sym, ap, ◌∙◌, le_refl, length}
-use Rattle.kp_base.specs.declared.address.Family.TheVariants.{V4}
+use Rattle.std.proofs.Common.{List, ◌≡◌, ◌&&◌, ℕ, true, subst}
 use Rattle.kp_types.specs.declared.chain.TableName.TheVariants.{Nat, Filter}
 use Rattle.kp_types.specs.declared.packet.Packet.{Packet}
 use Rattle.kp_choice_defs.specs.Recent.{RecentParts}
-use Rattle.kp_table_defs.specs.Ranks.{is_ranked, has_built_in_chains}
+use Rattle.kp_table_defs.specs.Ranks.{has_built_in_chains}
 use Rattle.kp_base.specs.Net.{AddressParts}
 use Rattle.kp_table_defs.specs.Rebuild.{TableParts}
 use Rattle.kp_table_defs.specs.Walk.{walk_of}
 use Rattle.kp_walker.specs.Sets.{ComesToSet}
-use Rattle.kp_walk_laws.specs.Laws.{Agree, FullTableRankedObjects, HashedPrefixed, IsSound, ProductDecides}
+use Rattle.kp_walk_laws.specs.Laws.{FullTableRankedObjects, HashedPrefixed, IsSound}
 use Rattle.kp_plane.specs.Parts.{PlaneParts, ComesToSetIn, setting_in, objects_in, chains_in, table_in, walked_in}
 
 -- each jump goes to a chain of a greater rank

@@ -1,4 +1,4 @@
-use Rattle.std.proofs.Common.{◌≡◌, ◌≤◌, ◌<◌, ◌+◌, ℕ, length, get_or, refl, sym, ap, ◌∙◌, arith}
+use Rattle.std.proofs.Common.{◌≡◌, ◌<◌, ◌+◌, ℕ, length, get_or, refl, sym, ap, ◌∙◌, arith}
 use Rattle.kp_plane.proofs.Places.{next_place}
 use Rattle.kp_plane.proofs.place.ObjectsAt.advance.Goals as goal
 

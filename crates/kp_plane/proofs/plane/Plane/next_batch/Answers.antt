@@ -1,8 +1,7 @@
-use Rattle.std.proofs.Common.{◌≡◌, List, None, length, sym, ap, subst, ◌∙◌}
+use Rattle.std.proofs.Common.{length, sym, ap, subst, ◌∙◌}
 use Rattle.kp_object_defs.specs.Objects.{objects_after}
-use Rattle.kp_table_defs.specs.Rebuild.{clash_of}
 use Rattle.kp_full_table.specs.Faults.{TellsClash}
-use Rattle.kp_plane.specs.Parts.{PlaneParts, setting_in, objects_in, next_edits}
+use Rattle.kp_plane.specs.Parts.{PlaneParts, objects_in, next_edits}
 use Rattle.kp_plane.proofs.Synced.{at_end, made_edits, no_edits, nothing_new, same_clash}
 use Rattle.kp_plane.proofs.plane.Plane.next_batch.Goals as goal
 

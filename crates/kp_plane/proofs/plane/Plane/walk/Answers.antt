@@ -1,4 +1,4 @@
-use Rattle.std.proofs.Common.{◌≡◌, ap, sym, subst, ◌∙◌}
+use Rattle.std.proofs.Common.{ap, sym, subst, ◌∙◌}
 use Rattle.std.proofs.lemmas.Result.{IfOk-weaker, on_err_weaker}
 use Rattle.kp_table_defs.specs.Ranks.{is_ranked, has_built_in_chains}
 use Rattle.kp_table_defs.specs.Rebuild.{TableParts}

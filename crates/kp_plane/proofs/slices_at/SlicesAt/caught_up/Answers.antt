@@ -1,4 +1,4 @@
-use Rattle.std.proofs.Common.{◌≡◌, ◌≤◌, length, subst, sym, arith, le_refl, [], ◌∷◌}
+use Rattle.std.proofs.Common.{◌≡◌, length, arith, le_refl, [], ◌∷◌}
 use Rattle.std.proofs.lemmas.Result.{IfOk-weaker}
 use Rattle.kp_base.specs.declared.address.Family.TheVariants.{V4}
 use Rattle.kp_object_defs.specs.SlicesNow.{slices_now}
