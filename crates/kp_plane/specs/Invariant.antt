@@ -29,7 +29,8 @@ pub record IsHistory (p : PlaneParts) (h : History) : Type 0 where
 
 -- Slices at a place of the journal are those of the events and of the syncs before it: it stands
 -- behind what these syncs cover, and at or before what one more covers.
-pub record IsSlicesAt (config : Config) (events : List Event) (counts : List ℕ) (s : SlicesAt) : Type 0 where
+pub record IsSlicesAt
+    (config : Config) (events : List Event) (counts : List ℕ) (s : SlicesAt) : Type 0 where
   pub place : IsAtPlace events s.place
   pub syncs : s.syncs ≤ length counts
   pub covered : s.covered ≡ sum (take s.syncs counts)
@@ -49,7 +50,9 @@ pub record IsFed (events : List Event) (to : ℕ) (before after : SlicesAt) : Ty
 
 -- what holds of all fields: the latest objects stand at any place of the journal, and those for
 -- explanations at or before what the last sync covers
-pub record IsPlane (p : PlaneParts) (most : ℕ) (h : History) (latest explained : ObjectsAt) (slices : SlicesAt) : Type 0 where
+pub record IsPlane
+    (p : PlaneParts) (most : ℕ) (h : History) (latest explained : ObjectsAt)
+    (slices : SlicesAt) : Type 0 where
   pub limit : most ≡ p.config.max_events
   pub room : length p.events ≤ most
   pub history : IsHistory p h

@@ -93,13 +93,15 @@ synced p = record p { counts = p.counts ++ uncovered_in p ∷ [] }
 
 -- the edits of that sync
 abbrev pub next_edits : PlaneParts → List Edit
-next_edits p = changes_between (chains_in p) (full_table (setting_in p) (objects_after p.events)).chains
+next_edits p =
+    changes_between (chains_in p) (full_table (setting_in p) (objects_after p.events)).chains
 
--- The record of that sync: it covers all events, has the next number, and leads to the full table of
--- all objects, which have no clash.
+-- The record of that sync: it covers all events, has the next number, and leads to the full table
+-- of all objects, which have no clash.
 pub record IsNextRecord (p : PlaneParts) (r : SyncRecord) : Type 0 where
   pub events : r.events ≡ uncovered_in p
-  pub exact : IsExactRecord (setting_in p) (objects_in p) (objects_after p.events) (suc (syncs_in p)) r
+  pub exact : IsExactRecord (setting_in p) (objects_in p) (objects_after p.events)
+      (suc (syncs_in p)) r
 
 -- records with these counts are an exact history
 pub record HasExactHistory (p : PlaneParts) : Type 0 where

@@ -47,7 +47,8 @@ impl History {
         ensures ok { (p : PlaneParts) → IsHistory p self.old → covered ≡ length p.events
             → clash_of (setting_in p) (objects_after p.events) ≡ None
             → batch.edits ≡ next_edits p → OnOk result (IsHistory (synced p) self.new) }
-        ensures err { (p : PlaneParts) → IsHistory p self.old → OnErr result (IsHistory p self.new) }
+        ensures err { (p : PlaneParts) → IsHistory p self.old
+            → OnErr result (IsHistory p self.new) }
     {
         kp_history_laws::exact_histories();
         kp_rules::laws::changes_lead_over();

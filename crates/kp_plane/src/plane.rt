@@ -1,5 +1,6 @@
 //! The plane.
-ghost use Rattle.std.specs.Prelude.{◌≡◌, ◌≤◌, ℕ, [], length, sum, count_by, not, true, None, IfOk, IfErr, OnOk, OnErr};
+ghost use Rattle.std.specs.Prelude.{◌≡◌, ◌≤◌, ℕ, [], length, sum, count_by, not, true};
+ghost use Rattle.std.specs.Prelude.{None, IfOk, IfErr, OnOk, OnErr};
 ghost use Rattle.std.specs.Option.{option_copied};
 ghost use Rattle.kp_choice_defs.specs.Draws.{IsStated, AreDraws};
 ghost use Rattle.kp_choice_defs.specs.Recent.{RecentParts};
@@ -320,8 +321,8 @@ impl Plane {
         self.slices.slices.copies(alloc)
     }
 
-    /// What walking the table rests on: its jumps go to chains of greater ranks, it has the built-in
-    /// chains, and it sends each packet where the objects say.
+    /// What walking the table rests on: its jumps go to chains of greater ranks, it has the
+    /// built-in chains, and it sends each packet where the objects say.
     fn decides(&self)
         ensures ranked { is_ranked (parts.chains_in self.now) ≡ true }
         ensures built_in { has_built_in_chains (parts.chains_in self.now) ≡ true }
