@@ -2,6 +2,4 @@
 #![tactic(auto)]
 
 #[cfg(test)]
-mod destinations;
-#[cfg(test)]
 mod objects;
