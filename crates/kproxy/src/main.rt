@@ -3,7 +3,7 @@
 
 use kp_io::{RealSink, RealSource};
 use kp_run::{Status, run};
-use std::io::{BufWriter, ErrorKind};
+use std::io::{BufWriter, ErrorKind, IsTerminal, LineWriter, Write};
 use std::process::ExitCode;
 use std::{env, io};
 
@@ -17,13 +17,23 @@ fn main(rt: HostRuntime) -> ExitCode {
     ExitCode::from(status.code())
 }
 
-/// Runs the program over standard input and output.
+/// Runs the program over standard input and output. On a terminal each line comes at once, and
+/// elsewhere in pieces, which cost less.
 fn run_here(rt: &HostRuntime) -> io::Result<Status> {
     let alloc = rt.alloc();
+    if rt.stdout().is_terminal() {
+        run_into(rt, LineWriter::new(alloc, io::writer(rt))?)
+    } else {
+        run_into(rt, BufWriter::new(alloc, io::writer(rt))?)
+    }
+}
+
+/// Runs the program over standard input and a writer.
+fn run_into<W: Write + Drop>(rt: &HostRuntime, writer: W) -> io::Result<Status> {
     let words = words_of(rt)?;
     let mut source = RealSource::new(rt.reader());
-    let mut sink = RealSink::new(BufWriter::new(alloc, io::writer(rt))?);
-    Ok(run(alloc, words.as_slice(), &mut source, &mut sink))
+    let mut sink = RealSink::new(writer);
+    Ok(run(rt.alloc(), words.as_slice(), &mut source, &mut sink))
 }
 
 /// The program's words, or none where one of them isn't UTF-8: neither fits.
