@@ -19,7 +19,7 @@ use Rattle.kp_object_defs.specs.OwnKeys.{AreUnderOwnKeys}
 use Rattle.kp_object_defs.specs.PortInfo.{port_key_of}
 use Rattle.kp_object_defs.specs.PortByKey.{port_keys, port_keys_of}
 use Rattle.kp_object_defs.proofs.InOrder.{find-in_order, sorted-in_order}
-use Rattle.kp_port_infos.proofs.StoredServices.{all_stored}
+use Rattle.kp_object_laws.proofs.PortByKey.{all_stored}
 
 module _ (kept : PortKey → Bool) where
   abbrev Pairs : Type 0

@@ -9,6 +9,7 @@ use Rattle.std.proofs.lemmas.Cmp.{lists_equiv}
 use Rattle.std.proofs.lemmas.Slice.Eq.{bytes_eq-Decides}
 use Rattle.kp_lemmas.specs.Exact.{IsExact}
 use Rattle.kp_lemmas.proofs.Equality.{lists_exact}
+use Rattle.kp_lemmas.proofs.Members.{none_pass}
 use Rattle.kp_base.specs.Keys.{port_key_cmp}
 use Rattle.kp_base.specs.declared.key.PortKey.{PortKey}
 use Rattle.kp_base.proofs.KeyOrder.{port_key_total}
@@ -98,10 +99,6 @@ changed_inputs setting before after key has same =
     true≢false (sym parts.0 ∙ ap not (kept_by setting before after key same))
 
 -- ---- What the lists hold
-
-none_pass : {X : Type 0} (p : X → Bool) → ((x : X) → p x ≡ false) → (xs : List X) → filter p xs ≡ []
-none_pass p never [] = refl
-none_pass p never (x ∷ xs) = ap (λ b. cond b (x ∷ filter p xs) (filter p xs)) (never x) ∙ none_pass p never xs
 
 pub none_changed : NoneChanged
 none_changed setting o = none_pass (λ key. not (keeps_inputs setting o o key)) (λ key. ap not (kept_by setting o o key refl)) (ports_of_either o o)

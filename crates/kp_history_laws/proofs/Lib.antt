@@ -1,7 +1,7 @@
 mod Affected
 mod Changed
 mod EveryRun
-mod Histories
+pub mod Histories
 mod Kept
 mod Ports
 mod Steps

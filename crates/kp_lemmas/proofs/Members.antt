@@ -1,6 +1,6 @@
 -- Elements of lists that are made of others.
-use Rattle.std.proofs.Common.{◌≡◌, ◌⊎◌, inl, inr, Bool, true, false, cond, refl, sym, ap, subst, ◌∙◌, suc, zero, List, [], ◌∷◌, map, Contains, filter, flat_map, arith, le_of_suc-le-suc, suc-le-suc, zero-lt-suc}
-use Rattle.std.specs.List.{list_all, list_any}
+use Rattle.std.proofs.Common.{◌≡◌, ◌⊎◌, inl, inr, Bool, true, false, cond, refl, sym, ap, subst, ◌∙◌, suc, zero, Option, Some, None, List, [], ◌∷◌, map, Contains, filter, filter_map, flat_map, arith, le_of_suc-le-suc, suc-le-suc, zero-lt-suc}
+use Rattle.std.specs.List.{cons_option, list_all, list_any}
 use Rattle.std.proofs.lemmas.Bool.{and_from, and_parts, or_parts, or_left, or_right}
 use Rattle.std.proofs.lemmas.List.Elements.{Contains-append_left, Contains-append_right, Contains-append_cases}
 use Rattle.kp_lemmas.proofs.ListFacts.{test_append}
@@ -46,6 +46,25 @@ from_filter_by p x y ys rest false e c = let (in_ys, passes) = rest c in (later_
 pub from_filter : {A : Type 0} (p : A → Bool) (x : A) (xs : List A) → Contains (filter p xs) x → Contains xs x × (p x ≡ true)
 from_filter p x [] c = absurd (none_in x c)
 from_filter p x (y ∷ ys) c = from_filter_by p x y ys (from_filter p x ys) (p y) refl c
+
+from_filter_map_by : {A B : Type 0} (h : A → Option B) (y : B) (x : A) (xs : List A) (more : List B) → (Contains more y → (w : A) × Contains xs w × (h w ≡ Some y)) → (o : Option B) → h x ≡ o
+    → Contains (cons_option o more) y → (w : A) × Contains (x ∷ xs) w × (h w ≡ Some y)
+from_filter_map_by h y x xs more later None e c = let (w, d, same) = later c in (w, later_in w x xs d, same)
+from_filter_map_by h y x xs more later (Some z) e c =
+    elim (in_cases y z more c) [
+      | inl d ↦ (x, first_in x xs, e ∙ ap (λ v. Some v) d)
+      | inr d ↦ let (w, k, same) = later d in (w, later_in w x xs k, same)
+    ]
+
+-- what a filter with a function leaves is made of an element
+pub from_filter_map : {A B : Type 0} (h : A → Option B) (y : B) (xs : List A) → Contains (filter_map h xs) y → (x : A) × Contains xs x × (h x ≡ Some y)
+from_filter_map h y [] c = absurd (none_in y c)
+from_filter_map h y (x ∷ xs) c = from_filter_map_by h y x xs (filter_map h xs) (from_filter_map h y xs) (h x) refl c
+
+-- none passes a test that always fails
+pub none_pass : {A : Type 0} (p : A → Bool) → ((x : A) → p x ≡ false) → (xs : List A) → filter p xs ≡ []
+none_pass p never [] = refl
+none_pass p never (x ∷ xs) = ap (λ b. cond b (x ∷ filter p xs) (filter p xs)) (never x) ∙ none_pass p never xs
 
 -- an element's value is in the mapped list
 pub in_map : {A B : Type 0} (f : A → B) (x : A) (xs : List A) → Contains xs x → Contains (map f xs) (f x)

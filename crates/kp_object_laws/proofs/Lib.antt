@@ -1,8 +1,8 @@
 pub mod Lists
 pub mod OwnEntries
-mod OwnKeys
+pub mod OwnKeys
 pub mod PortByKey
-mod SameElements
+pub mod SameElements
 mod SlicesNow
 pub mod Usable
 pub mod Wanted

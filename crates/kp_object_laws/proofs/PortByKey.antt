@@ -30,7 +30,7 @@ use Rattle.kp_object_defs.specs.Entries.{sources_of, entries_from}
 use Rattle.kp_object_defs.specs.Objects.{Objects, zone_of}
 use Rattle.kp_object_defs.specs.OwnKeys.{AreUnderOwnKeys}
 use Rattle.kp_object_defs.specs.Order.{by_key, distinct_in_order}
-use Rattle.kp_object_defs.specs.PortInfo.{PortInfo, port_key_of, info_from, info_of, ports_of, name_of_port, cluster_address_in}
+use Rattle.kp_object_defs.specs.PortInfo.{PortInfo, port_key_of, info_from, info_of, infos_from, ports_of, name_of_port, cluster_address_in}
 use Rattle.kp_object_defs.specs.PortByKey.{port_keys_of, port_named, info_in, info_at}
 use Rattle.kp_object_defs.proofs.InOrder.{sorted-in_order}
 use Rattle.kp_object_laws.specs.PortLaws.{PortIsNamed, InfoHasKey, InfosByKeys}
@@ -84,33 +84,26 @@ pub sources_service : (family : Family) (config : FamilyConfig) (o : Objects) (s
     → (sources_of family config o s).service ≡ s
 sources_service family config o s = service_by (is_reconciled config s) _ _ refl
 
-module _ (family : Family) (config : FamilyConfig) (o : Objects) (own : AreUnderOwnKeys o) where
+-- of Services that the objects have
+module _ (family : Family) (config : FamilyConfig) (o : Objects) (ss : List Service) (stored : (s : Service) → Contains ss s → get o.services s.key ≡ Some s) where
   abbrev sources : Service → ServiceSources
   sources s = sources_of family config o s
 
-  abbrev services : List Service
-  services = finite.values o.services
-
   abbrev ports : List (ServiceSources × ServicePort)
-  ports = flat_map ports_of (map (sources_of family config o) (finite.values o.services))
+  ports = flat_map ports_of (map (sources_of family config o) ss)
 
   abbrev known : ServiceSources × ServicePort → Option PortInfo
   known = info_of family config.node (zone_of o config.node)
 
-  service_found : (s : Service) → Contains (finite.values o.services) s → get o.services s.key ≡ Some s
-  service_found s c =
-      sym (found_in_values (λ x. x.key) o.services own.services s.key)
-      ∙ found_itself key_total key_exact (λ x. x.key) (finite.values o.services) (values_in_order (λ x. x.key) o.services own.services) s c
-
-  of_service : (s : Service) (p : ServicePort) → Contains (finite.values o.services) s → Contains s.ports p → info_at family config o (port_key_of s p) ≡ known (sources s, p)
+  of_service : (s : Service) (p : ServicePort) → Contains ss s → Contains s.ports p → info_at family config o (port_key_of s p) ≡ known (sources s, p)
   of_service s p c d =
-      ap (option_and_then (info_in family config o (port_key_of s p))) (service_found s c)
+      ap (option_and_then (info_in family config o (port_key_of s p))) (stored s c)
       ∙ ap (option_and_then (λ q. known (sources s, q))) (port_is_named s p d)
 
   of_port : (q : ServiceSources × ServicePort) → Contains ports q → info_at family config o (name_of_port q) ≡ known q
   of_port q c =
-      let (from, in_sources, in_its) = from_flat_map ports_of q (map (sources_of family config o) (finite.values o.services)) c in
-      let (s, in_services, is) = from_map (sources_of family config o) from (finite.values o.services) in_sources in
+      let (from, in_sources, in_its) = from_flat_map ports_of q (map (sources_of family config o) ss) c in
+      let (s, in_services, is) = from_map (sources_of family config o) from ss in_sources in
       let (p, in_ports, of) = from_map (λ p. (from, p)) q from.service.ports in_its in
       let same : from.service ≡ s = ap (λ (t : ServiceSources). t.service) (sym is) ∙ sources_service family config o s in
       ap (λ r. info_at family config o (name_of_port r)) (sym of)
@@ -120,7 +113,7 @@ module _ (family : Family) (config : FamilyConfig) (o : Objects) (own : AreUnder
       ∙ ap known of
 
   abbrev named_ports : List (PortKey × (ServiceSources × ServicePort))
-  named_ports = by_key port_key_cmp name_of_port (flat_map ports_of (map (sources_of family config o) (finite.values o.services)))
+  named_ports = by_key port_key_cmp name_of_port (flat_map ports_of (map (sources_of family config o) ss))
 
   each_port : AllByRecursion (λ (e : PortKey × (ServiceSources × ServicePort)). info_at family config o e.0 ≡ known e.1) named_ports
   each_port =
@@ -145,12 +138,23 @@ named_pieces family config o (s ∷ ss) =
     one from [] = refl
     one from (p ∷ ps) = ap (λ rest. port_key_of from.service p ∷ rest) (one from ps)
 
-pub infos_by_keys : InfosByKeys
-infos_by_keys family config o own =
-    made_alike (info_at family config o) (info_of family config.node (zone_of o config.node)) (named_ports family config o own) (each_port family config o own)
+-- what is known of the ports of Services that the objects have is what is found by the ports' names
+pub infos_by_names : (family : Family) (config : FamilyConfig) (o : Objects) (ss : List Service) → ((s : Service) → Contains ss s → get o.services s.key ≡ Some s)
+    → infos_from family config.node (zone_of o config.node) (map (sources_of family config o) ss) ≡ filter_map (info_at family config o) (distinct_in_order port_key_cmp (flat_map port_keys_of ss))
+infos_by_names family config o ss stored =
+    made_alike (info_at family config o) (info_of family config.node (zone_of o config.node)) (named_ports family config o ss stored) (each_port family config o ss stored)
     ∙ ap (filter_map (info_at family config o))
-    (keys_of_elements port_key_total port_key_exact name_of_port (ports family config o own)
-    ∙ ap (distinct_in_order port_key_cmp) (named_pieces family config o (finite.values o.services)))
+    (keys_of_elements port_key_total port_key_exact name_of_port (ports family config o ss stored)
+    ∙ ap (distinct_in_order port_key_cmp) (named_pieces family config o ss))
+
+-- all Services of the objects stand under their keys
+pub all_stored : (o : Objects) → AreUnderOwnKeys o → (s : Service) → Contains (finite.values o.services) s → get o.services s.key ≡ Some s
+all_stored o own s c =
+    sym (found_in_values (λ x. x.key) o.services own.services s.key)
+    ∙ found_itself key_total key_exact (λ x. x.key) (finite.values o.services) (values_in_order (λ x. x.key) o.services own.services) s c
+
+pub infos_by_keys : InfosByKeys
+infos_by_keys family config o own = infos_by_names family config o (finite.values o.services) (all_stored o own)
 
 -- ---- The name of what is found
 

@@ -11,11 +11,11 @@ use Rattle.kp_types.specs.Setting.{Setting}
 use Rattle.kp_types.specs.declared.service.Service.{Service}
 use Rattle.kp_choice_defs.specs.Names.{first_clash}
 use Rattle.kp_choice_defs.specs.Settings.{setting_of}
-use Rattle.kp_object_defs.specs.Entries.{sources_of}
 use Rattle.kp_object_defs.specs.Objects.{no_objects, zone_of}
-use Rattle.kp_object_defs.specs.PortInfo.{PortInfo, port_infos, infos_from}
+use Rattle.kp_object_defs.specs.PortInfo.{PortInfo}
 use Rattle.kp_types.specs.declared.event.Event.{Event}
 use Rattle.kp_events.specs.JournalContents.{Contents}
+use Rattle.kp_history_laws.proofs.Histories.{no_infos}
 use Rattle.kp_plane.specs.Invariant.{IsAtPlace, IsHistory, IsPlane, IsSlicesAt}
 use Rattle.kp_plane.specs.Parts.{PlaneParts}
 use Rattle.kp_plane.specs.declared.history.History.{History}
@@ -23,12 +23,6 @@ use Rattle.kp_plane.specs.declared.place.ObjectsAt.{ObjectsAt}
 use Rattle.kp_plane.specs.declared.slices_at.SlicesAt.{SlicesAt}
 use Rattle.kp_table_defs.specs.Layout.{nat_rows_with, filter_rows_with}
 use Rattle.kp_table_defs.specs.Rebuild.{TableParts, clash_of, full_chains, full_table, needed_keys}
-
--- nothing is known of ports
-no_infos : (setting : Setting) → port_infos setting.family setting.config no_objects ≡ []
-no_infos setting =
-    ap (λ (es : List (ObjectKey × Service)). infos_from setting.family setting.config.node (zone_of no_objects setting.config.node) (map (sources_of setting.family setting.config no_objects) (map (λ e. e.1) es)))
-    (empty_entries {X = Service} key_cmp)
 
 -- the full table of no objects is that of no ports
 pub first_chains : (setting : Setting) → (full_table setting no_objects).chains ≡ full_chains setting []

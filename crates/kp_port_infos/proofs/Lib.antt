@@ -1,4 +1,3 @@
 pub mod KnownPorts
-pub mod OwnValues
 pub mod PodNodes
 pub mod StoredServices

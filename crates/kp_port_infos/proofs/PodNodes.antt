@@ -6,7 +6,7 @@ use Rattle.std.specs.FinMap as finite
 use Rattle.std.specs.FinMap.{get}
 use Rattle.std.proofs.lemmas.List.Sorted.{Contains-permutation, IsPermutation-sym, IsPermutation-reverse}
 use Rattle.std.proofs.lemmas.Slice.Eq.{bytes_eq-Decides}
-use Rattle.kp_lemmas.proofs.Members.{first_in, later_in, none_in, in_cases, any_from}
+use Rattle.kp_lemmas.proofs.Members.{first_in, later_in, none_in, in_cases, any_from, from_filter_map}
 use Rattle.kp_base.specs.declared.address.Family.{Family}
 use Rattle.kp_base.specs.declared.key.ObjectKey.{ObjectKey}
 use Rattle.kp_base.proofs.KeyOrder.{key_total, key_exact}
@@ -18,7 +18,7 @@ use Rattle.kp_object_defs.specs.Objects.{Objects, node_key, zone_of}
 use Rattle.kp_object_defs.specs.OwnKeys.{AreUnderOwnKeys}
 use Rattle.kp_object_laws.proofs.OwnEntries.{put_in_order, filter_in_order}
 use Rattle.kp_port_infos.specs.Known.{node_of_pod}
-use Rattle.kp_port_infos.proofs.OwnValues.{values_in_order}
+use Rattle.kp_object_laws.proofs.OwnKeys.{values_in_order}
 
 -- ---- Lists
 
@@ -43,22 +43,6 @@ find_is {X} t (x ∷ xs) answer sound complete =
     by : (b : Bool) → t x ≡ b → (((y : X) → answer ≡ Some y → list_any t xs ≡ true) → list.find t xs ≡ answer) → cond b (Some x) (list.find t xs) ≡ answer
     by true is rest = sym (sound x (first_in x xs) is)
     by false is rest = rest (λ y h. sym (ap (λ b. b || list_any t xs) is) ∙ complete y h)
-
--- what is made of elements is made of one of them
-from_made : {X Y : Type 0} (f : X → Option Y) (y : Y) (xs : List X) → Contains (filter_map f xs) y → (x : X) × Contains xs x × (f x ≡ Some y)
-from_made f y [] c = absurd (none_in y c)
-from_made {X} {Y} f y (x ∷ xs) c = by (f x) refl (λ d. behind (from_made f y xs d)) c
-  where
-    behind : (z : X) × Contains xs z × (f z ≡ Some y) → (z : X) × Contains (x ∷ xs) z × (f z ≡ Some y)
-    behind (z, in_xs, made) = (z, later_in z x xs in_xs, made)
-
-    by : (o : Option Y) → f x ≡ o → (Contains (filter_map f xs) y → (z : X) × Contains (x ∷ xs) z × (f z ≡ Some y)) → Contains (cons_option o (filter_map f xs)) y → (z : X) × Contains (x ∷ xs) z × (f z ≡ Some y)
-    by None is rest d = rest d
-    by (Some w) is rest d =
-        elim (in_cases y w (filter_map f xs) d) [
-          | inl e ↦ (x, first_in x xs, is ∙ ap Some e)
-          | inr later ↦ rest later
-        ]
 
 -- what is made of an element is among what is made of all
 in_made : {X Y : Type 0} (f : X → Option Y) (x : X) (y : Y) (xs : List X) → Contains xs x → f x ≡ Some y → Contains (filter_map f xs) y
@@ -102,7 +86,7 @@ module _ (o : Objects) (own : AreUnderOwnKeys o) (pods : List Pod) where
   found p c name at =
       find_is (λ n. bytes_eq n.name name) (reverse (filter_map (node_of_pod o) pods)) (get o.nodes (node_key name))
       (λ n d same.
-      let (q, in_pods, made) = from_made (node_of_pod o) n pods (from_reverse n (filter_map (node_of_pod o) pods) d) in
+      let (q, in_pods, made) = from_filter_map (node_of_pod o) n pods (from_reverse n (filter_map (node_of_pod o) pods) d) in
       ap (λ m. get o.nodes (node_key m)) (sym ((bytes_eq-Decides n.name name).0 same)) ∙ stored_by n q.node made)
       (λ n there.
       any_from (λ m. bytes_eq m.name name) n (reverse (filter_map (node_of_pod o) pods))

@@ -38,11 +38,6 @@ filter_within {X} weak strong follows (x ∷ xs) = by (weak x) (strong x) refl r
     by false true is at rest = let h : false ≡ true = sym is ∙ follows x at in absurd (cc)
     by false false is at rest = rest
 
--- none passes a test that always fails
-pub none_left : {X : Type 0} (test : X → Bool) → ((x : X) → test x ≡ false) → (xs : List X) → filter test xs ≡ []
-none_left test fails [] = refl
-none_left test fails (x ∷ xs) = ap (λ b. cond b (x ∷ filter test xs) (filter test xs)) (fails x) ∙ none_left test fails xs
-
 -- an element that passes makes one that passes
 any_mapped : {X Y : Type 0} (p : X → Bool) (f : X → Y) (r : Y → Bool) → ((x : X) → p x ≡ true → r (f x) ≡ true) → (xs : List X) → list_any p xs ≡ true → list_any r (map f xs) ≡ true
 any_mapped p f r follows [] h = absurd (cc)

@@ -22,7 +22,7 @@ use Rattle.kp_table_defs.specs.Walk.{Outcome, sent_to, Journey, Translating, aft
 use Rattle.kp_table_defs.specs.Walk.Outcome.{Next}
 use Rattle.kp_walk_laws.specs.Laws.{IsKnown}
 use Rattle.kp_walk_laws.proofs.Outcomes.{pathless, next_of, ended_of}
-use Rattle.kp_walk_laws.proofs.EndpointChains.{marked_if, marked_source}
+use Rattle.kp_walk_laws.proofs.EndpointChains.{marked_if, marked_lists, marked_source}
 use Rattle.kp_walk_laws.proofs.Matches.{packet_of}
 use Rattle.kp_walk_laws.proofs.DoorRules.{LeadsTo}
 use Rattle.kp_walk_laws.proofs.Arrivals.{arrived_state, arriving}
@@ -34,11 +34,6 @@ use Rattle.kp_walk_laws.proofs.Journeys.{verdict_of, line_verdict, journey_at, f
 mark_is : (b : Bool) (s : WalkState) → s.marked ≡ false → (marked_if b s).marked ≡ b
 mark_is true s h = refl
 mark_is false s h = h
-
--- the mark leaves the recent lists
-marked_lists : (b : Bool) (s : WalkState) → (marked_if b s).lists ≡ s.lists
-marked_lists true s = refl
-marked_lists false s = refl
 
 -- the endpoint of a translation
 abbrev pub endpoint_of : Translation → Endpoint

@@ -2,10 +2,9 @@
 use Rattle.std.proofs.Common.{◌≡◌, inl, inr, Bool, true, false, not, cond, ℕ, List, [], ◌∷◌, map, Contains, Option, Some, None, option_map, filter_map, refl, sym, ap, subst, ◌∙◌, T}
 use Rattle.std.proofs.lemmas.Bool.{or_right}
 use Rattle.std.specs.FinMap.{values}
-use Rattle.std.specs.List.{cons_option}
 use Rattle.std.proofs.Math.Bool.{not-not}
 use Rattle.std.proofs.lemmas.Option.{same_Some}
-use Rattle.kp_lemmas.proofs.Members.{first_in, later_in, none_in, in_cases, in_map}
+use Rattle.kp_lemmas.proofs.Members.{from_filter_map, in_map}
 use Rattle.kp_base.specs.Net.{AddressParts, same_family}
 use Rattle.kp_base.specs.declared.address.Family.{Family}
 use Rattle.kp_base.specs.declared.key.PortKey.{PortKey}
@@ -26,24 +25,6 @@ use Rattle.kp_object_laws.proofs.Lists.{none_usable, cluster_empty}
 use Rattle.kp_table_laws.proofs.PortOrder.{ports_are_in_order}
 use Rattle.kp_walk_laws.specs.Laws.{IsKnown, KnownPorts, PortKeysOnce}
 use Rattle.kp_walk_laws.proofs.Entries.{one_sorted}
-
-from_filter_by : {A B : Type 0} (h : A → Option B) (y : B) (x : A) (xs : List A) (more : List B)
-    → (Contains more y → (w : A) × Contains xs w × (h w ≡ Some y)) → (o : Option B) → h x ≡ o
-    → Contains (cons_option o more) y → (w : A) × Contains (x ∷ xs) w × (h w ≡ Some y)
-from_filter_by h y x xs more later None e c = let (w, d, same) =
-    later c in (w, later_in w x xs d, same)
-from_filter_by h y x xs more later (Some z) e c =
-    elim (in_cases y z more c) [
-      | inl d ↦ (x, first_in x xs, e ∙ ap (λ v. Some v) d)
-      | inr d ↦ let (w, k, same) = later d in (w, later_in w x xs k, same)
-    ]
-
--- what a filter with a function leaves comes of an element
-from_filter_map : {A B : Type 0} (h : A → Option B) (y : B) (xs : List A)
-    → Contains (filter_map h xs) y → (x : A) × Contains xs x × (h x ≡ Some y)
-from_filter_map h y [] c = absurd (none_in y c)
-from_filter_map h y (x ∷ xs) c =
-    from_filter_by h y x xs (filter_map h xs) (from_filter_map h y xs) (h x) refl c
 
 from_option_map : {A B : Type 0} (f : A → B) (o : Option A) (y : B) → option_map f o ≡ Some y
     → (x : A) × (o ≡ Some x) × (f x ≡ y)

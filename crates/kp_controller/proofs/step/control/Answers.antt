@@ -1,6 +1,6 @@
 use Rattle.std.proofs.Common.{map, sym, ap, subst, ◌∙◌}
 use Rattle.kp_port_infos.specs.Known.{AreStored}
-use Rattle.kp_port_infos.proofs.StoredServices.{all_stored}
+use Rattle.kp_object_laws.proofs.PortByKey.{all_stored}
 use Rattle.kp_controller.proofs.step.control.Goals as goal
 
 pub pack_services-requires-clause-stored : goal.pack_services-requires-clause-stored

@@ -1,5 +1,6 @@
 use Rattle.std.proofs.Common.{◌≡◌, List, map, filter, rules, sym, ap, ◌∙◌, Bor}
 use Rattle.std.specs.FinMap as finite
+use Rattle.kp_lemmas.proofs.Members.{none_pass}
 use Rattle.kp_types.specs.declared.pod.Pod.{Pod}
 use Rattle.kp_object_defs.specs.Desired.{selects}
 use Rattle.kp_object_defs.specs.Objects.{Objects}
@@ -8,7 +9,7 @@ use Rattle.kp_store.specs.Tags.{labels_of, label_in}
 use Rattle.kp_store.specs.contracts.tags.LabelOrd.TheImpl as label_ord
 use Rattle.kp_store.specs.contracts.tags.LabelOrd.TheImpl.Laws as label_laws
 use Rattle.kp_store.proofs.Buckets.{if_ok}
-use Rattle.kp_store.proofs.Selected.{filter_within, has_first, none_left, none_selected}
+use Rattle.kp_store.proofs.Selected.{filter_within, has_first, none_selected}
 use Rattle.kp_store.proofs.objects.Objects.pods_selected_by.Goals as goal
 
 pub returns-in_ok-found-in-Some : goal.returns-in_ok-found-in-Some
@@ -25,4 +26,4 @@ returns-in_ok-found-in-Some c =
     ∙ ap (λ (o : Objects). filter (selects s) (finite.values o.pods)) c.self.view_is) c.pods_selected.ensures
 
 pub returns-in-None : goal.returns-in-None
-returns-in-None c = c.new.ensures ∙ sym (none_left (selects c.args.service.now) (none_selected c.args.service.now (search rules)) (finite.values c.args.self.now.pods))
+returns-in-None c = c.new.ensures ∙ sym (none_pass (selects c.args.service.now) (none_selected c.args.service.now (search rules)) (finite.values c.args.self.now.pods))
