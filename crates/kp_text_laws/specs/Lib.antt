@@ -1,0 +1,3 @@
+pub mod Bounds
+pub mod BoundLaws
+pub mod TableLaws

@@ -1,0 +1,48 @@
+//! Laws of what is printed of full tables: the table of any objects, and the batch between the
+//! tables of two, have texts of their own and are read back from them.
+//! Each law is the contract of a function that does nothing but name the laws that it rests on.
+#![tactic(auto)]
+
+ghost use Rattle.kp_text_laws.specs.BoundLaws.{ObjectsAreBounded, PortsAreBounded};
+ghost use Rattle.kp_text_laws.specs.TableLaws.{ChangesReadBack, FullTableCanonical, FullTableCanonicalObjects, FullTableReadsBack, FullTablesHaveSameBuiltIn, ProductIsPrintable};
+
+/// The numbers of objects after events stay within their bounds, and so do those of what is known
+/// of their ports.
+pub fn bounds()
+    ensures objects { ObjectsAreBounded }
+    ensures ports { PortsAreBounded }
+{}
+
+/// The product's names are names that chains may have.
+pub fn product_is_printable()
+    ensures { ProductIsPrintable }
+{
+    kp_walk_laws::hashed_prefixed();
+}
+
+/// The full table of any objects has a text of its own, and no other table has that text. The
+/// built-in chains of all full tables are the same.
+pub fn full_tables_read_back()
+    ensures ports { FullTableCanonical }
+    ensures objects { FullTableCanonicalObjects }
+    ensures back { FullTableReadsBack }
+    ensures built_in { FullTablesHaveSameBuiltIn }
+{
+    bounds();
+    kp_walk_laws::full_table_ranked();
+    kp_walk_laws::known_ports();
+    kp_restore::laws::table_texts_differ();
+}
+
+/// The batch between the full tables of objects has a text of its own and is the only one with
+/// it; it leads from the first to the second, which stays ranked, and no rule of the second jumps
+/// to a chain that the batch removes.
+pub fn changes_read_back()
+    ensures { ChangesReadBack }
+{
+    full_tables_read_back();
+    kp_walk_laws::full_table_ranked_objects();
+    kp_restore::laws::changes_are_canonical();
+    kp_restore::laws::read_changes_lead_over();
+    kp_restore::laws::batch_texts_differ();
+}
