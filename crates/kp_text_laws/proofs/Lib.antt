@@ -4,3 +4,6 @@ pub mod ObjectBounds
 pub mod PortBounds
 pub mod Tables
 pub mod Batches
+pub mod ReadRows
+pub mod ReadAddresses
+pub mod ReadObjects

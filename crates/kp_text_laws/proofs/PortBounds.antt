@@ -94,7 +94,7 @@ module _ {A : Type 0} (test : A → Bool) where
   first_passes (x ∷ xs) h = (and_parts (test x) (list_all test xs) h).0
 
   -- of what is there
-  some_passes : (o : Option A) (x : A) → passes_if_some test o ≡ true → o ≡ Some x → test x ≡ true
+  pub some_passes : (o : Option A) (x : A) → passes_if_some test o ≡ true → o ≡ Some x → test x ≡ true
   some_passes None x h e = absurd (cc)
   some_passes (Some y) x h e = ap test (sym (same_Some y x e)) ∙ h
 
@@ -109,12 +109,12 @@ module _ {A : Type 0} (test : A → Bool) where
   all_cond true xs h = h
   all_cond false xs h = refl
 
-from_option_map : {A B : Type 0} (f : A → B) (o : Option A) (y : B) → option_map f o ≡ Some y
+pub from_option_map : {A B : Type 0} (f : A → B) (o : Option A) (y : B) → option_map f o ≡ Some y
     → (x : A) × (o ≡ Some x) × (f x ≡ y)
 from_option_map f None y h = absurd (cc)
 from_option_map f (Some x) y h = (x, refl, same_Some (f x) y h)
 
-from_and_then : {A B : Type 0} (f : A → Option B) (o : Option A) (y : B)
+pub from_and_then : {A B : Type 0} (f : A → Option B) (o : Option A) (y : B)
     → option_and_then f o ≡ Some y → (x : A) × (o ≡ Some x) × (f x ≡ Some y)
 from_and_then f None y h = absurd (cc)
 from_and_then f (Some x) y h = (x, refl, h)

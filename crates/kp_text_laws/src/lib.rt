@@ -3,12 +3,13 @@
 //! Each law is the contract of a function that does nothing but name the laws that it rests on.
 #![tactic(auto)]
 
-ghost use Rattle.kp_text_laws.specs.BoundLaws.{ObjectsAreBounded, PortsAreBounded};
+ghost use Rattle.kp_text_laws.specs.BoundLaws.{ObjectsAreBounded, PortsAreBounded, ReadIsBounded};
 ghost use Rattle.kp_text_laws.specs.TableLaws.{ChangesReadBack, FullTableCanonical, FullTableCanonicalObjects, FullTableReadsBack, FullTablesHaveSameBuiltIn, ProductIsPrintable};
 
-/// The numbers of objects after events stay within their bounds, and so do those of what is known
-/// of their ports.
+/// Events that are read have their numbers within their bounds, and so have the objects after them
+/// and what is known of the objects' ports.
 pub fn bounds()
+    ensures read { ReadIsBounded }
     ensures objects { ObjectsAreBounded }
     ensures ports { PortsAreBounded }
 {}
