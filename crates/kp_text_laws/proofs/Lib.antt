@@ -7,3 +7,5 @@ pub mod Batches
 pub mod ReadRows
 pub mod ReadAddresses
 pub mod ReadObjects
+pub mod ReadLines
+pub mod Shown

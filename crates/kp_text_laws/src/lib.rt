@@ -4,6 +4,7 @@
 #![tactic(auto)]
 
 ghost use Rattle.kp_text_laws.specs.BoundLaws.{ObjectsAreBounded, PortsAreBounded, ReadIsBounded};
+ghost use Rattle.kp_text_laws.specs.ShownLaws as shown;
 ghost use Rattle.kp_text_laws.specs.TableLaws.{ChangesReadBack, FullTableCanonical, FullTableCanonicalObjects, FullTableReadsBack, FullTablesHaveSameBuiltIn, ProductIsPrintable};
 
 /// Events that are read have their numbers within their bounds, and so have the objects after them
@@ -46,4 +47,36 @@ pub fn changes_read_back()
     kp_restore::laws::changes_are_canonical();
     kp_restore::laws::read_changes_lead_over();
     kp_restore::laws::batch_texts_differ();
+}
+
+/// So it is of the tables after any syncs of events whose numbers are within their bounds.
+pub fn histories_read_back()
+    ensures tables { shown.CoveredCanonical }
+    ensures batches { shown.CoveredReadBack }
+{
+    bounds();
+    full_tables_read_back();
+    changes_read_back();
+}
+
+/// Whatever the lines of a replay are, its configuration and its events are within their bounds.
+pub fn replays_are_bounded()
+    ensures config { shown.ConfigIsBounded }
+    ensures lines { shown.LinesAreBounded }
+    ensures replays { shown.ReplaysAreBounded }
+{
+    bounds();
+}
+
+/// So what it shows of nat and filter is the text of its table and of no other, and what it shows
+/// as batch is the text of the last sync's edits and of no others.
+pub fn shown_texts_read_back()
+    ensures sections { shown.SectionsAreTable }
+    ensures tables { shown.ShownTablesReadBack }
+    ensures batches { shown.ShownBatchesReadBack }
+{
+    histories_read_back();
+    replays_are_bounded();
+    product_is_printable();
+    kp_restore::laws::table_texts_differ();
 }
