@@ -1,6 +1,5 @@
 -- The batch between two full tables: it is read back, it leads from the first to the second, and no
--- rule of that
--- jumps to a chain that the batch removes.
+-- rule of that jumps to a chain that the batch removes.
 use Rattle.std.proofs.Common.{◌≡◌, inl, inr, Bool, true, false, cond, List, Contains, Some, None, is_some, true≢false, filter_map, refl, sym, ap, subst, ◌∙◌}
 use Rattle.std.specs.List.{fold}
 use Rattle.std.specs.FinMap.{entries, get}
@@ -19,8 +18,7 @@ use Rattle.kp_table_defs.specs.Rebuild.{Chains, full_table}
 use Rattle.kp_restore_defs.specs.BatchText.{is_canonical_batch, BatchTextsDiffer}
 use Rattle.kp_restore_defs.specs.BatchesBetween.{ChangesAreCanonical, HaveSameBuiltIn, ReadChangesLeadOver}
 use Rattle.kp_restore_defs.specs.TableText.{is_canonical_table, jumps_to_declared}
-use Rattle.kp_walk_laws.specs.Laws.{FullTableRankedObjects}
-use Rattle.kp_text_laws.specs.TableLaws.{ChangesReadBack, FullTableCanonicalObjects, FullTablesHaveSameBuiltIn, NoneJumpsTo, edits_between}
+use Rattle.kp_text_laws.specs.TableLaws.{ChangesReadBack, FullTableReadsBack, FullTablesHaveSameBuiltIn, IsReadableTable, NoneJumpsTo, edits_between}
 use Rattle.kp_text_laws.proofs.Tables.{declared}
 
 -- ---- Removed chains
@@ -75,22 +73,21 @@ closed_by before after ranked to c at rules r stands in_rules same_table jumps =
     true≢false (sym found ∙ removed before after to c)
 
 pub changes_read_back_by : ChangesAreCanonical → ReadChangesLeadOver → BatchTextsDiffer
-    → FullTableRankedObjects → FullTableCanonicalObjects → FullTablesHaveSameBuiltIn
-    → ChangesReadBack
-changes_read_back_by fits back differ sound canonical same setting o p printable of_o of_p =
+    → FullTableReadsBack → FullTablesHaveSameBuiltIn → ChangesReadBack
+changes_read_back_by fits back differ readable same setting o p printable of_o of_p =
     let before : Chains = (full_table setting o).chains in
     let after : Chains = (full_table setting p).chains in
     let fit_before : is_canonical_table setting.family before ≡ true =
-    canonical setting o printable of_o in
-    let fit_after : is_canonical_table setting.family after ≡ true =
-    canonical setting p printable of_p in
+    (readable setting o printable of_o).canonical in
+    let of_after : IsReadableTable setting.family after = readable setting p printable of_p in
+    let fit_after : is_canonical_table setting.family after ≡ true = of_after.canonical in
     let same_fixed : HaveSameBuiltIn before after =
     same setting (port_infos setting.family setting.config o)
     (port_infos setting.family setting.config p) in
     let edits : List Edit = edits_between setting o p in
     let fit : is_canonical_batch setting.family edits ≡ true =
     fits setting.family before after fit_before fit_after same_fixed in
-    let ranked : is_ranked after ≡ true = (sound setting p printable.prefixed).ranked in
+    let ranked : is_ranked after ≡ true = of_after.ranked in
     let leads : fold chains_after_edit before edits ≡ after =
     back setting.family before after fit_before fit_after same_fixed edits fit refl in record {
       canonical = fit;

@@ -94,7 +94,8 @@ module _ {A : Type 0} (test : A → Bool) where
   first_passes (x ∷ xs) h = (and_parts (test x) (list_all test xs) h).0
 
   -- of what is there
-  pub some_passes : (o : Option A) (x : A) → passes_if_some test o ≡ true → o ≡ Some x → test x ≡ true
+  pub some_passes : (o : Option A) (x : A) → passes_if_some test o ≡ true → o ≡ Some x
+      → test x ≡ true
   some_passes None x h e = absurd (cc)
   some_passes (Some y) x h e = ap test (sym (same_Some y x e)) ∙ h
 

@@ -1,5 +1,5 @@
 -- The addresses and ranges that texts write are within their bounds.
-use Rattle.std.proofs.Common.{◌≡◌, ℕ, ◌+◌, ◌-◌, ◌*◌, ◌/◌, ◌%◌, ◌^◌, ◌==◌, ◌&&◌, ◌≤◌, ◌<◌, Bool, true, false, cond, nat_le, nat_lt, List, [], ◌∷◌, map, Contains, Option, Some, None, option_map, option_and_then, Result, Ok, Err, ok_or, filter_map, refl, sym, ap, subst, ◌∙◌, arith}
+use Rattle.std.proofs.Common.{◌≡◌, ℕ, ◌+◌, ◌-◌, ◌*◌, ◌/◌, ◌%◌, ◌^◌, ◌==◌, ◌&&◌, ◌≤◌, Bool, true, false, cond, nat_le, nat_lt, List, [], ◌∷◌, map, Option, Some, None, option_map, Ok, ok_or, filter_map, refl, sym, ap, subst, ◌∙◌, arith}
 use Rattle.std.specs.List.{list_all, slice_split}
 use Rattle.std.proofs.Math.Nat.{add-sub_cancel, div-add-mod, mul-mod_right, sub-le}
 use Rattle.std.proofs.lemmas.Bool.{and_from, and_parts}
@@ -8,7 +8,7 @@ use Rattle.std.proofs.lemmas.Option.{same_Some}
 use Rattle.kp_lemmas.proofs.Members.{all_from, all_map, from_filter_map}
 use Rattle.kp_json.specs.Places.{Place}
 use Rattle.kp_base.specs.Dotted.{address_of, decimal_up_to, digits_number, four_numbers, is_decimal, range_from, range_of, range_of_parts, split_once}
-use Rattle.kp_base.specs.Net.{AddressParts, RangeParts, range_size, v4_address, width}
+use Rattle.kp_base.specs.Net.{AddressParts, RangeParts, range_size, v4_address}
 use Rattle.kp_base.specs.declared.address.Family.TheVariants.{V4}
 use Rattle.kp_row_defs.specs.Fields.{address_at, address_in, address_of_text, found, is_other_family, range_at, range_of_text, text_in, text_of, unless_other}
 use Rattle.kp_text_laws.specs.Bounds.{is_bounded_address, is_bounded_range, passes_if_some}
@@ -29,7 +29,8 @@ is_up_to most n = nat_le n most
 decimal_by : (most : ℕ) (text : List ℕ) (b : Bool)
     → (is_decimal text && nat_le (digits_number 0 text) most) ≡ b
     → passes_if_some (is_up_to most) (cond b (Some (digits_number 0 text)) None) ≡ true
-decimal_by most text true is = (and_parts (is_decimal text) (nat_le (digits_number 0 text) most) is).1
+decimal_by most text true is = (and_parts (is_decimal text)
+    (nat_le (digits_number 0 text) most) is).1
 decimal_by most text false is = refl
 
 decimal_fits : (most : ℕ) (text : List ℕ)
@@ -129,7 +130,8 @@ some_from test (Some x) h = h x refl
 pub place_address : (p : Place) (x : AddressParts) → address_at p ≡ Some x
     → is_bounded_address x ≡ true
 place_address p x h =
-    let (text, of_text, is) = from_and_then address_of_text (text_of p) x h in text_address text x is
+    let (text, of_text, is) = from_and_then address_of_text (text_of p) x h in
+    text_address text x is
 
 pub place_addresses : (places : List Place)
     → list_all is_bounded_address (filter_map address_at places) ≡ true

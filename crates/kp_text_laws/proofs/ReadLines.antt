@@ -1,12 +1,9 @@
 -- What lines are read as, and where a replay stands, is within its bounds.
-use Rattle.std.proofs.Common.{◌≡◌, ℕ, suc, Bool, true, false, cond, List, [], ◌∷◌, ◌++◌, Contains, Option, Some, None, option_and_then, Result, Ok, Err, bytes_eq, codes, inl, inr, refl, sym, ap, subst, ◌∙◌}
+use Rattle.std.proofs.Common.{◌≡◌, ℕ, suc, Bool, true, false, cond, List, [], ◌∷◌, ◌++◌, Option, Some, None, option_and_then, Result, Ok, Err, codes, inl, inr, refl, ap, subst}
 use Rattle.std.specs.List.{fold}
-use Rattle.std.specs.Map.{lookup}
 use Rattle.std.proofs.lemmas.List.Elements.{Contains-append_cases}
-use Rattle.serde_json.specs.Data.{Data}
 use Rattle.serde_json.specs.Find.{as_object}
 use Rattle.kp_lemmas.proofs.Members.{none_in}
-use Rattle.kp_base.specs.declared.config.Config.{Config}
 use Rattle.kp_json.specs.Places.{Place, member_at, needed_at, text_at}
 use Rattle.kp_json.specs.declared.fault.BadField.{BadField}
 use Rattle.kp_types.specs.declared.chain.Clash.{Clash}
@@ -19,14 +16,15 @@ use Rattle.kp_row_defs.specs.Rows.{rows_fault}
 use Rattle.kp_text_defs.specs.ConfigText.{config_from, config_rows, read_config}
 use Rattle.kp_text_defs.specs.JsonText.{json_of}
 use Rattle.kp_text_defs.specs.PacketText.{read_packet}
-use Rattle.kp_text_defs.specs.ScriptLines.{Command, as_op, command_of, config, config_op, event, event_op, explain, line_of, of_events, of_members, op_at, op_named, op_of, or_refusal, packet, read_script, read_shown, read_stream, show, sync, ◌>>=◌}
+use Rattle.kp_text_defs.specs.ScriptLines.{Command, as_op, command_of, config, config_op, event, explain, line_of, of_events, of_members, op_at, op_named, op_of, or_refusal, packet, read_script, read_shown, read_stream, show, sync, ◌>>=◌}
 use Rattle.kp_text_defs.specs.declared.line_refusal.LineRefusal.{LineRefusal}
 use Rattle.kp_text_defs.specs.declared.line_refusal.LineRefusal.TheVariants.{BadJson, NotEvent, TooLongLine}
 use Rattle.kp_text_defs.specs.declared.script.Op.{Op}
 use Rattle.kp_text_defs.specs.declared.script.Op.TheVariants as op
 use Rattle.kp_text_defs.specs.declared.script.ScriptLine.{ScriptLine}
-use Rattle.kp_run_defs.specs.ReplayText.{Progress, Standing, after_line, at_start, beginning, events_line, has_room, is_blank, is_too_long, line_at, op_line, quiet, read_line, refuse, replay_of, script_line, setting_in, short_line, sync_line, synced}
-use Rattle.kp_text_laws.specs.Bounds.{AreBoundedEvents, IsBoundedConfig, is_bounded_range, passes_if_some}
+use Rattle.kp_text_defs.specs.declared.stream.Stream.{Stream}
+use Rattle.kp_run_defs.specs.ReplayText.{Progress, Standing, after_line, at_start, events_line, has_room, is_blank, is_too_long, op_line, quiet, read_line, refuse, script_line, setting_in, short_line, sync_line}
+use Rattle.kp_text_laws.specs.Bounds.{AreBoundedEvents, IsBoundedConfig, is_bounded_range}
 use Rattle.kp_text_laws.specs.BoundLaws.{ReadIsBounded}
 use Rattle.kp_text_laws.specs.ShownLaws.{ConfigIsBounded, IsBoundedOp, IsBoundedStanding, LinesAreBounded, ReplaysAreBounded}
 use Rattle.kp_text_laws.proofs.PortBounds.{from_and_then}
@@ -50,7 +48,8 @@ config_is_bounded p c e =
     subst IsBoundedConfig is
     (some_from is_bounded_range
     (option_and_then range_of_text (text_in (codes "clusterCIDR") p)) (λ r found.
-    let (text, of_text, read) = from_and_then range_of_text (text_in (codes "clusterCIDR") p) r found in
+    let (text, of_text, read) = from_and_then range_of_text
+    (text_in (codes "clusterCIDR") p) r found in
     text_range text r read))
 
 made_op : {A : Type 0} (of : A → Op) (r : Result A BadField) (o : Op)
@@ -91,6 +90,16 @@ module _ (read_is_bounded : ReadIsBounded) where
       let (c, of_c, made) = from_then (command_of name) (op_of first p) o next in
       command_op first p c o made
 
+  -- a line that was read
+  abbrev as_read : Stream → Op → Result ScriptLine LineRefusal
+  as_read stream operation = Ok (record { by = stream; op = operation })
+
+  made_line : (stream : Stream) (operation : Op) (line : ScriptLine)
+      → as_read stream operation ≡ Ok line → IsBoundedOp operation → IsBoundedOp line.op
+  made_line stream operation line e h =
+      let same : record { by = stream; op = operation } ≡ line = cc in
+      subst (λ (l : ScriptLine). IsBoundedOp l.op) same h
+
   pub lines_are_bounded : LinesAreBounded
   lines_are_bounded bytes first line e =
       let (d, of_d, read) = from_then (or_refusal BadJson (json_of bytes))
@@ -104,8 +113,7 @@ module _ (read_is_bounded : ReadIsBounded) where
       >>= λ operation. Ok (record { by = stream; op = operation })) line next in
       let (operation, of_op, made) = from_then (op_at first p (member_at p (codes "op")))
       (λ operation. Ok (record { by = stream; op = operation })) line then in
-      let same : record { by = stream; op = operation } ≡ line = cc in
-      subst (λ (l : ScriptLine). IsBoundedOp l.op) same
+      made_line stream operation line made
       (place_op first p (member_at p (codes "op")) operation of_op)
 
   -- ---- Replays

@@ -1,5 +1,5 @@
 -- The objects and events that are read have their numbers within their bounds.
-use Rattle.std.proofs.Common.{◌≡◌, ℕ, zero, suc, ◌^◌, ◌&&◌, Bool, true, false, cond, nat_le, nat_lt, List, [], ◌∷◌, map, Contains, Option, Some, None, option_and_then, unwrap_or, Result, Ok, Err, bytes_eq, codes, filter_map, flat_map, refl, sym, ap, subst, ◌∙◌, arith, inl, inr}
+use Rattle.std.proofs.Common.{◌≡◌, ℕ, zero, suc, ◌&&◌, Bool, true, false, cond, nat_le, nat_lt, List, [], ◌∷◌, map, Option, Some, None, option_and_then, unwrap_or, Result, Ok, Err, bytes_eq, codes, filter_map, flat_map, refl, ap, subst, arith, inl, inr}
 use Rattle.std.specs.List.{list_all}
 use Rattle.std.specs.Map.{lookup}
 use Rattle.std.proofs.lemmas.Bool.{and_from, and_parts}
@@ -9,7 +9,7 @@ use Rattle.serde_json.specs.Find.{as_object}
 use Rattle.kp_lemmas.proofs.Members.{none_in, in_cases, all_from, all_map, all_flat_map, from_filter_map}
 use Rattle.kp_json.specs.Places.{Place, elements_at, member_at, needed_at}
 use Rattle.kp_json.specs.declared.fault.BadField.{BadField}
-use Rattle.kp_base.specs.Net.{AddressParts, RangeParts}
+use Rattle.kp_base.specs.Net.{AddressParts}
 use Rattle.kp_types.specs.Ports.{distinct_ports}
 use Rattle.kp_types.specs.declared.event.Event.{Event}
 use Rattle.kp_types.specs.declared.event.Event.TheVariants.{Apply, Delete}
@@ -27,7 +27,7 @@ use Rattle.kp_types.specs.declared.slice.Slice.{Slice}
 use Rattle.kp_restore_defs.specs.RuleText.{is_port_number}
 use Rattle.kp_row_defs.specs.Fields.{address_in, address_of_text, inner, is_text, items_in, text_in, whole_in, whole_of}
 use Rattle.kp_row_defs.specs.Rows.{each, field, form_fault, inside, needed, optional, row_fault, rows_fault, unless_fault, whole, whole_or_text}
-use Rattle.kp_event_defs.specs.EventText.{Action, Refused, acted, apply_at, apply_each, applies, delete_at, deleted_key, deleted_row, deletes, kind_at, kind_text, kinded, list_events, object_as, object_at, object_events, of_field, or_no_event, passes, read_events, single, watched, actions, ◌>>=◌}
+use Rattle.kp_event_defs.specs.EventText.{Action, Refused, acted, apply_at, apply_each, applies, delete_at, deleted_key, deleted_row, deletes, kind_at, kind_text, kinded, list_events, object_as, object_at, object_events, of_field, or_no_event, passes, single, watched, actions, ◌>>=◌}
 use Rattle.kp_event_defs.specs.PodText.{container_port, container_port_rows, container_ports, container_rows, pod_from, pod_rows, pod_spec_row, pod_spec_rows, read_node, read_pod}
 use Rattle.kp_event_defs.specs.ServiceText.{affinity_of, affinity_row, affinity_timeout, at_address, client_rows, cluster_of, ingress_address, not_zero, numbered_target, ranges_of, read_service, service_from, service_port, service_port_rows, service_ports, service_rows, service_spec_rows, service_unless, target_of, timeout_rows}
 use Rattle.kp_event_defs.specs.ServiceText as service
@@ -52,7 +52,8 @@ not_zero_fits : (o : Option ℕ) → IsWithin 0 65535 o
     → passes_if_some is_port_number (option_and_then not_zero o) ≡ true
 not_zero_fits None h = refl
 not_zero_fits (Some zero) h = refl
-not_zero_fits (Some (suc n)) h = port_up_to n (and_parts (nat_le 0 (suc n)) (nat_le (suc n) 65535) (h (suc n) refl)).1
+not_zero_fits (Some (suc n)) h =
+    port_up_to n (and_parts (nat_le 0 (suc n)) (nat_le (suc n) 65535) (h (suc n) refl)).1
 
 numbered_by : (port : ℕ) (o : Option ℕ) → is_port_number port ≡ true
     → passes_if_some is_port_number o ≡ true → is_port_number (unwrap_or o port) ≡ true
@@ -109,13 +110,15 @@ timeout_fits : (spec : Place)
     → row_fault affinity_row spec ≡ None → is_timeout (affinity_timeout spec) ≡ true
 timeout_fits spec h =
     inside_fine (codes "sessionAffinityConfig") optional client_rows spec
-    (λ q. is_timeout (unwrap_or (whole_in (codes "timeoutSeconds") (inner (codes "clientIP") q)) 10800) ≡ true)
+    (λ q. is_timeout (unwrap_or (whole_in (codes "timeoutSeconds")
+    (inner (codes "clientIP") q)) 10800) ≡ true)
     refl
     (λ q fine. inside_fine (codes "clientIP") optional timeout_rows q
     (λ r. is_timeout (unwrap_or (whole_in (codes "timeoutSeconds") r) 10800) ≡ true) refl
     (λ r of_r. seconds_fit (whole_in (codes "timeoutSeconds") r)
     (λ n is. optional_fine (codes "timeoutSeconds") 1 86400 n r
-    (row_fine 0 timeout_rows r (field (codes "timeoutSeconds") optional (whole 1 86400)) refl of_r) is))
+    (row_fine 0 timeout_rows r (field (codes "timeoutSeconds") optional
+    (whole 1 86400)) refl of_r) is))
     (row_fine 0 client_rows q (inside (codes "clientIP") optional timeout_rows) refl fine)) h
 
 affinity_fits : (b : Bool) (n : ℕ) → is_timeout n ≡ true
@@ -123,7 +126,8 @@ affinity_fits : (b : Bool) (n : ℕ) → is_timeout n ≡ true
 affinity_fits true n h = h
 affinity_fits false n h = refl
 
-at_fits : (o : Option AddressParts) → ((x : AddressParts) → o ≡ Some x → is_bounded_address x ≡ true)
+at_fits : (o : Option AddressParts)
+    → ((x : AddressParts) → o ≡ Some x → is_bounded_address x ≡ true)
     → is_bounded_cluster_address (at_address o) ≡ true
 at_fits None h = refl
 at_fits (Some x) h = h x refl
@@ -158,7 +162,8 @@ service_fits : (p : Place) (differ : distinct_ports (service_ports p) ≡ true)
     → rows_fault service_rows p ≡ None → IsBoundedService (service_from p differ)
 service_fits p differ h =
     let spec : Place = inner (codes "spec") p in
-    let specified = row_fine 1 service_rows p (inside (codes "spec") needed service_spec_rows) refl h in
+    let specified = row_fine 1 service_rows p
+    (inside (codes "spec") needed service_spec_rows) refl h in
     let ports : list_all is_bounded_port (map service_port (items_in (codes "ports") spec)) ≡ true =
     inside_fine (codes "spec") needed service_spec_rows p
     (λ q. list_all is_bounded_port (map service_port (items_in (codes "ports") q)) ≡ true) refl
@@ -249,7 +254,8 @@ pod_fits p h =
           let of_container = each_fine (codes "containers") container_rows q
           (row_fine 1 pod_spec_rows q (each (codes "containers") container_rows) refl fine) r c in
           let of_ports =
-          row_fine 0 container_rows r (each (codes "ports") container_port_rows) refl of_container in
+          row_fine 0 container_rows r (each
+          (codes "ports") container_port_rows) refl of_container in
           all_map is_bounded_container_port container_port (items_in (codes "ports") r) (λ s d.
           container_port_fits s (each_fine (codes "ports") container_port_rows r of_ports s d))))
           specified;
@@ -285,7 +291,8 @@ object_read kind.Service p o e =
     from_object obj.Service IsBoundedService (read_service p) o (λ x h. h) (service_read p) e
 object_read kind.EndpointSlice p o e =
     from_object obj.EndpointSlice IsBoundedSlice (read_slice p) o (λ x h. h) (slice_read p) e
-object_read kind.Pod p o e = from_object obj.Pod IsBoundedPod (read_pod p) o (λ x h. h) (pod_read p) e
+object_read kind.Pod p o e = from_object obj.Pod IsBoundedPod (read_pod p) o (λ x h. h)
+    (pod_read p) e
 object_read kind.Node p o e =
     from_object obj.Node (λ (n : Node). Unit {0}) (read_node p) o (λ x h. tt) (λ x h. tt) e
 
@@ -342,7 +349,8 @@ list_read : (p : Place) (es : List Event) → list_events p ≡ Ok es → AreBou
 list_read p es h =
     let (items, of_items, next) = from_then (of_field (needed_at p (codes "items")))
     (λ items. of_field (elements_at items) >>= λ ps. apply_each ps) es h in
-    let (ps, of_ps, made) = from_then (of_field (elements_at items)) (λ ps. apply_each ps) es next in
+    let (ps, of_ps, made) = from_then (of_field (elements_at items))
+    (λ ps. apply_each ps) es next in
     each_read ps es made
 
 kinded_by : (p : Place) (es : List Event) (b : Bool)

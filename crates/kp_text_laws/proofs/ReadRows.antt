@@ -1,22 +1,20 @@
 -- What a value without a fault by its rows says of its numbers and of its elements.
-use Rattle.std.proofs.Common.{◌≡◌, ℕ, zero, suc, ◌+◌, ◌^◌, ◌&&◌, ◌≤◌, Bool, true, false, cond, nat_le, nat_lt, List, [], ◌∷◌, ◌++◌, map, length, Contains, Option, Some, None, option_map, option_and_then, unwrap_or, is_some, Result, Ok, Err, ok_or, refl, sym, ap, subst, ◌∙◌, arith, inl, inr}
-use Rattle.std.specs.List.{list_any}
+use Rattle.std.proofs.Common.{◌≡◌, ℕ, zero, suc, ◌&&◌, Bool, true, false, cond, nat_le, nat_lt, List, [], ◌∷◌, ◌++◌, map, length, Contains, Option, Some, None, option_map, option_and_then, unwrap_or, Ok, Err, ok_or, refl, sym, ap, subst, ◌∙◌, arith, inl, inr}
 use Rattle.std.specs.Result.{result_err}
 use Rattle.std.proofs.lemmas.Bool.{and_parts}
 use Rattle.std.proofs.lemmas.Bool.Decides.{nat_tests}
 use Rattle.std.proofs.lemmas.Option.{same_Some}
-use Rattle.serde_json.specs.Data.{Data, null, boolean, number, string, array, object, Items, Members}
-use Rattle.serde_json.specs.Find.{as_array, as_number, as_object, as_u64}
+use Rattle.serde_json.specs.Data.{Items}
+use Rattle.serde_json.specs.Find.{as_array, as_object}
 use Rattle.kp_lemmas.proofs.Members.{none_in, in_cases}
 use Rattle.kp_json.specs.Answers.{◌>>=◌, fault_at, too_many_at}
-use Rattle.kp_json.specs.Paths.{member_path}
-use Rattle.kp_json.specs.Places.{Place, elements_at, elements_of, expected, field_at, member_at, places_of_items, whole_at, within}
+use Rattle.kp_json.specs.Places.{Place, elements_at, elements_of, field_at, member_at, places_of_items, whole_at, within}
 use Rattle.kp_json.specs.declared.fault.BadField.{BadField}
 use Rattle.kp_json.specs.declared.fault.Why.TheVariants.{OutOfRange}
 use Rattle.kp_base.specs.declared.port.Proto.{Proto}
 use Rattle.kp_restore_defs.specs.RuleText.{is_port_number}
 use Rattle.kp_row_defs.specs.Fields.{inner, items_in, nowhere, whole_in, whole_of}
-use Rattle.kp_row_defs.specs.Rows.{Form, Presence, Row, Rows, ◌▸◌, absent_fault, done, each, each_port, each_up_to, field, field_fault, first_in, form_fault, inside, needed, on_member, on_ok, optional, or_then, port_id, ports_fault, row_fault, rows_fault, twin_fault, unless_empty, whole, whole_or_text}
+use Rattle.kp_row_defs.specs.Rows.{Form, Presence, Row, Rows, ◌▸◌, absent_fault, done, each, each_port, each_up_to, field, first_in, form_fault, inside, needed, on_member, on_ok, optional, or_then, port_id, ports_fault, row_fault, rows_fault, twin_fault, unless_empty, whole, whole_or_text}
 
 -- neither of two faults
 pub neither : (a b : Option BadField) → or_then a b ≡ None → (a ≡ None) × (b ≡ None)
@@ -42,7 +40,8 @@ row_fine (suc i) (first ▸ rows) p row is h =
 
 -- ---- Members
 
-member_by : {M : Type 0} (e : BadField) (absent : Option BadField) (faults : Place → Option BadField)
+member_by : {M : Type 0} (e : BadField) (absent : Option BadField)
+    (faults : Place → Option BadField)
     (q : Place) (o : Option M) (m : Option Place)
     → on_member (ok_or o e >>= λ ms. Ok m) absent faults ≡ None → m ≡ Some q → faults q ≡ None
 member_by e absent faults q None m h is = absurd (cc)
@@ -123,12 +122,14 @@ pub optional_fine : (name : List ℕ) (least most n : ℕ) (p : Place)
     → (nat_le least n && nat_le n most) ≡ true
 optional_fine name least most n p h is =
     whole_by least most n (member_at p name)
-    (λ q found. value_by _ None (whole least most) q (as_object p.value) (member_at p name) h found) is
+    (λ q found. value_by _ None (whole least most) q (as_object p.value)
+    (member_at p name) h found) is
 
 -- a member that has to be there
 pub needed_fine : (name : List ℕ) (least most : ℕ) (p : Place)
     → row_fault (field name needed (whole least most)) p ≡ None
-    → (nat_le least (unwrap_or (whole_in name p) 0) && nat_le (unwrap_or (whole_in name p) 0) most) ≡ true
+    → (nat_le least (unwrap_or (whole_in name p) 0) && nat_le
+    (unwrap_or (whole_in name p) 0) most) ≡ true
 needed_fine name least most p h =
     let (q, there) = there_by _ _ (whole least most) (as_object p.value) (member_at p name) h in
     let fine : result_err (whole_at q least most) ≡ None =

@@ -1,21 +1,17 @@
 -- What a replay shows is read back.
-use Rattle.std.proofs.Common.{◌≡◌, ℕ, suc, zero, ◌-◌, Bool, true, List, [], ◌∷◌, ◌++◌, take, sum, Contains, inl, inr, refl, sym, ap, subst, ◌∙◌}
+use Rattle.std.proofs.Common.{ℕ, suc, zero, ◌-◌, List, [], ◌∷◌, ◌++◌, take, sum, Contains, inl, inr, sym, ap, subst}
 use Rattle.std.proofs.lemmas.Grind.{flat_map-append}
 use Rattle.kp_lemmas.proofs.Members.{none_in, in_cases, first_in, later_in}
 use Rattle.kp_base.specs.declared.address.Family.TheVariants.{V4}
-use Rattle.kp_types.specs.Setting.{Setting}
 use Rattle.kp_types.specs.declared.chain.TableName.TheVariants as table
 use Rattle.kp_types.specs.declared.event.Event.{Event}
-use Rattle.kp_object_defs.specs.Objects.{objects_after}
-use Rattle.kp_table_defs.specs.Rebuild.{Chains}
 use Rattle.kp_history_defs.specs.History.{covered, objects_covered}
-use Rattle.kp_restore_defs.specs.BatchText.{batch_text_of}
-use Rattle.kp_restore_defs.specs.TableText.{section_lines, section_text_of, TableTextsDiffer}
+use Rattle.kp_restore_defs.specs.TableText.{section_lines}
 use Rattle.kp_run_defs.specs.ReplayText.{Standing, batch_shown, chains_in, last_edits, replay_of, setting_in, syncs_in}
 use Rattle.kp_text_laws.specs.Bounds.{AreBounded, AreBoundedEvents}
 use Rattle.kp_text_laws.specs.BoundLaws.{ObjectsAreBounded}
-use Rattle.kp_text_laws.specs.TableLaws.{ChangesReadBack, FullTableCanonicalObjects, IsPrintable, ProductIsPrintable}
-use Rattle.kp_text_laws.specs.ShownLaws.{CoveredCanonical, CoveredReadBack, IsBoundedStanding, ReplaysAreBounded, SectionsAreTable, ShownBatchesReadBack, ShownTablesReadBack, ShowsBatch, ShowsTable}
+use Rattle.kp_text_laws.specs.TableLaws.{ChangesReadBack, FullTableReadsBack, IsPrintable, ProductIsPrintable}
+use Rattle.kp_text_laws.specs.ShownLaws.{CoveredChangesReadBack, CoveredTablesReadBack, ReplaysAreBounded, SectionsAreTable, ShownBatchesReadBack, ShownTablesReadBack}
 
 -- ---- Histories
 
@@ -34,13 +30,12 @@ module _ (objects : ObjectsAreBounded) where
   covered_bounded events counts n h =
       objects (covered events counts n) (λ e c. h e (from_take (sum (take n counts)) events e c))
 
-  pub covered_canonical_by : FullTableCanonicalObjects → CoveredCanonical
-  covered_canonical_by canonical setting events counts n printable h =
-      canonical setting (objects_covered events counts n) printable
-      (covered_bounded events counts n h)
+  pub covered_tables_read_back_by : FullTableReadsBack → CoveredTablesReadBack
+  covered_tables_read_back_by tables setting events counts n printable h =
+      tables setting (objects_covered events counts n) printable (covered_bounded events counts n h)
 
-  pub covered_read_back_by : ChangesReadBack → CoveredReadBack
-  covered_read_back_by changes setting events counts m n printable h =
+  pub covered_changes_read_back_by : ChangesReadBack → CoveredChangesReadBack
+  covered_changes_read_back_by changes setting events counts m n printable h =
       changes setting (objects_covered events counts m) (objects_covered events counts n) printable
       (covered_bounded events counts m h) (covered_bounded events counts n h)
 
@@ -56,18 +51,15 @@ module _ (bounded : ReplaysAreBounded) (printable : ProductIsPrintable) where
   setting_prints lines =
       printable V4 (replay_of lines).at.config (bounded lines).config
 
-  pub shown_tables_read_back_by : CoveredCanonical → TableTextsDiffer → ShownTablesReadBack
-  shown_tables_read_back_by canonical differ lines =
-      let s : Standing = (replay_of lines).at in
-      let fit = canonical (setting_in s) s.events s.counts (syncs_in s) (setting_prints lines)
-      (bounded lines).events in
-      let printed = sections_are_table (chains_in s) in record {
-        canonical = fit;
-        printed = printed;
-        only = λ other h same. differ V4 other (chains_in s) h fit (same ∙ sym printed);
+  pub shown_tables_read_back_by : CoveredTablesReadBack → ShownTablesReadBack
+  shown_tables_read_back_by tables lines =
+      let s : Standing = (replay_of lines).at in record {
+        table = tables (setting_in s) s.events s.counts (syncs_in s) (setting_prints lines)
+            (bounded lines).events;
+        printed = sym (sections_are_table (chains_in s));
       }
 
-  pub shown_batches_read_back_by : CoveredReadBack → ShownBatchesReadBack
+  pub shown_batches_read_back_by : CoveredChangesReadBack → ShownBatchesReadBack
   shown_batches_read_back_by back lines =
       let s : Standing = (replay_of lines).at in record {
         batch = back (setting_in s) s.events s.counts (syncs_in s - 1) (syncs_in s)

@@ -8,7 +8,7 @@ use Rattle.std.proofs.lemmas.Slice.Eq.{bytes_eq-Decides}
 use Rattle.kp_lemmas.proofs.Members.{all_from, from_all}
 use Rattle.kp_types.specs.Chains.{is_chain_name}
 use Rattle.kp_types.specs.Places.{chain_cmp}
-use Rattle.kp_types.specs.Setting.{Setting}
+use Rattle.kp_types.specs.Setting.{Setting, range_in}
 use Rattle.kp_types.specs.declared.chain.ChainAt.{ChainAt}
 use Rattle.kp_types.specs.declared.chain.TableName.{TableName}
 use Rattle.kp_types.specs.declared.chain.TableName.TheVariants.{Nat, Filter}
@@ -19,19 +19,19 @@ use Rattle.kp_types.proofs.ChainOrder.{chain_total, chain_exact}
 use Rattle.kp_base.specs.Net.{RangeParts, same_family}
 use Rattle.kp_base.specs.declared.address.Family.{Family}
 use Rattle.kp_base.proofs.SameParts.{same_family_exact}
-use Rattle.kp_types.specs.Setting.{range_in}
+use Rattle.kp_choice_defs.specs.Settings.{setting_of}
 use Rattle.kp_object_defs.specs.PortInfo.{PortInfo, port_infos}
 use Rattle.kp_object_defs.proofs.InOrder.{entries_in_order}
 use Rattle.kp_table_defs.specs.Layout.{rows_of}
 use Rattle.kp_table_defs.specs.Ranks.{goes_on, is_built_in, built_in_chains, has_built_in, is_ranked_chain, jumps_go_on, rank_of}
-use Rattle.kp_table_defs.specs.Rebuild.{Chains, full_chains, full_table}
+use Rattle.kp_table_defs.specs.Rebuild.{Chains, TableParts, full_chains, full_table}
 use Rattle.kp_restore_defs.specs.RuleText.{is_canonical_range, is_canonical_rule}
-use Rattle.kp_restore_defs.specs.TableText.{is_canonical_chain, jumps_to_declared, may_stand, TableTextsDiffer}
-use Rattle.kp_walk_laws.specs.Laws.{FullTableRanked, HashedPrefixed, IsSound, KnownPorts}
+use Rattle.kp_restore_defs.specs.TableText.{is_canonical_chain, is_canonical_table, jumps_to_declared, may_stand, TableTextsDiffer}
+use Rattle.kp_walk_laws.specs.Laws.{FullTableRanked, FullTableRankedObjects, HashedPrefixed, IsSound, KnownPorts}
 use Rattle.kp_walk_laws.proofs.Entries.{from_in_order}
 use Rattle.kp_walk_laws.proofs.Lookups.{finds_filter, finds_nat, in_rows}
 use Rattle.kp_text_laws.specs.BoundLaws.{PortsAreBounded}
-use Rattle.kp_text_laws.specs.TableLaws.{FullTableCanonical, FullTableCanonicalObjects, FullTableReadsBack, FullTablesHaveSameBuiltIn, ProductIsPrintable}
+use Rattle.kp_text_laws.specs.TableLaws.{FullTableCanonical, FullTableReadsBack, FullTablesHaveSameBuiltIn, IsReadableTable, ProductIsPrintable, RebuiltReadsBack}
 use Rattle.kp_text_laws.specs.Bounds.{is_bounded_range, passes_if_some}
 use Rattle.kp_text_laws.proofs.ChainNames.{hashed_names}
 use Rattle.kp_text_laws.proofs.CanonicalRules.{Row, row_fits, rows_fit}
@@ -97,18 +97,27 @@ full_table_canonical_by is_sound setting infos printable any bounded =
     (rows_fit setting printable.named printable.cluster infos bounded) r
     (row_of_entry setting infos r c))))
 
-pub full_table_canonical_objects_by : FullTableCanonical → KnownPorts → PortsAreBounded
-    → FullTableCanonicalObjects
-full_table_canonical_objects_by canonical known ports setting o printable bounded =
+pub full_table_reads_back_by : FullTableCanonical → FullTableRankedObjects → KnownPorts
+    → PortsAreBounded → TableTextsDiffer → FullTableReadsBack
+full_table_reads_back_by canonical is_sound known ports differ setting o printable bounded =
     let infos : List PortInfo = port_infos setting.family setting.config o in
+    let chains : Chains = (full_table setting o).chains in
+    let sound : IsSound chains = is_sound setting o printable.prefixed in
+    let fit : is_canonical_table setting.family chains ≡ true =
     canonical setting infos printable
     (λ i c. (known setting.family setting.config o i c).any)
-    (λ i c. ports setting.family setting.config o i bounded c)
+    (λ i c. ports setting.family setting.config o i bounded c) in record {
+      canonical = fit;
+      only = λ other h same. differ setting.family other chains h fit same;
+      ranked = sound.ranked;
+      built_in = and_from (has_built_in chains Nat) (has_built_in chains Filter)
+          (sound.built_in Nat) (sound.built_in Filter);
+    }
 
-pub full_table_reads_back_by : FullTableCanonicalObjects → TableTextsDiffer → FullTableReadsBack
-full_table_reads_back_by canonical differ setting o printable bounded other fit same =
-    differ setting.family other (full_table setting o).chains fit
-    (canonical setting o printable bounded) same
+pub rebuilt_reads_back_by : FullTableReadsBack → ProductIsPrintable → RebuiltReadsBack
+rebuilt_reads_back_by back printable family config o t configured bounded is =
+    subst (λ (u : TableParts). IsReadableTable family u.chains) (sym is)
+    (back (setting_of family config) o (printable family config configured) bounded)
 
 -- ---- Built-in chains
 

@@ -1,5 +1,5 @@
 -- What a replay shows is read back: the sections of both tables, and the batch of the last sync.
-use Rattle.std.specs.Prelude.{◌≡◌, ◌-◌, ℕ, Bool, true, List, ◌∷◌, ◌++◌, Ok}
+use Rattle.std.specs.Prelude.{◌≡◌, ◌-◌, ℕ, Bool, List, ◌∷◌, ◌++◌, Ok}
 use Rattle.kp_base.specs.declared.address.Family.TheVariants.{V4}
 use Rattle.kp_base.specs.declared.config.Config.{Config}
 use Rattle.kp_json.specs.Places.{Place}
@@ -10,7 +10,7 @@ use Rattle.kp_table_defs.specs.Edits.{changes_between}
 use Rattle.kp_table_defs.specs.Rebuild.{Chains}
 use Rattle.kp_history_defs.specs.History.{chains_covered}
 use Rattle.kp_restore_defs.specs.BatchText.{batch_text_of}
-use Rattle.kp_restore_defs.specs.TableText.{is_canonical_table, section_text_of, table_text_of}
+use Rattle.kp_restore_defs.specs.TableText.{section_text_of, table_text_of}
 use Rattle.kp_text_defs.specs.ConfigText.{read_config}
 use Rattle.kp_text_defs.specs.ScriptLines.{line_of}
 use Rattle.kp_text_defs.specs.declared.script.Op.{Op}
@@ -19,7 +19,7 @@ use Rattle.kp_text_defs.specs.declared.script.ScriptLine.{ScriptLine}
 use Rattle.kp_text_defs.specs.declared.script.Shown.TheVariants as shown
 use Rattle.kp_run_defs.specs.ReplayText.{Standing, chains_in, last_edits, replay_of, setting_in, shown_text, syncs_in}
 use Rattle.kp_text_laws.specs.Bounds.{AreBoundedEvents, IsBoundedConfig}
-use Rattle.kp_text_laws.specs.TableLaws.{IsPrintable, IsReadableBatch}
+use Rattle.kp_text_laws.specs.TableLaws.{IsPrintable, IsReadableBatch, IsReadableTable}
 
 -- ---- Lines
 
@@ -53,21 +53,22 @@ ReplaysAreBounded = (lines : List (List ℕ)) → IsBoundedStanding (replay_of l
 
 -- ---- Histories
 
--- After any syncs of events within their bounds the table has a text of its own,
-abbrev pub CoveredCanonical : Type 0
-CoveredCanonical =
+-- After any syncs of events within their bounds the table is read back,
+abbrev pub CoveredTablesReadBack : Type 0
+CoveredTablesReadBack =
     (setting : Setting) (events : List Event) (counts : List ℕ) (n : ℕ)
     → IsPrintable setting → AreBoundedEvents events
-    → is_canonical_table setting.family (chains_covered setting events counts n) ≡ true
+    → IsReadableTable setting.family (chains_covered setting events counts n)
 
--- and the changes between two of these tables are read back.
-abbrev pub CoveredReadBack : Type 0
-CoveredReadBack =
+-- and so are the changes between two of these tables.
+abbrev pub CoveredChangesReadBack : Type 0
+CoveredChangesReadBack =
     (setting : Setting) (events : List Event) (counts : List ℕ) (m n : ℕ)
     → IsPrintable setting → AreBoundedEvents events
     → IsReadableBatch setting.family (chains_covered setting events counts m)
     (chains_covered setting events counts n)
-    (changes_between (chains_covered setting events counts m) (chains_covered setting events counts n))
+    (changes_between (chains_covered setting events counts m)
+    (chains_covered setting events counts n))
 
 -- ---- What is shown
 
@@ -81,12 +82,10 @@ SectionsAreTable =
 abbrev pub both_shown : Standing → List ℕ
 both_shown s = shown_text shown.Nat s ++ shown_text shown.Filter s
 
--- what is shown of nat and of filter is the text of the table, and of no other
+-- what is shown of nat and of filter is the text of the table, which is read back
 pub record ShowsTable (s : Standing) : Type 0 where
-  pub canonical : is_canonical_table V4 (chains_in s) ≡ true
-  pub printed : table_text_of (chains_in s) ≡ both_shown s
-  pub only : (other : Chains) → is_canonical_table V4 other ≡ true
-      → table_text_of other ≡ both_shown s → other ≡ chains_in s
+  pub table : IsReadableTable V4 (chains_in s)
+  pub printed : both_shown s ≡ table_text_of (chains_in s)
 
 -- so it is in each replay
 abbrev pub ShownTablesReadBack : Type 0
@@ -96,8 +95,8 @@ ShownTablesReadBack = (lines : List (List ℕ)) → ShowsTable (replay_of lines)
 abbrev pub chains_before : Standing → Chains
 chains_before s = chains_covered (setting_in s) s.events s.counts (syncs_in s - 1)
 
--- what is shown as batch after a sync is the text of the last sync's edits, and of no others, and
--- these lead from the table before to the table
+-- what is shown as batch after a sync is the text of the last sync's edits, which are read back and
+-- lead from the table before to the table
 pub record ShowsBatch (s : Standing) : Type 0 where
   pub batch : IsReadableBatch V4 (chains_before s) (chains_in s) (last_edits s)
   pub printed : (n : ℕ) (counts : List ℕ) → s.counts ≡ n ∷ counts

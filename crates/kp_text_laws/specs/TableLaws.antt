@@ -16,8 +16,8 @@ use Rattle.kp_choice_defs.specs.Settings.{setting_of}
 use Rattle.kp_object_defs.specs.Objects.{Objects}
 use Rattle.kp_object_defs.specs.PortInfo.{PortInfo}
 use Rattle.kp_table_defs.specs.Edits.{chains_after_edit, changes_between}
-use Rattle.kp_table_defs.specs.Ranks.{is_ranked}
-use Rattle.kp_table_defs.specs.Rebuild.{Chains, full_chains, full_table}
+use Rattle.kp_table_defs.specs.Ranks.{has_built_in_chains, is_ranked}
+use Rattle.kp_table_defs.specs.Rebuild.{Chains, TableParts, full_chains, full_table}
 use Rattle.kp_restore_defs.specs.BatchText.{batch_text_of, is_canonical_batch}
 use Rattle.kp_restore_defs.specs.BatchesBetween.{HaveSameBuiltIn}
 use Rattle.kp_restore_defs.specs.RuleText.{is_canonical_range}
@@ -48,19 +48,28 @@ FullTableCanonical =
     → ((i : PortInfo) → Contains infos i → IsBoundedInfo setting.family i)
     → is_canonical_table setting.family (full_chains setting infos) ≡ true
 
--- So has that of any objects within their bounds, clash or not.
-abbrev pub FullTableCanonicalObjects : Type 0
-FullTableCanonicalObjects =
-    (setting : Setting) (o : Objects) → IsPrintable setting → AreBounded o
-    → is_canonical_table setting.family (full_table setting o).chains ≡ true
+-- What holds of a table that is printed and read back: it has a text of its own and is the only
+-- table with this text, each of its jumps goes to a chain of a greater rank, and it has the
+-- built-in chains.
+pub record IsReadableTable (family : Family) (chains : Chains) : Type 0 where
+  pub canonical : is_canonical_table family chains ≡ true
+  pub only : (other : Chains) → is_canonical_table family other ≡ true
+      → table_text_of other ≡ table_text_of chains → other ≡ chains
+  pub ranked : is_ranked chains ≡ true
+  pub built_in : has_built_in_chains chains ≡ true
 
--- No other table has its text.
+-- So is the full table of any objects within their bounds, clash or not.
 abbrev pub FullTableReadsBack : Type 0
 FullTableReadsBack =
     (setting : Setting) (o : Objects) → IsPrintable setting → AreBounded o
-    → (other : Chains) → is_canonical_table setting.family other ≡ true
-    → table_text_of other ≡ table_text_of (full_table setting o).chains
-    → other ≡ (full_table setting o).chains
+    → IsReadableTable setting.family (full_table setting o).chains
+
+-- And so is each table that is rebuilt from such objects.
+abbrev pub RebuiltReadsBack : Type 0
+RebuiltReadsBack =
+    (family : Family) (config : Config) (o : Objects) (t : TableParts)
+    → IsBoundedConfig config → AreBounded o → t ≡ full_table (setting_of family config) o
+    → IsReadableTable family t.chains
 
 -- The built-in chains of all full tables of a setting are the same.
 abbrev pub FullTablesHaveSameBuiltIn : Type 0

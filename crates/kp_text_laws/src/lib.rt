@@ -5,7 +5,7 @@
 
 ghost use Rattle.kp_text_laws.specs.BoundLaws.{ObjectsAreBounded, PortsAreBounded, ReadIsBounded};
 ghost use Rattle.kp_text_laws.specs.ShownLaws as shown;
-ghost use Rattle.kp_text_laws.specs.TableLaws.{ChangesReadBack, FullTableCanonical, FullTableCanonicalObjects, FullTableReadsBack, FullTablesHaveSameBuiltIn, ProductIsPrintable};
+ghost use Rattle.kp_text_laws.specs.TableLaws.{ChangesReadBack, FullTableCanonical, FullTableReadsBack, FullTablesHaveSameBuiltIn, ProductIsPrintable, RebuiltReadsBack};
 
 /// Events that are read have their numbers within their bounds, and so have the objects after them
 /// and what is known of the objects' ports.
@@ -22,16 +22,18 @@ pub fn product_is_printable()
     kp_walk_laws::hashed_prefixed();
 }
 
-/// The full table of any objects has a text of its own, and no other table has that text. The
-/// built-in chains of all full tables are the same.
+/// The full table of any objects has a text of its own, and no other table has that text. So it is
+/// of each table that is rebuilt. The built-in chains of all full tables are the same.
 pub fn full_tables_read_back()
     ensures ports { FullTableCanonical }
-    ensures objects { FullTableCanonicalObjects }
-    ensures back { FullTableReadsBack }
+    ensures objects { FullTableReadsBack }
+    ensures rebuilt { RebuiltReadsBack }
     ensures built_in { FullTablesHaveSameBuiltIn }
 {
     bounds();
+    product_is_printable();
     kp_walk_laws::full_table_ranked();
+    kp_walk_laws::full_table_ranked_objects();
     kp_walk_laws::known_ports();
     kp_restore::laws::table_texts_differ();
 }
@@ -43,7 +45,6 @@ pub fn changes_read_back()
     ensures { ChangesReadBack }
 {
     full_tables_read_back();
-    kp_walk_laws::full_table_ranked_objects();
     kp_restore::laws::changes_are_canonical();
     kp_restore::laws::read_changes_lead_over();
     kp_restore::laws::batch_texts_differ();
@@ -51,8 +52,8 @@ pub fn changes_read_back()
 
 /// So it is of the tables after any syncs of events whose numbers are within their bounds.
 pub fn histories_read_back()
-    ensures tables { shown.CoveredCanonical }
-    ensures batches { shown.CoveredReadBack }
+    ensures tables { shown.CoveredTablesReadBack }
+    ensures batches { shown.CoveredChangesReadBack }
 {
     bounds();
     full_tables_read_back();
@@ -78,5 +79,4 @@ pub fn shown_texts_read_back()
     histories_read_back();
     replays_are_bounded();
     product_is_printable();
-    kp_restore::laws::table_texts_differ();
 }
