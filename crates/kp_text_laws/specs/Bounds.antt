@@ -1,7 +1,7 @@
 -- Objects whose numbers are within the bounds of what they are: addresses of their family (RFC 791,
 -- 3.2; RFC 4291, 2), ranges with no bit past their length (RFC 4632, 3.1), ports from 1 to 65535
--- (RFC 6335, 6), and timeouts of 32 bits. A number in a definition has no bound of its own; what a
--- text is read as is within these, by a law.
+-- (Kubernetes API, Service v1), and timeouts of 32 bits. A number in a definition has no bound of
+-- its own; what a text is read as is within these, by a law.
 use Rattle.std.specs.Prelude.{◌≡◌, ℕ, ◌^◌, ◌&&◌, nat_lt, Bool, true, List, Contains, Option, Some, None}
 use Rattle.std.specs.List.{list_all}
 use Rattle.std.specs.FinMap as finite
