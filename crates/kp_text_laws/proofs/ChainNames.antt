@@ -1,0 +1,97 @@
+-- Hashed names are names that chains may have.
+use Rattle.std.proofs.Common.{◌≡◌, ℕ, suc, zero, ◌+◌, ◌*◌, ◌/◌, ◌^◌, ◌%◌, ◌<◌, ◌≤◌, ◌&&◌, true, not, nat_le, List, [], ◌∷◌, ◌++◌, map, take, length, codes, refl, arith, length-append, lit<, lit≤}
+use Rattle.std.proofs.Math.Nat.{mod-lt}
+use Rattle.std.specs.List.{list_all, list_any}
+use Rattle.std.specs.Str.{bytes_eq}
+use Rattle.std.proofs.lemmas.Bool.{and_from, and_parts}
+use Rattle.std.proofs.lemmas.Bool.Decides.{nat_tests}
+use Rattle.std.proofs.lemmas.List.{length-take}
+use Rattle.sha2.specs.Sha256.{sha256}
+use Rattle.kp_lemmas.proofs.ListFacts.{test_append}
+use Rattle.kp_types.specs.Chains.{is_chain_byte, is_chain_name, target_words}
+use Rattle.kp_types.specs.declared.chain.ChainKey.{ChainKey}
+use Rattle.kp_types.specs.declared.chain.ChainKey.TheVariants.{Port, Sep}
+use Rattle.kp_types.specs.declared.chain.PortChain.TheVariants.{Svc, Svl, Ext, Fw}
+use Rattle.kp_choice_defs.specs.AddressText.{endpoint_text}
+use Rattle.kp_choice_defs.specs.Names.{base32, base32_digit, chain_name, hash_text, port_text, quantum_text}
+
+digit_fits : (n : ℕ) → n < 32 → is_chain_byte (base32_digit n) ≡ true
+digit_fits n h = grind (arith, nat_tests)
+
+-- bytes of names
+abbrev Fit : List ℕ → Type 0
+Fit bytes = list_all is_chain_byte bytes ≡ true
+
+map_fits : (f : ℕ → ℕ) (places : List ℕ) → ((p : ℕ) → is_chain_byte (f p) ≡ true)
+    → Fit (map f places)
+map_fits f [] h = refl
+map_fits f (p ∷ places) h =
+    and_from (is_chain_byte (f p)) (list_all is_chain_byte (map f places)) (h p)
+    (map_fits f places h)
+
+take_fits : (n : ℕ) (bytes : List ℕ) → Fit bytes → Fit (take n bytes)
+take_fits zero bytes h = refl
+take_fits (suc n) [] h = refl
+take_fits (suc n) (b ∷ bytes) h =
+    let parts = and_parts (is_chain_byte b) (list_all is_chain_byte bytes) h in
+    and_from (is_chain_byte b) (list_all is_chain_byte (take n bytes)) parts.0
+    (take_fits n bytes parts.1)
+
+quantum_fits : (a b c d e : ℕ) → Fit (quantum_text a b c d e)
+quantum_fits a b c d e =
+    let all : ℕ = (((a * 256 + b) * 256 + c) * 256 + d) * 256 + e in
+    map_fits (λ place. base32_digit (all / 32 ^ place % 32)) (7 ∷ 6 ∷ 5 ∷ 4 ∷ 3 ∷ 2 ∷ 1 ∷ 0 ∷ [])
+    (λ place. digit_fits ((all / 32 ^ place) % 32) (mod-lt (all / 32 ^ place) (lit< tt)))
+
+base32_fits : (bytes : List ℕ) → Fit (base32 bytes)
+base32_fits [] = refl
+base32_fits (a ∷ []) = take_fits 2 (quantum_text a 0 0 0 0) (quantum_fits a 0 0 0 0)
+base32_fits (a ∷ b ∷ []) = take_fits 4 (quantum_text a b 0 0 0) (quantum_fits a b 0 0 0)
+base32_fits (a ∷ b ∷ c ∷ []) = take_fits 5 (quantum_text a b c 0 0) (quantum_fits a b c 0 0)
+base32_fits (a ∷ b ∷ c ∷ d ∷ []) = take_fits 7 (quantum_text a b c d 0) (quantum_fits a b c d 0)
+base32_fits (a ∷ b ∷ c ∷ d ∷ e ∷ rest) =
+    test_append is_chain_byte (quantum_text a b c d e) (base32 rest) (quantum_fits a b c d e)
+    (base32_fits rest)
+
+-- no word of a target begins with a K
+no_target : (bytes : List ℕ) → not (list_any (bytes_eq (75 ∷ bytes)) target_words) ≡ true
+no_target bytes = refl
+
+-- a K, few bytes of names and at most sixteen more are a name
+name_fits : (bytes more : List ℕ) → length bytes ≤ 11 → Fit bytes → length more ≤ 16 → Fit more
+    → is_chain_name (75 ∷ (bytes ++ more)) ≡ true
+name_fits bytes more few h short k =
+    let all : List ℕ = 75 ∷ (bytes ++ more) in
+    let long : length (bytes ++ more) ≡ length bytes + length more = length-append bytes more in
+    let most : nat_le (length all) 28 ≡ true = grind (arith, nat_tests, long, few, short) in
+    let least : nat_le 1 (length all) ≡ true = grind (arith, nat_tests) in
+    let fit : list_all is_chain_byte all ≡ true = test_append is_chain_byte bytes more h k in
+    and_from (nat_le 1 (length all) && nat_le (length all) 28 && list_all is_chain_byte all) _
+    (and_from (nat_le 1 (length all) && nat_le (length all) 28) (list_all is_chain_byte all)
+    (and_from (nat_le 1 (length all)) (nat_le (length all) 28) least most) fit)
+    (no_target (bytes ++ more))
+
+hash_short : (n : ℕ) (text : List ℕ) → n ≤ 16 → length (hash_text n text) ≤ 16
+hash_short n text few = omega (arith, length-take n (base32 (sha256 text)), few)
+
+hash_fits : (n : ℕ) (text : List ℕ) → Fit (hash_text n text)
+hash_fits n text = take_fits n (base32 (sha256 text)) (base32_fits (sha256 text))
+
+-- a name of at most sixteen characters of its hash
+pub hashed_names : (n : ℕ) → n ≤ 16 → (k : ChainKey) → is_chain_name (chain_name n k) ≡ true
+hashed_names n few (Port Svc key) =
+    name_fits (codes "UBE-SVC-") (hash_text n (port_text key)) (lit≤ tt) refl
+    (hash_short n (port_text key) few) (hash_fits n (port_text key))
+hashed_names n few (Port Svl key) =
+    name_fits (codes "UBE-SVL-") (hash_text n (port_text key)) (lit≤ tt) refl
+    (hash_short n (port_text key) few) (hash_fits n (port_text key))
+hashed_names n few (Port Ext key) =
+    name_fits (codes "UBE-EXT-") (hash_text n (port_text key)) (lit≤ tt) refl
+    (hash_short n (port_text key) few) (hash_fits n (port_text key))
+hashed_names n few (Port Fw key) =
+    name_fits (codes "UBE-FW-") (hash_text n (port_text key)) (lit≤ tt) refl
+    (hash_short n (port_text key) few) (hash_fits n (port_text key))
+hashed_names n few (Sep key e) =
+    name_fits (codes "UBE-SEP-") (hash_text n (port_text key ++ endpoint_text e)) (lit≤ tt) refl
+    (hash_short n (port_text key ++ endpoint_text e) few)
+    (hash_fits n (port_text key ++ endpoint_text e))

@@ -1,0 +1,11 @@
+pub mod CanonicalRules
+pub mod ChainNames
+pub mod ObjectBounds
+pub mod PortBounds
+pub mod Tables
+pub mod Batches
+pub mod ReadRows
+pub mod ReadAddresses
+pub mod ReadObjects
+pub mod ReadLines
+pub mod Shown

@@ -1,0 +1,480 @@
+-- What is known of the ports of objects is within its bounds where the objects' numbers are.
+use Rattle.std.proofs.Common.{◌≡◌, ℕ, ◌^◌, ◌&&◌, inl, inr, Bool, true, false, not, cond, nat_lt, List, [], ◌∷◌, ◌++◌, map, reverse, Contains, Option, Some, None, option_map, option_and_then, filter, filter_map, flat_map, refl, sym, ap, subst, ◌∙◌}
+use Rattle.std.specs.List as list
+use Rattle.std.specs.List.{list_all, AllByRecursion, slice_get}
+use Rattle.std.specs.FinMap as finite
+use Rattle.std.specs.FinMap.{entries}
+use Rattle.std.specs.Str.{bytes_eq}
+use Rattle.std.proofs.lemmas.Bool.{and_from, and_parts}
+use Rattle.std.proofs.lemmas.List.Elements.{Contains-append_cases}
+use Rattle.std.proofs.lemmas.List.Sorted.{Contains-permutation, IsPermutation-sym, IsPermutation-reverse}
+use Rattle.std.proofs.lemmas.Option.{same_Some}
+use Rattle.kp_lemmas.proofs.Entries.{entries_found}
+use Rattle.kp_lemmas.proofs.Members.{first_in, later_in, none_in, in_cases, all_from, from_all, from_filter, from_filter_map, from_flat_map, from_map}
+use Rattle.kp_base.specs.Keys.{key_cmp, endpoint_cmp, port_key_cmp}
+use Rattle.kp_base.specs.Net.{AddressParts, RangeParts, same_address, same_family, width}
+use Rattle.kp_base.specs.declared.address.Family.{Family}
+use Rattle.kp_base.specs.declared.key.Endpoint.{Endpoint}
+use Rattle.kp_base.specs.declared.key.ObjectKey.{ObjectKey}
+use Rattle.kp_base.specs.declared.key.PortKey.{PortKey}
+use Rattle.kp_base.specs.declared.port.Proto.{Proto}
+use Rattle.kp_base.proofs.KeyOrder.{key_total, endpoint_exact, port_key_exact}
+use Rattle.kp_base.proofs.SameParts.{same_family_exact}
+use Rattle.kp_types.specs.Ports.{same_proto}
+use Rattle.kp_types.specs.Setting.{FamilyConfig}
+use Rattle.kp_types.specs.declared.info.ServiceSources.{ServiceSources}
+use Rattle.kp_types.specs.declared.lists.Candidate.{Candidate}
+use Rattle.kp_types.specs.declared.pod.ContainerPort.{ContainerPort}
+use Rattle.kp_types.specs.declared.pod.Pod.{Pod}
+use Rattle.kp_types.specs.declared.service.ClusterAddress.{ClusterAddress}
+use Rattle.kp_types.specs.declared.service.ClusterAddress.TheVariants.{Absent, Headless, At}
+use Rattle.kp_types.specs.declared.service.Service.{Service}
+use Rattle.kp_types.specs.declared.service.ServicePort.{ServicePort}
+use Rattle.kp_types.specs.declared.service.TargetPort.{TargetPort}
+use Rattle.kp_types.specs.declared.service.TargetPort.TheVariants.{Number, Named}
+use Rattle.kp_types.specs.declared.slice.Slice.{Slice}
+use Rattle.kp_types.specs.declared.slice.SliceEndpoint.{SliceEndpoint}
+use Rattle.kp_types.specs.declared.slice.SlicePort.{SlicePort}
+use Rattle.kp_types.specs.declared.slice.Wanted.{Wanted}
+use Rattle.kp_object_defs.specs.Desired.{is_external_name, is_reconciled, address_in, desired_endpoints_of, desired_of, entry_of, resolved_port, resolved_ports, selects, target_number, with_ports}
+use Rattle.kp_object_defs.specs.Entries.{candidate_at, candidate_of, candidates_from, entries_from, is_of_service, is_type_of, number_at, number_if, slice_candidates, slices_of, sources_of, unmanaged, wanted_candidate}
+use Rattle.kp_object_defs.specs.Objects.{Objects, zone_of}
+use Rattle.kp_object_defs.specs.Order.{by_key, first_places, in_order}
+use Rattle.kp_object_defs.specs.PortInfo.{PortInfo, address_at, addresses_in, cluster_address_in, has_balancer, has_node_port, info_from, info_of, is_reachable_in, name_of_port, port_key_of, ports_of, ranges_in, restriction_in, same_range, service_ports}
+use Rattle.kp_object_laws.specs.ListLaws.{AreAmong, is_usable, local}
+use Rattle.kp_object_laws.proofs.Lists.{among_usable}
+use Rattle.kp_object_laws.proofs.PortByKey.{sources_service}
+use Rattle.kp_restore_defs.specs.RuleText.{is_canonical_address, is_canonical_range, is_canonical_endpoint, is_port_number}
+use Rattle.kp_walk_laws.proofs.Entries.{from_in_order}
+use Rattle.kp_text_laws.specs.Bounds.{passes_if_some, is_bounded_address, is_bounded_range, is_bounded_cluster_address, is_bounded_container_port, is_bounded_entry, is_bounded_port, is_bounded_slice_port, is_bounded_target, HoldsOfEach, AreBounded, IsBoundedInfo, IsBoundedPod, IsBoundedService, IsBoundedSlice}
+use Rattle.kp_text_laws.specs.BoundLaws.{PortsAreBounded}
+
+-- ---- Lists and maps
+
+from_reverse : {A : Type 0} (x : A) (xs : List A) → Contains (reverse xs) x → Contains xs x
+from_reverse x xs c =
+    Contains-permutation (reverse xs) xs x
+    (IsPermutation-sym xs (reverse xs) (IsPermutation-reverse xs)) c
+
+-- what stands once stands in the list
+from_places : {A : Type 0} (same : A → A → Bool) (x : A) (xs : List A)
+    → Contains (first_places same xs) x → Contains xs x
+from_places same x [] c = c
+from_places same x (y ∷ ys) c =
+    elim (in_cases x y (filter (λ z. not (same y z)) (first_places same ys)) c) [
+      | inl e ↦ subst (λ z. Contains (z ∷ ys) x) (sym e) (first_in x ys)
+      | inr d ↦ later_in x y ys
+          (from_places same x ys (from_filter (λ z. not (same y z)) x (first_places same ys) d).0)
+    ]
+
+of_each : {A : Type 0} (P : A → Type 0) (xs : List A) → AllByRecursion P xs → (x : A)
+    → Contains xs x → P x
+of_each P [] all x c = absurd (none_in x c)
+of_each P (y ∷ ys) all x c =
+    elim (in_cases x y ys c) [
+      | inl e ↦ subst P e all.0
+      | inr d ↦ of_each P ys all.1 x d
+    ]
+
+-- what holds of each object of a map holds of each value
+of_value : {X : Type 0} (P : X → Type 0) (m : finite.FinMap key_cmp X) → HoldsOfEach P m → (x : X)
+    → Contains (finite.values m) x → P x
+of_value {X} P m h x c =
+    let (e, stands, is) = from_map (λ (f : ObjectKey × X). f.1) x (entries m) c in
+    let found : finite.get m e.0 ≡ Some e.1 =
+    of_each (λ (f : ObjectKey × X). finite.get m f.0 ≡ Some f.1) (entries m)
+    (entries_found key_total m) e stands in
+    subst P is (h e.0 e.1 found)
+
+module _ {A : Type 0} (test : A → Bool) where
+  -- the test of what is found at the front
+  first_passes : (xs : List A) → list_all test xs ≡ true
+      → passes_if_some test (slice_get xs 0) ≡ true
+  first_passes [] h = refl
+  first_passes (x ∷ xs) h = (and_parts (test x) (list_all test xs) h).0
+
+  -- of what is there
+  pub some_passes : (o : Option A) (x : A) → passes_if_some test o ≡ true → o ≡ Some x
+      → test x ≡ true
+  some_passes None x h e = absurd (cc)
+  some_passes (Some y) x h e = ap test (sym (same_Some y x e)) ∙ h
+
+  -- of a value under a condition
+  passes_cond : (b : Bool) (o : Option A) → passes_if_some test o ≡ true
+      → passes_if_some test (cond b o None) ≡ true
+  passes_cond true o h = h
+  passes_cond false o h = refl
+
+  all_cond : (b : Bool) (xs : List A) → list_all test xs ≡ true
+      → list_all test (cond b xs []) ≡ true
+  all_cond true xs h = h
+  all_cond false xs h = refl
+
+pub from_option_map : {A B : Type 0} (f : A → B) (o : Option A) (y : B) → option_map f o ≡ Some y
+    → (x : A) × (o ≡ Some x) × (f x ≡ y)
+from_option_map f None y h = absurd (cc)
+from_option_map f (Some x) y h = (x, refl, same_Some (f x) y h)
+
+pub from_and_then : {A B : Type 0} (f : A → Option B) (o : Option A) (y : B)
+    → option_and_then f o ≡ Some y → (x : A) × (o ≡ Some x) × (f x ≡ Some y)
+from_and_then f None y h = absurd (cc)
+from_and_then f (Some x) y h = (x, refl, h)
+
+-- what stands under a condition stands
+from_cond : {A : Type 0} (b : Bool) (xs : List A) (x : A) → Contains (cond b xs []) x
+    → Contains xs x
+from_cond true xs x c = c
+from_cond false xs x c = absurd (none_in x c)
+
+-- ---- Addresses of a family
+
+module _ (family : Family) where
+  of_family : (a : AddressParts) → is_bounded_address a ≡ true → same_family a.family family ≡ true
+      → is_canonical_address family a ≡ true
+  of_family a h same =
+      and_from (same_family a.family family) (nat_lt a.number (2 ^ width family)) same
+      (subst (λ f. nat_lt a.number (2 ^ width f) ≡ true) (same_family_exact a.family family same)
+      (and_parts _ _ h).1)
+
+  range_of_family : (r : RangeParts) → is_bounded_range r ≡ true
+      → same_family r.base.family family ≡ true → is_canonical_range family r ≡ true
+  range_of_family r h same =
+      subst (λ f. is_canonical_range f r ≡ true) (same_family_exact r.base.family family same) h
+
+  found_in_by : (a b : AddressParts) (same : Bool) → is_bounded_address a ≡ true
+      → same_family a.family family ≡ same → cond same (Some a) None ≡ Some b
+      → is_canonical_address family b ≡ true
+  found_in_by a b true h is e =
+      subst (λ c. is_canonical_address family c ≡ true) (same_Some a b e) (of_family a h is)
+  found_in_by a b false h is e = absurd (cc)
+
+  -- an address that is taken for the family
+  found_in : (a b : AddressParts) → is_bounded_address a ≡ true → address_in family a ≡ Some b
+      → is_canonical_address family b ≡ true
+  found_in a b h e = found_in_by a b (same_family a.family family) h refl e
+
+  at_fits : (field : ClusterAddress) (b : AddressParts) → is_bounded_cluster_address field ≡ true
+      → address_at family field ≡ Some b → is_canonical_address family b ≡ true
+  at_fits Absent b h e = absurd (cc)
+  at_fits Headless b h e = absurd (cc)
+  at_fits (At a) b h e = found_in a b h e
+
+  unless_name : (name : Bool) (field : ClusterAddress) (b : AddressParts)
+      → is_bounded_cluster_address field ≡ true → cond name None (address_at family field) ≡ Some b
+      → is_canonical_address family b ≡ true
+  unless_name true field b h e = absurd (cc)
+  unless_name false field b h e = at_fits field b h e
+
+  addresses_fit : (addresses : List AddressParts) → list_all is_bounded_address addresses ≡ true
+      → list_all (is_canonical_address family) (addresses_in family addresses) ≡ true
+  addresses_fit addresses h =
+      all_from (is_canonical_address family) (addresses_in family addresses) (λ a c.
+      let passes : AddressParts → Bool = λ b. same_family b.family family in
+      let (stands, same) = from_filter passes a addresses
+      (from_places same_address a (filter passes addresses) c) in
+      of_family a (from_all is_bounded_address addresses h a stands) same)
+
+  ranges_fit : (ranges : List RangeParts) → list_all is_bounded_range ranges ≡ true
+      → list_all (is_canonical_range family) (ranges_in family ranges) ≡ true
+  ranges_fit ranges h =
+      all_from (is_canonical_range family) (ranges_in family ranges) (λ r c.
+      let passes : RangeParts → Bool = λ q. same_family q.base.family family in
+      let (stands, same) = from_filter passes r ranges
+      (from_places same_range r (filter passes ranges) c) in
+      range_of_family r (from_all is_bounded_range ranges h r stands) same)
+
+  restriction_fits : (ranges : Option (List RangeParts))
+      → passes_if_some (list_all is_bounded_range) ranges ≡ true
+      → passes_if_some (list_all (is_canonical_range family)) (restriction_in family ranges) ≡ true
+  restriction_fits None h = refl
+  restriction_fits (Some ranges) h = ranges_fit ranges h
+
+  -- ---- Candidates
+
+  -- candidates at endpoints of the family
+  abbrev Fits : Candidate → Type 0
+  Fits c = is_canonical_endpoint family c.endpoint ≡ true
+
+  candidate_fits : (node : List ℕ) (number : Option ℕ) (e : SliceEndpoint) (c : Candidate)
+      → passes_if_some is_port_number number ≡ true → is_bounded_entry e ≡ true
+      → candidate_of family node number e ≡ Some c → Fits c
+  candidate_fits node number e c h k made =
+      let (n, has, at) = from_and_then
+      (λ n. option_map (candidate_at node e n) (option_and_then (address_in family) e.address))
+      number c made in
+      let (b, taken, is) = from_option_map (candidate_at node e n)
+      (option_and_then (address_in family) e.address) c at in
+      let (a, given, found) = from_and_then (address_in family) e.address b taken in
+      subst Fits is (and_from (is_canonical_address family b) (is_port_number n)
+      (found_in a b (some_passes is_bounded_address e.address a k given) found)
+      (some_passes is_port_number number n h has))
+
+  number_by : (name : List ℕ) (proto : Proto) (p : SlicePort) (n : ℕ) (b : Bool)
+      → is_bounded_slice_port p ≡ true → cond b p.port None ≡ Some n → is_port_number n ≡ true
+  number_by name proto p n true h e = some_passes is_port_number p.port n h e
+  number_by name proto p n false h e = absurd (cc)
+
+  number_fits : (name : List ℕ) (proto : Proto) (ports : List SlicePort)
+      → list_all is_bounded_slice_port ports ≡ true
+      → passes_if_some is_port_number (number_at name proto ports) ≡ true
+  number_fits name proto ports h =
+      first_passes is_port_number (filter_map (number_if name proto) ports)
+      (all_from is_port_number (filter_map (number_if name proto) ports) (λ n c.
+      let (p, stands, is) = from_filter_map (number_if name proto) n ports c in
+      number_by name proto p n (bytes_eq p.name name && same_proto p.proto proto)
+      (from_all is_bounded_slice_port ports h p stands) is))
+
+  slice_fits : (node : List ℕ) (port : PortKey) (s : Slice) → IsBoundedSlice s → (c : Candidate)
+      → Contains (slice_candidates family node port s) c → Fits c
+  slice_fits node port s bounded c d =
+      let number : Option ℕ = number_at port.port_name port.proto s.ports in
+      let (e, stands, made) = from_filter_map (candidate_of family node number) c s.endpoints
+      (from_cond (is_type_of family s.family)
+      (filter_map (candidate_of family node number) s.endpoints) c d) in
+      candidate_fits node number e c (number_fits port.port_name port.proto s.ports bounded.ports)
+      (from_all is_bounded_entry s.endpoints bounded.endpoints e stands) made
+
+  -- a wanted endpoint whose numbers are within their bounds
+  pub record IsBoundedWanted (w : Wanted) : Type 0 where
+    pub ports : list_all is_bounded_slice_port w.ports ≡ true
+    pub entry : is_bounded_entry w.entry ≡ true
+
+  wanted_fits : (node : List ℕ) (port : PortKey) (w : Wanted) → IsBoundedWanted w → (c : Candidate)
+      → wanted_candidate family node port w ≡ Some c → Fits c
+  wanted_fits node port w bounded c made =
+      candidate_fits node (number_at port.port_name port.proto w.ports) w.entry c
+      (number_fits port.port_name port.proto w.ports bounded.ports) bounded.entry made
+
+  entries_fit : (node : List ℕ) (sources : ServiceSources) (port : PortKey)
+      → ((w : Wanted) → Contains sources.wanted w → IsBoundedWanted w)
+      → ((s : Slice) → Contains sources.slices s → IsBoundedSlice s)
+      → (c : Candidate) → Contains (entries_from family node sources port) c → Fits c
+  entries_fit node sources port wanted slices c d =
+      let all : List Candidate = candidates_from family node port sources.wanted sources.slices in
+      let here : List Candidate = filter (λ (x : Candidate). x.local) all in
+      let named : Candidate → Endpoint × Candidate = λ x. (x.endpoint, x) in
+      let (e, in_entries, is) = from_map (λ (f : Endpoint × Candidate). f.1) c
+      (in_order endpoint_cmp (map named (reverse here ++ all))) d in
+      let (x, in_both, made) = from_map named e (reverse here ++ all)
+      (from_in_order endpoint_cmp endpoint_exact (map named (reverse here ++ all)) e in_entries) in
+      let stands : Contains all x =
+      elim (Contains-append_cases (reverse here) all x in_both) [
+        | inl k ↦ (from_filter (λ (y : Candidate). y.local) x all (from_reverse x here k)).0
+        | inr k ↦ k
+      ] in
+      subst Fits (ap (λ (f : Endpoint × Candidate). f.1) made ∙ is)
+      (elim (Contains-append_cases (filter_map (wanted_candidate family node port) sources.wanted)
+      (flat_map (slice_candidates family node port) sources.slices) x stands) [
+        | inl k ↦
+            let (w, in_wanted, of_w) =
+            from_filter_map (wanted_candidate family node port) x sources.wanted k in
+            wanted_fits node port w (wanted w in_wanted) x of_w
+        | inr k ↦
+            let (s, in_slices, of_s) =
+            from_flat_map (slice_candidates family node port) x sources.slices k in
+            slice_fits node port s (slices s in_slices) x of_s
+      ])
+
+  -- ---- Wanted endpoints
+
+  named_fits : (proto : Proto) (name : List ℕ) (ports : List ContainerPort) (n : ℕ)
+      → list_all is_bounded_container_port ports ≡ true
+      → option_map (λ (c : ContainerPort). c.port)
+      (list.find (λ c. bytes_eq c.name name && same_proto c.proto proto) ports) ≡ Some n
+      → is_port_number n ≡ true
+  named_fits proto name ports n h e =
+      let test : ContainerPort → Bool = λ c. bytes_eq c.name name && same_proto c.proto proto in
+      let (c, found, is) = from_option_map (λ (x : ContainerPort). x.port)
+      (list.find test ports) n e in
+      ap is_port_number (sym is) ∙ found_fits test ports c h found
+    where
+      found_by : (test : ContainerPort → Bool) (p c : ContainerPort) (ps : List ContainerPort)
+          → is_bounded_container_port p ≡ true
+          → (list.find test ps ≡ Some c → is_bounded_container_port c ≡ true) → (b : Bool)
+          → cond b (Some p) (list.find test ps) ≡ Some c → is_bounded_container_port c ≡ true
+      found_by test p c ps h later true e =
+          ap is_bounded_container_port (sym (same_Some p c e)) ∙ h
+      found_by test p c ps h later false e = later e
+
+      found_fits : (test : ContainerPort → Bool) (ps : List ContainerPort) (c : ContainerPort)
+          → list_all is_bounded_container_port ps ≡ true → list.find test ps ≡ Some c
+          → is_bounded_container_port c ≡ true
+      found_fits test [] c h e = absurd (cc)
+      found_fits test (p ∷ ps) c h e =
+          let parts = and_parts (is_bounded_container_port p)
+          (list_all is_bounded_container_port ps) h in
+          found_by test p c ps parts.0 (found_fits test ps c parts.1) (test p) e
+
+  target_fits : (pod : Pod) (proto : Proto) (t : TargetPort) (n : ℕ) → IsBoundedPod pod
+      → is_bounded_target t ≡ true → target_number pod proto t ≡ Some n → is_port_number n ≡ true
+  target_fits pod proto (Number m) n bounded h e = ap is_port_number (sym (same_Some m n e)) ∙ h
+  target_fits pod proto (Named name) n bounded h e =
+      named_fits proto name pod.ports n bounded.ports e
+
+  resolved_fit : (s : Service) (pod : Pod) → IsBoundedService s → IsBoundedPod pod
+      → list_all is_bounded_slice_port (resolved_ports s pod) ≡ true
+  resolved_fit s pod bounded of_pod =
+      all_from is_bounded_slice_port (resolved_ports s pod) (λ q c.
+      let (p, stands, made) = from_filter_map (resolved_port pod) q s.ports c in
+      let (n, found, is) = from_option_map
+      (λ n. record { name = p.name; proto = p.proto; port = Some n })
+      (target_number pod p.proto p.target)
+      q made in
+      let numbers = and_parts (is_port_number p.port) _
+      (from_all is_bounded_port s.ports bounded.ports p stands) in
+      let target = and_parts (is_bounded_target p.target) _ numbers.1 in
+      subst (λ (x : SlicePort). is_bounded_slice_port x ≡ true) is
+      (target_fits pod p.proto p.target n of_pod target.0 found))
+
+  given_ports : (pod : Pod) (entry : SliceEndpoint) (ports : List SlicePort) (w : Wanted)
+      → list_all is_bounded_slice_port ports ≡ true → is_bounded_entry entry ≡ true
+      → with_ports pod entry ports ≡ Some w → IsBoundedWanted w
+  given_ports pod entry [] w h k e = absurd (cc)
+  given_ports pod entry (p ∷ ps) w h k e =
+      subst IsBoundedWanted (same_Some _ w e) (record { ports = h; entry = k })
+
+  desired_by : (s : Service) (pod : Pod) (place : Option (List ℕ)) (w : Wanted) (finished : Bool)
+      → IsBoundedService s → IsBoundedPod pod
+      → cond finished None
+      (option_and_then (λ a. with_ports pod (entry_of s pod place a) (resolved_ports s pod))
+      (option_and_then (address_in family) pod.address)) ≡ Some w → IsBoundedWanted w
+  desired_by s pod place w true bounded of_pod e = absurd (cc)
+  desired_by s pod place w false bounded of_pod e =
+      let (b, taken, made) = from_and_then
+      (λ a. with_ports pod (entry_of s pod place a) (resolved_ports s pod))
+      (option_and_then (address_in family) pod.address) w e in
+      let (a, given, found) = from_and_then (address_in family) pod.address b taken in
+      given_ports pod (entry_of s pod place b) (resolved_ports s pod) w
+      (resolved_fit s pod bounded of_pod)
+      (taken_by a b (some_passes is_bounded_address pod.address a of_pod.address given)
+      (same_family a.family family) found) made
+    where
+      taken_by : (a b : AddressParts) → is_bounded_address a ≡ true → (same : Bool)
+          → cond same (Some a) None ≡ Some b → is_bounded_address b ≡ true
+      taken_by a b h true e = ap is_bounded_address (sym (same_Some a b e)) ∙ h
+      taken_by a b h false e = absurd (cc)
+
+  desired_fit : (o : Objects) (s : Service) → AreBounded o → IsBoundedService s → (w : Wanted)
+      → Contains (desired_endpoints_of family o s) w → IsBoundedWanted w
+  desired_fit o s objects bounded w c =
+      let (pod, passed, made) = from_filter_map (desired_of family (zone_of o) s) w
+      (filter (selects s) (finite.values o.pods)) c in
+      let stands = (from_filter (selects s) pod (finite.values o.pods) passed).0 in
+      desired_by s pod (option_and_then (zone_of o) pod.node) w pod.finished bounded
+      (of_value IsBoundedPod o.pods objects.pods pod stands) made
+
+  -- ---- What endpoints are taken from
+
+  -- sources within their bounds
+  pub record AreBoundedSources (sources : ServiceSources) : Type 0 where
+    pub wanted : (w : Wanted) → Contains sources.wanted w → IsBoundedWanted w
+    pub slices : (s : Slice) → Contains sources.slices s → IsBoundedSlice s
+
+  sources_by : (b : Bool) (x y : ServiceSources) → AreBoundedSources x → AreBoundedSources y
+      → AreBoundedSources (cond b x y)
+  sources_by true x y h k = h
+  sources_by false x y h k = k
+
+  sources_fit : (config : FamilyConfig) (o : Objects) (s : Service) → AreBounded o
+      → IsBoundedService s → AreBoundedSources (sources_of family config o s)
+  sources_fit config o s objects bounded =
+      let of_slice : (t : Slice) → Contains (slices_of o s.key) t → IsBoundedSlice t = λ t c.
+      of_value IsBoundedSlice o.slices objects.slices t
+      (from_filter (is_of_service s.key) t (finite.values o.slices) c).0 in
+      sources_by (is_reconciled config s)
+      (record {
+        service = s;
+        wanted = desired_endpoints_of family o s;
+        slices = unmanaged (slices_of o s.key);
+      })
+      (record { service = s; wanted = []; slices = slices_of o s.key })
+      (record {
+        wanted = desired_fit o s objects bounded;
+        slices = λ t c. of_slice t (from_filter (λ (x : Slice). not x.managed) t
+            (slices_of o s.key) c).0;
+      })
+      (record { wanted = λ w c. absurd (none_in w c); slices = of_slice })
+
+  -- ---- Ports
+
+  list_fits : (cs : List Candidate) (p : Candidate → Bool) (es : List Endpoint)
+      → ((c : Candidate) → Contains cs c → Fits c) → AreAmong (filter p cs) es
+      → list_all (is_canonical_endpoint family) es ≡ true
+  list_fits cs p es fit among =
+      all_from (is_canonical_endpoint family) es (λ e d.
+      let (c, stands, is) = from_map (λ (x : Candidate). x.endpoint) e (filter p cs) (among e d) in
+      ap (is_canonical_endpoint family) (sym is) ∙ fit c (from_filter p c cs stands).0)
+
+  info_fits : (s : Service) (p : ServicePort) (zone : Option (List ℕ)) (cs : List Candidate)
+      (address : AddressParts) → IsBoundedService s → is_bounded_port p ≡ true
+      → ((c : Candidate) → Contains cs c → Fits c) → cluster_address_in family s ≡ Some address
+      → IsBoundedInfo family (info_from family s p zone cs address)
+  info_fits s p zone cs address bounded port fit found =
+      let parts = and_parts (is_port_number p.port) _ port in
+      let node_port = (and_parts (is_bounded_target p.target) _ parts.1).1 in
+      let among = among_usable s.internal s.outer (is_reachable_in family s p) zone cs in
+      let here : (c : Candidate) → Contains (local cs) c → Fits c = λ c d.
+      fit c (from_filter (λ (x : Candidate). x.local) c cs d).0 in record {
+        number = parts.0;
+        address = unless_name (is_external_name s.kind) s.cluster address bounded.cluster found;
+        external = addresses_fit s.external bounded.external;
+        balancer = all_cond (is_canonical_address family) (has_balancer s.kind)
+            (addresses_in family s.balancer) (addresses_fit s.balancer bounded.balancer);
+        node_port = passes_cond is_port_number (has_node_port s.kind) p.node_port node_port;
+        ranges = restriction_fits s.ranges bounded.ranges;
+        affinity = bounded.affinity;
+        cluster = list_fits cs is_usable _ fit among.0;
+        local = list_fits (local cs) is_usable _ here among.1;
+      }
+
+  source_fits : (config : FamilyConfig) (o : Objects) (zone : Option (List ℕ)) (i : PortInfo)
+      → AreBounded o → (from : ServiceSources) (s : Service) (p : ServicePort)
+      → Contains (finite.values o.services) s → sources_of family config o s ≡ from
+      → Contains from.service.ports p → info_of family config.node zone (from, p) ≡ Some i
+      → IsBoundedInfo family i
+  source_fits config o zone i objects from s p stands is in_ports made =
+      let same : from.service ≡ s =
+      ap (λ (t : ServiceSources). t.service) (sym is) ∙ sources_service family config o s in
+      let of_s : IsBoundedService s =
+      of_value IsBoundedService o.services objects.services s stands in
+      let bounded : IsBoundedService from.service = subst IsBoundedService (sym same) of_s in
+      let sources : AreBoundedSources from =
+      subst AreBoundedSources is (sources_fit config o s objects of_s) in
+      let cs : List Candidate = entries_from family config.node from (port_key_of from.service p) in
+      let (address, found, of_i) = from_option_map (info_from family from.service p zone cs)
+      (cluster_address_in family from.service) i made in
+      subst (IsBoundedInfo family) of_i
+      (info_fits from.service p zone cs address bounded
+      (from_all is_bounded_port from.service.ports bounded.ports p in_ports)
+      (entries_fit config.node from
+      (port_key_of from.service p) sources.wanted sources.slices) found)
+
+-- a port of a Service stands among the ports of its sources
+from_service_ports : (services : List ServiceSources) (sp : ServiceSources × ServicePort)
+    → Contains (service_ports services) sp → Contains (flat_map ports_of services) sp
+from_service_ports services sp c =
+    let all : List (ServiceSources × ServicePort) = flat_map ports_of services in
+    let named : ServiceSources × ServicePort → PortKey × (ServiceSources × ServicePort) = λ x.
+    (name_of_port x, x) in
+    let (e, in_entries, is) = from_map
+    (λ (f : PortKey × (ServiceSources × ServicePort)). f.1) sp
+    (by_key port_key_cmp name_of_port all) c in
+    let (x, in_all, made) = from_map named e all (from_reverse e (map named all)
+    (from_in_order port_key_cmp port_key_exact (reverse (map named all)) e in_entries)) in
+    subst (Contains all) (ap (λ (f : PortKey × (ServiceSources × ServicePort)). f.1) made
+    ∙ is) in_all
+
+pub ports_are_bounded : PortsAreBounded
+ports_are_bounded family config o i objects c =
+    let zone : Option (List ℕ) = zone_of o config.node in
+    let services : List ServiceSources =
+    map (sources_of family config o) (finite.values o.services) in
+    let (sp, in_ports, made) =
+    from_filter_map (info_of family config.node zone) i (service_ports services) c in
+    let (from, in_sources, in_its) =
+    from_flat_map ports_of sp services (from_service_ports services sp in_ports) in
+    let (s, stands, is) = from_map (sources_of family config o) from
+    (finite.values o.services) in_sources in
+    let (p, of_service, same) = from_map (λ q. (from, q)) sp from.service.ports in_its in
+    source_fits family config o zone i objects from s p stands is of_service
+    (ap (info_of family config.node zone) same ∙ made)

@@ -1,0 +1,385 @@
+-- The objects and events that are read have their numbers within their bounds.
+use Rattle.std.proofs.Common.{◌≡◌, ℕ, zero, suc, ◌&&◌, Bool, true, false, cond, nat_le, nat_lt, List, [], ◌∷◌, map, Option, Some, None, option_and_then, unwrap_or, Result, Ok, Err, bytes_eq, codes, filter_map, flat_map, refl, ap, subst, arith, inl, inr}
+use Rattle.std.specs.List.{list_all}
+use Rattle.std.specs.Map.{lookup}
+use Rattle.std.proofs.lemmas.Bool.{and_from, and_parts}
+use Rattle.std.proofs.lemmas.Bool.Decides.{nat_tests}
+use Rattle.serde_json.specs.Data.{Data, null, boolean, number, string, array, object}
+use Rattle.serde_json.specs.Find.{as_object}
+use Rattle.kp_lemmas.proofs.Members.{none_in, in_cases, all_from, all_map, all_flat_map, from_filter_map}
+use Rattle.kp_json.specs.Places.{Place, elements_at, member_at, needed_at}
+use Rattle.kp_json.specs.declared.fault.BadField.{BadField}
+use Rattle.kp_base.specs.Net.{AddressParts}
+use Rattle.kp_types.specs.Ports.{distinct_ports}
+use Rattle.kp_types.specs.declared.event.Event.{Event}
+use Rattle.kp_types.specs.declared.event.Event.TheVariants.{Apply, Delete}
+use Rattle.kp_types.specs.declared.event.Kind.{Kind}
+use Rattle.kp_types.specs.declared.event.Kind.TheVariants as kind
+use Rattle.kp_types.specs.declared.event.Object.{Object}
+use Rattle.kp_types.specs.declared.event.Object.TheVariants as obj
+use Rattle.kp_types.specs.declared.pod.Node.{Node}
+use Rattle.kp_types.specs.declared.pod.Pod.{Pod}
+use Rattle.kp_types.specs.declared.service.ClusterAddress.TheVariants.{Headless}
+use Rattle.kp_types.specs.declared.service.Service.{Service}
+use Rattle.kp_types.specs.declared.slice.AddressType.{AddressType}
+use Rattle.kp_types.specs.declared.slice.AddressType.TheVariants.{Ipv4, Ipv6, Fqdn}
+use Rattle.kp_types.specs.declared.slice.Slice.{Slice}
+use Rattle.kp_restore_defs.specs.RuleText.{is_port_number}
+use Rattle.kp_row_defs.specs.Fields.{address_in, address_of_text, inner, is_text, items_in, text_in, whole_in, whole_of}
+use Rattle.kp_row_defs.specs.Rows.{each, field, form_fault, inside, needed, optional, row_fault, rows_fault, unless_fault, whole, whole_or_text}
+use Rattle.kp_event_defs.specs.EventText.{Action, Refused, acted, apply_at, apply_each, applies, delete_at, deleted_key, deleted_row, deletes, kind_at, kind_text, kinded, list_events, object_as, object_at, object_events, of_field, or_no_event, passes, single, watched, actions, ◌>>=◌}
+use Rattle.kp_event_defs.specs.PodText.{container_port, container_port_rows, container_ports, container_rows, pod_from, pod_rows, pod_spec_row, pod_spec_rows, read_node, read_pod}
+use Rattle.kp_event_defs.specs.ServiceText.{affinity_of, affinity_row, affinity_timeout, at_address, client_rows, cluster_of, ingress_address, not_zero, numbered_target, ranges_of, read_service, service_from, service_port, service_port_rows, service_ports, service_rows, service_spec_rows, service_unless, target_of, timeout_rows}
+use Rattle.kp_event_defs.specs.ServiceText as service
+use Rattle.kp_event_defs.specs.SliceText as slice
+use Rattle.kp_event_defs.specs.SliceText.{address_of_type, address_type_in, endpoint_from, first_of_type, read_slice, slice_from, slice_port, slice_port_rows, slice_rows}
+use Rattle.kp_json.specs.Places as places
+use Rattle.kp_text_laws.specs.Bounds.{AreBoundedEvents, IsBoundedEvent, IsBoundedObject, IsBoundedPod, IsBoundedService, IsBoundedSlice, is_bounded_address, is_bounded_cluster_address, is_bounded_container_port, is_bounded_entry, is_bounded_port, is_bounded_range, is_bounded_slice_port, is_bounded_target, is_timeout, passes_if_some}
+use Rattle.kp_text_laws.specs.BoundLaws.{ReadIsBounded}
+use Rattle.kp_text_laws.proofs.ReadAddresses.{member_address, place_address, place_addresses, place_ranges, some_from, text_address}
+use Rattle.kp_text_laws.proofs.ReadRows.{each_fine, each_port_fine, either_fine, inside_fine, limited_fine, needed_fine, number_fine, optional_fine, port_from, row_fine}
+
+-- a number that a row bounds
+abbrev IsWithin : ℕ → ℕ → Option ℕ → Type 0
+IsWithin least most o = (n : ℕ) → o ≡ Some n → (nat_le least n && nat_le n most) ≡ true
+
+-- ---- Services
+
+port_up_to : (n : ℕ) → nat_le (suc n) 65535 ≡ true → is_port_number (suc n) ≡ true
+port_up_to n h = grind (arith, nat_tests, h)
+
+not_zero_fits : (o : Option ℕ) → IsWithin 0 65535 o
+    → passes_if_some is_port_number (option_and_then not_zero o) ≡ true
+not_zero_fits None h = refl
+not_zero_fits (Some zero) h = refl
+not_zero_fits (Some (suc n)) h =
+    port_up_to n (and_parts (nat_le 0 (suc n)) (nat_le (suc n) 65535) (h (suc n) refl)).1
+
+numbered_by : (port : ℕ) (o : Option ℕ) → is_port_number port ≡ true
+    → passes_if_some is_port_number o ≡ true → is_port_number (unwrap_or o port) ≡ true
+numbered_by port None h k = h
+numbered_by port (Some n) h k = k
+
+target_value : (port : ℕ) (v : Data) (path : List ℕ) → is_port_number port ≡ true
+    → form_fault (whole_or_text 0 65535) (record { value = v; path = path }) ≡ None
+    → is_bounded_target (target_of port (Some (record { value = v; path = path }))) ≡ true
+target_value port null path h k = h
+target_value port (boolean b) path h k = h
+target_value port (string []) path h k = h
+target_value port (string (b ∷ bs)) path h k = refl
+target_value port (array ds) path h k = h
+target_value port (object ms) path h k = h
+target_value port (number n) path h k =
+    let p : Place = record { value = number n; path = path } in
+    numbered_by port (option_and_then not_zero (whole_of p)) h
+    (not_zero_fits (whole_of p) (λ m is. number_fine p 0 65535 m k is))
+
+target_fits : (port : ℕ) (m : Option Place) → is_port_number port ≡ true
+    → ((q : Place) → m ≡ Some q → form_fault (whole_or_text 0 65535) q ≡ None)
+    → is_bounded_target (target_of port m) ≡ true
+target_fits port None h k = h
+target_fits port (Some q) h k = target_value port q.value q.path h (k q refl)
+
+port_fits : (q : Place) → rows_fault service_port_rows q ≡ None
+    → is_bounded_port (service_port q) ≡ true
+port_fits q h =
+    let numbered = row_fine 2 service_port_rows q
+    (field (codes "port") needed (whole 1 65535)) refl h in
+    let targeted = row_fine 3 service_port_rows q
+    (field (codes "targetPort") optional (whole_or_text 0 65535)) refl h in
+    let at_node = row_fine 4 service_port_rows q
+    (field (codes "nodePort") optional (whole 0 65535)) refl h in
+    let n : ℕ = unwrap_or (whole_in (codes "port") q) 0 in
+    let is_port : is_port_number n ≡ true =
+    port_from n (needed_fine (codes "port") 1 65535 q numbered) in
+    and_from (is_port_number n) _ is_port
+    (and_from (is_bounded_target (service_port q).target) _
+    (target_fits n (member_at q (codes "targetPort")) is_port
+    (λ t is. either_fine (codes "targetPort") 0 65535 q t targeted is))
+    (not_zero_fits (whole_in (codes "nodePort") q)
+    (λ m is. optional_fine (codes "nodePort") 0 65535 m q at_node is)))
+
+seconds_fit : (o : Option ℕ) → IsWithin 1 86400 o → is_timeout (unwrap_or o 10800) ≡ true
+seconds_fit None h = refl
+seconds_fit (Some n) h = few n (and_parts (nat_le 1 n) (nat_le n 86400) (h n refl)).1
+  where
+    few : (n : ℕ) → nat_le n 86400 ≡ true → nat_lt n 4294967296 ≡ true
+    few n h = grind (arith, nat_tests, h)
+
+timeout_fits : (spec : Place)
+    → row_fault affinity_row spec ≡ None → is_timeout (affinity_timeout spec) ≡ true
+timeout_fits spec h =
+    inside_fine (codes "sessionAffinityConfig") optional client_rows spec
+    (λ q. is_timeout (unwrap_or (whole_in (codes "timeoutSeconds")
+    (inner (codes "clientIP") q)) 10800) ≡ true)
+    refl
+    (λ q fine. inside_fine (codes "clientIP") optional timeout_rows q
+    (λ r. is_timeout (unwrap_or (whole_in (codes "timeoutSeconds") r) 10800) ≡ true) refl
+    (λ r of_r. seconds_fit (whole_in (codes "timeoutSeconds") r)
+    (λ n is. optional_fine (codes "timeoutSeconds") 1 86400 n r
+    (row_fine 0 timeout_rows r (field (codes "timeoutSeconds") optional
+    (whole 1 86400)) refl of_r) is))
+    (row_fine 0 client_rows q (inside (codes "clientIP") optional timeout_rows) refl fine)) h
+
+affinity_fits : (b : Bool) (n : ℕ) → is_timeout n ≡ true
+    → passes_if_some is_timeout (affinity_of b n) ≡ true
+affinity_fits true n h = h
+affinity_fits false n h = refl
+
+at_fits : (o : Option AddressParts)
+    → ((x : AddressParts) → o ≡ Some x → is_bounded_address x ≡ true)
+    → is_bounded_cluster_address (at_address o) ≡ true
+at_fits None h = refl
+at_fits (Some x) h = h x refl
+
+cluster_by : (text : List ℕ) (b : Bool)
+    → is_bounded_cluster_address (cond b Headless (at_address (address_of_text text))) ≡ true
+cluster_by text true = refl
+cluster_by text false = at_fits (address_of_text text) (λ x is. text_address text x is)
+
+cluster_fits : (o : Option (List ℕ)) → is_bounded_cluster_address (cluster_of o) ≡ true
+cluster_fits None = refl
+cluster_fits (Some text) = cluster_by text (bytes_eq text (codes "None"))
+
+ranges_fit : (items : List Place)
+    → passes_if_some (list_all is_bounded_range) (ranges_of items) ≡ true
+ranges_fit [] = refl
+ranges_fit (p ∷ ps) = place_ranges (p ∷ ps)
+
+ingress_by : (q : Place) (x : AddressParts) (b : Bool)
+    → cond b None (address_in (codes "ip") q) ≡ Some x → is_bounded_address x ≡ true
+ingress_by q x true h = absurd (cc)
+ingress_by q x false h = member_address (codes "ip") q x h
+
+ingress_fits : (items : List Place)
+    → list_all is_bounded_address (filter_map ingress_address items) ≡ true
+ingress_fits items =
+    all_from is_bounded_address (filter_map ingress_address items) (λ x c.
+    let (q, stands, is) = from_filter_map ingress_address x items c in
+    ingress_by q x (is_text (codes "Proxy") (text_in (codes "ipMode") q)) is)
+
+service_fits : (p : Place) (differ : distinct_ports (service_ports p) ≡ true)
+    → rows_fault service_rows p ≡ None → IsBoundedService (service_from p differ)
+service_fits p differ h =
+    let spec : Place = inner (codes "spec") p in
+    let specified = row_fine 1 service_rows p
+    (inside (codes "spec") needed service_spec_rows) refl h in
+    let ports : list_all is_bounded_port (map service_port (items_in (codes "ports") spec)) ≡ true =
+    inside_fine (codes "spec") needed service_spec_rows p
+    (λ q. list_all is_bounded_port (map service_port (items_in (codes "ports") q)) ≡ true) refl
+    (λ q fine. all_map is_bounded_port service_port (items_in (codes "ports") q) (λ r c.
+    port_fits r (each_port_fine (codes "ports") service_port_rows q
+    (row_fine 2 service_spec_rows q service.ports_row refl fine) r c))) specified in
+    let timeout : is_timeout (affinity_timeout spec) ≡ true =
+    inside_fine (codes "spec") needed service_spec_rows p
+    (λ q. is_timeout (affinity_timeout q) ≡ true) refl
+    (λ q fine. timeout_fits q (row_fine 6 service_spec_rows q affinity_row refl fine)) specified in
+    record {
+      cluster = cluster_fits (text_in (codes "clusterIP") spec);
+      ports = ports;
+      external = place_addresses (items_in (codes "externalIPs") spec);
+      affinity = affinity_fits _ (affinity_timeout spec) timeout;
+      ranges = ranges_fit (items_in (codes "loadBalancerSourceRanges") spec);
+      balancer = ingress_fits
+          (items_in (codes "ingress") (inner (codes "loadBalancer") (inner (codes "status") p)));
+    }
+
+service_by : (p : Place) (s : Service) (fault : Option BadField) (b : Bool)
+    (is : distinct_ports (service_ports p) ≡ b) → rows_fault service_rows p ≡ fault
+    → service_unless fault p b is ≡ Ok s → IsBoundedService s
+service_by p s (Some fault) b is h e = absurd (cc)
+service_by p s None true is h e =
+    let same : service_from p is ≡ s = cc in subst IsBoundedService same (service_fits p is h)
+service_by p s None false is h e = absurd (cc)
+
+service_read : (p : Place) (s : Service) → read_service p ≡ Ok s → IsBoundedService s
+service_read p s e =
+    service_by p s (rows_fault service_rows p) (distinct_ports (service_ports p)) refl refl e
+
+-- ---- EndpointSlices and Pods
+
+pub read_by : {A : Type 0} (fault : Option BadField) (x y : A) → unless_fault fault x ≡ Ok y
+    → (fault ≡ None) × (x ≡ y)
+read_by (Some fault) x y e = absurd (cc)
+read_by None x y e = let same : x ≡ y = cc in (refl, same)
+
+slice_port_fits : (q : Place) → rows_fault slice_port_rows q ≡ None
+    → is_bounded_slice_port (slice_port q) ≡ true
+slice_port_fits q h =
+    let numbered = row_fine 2 slice_port_rows q
+    (field (codes "port") optional (whole 1 65535)) refl h in
+    some_from is_port_number (whole_in (codes "port") q) (λ n is.
+    port_from n (optional_fine (codes "port") 1 65535 n q numbered is))
+
+first_fits : (family : AddressType) (items : List Place)
+    → passes_if_some is_bounded_address (first_of_type family items) ≡ true
+first_fits family [] = refl
+first_fits Ipv4 (p ∷ ps) = some_from is_bounded_address _ (λ x is. place_address p x is)
+first_fits Ipv6 (p ∷ ps) = refl
+first_fits Fqdn (p ∷ ps) = refl
+
+slice_fits : (p : Place) → rows_fault (slice_rows (address_type_in p)) p ≡ None
+    → IsBoundedSlice (slice_from p)
+slice_fits p h =
+    let ports = row_fine 3 (slice_rows (address_type_in p)) p slice.ports_row refl h in record {
+      ports = all_map is_bounded_slice_port slice_port (items_in (codes "ports") p) (λ q c.
+          slice_port_fits q (limited_fine 100 (codes "ports") slice_port_rows p ports q c));
+      endpoints = all_map is_bounded_entry (endpoint_from (address_type_in p) _)
+          (items_in (codes "endpoints") p)
+          (λ q c. first_fits (address_type_in p) (items_in (codes "addresses") q));
+    }
+
+slice_read : (p : Place) (s : Slice) → read_slice p ≡ Ok s → IsBoundedSlice s
+slice_read p s e =
+    let (fine, is) = read_by (rows_fault (slice_rows (address_type_in p)) p) (slice_from p) s e in
+    subst IsBoundedSlice is (slice_fits p fine)
+
+container_port_fits : (q : Place) → rows_fault container_port_rows q ≡ None
+    → is_bounded_container_port (container_port q) ≡ true
+container_port_fits q h =
+    let numbered = row_fine 2 container_port_rows q
+    (field (codes "containerPort") needed (whole 1 65535)) refl h in
+    port_from (unwrap_or (whole_in (codes "containerPort") q) 0)
+    (needed_fine (codes "containerPort") 1 65535 q numbered)
+
+pod_fits : (p : Place) → rows_fault pod_rows p ≡ None → IsBoundedPod (pod_from p)
+pod_fits p h =
+    let specified = row_fine 1 pod_rows p pod_spec_row refl h in
+    let status : Place = inner (codes "status") p in record {
+      ports = inside_fine (codes "spec") optional pod_spec_rows p
+          (λ q. list_all is_bounded_container_port
+          (flat_map container_ports (items_in (codes "containers") q)) ≡ true) refl
+          (λ q fine. all_flat_map is_bounded_container_port container_ports
+          (items_in (codes "containers") q) (λ r c.
+          let of_container = each_fine (codes "containers") container_rows q
+          (row_fine 1 pod_spec_rows q (each (codes "containers") container_rows) refl fine) r c in
+          let of_ports =
+          row_fine 0 container_rows r (each
+          (codes "ports") container_port_rows) refl of_container in
+          all_map is_bounded_container_port container_port (items_in (codes "ports") r) (λ s d.
+          container_port_fits s (each_fine (codes "ports") container_port_rows r of_ports s d))))
+          specified;
+      address = some_from is_bounded_address (address_in (codes "podIP") status)
+          (λ x is. member_address (codes "podIP") status x is);
+    }
+
+pod_read : (p : Place) (q : Pod) → read_pod p ≡ Ok q → IsBoundedPod q
+pod_read p q e =
+    let (fine, is) = read_by (rows_fault pod_rows p) (pod_from p) q e in
+    subst IsBoundedPod is (pod_fits p fine)
+
+-- ---- Events
+
+from_then : {A B : Type 0} (r : Result A Refused) (f : A → Result B Refused) (y : B)
+    → (r >>= f) ≡ Ok y → (x : A) × (r ≡ Ok x) × (f x ≡ Ok y)
+from_then (Err why) f y e = absurd (cc)
+from_then (Ok x) f y e = (x, refl, e)
+
+from_field : {A : Type 0} (r : Result A BadField) (x : A) → of_field r ≡ Ok x → r ≡ Ok x
+from_field (Err fault) x e = absurd (cc)
+from_field (Ok y) x e = let same : y ≡ x = cc in ap (λ z. Ok z) same
+
+from_object : {A : Type 0} (of : A → Object) (P : A → Type 0) (r : Result A BadField) (o : Object)
+    → ((x : A) → P x → IsBoundedObject (of x)) → ((x : A) → r ≡ Ok x → P x)
+    → object_as of r ≡ Ok o → IsBoundedObject o
+from_object of P (Err fault) o h k e = absurd (cc)
+from_object of P (Ok x) o h k e =
+    let same : of x ≡ o = cc in subst IsBoundedObject same (h x (k x refl))
+
+object_read : (k : Kind) (p : Place) (o : Object) → object_at k p ≡ Ok o → IsBoundedObject o
+object_read kind.Service p o e =
+    from_object obj.Service IsBoundedService (read_service p) o (λ x h. h) (service_read p) e
+object_read kind.EndpointSlice p o e =
+    from_object obj.EndpointSlice IsBoundedSlice (read_slice p) o (λ x h. h) (slice_read p) e
+object_read kind.Pod p o e = from_object obj.Pod IsBoundedPod (read_pod p) o (λ x h. h)
+    (pod_read p) e
+object_read kind.Node p o e =
+    from_object obj.Node (λ (n : Node). Unit {0}) (read_node p) o (λ x h. tt) (λ x h. tt) e
+
+apply_read : (p : Place) (e : Event) → apply_at p ≡ Ok e → IsBoundedEvent e
+apply_read p e h =
+    let (k, of_k, next) = from_then (kind_at p)
+    (λ k. of_field (object_at k p) >>= λ o. Ok (Apply o)) e h in
+    let (o, of_o, made) = from_then (of_field (object_at k p)) (λ o. Ok (Apply o)) e next in
+    let same : Apply o ≡ e = cc in
+    subst IsBoundedEvent same (object_read k p o (from_field (object_at k p) o of_o))
+
+delete_read : (p : Place) (e : Event) → delete_at p ≡ Ok e → IsBoundedEvent e
+delete_read p e h =
+    let (k, of_k, next) = from_then (kind_at p)
+    (λ k. of_field (unless_fault (row_fault (deleted_row k) p) (deleted_key k p))
+    >>= λ key. Ok (Delete k key)) e h in
+    let (key, of_key, made) = from_then
+    (of_field (unless_fault (row_fault (deleted_row k) p) (deleted_key k p)))
+    (λ key. Ok (Delete k key)) e next in
+    let same : Delete k key ≡ e = cc in subst IsBoundedEvent same tt
+
+one_event : (e : Event) → IsBoundedEvent e → AreBoundedEvents (e ∷ [])
+one_event e h f c =
+    elim (in_cases f e [] c) [ inl is ↦ subst IsBoundedEvent is h | inr d ↦ absurd (none_in f d) ]
+
+single_read : (r : Result Event Refused) (es : List Event)
+    → ((e : Event) → r ≡ Ok e → IsBoundedEvent e) → (r >>= single) ≡ Ok es → AreBoundedEvents es
+single_read (Err why) es h e = absurd (cc)
+single_read (Ok x) es h e =
+    let same : x ∷ [] ≡ es = cc in subst AreBoundedEvents same (one_event x (h x refl))
+
+no_events : AreBoundedEvents []
+no_events e c = absurd (none_in e c)
+
+acted_read : (p : Place) (a : Action) (es : List Event) → acted p a ≡ Ok es → AreBoundedEvents es
+acted_read p applies es h = single_read (apply_at p) es (apply_read p) h
+acted_read p deletes es h = single_read (delete_at p) es (delete_read p) h
+acted_read p passes es h = let same : [] ≡ es = cc in subst AreBoundedEvents same no_events
+
+each_read : (ps : List Place) (es : List Event) → apply_each ps ≡ Ok es → AreBoundedEvents es
+each_read [] es h = let same : [] ≡ es = cc in subst AreBoundedEvents same no_events
+each_read (p ∷ ps) es h =
+    let (e, of_e, next) = from_then (apply_at p)
+    (λ e. apply_each ps >>= λ events. Ok (e ∷ events)) es h in
+    let (rest, of_rest, made) = from_then (apply_each ps) (λ events. Ok (e ∷ events)) es next in
+    let same : e ∷ rest ≡ es = cc in
+    subst AreBoundedEvents same (λ f c.
+    elim (in_cases f e rest c) [
+      | inl is ↦ subst IsBoundedEvent is (apply_read p e of_e)
+      | inr d ↦ each_read ps rest of_rest f d
+    ])
+
+list_read : (p : Place) (es : List Event) → list_events p ≡ Ok es → AreBoundedEvents es
+list_read p es h =
+    let (items, of_items, next) = from_then (of_field (needed_at p (codes "items")))
+    (λ items. of_field (elements_at items) >>= λ ps. apply_each ps) es h in
+    let (ps, of_ps, made) = from_then (of_field (elements_at items))
+    (λ ps. apply_each ps) es next in
+    each_read ps es made
+
+kinded_by : (p : Place) (es : List Event) (b : Bool)
+    → cond b (list_events p) (apply_at p >>= single) ≡ Ok es → AreBoundedEvents es
+kinded_by p es true h = list_read p es h
+kinded_by p es false h = single_read (apply_at p) es (apply_read p) h
+
+kinded_read : (p : Place) (es : List Event) → kinded p ≡ Ok es → AreBoundedEvents es
+kinded_read p es h =
+    let (text, of_text, next) = from_then (kind_text p)
+    (λ text. cond (bytes_eq text (codes "List")) (list_events p) (apply_at p >>= single)) es h in
+    kinded_by p es (bytes_eq text (codes "List")) next
+
+watched_read : (p q : Place) (es : List Event) → watched p q ≡ Ok es → AreBoundedEvents es
+watched_read p q es h =
+    let (text, of_text, next) = from_then (of_field (places.text_at p))
+    (λ text. or_no_event (lookup (bytes_eq text) actions) >>= λ action. acted q action) es h in
+    let (action, of_action, made) = from_then (or_no_event (lookup (bytes_eq text) actions))
+    (λ action. acted q action) es next in
+    acted_read q action es made
+
+object_events_read : (p : Place) (a b : Option Place) (es : List Event)
+    → object_events p a b ≡ Ok es → AreBoundedEvents es
+object_events_read p (Some a) (Some b) es h = watched_read a b es h
+object_events_read p (Some a) None es h = kinded_read p es h
+object_events_read p None b es h = kinded_read p es h
+
+pub read_is_bounded : ReadIsBounded
+read_is_bounded p es h =
+    let (ms, of_ms, next) = from_then (or_no_event (as_object p.value))
+    (λ ms. object_events p (member_at p (codes "type")) (member_at p (codes "object"))) es h in
+    object_events_read p (member_at p (codes "type")) (member_at p (codes "object")) es next

@@ -1,0 +1,4 @@
+pub mod Bounds
+pub mod BoundLaws
+pub mod TableLaws
+pub mod ShownLaws
