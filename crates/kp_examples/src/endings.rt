@@ -15,6 +15,9 @@ const SYNCED: &str =
 const USAGE: &str =
     "usage: kproxy replay [--workers N] | kproxy live | kproxy gen SEED SERVICES PODS\n";
 
+const SUMS: &str =
+    "gen: events 5, syncs 2, packets 16, to 0, rejected 16, dropped 0, left alone 0, written 1, removed 0\n";
+
 /// A run on these words prints this and ends so.
 fn check_words(
     rt: &impl Abort,
@@ -50,6 +53,7 @@ fn words_choose_what_is_done(rt: HostRuntime) -> Result<(), Fail> {
         USAGE,
         Status::Usage,
     )?;
+    check_words(&rt, alloc, "kproxy gen 1 2 0", SUMS, Status::Done)?;
     check_words(&rt, alloc, "kproxy live", USAGE, Status::Usage)?;
     check_words(&rt, alloc, "kproxy", USAGE, Status::Usage)
 }

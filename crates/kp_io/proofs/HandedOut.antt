@@ -1,17 +1,18 @@
 -- What a reader has given of a text, from one call to the next. A caller's loop keeps `HandedOut` of what it has
 -- been given: it starts with nothing, each line adds one, and at the end it is all.
-use Rattle.std.proofs.Common.{◌≡◌, ℕ, zero, suc, ◌+◌, ◌-◌, ◌<◌, Bool, true, false, cond, List, [], ◌∷◌, ◌++◌, length, take, Option, None, Some, IfSome, refl, ap, sym, ◌∙◌, append_assoc, append-nil, arith}
+use Rattle.std.proofs.Common.{◌≡◌, ℕ, zero, suc, ◌+◌, ◌-◌, ◌<◌, Bool, true, false, cond, List, [], ◌∷◌, ◌++◌, length, take, drop, Option, None, Some, IfSome, refl, ap, sym, ◌∙◌, append_assoc, append-nil, length-append, add-zero, arith}
 use Rattle.std.specs.Prelude.{map, count_by}
 use Rattle.std.specs.List.{list_any, slice_split, onto_first}
 use Rattle.std.proofs.Math.Seq.{take-append_seam}
-use Rattle.std.proofs.lemmas.List.{take-map}
+use Rattle.std.proofs.lemmas.List.{take-map, take-append-drop}
 use Rattle.std.proofs.lemmas.List.Splits.{slice_split-cons_yes, slice_split-cons_no, length-slice_split}
 use Rattle.std.proofs.lemmas.List.Sums.{sum_by-cons}
 use Rattle.kp_io.specs.Lines.{is_line_feed, without_empty_last, lines_of, ended_lines, given_of, given_lines}
-use Rattle.kp_io.specs.Reader.{HandedOut, fresh_reader, to_come, up_to, feeds_up_to}
+use Rattle.kp_io.specs.Reader.{HandedOut, GivesEnded, LosesTaken, fresh_reader, to_come, up_to, feeds_up_to}
 use Rattle.kp_io.specs.Told.{FromTold}
 use Rattle.kp_io.proofs.FeedLemmas.{feeds-append, feeds_none}
 use Rattle.kp_io.proofs.LineLemmas.{without_empty_last-more}
+use Rattle.kp_io.proofs.Told.{FromTold-trans}
 
 -- a fresh reader has given nothing
 pub handed_none : (left : Option (List ℕ)) → HandedOut [] left (to_come fresh_reader left)
@@ -120,3 +121,51 @@ lines_are_feeds limit number taken was held left size feeds none =
   where
     counted : (a b c n : ℕ) → a + c ≡ (b + c) + n → b ≡ 0 → n ≡ a
     counted a b c n e f = omega (arith, e, f)
+
+-- ---- A caller's loop up to a fault
+
+-- nothing was taken yet
+pub taken_none : (left : Option (List ℕ)) → FromTold (LosesTaken 0 0) left left
+taken_none None = tt
+taken_none (Some text) = record { bytes = []; front = refl; size = omega arith }
+
+-- what one more call took
+pub taken_more : (taken now : ℕ) (first left next : Option (List ℕ)) → FromTold (LosesTaken 0 taken) first left → FromTold (LosesTaken taken now) left next → FromTold (LosesTaken 0 now) first next
+taken_more taken now first left next =
+    FromTold-trans (LosesTaken 0 taken) (LosesTaken taken now) (LosesTaken 0 now)
+    (λ xs ys zs p q. record {
+      bytes = p.bytes ++ q.bytes;
+      front = p.front ∙ ap (λ l. p.bytes ++ l) q.front ∙ sym (append_assoc p.bytes q.bytes zs);
+      size = omega (arith, p.size, q.size, length-append p.bytes q.bytes);
+    }) first left next
+
+module _ (limit : ℕ) where
+  -- no line came yet
+  pub feeds_none_yet : (left : Option (List ℕ)) → FromTold (λ xs ys. feeds_up_to limit [] 0 xs ≡ feeds_up_to limit [] 0 ys + 0) left left
+  feeds_none_yet None = tt
+  feeds_none_yet (Some text) = sym (add-zero (feeds_up_to limit [] 0 text))
+
+  -- the lines of one more call
+  pub feeds_next : (held now : List ℕ) (taken later number next : ℕ) (first left end : Option (List ℕ)) → FromTold (λ xs ys. feeds_up_to limit [] 0 xs ≡ feeds_up_to limit held taken ys + number) first left
+      → FromTold (λ xs ys. feeds_up_to limit held taken xs + number ≡ feeds_up_to limit now later ys + next) left end → FromTold (λ xs ys. feeds_up_to limit [] 0 xs ≡ feeds_up_to limit now later ys + next) first end
+  feeds_next held now taken later number next first left end =
+      FromTold-trans (λ xs ys. feeds_up_to limit [] 0 xs ≡ feeds_up_to limit held taken ys + number)
+      (λ xs ys. feeds_up_to limit held taken xs + number ≡ feeds_up_to limit now later ys + next)
+      (λ xs ys. feeds_up_to limit [] 0 xs ≡ feeds_up_to limit now later ys + next) (λ xs ys zs p q. p ∙ q) first left end
+
+  -- by a fault the lines were given that end in the bytes taken
+  pub handed_at_fault : (given : List (Option (List ℕ))) (number taken : ℕ) (held : List ℕ) (first : Option (List ℕ)) (come : Option (List (Option (List ℕ)))) (left : Option (List ℕ)) → HandedOut given first come → length given ≡ number
+      → FromTold (LosesTaken 0 taken) first left → FromTold (λ xs ys. feeds_up_to limit [] 0 xs ≡ feeds_up_to limit held taken ys + number) first left → list_any is_line_feed (up_to limit held taken []) ≡ false → FromTold (GivesEnded limit given) first left
+  handed_at_fault given number taken held None come left handed count took feeds none = tt
+  handed_at_fault given number taken held (Some text) None left handed count took feeds none = absurd handed
+  handed_at_fault given number taken held (Some text) (Some come) None handed count took feeds none = absurd took
+  handed_at_fault given number taken held (Some text) (Some come) (Some rest) handed count took feeds none =
+      let lost = took.bytes in
+      let size : length lost ≡ taken = omega (arith, took.size) in
+      let lines = lines_are_feeds limit number taken lost held rest size (ap (feeds_up_to limit [] 0) (sym took.front) ∙ feeds) none in
+      let whole = sym (append_assoc (take limit lost) (drop limit lost) rest) ∙ ap (λ l. l ++ rest) (take-append-drop limit lost) ∙ sym took.front in
+      record {
+        lost = lost;
+        front = took.front;
+        ended = handed_before given come (take limit lost) (drop limit lost ++ rest) (ap given_lines whole ∙ handed) (count ∙ lines);
+      }

@@ -1,8 +1,8 @@
 -- A reader of lines, over a source of bytes (this project's choice).
-use Rattle.std.specs.Prelude.{◌≡◌, ℕ, ◌+◌, ◌-◌, ◌≤◌, ◌<◌, ◌↔◌, ◌||◌, nat_lt, Bool, true, false, if◌then◌else◌, List, [], ◌∷◌, ◌++◌, length, take, count_by, Option, None, Some, option_map, Result, Ok, Err, IsErrOf}
+use Rattle.std.specs.Prelude.{◌≡◌, ℕ, ◌+◌, ◌-◌, ◌≤◌, ◌<◌, ◌↔◌, ◌||◌, nat_lt, Bool, true, false, if◌then◌else◌, List, [], ◌∷◌, ◌++◌, length, map, take, count_by, Option, None, Some, option_map, Result, Ok, Err, IsErrOf}
 use Rattle.std.specs.List.{list_any, after_first}
 use Rattle.kp_io.specs.Faults.{Rose}
-use Rattle.kp_io.specs.Lines.{is_line_feed, given_lines}
+use Rattle.kp_io.specs.Lines.{is_line_feed, ended_lines, given_of, given_lines}
 use Rattle.kp_io.specs.Told.{FromTold}
 use Rattle.kp_io.specs.declared.chunk.TheConstants.{BUFFER_SIZE}
 use Rattle.kp_io.specs.declared.next_line.TheConstants.{INPUT_LIMIT, LINE_LIMIT}
@@ -55,9 +55,9 @@ Answers (Err ReadFault) line before after = FromTold (λ old new. new ≡ old) b
 Answers (Err InputTooLong) line before after = FromTold (λ old new. new ≡ old) before after
 Answers (Err NoMemory) line before after = FromTold (λ old new. new ≡ old) before after
 
--- the number of the line before stays, and there is no last line
+-- the number of the line before stays, there is no last line, and the end was not met
 abbrev pub Stays : ReaderState → ReaderState → Type 0
-Stays old new = (new.number ≡ old.number) × (new.line ≡ [])
+Stays old new = (new.number ≡ old.number) × (new.line ≡ []) × (new.ended ≡ false)
 
 -- the lines have numbers from 1, too long ones too, and the end tells the last one; after another answer
 -- than a line there is no last line
@@ -122,6 +122,12 @@ TakesFeeds old new before after =
 -- no whole line is held of the input up to the limit
 abbrev pub HoldsNoLine : List ℕ → ℕ → Type 0
 HoldsNoLine held taken = list_any is_line_feed (up_to INPUT_LIMIT held taken []) ≡ false
+
+-- this was given of the lines that ended in the bytes that a text lost, as far as these stand within a limit
+pub record GivesEnded (limit : ℕ) (given : List (Option (List ℕ))) (text rest : List ℕ) : Type 0 where
+  pub lost : List ℕ
+  pub front : text ≡ lost ++ rest
+  pub ended : given ≡ map given_of (ended_lines (take limit lost))
 
 -- By a fault of reading or of the input's length all whole lines of what was taken have been handed out.
 pub record HandsOutBefore {T : Type 0} (result : Result T LineFault) (held : List ℕ) (taken : ℕ) : Type 0 where

@@ -1,21 +1,22 @@
 -- How far the program has come, from one line to the next.
-use Rattle.std.proofs.Common.{◌≡◌, ◌+◌, ◌<◌, ◌≤◌, length, arith, ℕ, suc, Bool, true, false, cond, List, [], ◌∷◌, ◌++◌, map, take, drop, ap, sym, refl, ◌∙◌, subst, add-one, append-nil, append_assoc, take-append-drop, length-append}
+use Rattle.std.proofs.Common.{◌≡◌, ◌+◌, ◌<◌, ◌≤◌, length, arith, ℕ, suc, Bool, true, false, cond, List, [], ◌∷◌, ◌++◌, map, take, drop, ap, sym, refl, ◌∙◌, subst, add-one, add-zero, zero-add, append-nil, append_assoc, take-append-drop, length-append}
 use Rattle.std.specs.Prelude.{Option, Some, None, IfSome, Result, OnErr, ◌||◌, nat_lt}
 use Rattle.std.specs.Io.KnownBytes.{IsAtEnd}
 use Rattle.std.specs.List.{fold}
 use Rattle.std.proofs.Math.Seq.{take-append_seam}
 use Rattle.std.proofs.lemmas.List.Sums.{fold-append}
 use Rattle.kp_io.specs.Told.{Grows, FromTold}
-use Rattle.kp_io.specs.Lines.{lines_of, given_of, given_lines}
-use Rattle.kp_io.specs.Reader.{ReaderState, LosesTaken, fresh_reader, to_come, HandedOut, answers_unasked}
+use Rattle.kp_io.specs.Lines.{lines_of, ended_lines, given_of, given_lines}
+use Rattle.kp_io.specs.Reader.{ReaderState, LosesTaken, GivesEnded, TakesFeeds, HoldsNoLine, fresh_reader, to_come, feeds_up_to, HandedOut, answers_unasked}
 use Rattle.kp_io.specs.declared.next_line.TheConstants.{INPUT_LIMIT, LINE_LIMIT}
-use Rattle.kp_io.proofs.HandedOut.{handed_none, handed_given, handed_all}
-use Rattle.kp_io.proofs.Told.{Grows-nil, Grows-trans, FromTold-trans}
+use Rattle.kp_io.proofs.HandedOut.{handed_none, handed_given, handed_all, handed_at_fault, taken_more, feeds_none_yet, feeds_next}
+use Rattle.kp_io.proofs.Told.{Grows-nil, Grows-trans, FromTold-map}
 use Rattle.kp_text_defs.specs.declared.line_refusal.LineRefusal.TheVariants.{TooLongLine}
-use Rattle.kp_run_defs.specs.ReplayText.{Standing, Line, Progress, beginning, at_start, with_line, after_line, replay_of, line_at, refuse, short_line}
-use Rattle.kp_run.specs.Outcome.{Come, TakesLine, WritesAll, WritesFront, GrowsFront}
-use Rattle.kp_run.specs.Steps.{IsReady, given_line, after_given, replay_given}
-use Rattle.kp_run.proofs.FirstLines.{next_ready}
+use Rattle.kp_run_defs.specs.ReplayText.{Standing, Progress, beginning, at_start, with_line, after_line, replay_of, line_at, refuse, short_line}
+use Rattle.kp_replay.specs.Steps.{IsReady, given_line}
+use Rattle.kp_replay.proofs.FirstLines.{next_ready}
+use Rattle.kp_run.specs.Given.{after_given, replay_given}
+use Rattle.kp_run.specs.Outcome.{Come, TakesLine, WritesAll, WritesEnded, WritesFront, WritesRead, GrowsFront}
 
 -- ---- Lines and lines as they are given
 
@@ -68,7 +69,7 @@ come_more s new n number one left rest after written now later come count loses 
     }
 
 finished : (limit taken : ℕ) (s : Standing) (left end written now : Option (List ℕ)) (given : List (Option (List ℕ))) → limit ≡ INPUT_LIMIT → s ≡ (replay_given given).at → Grows written now (replay_given given).text → IfSome left (λ text. given_lines text ≡ given)
-    → FromTold (λ xs ys. length xs ≡ length ys + taken) left end → IsAtEnd end → taken ≤ limit → IfSome left (λ text. WritesAll s.refused text written now)
+    → FromTold (LosesTaken 0 taken) left end → IsAtEnd end → taken ≤ limit → IfSome left (λ text. WritesAll s.refused text written now)
 finished limit taken s None end written now given same st grown all took ended short = tt
 finished limit taken s (Some text) None written now given same st grown all took ended short = absurd took
 finished limit taken s (Some text) (Some ys) written now given same st grown all took ended short =
@@ -76,12 +77,12 @@ finished limit taken s (Some text) (Some ys) written now given same st grown all
     record {
       grown = subst (λ p. Grows written now p.text) (sym whole) grown;
       told = ap (λ t. t.refused) st ∙ ap (λ p. p.at.refused) (sym whole);
-      short = subst (λ l. length text ≤ l) same (omega (arith, took, ap length ended, short));
+      short = subst (λ l. length text ≤ l) same (omega (arith, ap length took.front ∙ length-append took.bytes ys, took.size, ap length ended, short));
     }
 
 -- at the end
 pub come_all : (s : Standing) (n taken : ℕ) (left : Option (List ℕ)) (rest after : Option (List (Option (List ℕ)))) (end written now : Option (List ℕ)) → Come s n left rest written now → FromTold (λ old new. (old ≡ []) × (new ≡ [])) rest after
-    → FromTold (λ xs ys. length xs ≡ length ys + taken) left end → IsAtEnd end → taken ≤ INPUT_LIMIT → IfSome left (λ text. WritesAll s.refused text written now)
+    → FromTold (LosesTaken 0 taken) left end → IsAtEnd end → taken ≤ INPUT_LIMIT → IfSome left (λ text. WritesAll s.refused text written now)
 come_all s n taken left rest after end written now come ended took is_end short =
     finished INPUT_LIMIT taken s left end written now come.given refl come.stands come.grown (handed_all come.given left rest after come.handed ended) took is_end short
 
@@ -145,24 +146,62 @@ come_part s n number one left rest after written now later come count loses fron
 
 -- ---- What was taken
 
--- nothing was taken yet
-pub taken_none : (left : Option (List ℕ)) → FromTold (λ xs ys. length xs ≡ length ys + 0) left left
-taken_none None = tt
-taken_none (Some xs) = omega arith
-
-longer : (x y z bytes : List ℕ) (old new : ℕ) → length x ≡ length y + old → y ≡ bytes ++ z → old + length bytes ≡ new → length x ≡ length z + new
-longer x y z bytes old new e front size = omega (arith, e, ap length front ∙ length-append bytes z, size)
-
--- what one more call took
-pub taken_more : (a b c : Option (List ℕ)) (old new : ℕ) → FromTold (λ xs ys. length xs ≡ length ys + old) a b → FromTold (LosesTaken old new) b c → FromTold (λ xs ys. length xs ≡ length ys + new) a c
-taken_more a b c old new p q =
-    FromTold-trans (λ xs ys. length xs ≡ length ys + old) (LosesTaken old new) (λ xs ys. length xs ≡ length ys + new) (λ x y z e l. longer x y z l.bytes old new e l.front l.size) a b c p q
-
 -- an input of which more than the limit was taken is longer than that
-pub too_long : (limit : ℕ) (a c : Option (List ℕ)) (new : ℕ) → FromTold (λ xs ys. length xs ≡ length ys + new) a c → limit < new → IfSome a (λ text. limit < length text)
+pub too_long : (limit : ℕ) (a c : Option (List ℕ)) (new : ℕ) → FromTold (LosesTaken 0 new) a c → limit < new → IfSome a (λ text. limit < length text)
 too_long limit None c new p h = tt
 too_long limit (Some xs) None new p h = absurd p
-too_long limit (Some xs) (Some ys) new p h = omega arith
+too_long limit (Some xs) (Some ys) new p h =
+    omega (arith, ap length p.front ∙ length-append p.bytes ys, p.size, h)
+
+-- as many lines came as line feeds no longer come
+abbrev pub CountsFeeds : ReaderState → Option (List ℕ) → Option (List ℕ) → Type 0
+CountsFeeds reader first left =
+    FromTold (λ xs ys. feeds_up_to INPUT_LIMIT [] 0 xs ≡ feeds_up_to INPUT_LIMIT reader.held reader.taken ys + reader.number) first left
+
+-- before the first line
+pub counts_none : (reader : ReaderState) (left : Option (List ℕ)) → reader ≡ fresh_reader → CountsFeeds reader left left
+counts_none reader left fresh = subst (λ r. CountsFeeds r left left) (sym fresh) (feeds_none_yet INPUT_LIMIT left)
+
+-- one more call
+pub counts_more : (old new : ReaderState) (first left end : Option (List ℕ)) → CountsFeeds old first left → TakesFeeds old new left end → CountsFeeds new first end
+counts_more old new first left end counts takes =
+    feeds_next INPUT_LIMIT old.held new.held old.taken new.taken old.number new.number first left end counts takes
+
+numbers : (p : Progress) (given : List (Option (List ℕ))) → (fold after_given p given).number ≡ length given + p.number
+numbers p [] = sym (zero-add p.number)
+numbers p (one ∷ ones) = numbers (after_given p one) ones ∙ one_later (length ones) p.number
+  where
+    one_later : (a b : ℕ) → a + suc b ≡ suc a + b
+    one_later a b = omega arith
+
+-- as many lines were given as there were
+given_number : (given : List (Option (List ℕ))) (number : ℕ) → (replay_given given).number ≡ number → length given ≡ number
+given_number given number h = sym (add-zero (length given)) ∙ sym (numbers at_start given) ∙ h
+
+-- the text of the lines that ended in what was taken
+ended_text : (given : List (Option (List ℕ))) (lines : List (List ℕ)) → given ≡ map given_of lines → replay_of lines ≡ replay_given given
+ended_text given lines all = lines_given at_start lines ∙ ap replay_given (sym all)
+
+written_up_to : (limit : ℕ) (given : List (Option (List ℕ))) (first left written now : Option (List ℕ)) → Grows written now (replay_given given).text → FromTold (GivesEnded limit given) first left → FromTold (WritesEnded limit written now) first left
+written_up_to limit given first left written now grown =
+    FromTold-map (GivesEnded limit given) (WritesEnded limit written now)
+    (λ xs ys g. record {
+      lost = g.lost;
+      front = g.front;
+      grown = subst (λ p. Grows written now p.text) (sym (ended_text given (ended_lines (take limit g.lost)) g.ended)) grown;
+    }) first left
+
+-- where reading stops, exactly the text of the lines was written that ended in what was read
+pub come_ended : (old new : ReaderState) (s : Standing) (rest : Option (List (Option (List ℕ)))) (first left end written now : Option (List ℕ)) → Come s old.number first rest written now
+    → FromTold (LosesTaken 0 old.taken) first left → CountsFeeds old first left → new.number ≡ old.number → FromTold (LosesTaken old.taken new.taken) left end → TakesFeeds old new left end → HoldsNoLine new.held new.taken → WritesRead first end written now
+come_ended old new s rest first left end written now come taken counts same loses takes none =
+    written_up_to INPUT_LIMIT come.given first end written now come.grown
+    (handed_at_fault INPUT_LIMIT come.given new.number new.taken new.held first rest end come.handed
+    (given_number come.given new.number (come.counted ∙ sym same))
+    (taken_more old.taken new.taken first left end taken loses)
+    (counts_more old new first left end counts takes) none)
+
+-- ---- Small steps
 
 -- a front of one text is a front of the same text
 pub front_as : {T E : Type 0} (result : Result T E) (written now : Option (List ℕ)) (x y : List ℕ) → x ≡ y → OnErr result (GrowsFront written now x) → OnErr result (GrowsFront written now y)

@@ -1,6 +1,4 @@
 pub mod ComeLemmas
-pub mod DrawLemmas
-pub mod FirstLines
-pub mod OpLemmas
-pub mod TrailLemmas
-pub mod UsageLemmas
+pub mod EndLemmas
+pub mod PlanLemmas
+pub mod SumLemmas

@@ -1,3 +1,4 @@
 pub mod Codes
+pub mod Given
 pub mod Outcome
-pub mod Steps
+pub mod Sums

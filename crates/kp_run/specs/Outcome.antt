@@ -1,17 +1,20 @@
 -- What a replay has written, and how it ends.
-use Rattle.std.specs.Prelude.{◌≡◌, ◌<◌, ◌≤◌, ℕ, Bool, true, false, List, length, take, Option, Some, None, IfSome, ◌⊎◌}
-use Rattle.kp_io.specs.Told.{Grows, IsFlushed}
-use Rattle.kp_io.specs.Lines.{lines_of}
+use Rattle.std.specs.Prelude.{◌≡◌, ◌<◌, ◌≤◌, ◌++◌, ℕ, Bool, true, false, List, length, take, Option, Some, None, IfSome, ◌⊎◌}
+use Rattle.kp_io.specs.Told.{FromTold, Grows, IsFlushed}
+use Rattle.kp_io.specs.Lines.{lines_of, ended_lines}
 use Rattle.kp_io.specs.Reader.{HandedOut}
 use Rattle.kp_io.specs.Faults.{Rose}
 use Rattle.kp_io.specs.declared.next_line.TheConstants.{INPUT_LIMIT}
 use Rattle.kp_words.specs.declared.mode.Mode.{Mode}
 use Rattle.kp_words.specs.declared.mode.Mode.TheVariants as mode
 use Rattle.kp_text_defs.specs.Printed.{usage_text}
+use Rattle.kp_gen_defs.specs.declared.plan.ScriptPlan.{ScriptPlan}
+use Rattle.kp_run_defs.specs.GenText.{gen_of, gen_text}
 use Rattle.kp_run_defs.specs.ReplayText.{Standing, Line, replay_of}
 use Rattle.kp_run.specs.declared.status.Status.{Status}
 use Rattle.kp_run.specs.declared.status.Status.TheVariants.{Done, NoMemory, Usage, LinesRefused, ReadFault, WriteFault, InputTooLong}
-use Rattle.kp_run.specs.Steps.{IsReady, replay_given}
+use Rattle.kp_replay.specs.Steps.{IsReady}
+use Rattle.kp_run.specs.Given.{replay_given}
 
 -- ---- On the way
 
@@ -44,6 +47,17 @@ GrowsFront written now text = (n : ℕ) × Grows written now (take n text)
 -- a front of the whole text of an input, where that is told, was written
 abbrev pub WritesFront : Option (List ℕ) → Option (List ℕ) → Option (List ℕ) → Type 0
 WritesFront left written now = IfSome left (λ text. GrowsFront written now (replay_of (lines_of text)).text)
+
+-- What was written is the text of the lines that a line feed ends in the bytes that an input lost, as far as these
+-- stand within a limit.
+pub record WritesEnded (limit : ℕ) (written now : Option (List ℕ)) (text rest : List ℕ) : Type 0 where
+  pub lost : List ℕ
+  pub front : text ≡ lost ++ rest
+  pub grown : Grows written now (replay_of (ended_lines (take limit lost))).text
+
+-- where the input is told, exactly the text of the lines was written that ended in what was read of it
+abbrev pub WritesRead : Option (List ℕ) → Option (List ℕ) → Option (List ℕ) → Option (List ℕ) → Type 0
+WritesRead left end written now = FromTold (WritesEnded INPUT_LIMIT written now) left end
 
 -- an input has more bytes than may be read
 abbrev pub IsTooLong : Option (List ℕ) → Type 0
@@ -84,28 +98,39 @@ ends_of from to = record { input = from; output = to }
 abbrev pub IsOut : Output → Type 0
 IsOut now = IsFlushed now.flushed now.written
 
--- the whole text was written and flushed, and this is whether a line was refused
+-- neither reading nor writing has failed since
+abbrev pub IsSure : Outside → Outside → Type 0
+IsSure old new = (new.input.faults ≡ old.input.faults) × (new.output.faults ≡ old.output.faults)
+
+-- the whole text was written and flushed, this is whether a line was refused, and nothing failed
 abbrev pub EndsWhole : Bool → Outside → Outside → Type 0
 EndsWhole refused old new =
     IfSome old.input.left (λ text. WritesAll refused text old.output.written new.output.written) × IsOut new.output
+    × IsSure old new
 
 -- a front of the whole text was written
 abbrev pub EndsFront : Outside → Outside → Type 0
 EndsFront old new = WritesFront old.input.left old.output.written new.output.written
 
+-- exactly the text of the lines was written that ended in what was read, and it is flushed
+abbrev pub EndsRead : Outside → Outside → Type 0
+EndsRead old new =
+    WritesRead old.input.left new.input.left old.output.written new.output.written × IsOut new.output
+
 -- What holds of each status: where the run read its input to its end and wrote all, the whole text was written
--- and flushed, and whether a line was refused is told; else a front of that text was written, which is flushed
--- where reading stopped the run. A fault of a read or a write is told only where the count of faults rose, and an
--- input that is too long only where it is. Want of memory is free.
+-- and flushed, whether a line was refused is told, and no read or write has failed; else a front of that text was
+-- written, and where reading stopped the run, it is the text of the lines that were read to their end, flushed. A
+-- fault of a read or a write is told only where the count of faults rose, and an input that is too long only where
+-- it is. Want of memory is free.
 abbrev pub Ends : Status → Outside → Outside → Type 0
 Ends Done old new = EndsWhole false old new
 Ends LinesRefused old new = EndsWhole true old new
 Ends NoMemory old new = EndsFront old new
 Ends Usage old new = ⊥
 Ends ReadFault old new =
-    Rose old.input.faults new.input.faults × EndsFront old new × IsOut new.output
+    Rose old.input.faults new.input.faults × EndsFront old new × EndsRead old new
 Ends WriteFault old new = Rose old.output.faults new.output.faults × EndsFront old new
-Ends InputTooLong old new = IsTooLong old.input.left × EndsFront old new × IsOut new.output
+Ends InputTooLong old new = IsTooLong old.input.left × EndsFront old new × EndsRead old new
 
 -- the status of an input that was read to its end
 abbrev pub status_if : Bool → Status
@@ -127,16 +152,41 @@ EndsUsage LinesRefused old new = ⊥
 EndsUsage ReadFault old new = ⊥
 EndsUsage InputTooLong old new = ⊥
 
+-- ---- The generator
+
+-- the line was written and flushed, and nothing failed
+abbrev pub EndsPrinted : List ℕ → Output → Output → Type 0
+EndsPrinted line old new = Grows old.written new.written line × IsOut new × (new.faults ≡ old.faults)
+
+-- how a run ends that writes one line: it was written and flushed, and whether a line of the script was refused is
+-- told, or a write failed or memory was wanted behind a front of it
+abbrev pub EndsLine : Bool → List ℕ → Status → Output → Output → Type 0
+EndsLine refused line Done old new = (refused ≡ false) × EndsPrinted line old new
+EndsLine refused line LinesRefused old new = (refused ≡ true) × EndsPrinted line old new
+EndsLine refused line NoMemory old new = GrowsFront old.written new.written line
+EndsLine refused line Usage old new = ⊥
+EndsLine refused line ReadFault old new = ⊥
+EndsLine refused line WriteFault old new =
+    Rose old.faults new.faults × GrowsFront old.written new.written line
+EndsLine refused line InputTooLong old new = ⊥
+
+-- how a run of the generator ends
+abbrev pub EndsGen : ScriptPlan → Status → Output → Output → Type 0
+EndsGen plan status old new = EndsLine (gen_of plan).at.refused (gen_text plan) status old new
+
 -- ---- By words
 
--- the words ask for a replay; the other modes are not served yet
+-- the words ask for a replay, which alone reads the source
 abbrev pub asks_replay : Option Mode → Bool
 asks_replay None = false
 asks_replay (Some (mode.Replay workers)) = true
 asks_replay (Some mode.Live) = false
 asks_replay (Some (mode.Gen seed services pods)) = false
 
--- how a run ends: as a replay, where the words ask for one, or else with the usage line
-abbrev pub Runs : Bool → Status → Outside → Outside → Type 0
-Runs true status old new = Ends status old new
-Runs false status old new = EndsUsage status old.output new.output
+-- how a run ends, by what the words ask for; `live` is not served yet
+abbrev pub Runs : Option Mode → Status → Outside → Outside → Type 0
+Runs None status old new = EndsUsage status old.output new.output
+Runs (Some (mode.Replay workers)) status old new = Ends status old new
+Runs (Some mode.Live) status old new = EndsUsage status old.output new.output
+Runs (Some (mode.Gen seed services pods)) status old new =
+    EndsGen (record { seed = seed; services = services; pods = pods }) status old.output new.output

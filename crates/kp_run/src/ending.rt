@@ -24,6 +24,7 @@ pub(crate) fn write_text<K: Sink>(sink: &mut K, text: &[u8]) -> Result<(), Stop>
     ensures front { OnErr result
         (outcome.GrowsFront (K.written sink.old) (K.written sink.new) text.now) }
     ensures later { K.faults sink.old ≤ K.faults sink.new }
+    ensures sure { OnOk result (K.faults sink.new ≡ K.faults sink.old) }
     ensures write { result ≡ Err Stop.Write → Rose (K.faults sink.old) (K.faults sink.new) }
     ensures other { (stop : Stop) → result ≡ Err stop → stop ≡ Stop.Write }
 {
@@ -49,7 +50,8 @@ pub(crate) fn flushed<K: Sink>(sink: &mut K, status: Status) -> Status
     ensures kept { Grows (K.written sink.old) (K.written sink.new) [] }
     ensures later { K.faults sink.old ≤ K.faults sink.new }
     ensures cases { outcome.IsStatusOr result status
-        (IsFlushed (K.flushed sink.new) (K.written sink.new))
+        (IsFlushed (K.flushed sink.new) (K.written sink.new)
+        × (K.faults sink.new ≡ K.faults sink.old))
         (Rose (K.faults sink.old) (K.faults sink.new)) }
 {
     match sink.flush() {

@@ -2,15 +2,13 @@
 #![tactic(auto)]
 
 mod ending;
+mod generated;
+pub mod laws;
 mod lines;
-mod packets;
 mod program;
-mod replay;
-mod shown;
 mod status;
-mod syncs;
 
+pub use kp_replay::Replay;
 pub use lines::replay_one;
 pub use program::run;
-pub use replay::Replay;
 pub use status::Status;

@@ -4,14 +4,14 @@ ghost use Rattle.kp_io.specs.Faults.{Rose};
 ghost use Rattle.kp_io.specs.Reader.{fresh_reader};
 ghost use Rattle.kp_run_defs.specs.ReplayText as spec;
 ghost use Rattle.kp_run.specs.Outcome as outcome;
-ghost use Rattle.kp_run.specs.Steps.{standing_of, given_line, IsReady};
+ghost use Rattle.kp_replay.specs.Steps.{standing_of, given_line, IsReady};
 ghost use Rattle.kp_run.specs.declared.ending.Stop.{Stop};
 
 use crate::ending::{Stop, flushed, if_refused, write_text};
-use crate::replay::Replay;
 use crate::status::Status;
 use kp_base::NoMemory;
 use kp_io::{LineFault, LineReader, NextLine, Sink, Source};
+use kp_replay::Replay;
 use std::alloc::Global;
 
 /// Replays the lines of a source, and writes what they print to a sink. It waits for nobody.
@@ -38,24 +38,35 @@ fn replay_all<S: Source, K: Sink>(alloc: Global, source: &mut S, sink: &mut K) -
     ensures all { IfOk result (λ refused. IfSome (S.left source.old)
         (λ text. outcome.WritesAll refused text (K.written sink.old) (K.written sink.new))) }
     ensures later { K.faults sink.old ≤ K.faults sink.new }
+    ensures sure { IfOk result (λ _refused. (S.faults source.new ≡ S.faults source.old)
+        × (K.faults sink.new ≡ K.faults sink.old)) }
     ensures read_later { S.faults source.old ≤ S.faults source.new }
     ensures write { result ≡ Err Stop.Write → Rose (K.faults sink.old) (K.faults sink.new) }
     ensures read { result ≡ Err Stop.Read → Rose (S.faults source.old) (S.faults source.new) }
     ensures long { result ≡ Err Stop.InputTooLong → outcome.IsTooLong (S.left source.old) }
+    ensures ended_read { result ≡ Err Stop.Read → outcome.WritesRead
+        (S.left source.old) (S.left source.new) (K.written sink.old) (K.written sink.new) }
+    ensures ended_long { result ≡ Err Stop.InputTooLong → outcome.WritesRead
+        (S.left source.old) (S.left source.new) (K.written sink.old) (K.written sink.new) }
 {
     let (mut replay, mut reader) = match begin(alloc) {
         Ok(both) => both,
         Err(_) => return Err(Stop::NoMemory),
     };
-    replay_lines(alloc, &mut replay, &mut reader, source, sink)?;
-    Ok(replay.refused)
+    let all = replay_lines(alloc, &mut replay, &mut reader, source, sink);
+    let refused = replay.end();
+    match all {
+        Ok(()) => Ok(refused),
+        Err(stop) => Err(stop),
+    }
 }
 
+/// A replay and a reader before the first line.
 fn begin(alloc: Global) -> Result<(Replay, LineReader), NoMemory>
     ensures { IfOk result (λ b. (standing_of b.0 ≡ spec.beginning) × (b.1 ≡ fresh_reader)) }
 {
-    let replay = Replay::new(alloc)?;
     let reader = LineReader::new(alloc)?;
+    let replay = Replay::new(alloc)?;
     Ok((replay, reader))
 }
 
@@ -72,13 +83,19 @@ fn replay_lines<S: Source, K: Sink>(
     ensures front { outcome.WritesFront (S.left source.old)
         (K.written sink.old) (K.written sink.new) }
     ensures all { OnOk result (IfSome (S.left source.old)
-        (λ text. outcome.WritesAll replay.new.refused text
+        (λ text. outcome.WritesAll (standing_of replay.new).refused text
         (K.written sink.old) (K.written sink.new))) }
     ensures later { K.faults sink.old ≤ K.faults sink.new }
+    ensures sure { OnOk result ((S.faults source.new ≡ S.faults source.old)
+        × (K.faults sink.new ≡ K.faults sink.old)) }
     ensures read_later { S.faults source.old ≤ S.faults source.new }
     ensures write { result ≡ Err Stop.Write → Rose (K.faults sink.old) (K.faults sink.new) }
     ensures read { result ≡ Err Stop.Read → Rose (S.faults source.old) (S.faults source.new) }
     ensures long { result ≡ Err Stop.InputTooLong → outcome.IsTooLong (S.left source.old) }
+    ensures ended_read { result ≡ Err Stop.Read → outcome.WritesRead
+        (S.left source.old) (S.left source.new) (K.written sink.old) (K.written sink.new) }
+    ensures ended_long { result ≡ Err Stop.InputTooLong → outcome.WritesRead
+        (S.left source.old) (S.left source.new) (K.written sink.old) (K.written sink.new) }
 {
     let mut text = String::new(alloc);
     'lines: loop {
@@ -113,6 +130,7 @@ fn replay_line<K: Sink>(
     ensures front { OnErr result (outcome.GrowsFront (K.written sink.old) (K.written sink.new)
         (given_line number (Some bytes.now) (standing_of replay.old)).text) }
     ensures later { K.faults sink.old ≤ K.faults sink.new }
+    ensures sure { OnOk result (K.faults sink.new ≡ K.faults sink.old) }
     ensures write { result ≡ Err Stop.Write → Rose (K.faults sink.old) (K.faults sink.new) }
     ensures read { result ≡ Err Stop.Read → ⊥ }
     ensures long { result ≡ Err Stop.InputTooLong → ⊥ }
@@ -138,6 +156,7 @@ fn replay_long_line<K: Sink>(
     ensures front { OnErr result (outcome.GrowsFront (K.written sink.old) (K.written sink.new)
         (given_line number None (standing_of replay.old)).text) }
     ensures later { K.faults sink.old ≤ K.faults sink.new }
+    ensures sure { OnOk result (K.faults sink.new ≡ K.faults sink.old) }
     ensures write { result ≡ Err Stop.Write → Rose (K.faults sink.old) (K.faults sink.new) }
     ensures read { result ≡ Err Stop.Read → ⊥ }
     ensures long { result ≡ Err Stop.InputTooLong → ⊥ }

@@ -4,22 +4,25 @@ ghost use Rattle.kp_words.specs.Words.{mode_of};
 ghost use Rattle.kp_run.specs.Outcome as outcome;
 
 use crate::ending::usage;
+use crate::generated::generate;
 use crate::lines::replay_one;
 use crate::status::Status;
+use kp_gen::ScriptPlan;
 use kp_io::{Sink, Source};
 use kp_words::{Mode, read_words};
 use std::alloc::Global;
 
 /// Runs the program on its words, of which the first is its name. For `replay` it reads the lines
-/// of the source to its end, and writes what they print to the sink; where the words don't fit, or
-/// ask for what isn't served yet, it writes the usage line and reads nothing.
+/// of the source to its end, and writes what they print to the sink; for `gen` it writes the one
+/// line of a generated script; where the words don't fit, or ask for what isn't served yet, it
+/// writes the usage line. It reads the source for `replay` alone.
 pub fn run<S: Source, K: Sink>(
     alloc: Global,
     words: &[String],
     source: &mut S,
     sink: &mut K,
 ) -> Status
-    ensures ends { outcome.Runs (outcome.asks_replay (mode_of (map string_bytes words.now))) result
+    ensures ends { outcome.Runs (mode_of (map string_bytes words.now)) result
         (outcome.ends_of (outcome.source_of (S.left source.old) (S.faults source.old))
         (outcome.sink_of (K.written sink.old) (K.flushed sink.old) (K.faults sink.old)))
         (outcome.ends_of (outcome.source_of (S.left source.new) (S.faults source.new))
@@ -30,6 +33,21 @@ pub fn run<S: Source, K: Sink>(
     match read_words(words) {
         // One worker answers all lines, whatever the number that is asked for.
         Some(Mode::Replay { workers: _ }) => replay_one(alloc, source, sink),
-        Some(Mode::Live | Mode::Gen { .. }) | None => usage(sink),
+        Some(
+            Mode::Gen {
+                seed,
+                services,
+                pods,
+            },
+        ) => generate(
+            alloc,
+            ScriptPlan {
+                seed,
+                services,
+                pods,
+            },
+            sink,
+        ),
+        Some(Mode::Live) | None => usage(sink),
     }
 }

@@ -1,0 +1,11 @@
+use Rattle.std.proofs.Common.{ap, ◌∙◌}
+use Rattle.kp_run_defs.specs.GenText.{with_packet}
+use Rattle.kp_replay.specs.Steps.{standing_of}
+use Rattle.kp_replay.proofs.replay.Replay.count_packet.Goals as goal
+
+pub returns-clause-next : goal.returns-clause-next
+returns-clause-next c = ap (λ lists. record (standing_of c.args.self.now) { lists = lists }) c.in_ok-verdict.ensures.lists
+
+pub returns-clause-totals : goal.returns-clause-totals
+returns-clause-totals c =
+    c.add_packet.ensures ∙ ap (λ verdict. with_packet verdict c.args.totals.now) c.in_ok-verdict.ensures.verdict

@@ -1,0 +1,141 @@
+//! Lines that are counted in place of printed.
+ghost use Rattle.std.specs.Prelude.{◌≡◌, OnOk};
+ghost use Rattle.kp_object_defs.specs.Objects.{objects_after};
+ghost use Rattle.kp_table_defs.specs.Rebuild.{clash_of};
+ghost use Rattle.kp_run_defs.specs.GenText as sums;
+ghost use Rattle.kp_run_defs.specs.ReplayText as spec;
+
+use crate::packets::verdict_on;
+use crate::replay::{Replay, is_blank};
+use crate::syncs::sync_uncounted;
+use crate::totals::{add_packet, add_sync};
+use kp_base::NoMemory;
+use kp_plane::TableFault;
+use kp_script::{LineRefusal, Op, PacketLine, ScriptFault, line_of};
+use kp_text_defs::Totals;
+use std::alloc::Global;
+use std::marker::Brand;
+use std::sync::ledger::Blank;
+
+/// The most bytes that a line may have, without its line feed.
+const LONGEST_LINE: usize = 16_777_216;
+
+impl Replay {
+    ghost use Rattle.kp_replay.specs.Steps.{standing_of, IsReady, MayTake};
+
+    /// Takes the line of this number and adds up what it did. A refused line may leave a text.
+    pub fn count_line(
+        &mut self,
+        alloc: Global,
+        number: u64,
+        bytes: &[u8],
+        text: &mut String,
+        totals: &mut Totals,
+    ) -> Result<(), NoMemory>
+        requires { IsReady (standing_of self.old) }
+        ensures next { OnOk result (standing_of self.new
+            ≡ (spec.line_at number bytes.now (standing_of self.old)).next) }
+        ensures totals { OnOk result (totals.new
+            ≡ sums.line_totals number bytes.now (standing_of self.old) totals.old) }
+    {
+        if bytes.len() > LONGEST_LINE {
+            return self.refuse_long(alloc, number, text);
+        }
+        if is_blank(bytes) {
+            return Ok(());
+        }
+        self.count_script(alloc, number, bytes, text, totals)
+    }
+
+    /// Takes a line that is neither too long nor blank.
+    fn count_script(
+        &mut self,
+        alloc: Global,
+        number: u64,
+        bytes: &[u8],
+        text: &mut String,
+        totals: &mut Totals,
+    ) -> Result<(), NoMemory>
+        requires { IsReady (standing_of self.old) }
+        ensures next { OnOk result (standing_of self.new
+            ≡ (spec.script_line number bytes.now (standing_of self.old)).next) }
+        ensures totals { OnOk result (totals.new
+            ≡ sums.script_totals number bytes.now (standing_of self.old) totals.old) }
+    {
+        let first = self.fresh;
+        self.fresh = false;
+        match line_of(alloc, bytes, first) {
+            Ok(line) => self.count_op(alloc, number, line.op, text, totals),
+            Err(ScriptFault::Refused(refusal)) => self.refuse(alloc, number, &refusal, text),
+            Err(ScriptFault::NoMemory) => Err(NoMemory),
+        }
+    }
+
+    /// Does what a line asks for.
+    fn count_op(
+        &mut self,
+        alloc: Global,
+        number: u64,
+        op: Op,
+        text: &mut String,
+        totals: &mut Totals,
+    ) -> Result<(), NoMemory>
+        requires { MayTake (standing_of self.old) op }
+        ensures next { OnOk result (standing_of self.new
+            ≡ (spec.op_line number op (standing_of self.old)).next) }
+        ensures totals { OnOk result (totals.new
+            ≡ sums.op_totals number op (standing_of self.old) totals.old) }
+    {
+        match op {
+            Op::Config(config) => self.take_config(alloc, config),
+            Op::Events(events) => self.take_events(alloc, number, events, text),
+            Op::Sync => self.count_sync(alloc, number, text, totals),
+            Op::Packet(packet) => self.count_packet(number, &packet, totals),
+            Op::Explain(_) | Op::Show(_) => Ok(()),
+        }
+    }
+
+    /// Makes the tables of the events by now.
+    fn count_sync(
+        &mut self,
+        alloc: Global,
+        number: u64,
+        text: &mut String,
+        totals: &mut Totals,
+    ) -> Result<(), NoMemory>
+        ensures next { OnOk result (standing_of self.new ≡ (spec.sync_line number
+            (clash_of (spec.setting_in (standing_of self.old))
+            (objects_after (standing_of self.old).events)) (standing_of self.old)).next) }
+        ensures totals { OnOk result (totals.new ≡ sums.sync_totals
+            (clash_of (spec.setting_in (standing_of self.old))
+            (objects_after (standing_of self.old).events)) (standing_of self.old) totals.old) }
+    {
+        match sync_uncounted::<Brand>(alloc, &mut self.plane, Blank::new(1)) {
+            Ok(note) => {
+                add_sync(totals, note);
+                Ok(())
+            }
+            Err(TableFault::ChainClash(clash)) => {
+                self.refuse(alloc, number, &LineRefusal::ChainClash(clash), text)
+            }
+            Err(TableFault::NoMemory) => Err(NoMemory),
+        }
+    }
+
+    /// Answers a packet.
+    fn count_packet(
+        &mut self,
+        number: u64,
+        line: &PacketLine,
+        totals: &mut Totals,
+    ) -> Result<(), NoMemory>
+        ensures next { OnOk result (standing_of self.new
+            ≡ (spec.packet_line number line.now (standing_of self.old)).next) }
+        ensures totals { OnOk result (totals.new ≡ sums.with_packet
+            (spec.decided number line.now (standing_of self.old)).verdict totals.old) }
+    {
+        let verdict = verdict_on(&self.plane, number, line, &mut self.lists)?;
+        add_packet(totals, &verdict);
+        Ok(())
+    }
+}

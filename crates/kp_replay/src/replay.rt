@@ -1,0 +1,190 @@
+//! Where a replay stands, and the lines that it takes.
+ghost use Rattle.std.specs.Prelude.{◌≡◌, ◌<◌, ◌-◌, ◌^◌, [], false, length, string_bytes, None, IfOk, OnOk};
+ghost use Rattle.kp_run_defs.specs.ReplayText as spec;
+
+use kp_base::{Config, Items, NoMemory};
+use kp_plane::{JournalFault, Plane};
+use kp_recent::RecentLists;
+use kp_report::push_refusal;
+use kp_script::{LineRefusal, Op, ScriptFault, default_config, line_of};
+use kp_types::Event;
+use std::alloc::Global;
+
+/// Where a replay of lines stands: its events, records and tables, the sources that packets came
+/// from of late, and whether a line was refused.
+#[derive(Drop)]
+pub struct Replay {
+    /// Whether no line but blank ones was read.
+    pub(crate) fresh: bool,
+    pub(crate) plane: Plane,
+    pub(crate) lists: RecentLists,
+    pub(crate) refused: bool,
+}
+
+impl Replay {
+    ghost use Rattle.kp_replay.specs.Steps.{standing_of, IsReady, Takes, HasNoEvents, MayTake, given_line};
+
+    /// Before the first line.
+    pub fn new(alloc: Global) -> Result<Replay, NoMemory>
+        ensures { IfOk result (λ r. standing_of r ≡ spec.beginning) }
+    {
+        let config = default_config(alloc)?;
+        let lists = RecentLists::new(alloc, config.recent_size)?;
+        Ok(Replay {
+            fresh: true,
+            plane: Plane::new(alloc, config)?,
+            lists,
+            refused: false,
+        })
+    }
+
+    /// Whether a line was refused.
+    pub fn refused(&self) -> bool
+        ensures { result ≡ (standing_of self.now).refused }
+    {
+        self.refused
+    }
+
+    /// Lets the replay go, and tells whether a line was refused.
+    pub fn end(self) -> bool
+        ensures { result ≡ (standing_of self).refused }
+    {
+        self.refused
+    }
+
+    /// Takes the line of this number, which isn't too long, and adds what it prints to the text.
+    /// Without memory the replay and the text are of no more use.
+    pub fn take_line(
+        &mut self,
+        alloc: Global,
+        number: u64,
+        bytes: &[u8],
+        text: &mut String,
+    ) -> Result<(), NoMemory>
+        requires { IsReady (standing_of self.old) }
+        ensures { OnOk result (Takes (spec.short_line number bytes.now (standing_of self.old))
+            self.new (string_bytes text.old) (string_bytes text.new)) }
+    {
+        if is_blank(bytes) {
+            return Ok(());
+        }
+        self.take_script(alloc, number, bytes, text)
+    }
+
+    /// Refuses the line of this number, of which nothing is given, as too long.
+    pub fn refuse_long(
+        &mut self,
+        alloc: Global,
+        number: u64,
+        text: &mut String,
+    ) -> Result<(), NoMemory>
+        ensures { OnOk result (Takes (given_line number None (standing_of self.old))
+            self.new (string_bytes text.old) (string_bytes text.new)) }
+    {
+        self.fresh = false;
+        self.refuse(alloc, number, &LineRefusal::TooLongLine, text)
+    }
+
+    /// Takes a line that is neither too long nor blank.
+    fn take_script(
+        &mut self,
+        alloc: Global,
+        number: u64,
+        bytes: &[u8],
+        text: &mut String,
+    ) -> Result<(), NoMemory>
+        requires { IsReady (standing_of self.old) }
+        ensures { OnOk result (Takes (spec.script_line number bytes.now (standing_of self.old))
+            self.new (string_bytes text.old) (string_bytes text.new)) }
+    {
+        let first = self.fresh;
+        self.fresh = false;
+        match line_of(alloc, bytes, first) {
+            Ok(line) => self.take_op(alloc, number, line.op, text),
+            Err(ScriptFault::Refused(refusal)) => self.refuse(alloc, number, &refusal, text),
+            Err(ScriptFault::NoMemory) => Err(NoMemory),
+        }
+    }
+
+    /// Tells that the line is refused.
+    pub(crate) fn refuse(
+        &mut self,
+        alloc: Global,
+        number: u64,
+        refusal: &LineRefusal,
+        text: &mut String,
+    ) -> Result<(), NoMemory>
+        ensures { OnOk result (Takes (spec.refuse number refusal.now (standing_of self.old))
+            self.new (string_bytes text.old) (string_bytes text.new)) }
+    {
+        self.refused = true;
+        push_refusal(alloc, text, number, refusal)
+    }
+
+    /// Does what a line asks for.
+    fn take_op(
+        &mut self,
+        alloc: Global,
+        number: u64,
+        op: Op,
+        text: &mut String,
+    ) -> Result<(), NoMemory>
+        requires { MayTake (standing_of self.old) op }
+        ensures { OnOk result (Takes (spec.op_line number op (standing_of self.old))
+            self.new (string_bytes text.old) (string_bytes text.new)) }
+    {
+        match op {
+            Op::Config(config) => self.take_config(alloc, config),
+            Op::Events(events) => self.take_events(alloc, number, events, text),
+            Op::Sync => self.sync(alloc, number, text),
+            Op::Packet(packet) => self.answer(number, &packet, text),
+            Op::Explain(packet) => self.explain(alloc, number, &packet, text),
+            Op::Show(what) => self.show(alloc, what, text),
+        }
+    }
+
+    /// Takes a configuration, which stands before all events.
+    pub(crate) fn take_config(&mut self, alloc: Global, config: Config) -> Result<(), NoMemory>
+        requires { HasNoEvents (standing_of self.old) }
+        ensures { OnOk result (standing_of self.new
+            ≡ (spec.config_line config (standing_of self.old)).next) }
+    {
+        self.lists = RecentLists::new(alloc, config.recent_size)?;
+        self.plane = Plane::new(alloc, config)?;
+        Ok(())
+    }
+
+    /// Accepts events, all of them or none.
+    pub(crate) fn take_events(
+        &mut self,
+        alloc: Global,
+        number: u64,
+        events: Items<Event>,
+        text: &mut String,
+    ) -> Result<(), NoMemory>
+        ensures { OnOk result (Takes (spec.events_line number events
+            (spec.has_room (standing_of self.old) (length events)) (standing_of self.old))
+            self.new (string_bytes text.old) (string_bytes text.new)) }
+    {
+        match self.plane.accept(events) {
+            Ok(()) => Ok(()),
+            Err((JournalFault::JournalFull { count }, _)) => {
+                self.refuse(alloc, number, &LineRefusal::JournalFull { count }, text)
+            }
+            Err((JournalFault::NoMemory, _)) => Err(NoMemory),
+        }
+    }
+}
+
+/// Whether a line has only spaces, tabs and carriage returns.
+pub(crate) fn is_blank(bytes: &[u8]) -> bool
+    ensures { result ≡ spec.is_blank bytes.now }
+{
+    bytes.iter().all(|byte: &u8| is_blank_byte(*byte))
+}
+
+fn is_blank_byte(byte: u8) -> bool
+    ensures { result ≡ spec.is_blank_byte byte }
+{
+    byte == b' ' || byte == b'\t' || byte == b'\r'
+}

@@ -1,0 +1,81 @@
+//! What lines show.
+ghost use Rattle.std.specs.Prelude.{◌≡◌, ◌++◌, string_bytes, OnOk};
+ghost use Rattle.kp_run_defs.specs.ReplayText as spec;
+
+use crate::replay::Replay;
+use kp_base::NoMemory;
+use kp_print::push;
+use kp_report::push_slices;
+use kp_restore::{batch_text, section_text};
+use kp_script::Shown;
+use kp_types::TableName;
+use std::alloc::Global;
+
+impl Replay {
+    ghost use Rattle.kp_text_defs.specs.Slices.{slices_text};
+    ghost use Rattle.kp_restore_defs.specs.TableText.{section_text_of};
+    ghost use Rattle.kp_replay.specs.Steps.{standing_of, Takes};
+
+    /// Adds what a line asks to see.
+    pub(crate) fn show(
+        &mut self,
+        alloc: Global,
+        what: Shown,
+        text: &mut String,
+    ) -> Result<(), NoMemory>
+        ensures { OnOk result (Takes (spec.print (spec.shown_text what (standing_of self.old))
+            (standing_of self.old)) self.new (string_bytes text.old) (string_bytes text.new)) }
+    {
+        match what {
+            Shown::Slices => self.push_slices_now(alloc, false, text),
+            Shown::Endpoints => self.push_slices_now(alloc, true, text),
+            Shown::Nat => self.push_section(alloc, TableName::Nat, text),
+            Shown::Filter => self.push_section(alloc, TableName::Filter, text),
+            Shown::Batch => self.push_last_batch(alloc, text),
+        }
+    }
+
+    /// Adds the slices by now, or their endpoints.
+    fn push_slices_now(
+        &mut self,
+        alloc: Global,
+        entries: bool,
+        text: &mut String,
+    ) -> Result<(), NoMemory>
+        ensures kept { standing_of self.new ≡ standing_of self.old }
+        ensures text { OnOk result (string_bytes text.new ≡ string_bytes text.old
+            ++ slices_text (spec.slices_in (standing_of self.old)) entries) }
+    {
+        let slices = self.plane.slices(alloc)?;
+        push_slices(text, slices.as_slice(), entries)
+    }
+
+    /// Adds the section of one table.
+    fn push_section(
+        &self,
+        alloc: Global,
+        which: TableName,
+        text: &mut String,
+    ) -> Result<(), NoMemory>
+        ensures { OnOk result (string_bytes text.new ≡ string_bytes text.old
+            ++ section_text_of (spec.chains_in (standing_of self.now)) which) }
+    {
+        let section = section_text(alloc, self.plane.table(), which)?;
+        push(text, section.as_str())
+    }
+
+    /// Adds the batch of the last sync, where there was one.
+    fn push_last_batch(&self, alloc: Global, text: &mut String) -> Result<(), NoMemory>
+        ensures { OnOk result (string_bytes text.new ≡ string_bytes text.old
+            ++ spec.batch_shown (standing_of self.now).counts
+            (spec.last_edits (standing_of self.now))) }
+    {
+        match self.plane.last_batch() {
+            None => Ok(()),
+            Some(batch) => {
+                let batch = batch_text(alloc, batch)?;
+                push(text, batch.as_str())
+            }
+        }
+    }
+}

@@ -1,0 +1,9 @@
+use Rattle.std.proofs.Common.{map, string_bytes, sym, subst}
+use Rattle.kp_run.proofs.PlanLemmas.{Fits, mode_fits}
+use Rattle.kp_run.proofs.program.run.Goals as goal
+
+-- the numbers are within their bounds
+pub generate-requires : goal.generate-requires
+generate-requires g c =
+    let told = rw c.in-Some-Gen.field-0-is at c.in-Some-Gen.ensures in
+    subst Fits (sym told) (mode_fits (map string_bytes c.args.words.now))
