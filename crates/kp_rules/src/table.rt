@@ -12,9 +12,9 @@ use crate::destination::Destination;
 use crate::new_chain::NewChain;
 use crate::places::Places;
 use crate::ranks::are_ranked;
-use crate::ready::{make_all, ready_edits};
+use crate::ready::{link_written, make_all, ready_edits};
 use kp_base::{Address, Copied, Items, NoMemory, PortNo, Proto};
-use kp_types::{Batch, ChainAt, Rule};
+use kp_types::{Batch, ChainAt, ChainName, Rule, TableName};
 use std::alloc::Global;
 use std::marker::Model;
 
@@ -83,6 +83,21 @@ impl Table {
         self.chains.get(at)
     }
 
+    /// The chain of this name, to which the rule at a place of another jumps. Where the other knows
+    /// in which slot it stands, no name is hashed.
+    pub fn jumped(
+        &self,
+        from: &Chain,
+        place: u64,
+        table: TableName,
+        chain: &ChainName,
+    ) -> Option<&Chain>
+        ensures { option_copied result ≡ finite.get self.now.chains
+            (record { table = table; chain = chain.now }) }
+    {
+        self.chains.reached(from.jump(place), table, chain)
+    }
+
     /// The least place, from 0, at or after `from` of a rule of the chain at this place that may
     /// match packets to this address and port: one whose first two matches ask for them, or for no
     /// one address and a port. `None` where there is no such rule, or no such chain. It takes no
@@ -146,9 +161,10 @@ impl Table {
             ≡ record self.old { chains = finite.insert self.old.chains at rules }) }
         ensures err { OnErr result (self.new ≡ self.old) }
     {
-        let chain = NewChain::new(self.alloc, at, rules)?;
+        let chain = NewChain::new(self.alloc, at.same(), rules)?;
         self.chains.reserve(1)?;
         self.chains.write(chain);
+        self.chains.link(&at);
         Ok(())
     }
 
@@ -160,6 +176,7 @@ impl Table {
         let edits = ready_edits(self.alloc, batch.edits.as_slice())?;
         self.chains.reserve(edits.len())?;
         make_all(edits, &mut self.chains);
+        link_written(batch.edits.as_slice(), &mut self.chains);
         self.syncs = self.syncs.saturating_add(1);
         Ok(())
     }
