@@ -10,7 +10,7 @@ use crate::places::Places;
 use crate::slots::Slots;
 use indexmap::IndexMap;
 use kp_base::{Copied, NoMemory};
-use kp_types::{ChainAt, ChainName, TableName, Target};
+use kp_types::{ChainAt, Target};
 use std::alloc::Global;
 use std::marker::Model;
 
@@ -62,37 +62,23 @@ impl ChainMap {
         self.rules.get(at)
     }
 
-    /// The chain of this name, looked for in a slot before the name is hashed.
-    pub fn reached(
-        &self,
-        slot: Option<usize>,
-        table: TableName,
-        chain: &ChainName,
-    ) -> Option<&Chain>
-        ensures { option_copied result ≡ finite.get self.now.chains
-            (record { table = table; chain = chain.now }) }
+    /// A chain, looked for in a slot before its name is hashed.
+    pub fn reached(&self, slot: Option<usize>, at: &ChainAt) -> Option<&Chain>
+        ensures { option_copied result ≡ finite.get self.now.chains at.now }
     {
-        match self.in_slot(slot, table, chain) {
-            None => self.rules.get(&ChainAt {
-                table,
-                chain: chain.same(),
-            }),
+        match self.in_slot(slot, at) {
+            None => self.get(at),
             Some(found) => Some(found),
         }
     }
 
     /// The chain in a slot, where it has this name.
-    fn in_slot(&self, slot: Option<usize>, table: TableName, chain: &ChainName) -> Option<&Chain>
-        ensures { IfSome result (λ c. Some c.now ≡ finite.get self.now.chains
-            (record { table = table; chain = chain.now })) }
+    fn in_slot(&self, slot: Option<usize>, at: &ChainAt) -> Option<&Chain>
+        ensures { IfSome result (λ c. Some c.now ≡ finite.get self.now.chains at.now) }
     {
         let index = self.slots.index(slot?)?;
-        let (at, found) = self.rules.get_index(index)?;
-        if at.table == table && at.chain == *chain {
-            Some(found)
-        } else {
-            None
-        }
+        let (name, found) = self.rules.get_index(index)?;
+        if *name == *at { Some(found) } else { None }
     }
 
     /// The places of the chains.
@@ -227,13 +213,14 @@ impl ChainMap {
     fn set_jump(&mut self, index: usize, place: usize, slot: Option<usize>)
         ensures { self.new ≡ self.old }
     {
-        if let Some(chain) = self.rules.get_index_mut(index) {
-            chain.set_jump(place, slot);
-        }
+        let Some(chain) = self.rules.get_index_mut(index) else {
+            return;
+        };
+        chain.set_jump(place, slot);
     }
 
     /// Finds where the jumps of all chains lead.
-    fn link_all(&mut self)
+    pub fn link_all(&mut self)
         ensures { self.new ≡ self.old }
     {
         for index in 0..self.rules.len() {

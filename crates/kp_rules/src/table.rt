@@ -14,7 +14,7 @@ use crate::places::Places;
 use crate::ranks::are_ranked;
 use crate::ready::{link_written, make_all, ready_edits};
 use kp_base::{Address, Copied, Items, NoMemory, PortNo, Proto};
-use kp_types::{Batch, ChainAt, ChainName, Rule, TableName};
+use kp_types::{Batch, ChainAt, Rule};
 use std::alloc::Global;
 use std::marker::Model;
 
@@ -83,19 +83,12 @@ impl Table {
         self.chains.get(at)
     }
 
-    /// The chain of this name, to which the rule at a place of another jumps. Where the other knows
-    /// in which slot it stands, no name is hashed.
-    pub fn jumped(
-        &self,
-        from: &Chain,
-        place: u64,
-        table: TableName,
-        chain: &ChainName,
-    ) -> Option<&Chain>
-        ensures { option_copied result ≡ finite.get self.now.chains
-            (record { table = table; chain = chain.now }) }
+    /// The chain at this place, to which the rule at a place of another chain jumps. Where the other
+    /// knows in which slot it stands, no name is hashed.
+    pub fn jumped(&self, from: &Chain, place: u64, at: &ChainAt) -> Option<&Chain>
+        ensures { option_copied result ≡ finite.get self.now.chains at.now }
     {
-        self.chains.reached(from.jump(place), table, chain)
+        self.chains.reached(from.jump(place), at)
     }
 
     /// The least place, from 0, at or after `from` of a rule of the chain at this place that may
@@ -155,17 +148,26 @@ impl Table {
         self.chains.places()
     }
 
-    /// Writes a chain, in place of its old rules where there is one, and leaves the count.
+    /// Writes a chain, in place of its old rules where there is one, and leaves the count. Until a
+    /// batch writes it or the count is set, a walk looks for what it jumps to by name.
     pub fn put(&mut self, at: ChainAt, rules: Items<Rule>) -> Result<(), NoMemory>
         ensures ok { OnOk result (self.new
             ≡ record self.old { chains = finite.insert self.old.chains at rules }) }
         ensures err { OnErr result (self.new ≡ self.old) }
     {
-        let chain = NewChain::new(self.alloc, at.same(), rules)?;
+        let chain = NewChain::new(self.alloc, at, rules)?;
         self.chains.reserve(1)?;
         self.chains.write(chain);
-        self.chains.link(&at);
         Ok(())
+    }
+
+    /// Sets how many batches were applied, and finds where all jumps lead, so that no walk hashes a
+    /// name at them. It takes no memory.
+    pub fn set_syncs(&mut self, syncs: u64)
+        ensures { self.new ≡ record self.old { syncs = syncs } }
+    {
+        self.chains.link_all();
+        self.syncs = syncs;
     }
 
     /// Makes the edits of a batch, in their order, and counts it.
