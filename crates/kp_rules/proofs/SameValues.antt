@@ -1,5 +1,5 @@
 -- A value of a map that is written as it was.
-use Rattle.std.proofs.Common.{◌≡◌, ℕ, zero, suc, List, [], ◌∷◌, map, slice_get, Some, refl, sym, ap}
+use Rattle.std.proofs.Common.{◌≡◌, ℕ, zero, suc, List, [], ◌∷◌, map, slice_get, Some, refl, ap}
 use Rattle.indexmap.specs.IndexMap.{set_value_at}
 
 module _ {K X : Type 0} (w : X) where
