@@ -9,4 +9,5 @@ mod PlaceOrder
 mod RankedPlaces
 mod RankedWalk
 mod ReadyLimits
+mod SameValues
 pub mod Skipping

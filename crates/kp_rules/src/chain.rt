@@ -5,20 +5,26 @@ ghost use Rattle.kp_rules.specs.Destinations as Destinations;
 ghost use Rattle.kp_rules.specs.Limits as Limits;
 
 use crate::destination::Destination;
-use crate::index::{KeyedPlace, earlier, keyed_places, next_keyed, next_other, other_places};
+use crate::index::{
+    KeyedPlace, earlier, element, keyed_places, next_keyed, next_other, other_places,
+};
 use crate::limits::{limit_at, limits_of};
+use crate::slots::set;
 use kp_base::{Items, NoMemory};
 use kp_types::Rule;
 use std::alloc::Global;
 use std::marker::Model;
 
-/// The rules of a chain, as a walk reads them. Contracts see the list of rules.
+/// The rules of a chain, as a walk reads them. Contracts see the list of rules. Beside them stand
+/// hints: the chain's own slot, and for each rule the slot of the chain that it jumps to.
 #[derive(Drop)]
 pub struct Chain {
     rules: Items<Rule>,
     keyed: Vec<KeyedPlace>,
     others: Vec<u64>,
     limits: Vec<Option<u32>>,
+    jumps: Vec<Option<usize>>,
+    slot: Option<usize>,
 }
 
 impl Model for Chain {
@@ -45,11 +51,14 @@ impl Chain {
         let keyed = keyed_places(alloc, rules.as_slice())?;
         let others = other_places(alloc, rules.as_slice())?;
         let limits = limits_of(alloc, rules.as_slice())?;
+        let jumps = no_jumps(alloc, rules.as_slice())?;
         Ok(Chain {
             rules,
             keyed,
             others,
             limits,
+            jumps,
+            slot: None,
         })
     }
 
@@ -85,4 +94,38 @@ impl Chain {
     {
         limit_at(self.limits.as_slice(), place as usize)
     }
+
+    /// The slot of the chain.
+    pub(crate) fn slot(&self) -> Option<usize> {
+        self.slot
+    }
+
+    /// The same chain in a slot.
+    pub(crate) fn in_slot(self, slot: Option<usize>) -> Chain
+        ensures { result ≡ self }
+    {
+        let mut chain = self;
+        chain.slot = slot;
+        chain
+    }
+
+    /// The slot that the rule at this place jumps to.
+    pub(crate) fn jump(&self, place: u64) -> Option<usize> {
+        match element(self.jumps.as_slice(), place as usize) {
+            None => None,
+            Some(slot) => *slot,
+        }
+    }
+
+    /// Writes down the slot that the rule at this place jumps to.
+    pub(crate) fn set_jump(&mut self, place: usize, slot: Option<usize>)
+        ensures { self.new ≡ self.old }
+    {
+        set(&mut self.jumps, place, slot);
+    }
+}
+
+/// For each rule, that it isn't known where it jumps to.
+fn no_jumps(alloc: Global, rules: &[Rule]) -> Result<Vec<Option<usize>>, NoMemory> {
+    Ok(rules.iter().map(|_| None).collect(alloc)?)
 }

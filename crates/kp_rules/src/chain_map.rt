@@ -1,5 +1,5 @@
 //! Chains by place: a hash table finds a chain, and a tree has the places in order.
-ghost use Rattle.std.specs.Prelude.{◌≡◌, ◌+◌, ◌<◌, ◌≤◌, slice_get, IfOk, OnOk};
+ghost use Rattle.std.specs.Prelude.{◌≡◌, ◌+◌, ◌<◌, ◌≤◌, slice_get, Some, IfOk, IfSome, OnOk};
 ghost use Rattle.std.specs.FinMap as finite;
 ghost use Rattle.std.specs.Option.{option_copied};
 ghost use Rattle.kp_types.specs.Places.{chain_cmp};
@@ -7,9 +7,10 @@ ghost use Rattle.kp_types.specs.Places.{chain_cmp};
 use crate::chain::Chain;
 use crate::new_chain::NewChain;
 use crate::places::Places;
+use crate::slots::Slots;
 use indexmap::IndexMap;
 use kp_base::{Copied, NoMemory};
-use kp_types::ChainAt;
+use kp_types::{ChainAt, Target};
 use std::alloc::Global;
 use std::marker::Model;
 
@@ -19,6 +20,7 @@ use std::marker::Model;
 pub struct ChainMap {
     rules: IndexMap<ChainAt, Chain>,
     places: Places,
+    slots: Slots,
 }
 
 impl Model for ChainMap {
@@ -49,6 +51,7 @@ impl ChainMap {
         ChainMap {
             rules: IndexMap::new(alloc),
             places: Places::empty(),
+            slots: Slots::new(alloc),
         }
     }
 
@@ -57,6 +60,25 @@ impl ChainMap {
         ensures { option_copied result ≡ finite.get self.now.chains at.now }
     {
         self.rules.get(at)
+    }
+
+    /// A chain, looked for in a slot before its name is hashed.
+    pub fn reached(&self, slot: Option<usize>, at: &ChainAt) -> Option<&Chain>
+        ensures { option_copied result ≡ finite.get self.now.chains at.now }
+    {
+        match self.in_slot(slot, at) {
+            None => self.get(at),
+            Some(found) => Some(found),
+        }
+    }
+
+    /// The chain in a slot, where it has this name.
+    fn in_slot(&self, slot: Option<usize>, at: &ChainAt) -> Option<&Chain>
+        ensures { IfSome result (λ c. Some c.now ≡ finite.get self.now.chains at.now) }
+    {
+        let index = self.slots.index(slot?)?;
+        let (name, found) = self.rules.get_index(index)?;
+        if *name == *at { Some(found) } else { None }
     }
 
     /// The places of the chains.
@@ -79,6 +101,7 @@ impl ChainMap {
         ensures chains { self.new.chains ≡ self.old.chains }
     {
         self.rules.reserve(additional)?;
+        self.slots.reserve(additional)?;
         Ok(())
     }
 
@@ -91,6 +114,26 @@ impl ChainMap {
 
     /// Writes a chain. It takes no memory.
     pub fn write(&mut self, chain: NewChain)
+        requires { 0 < self.old.room }
+        ensures chains { self.new.chains ≡ finite.insert self.old.chains chain.at chain.rules }
+        ensures room { self.old.room ≤ self.new.room + 1 }
+    {
+        let slot = self.slot_for(&chain.at);
+        self.put(chain.in_slot(slot));
+    }
+
+    /// The slot for a chain that is to be written: its own, where it stands already.
+    fn slot_for(&mut self, at: &ChainAt) -> Option<usize>
+        ensures { self.new ≡ self.old }
+    {
+        if let Some(chain) = self.rules.get(at) {
+            return chain.slot();
+        }
+        self.slots.take(self.rules.len())
+    }
+
+    /// Writes a chain that has its slot.
+    fn put(&mut self, chain: NewChain)
         requires { 0 < self.old.room }
         ensures chains { self.new.chains ≡ finite.insert self.old.chains chain.at chain.rules }
         ensures room { self.old.room ≤ self.new.room + 1 }
@@ -108,8 +151,80 @@ impl ChainMap {
         ensures chains { self.new.chains ≡ finite.remove self.old.chains at.now }
         ensures room { self.old.room ≤ self.new.room }
     {
-        if self.rules.swap_remove(at).is_some() {
+        if let Some((index, _, gone)) = self.rules.swap_remove_full(at) {
             self.places.remove(at);
+            self.leave_slot(gone.slot(), index);
+        }
+    }
+
+    /// Takes in that a chain left its slot, and that its index is another's by now.
+    fn leave_slot(&mut self, slot: Option<usize>, index: usize)
+        ensures { self.new ≡ self.old }
+    {
+        self.slots.free(slot);
+        if let Some((_, chain)) = self.rules.get_index(index) {
+            self.slots.set(chain.slot(), index);
+        }
+    }
+
+    /// Finds where the jumps of a chain lead by now, so that no walk hashes a name at them. It
+    /// takes no memory.
+    pub fn link(&mut self, at: &ChainAt)
+        ensures { self.new ≡ self.old }
+    {
+        if let Some(index) = self.rules.get_index_of(at) {
+            self.link_index(index);
+        }
+    }
+
+    /// The same of the chain at an index.
+    fn link_index(&mut self, index: usize)
+        ensures { self.new ≡ self.old }
+    {
+        for place in 0..self.rules_at(index) {
+            let slot = self.slot_of_jump(index, place);
+            self.set_jump(index, place, slot);
+        }
+    }
+
+    /// How many rules the chain at an index has.
+    fn rules_at(&self, index: usize) -> usize {
+        match self.rules.get_index(index) {
+            None => 0,
+            Some((_, chain)) => chain.rules().len(),
+        }
+    }
+
+    /// The slot of the chain that a rule jumps to.
+    fn slot_of_jump(&self, index: usize, place: usize) -> Option<usize> {
+        let (at, chain) = self.rules.get_index(index)?;
+        let rule = chain.rules().get(place)?;
+        let Target::Jump(name) = &rule.target else {
+            return None;
+        };
+        let to = ChainAt {
+            table: at.table,
+            chain: name.same(),
+        };
+        self.rules.get(&to)?.slot()
+    }
+
+    /// Writes down the slot that a rule jumps to.
+    fn set_jump(&mut self, index: usize, place: usize, slot: Option<usize>)
+        ensures { self.new ≡ self.old }
+    {
+        let Some(chain) = self.rules.get_index_mut(index) else {
+            return;
+        };
+        chain.set_jump(place, slot);
+    }
+
+    /// Finds where the jumps of all chains lead.
+    pub fn link_all(&mut self)
+        ensures { self.new ≡ self.old }
+    {
+        for index in 0..self.rules.len() {
+            self.link_index(index);
         }
     }
 }
@@ -126,5 +241,6 @@ fn chains_of(alloc: Global, entries: &IndexMap<ChainAt, Chain>) -> Result<ChainM
             chains.write(NewChain::new(alloc, at.same(), rules.items().copy(alloc)?)?);
         }
     }
+    chains.link_all();
     Ok(chains)
 }

@@ -12,6 +12,7 @@ mod new_chain;
 mod places;
 mod ranks;
 mod ready;
+mod slots;
 mod table;
 
 pub use chain::Chain;

@@ -26,4 +26,17 @@ impl NewChain {
         let rules = Chain::of(alloc, rules)?;
         Ok(NewChain { at, rules, one })
     }
+
+    /// The same chain in a slot.
+    pub fn in_slot(self, slot: Option<usize>) -> NewChain
+        ensures at { result.at ≡ self.at }
+        ensures rules { result.rules ≡ self.rules }
+    {
+        let NewChain { at, rules, one } = self;
+        NewChain {
+            at,
+            rules: rules.in_slot(slot),
+            one,
+        }
+    }
 }

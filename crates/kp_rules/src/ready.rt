@@ -64,3 +64,14 @@ pub fn make_all(edits: Vec<ReadyEdit>, chains: &mut ChainMap)
         edit.make(chains);
     }
 }
+
+/// Finds where the jumps of the chains lead that these edits write.
+pub fn link_written(edits: &[Edit], chains: &mut ChainMap)
+    ensures { chains.new ≡ chains.old }
+{
+    for edit in edits {
+        if let Edit::Write { at, .. } = edit {
+            chains.link(at);
+        }
+    }
+}

@@ -12,7 +12,7 @@ use crate::destination::Destination;
 use crate::new_chain::NewChain;
 use crate::places::Places;
 use crate::ranks::are_ranked;
-use crate::ready::{make_all, ready_edits};
+use crate::ready::{link_written, make_all, ready_edits};
 use kp_base::{Address, Copied, Items, NoMemory, PortNo, Proto};
 use kp_types::{Batch, ChainAt, Rule};
 use std::alloc::Global;
@@ -83,6 +83,14 @@ impl Table {
         self.chains.get(at)
     }
 
+    /// The chain at this place, to which the rule at a place of another chain jumps. Where the other
+    /// knows in which slot it stands, no name is hashed.
+    pub fn jumped(&self, from: &Chain, place: u64, at: &ChainAt) -> Option<&Chain>
+        ensures { option_copied result ≡ finite.get self.now.chains at.now }
+    {
+        self.chains.reached(from.jump(place), at)
+    }
+
     /// The least place, from 0, at or after `from` of a rule of the chain at this place that may
     /// match packets to this address and port: one whose first two matches ask for them, or for no
     /// one address and a port. `None` where there is no such rule, or no such chain. It takes no
@@ -140,7 +148,8 @@ impl Table {
         self.chains.places()
     }
 
-    /// Writes a chain, in place of its old rules where there is one, and leaves the count.
+    /// Writes a chain, in place of its old rules where there is one, and leaves the count. Until a
+    /// batch writes it or the count is set, a walk looks for what it jumps to by name.
     pub fn put(&mut self, at: ChainAt, rules: Items<Rule>) -> Result<(), NoMemory>
         ensures ok { OnOk result (self.new
             ≡ record self.old { chains = finite.insert self.old.chains at rules }) }
@@ -152,6 +161,15 @@ impl Table {
         Ok(())
     }
 
+    /// Sets how many batches were applied, and finds where all jumps lead, so that no walk hashes a
+    /// name at them. It takes no memory.
+    pub fn set_syncs(&mut self, syncs: u64)
+        ensures { self.new ≡ record self.old { syncs = syncs } }
+    {
+        self.chains.link_all();
+        self.syncs = syncs;
+    }
+
     /// Makes the edits of a batch, in their order, and counts it.
     pub fn apply(&mut self, batch: &Batch) -> Result<(), NoMemory>
         ensures ok { OnOk result (self.new ≡ table_after_batch self.old batch.now.edits) }
@@ -160,6 +178,7 @@ impl Table {
         let edits = ready_edits(self.alloc, batch.edits.as_slice())?;
         self.chains.reserve(edits.len())?;
         make_all(edits, &mut self.chains);
+        link_written(batch.edits.as_slice(), &mut self.chains);
         self.syncs = self.syncs.saturating_add(1);
         Ok(())
     }

@@ -1,5 +1,6 @@
 //! Chains and their rules.
 ghost use Rattle.std.specs.Prelude.{◌≡◌, ◌≤◌, ◌<◌, [], OnOk, OnErr, IfOk};
+ghost use Rattle.std.specs.Option.{option_copied};
 ghost use Rattle.kp_choice_defs.specs.Draws.{IsStated, AreDraws};
 ghost use Rattle.kp_rules.specs.Limits.{limit_of};
 ghost use Rattle.kp_table_defs.specs.Walk.{rules_outcome, rule_outcome};
@@ -7,7 +8,7 @@ ghost use Rattle.kp_walker.specs.Flow.{jump_of, sets_of, outcome_of, IsThrough};
 ghost use Rattle.kp_walker.specs.Progress.{state_of};
 ghost use Rattle.kp_walker.specs.Sets.{RuleSets, RulesSet};
 ghost use Rattle.kp_walker.specs.Shorn.{shorn};
-ghost use Rattle.kp_walker.specs.Surroundings.{surroundings_of};
+ghost use Rattle.kp_walker.specs.Surroundings.{surroundings_of, lookup_of};
 
 use crate::flow::Flow;
 use crate::hook::Hook;
@@ -20,11 +21,12 @@ use kp_rules::Chain;
 use kp_types::{ChainAt, ChainName, Ending, Target};
 
 impl<F: Fn(u64, u32) -> u32> Hook<'_, F> {
-    /// Walks a chain, with at most `depth` chains on the way. Where a rule ends the traversal, the
-    /// recorder is told the chains on the way to it.
+    /// Walks the chain that was found under a name, with at most `depth` chains on the way. Where a
+    /// rule ends the traversal, the recorder is told the chains on the way to it.
     #[cycle(walk)]
     pub(crate) fn run_chain<R: Recorder>(
         &self,
+        found: Option<&Chain>,
         chain: &ChainName,
         depth: usize,
         progress: Progress,
@@ -33,6 +35,8 @@ impl<F: Fn(u64, u32) -> u32> Hook<'_, F> {
     ) -> Result<Flow, NoMemory>
         requires stated { IsStated (F.pre self.now.around.now.draws.now)
             (F.post self.now.around.now.draws.now) }
+        requires found { option_copied found ≡ lookup_of self.now.around.now
+            (record { table = self.now.table; chain = chain.now }) }
         requires new { R.way recorder.old ≡ [] }
         requires room { depth ≤ 8 }
         ensures outcome { IfOk result (λ flow. (draws : _)
@@ -50,11 +54,7 @@ impl<F: Fn(u64, u32) -> u32> Hook<'_, F> {
         if depth == 0 {
             return Ok(Flow::Stuck);
         }
-        let at = ChainAt {
-            table: self.table,
-            chain: chain.same(),
-        };
-        match self.around.chains.walked(&at) {
+        match found {
             None => Ok(Flow::Stuck),
             Some(found) => {
                 let flow = self.run_rules(found, depth - 1, progress, lists, recorder)?;
@@ -139,7 +139,10 @@ impl<F: Fn(u64, u32) -> u32> Hook<'_, F> {
             return Ok(Flow::Next(tried.progress));
         }
         match &next.rule.target {
-            Target::Jump(chain) => self.run_chain(chain, depth, tried.progress, lists, recorder),
+            Target::Jump(chain) => {
+                let found = self.jumped(next, chain);
+                self.run_chain(found, chain, depth, tried.progress, lists, recorder)
+            }
             Target::Return => Ok(Flow::Left(tried.progress)),
             Target::Accept => Ok(Flow::Ended(Ending::Accept, tried.progress)),
             Target::Drop => Ok(Flow::Ended(Ending::Drop, tried.progress)),
@@ -149,5 +152,17 @@ impl<F: Fn(u64, u32) -> u32> Hook<'_, F> {
             Target::Dnat(endpoint) => Ok(Flow::Ended(Ending::Dnat(*endpoint), tried.progress)),
             Target::Masquerade => Ok(Flow::Ended(Ending::Masquerade, tried.progress)),
         }
+    }
+
+    /// The chain of this name, to which a rule jumps.
+    fn jumped(&self, next: &NextRule<'_>, chain: &ChainName) -> Option<&Chain>
+        ensures { option_copied result ≡ lookup_of self.now.around.now
+            (record { table = self.now.table; chain = chain.now }) }
+    {
+        let at = ChainAt {
+            table: self.table,
+            chain: chain.same(),
+        };
+        self.around.chains.jumped(next.chain, next.place, &at)
     }
 }

@@ -15,7 +15,7 @@ use crate::recorder::Recorder;
 use kp_base::NoMemory;
 use kp_recent::RecentLists;
 use kp_rules::laws::ranked_walks_end;
-use kp_types::{ChainName, Origin, TableName};
+use kp_types::{ChainAt, ChainName, Origin, TableName};
 
 /// The most chains on a way.
 const MOST_CHAINS: usize = 8;
@@ -213,8 +213,13 @@ impl<F: Fn(u64, u32) -> u32> Surroundings<'_, F> {
             table,
             header: journey.header,
         };
+        let at = ChainAt {
+            table,
+            chain: chain.same(),
+        };
+        let found = self.chains.walked(&at);
         let (progress, recorder) = (journey.progress, &mut journey.recorder);
-        let flow = hook.run_chain(chain, MOST_CHAINS, progress, lists, recorder)?;
+        let flow = hook.run_chain(found, chain, MOST_CHAINS, progress, lists, recorder)?;
         journey.after_hook(stage, flow);
         Ok(())
     }

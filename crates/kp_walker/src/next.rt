@@ -6,10 +6,11 @@ ghost use Rattle.kp_walker.specs.Next.{IsNext};
 use kp_rules::{Chain, Destination};
 use kp_types::Rule;
 
-/// A rule to be walked: its place in its chain, and the limit of its draw, where a draw is its only
-/// match.
+/// A rule to be walked: its chain and its place there, and the limit of its draw, where a draw is
+/// its only match.
 #[derive(Drop)]
 pub(crate) struct NextRule<'a> {
+    pub(crate) chain: &'a Chain,
     pub(crate) place: u64,
     pub(crate) rule: &'a Rule,
     pub(crate) limit: Option<u32>,
@@ -23,6 +24,7 @@ pub(crate) fn next_rule<'a>(chain: &'a Chain, from: u64, to: &Destination) -> Op
     match chain.next_for(from, to) {
         None => None,
         Some(place) => Some(NextRule {
+            chain,
             place,
             rule: rule_at(chain.rules(), place),
             limit: chain.limit(place),

@@ -13,16 +13,17 @@ remove-requires c = subst (IsStrictlySortedBy chain_cmp) (sym c.self.invariant) 
 
 pub invariant_of-self : goal.invariant_of-self
 invariant_of-self c =
-    let now = removed chain_total chain_ties chain_exact c.self.inside.rules.entries c.swap_remove.new.self.entries c.args.at.now c.swap_remove.ensures.updates.0 in
+    let now = removed chain_total chain_ties chain_exact c.self.inside.rules.entries c.swap_remove_full.new.self.entries c.args.at.now c.swap_remove_full.ensures.updates.0 in
     c.remove.ensures ∙ ap (without_place c.args.at.now) c.self.invariant
     ∙ sym (ap finite.keys now ∙ keys-remove (finite.from_entries c.self.inside.rules.entries) c.args.at.now)
 
-pub returns-then-is_some-clause-chains : goal.returns-then-is_some-clause-chains
-returns-then-is_some-clause-chains c =
-    removed chain_total chain_ties chain_exact c.self.inside.rules.entries c.swap_remove.new.self.entries c.args.at.now c.swap_remove.ensures.updates.0
+pub returns-in-Some-clause-chains : goal.returns-in-Some-clause-chains
+returns-in-Some-clause-chains c =
+    ap (λ m. m.chains) c.leave_slot.ensures
+    ∙ removed chain_total chain_ties chain_exact c.self.inside.rules.entries c.swap_remove_full.new.self.entries c.args.at.now c.swap_remove_full.ensures.updates.0
     ∙ ap (λ m. finite.remove m.chains c.args.at.now) c.self.view_is
 
-pub returns-else-is_some-clause-chains : goal.returns-else-is_some-clause-chains
-returns-else-is_some-clause-chains c =
-    removed chain_total chain_ties chain_exact c.self.inside.rules.entries c.swap_remove.new.self.entries c.args.at.now c.swap_remove.ensures.updates.0
+pub returns-in_default-clause-chains : goal.returns-in_default-clause-chains
+returns-in_default-clause-chains c =
+    removed chain_total chain_ties chain_exact c.self.inside.rules.entries c.swap_remove_full.new.self.entries c.args.at.now c.swap_remove_full.ensures.updates.0
     ∙ ap (λ m. finite.remove m.chains c.args.at.now) c.self.view_is

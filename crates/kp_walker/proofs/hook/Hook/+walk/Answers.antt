@@ -15,8 +15,7 @@ run_chain-returns-in-None-clause-outcome g t c draws drawn =
     ap (shorn g.R.Recorder.keeps)
     (chain_found (surroundings_of h.around.now draws) (lookup_of h.around.now) h.table c.args.depth (c.args.depth - 1)
     c.args.chain.now (state_of h.header c.args.progress c.args.lists.now) None (omega arith)
-    (sym (ap option_copied c.in-None.is) ∙ c.walked.ensures
-    ∙ ap (λ chain. lookup_of h.around.now (record { table = h.table; chain = chain })) c.same.ensures))
+    (sym (ap option_copied c.in-None.is) ∙ c.requires.found))
 
 -- what the chain's rules do, and back behind the jump
 pub run_chain-returns-in_ok-flow-in-Some-clause-outcome : goal.run_chain-returns-in_ok-flow-in-Some-clause-outcome
@@ -30,8 +29,7 @@ run_chain-returns-in_ok-flow-in-Some-clause-outcome g t c draws drawn =
     ∙ ap (λ o. shorn keeps (returned_from c.args.chain.now o)) (c.in_ok-flow-in-Some.ensures.outcome draws drawn)
     ∙ shorn_returned keeps c.args.chain.now (rules_outcome e (jump_of h draws less) c.in-Some.found.now s)
     ∙ ap (shorn keeps) (chain_found e (lookup_of h.around.now) h.table c.args.depth less c.args.chain.now s
-    (Some c.in-Some.found.now) (omega arith) (sym (ap option_copied c.in-Some.is) ∙ c.walked.ensures
-    ∙ ap (λ chain. lookup_of h.around.now (record { table = h.table; chain = chain })) c.same.ensures))
+    (Some c.in-Some.found.now) (omega arith) (sym (ap option_copied c.in-Some.is) ∙ c.requires.found))
 
 -- the chain's rules come to the set
 pub run_chain-returns-in_err-flow-in-Some-clause-refused : goal.run_chain-returns-in_err-flow-in-Some-clause-refused
@@ -41,8 +39,7 @@ run_chain-returns-in_err-flow-in-Some-clause-refused g t c = on_err c.from_resid
     let s = state_of h.header c.args.progress c.args.lists.now in
     let less = c.args.depth - 1 in
     chain_sets e (lookup_of h.around.now) h.table c.args.depth less c.args.chain.now s c.run_rules.new.lists
-    (Some c.in-Some.found.now) (omega arith) (sym (ap option_copied c.in-Some.is) ∙ c.walked.ensures
-    ∙ ap (λ chain. lookup_of h.around.now (record { table = h.table; chain = chain })) c.same.ensures)
+    (Some c.in-Some.found.now) (omega arith) (sym (ap option_copied c.in-Some.is) ∙ c.requires.found)
     (c.in_err-flow-in-Some.ensures.refused draws drawn))
 
 -- a rule comes to the set

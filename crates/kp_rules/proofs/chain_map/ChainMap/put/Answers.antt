@@ -6,8 +6,8 @@ use Rattle.kp_types.specs.Places.{chain_cmp}
 use Rattle.kp_types.proofs.ChainOrder.{chain_total, chain_ties}
 use Rattle.kp_rules.specs.Order.{with_place}
 use Rattle.kp_rules.proofs.MapPlaces.{keys-insert, keys-there, keys-sorted, length-keys-le, from_ok, was_there, written}
-use Rattle.kp_rules.proofs.chain_map.ChainMap.write.Goals as goal
-use Rattle.kp_rules.proofs.chain_map.ChainMap.write.Goals.{in-Some-1, in-None-1}
+use Rattle.kp_rules.proofs.chain_map.ChainMap.put.Goals as goal
+use Rattle.kp_rules.proofs.chain_map.ChainMap.put.Goals.{in-Some-1, in-None-1}
 
 pub insert-requires-then-len-known-clause-sorted : goal.insert-requires-then-len-known-clause-sorted
 insert-requires-then-len-known-clause-sorted c = subst (IsStrictlySortedBy chain_cmp) (sym c.self.invariant) (keys-sorted (finite.from_entries c.self.inside.rules.entries))
