@@ -12,14 +12,16 @@ use Rattle.kp_object_laws.specs.SliceLaws.{SlicesAfterEvent, SlicesAfterSync}
 use Rattle.kp_object_laws.specs.ObjectLaws.{OwnKeysAfterEvents}
 use Rattle.kp_table_laws.specs.Laws.{PortsOfObjectsMakeTheTable}
 use Rattle.kp_table_defs.specs.Walk.{walk_of}
+use Rattle.kp_choice_defs.specs.Settings.{setting_of}
 use Rattle.kp_door_defs.specs.Decision.{decision_of}
+use Rattle.kp_walk_laws.specs.Laws.{Agree, HashedPrefixed, WalkDecidesObjects}
 use Rattle.kp_history_defs.specs.History.{counts_of, objects_covered}
 use Rattle.kp_history_defs.specs.declared.fed.Fed.{Fed}
 use Rattle.kp_history_defs.specs.Runs.{RunState, Step, Feed, Take, Sync, Refuse, Publish, Read, Tell, IsRun, IsAllowed, initial, state_after, after_take, after_sync, events_of, objects_now, next_record}
 use Rattle.kp_history_laws.specs.EventLaws.{has_port, UnaffectedInputs}
 use Rattle.kp_history_laws.specs.HistoryLaws.{ExactTables}
 use Rattle.kp_history_laws.specs.KeptLaws.{EnoughByRules}
-use Rattle.kp_history_laws.specs.RunLaws.{HistoryIsExact, TouchedHoldChanged, TablesAreFull, ReadsDecide, IsDecided, SlicesOfSteps, slices_in, slices_after_take, objects_recorded}
+use Rattle.kp_history_laws.specs.RunLaws.{HistoryIsExact, TouchedHoldChanged, TablesAreFull, ReadsDecide, ProductReadsDecide, SlicesOfSteps, slices_in, slices_after_take, objects_recorded}
 use Rattle.kp_history_laws.proofs.Changed.{changed_inputs}
 use Rattle.kp_history_laws.proofs.Synced.{IsSynced, nothing_synced, taken_synced, synced}
 use Rattle.kp_history_laws.proofs.Steps.{kept_by_steps, run_seen}
@@ -70,15 +72,19 @@ module _ (own : OwnKeysAfterEvents) (unaffected : UnaffectedInputs) (enough : En
   pub tables_are_full : ExactTables → TablesAreFull
   tables_are_full tables setting steps s run n le = tables setting (events_of s.journal) s.records n (history_is_exact setting steps s run) le
 
-  pub reads_decide : ExactTables → ReadsDecide
-  reads_decide tables setting steps s t worker packet draws lists answer decides run step =
+  pub reads_decide : ExactTables → WalkDecidesObjects → ReadsDecide
+  reads_decide tables decides setting picks prefixed steps s t worker packet draws lists answer run step =
       let exact = history_is_exact setting steps s run in
       let le = (run_seen setting steps s run).published in
       let covers : Objects = objects_covered (events_of s.journal) (counts_of s.records) s.published in
       let full = tables setting (events_of s.journal) s.records s.published exact le in
-      subst (λ a. IsDecided a (decision_of setting covers packet draws lists))
+      subst (λ a. Agree a (decision_of setting covers packet draws lists))
       (sym (step.allowed ∙ ap (λ chains. walk_of (λ at. finite.get chains at) setting.config.addresses packet draws lists) full))
-      (decides covers packet draws lists (no_clash_covered setting (events_of s.journal) s.records s.published exact le))
+      (decides setting covers packet draws lists picks prefixed (no_clash_covered setting (events_of s.journal) s.records s.published exact le))
+
+  pub product_reads_decide : ExactTables → WalkDecidesObjects → HashedPrefixed → ProductReadsDecide
+  product_reads_decide tables decides prefixed family config =
+      reads_decide tables decides (setting_of family config) refl (prefixed config.name_length)
 
 -- ---- Slices
 

@@ -16,12 +16,10 @@ use Rattle.kp_base.specs.declared.key.PortKey.{PortKey}
 use Rattle.kp_base.proofs.KeyOrder.{port_key_total, port_key_exact}
 use Rattle.kp_base.proofs.SameParts.{same_proto_exact}
 use Rattle.kp_types.specs.Ports.{is_port}
-use Rattle.kp_types.specs.Setting.{FamilyConfig, Setting}
-use Rattle.kp_base.specs.declared.address.Family.{Family}
+use Rattle.kp_types.specs.Setting.{Setting}
 use Rattle.kp_types.specs.declared.info.ServiceSources.{ServiceSources}
 use Rattle.kp_types.specs.declared.service.Service.{Service}
 use Rattle.kp_types.specs.declared.service.ServicePort.{ServicePort}
-use Rattle.kp_object_defs.specs.Desired.{is_reconciled}
 use Rattle.kp_object_defs.specs.Entries.{sources_of, entries_from}
 use Rattle.kp_object_defs.specs.Objects.{Objects, zone_of}
 use Rattle.kp_object_defs.specs.OwnKeys.{AreUnderOwnKeys}

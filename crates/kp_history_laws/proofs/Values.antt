@@ -1,12 +1,12 @@
 -- The values of a finite map that pass a test: a change of a value that doesn't pass leaves them.
-use Rattle.std.proofs.Common.{◌≡◌, Bool, true, false, cond, List, [], ◌∷◌, map, filter, Option, Some, None, refl, sym, ap, ◌∙◌, is_lt, is_eq, Ordering}
+use Rattle.std.proofs.Common.{◌≡◌, Bool, true, false, cond, List, [], ◌∷◌, map, filter, Option, Some, None, refl, sym, ap, ◌∙◌, is_lt, Ordering}
 use Rattle.std.specs.Ordering.{eq_by_cmp}
 use Rattle.std.specs.Cmp.{IsTotalOrder}
 use Rattle.std.specs.FinMap.{FinMap, find, is_sorted, get, insert, remove, entries, values, entries_sorted, get-entries, get-insert, get-remove, IsAntisymmetric}
 use Rattle.std.specs.FinMap.Entries.{below_all, same_entries}
 use Rattle.std.proofs.lemmas.Bool.{and_from, and_parts}
 use Rattle.kp_lemmas.proofs.Booleans.{true_from_fact, fact_from_true}
-use Rattle.kp_lemmas.proofs.Orders.{one_from_tie, less_from_test}
+use Rattle.kp_lemmas.proofs.Orders.{one_from_tie}
 use Rattle.kp_object_laws.proofs.OwnEntries.{missing}
 
 module _ {K X : Type 0} {R : K → K → Ordering} (total : IsTotalOrder R) (exact : IsAntisymmetric R) (p : X → Bool) where

@@ -1,18 +1,18 @@
 -- What holds in every interleaving: of each state that a run leads to, whatever its steps.
-use Rattle.std.specs.Prelude.{◌≡◌, ◌≤◌, ℕ, true, List, [], ◌∷◌, ◌++◌, take, length, None}
+use Rattle.std.specs.Prelude.{◌≡◌, ◌≤◌, ℕ, true, List, [], ◌∷◌, ◌++◌, take, length}
 use Rattle.std.specs.List.{filter}
-use Rattle.std.specs.FinMap as finite
 use Rattle.kp_base.specs.declared.address.Family.{Family}
 use Rattle.kp_base.specs.declared.config.Config.{Config}
 use Rattle.kp_base.specs.declared.key.PortKey.{PortKey}
 use Rattle.kp_types.specs.Setting.{Setting}
 use Rattle.kp_types.specs.declared.packet.Packet.{Packet}
 use Rattle.kp_choice_defs.specs.Recent.{RecentParts}
+use Rattle.kp_choice_defs.specs.Settings.{pick_by_draws, setting_of}
 use Rattle.kp_object_defs.specs.Objects.{Objects}
 use Rattle.kp_object_defs.specs.SlicesNow.{Slices, slices_step, controller_step}
-use Rattle.kp_door_defs.specs.Decision.{Decided, decision_of}
-use Rattle.kp_table_defs.specs.Rebuild.{clash_of, full_table}
-use Rattle.kp_table_defs.specs.Walk.{Walked, walk_of}
+use Rattle.kp_door_defs.specs.Decision.{decision_of}
+use Rattle.kp_table_defs.specs.Walk.{Walked}
+use Rattle.kp_walk_laws.specs.Laws.{Agree, IsPrefixed}
 use Rattle.kp_history_defs.specs.declared.fed.Fed.{Fed}
 use Rattle.kp_history_defs.specs.History.{IsExactHistory, counts_of, objects_covered, chains_covered, slices_after, table_after}
 use Rattle.kp_history_defs.specs.Inputs.{changed_ports}
@@ -119,26 +119,24 @@ SeenOnlyGrows =
     → IsRun setting steps s → IsRunFrom setting s more t
     → (worker : ℕ) → BeginsWith (t.seen worker) (s.seen worker)
 
--- a walk has the verdict of a decision, and leaves its recent lists
-abbrev pub IsDecided : Walked → Decided → Type 0
-IsDecided w d = (w.verdict ≡ d.verdict) × (w.lists ≡ d.lists)
-
--- Under a setting, walking the full table of objects without a clash decides each packet.
-abbrev pub WalkDecidesUnder : Setting → Type 0
-WalkDecidesUnder setting =
-    (o : Objects) (packet : Packet) (draws : ℕ → ℕ) (lists : RecentParts)
-    → clash_of setting o ≡ None
-    → IsDecided (walk_of (λ at. finite.get (full_table setting o).chains at)
-    setting.config.addresses packet draws lists) (decision_of setting o packet draws lists)
-
--- Where walking decides, each packet that is read has the answer of the decision on the objects
--- that the published records cover.
-abbrev pub ReadsDecide : Type 0
-ReadsDecide =
-    (setting : Setting) (steps : List Step) (s t : RunState)
+-- Under a setting, each packet that is read has the answer of the decision on the objects that the
+-- published records cover.
+abbrev pub ReadsDecideUnder : Setting → Type 0
+ReadsDecideUnder setting =
+    (steps : List Step) (s t : RunState)
     (worker : ℕ) (packet : Packet) (draws : ℕ → ℕ) (lists : RecentParts) (answer : Walked)
-    → WalkDecidesUnder setting → IsRun setting steps s
-    → IsStep setting s (Read worker packet draws lists answer) t
-    → IsDecided answer
+    → IsRun setting steps s → IsStep setting s (Read worker packet draws lists answer) t
+    → Agree answer
     (decision_of setting (objects_covered (events_of s.journal) (counts_of s.records) s.published)
     packet draws lists)
+
+-- So it is under each setting that picks by draws, and whose names begin as kube-proxy's do.
+abbrev pub ReadsDecide : Type 0
+ReadsDecide =
+    (setting : Setting) → setting.pick ≡ pick_by_draws → IsPrefixed setting.name_of
+    → ReadsDecideUnder setting
+
+-- Under the product's names and picks nothing is asked.
+abbrev pub ProductReadsDecide : Type 0
+ProductReadsDecide =
+    (family : Family) (config : Config) → ReadsDecideUnder (setting_of family config)

@@ -87,6 +87,7 @@ pub fn interleavings()
     ensures seen { runs.SeenIsPublished }
     ensures grows { runs.SeenOnlyGrows }
     ensures reads { runs.ReadsDecide }
+    ensures product { runs.ProductReadsDecide }
 {
     kp_object_laws::own_keys();
     kp_object_laws::slices_now();
@@ -94,4 +95,6 @@ pub fn interleavings()
     unaffected_ports();
     kept_rules();
     exact_tables();
+    kp_walk_laws::walk_decides_objects();
+    kp_walk_laws::hashed_prefixed();
 }

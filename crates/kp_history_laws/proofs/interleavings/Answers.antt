@@ -1,4 +1,4 @@
-use Rattle.kp_history_laws.proofs.EveryRun.{history_is_exact, touched_hold_changed, tables_are_full, reads_decide, slices_of_steps}
+use Rattle.kp_history_laws.proofs.EveryRun.{history_is_exact, touched_hold_changed, tables_are_full, reads_decide, product_reads_decide, slices_of_steps}
 use Rattle.kp_history_laws.proofs.Steps.{streams_keep_order, published_are_records, seen_is_published, seen_only_grows}
 use Rattle.kp_history_laws.proofs.interleavings.Goals as goal
 
@@ -32,7 +32,13 @@ returns-clause-grows c = seen_only_grows
 pub returns-clause-reads : goal.returns-clause-reads
 returns-clause-reads c =
     reads_decide c.own_keys.ensures.after_events c.unaffected_ports.ensures.inputs c.kept_rules.ensures.by_rules
-    c.ports_of_objects_make_the_table.ensures c.exact_tables.ensures.full
+    c.ports_of_objects_make_the_table.ensures c.exact_tables.ensures.full c.walk_decides_objects.ensures
+
+pub returns-clause-product : goal.returns-clause-product
+returns-clause-product c =
+    product_reads_decide c.own_keys.ensures.after_events c.unaffected_ports.ensures.inputs c.kept_rules.ensures.by_rules
+    c.ports_of_objects_make_the_table.ensures c.exact_tables.ensures.full c.walk_decides_objects.ensures
+    c.hashed_prefixed.ensures
 
 pub returns-clause-slices : goal.returns-clause-slices
 returns-clause-slices c =
