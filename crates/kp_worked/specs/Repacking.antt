@@ -1,5 +1,5 @@
 -- Worked examples of packings that go on from the slices of one before them (KEP-752). Pods have names of one letter.
-use Rattle.std.specs.Prelude.{◌≡◌, ℕ, List, [], ◌∷◌, map, codes}
+use Rattle.std.specs.Prelude.{◌≡◌, ℕ, true, List, [], ◌∷◌, map, codes}
 use Rattle.kp_base.specs.declared.address.Family.TheVariants.{V4}
 use Rattle.kp_base.specs.declared.port.Proto.TheVariants.{Udp}
 use Rattle.kp_types.specs.declared.slice.Wanted.{Wanted}
