@@ -1,5 +1,6 @@
 use Rattle.std.specs.Prelude.{refl}
 use Rattle.std.specs.Fmt.{digits}
+use Rattle.json.specs.Print.{escape_byte}
 use Rattle.kp_text_tests.proofs.worked.worked_refusals.Goals as goal
 
 pub returns-clause-lines : goal.returns-clause-lines
@@ -11,9 +12,9 @@ unfolding digits
 returns-clause-clashes c = refl
 
 pub returns-clause-quoted : goal.returns-clause-quoted
-unfolding digits
+unfolding digits escape_byte
 returns-clause-quoted c = refl
 
 pub returns-clause-members : goal.returns-clause-members
-unfolding digits
+unfolding digits escape_byte
 returns-clause-members c = refl
