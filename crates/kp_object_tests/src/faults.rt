@@ -77,7 +77,8 @@ const SERVICES: &str = r#"{"kind":"Service"} => Missing metadata
 {"kind":"Service","metadata":{"name":"web"},"spec":{"trafficDistribution":1,"type":"Other"}} => OutOfRange spec.type"#;
 
 /// Slices.
-const SLICES: &str = r#"{"kind":"EndpointSlice","metadata":{"name":"s"},"addressType":"IPv4","endpoints":{}} => WrongType endpoints
+const SLICES: &str =
+    r#"{"kind":"EndpointSlice","metadata":{"name":"s"},"addressType":"IPv4","endpoints":{}} => WrongType endpoints
 {"kind":"EndpointSlice","metadata":{"name":"s"},"addressType":"IPv4","endpoints":[5]} => WrongType endpoints[0]
 {"kind":"EndpointSlice","metadata":{"name":"s"},"addressType":"IPv4","endpoints":[{}]} => Missing endpoints[0].addresses
 {"kind":"EndpointSlice","metadata":{"name":"s"},"addressType":"IPv4","endpoints":[{"addresses":"x"}]} => WrongType endpoints[0].addresses

@@ -86,7 +86,12 @@ fn events_are_printed(rt: HostRuntime) -> Result<(), Fail> {
 fn refusals_are_printed(rt: HostRuntime) -> Result<(), Fail> {
     let op = Text::of(rt.alloc(), "pull")?;
     let line = "line 4: refused: op \"pull\" is not known\n";
-    assert!(rt; is_line(&refusal_text(rt.alloc(), 4, &LineRefusal::UnknownOp { op }), line));
+    assert!(rt;
+        is_line(
+            &refusal_text(rt.alloc(), 4, &LineRefusal::UnknownOp { op }),
+            line
+        )
+    );
     Ok(())
 }
 
