@@ -1,3 +1,4 @@
+pub mod Apart
 pub mod Clashes
 pub mod Ordered
 pub mod PartSteps

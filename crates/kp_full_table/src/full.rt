@@ -1,5 +1,5 @@
 //! The full table of the objects, and of what is known of the ports.
-ghost use Rattle.std.specs.Prelude.{◌≡◌, ◌+◌, ◌++◌, ◌≤◌, List, None, IfOk, IfErr, OnOk};
+ghost use Rattle.std.specs.Prelude.{◌≡◌, ◌+◌, ◌++◌, ◌≤◌, List, length, None, IfOk, IfErr, OnOk};
 ghost use Rattle.kp_base.specs.declared.address.Family.TheVariants.{V4};
 ghost use Rattle.kp_choice_defs.specs.Names.{chain_name, first_clash};
 ghost use Rattle.kp_choice_defs.specs.Settings.{setting_of};
@@ -71,10 +71,33 @@ pub fn table_of_infos<L: Ledger>(
     ensures bound { steps.new
         ≤ steps.old + all_rule_count (setting_of V4 config.now) infos.now }
 {
-    let keys = needed_keys(alloc, infos)?;
-    Namer::new(config.name_length).check_names(alloc, &keys)?;
     let part = part_of_ports(alloc, config, infos, steps)?;
-    Ok(table_of_part(alloc, part)?)
+    let (table, rows) = table_of_part(alloc, part)?;
+    check_names(alloc, config, infos, rows, &table)?;
+    Ok(table)
+}
+
+/// Checks that no two chains that are needed have one name. Where the table has a chain for each of
+/// its rows none have, so that the names are made again and compared only where rows share a place.
+fn check_names(
+    alloc: Global,
+    config: &Config,
+    infos: &[PortInfo],
+    rows: usize,
+    table: &Table,
+) -> Result<(), TableFault>
+    requires chains { table.now.chains ≡ full_chains (setting_of V4 config.now) infos.now }
+    requires rows { rows ≡ length (layout.rows_of (setting_of V4 config.now) infos.now) }
+    ensures no_clash { OnOk result (
+        first_clash (chain_name config.now.name_length) (needed_keys infos.now) ≡ None) }
+    ensures clash { IfErr result (TellsClash
+        (first_clash (chain_name config.now.name_length) (needed_keys infos.now))) }
+{
+    if rows as u64 == table.count() {
+        return Ok(());
+    }
+    let keys = needed_keys(alloc, infos)?;
+    Ok(Namer::new(config.name_length).check_names(alloc, &keys)?)
 }
 
 /// What all ports contribute, in their order.
@@ -97,14 +120,18 @@ fn part_of_ports<L: Ledger>(
     Ok(part)
 }
 
-/// The table of what all ports contribute.
-fn table_of_part(alloc: Global, part: Part) -> Result<Table, NoMemory>
-    ensures { (config : Config) (infos : List PortInfo) → IsPartOf (setting_of V4 config) infos part
-        → IfOk result (λ t. t
+/// The table of what all ports contribute, and how many rows it is made of.
+fn table_of_part(alloc: Global, part: Part) -> Result<(Table, usize), NoMemory>
+    ensures table { (config : Config) (infos : List PortInfo)
+        → IsPartOf (setting_of V4 config) infos part → IfOk result (λ (t, _). t
         ≡ record { chains = full_chains (setting_of V4 config) infos; syncs = 0 }) }
+    ensures rows { (config : Config) (infos : List PortInfo)
+        → IsPartOf (setting_of V4 config) infos part → IfOk result (λ (_, rows). rows
+        ≡ length (layout.rows_of (setting_of V4 config) infos)) }
 {
     let rows = rows_of_part(alloc, part)?;
-    table_of(alloc, rows)
+    let count = rows.len();
+    Ok((table_of(alloc, rows)?, count))
 }
 
 /// The rows of what all ports contribute, between the fixed rules.
