@@ -1,5 +1,6 @@
 //! Where a replay stands, and the lines that it takes.
-ghost use Rattle.std.specs.Prelude.{◌≡◌, ◌<◌, ◌-◌, ◌^◌, [], false, length, string_bytes, None, IfOk, OnOk};
+ghost use Rattle.std.specs.Prelude.{◌≡◌, ◌<◌, ◌-◌, ◌^◌, [], false, length, string_bytes};
+ghost use Rattle.std.specs.Prelude.{None, IfOk, OnOk};
 ghost use Rattle.kp_run_defs.specs.ReplayText as spec;
 
 use kp_base::{Config, Items, NoMemory};
@@ -22,7 +23,8 @@ pub struct Replay {
 }
 
 impl Replay {
-    ghost use Rattle.kp_replay.specs.Steps.{standing_of, IsReady, Takes, HasNoEvents, MayTake, given_line};
+    ghost use Rattle.kp_replay.specs.Steps.{standing_of, given_line};
+    ghost use Rattle.kp_replay.specs.Steps.{IsReady, Takes, HasNoEvents, MayTake};
 
     /// Before the first line.
     pub fn new(alloc: Global) -> Result<Replay, NoMemory>
@@ -36,13 +38,6 @@ impl Replay {
             lists,
             refused: false,
         })
-    }
-
-    /// Whether a line was refused.
-    pub fn refused(&self) -> bool
-        ensures { result ≡ (standing_of self.now).refused }
-    {
-        self.refused
     }
 
     /// Lets the replay go, and tells whether a line was refused.
