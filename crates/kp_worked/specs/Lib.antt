@@ -1,6 +1,7 @@
 pub mod Setting
 pub mod Decisions
 pub mod Lists
+pub mod Entries
 pub mod Wanted
 pub mod Masquerades
 pub mod Choices
@@ -8,6 +9,7 @@ pub mod Counts
 pub mod Affinity
 pub mod Names
 pub mod Packing
+pub mod Repacking
 pub mod Chains
 pub mod Walks
 pub mod Events

@@ -1,6 +1,6 @@
 -- Worked examples of the endpoints that a Service port may send to (Kubernetes documents on EndpointSlices,
 -- topology hints, traffic policies, and Services without a selector).
-use Rattle.std.specs.Prelude.{◌≡◌, true, false, List, [], ◌∷◌, map, codes, Some, None}
+use Rattle.std.specs.Prelude.{◌≡◌, ℕ, true, false, List, [], ◌∷◌, map, codes, Some, None}
 use Rattle.kp_base.specs.declared.port.Proto.TheVariants.{Tcp}
 use Rattle.kp_base.specs.declared.key.Endpoint.{Endpoint}
 use Rattle.kp_types.specs.declared.lists.Lists.{Lists}
@@ -42,6 +42,22 @@ LocalOutside = lists_of_ports (infos local_node_port two) ≡ one_port (ep1 ∷ 
 
 -- ---- States
 
+-- a Service without endpoints has none
+abbrev pub NoEndpoint : Type 0
+NoEndpoint = lists_of_ports (infos web []) ≡ no_endpoints
+
+-- where one endpoint is ready, those that terminate aren't used
+abbrev pub ReadyAlone : Type 0
+ReadyAlone =
+    lists_of_ports (infos web (first ∷ terminating second ∷ terminating third ∷ [])) ≡ one_port (ep1 ∷ []) []
+
+-- where none is ready, those are used that still serve and terminate
+abbrev pub ServingAndTerminating : Type 0
+ServingAndTerminating =
+    lists_of_ports
+    (infos web (terminating first ∷ record (terminating second) { serving = false } ∷ record third { ready = false } ∷ []))
+    ≡ one_port (ep1 ∷ []) []
+
 -- endpoints that don't serve don't count
 abbrev pub NotServing : Type 0
 NotServing = lists_of_ports (infos web (record first { ready = false; serving = false } ∷ [])) ≡ no_endpoints
@@ -63,20 +79,45 @@ NoZone =
     lists_of_ports (infos web (hinted (codes "a") first ∷ hinted (codes "b") second ∷ []))
     ≡ one_port (ep1 ∷ ep2 ∷ []) []
 
--- the lists in the zone c
-abbrev pub lists_in_c : Service → List SliceEndpoint → List Lists
-lists_in_c s endpoints =
-    lists_of_ports (infos_in (Some (codes "c")) (record { service = s; wanted = []; slices = slice_of s.key.name endpoints ∷ [] } ∷ []))
+-- the lists in a zone
+abbrev pub lists_in : List ℕ → Service → List SliceEndpoint → List Lists
+lists_in zone s endpoints =
+    lists_of_ports (infos_in (Some zone) (record { service = s; wanted = []; slices = slice_of s.key.name endpoints ∷ [] } ∷ []))
 
 -- nor where none hints the node's zone
 abbrev pub NoneHintsZone : Type 0
 NoneHintsZone =
-    lists_in_c web (hinted (codes "a") first ∷ hinted (codes "b") second ∷ []) ≡ one_port (ep1 ∷ ep2 ∷ []) []
+    lists_in (codes "c") web (hinted (codes "a") first ∷ hinted (codes "b") second ∷ []) ≡ one_port (ep1 ∷ ep2 ∷ []) []
 
--- and never for the endpoints of this node
+-- where each ready endpoint has a hint, those of the node's zone are used
+abbrev pub HintedZone : Type 0
+HintedZone =
+    lists_in (codes "a") web (hinted (codes "a") first ∷ hinted (codes "a") second ∷ hinted (codes "b") third ∷ [])
+    ≡ one_port (ep1 ∷ ep2 ∷ []) []
+
+-- and all of them, where one has none
+abbrev pub OneUnhinted : Type 0
+OneUnhinted =
+    lists_in (codes "a") web (hinted (codes "a") first ∷ hinted (codes "a") second ∷ third ∷ [])
+    ≡ one_port (ep1 ∷ ep2 ∷ ep3 ∷ []) []
+
+-- one that is ready here with a hint elsewhere, one elsewhere with the node's hint, and one that terminates here
+abbrev pub mixed : List SliceEndpoint
+mixed =
+    hinted (codes "a") first ∷ hinted (codes "b") second ∷ record (terminating third) { node = Some (codes "n1") } ∷ []
+
+-- under the internal policy Local the ready endpoint of this node is used, whatever its hint
+abbrev pub LocalWithHints : Type 0
+LocalWithHints = lists_in (codes "b") local_inside mixed ≡ one_port [] (ep1 ∷ [])
+
+-- under the external one the list of all nodes goes by hints
+abbrev pub BothWithHints : Type 0
+BothWithHints = lists_in (codes "b") local_node_port mixed ≡ one_port (ep2 ∷ []) (ep1 ∷ [])
+
+-- hints never count for the endpoints of this node
 abbrev pub HintsElsewhere : Type 0
 HintsElsewhere =
-    lists_in_c local_node_port (hinted (codes "a") first ∷ hinted (codes "c") second ∷ [])
+    lists_in (codes "c") local_node_port (hinted (codes "a") first ∷ hinted (codes "c") second ∷ [])
     ≡ one_port (ep2 ∷ []) (ep1 ∷ [])
 
 -- ---- Slices

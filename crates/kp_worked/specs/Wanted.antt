@@ -9,11 +9,12 @@ use Rattle.kp_base.specs.declared.key.Pair.{Pair}
 use Rattle.kp_types.specs.declared.pod.Pod.{Pod}
 use Rattle.kp_types.specs.declared.pod.Node.{Node}
 use Rattle.kp_types.specs.declared.service.Service.{Service}
+use Rattle.kp_types.specs.declared.service.ServiceKind.TheVariants.{ExternalName}
 use Rattle.kp_types.specs.declared.service.TargetPort.TheVariants.{Named}
 use Rattle.kp_types.specs.declared.slice.SliceEndpoint.{SliceEndpoint}
 use Rattle.kp_types.specs.declared.slice.Wanted.{Wanted}
 use Rattle.kp_types.specs.declared.verdict.Verdict.TheVariants.{To}
-use Rattle.kp_object_defs.specs.Desired.{desired_among}
+use Rattle.kp_object_defs.specs.Desired.{desired_among, selects}
 use Rattle.kp_worked.specs.Setting.{ipv4, default_key, web, infos_in, ep1, other_pod, to_web}
 use Rattle.kp_worked.specs.Decisions.{decided}
 
@@ -127,3 +128,84 @@ NotReadyPublished =
 abbrev pub SameZone : Type 0
 SameZone =
     map (λ w. w.entry.hints) (wanted_of (record selecting { same_zone = true }) (pod_a ∷ [])) ≡ (codes "a" ∷ []) ∷ []
+
+-- ---- Selectors
+
+-- a label or a term of a selector
+abbrev pub pair : List ℕ → List ℕ → Pair
+pair key value = record { key = key; value = value }
+
+-- a pod with three labels
+abbrev pub labelled : Pod
+labelled = record pod_a {
+  labels = pair (codes "app") (codes "web") ∷ pair (codes "tier") (codes "front") ∷ pair (codes "zone") (codes "x") ∷ [];
+}
+
+-- each term of a selector is asked for
+abbrev pub AllTerms : Type 0
+AllTerms =
+    selects (record web { selector = pair (codes "zone") (codes "x") ∷ pair (codes "app") (codes "web") ∷ [] }) labelled ≡ true
+
+-- one whose value differs is missing
+abbrev pub OtherValue : Type 0
+OtherValue =
+    selects (record web { selector = pair (codes "app") (codes "web") ∷ pair (codes "tier") (codes "back") ∷ [] }) labelled ≡ false
+
+-- no term selects nothing
+abbrev pub NoTerm : Type 0
+NoTerm = selects web labelled ≡ false
+
+-- nor does a Service that is only another name
+abbrev pub AnotherName : Type 0
+AnotherName = selects (record web { kind = ExternalName; selector = app_web }) labelled ≡ false
+
+-- a pod of another namespace isn't selected
+abbrev pub Elsewhere : Type 0
+Elsewhere =
+    selects (record web { selector = app_web }) (record labelled { key = record { namespace = codes "other"; name = codes "a" } })
+    ≡ false
+
+-- ---- Pods and nodes of one name
+
+-- pods of every kind, of which two have one name
+abbrev pub many_pods : List Pod
+many_pods =
+    record (ready_pod (codes "f") (ipv4 10 244 0 1)) { finished = true }
+    ∷ record (ready_pod (codes "a") (ipv4 10 244 0 1)) { ready = false; deleting = true; address = None }
+    ∷ record (ready_pod (codes "c") (ipv4 10 244 1 4)) { deleting = true }
+    ∷ record (ready_pod (codes "b") (ipv4 10 244 1 3)) { ready = false }
+    ∷ record (ready_pod (codes "e") (ipv4 10 244 0 1)) { address = None }
+    ∷ record (ready_pod (codes "d") (ipv4 10 244 0 1)) { labels = pair (codes "app") (codes "db") ∷ [] }
+    ∷ ready_pod (codes "a") (ipv4 10 244 1 2) ∷ []
+
+-- two nodes of one name
+abbrev pub renamed : List Node
+renamed = record { name = codes "n1"; zone = Some (codes "west") } ∷ record { name = codes "n1"; zone = Some (codes "a") } ∷ []
+
+-- of pods and of nodes of one name the last counts
+abbrev pub LastOfName : Type 0
+LastOfName =
+    map (λ w. w.entry) (desired_among V4 selecting many_pods renamed)
+    ≡ entry (codes "a") (ipv4 10 244 1 2) true true false
+    ∷ entry (codes "b") (ipv4 10 244 1 3) false false false
+    ∷ entry (codes "c") (ipv4 10 244 1 4) false true true ∷ []
+
+-- the first container port of the name and protocol counts
+abbrev pub FirstOfPorts : Type 0
+FirstOfPorts =
+    map (λ w. w.ports)
+    (wanted_of selecting (record pod_a {
+      ports =
+          record { name = codes "http"; proto = Udp; port = 7070 } ∷ record { name = codes "http"; proto = Tcp; port = 8080 }
+          ∷ record { name = codes "http"; proto = Tcp; port = 9090 } ∷ [];
+    } ∷ []))
+    ≡ (record { name = []; proto = Tcp; port = Some 8080 } ∷ []) ∷ []
+
+-- no pod has a port of another name
+abbrev pub OtherTarget : Type 0
+OtherTarget =
+    wanted_of (record selecting {
+      ports = record { name = []; proto = Tcp; port = 80; target = Named (codes "https"); node_port = None } ∷ [];
+      distinct = refl;
+    }) many_pods
+    ≡ []

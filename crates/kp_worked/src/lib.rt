@@ -7,6 +7,7 @@ ghost use Rattle.kp_worked.specs.Affinity as affinity;
 ghost use Rattle.kp_worked.specs.Chains as chains;
 ghost use Rattle.kp_worked.specs.Choices as choices;
 ghost use Rattle.kp_worked.specs.Counts as counts;
+ghost use Rattle.kp_worked.specs.Entries as entries;
 ghost use Rattle.kp_worked.specs.Events as events;
 ghost use Rattle.kp_worked.specs.Decisions as decisions;
 ghost use Rattle.kp_worked.specs.Families as families;
@@ -14,6 +15,7 @@ ghost use Rattle.kp_worked.specs.Lists as lists;
 ghost use Rattle.kp_worked.specs.Masquerades as masquerades;
 ghost use Rattle.kp_worked.specs.Names as names;
 ghost use Rattle.kp_worked.specs.Packing as packing;
+ghost use Rattle.kp_worked.specs.Repacking as repacking;
 ghost use Rattle.kp_worked.specs.SlicesNow as slices_now;
 ghost use Rattle.kp_worked.specs.SourceRanges as ranges;
 ghost use Rattle.kp_worked.specs.Walks as walks;
@@ -90,6 +92,13 @@ pub fn worked_lists()
     ensures cluster { lists.ClusterPolicy }
     ensures local { lists.LocalPolicy }
     ensures both { lists.LocalOutside }
+    ensures no_endpoint { lists.NoEndpoint }
+    ensures ready { lists.ReadyAlone }
+    ensures serving { lists.ServingAndTerminating }
+    ensures hinted { lists.HintedZone }
+    ensures unhinted { lists.OneUnhinted }
+    ensures local_hints { lists.LocalWithHints }
+    ensures both_hints { lists.BothWithHints }
     ensures not_serving { lists.NotServing }
     ensures not_ready { lists.NotReady }
     ensures terminating { lists.TerminatingHere }
@@ -110,6 +119,21 @@ pub fn worked_slices()
     ensures other_type { lists.BalancerOfOtherType }
 {}
 
+/// Endpoints that stand in several entries.
+pub fn worked_entries()
+    ensures repeated { entries.Repeated }
+    ensures other_protocol { entries.OtherProtocol }
+{}
+
+/// Pods that a Service selects.
+pub fn worked_selectors()
+    ensures all_terms { wanted.AllTerms }
+    ensures other_value { wanted.OtherValue }
+    ensures no_term { wanted.NoTerm }
+    ensures another_name { wanted.AnotherName }
+    ensures elsewhere { wanted.Elsewhere }
+{}
+
 /// Endpoints that the controller wants of pods.
 pub fn worked_pods()
     ensures states { wanted.EveryState }
@@ -122,6 +146,9 @@ pub fn worked_pods()
     ensures no_selector { wanted.NoSelector }
     ensures not_ready { wanted.NotReadyPublished }
     ensures same_zone { wanted.SameZone }
+    ensures last_of_name { wanted.LastOfName }
+    ensures first_of_ports { wanted.FirstOfPorts }
+    ensures other_target { wanted.OtherTarget }
 {}
 
 /// Which packets are masqueraded.
@@ -258,6 +285,16 @@ pub fn worked_packing()
     ensures groups { packing.Groups }
     ensures state { packing.ChangedState }
     ensures unchanged { packing.Unchanged }
+{}
+
+/// Slices packed again, with other endpoints.
+pub fn worked_repacking()
+    ensures new { repacking.OneNew }
+    ensures fullest { repacking.FullestOfTwo }
+    ensures filled { repacking.FilledAgain }
+    ensures shrunk { repacking.Shrunk }
+    ensures other_ports { repacking.OtherPorts }
+    ensures unchanged { repacking.TenAgain }
 {}
 
 /// Slices as they are now, over syncs.
