@@ -1,9 +1,8 @@
-//! Tests of kp_desired, kp_packer and kp_category.
+//! Tests of kp_desired, kp_packer and kp_category: one way from a Service and a pod to a list. What
+//! each call answers in other cases is worked out in the crate of worked examples.
 #![tactic(auto)]
 
 #[cfg(test)]
-mod category;
+mod objects;
 #[cfg(test)]
-mod desired;
-#[cfg(test)]
-mod packer;
+mod way;
