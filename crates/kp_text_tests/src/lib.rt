@@ -1,15 +1,9 @@
-//! Tests of kp_report and of the names of streams.
+//! Worked examples of the printed lines, and tests of each call of kp_report, which gives exactly
+//! these lines.
 #![tactic(auto)]
 
 #[cfg(test)]
-mod explain;
-#[cfg(test)]
-mod live;
-#[cfg(test)]
-mod names;
-#[cfg(test)]
-mod refusals;
-#[cfg(test)]
-mod report;
-#[cfg(test)]
-mod slices;
+mod calls;
+mod worked;
+
+pub use worked::{worked_answers, worked_live_lines, worked_refusals, worked_slices};

@@ -1,0 +1,5 @@
+pub mod Setting
+pub mod Answers
+pub mod Live
+pub mod Refusals
+pub mod Slices
