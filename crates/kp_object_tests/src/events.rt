@@ -79,7 +79,7 @@ fn reads_as(alloc: Global, text: &str, wanted: &str) -> Result<bool, Fail> {
 }
 
 /// Whether the text of a row is read as it says behind the arrow.
-fn is_row_read(alloc: Global, row: &str) -> Result<bool, Fail> {
+pub(crate) fn is_row_read(alloc: Global, row: &str) -> Result<bool, Fail> {
     let (text, wanted) = row.split_once(" =>").ok_or("an arrow")?;
     reads_as(alloc, text, wanted.trim_start())
 }

@@ -1,6 +1,6 @@
-//! Texts of Services: what is read of them, and their first faults.
-use crate::words::{is_key, is_refused};
-use kp_base::{Address, Cidr, Proto};
+//! Texts of Services, and what is read of them.
+use crate::words::is_key;
+use kp_base::{Address, Cidr, PortNo, Proto};
 use kp_json::read_tree;
 use kp_service::{
     ClusterAddress, Policy, Service, ServiceKind, ServicePort, TargetPort, service_of,
@@ -8,108 +8,15 @@ use kp_service::{
 use std::alloc::Global;
 use std::test::Fail;
 
-/// Texts of Services, and their first faults.
-const FAULTS: &str = r#"{} => Missing metadata
-{"metadata":[]} => WrongType metadata
-{"metadata":{}} => Missing metadata.name
-{"metadata":{"name":""}} => BadName metadata.name
-{"metadata":{"name":"-a"}} => BadName metadata.name
-{"metadata":{"name":5,"namespace":5}} => WrongType metadata.name
-{"metadata":{"name":"web","namespace":"A"}} => BadName metadata.namespace
-{"metadata":{"name":"web","namespace":5},"spec":{}} => WrongType metadata.namespace
-{"metadata":{"name":"web"},"spec":{},"status":{"loadBalancer":5}} => WrongType status.loadBalancer
-{"metadata":{"name":"web"},"spec":{},"status":{"loadBalancer":{"ingress":{}}}} => WrongType status.loadBalancer.ingress
-{"metadata":{"name":"web"},"spec":{},"status":{"loadBalancer":{"ingress":[5]}}} => WrongType status.loadBalancer.ingress[0]
-{"metadata":{"name":"web"}} => Missing spec
-{"metadata":{"name":"web"},"spec":null} => Missing spec
-{"metadata":{"name":"web"},"spec":"x"} => WrongType spec
-{"metadata":{"name":"web"},"spec":{},"status":5} => WrongType status
-{"metadata":{"name":"web"},"spec":{},"status":{"loadBalancer":{"ingress":[{"ip":"1.2.3.4"},{"ip":"x"}]}}} => BadAddress status.loadBalancer.ingress[1].ip
-{"metadata":{"name":"web"},"spec":{},"status":{"loadBalancer":{"ingress":[{"ipMode":5}]}}} => WrongType status.loadBalancer.ingress[0].ipMode
-{"metadata":{"name":"web"},"spec":{"type":5}} => WrongType spec.type
-{"metadata":{"name":"web"},"spec":{"type":"Other"}} => OutOfRange spec.type
-{"metadata":{"name":"web"},"spec":{"type":"clusterIP"}} => OutOfRange spec.type
-{"metadata":{"name":"web"},"spec":{"clusterIP":7}} => WrongType spec.clusterIP
-{"metadata":{"name":"web"},"spec":{"clusterIP":"none"}} => BadAddress spec.clusterIP
-{"metadata":{"name":"web"},"spec":{"clusterIP":"10.0.0.256"}} => BadAddress spec.clusterIP
-{"metadata":{"name":"web"},"spec":{"ports":{}}} => WrongType spec.ports
-{"metadata":{"name":"web"},"spec":{"ports":[null]}} => WrongType spec.ports[0]
-{"metadata":{"name":"web"},"spec":{"ports":[{}]}} => Missing spec.ports[0].port
-{"metadata":{"name":"web"},"spec":{"ports":[{"port":null}]}} => Missing spec.ports[0].port
-{"metadata":{"name":"web"},"spec":{"ports":[{"port":0}]}} => OutOfRange spec.ports[0].port
-{"metadata":{"name":"web"},"spec":{"ports":[{"port":65536}]}} => OutOfRange spec.ports[0].port
-{"metadata":{"name":"web"},"spec":{"ports":[{"port":"80"}]}} => WrongType spec.ports[0].port
-{"metadata":{"name":"web"},"spec":{"ports":[{"port":80.0}]}} => WrongType spec.ports[0].port
-{"metadata":{"name":"web"},"spec":{"ports":[{"port":-0}]}} => WrongType spec.ports[0].port
-{"metadata":{"name":"web"},"spec":{"ports":[{"port":18446744073709551616}]}} => WrongType spec.ports[0].port
-{"metadata":{"name":"web"},"spec":{"ports":[{"name":"A"}]}} => BadName spec.ports[0].name
-{"metadata":{"name":"web"},"spec":{"ports":[{"name":5}]}} => WrongType spec.ports[0].name
-{"metadata":{"name":"web"},"spec":{"ports":[{"protocol":"tcp"}]}} => OutOfRange spec.ports[0].protocol
-{"metadata":{"name":"web"},"spec":{"ports":[{"port":1,"targetPort":65536}]}} => OutOfRange spec.ports[0].targetPort
-{"metadata":{"name":"web"},"spec":{"ports":[{"port":1,"targetPort":true}]}} => WrongType spec.ports[0].targetPort
-{"metadata":{"name":"web"},"spec":{"ports":[{"port":1,"nodePort":65536}]}} => OutOfRange spec.ports[0].nodePort
-{"metadata":{"name":"web"},"spec":{"ports":[{"port":1,"nodePort":"1"}]}} => WrongType spec.ports[0].nodePort
-{"metadata":{"name":"web"},"spec":{"ports":[{"port":1},{"port":2}]}} => DuplicatePort spec.ports[1]
-{"metadata":{"name":"web"},"spec":{"ports":[{"port":1},{"port":2},{}]}} => DuplicatePort spec.ports[1]
-{"metadata":{"name":"web"},"spec":{"ports":[{"port":1},{},{"port":2}]}} => Missing spec.ports[1].port
-{"metadata":{"name":"web"},"spec":{"ports":[{"port":1,"protocol":"TCP"},{"port":1,"name":""}]}} => DuplicatePort spec.ports[1]
-{"metadata":{"name":"web"},"spec":{"selector":[]}} => WrongType spec.selector
-{"metadata":{"name":"web"},"spec":{"selector":{"b/c.d":1,"a":"x"}}} => WrongType spec.selector.b/c.d
-{"metadata":{"name":"web"},"spec":{"selector":{"a\"b":1}}} => WrongType spec.selector.a"b
-{"metadata":{"name":"web"},"spec":{"externalIPs":"1.2.3.4"}} => WrongType spec.externalIPs
-{"metadata":{"name":"web"},"spec":{"externalIPs":["1.2.3.4","1.2.3"]}} => BadAddress spec.externalIPs[1]
-{"metadata":{"name":"web"},"spec":{"externalIPs":[""]}} => BadAddress spec.externalIPs[0]
-{"metadata":{"name":"web"},"spec":{"externalIPs":[null]}} => WrongType spec.externalIPs[0]
-{"metadata":{"name":"web"},"spec":{"sessionAffinity":"clientip"}} => OutOfRange spec.sessionAffinity
-{"metadata":{"name":"web"},"spec":{"sessionAffinityConfig":5}} => WrongType spec.sessionAffinityConfig
-{"metadata":{"name":"web"},"spec":{"sessionAffinityConfig":{"clientIP":5}}} => WrongType spec.sessionAffinityConfig.clientIP
-{"metadata":{"name":"web"},"spec":{"sessionAffinityConfig":{"clientIP":{"timeoutSeconds":0}}}} => OutOfRange spec.sessionAffinityConfig.clientIP.timeoutSeconds
-{"metadata":{"name":"web"},"spec":{"sessionAffinityConfig":{"clientIP":{"timeoutSeconds":86401}}}} => OutOfRange spec.sessionAffinityConfig.clientIP.timeoutSeconds
-{"metadata":{"name":"web"},"spec":{"internalTrafficPolicy":"All"}} => OutOfRange spec.internalTrafficPolicy
-{"metadata":{"name":"web"},"spec":{"externalTrafficPolicy":1}} => WrongType spec.externalTrafficPolicy
-{"metadata":{"name":"web"},"spec":{"publishNotReadyAddresses":"true"}} => WrongType spec.publishNotReadyAddresses
-{"metadata":{"name":"web"},"spec":{"publishNotReadyAddresses":""}} => WrongType spec.publishNotReadyAddresses
-{"metadata":{"name":"web"},"spec":{"loadBalancerSourceRanges":["10.0.0.0/33"]}} => BadCidr spec.loadBalancerSourceRanges[0]
-{"metadata":{"name":"web"},"spec":{"loadBalancerSourceRanges":["10.0.0.0"]}} => BadCidr spec.loadBalancerSourceRanges[0]
-{"metadata":{"name":"web"},"spec":{"ports":[{"protocol":5}]}} => WrongType spec.ports[0].protocol
-{"metadata":{"name":"web"},"spec":{"ports":[{"port":1,"targetPort":-1}]}} => WrongType spec.ports[0].targetPort
-{"metadata":{"name":"web"},"spec":{"sessionAffinity":1}} => WrongType spec.sessionAffinity
-{"metadata":{"name":"web"},"spec":{"sessionAffinityConfig":{"clientIP":{"timeoutSeconds":"1"}}}} => WrongType spec.sessionAffinityConfig.clientIP.timeoutSeconds
-{"metadata":{"name":"web"},"spec":{"internalTrafficPolicy":1}} => WrongType spec.internalTrafficPolicy
-{"metadata":{"name":"web"},"spec":{"externalTrafficPolicy":"All"}} => OutOfRange spec.externalTrafficPolicy
-{"metadata":{"name":"web"},"spec":{"loadBalancerSourceRanges":{}}} => WrongType spec.loadBalancerSourceRanges
-{"metadata":{"name":"web"},"spec":{"loadBalancerSourceRanges":[5]}} => WrongType spec.loadBalancerSourceRanges[0]
-{"metadata":{"name":"web"},"spec":{"trafficDistribution":1}} => WrongType spec.trafficDistribution
-{"metadata":{"name":"web"},"spec":{"trafficDistribution":1,"type":"Other"}} => OutOfRange spec.type"#;
-
-/// Whether the Service of a row is refused as it says behind the arrow.
-fn is_row_refused(alloc: Global, row: &str) -> Result<bool, Fail> {
-    let (text, wanted) = row.split_once(" => ").ok_or("an arrow")?;
-    let tree = read_tree(alloc, text.as_bytes())?;
-    Ok(is_refused(&service_of(alloc, &tree.root()), wanted))
-}
-
-#[test]
-fn the_first_fault_of_a_service_is_told(rt: HostRuntime) -> Result<(), Fail> {
-    for row in FAULTS.lines() {
-        assert!(rt; is_row_refused(rt.alloc(), row)?, "{row}");
-    }
-    Ok(())
-}
-
 fn read(alloc: Global, text: &str) -> Result<Service, Fail> {
     let tree = read_tree(alloc, text.as_bytes())?;
     Ok(service_of(alloc, &tree.root())?)
 }
 
 /// Whether a port has this name, protocol, number and node port, 0 for none.
-fn is_port(port: &ServicePort, name: &str, proto: Proto, number: u16, node_port: u16) -> bool {
-    let found = match port.node_port {
-        Some(node_port) => node_port.get(),
-        None => 0,
-    };
+fn is_port(port: &ServicePort, name: &str, proto: Proto, number: u16, node_port: u64) -> bool {
     let named = port.name.as_str() == name && port.proto == proto;
-    named && port.port.get() == number && found == node_port
+    named && port.port.get() == number && port.node_port == PortNo::new(node_port)
 }
 
 /// Whether a port leads to this number, or to the port of this name.

@@ -1,69 +1,10 @@
-//! Texts of EndpointSlices: what is read of them, and their first faults.
-use crate::words::{is_key, is_refused, is_text};
-use kp_base::{Address, ObjectKey, Proto};
+//! Texts of EndpointSlices, and what is read of them.
+use crate::words::{is_key, is_text};
+use kp_base::{Address, ObjectKey, PortNo, Proto};
 use kp_json::{FieldFault, Why, read_tree};
 use kp_slice::{AddressType, Slice, SliceEndpoint, SlicePort, slice_of};
 use std::alloc::{AllocError, Global};
 use std::test::Fail;
-
-/// Texts of slices, and their first faults.
-const FAULTS: &str =
-    r#"{"metadata":{"name":"s"},"addressType":"IPv4","endpoints":{}} => WrongType endpoints
-{"metadata":{"name":"s"},"addressType":"IPv4","endpoints":[5]} => WrongType endpoints[0]
-{"metadata":{"name":"s"},"addressType":"IPv4","endpoints":[{}]} => Missing endpoints[0].addresses
-{"metadata":{"name":"s"},"addressType":"IPv4","endpoints":[{"addresses":"x"}]} => WrongType endpoints[0].addresses
-{"metadata":{"name":"s"},"addressType":"IPv4","endpoints":[{"addresses":[]}]} => Missing endpoints[0].addresses[0]
-{"metadata":{"name":"s"},"addressType":"IPv4","endpoints":[{"addresses":[null]}]} => WrongType endpoints[0].addresses[0]
-{"metadata":{"name":"s"},"addressType":"IPv4","endpoints":[{"addresses":[""]}]} => BadAddress endpoints[0].addresses[0]
-{"metadata":{"name":"s"},"addressType":"IPv4","endpoints":[{"addresses":["x"]}]} => BadAddress endpoints[0].addresses[0]
-{"metadata":{"name":"s"},"addressType":"IPv4","endpoints":[{"addresses":["1.2.3.4"],"conditions":5}]} => WrongType endpoints[0].conditions
-{"metadata":{"name":"s"},"addressType":"IPv4","endpoints":[{"addresses":["1.2.3.4"],"conditions":{"terminating":1,"serving":1}}]} => WrongType endpoints[0].conditions.serving
-{"metadata":{"name":"s"},"addressType":"IPv4","endpoints":[{"addresses":["1.2.3.4"],"nodeName":"N"}]} => BadName endpoints[0].nodeName
-{"metadata":{"name":"s"},"addressType":"IPv4","endpoints":[{"addresses":["1.2.3.4"],"zone":"a b"}]} => BadName endpoints[0].zone
-{"metadata":{"name":"s"},"addressType":"IPv4","endpoints":[{"addresses":["1.2.3.4"],"hints":{"forZones":[{"name":"a"},{}]}}]} => Missing endpoints[0].hints.forZones[1].name
-{"metadata":{"name":"s"},"addressType":"IPv4","endpoints":[{"addresses":["1.2.3.4"],"hints":{"forZones":[{"name":""}]}}]} => BadName endpoints[0].hints.forZones[0].name
-{"metadata":{"name":"s"},"addressType":"IPv4","endpoints":[{"addresses":["1.2.3.4"],"targetRef":{"kind":5}}]} => WrongType endpoints[0].targetRef.kind
-{"metadata":{"name":"s"},"addressType":"IPv4","endpoints":[{"addresses":["1.2.3.4"],"targetRef":{"kind":"Pod","namespace":"N"}}]} => BadName endpoints[0].targetRef.namespace
-{"metadata":{"name":"s"},"addressType":"IPv4","endpoints":[{"addresses":["1.2.3.4"],"targetRef":{"kind":"Pod","name":"N"}}]} => BadName endpoints[0].targetRef.name
-{"metadata":{"name":"s"},"addressType":"IPv4","endpoints":[{"addresses":["1.2.3.4"]},{"addresses":["x"]},{}],"ports":5} => BadAddress endpoints[1].addresses[0]
-{"metadata":{"name":"s"},"addressType":"IPv4","endpoints":[{"addresses":["1.2.3.4"],"conditions":{"ready":1}}]} => WrongType endpoints[0].conditions.ready
-{"metadata":{"name":"s"},"addressType":"IPv4","endpoints":[{"addresses":["1.2.3.4"],"nodeName":5}]} => WrongType endpoints[0].nodeName
-{"metadata":{"name":"s"},"addressType":"IPv4","endpoints":[{"addresses":["1.2.3.4"],"zone":5}]} => WrongType endpoints[0].zone
-{"metadata":{"name":"s"},"addressType":"IPv4","endpoints":[{"addresses":["1.2.3.4"],"hints":5}]} => WrongType endpoints[0].hints
-{"metadata":{"name":"s"},"addressType":"IPv4","endpoints":[{"addresses":["1.2.3.4"],"hints":{"forZones":5}}]} => WrongType endpoints[0].hints.forZones
-{"metadata":{"name":"s"},"addressType":"IPv4","endpoints":[{"addresses":["1.2.3.4"],"hints":{"forZones":[5]}}]} => WrongType endpoints[0].hints.forZones[0]
-{"metadata":{"name":"s"},"addressType":"IPv4","endpoints":[{"addresses":["1.2.3.4"],"targetRef":5}]} => WrongType endpoints[0].targetRef
-{"metadata":{"name":"s"},"addressType":"IPv4","ports":{}} => WrongType ports
-{"metadata":{"name":"s"},"addressType":"IPv4","ports":[5]} => WrongType ports[0]
-{"metadata":{"name":"s"},"addressType":"IPv4","ports":[{"name":5}]} => WrongType ports[0].name
-{"metadata":{"name":"s"},"addressType":"IPv4","ports":[{"protocol":5}]} => WrongType ports[0].protocol
-{"metadata":{"name":"s"},"addressType":"IPv4","ports":[{"port":"1"}]} => WrongType ports[0].port
-{"metadata":{"name":"s"},"addressType":"IPv4","ports":[{"port":0}]} => OutOfRange ports[0].port
-{"metadata":{"name":"s"},"addressType":"IPv4","ports":[{"port":65536}]} => OutOfRange ports[0].port
-{"metadata":{"name":"s"},"addressType":"IPv4","ports":[{"name":"a_b"}]} => BadName ports[0].name
-{"metadata":{"name":"s"},"addressType":"IPv4","ports":[{"protocol":"ICMP"}]} => OutOfRange ports[0].protocol
-{"metadata":{"name":"s"}} => Missing addressType
-{"metadata":{"name":"s"},"addressType":""} => Missing addressType
-{"metadata":{"name":"s"},"addressType":"ipv4"} => OutOfRange addressType
-{"metadata":{"name":"s"},"addressType":4} => WrongType addressType
-{"metadata":{"name":"s","labels":5}} => WrongType metadata.labels
-{"metadata":{"name":"s","labels":{"z":1}}} => WrongType metadata.labels.z
-{"metadata":{"name":"s","labels":{"kubernetes.io/service-name":"-"}}} => BadName metadata.labels.kubernetes.io/service-name"#;
-
-/// Whether the slice of a row is refused as it says behind the arrow.
-fn is_row_refused(alloc: Global, row: &str) -> Result<bool, Fail> {
-    let (text, wanted) = row.split_once(" => ").ok_or("an arrow")?;
-    let tree = read_tree(alloc, text.as_bytes())?;
-    Ok(is_refused(&slice_of(alloc, &tree.root()), wanted))
-}
-
-#[test]
-fn the_first_fault_of_a_slice_is_told(rt: HostRuntime) -> Result<(), Fail> {
-    for row in FAULTS.lines() {
-        assert!(rt; is_row_refused(rt.alloc(), row)?, "{row}");
-    }
-    Ok(())
-}
 
 /// The text of a slice with a list of as many empty objects, at least one.
 fn listed(alloc: Global, name: &str, count: u64) -> Result<String, AllocError> {
@@ -105,12 +46,8 @@ const WHOLE: &str =
     r#"{"metadata":{"name":"s","namespace":"shop","labels":{"kubernetes.io/service-name":"web","endpointslice.kubernetes.io/managed-by":"endpointslice-controller.k8s.io","x":null}},"addressType":"IPv4","ports":[{},{"name":"http","protocol":"UDP","port":65535}],"endpoints":[{"addresses":["0.0.0.1","x"],"conditions":{"ready":false},"nodeName":"n1","zone":"A","hints":{"forZones":[{"name":"a"},{"name":"b"}]},"targetRef":{"kind":"Pod","name":"p"}},{"addresses":["fd00::1"],"conditions":{"serving":false,"terminating":true,"ready":null},"targetRef":{"kind":"Pod","namespace":"other","name":"p"}},{"addresses":["0.0.0.3"],"nodeName":"","zone":"","targetRef":{"kind":"Node","name":5}}]}"#;
 
 /// Whether a port has this name, protocol and number, 0 for none.
-fn is_port(port: &SlicePort, name: &str, proto: Proto, number: u16) -> bool {
-    let found = match port.port {
-        Some(port) => port.get(),
-        None => 0,
-    };
-    port.name.as_str() == name && port.proto == proto && found == number
+fn is_port(port: &SlicePort, name: &str, proto: Proto, number: u64) -> bool {
+    port.name.as_str() == name && port.proto == proto && port.port == PortNo::new(number)
 }
 
 /// Whether the ports of the slice with all its members are these.

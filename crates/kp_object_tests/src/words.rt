@@ -1,6 +1,6 @@
 //! Faults and keys, held against words.
 use kp_base::{ObjectKey, Text};
-use kp_json::{BadField, FieldFault, Why};
+use kp_json::{BadField, Why};
 
 /// A reason in a word.
 fn word(why: Why) -> &'static str {
@@ -21,14 +21,6 @@ pub(crate) fn is_fault(bad: &BadField, wanted: &str) -> bool {
     match wanted.split_once(" ") {
         Some((why, path)) => why == word(bad.why) && path == bad.path.as_str(),
         None => false,
-    }
-}
-
-/// Whether an answer is the fault with these words.
-pub(crate) fn is_refused<T>(answer: &Result<T, FieldFault>, wanted: &str) -> bool {
-    match answer {
-        Err(FieldFault::Bad(bad)) => is_fault(bad, wanted),
-        _ => false,
     }
 }
 
