@@ -8,14 +8,8 @@ use std::alloc::Global;
 use std::io::BufWriter;
 use std::test::Fail;
 
-/// The bytes of a text.
-fn bytes_of(alloc: Global, text: &[u8]) -> Result<Items<u8>, NoMemory> {
-    Ok(Items::from_vec(Vec::from_slice(alloc, text)?))
-}
-
-/// The numbers of two calls that fail.
-fn calls(alloc: Global, first: u64, second: u64) -> Result<Items<u64>, NoMemory> {
-    Ok(Items::from_vec(Vec::from_slice(alloc, &[first, second])?))
+fn items_of<T: Copy>(alloc: Global, items: &[T]) -> Result<Items<T>, NoMemory> {
+    Ok(Items::from_vec(Vec::from_slice(alloc, items)?))
 }
 
 /// Whether a reader gives this line next, with its number.
@@ -58,7 +52,7 @@ fn has_lines(
         return Ok(false);
     }
     let mut reader = LineReader::new(alloc)?;
-    let mut source = SureSource::new(bytes_of(alloc, text)?, piece);
+    let mut source = SureSource::new(items_of(alloc, text)?, piece);
     Ok(gives_two(&mut reader, &mut source, first, second))
 }
 
@@ -76,8 +70,8 @@ fn lines_do_not_depend_on_the_pieces(rt: HostRuntime) -> Result<(), Fail> {
 #[test]
 fn a_failed_read_is_told_and_changes_nothing(rt: HostRuntime) -> Result<(), Fail> {
     let mut reader = LineReader::new(rt.alloc())?;
-    let fails = calls(rt.alloc(), 1, 3)?;
-    let mut source = MemorySource::new(bytes_of(rt.alloc(), b"one\ntwo")?, 2, fails);
+    let fails = items_of(rt.alloc(), &[1u64, 3])?;
+    let mut source = MemorySource::new(items_of(rt.alloc(), b"one\ntwo")?, 2, fails);
     assert!(rt;
         reader.next_line(&mut source) == Err(LineFault::ReadFault),
         "the first read"
@@ -138,7 +132,7 @@ fn a_longer_line_is_skipped_to_its_end(rt: HostRuntime) -> Result<(), Fail> {
 fn a_read_may_fail_within_a_line_that_is_skipped(rt: HostRuntime) -> Result<(), Fail> {
     let mut reader = LineReader::new(rt.alloc())?;
     let text = three_lines(rt.alloc(), LINE_LIMIT + 300_000)?;
-    let mut source = MemorySource::new(text, 65536, calls(rt.alloc(), 259, 259)?);
+    let mut source = MemorySource::new(text, 65536, items_of(rt.alloc(), &[259u64])?);
     assert!(rt; gives_line(&mut reader, &mut source, 1, b"one"));
     assert!(rt; reader.next_line(&mut source) == Err(LineFault::ReadFault));
     assert!(rt; skips_the_second(&mut reader, &mut source));
@@ -147,7 +141,7 @@ fn a_read_may_fail_within_a_line_that_is_skipped(rt: HostRuntime) -> Result<(), 
 
 #[test]
 fn a_failed_write_comes_after_a_part(rt: HostRuntime) -> Result<(), Fail> {
-    let mut sink = MemorySink::new(rt.alloc(), 1, calls(rt.alloc(), 3, 4)?);
+    let mut sink = MemorySink::new(rt.alloc(), 1, items_of(rt.alloc(), &[3u64, 4])?);
     assert!(rt; write_whole(&mut sink, b"abc") == Err(Failed));
     assert!(rt; sink.flush() == Err(Failed), "a flush counts as a call");
     assert!(rt; write_whole(&mut sink, b"c") == Ok(()) && sink.flush() == Ok(()));
@@ -163,28 +157,23 @@ fn a_sure_sink_takes_a_piece(rt: HostRuntime) {
 }
 
 #[test]
-fn a_real_source_gives_everything(rt: HostRuntime) -> Result<(), Fail> {
+fn real_ends_pass_everything_on(rt: HostRuntime) -> Result<(), Fail> {
     let mut reader = LineReader::new(rt.alloc())?;
     let mut source = RealSource::new(b"one\ntwo".as_slice());
     assert!(rt; gives_two(&mut reader, &mut source, b"one", b"two"));
-    Ok(())
-}
-
-#[test]
-fn small_writes_are_gathered_up_to_a_flush(rt: HostRuntime) -> Result<(), Fail> {
     let mut writer = BufWriter::with_capacity(rt.alloc(), 16, Vec::new(rt.alloc()))?;
     assert!(rt; write_whole(&mut RealSink::new(&mut writer), b"three") == Ok(()));
-    assert!(rt; writer.get_ref().as_slice().is_empty());
+    assert!(rt;
+        writer.get_ref().as_slice().is_empty(),
+        "small writes are gathered"
+    );
     assert!(rt; RealSink::new(&mut writer).flush() == Ok(()));
-    assert!(rt; writer.get_ref().as_slice() == b"three".as_slice());
-    Ok(())
-}
-
-#[test]
-fn no_piece_is_too_long(rt: HostRuntime) -> Result<(), Fail> {
-    let mut writer = BufWriter::with_capacity(rt.alloc(), 16, Vec::new(rt.alloc()))?;
+    assert!(rt;
+        writer.get_ref().as_slice() == b"three".as_slice(),
+        "a flush reaches the writer"
+    );
     let long = Vec::from_elem(rt.alloc(), b'x', 100_000)?;
     assert!(rt; write_whole(&mut RealSink::new(&mut writer), &long) == Ok(()));
-    assert!(rt; writer.get_ref().len() == 100_000);
+    assert!(rt; writer.get_ref().len() >= 100_000, "no piece is too long");
     Ok(())
 }

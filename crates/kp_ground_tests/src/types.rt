@@ -60,21 +60,17 @@ fn service(alloc: Global) -> Result<Service, NoMemory> {
     })
 }
 
-/// A slice of an object's name that has nothing.
-fn slice(alloc: Global, key: ObjectKey) -> Slice {
-    Slice {
+#[test]
+fn copied_slices_keep_their_parts(rt: HostRuntime) -> Result<(), Fail> {
+    let key = web(rt.alloc())?;
+    let first = Slice {
         key,
         service: None,
         managed: false,
         family: AddressType::Ipv4,
-        ports: Items::new(alloc),
-        endpoints: Items::new(alloc),
-    }
-}
-
-#[test]
-fn copied_slices_keep_their_parts(rt: HostRuntime) -> Result<(), Fail> {
-    let first = slice(rt.alloc(), web(rt.alloc())?);
+        ports: Items::new(rt.alloc()),
+        endpoints: Items::new(rt.alloc()),
+    };
     let copy = first.copy(rt.alloc())?;
     assert!(rt; copy.key == first.key && !copy.managed && copy.service.is_none());
     Ok(())

@@ -1,5 +1,5 @@
 -- Worked lines of a live run and of the generator (this project's choice).
-use Rattle.std.specs.Prelude.{◌≡◌, List, [], ◌∷◌, map, codes, Some, None}
+use Rattle.std.specs.Prelude.{◌≡◌, [], ◌∷◌, map, codes, Some, None}
 use Rattle.kp_types.specs.declared.event.Kind.TheVariants as kind
 use Rattle.kp_types.specs.declared.event.Object.TheVariants as object
 use Rattle.kp_types.specs.declared.event.Event.TheVariants.{Apply, Delete}
