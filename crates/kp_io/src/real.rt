@@ -1,8 +1,8 @@
 //! The real ends: std's readers and writers. What they give and take is the outside, of which
 //! nothing is told; their failures are counted.
-ghost use Rattle.std.specs.Prelude.{◌≡◌, ◌≤◌, None, length, take, IfOk};
+ghost use Rattle.std.specs.Prelude.{◌≡◌, ◌≤◌, None, length, IfOk};
 ghost use Rattle.std.specs.Io.{ReadsAtMost};
-ghost use Rattle.std.specs.Io.KnownBytes.{Appends, Keeps, ReadConsumes, WriteAppends};
+ghost use Rattle.std.specs.Io.KnownBytes.{Keeps, ReadConsumes, WriteAppends};
 ghost use Rattle.kp_io.specs.Faults.{Rose, HasCause, one_more};
 ghost use Rattle.kp_io.specs.Told.{TakesFront};
 
@@ -140,8 +140,8 @@ impl<W: Write> Sink for RealSink<W> {
     fn write(&mut self, bytes: &[u8]) -> Result<usize, Failed>
         ensures bytes { TakesFront result bytes.now None None }
         ensures cause { HasCause self.old.faults self.new.faults result }
-        ensures passed { IfOk result (λ n.
-            Appends (W.contents self.old.inner) (W.contents self.new.inner) (take n bytes.now)) }
+        ensures passed { WriteAppends (W.contents self.old.inner) (W.contents self.new.inner)
+            result bytes.now }
     {
         match write_again(&mut self.writer, bytes) {
             Ok(0) if !bytes.is_empty() => Err(self.fail()),
