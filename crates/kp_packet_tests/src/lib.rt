@@ -1,0 +1,15 @@
+//! Tests of the calls that packets cross: the store, tables, walks and decisions.
+#![tactic(auto)]
+
+#[cfg(test)]
+mod cluster;
+#[cfg(test)]
+mod destinations;
+#[cfg(test)]
+mod doors;
+#[cfg(test)]
+mod draws;
+#[cfg(test)]
+mod transcript;
+#[cfg(test)]
+mod walks;
