@@ -1,5 +1,5 @@
 -- Keys that are put in order are those of the entries, and the objects found by them are all.
-use Rattle.std.proofs.Common.{◌≡◌, ◌||◌, Bool, true, false, List, [], ◌∷◌, map, filter, Option, Some, None, is_some, refl, sym, ap, ◌∙◌, Bor}
+use Rattle.std.proofs.Common.{◌≡◌, ◌||◌, Bool, true, false, List, [], ◌∷◌, map, filter, Option, Some, None, is_some, refl, ap, ◌∙◌, Bor}
 use Rattle.std.specs.List.{filter_map, list_any}
 use Rattle.std.specs.Ordering.{eq_by_cmp}
 use Rattle.std.specs.FinMap as finite
@@ -9,7 +9,7 @@ use Rattle.kp_base.specs.Keys.{key_cmp}
 use Rattle.kp_base.specs.declared.key.ObjectKey.{ObjectKey}
 use Rattle.kp_base.proofs.KeyOrder.{key_total}
 use Rattle.kp_store.specs.Indexes.{Bucket}
-use Rattle.kp_store.proofs.Found.{passes, passing, bucket_keys, found_passes}
+use Rattle.kp_store.proofs.Found.{passes, bucket_keys, found_passes}
 
 -- no key is there before the first
 pub none_before : (k : ObjectKey) → contains_key (empty {X = Unit {0}} {R = key_cmp}) k ≡ false
