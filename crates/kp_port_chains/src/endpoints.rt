@@ -154,7 +154,8 @@ fn endpoint_chain(
     })
 }
 
-/// The rules of an endpoint's chain: what it sends to itself is marked, and all is translated.
+/// The rules of an endpoint's chain: what it sends to itself is marked, and all is translated. Most
+/// of a table is such rules, so they get no more memory than the two take.
 fn endpoint_rules(
     alloc: Global,
     info: &PortInfo,
@@ -163,7 +164,7 @@ fn endpoint_rules(
     ensures { IfOk result (λ rules. rules ≡ spec.endpoint_rules info.now endpoint.now) }
 {
     let range = Cidr::single(endpoint.endpoint.address);
-    let mut rules = Vec::new(alloc);
+    let mut rules = Vec::with_capacity(alloc, 2)?;
     rules.push(rule1(Match::Src { range, not: false }, mark()))?;
     rules.push(translation(info, endpoint))?;
     Ok(Items::from_vec(rules))

@@ -37,7 +37,7 @@ bare_keys (e ∷ es) = ap (λ ks. e.0 ∷ ks) (bare_keys es)
 
 module _ {X : Type 0} (p : X → Bool) where
   -- the entries whose values pass
-  abbrev passing : List (ObjectKey × X) → List (ObjectKey × X)
+  abbrev pub passing : List (ObjectKey × X) → List (ObjectKey × X)
   passing es = filter (λ e. p e.1) es
 
   below_passing : (k : ObjectKey) (es : List (ObjectKey × X)) → T (below_all key_cmp k es) → T (below_all key_cmp k (bare (passing es)))
@@ -100,7 +100,7 @@ module _ {X : Type 0} (p : X → Bool) where
   got_all m (e ∷ es) all = λ i. cons_option (all.0 i) (got_all m es all.1 i)
 
   -- a bucket that has the keys whose values pass has them in order
-  bucket_keys : (m : FinMap key_cmp X) (keys : Bucket) → ((k : ObjectKey) → contains_key keys k ≡ passes (get m k)) → finite.keys keys ≡ map (λ e. e.0) (passing (entries m))
+  pub bucket_keys : (m : FinMap key_cmp X) (keys : Bucket) → ((k : ObjectKey) → contains_key keys k ≡ passes (get m k)) → finite.keys keys ≡ map (λ e. e.0) (passing (entries m))
   bucket_keys m keys has =
       ap (map (λ e. e.0)) (same_entries key_cmp key_total key_exact (entries keys) (bare (passing (entries m))) (entries_sorted keys) (sorted_passing (entries m) (entries_sorted m)) (λ k. one_option (find key_cmp k (entries keys)) (find key_cmp k (bare (passing (entries m)))) (ap is_some (sym (get-entries keys k)) ∙ has k ∙ ap passes (get-entries m k) ∙ sym (found_passing k (entries m) (entries_sorted m)))))
       ∙ bare_keys (passing (entries m))

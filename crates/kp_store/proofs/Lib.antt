@@ -3,6 +3,7 @@ pub mod Changed
 pub mod Found
 pub mod NodeNames
 pub mod OwnObjects
+pub mod Ordered
 pub mod Owners
 pub mod Selected
 pub mod SortedEntries

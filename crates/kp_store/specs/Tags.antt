@@ -1,5 +1,5 @@
 -- What the objects of each kind are found by.
-use Rattle.std.specs.Prelude.{ℕ, List, [], ◌∷◌, ◌++◌, map, Option, option_map, slice_get}
+use Rattle.std.specs.Prelude.{ℕ, List, ◌++◌, map, option_map, slice_get}
 use Rattle.std.specs.List.{flat_map}
 use Rattle.std.specs.Option.{option_to_list}
 use Rattle.kp_base.specs.Net.{AddressParts}

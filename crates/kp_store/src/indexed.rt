@@ -5,8 +5,9 @@ ghost use Rattle.std.specs.FinMap as finite;
 ghost use Rattle.std.specs.Option.{option_to_list};
 ghost use Rattle.kp_store.specs.Indexes.{is_among, is_tagged};
 
+use crate::hashed::Hashed;
 use crate::index::Index;
-use crate::keyed::Keyed;
+use crate::selections::copies;
 use kp_base::{Copied, Items, NoMemory, ObjectKey};
 use std::alloc::Global;
 use std::cmp::Ord;
@@ -25,7 +26,7 @@ pub trait Tagged<T: Ord>: Copied {
 /// bucket of each tag the keys of the objects with this tag.
 #[derive(Drop)]
 pub struct Indexed<X: Tagged<T>, T: Ord + Copied> {
-    objects: Keyed<X>,
+    objects: Hashed<X>,
     index: Index<T>,
 }
 
@@ -50,7 +51,7 @@ impl<X: Tagged<T>, T: Ord + Copied> Indexed<X, T> {
         ensures { result ≡ finite.empty }
     {
         Indexed {
-            objects: Keyed::new(alloc),
+            objects: Hashed::new(alloc),
             index: Index::new(alloc),
         }
     }
@@ -66,14 +67,19 @@ impl<X: Tagged<T>, T: Ord + Copied> Indexed<X, T> {
     pub fn values(&self, alloc: Global) -> Result<Vec<&X>, NoMemory>
         ensures { IfOk result (λ xs. map (λ x. x.now) xs.items ≡ finite.values self.now) }
     {
-        self.objects.values(alloc)
+        let order = self.objects.in_order(alloc)?;
+        let keys = order.keys(alloc)?;
+        let found = found_at(alloc, &self.objects, keys.as_slice())?;
+        Ok(found)
     }
 
     /// The keys, in order.
-    pub fn keys(&self, alloc: Global) -> Result<Vec<&ObjectKey>, NoMemory>
-        ensures { IfOk result (λ ks. map (λ k. k.now) ks.items ≡ finite.keys self.now) }
+    pub fn keys(&self, alloc: Global) -> Result<Items<ObjectKey>, NoMemory>
+        ensures { IfOk result (λ ks. ks ≡ finite.keys self.now) }
     {
-        self.objects.keys(alloc)
+        let order = self.objects.in_order(alloc)?;
+        let keys = order.keys(alloc)?;
+        Ok(copies(alloc, keys.as_slice())?)
     }
 
     /// The objects with a tag, in order of their keys.
@@ -136,7 +142,7 @@ impl<X: Tagged<T>, T: Ord + Copied> Indexed<X, T> {
 /// The tags of the object of a key: none where there is no object.
 fn tags_at<X: Tagged<T>, T: Ord + Copied>(
     alloc: Global,
-    objects: &Keyed<X>,
+    objects: &Hashed<X>,
     key: &ObjectKey,
 ) -> Result<Items<T>, NoMemory>
     ensures { IfOk result (λ ts. (t : T) → is_among T.cmp ts t
@@ -151,7 +157,7 @@ fn tags_at<X: Tagged<T>, T: Ord + Copied>(
 /// The objects of keys, where they are there.
 fn found_at<'a, X: Drop>(
     alloc: Global,
-    objects: &'a Keyed<X>,
+    objects: &'a Hashed<X>,
     keys: &[&ObjectKey],
 ) -> Result<Vec<&'a X>, NoMemory>
     ensures { IfOk result (λ xs. map (λ x. x.now) xs.items

@@ -46,13 +46,6 @@ impl<X: Drop> Keyed<X> {
         self.entries.get(key)
     }
 
-    /// The objects, in order of their keys.
-    pub fn values(&self, alloc: Global) -> Result<Vec<&X>, NoMemory>
-        ensures { IfOk result (λ xs. map (λ x. x.now) xs.items ≡ finite.values self.now) }
-    {
-        Ok(self.entries.values().collect(alloc)?)
-    }
-
     /// The keys, in order.
     pub fn keys(&self, alloc: Global) -> Result<Vec<&ObjectKey>, NoMemory>
         ensures { IfOk result (λ ks. map (λ k. k.now) ks.items ≡ finite.keys self.now) }

@@ -136,7 +136,7 @@ impl Objects {
     pub fn services(&self, alloc: Global) -> Result<Items<ObjectKey>, NoMemory>
         ensures { IfOk result (λ ks. ks ≡ finite.keys self.now.services) }
     {
-        copies(alloc, self.services.keys(alloc)?.as_slice())
+        self.services.keys(alloc)
     }
 
     /// All nodes, in order of their names.

@@ -1,11 +1,11 @@
-use Rattle.std.proofs.Common.{◌≡◌, List, map, filter, rules, sym, ap, ◌∙◌, Bor}
+use Rattle.std.proofs.Common.{List, map, filter, rules, sym, ap, ◌∙◌, Bor}
 use Rattle.std.specs.FinMap as finite
 use Rattle.kp_lemmas.proofs.Members.{none_pass}
 use Rattle.kp_types.specs.declared.pod.Pod.{Pod}
 use Rattle.kp_object_defs.specs.Desired.{selects}
 use Rattle.kp_object_defs.specs.Objects.{Objects}
 use Rattle.kp_store.specs.Indexes.{is_among}
-use Rattle.kp_store.specs.Tags.{labels_of, label_in}
+use Rattle.kp_store.specs.Tags.{labels_of}
 use Rattle.kp_store.specs.contracts.tags.LabelOrd.TheImpl as label_ord
 use Rattle.kp_store.specs.contracts.tags.LabelOrd.TheImpl.Laws as label_laws
 use Rattle.kp_store.proofs.Buckets.{if_ok}

@@ -1,4 +1,4 @@
-use Rattle.std.proofs.Common.{◌≡◌, List, map, filter, ap, ◌∙◌, Bor}
+use Rattle.std.proofs.Common.{List, map, filter, ap, ◌∙◌, Bor}
 use Rattle.std.specs.FinMap as finite
 use Rattle.kp_types.specs.declared.service.Service.{Service}
 use Rattle.kp_object_defs.specs.Objects.{Objects}
