@@ -17,3 +17,19 @@ invariant_of-self c =
       to = is.to;
       slices_at = subst (IsSlicesAt config events counts) (sym c.replace-slices.ensures.after) (c.start.ensures config events counts);
     }
+
+pub invariant_of-self-2 : goal.invariant_of-self-2
+invariant_of-self-2 c =
+    let is = c.self.invariant in
+    let config = c.self.inside.config in
+    let made = c.in_ok-self-inside.field-0 in
+    let over_events = subst (λ events. IsSlicesAt config events c.as_slice.result.now made) c.events.ensures c.in_ok-self-inside.ensures.at in
+    record {
+      limit = is.limit;
+      room = is.room;
+      history = is.history;
+      latest_at = is.latest_at;
+      explained_at = is.explained_at;
+      to = is.to;
+      slices_at = subst (λ counts. IsSlicesAt config c.self.inside.journal.events counts made) c.as_slice.ensures.value over_events;
+    }
