@@ -6,8 +6,8 @@ set -eu
 cd "$(dirname "$0")/.."
 services=${1:-10000}
 endpoints=${2:-1000}
-many=${3:-200000}
-few=$((many / 2))
+many=${3:-600000}
+few=$((many / 10)) # the rest has to outweigh what reading the Services varies by
 work=$(mktemp -d)
 trap 'rm -rf "$work"' EXIT
 . bench/timing.sh
