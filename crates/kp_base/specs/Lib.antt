@@ -2,3 +2,4 @@ pub mod Dotted
 pub mod Grammar
 pub mod Keys
 pub mod Net
+pub mod Words

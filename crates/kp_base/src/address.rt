@@ -5,6 +5,7 @@ ghost use Rattle.kp_base.specs.Dotted.{address_of};
 
 use crate::dotted::v4_number;
 use crate::memory::{Copied, NoMemory};
+use crate::wide::Wide;
 use std::alloc::Global;
 use std::marker::Model;
 
@@ -23,7 +24,7 @@ pub struct BadAddress;
 #[derive(Clone, Copy, Debug, PartialEq, Eq, PartialOrd, Ord, Hash)]
 pub struct Address {
     family: Family,
-    number: u128,
+    number: Wide,
 }
 
 impl Model for Address {
@@ -58,7 +59,7 @@ impl Address {
     {
         Address {
             family: Family::V4,
-            number: number as u128,
+            number: Wide::of(number as u128),
         }
     }
 
@@ -71,7 +72,7 @@ impl Address {
     pub fn number(&self) -> u128
         ensures { result ≡ self.now.number }
     {
-        self.number
+        self.number.number()
     }
 }
 

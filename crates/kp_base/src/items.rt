@@ -81,7 +81,7 @@ impl<T: Eq> Eq for Items<T> {
 
 impl<T: Copied> Copied for Items<T> {
     fn copy(&self, alloc: Global) -> Result<Items<T>, NoMemory> {
-        let mut copies = Vec::new(alloc);
+        let mut copies = Vec::with_capacity(alloc, self.as_slice().len())?;
         for item in self.as_slice() {
             copies.push(item.copy(alloc)?)?;
         }

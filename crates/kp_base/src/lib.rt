@@ -15,6 +15,7 @@ mod range;
 mod split;
 mod steps;
 mod text;
+mod wide;
 
 pub use address::{Address, BadAddress, Family};
 pub use config::Config;

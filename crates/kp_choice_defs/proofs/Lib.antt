@@ -1,1 +1,3 @@
 pub mod ChainKeys
+pub mod NameCharacters
+pub mod Rounding

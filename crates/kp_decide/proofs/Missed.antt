@@ -19,26 +19,17 @@ use Rattle.kp_types.specs.declared.service.ClusterAddress.{ClusterAddress}
 use Rattle.kp_types.specs.declared.service.ClusterAddress.TheVariants.{Absent, Headless, At}
 use Rattle.kp_object_defs.specs.Desired.{is_empty, is_external_name}
 use Rattle.kp_object_defs.specs.Entries.{entries_from}
-use Rattle.kp_object_defs.specs.Order.{first_places}
 use Rattle.kp_object_defs.specs.PortInfo.{PortInfo, address_at, addresses_in, balancer_in, cluster_address_in, external_list, has_balancer, has_node_port, info_from, info_of, internal_list, node_port_of, port_key_of}
 use Rattle.kp_door_defs.specs.Doors.{Door, address_doors, door_at, fits, is_at, node_door, offer_of, takes}
 use Rattle.kp_door_defs.specs.Filter.{DropsClosed, Line, Refusal, external_lines, firewall_lines, line_of, refusal_by, service_lines}
+use Rattle.kp_object_laws.proofs.FirstPlaces.{from_places}
 use Rattle.kp_store.specs.Destinations.{cluster_addresses, has_address, is_address_of, is_node_port, port_answers}
 use Rattle.kp_decide.proofs.FirstFound.{none_both, none_found, none_mapped, none_used}
-
--- an element of those that stand once is an element
-first_place_in : {X : Type 0} (same : X → X → Bool) (x : X) (xs : List X) → Contains (first_places same xs) x → Contains xs x
-first_place_in same x [] c = c
-first_place_in same x (y ∷ ys) c =
-    elim (in_cases x y (filter (λ z. not (same y z)) (first_places same ys)) c) [
-      | inl e ↦ subst (λ z. Contains (z ∷ ys) x) (sym e) (first_in x ys)
-      | inr d ↦ later_in x y ys (first_place_in same x ys (from_filter (λ z. not (same y z)) x (first_places same ys) d).0)
-    ]
 
 -- an address of a family that is listed is listed
 listed : (family : Family) (target x : AddressParts) (xs : List AddressParts) → Contains (addresses_in family xs) x → same_address x target ≡ true → has_address target xs ≡ true
 listed family target x xs c same =
-    any_from (λ a. same_address a target) x xs (from_filter (λ a. same_family a.family family) x xs (first_place_in same_address x (filter (λ a. same_family a.family family) xs) c)).0 same
+    any_from (λ a. same_address a target) x xs (from_filter (λ a. same_family a.family family) x xs (from_places same_address x (filter (λ a. same_family a.family family) xs) c)).0 same
 
 -- what is known of a port of a Service, as far as its doors go
 pub record Shows (family : Family) (s : Service) (p : ServicePort) (i : PortInfo) : Type 0 where

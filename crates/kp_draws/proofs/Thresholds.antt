@@ -1,16 +1,9 @@
 -- Thresholds of one of two or more lie below the greatest draw, and that of one of one above it.
-use Rattle.std.proofs.Common.{◌≡◌, ℕ, ◌+◌, ◌*◌, ◌/◌, ◌<◌, ◌≤◌, Bool, true, false, if◌then◌else◌, nat_lt, ◌%◌, ◌==◌, ◌&&◌, ◌||◌, arith}
+use Rattle.std.proofs.Common.{◌≡◌, ℕ, ◌+◌, ◌*◌, ◌/◌, ◌<◌, ◌≤◌, true, false, arith}
 use Rattle.std.proofs.Math.Nat.{div-le_of_le-mul}
 use Rattle.std.proofs.lemmas.Bool.Decides.{nat_tests}
-use Rattle.kp_choice_defs.specs.Draws.{draw_matches, half_even, probability_of, threshold_of}
-
--- a rounded number is at most one more
-rounded : (b : Bool) (x : ℕ) → (if b then x else x + 1) ≤ x + 1
-rounded true x = omega arith
-rounded false x = omega arith
-
-half_even_le : (a n : ℕ) → half_even a n ≤ a / n + 1
-half_even_le a n = rounded (nat_lt (2 * (a % n)) n || ((2 * (a % n) == n) && ((a / n) % 2 == 0))) (a / n)
+use Rattle.kp_choice_defs.specs.Draws.{draw_matches, probability_of, threshold_of}
+use Rattle.kp_choice_defs.proofs.Rounding.{half_even_le}
 
 half : (n : ℕ) → 2 ≤ n → 10000000000 / n ≤ 5000000000
 half n two = div-le_of_le-mul n (omega (arith, two))

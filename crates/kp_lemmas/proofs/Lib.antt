@@ -4,4 +4,5 @@ pub mod Equality
 pub mod ListFacts
 pub mod Members
 pub mod Numbers
+pub mod Options
 pub mod Orders

@@ -1,7 +1,7 @@
 -- Lists: what holds of all elements, and lists that are made element by element. A map of a map is
 -- std's `map-map` (lemmas.Simd); tests of joined and of mapped lists are its `list_all-append` and
 -- `list_all-map`.
-use Rattle.std.proofs.Common.{◌≡◌, ℕ, ◌+◌, ◌<◌, Bool, true, false, not, cond, List, [], ◌∷◌, ◌++◌, map, filter, take, length, get_or, Option, Some, None, refl, sym, ap, ◌∙◌, append_assoc}
+use Rattle.std.proofs.Common.{◌≡◌, ℕ, zero, suc, ◌+◌, ◌<◌, Bool, true, false, not, cond, List, [], ◌∷◌, ◌++◌, map, filter, take, length, get_or, Option, Some, None, refl, sym, ap, ◌∙◌, append_assoc}
 use Rattle.std.specs.List.{list_all, filter_map, cons_option, AllByRecursion}
 use Rattle.std.specs.Option.{option_to_list}
 use Rattle.std.proofs.lemmas.Bool.{and_parts, and_from}
@@ -60,6 +60,14 @@ pub test_always : {X : Type 0} (p : X → Bool) → ((x : X) → p x ≡ true) �
     → list_all p xs ≡ true
 test_always p f [] = refl
 test_always p f (x ∷ xs) = and_from _ _ (f x) (test_always p f xs)
+
+-- the front of a list
+pub test_take : {X : Type 0} (p : X → Bool) (n : ℕ) (xs : List X) → list_all p xs ≡ true
+    → list_all p (take n xs) ≡ true
+test_take p zero xs h = refl
+test_take p (suc n) [] h = refl
+test_take p (suc n) (x ∷ xs) h =
+    let both = and_parts _ _ h in and_from _ _ both.0 (test_take p n xs both.1)
 
 -- two lists, one behind the other
 pub test_append : {X : Type 0} (p : X → Bool) (xs ys : List X) → list_all p xs ≡ true

@@ -1,8 +1,9 @@
 -- Elements of lists that are made of others.
-use Rattle.std.proofs.Common.{◌≡◌, ◌⊎◌, inl, inr, Bool, true, false, cond, refl, sym, ap, subst, ◌∙◌, suc, zero, Option, Some, None, List, [], ◌∷◌, map, Contains, filter, filter_map, flat_map, arith, le_of_suc-le-suc, suc-le-suc, zero-lt-suc}
+use Rattle.std.proofs.Common.{◌≡◌, ◌⊎◌, inl, inr, Bool, true, false, cond, refl, sym, ap, subst, ◌∙◌, suc, zero, Option, Some, None, List, [], ◌∷◌, map, reverse, Contains, filter, filter_map, flat_map, arith, le_of_suc-le-suc, suc-le-suc, zero-lt-suc}
 use Rattle.std.specs.List.{cons_option, list_all, list_any}
 use Rattle.std.proofs.lemmas.Bool.{and_from, and_parts, or_parts, or_left, or_right}
 use Rattle.std.proofs.lemmas.List.Elements.{Contains-append_left, Contains-append_right, Contains-append_cases}
+use Rattle.std.proofs.lemmas.List.Sorted.{Contains-permutation, IsPermutation-sym, IsPermutation-reverse}
 use Rattle.kp_lemmas.proofs.ListFacts.{test_append}
 
 -- the first element is in the list
@@ -150,3 +151,12 @@ all_flat_map test f [] h = refl
 all_flat_map test f (x ∷ xs) h =
     test_append test (f x) (flat_map f xs) (h x (first_in x xs))
     (all_flat_map test f xs (λ y c. h y (later_in y x xs c)))
+
+-- a reversed list has the same elements
+pub in_reverse : {A : Type 0} (x : A) (xs : List A) → Contains xs x → Contains (reverse xs) x
+in_reverse x xs c = Contains-permutation xs (reverse xs) x (IsPermutation-reverse xs) c
+
+pub from_reverse : {A : Type 0} (x : A) (xs : List A) → Contains (reverse xs) x → Contains xs x
+from_reverse x xs c =
+    Contains-permutation (reverse xs) xs x
+    (IsPermutation-sym xs (reverse xs) (IsPermutation-reverse xs)) c

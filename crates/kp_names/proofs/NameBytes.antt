@@ -1,6 +1,5 @@
 -- A prefix and characters of base 32 are a chain's name.
 use Rattle.std.proofs.Common.{◌≡◌, ℕ, ◌+◌, ◌*◌, ◌/◌, ◌^◌, ◌%◌, ◌<◌, ◌≤◌, ◌==◌, Bool, true, not, ◌&&◌, nat_le, List, [], ◌∷◌, ◌++◌, map, take, length, zero, suc, refl, ap, sym, ◌∙◌, subst, arith, length-append, append_assoc, lit<}
-use Rattle.std.proofs.Math.Nat.{mod-lt}
 use Rattle.std.specs.List.{list_all, list_any, slice_index}
 use Rattle.std.specs.Str.{bytes_eq}
 use Rattle.std.proofs.lemmas.Bool.{and_parts}
@@ -8,33 +7,11 @@ use Rattle.std.proofs.lemmas.List.{length-take}
 use Rattle.std.proofs.lemmas.Bool.Decides.{nat_tests}
 use Rattle.std.proofs.lemmas.List.Folds.{list_all-append}
 use Rattle.kp_types.specs.Chains.{is_chain_byte, is_chain_name, target_words}
-use Rattle.kp_choice_defs.specs.Names.{base32_digit, quantum_text}
+use Rattle.kp_choice_defs.specs.Names.{quantum_text}
+use Rattle.kp_choice_defs.proofs.NameCharacters.{quantum_fits, no_target}
+use Rattle.kp_lemmas.proofs.ListFacts.{test_take}
 use Rattle.kp_names.specs.Prefix.{is_name_prefix}
 use Rattle.kp_names.specs.Quantum.{quantum_text_at}
-
--- a character of base 32 is one of names
-digit_fits : (n : ℕ) → n < 32 → is_chain_byte (base32_digit n) ≡ true
-digit_fits n h = grind (arith, nat_tests)
-
--- what holds of each element's image holds of all
-all_map : (p : ℕ → Bool) (f : ℕ → ℕ) (xs : List ℕ) → ((x : ℕ) → p (f x) ≡ true) → list_all p (map f xs) ≡ true
-all_map p f [] h = refl
-all_map p f (x ∷ xs) h = λ i. h x i && all_map p f xs h i
-
-all_take : (p : ℕ → Bool) (n : ℕ) (xs : List ℕ) → list_all p xs ≡ true → list_all p (take n xs) ≡ true
-all_take p zero xs h = refl
-all_take p (suc n) [] h = refl
-all_take p (suc n) (x ∷ xs) h = let parts = and_parts _ _ h in λ i. parts.0 i && all_take p n xs parts.1 i
-
--- so do the characters of five bytes
-quantum_fits : (a b c d e : ℕ) → list_all is_chain_byte (quantum_text a b c d e) ≡ true
-quantum_fits a b c d e =
-    all_map is_chain_byte (λ place. base32_digit (((((a * 256 + b) * 256 + c) * 256 + d) * 256 + e) / 32 ^ place % 32)) (7 ∷ 6 ∷ 5 ∷ 4 ∷ 3 ∷ 2 ∷ 1 ∷ 0 ∷ [])
-    (λ place. digit_fits ((((((a * 256 + b) * 256 + c) * 256 + d) * 256 + e) / 32 ^ place) % 32) (mod-lt (((((a * 256 + b) * 256 + c) * 256 + d) * 256 + e) / 32 ^ place) (lit< tt)))
-
--- no word of a target begins with a K
-no_target : (bs : List ℕ) → not (list_any (bytes_eq (75 ∷ bs)) target_words) ≡ true
-no_target bs = refl
 
 name_fits : (prefix cs : List ℕ) → is_name_prefix prefix ≡ true → length cs ≤ 16 → list_all is_chain_byte cs ≡ true → is_chain_name (prefix ++ cs) ≡ true
 name_fits [] cs h short fits = absurd (cc)
@@ -79,7 +56,7 @@ module _ (prefix bs : List ℕ) (n m : ℕ) (fit : is_name_prefix prefix ≡ tru
       ap is_chain_name (append_assoc prefix first second)
       ∙ name_fits prefix (first ++ second) fit short
       (list_all-append is_chain_byte first second
-      ∙ (λ i. all_take is_chain_byte n (quantum_text_at bs 0) (quantum_at_fits bs 0) i && all_take is_chain_byte m (quantum_text_at bs 5) (quantum_at_fits bs 5) i))
+      ∙ (λ i. test_take is_chain_byte n (quantum_text_at bs 0) (quantum_at_fits bs 0) i && test_take is_chain_byte m (quantum_text_at bs 5) (quantum_at_fits bs 5) i))
 
   pub room_for_second : length (prefix ++ first) + m ≤ 28
   room_for_second = omega (arith, length-append prefix first, length-take n (quantum_text_at bs 0), prefix_short prefix fit, eight, others)

@@ -7,3 +7,4 @@ mod SlicesNow
 pub mod Usable
 pub mod Wanted
 pub mod NamedPods
+pub mod FirstPlaces

@@ -4,9 +4,8 @@ use Rattle.std.specs.List as list
 use Rattle.std.specs.List.{cons_option, list_any}
 use Rattle.std.specs.FinMap as finite
 use Rattle.std.specs.FinMap.{get}
-use Rattle.std.proofs.lemmas.List.Sorted.{Contains-permutation, IsPermutation-sym, IsPermutation-reverse}
 use Rattle.std.proofs.lemmas.Slice.Eq.{bytes_eq-Decides}
-use Rattle.kp_lemmas.proofs.Members.{first_in, later_in, none_in, in_cases, any_from, from_filter_map}
+use Rattle.kp_lemmas.proofs.Members.{first_in, later_in, none_in, in_cases, any_from, from_filter_map, from_reverse, in_reverse}
 use Rattle.kp_base.specs.declared.address.Family.{Family}
 use Rattle.kp_base.specs.declared.key.ObjectKey.{ObjectKey}
 use Rattle.kp_base.proofs.KeyOrder.{key_total, key_exact}
@@ -62,13 +61,6 @@ made_the_same : {X Y : Type 0} (f g : X → Option Y) (xs : List X) → ((x : X)
 made_the_same f g [] h = refl
 made_the_same f g (x ∷ xs) h =
     λ i. cons_option (h x (first_in x xs) i) (made_the_same f g xs (λ y c. h y (later_in y x xs c)) i)
-
--- a reversed list has the same elements
-in_reverse : {A : Type 0} (x : A) (xs : List A) → Contains xs x → Contains (reverse xs) x
-in_reverse x xs c = Contains-permutation xs (reverse xs) x (IsPermutation-reverse xs) c
-
-from_reverse : {A : Type 0} (x : A) (xs : List A) → Contains (reverse xs) x → Contains xs x
-from_reverse x xs c = Contains-permutation (reverse xs) xs x (IsPermutation-sym xs (reverse xs) (IsPermutation-reverse xs)) c
 
 -- ---- Zones
 

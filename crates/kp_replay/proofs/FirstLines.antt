@@ -8,7 +8,7 @@ use Rattle.kp_types.specs.declared.event.Event.{Event}
 use Rattle.kp_event_defs.specs.EventText.{Refused, read_events}
 use Rattle.kp_text_defs.specs.JsonText.{json_of}
 use Rattle.kp_text_defs.specs.PacketText.{read_packet}
-use Rattle.kp_text_defs.specs.ScriptLines.{◌>>=◌, or_refusal, of_members, of_events, read_stream, read_shown, Command, config, event, sync, packet, explain, show, op_of, command_of, op_named, op_at, read_script, line_of}
+use Rattle.kp_text_defs.specs.ScriptLines.{◌>>=◌, or_refusal, of_members, of_events, read_stream, read_shown, Command, config, event, sync, packet, explain, show, op_of, command_of, op_named, op_at, with_stream, read_script, line_of}
 use Rattle.kp_text_defs.specs.declared.line_refusal.LineRefusal.{LineRefusal}
 use Rattle.kp_text_defs.specs.declared.line_refusal.LineRefusal.TheVariants.{BadJson, NotEvent, TooLongLine}
 use Rattle.kp_text_defs.specs.declared.script.Op.{Op}
@@ -49,9 +49,6 @@ op_free p show = bound NotConfig (of_members (read_shown p)) (λ x. Ok (op.Show 
 at_free : (p : Place) (at : Option Place) → IfOk (op_at false p at) NotConfig
 at_free p None = events_free (read_events p)
 at_free p (Some q) = bound NotConfig (of_members (text_at q)) (op_named false p) (λ name. bound NotConfig (command_of name) (op_of false p) (op_free p))
-
-abbrev with_stream : Stream → Op → Result ScriptLine LineRefusal
-with_stream stream o = Ok (record { by = stream; op = o })
 
 abbrev IsFree : ScriptLine → Type 0
 IsFree line = NotConfig line.op

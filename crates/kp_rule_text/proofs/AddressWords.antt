@@ -5,7 +5,8 @@ use Rattle.std.specs.Net.Text.{dotted_text}
 use Rattle.std.proofs.lemmas.Bool.{and_parts, and_from}
 use Rattle.std.proofs.lemmas.Bool.Decides.{nat_tests, Decides-eqb}
 use Rattle.std.proofs.lemmas.Option.{IfSome_then}
-use Rattle.std.proofs.Math.Nat.{div-add-mod, mul-mod_right, sub-zero}
+use Rattle.std.proofs.Math.Nat.{sub-zero}
+use Rattle.kp_lemmas.proofs.Numbers.{cleared}
 use Rattle.kp_base.specs.Net.{AddressParts, RangeParts, v4_address, same_family, range_size}
 use Rattle.kp_base.specs.Dotted.{is_digit, decimal_up_to, is_decimal, digits_number, four_numbers, address_of, range_from, split_once, range_of_parts, range_of}
 use Rattle.kp_base.specs.declared.address.Family.{Family}
@@ -133,13 +134,6 @@ addresses = record {
 pub if_map : {A B : Type 0} (P : B → Type 0) (f : A → B) (o : Option A) → ((a : A) → o ≡ Some a → P (f a)) → IfSome (option_map f o) P
 if_map P f None h = tt
 if_map P f (Some a) h = h a refl
-
--- what is left of a number without its rest is a multiple
-cleared : (n s : ℕ) → (n - n % s) % s ≡ 0
-cleared n s =
-    let whole = div-add-mod n s in
-    let left : n - n % s ≡ s * (n / s) = omega (arith, whole) in
-    ap (λ k. k % s) left ∙ mul-mod_right s (n / s)
 
 cleared_valid : (n bits : ℕ) → n < 2 ^ 32 → bits ≤ 32 → is_canonical_range V4 (range_from (v4_address n) bits) ≡ true
 cleared_valid n bits low fits =

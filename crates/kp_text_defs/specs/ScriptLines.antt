@@ -126,13 +126,17 @@ abbrev pub op_at : Bool → Place → Option Place → Result Op LineRefusal
 op_at first p None = of_events (read_events p)
 op_at first p (Some q) = of_members (text_at q) >>= op_named first p
 
+-- the line of a stream and an operation
+abbrev pub with_stream : Stream → Op → Result ScriptLine LineRefusal
+with_stream stream operation = Ok (record { by = stream; op = operation })
+
 -- the line at a place, or why it is refused
 abbrev pub read_script : Bool → Place → Result ScriptLine LineRefusal
 read_script first p = do
   _ms ← or_refusal NotEvent (as_object p.value)
   stream ← of_members (read_stream p)
   operation ← op_at first p (member_at p (codes "op"))
-  Ok (record { by = stream; op = operation })
+  with_stream stream operation
 
 -- the line that bytes are, or why they are refused; it may be the first of a script or a later one
 abbrev pub line_of : List ℕ → Bool → Result ScriptLine LineRefusal

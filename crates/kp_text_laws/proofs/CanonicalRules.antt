@@ -6,6 +6,7 @@ use Rattle.std.proofs.lemmas.Bool.{and_from, and_parts}
 use Rattle.std.proofs.lemmas.Bool.Decides.{nat_tests}
 use Rattle.kp_lemmas.proofs.Members.{from_all, all_map, all_flat_map}
 use Rattle.kp_lemmas.proofs.ListFacts.{test_append}
+use Rattle.kp_choice_defs.proofs.Rounding.{half_even_le}
 use Rattle.kp_object_defs.proofs.AllOf.{all_filter}
 use Rattle.kp_base.specs.Net.{AddressParts, RangeParts, same_family, width, range_size, single_range, loopback_range}
 use Rattle.kp_base.specs.declared.address.Family.{Family}
@@ -55,19 +56,13 @@ loopback_fits : (family : Family) → is_canonical_range family (loopback_range 
 loopback_fits V4 = refl
 loopback_fits V6 = refl
 
--- a rounded number is at most one more
-rounded : (b : Bool) (x : ℕ) → (if b then x else x + 1) ≤ x + 1
-rounded true x = omega arith
-rounded false x = omega arith
-
 -- a chance is a probability
 chance_fits : (n : ℕ) → nat_le (probability_of (suc (suc n))) (10 ^ 10) ≡ true
 chance_fits n =
     let m : ℕ = suc (suc n) in
     let half : 10000000000 / m ≤ 5000000000 = div-le_of_le-mul m (omega arith) in
     let near : half_even 10000000000 m ≤ 10000000000 / m + 1 =
-    rounded (nat_lt (2 * (10000000000 % m)) m ||
-    ((2 * (10000000000 % m) == m) && ((10000000000 / m) % 2 == 0))) (10000000000 / m) in
+    half_even_le 10000000000 m in
     let small : probability_of m ≤ 10000000000 = omega (arith, half, near) in
     grind (arith, nat_tests, small)
 

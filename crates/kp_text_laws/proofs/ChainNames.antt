@@ -1,61 +1,33 @@
 -- Hashed names are names that chains may have.
 use Rattle.std.proofs.Common.{◌≡◌, ℕ, suc, zero, ◌+◌, ◌*◌, ◌/◌, ◌^◌, ◌%◌, ◌<◌, ◌≤◌, ◌&&◌, true, not, nat_le, List, [], ◌∷◌, ◌++◌, map, take, length, codes, refl, arith, length-append, lit<, lit≤}
-use Rattle.std.proofs.Math.Nat.{mod-lt}
 use Rattle.std.specs.List.{list_all, list_any}
 use Rattle.std.specs.Str.{bytes_eq}
 use Rattle.std.proofs.lemmas.Bool.{and_from, and_parts}
 use Rattle.std.proofs.lemmas.Bool.Decides.{nat_tests}
 use Rattle.std.proofs.lemmas.List.{length-take}
 use Rattle.sha2.specs.Sha256.{sha256}
-use Rattle.kp_lemmas.proofs.ListFacts.{test_append}
+use Rattle.kp_lemmas.proofs.ListFacts.{test_append, test_take}
 use Rattle.kp_types.specs.Chains.{is_chain_byte, is_chain_name, target_words}
 use Rattle.kp_types.specs.declared.chain.ChainKey.{ChainKey}
 use Rattle.kp_types.specs.declared.chain.ChainKey.TheVariants.{Port, Sep}
 use Rattle.kp_types.specs.declared.chain.PortChain.TheVariants.{Svc, Svl, Ext, Fw}
 use Rattle.kp_choice_defs.specs.AddressText.{endpoint_text}
-use Rattle.kp_choice_defs.specs.Names.{base32, base32_digit, chain_name, hash_text, port_text, quantum_text}
-
-digit_fits : (n : ℕ) → n < 32 → is_chain_byte (base32_digit n) ≡ true
-digit_fits n h = grind (arith, nat_tests)
+use Rattle.kp_choice_defs.proofs.NameCharacters.{quantum_fits, no_target}
+use Rattle.kp_choice_defs.specs.Names.{base32, chain_name, hash_text, port_text, quantum_text}
 
 -- bytes of names
 abbrev Fit : List ℕ → Type 0
 Fit bytes = list_all is_chain_byte bytes ≡ true
 
-map_fits : (f : ℕ → ℕ) (places : List ℕ) → ((p : ℕ) → is_chain_byte (f p) ≡ true)
-    → Fit (map f places)
-map_fits f [] h = refl
-map_fits f (p ∷ places) h =
-    and_from (is_chain_byte (f p)) (list_all is_chain_byte (map f places)) (h p)
-    (map_fits f places h)
-
-take_fits : (n : ℕ) (bytes : List ℕ) → Fit bytes → Fit (take n bytes)
-take_fits zero bytes h = refl
-take_fits (suc n) [] h = refl
-take_fits (suc n) (b ∷ bytes) h =
-    let parts = and_parts (is_chain_byte b) (list_all is_chain_byte bytes) h in
-    and_from (is_chain_byte b) (list_all is_chain_byte (take n bytes)) parts.0
-    (take_fits n bytes parts.1)
-
-quantum_fits : (a b c d e : ℕ) → Fit (quantum_text a b c d e)
-quantum_fits a b c d e =
-    let all : ℕ = (((a * 256 + b) * 256 + c) * 256 + d) * 256 + e in
-    map_fits (λ place. base32_digit (all / 32 ^ place % 32)) (7 ∷ 6 ∷ 5 ∷ 4 ∷ 3 ∷ 2 ∷ 1 ∷ 0 ∷ [])
-    (λ place. digit_fits ((all / 32 ^ place) % 32) (mod-lt (all / 32 ^ place) (lit< tt)))
-
 base32_fits : (bytes : List ℕ) → Fit (base32 bytes)
 base32_fits [] = refl
-base32_fits (a ∷ []) = take_fits 2 (quantum_text a 0 0 0 0) (quantum_fits a 0 0 0 0)
-base32_fits (a ∷ b ∷ []) = take_fits 4 (quantum_text a b 0 0 0) (quantum_fits a b 0 0 0)
-base32_fits (a ∷ b ∷ c ∷ []) = take_fits 5 (quantum_text a b c 0 0) (quantum_fits a b c 0 0)
-base32_fits (a ∷ b ∷ c ∷ d ∷ []) = take_fits 7 (quantum_text a b c d 0) (quantum_fits a b c d 0)
+base32_fits (a ∷ []) = test_take is_chain_byte 2 (quantum_text a 0 0 0 0) (quantum_fits a 0 0 0 0)
+base32_fits (a ∷ b ∷ []) = test_take is_chain_byte 4 (quantum_text a b 0 0 0) (quantum_fits a b 0 0 0)
+base32_fits (a ∷ b ∷ c ∷ []) = test_take is_chain_byte 5 (quantum_text a b c 0 0) (quantum_fits a b c 0 0)
+base32_fits (a ∷ b ∷ c ∷ d ∷ []) = test_take is_chain_byte 7 (quantum_text a b c d 0) (quantum_fits a b c d 0)
 base32_fits (a ∷ b ∷ c ∷ d ∷ e ∷ rest) =
     test_append is_chain_byte (quantum_text a b c d e) (base32 rest) (quantum_fits a b c d e)
     (base32_fits rest)
-
--- no word of a target begins with a K
-no_target : (bytes : List ℕ) → not (list_any (bytes_eq (75 ∷ bytes)) target_words) ≡ true
-no_target bytes = refl
 
 -- a K, few bytes of names and at most sixteen more are a name
 name_fits : (bytes more : List ℕ) → length bytes ≤ 11 → Fit bytes → length more ≤ 16 → Fit more
@@ -75,7 +47,7 @@ hash_short : (n : ℕ) (text : List ℕ) → n ≤ 16 → length (hash_text n te
 hash_short n text few = omega (arith, length-take n (base32 (sha256 text)), few)
 
 hash_fits : (n : ℕ) (text : List ℕ) → Fit (hash_text n text)
-hash_fits n text = take_fits n (base32 (sha256 text)) (base32_fits (sha256 text))
+hash_fits n text = test_take is_chain_byte n (base32 (sha256 text)) (base32_fits (sha256 text))
 
 -- a name of at most sixteen characters of its hash
 pub hashed_names : (n : ℕ) → n ≤ 16 → (k : ChainKey) → is_chain_name (chain_name n k) ≡ true

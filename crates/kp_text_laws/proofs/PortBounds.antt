@@ -7,10 +7,10 @@ use Rattle.std.specs.FinMap.{entries}
 use Rattle.std.specs.Str.{bytes_eq}
 use Rattle.std.proofs.lemmas.Bool.{and_from, and_parts}
 use Rattle.std.proofs.lemmas.List.Elements.{Contains-append_cases}
-use Rattle.std.proofs.lemmas.List.Sorted.{Contains-permutation, IsPermutation-sym, IsPermutation-reverse}
 use Rattle.std.proofs.lemmas.Option.{same_Some}
 use Rattle.kp_lemmas.proofs.Entries.{entries_found}
-use Rattle.kp_lemmas.proofs.Members.{first_in, later_in, none_in, in_cases, all_from, from_all, from_filter, from_filter_map, from_flat_map, from_map}
+use Rattle.kp_lemmas.proofs.Members.{first_in, later_in, none_in, in_cases, all_from, from_all, from_filter, from_filter_map, from_flat_map, from_map, from_reverse}
+use Rattle.kp_lemmas.proofs.Options.{from_option_map, from_and_then}
 use Rattle.kp_base.specs.Keys.{key_cmp, endpoint_cmp, port_key_cmp}
 use Rattle.kp_base.specs.Net.{AddressParts, RangeParts, same_address, same_family, width}
 use Rattle.kp_base.specs.declared.address.Family.{Family}
@@ -42,6 +42,7 @@ use Rattle.kp_object_defs.specs.Objects.{Objects, zone_of}
 use Rattle.kp_object_defs.specs.Order.{by_key, first_places, in_order}
 use Rattle.kp_object_defs.specs.PortInfo.{PortInfo, address_at, addresses_in, cluster_address_in, has_balancer, has_node_port, info_from, info_of, is_reachable_in, name_of_port, port_key_of, ports_of, ranges_in, restriction_in, same_range, service_ports}
 use Rattle.kp_object_laws.specs.ListLaws.{AreAmong, is_usable, local}
+use Rattle.kp_object_laws.proofs.FirstPlaces.{from_places}
 use Rattle.kp_object_laws.proofs.Lists.{among_usable}
 use Rattle.kp_object_laws.proofs.PortByKey.{sources_service}
 use Rattle.kp_restore_defs.specs.RuleText.{is_canonical_address, is_canonical_range, is_canonical_endpoint, is_port_number}
@@ -50,22 +51,6 @@ use Rattle.kp_text_laws.specs.Bounds.{passes_if_some, is_bounded_address, is_bou
 use Rattle.kp_text_laws.specs.BoundLaws.{PortsAreBounded}
 
 -- ---- Lists and maps
-
-from_reverse : {A : Type 0} (x : A) (xs : List A) → Contains (reverse xs) x → Contains xs x
-from_reverse x xs c =
-    Contains-permutation (reverse xs) xs x
-    (IsPermutation-sym xs (reverse xs) (IsPermutation-reverse xs)) c
-
--- what stands once stands in the list
-from_places : {A : Type 0} (same : A → A → Bool) (x : A) (xs : List A)
-    → Contains (first_places same xs) x → Contains xs x
-from_places same x [] c = c
-from_places same x (y ∷ ys) c =
-    elim (in_cases x y (filter (λ z. not (same y z)) (first_places same ys)) c) [
-      | inl e ↦ subst (λ z. Contains (z ∷ ys) x) (sym e) (first_in x ys)
-      | inr d ↦ later_in x y ys
-          (from_places same x ys (from_filter (λ z. not (same y z)) x (first_places same ys) d).0)
-    ]
 
 of_each : {A : Type 0} (P : A → Type 0) (xs : List A) → AllByRecursion P xs → (x : A)
     → Contains xs x → P x
@@ -109,16 +94,6 @@ module _ {A : Type 0} (test : A → Bool) where
       → list_all test (cond b xs []) ≡ true
   all_cond true xs h = h
   all_cond false xs h = refl
-
-pub from_option_map : {A B : Type 0} (f : A → B) (o : Option A) (y : B) → option_map f o ≡ Some y
-    → (x : A) × (o ≡ Some x) × (f x ≡ y)
-from_option_map f None y h = absurd (cc)
-from_option_map f (Some x) y h = (x, refl, same_Some (f x) y h)
-
-pub from_and_then : {A B : Type 0} (f : A → Option B) (o : Option A) (y : B)
-    → option_and_then f o ≡ Some y → (x : A) × (o ≡ Some x) × (f x ≡ Some y)
-from_and_then f None y h = absurd (cc)
-from_and_then f (Some x) y h = (x, refl, h)
 
 -- what stands under a condition stands
 from_cond : {A : Type 0} (b : Bool) (xs : List A) (x : A) → Contains (cond b xs []) x

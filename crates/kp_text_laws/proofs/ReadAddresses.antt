@@ -1,18 +1,20 @@
 -- The addresses and ranges that texts write are within their bounds.
 use Rattle.std.proofs.Common.{◌≡◌, ℕ, ◌+◌, ◌-◌, ◌*◌, ◌/◌, ◌%◌, ◌^◌, ◌==◌, ◌&&◌, ◌≤◌, Bool, true, false, cond, nat_le, nat_lt, List, [], ◌∷◌, map, Option, Some, None, option_map, Ok, ok_or, filter_map, refl, sym, ap, subst, ◌∙◌, arith}
 use Rattle.std.specs.List.{list_all, slice_split}
-use Rattle.std.proofs.Math.Nat.{add-sub_cancel, div-add-mod, mul-mod_right, sub-le}
+use Rattle.std.proofs.Math.Nat.{sub-le}
 use Rattle.std.proofs.lemmas.Bool.{and_from, and_parts}
 use Rattle.std.proofs.lemmas.Bool.Decides.{nat_tests}
 use Rattle.std.proofs.lemmas.Option.{same_Some}
 use Rattle.kp_lemmas.proofs.Members.{all_from, all_map, from_filter_map}
+use Rattle.kp_lemmas.proofs.Numbers.{cleared}
+use Rattle.kp_lemmas.proofs.Options.{from_and_then, from_option_map}
 use Rattle.kp_json.specs.Places.{Place}
 use Rattle.kp_base.specs.Dotted.{address_of, decimal_up_to, digits_number, four_numbers, is_decimal, range_from, range_of, range_of_parts, split_once}
 use Rattle.kp_base.specs.Net.{AddressParts, RangeParts, range_size, v4_address}
 use Rattle.kp_base.specs.declared.address.Family.TheVariants.{V4}
 use Rattle.kp_row_defs.specs.Fields.{address_at, address_in, address_of_text, found, is_other_family, range_at, range_of_text, text_in, text_of, unless_other}
 use Rattle.kp_text_laws.specs.Bounds.{is_bounded_address, is_bounded_range, passes_if_some}
-use Rattle.kp_text_laws.proofs.PortBounds.{from_and_then, from_option_map, some_passes}
+use Rattle.kp_text_laws.proofs.PortBounds.{some_passes}
 
 -- ---- Addresses
 
@@ -65,12 +67,6 @@ v4_bounded : (a : AddressParts) → IsV4 a → is_bounded_address a ≡ true
 v4_bounded a v = ap is_bounded_address v.is ∙ v.small
 
 -- ---- Ranges
-
-cleared : (n s : ℕ) → (n - n % s) % s ≡ 0
-cleared n s =
-    let whole : n - n % s ≡ s * (n / s) =
-    ap (λ k. k - n % s) (sym (div-add-mod n s)) ∙ add-sub_cancel (s * (n / s)) (n % s) in
-    ap (λ k. k % s) whole ∙ mul-mod_right s (n / s)
 
 range_by : (n s bits : ℕ) → nat_lt n 4294967296 ≡ true → nat_le bits 32 ≡ true
     → (nat_lt (n - n % s) 4294967296 && (nat_le bits 32 && ((n - n % s) % s == 0))) ≡ true

@@ -16,7 +16,7 @@ use Rattle.kp_row_defs.specs.Rows.{rows_fault}
 use Rattle.kp_text_defs.specs.ConfigText.{config_from, config_rows, read_config}
 use Rattle.kp_text_defs.specs.JsonText.{json_of}
 use Rattle.kp_text_defs.specs.PacketText.{read_packet}
-use Rattle.kp_text_defs.specs.ScriptLines.{Command, as_op, command_of, config, config_op, event, explain, line_of, of_events, of_members, op_at, op_named, op_of, or_refusal, packet, read_script, read_shown, read_stream, show, sync, ◌>>=◌}
+use Rattle.kp_text_defs.specs.ScriptLines.{Command, as_op, command_of, config, config_op, event, explain, line_of, of_events, of_members, op_at, op_named, op_of, or_refusal, packet, read_script, read_shown, read_stream, show, sync, with_stream, ◌>>=◌}
 use Rattle.kp_text_defs.specs.declared.line_refusal.LineRefusal.{LineRefusal}
 use Rattle.kp_text_defs.specs.declared.line_refusal.LineRefusal.TheVariants.{BadJson, NotEvent, TooLongLine}
 use Rattle.kp_text_defs.specs.declared.script.Op.{Op}
@@ -90,12 +90,8 @@ module _ (read_is_bounded : ReadIsBounded) where
       let (c, of_c, made) = from_then (command_of name) (op_of first p) o next in
       command_op first p c o made
 
-  -- a line that was read
-  abbrev as_read : Stream → Op → Result ScriptLine LineRefusal
-  as_read stream operation = Ok (record { by = stream; op = operation })
-
   made_line : (stream : Stream) (operation : Op) (line : ScriptLine)
-      → as_read stream operation ≡ Ok line → IsBoundedOp operation → IsBoundedOp line.op
+      → with_stream stream operation ≡ Ok line → IsBoundedOp operation → IsBoundedOp line.op
   made_line stream operation line e h =
       let same : record { by = stream; op = operation } ≡ line = cc in
       subst (λ (l : ScriptLine). IsBoundedOp l.op) same h

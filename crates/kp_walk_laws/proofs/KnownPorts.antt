@@ -5,6 +5,7 @@ use Rattle.std.specs.FinMap.{values}
 use Rattle.std.proofs.Math.Bool.{not-not}
 use Rattle.std.proofs.lemmas.Option.{same_Some}
 use Rattle.kp_lemmas.proofs.Members.{from_filter_map, in_map}
+use Rattle.kp_lemmas.proofs.Options.{from_option_map}
 use Rattle.kp_base.specs.Net.{AddressParts, same_family}
 use Rattle.kp_base.specs.declared.address.Family.{Family}
 use Rattle.kp_base.specs.declared.key.PortKey.{PortKey}
@@ -25,11 +26,6 @@ use Rattle.kp_object_laws.proofs.Lists.{none_usable, cluster_empty}
 use Rattle.kp_table_laws.proofs.PortOrder.{ports_are_in_order}
 use Rattle.kp_walk_laws.specs.Laws.{IsKnown, KnownPorts, PortKeysOnce}
 use Rattle.kp_walk_laws.proofs.Entries.{one_sorted}
-
-from_option_map : {A B : Type 0} (f : A → B) (o : Option A) (y : B) → option_map f o ≡ Some y
-    → (x : A) × (o ≡ Some x) × (f x ≡ y)
-from_option_map f None y h = absurd (cc)
-from_option_map f (Some x) y h = (x, refl, same_Some (f x) y h)
 
 -- an address of a family is of it
 in_family_by : (family : Family) (a b : AddressParts) (same : Bool)
