@@ -1,5 +1,5 @@
 -- A quotient rounded half to even is at most one more than the quotient.
-use Rattle.std.proofs.Common.{◌≡◌, ℕ, ◌+◌, ◌*◌, ◌/◌, ◌%◌, ◌≤◌, ◌==◌, ◌&&◌, ◌||◌, Bool, true, false, if◌then◌else◌, nat_lt, arith}
+use Rattle.std.proofs.Common.{ℕ, ◌+◌, ◌*◌, ◌/◌, ◌%◌, ◌≤◌, ◌==◌, ◌&&◌, ◌||◌, Bool, true, false, if◌then◌else◌, nat_lt, arith}
 use Rattle.kp_choice_defs.specs.Draws.{half_even}
 
 pub half_even_le : (a n : ℕ) → half_even a n ≤ a / n + 1

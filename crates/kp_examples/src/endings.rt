@@ -28,7 +28,7 @@ fn check_words(
 ) -> Result<(), Fail> {
     let words = words_of(alloc, text)?;
     let mut source = SureSource::new(bytes_of(alloc, SYNCS)?, 7);
-    let mut sink = SureSink::new(alloc, 5);
+    let mut sink = SureSink::new(alloc, 5, 4096)?;
     let found = run(alloc, words.as_slice(), &mut source, &mut sink);
     assert_eq!(rt; sink.written(), want.as_bytes(), "{text}");
     assert_eq!(rt; found, status, "{text}");
@@ -64,13 +64,13 @@ fn faults_have_their_statuses(rt: HostRuntime) -> Result<(), Fail> {
     let words = words_of(alloc, "kproxy replay")?;
     let first = Items::from_vec([1].to_vec(alloc)?);
     let mut source = MemorySource::new(bytes_of(alloc, SYNCS)?, 7, first);
-    let mut sink = SureSink::new(alloc, 5);
+    let mut sink = SureSink::new(alloc, 5, 4096)?;
     let found = run(alloc, words.as_slice(), &mut source, &mut sink);
     assert_eq!(rt; found, Status::ReadFault);
     assert_eq!(rt; sink.written(), b"".as_slice());
     let first = Items::from_vec([1].to_vec(alloc)?);
     let mut source = SureSource::new(bytes_of(alloc, SYNCS)?, 7);
-    let mut sink = MemorySink::new(alloc, 5, first);
+    let mut sink = MemorySink::new(alloc, 5, 0, first)?;
     let found = run(alloc, words.as_slice(), &mut source, &mut sink);
     assert_eq!(rt; found, Status::WriteFault);
     Ok(())

@@ -33,7 +33,7 @@ pub(crate) fn bytes_of(alloc: Global, text: &str) -> Result<Items<u8>, AllocErro
 pub(crate) fn check(rt: &impl Abort, alloc: Global, row: &Row) -> Result<(), Fail> {
     let words = words_of(alloc, "kproxy replay")?;
     let mut source = SureSource::new(bytes_of(alloc, row.input)?, 700);
-    let mut sink = SureSink::new(alloc, 50);
+    let mut sink = SureSink::new(alloc, 50, 4096)?;
     let found = run(alloc, words.as_slice(), &mut source, &mut sink);
     assert_eq!(rt; sink.written(), row.want.as_bytes(), "{}", row.name);
     assert_eq!(rt; found, row.status, "{}", row.name);

@@ -141,7 +141,7 @@ fn a_read_may_fail_within_a_line_that_is_skipped(rt: HostRuntime) -> Result<(), 
 
 #[test]
 fn a_failed_write_comes_after_a_part(rt: HostRuntime) -> Result<(), Fail> {
-    let mut sink = MemorySink::new(rt.alloc(), 1, items_of(rt.alloc(), &[3u64, 4])?);
+    let mut sink = MemorySink::new(rt.alloc(), 1, 0, items_of(rt.alloc(), &[3u64, 4])?)?;
     assert!(rt; write_whole(&mut sink, b"abc") == Err(Failed));
     assert!(rt; sink.flush() == Err(Failed), "a flush counts as a call");
     assert!(rt; write_whole(&mut sink, b"c") == Ok(()) && sink.flush() == Ok(()));
@@ -150,10 +150,11 @@ fn a_failed_write_comes_after_a_part(rt: HostRuntime) -> Result<(), Fail> {
 }
 
 #[test]
-fn a_sure_sink_takes_a_piece(rt: HostRuntime) {
-    let mut sink = SureSink::new(rt.alloc(), 2);
+fn a_sure_sink_takes_a_piece(rt: HostRuntime) -> Result<(), Fail> {
+    let mut sink = SureSink::new(rt.alloc(), 2, 2)?;
     assert!(rt; sink.write(b"abc") == Ok(2) && sink.flush() == Ok(()));
     assert!(rt; sink.written() == b"ab".as_slice());
+    Ok(())
 }
 
 #[test]

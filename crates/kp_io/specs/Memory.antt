@@ -1,6 +1,6 @@
 -- Sources and sinks in memory (this project's choice), which tests hand to the program: they cut
 -- what they give and take into pieces, and fail where they are told to.
-use Rattle.std.specs.Prelude.{◌≡◌, ℕ, ◌↔◌, Bool, true, if◌then◌else◌, List, [], Option, None, Some, Result, is_err, IsErr, Contains}
+use Rattle.std.specs.Prelude.{◌≡◌, ℕ, ◌+◌, ◌≤◌, ◌↔◌, Bool, true, if◌then◌else◌, List, [], length, Option, None, Some, Result, is_err, IsErr, Contains}
 use Rattle.kp_io.specs.Faults.{one_more}
 
 -- the calls, from 1, that are to fail, and how many there were and how many of them failed
@@ -27,12 +27,13 @@ pub record SourceParts : Type 0 where
   pub asked : ℕ
 
 -- a sink: the bytes that it keeps, whether they are all that was written, how many of them were
--- flushed, and the most that one write takes
+-- flushed, the most that one write takes, and for how many bytes it had memory from the start
 pub record SinkParts : Type 0 where
   pub kept : List ℕ
   pub complete : Bool
   pub flushed : ℕ
   pub piece : ℕ
+  pub room : ℕ
 
 -- what was written to the sink, unless memory was refused for some of it
 abbrev pub told_bytes : SinkParts → Option (List ℕ)
@@ -43,8 +44,12 @@ abbrev pub told_flushed : SinkParts → Option ℕ
 told_flushed sink = if sink.complete then Some sink.flushed else None
 
 -- a sink that nothing was written to
-abbrev pub fresh_sink : ℕ → SinkParts
-fresh_sink piece = record { kept = []; complete = true; flushed = 0; piece = piece }
+abbrev pub fresh_sink : ℕ → ℕ → SinkParts
+fresh_sink piece room = record { kept = []; complete = true; flushed = 0; piece = piece; room = room }
+
+-- the sink keeps telling where so many bytes more are within its room
+abbrev pub KeepsTelling : SinkParts → SinkParts → ℕ → Type 0
+KeepsTelling old new more = length old.kept + more ≤ old.room → new.complete ≡ old.complete
 
 -- a source that fails by plan
 pub record PlannedSource : Type 0 where

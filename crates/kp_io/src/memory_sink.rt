@@ -1,20 +1,21 @@
 //! A sink in memory that fails by plan.
 ghost use Rattle.std.specs.Prelude.{◌≡◌, ◌≤◌, [], min, length, IfOk, OnOk, OnErr};
 ghost use Rattle.kp_io.specs.Faults.{HasCause};
-ghost use Rattle.kp_io.specs.Memory.{told_bytes, told_flushed, fresh_sink, fresh_plan, Meets};
+ghost use Rattle.kp_io.specs.Memory.{told_bytes, told_flushed, fresh_sink, fresh_plan, KeepsTelling, Meets};
 ghost use Rattle.kp_io.specs.Told.{Grows, TakesFront, FlushesOn, IsFlushed};
 
 use crate::plan::Plan;
 use crate::sink::Sink;
 use crate::source::Failed;
 use crate::sure_sink::SureSink;
-use kp_base::Items;
+use kp_base::{Items, NoMemory};
 use std::alloc::Global;
 use std::marker::Model;
 
 /// A sink that keeps what is written in memory, takes at most so many bytes in a write, and whose
-/// writes and flushes fail by plan. They are counted together. Where it is refused memory it takes
-/// the bytes all the same, and from then on tells no content.
+/// writes and flushes fail by plan. They are counted together. It has room for so many bytes from
+/// the start. Where it is refused memory for more, it takes the bytes all the same, and from then
+/// on tells no content.
 #[derive(Drop)]
 pub struct MemorySink {
     sink: SureSink,
@@ -33,16 +34,22 @@ impl Model for MemorySink {
 }
 
 impl MemorySink {
-    /// A sink that nothing was written to, whose calls of these numbers, from 1, fail.
-    pub fn new(alloc: Global, piece: u64, fails: Items<u64>) -> MemorySink
+    /// A sink that nothing was written to, with room for so many bytes, whose calls of these
+    /// numbers, from 1, fail.
+    pub fn new(
+        alloc: Global,
+        piece: u64,
+        room: usize,
+        fails: Items<u64>,
+    ) -> Result<MemorySink, NoMemory>
         requires { 1 ≤ piece }
-        ensures sink { result.sink ≡ fresh_sink piece }
-        ensures plan { result.plan ≡ fresh_plan fails }
+        ensures sink { IfOk result (λ s. s.sink ≡ fresh_sink piece room) }
+        ensures plan { IfOk result (λ s. s.plan ≡ fresh_plan fails) }
     {
-        MemorySink {
-            sink: SureSink::new(alloc, piece),
+        Ok(MemorySink {
+            sink: SureSink::new(alloc, piece, room)?,
             plan: Plan::new(fails),
-        }
+        })
     }
 
     /// The bytes that were written, where the sink tells its content.
@@ -68,6 +75,7 @@ impl Sink for MemorySink {
         ensures cause { HasCause self.old.plan.faults self.new.plan.faults result }
         ensures planned { Meets result self.old.plan self.new.plan }
         ensures count { IfOk result (λ n. n ≡ min self.old.sink.piece (length bytes.now)) }
+        ensures tells { IfOk result (λ n. KeepsTelling self.old.sink self.new.sink n) }
         ensures same { OnErr result (self.new.sink ≡ self.old.sink) }
     {
         self.plan.meet()?;

@@ -1,5 +1,5 @@
 -- The entries of the endpoints that a Service wants name their pods.
-use Rattle.std.proofs.Common.{◌≡◌, Bool, true, false, cond, ℕ, List, [], ◌∷◌, Option, Some, None, option_and_then, filter, filter_map, refl}
+use Rattle.std.proofs.Common.{◌≡◌, Bool, true, false, cond, ℕ, List, [], ◌∷◌, Option, Some, None, option_and_then, filter, refl}
 use Rattle.std.specs.FinMap as finite
 use Rattle.kp_base.specs.Net.{AddressParts}
 use Rattle.kp_base.specs.declared.address.Family.{Family}

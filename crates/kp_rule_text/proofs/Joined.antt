@@ -84,13 +84,3 @@ seen_added old s1 s2 s3 s4 new list seconds a b c d e =
     added_twice old s1 new (codes "-m recent --name ") (list ++ timed) a
     (added_twice s1 s2 new list timed b (added_twice s2 s3 new (codes " --rcheck --seconds ") last c (added_twice s3 s4 new (decimal seconds) (codes " --reap ") d e)))
     ∙ ap (λ l. old ++ l) (seen_text list seconds)
-
-dnat_text : (e : Endpoint) → codes "-j DNAT --to-destination " ++ (host_text e.address.family (address_text e.address) ++ (codes ":" ++ decimal e.port)) ≡ target_text (target.Dnat e)
-dnat_text e = sym (ap (λ l. codes "-j DNAT --to-destination " ++ l) (append_assoc (host_text e.address.family (address_text e.address)) (codes ":") (decimal e.port)))
-
-pub dnat_added : (old s1 s2 s3 new : List ℕ) (e : Endpoint) → s1 ≡ old ++ codes "-j DNAT --to-destination " → s2 ≡ s1 ++ host_text e.address.family (address_text e.address) → s3 ≡ s2 ++ codes ":" → new ≡ s3 ++ decimal e.port → new ≡ old ++ target_text (target.Dnat e)
-dnat_added old s1 s2 s3 new e a b c d =
-    let host = host_text e.address.family (address_text e.address) in
-    added_twice old s1 new (codes "-j DNAT --to-destination ") (host ++ (codes ":" ++ decimal e.port)) a
-    (added_twice s1 s2 new host (codes ":" ++ decimal e.port) b (added_twice s2 s3 new (codes ":") (decimal e.port) c d))
-    ∙ ap (λ l. old ++ l) (dnat_text e)

@@ -8,7 +8,6 @@ mod print;
 mod read;
 mod split;
 mod target;
-mod text;
 mod word;
 
 pub use print::push_rule;

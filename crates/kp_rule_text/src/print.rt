@@ -1,18 +1,15 @@
 //! Rules are printed.
-ghost use Rattle.std.specs.Prelude.{◌≡◌, [], ◌∷◌, ◌++◌, ◌/◌, ◌%◌, ◌*◌, ◌^◌, ◌<◌, OnOk, string_bytes, codes, decimal};
+ghost use Rattle.std.specs.Prelude.{◌≡◌, [], ◌∷◌, ◌++◌, OnOk, string_bytes, codes, decimal};
 ghost use Rattle.std.specs.List.{flat_map};
-ghost use Rattle.std.specs.Net.Addr.{ipv6_segments};
 ghost use Rattle.kp_types.specs.declared.rule.Match.TheVariants as match;
 ghost use Rattle.kp_types.specs.declared.rule.Target.TheVariants as target;
-ghost use Rattle.kp_choice_defs.specs.AddressText as addresses;
 ghost use Rattle.kp_restore_defs.specs.RuleText as spec;
 ghost use Rattle.kp_rule_text.specs.Lines as lines;
 
-use crate::text::v4_text;
-use kp_base::{Address, Cidr, Endpoint, Family, NoMemory, PortNo, Proto};
+use kp_base::{Cidr, Endpoint, NoMemory, PortNo, Proto};
 use kp_draws::probability_text;
+use kp_print::{address_text, endpoint_text};
 use kp_types::{ChainName, Match, Rule, Target};
-use std::net::Ipv6Addr;
 
 /// Adds the line of a rule of a chain, without its end. The words are those of iptables(8) and
 /// iptables-extensions(8), with one space between them; addresses have their prefix length.
@@ -65,7 +62,7 @@ fn push_range(line: &mut String, not: bool, option: &str, range: &Cidr) -> Resul
     push_not(line, not)?;
     push(line, option)?;
     push(line, " ")?;
-    push_address(line, &range.base())?;
+    push(line, address_text(&range.base()).as_str())?;
     push(line, "/")?;
     push_number(line, range.bits() as u32)?;
     push(line, " ")
@@ -180,9 +177,7 @@ fn push_dnat(line: &mut String, endpoint: &Endpoint) -> Result<(), NoMemory>
         ≡ string_bytes line.old ++ lines.target_text (target.Dnat endpoint.now)) }
 {
     push_jump(line, "DNAT --to-destination ")?;
-    push_host(line, &endpoint.address)?;
-    push(line, ":")?;
-    push_number(line, endpoint.port.get() as u32)
+    push(line, endpoint_text(endpoint).as_str())
 }
 
 /// Adds a number.
@@ -190,59 +185,6 @@ fn push_number(line: &mut String, number: u32) -> Result<(), NoMemory>
     ensures { OnOk result (string_bytes line.new ≡ string_bytes line.old ++ decimal number) }
 {
     Ok(write!(line, "{number}")?)
-}
-
-/// Adds an address as it stands before a port: an IPv6 address in brackets.
-fn push_host(line: &mut String, address: &Address) -> Result<(), NoMemory>
-    ensures { OnOk result (string_bytes line.new ≡ string_bytes line.old
-        ++ addresses.host_text address.now.family (addresses.address_text address.now)) }
-{
-    match address.family() {
-        Family::V4 => push_address(line, address),
-        Family::V6 => {
-            push(line, "[")?;
-            push_address(line, address)?;
-            push(line, "]")
-        }
-    }
-}
-
-/// Adds an address.
-fn push_address(line: &mut String, address: &Address) -> Result<(), NoMemory>
-    ensures { OnOk result (string_bytes line.new
-        ≡ string_bytes line.old ++ addresses.address_text address.now) }
-{
-    match address.family() {
-        Family::V4 => push(line, v4_text(address.number()).as_str()),
-        Family::V6 => {
-            let address = v6_address(address.number()).hex_groups();
-            Ok(write!(line, "{address}")?)
-        }
-    }
-}
-
-/// The sixteen bits of a number at a place from its lowest.
-fn segment(number: u128, place: u32) -> u16
-    requires { place < 8 }
-    ensures { result ≡ number / 2 ^ (16 * place) % 2 ^ 16 }
-{
-    (number / (1 << (16 * place)) % 65536) as u16
-}
-
-/// The IPv6 address with this number.
-fn v6_address(number: u128) -> Ipv6Addr
-    ensures { ipv6_segments result ≡ addresses.segments_of number }
-{
-    Ipv6Addr::new(
-        segment(number, 7),
-        segment(number, 6),
-        segment(number, 5),
-        segment(number, 4),
-        segment(number, 3),
-        segment(number, 2),
-        segment(number, 1),
-        segment(number, 0),
-    )
 }
 
 /// Adds a text.

@@ -6,10 +6,10 @@ ghost use Rattle.kp_choice_defs.specs.Draws.{probability_text_of};
 ghost use Rattle.kp_restore_defs.specs.RuleText.{range_text};
 ghost use Rattle.kp_rule_text.specs.WordReading as spec;
 
-use crate::text::{push_number, v4_text};
 use itoa::Buffer;
 use kp_base::{Address, Cidr, Endpoint, PortNo, split_once};
 use kp_draws::probability_text;
+use kp_print::address_text;
 use kp_types::ChainName;
 
 /// The probability of a certain match, in parts of 10^10.
@@ -75,7 +75,7 @@ fn address_word(word: &[u8]) -> Option<Address>
     ensures { result ≡ spec.address_word V4 word.now }
 {
     let address = Address::parse(word).ok()?;
-    if v4_text(address.number()).as_str().as_bytes() == word {
+    if address_text(&address).as_str().as_bytes() == word {
         Some(address)
     } else {
         None
@@ -99,9 +99,10 @@ fn is_v4_range(word: &[u8], range: &Cidr) -> bool
     requires { range.now.base.family ≡ V4 }
     ensures { result ≡ bytes_eq (range_text range.now) word.now }
 {
-    let mut text = v4_text(range.base().number());
+    let mut text = address_text(&range.base());
+    let mut buffer = Buffer::new();
     text.push_str("/");
-    push_number(&mut text, range.bits());
+    text.push_str(buffer.format(range.bits()));
     text.as_str().as_bytes() == word
 }
 
