@@ -75,6 +75,7 @@ fn take_over(table: &mut Table, next: Option<Table>, syncs: u64)
         None => table.set_syncs(syncs),
         Some(next) => {
             *table = next;
+            table.link();
             table.set_syncs(syncs);
         }
     }
