@@ -1,12 +1,14 @@
 -- The draws of a plain line.
-use Rattle.std.proofs.Common.{◌≡◌, ◌+◌, ◌≤◌, ◌<◌, ◌^◌, ℕ, suc, List, [], ◌∷◌, length, map, codes, Option, Some, None, refl, sym, ap, ap₂, ◌∙◌, le-leb, not_lt-ltb, arith}
+use Rattle.std.proofs.Common.{◌≡◌, ◌+◌, ◌≤◌, ◌<◌, ◌^◌, ℕ, suc, List, [], ◌∷◌, length, map, codes, cond, false, nat_lt, Option, Some, None, refl, sym, ap, ap₂, ◌∙◌, le-leb, le-ltb, arith}
 use Rattle.std.proofs.Math.Dec.{lit≤}
 use Rattle.std.proofs.lemmas.List.Elements.{All-head, All-tail}
 use Rattle.std.specs.List.{enumerate_from, All}
 use Rattle.serde_json.specs.Data.{Members, array, number, unsigned}
 use Rattle.serde_json.specs.Find.{get_member}
+use Rattle.kp_json.specs.Answers.{too_many_at}
+use Rattle.kp_json.specs.Paths.{member_path}
 use Rattle.kp_json.specs.Places.{Place, item_list, item_place, member_place}
-use Rattle.kp_row_defs.specs.Rows.{each_up_to, first_in, or_then, row_fault, rows_fault}
+use Rattle.kp_row_defs.specs.Rows.{each_up_to, first_in, limited_fault, or_then, row_fault, rows_fault}
 use Rattle.kp_text_defs.proofs.Between.{between_same}
 use Rattle.kp_text_defs.specs.PacketText.{draw_from, draw_rows, listed_in}
 use Rattle.kp_plain_json.specs.Plain.{whole_items}
@@ -25,33 +27,35 @@ faultless p k n low = rw (le-leb 0 n (omega arith), le-leb n 2147483647 low)
 all_faultless : (p : Place) (k : ℕ) (ns : List ℕ) → All (λ n. n < 2 ^ 31) ns → first_in (map (rows_fault draw_rows) (places p k ns)) ≡ None
 all_faultless p k [] low = refl
 all_faultless p k (n ∷ ns) low =
-    ap (λ f. or_then f (first_in (map (rows_fault draw_rows) (places p (k + 1) ns)))) (faultless p k n (fits n (All-head _ n ns low)))
-    ∙ all_faultless p (k + 1) ns (All-tail _ n ns low)
+    ap (λ f. or_then f (first_in (map (rows_fault draw_rows) (places p (k + 1) ns)))) (faultless p k n (fits n (All-head (λ m. m < 2 ^ 31) n ns low)))
+    ∙ all_faultless p (k + 1) ns (All-tail (λ m. m < 2 ^ 31) n ns low)
 
 drawn : (p : Place) (k : ℕ) (ns : List ℕ) → All (λ n. n < 2 ^ 31) ns → map draw_from (places p k ns) ≡ ns
 drawn p k [] low = refl
 drawn p k (n ∷ ns) low =
-    ap₂ (λ m ms. m ∷ ms) (between_same 0 2147483647 n (omega arith) (fits n (All-head _ n ns low))) (drawn p (k + 1) ns (All-tail _ n ns low))
+    ap₂ (λ m ms. m ∷ ms) (between_same 0 2147483647 n (omega arith) (fits n (All-head (λ m. m < 2 ^ 31) n ns low))) (drawn p (k + 1) ns (All-tail (λ m. m < 2 ^ 31) n ns low))
 
 as_many : (p : Place) (k : ℕ) (ns : List ℕ) → length (places p k ns) ≡ length ns
 as_many p k [] = refl
 as_many p k (n ∷ ns) = ap suc (as_many p (k + 1) ns)
 
-module _ (name : List ℕ) (ms : Members) where
-  pub no_draws : get_member name ms ≡ None → row_fault (each_up_to 1000 name draw_rows) (object_place ms) ≡ None
-  no_draws none = rw none
+-- no draw of a list is at fault, and the list isn't too long
+list_faultless : (path ns : List ℕ) → All (λ n. n < 2 ^ 31) ns → length ns ≤ 1000
+    → limited_fault 1000 (λ r. rows_fault draw_rows r) (record { value = array (whole_items ns); path = path }) ≡ None
+list_faultless path ns low few =
+    let q : Place = record { value = array (whole_items ns); path = path } in
+    let short : nat_lt 1000 (length (places q 0 ns)) ≡ false = ap (nat_lt 1000) (as_many q 0 ns) ∙ le-ltb 1000 (length ns) few in
+    ap (λ b. or_then (cond b (Some (too_many_at path (length (places q 0 ns)))) None) (first_in (map (rows_fault draw_rows) (places q 0 ns)))) short
+    ∙ all_faultless q 0 ns low
 
-  pub draws_faultless : (ns : List ℕ) → get_member name ms ≡ Some (array (whole_items ns)) → All (λ n. n < 2 ^ 31) ns → length ns ≤ 1000
-      → row_fault (each_up_to 1000 name draw_rows) (object_place ms) ≡ None
-  draws_faultless ns found low few =
-      let p = member_place (object_place ms) name (array (whole_items ns)) in
-      rw found (rw (as_many p 0 ns, not_lt-ltb 1000 (length ns) (omega (arith, few)), all_faultless p 0 ns low))
+-- a member without draws
+pub none_drawn : (ms : Members) → get_member (codes "draws") ms ≡ None
+    → (row_fault (each_up_to 1000 (codes "draws") draw_rows) (object_place ms) ≡ None) × (None ≡ listed_in (object_place ms))
+none_drawn ms none = (rw none, rw none)
 
-pub none_listed : (ms : Members) → get_member (codes "draws") ms ≡ None → listed_in (object_place ms) ≡ None
-none_listed ms none = rw none
-
-pub all_listed : (ms : Members) (ns : List ℕ) → get_member (codes "draws") ms ≡ Some (array (whole_items ns)) → All (λ n. n < 2 ^ 31) ns
-    → listed_in (object_place ms) ≡ Some ns
-all_listed ms ns found low =
+-- a member with these draws
+pub all_drawn : (ms : Members) (ns : List ℕ) → get_member (codes "draws") ms ≡ Some (array (whole_items ns)) → All (λ n. n < 2 ^ 31) ns → length ns ≤ 1000
+    → (row_fault (each_up_to 1000 (codes "draws") draw_rows) (object_place ms) ≡ None) × (Some ns ≡ listed_in (object_place ms))
+all_drawn ms ns found low few =
     let p = member_place (object_place ms) (codes "draws") (array (whole_items ns)) in
-    rw found (ap Some (drawn p 0 ns low))
+    (rw found (list_faultless (member_path [] (codes "draws")) ns low few), sym (rw found (ap Some (drawn p 0 ns low))))

@@ -2,7 +2,7 @@
 use Rattle.std.proofs.Common.{◌≡◌, ℕ, List, [], Bool, true, codes, bytes_eq, Option, Some, None, Ok, IsUtf8, refl, sym, ap, ◌∙◌}
 use Rattle.std.proofs.lemmas.Slice.Eq.{bytes_eq-Decides}
 use Rattle.std.proofs.lemmas.Str.{is_utf8-from_IsUtf8}
-use Rattle.std.specs.Prelude.{cond}
+use Rattle.std.specs.Prelude.{cond, IfSome}
 use Rattle.std.specs.Str.{is_utf8}
 use Rattle.serde_json.specs.Data.{Data, Members, object, string}
 use Rattle.serde_json.specs.Find.{get_member}
@@ -29,6 +29,13 @@ pub line_read : (bs : List ℕ) (d : Data) (first : Bool) (line : ScriptLine) �
     → line_of bs first ≡ Ok line
 line_read bs d first line utf8 is read =
     ap (λ o. or_refusal BadJson o >>= λ e. read_script first (record { value = e; path = [] })) (json_read bs d utf8 is) ∙ read
+
+-- the same of what was read in a text of these bytes
+pub all_read : (bs text : List ℕ) (d : Data) (o : Option ScriptLine) → IsUtf8 bs → text ≡ bs → read text ≡ Some d
+    → IfSome o (λ line. (first : Bool) → read_script first (record { value = d; path = [] }) ≡ Ok line)
+    → IfSome o (λ line. (first : Bool) → line_of bs first ≡ Ok line)
+all_read bs text d None utf8 same is lines = tt
+all_read bs text d (Some line) utf8 same is lines = λ first. line_read bs d first line utf8 (ap read (sym same) ∙ is) (lines first)
 
 packet_named : (first : Bool) (ms : Members) → op_named first (object_place ms) (codes "packet") ≡ as_op op.Packet (read_packet (object_place ms))
 packet_named first ms = refl

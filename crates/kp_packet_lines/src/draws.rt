@@ -16,8 +16,8 @@ const MAX_DRAWS: usize = 1000;
 /// The list of draws, or nothing where there is none.
 pub(crate) fn listed_draws(object: PlainObject<'_>) -> Option<Option<LowNumbers>>
     ensures { Takes (option_map (λ d. d.numbers)) result
-        (row_fault (each_up_to 1000 (codes "draws") draw_rows) (place_of object))
-        (listed_in (place_of object)) }
+        (row_fault (each_up_to 1000 (codes "draws") draw_rows) (place_of object.entry))
+        (listed_in (place_of object.entry)) }
 {
     match object.into_member("draws") {
         None => Some(None),

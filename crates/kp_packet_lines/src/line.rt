@@ -28,11 +28,12 @@ pub fn packet_line(alloc: Global, bytes: &[u8], scratch: &mut Scratch) -> Option
         return None;
     }
     let text = simdutf8::basic::from_utf8(bytes).ok()?;
-    line_in(alloc, plain_object(alloc, text, scratch)?)
+    let object = plain_object(alloc, text, scratch)?;
+    line_in(alloc, object)
 }
 
 fn line_in(alloc: Global, object: PlainObject<'_>) -> Option<ScriptLine>
-    ensures { IfSome result (λ line. (first : Bool) → read_script first (place_of object) ≡ Ok line) }
+    ensures { IfSome result (λ line. (first : Bool) → read_script first (place_of object.entry) ≡ Ok line) }
 {
     if object.member("by").is_some() {
         return None;
@@ -55,8 +56,8 @@ fn main_line(op: Op) -> ScriptLine
 
 /// A packet and what stands beside it.
 fn packet_in(alloc: Global, object: PlainObject<'_>) -> Option<PacketLine>
-    ensures { Takes (λ p. p) result (rows_fault packet_rows (place_of object))
-        (packet_line_from (place_of object)) }
+    ensures { Takes (λ p. p) result (rows_fault packet_rows (place_of object.entry))
+        (packet_line_from (place_of object.entry)) }
 {
     let from = origin(&object)?;
     let source = address(&object, "src")?;
