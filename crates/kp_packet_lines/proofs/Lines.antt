@@ -36,38 +36,3 @@ pub all_read : (bs text : List ℕ) (d : Data) (o : Option ScriptLine) → IsUtf
     → IfSome o (λ line. (first : Bool) → line_of bs first ≡ Ok line)
 all_read bs text d None utf8 same is lines = tt
 all_read bs text d (Some line) utf8 same is lines = λ first. line_read bs d first line utf8 (ap read (sym same) ∙ is) (lines first)
-
-packet_named : (first : Bool) (ms : Members) → op_named first (object_place ms) (codes "packet") ≡ as_op op.Packet (read_packet (object_place ms))
-packet_named first ms = refl
-
-explain_named : (first : Bool) (ms : Members) → op_named first (object_place ms) (codes "explain") ≡ as_op op.Explain (read_packet (object_place ms))
-explain_named first ms = refl
-
-module _ (first : Bool) (ms : Members) (line : PacketLine) (no_stream : get_member (codes "by") ms ≡ None)
-  (faultless : rows_fault packet_rows (object_place ms) ≡ None) (same : line ≡ packet_line_from (object_place ms)) where
-
-  packet_taken : read_packet (object_place ms) ≡ Ok line
-  packet_taken = ap (λ f. unless_fault f (packet_line_from (object_place ms))) faultless ∙ ap Ok (sym same)
-
-  in_main : of_members (read_stream (object_place ms)) ≡ Ok Main
-  in_main = rw no_stream
-
-  -- the line of a command's name and what it reads
-  named : (of : PacketLine → Op) (name s : List ℕ) → bytes_eq s name ≡ true → get_member (codes "op") ms ≡ Some (string s)
-      → op_named first (object_place ms) name ≡ as_op of (read_packet (object_place ms))
-      → read_script first (object_place ms) ≡ Ok (record { by = Main; op = of line })
-  named of name s equal is command =
-      let p = object_place ms in
-      let found : member_at p (codes "op") ≡ Some (member_place p (codes "op") (string name)) =
-      rw is (ap (λ t. Some (member_place p (codes "op") (string t))) ((bytes_eq-Decides s name).0 equal)) in
-      ap (λ r. r >>= λ stream. op_at first p (member_at p (codes "op")) >>= with_stream stream) in_main
-      ∙ ap (λ o. op_at first p o >>= with_stream Main) found
-      ∙ ap (λ r. r >>= with_stream Main) (command ∙ ap (as_op of) packet_taken)
-
-  pub packet_read : (s : List ℕ) → bytes_eq s (codes "packet") ≡ true → get_member (codes "op") ms ≡ Some (string s)
-      → read_script first (object_place ms) ≡ Ok (record { by = Main; op = op.Packet line })
-  packet_read s equal is = named op.Packet (codes "packet") s equal is (packet_named first ms)
-
-  pub explain_read : (s : List ℕ) → bytes_eq s (codes "explain") ≡ true → get_member (codes "op") ms ≡ Some (string s)
-      → read_script first (object_place ms) ≡ Ok (record { by = Main; op = op.Explain line })
-  explain_read s equal is = named op.Explain (codes "explain") s equal is (explain_named first ms)
