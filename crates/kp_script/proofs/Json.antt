@@ -1,4 +1,4 @@
--- What the reader of JSON answers, as the definition of the value that bytes are.
+-- What the reader of JSON refuses, as the definition of the value that bytes are.
 use Rattle.std.proofs.Common.{◌≡◌, ℕ, List, Bool, true, false, cond, ap, refl, ◌∙◌}
 use Rattle.std.specs.Prelude.{Some, None, IsUtf8}
 use Rattle.std.specs.Str.{is_utf8}
@@ -6,10 +6,6 @@ use Rattle.std.proofs.lemmas.Str.{IsUtf8-from_is_utf8, is_utf8-from_IsUtf8}
 use Rattle.serde_json.specs.Data.{Data}
 use Rattle.serde_json.specs.Read.{read}
 use Rattle.kp_text_defs.specs.JsonText.{json_of}
-
--- text that is read
-pub json_read : (bs : List ℕ) (d : Data) → IsUtf8 bs → read bs ≡ Some d → json_of bs ≡ Some d
-json_read bs d utf8 h = ap (λ b. cond b (read bs) None) (is_utf8-from_IsUtf8 bs utf8) ∙ h
 
 by_test : (bs : List ℕ) (b : Bool) → is_utf8 bs ≡ b → (IsUtf8 bs → read bs ≡ None) → cond b (read bs) None ≡ None
 by_test bs true e h = h (IsUtf8-from_is_utf8 bs e)

@@ -9,7 +9,8 @@ use Rattle.kp_json.specs.declared.fault.JsonFault.TheVariants as json
 use Rattle.kp_text_defs.specs.JsonText.{json_of}
 use Rattle.kp_text_defs.specs.ScriptLines.{or_refusal}
 use Rattle.kp_text_defs.specs.declared.line_refusal.LineRefusal.TheVariants.{BadJson}
-use Rattle.kp_script.proofs.Json.{json_read, json_none}
+use Rattle.kp_packet_lines.proofs.Lines.{json_read}
+use Rattle.kp_script.proofs.Json.{json_none}
 use Rattle.kp_script.specs.ScriptAnswers.{Told, of_json_fault}
 
 -- a tree that was read

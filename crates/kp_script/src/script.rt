@@ -19,11 +19,28 @@ use kp_base::Text;
 use kp_events::event_of;
 use kp_fields::needed_choice;
 use kp_json::{FieldFault, JsonFault, Spot, Tree, read_tree};
+use kp_packet_lines::{Scratch, packet_line};
 use kp_text_defs::{LineRefusal, Op, ScriptLine, Shown};
 use std::alloc::Global;
 
-/// Reads a line that isn't blank. It may be the first of a script or a later one.
-pub fn line_of(alloc: Global, bytes: &[u8], first: bool) -> Result<ScriptLine, ScriptFault>
+/// Reads a line that isn't blank. It may be the first of a script or a later one. The scratch is kept
+/// from line to line, and no line makes it larger than some 32 KB.
+pub fn line_of(
+    alloc: Global,
+    bytes: &[u8],
+    first: bool,
+    scratch: &mut Scratch,
+) -> Result<ScriptLine, ScriptFault>
+    ensures { GivesScript (λ line. line) result (line_of bytes.now first) }
+{
+    match packet_line(alloc, bytes, scratch) {
+        Some(line) => Ok(line),
+        None => line_by_tree(alloc, bytes, first),
+    }
+}
+
+/// The same by the tree of the whole line, which serves each kind of line.
+fn line_by_tree(alloc: Global, bytes: &[u8], first: bool) -> Result<ScriptLine, ScriptFault>
     ensures { GivesScript (λ line. line) result (line_of bytes.now first) }
 {
     let tree = tree_of(alloc, bytes)?;

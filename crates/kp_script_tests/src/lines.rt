@@ -2,7 +2,8 @@
 use kp_base::{Address, Config, PortNo, Proto, Text};
 use kp_json::{BadField, Why};
 use kp_script::{
-    Draws, LineRefusal, Op, PacketLine, ScriptFault, ScriptLine, Shown, default_config, line_of,
+    Draws, LineRefusal, Op, PacketLine, Scratch, ScriptFault, ScriptLine, Shown, default_config,
+    line_of,
 };
 use kp_types::{Origin, Packet};
 use std::alloc::Global;
@@ -83,10 +84,15 @@ fn is_answer(answer: &Result<ScriptLine, ScriptFault>, wanted: &str) -> bool {
     }
 }
 
+/// What a line is read as.
+fn read(alloc: Global, line: &str, first: bool) -> Result<ScriptLine, ScriptFault> {
+    line_of(alloc, line.as_bytes(), first, &mut Scratch::new(alloc))
+}
+
 /// Whether the line of a row is read as it says behind the arrow.
 fn is_row_read(alloc: Global, row: &str, first: bool) -> Result<bool, Fail> {
     let (line, wanted) = row.split_once(" => ").ok_or("an arrow")?;
-    Ok(is_answer(&line_of(alloc, line.as_bytes(), first), wanted))
+    Ok(is_answer(&read(alloc, line, first), wanted))
 }
 
 /// The form of lines, their streams and their commands.
@@ -232,19 +238,28 @@ fn configurations_are_read(rt: HostRuntime) -> Result<(), Fail> {
     Ok(())
 }
 
-/// Whether a line of this command with a row's members is read as the row says behind the arrow.
-fn are_members_read(alloc: Global, op: &str, row: &str) -> Result<bool, Fail> {
+/// Whether a line of this command with a row's members is read as the row says behind the arrow,
+/// with a scratch that earlier lines were read with. A line with a null is read as it is without.
+fn are_members_read(
+    alloc: Global,
+    op: &str,
+    row: &str,
+    scratch: &mut Scratch,
+) -> Result<bool, Fail> {
     let (members, wanted) = row.split_once(" => ").ok_or("an arrow")?;
-    let line = format!(in alloc; "{{\"op\":\"{op}\",{members}}}")?;
     let wanted = if wanted == "packet" { op } else { wanted };
-    Ok(is_answer(&line_of(alloc, line.as_bytes(), false), wanted))
+    let plain = format!(in alloc; "{{\"op\":\"{op}\",{members}}}")?;
+    let with_null = format!(in alloc; "{{\"op\":\"{op}\",\"by\":null,{members}}}")?;
+    let quick = is_answer(&line_of(alloc, plain.as_bytes(), false, scratch), wanted);
+    Ok(quick && is_answer(&line_of(alloc, with_null.as_bytes(), false, scratch), wanted))
 }
 
 #[test]
 fn packets_are_read(rt: HostRuntime) -> Result<(), Fail> {
+    let mut scratch = Scratch::new(rt.alloc());
     for row in MEMBERS.lines() {
-        assert!(rt; are_members_read(rt.alloc(), "packet", row)?, "{row}");
-        assert!(rt; are_members_read(rt.alloc(), "explain", row)?, "{row}");
+        assert!(rt; are_members_read(rt.alloc(), "packet", row, &mut scratch)?, "{row}");
+        assert!(rt; are_members_read(rt.alloc(), "explain", row, &mut scratch)?, "{row}");
     }
     Ok(())
 }
@@ -264,9 +279,9 @@ fn many_draws(alloc: Global, count: usize) -> Result<String, Fail> {
 fn a_packet_has_at_most_a_thousand_draws(rt: HostRuntime) -> Result<(), Fail> {
     let alloc = rt.alloc();
     let most = many_draws(alloc, 1000)?;
-    assert!(rt; is_answer(&line_of(alloc, most.as_bytes(), false), "packet"));
+    assert!(rt; is_answer(&read(alloc, most.as_str(), false), "packet"));
     let more = many_draws(alloc, 1001)?;
-    let refused = line_of(alloc, more.as_bytes(), false);
+    let refused = read(alloc, more.as_str(), false);
     match &refused {
         Err(ScriptFault::Refused(LineRefusal::Bad(bad))) => {
             assert!(rt; is_fault(bad, "TooMany draws"));
@@ -287,7 +302,7 @@ fn packet_of(op: Op) -> Result<PacketLine, Fail> {
 
 /// The packet line that a text is.
 fn packet(alloc: Global, text: &str) -> Result<PacketLine, Fail> {
-    match line_of(alloc, text.as_bytes(), false) {
+    match read(alloc, text, false) {
         Ok(line) => packet_of(line.op),
         Err(_fault) => Err(Fail::new("a line")),
     }
@@ -350,7 +365,7 @@ fn config_of(op: Op) -> Result<Config, Fail> {
 
 /// The configuration that a text is.
 fn config(alloc: Global, text: &str) -> Result<Config, Fail> {
-    match line_of(alloc, text.as_bytes(), true) {
+    match read(alloc, text, true) {
         Ok(line) => config_of(line.op),
         Err(_fault) => Err(Fail::new("a line")),
     }

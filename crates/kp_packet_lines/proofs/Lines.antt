@@ -1,0 +1,38 @@
+-- A plain line of a packet, as the definition of a script line reads it.
+use Rattle.std.proofs.Common.{◌≡◌, ℕ, List, [], Bool, true, codes, bytes_eq, Option, Some, None, Ok, IsUtf8, refl, sym, ap, ◌∙◌}
+use Rattle.std.proofs.lemmas.Slice.Eq.{bytes_eq-Decides}
+use Rattle.std.proofs.lemmas.Str.{is_utf8-from_IsUtf8}
+use Rattle.std.specs.Prelude.{cond, IfSome}
+use Rattle.std.specs.Str.{is_utf8}
+use Rattle.serde_json.specs.Data.{Data, Members, object, string}
+use Rattle.serde_json.specs.Find.{get_member}
+use Rattle.serde_json.specs.Read.{read}
+use Rattle.kp_json.specs.Places.{member_at, member_place}
+use Rattle.kp_row_defs.specs.Rows.{rows_fault, unless_fault}
+use Rattle.kp_text_defs.specs.JsonText.{json_of}
+use Rattle.kp_text_defs.specs.PacketText.{packet_line_from, packet_rows, read_packet}
+use Rattle.kp_text_defs.specs.ScriptLines.{◌>>=◌, as_op, line_of, of_members, op_at, op_named, or_refusal, read_script, read_stream, with_stream}
+use Rattle.kp_text_defs.specs.declared.line_refusal.LineRefusal.TheVariants.{BadJson}
+use Rattle.kp_text_defs.specs.declared.packet.PacketLine.{PacketLine}
+use Rattle.kp_text_defs.specs.declared.script.Op.{Op}
+use Rattle.kp_text_defs.specs.declared.script.Op.TheVariants as op
+use Rattle.kp_text_defs.specs.declared.script.ScriptLine.{ScriptLine}
+use Rattle.kp_text_defs.specs.declared.stream.Stream.TheVariants.{Main}
+use Rattle.kp_packet_lines.specs.Taken.{object_place}
+
+-- text that is read
+pub json_read : (bs : List ℕ) (d : Data) → IsUtf8 bs → read bs ≡ Some d → json_of bs ≡ Some d
+json_read bs d utf8 h = ap (λ b. cond b (read bs) None) (is_utf8-from_IsUtf8 bs utf8) ∙ h
+
+-- the line of a text that is read
+pub line_read : (bs : List ℕ) (d : Data) (first : Bool) (line : ScriptLine) → IsUtf8 bs → read bs ≡ Some d → read_script first (record { value = d; path = [] }) ≡ Ok line
+    → line_of bs first ≡ Ok line
+line_read bs d first line utf8 is read =
+    ap (λ o. or_refusal BadJson o >>= λ e. read_script first (record { value = e; path = [] })) (json_read bs d utf8 is) ∙ read
+
+-- the same of what was read in a text of these bytes
+pub all_read : (bs text : List ℕ) (d : Data) (o : Option ScriptLine) → IsUtf8 bs → text ≡ bs → read text ≡ Some d
+    → IfSome o (λ line. (first : Bool) → read_script first (record { value = d; path = [] }) ≡ Ok line)
+    → IfSome o (λ line. (first : Bool) → line_of bs first ≡ Ok line)
+all_read bs text d None utf8 same is lines = tt
+all_read bs text d (Some line) utf8 same is lines = λ first. line_read bs d first line utf8 (ap read (sym same) ∙ is) (lines first)

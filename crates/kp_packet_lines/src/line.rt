@@ -1,0 +1,85 @@
+//! A packet's line.
+ghost use Rattle.std.specs.Prelude.{◌≡◌, Bool, Ok, None, IfSome};
+ghost use Rattle.kp_row_defs.specs.Rows.{rows_fault};
+ghost use Rattle.kp_text_defs.specs.PacketText.{packet_line_from, packet_rows};
+ghost use Rattle.kp_text_defs.specs.ScriptLines.{line_of, read_script};
+ghost use Rattle.kp_packet_lines.specs.Taken.{Takes, place_of};
+
+use crate::draws::{draws_of, listed_draws};
+use crate::fields::{
+    address, moment, origin, proto, seed, source_port, target_port, text_field, trail,
+};
+use kp_plain_json::{PlainObject, Scratch, plain_object};
+use kp_text_defs::{Op, PacketLine, ScriptLine, Stream};
+use kp_types::Packet;
+use std::alloc::Global;
+
+/// The longest line that is read here, so that no more memory is kept for the next one.
+const LONGEST: usize = 16384;
+
+/// Reads a line that sends or explains a packet in the plain way: an object of at most 16,384 bytes
+/// whose members are texts that aren't empty, whole numbers, truth values and lists of draws, with
+/// no fault and without a stream. Anything else is not taken, and neither is a line for which
+/// memory runs out.
+pub fn packet_line(alloc: Global, bytes: &[u8], scratch: &mut Scratch) -> Option<ScriptLine>
+    ensures { IfSome result (λ line. (first : Bool) → line_of bytes.now first ≡ Ok line) }
+{
+    if bytes.len() > LONGEST {
+        return None;
+    }
+    let text = simdutf8::basic::from_utf8(bytes).ok()?;
+    let object = plain_object(alloc, text, scratch)?;
+    line_in(alloc, object)
+}
+
+fn line_in(alloc: Global, object: PlainObject<'_>) -> Option<ScriptLine>
+    ensures { IfSome result (λ line. (first : Bool) → read_script first (place_of object.entry) ≡ Ok line) }
+{
+    if object.member("by").is_some() {
+        return None;
+    }
+    match text_field(&object, "op")? {
+        Some("packet") => Some(main_line(Op::Packet(packet_in(alloc, object)?))),
+        Some("explain") => Some(main_line(Op::Explain(packet_in(alloc, object)?))),
+        _ => None,
+    }
+}
+
+fn main_line(op: Op) -> ScriptLine
+    ensures { result ≡ record { by = Stream.Main; op = op } }
+{
+    ScriptLine {
+        by: Stream::Main,
+        op,
+    }
+}
+
+/// A packet and what stands beside it.
+fn packet_in(alloc: Global, object: PlainObject<'_>) -> Option<PacketLine>
+    ensures { Takes (λ p. p) result (rows_fault packet_rows (place_of object.entry))
+        (packet_line_from (place_of object.entry)) }
+{
+    let from = origin(&object)?;
+    let source = address(&object, "src")?;
+    let target = address(&object, "dst")?;
+    let protocol = proto(&object)?;
+    let _source_port = source_port(&object)?;
+    let port = target_port(&object)?;
+    let now = moment(&object)?;
+    let drawn = seed(&object)?;
+    let has_trail = trail(&object)?;
+    let list = listed_draws(object)?;
+    let draws = draws_of(alloc, list, drawn);
+    Some(PacketLine {
+        packet: Packet {
+            from,
+            source,
+            target,
+            proto: protocol,
+            port,
+            now,
+        },
+        draws,
+        trail: has_trail,
+    })
+}
