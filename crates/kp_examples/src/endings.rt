@@ -1,9 +1,9 @@
 //! Words, and ways to end.
 use crate::row::{bytes_of, run_on, words_of};
-use kp_base::Items;
+use kp_base::{Items, NoMemory};
 use kp_io::{MemorySink, MemorySource, SureSink, SureSource};
 use kp_run::{Status, run};
-use std::alloc::{AllocError, Global};
+use std::alloc::Global;
 use std::process::Abort;
 use std::test::Fail;
 
@@ -45,7 +45,7 @@ fn words_choose_what_is_done(rt: HostRuntime) -> Result<(), Fail> {
 }
 
 /// How a replay ends whose first read fails, and how many bytes it prints.
-fn unread(alloc: Global) -> Result<(Status, usize), AllocError> {
+fn unread(alloc: Global) -> Result<(Status, usize), NoMemory> {
     let words = words_of(alloc, "kproxy replay")?;
     let first = Items::from_vec([1].to_vec(alloc)?);
     let mut source = MemorySource::new(bytes_of(alloc, SYNCS)?, 7, first);
@@ -55,7 +55,7 @@ fn unread(alloc: Global) -> Result<(Status, usize), AllocError> {
 }
 
 /// How a replay ends whose first write fails.
-fn unwritten(alloc: Global) -> Result<Status, AllocError> {
+fn unwritten(alloc: Global) -> Result<Status, NoMemory> {
     let words = words_of(alloc, "kproxy replay")?;
     let first = Items::from_vec([1].to_vec(alloc)?);
     let mut source = SureSource::new(bytes_of(alloc, SYNCS)?, 7);

@@ -1,5 +1,5 @@
 //! Replays over sources and sinks in memory.
-use kp_base::Items;
+use kp_base::{Items, NoMemory};
 use kp_io::{SureSink, SureSource};
 use kp_run::{Status, run};
 use std::alloc::{AllocError, Global};
@@ -25,7 +25,7 @@ pub(crate) fn run_on(
     alloc: Global,
     words: &str,
     input: &str,
-) -> Result<(Vec<u8>, Status), AllocError> {
+) -> Result<(Vec<u8>, Status), NoMemory> {
     let words = words_of(alloc, words)?;
     let mut source = SureSource::new(bytes_of(alloc, input)?, 700);
     let mut sink = SureSink::new(alloc, 50, 4096)?;
@@ -43,7 +43,7 @@ pub(crate) fn check(
     status: Status,
 ) -> Result<(), Fail> {
     let joined = replays.replace(alloc, "\n ", "")?;
-    for replay in joined.split("# ").skip(1) {
+    for replay in joined.as_str().split("# ").skip(1) {
         let (name, lines) = replay.split_once("\n").ok_or("a name")?;
         let (input, want) = lines.split_once("=>\n").ok_or("an arrow")?;
         let (printed, found) = run_on(alloc, "kproxy replay", input)?;

@@ -140,7 +140,7 @@ const EVENTS: &str = r#"5 => not an event
 #[test]
 fn events_are_read(rt: HostRuntime) -> Result<(), Fail> {
     let rows = EVENTS.replace(rt.alloc(), "\n ", "")?;
-    for row in rows.lines() {
+    for row in rows.as_str().lines() {
         assert!(rt; is_row_read(rt.alloc(), ("", ""), row)?, "{row}");
     }
     Ok(())

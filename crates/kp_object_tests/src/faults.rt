@@ -223,7 +223,7 @@ const NODES: &str = r#"{"kind":"Node","metadata":5} => WrongType metadata
 /// Each row's text is refused as it says behind the arrow.
 fn check(rt: &impl Abort, alloc: Global, around: Around, rows: &str) -> Result<(), Fail> {
     let rows = rows.replace(alloc, "\n ", "")?;
-    for row in rows.lines() {
+    for row in rows.as_str().lines() {
         assert!(rt; is_row_read(alloc, around, row)?, "{row}");
     }
     Ok(())

@@ -76,7 +76,7 @@ fn is_done(pod: &Pod) -> bool {
 #[test]
 fn pods_are_done_by_their_phase(rt: HostRuntime) -> Result<(), Fail> {
     let texts = DONE.replace(rt.alloc(), "\n ", "")?;
-    for text in texts.lines() {
+    for text in texts.as_str().lines() {
         assert!(rt; is_done(&read_pod(rt.alloc(), text)?), "{text}");
     }
     Ok(())

@@ -117,7 +117,7 @@ fn is_default(service: &Service) -> bool {
 #[test]
 fn absent_members_of_a_service_have_defaults(rt: HostRuntime) -> Result<(), Fail> {
     let texts = DEFAULTS.replace(rt.alloc(), "\n ", "")?;
-    for text in texts.lines() {
+    for text in texts.as_str().lines() {
         let service = read_service(rt.alloc(), text)?;
         assert!(rt;
             is_key(&service.key, "default/web") && is_default(&service),

@@ -136,7 +136,7 @@ fn is_of_other_type(slice: &Slice) -> bool {
 #[test]
 fn addresses_of_other_types_are_passed_over(rt: HostRuntime) -> Result<(), Fail> {
     let texts = OTHERS.replace(rt.alloc(), "\n ", "")?;
-    for text in texts.lines() {
+    for text in texts.as_str().lines() {
         assert!(rt; is_of_other_type(&read(rt.alloc(), text)?), "{text}");
     }
     Ok(())

@@ -86,9 +86,9 @@ fn is_line(script: &str, row: &str) -> Result<bool, Fail> {
 fn lines_of_a_script(rt: HostRuntime) -> Result<(), Fail> {
     let script = script(rt.alloc())?;
     let rows = LINES.replace(rt.alloc(), "\n ", "")?;
-    for row in rows.lines() {
+    for row in rows.as_str().lines() {
         assert!(rt; is_line(script.as_str(), row)?, "{row}");
     }
-    assert_eq!(rt; script.lines().count(), 64);
+    assert_eq!(rt; script.as_str().lines().count(), 64);
     Ok(())
 }
