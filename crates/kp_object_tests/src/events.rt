@@ -183,8 +183,7 @@ fn services_that_kubectl_prints_are_read(rt: HostRuntime) -> Result<(), Fail> {
 /// Lists of one node, and of two.
 const ONE: &str = r#"{"kind":"List","items":[{"kind":"Node","metadata":{"name":"n"}}]}"#;
 
-const TWO: &str =
-    r#"{"kind":"List","items":[{"kind":"Node","metadata":{"name":"n"}},
+const TWO: &str = r#"{"kind":"List","items":[{"kind":"Node","metadata":{"name":"n"}},
  {"kind":"Node","metadata":{"name":"n"}}]}"#;
 
 fn events(alloc: Global, text: &str) -> Result<Items<Event>, Fail> {

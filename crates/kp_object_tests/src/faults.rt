@@ -173,10 +173,7 @@ const PODS: &str = r#"{"kind":"Pod","spec":5} => Missing metadata
   => WrongType metadata.deletionTimestamp"#;
 
 /// Where members of a Pod stand.
-const IN_POD: Around = (
-    r#"{"kind":"Pod","metadata":{"name":"p"},"#,
-    "}",
-);
+const IN_POD: Around = (r#"{"kind":"Pod","metadata":{"name":"p"},"#, "}");
 
 /// Members of a Pod.
 const POD_MEMBERS: &str = r#""spec":5 => WrongType spec

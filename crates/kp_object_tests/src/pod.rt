@@ -17,8 +17,7 @@ pub(crate) fn read_node(alloc: Global, text: &str) -> Result<Node, Fail> {
 }
 
 /// A Pod with all its members.
-const WHOLE: &str =
-    r#"{"metadata":{"name":"p","namespace":"shop","labels":{"b":"y","a":"x"},
+const WHOLE: &str = r#"{"metadata":{"name":"p","namespace":"shop","labels":{"b":"y","a":"x"},
  "deletionTimestamp":"2024-01-01T00:00:00Z"},
  "spec":{"nodeName":"n1","containers":[{"ports":[{"name":"http","containerPort":65535}]},{},
  {"ports":[{"protocol":"SCTP","containerPort":1}]}]},
@@ -61,8 +60,7 @@ fn all_members_of_a_pod_are_read(rt: HostRuntime) -> Result<(), Fail> {
 }
 
 /// Pods that are done, on no node, not ready, and without an address of the family.
-const DONE: &str =
-    r#"{"metadata":{"name":"p"},"status":{"phase":"Succeeded","podIP":"fd00::1",
+const DONE: &str = r#"{"metadata":{"name":"p"},"status":{"phase":"Succeeded","podIP":"fd00::1",
  "conditions":[{"type":"Ready","status":"False"},{"type":"Ready","status":"True"}]}}
 {"metadata":{"name":"p","deletionTimestamp":""},"spec":{"nodeName":""},
  "status":{"phase":"Failed","podIP":"",

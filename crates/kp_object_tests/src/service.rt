@@ -28,8 +28,7 @@ fn is_target(port: &ServicePort, number: u16, name: &str) -> bool {
 }
 
 /// A Service with all its members.
-const WHOLE: &str =
-    r#"{"metadata":{"name":"web","namespace":"shop"},
+const WHOLE: &str = r#"{"metadata":{"name":"web","namespace":"shop"},
  "spec":{"type":"LoadBalancer","clusterIP":"0.0.1.0",
  "ports":[{"name":"http","port":65535,"targetPort":"web","nodePort":65535},
  {"name":"http","protocol":"UDP","port":1,"targetPort":65535},

@@ -42,8 +42,7 @@ fn read(alloc: Global, text: &str) -> Result<Slice, Fail> {
 }
 
 /// A slice with all its members.
-const WHOLE: &str =
-    r#"{"metadata":{"name":"s","namespace":"shop",
+const WHOLE: &str = r#"{"metadata":{"name":"s","namespace":"shop",
  "labels":{"kubernetes.io/service-name":"web",
  "endpointslice.kubernetes.io/managed-by":"endpointslice-controller.k8s.io","x":null}},
  "addressType":"IPv4","ports":[{},{"name":"http","protocol":"UDP","port":65535}],
@@ -118,8 +117,7 @@ fn all_members_of_a_slice_are_read_and_copied(rt: HostRuntime) -> Result<(), Fai
 }
 
 /// Slices of other address types, whose addresses are passed over, and without a Service.
-const OTHERS: &str =
-    r#"{"metadata":{"name":"s","labels":{"kubernetes.io/service-name":"",
+const OTHERS: &str = r#"{"metadata":{"name":"s","labels":{"kubernetes.io/service-name":"",
  "endpointslice.kubernetes.io/managed-by":""}},"addressType":"FQDN",
  "endpoints":[{"addresses":[""]}]}
 {"metadata":{"name":"s"},"addressType":"IPv6","endpoints":[{"addresses":["anything"]}]}"#;

@@ -30,8 +30,7 @@ const POD: &str = r#"{"metadata":{"name":"web-0","labels":{"app":"web"}},
 const OTHER: &str = r#"{"metadata":{"name":"db-0","labels":{"app":"db"}}}"#;
 
 /// The node of the pod.
-const NODE: &str =
-    r#"{"metadata":{"name":"n1","labels":{"topology.kubernetes.io/zone":"a"}}}"#;
+const NODE: &str = r#"{"metadata":{"name":"n1","labels":{"topology.kubernetes.io/zone":"a"}}}"#;
 
 /// Whether a Service selects the pod of a text.
 fn is_selected(alloc: Global, service: &Service, text: &str) -> Result<bool, Fail> {

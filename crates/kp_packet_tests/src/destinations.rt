@@ -49,8 +49,7 @@ impl Session for Stored {
 
 /// A load balancer, and a Service at one of its addresses: packets to each destination, to its node
 /// port at any address, and to others beside them.
-const DESTINATIONS: &str =
-    r#"{"apiVersion":"v1","kind":"Service","metadata":{"name":"web"},
+const DESTINATIONS: &str = r#"{"apiVersion":"v1","kind":"Service","metadata":{"name":"web"},
  "spec":{"type":"LoadBalancer","clusterIP":"10.96.0.10","externalIPs":["203.0.113.5"],
  "ports":[{"port":80,"targetPort":8080,"nodePort":30080}]},
  "status":{"loadBalancer":{"ingress":[{"ip":"203.0.113.9"}]}}}
