@@ -73,6 +73,7 @@ const LINES: &str =
 30 {"op":"packet","src":"10.244.255.4","dst":"10.96.0.2","dport":80,"seed":1,"now":3}
 41 {"op":"packet","src":"10.244.255.3","dst":"10.96.0.5","dport":80,"seed":1,"now":2}
 43 {"type":"DELETED","object":{"apiVersion":"v1","kind":"Pod","metadata":{"name":"p9"}}}
+44 {"op":"sync"}
 45 {"op":"packet","src":"10.244.255.1","dst":"10.96.0.1","dport":80,"seed":1,"now":20000}
 64 {"op":"packet","src":"10.244.255.4","dst":"10.96.0.5","dport":80,"seed":1,"now":20003}"#;
 
