@@ -1,192 +1,204 @@
 //! Packets to cluster addresses.
-use crate::row::{Row, check};
+use crate::row::check;
 use kp_run::Status;
 use std::test::Fail;
 
-#[test]
-fn packets_to_cluster_addresses(rt: HostRuntime) -> Result<(), Fail> {
-    let rows = [
-        Row {
-            name: "empty input",
-            input: "",
-            want: "",
-            status: Status::Done,
-        },
-        Row {
-            name: "a packet to the cluster address reaches the first endpoint",
-            input: r#"{"op":"config","node":"n1","nodeAddresses":["10.0.0.1"],"clusterCIDR":"10.244.0.0/16"}
-{"apiVersion":"v1","kind":"Service","metadata":{"name":"web"},"spec":{"clusterIP":"10.96.0.10","ports":[{"port":80,"targetPort":8080}]}}
-{"apiVersion":"discovery.k8s.io/v1","kind":"EndpointSlice","metadata":{"name":"web-x","labels":{"kubernetes.io/service-name":"web"}},"addressType":"IPv4","ports":[{"port":8080}],"endpoints":[{"addresses":["10.244.1.2"],"nodeName":"n1"},{"addresses":["10.244.2.3"],"nodeName":"n2"}]}
+/// Packets to a cluster address, and changes of its endpoints.
+const PACKETS: &str = r#"# empty input
+=>
+# a packet to the cluster address reaches the first endpoint
+{"op":"config","node":"n1","nodeAddresses":["10.0.0.1"],"clusterCIDR":"10.244.0.0/16"}
+{"apiVersion":"v1","kind":"Service","metadata":{"name":"web"},
+ "spec":{"clusterIP":"10.96.0.10","ports":[{"port":80,"targetPort":8080}]}}
+{"apiVersion":"discovery.k8s.io/v1","kind":"EndpointSlice",
+ "metadata":{"name":"web-x","labels":{"kubernetes.io/service-name":"web"}},"addressType":"IPv4",
+ "ports":[{"port":8080}],"endpoints":[{"addresses":["10.244.1.2"],"nodeName":"n1"},
+ {"addresses":["10.244.2.3"],"nodeName":"n2"}]}
 {"op":"sync"}
 {"op":"packet","src":"10.244.9.9","dst":"10.96.0.10","dport":80,"draws":[0]}
-"#,
-            want: "sync 1: events 2, written 4, removed 0
+=>
+sync 1: events 2, written 4, removed 0
 packet 5 at 1: to 10.244.1.2:8080
-",
-            status: Status::Done,
-        },
-        Row {
-            name: "three endpoints by thresholds",
-            input: r#"{"op":"config","node":"n1","nodeAddresses":["10.0.0.1"],"clusterCIDR":"10.244.0.0/16"}
-{"apiVersion":"v1","kind":"Service","metadata":{"name":"web"},"spec":{"clusterIP":"10.96.0.10","ports":[{"port":80,"targetPort":8080}]}}
-{"apiVersion":"discovery.k8s.io/v1","kind":"EndpointSlice","metadata":{"name":"web-x","labels":{"kubernetes.io/service-name":"web"}},"addressType":"IPv4","ports":[{"port":8080}],"endpoints":[{"addresses":["10.244.1.2"],"nodeName":"n1"},{"addresses":["10.244.2.3"],"nodeName":"n2"},{"addresses":["10.244.3.4"],"nodeName":"n3"}]}
+# three endpoints by thresholds
+{"op":"config","node":"n1","nodeAddresses":["10.0.0.1"],"clusterCIDR":"10.244.0.0/16"}
+{"apiVersion":"v1","kind":"Service","metadata":{"name":"web"},
+ "spec":{"clusterIP":"10.96.0.10","ports":[{"port":80,"targetPort":8080}]}}
+{"apiVersion":"discovery.k8s.io/v1","kind":"EndpointSlice",
+ "metadata":{"name":"web-x","labels":{"kubernetes.io/service-name":"web"}},"addressType":"IPv4",
+ "ports":[{"port":8080}],"endpoints":[{"addresses":["10.244.1.2"],"nodeName":"n1"},
+ {"addresses":["10.244.2.3"],"nodeName":"n2"},{"addresses":["10.244.3.4"],"nodeName":"n3"}]}
 {"op":"sync"}
 {"op":"packet","src":"10.244.9.9","dst":"10.96.0.10","dport":80,"draws":[715827882]}
 {"op":"packet","src":"10.244.9.9","dst":"10.96.0.10","dport":80,"draws":[715827883,1073741823]}
 {"op":"packet","src":"10.244.9.9","dst":"10.96.0.10","dport":80,"draws":[715827883,1073741824]}
-"#,
-            want: "sync 1: events 2, written 5, removed 0
+=>
+sync 1: events 2, written 5, removed 0
 packet 5 at 1: to 10.244.1.2:8080
 packet 6 at 1: to 10.244.2.3:8080
 packet 7 at 1: to 10.244.3.4:8080
-",
-            status: Status::Done,
-        },
-        Row {
-            name: "without draws the last endpoint is chosen",
-            input: r#"{"op":"config","node":"n1","nodeAddresses":["10.0.0.1"],"clusterCIDR":"10.244.0.0/16"}
-{"apiVersion":"v1","kind":"Service","metadata":{"name":"web"},"spec":{"clusterIP":"10.96.0.10","ports":[{"port":80,"targetPort":8080}]}}
-{"apiVersion":"discovery.k8s.io/v1","kind":"EndpointSlice","metadata":{"name":"web-x","labels":{"kubernetes.io/service-name":"web"}},"addressType":"IPv4","ports":[{"port":8080}],"endpoints":[{"addresses":["10.244.1.2"],"nodeName":"n1"},{"addresses":["10.244.2.3"],"nodeName":"n2"},{"addresses":["10.244.3.4"],"nodeName":"n3"}]}
+# without draws the last endpoint is chosen
+{"op":"config","node":"n1","nodeAddresses":["10.0.0.1"],"clusterCIDR":"10.244.0.0/16"}
+{"apiVersion":"v1","kind":"Service","metadata":{"name":"web"},
+ "spec":{"clusterIP":"10.96.0.10","ports":[{"port":80,"targetPort":8080}]}}
+{"apiVersion":"discovery.k8s.io/v1","kind":"EndpointSlice",
+ "metadata":{"name":"web-x","labels":{"kubernetes.io/service-name":"web"}},"addressType":"IPv4",
+ "ports":[{"port":8080}],"endpoints":[{"addresses":["10.244.1.2"],"nodeName":"n1"},
+ {"addresses":["10.244.2.3"],"nodeName":"n2"},{"addresses":["10.244.3.4"],"nodeName":"n3"}]}
 {"op":"sync"}
 {"op":"packet","src":"10.244.9.9","dst":"10.96.0.10","dport":80,"draws":[]}
-"#,
-            want: "sync 1: events 2, written 5, removed 0
+=>
+sync 1: events 2, written 5, removed 0
 packet 5 at 1: to 10.244.3.4:8080
-",
-            status: Status::Done,
-        },
-        Row {
-            name: "no endpoints: rejected, from the wire and from the node; another protocol is left alone",
-            input: r#"{"op":"config","node":"n1","nodeAddresses":["10.0.0.1"],"clusterCIDR":"10.244.0.0/16"}
-{"apiVersion":"v1","kind":"Service","metadata":{"name":"web"},"spec":{"clusterIP":"10.96.0.10","ports":[{"port":80,"targetPort":8080}]}}
+# no endpoints: rejected, from the wire and from the node; another protocol is left alone
+{"op":"config","node":"n1","nodeAddresses":["10.0.0.1"],"clusterCIDR":"10.244.0.0/16"}
+{"apiVersion":"v1","kind":"Service","metadata":{"name":"web"},
+ "spec":{"clusterIP":"10.96.0.10","ports":[{"port":80,"targetPort":8080}]}}
 {"op":"sync"}
 {"op":"packet","src":"10.244.9.9","dst":"10.96.0.10","dport":80}
 {"op":"packet","src":"10.0.0.1","dst":"10.96.0.10","dport":80,"from":"node"}
 {"op":"packet","src":"10.244.9.9","dst":"10.96.0.10","dport":80,"proto":"UDP"}
-"#,
-            want: "sync 1: events 1, written 1, removed 0
+=>
+sync 1: events 1, written 1, removed 0
 packet 4 at 1: rejected
 packet 5 at 1: rejected
 packet 6 at 1: left alone
-",
-            status: Status::Done,
-        },
-        Row {
-            name: "internal Local without local endpoints drops, without any endpoint rejects",
-            input: r#"{"op":"config","node":"n1","nodeAddresses":["10.0.0.1"],"clusterCIDR":"10.244.0.0/16"}
-{"apiVersion":"v1","kind":"Service","metadata":{"name":"web"},"spec":{"clusterIP":"10.96.0.10","ports":[{"port":80,"targetPort":8080}],"internalTrafficPolicy":"Local"}}
-{"apiVersion":"discovery.k8s.io/v1","kind":"EndpointSlice","metadata":{"name":"web-x","labels":{"kubernetes.io/service-name":"web"}},"addressType":"IPv4","ports":[{"port":8080}],"endpoints":[{"addresses":["10.244.2.3"],"nodeName":"n2"}]}
+# internal Local without local endpoints drops, without any endpoint rejects
+{"op":"config","node":"n1","nodeAddresses":["10.0.0.1"],"clusterCIDR":"10.244.0.0/16"}
+{"apiVersion":"v1","kind":"Service","metadata":{"name":"web"},
+ "spec":{"clusterIP":"10.96.0.10","ports":[{"port":80,"targetPort":8080}],
+ "internalTrafficPolicy":"Local"}}
+{"apiVersion":"discovery.k8s.io/v1","kind":"EndpointSlice",
+ "metadata":{"name":"web-x","labels":{"kubernetes.io/service-name":"web"}},"addressType":"IPv4",
+ "ports":[{"port":8080}],"endpoints":[{"addresses":["10.244.2.3"],"nodeName":"n2"}]}
 {"op":"sync"}
 {"op":"packet","src":"10.244.9.9","dst":"10.96.0.10","dport":80}
-{"apiVersion":"discovery.k8s.io/v1","kind":"EndpointSlice","metadata":{"name":"web-x","labels":{"kubernetes.io/service-name":"web"}},"addressType":"IPv4","ports":[{"port":8080}],"endpoints":[]}
+{"apiVersion":"discovery.k8s.io/v1","kind":"EndpointSlice",
+ "metadata":{"name":"web-x","labels":{"kubernetes.io/service-name":"web"}},"addressType":"IPv4",
+ "ports":[{"port":8080}],"endpoints":[]}
 {"op":"sync"}
 {"op":"packet","src":"10.244.9.9","dst":"10.96.0.10","dport":80}
-"#,
-            want: "sync 1: events 2, written 1, removed 0
+=>
+sync 1: events 2, written 1, removed 0
 packet 5 at 1: dropped
 sync 2: events 1, written 1, removed 0
 packet 8 at 2: rejected
-",
-            status: Status::Done,
-        },
-        Row {
-            name: "terminating endpoints serve only until one is ready",
-            input: r#"{"op":"config","node":"n1","nodeAddresses":["10.0.0.1"],"clusterCIDR":"10.244.0.0/16"}
-{"apiVersion":"v1","kind":"Service","metadata":{"name":"web"},"spec":{"clusterIP":"10.96.0.10","ports":[{"port":80,"targetPort":8080}]}}
-{"apiVersion":"discovery.k8s.io/v1","kind":"EndpointSlice","metadata":{"name":"web-x","labels":{"kubernetes.io/service-name":"web"}},"addressType":"IPv4","ports":[{"port":8080}],"endpoints":[{"addresses":["10.244.1.2"],"nodeName":"n1","conditions":{"ready":false,"serving":true,"terminating":true}},{"addresses":["10.244.2.3"],"nodeName":"n2","conditions":{"ready":false,"serving":true,"terminating":true}}]}
+# terminating endpoints serve only until one is ready
+{"op":"config","node":"n1","nodeAddresses":["10.0.0.1"],"clusterCIDR":"10.244.0.0/16"}
+{"apiVersion":"v1","kind":"Service","metadata":{"name":"web"},
+ "spec":{"clusterIP":"10.96.0.10","ports":[{"port":80,"targetPort":8080}]}}
+{"apiVersion":"discovery.k8s.io/v1","kind":"EndpointSlice",
+ "metadata":{"name":"web-x","labels":{"kubernetes.io/service-name":"web"}},"addressType":"IPv4",
+ "ports":[{"port":8080}],"endpoints":[{"addresses":["10.244.1.2"],"nodeName":"n1",
+ "conditions":{"ready":false,"serving":true,"terminating":true}},
+ {"addresses":["10.244.2.3"],"nodeName":"n2",
+ "conditions":{"ready":false,"serving":true,"terminating":true}}]}
 {"op":"sync"}
 {"op":"packet","src":"10.244.9.9","dst":"10.96.0.10","dport":80,"draws":[0]}
-{"apiVersion":"discovery.k8s.io/v1","kind":"EndpointSlice","metadata":{"name":"web-x","labels":{"kubernetes.io/service-name":"web"}},"addressType":"IPv4","ports":[{"port":8080}],"endpoints":[{"addresses":["10.244.1.2"],"nodeName":"n1","conditions":{"ready":false,"serving":true,"terminating":true}},{"addresses":["10.244.2.3"],"nodeName":"n2"}]}
+{"apiVersion":"discovery.k8s.io/v1","kind":"EndpointSlice",
+ "metadata":{"name":"web-x","labels":{"kubernetes.io/service-name":"web"}},"addressType":"IPv4",
+ "ports":[{"port":8080}],"endpoints":[{"addresses":["10.244.1.2"],"nodeName":"n1",
+ "conditions":{"ready":false,"serving":true,"terminating":true}},
+ {"addresses":["10.244.2.3"],"nodeName":"n2"}]}
 {"op":"sync"}
 {"op":"packet","src":"10.244.9.9","dst":"10.96.0.10","dport":80,"draws":[0]}
-"#,
-            want: "sync 1: events 2, written 4, removed 0
+=>
+sync 1: events 2, written 4, removed 0
 packet 5 at 1: to 10.244.1.2:8080
 sync 2: events 1, written 1, removed 1
 packet 8 at 2: to 10.244.2.3:8080
-",
-            status: Status::Done,
-        },
-        Row {
-            name: "hints apply only where every ready endpoint has one",
-            input: r#"{"op":"config","node":"n1","nodeAddresses":["10.0.0.1"],"clusterCIDR":"10.244.0.0/16"}
-{"apiVersion":"v1","kind":"Node","metadata":{"name":"n1","labels":{"topology.kubernetes.io/zone":"a"}}}
-{"apiVersion":"v1","kind":"Service","metadata":{"name":"web"},"spec":{"clusterIP":"10.96.0.10","ports":[{"port":80,"targetPort":8080}]}}
-{"apiVersion":"discovery.k8s.io/v1","kind":"EndpointSlice","metadata":{"name":"web-x","labels":{"kubernetes.io/service-name":"web"}},"addressType":"IPv4","ports":[{"port":8080}],"endpoints":[{"addresses":["10.244.1.2"],"nodeName":"n1","hints":{"forZones":[{"name":"a"}]}},{"addresses":["10.244.2.3"],"nodeName":"n2","hints":{"forZones":[{"name":"a"}]}},{"addresses":["10.244.3.4"],"nodeName":"n3"}]}
+# hints apply only where every ready endpoint has one
+{"op":"config","node":"n1","nodeAddresses":["10.0.0.1"],"clusterCIDR":"10.244.0.0/16"}
+{"apiVersion":"v1","kind":"Node",
+ "metadata":{"name":"n1","labels":{"topology.kubernetes.io/zone":"a"}}}
+{"apiVersion":"v1","kind":"Service","metadata":{"name":"web"},
+ "spec":{"clusterIP":"10.96.0.10","ports":[{"port":80,"targetPort":8080}]}}
+{"apiVersion":"discovery.k8s.io/v1","kind":"EndpointSlice",
+ "metadata":{"name":"web-x","labels":{"kubernetes.io/service-name":"web"}},"addressType":"IPv4",
+ "ports":[{"port":8080}],"endpoints":[{"addresses":["10.244.1.2"],"nodeName":"n1",
+ "hints":{"forZones":[{"name":"a"}]}},
+ {"addresses":["10.244.2.3"],"nodeName":"n2","hints":{"forZones":[{"name":"a"}]}},
+ {"addresses":["10.244.3.4"],"nodeName":"n3"}]}
 {"op":"sync"}
 {"op":"packet","src":"10.244.9.9","dst":"10.96.0.10","dport":80,"draws":[]}
-{"apiVersion":"discovery.k8s.io/v1","kind":"EndpointSlice","metadata":{"name":"web-x","labels":{"kubernetes.io/service-name":"web"}},"addressType":"IPv4","ports":[{"port":8080}],"endpoints":[{"addresses":["10.244.1.2"],"nodeName":"n1","hints":{"forZones":[{"name":"a"}]}},{"addresses":["10.244.2.3"],"nodeName":"n2","hints":{"forZones":[{"name":"a"}]}},{"addresses":["10.244.3.4"],"nodeName":"n3","hints":{"forZones":[{"name":"b"}]}}]}
+{"apiVersion":"discovery.k8s.io/v1","kind":"EndpointSlice",
+ "metadata":{"name":"web-x","labels":{"kubernetes.io/service-name":"web"}},"addressType":"IPv4",
+ "ports":[{"port":8080}],"endpoints":[{"addresses":["10.244.1.2"],"nodeName":"n1",
+ "hints":{"forZones":[{"name":"a"}]}},
+ {"addresses":["10.244.2.3"],"nodeName":"n2","hints":{"forZones":[{"name":"a"}]}},
+ {"addresses":["10.244.3.4"],"nodeName":"n3","hints":{"forZones":[{"name":"b"}]}}]}
 {"op":"sync"}
 {"op":"packet","src":"10.244.9.9","dst":"10.96.0.10","dport":80,"draws":[]}
-"#,
-            want: "sync 1: events 3, written 5, removed 0
+=>
+sync 1: events 3, written 5, removed 0
 packet 6 at 1: to 10.244.3.4:8080
 sync 2: events 1, written 1, removed 1
 packet 9 at 2: to 10.244.2.3:8080
-",
-            status: Status::Done,
-        },
-        Row {
-            name: "hairpin packet is masqueraded",
-            input: r#"{"op":"config","node":"n1","nodeAddresses":["10.0.0.1"],"clusterCIDR":"10.244.0.0/16"}
-{"apiVersion":"v1","kind":"Service","metadata":{"name":"web"},"spec":{"clusterIP":"10.96.0.10","ports":[{"port":80,"targetPort":8080}]}}
-{"apiVersion":"discovery.k8s.io/v1","kind":"EndpointSlice","metadata":{"name":"web-x","labels":{"kubernetes.io/service-name":"web"}},"addressType":"IPv4","ports":[{"port":8080}],"endpoints":[{"addresses":["10.244.1.2"],"nodeName":"n1"},{"addresses":["10.244.2.3"],"nodeName":"n2"}]}
+# hairpin packet is masqueraded
+{"op":"config","node":"n1","nodeAddresses":["10.0.0.1"],"clusterCIDR":"10.244.0.0/16"}
+{"apiVersion":"v1","kind":"Service","metadata":{"name":"web"},
+ "spec":{"clusterIP":"10.96.0.10","ports":[{"port":80,"targetPort":8080}]}}
+{"apiVersion":"discovery.k8s.io/v1","kind":"EndpointSlice",
+ "metadata":{"name":"web-x","labels":{"kubernetes.io/service-name":"web"}},"addressType":"IPv4",
+ "ports":[{"port":8080}],"endpoints":[{"addresses":["10.244.1.2"],"nodeName":"n1"},
+ {"addresses":["10.244.2.3"],"nodeName":"n2"}]}
 {"op":"sync"}
 {"op":"packet","src":"10.244.1.2","dst":"10.96.0.10","dport":80,"draws":[0]}
-"#,
-            want: "sync 1: events 2, written 4, removed 0
+=>
+sync 1: events 2, written 4, removed 0
 packet 5 at 1: to 10.244.1.2:8080 masked
-",
-            status: Status::Done,
-        },
-        Row {
-            name: "a change that is undone writes nothing",
-            input: r#"{"op":"config","node":"n1","nodeAddresses":["10.0.0.1"],"clusterCIDR":"10.244.0.0/16"}
-{"apiVersion":"v1","kind":"Service","metadata":{"name":"web"},"spec":{"clusterIP":"10.96.0.10","ports":[{"port":80,"targetPort":8080}]}}
-{"apiVersion":"discovery.k8s.io/v1","kind":"EndpointSlice","metadata":{"name":"web-x","labels":{"kubernetes.io/service-name":"web"}},"addressType":"IPv4","ports":[{"port":8080}],"endpoints":[{"addresses":["10.244.1.2"],"nodeName":"n1"},{"addresses":["10.244.2.3"],"nodeName":"n2"}]}
+# a change that is undone writes nothing
+{"op":"config","node":"n1","nodeAddresses":["10.0.0.1"],"clusterCIDR":"10.244.0.0/16"}
+{"apiVersion":"v1","kind":"Service","metadata":{"name":"web"},
+ "spec":{"clusterIP":"10.96.0.10","ports":[{"port":80,"targetPort":8080}]}}
+{"apiVersion":"discovery.k8s.io/v1","kind":"EndpointSlice",
+ "metadata":{"name":"web-x","labels":{"kubernetes.io/service-name":"web"}},"addressType":"IPv4",
+ "ports":[{"port":8080}],"endpoints":[{"addresses":["10.244.1.2"],"nodeName":"n1"},
+ {"addresses":["10.244.2.3"],"nodeName":"n2"}]}
 {"op":"sync"}
-{"apiVersion":"discovery.k8s.io/v1","kind":"EndpointSlice","metadata":{"name":"web-x","labels":{"kubernetes.io/service-name":"web"}},"addressType":"IPv4","ports":[{"port":8080}],"endpoints":[{"addresses":["10.244.1.2"],"nodeName":"n1"}]}
-{"apiVersion":"discovery.k8s.io/v1","kind":"EndpointSlice","metadata":{"name":"web-x","labels":{"kubernetes.io/service-name":"web"}},"addressType":"IPv4","ports":[{"port":8080}],"endpoints":[{"addresses":["10.244.1.2"],"nodeName":"n1"},{"addresses":["10.244.2.3"],"nodeName":"n2"}]}
+{"apiVersion":"discovery.k8s.io/v1","kind":"EndpointSlice",
+ "metadata":{"name":"web-x","labels":{"kubernetes.io/service-name":"web"}},"addressType":"IPv4",
+ "ports":[{"port":8080}],"endpoints":[{"addresses":["10.244.1.2"],"nodeName":"n1"}]}
+{"apiVersion":"discovery.k8s.io/v1","kind":"EndpointSlice",
+ "metadata":{"name":"web-x","labels":{"kubernetes.io/service-name":"web"}},"addressType":"IPv4",
+ "ports":[{"port":8080}],"endpoints":[{"addresses":["10.244.1.2"],"nodeName":"n1"},
+ {"addresses":["10.244.2.3"],"nodeName":"n2"}]}
 {"op":"sync"}
-"#,
-            want: "sync 1: events 2, written 4, removed 0
+=>
+sync 1: events 2, written 4, removed 0
 sync 2: events 2, written 0, removed 0
-",
-            status: Status::Done,
-        },
-        Row {
-            name: "deleting a Service removes its chains",
-            input: r#"{"op":"config","node":"n1","nodeAddresses":["10.0.0.1"],"clusterCIDR":"10.244.0.0/16"}
-{"apiVersion":"v1","kind":"Service","metadata":{"name":"web"},"spec":{"clusterIP":"10.96.0.10","ports":[{"port":80,"targetPort":8080}]}}
-{"apiVersion":"discovery.k8s.io/v1","kind":"EndpointSlice","metadata":{"name":"web-x","labels":{"kubernetes.io/service-name":"web"}},"addressType":"IPv4","ports":[{"port":8080}],"endpoints":[{"addresses":["10.244.1.2"],"nodeName":"n1"},{"addresses":["10.244.2.3"],"nodeName":"n2"}]}
+# deleting a Service removes its chains
+{"op":"config","node":"n1","nodeAddresses":["10.0.0.1"],"clusterCIDR":"10.244.0.0/16"}
+{"apiVersion":"v1","kind":"Service","metadata":{"name":"web"},
+ "spec":{"clusterIP":"10.96.0.10","ports":[{"port":80,"targetPort":8080}]}}
+{"apiVersion":"discovery.k8s.io/v1","kind":"EndpointSlice",
+ "metadata":{"name":"web-x","labels":{"kubernetes.io/service-name":"web"}},"addressType":"IPv4",
+ "ports":[{"port":8080}],"endpoints":[{"addresses":["10.244.1.2"],"nodeName":"n1"},
+ {"addresses":["10.244.2.3"],"nodeName":"n2"}]}
 {"op":"sync"}
 {"type":"DELETED","object":{"apiVersion":"v1","kind":"Service","metadata":{"name":"web"}}}
 {"op":"sync"}
 {"op":"packet","src":"10.244.9.9","dst":"10.96.0.10","dport":80,"draws":[]}
-"#,
-            want: "sync 1: events 2, written 4, removed 0
+=>
+sync 1: events 2, written 4, removed 0
 sync 2: events 1, written 1, removed 3
 packet 7 at 2: left alone
-",
-            status: Status::Done,
-        },
-        Row {
-            name: "trail of a packet",
-            input: r#"{"op":"config","node":"n1","nodeAddresses":["10.0.0.1"],"clusterCIDR":"10.244.0.0/16","nameLength":0}
-{"apiVersion":"v1","kind":"Service","metadata":{"name":"web"},"spec":{"clusterIP":"10.96.0.10","ports":[{"port":80,"targetPort":8080}]}}
-{"apiVersion":"discovery.k8s.io/v1","kind":"EndpointSlice","metadata":{"name":"web-x","labels":{"kubernetes.io/service-name":"web"}},"addressType":"IPv4","ports":[{"port":8080}],"endpoints":[{"addresses":["10.244.1.2"],"nodeName":"n1"}]}
+# trail of a packet
+{"op":"config","node":"n1","nodeAddresses":["10.0.0.1"],"clusterCIDR":"10.244.0.0/16",
+ "nameLength":0}
+{"apiVersion":"v1","kind":"Service","metadata":{"name":"web"},
+ "spec":{"clusterIP":"10.96.0.10","ports":[{"port":80,"targetPort":8080}]}}
+{"apiVersion":"discovery.k8s.io/v1","kind":"EndpointSlice",
+ "metadata":{"name":"web-x","labels":{"kubernetes.io/service-name":"web"}},"addressType":"IPv4",
+ "ports":[{"port":8080}],"endpoints":[{"addresses":["10.244.1.2"],"nodeName":"n1"}]}
 {"op":"sync"}
 {"op":"packet","src":"10.244.9.9","dst":"10.96.0.10","dport":80,"draws":[],"trail":true}
-"#,
-            want: "sync 1: events 2, written 3, removed 0
+=>
+sync 1: events 2, written 3, removed 0
 packet 5 at 1: to 10.244.1.2:8080
 trail 5: PREROUTING KUBE-SERVICES KUBE-SVC- KUBE-SEP-
-",
-            status: Status::Done,
-        },
-    ];
-    for row in &rows {
-        check(&rt, rt.alloc(), row)?;
-    }
-    Ok(())
+"#;
+
+#[test]
+fn packets_to_cluster_addresses(rt: HostRuntime) -> Result<(), Fail> {
+    check(&rt, rt.alloc(), PACKETS, Status::Done)
 }

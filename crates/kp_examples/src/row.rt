@@ -1,19 +1,10 @@
 //! Replays over sources and sinks in memory.
-use kp_base::Items;
+use kp_base::{Items, NoMemory};
 use kp_io::{SureSink, SureSource};
 use kp_run::{Status, run};
 use std::alloc::{AllocError, Global};
 use std::process::Abort;
 use std::test::Fail;
-
-/// A whole input, what a replay of it prints, and how it ends.
-#[derive(Clone, Copy)]
-pub(crate) struct Row {
-    pub(crate) name: &'static str,
-    pub(crate) input: &'static str,
-    pub(crate) want: &'static str,
-    pub(crate) status: Status,
-}
 
 /// The words of a text, which has one space between them.
 pub(crate) fn words_of(alloc: Global, text: &str) -> Result<Vec<String>, AllocError> {
@@ -29,13 +20,35 @@ pub(crate) fn bytes_of(alloc: Global, text: &str) -> Result<Items<u8>, AllocErro
     Ok(Items::from_vec(String::from_str(alloc, text)?.into_bytes()))
 }
 
-/// A replay of a row prints its text and ends with its status, in small pieces too.
-pub(crate) fn check(rt: &impl Abort, alloc: Global, row: &Row) -> Result<(), Fail> {
-    let words = words_of(alloc, "kproxy replay")?;
-    let mut source = SureSource::new(bytes_of(alloc, row.input)?, 700);
+/// What a run on these words prints, and how it ends. It reads and writes in small pieces.
+pub(crate) fn run_on(
+    alloc: Global,
+    words: &str,
+    input: &str,
+) -> Result<(Vec<u8>, Status), NoMemory> {
+    let words = words_of(alloc, words)?;
+    let mut source = SureSource::new(bytes_of(alloc, input)?, 700);
     let mut sink = SureSink::new(alloc, 50, 4096)?;
-    let found = run(alloc, words.as_slice(), &mut source, &mut sink);
-    assert_eq!(rt; sink.written(), row.want.as_bytes(), "{}", row.name);
-    assert_eq!(rt; found, row.status, "{}", row.name);
+    let status = run(alloc, words.as_slice(), &mut source, &mut sink);
+    Ok((Vec::from_slice(alloc, sink.written())?, status))
+}
+
+/// Each of these replays prints its text and ends with this status. A replay begins with a number
+/// sign and its name, and an arrow stands between its input and what it prints. A line that begins
+/// with a space goes on with the line before.
+pub(crate) fn check(
+    rt: &impl Abort,
+    alloc: Global,
+    replays: &str,
+    status: Status,
+) -> Result<(), Fail> {
+    let joined = replays.replace(alloc, "\n ", "")?;
+    for replay in joined.as_str().split("# ").skip(1) {
+        let (name, lines) = replay.split_once("\n").ok_or("a name")?;
+        let (input, want) = lines.split_once("=>\n").ok_or("an arrow")?;
+        let (printed, found) = run_on(alloc, "kproxy replay", input)?;
+        assert_eq!(rt; printed.as_slice(), want.as_bytes(), "{name}");
+        assert_eq!(rt; found, status, "{name}");
+    }
     Ok(())
 }

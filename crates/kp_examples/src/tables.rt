@@ -1,21 +1,22 @@
 //! Tables and batches as they are printed.
-use crate::row::{Row, check};
+use crate::row::check;
 use kp_run::Status;
 use std::test::Fail;
 
-#[test]
-fn tables_are_shown(rt: HostRuntime) -> Result<(), Fail> {
-    let rows = [
-        Row {
-            name: "nat text of a one-endpoint table",
-            input: r#"{"op":"config","node":"n1","nodeAddresses":["10.0.0.1"],"clusterCIDR":"10.244.0.0/16","nameLength":0}
-{"apiVersion":"v1","kind":"Service","metadata":{"name":"web"},"spec":{"clusterIP":"10.96.0.10","ports":[{"port":80,"targetPort":8080}]}}
-{"apiVersion":"discovery.k8s.io/v1","kind":"EndpointSlice","metadata":{"name":"web-x","labels":{"kubernetes.io/service-name":"web"}},"addressType":"IPv4","ports":[{"port":8080}],"endpoints":[{"addresses":["10.244.1.2"],"nodeName":"n1"}]}
+/// A table, and the batch that leads to it.
+const TABLES: &str = r#"# nat text of a one-endpoint table
+{"op":"config","node":"n1","nodeAddresses":["10.0.0.1"],"clusterCIDR":"10.244.0.0/16",
+ "nameLength":0}
+{"apiVersion":"v1","kind":"Service","metadata":{"name":"web"},
+ "spec":{"clusterIP":"10.96.0.10","ports":[{"port":80,"targetPort":8080}]}}
+{"apiVersion":"discovery.k8s.io/v1","kind":"EndpointSlice",
+ "metadata":{"name":"web-x","labels":{"kubernetes.io/service-name":"web"}},"addressType":"IPv4",
+ "ports":[{"port":8080}],"endpoints":[{"addresses":["10.244.1.2"],"nodeName":"n1"}]}
 {"op":"sync"}
 {"op":"packet","src":"10.244.9.9","dst":"10.96.0.10","dport":80,"draws":[]}
 {"op":"show","what":"nat"}
-"#,
-            want: "sync 1: events 2, written 3, removed 0
+=>
+sync 1: events 2, written 3, removed 0
 packet 5 at 1: to 10.244.1.2:8080
 *nat
 :PREROUTING ACCEPT [0:0]
@@ -42,19 +43,19 @@ packet 5 at 1: to 10.244.1.2:8080
 -A KUBE-SVC- ! -s 10.244.0.0/16 -d 10.96.0.10/32 -p tcp -m tcp --dport 80 -j KUBE-MARK-MASQ
 -A KUBE-SVC- -j KUBE-SEP-
 COMMIT
-",
-            status: Status::Done,
-        },
-        Row {
-            name: "batch text of the first sync",
-            input: r#"{"op":"config","node":"n1","nodeAddresses":["10.0.0.1"],"clusterCIDR":"10.244.0.0/16","nameLength":0}
-{"apiVersion":"v1","kind":"Service","metadata":{"name":"web"},"spec":{"clusterIP":"10.96.0.10","ports":[{"port":80,"targetPort":8080}]}}
-{"apiVersion":"discovery.k8s.io/v1","kind":"EndpointSlice","metadata":{"name":"web-x","labels":{"kubernetes.io/service-name":"web"}},"addressType":"IPv4","ports":[{"port":8080}],"endpoints":[{"addresses":["10.244.1.2"],"nodeName":"n1"}]}
+# batch text of the first sync
+{"op":"config","node":"n1","nodeAddresses":["10.0.0.1"],"clusterCIDR":"10.244.0.0/16",
+ "nameLength":0}
+{"apiVersion":"v1","kind":"Service","metadata":{"name":"web"},
+ "spec":{"clusterIP":"10.96.0.10","ports":[{"port":80,"targetPort":8080}]}}
+{"apiVersion":"discovery.k8s.io/v1","kind":"EndpointSlice",
+ "metadata":{"name":"web-x","labels":{"kubernetes.io/service-name":"web"}},"addressType":"IPv4",
+ "ports":[{"port":8080}],"endpoints":[{"addresses":["10.244.1.2"],"nodeName":"n1"}]}
 {"op":"sync"}
 {"op":"packet","src":"10.244.9.9","dst":"10.96.0.10","dport":80,"draws":[]}
 {"op":"show","what":"batch"}
-"#,
-            want: "sync 1: events 2, written 3, removed 0
+=>
+sync 1: events 2, written 3, removed 0
 packet 5 at 1: to 10.244.1.2:8080
 *nat
 :KUBE-SEP- - [0:0]
@@ -67,12 +68,9 @@ packet 5 at 1: to 10.244.1.2:8080
 -A KUBE-SVC- ! -s 10.244.0.0/16 -d 10.96.0.10/32 -p tcp -m tcp --dport 80 -j KUBE-MARK-MASQ
 -A KUBE-SVC- -j KUBE-SEP-
 COMMIT
-",
-            status: Status::Done,
-        },
-    ];
-    for row in &rows {
-        check(&rt, rt.alloc(), row)?;
-    }
-    Ok(())
+"#;
+
+#[test]
+fn tables_are_shown(rt: HostRuntime) -> Result<(), Fail> {
+    check(&rt, rt.alloc(), TABLES, Status::Done)
 }

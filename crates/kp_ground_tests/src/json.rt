@@ -3,10 +3,10 @@ use kp_json::{FieldFault, JsonFault, Spot, Why, quoted_text, read_tree};
 use std::alloc::{AllocError, Global};
 use std::test::Fail;
 
-const OBJECT: &str = "{\"text\":\"t\",\"flag\":true,\"n\":7,\"most\":18446744073709551615,\
-    \"over\":18446744073709551616,\"below\":-1,\"zero\":-0,\"point\":80.0,\"power\":8e1,\"none\":null,\
-    \"list\":[10,null,[]],\"twice\":1,\"twice\":2,\
-    \"labels\":{\"z\":null,\"b/c.d\":\"x\",\"a\\\"q\":\"y\"}}";
+const OBJECT: &str = r#"{"text":"t","flag":true,"n":7,"most":18446744073709551615,
+ "over":18446744073709551616,"below":-1,"zero":-0,"point":80.0,"power":8e1,"none":null,
+ "list":[10,null,[]],"twice":1,"twice":2,
+ "labels":{"z":null,"b/c.d":"x","a\"q":"y"}}"#;
 
 /// Whether an answer is this fault, without a count.
 fn is_fault<T>(answer: &Result<T, FieldFault>, why: Why, path: &str) -> bool {
@@ -18,13 +18,33 @@ fn is_fault<T>(answer: &Result<T, FieldFault>, why: Why, path: &str) -> bool {
     }
 }
 
-/// Whether a text, a truth value, a list and an object are read.
-fn reads_values<'a>(alloc: Global, root: &'a Spot<'a>) -> Result<bool, FieldFault> {
-    let text = root.needed(alloc, "text")?.text_at(alloc)?;
-    let flag = root.needed(alloc, "flag")?.flag_at(alloc)?;
-    let elements = root.needed(alloc, "list")?.list_len(alloc)?;
-    let members = root.needed(alloc, "labels")?.member_len(alloc)?;
-    Ok(text.copy(alloc)?.as_str() == "t" && flag && elements == 3 && members == 2)
+/// Whether a member is this text.
+fn is_text<'a>(alloc: Global, root: &'a Spot<'a>, name: &'a str, wanted: &str) -> bool {
+    match root.get(name) {
+        Some(member) => match member.text_at(alloc) {
+            Ok(text) => text.as_str() == wanted,
+            Err(_) => false,
+        },
+        None => false,
+    }
+}
+
+/// Whether a member is set.
+fn is_set<'a>(alloc: Global, root: &'a Spot<'a>, name: &'a str) -> bool {
+    match root.get(name) {
+        Some(member) => match member.flag_at(alloc) {
+            Ok(flag) => flag,
+            Err(_) => false,
+        },
+        None => false,
+    }
+}
+
+/// Whether the list and the object have three elements and two members.
+fn have_lengths<'a>(alloc: Global, root: &'a Spot<'a>) -> Result<bool, FieldFault> {
+    let list = root.needed(alloc, "list")?;
+    let labels = root.needed(alloc, "labels")?;
+    Ok(list.list_len(alloc)? == 3 && labels.member_len(alloc)? == 2)
 }
 
 /// Whether values of other types are refused.
@@ -39,13 +59,18 @@ fn refuses_values<'a>(alloc: Global, root: &'a Spot<'a>) -> Result<bool, FieldFa
     )
 }
 
+/// Whether a label has its path.
+fn has_path<'a>(alloc: Global, labels: &'a Spot<'a>) -> Result<bool, FieldFault> {
+    let found = labels.needed(alloc, "b/c.d")?;
+    Ok(found.path(alloc)?.as_str() == "labels.b/c.d")
+}
+
 /// Whether members are found, and absent ones are told.
 fn finds_members<'a>(alloc: Global, root: &'a Spot<'a>) -> Result<bool, FieldFault> {
     let labels = root.needed(alloc, "labels")?;
-    let found = labels.needed(alloc, "b/c.d")?.path(alloc)?;
     let absent = labels.field(alloc, "z")?.is_none() && labels.get("y").is_none();
     let needed = is_fault(&labels.needed(alloc, "y\""), Why::Missing, "labels.y\"");
-    Ok(found.as_str() == "labels.b/c.d" && absent && needed && labels.is_object())
+    Ok(absent && needed && labels.is_object() && has_path(alloc, &labels)?)
 }
 
 /// Whether what has no members is told, and the faults of a list.
@@ -66,7 +91,8 @@ fn tells_faults<'a>(alloc: Global, root: &'a Spot<'a>) -> Result<bool, FieldFaul
 fn fields_are_read_as_kubernetes_means_them(rt: HostRuntime) -> Result<(), Fail> {
     let tree = read_tree(rt.alloc(), OBJECT.as_bytes())?;
     let root = tree.root();
-    assert!(rt; reads_values(rt.alloc(), &root)? && refuses_values(rt.alloc(), &root)?);
+    assert!(rt; is_text(rt.alloc(), &root, "text", "t") && is_set(rt.alloc(), &root, "flag"));
+    assert!(rt; have_lengths(rt.alloc(), &root)? && refuses_values(rt.alloc(), &root)?);
     assert!(rt; tells_faults(rt.alloc(), &root)? && finds_members(rt.alloc(), &root)?);
     Ok(())
 }
@@ -115,6 +141,14 @@ fn numbers_are_read_within_their_bounds(rt: HostRuntime) -> Result<(), Fail> {
         is_whole(alloc, &root, "twice", (0, 9), 2),
         "the last of two"
     );
+    Ok(())
+}
+
+#[test]
+fn other_values_are_no_numbers(rt: HostRuntime) -> Result<(), Fail> {
+    let alloc = rt.alloc();
+    let tree = read_tree(alloc, OBJECT.as_bytes())?;
+    let root = tree.root();
     assert!(rt; is_no_whole(alloc, &root, "n", Why::OutOfRange));
     assert!(rt; is_no_whole(alloc, &root, "most", Why::OutOfRange));
     for name in NO_NUMBERS.lines() {
@@ -123,11 +157,18 @@ fn numbers_are_read_within_their_bounds(rt: HostRuntime) -> Result<(), Fail> {
     Ok(())
 }
 
+/// Adds the path of an element.
+fn push_path<'a>(alloc: Global, text: &mut String, item: &Spot<'a>) -> Result<(), FieldFault> {
+    let path = item.path(alloc)?;
+    text.push_str(path.as_str())?;
+    Ok(())
+}
+
 /// The paths of the elements, one behind the other.
 fn paths<'a>(alloc: Global, list: &'a Spot<'a>) -> Result<String, FieldFault> {
     let mut paths = String::new(alloc);
     for item in list.elements(alloc)? {
-        paths.push_str(item.path(alloc)?.as_str())?;
+        push_path(alloc, &mut paths, &item)?;
     }
     Ok(paths)
 }

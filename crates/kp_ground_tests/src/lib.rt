@@ -1,12 +1,19 @@
-//! Tests of kp_base, kp_types, kp_io, kp_json and kp_words, and worked examples of their definitions.
+//! Tests of kp_base, kp_types, kp_io, kp_json and kp_words, with worked examples of their
+//! definitions; and of kp_draws, kp_names and kp_recent.
 #![tactic(auto)]
 
 #[cfg(test)]
 mod base;
 #[cfg(test)]
+mod draws;
+#[cfg(test)]
 mod io;
 #[cfg(test)]
 mod json;
+#[cfg(test)]
+mod names;
+#[cfg(test)]
+mod recent;
 #[cfg(test)]
 mod types;
 #[cfg(test)]

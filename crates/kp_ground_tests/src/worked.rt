@@ -31,8 +31,8 @@ pub fn worked_ranges()
         ≡ Some (record { base = v4_address 167838211; bits = 32 }) }
     ensures others { list_all (λ text. is_none (range_of text))
         ([] ∷ codes "10.0.0.0/33" ∷ codes "10.0.0.0/08" ∷ codes "10.0.0.0/-1" ∷ codes "10.0.0.0/256"
-        ∷ codes "10.0.0.0" ∷ codes "10.0.0.0/" ∷ codes "/8" ∷ codes "10.0.0.0/8/8" ∷ codes "10.0.0/8"
-        ∷ codes "10.0.0.0/ 8" ∷ []) ≡ true }
+        ∷ codes "10.0.0.0" ∷ codes "10.0.0.0/" ∷ codes "/8" ∷ codes "10.0.0.0/8/8"
+        ∷ codes "10.0.0/8" ∷ codes "10.0.0.0/ 8" ∷ []) ≡ true }
     ensures inside { list_all (λ number.
         range_contains (record { base = v4_address 3232235840; bits = 26 }) (v4_address number))
         (3232235840 ∷ 3232235903 ∷ []) ≡ true }

@@ -78,13 +78,18 @@ fn reads_as(alloc: Global, text: &str, wanted: &str) -> Result<bool, Fail> {
     Ok(is_answer(&event_of(alloc, &tree.root()), wanted))
 }
 
-/// Whether the text of a row is read as it says behind the arrow.
-pub(crate) fn is_row_read(alloc: Global, row: &str) -> Result<bool, Fail> {
-    let (text, wanted) = row.split_once(" =>").ok_or("an arrow")?;
-    reads_as(alloc, text, wanted.trim_start())
+/// Whether the text of a row, with what stands before it and behind it, is read as the row says
+/// behind the arrow.
+pub(crate) fn is_row_read(alloc: Global, around: (&str, &str), row: &str) -> Result<bool, Fail> {
+    let (part, wanted) = row.split_once(" =>").ok_or("an arrow")?;
+    let mut text = String::from_str(alloc, around.0)?;
+    text.push_str(part)?;
+    text.push_str(around.1)?;
+    reads_as(alloc, text.as_str(), wanted.trim_start())
 }
 
-/// Texts, and the events that are read of them.
+/// Texts, and the events that are read of them. A line that begins with a space goes on with the
+/// line before.
 const EVENTS: &str = r#"5 => not an event
 [] => not an event
 {} => not an event
@@ -99,13 +104,16 @@ const EVENTS: &str = r#"5 => not an event
 {"kind":"Service","kind":"Node","metadata":{"name":"n1"}} => +Node n1;
 {"kind":"Service","metadata":{"name":"web"},"spec":{}} => +Service default/web;
 {"kind":"Pod","apiVersion":"v1","metadata":{"name":"p"}} => +Pod default/p;
-{"kind":"EndpointSlice","apiVersion":"discovery.k8s.io/v1","metadata":{"name":"s","namespace":"shop"},"addressType":"IPv4"} => +EndpointSlice shop/s;
+{"kind":"EndpointSlice","apiVersion":"discovery.k8s.io/v1",
+ "metadata":{"name":"s","namespace":"shop"},"addressType":"IPv4"} => +EndpointSlice shop/s;
 {"kind":"Node","apiVersion":null,"metadata":{"name":"n1"}} => +Node n1;
 {"type":"ADDED","object":{"kind":"Node","metadata":{"name":"n1"}}} => +Node n1;
 {"type":"MODIFIED","object":{"kind":"Node","metadata":{"name":"n1"}}} => +Node n1;
 {"type":"DELETED","object":{"kind":"Node","metadata":{"name":"n1","namespace":5}}} => -Node /n1;
-{"type":"DELETED","object":{"kind":"Service","metadata":{"name":"web","labels":5},"spec":5}} => -Service default/web;
-{"type":"DELETED","object":{"kind":"Pod","metadata":{"name":"p","namespace":"A"}}} => BadName object.metadata.namespace
+{"type":"DELETED","object":{"kind":"Service","metadata":{"name":"web","labels":5},"spec":5}}
+  => -Service default/web;
+{"type":"DELETED","object":{"kind":"Pod","metadata":{"name":"p","namespace":"A"}}}
+  => BadName object.metadata.namespace
 {"type":"DELETED","object":{"kind":"List"}} => kind List
 {"type":"ERROR","object":5} => not an event
 {"type":"","object":{}} => not an event
@@ -119,16 +127,21 @@ const EVENTS: &str = r#"5 => not an event
 {"kind":"List","items":{}} => WrongType items
 {"kind":"List","items":[5]} => WrongType items[0]
 {"kind":"List","items":[{"kind":"List","items":[]}]} => kind List
-{"kind":"List","items":[{"kind":"Node","metadata":{"name":"n1"}},{"kind":"Node","metadata":{"name":"n2"}},{"kind":"Service","metadata":{"name":"web"},"spec":{"ports":[{"port":65536}]}},{}]} => OutOfRange items[2].spec.ports[0].port
-{"kind":"List","items":[{"kind":"Node","metadata":{"name":"n1"}},{"kind":"Node","metadata":{"name":"n2"}}]} => +Node n1;+Node n2;
+{"kind":"List","items":[{"kind":"Node","metadata":{"name":"n1"}},
+ {"kind":"Node","metadata":{"name":"n2"}},
+ {"kind":"Service","metadata":{"name":"web"},"spec":{"ports":[{"port":65536}]}},{}]}
+  => OutOfRange items[2].spec.ports[0].port
+{"kind":"List","items":[{"kind":"Node","metadata":{"name":"n1"}},
+ {"kind":"Node","metadata":{"name":"n2"}}]} => +Node n1;+Node n2;
 {"kind":""} => kind 
 {"type":"BOOKMARK","object":5} =>
 {"kind":"List","apiVersion":5,"items":[]} =>"#;
 
 #[test]
 fn events_are_read(rt: HostRuntime) -> Result<(), Fail> {
-    for row in EVENTS.lines() {
-        assert!(rt; is_row_read(rt.alloc(), row)?, "{row}");
+    let rows = EVENTS.replace(rt.alloc(), "\n ", "")?;
+    for row in rows.as_str().lines() {
+        assert!(rt; is_row_read(rt.alloc(), ("", ""), row)?, "{row}");
     }
     Ok(())
 }
@@ -170,8 +183,8 @@ fn services_that_kubectl_prints_are_read(rt: HostRuntime) -> Result<(), Fail> {
 /// Lists of one node, and of two.
 const ONE: &str = r#"{"kind":"List","items":[{"kind":"Node","metadata":{"name":"n"}}]}"#;
 
-const TWO: &str =
-    r#"{"kind":"List","items":[{"kind":"Node","metadata":{"name":"n"}},{"kind":"Node","metadata":{"name":"n"}}]}"#;
+const TWO: &str = r#"{"kind":"List","items":[{"kind":"Node","metadata":{"name":"n"}},
+ {"kind":"Node","metadata":{"name":"n"}}]}"#;
 
 fn events(alloc: Global, text: &str) -> Result<Items<Event>, Fail> {
     let tree = read_tree(alloc, text.as_bytes())?;

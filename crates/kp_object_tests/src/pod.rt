@@ -1,24 +1,29 @@
 //! Texts of Pods and Nodes, and what is read of them.
-use crate::words::{is_key, is_text};
+use crate::words::{is_copied, is_key, is_text};
 use kp_base::{Address, Proto};
 use kp_json::read_tree;
 use kp_pod::{ContainerPort, Node, Pod, node_of, pod_of};
 use std::alloc::Global;
 use std::test::Fail;
 
-fn read_pod(alloc: Global, text: &str) -> Result<Pod, Fail> {
+pub(crate) fn read_pod(alloc: Global, text: &str) -> Result<Pod, Fail> {
     let tree = read_tree(alloc, text.as_bytes())?;
     Ok(pod_of(alloc, &tree.root())?)
 }
 
-fn read_node(alloc: Global, text: &str) -> Result<Node, Fail> {
+pub(crate) fn read_node(alloc: Global, text: &str) -> Result<Node, Fail> {
     let tree = read_tree(alloc, text.as_bytes())?;
     Ok(node_of(alloc, &tree.root())?)
 }
 
 /// A Pod with all its members.
-const WHOLE: &str =
-    r#"{"metadata":{"name":"p","namespace":"shop","labels":{"b":"y","a":"x"},"deletionTimestamp":"2024-01-01T00:00:00Z"},"spec":{"nodeName":"n1","containers":[{"ports":[{"name":"http","containerPort":65535}]},{},{"ports":[{"protocol":"SCTP","containerPort":1}]}]},"status":{"phase":"Running","podIP":"0.0.0.1","conditions":[{"type":"Initialized","status":"False"},{"type":"Ready","status":"True"},{"type":"Ready","status":"False"}]}}"#;
+const WHOLE: &str = r#"{"metadata":{"name":"p","namespace":"shop","labels":{"b":"y","a":"x"},
+ "deletionTimestamp":"2024-01-01T00:00:00Z"},
+ "spec":{"nodeName":"n1","containers":[{"ports":[{"name":"http","containerPort":65535}]},{},
+ {"ports":[{"protocol":"SCTP","containerPort":1}]}]},
+ "status":{"phase":"Running","podIP":"0.0.0.1",
+ "conditions":[{"type":"Initialized","status":"False"},{"type":"Ready","status":"True"},
+ {"type":"Ready","status":"False"}]}}"#;
 
 /// Whether a port has this name, protocol and number.
 fn is_port(port: &ContainerPort, name: &str, proto: Proto, number: u16) -> bool {
@@ -50,13 +55,16 @@ fn all_members_of_a_pod_are_read(rt: HostRuntime) -> Result<(), Fail> {
     assert!(rt; has_ports(pod.ports.as_slice()) && is_text(&pod.node, "n1"));
     assert!(rt; pod.address == Some(Address::v4(1)));
     assert!(rt; pod.deleting && pod.ready && !pod.finished);
+    assert!(rt; is_copied(rt.alloc(), &pod)?);
     Ok(())
 }
 
 /// Pods that are done, on no node, not ready, and without an address of the family.
-const DONE: &str =
-    r#"{"metadata":{"name":"p"},"status":{"phase":"Succeeded","podIP":"fd00::1","conditions":[{"type":"Ready","status":"False"},{"type":"Ready","status":"True"}]}}
-{"metadata":{"name":"p","deletionTimestamp":""},"spec":{"nodeName":""},"status":{"phase":"Failed","podIP":"","conditions":[{"type":"","status":"True"},{"status":"True"}]}}"#;
+const DONE: &str = r#"{"metadata":{"name":"p"},"status":{"phase":"Succeeded","podIP":"fd00::1",
+ "conditions":[{"type":"Ready","status":"False"},{"type":"Ready","status":"True"}]}}
+{"metadata":{"name":"p","deletionTimestamp":""},"spec":{"nodeName":""},
+ "status":{"phase":"Failed","podIP":"",
+ "conditions":[{"type":"","status":"True"},{"status":"True"}]}}"#;
 
 /// Whether a Pod is done, on no node, not ready, not deleting, and without an address.
 fn is_done(pod: &Pod) -> bool {
@@ -65,7 +73,8 @@ fn is_done(pod: &Pod) -> bool {
 
 #[test]
 fn pods_are_done_by_their_phase(rt: HostRuntime) -> Result<(), Fail> {
-    for text in DONE.lines() {
+    let texts = DONE.replace(rt.alloc(), "\n ", "")?;
+    for text in texts.as_str().lines() {
         assert!(rt; is_done(&read_pod(rt.alloc(), text)?), "{text}");
     }
     Ok(())

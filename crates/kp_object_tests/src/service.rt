@@ -1,5 +1,5 @@
 //! Texts of Services, and what is read of them.
-use crate::words::is_key;
+use crate::words::{is_copied, is_key};
 use kp_base::{Address, Cidr, PortNo, Proto};
 use kp_json::read_tree;
 use kp_service::{
@@ -8,7 +8,7 @@ use kp_service::{
 use std::alloc::Global;
 use std::test::Fail;
 
-fn read(alloc: Global, text: &str) -> Result<Service, Fail> {
+pub(crate) fn read_service(alloc: Global, text: &str) -> Result<Service, Fail> {
     let tree = read_tree(alloc, text.as_bytes())?;
     Ok(service_of(alloc, &tree.root())?)
 }
@@ -28,8 +28,17 @@ fn is_target(port: &ServicePort, number: u16, name: &str) -> bool {
 }
 
 /// A Service with all its members.
-const WHOLE: &str =
-    r#"{"metadata":{"name":"web","namespace":"shop"},"spec":{"type":"LoadBalancer","clusterIP":"0.0.1.0","ports":[{"name":"http","port":65535,"targetPort":"web","nodePort":65535},{"name":"http","protocol":"UDP","port":1,"targetPort":65535},{"protocol":"SCTP","port":2,"targetPort":0}],"selector":{"b":"y","a":"","c":null},"externalIPs":["0.0.0.1","fd00::1"],"sessionAffinity":"ClientIP","sessionAffinityConfig":{"clientIP":{"timeoutSeconds":86400}},"internalTrafficPolicy":"Local","externalTrafficPolicy":"Local","publishNotReadyAddresses":true,"loadBalancerSourceRanges":["0.0.1.7/24"],"trafficDistribution":"PreferClose"},"status":{"loadBalancer":{"ingress":[{"ip":"0.0.0.9"},{"ip":"0.0.0.8","ipMode":"Proxy"},{"ip":"0.0.0.7","ipMode":"VIP"},{"hostname":"x"}]}}}"#;
+const WHOLE: &str = r#"{"metadata":{"name":"web","namespace":"shop"},
+ "spec":{"type":"LoadBalancer","clusterIP":"0.0.1.0",
+ "ports":[{"name":"http","port":65535,"targetPort":"web","nodePort":65535},
+ {"name":"http","protocol":"UDP","port":1,"targetPort":65535},
+ {"protocol":"SCTP","port":2,"targetPort":0}],"selector":{"b":"y","a":"","c":null},
+ "externalIPs":["0.0.0.1","fd00::1"],"sessionAffinity":"ClientIP",
+ "sessionAffinityConfig":{"clientIP":{"timeoutSeconds":86400}},"internalTrafficPolicy":"Local",
+ "externalTrafficPolicy":"Local","publishNotReadyAddresses":true,
+ "loadBalancerSourceRanges":["0.0.1.7/24"],"trafficDistribution":"PreferClose"},
+ "status":{"loadBalancer":{"ingress":[{"ip":"0.0.0.9"},{"ip":"0.0.0.8","ipMode":"Proxy"},
+ {"ip":"0.0.0.7","ipMode":"VIP"},{"hostname":"x"}]}}}"#;
 
 /// Whether the ports of the Service with all its members are these.
 fn has_ports(ports: &[ServicePort]) -> bool {
@@ -73,18 +82,23 @@ fn has_range(service: &Service, range: &Cidr) -> bool {
 
 #[test]
 fn all_members_of_a_service_are_read(rt: HostRuntime) -> Result<(), Fail> {
-    let service = read(rt.alloc(), WHOLE)?;
+    let service = read_service(rt.alloc(), WHOLE)?;
     assert!(rt; is_key(&service.key, "shop/web") && service.selector.as_slice().len() == 2);
     assert!(rt; has_ports(service.ports.as_slice()) && has_choices(&service));
     assert!(rt; has_addresses(&service) && has_range(&service, &Cidr::parse(b"0.0.1.0/24")?));
+    assert!(rt; is_copied(rt.alloc(), &service)?);
     Ok(())
 }
 
 /// Services that have their defaults, some by members that are empty, and one of another address
 /// family.
 const DEFAULTS: &str = r#"{"metadata":{"name":"web","namespace":""},"spec":{}}
-{"metadata":{"name":"web"},"spec":{"type":"","clusterIP":"","ports":[{"name":"","protocol":"","port":1,"targetPort":"","nodePort":0}],"sessionAffinity":"","internalTrafficPolicy":"","externalTrafficPolicy":"","loadBalancerSourceRanges":[],"trafficDistribution":""},"status":{"loadBalancer":{"ingress":[{"ip":""}]}}}
-{"metadata":{"name":"web"},"spec":{"clusterIP":"fd00::1","type":"ExternalName","type":"ClusterIP"}}"#;
+{"metadata":{"name":"web"},"spec":{"type":"","clusterIP":"",
+ "ports":[{"name":"","protocol":"","port":1,"targetPort":"","nodePort":0}],"sessionAffinity":"",
+ "internalTrafficPolicy":"","externalTrafficPolicy":"","loadBalancerSourceRanges":[],
+ "trafficDistribution":""},"status":{"loadBalancer":{"ingress":[{"ip":""}]}}}
+{"metadata":{"name":"web"},"spec":{"clusterIP":"fd00::1","type":"ExternalName",
+ "type":"ClusterIP"}}"#;
 
 /// Whether all choices of a Service are the defaults.
 fn is_default(service: &Service) -> bool {
@@ -101,8 +115,9 @@ fn is_default(service: &Service) -> bool {
 
 #[test]
 fn absent_members_of_a_service_have_defaults(rt: HostRuntime) -> Result<(), Fail> {
-    for text in DEFAULTS.lines() {
-        let service = read(rt.alloc(), text)?;
+    let texts = DEFAULTS.replace(rt.alloc(), "\n ", "")?;
+    for text in texts.as_str().lines() {
+        let service = read_service(rt.alloc(), text)?;
         assert!(rt;
             is_key(&service.key, "default/web") && is_default(&service),
             "{text}"
@@ -113,7 +128,8 @@ fn absent_members_of_a_service_have_defaults(rt: HostRuntime) -> Result<(), Fail
 
 /// A Service without a cluster address, whose only source range is of another family.
 const HEADLESS: &str =
-    r#"{"metadata":{"name":"web"},"spec":{"clusterIP":"None","sessionAffinity":"ClientIP","loadBalancerSourceRanges":["fd00::/8"],"trafficDistribution":"Other","type":"NodePort"}}"#;
+    r#"{"metadata":{"name":"web"},"spec":{"clusterIP":"None","sessionAffinity":"ClientIP",
+ "loadBalancerSourceRanges":["fd00::/8"],"trafficDistribution":"Other","type":"NodePort"}}"#;
 
 /// Whether there is a list of source ranges, and it admits nobody.
 fn admits_nobody(service: &Service) -> bool {
@@ -125,7 +141,7 @@ fn admits_nobody(service: &Service) -> bool {
 
 #[test]
 fn ranges_of_another_family_are_a_restriction(rt: HostRuntime) -> Result<(), Fail> {
-    let service = read(rt.alloc(), HEADLESS)?;
+    let service = read_service(rt.alloc(), HEADLESS)?;
     assert!(rt; admits_nobody(&service) && service.cluster == ClusterAddress::Headless);
     assert!(rt; service.kind == ServiceKind::NodePort && service.affinity == Some(10_800));
     Ok(())

@@ -1,6 +1,6 @@
 //! Texts of EndpointSlices, and what is read of them.
 use crate::words::{is_key, is_text};
-use kp_base::{Address, ObjectKey, PortNo, Proto};
+use kp_base::{Address, Copied, ObjectKey, PortNo, Proto};
 use kp_json::{FieldFault, Why, read_tree};
 use kp_slice::{AddressType, Slice, SliceEndpoint, SlicePort, slice_of};
 use std::alloc::{AllocError, Global};
@@ -42,8 +42,15 @@ fn read(alloc: Global, text: &str) -> Result<Slice, Fail> {
 }
 
 /// A slice with all its members.
-const WHOLE: &str =
-    r#"{"metadata":{"name":"s","namespace":"shop","labels":{"kubernetes.io/service-name":"web","endpointslice.kubernetes.io/managed-by":"endpointslice-controller.k8s.io","x":null}},"addressType":"IPv4","ports":[{},{"name":"http","protocol":"UDP","port":65535}],"endpoints":[{"addresses":["0.0.0.1","x"],"conditions":{"ready":false},"nodeName":"n1","zone":"A","hints":{"forZones":[{"name":"a"},{"name":"b"}]},"targetRef":{"kind":"Pod","name":"p"}},{"addresses":["fd00::1"],"conditions":{"serving":false,"terminating":true,"ready":null},"targetRef":{"kind":"Pod","namespace":"other","name":"p"}},{"addresses":["0.0.0.3"],"nodeName":"","zone":"","targetRef":{"kind":"Node","name":5}}]}"#;
+const WHOLE: &str = r#"{"metadata":{"name":"s","namespace":"shop",
+ "labels":{"kubernetes.io/service-name":"web",
+ "endpointslice.kubernetes.io/managed-by":"endpointslice-controller.k8s.io","x":null}},
+ "addressType":"IPv4","ports":[{},{"name":"http","protocol":"UDP","port":65535}],
+ "endpoints":[{"addresses":["0.0.0.1","x"],"conditions":{"ready":false},"nodeName":"n1","zone":"A",
+ "hints":{"forZones":[{"name":"a"},{"name":"b"}]},"targetRef":{"kind":"Pod","name":"p"}},
+ {"addresses":["fd00::1"],"conditions":{"serving":false,"terminating":true,"ready":null},
+ "targetRef":{"kind":"Pod","namespace":"other","name":"p"}},
+ {"addresses":["0.0.0.3"],"nodeName":"","zone":"","targetRef":{"kind":"Node","name":5}}]}"#;
 
 /// Whether a port has this name, protocol and number, 0 for none.
 fn is_port(port: &SlicePort, name: &str, proto: Proto, number: u64) -> bool {
@@ -102,16 +109,17 @@ fn has_endpoints(endpoints: &[SliceEndpoint]) -> bool {
 }
 
 #[test]
-fn all_members_of_a_slice_are_read(rt: HostRuntime) -> Result<(), Fail> {
-    let slice = read(rt.alloc(), WHOLE)?;
+fn all_members_of_a_slice_are_read_and_copied(rt: HostRuntime) -> Result<(), Fail> {
+    let slice = read(rt.alloc(), WHOLE)?.copy(rt.alloc())?;
     assert!(rt; is_key(&slice.key, "shop/s") && is_text(&slice.service, "web") && slice.managed);
     assert!(rt; has_ports(slice.ports.as_slice()) && has_endpoints(slice.endpoints.as_slice()));
     Ok(())
 }
 
 /// Slices of other address types, whose addresses are passed over, and without a Service.
-const OTHERS: &str =
-    r#"{"metadata":{"name":"s","labels":{"kubernetes.io/service-name":"","endpointslice.kubernetes.io/managed-by":""}},"addressType":"FQDN","endpoints":[{"addresses":[""]}]}
+const OTHERS: &str = r#"{"metadata":{"name":"s","labels":{"kubernetes.io/service-name":"",
+ "endpointslice.kubernetes.io/managed-by":""}},"addressType":"FQDN",
+ "endpoints":[{"addresses":[""]}]}
 {"metadata":{"name":"s"},"addressType":"IPv6","endpoints":[{"addresses":["anything"]}]}"#;
 
 /// Whether a slice is of another address type than IPv4, with an endpoint of no address.
@@ -125,7 +133,8 @@ fn is_of_other_type(slice: &Slice) -> bool {
 
 #[test]
 fn addresses_of_other_types_are_passed_over(rt: HostRuntime) -> Result<(), Fail> {
-    for text in OTHERS.lines() {
+    let texts = OTHERS.replace(rt.alloc(), "\n ", "")?;
+    for text in texts.as_str().lines() {
         assert!(rt; is_of_other_type(&read(rt.alloc(), text)?), "{text}");
     }
     Ok(())

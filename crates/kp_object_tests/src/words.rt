@@ -1,6 +1,7 @@
 //! Faults and keys, held against words.
-use kp_base::{ObjectKey, Text};
+use kp_base::{Copied, NoMemory, ObjectKey, Text};
 use kp_json::{BadField, Why};
+use std::alloc::Global;
 
 /// A reason in a word.
 fn word(why: Why) -> &'static str {
@@ -40,4 +41,9 @@ pub(crate) fn is_text(text: &Option<Text>, wanted: &str) -> bool {
         Some(text) => text.as_str() == wanted,
         None => wanted.is_empty(),
     }
+}
+
+/// Whether the copy of a value is equal to it.
+pub(crate) fn is_copied<T: Copied + PartialEq>(alloc: Global, value: &T) -> Result<bool, NoMemory> {
+    Ok(value.copy(alloc)? == *value)
 }

@@ -22,7 +22,7 @@ use std::marker::Brand;
 use std::sync::ledger::{Blank, Ledger};
 use std::test::Fail;
 
-/// A cluster, and what its last sync made.
+/// A cluster with the configuration of its script, and what its last sync made.
 #[derive(Drop)]
 pub struct Cluster {
     config: Config,
@@ -59,8 +59,7 @@ impl Cluster {
     /// Leads the table over to that of the objects by now.
     fn sync(&mut self, alloc: Global, text: &mut String) -> Result<(), TableFault> {
         let table = table_of(alloc, &self.objects, &self.config)?;
-        let batch = changed(alloc, &self.table, &table)?;
-        self.table.apply(&batch)?;
+        let batch = lead_over(alloc, &mut self.table, &table)?;
         push_batch(text, self.table.syncs(), self.events, &batch)?;
         self.events = 0;
         Ok(())
@@ -117,7 +116,7 @@ impl Cluster {
 impl Session for Cluster {
     fn take(&mut self, alloc: Global, number: u64, op: Op, text: &mut String) -> Result<(), Fail> {
         match op {
-            Op::Config(config) => *self = new_cluster(alloc, config)?,
+            Op::Config(_) => {}
             Op::Events(events) => self.apply(alloc, events.as_slice())?,
             Op::Sync => tell_clash(alloc, number, self.sync(alloc, text), text)?,
             Op::Packet(line) => self.answer(number, &line, text)?,
@@ -154,6 +153,13 @@ fn uncounted<L: Ledger>(
 {
     let mut steps = Steps::<L>::new(blank);
     rebuild(alloc, objects, config, &mut steps)
+}
+
+/// Leads a table over to another one, by the edits between them.
+fn lead_over(alloc: Global, table: &mut Table, next: &Table) -> Result<Batch, NoMemory> {
+    let batch = changed(alloc, table, next)?;
+    table.apply(&batch)?;
+    Ok(batch)
 }
 
 /// Adds the refusal of a sync, where two chains have one name.

@@ -1,5 +1,5 @@
 //! The Services that may answer at the destination of a packet.
-use crate::transcript::{Session, follow};
+use crate::transcript::{Session, follow, joined};
 use kp_base::NoMemory;
 use kp_print::push;
 use kp_script::Op;
@@ -49,9 +49,12 @@ impl Session for Stored {
 
 /// A load balancer, and a Service at one of its addresses: packets to each destination, to its node
 /// port at any address, and to others beside them.
-const DESTINATIONS: &str =
-    r#"{"apiVersion":"v1","kind":"Service","metadata":{"name":"web"},"spec":{"type":"LoadBalancer","clusterIP":"10.96.0.10","externalIPs":["203.0.113.5"],"ports":[{"port":80,"targetPort":8080,"nodePort":30080}]},"status":{"loadBalancer":{"ingress":[{"ip":"203.0.113.9"}]}}}
-{"apiVersion":"v1","kind":"Service","metadata":{"name":"api"},"spec":{"clusterIP":"10.96.0.11","externalIPs":["203.0.113.5"],"ports":[{"port":80}]}}
+const DESTINATIONS: &str = r#"{"apiVersion":"v1","kind":"Service","metadata":{"name":"web"},
+ "spec":{"type":"LoadBalancer","clusterIP":"10.96.0.10","externalIPs":["203.0.113.5"],
+ "ports":[{"port":80,"targetPort":8080,"nodePort":30080}]},
+ "status":{"loadBalancer":{"ingress":[{"ip":"203.0.113.9"}]}}}
+{"apiVersion":"v1","kind":"Service","metadata":{"name":"api"},
+ "spec":{"clusterIP":"10.96.0.11","externalIPs":["203.0.113.5"],"ports":[{"port":80}]}}
 {"op":"packet","src":"10.244.9.9","dst":"10.96.0.10","dport":80}
 at: web
 {"op":"packet","src":"10.244.9.9","dst":"203.0.113.5","dport":80}
@@ -73,7 +76,8 @@ fn services_are_found_by_their_destinations(rt: HostRuntime) -> Result<(), Fail>
     let mut stored = Stored {
         objects: Objects::new(rt.alloc()),
     };
-    let (printed, wanted) = follow(rt.alloc(), &mut stored, DESTINATIONS)?;
+    let transcript = joined(rt.alloc(), DESTINATIONS)?;
+    let (printed, wanted) = follow(rt.alloc(), &mut stored, transcript.as_str())?;
     assert_eq!(rt; printed.as_str(), wanted.as_str());
     Ok(())
 }

@@ -1,7 +1,9 @@
-//! Transcripts of packets to every kind of door.
+//! Transcripts of packets to every kind of door. A line that begins with a space goes on with the
+//! line before.
 use crate::cluster::new_cluster;
-use crate::transcript::follow;
-use kp_script::default_config;
+use crate::transcript::{follow, joined, op_of};
+use kp_base::Config;
+use kp_script::Op;
 use std::alloc::Global;
 use std::process::Abort;
 use std::test::Fail;
@@ -10,28 +12,36 @@ use std::test::Fail;
 /// cluster; a port that no one has; and the Service deleted.
 const CLUSTER_ADDRESSES: &str =
     r#"{"op":"config","node":"n1","nodeAddresses":["10.0.0.1"],"clusterCIDR":"10.244.0.0/16"}
-{"apiVersion":"v1","kind":"Service","metadata":{"name":"web"},"spec":{"clusterIP":"10.96.0.10","ports":[{"port":80,"targetPort":8080}]}}
-{"apiVersion":"discovery.k8s.io/v1","kind":"EndpointSlice","metadata":{"name":"web-x","labels":{"kubernetes.io/service-name":"web"}},"addressType":"IPv4","ports":[{"port":8080}],"endpoints":[{"addresses":["10.244.1.2"],"nodeName":"n1"},{"addresses":["10.244.2.3"],"nodeName":"n2"},{"addresses":["10.244.3.4"],"nodeName":"n3"}]}
+{"apiVersion":"v1","kind":"Service","metadata":{"name":"web"},
+ "spec":{"clusterIP":"10.96.0.10","ports":[{"port":80,"targetPort":8080}]}}
+{"apiVersion":"discovery.k8s.io/v1","kind":"EndpointSlice",
+ "metadata":{"name":"web-x","labels":{"kubernetes.io/service-name":"web"}},"addressType":"IPv4",
+ "ports":[{"port":8080}],"endpoints":[{"addresses":["10.244.1.2"],"nodeName":"n1"},
+ {"addresses":["10.244.2.3"],"nodeName":"n2"},{"addresses":["10.244.3.4"],"nodeName":"n3"}]}
 {"op":"sync"}
 sync 1: events 2, written 5, removed 0
 {"op":"packet","src":"10.244.9.9","dst":"10.96.0.10","dport":80,"draws":[715827882]}
 packet 5 at 1: to 10.244.1.2:8080
 {"op":"explain","src":"10.244.9.9","dst":"10.96.0.10","dport":80,"draws":[715827882]}
-explain 6 at 1: to 10.244.1.2:8080; door cluster default/web/TCP list cluster size 3 by draws place 1
+explain 6 at 1: to 10.244.1.2:8080;
+  door cluster default/web/TCP list cluster size 3 by draws place 1
 {"op":"packet","src":"10.244.9.9","dst":"10.96.0.10","dport":80,"draws":[715827883,1073741823]}
 packet 7 at 1: to 10.244.2.3:8080
 {"op":"explain","src":"10.244.9.9","dst":"10.96.0.10","dport":80,"draws":[715827883,1073741823]}
-explain 8 at 1: to 10.244.2.3:8080; door cluster default/web/TCP list cluster size 3 by draws place 2
+explain 8 at 1: to 10.244.2.3:8080;
+  door cluster default/web/TCP list cluster size 3 by draws place 2
 {"op":"packet","src":"10.244.9.9","dst":"10.96.0.10","dport":80,"draws":[715827883,1073741824]}
 packet 9 at 1: to 10.244.3.4:8080
 {"op":"packet","src":"10.244.9.9","dst":"10.96.0.10","dport":80,"draws":[]}
 packet 10 at 1: to 10.244.3.4:8080
 {"op":"explain","src":"10.244.9.9","dst":"10.96.0.10","dport":80}
-explain 11 at 1: to 10.244.3.4:8080; door cluster default/web/TCP list cluster size 3 by draws place 3
+explain 11 at 1: to 10.244.3.4:8080;
+  door cluster default/web/TCP list cluster size 3 by draws place 3
 {"op":"packet","src":"10.244.1.2","dst":"10.96.0.10","dport":80,"draws":[0]}
 packet 12 at 1: to 10.244.1.2:8080 masked
 {"op":"explain","src":"10.244.1.2","dst":"10.96.0.10","dport":80,"draws":[0]}
-explain 13 at 1: to 10.244.1.2:8080 masked; door cluster default/web/TCP list cluster size 3 by draws place 1
+explain 13 at 1: to 10.244.1.2:8080 masked;
+  door cluster default/web/TCP list cluster size 3 by draws place 1
 {"op":"packet","src":"192.0.2.7","dst":"10.96.0.10","dport":80,"draws":[0]}
 packet 14 at 1: to 10.244.1.2:8080 masked
 {"op":"packet","src":"10.0.0.1","dst":"10.96.0.10","dport":80,"draws":[0],"from":"node"}
@@ -56,7 +66,8 @@ explain 23 at 2: left alone; no door decides
 /// No endpoints, from the wire and from the node; and an internal Local policy without local ones.
 const NO_ENDPOINTS: &str =
     r#"{"op":"config","node":"n1","nodeAddresses":["10.0.0.1"],"clusterCIDR":"10.244.0.0/16"}
-{"apiVersion":"v1","kind":"Service","metadata":{"name":"web"},"spec":{"clusterIP":"10.96.0.10","ports":[{"port":80,"targetPort":8080}]}}
+{"apiVersion":"v1","kind":"Service","metadata":{"name":"web"},
+ "spec":{"clusterIP":"10.96.0.10","ports":[{"port":80,"targetPort":8080}]}}
 {"op":"sync"}
 sync 1: events 1, written 1, removed 0
 {"op":"packet","src":"10.244.9.9","dst":"10.96.0.10","dport":80}
@@ -67,15 +78,21 @@ explain 5 at 1: rejected; door cluster default/web/TCP has no endpoints
 packet 6 at 1: rejected
 {"op":"packet","src":"10.244.9.9","dst":"10.96.0.10","dport":80,"proto":"UDP"}
 packet 7 at 1: left alone
-{"apiVersion":"v1","kind":"Service","metadata":{"name":"web"},"spec":{"clusterIP":"10.96.0.10","ports":[{"port":80,"targetPort":8080}],"internalTrafficPolicy":"Local"}}
-{"apiVersion":"discovery.k8s.io/v1","kind":"EndpointSlice","metadata":{"name":"web-x","labels":{"kubernetes.io/service-name":"web"}},"addressType":"IPv4","ports":[{"port":8080}],"endpoints":[{"addresses":["10.244.2.3"],"nodeName":"n2"}]}
+{"apiVersion":"v1","kind":"Service","metadata":{"name":"web"},
+ "spec":{"clusterIP":"10.96.0.10","ports":[{"port":80,"targetPort":8080}],
+ "internalTrafficPolicy":"Local"}}
+{"apiVersion":"discovery.k8s.io/v1","kind":"EndpointSlice",
+ "metadata":{"name":"web-x","labels":{"kubernetes.io/service-name":"web"}},"addressType":"IPv4",
+ "ports":[{"port":8080}],"endpoints":[{"addresses":["10.244.2.3"],"nodeName":"n2"}]}
 {"op":"sync"}
 sync 2: events 2, written 1, removed 0
 {"op":"packet","src":"10.244.9.9","dst":"10.96.0.10","dport":80}
 packet 11 at 2: dropped
 {"op":"explain","src":"10.244.9.9","dst":"10.96.0.10","dport":80}
 explain 12 at 2: dropped; door cluster default/web/TCP has no local endpoints
-{"apiVersion":"discovery.k8s.io/v1","kind":"EndpointSlice","metadata":{"name":"web-x","labels":{"kubernetes.io/service-name":"web"}},"addressType":"IPv4","ports":[{"port":8080}],"endpoints":[]}
+{"apiVersion":"discovery.k8s.io/v1","kind":"EndpointSlice",
+ "metadata":{"name":"web-x","labels":{"kubernetes.io/service-name":"web"}},"addressType":"IPv4",
+ "ports":[{"port":8080}],"endpoints":[]}
 {"op":"sync"}
 sync 3: events 1, written 1, removed 0
 {"op":"packet","src":"10.244.9.9","dst":"10.96.0.10","dport":80}
@@ -88,62 +105,97 @@ explain 16 at 3: rejected; door cluster default/web/TCP has no endpoints
 /// two endpoints of three and of all.
 const CONDITIONS_AND_HINTS: &str =
     r#"{"op":"config","node":"n1","nodeAddresses":["10.0.0.1"],"clusterCIDR":"10.244.0.0/16"}
-{"apiVersion":"v1","kind":"Service","metadata":{"name":"web"},"spec":{"clusterIP":"10.96.0.10","ports":[{"port":80,"targetPort":8080}]}}
-{"apiVersion":"discovery.k8s.io/v1","kind":"EndpointSlice","metadata":{"name":"web-x","labels":{"kubernetes.io/service-name":"web"}},"addressType":"IPv4","ports":[{"port":8080}],"endpoints":[{"addresses":["10.244.1.2"],"nodeName":"n1","conditions":{"ready":false,"serving":true,"terminating":true}},{"addresses":["10.244.2.3"],"nodeName":"n2","conditions":{"ready":false,"serving":true,"terminating":true}}]}
+{"apiVersion":"v1","kind":"Service","metadata":{"name":"web"},
+ "spec":{"clusterIP":"10.96.0.10","ports":[{"port":80,"targetPort":8080}]}}
+{"apiVersion":"discovery.k8s.io/v1","kind":"EndpointSlice",
+ "metadata":{"name":"web-x","labels":{"kubernetes.io/service-name":"web"}},"addressType":"IPv4",
+ "ports":[{"port":8080}],"endpoints":[{"addresses":["10.244.1.2"],"nodeName":"n1",
+ "conditions":{"ready":false,"serving":true,"terminating":true}},
+ {"addresses":["10.244.2.3"],"nodeName":"n2",
+ "conditions":{"ready":false,"serving":true,"terminating":true}}]}
 {"op":"sync"}
 sync 1: events 2, written 4, removed 0
 {"op":"packet","src":"10.244.9.9","dst":"10.96.0.10","dport":80,"draws":[0]}
 packet 5 at 1: to 10.244.1.2:8080
 {"op":"explain","src":"10.244.9.9","dst":"10.96.0.10","dport":80,"draws":[0]}
-explain 6 at 1: to 10.244.1.2:8080; door cluster default/web/TCP list cluster size 2 by draws place 1
-{"apiVersion":"discovery.k8s.io/v1","kind":"EndpointSlice","metadata":{"name":"web-x","labels":{"kubernetes.io/service-name":"web"}},"addressType":"IPv4","ports":[{"port":8080}],"endpoints":[{"addresses":["10.244.1.2"],"nodeName":"n1","conditions":{"ready":false,"serving":true,"terminating":true}},{"addresses":["10.244.2.3"],"nodeName":"n2"}]}
+explain 6 at 1: to 10.244.1.2:8080;
+  door cluster default/web/TCP list cluster size 2 by draws place 1
+{"apiVersion":"discovery.k8s.io/v1","kind":"EndpointSlice",
+ "metadata":{"name":"web-x","labels":{"kubernetes.io/service-name":"web"}},"addressType":"IPv4",
+ "ports":[{"port":8080}],"endpoints":[{"addresses":["10.244.1.2"],"nodeName":"n1",
+ "conditions":{"ready":false,"serving":true,"terminating":true}},
+ {"addresses":["10.244.2.3"],"nodeName":"n2"}]}
 {"op":"sync"}
 sync 2: events 1, written 1, removed 1
 {"op":"packet","src":"10.244.9.9","dst":"10.96.0.10","dport":80,"draws":[0]}
 packet 9 at 2: to 10.244.2.3:8080
 {"op":"explain","src":"10.244.9.9","dst":"10.96.0.10","dport":80,"draws":[0]}
-explain 10 at 2: to 10.244.2.3:8080; door cluster default/web/TCP list cluster size 1 by draws place 1
-{"apiVersion":"v1","kind":"Node","metadata":{"name":"n1","labels":{"topology.kubernetes.io/zone":"a"}}}
-{"apiVersion":"discovery.k8s.io/v1","kind":"EndpointSlice","metadata":{"name":"web-x","labels":{"kubernetes.io/service-name":"web"}},"addressType":"IPv4","ports":[{"port":8080}],"endpoints":[{"addresses":["10.244.1.2"],"nodeName":"n1","hints":{"forZones":[{"name":"a"}]}},{"addresses":["10.244.2.3"],"nodeName":"n2","hints":{"forZones":[{"name":"a"}]}},{"addresses":["10.244.3.4"],"nodeName":"n3"}]}
+explain 10 at 2: to 10.244.2.3:8080;
+  door cluster default/web/TCP list cluster size 1 by draws place 1
+{"apiVersion":"v1","kind":"Node",
+ "metadata":{"name":"n1","labels":{"topology.kubernetes.io/zone":"a"}}}
+{"apiVersion":"discovery.k8s.io/v1","kind":"EndpointSlice",
+ "metadata":{"name":"web-x","labels":{"kubernetes.io/service-name":"web"}},"addressType":"IPv4",
+ "ports":[{"port":8080}],"endpoints":[{"addresses":["10.244.1.2"],"nodeName":"n1",
+ "hints":{"forZones":[{"name":"a"}]}},
+ {"addresses":["10.244.2.3"],"nodeName":"n2","hints":{"forZones":[{"name":"a"}]}},
+ {"addresses":["10.244.3.4"],"nodeName":"n3"}]}
 {"op":"sync"}
 sync 3: events 2, written 3, removed 0
 {"op":"packet","src":"10.244.9.9","dst":"10.96.0.10","dport":80,"draws":[]}
 packet 14 at 3: to 10.244.3.4:8080
 {"op":"explain","src":"10.244.9.9","dst":"10.96.0.10","dport":80}
-explain 15 at 3: to 10.244.3.4:8080; door cluster default/web/TCP list cluster size 3 by draws place 3
-{"apiVersion":"discovery.k8s.io/v1","kind":"EndpointSlice","metadata":{"name":"web-x","labels":{"kubernetes.io/service-name":"web"}},"addressType":"IPv4","ports":[{"port":8080}],"endpoints":[{"addresses":["10.244.1.2"],"nodeName":"n1","hints":{"forZones":[{"name":"a"}]}},{"addresses":["10.244.2.3"],"nodeName":"n2","hints":{"forZones":[{"name":"a"}]}},{"addresses":["10.244.3.4"],"nodeName":"n3","hints":{"forZones":[{"name":"b"}]}}]}
+explain 15 at 3: to 10.244.3.4:8080;
+  door cluster default/web/TCP list cluster size 3 by draws place 3
+{"apiVersion":"discovery.k8s.io/v1","kind":"EndpointSlice",
+ "metadata":{"name":"web-x","labels":{"kubernetes.io/service-name":"web"}},"addressType":"IPv4",
+ "ports":[{"port":8080}],"endpoints":[{"addresses":["10.244.1.2"],"nodeName":"n1",
+ "hints":{"forZones":[{"name":"a"}]}},
+ {"addresses":["10.244.2.3"],"nodeName":"n2","hints":{"forZones":[{"name":"a"}]}},
+ {"addresses":["10.244.3.4"],"nodeName":"n3","hints":{"forZones":[{"name":"b"}]}}]}
 {"op":"sync"}
 sync 4: events 1, written 1, removed 1
 {"op":"packet","src":"10.244.9.9","dst":"10.96.0.10","dport":80,"draws":[]}
 packet 18 at 4: to 10.244.2.3:8080
 {"op":"explain","src":"10.244.9.9","dst":"10.96.0.10","dport":80}
-explain 19 at 4: to 10.244.2.3:8080; door cluster default/web/TCP list cluster size 2 by draws place 2
+explain 19 at 4: to 10.244.2.3:8080;
+  door cluster default/web/TCP list cluster size 2 by draws place 2
 "#;
 
 /// A pod that is ready, isn't, is again, and has finished.
 const PODS: &str =
     r#"{"op":"config","node":"n1","nodeAddresses":["10.0.0.1"],"clusterCIDR":"10.244.0.0/16"}
-{"apiVersion":"v1","kind":"Service","metadata":{"name":"web"},"spec":{"clusterIP":"10.96.0.10","ports":[{"port":80,"targetPort":8080}],"selector":{"app":"web"}}}
-{"apiVersion":"v1","kind":"Pod","metadata":{"name":"a","labels":{"app":"web"}},"spec":{"nodeName":"n1"},"status":{"phase":"Running","podIP":"10.244.1.2","conditions":[{"type":"Ready","status":"True"}]}}
+{"apiVersion":"v1","kind":"Service","metadata":{"name":"web"},
+ "spec":{"clusterIP":"10.96.0.10","ports":[{"port":80,"targetPort":8080}],"selector":{"app":"web"}}}
+{"apiVersion":"v1","kind":"Pod","metadata":{"name":"a","labels":{"app":"web"}},
+ "spec":{"nodeName":"n1"},"status":{"phase":"Running","podIP":"10.244.1.2",
+ "conditions":[{"type":"Ready","status":"True"}]}}
 {"op":"sync"}
 sync 1: events 2, written 3, removed 0
 {"op":"packet","src":"10.244.9.9","dst":"10.96.0.10","dport":80}
 packet 5 at 1: to 10.244.1.2:8080
 {"op":"explain","src":"10.244.9.9","dst":"10.96.0.10","dport":80}
-explain 6 at 1: to 10.244.1.2:8080; door cluster default/web/TCP list cluster size 1 by draws place 1
-{"apiVersion":"v1","kind":"Pod","metadata":{"name":"a","labels":{"app":"web"}},"spec":{"nodeName":"n1"},"status":{"phase":"Running","podIP":"10.244.1.2","conditions":[{"type":"Ready","status":"False"}]}}
+explain 6 at 1: to 10.244.1.2:8080;
+  door cluster default/web/TCP list cluster size 1 by draws place 1
+{"apiVersion":"v1","kind":"Pod","metadata":{"name":"a","labels":{"app":"web"}},
+ "spec":{"nodeName":"n1"},"status":{"phase":"Running","podIP":"10.244.1.2",
+ "conditions":[{"type":"Ready","status":"False"}]}}
 {"op":"sync"}
 sync 2: events 1, written 2, removed 2
 {"op":"packet","src":"10.244.9.9","dst":"10.96.0.10","dport":80}
 packet 9 at 2: rejected
 {"op":"explain","src":"10.244.9.9","dst":"10.96.0.10","dport":80}
 explain 10 at 2: rejected; door cluster default/web/TCP has no endpoints
-{"apiVersion":"v1","kind":"Pod","metadata":{"name":"a","labels":{"app":"web"}},"spec":{"nodeName":"n1"},"status":{"phase":"Running","podIP":"10.244.1.2","conditions":[{"type":"Ready","status":"True"}]}}
+{"apiVersion":"v1","kind":"Pod","metadata":{"name":"a","labels":{"app":"web"}},
+ "spec":{"nodeName":"n1"},"status":{"phase":"Running","podIP":"10.244.1.2",
+ "conditions":[{"type":"Ready","status":"True"}]}}
 {"op":"sync"}
 sync 3: events 1, written 4, removed 0
 {"op":"packet","src":"10.244.9.9","dst":"10.96.0.10","dport":80}
 packet 13 at 3: to 10.244.1.2:8080
-{"apiVersion":"v1","kind":"Pod","metadata":{"name":"a","labels":{"app":"web"}},"spec":{"nodeName":"n1"},"status":{"phase":"Succeeded","podIP":"10.244.1.2","conditions":[{"type":"Ready","status":"True"}]}}
+{"apiVersion":"v1","kind":"Pod","metadata":{"name":"a","labels":{"app":"web"}},
+ "spec":{"nodeName":"n1"},"status":{"phase":"Succeeded","podIP":"10.244.1.2",
+ "conditions":[{"type":"Ready","status":"True"}]}}
 {"op":"sync"}
 sync 4: events 1, written 2, removed 2
 {"op":"packet","src":"10.244.9.9","dst":"10.96.0.10","dport":80}
@@ -155,8 +207,12 @@ explain 17 at 4: rejected; door cluster default/web/TCP has no endpoints
 /// A node port with an external Local policy; and one whose endpoint is on the node.
 const NODE_PORTS: &str =
     r#"{"op":"config","node":"n1","nodeAddresses":["10.0.0.1"],"clusterCIDR":"10.244.0.0/16"}
-{"apiVersion":"v1","kind":"Service","metadata":{"name":"web"},"spec":{"clusterIP":"10.96.0.10","ports":[{"port":80,"targetPort":8080,"nodePort":30080}],"type":"NodePort","externalTrafficPolicy":"Local"}}
-{"apiVersion":"discovery.k8s.io/v1","kind":"EndpointSlice","metadata":{"name":"web-x","labels":{"kubernetes.io/service-name":"web"}},"addressType":"IPv4","ports":[{"port":8080}],"endpoints":[{"addresses":["10.244.2.3"],"nodeName":"n2"}]}
+{"apiVersion":"v1","kind":"Service","metadata":{"name":"web"},
+ "spec":{"clusterIP":"10.96.0.10","ports":[{"port":80,"targetPort":8080,"nodePort":30080}],
+ "type":"NodePort","externalTrafficPolicy":"Local"}}
+{"apiVersion":"discovery.k8s.io/v1","kind":"EndpointSlice",
+ "metadata":{"name":"web-x","labels":{"kubernetes.io/service-name":"web"}},"addressType":"IPv4",
+ "ports":[{"port":8080}],"endpoints":[{"addresses":["10.244.2.3"],"nodeName":"n2"}]}
 {"op":"sync"}
 sync 1: events 2, written 6, removed 0
 {"op":"packet","src":"192.0.2.7","dst":"10.0.0.1","dport":30080}
@@ -173,8 +229,12 @@ packet 9 at 1: to 10.244.2.3:8080 masked
 packet 10 at 1: left alone
 {"op":"explain","src":"127.0.0.1","dst":"127.0.0.1","dport":30080,"from":"node"}
 explain 11 at 1: left alone; no door decides
-{"apiVersion":"v1","kind":"Service","metadata":{"name":"web"},"spec":{"clusterIP":"10.96.0.10","ports":[{"port":80,"targetPort":8080,"nodePort":30080}],"type":"NodePort"}}
-{"apiVersion":"discovery.k8s.io/v1","kind":"EndpointSlice","metadata":{"name":"web-x","labels":{"kubernetes.io/service-name":"web"}},"addressType":"IPv4","ports":[{"port":8080}],"endpoints":[{"addresses":["10.0.0.1"],"nodeName":"n1"}]}
+{"apiVersion":"v1","kind":"Service","metadata":{"name":"web"},
+ "spec":{"clusterIP":"10.96.0.10","ports":[{"port":80,"targetPort":8080,"nodePort":30080}],
+ "type":"NodePort"}}
+{"apiVersion":"discovery.k8s.io/v1","kind":"EndpointSlice",
+ "metadata":{"name":"web-x","labels":{"kubernetes.io/service-name":"web"}},"addressType":"IPv4",
+ "ports":[{"port":8080}],"endpoints":[{"addresses":["10.0.0.1"],"nodeName":"n1"}]}
 {"op":"sync"}
 sync 2: events 2, written 4, removed 1
 {"op":"packet","src":"192.0.2.7","dst":"10.0.0.1","dport":30080}
@@ -187,7 +247,9 @@ explain 16 at 2: to 10.0.0.1:8080; door node default/web/TCP list cluster size 1
 /// of which the first has no local endpoints for a source outside.
 const EXTERNAL_ADDRESSES: &str =
     r#"{"op":"config","node":"n1","nodeAddresses":["10.0.0.1"],"clusterCIDR":"10.244.0.0/16"}
-{"apiVersion":"v1","kind":"Service","metadata":{"name":"web"},"spec":{"clusterIP":"10.96.0.10","ports":[{"port":80,"targetPort":8080}],"externalIPs":["203.0.113.5"]}}
+{"apiVersion":"v1","kind":"Service","metadata":{"name":"web"},
+ "spec":{"clusterIP":"10.96.0.10","ports":[{"port":80,"targetPort":8080}],
+ "externalIPs":["203.0.113.5"]}}
 {"op":"sync"}
 sync 1: events 1, written 2, removed 0
 {"op":"packet","src":"10.0.0.1","dst":"203.0.113.5","dport":80,"from":"node"}
@@ -198,38 +260,57 @@ explain 5 at 1: left alone; no door decides
 packet 6 at 1: rejected
 {"op":"explain","src":"192.0.2.7","dst":"203.0.113.5","dport":80}
 explain 7 at 1: rejected; door external default/web/TCP has no endpoints
-{"apiVersion":"v1","kind":"Service","metadata":{"name":"web"},"spec":{"clusterIP":"10.96.0.10","ports":[{"port":80,"targetPort":8080}],"externalIPs":["203.0.113.5"],"externalTrafficPolicy":"Local"}}
-{"apiVersion":"discovery.k8s.io/v1","kind":"EndpointSlice","metadata":{"name":"web-x","labels":{"kubernetes.io/service-name":"web"}},"addressType":"IPv4","ports":[{"port":8080}],"endpoints":[{"addresses":["10.244.2.3"],"nodeName":"n2"}]}
-{"apiVersion":"v1","kind":"Service","metadata":{"name":"web-2"},"spec":{"clusterIP":"10.96.0.12","ports":[{"port":80,"targetPort":8080}],"externalIPs":["203.0.113.5"]}}
-{"apiVersion":"discovery.k8s.io/v1","kind":"EndpointSlice","metadata":{"name":"web-2-x","labels":{"kubernetes.io/service-name":"web-2"}},"addressType":"IPv4","ports":[{"port":8080}],"endpoints":[{"addresses":["10.244.1.9"],"nodeName":"n1"}]}
+{"apiVersion":"v1","kind":"Service","metadata":{"name":"web"},
+ "spec":{"clusterIP":"10.96.0.10","ports":[{"port":80,"targetPort":8080}],
+ "externalIPs":["203.0.113.5"],"externalTrafficPolicy":"Local"}}
+{"apiVersion":"discovery.k8s.io/v1","kind":"EndpointSlice",
+ "metadata":{"name":"web-x","labels":{"kubernetes.io/service-name":"web"}},"addressType":"IPv4",
+ "ports":[{"port":8080}],"endpoints":[{"addresses":["10.244.2.3"],"nodeName":"n2"}]}
+{"apiVersion":"v1","kind":"Service","metadata":{"name":"web-2"},
+ "spec":{"clusterIP":"10.96.0.12","ports":[{"port":80,"targetPort":8080}],
+ "externalIPs":["203.0.113.5"]}}
+{"apiVersion":"discovery.k8s.io/v1","kind":"EndpointSlice",
+ "metadata":{"name":"web-2-x","labels":{"kubernetes.io/service-name":"web-2"}},"addressType":"IPv4",
+ "ports":[{"port":8080}],"endpoints":[{"addresses":["10.244.1.9"],"nodeName":"n1"}]}
 {"op":"sync"}
 sync 2: events 4, written 9, removed 0
 {"op":"packet","src":"192.0.2.7","dst":"203.0.113.5","dport":80}
 packet 13 at 2: to 10.244.1.9:8080 masked
 {"op":"explain","src":"192.0.2.7","dst":"203.0.113.5","dport":80}
-explain 14 at 2: to 10.244.1.9:8080 masked; door external default/web-2/TCP list cluster size 1 by draws place 1
+explain 14 at 2: to 10.244.1.9:8080 masked;
+  door external default/web-2/TCP list cluster size 1 by draws place 1
 {"op":"packet","src":"10.244.9.9","dst":"203.0.113.5","dport":80}
 packet 15 at 2: to 10.244.2.3:8080
 {"op":"explain","src":"10.244.9.9","dst":"203.0.113.5","dport":80}
-explain 16 at 2: to 10.244.2.3:8080; door external default/web/TCP list cluster size 1 by draws place 1
+explain 16 at 2: to 10.244.2.3:8080;
+  door external default/web/TCP list cluster size 1 by draws place 1
 "#;
 
 /// The source ranges of a load balancer, with endpoints and without.
 const SOURCE_RANGES: &str =
     r#"{"op":"config","node":"n1","nodeAddresses":["10.0.0.1"],"clusterCIDR":"10.244.0.0/16"}
-{"apiVersion":"v1","kind":"Service","metadata":{"name":"web"},"spec":{"clusterIP":"10.96.0.10","ports":[{"port":80,"targetPort":8080}],"type":"LoadBalancer","loadBalancerSourceRanges":["192.0.2.0/24"]},"status":{"loadBalancer":{"ingress":[{"ip":"203.0.113.9"}]}}}
-{"apiVersion":"discovery.k8s.io/v1","kind":"EndpointSlice","metadata":{"name":"web-x","labels":{"kubernetes.io/service-name":"web"}},"addressType":"IPv4","ports":[{"port":8080}],"endpoints":[{"addresses":["10.244.1.2"],"nodeName":"n1"},{"addresses":["10.244.2.3"],"nodeName":"n2"}]}
+{"apiVersion":"v1","kind":"Service","metadata":{"name":"web"},
+ "spec":{"clusterIP":"10.96.0.10","ports":[{"port":80,"targetPort":8080}],"type":"LoadBalancer",
+ "loadBalancerSourceRanges":["192.0.2.0/24"]},
+ "status":{"loadBalancer":{"ingress":[{"ip":"203.0.113.9"}]}}}
+{"apiVersion":"discovery.k8s.io/v1","kind":"EndpointSlice",
+ "metadata":{"name":"web-x","labels":{"kubernetes.io/service-name":"web"}},"addressType":"IPv4",
+ "ports":[{"port":8080}],"endpoints":[{"addresses":["10.244.1.2"],"nodeName":"n1"},
+ {"addresses":["10.244.2.3"],"nodeName":"n2"}]}
 {"op":"sync"}
 sync 1: events 2, written 7, removed 0
 {"op":"packet","src":"192.0.2.255","dst":"203.0.113.9","dport":80,"draws":[0]}
 packet 5 at 1: to 10.244.1.2:8080 masked
 {"op":"explain","src":"192.0.2.255","dst":"203.0.113.9","dport":80,"draws":[0]}
-explain 6 at 1: to 10.244.1.2:8080 masked; door balancer default/web/TCP list cluster size 2 by draws place 1
+explain 6 at 1: to 10.244.1.2:8080 masked;
+  door balancer default/web/TCP list cluster size 2 by draws place 1
 {"op":"packet","src":"192.0.3.0","dst":"203.0.113.9","dport":80,"draws":[0]}
 packet 7 at 1: dropped
 {"op":"explain","src":"192.0.3.0","dst":"203.0.113.9","dport":80,"draws":[0]}
 explain 8 at 1: dropped; door balancer default/web/TCP is closed to the source
-{"apiVersion":"discovery.k8s.io/v1","kind":"EndpointSlice","metadata":{"name":"web-x","labels":{"kubernetes.io/service-name":"web"}},"addressType":"IPv4","ports":[{"port":8080}],"endpoints":[]}
+{"apiVersion":"discovery.k8s.io/v1","kind":"EndpointSlice",
+ "metadata":{"name":"web-x","labels":{"kubernetes.io/service-name":"web"}},"addressType":"IPv4",
+ "ports":[{"port":8080}],"endpoints":[]}
 {"op":"sync"}
 sync 2: events 1, written 4, removed 5
 {"op":"packet","src":"192.0.2.7","dst":"203.0.113.9","dport":80}
@@ -242,29 +323,43 @@ explain 12 at 2: rejected; door balancer default/web/TCP has no endpoints
 /// don't.
 const AFFINITY: &str =
     r#"{"op":"config","node":"n1","nodeAddresses":["10.0.0.1"],"clusterCIDR":"10.244.0.0/16"}
-{"apiVersion":"v1","kind":"Service","metadata":{"name":"web"},"spec":{"clusterIP":"10.96.0.10","ports":[{"port":80,"targetPort":8080}],"sessionAffinity":"ClientIP"}}
-{"apiVersion":"discovery.k8s.io/v1","kind":"EndpointSlice","metadata":{"name":"web-x","labels":{"kubernetes.io/service-name":"web"}},"addressType":"IPv4","ports":[{"port":8080}],"endpoints":[{"addresses":["10.244.1.2"],"nodeName":"n1"},{"addresses":["10.244.2.3"],"nodeName":"n2"}]}
+{"apiVersion":"v1","kind":"Service","metadata":{"name":"web"},
+ "spec":{"clusterIP":"10.96.0.10","ports":[{"port":80,"targetPort":8080}],
+ "sessionAffinity":"ClientIP"}}
+{"apiVersion":"discovery.k8s.io/v1","kind":"EndpointSlice",
+ "metadata":{"name":"web-x","labels":{"kubernetes.io/service-name":"web"}},"addressType":"IPv4",
+ "ports":[{"port":8080}],"endpoints":[{"addresses":["10.244.1.2"],"nodeName":"n1"},
+ {"addresses":["10.244.2.3"],"nodeName":"n2"}]}
 {"op":"sync"}
 sync 1: events 2, written 4, removed 0
 {"op":"packet","src":"10.244.9.9","dst":"10.96.0.10","dport":80,"draws":[0],"now":100}
 packet 5 at 1: to 10.244.1.2:8080
 {"op":"explain","src":"10.244.9.9","dst":"10.96.0.10","dport":80,"draws":[],"now":10900}
-explain 6 at 1: to 10.244.1.2:8080; door cluster default/web/TCP list cluster size 2 by affinity place 1
+explain 6 at 1: to 10.244.1.2:8080;
+  door cluster default/web/TCP list cluster size 2 by affinity place 1
 {"op":"explain","src":"10.244.9.9","dst":"10.96.0.10","dport":80,"draws":[],"now":10901}
-explain 7 at 1: to 10.244.2.3:8080; door cluster default/web/TCP list cluster size 2 by draws place 2
+explain 7 at 1: to 10.244.2.3:8080;
+  door cluster default/web/TCP list cluster size 2 by draws place 2
 {"op":"packet","src":"10.244.9.9","dst":"10.96.0.10","dport":80,"draws":[],"now":10900}
 packet 8 at 1: to 10.244.1.2:8080
 {"op":"packet","src":"10.244.9.9","dst":"10.96.0.10","dport":80,"draws":[],"now":21701}
 packet 9 at 1: to 10.244.2.3:8080
 {"op":"explain","src":"10.244.9.9","dst":"10.96.0.10","dport":80,"draws":[],"now":21701}
-explain 10 at 1: to 10.244.2.3:8080; door cluster default/web/TCP list cluster size 2 by affinity place 2
+explain 10 at 1: to 10.244.2.3:8080;
+  door cluster default/web/TCP list cluster size 2 by affinity place 2
 "#;
 
 /// Three sources of one part of a recent list, which has room for two: the oldest is forgotten.
 const FULL_LIST: &str =
-    r#"{"op":"config","node":"n1","nodeAddresses":["10.0.0.1"],"clusterCIDR":"10.244.0.0/16","recentSize":2}
-{"apiVersion":"v1","kind":"Service","metadata":{"name":"web"},"spec":{"clusterIP":"10.96.0.10","ports":[{"port":80,"targetPort":8080}],"sessionAffinity":"ClientIP"}}
-{"apiVersion":"discovery.k8s.io/v1","kind":"EndpointSlice","metadata":{"name":"web-x","labels":{"kubernetes.io/service-name":"web"}},"addressType":"IPv4","ports":[{"port":8080}],"endpoints":[{"addresses":["10.244.1.2"],"nodeName":"n1"},{"addresses":["10.244.2.3"],"nodeName":"n2"}]}
+    r#"{"op":"config","node":"n1","nodeAddresses":["10.0.0.1"],"clusterCIDR":"10.244.0.0/16",
+ "recentSize":2}
+{"apiVersion":"v1","kind":"Service","metadata":{"name":"web"},
+ "spec":{"clusterIP":"10.96.0.10","ports":[{"port":80,"targetPort":8080}],
+ "sessionAffinity":"ClientIP"}}
+{"apiVersion":"discovery.k8s.io/v1","kind":"EndpointSlice",
+ "metadata":{"name":"web-x","labels":{"kubernetes.io/service-name":"web"}},"addressType":"IPv4",
+ "ports":[{"port":8080}],"endpoints":[{"addresses":["10.244.1.2"],"nodeName":"n1"},
+ {"addresses":["10.244.2.3"],"nodeName":"n2"}]}
 {"op":"sync"}
 sync 1: events 2, written 4, removed 0
 {"op":"packet","src":"10.244.9.1","dst":"10.96.0.10","dport":80,"draws":[0],"now":100}
@@ -281,9 +376,13 @@ packet 9 at 1: to 10.244.1.2:8080
 
 /// The chains on a packet's way to each rule that ends a traversal.
 const TRAILS: &str =
-    r#"{"op":"config","node":"n1","nodeAddresses":["10.0.0.1"],"clusterCIDR":"10.244.0.0/16","nameLength":0}
-{"apiVersion":"v1","kind":"Service","metadata":{"name":"web"},"spec":{"clusterIP":"10.96.0.10","ports":[{"port":80,"targetPort":8080}]}}
-{"apiVersion":"discovery.k8s.io/v1","kind":"EndpointSlice","metadata":{"name":"web-x","labels":{"kubernetes.io/service-name":"web"}},"addressType":"IPv4","ports":[{"port":8080}],"endpoints":[{"addresses":["10.244.1.2"],"nodeName":"n1"}]}
+    r#"{"op":"config","node":"n1","nodeAddresses":["10.0.0.1"],"clusterCIDR":"10.244.0.0/16",
+ "nameLength":0}
+{"apiVersion":"v1","kind":"Service","metadata":{"name":"web"},
+ "spec":{"clusterIP":"10.96.0.10","ports":[{"port":80,"targetPort":8080}]}}
+{"apiVersion":"discovery.k8s.io/v1","kind":"EndpointSlice",
+ "metadata":{"name":"web-x","labels":{"kubernetes.io/service-name":"web"}},"addressType":"IPv4",
+ "ports":[{"port":8080}],"endpoints":[{"addresses":["10.244.1.2"],"nodeName":"n1"}]}
 {"op":"sync"}
 sync 1: events 2, written 3, removed 0
 {"op":"packet","src":"10.244.9.9","dst":"10.96.0.10","dport":80,"draws":[],"trail":true}
@@ -291,14 +390,17 @@ packet 5 at 1: to 10.244.1.2:8080
 trail 5: PREROUTING KUBE-SERVICES KUBE-SVC- KUBE-SEP-
 {"op":"packet","src":"10.244.1.2","dst":"10.96.0.10","dport":80,"trail":true}
 packet 6 at 1: to 10.244.1.2:8080 masked
-trail 6: PREROUTING KUBE-SERVICES KUBE-SVC- KUBE-SEP-, FORWARD KUBE-FORWARD, POSTROUTING KUBE-POSTROUTING
+trail 6: PREROUTING KUBE-SERVICES KUBE-SVC- KUBE-SEP-, FORWARD KUBE-FORWARD,
+  POSTROUTING KUBE-POSTROUTING
 {"op":"packet","src":"10.0.0.1","dst":"10.96.0.10","dport":80,"from":"node","trail":true}
 packet 7 at 1: to 10.244.1.2:8080 masked
 trail 7: OUTPUT KUBE-SERVICES KUBE-SVC- KUBE-SEP-, POSTROUTING KUBE-POSTROUTING
 {"op":"packet","src":"10.244.9.9","dst":"10.96.0.10","dport":81,"trail":true}
 packet 8 at 1: left alone
 trail 8: none
-{"apiVersion":"discovery.k8s.io/v1","kind":"EndpointSlice","metadata":{"name":"web-x","labels":{"kubernetes.io/service-name":"web"}},"addressType":"IPv4","ports":[{"port":8080}],"endpoints":[]}
+{"apiVersion":"discovery.k8s.io/v1","kind":"EndpointSlice",
+ "metadata":{"name":"web-x","labels":{"kubernetes.io/service-name":"web"}},"addressType":"IPv4",
+ "ports":[{"port":8080}],"endpoints":[]}
 {"op":"sync"}
 sync 2: events 1, written 2, removed 2
 {"op":"packet","src":"10.244.9.9","dst":"10.96.0.10","dport":80,"trail":true}
@@ -311,25 +413,41 @@ trail 12: OUTPUT KUBE-SERVICES
 
 /// Two chains of one name: the sync is refused, and its events stay for the next one.
 const CLASHES: &str =
-    r#"{"op":"config","node":"n1","nodeAddresses":["10.0.0.1"],"clusterCIDR":"10.244.0.0/16","nameLength":0}
-{"apiVersion":"v1","kind":"Service","metadata":{"name":"web"},"spec":{"clusterIP":"10.96.0.10","ports":[{"port":80,"targetPort":8080}]}}
-{"apiVersion":"discovery.k8s.io/v1","kind":"EndpointSlice","metadata":{"name":"web-x","labels":{"kubernetes.io/service-name":"web"}},"addressType":"IPv4","ports":[{"port":8080}],"endpoints":[{"addresses":["10.244.1.2"],"nodeName":"n1"},{"addresses":["10.244.2.3"],"nodeName":"n2"}]}
+    r#"{"op":"config","node":"n1","nodeAddresses":["10.0.0.1"],"clusterCIDR":"10.244.0.0/16",
+ "nameLength":0}
+{"apiVersion":"v1","kind":"Service","metadata":{"name":"web"},
+ "spec":{"clusterIP":"10.96.0.10","ports":[{"port":80,"targetPort":8080}]}}
+{"apiVersion":"discovery.k8s.io/v1","kind":"EndpointSlice",
+ "metadata":{"name":"web-x","labels":{"kubernetes.io/service-name":"web"}},"addressType":"IPv4",
+ "ports":[{"port":8080}],"endpoints":[{"addresses":["10.244.1.2"],"nodeName":"n1"},
+ {"addresses":["10.244.2.3"],"nodeName":"n2"}]}
 {"op":"sync"}
-line 4: refused: chain name KUBE-SEP- of default/web/TCP 10.244.1.2:8080 and of default/web/TCP 10.244.2.3:8080
+line 4: refused: chain name KUBE-SEP- of default/web/TCP 10.244.1.2:8080
+  and of default/web/TCP 10.244.2.3:8080
 {"op":"packet","src":"10.244.9.9","dst":"10.96.0.10","dport":80}
 packet 5 at 0: left alone
-{"apiVersion":"discovery.k8s.io/v1","kind":"EndpointSlice","metadata":{"name":"web-x","labels":{"kubernetes.io/service-name":"web"}},"addressType":"IPv4","ports":[{"port":8080}],"endpoints":[{"addresses":["10.244.1.2"],"nodeName":"n1"}]}
+{"apiVersion":"discovery.k8s.io/v1","kind":"EndpointSlice",
+ "metadata":{"name":"web-x","labels":{"kubernetes.io/service-name":"web"}},"addressType":"IPv4",
+ "ports":[{"port":8080}],"endpoints":[{"addresses":["10.244.1.2"],"nodeName":"n1"}]}
 {"op":"sync"}
 sync 1: events 3, written 3, removed 0
-{"apiVersion":"discovery.k8s.io/v1","kind":"EndpointSlice","metadata":{"name":"web-x","labels":{"kubernetes.io/service-name":"web"}},"addressType":"IPv4","ports":[{"port":8080}],"endpoints":[{"addresses":["10.244.1.2"],"nodeName":"n1"},{"addresses":["10.244.2.3"],"nodeName":"n2"}]}
+{"apiVersion":"discovery.k8s.io/v1","kind":"EndpointSlice",
+ "metadata":{"name":"web-x","labels":{"kubernetes.io/service-name":"web"}},"addressType":"IPv4",
+ "ports":[{"port":8080}],"endpoints":[{"addresses":["10.244.1.2"],"nodeName":"n1"},
+ {"addresses":["10.244.2.3"],"nodeName":"n2"}]}
 {"op":"sync"}
-line 9: refused: chain name KUBE-SEP- of default/web/TCP 10.244.1.2:8080 and of default/web/TCP 10.244.2.3:8080
+line 9: refused: chain name KUBE-SEP- of default/web/TCP 10.244.1.2:8080
+  and of default/web/TCP 10.244.2.3:8080
 {"op":"packet","src":"10.244.9.9","dst":"10.96.0.10","dport":80}
 packet 10 at 1: to 10.244.1.2:8080
-{"apiVersion":"v1","kind":"Service","metadata":{"name":"web"},"spec":{"clusterIP":"10.96.0.10","ports":[{"port":81,"targetPort":8080}]}}
+{"apiVersion":"v1","kind":"Service","metadata":{"name":"web"},
+ "spec":{"clusterIP":"10.96.0.10","ports":[{"port":81,"targetPort":8080}]}}
 {"op":"sync"}
-line 12: refused: chain name KUBE-SEP- of default/web/TCP 10.244.1.2:8080 and of default/web/TCP 10.244.2.3:8080
-{"apiVersion":"discovery.k8s.io/v1","kind":"EndpointSlice","metadata":{"name":"web-x","labels":{"kubernetes.io/service-name":"web"}},"addressType":"IPv4","ports":[{"port":8080}],"endpoints":[{"addresses":["10.244.1.2"],"nodeName":"n1"}]}
+line 12: refused: chain name KUBE-SEP- of default/web/TCP 10.244.1.2:8080
+  and of default/web/TCP 10.244.2.3:8080
+{"apiVersion":"discovery.k8s.io/v1","kind":"EndpointSlice",
+ "metadata":{"name":"web-x","labels":{"kubernetes.io/service-name":"web"}},"addressType":"IPv4",
+ "ports":[{"port":8080}],"endpoints":[{"addresses":["10.244.1.2"],"nodeName":"n1"}]}
 {"op":"sync"}
 sync 2: events 3, written 2, removed 0
 {"op":"packet","src":"10.244.9.9","dst":"10.96.0.10","dport":80}
@@ -340,10 +458,21 @@ packet 16 at 2: to 10.244.1.2:8080
 sync 3: events 0, written 0, removed 0
 "#;
 
+/// The configuration that a transcript begins with.
+fn config_of(alloc: Global, transcript: &str) -> Result<Config, Fail> {
+    let line = transcript.lines().next().ok_or("a line")?;
+    match op_of(alloc, 1, line)? {
+        Op::Config(config) => Ok(config),
+        _ => Err(Fail::from("a configuration")),
+    }
+}
+
 /// What the table of a cluster and its decisions answer, and what a transcript says.
 fn by_tables(alloc: Global, transcript: &str) -> Result<(String, String), Fail> {
-    let mut cluster = new_cluster(alloc, default_config(alloc)?)?;
-    follow(alloc, &mut cluster, transcript)
+    let transcript = joined(alloc, transcript)?;
+    let config = config_of(alloc, transcript.as_str())?;
+    let mut cluster = new_cluster(alloc, config)?;
+    follow(alloc, &mut cluster, transcript.as_str())
 }
 
 fn check(rt: &impl Abort, alloc: Global, transcripts: &[&str]) -> Result<(), Fail> {

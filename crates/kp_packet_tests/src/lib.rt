@@ -10,6 +10,8 @@ mod doors;
 #[cfg(test)]
 mod draws;
 #[cfg(test)]
+mod store;
+#[cfg(test)]
 mod transcript;
 #[cfg(test)]
 mod walks;

@@ -11,6 +11,11 @@ pub trait Session {
     fn take(&mut self, alloc: Global, number: u64, op: Op, text: &mut String) -> Result<(), Fail>;
 }
 
+/// A transcript whose lines that begin with a space stand behind the line before.
+pub fn joined(alloc: Global, transcript: &str) -> Result<String, NoMemory> {
+    Ok(transcript.replace(alloc, "\n ", "")?)
+}
+
 /// What a session prints, and what its transcript says that it does. The lines of a transcript that
 /// begin with a brace are its script.
 pub fn follow<S: Session>(
@@ -33,7 +38,7 @@ pub fn follow<S: Session>(
 }
 
 /// What the line of this number asks for.
-fn op_of(alloc: Global, number: u64, line: &str) -> Result<Op, Fail> {
+pub fn op_of(alloc: Global, number: u64, line: &str) -> Result<Op, Fail> {
     match line_of(alloc, line.as_bytes(), number == 1, &mut Scratch::new(alloc)) {
         Ok(line) => Ok(line.op),
         Err(_) => Err(Fail::from("a line of a script")),

@@ -128,7 +128,7 @@ fn totals_are_printed(rt: HostRuntime) {
         written: 1,
         removed: 0,
     };
-    let line =
-        "gen: events 5, syncs 2, packets 16, to 0, rejected 16, dropped 0, left alone 0, written 1, removed 0\n";
+    let line = "gen: events 5, syncs 2, packets 16, to 0, rejected 16, dropped 0, \
+        left alone 0, written 1, removed 0\n";
     assert!(rt; is_line(&totals_text(rt.alloc(), &totals), line));
 }

@@ -2,7 +2,8 @@
 ghost use Rattle.std.specs.Prelude.{◌≡◌, true, IfOk};
 ghost use Rattle.kp_object_defs.specs.PackingLaws.{have_own_pods};
 
-use crate::objects::{NODE, OTHER, POD, SERVICE, node, pod, service};
+use crate::pod::{read_node, read_pod};
+use crate::service::read_service;
 use kp_base::{
     Address, Copied, Endpoint, Items, NoMemory, ObjectKey, PortKey, PortNo, Proto, Text,
 };
@@ -15,14 +16,30 @@ use kp_types::{Candidate, Lists, Packed, Slice, Wanted};
 use std::alloc::Global;
 use std::test::Fail;
 
+/// A Service with a node port, whose packets from outside stay on their node.
+const SERVICE: &str = r#"{"metadata":{"name":"web"},"spec":{
+ "type":"NodePort","externalTrafficPolicy":"Local","selector":{"app":"web"},
+ "ports":[{"name":"web","port":80,"targetPort":"http","nodePort":30080}]}}"#;
+
+/// A ready pod that the Service selects.
+const POD: &str = r#"{"metadata":{"name":"web-0","labels":{"app":"web"}},
+ "spec":{"nodeName":"n1","containers":[{"ports":[{"name":"http","containerPort":8080}]}]},
+ "status":{"podIP":"10.244.1.2","conditions":[{"type":"Ready","status":"True"}]}}"#;
+
+/// A pod that it doesn't select.
+const OTHER: &str = r#"{"metadata":{"name":"db-0","labels":{"app":"db"}}}"#;
+
+/// The node of the pod.
+const NODE: &str = r#"{"metadata":{"name":"n1","labels":{"topology.kubernetes.io/zone":"a"}}}"#;
+
 /// Whether a Service selects the pod of a text.
 fn is_selected(alloc: Global, service: &Service, text: &str) -> Result<bool, Fail> {
-    Ok(selects(service, &pod(alloc, text)?))
+    Ok(selects(service, &read_pod(alloc, text)?))
 }
 
 #[test]
 fn a_pod_is_selected_by_its_labels(rt: HostRuntime) -> Result<(), Fail> {
-    let web = service(rt.alloc(), SERVICE)?;
+    let web = read_service(rt.alloc(), SERVICE)?;
     assert!(rt; is_selected(rt.alloc(), &web, POD)?);
     assert!(rt; !is_selected(rt.alloc(), &web, OTHER)?);
     Ok(())
@@ -31,14 +48,14 @@ fn a_pod_is_selected_by_its_labels(rt: HostRuntime) -> Result<(), Fail> {
 /// The pod of a text as a list.
 fn pods(alloc: Global, text: &str) -> Result<Items<Pod>, Fail> {
     let mut pods = Vec::new(alloc);
-    pods.push(pod(alloc, text)?)?;
+    pods.push(read_pod(alloc, text)?)?;
     Ok(Items::from_vec(pods))
 }
 
 /// The node of a text as a list.
 fn nodes(alloc: Global, text: &str) -> Result<Items<Node>, Fail> {
     let mut nodes = Vec::new(alloc);
-    nodes.push(node(alloc, text)?)?;
+    nodes.push(read_node(alloc, text)?)?;
     Ok(Items::from_vec(nodes))
 }
 
@@ -69,7 +86,7 @@ fn has_port(endpoint: &Wanted) -> bool {
 
 #[test]
 fn a_pod_gives_an_endpoint(rt: HostRuntime) -> Result<(), Fail> {
-    let web = service(rt.alloc(), SERVICE)?;
+    let web = read_service(rt.alloc(), SERVICE)?;
     let found = wanted(rt.alloc(), &web)?;
     match found.as_slice().first() {
         Some(endpoint) => assert!(rt; is_of_pod(endpoint) && has_port(endpoint)),
@@ -105,7 +122,7 @@ fn is_packed(slices: &[Slice]) -> bool {
 
 #[test]
 fn packing_goes_on_from_its_slices(rt: HostRuntime) -> Result<(), Fail> {
-    let web = service(rt.alloc(), SERVICE)?;
+    let web = read_service(rt.alloc(), SERVICE)?;
     let packed = packed_twice(rt.alloc(), &web)?;
     assert!(rt; is_packed(packed.slices.as_slice()) && packed.slices.as_slice().len() == 1);
     assert!(rt; packed.created.as_slice().is_empty() && packed.updated.as_slice().is_empty());
@@ -140,10 +157,10 @@ fn found(alloc: Global, service: &Service, node: &str) -> Result<Items<Candidate
     Ok(found_on(alloc, &port, &wanted, node)?)
 }
 
-/// The lists of the Service's first port, on the node of this name.
+/// The lists of the Service's first port, on the node of this name, from copied candidates.
 fn lists(alloc: Global, service: &Service, node: &str) -> Result<Lists, Fail> {
     let port = service.ports.as_slice().first().ok_or("a port")?;
-    let found = found(alloc, service, node)?;
+    let found = found(alloc, service, node)?.copy(alloc)?;
     Ok(categorise(alloc, service, port, &found, None)?)
 }
 
@@ -157,7 +174,7 @@ fn is_pod(endpoints: &[Endpoint]) -> bool {
 
 #[test]
 fn a_pod_is_in_the_lists_of_its_node(rt: HostRuntime) -> Result<(), Fail> {
-    let web = service(rt.alloc(), SERVICE)?;
+    let web = read_service(rt.alloc(), SERVICE)?;
     let here = lists(rt.alloc(), &web, "n1")?;
     assert!(rt; here.has_any && is_pod(here.cluster.as_slice()) && is_pod(here.local.as_slice()));
     Ok(())
@@ -165,7 +182,7 @@ fn a_pod_is_in_the_lists_of_its_node(rt: HostRuntime) -> Result<(), Fail> {
 
 #[test]
 fn a_pod_elsewhere_is_in_no_local_list(rt: HostRuntime) -> Result<(), Fail> {
-    let web = service(rt.alloc(), SERVICE)?;
+    let web = read_service(rt.alloc(), SERVICE)?;
     let elsewhere = lists(rt.alloc(), &web, "n2")?;
     assert!(rt; is_pod(elsewhere.cluster.as_slice()) && elsewhere.local.as_slice().is_empty());
     Ok(())

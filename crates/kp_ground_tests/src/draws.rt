@@ -10,8 +10,9 @@ fn fractions_are_rounded(rt: HostRuntime) {
     assert_eq!(rt; probability_text(p).as_str(), "0.0004882812");
 }
 
-// The first two are of the key stream of ChaCha8 at an all-zero key and nonce. The others were computed
-// by the quarter rounds of RFC 8439, 2.1, which give that document's own vector at 20 rounds.
+// The first two are of the key stream of ChaCha8 at an all-zero key and nonce. The others were
+// computed by the quarter rounds of RFC 8439, 2.1, which give that document's own vector at 20
+// rounds.
 #[test]
 fn draws_of_a_seed_are_words_of_chacha8(rt: HostRuntime) {
     assert_eq!(rt; draw_of_seed(0, 0, 0), 0x2fef_003e >> 1);

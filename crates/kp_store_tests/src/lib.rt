@@ -1,5 +1,0 @@
-//! Tests of kp_store.
-#![tactic(auto)]
-
-#[cfg(test)]
-mod objects;
