@@ -7,8 +7,6 @@ use Rattle.kp_types.specs.declared.rule.Match.TheVariants as match
 use Rattle.kp_types.specs.declared.rule.Target.{Target}
 use Rattle.kp_types.specs.declared.rule.Target.TheVariants as target
 use Rattle.kp_types.specs.declared.rule.Rule.{Rule}
-use Rattle.kp_base.specs.declared.key.Endpoint.{Endpoint}
-use Rattle.kp_choice_defs.specs.AddressText.{host_text, address_text}
 use Rattle.kp_choice_defs.specs.Draws.{probability_text_of}
 use Rattle.kp_restore_defs.specs.RuleText.{joined, match_words, target_words, rule_line}
 use Rattle.kp_rule_text.specs.Lines.{spaced, match_text, target_text}
