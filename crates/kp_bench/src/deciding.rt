@@ -1,18 +1,18 @@
 //! Packets that are decided by the objects.
 ghost use Rattle.std.specs.Prelude.{◌≡◌, ◌<◌, ◌^◌};
 
-use crate::cluster::{config, packet_to, served};
+use crate::input::{config, objects, packet};
 use kp_decide::{Reason, decide};
 use kp_draws::DrawSource;
 use kp_recent::RecentLists;
 use std::alloc::Global;
 
-/// Decides a packet to the last of so many Services so often, and counts those that a door takes.
-pub fn decided(alloc: Global, size: u32, repeats: u32) -> Option<u64> {
-    let objects = served(alloc, size)?;
+/// Decides a packet so often by the objects of a cluster, and counts how often a door takes it.
+pub fn decided(alloc: Global, cluster: &[Vec<u8>], rest: &[Vec<u8>], repeats: u32) -> Option<u64> {
+    let objects = objects(alloc, cluster)?;
     let config = config(alloc)?;
+    let packet = packet(alloc, rest)?;
     let lists = RecentLists::new(alloc, 100).ok()?;
-    let packet = packet_to(alloc, size.saturating_sub(1))?;
     let draws = DrawSource::new(
         |_number: u64, _k: u32| -> u32
             ensures value { result ≡ 7 }

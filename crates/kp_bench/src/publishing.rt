@@ -1,4 +1,4 @@
-//! Batches of five edits, applied to a table and published.
+//! Batches that are applied to a table and published.
 ghost use Rattle.std.specs.Prelude.{◌≡◌, OnOk};
 ghost use Rattle.kp_bench.specs.Turning.{AreChanges, CanWalk, StandsAt};
 
@@ -12,8 +12,8 @@ use std::marker::Brand;
 use std::sync::Wait;
 
 /// Applies two batches so often, and counts those that the table has taken in.
-pub fn applied(alloc: Global, size: u32, repeats: u32) -> Option<u64> {
-    let turns = Turns::of(alloc, size)?;
+pub fn applied(alloc: Global, cluster: &[Vec<u8>], rest: &[Vec<u8>], repeats: u32) -> Option<u64> {
+    let turns = Turns::of(alloc, cluster, rest)?;
     let mut table = turns.first.copy(alloc).ok()?;
     for _ in 0..repeats {
         table.apply(&turns.there).ok()?;
@@ -23,8 +23,14 @@ pub fn applied(alloc: Global, size: u32, repeats: u32) -> Option<u64> {
 }
 
 /// Publishes two batches so often, and counts those that the last table has taken in.
-pub fn published<R: Wait>(rt: &R, alloc: Global, size: u32, repeats: u32) -> Option<u64> {
-    let turns = Turns::of(alloc, size)?;
+pub fn published<R: Wait>(
+    rt: &R,
+    alloc: Global,
+    cluster: &[Vec<u8>],
+    rest: &[Vec<u8>],
+    repeats: u32,
+) -> Option<u64> {
+    let turns = Turns::of(alloc, cluster, rest)?;
     published_from::<Brand, R>(rt, alloc, Opened::new(), &turns, repeats).ok()
 }
 
@@ -57,8 +63,22 @@ fn push_all<J: Publication, R: Wait>(
     requires { StandsAt J.start publisher.old turns.now.first.chains }
 {
     for _ in 0..repeats {
-        push(rt, alloc, publisher, &turns.there, &turns.first, &turns.second)?;
-        push(rt, alloc, publisher, &turns.back, &turns.second, &turns.first)?;
+        push(
+            rt,
+            alloc,
+            publisher,
+            &turns.there,
+            &turns.first,
+            &turns.second,
+        )?;
+        push(
+            rt,
+            alloc,
+            publisher,
+            &turns.back,
+            &turns.second,
+            &turns.first,
+        )?;
     }
     Ok(())
 }

@@ -2,15 +2,13 @@
 ghost use Rattle.std.specs.Prelude.{◌≡◌};
 ghost use Rattle.kp_bench.specs.Turning.{AreChanges, CanWalk};
 
-use arrayvec::ArrayVec;
-use kp_base::{Address, Cidr, Copied, Endpoint, Items, PortNo, Proto};
-use kp_rules::{Table, changed};
-use kp_top_chains::fixed_chains;
-use kp_types::{Batch, ChainAt, ChainName, Match, Rule, TableName, Target};
+use crate::input::{config, events, objects};
+use crate::tables::table_of;
+use kp_rules::{Batch, Table, changed};
 use kp_walker::can_walk;
 use std::alloc::Global;
 
-/// Two tables of endpoints' chains, of which five differ, and the edits there and back.
+/// Two tables that can be walked, and the edits there and back.
 #[derive(Drop)]
 pub struct Turns {
     pub first: Table,
@@ -25,14 +23,16 @@ pub struct Turns {
 }
 
 impl Turns {
-    /// Of so many endpoints.
-    pub fn of(alloc: Global, size: u32) -> Option<Turns> {
-        let first = endpoints_table(alloc, size)?;
-        let mut second = first.copy(alloc).ok()?;
-        for number in 0..5 {
-            second.put(place(alloc, number)?, Items::new(alloc)).ok()?;
+    /// The table of a cluster, and the one after the events of the rest.
+    pub fn of(alloc: Global, cluster: &[Vec<u8>], rest: &[Vec<u8>]) -> Option<Turns> {
+        let config = config(alloc)?;
+        let mut objects = objects(alloc, cluster)?;
+        let first = table_of(alloc, &objects, &config)?;
+        for event in events(alloc, rest)?.as_slice() {
+            objects.apply(alloc, event).ok()?;
         }
-        if first.syncs() != 0 || !can_walk(&first) || !can_walk(&second) {
+        let second = table_of(alloc, &objects, &config)?;
+        if !can_walk(&first) || !can_walk(&second) {
             return None;
         }
         let there = changed(alloc, &first, &second).ok()?;
@@ -44,45 +44,4 @@ impl Turns {
             back,
         })
     }
-}
-
-/// The place of an endpoint's chain.
-pub fn place(alloc: Global, number: u32) -> Option<ChainAt> {
-    let name = format!(in alloc; "KUBE-SEP-{number:016}").ok()?;
-    Some(ChainAt {
-        table: TableName::Nat,
-        chain: ChainName::of(name.as_str().as_bytes())?,
-    })
-}
-
-/// The table of no objects with so many endpoints' chains.
-fn endpoints_table(alloc: Global, size: u32) -> Option<Table> {
-    let mut table = fixed_chains(alloc).ok()?;
-    for number in 0..size {
-        table.put(place(alloc, number)?, endpoint_rules(alloc, number)?).ok()?;
-    }
-    Some(table)
-}
-
-/// The rules of an endpoint: its own packets are marked, and all go to it.
-fn endpoint_rules(alloc: Global, number: u32) -> Option<Items<Rule>> {
-    let address = Address::v4(0x0a00_0000 | number % 0x0100_0000);
-    let port = PortNo::new(8080)?;
-    let source = Match::Src {
-        range: Cidr::single(address),
-        not: false,
-    };
-    let proto = Match::Proto { proto: Proto::Tcp };
-    let rules = vec![in alloc;
-        rule(source, Target::Jump(ChainName::of(b"KUBE-MARK-MASQ")?)),
-        rule(proto, Target::Dnat(Endpoint { address, port })),
-    ];
-    Some(Items::from_vec(rules.ok()?))
-}
-
-/// A rule with one match.
-fn rule(matched: Match, target: Target) -> Rule {
-    let mut matches = ArrayVec::new();
-    matches.push(matched);
-    Rule::of(matches, target)
 }

@@ -1,28 +1,24 @@
 //! Packets that walk the table of the objects.
 ghost use Rattle.std.specs.Prelude.{◌≡◌, ◌<◌, ◌^◌};
 
-use crate::cluster::{config, packet_to, served};
-use kp_base::{Config, Steps};
+use crate::input::{config, objects, packet};
+use crate::tables::table_of;
 use kp_draws::DrawSource;
-use kp_full_table::rebuild;
 use kp_recent::RecentLists;
-use kp_rules::Table;
-use kp_store::Objects;
 use kp_types::{ChainAt, ChainName, TableName, Verdict};
 use kp_walker::{can_walk, verdict_of};
 use std::alloc::Global;
-use std::marker::Brand;
-use std::sync::ledger::{Blank, Ledger};
 
-/// Walks a packet to the last of so many Services so often, and counts those that go to an endpoint.
-pub fn walked(alloc: Global, size: u32, repeats: u32) -> Option<u64> {
+/// Walks a packet so often through the table of a cluster, and counts how often it goes to an
+/// endpoint.
+pub fn walked(alloc: Global, cluster: &[Vec<u8>], rest: &[Vec<u8>], repeats: u32) -> Option<u64> {
     let config = config(alloc)?;
-    let table = table_of(alloc, &served(alloc, size)?, &config)?;
+    let table = table_of(alloc, &objects(alloc, cluster)?, &config)?;
     if !can_walk(&table) {
         return None;
     }
+    let packet = packet(alloc, rest)?;
     let mut lists = RecentLists::new(alloc, 100).ok()?;
-    let packet = packet_to(alloc, size.saturating_sub(1))?;
     let draws = DrawSource::new(
         |_number: u64, _k: u32| -> u32
             ensures value { result ≡ 7 }
@@ -40,10 +36,15 @@ pub fn walked(alloc: Global, size: u32, repeats: u32) -> Option<u64> {
     Some(count)
 }
 
-/// Looks up so often which rule of KUBE-SERVICES may match that packet, and counts the places.
-pub fn looked_up(alloc: Global, size: u32, repeats: u32) -> Option<u64> {
-    let table = table_of(alloc, &served(alloc, size)?, &config(alloc)?)?;
-    let packet = packet_to(alloc, size.saturating_sub(1))?;
+/// Looks up so often which rule of KUBE-SERVICES may match a packet, and adds up the places.
+pub fn looked_up(
+    alloc: Global,
+    cluster: &[Vec<u8>],
+    rest: &[Vec<u8>],
+    repeats: u32,
+) -> Option<u64> {
+    let table = table_of(alloc, &objects(alloc, cluster)?, &config(alloc)?)?;
+    let packet = packet(alloc, rest)?;
     let at = ChainAt {
         table: TableName::Nat,
         chain: ChainName::of(b"KUBE-SERVICES")?,
@@ -54,26 +55,4 @@ pub fn looked_up(alloc: Global, size: u32, repeats: u32) -> Option<u64> {
         count = count.wrapping_add(place);
     }
     Some(count)
-}
-
-/// The full table of the objects.
-fn table_of(alloc: Global, objects: &Objects, config: &Config) -> Option<Table> {
-    uncounted::<Brand>(alloc, Blank::new(1), objects, config)
-}
-
-/// A rebuild whose steps nobody counts.
-fn uncounted<L: Ledger>(
-    alloc: Global,
-    blank: Blank,
-    objects: &Objects,
-    config: &Config,
-) -> Option<Table>
-    requires name { blank.name ≡ L.name }
-    requires parts { blank.parts ≡ L.parts }
-    requires some { 0 < blank.parts }
-{
-    let mut steps = Steps::<L>::new(blank);
-    let mut table = rebuild(alloc, objects, config, &mut steps).ok()?;
-    table.set_syncs(1);
-    Some(table)
 }

@@ -1,4 +1,4 @@
-use Rattle.kp_bench.proofs.walking.table_of.Given as goal
+use Rattle.kp_bench.proofs.tables.table_of.Given as goal
 
 -- the ledger is that of the blank
 abbrev pub ghosts-uncounted : goal.ghosts-uncounted
