@@ -1,5 +1,5 @@
 -- What one more sync adds.
-use Rattle.std.proofs.Common.{◌≡◌, ◌≤◌, ◌+◌, ◌-◌, ◌^◌, min, ℕ, suc, List, [], ◌∷◌, ◌++◌, take, length, sum, Some, None, refl, sym, ap, subst, ◌∙◌, arith, le_refl, Bool, true, false, ◌<◌, nat_lt}
+use Rattle.std.proofs.Common.{◌≡◌, ◌≤◌, ◌+◌, ◌-◌, ◌^◌, min, ℕ, suc, List, [], ◌∷◌, ◌++◌, take, length, sum, Option, Some, None, refl, sym, ap, subst, ◌∙◌, arith, le_refl, Bool, true, false, ◌<◌, nat_lt}
 use Rattle.std.proofs.lemmas.Bool.Decides.{nat_tests}
 use Rattle.std.proofs.lemmas.List.{take_all, take-append-le, length-map, length_push, map_push}
 use Rattle.std.proofs.lemmas.List.Sums.{sum_by_push}
@@ -10,7 +10,7 @@ use Rattle.kp_types.specs.declared.sync.SyncRecord.{SyncRecord}
 use Rattle.kp_object_defs.specs.Objects.{Objects, objects_after}
 use Rattle.kp_base.specs.declared.address.Family.TheVariants.{V4}
 use Rattle.kp_object_defs.specs.SlicesNow.{slices_now}
-use Rattle.kp_table_defs.specs.Edits.{ChangesLeadOver, SameRulesAreEqual, changes_between, table_after_batch}
+use Rattle.kp_table_defs.specs.Edits.{SameRulesAreEqual, changes_between}
 use Rattle.kp_table_defs.specs.Rebuild.{TableParts, clash_of, full_table}
 use Rattle.kp_types.specs.declared.packet.Packet.{Packet}
 use Rattle.kp_choice_defs.specs.Recent.{RecentParts}
@@ -18,7 +18,7 @@ use Rattle.kp_door_defs.specs.Decision.{decision_of}
 use Rattle.kp_decide.specs.Told.{told}
 use Rattle.kp_history_defs.specs.History.{chains_covered, objects_covered}
 use Rattle.kp_history_laws.specs.HistoryLaws.{all_covered, CoversRest, ExactByRecord}
-use Rattle.kp_plane.specs.Parts.{PlaneParts, HasExactHistory, setting_in, syncs_in, uncovered_in, objects_in, explained_in, table_in, chains_in, last_edits, batch_after, next_edits, synced}
+use Rattle.kp_plane.specs.Parts.{PlaneParts, HasExactHistory, setting_in, syncs_in, uncovered_in, objects_in, explained_in, table_in, chains_in, last_edits, batch_after, next_edits, next_chains, chains_or, synced}
 use Rattle.kp_plane.specs.Invariant.{IsAtPlace, IsHistory, IsPlane, IsSlicesAt}
 use Rattle.kp_plane.specs.declared.history.History.{History}
 use Rattle.kp_plane.specs.declared.place.ObjectsAt.{ObjectsAt}
@@ -79,34 +79,24 @@ module _ (p : PlaneParts) (h : HasExactHistory p) where
     });
   }
 
-  -- the batch leads to the next table
-  table_next : ChangesLeadOver → (t : TableParts) → t ≡ table_in p → syncs_in p + 1 ≤ 2 ^ 64 - 1 → table_after_batch t (next_edits p) ≡ table_in (synced p)
-  table_next lead t is few =
-      let longer = length_push p.counts (uncovered_in p) in
-      let one : min (syncs_in p + 1) (2 ^ 64 - 1) ≡ syncs_in (synced p) = omega arith in
-      ap (λ u. table_after_batch u (next_edits p)) is
-      ∙ (λ i. record {
-        chains = (lead (chains_in p) (full_table (setting_in p) (objects_after p.events)).chains ∙ ap (λ o. (full_table (setting_in p) o).chains) (sym objects_next)) i;
-        syncs = one i;
-      })
-
 -- a history after one more sync
-pub history_next : ExactByRecord → ChangesLeadOver → (p : PlaneParts) (before after : History) (covered : ℕ) (batch : Batch) → IsHistory p before → covered ≡ length p.events
+pub history_next : ExactByRecord → (p : PlaneParts) (before after : History) (covered : ℕ) (batch : Batch) (table : Option TableParts) → IsHistory p before → covered ≡ length p.events
     → clash_of (setting_in p) (objects_after p.events) ≡ None → batch.edits ≡ next_edits p
-    → length after.counts.items ≤ 2 ^ 64 - 1
+    → chains_or (chains_in p) table ≡ next_chains p
     → after.counts.items ≡ before.counts.items ++ (covered - before.covered) ∷ []
     → after.covered ≡ covered
-    → after.table ≡ table_after_batch before.table batch.edits
+    → after.table ≡ (record { chains = chains_or before.table.chains table; syncs = length after.counts.items })
     → after.last ≡ Some batch
     → IsHistory (synced p) after
-history_next goes_on lead p before after covered batch is all no_clash edits few counts covers table last =
+history_next goes_on p before after covered batch table is all no_clash edits leads counts covers made last =
     let counted : after.counts.items ≡ (synced p).counts = counts ∙ (λ i. is.counts i ++ (all i - is.covered i) ∷ []) in
-    let longer = length_push p.counts (uncovered_in p) in
-    let fits : length (synced p).counts ≤ 2 ^ 64 - 1 = subst (λ c. length c ≤ 2 ^ 64 - 1) counted few in
+    let chains : chains_or before.table.chains table ≡ chains_in (synced p) =
+    ap (λ (t : TableParts). chains_or t.chains table) is.table ∙ leads
+    ∙ ap (λ o. (full_table (setting_in p) o).chains) (sym (objects_next p is.exact)) in
     record {
       counts = counted;
       covered = covers ∙ all ∙ sym (all_counted p is.exact);
-      table = table ∙ ap (table_after_batch before.table) edits ∙ table_next p is.exact lead before.table is.table (omega arith);
+      table = made ∙ (λ i. record { chains = chains i; syncs = length (counted i) });
       last = last ∙ ap (λ es. Some (record { edits = es })) (edits ∙ sym (last_is_next p is.exact)) ∙ sym (some_batch p.counts (uncovered_in p) (last_edits (synced p)));
       exact = exact_next p is.exact goes_on no_clash;
       no_clash = ap (clash_of (setting_in p)) (objects_next p is.exact) ∙ no_clash;
@@ -196,6 +186,11 @@ no_edits same p h is none =
     ap (λ o. changes_between (chains_in p) (full_table (setting_in p) o).chains) (sym (nothing_new p h is none))
     ∙ no_changes same (chains_in p)
 
+-- and so do its chains
+pub same_chains : (p q : PlaneParts) → p ≡ q → (h : History) → IsHistory p h → length p.events ≡ h.covered → chains_in q ≡ next_chains q
+same_chains p q same h is none =
+    subst (λ r. chains_in r ≡ next_chains r) same (ap (λ o. (full_table (setting_in p) o).chains) (nothing_new p h is none))
+
 -- a clash of all objects, by equal parts
 pub same_clash : (p q : PlaneParts) → p ≡ q → (o : Objects) → o ≡ objects_after p.events → clash_of (setting_in p) o ≡ clash_of (setting_in q) (objects_after q.events)
 same_clash p q same o is = ap (clash_of (setting_in p)) is ∙ ap (λ r. clash_of (setting_in r) (objects_after r.events)) same
@@ -206,6 +201,11 @@ made_edits p q same t u o old full is =
     (λ i. changes_between (old i).chains (full i).chains)
     ∙ ap (λ o. changes_between (chains_in p) (full_table (setting_in p) o).chains) is
     ∙ ap next_edits same
+
+-- and the chains of that table
+pub made_chains : (p q : PlaneParts) → p ≡ q → (u : TableParts) (o : Objects) → u ≡ full_table (setting_in p) o → o ≡ objects_after p.events → u.chains ≡ next_chains q
+made_chains p q same u o full is =
+    ap (λ (t : TableParts). t.chains) full ∙ ap (λ o. (full_table (setting_in p) o).chains) is ∙ ap next_chains same
 
 -- the decision on the objects that the last sync covers
 pub same_decision : (p q : PlaneParts) → p ≡ q → (o : Objects) → o ≡ objects_in p → (packet : Packet) (drawn : ℕ → ℕ) (lists : RecentParts)

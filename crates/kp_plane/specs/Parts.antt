@@ -91,10 +91,18 @@ with_events p more = record p { events = p.events ++ more }
 abbrev pub synced : PlaneParts → PlaneParts
 synced p = record p { counts = p.counts ++ uncovered_in p ∷ [] }
 
+-- the chains of the full table of all events' objects
+abbrev pub next_chains : PlaneParts → Chains
+next_chains p = (full_table (setting_in p) (objects_after p.events)).chains
+
 -- the edits of that sync
 abbrev pub next_edits : PlaneParts → List Edit
-next_edits p =
-    changes_between (chains_in p) (full_table (setting_in p) (objects_after p.events)).chains
+next_edits p = changes_between (chains_in p) (next_chains p)
+
+-- the chains of a table that was made, or these where none was
+abbrev pub chains_or : Chains → Option TableParts → Chains
+chains_or chains None = chains
+chains_or chains (Some t) = t.chains
 
 -- The record of that sync: it covers all events, has the next number, and leads to the full table
 -- of all objects, which have no clash.

@@ -1,5 +1,6 @@
 //! The syncs so far.
-ghost use Rattle.std.specs.Prelude.{◌<◌, ◌^◌, length};
+ghost use Rattle.std.specs.Prelude.{◌≡◌};
+ghost use Rattle.kp_plane.specs.Parts.{chains_or};
 
 use kp_base::NoMemory;
 use kp_rules::Table;
@@ -24,7 +25,7 @@ impl History {
     ghost use Rattle.kp_object_defs.specs.Objects.{objects_after};
     ghost use Rattle.kp_table_defs.specs.Rebuild.{clash_of};
     ghost use Rattle.kp_plane.specs.Invariant.{IsHistory};
-    ghost use Rattle.kp_plane.specs.Parts.{PlaneParts, next_edits, setting_in, synced};
+    ghost use Rattle.kp_plane.specs.Parts.{PlaneParts, chains_in, chains_or, next_chains, next_edits, setting_in, synced};
 
     /// Before the first sync.
     pub(crate) fn new(alloc: Global) -> Result<History, NoMemory>
@@ -40,33 +41,42 @@ impl History {
         })
     }
 
-    /// Makes the batch of a sync, after which so many events are covered. Where memory is out, all
-    /// stays.
-    pub(crate) fn record(&mut self, covered: u64, batch: Batch) -> Result<(), NoMemory>
+    /// Keeps the batch of a sync, after which so many events are covered, and the table that it leads
+    /// to, where that isn't the one that stands. Where memory is out, all stays.
+    pub(crate) fn record(
+        &mut self,
+        covered: u64,
+        batch: Batch,
+        table: Option<Table>,
+    ) -> Result<(), NoMemory>
         requires { self.old.covered ≤ covered }
         ensures ok { (p : PlaneParts) → IsHistory p self.old → covered ≡ length p.events
             → clash_of (setting_in p) (objects_after p.events) ≡ None
-            → batch.edits ≡ next_edits p → OnOk result (IsHistory (synced p) self.new) }
+            → batch.edits ≡ next_edits p → chains_or (chains_in p) table ≡ next_chains p
+            → OnOk result (IsHistory (synced p) self.new) }
         ensures err { (p : PlaneParts) → IsHistory p self.old
             → OnErr result (IsHistory p self.new) }
     {
         kp_history_laws::exact_histories();
-        kp_rules::laws::changes_lead_over();
         self.counts.push(covered - self.covered)?;
-        fits_memory(self.counts.as_slice());
-        if let Err(refused) = self.table.apply(&batch) {
-            let _ = self.counts.pop();
-            return Err(refused);
-        }
+        let syncs = self.counts.as_slice().len() as u64;
+        take_over(&mut self.table, table, syncs);
         self.covered = covered;
         self.last = Some(batch);
         Ok(())
     }
 }
 
-/// A list in memory has less than 2^64 elements.
-fn fits_memory<T>(items: &[T])
-    ensures { length items.now < 2 ^ 64 }
+/// Puts a table, if there is one, in place of the one that stands, and counts the batches.
+fn take_over(table: &mut Table, next: Option<Table>, syncs: u64)
+    ensures { table.new ≡ record { chains = chains_or table.old.chains next; syncs = syncs } }
 {
-    items.len();
+    match next {
+        None => table.set_syncs(syncs),
+        Some(next) => {
+            *table = next;
+            table.link();
+            table.set_syncs(syncs);
+        }
+    }
 }

@@ -164,10 +164,10 @@ impl Plane {
             (clash_of (setting_in self.old) (objects_after self.old.events))) }
         ensures err { OnErr result (self.new ≡ self.old) }
     {
-        let batch = self.next_batch(alloc, steps)?;
+        let (batch, table) = self.next_batch(alloc, steps)?;
         let copy = batch.copy(alloc)?;
         let events = self.uncovered();
-        self.keep(batch)?;
+        self.keep(batch, table)?;
         Ok(SyncRecord {
             sync: self.syncs(),
             events,
@@ -190,10 +190,10 @@ impl Plane {
             (clash_of (setting_in self.old) (objects_after self.old.events))) }
         ensures err { OnErr result (self.new ≡ self.old) }
     {
-        let batch = self.next_batch(alloc, steps)?;
+        let (batch, table) = self.next_batch(alloc, steps)?;
         let (written, removed) = counts(batch.edits.as_slice());
         let events = self.uncovered();
-        self.keep(batch)?;
+        self.keep(batch, table)?;
         Ok(SyncNote {
             sync: self.syncs(),
             events,
@@ -343,14 +343,16 @@ impl Plane {
         self.journal.events().len() as u64 - self.history.covered
     }
 
-    /// The batch that leads to the full table of all events' objects. Where no event came since the
-    /// last sync it is empty, and nothing is looked at.
+    /// The batch that leads to the full table of all events' objects, and that table. Where no event
+    /// came since the last sync the batch is empty, and nothing is looked at or made.
     fn next_batch<L: Ledger>(
         &mut self,
         alloc: Global,
         steps: &mut Steps<L>,
-    ) -> Result<Batch, TableFault>
-        ensures batch { IfOk result (λ b. b.edits ≡ parts.next_edits self.old) }
+    ) -> Result<(Batch, Option<Table>), TableFault>
+        ensures batch { IfOk result (λ (b, _). b.edits ≡ parts.next_edits self.old) }
+        ensures table { IfOk result (λ (_, t).
+            parts.chains_or (parts.chains_in self.old) t ≡ parts.next_chains self.old) }
         ensures no_clash { OnOk result (
             clash_of (setting_in self.old) (objects_after self.old.events) ≡ None) }
         ensures clash { IfErr result (TellsClash
@@ -360,28 +362,31 @@ impl Plane {
         kp_rules::laws::same_rules_are_equal();
         let events = self.journal.events();
         if events.len() as u64 == self.history.covered {
-            return Ok(Batch {
+            let batch = Batch {
                 edits: Items::new(alloc),
-            });
+            };
+            return Ok((batch, None));
         }
         self.latest.advance(alloc, events, events.len())?;
         let table = match rebuild(alloc, &self.latest.objects, &self.config, steps) {
             Ok(table) => table,
             Err(fault) => return Err(fault),
         };
-        Ok(changed(alloc, &self.history.table, &table)?)
+        let batch = changed(alloc, &self.history.table, &table)?;
+        Ok((batch, Some(table)))
     }
 
-    /// Makes the batch of a sync of all events.
-    fn keep(&mut self, batch: Batch) -> Result<(), NoMemory>
+    /// Keeps the batch of a sync of all events, and the table that it leads to.
+    fn keep(&mut self, batch: Batch, table: Option<Table>) -> Result<(), NoMemory>
         requires edits { batch.edits ≡ parts.next_edits self.old }
+        requires table { parts.chains_or (parts.chains_in self.old) table ≡ parts.next_chains self.old }
         requires no_clash { clash_of (setting_in self.old) (objects_after self.old.events) ≡ None }
         ensures last { parts.last_edits (parts.synced self.old) ≡ parts.next_edits self.old }
         ensures ok { OnOk result (self.new ≡ parts.synced self.old) }
         ensures err { OnErr result (self.new ≡ self.old) }
     {
         let covered = self.journal.events().len() as u64;
-        self.history.record(covered, batch)
+        self.history.record(covered, batch, table)
     }
 }
 

@@ -48,6 +48,7 @@ impl Chain {
     pub(crate) fn of(alloc: Global, rules: Items<Rule>) -> Result<Chain, NoMemory>
         ensures { IfOk result (λ chain. chain ≡ rules) }
     {
+        let rules = fitted(rules);
         let keyed = keyed_places(alloc, rules.as_slice())?;
         let others = other_places(alloc, rules.as_slice())?;
         let limits = limits_of(alloc, rules.as_slice())?;
@@ -123,6 +124,15 @@ impl Chain {
     {
         set(&mut self.jumps, place, slot);
     }
+}
+
+/// The same rules, with no room for more.
+fn fitted(rules: Items<Rule>) -> Items<Rule>
+    ensures { result ≡ rules }
+{
+    let mut rules = rules.into_vec();
+    rules.shrink_to_fit();
+    Items::from_vec(rules)
 }
 
 /// For each rule, that it isn't known where it jumps to.

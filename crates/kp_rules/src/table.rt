@@ -149,7 +149,7 @@ impl Table {
     }
 
     /// Writes a chain, in place of its old rules where there is one, and leaves the count. Until a
-    /// batch writes it or the count is set, a walk looks for what it jumps to by name.
+    /// batch writes it or the table is linked, a walk looks for what it jumps to by name.
     pub fn put(&mut self, at: ChainAt, rules: Items<Rule>) -> Result<(), NoMemory>
         ensures ok { OnOk result (self.new
             ≡ record self.old { chains = finite.insert self.old.chains at rules }) }
@@ -161,13 +161,19 @@ impl Table {
         Ok(())
     }
 
-    /// Sets how many batches were applied, and finds where all jumps lead, so that no walk hashes a
-    /// name at them. It takes no memory.
+    /// Sets how many batches were applied.
     pub fn set_syncs(&mut self, syncs: u64)
         ensures { self.new ≡ record self.old { syncs = syncs } }
     {
-        self.chains.link_all();
         self.syncs = syncs;
+    }
+
+    /// Finds where all jumps of the table lead, so that no walk hashes a name at them. It looks at
+    /// each rule, and takes no memory.
+    pub fn link(&mut self)
+        ensures { self.new ≡ self.old }
+    {
+        self.chains.link_all();
     }
 
     /// Makes the edits of a batch, in their order, and counts it.

@@ -1,12 +1,13 @@
-use Rattle.std.proofs.Common.{rules, ◌≡◌, ◌≤◌, ◌<◌, ◌-◌, ◌^◌, length, ◌++◌, ◌∷◌, [], Some, refl, subst, arith}
+use Rattle.std.proofs.Common.{rules, ◌≡◌, ◌-◌, ◌++◌, ◌∷◌, [], length, Some, refl, ◌∙◌}
 use Rattle.kp_plane.specs.declared.history.History.{History}
+use Rattle.kp_plane.specs.Parts.{chains_or}
 use Rattle.kp_plane.proofs.Synced.{history_next}
 use Rattle.kp_plane.proofs.history.History.record.Goals as goal
 
 pub returns-clause-ok : goal.returns-clause-ok
-returns-clause-ok c = λ p is all no_clash edits.
-    let after : History = record { counts = c.push.new.self; covered = c.args.covered; table = c.apply.new.self; last = Some c.args.batch } in
-    let memory : length c.push.new.self.items < 2 ^ 64 = subst (λ xs. length xs < 2 ^ 64) c.as_slice.ensures.value c.fits_memory.ensures in
-    let few : length c.push.new.self.items ≤ 2 ^ 64 - 1 = omega arith in
+returns-clause-ok c = λ p is all no_clash edits leads.
+    let after : History = record { counts = c.push.new.self; covered = c.args.covered; table = c.take_over.new.table; last = Some c.args.batch } in
     let pushed : c.push.new.self.items ≡ c.args.self.now.counts.items ++ (c.args.covered - c.args.self.now.covered) ∷ [] = search rules in
-    history_next c.exact_histories.ensures.by_record c.changes_lead_over.ensures p c.args.self.now after c.args.covered c.args.batch is all no_clash edits few pushed refl c.in_default.ensures.ok refl
+    let made : c.take_over.new.table ≡ (record { chains = chains_or c.args.self.now.table.chains c.args.table; syncs = length c.push.new.self.items }) =
+    c.take_over.ensures ∙ (λ i. record { chains = chains_or c.args.self.now.table.chains c.args.table; syncs = length (c.as_slice.ensures.value i) }) in
+    history_next c.exact_histories.ensures.by_record p c.args.self.now after c.args.covered c.args.batch c.args.table is all no_clash edits leads pushed refl made refl

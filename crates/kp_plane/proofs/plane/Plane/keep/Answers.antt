@@ -3,7 +3,7 @@ use Rattle.std.proofs.lemmas.Result.{on_ok_weaker, on_err_weaker}
 use Rattle.kp_store.proofs.OwnObjects.{either_way}
 use Rattle.kp_object_defs.specs.Objects.{objects_after}
 use Rattle.kp_table_defs.specs.Rebuild.{clash_of}
-use Rattle.kp_plane.specs.Parts.{PlaneParts, setting_in, last_edits, next_edits, synced}
+use Rattle.kp_plane.specs.Parts.{PlaneParts, chains_in, chains_or, next_chains, setting_in, last_edits, next_edits, synced}
 use Rattle.kp_plane.proofs.Synced.{last_is_next, plane_next, plane_kept}
 use Rattle.kp_plane.proofs.plane.Plane.keep.Goals as goal
 
@@ -13,7 +13,8 @@ invariant_of-self c =
     let is = c.self.invariant in
     let edits = c.requires.edits ∙ ap next_edits (sym c.self.view_is) in
     let no_clash = subst (λ q. clash_of (setting_in q) (objects_after q.events) ≡ None) (sym c.self.view_is) c.requires.no_clash in
-    either_way c.record.result (c.record.ensures.ok p is.history (ap length c.events.ensures) no_clash edits) (c.record.ensures.err p is.history)
+    let leads = subst (λ q. chains_or (chains_in q) c.args.table ≡ next_chains q) (sym c.self.view_is) c.requires.table in
+    either_way c.record.result (c.record.ensures.ok p is.history (ap length c.events.ensures) no_clash edits leads) (c.record.ensures.err p is.history)
     (plane_next p c.self.inside.journal.most c.self.inside.history c.record.new.self c.self.inside.latest c.self.inside.explained c.self.inside.slices is)
     (plane_kept p c.self.inside.journal.most c.self.inside.history c.record.new.self c.self.inside.latest c.self.inside.explained c.self.inside.slices is)
 
@@ -28,8 +29,9 @@ returns-clause-ok c =
     let is = c.self.invariant in
     let edits = c.requires.edits ∙ ap next_edits (sym c.self.view_is) in
     let no_clash = subst (λ q. clash_of (setting_in q) (objects_after q.events) ≡ None) (sym c.self.view_is) c.requires.no_clash in
+    let leads = subst (λ q. chains_or (chains_in q) c.args.table ≡ next_chains q) (sym c.self.view_is) c.requires.table in
     on_ok_weaker c.record.result (λ next. ap (λ (counts : List ℕ). record p { counts = counts }) next.counts ∙ ap synced c.self.view_is)
-    (c.record.ensures.ok p is.history (ap length c.events.ensures) no_clash edits)
+    (c.record.ensures.ok p is.history (ap length c.events.ensures) no_clash edits leads)
 
 pub returns-clause-err : goal.returns-clause-err
 returns-clause-err c =

@@ -2,7 +2,7 @@ use Rattle.std.proofs.Common.{length, sym, ap, subst, ◌∙◌}
 use Rattle.kp_object_defs.specs.Objects.{objects_after}
 use Rattle.kp_full_table.specs.Faults.{TellsClash}
 use Rattle.kp_plane.specs.Parts.{PlaneParts, objects_in, next_edits}
-use Rattle.kp_plane.proofs.Synced.{at_end, made_edits, no_edits, nothing_new, same_clash}
+use Rattle.kp_plane.proofs.Synced.{at_end, made_chains, made_edits, no_edits, nothing_new, same_chains, same_clash}
 use Rattle.kp_plane.proofs.plane.Plane.next_batch.Goals as goal
 
 pub returns-then-events-self-clause-batch : goal.returns-then-events-self-clause-batch
@@ -20,11 +20,23 @@ returns-then-events-self-clause-no_clash g c =
     sym (same_clash p c.args.self.now c.self.view_is (objects_in p) (nothing_new p c.self.inside.history c.self.invariant.history none))
     ∙ c.self.invariant.history.no_clash
 
+pub returns-then-events-self-clause-table : goal.returns-then-events-self-clause-table
+returns-then-events-self-clause-table g c =
+    let p : PlaneParts = record { config = c.self.inside.config; events = c.self.inside.journal.events; counts = c.self.inside.history.counts.items } in
+    let none = ap length (sym c.events-events.ensures) ∙ c.if-events-self.true in
+    same_chains p c.args.self.now c.self.view_is c.self.inside.history c.self.invariant.history none
+
+pub returns-clause-table : goal.returns-clause-table
+returns-clause-table g c =
+    let p : PlaneParts = record { config = c.self.inside.config; events = c.self.inside.journal.events; counts = c.self.inside.history.counts.items } in
+    let all = at_end c.events-events.result.now c.advance.new.self c.advance.ensures.place c.in_ok-advance.ensures.ok ∙ ap objects_after c.events-events.ensures in
+    made_chains p c.args.self.now c.self.view_is c.in-Ok.table c.advance.new.self.objects c.in-Ok.ensures.full all
+
 pub returns-clause-batch : goal.returns-clause-batch
 returns-clause-batch g c =
     let p : PlaneParts = record { config = c.self.inside.config; events = c.self.inside.journal.events; counts = c.self.inside.history.counts.items } in
     let all = at_end c.events-events.result.now c.advance.new.self c.advance.ensures.place c.in_ok-advance.ensures.ok ∙ ap objects_after c.events-events.ensures in
-    c.in_ok-changed.ensures
+    c.in_ok-batch.ensures
     ∙ made_edits p c.args.self.now c.self.view_is c.self.inside.history.table c.in-Ok.table c.advance.new.self.objects c.self.invariant.history.table c.in-Ok.ensures.full all
 
 pub returns-clause-no_clash : goal.returns-clause-no_clash
