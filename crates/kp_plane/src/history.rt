@@ -25,7 +25,8 @@ impl History {
     ghost use Rattle.kp_object_defs.specs.Objects.{objects_after};
     ghost use Rattle.kp_table_defs.specs.Rebuild.{clash_of};
     ghost use Rattle.kp_plane.specs.Invariant.{IsHistory};
-    ghost use Rattle.kp_plane.specs.Parts.{PlaneParts, chains_in, chains_or, next_chains, next_edits, setting_in, synced};
+    ghost use Rattle.kp_plane.specs.Parts.{PlaneParts, chains_in, chains_or, next_chains};
+    ghost use Rattle.kp_plane.specs.Parts.{next_edits, setting_in, synced};
 
     /// Before the first sync.
     pub(crate) fn new(alloc: Global) -> Result<History, NoMemory>
@@ -41,8 +42,8 @@ impl History {
         })
     }
 
-    /// Keeps the batch of a sync, after which so many events are covered, and the table that it leads
-    /// to, where that isn't the one that stands. Where memory is out, all stays.
+    /// Keeps the batch of a sync, after which so many events are covered, and the table that it
+    /// leads to, where that isn't the one that stands. Where memory is out, all stays.
     pub(crate) fn record(
         &mut self,
         covered: u64,

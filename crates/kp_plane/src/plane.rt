@@ -379,7 +379,8 @@ impl Plane {
     /// Keeps the batch of a sync of all events, and the table that it leads to.
     fn keep(&mut self, batch: Batch, table: Option<Table>) -> Result<(), NoMemory>
         requires edits { batch.edits ≡ parts.next_edits self.old }
-        requires table { parts.chains_or (parts.chains_in self.old) table ≡ parts.next_chains self.old }
+        requires table { parts.chains_or (parts.chains_in self.old) table
+            ≡ parts.next_chains self.old }
         requires no_clash { clash_of (setting_in self.old) (objects_after self.old.events) ≡ None }
         ensures last { parts.last_edits (parts.synced self.old) ≡ parts.next_edits self.old }
         ensures ok { OnOk result (self.new ≡ parts.synced self.old) }
