@@ -1,13 +1,12 @@
 -- Hashed names are names that chains may have.
-use Rattle.std.proofs.Common.{◌≡◌, ℕ, suc, zero, ◌+◌, ◌*◌, ◌/◌, ◌^◌, ◌%◌, ◌<◌, ◌≤◌, ◌&&◌, true, not, nat_le, List, [], ◌∷◌, ◌++◌, map, take, length, codes, refl, arith, length-append, lit<, lit≤}
-use Rattle.std.specs.List.{list_all, list_any}
-use Rattle.std.specs.Str.{bytes_eq}
-use Rattle.std.proofs.lemmas.Bool.{and_from, and_parts}
+use Rattle.std.proofs.Common.{◌≡◌, ℕ, ◌+◌, ◌≤◌, ◌&&◌, true, nat_le, List, [], ◌∷◌, ◌++◌, length, codes, refl, arith, length-append, lit≤}
+use Rattle.std.specs.List.{list_all}
+use Rattle.std.proofs.lemmas.Bool.{and_from}
 use Rattle.std.proofs.lemmas.Bool.Decides.{nat_tests}
 use Rattle.std.proofs.lemmas.List.{length-take}
 use Rattle.sha2.specs.Sha256.{sha256}
 use Rattle.kp_lemmas.proofs.ListFacts.{test_append, test_take}
-use Rattle.kp_types.specs.Chains.{is_chain_byte, is_chain_name, target_words}
+use Rattle.kp_types.specs.Chains.{is_chain_byte, is_chain_name}
 use Rattle.kp_types.specs.declared.chain.ChainKey.{ChainKey}
 use Rattle.kp_types.specs.declared.chain.ChainKey.TheVariants.{Port, Sep}
 use Rattle.kp_types.specs.declared.chain.PortChain.TheVariants.{Svc, Svl, Ext, Fw}

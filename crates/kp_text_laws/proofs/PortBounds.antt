@@ -9,7 +9,7 @@ use Rattle.std.proofs.lemmas.Bool.{and_from, and_parts}
 use Rattle.std.proofs.lemmas.List.Elements.{Contains-append_cases}
 use Rattle.std.proofs.lemmas.Option.{same_Some}
 use Rattle.kp_lemmas.proofs.Entries.{entries_found}
-use Rattle.kp_lemmas.proofs.Members.{first_in, later_in, none_in, in_cases, all_from, from_all, from_filter, from_filter_map, from_flat_map, from_map, from_reverse}
+use Rattle.kp_lemmas.proofs.Members.{none_in, in_cases, all_from, from_all, from_filter, from_filter_map, from_flat_map, from_map, from_reverse}
 use Rattle.kp_lemmas.proofs.Options.{from_option_map, from_and_then}
 use Rattle.kp_base.specs.Keys.{key_cmp, endpoint_cmp, port_key_cmp}
 use Rattle.kp_base.specs.Net.{AddressParts, RangeParts, same_address, same_family, width}
@@ -39,7 +39,7 @@ use Rattle.kp_types.specs.declared.slice.Wanted.{Wanted}
 use Rattle.kp_object_defs.specs.Desired.{is_external_name, is_reconciled, address_in, desired_endpoints_of, desired_of, entry_of, resolved_port, resolved_ports, selects, target_number, with_ports}
 use Rattle.kp_object_defs.specs.Entries.{candidate_at, candidate_of, candidates_from, entries_from, is_of_service, is_type_of, number_at, number_if, slice_candidates, slices_of, sources_of, unmanaged, wanted_candidate}
 use Rattle.kp_object_defs.specs.Objects.{Objects, zone_of}
-use Rattle.kp_object_defs.specs.Order.{by_key, first_places, in_order}
+use Rattle.kp_object_defs.specs.Order.{by_key, in_order}
 use Rattle.kp_object_defs.specs.PortInfo.{PortInfo, address_at, addresses_in, cluster_address_in, has_balancer, has_node_port, info_from, info_of, is_reachable_in, name_of_port, port_key_of, ports_of, ranges_in, restriction_in, same_range, service_ports}
 use Rattle.kp_object_laws.specs.ListLaws.{AreAmong, is_usable, local}
 use Rattle.kp_object_laws.proofs.FirstPlaces.{from_places}

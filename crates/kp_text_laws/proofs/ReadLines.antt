@@ -4,6 +4,7 @@ use Rattle.std.specs.List.{fold}
 use Rattle.std.proofs.lemmas.List.Elements.{Contains-append_cases}
 use Rattle.serde_json.specs.Find.{as_object}
 use Rattle.kp_lemmas.proofs.Members.{none_in}
+use Rattle.kp_lemmas.proofs.Options.{from_and_then}
 use Rattle.kp_json.specs.Places.{Place, member_at, needed_at, text_at}
 use Rattle.kp_json.specs.declared.fault.BadField.{BadField}
 use Rattle.kp_types.specs.declared.chain.Clash.{Clash}
@@ -27,7 +28,6 @@ use Rattle.kp_run_defs.specs.ReplayText.{Progress, Standing, after_line, at_star
 use Rattle.kp_text_laws.specs.Bounds.{AreBoundedEvents, IsBoundedConfig, is_bounded_range}
 use Rattle.kp_text_laws.specs.BoundLaws.{ReadIsBounded}
 use Rattle.kp_text_laws.specs.ShownLaws.{ConfigIsBounded, IsBoundedOp, IsBoundedStanding, LinesAreBounded, ReplaysAreBounded}
-use Rattle.kp_text_laws.proofs.PortBounds.{from_and_then}
 use Rattle.kp_text_laws.proofs.ReadAddresses.{some_from, text_range}
 use Rattle.kp_text_laws.proofs.ReadObjects.{read_by}
 
