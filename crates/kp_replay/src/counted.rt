@@ -64,7 +64,7 @@ impl Replay {
     {
         let first = self.fresh;
         self.fresh = false;
-        match line_of(alloc, bytes, first, &mut self.scratch) {
+        match line_of(alloc, bytes, first) {
             Ok(line) => self.count_op(alloc, number, line.op, text, totals),
             Err(ScriptFault::Refused(refusal)) => self.refuse(alloc, number, &refusal, text),
             Err(ScriptFault::NoMemory) => Err(NoMemory),
