@@ -1,5 +1,5 @@
 -- The draws of a plain line.
-use Rattle.std.proofs.Common.{◌≡◌, ◌+◌, ◌≤◌, ◌<◌, ◌^◌, ℕ, suc, List, [], ◌∷◌, length, map, codes, cond, false, nat_lt, Option, Some, None, refl, sym, ap, ap₂, ◌∙◌, le-leb, le-ltb, arith}
+use Rattle.std.proofs.Common.{◌≡◌, ◌+◌, ◌≤◌, ◌<◌, ◌^◌, ℕ, suc, List, [], ◌∷◌, length, map, codes, cond, false, nat_lt, Some, None, refl, sym, ap, ap₂, ◌∙◌, le-leb, le-ltb, arith}
 use Rattle.std.proofs.Math.Dec.{lit≤}
 use Rattle.std.proofs.lemmas.List.Elements.{All-head, All-tail}
 use Rattle.std.specs.List.{enumerate_from, All}

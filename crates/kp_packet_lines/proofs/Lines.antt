@@ -1,24 +1,13 @@
 -- A plain line of a packet, as the definition of a script line reads it.
-use Rattle.std.proofs.Common.{◌≡◌, ℕ, List, [], Bool, true, codes, bytes_eq, Option, Some, None, Ok, IsUtf8, refl, sym, ap, ◌∙◌}
-use Rattle.std.proofs.lemmas.Slice.Eq.{bytes_eq-Decides}
+use Rattle.std.proofs.Common.{◌≡◌, ℕ, List, [], Bool, Option, Some, None, Ok, IsUtf8, sym, ap, ◌∙◌}
 use Rattle.std.proofs.lemmas.Str.{is_utf8-from_IsUtf8}
 use Rattle.std.specs.Prelude.{cond, IfSome}
-use Rattle.std.specs.Str.{is_utf8}
-use Rattle.serde_json.specs.Data.{Data, Members, object, string}
-use Rattle.serde_json.specs.Find.{get_member}
+use Rattle.serde_json.specs.Data.{Data}
 use Rattle.serde_json.specs.Read.{read}
-use Rattle.kp_json.specs.Places.{member_at, member_place}
-use Rattle.kp_row_defs.specs.Rows.{rows_fault, unless_fault}
 use Rattle.kp_text_defs.specs.JsonText.{json_of}
-use Rattle.kp_text_defs.specs.PacketText.{packet_line_from, packet_rows, read_packet}
-use Rattle.kp_text_defs.specs.ScriptLines.{◌>>=◌, as_op, line_of, of_members, op_at, op_named, or_refusal, read_script, read_stream, with_stream}
+use Rattle.kp_text_defs.specs.ScriptLines.{◌>>=◌, line_of, or_refusal, read_script}
 use Rattle.kp_text_defs.specs.declared.line_refusal.LineRefusal.TheVariants.{BadJson}
-use Rattle.kp_text_defs.specs.declared.packet.PacketLine.{PacketLine}
-use Rattle.kp_text_defs.specs.declared.script.Op.{Op}
-use Rattle.kp_text_defs.specs.declared.script.Op.TheVariants as op
 use Rattle.kp_text_defs.specs.declared.script.ScriptLine.{ScriptLine}
-use Rattle.kp_text_defs.specs.declared.stream.Stream.TheVariants.{Main}
-use Rattle.kp_packet_lines.specs.Taken.{object_place}
 
 -- text that is read
 pub json_read : (bs : List ℕ) (d : Data) → IsUtf8 bs → read bs ≡ Some d → json_of bs ≡ Some d

@@ -21,7 +21,9 @@ pub(crate) fn listed_draws(object: PlainObject<'_>) -> Option<Option<LowNumbers>
 {
     match object.into_member("draws") {
         None => Some(None),
-        Some(Plain::Numbers(list)) if list.numbers.as_slice().len() <= MAX_DRAWS => Some(Some(list)),
+        Some(Plain::Numbers(list)) if list.numbers.as_slice().len() <= MAX_DRAWS => Some(Some(
+            list,
+        )),
         Some(_) => None,
     }
 }

@@ -27,21 +27,14 @@ pub(crate) fn text_field<'a>(object: &PlainObject<'a>, name: &str) -> Option<Opt
 }
 
 /// A whole number within bounds, or nothing where no member has the name.
-fn whole_field(
-    object: &PlainObject<'_>,
-    name: &str,
-    least: u64,
-    most: u64,
-) -> Option<Option<u64>>
+fn whole_field(object: &PlainObject<'_>, name: &str, least: u64, most: u64) -> Option<Option<u64>>
     ensures number { Takes (λ n. n) result
         (field_fault name.now optional (whole least most) (place_of object.now))
         (whole_in name.now (place_of object.now)) }
 {
     match object.member(name) {
         None => Some(None),
-        Some(Plain::Whole(number)) if least <= *number && *number <= most => {
-            Some(Some(*number))
-        }
+        Some(Plain::Whole(number)) if least <= *number && *number <= most => { Some(Some(*number)) }
         Some(_) => None,
     }
 }

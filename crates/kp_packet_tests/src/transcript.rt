@@ -1,7 +1,7 @@
 //! Transcripts: the lines of a script, and behind each line what it prints.
 use kp_base::NoMemory;
 use kp_print::push;
-use kp_script::{Op, Scratch, line_of};
+use kp_script::{Op, line_of};
 use std::alloc::Global;
 use std::test::Fail;
 
@@ -39,7 +39,7 @@ pub fn follow<S: Session>(
 
 /// What the line of this number asks for.
 pub fn op_of(alloc: Global, number: u64, line: &str) -> Result<Op, Fail> {
-    match line_of(alloc, line.as_bytes(), number == 1, &mut Scratch::new(alloc)) {
+    match line_of(alloc, line.as_bytes(), number == 1) {
         Ok(line) => Ok(line.op),
         Err(_) => Err(Fail::from("a line of a script")),
     }

@@ -8,7 +8,7 @@ use Rattle.json.specs.Json as json
 use Rattle.json.specs.Token.{Token}
 use Rattle.json.specs.Lex.{tokens}
 use Rattle.json.proofs.Grammar.{items_end, items_more, members_end, members_more, value_is, value-begin_array, value-begin_object}
-use Rattle.serde_json.specs.Data.{Data, Items, Members, no_members, no_items, item, put, array, object, number, string, boolean, unsigned}
+use Rattle.serde_json.specs.Data.{Data, Items, Members, no_members, item, put, array, object, number, string, boolean, unsigned}
 use Rattle.serde_json.specs.Read.{of_json, of_items, of_members, number_of, number_from, is_integer, read}
 use Rattle.kp_plain_json.specs.Plain.{whole_items}
 use Rattle.kp_plain_json.specs.Reading.{BeginsWith, HasItems, HasMembers}

@@ -37,10 +37,7 @@ pub fn plain_object<'a>(
 }
 
 /// The members up to the brace that closes their object.
-fn members_here<'a>(
-    alloc: Global,
-    reader: &mut Reader<'a>,
-) -> Option<Vec<(&'a str, Plain<'a>)>>
+fn members_here<'a>(alloc: Global, reader: &mut Reader<'a>) -> Option<Vec<(&'a str, Plain<'a>)>>
     ensures { IfSome result (λ v. HasMembers reader.old (members_of v.items) reader.new) }
 {
     let mut members = Vec::with_capacity(alloc, MEMBERS).ok()?;

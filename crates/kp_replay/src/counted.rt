@@ -11,7 +11,7 @@ use crate::syncs::sync_uncounted;
 use crate::totals::{add_packet, add_sync};
 use kp_base::NoMemory;
 use kp_plane::TableFault;
-use kp_script::{LineRefusal, Op, PacketLine, ScriptFault, line_of};
+use kp_script::{LineRefusal, Op, PacketLine, ScriptFault, line_with};
 use kp_text_defs::Totals;
 use std::alloc::Global;
 use std::marker::Brand;
@@ -64,7 +64,7 @@ impl Replay {
     {
         let first = self.fresh;
         self.fresh = false;
-        match line_of(alloc, bytes, first, &mut self.scratch) {
+        match line_with(alloc, bytes, first, &mut self.scratch) {
             Ok(line) => self.count_op(alloc, number, line.op, text, totals),
             Err(ScriptFault::Refused(refusal)) => self.refuse(alloc, number, &refusal, text),
             Err(ScriptFault::NoMemory) => Err(NoMemory),

@@ -7,7 +7,7 @@ use kp_base::{Config, Items, NoMemory};
 use kp_plane::{JournalFault, Plane};
 use kp_recent::RecentLists;
 use kp_report::push_refusal;
-use kp_script::{LineRefusal, Op, Scratch, ScriptFault, default_config, line_of};
+use kp_script::{LineRefusal, Op, Scratch, ScriptFault, default_config, line_with};
 use kp_types::Event;
 use std::alloc::Global;
 
@@ -20,7 +20,7 @@ pub struct Replay {
     pub(crate) plane: Plane,
     pub(crate) lists: RecentLists,
     pub(crate) refused: bool,
-    /// What lines are read with.
+    /// What lines are read with, one after another.
     pub(crate) scratch: Scratch,
 }
 
@@ -97,7 +97,7 @@ impl Replay {
     {
         let first = self.fresh;
         self.fresh = false;
-        match line_of(alloc, bytes, first, &mut self.scratch) {
+        match line_with(alloc, bytes, first, &mut self.scratch) {
             Ok(line) => self.take_op(alloc, number, line.op, text),
             Err(ScriptFault::Refused(refusal)) => self.refuse(alloc, number, &refusal, text),
             Err(ScriptFault::NoMemory) => Err(NoMemory),

@@ -11,4 +11,4 @@ pub use config::default_config;
 pub use fault::ScriptFault;
 pub use kp_packet_lines::Scratch;
 pub use kp_text_defs::{Draws, LineRefusal, Op, PacketLine, ScriptLine, Shown, Stream};
-pub use script::line_of;
+pub use script::{line_of, line_with};

@@ -23,9 +23,17 @@ use kp_packet_lines::{Scratch, packet_line};
 use kp_text_defs::{LineRefusal, Op, ScriptLine, Shown};
 use std::alloc::Global;
 
-/// Reads a line that isn't blank. It may be the first of a script or a later one. The scratch is kept
-/// from line to line, and no line makes it larger than some 32 KB.
-pub fn line_of(
+/// Reads a line that isn't blank. It may be the first of a script or a later one.
+pub fn line_of(alloc: Global, bytes: &[u8], first: bool) -> Result<ScriptLine, ScriptFault>
+    ensures { GivesScript (λ line. line) result (line_of bytes.now first) }
+{
+    let tree = tree_of(alloc, bytes)?;
+    script_of(alloc, &tree.root(), first)
+}
+
+/// The same with memory that is kept from line to line, so that a plain packet line is read without
+/// a tree. No line makes the scratch larger than some 32 KB.
+pub fn line_with(
     alloc: Global,
     bytes: &[u8],
     first: bool,
@@ -35,16 +43,8 @@ pub fn line_of(
 {
     match packet_line(alloc, bytes, scratch) {
         Some(line) => Ok(line),
-        None => line_by_tree(alloc, bytes, first),
+        None => line_of(alloc, bytes, first),
     }
-}
-
-/// The same by the tree of the whole line, which serves each kind of line.
-fn line_by_tree(alloc: Global, bytes: &[u8], first: bool) -> Result<ScriptLine, ScriptFault>
-    ensures { GivesScript (λ line. line) result (line_of bytes.now first) }
-{
-    let tree = tree_of(alloc, bytes)?;
-    script_of(alloc, &tree.root(), first)
 }
 
 fn tree_of(alloc: Global, bytes: &[u8]) -> Result<Tree, ScriptFault>

@@ -3,7 +3,7 @@ use kp_base::{Address, Config, PortNo, Proto, Text};
 use kp_json::{BadField, Why};
 use kp_script::{
     Draws, LineRefusal, Op, PacketLine, Scratch, ScriptFault, ScriptLine, Shown, default_config,
-    line_of,
+    line_of, line_with,
 };
 use kp_types::{Origin, Packet};
 use std::alloc::Global;
@@ -86,13 +86,14 @@ fn is_answer(answer: &Result<ScriptLine, ScriptFault>, wanted: &str) -> bool {
 
 /// What a line is read as.
 fn read(alloc: Global, line: &str, first: bool) -> Result<ScriptLine, ScriptFault> {
-    line_of(alloc, line.as_bytes(), first, &mut Scratch::new(alloc))
+    line_with(alloc, line.as_bytes(), first, &mut Scratch::new(alloc))
 }
 
-/// Whether the line of a row is read as it says behind the arrow.
+/// Whether the line of a row is read as it says behind the arrow, with a scratch and without.
 fn is_row_read(alloc: Global, row: &str, first: bool) -> Result<bool, Fail> {
     let (line, wanted) = row.split_once(" => ").ok_or("an arrow")?;
-    Ok(is_answer(&read(alloc, line, first), wanted))
+    let by_tree = line_of(alloc, line.as_bytes(), first);
+    Ok(is_answer(&by_tree, wanted) && is_answer(&read(alloc, line, first), wanted))
 }
 
 /// The form of lines, their streams and their commands.
@@ -239,7 +240,7 @@ fn configurations_are_read(rt: HostRuntime) -> Result<(), Fail> {
 }
 
 /// Whether a line of this command with a row's members is read as the row says behind the arrow,
-/// with a scratch that earlier lines were read with. A line with a null is read as it is without.
+/// with a scratch that earlier lines were read with and without one.
 fn are_members_read(
     alloc: Global,
     op: &str,
@@ -247,19 +248,25 @@ fn are_members_read(
     scratch: &mut Scratch,
 ) -> Result<bool, Fail> {
     let (members, wanted) = row.split_once(" => ").ok_or("an arrow")?;
+    let line = format!(in alloc; "{{\"op\":\"{op}\",{members}}}")?;
     let wanted = if wanted == "packet" { op } else { wanted };
-    let plain = format!(in alloc; "{{\"op\":\"{op}\",{members}}}")?;
-    let with_null = format!(in alloc; "{{\"op\":\"{op}\",\"by\":null,{members}}}")?;
-    let quick = is_answer(&line_of(alloc, plain.as_bytes(), false, scratch), wanted);
-    Ok(quick && is_answer(&line_of(alloc, with_null.as_bytes(), false, scratch), wanted))
+    let quick = line_with(alloc, line.as_bytes(), false, scratch);
+    let by_tree = line_of(alloc, line.as_bytes(), false);
+    Ok(is_answer(&quick, wanted) && is_answer(&by_tree, wanted))
 }
 
 #[test]
 fn packets_are_read(rt: HostRuntime) -> Result<(), Fail> {
     let mut scratch = Scratch::new(rt.alloc());
     for row in MEMBERS.lines() {
-        assert!(rt; are_members_read(rt.alloc(), "packet", row, &mut scratch)?, "{row}");
-        assert!(rt; are_members_read(rt.alloc(), "explain", row, &mut scratch)?, "{row}");
+        assert!(rt;
+            are_members_read(rt.alloc(), "packet", row, &mut scratch)?,
+            "{row}"
+        );
+        assert!(rt;
+            are_members_read(rt.alloc(), "explain", row, &mut scratch)?,
+            "{row}"
+        );
     }
     Ok(())
 }

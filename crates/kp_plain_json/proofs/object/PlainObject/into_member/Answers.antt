@@ -1,4 +1,4 @@
-use Rattle.std.proofs.Common.{◌≡◌, [], ◌∷◌, ◌++◌, Bool, true, false, bytes_eq, sym, ap, ◌∙◌, arith}
+use Rattle.std.proofs.Common.{◌≡◌, [], ◌∷◌, ◌++◌, true, false, bytes_eq, sym, ap, ◌∙◌, arith}
 use Rattle.serde_json.specs.Find.{get_member}
 use Rattle.kp_plain_json.specs.Plain.{members_of}
 use Rattle.kp_plain_json.proofs.Members.{found_last, found_before}
