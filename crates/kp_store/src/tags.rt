@@ -9,12 +9,13 @@ use kp_base::{Address, Copied, Items, NoMemory, ObjectKey, Pair, PortNo, Proto, 
 use kp_types::{ClusterAddress, Pod, Service, ServicePort, Slice};
 use std::alloc::Global;
 
-/// A label in a namespace, which a pod has or a Service selects by.
+/// A label in a namespace, which a pod has or a Service selects by. Labels are in order of their
+/// values first, in which most differ, so that a look-up seldom compares more than one text.
 #[derive(PartialEq, Eq, PartialOrd, Ord, Drop)]
 pub struct Label {
-    pub namespace: Text,
-    pub key: Text,
     pub value: Text,
+    pub key: Text,
+    pub namespace: Text,
 }
 
 /// What a Service is found by.
