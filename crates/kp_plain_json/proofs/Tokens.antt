@@ -1,5 +1,5 @@
 -- The values that tokens begin with, a turn at a time.
-use Rattle.std.proofs.Common.{◌≡◌, ℕ, ◌+◌, ◌-◌, ◌^◌, ◌<◌, ◌≤◌, ◌==◌, true, false, get_or, lt-ltb, eq-eqb, List, [], ◌∷◌, ◌++◌, length, Bool, Option, Some, None, option_map, option_and_then, unwrap_or, Result, Ok, Err, refl, sym, subst, ap, ◌∙◌, arith}
+use Rattle.std.proofs.Common.{◌≡◌, ℕ, ◌-◌, ◌^◌, ◌<◌, ◌≤◌, ◌==◌, true, false, get_or, lt-ltb, eq-eqb, List, [], ◌∷◌, ◌++◌, length, Bool, Option, Some, None, option_map, option_and_then, unwrap_or, Result, Ok, Err, refl, sym, subst, ap, ◌∙◌, arith}
 use Rattle.std.specs.Option.{SomeIff}
 use Rattle.std.specs.Prelude.{IfOk, IfSome, MatchResult}
 use Rattle.std.specs.Result.{result_ok}

@@ -1,6 +1,6 @@
 //! Plain objects: JSON objects (RFC 8259) of texts, whole numbers, truth values and lists of small
 //! whole numbers.
-ghost use Rattle.std.specs.Prelude.{◌≡◌, option_map};
+ghost use Rattle.std.specs.Prelude.{◌≡◌, bytes_eq, option_map};
 ghost use Rattle.serde_json.specs.Find.{get_member};
 ghost use Rattle.kp_plain_json.specs.Plain.{members_in, plain_data};
 
@@ -31,7 +31,7 @@ impl<'a> PlainObject<'a> {
         while left > 0 {
             left -= 1;
             let member = &self.members[left];
-            if member.0 == name {
+            if is_text(member.0, name) {
                 return Some(&member.1);
             }
         }
@@ -44,10 +44,17 @@ impl<'a> PlainObject<'a> {
     {
         let mut members = self.members;
         'members: while let Some(member) = members.pop() {
-            if member.0 == name {
+            if is_text(member.0, name) {
                 return Some(member.1);
             }
         }
         None
     }
+}
+
+/// Whether two texts are the same. Most names differ in their lengths.
+fn is_text(one: &str, other: &str) -> bool
+    ensures { result ≡ bytes_eq one.now other.now }
+{
+    one.len() == other.len() && one == other
 }

@@ -4,16 +4,16 @@ use Rattle.kp_plain_json.specs.Plain.{members_of}
 use Rattle.kp_plain_json.proofs.Members.{found_last, found_before}
 use Rattle.kp_plain_json.proofs.object.PlainObject.into_member.Goals as goal
 
-pub returns-then-eq : goal.returns-then-eq
-returns-then-eq c =
+pub returns-then-is_text : goal.returns-then-is_text
+returns-then-is_text c =
     let name = c.args.name.now in
     let m = c.in-Some.member in
     let items : c.members.members.items ≡ c.pop.new.self.items ++ m ∷ [] = c.in-Some.ensures.items in
     let same : bytes_eq m.0.now name ≡ true = grind arith in
     sym (c.members.invariant ∙ ap (λ ms. get_member name (members_of ms)) items ∙ found_last c.pop.new.self.items m name same)
 
-pub members-preserved-else-eq : goal.members-preserved-else-eq
-members-preserved-else-eq c =
+pub members-preserved-else-is_text : goal.members-preserved-else-is_text
+members-preserved-else-is_text c =
     let name = c.args.name.now in
     let m = c.in-Some.member in
     let items : c.members.members.items ≡ c.pop.new.self.items ++ m ∷ [] = c.in-Some.ensures.items in

@@ -5,8 +5,8 @@ use Rattle.kp_plain_json.specs.Plain.{members_of}
 use Rattle.kp_plain_json.proofs.Members.{found_last, found_before}
 use Rattle.kp_plain_json.proofs.object.PlainObject.member.Goals as goal
 
-pub returns-then-eq : goal.returns-then-eq
-returns-then-eq c =
+pub returns-then-is_text : goal.returns-then-is_text
+returns-then-is_text c =
     let xs = c.args.self.now.members.items in
     let i = c.loop-left.left - 1 in
     let m = c.index-member.result.now in
