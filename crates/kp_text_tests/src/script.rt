@@ -30,8 +30,8 @@ fn script(alloc: Global) -> Result<String, NoMemory> {
     Ok(text)
 }
 
-/// Lines of the script behind their numbers, of each part some. A line that begins with a space goes
-/// on with the line before.
+/// Lines of the script behind their numbers, of each part some. A line that begins with a space
+/// goes on with the line before.
 const LINES: &str =
     r#"1 {"op":"config","node":"n1","nodeAddresses":["10.0.0.1"],"clusterCIDR":"10.244.0.0/16"}
 2 {"apiVersion":"v1","kind":"Node",
