@@ -120,12 +120,12 @@ EndsRead old new =
 -- What holds of each status: where the run read its input to its end and wrote all, the whole text was written
 -- and flushed, whether a line was refused is told, and no read or write has failed; else a front of that text was
 -- written, and where reading stopped the run, it is the text of the lines that were read to their end, flushed. A
--- fault of a read or a write is told only where the count of faults rose, and an input that is too long only where
--- it is. Want of memory is free.
+-- fault of a read or a write is told only where the count of faults rose, an input that is too long only where it
+-- is, and want of memory, which is free else, only where no read or write has failed.
 abbrev pub Ends : Status → Outside → Outside → Type 0
 Ends Done old new = EndsWhole false old new
 Ends LinesRefused old new = EndsWhole true old new
-Ends NoMemory old new = EndsFront old new
+Ends NoMemory old new = EndsFront old new × IsSure old new
 Ends Usage old new = ⊥
 Ends ReadFault old new =
     Rose old.input.faults new.input.faults × EndsFront old new × EndsRead old new
@@ -159,11 +159,12 @@ abbrev pub EndsPrinted : List ℕ → Output → Output → Type 0
 EndsPrinted line old new = Grows old.written new.written line × IsOut new × (new.faults ≡ old.faults)
 
 -- how a run ends that writes one line: it was written and flushed, and whether a line of the script was refused is
--- told, or a write failed or memory was wanted behind a front of it
+-- told, or a write failed, or memory was wanted and no write failed, behind a front of it
 abbrev pub EndsLine : Bool → List ℕ → Status → Output → Output → Type 0
 EndsLine refused line Done old new = (refused ≡ false) × EndsPrinted line old new
 EndsLine refused line LinesRefused old new = (refused ≡ true) × EndsPrinted line old new
-EndsLine refused line NoMemory old new = GrowsFront old.written new.written line
+EndsLine refused line NoMemory old new =
+    GrowsFront old.written new.written line × (new.faults ≡ old.faults)
 EndsLine refused line Usage old new = ⊥
 EndsLine refused line ReadFault old new = ⊥
 EndsLine refused line WriteFault old new =

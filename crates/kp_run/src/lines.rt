@@ -43,6 +43,8 @@ fn replay_all<S: Source, K: Sink>(alloc: Global, source: &mut S, sink: &mut K) -
     ensures read_later { S.faults source.old ≤ S.faults source.new }
     ensures write { result ≡ Err Stop.Write → Rose (K.faults sink.old) (K.faults sink.new) }
     ensures read { result ≡ Err Stop.Read → Rose (S.faults source.old) (S.faults source.new) }
+    ensures memory { result ≡ Err Stop.NoMemory → (S.faults source.new ≡ S.faults source.old)
+        × (K.faults sink.new ≡ K.faults sink.old) }
     ensures long { result ≡ Err Stop.InputTooLong → outcome.IsTooLong (S.left source.old) }
     ensures ended_read { result ≡ Err Stop.Read → outcome.WritesRead
         (S.left source.old) (S.left source.new) (K.written sink.old) (K.written sink.new) }
@@ -91,6 +93,8 @@ fn replay_lines<S: Source, K: Sink>(
     ensures read_later { S.faults source.old ≤ S.faults source.new }
     ensures write { result ≡ Err Stop.Write → Rose (K.faults sink.old) (K.faults sink.new) }
     ensures read { result ≡ Err Stop.Read → Rose (S.faults source.old) (S.faults source.new) }
+    ensures memory { result ≡ Err Stop.NoMemory → (S.faults source.new ≡ S.faults source.old)
+        × (K.faults sink.new ≡ K.faults sink.old) }
     ensures long { result ≡ Err Stop.InputTooLong → outcome.IsTooLong (S.left source.old) }
     ensures ended_read { result ≡ Err Stop.Read → outcome.WritesRead
         (S.left source.old) (S.left source.new) (K.written sink.old) (K.written sink.new) }
@@ -132,6 +136,7 @@ fn replay_line<K: Sink>(
     ensures later { K.faults sink.old ≤ K.faults sink.new }
     ensures sure { OnOk result (K.faults sink.new ≡ K.faults sink.old) }
     ensures write { result ≡ Err Stop.Write → Rose (K.faults sink.old) (K.faults sink.new) }
+    ensures memory { result ≡ Err Stop.NoMemory → K.faults sink.new ≡ K.faults sink.old }
     ensures read { result ≡ Err Stop.Read → ⊥ }
     ensures long { result ≡ Err Stop.InputTooLong → ⊥ }
 {
@@ -158,6 +163,7 @@ fn replay_long_line<K: Sink>(
     ensures later { K.faults sink.old ≤ K.faults sink.new }
     ensures sure { OnOk result (K.faults sink.new ≡ K.faults sink.old) }
     ensures write { result ≡ Err Stop.Write → Rose (K.faults sink.old) (K.faults sink.new) }
+    ensures memory { result ≡ Err Stop.NoMemory → K.faults sink.new ≡ K.faults sink.old }
     ensures read { result ≡ Err Stop.Read → ⊥ }
     ensures long { result ≡ Err Stop.InputTooLong → ⊥ }
 {

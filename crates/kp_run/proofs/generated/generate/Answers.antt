@@ -1,4 +1,4 @@
-use Rattle.std.proofs.Common.{subst}
+use Rattle.std.proofs.Common.{subst, refl}
 use Rattle.kp_run_defs.specs.GenText.{gen_text}
 use Rattle.kp_text_defs.specs.Live.{totals_text}
 use Rattle.kp_run.specs.Outcome.{EndsLine, sink_of}
@@ -11,4 +11,4 @@ returns-in-Ok g c =
     c.in-Ok.ensures c.write_sums.ensures
 
 pub returns-in-Err : goal.returns-in-Err
-returns-in-Err g c = none_written (gen_text c.args.plan) (g.K.Sink.written c.args.sink.now)
+returns-in-Err g c = (none_written (gen_text c.args.plan) (g.K.Sink.written c.args.sink.now), refl)

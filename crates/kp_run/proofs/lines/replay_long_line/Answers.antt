@@ -3,7 +3,7 @@ use Rattle.std.specs.Prelude.{None}
 use Rattle.kp_io.specs.Told.{Grows}
 use Rattle.kp_replay.specs.Steps.{standing_of, given_line}
 use Rattle.kp_replay.proofs.OkLemmas.{on_ok}
-use Rattle.kp_run.specs.declared.ending.Stop.TheVariants.{Read, InputTooLong}
+use Rattle.kp_run.specs.declared.ending.Stop.TheVariants.{NoMemory, Read, InputTooLong}
 use Rattle.kp_run.proofs.ComeLemmas.{front_as}
 use Rattle.kp_run.proofs.EndLemmas.{none_written}
 use Rattle.kp_run.proofs.lines.replay_long_line.Goals as goal
@@ -33,6 +33,9 @@ returns-in-Ok-clause-sure g c = c.write_text.ensures.sure
 
 pub returns-in-Ok-clause-write : goal.returns-in-Ok-clause-write
 returns-in-Ok-clause-write g c = c.write_text.ensures.write
+
+pub returns-in-Ok-clause-memory : goal.returns-in-Ok-clause-memory
+returns-in-Ok-clause-memory g c = λ stopped. let other = c.write_text.ensures.other NoMemory stopped in absurd (cc)
 
 pub returns-in-Ok-clause-read : goal.returns-in-Ok-clause-read
 returns-in-Ok-clause-read g c = λ stopped. let other = c.write_text.ensures.other Read stopped in absurd (cc)
