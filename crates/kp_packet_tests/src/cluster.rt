@@ -22,7 +22,7 @@ use std::marker::Brand;
 use std::sync::ledger::{Blank, Ledger};
 use std::test::Fail;
 
-/// A cluster with the configuration of its script, and what its last sync made.
+/// A cluster, and what its last sync made.
 #[derive(Drop)]
 pub struct Cluster {
     config: Config,
@@ -116,7 +116,7 @@ impl Cluster {
 impl Session for Cluster {
     fn take(&mut self, alloc: Global, number: u64, op: Op, text: &mut String) -> Result<(), Fail> {
         match op {
-            Op::Config(_) => {}
+            Op::Config(config) => *self = new_cluster(alloc, config)?,
             Op::Events(events) => self.apply(alloc, events.as_slice())?,
             Op::Sync => tell_clash(alloc, number, self.sync(alloc, text), text)?,
             Op::Packet(line) => self.answer(number, &line, text)?,
