@@ -9,6 +9,9 @@ use std::cmp::Ordering;
 use std::hash::{Hash, Hasher};
 use std::marker::Model;
 
+/// How many numbers a word of eight bytes holds.
+const WORDS: u128 = 1 << 64;
+
 /// A number below 2^128, as its two halves. A `u128` is aligned to sixteen bytes and would make
 /// what holds it larger by a third.
 #[derive(Clone, Copy, Debug)]
@@ -19,17 +22,19 @@ pub struct Wide {
 
 impl Model for Wide {
     ghost use Rattle.std.specs.Prelude.{ℕ, ◌*◌, ◌+◌, ◌/◌, ◌%◌, ◌<◌};
-    ghost use Rattle.kp_base.specs.Words.{high_is, low_is};
+    ghost use Rattle.kp_base.specs.Words.{words, high_is, low_is};
 
     ghost Value = { ℕ };
 
-    ghost view = { λ w. w.high * 18446744073709551616 + w.low };
+    ghost view = { λ w. w.high * words + w.low };
 
-    ghost invariant = { λ w. w.low < 18446744073709551616 };
+    ghost invariant = { λ w. w.low < words };
 
-    ghost inverse = { λ n. record { high = n / 18446744073709551616; low = n % 18446744073709551616 } };
+    ghost inverse = { λ n.
+        record { high = n / words; low = n % words } };
 
-    ghost inverse_ok = { λ w h. λ i. record { high = high_is w.high w.low h i; low = low_is w.high w.low h i } };
+    ghost inverse_ok = { λ w h. λ i.
+        record { high = high_is w.high w.low h i; low = low_is w.high w.low h i } };
 }
 
 impl Wide {
@@ -38,8 +43,8 @@ impl Wide {
         ensures { result ≡ number }
     {
         Wide {
-            high: (number / 18_446_744_073_709_551_616) as u64,
-            low: (number % 18_446_744_073_709_551_616) as u64,
+            high: (number / WORDS) as u64,
+            low: (number % WORDS) as u64,
         }
     }
 
@@ -47,7 +52,7 @@ impl Wide {
     pub fn number(&self) -> u128
         ensures { result ≡ self.now }
     {
-        self.high as u128 * 18_446_744_073_709_551_616 + self.low as u128
+        self.high as u128 * WORDS + self.low as u128
     }
 }
 

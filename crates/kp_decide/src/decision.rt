@@ -25,8 +25,8 @@ use kp_types::{Decision, Packet, PortInfo, Reason, Verdict};
 use std::alloc::Global;
 
 /// The decision on a packet by the objects alone, with its reason (Kubernetes documents on virtual
-/// IPs and service proxies). The number is the packet's for its draws. The recent lists stay as they
-/// are. Only memory can be refused.
+/// IPs and service proxies). The number is the packet's for its draws. The recent lists stay as
+/// they are. Only memory can be refused.
 pub fn decide<F: Fn(u64, u32) -> u32>(
     alloc: Global,
     objects: &Objects,

@@ -3,7 +3,8 @@
 use crate::base::is_copied;
 use arrayvec::ArrayVec;
 use kp_base::{
-    Address, Cidr, Copied, Endpoint, Items, NoMemory, ObjectKey, PortKey, PortNo, Proto, Text,
+    Address, Cidr, Copied, Endpoint, Items, NoMemory, ObjectKey, PortKey, PortNo, Proto, Shared,
+    Text,
 };
 use kp_types::{
     Batch, ChainAt, ChainKey, ChainName, Edit, Match, PortChain, Rule, SyncRecord, TableName,
@@ -49,7 +50,7 @@ fn record(alloc: Global, rule: Rule) -> Result<SyncRecord, NoMemory> {
     };
     let mut rules = Vec::new(alloc);
     rules.push(rule)?;
-    let rules = Items::from_vec(rules);
+    let rules = Shared::of(alloc, Items::from_vec(rules))?;
     let mut edits = Vec::new(alloc);
     edits.push(Edit::Write { at, rules })?;
     let edits = Items::from_vec(edits);

@@ -1,6 +1,6 @@
 //! Tests of kp_service, kp_slice, kp_pod and kp_events: texts of objects; and of kp_desired,
-//! kp_packer and kp_category: one way from a Service and a pod to a list. What these three answer in
-//! other cases is worked out in the crate of worked examples.
+//! kp_packer and kp_category: one way from a Service and a pod to a list. What these three answer
+//! in other cases is worked out in the crate of worked examples.
 #![tactic(auto)]
 
 #[cfg(test)]

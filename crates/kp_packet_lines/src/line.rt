@@ -33,7 +33,8 @@ pub fn packet_line(alloc: Global, bytes: &[u8], scratch: &mut Scratch) -> Option
 }
 
 fn line_in(alloc: Global, object: PlainObject<'_>) -> Option<ScriptLine>
-    ensures { IfSome result (λ line. (first : Bool) → read_script first (place_of object.entry) ≡ Ok line) }
+    ensures { IfSome result (λ line. (first : Bool)
+        → read_script first (place_of object.entry) ≡ Ok line) }
 {
     if object.member("by").is_some() {
         return None;

@@ -343,8 +343,8 @@ impl Plane {
         self.journal.events().len() as u64 - self.history.covered
     }
 
-    /// The batch that leads to the full table of all events' objects, and that table. Where no event
-    /// came since the last sync the batch is empty, and nothing is looked at or made.
+    /// The batch that leads to the full table of all events' objects, and that table. Where no
+    /// event came since the last sync the batch is empty, and nothing is looked at or made.
     fn next_batch<L: Ledger>(
         &mut self,
         alloc: Global,

@@ -37,9 +37,9 @@ pub fn port_infos(
     infos_of_services(alloc, objects, config, services.as_slice())
 }
 
-/// What the proxy knows of the ports of some Services of the objects in IPv4, in order of the ports'
-/// names: what is found by these names. What a Service's endpoints are taken from is asked of the
-/// objects once for all its ports.
+/// What the proxy knows of the ports of some Services of the objects in IPv4, in order of the
+/// ports' names: what is found by these names. What a Service's endpoints are taken from is asked
+/// of the objects once for all its ports.
 pub fn infos_of_services(
     alloc: Global,
     objects: &Objects,

@@ -84,7 +84,8 @@ impl<J: Publication> Front<J> {
 
     /// Whether it has as many records as another front. Then it goes on from that one.
     pub fn goes_on_from(&self, other: &Front<J>) -> bool
-        ensures count { IsTrue result ↔ (length (records_of other.now) ≤ length (records_of self.now)) }
+        ensures count { IsTrue result
+            ↔ (length (records_of other.now) ≤ length (records_of self.now)) }
         ensures goes_on { IsTrue result → GoesOnFrom self.now other.now }
     {
         let mut both = self.seen.again();

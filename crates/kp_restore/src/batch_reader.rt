@@ -5,7 +5,7 @@ ghost use Rattle.kp_restore.specs.BatchSteps as spec;
 use crate::built_in::is_built_in;
 use crate::line::Line;
 use crate::row::{Left, Row};
-use kp_base::{Items, NoMemory};
+use kp_base::{Items, NoMemory, Shared};
 use kp_types::{ChainAt, ChainName, Edit, Rule, TableName};
 use std::alloc::Global;
 
@@ -351,7 +351,7 @@ fn with_edits(
     let mut edits = edits.into_vec();
     let mut removes = Vec::new(alloc);
     while let Some(row) = left.pop() {
-        add_edit(section, row, &mut edits, &mut removes)?;
+        add_edit(alloc, section, row, &mut edits, &mut removes)?;
     }
     edits.append(&mut removes)?;
     Ok(Items::from_vec(edits))
@@ -359,6 +359,7 @@ fn with_edits(
 
 /// Adds the edit of a chain to the writes or to the removes.
 fn add_edit(
+    alloc: Global,
     section: TableName,
     row: Row,
     writes: &mut Vec<Edit>,
@@ -381,6 +382,7 @@ fn add_edit(
     if removed {
         removes.push(Edit::Remove { at })?;
     } else {
+        let rules = Shared::of(alloc, rules)?;
         writes.push(Edit::Write { at, rules })?;
     }
     Ok(())

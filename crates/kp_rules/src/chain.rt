@@ -10,7 +10,7 @@ use crate::index::{
 };
 use crate::limits::{limit_at, limits_of};
 use crate::slots::set;
-use kp_base::{Items, NoMemory};
+use kp_base::{NoMemory, Shared};
 use kp_types::Rule;
 use std::alloc::Global;
 use std::marker::Model;
@@ -19,7 +19,7 @@ use std::marker::Model;
 /// hints: the chain's own slot, and for each rule the slot of the chain that it jumps to.
 #[derive(Drop)]
 pub struct Chain {
-    rules: Items<Rule>,
+    rules: Shared<Rule>,
     keyed: Vec<KeyedPlace>,
     others: Vec<u64>,
     limits: Vec<Option<u32>>,
@@ -45,10 +45,9 @@ impl Model for Chain {
 
 impl Chain {
     /// The chain of these rules.
-    pub(crate) fn of(alloc: Global, rules: Items<Rule>) -> Result<Chain, NoMemory>
+    pub(crate) fn of(alloc: Global, rules: Shared<Rule>) -> Result<Chain, NoMemory>
         ensures { IfOk result (λ chain. chain ≡ rules) }
     {
-        let rules = fitted(rules);
         let keyed = keyed_places(alloc, rules.as_slice())?;
         let others = other_places(alloc, rules.as_slice())?;
         let limits = limits_of(alloc, rules.as_slice())?;
@@ -63,8 +62,8 @@ impl Chain {
         })
     }
 
-    /// The rules as a list.
-    pub(crate) fn items(&self) -> &Items<Rule>
+    /// The rules as a list that can be shared.
+    pub(crate) fn shared(&self) -> &Shared<Rule>
         ensures { result.now ≡ self.now }
     {
         &self.rules
@@ -124,15 +123,6 @@ impl Chain {
     {
         set(&mut self.jumps, place, slot);
     }
-}
-
-/// The same rules, with no room for more.
-fn fitted(rules: Items<Rule>) -> Items<Rule>
-    ensures { result ≡ rules }
-{
-    let mut rules = rules.into_vec();
-    rules.shrink_to_fit();
-    Items::from_vec(rules)
 }
 
 /// For each rule, that it isn't known where it jumps to.

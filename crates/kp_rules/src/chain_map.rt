@@ -238,7 +238,7 @@ fn chains_of(alloc: Global, entries: &IndexMap<ChainAt, Chain>) -> Result<ChainM
     chains.reserve(entries.len())?;
     for i in (0..entries.len()).rev() {
         if let Some((at, rules)) = entries.get_index(i) {
-            chains.write(NewChain::new(alloc, at.same(), rules.items().copy(alloc)?)?);
+            chains.write(NewChain::new(alloc, at.same(), rules.shared().copy(alloc)?)?);
         }
     }
     chains.link_all();

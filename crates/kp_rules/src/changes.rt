@@ -9,7 +9,7 @@ ghost use Rattle.kp_rules.specs.Changes as Changes;
 
 use crate::places::Places;
 use crate::table::Table;
-use kp_base::{Copied, Items, NoMemory};
+use kp_base::{Copied, Items, NoMemory, Shared};
 use kp_types::{Batch, ChainAt, Edit, Rule, TableName};
 use std::alloc::Global;
 
@@ -136,7 +136,7 @@ fn is_in(table: TableName, at: &ChainAt) -> bool
 }
 
 /// Whether a chain is found with these rules.
-fn is_found_with(rules: &Items<Rule>, found: Option<&Items<Rule>>) -> bool
+fn is_found_with(rules: &Shared<Rule>, found: Option<&Shared<Rule>>) -> bool
     ensures { result ≡ Edits.is_found_with rules.now (option_copied found.entry) }
 {
     match found {

@@ -3,7 +3,7 @@ ghost use Rattle.std.specs.Prelude.{◌≡◌, [], ◌∷◌, IfOk};
 
 use crate::chain::Chain;
 use crate::places::Places;
-use kp_base::{Items, NoMemory};
+use kp_base::{NoMemory, Shared};
 use kp_types::{ChainAt, Rule};
 use std::alloc::Global;
 
@@ -18,7 +18,7 @@ pub struct NewChain {
 
 impl NewChain {
     /// A chain with these rules.
-    pub fn new(alloc: Global, at: ChainAt, rules: Items<Rule>) -> Result<NewChain, NoMemory>
+    pub fn new(alloc: Global, at: ChainAt, rules: Shared<Rule>) -> Result<NewChain, NoMemory>
         ensures at { IfOk result (λ c. c.at ≡ at) }
         ensures rules { IfOk result (λ c. c.rules ≡ rules) }
     {

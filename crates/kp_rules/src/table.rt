@@ -13,7 +13,7 @@ use crate::new_chain::NewChain;
 use crate::places::Places;
 use crate::ranks::are_ranked;
 use crate::ready::{link_written, make_all, ready_edits};
-use kp_base::{Address, Copied, Items, NoMemory, PortNo, Proto};
+use kp_base::{Address, Copied, Items, NoMemory, PortNo, Proto, Shared};
 use kp_types::{Batch, ChainAt, Rule};
 use std::alloc::Global;
 use std::marker::Model;
@@ -67,12 +67,12 @@ impl Table {
     }
 
     /// The rules of a chain, if there is one at this place.
-    pub fn chain(&self, at: &ChainAt) -> Option<&Items<Rule>>
+    pub fn chain(&self, at: &ChainAt) -> Option<&Shared<Rule>>
         ensures { option_copied result ≡ finite.get self.now.chains at.now }
     {
         match self.chains.get(at) {
             None => None,
-            Some(chain) => Some(chain.items()),
+            Some(chain) => Some(chain.shared()),
         }
     }
 
@@ -83,8 +83,8 @@ impl Table {
         self.chains.get(at)
     }
 
-    /// The chain at this place, to which the rule at a place of another chain jumps. Where the other
-    /// knows in which slot it stands, no name is hashed.
+    /// The chain at this place, to which the rule at a place of another chain jumps. Where the
+    /// other knows in which slot it stands, no name is hashed.
     pub fn jumped(&self, from: &Chain, place: u64, at: &ChainAt) -> Option<&Chain>
         ensures { option_copied result ≡ finite.get self.now.chains at.now }
     {
@@ -155,6 +155,7 @@ impl Table {
             ≡ record self.old { chains = finite.insert self.old.chains at rules }) }
         ensures err { OnErr result (self.new ≡ self.old) }
     {
+        let rules = Shared::of(self.alloc, rules)?;
         let chain = NewChain::new(self.alloc, at, rules)?;
         self.chains.reserve(1)?;
         self.chains.write(chain);

@@ -74,7 +74,8 @@ impl Keyed<()> {
     /// Puts keys.
     pub fn put_all(&mut self, alloc: Global, keys: &[&ObjectKey]) -> Result<(), NoMemory>
         ensures { OnOk result ((k : ObjectKey) → finite.contains_key self.new k
-            ≡ list_any (λ q. eq_by_cmp key_cmp k q.now) keys.now || finite.contains_key self.old k) }
+            ≡ list_any (λ q. eq_by_cmp key_cmp k q.now) keys.now
+            || finite.contains_key self.old k) }
     {
         for key in keys {
             self.put(key.copy(alloc)?, ())?;

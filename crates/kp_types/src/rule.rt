@@ -3,7 +3,7 @@ ghost use Rattle.std.specs.Prelude.{◌≡◌, IfOk};
 
 use crate::chain::{ChainAt, ChainName};
 use arrayvec::ArrayVec;
-use kp_base::{Cidr, Copied, Endpoint, Items, NoMemory, PortNo, Proto};
+use kp_base::{Cidr, Copied, Endpoint, Items, NoMemory, PortNo, Proto, Shared};
 use std::alloc::Global;
 
 /// One match of a rule (iptables(8), iptables-extensions(8)).
@@ -55,10 +55,11 @@ pub struct Rule {
     pub target: Target,
 }
 
-/// A change of one chain: its rules are written, in place of the old ones, or it is removed.
+/// A change of one chain: its rules are written, in place of the old ones, or it is removed. A table
+/// that makes the change shares the rules.
 #[derive(Drop)]
 pub enum Edit {
-    Write { at: ChainAt, rules: Items<Rule> },
+    Write { at: ChainAt, rules: Shared<Rule> },
     Remove { at: ChainAt },
 }
 
