@@ -1,6 +1,10 @@
 //! kproxy: what the proxy of a Kubernetes node writes, and where a packet goes.
 #![tactic(auto)]
 
+ghost use Rattle.std.specs.Prelude.{◌≡◌};
+ghost use Rattle.std.specs.Process.{exit_status};
+ghost use Rattle.kp_run.specs.Codes.{code_of};
+
 use kp_io::{RealSink, RealSource};
 use kp_run::{Status, run};
 use std::io::{BufWriter, ErrorKind, IsTerminal, LineWriter, Write};
@@ -14,6 +18,13 @@ fn main(rt: HostRuntime) -> ExitCode {
         // Where standard error takes nothing, the status alone tells it.
         let _ = eprintln!(rt; "kproxy: {why}");
     }
+    exit_of(status)
+}
+
+/// The exit status that tells how a run ended.
+fn exit_of(status: Status) -> ExitCode
+    ensures { exit_status result ≡ code_of status }
+{
     ExitCode::from(status.code())
 }
 

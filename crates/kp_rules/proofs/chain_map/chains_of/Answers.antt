@@ -6,7 +6,7 @@ use Rattle.kp_rules.proofs.chain_map.chains_of.Goals as goal
 pub loop-i-preserved-in-Some : goal.loop-i-preserved-in-Some
 loop-i-preserved-in-Some c =
     let at = c.in_ok-new.ensures.at ∙ c.same.ensures in
-    let rules = c.in_ok-new.ensures.rules ∙ c.in_ok-copy.ensures ∙ c.items.ensures in
+    let rules = c.in_ok-new.ensures.rules ∙ c.in_ok-copy.ensures ∙ c.shared.ensures in
     record {
       same =
           c.write.ensures.chains
