@@ -1,9 +1,10 @@
 -- A Service's new slices get the names that they would get of all names of its namespace where only those are known
 -- that could clash.
-use Rattle.std.proofs.Common.{◌≡◌, ℕ, zero, suc, ◌+◌, ◌-◌, ◌^◌, ◌<◌, ◌≤◌, Bool, true, false, cond, not, ◌&&◌, ◌||◌, List, [], ◌∷◌, ◌++◌, map, length, filter, take, zip, Contains, bytes_eq, refl, sym, ap, subst, absurd, append_assoc, ◌∙◌, arith}
+use Rattle.std.proofs.Common.{◌≡◌, ℕ, zero, suc, ◌+◌, ◌-◌, ◌^◌, ◌<◌, ◌≤◌, Bool, true, false, cond, not, ◌&&◌, ◌||◌, List, [], ◌∷◌, ◌++◌, map, length, filter, take, zip, Contains, bytes_eq, refl, sym, ap, subst, append_assoc, true≢false, ◌∙◌, arith}
 use Rattle.std.specs.Prelude.{nat_eq, codes}
 use Rattle.std.specs.Fmt.{decimal}
-use Rattle.std.specs.List.{flat_map, list_any, pointwise, starts_with}
+use Rattle.std.specs.List.{flat_map, list_any, starts_with}
+use Rattle.std.specs.Cmp.Lexicographic.{pointwise}
 use Rattle.std.proofs.lemmas.Bool.{and_parts, and_from, or_left, or_right, false_from_ne_true}
 use Rattle.std.proofs.lemmas.Slice.Eq.{bytes_eq-Decides}
 use Rattle.kp_lemmas.proofs.Members.{all_from, any_from, from_filter, in_filter, in_map}
@@ -27,13 +28,14 @@ module _ (service : ObjectKey) where
   same_free p q h (suc n) k = λ i. cond (h k i) (slice_name service k ∷ same_free p q h n (suc k) i) (same_free p q h n (suc k) i)
 
   -- more names are the same ones, and others behind them
-  front : (p : List ℕ → Bool) (m n k : ℕ) → (rest : List (List ℕ)) × (filter p (slice_names_from service (m + n) k) ≡ filter p (slice_names_from service m k) ++ rest)
-  front p zero n k = (filter p (slice_names_from service n k), refl)
-  front p (suc m) n k =
-      let more = front p m n (suc k) in (
+  front : (p : List ℕ → Bool) (few many k : ℕ) → few ≤ many → (rest : List (List ℕ)) × (filter p (slice_names_from service many k) ≡ filter p (slice_names_from service few k) ++ rest)
+  front p zero many k less = (filter p (slice_names_from service many k), refl)
+  front p (suc few) zero k less = absurd (omega (arith, less))
+  front p (suc few) (suc many) k less =
+      let more = front p few many (suc k) (omega (arith, less)) in (
         more.0,
-        elim (p (slice_name service k)) as (λ b. cond b (slice_name service k ∷ filter p (slice_names_from service (m + n) (suc k))) (filter p (slice_names_from service (m + n) (suc k)))
-            ≡ cond b (slice_name service k ∷ filter p (slice_names_from service m (suc k))) (filter p (slice_names_from service m (suc k))) ++ more.0) [
+        elim (p (slice_name service k)) as (λ b. cond b (slice_name service k ∷ filter p (slice_names_from service many (suc k))) (filter p (slice_names_from service many (suc k)))
+            ≡ cond b (slice_name service k ∷ filter p (slice_names_from service few (suc k))) (filter p (slice_names_from service few (suc k))) ++ more.0) [
               | true ↦ ap (λ names. slice_name service k ∷ names) more.1
               | false ↦ more.1
             ],
@@ -53,11 +55,10 @@ fewer_taken family service taken kept made fewer small same =
     let p = λ (name : List ℕ). not (list_any (bytes_eq name) taken) in
     let q = λ (name : List ℕ). not (list_any (bytes_eq name) kept) in
     let n = length made in
-    let more = front service p (length kept + n) (length taken - length kept) 1 in
-    let count : (length kept + n) + (length taken - length kept) ≡ length taken + n = omega (arith, fewer) in
+    let more = front service p (length kept + n) (length taken + n) 1 (omega (arith, fewer)) in
     let known : free_names service kept n ≡ filter p (slice_names_from service (length kept + n) 1) = same_free service q p (λ i. ap not (same i)) (length kept + n) 1 in
     let all : free_names service taken n ≡ free_names service kept n ++ more.0 =
-    ap (λ m. filter p (slice_names_from service m 1)) (sym count) ∙ more.1 ∙ ap (λ names. names ++ more.0) (sym known) in
+    more.1 ∙ ap (λ names. names ++ more.0) (sym known) in
     sym (ap (λ names. map (new_slice family service) (zip names made)) all
     ∙ ap (map (new_slice family service)) (zip_front (free_names service kept n) more.0 made (enough_free service kept n small)))
 
@@ -72,13 +73,13 @@ begins : (xs ys : List ℕ) → starts_with nat_eq (xs ++ ys) xs ≡ true
 begins xs ys = ap (pointwise nat_eq xs) (take_front xs ys) ∙ (bytes_eq-Decides xs xs).1 refl
 
 module _ (service : ObjectKey) where
-  in_namespace : Slice → Bool
+  abbrev in_namespace : Slice → Bool
   in_namespace s = bytes_eq s.key.namespace service.namespace
 
   abbrev names : (Slice → Bool) → List Slice → List (List ℕ)
   names p slices = map (λ s. s.key.name) (filter p slices)
 
-  near : Slice → Bool
+  abbrev near : Slice → Bool
   near s = starts_with nat_eq s.key.name service.name || is_managed_for V4 service s
 
   -- a name that isn't near is no name of a new slice
@@ -88,31 +89,33 @@ module _ (service : ObjectKey) where
       let named : slice_name service i ≡ s.key.name = (bytes_eq-Decides (slice_name service i) s.key.name).0 e in
       let first : starts_with nat_eq s.key.name service.name ≡ true =
       ap (λ name. starts_with nat_eq name service.name) (sym named ∙ append_assoc service.name (codes "-kp") (decimal i)) ∙ begins service.name (codes "-kp" ++ decimal i) in
-      absurd (sym (or_left (starts_with nat_eq s.key.name service.name) (is_managed_for V4 service s) first) ∙ far))
+      true≢false (sym (or_left (starts_with nat_eq s.key.name service.name) (is_managed_for V4 service s) first) ∙ far))
 
   -- so all names of the namespace and those that may clash agree on these
   agree : (i : ℕ) (slices : List Slice) → list_any (bytes_eq (slice_name service i)) (names (may_clash service) slices) ≡ list_any (bytes_eq (slice_name service i)) (names in_namespace slices)
   agree i [] = refl
-  agree i (s ∷ slices) = by (in_namespace s) (near s) refl
+  agree i (s ∷ slices) = by (in_namespace s) (near s) refl (agree i slices)
     where
       test : List ℕ → Bool
       test = bytes_eq (slice_name service i)
 
-      by : (a b : Bool) → near s ≡ b → list_any test (map (λ s. s.key.name) (cond (a && b) (s ∷ filter (may_clash service) slices) (filter (may_clash service) slices)))
+      by : (a b : Bool) → near s ≡ b → list_any test (names (may_clash service) slices) ≡ list_any test (names in_namespace slices)
+          → list_any test (map (λ s. s.key.name) (cond (a && b) (s ∷ filter (may_clash service) slices) (filter (may_clash service) slices)))
           ≡ list_any test (map (λ s. s.key.name) (cond a (s ∷ filter in_namespace slices) (filter in_namespace slices)))
-      by false b is = agree i slices
-      by true true is = ap (λ t. test s.key.name || t) (agree i slices)
-      by true false is = agree i slices ∙ ap (λ b. b || list_any test (names in_namespace slices)) (sym (apart i s is))
+      by false b is rest = rest
+      by true true is rest = ap (λ t. test s.key.name || t) rest
+      by true false is rest = rest ∙ ap (λ b. b || list_any test (names in_namespace slices)) (sym (apart i s is))
 
   fewer : (slices : List Slice) → length (names (may_clash service) slices) ≤ length (names in_namespace slices)
   fewer [] = omega arith
-  fewer (s ∷ slices) = by (in_namespace s) (near s)
+  fewer (s ∷ slices) = by (in_namespace s) (near s) (fewer slices)
     where
-      by : (a b : Bool) → length (map (λ s. s.key.name) (cond (a && b) (s ∷ filter (may_clash service) slices) (filter (may_clash service) slices)))
+      by : (a b : Bool) → length (names (may_clash service) slices) ≤ length (names in_namespace slices)
+          → length (map (λ s. s.key.name) (cond (a && b) (s ∷ filter (may_clash service) slices) (filter (may_clash service) slices)))
           ≤ length (map (λ s. s.key.name) (cond a (s ∷ filter in_namespace slices) (filter in_namespace slices)))
-      by false b = fewer slices
-      by true true = omega (arith, fewer slices)
-      by true false = omega (arith, fewer slices)
+      by false b rest = rest
+      by true true rest = omega (arith, rest)
+      by true false rest = omega (arith, rest)
 
   -- the Service's own names may clash
   pub own_taken : (slices : List Slice) → are_taken (map (λ s. s.key.name) (filter (may_clash service) slices)) (filter (is_managed_for V4 service) slices) ≡ true
