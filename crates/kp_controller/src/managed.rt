@@ -89,10 +89,11 @@ fn managed_among<'a>(
 fn is_managed_for(service: &ObjectKey, slice: &Slice) -> bool
     ensures { result ≡ laws.is_managed_for V4 service.now slice.now }
 {
+    // Names differ where namespaces seldom do.
     slice.managed
         && slice.family == AddressType::Ipv4
-        && slice.key.namespace == service.namespace
         && is_named(&slice.service, &service.name)
+        && slice.key.namespace == service.namespace
 }
 
 /// Whether there is a name, and it is this one.
@@ -128,8 +129,8 @@ fn names_near<'a>(
 fn may_clash(service: &ObjectKey, slice: &Slice) -> bool
     ensures { result ≡ clashing.may_clash service.now slice.now }
 {
-    slice.key.namespace == service.namespace
-        && (begins_with(&slice.key.name, &service.name) || is_managed_for(service, slice))
+    let near = begins_with(&slice.key.name, &service.name) || is_managed_for(service, slice);
+    near && slice.key.namespace == service.namespace
 }
 
 /// Whether a text begins with another.
