@@ -1,3 +1,4 @@
 mod Kept
+mod Narrowed
 mod OneMore
 mod Packed

@@ -1,11 +1,12 @@
 //! The slices that the controller manages for one Service.
-ghost use Rattle.std.specs.Prelude.{◌≡◌, map, bytes_eq, Some, IfOk, OnOk};
+ghost use Rattle.std.specs.Prelude.{◌≡◌, ◌<◌, ◌^◌, length, map, nat_eq, Some, IfOk, OnOk};
 ghost use Rattle.std.specs.FinMap.{get};
-ghost use Rattle.std.specs.List.{filter};
+ghost use Rattle.std.specs.List.{filter, starts_with};
 ghost use Rattle.kp_base.specs.declared.address.Family.TheVariants.{V4};
 ghost use Rattle.kp_object_defs.specs.Entries as entries;
 ghost use Rattle.kp_object_defs.specs.OwnKeys.{AreUnderOwnKeys, IsUnderOwnKeys};
 ghost use Rattle.kp_object_defs.specs.PackingLaws as laws;
+ghost use Rattle.kp_controller.specs.Clashing as clashing;
 ghost use Rattle.kp_object_defs.specs.SlicesNow as now;
 ghost use Rattle.kp_object_defs.specs.SlicesNow.{after_packing};
 
@@ -55,12 +56,14 @@ fn packed_now(
 {
     let all = slices.all(alloc)?;
     let before = managed_among(alloc, &service.key, all.as_slice())?;
-    let taken = names_among(alloc, &service.key.namespace, all.as_slice())?;
+    let near = names_near(alloc, &service.key, all.as_slice())?;
     let wanted = wanted_of(alloc, objects, service)?;
+    fits_memory(near.as_slice());
+    fits_memory(wanted.as_slice());
     slices_now();
     wanted_endpoints();
     let most = config.max_per_slice;
-    let packed = pack(alloc, &service.key, &before, &wanted, most, &taken)?;
+    let packed = pack(alloc, &service.key, &before, &wanted, most, &near)?;
     Ok((keys_of(alloc, before.as_slice())?, packed.slices))
 }
 
@@ -86,10 +89,11 @@ fn managed_among<'a>(
 fn is_managed_for(service: &ObjectKey, slice: &Slice) -> bool
     ensures { result ≡ laws.is_managed_for V4 service.now slice.now }
 {
+    // Names differ where namespaces seldom do.
     slice.managed
         && slice.family == AddressType::Ipv4
-        && slice.key.namespace == service.namespace
         && is_named(&slice.service, &service.name)
+        && slice.key.namespace == service.namespace
 }
 
 /// Whether there is a name, and it is this one.
@@ -102,22 +106,47 @@ fn is_named(name: &Option<Text>, wanted: &Text) -> bool
     }
 }
 
-/// The names of the slices among these that are in a namespace.
-fn names_among<'a>(
+/// The names of the slices among these that a new slice of a Service could get, and those of its
+/// own.
+fn names_near<'a>(
     alloc: Global,
-    namespace: &Text,
+    service: &ObjectKey,
     slices: &[&'a Slice],
 ) -> Result<Items<Text>, NoMemory>
     ensures { IfOk result (λ ns. ns ≡ map (λ s. s.key.name)
-        (filter (λ s. bytes_eq s.key.namespace namespace.now) (map (λ s. s.now) slices.now))) }
+        (filter (clashing.may_clash service.now) (map (λ s. s.now) slices.now))) }
 {
     let mut names = Vec::new(alloc);
     for slice in slices {
-        if slice.key.namespace == *namespace {
+        if may_clash(service, slice) {
             names.push(slice.key.name.copy(alloc)?)?;
         }
     }
     Ok(Items::from_vec(names))
+}
+
+/// Whether a slice has a name that a new slice of a Service could get, or is the Service's own.
+fn may_clash(service: &ObjectKey, slice: &Slice) -> bool
+    ensures { result ≡ clashing.may_clash service.now slice.now }
+{
+    let near = begins_with(&slice.key.name, &service.name) || is_managed_for(service, slice);
+    near && slice.key.namespace == service.namespace
+}
+
+/// Whether a text begins with another.
+fn begins_with(text: &Text, front: &Text) -> bool
+    ensures { result ≡ starts_with nat_eq text.now front.now }
+{
+    text.as_str()
+        .as_bytes()
+        .starts_with(front.as_str().as_bytes())
+}
+
+/// A list in memory has less than 2^64 elements.
+fn fits_memory<T>(items: &[T])
+    ensures { length items.now < 2 ^ 64 }
+{
+    items.len();
 }
 
 /// The keys of slices.

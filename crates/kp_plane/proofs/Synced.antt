@@ -9,7 +9,10 @@ use Rattle.kp_types.specs.declared.rule.Edit.{Edit}
 use Rattle.kp_types.specs.declared.sync.SyncRecord.{SyncRecord}
 use Rattle.kp_object_defs.specs.Objects.{Objects, objects_after}
 use Rattle.kp_base.specs.declared.address.Family.TheVariants.{V4}
+use Rattle.kp_object_defs.specs.PortInfo.{port_infos}
 use Rattle.kp_object_defs.specs.SlicesNow.{slices_now}
+use Rattle.kp_full_table.specs.Parts.{all_rule_count}
+use Rattle.kp_types.specs.Setting.{config_for}
 use Rattle.kp_table_defs.specs.Edits.{SameRulesAreEqual, changes_between}
 use Rattle.kp_table_defs.specs.Rebuild.{TableParts, clash_of, full_table}
 use Rattle.kp_types.specs.declared.packet.Packet.{Packet}
@@ -18,7 +21,7 @@ use Rattle.kp_door_defs.specs.Decision.{decision_of}
 use Rattle.kp_decide.specs.Told.{told}
 use Rattle.kp_history_defs.specs.History.{chains_covered, objects_covered}
 use Rattle.kp_history_laws.specs.HistoryLaws.{all_covered, CoversRest, ExactByRecord}
-use Rattle.kp_plane.specs.Parts.{PlaneParts, HasExactHistory, setting_in, syncs_in, uncovered_in, objects_in, explained_in, table_in, chains_in, last_edits, batch_after, next_edits, next_chains, chains_or, synced}
+use Rattle.kp_plane.specs.Parts.{PlaneParts, HasExactHistory, most_steps, setting_in, syncs_in, uncovered_in, objects_in, explained_in, table_in, chains_in, last_edits, batch_after, next_edits, next_chains, chains_or, synced}
 use Rattle.kp_plane.specs.Invariant.{IsAtPlace, IsHistory, IsPlane, IsSlicesAt}
 use Rattle.kp_plane.specs.declared.history.History.{History}
 use Rattle.kp_plane.specs.declared.place.ObjectsAt.{ObjectsAt}
@@ -194,6 +197,17 @@ same_chains p q same h is none =
 -- a clash of all objects, by equal parts
 pub same_clash : (p q : PlaneParts) → p ≡ q → (o : Objects) → o ≡ objects_after p.events → clash_of (setting_in p) o ≡ clash_of (setting_in q) (objects_after q.events)
 same_clash p q same o is = ap (clash_of (setting_in p)) is ∙ ap (λ r. clash_of (setting_in r) (objects_after r.events)) same
+
+-- the steps that a rebuild of all objects takes at most, by equal parts
+pub same_steps : (p q : PlaneParts) → p ≡ q → (o : Objects) → o ≡ objects_after p.events → all_rule_count (setting_in p) (port_infos V4 (config_for V4 p.config) o) ≡ most_steps q
+same_steps p q same o is = ap (λ o. all_rule_count (setting_in p) (port_infos V4 (config_for V4 p.config) o)) is ∙ ap most_steps same
+
+-- where no event is left, the last sync covers all
+pub none_left : (p q : PlaneParts) → p ≡ q → (h : History) → IsHistory p h → uncovered_in q ≡ 0 → length p.events ≡ h.covered
+none_left p q same h is none =
+    let few = within p is.exact in
+    let left : uncovered_in p ≡ 0 = ap uncovered_in same ∙ none in
+    omega (arith, few, left, is.covered)
 
 -- the edits that lead to their full table
 pub made_edits : (p q : PlaneParts) → p ≡ q → (t u : TableParts) (o : Objects) → t ≡ table_in p → u ≡ full_table (setting_in p) o → o ≡ objects_after p.events → changes_between t.chains u.chains ≡ next_edits q

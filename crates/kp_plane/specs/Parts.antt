@@ -6,7 +6,7 @@ use Rattle.std.specs.FinMap as finite
 use Rattle.kp_base.specs.declared.address.Family.TheVariants.{V4}
 use Rattle.kp_base.specs.declared.config.Config.{Config}
 use Rattle.kp_base.specs.contracts.config.Config as config_row
-use Rattle.kp_types.specs.Setting.{Setting}
+use Rattle.kp_types.specs.Setting.{Setting, config_for}
 use Rattle.kp_types.specs.declared.event.Event.{Event}
 use Rattle.kp_types.specs.contracts.event.Event as event_row
 use Rattle.kp_types.specs.declared.rule.Batch.{Batch}
@@ -20,10 +20,12 @@ use Rattle.kp_choice_defs.specs.Settings.{setting_of}
 use Rattle.kp_door_defs.specs.Decision.{Decided, decision_of}
 use Rattle.kp_events.specs.JournalContents.{Contents}
 use Rattle.kp_object_defs.specs.Objects.{Objects, objects_after}
+use Rattle.kp_object_defs.specs.PortInfo.{port_infos}
 use Rattle.kp_object_defs.specs.SlicesNow.{slices_now}
 use Rattle.kp_table_defs.specs.Edits.{changes_between}
 use Rattle.kp_table_defs.specs.Rebuild.{Chains, TableParts, full_table}
 use Rattle.kp_table_defs.specs.Walk.{Walked, walk_of}
+use Rattle.kp_full_table.specs.Parts.{all_rule_count}
 use Rattle.kp_walker.specs.Sets.{ComesToSet}
 use Rattle.kp_history_defs.specs.History.{IsExactHistory, IsExactRecord, chains_covered, counts_of, objects_covered}
 
@@ -98,6 +100,11 @@ next_chains p = (full_table (setting_in p) (objects_after p.events)).chains
 -- the edits of that sync
 abbrev pub next_edits : PlaneParts → List Edit
 next_edits p = changes_between (chains_in p) (next_chains p)
+
+-- the most steps that the sync takes: one for each rule of a port of these objects
+abbrev pub most_steps : PlaneParts → ℕ
+most_steps p =
+    all_rule_count (setting_in p) (port_infos V4 (config_for V4 p.config) (objects_after p.events))
 
 -- the chains of a table that was made, or these where none was
 abbrev pub chains_or : Chains → Option TableParts → Chains

@@ -1,5 +1,5 @@
 //! The plane.
-ghost use Rattle.std.specs.Prelude.{◌≡◌, ◌≤◌, ℕ, [], length, sum, count_by, not, true};
+ghost use Rattle.std.specs.Prelude.{◌≡◌, ◌+◌, ◌≤◌, ℕ, [], length, sum, count_by, not, true};
 ghost use Rattle.std.specs.Prelude.{None, IfOk, IfErr, OnOk, OnErr};
 ghost use Rattle.std.specs.Option.{option_copied};
 ghost use Rattle.kp_choice_defs.specs.Draws.{IsStated, AreDraws};
@@ -163,6 +163,10 @@ impl Plane {
         ensures clash { IfErr result (TellsClash
             (clash_of (setting_in self.old) (objects_after self.old.events))) }
         ensures err { OnErr result (self.new ≡ self.old) }
+
+        // It takes a step for each rule of a port, and none where no event came since the last sync.
+        ensures bound { steps.new ≤ steps.old + parts.most_steps self.old }
+        ensures unchanged { parts.uncovered_in self.old ≡ 0 → steps.new ≡ steps.old }
     {
         let (batch, table) = self.next_batch(alloc, steps)?;
         let copy = batch.copy(alloc)?;
@@ -189,6 +193,10 @@ impl Plane {
         ensures clash { IfErr result (TellsClash
             (clash_of (setting_in self.old) (objects_after self.old.events))) }
         ensures err { OnErr result (self.new ≡ self.old) }
+
+        // It takes a step for each rule of a port, and none where no event came since the last sync.
+        ensures bound { steps.new ≤ steps.old + parts.most_steps self.old }
+        ensures unchanged { parts.uncovered_in self.old ≡ 0 → steps.new ≡ steps.old }
     {
         let (batch, table) = self.next_batch(alloc, steps)?;
         let (written, removed) = counts(batch.edits.as_slice());
@@ -357,6 +365,8 @@ impl Plane {
             clash_of (setting_in self.old) (objects_after self.old.events) ≡ None) }
         ensures clash { IfErr result (TellsClash
             (clash_of (setting_in self.old) (objects_after self.old.events))) }
+        ensures bound { steps.new ≤ steps.old + parts.most_steps self.old }
+        ensures unchanged { parts.uncovered_in self.old ≡ 0 → steps.new ≡ steps.old }
         ensures stays { self.new ≡ self.old }
     {
         kp_rules::laws::same_rules_are_equal();

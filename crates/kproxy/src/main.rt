@@ -1,6 +1,13 @@
 //! kproxy: what the proxy of a Kubernetes node writes, and where a packet goes.
 #![tactic(auto)]
 
+ghost use Rattle.std.specs.Prelude.{◌≡◌, map, string_bytes, true};
+ghost use Rattle.std.specs.Process.{exit_status};
+ghost use Rattle.kp_words.specs.Words.{mode_of};
+ghost use Rattle.kp_run.specs.Codes.{code_of};
+ghost use Rattle.kp_run.specs.Outcome.{asks_replay};
+ghost use Rattle.kp_run.specs.declared.status.Status.TheVariants.{Usage};
+
 use kp_io::{RealSink, RealSource};
 use kp_run::{Status, run};
 use std::io::{BufWriter, ErrorKind, IsTerminal, LineWriter, Write};
@@ -14,6 +21,13 @@ fn main(rt: HostRuntime) -> ExitCode {
         // Where standard error takes nothing, the status alone tells it.
         let _ = eprintln!(rt; "kproxy: {why}");
     }
+    exit_of(status)
+}
+
+/// The exit status that tells how a run ended.
+fn exit_of(status: Status) -> ExitCode
+    ensures { exit_status result ≡ code_of status }
+{
     ExitCode::from(status.code())
 }
 
@@ -21,19 +35,23 @@ fn main(rt: HostRuntime) -> ExitCode {
 /// elsewhere in pieces, which cost less.
 fn run_here(rt: &HostRuntime) -> io::Result<Status> {
     let alloc = rt.alloc();
+    let words = words_of(rt)?;
     if rt.stdout().is_terminal() {
-        run_into(rt, LineWriter::new(alloc, io::writer(rt))?)
+        let writer = LineWriter::new(alloc, io::writer(rt))?;
+        Ok(run_into(rt, words.as_slice(), writer))
     } else {
-        run_into(rt, BufWriter::new(alloc, io::writer(rt))?)
+        let writer = BufWriter::new(alloc, io::writer(rt))?;
+        Ok(run_into(rt, words.as_slice(), writer))
     }
 }
 
-/// Runs the program over standard input and a writer.
-fn run_into<W: Write + Drop>(rt: &HostRuntime, writer: W) -> io::Result<Status> {
-    let words = words_of(rt)?;
+/// Runs the program on its words over standard input and a writer.
+fn run_into<W: Write + Drop>(rt: &HostRuntime, words: &[String], writer: W) -> Status
+    ensures { asks_replay (mode_of (map string_bytes words.now)) ≡ true → result ≡ Usage → ⊥ }
+{
     let mut source = RealSource::new(rt.reader());
     let mut sink = RealSink::new(writer);
-    Ok(run(rt.alloc(), words.as_slice(), &mut source, &mut sink))
+    run(rt.alloc(), words, &mut source, &mut sink)
 }
 
 /// The program's words, or none where one of them isn't UTF-8: neither fits.
