@@ -5,17 +5,24 @@ use kp_script::{Op, Scratch, line_with};
 use kp_types::Verdict;
 use std::alloc::Global;
 
-/// Reads the lines of a source as a replay does, and writes the same answer to each. `None` where a
-/// line isn't a packet's or something fails, and else how many there were.
-pub fn answered<S: Source, K: Sink>(alloc: Global, source: &mut S, sink: &mut K) -> Option<u64> {
+/// Reads the lines of a source as a replay does, and writes the same answer to each so often. `None`
+/// where a line isn't a packet's or something fails, and else how many lines there were.
+pub fn answered<S: Source, K: Sink>(
+    alloc: Global,
+    times: u32,
+    source: &mut S,
+    sink: &mut K,
+) -> Option<u64> {
     let mut reader = LineReader::new(alloc).ok()?;
     let mut scratch = Scratch::new(alloc);
     let mut text = String::new(alloc);
     for _ in 0..INPUT_LIMIT {
         match reader.next_line(source).ok()? {
             NextLine::Line { number } => {
-                answer(alloc, number, reader.bytes(), &mut scratch, &mut text)?;
-                write_whole(sink, text.as_bytes()).ok()?;
+                for _ in 0..times {
+                    answer(alloc, number, reader.bytes(), &mut scratch, &mut text)?;
+                    write_whole(sink, text.as_bytes()).ok()?;
+                }
             }
             NextLine::End { lines } => {
                 sink.flush().ok()?;

@@ -1,4 +1,4 @@
-//! Makes calls of single libraries, so that they can be timed from outside.
+//! Makes calls of single libraries so often, so that they can be timed from outside.
 #![tactic(auto)]
 
 mod lines;
@@ -10,8 +10,8 @@ use std::io::BufWriter;
 use std::process::ExitCode;
 use std::{env, io};
 
-/// Takes the name of a layer, whose calls are made on the lines of standard input, and says on
-/// standard error how many calls were made.
+/// Takes a layer, whose calls are made on what standard input has, and how often. Says on standard
+/// error what they counted.
 fn main(rt: HostRuntime) -> io::Result<ExitCode> {
     let alloc = rt.alloc();
     let words: Vec<String> = env::args(&rt)?.collect(alloc)?;
@@ -23,24 +23,25 @@ fn main(rt: HostRuntime) -> io::Result<ExitCode> {
             Ok(ExitCode::SUCCESS)
         }
         None => {
-            eprintln!(rt; "usage: kp_bench lines, with packet lines as input")?;
+            eprintln!(rt; "usage: kp_bench lines TIMES, with packet lines as input")?;
             Ok(ExitCode::FAILURE)
         }
     }
 }
 
-/// How many calls were made, by the program's words, of which the first is its name.
+/// What the calls counted, by the program's words, of which the first is its name.
 fn counted_by<S: Source, K: Sink>(
     alloc: Global,
     words: &[String],
     source: &mut S,
     sink: &mut K,
 ) -> Option<u64> {
-    let [_, layer] = words else {
+    let [_, layer, times] = words else {
         return None;
     };
+    let times = times.parse::<u32>().ok()?;
     match layer.as_str() {
-        "lines" => answered(alloc, source, sink),
+        "lines" => answered(alloc, times, source, sink),
         _ => None,
     }
 }
