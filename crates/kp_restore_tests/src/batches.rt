@@ -76,6 +76,35 @@ fn edits_that_are_read_lead_to_the_table(rt: HostRuntime) -> Result<(), Fail> {
     Ok(())
 }
 
+/// Batches, and whether each chain has a rank behind them and each jump leads to one of a greater
+/// rank: a batch of no edits, an endpoint's chain that is emptied, that goes while a rule jumps to
+/// it, and that jumps back, to a chain of the other table and to itself, and a chain of no rank.
+const RANKED: &str = "true 
+true *nat|:KUBE-SEP- - [0:0]|COMMIT|
+false *nat|:KUBE-SEP- - [0:0]|-X KUBE-SEP-|COMMIT|
+false *nat|:KUBE-SEP- - [0:0]|-A KUBE-SEP- -j KUBE-SVC-|COMMIT|
+false *nat|:KUBE-SEP- - [0:0]|-A KUBE-SEP- -j KUBE-FORWARD|COMMIT|
+false *nat|:KUBE-SEP- - [0:0]|-A KUBE-SEP- -j KUBE-SEP-|COMMIT|
+false *nat|:KUBE - [0:0]|COMMIT|
+";
+
+/// Whether a row tells if the table is ranked behind its batch.
+fn tells_rank(alloc: Global, row: &str) -> Result<bool, Fail> {
+    let (ranked, text) = row.split_once(' ').ok_or("a row")?;
+    let text = with_line_feeds(alloc, text)?;
+    let mut table = table_of(alloc, TABLE)?;
+    table.apply(&read_batch(alloc, text.as_slice()).ok().ok_or("a batch")?)?;
+    Ok(table.is_ranked() == (ranked == "true"))
+}
+
+#[test]
+fn jumps_lead_to_chains_of_greater_ranks(rt: HostRuntime) -> Result<(), Fail> {
+    for row in RANKED.lines() {
+        assert!(rt; tells_rank(rt.alloc(), row)?, "at {row}");
+    }
+    Ok(())
+}
+
 /// Texts with a bad line: its number, and the text with `|` in the place of line feeds.
 const BAD_TEXTS: &str = "1 *nat
 1 |

@@ -7,3 +7,5 @@ mod batches;
 mod rules;
 #[cfg(test)]
 mod tables;
+#[cfg(test)]
+mod walked;
