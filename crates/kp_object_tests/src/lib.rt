@@ -1,12 +1,14 @@
-//! Tests of kp_service, kp_slice, kp_pod and kp_events: texts of objects; and of kp_desired,
-//! kp_packer and kp_category: one way from a Service and a pod to a list. What these three answer
-//! in other cases is worked out in the crate of worked examples.
+//! Tests of kp_service, kp_slice, kp_pod, kp_events and kp_script: texts of objects and lines of
+//! scripts; and of kp_desired, kp_packer and kp_category: one way from a Service and a pod to a
+//! list. What these three answer in other cases is worked out in the crate of worked examples.
 #![tactic(auto)]
 
 #[cfg(test)]
 mod events;
 #[cfg(test)]
 mod faults;
+#[cfg(test)]
+mod lines;
 #[cfg(test)]
 mod pod;
 #[cfg(test)]

@@ -126,10 +126,20 @@ fn set_of(alloc: Global, names: &[Text]) -> Result<IndexSet<Text>, NoMemory>
         → list_any (bytes_eq name) set.keys ≡ list_any (bytes_eq name) names.now) }
 {
     let mut set = IndexSet::new(alloc);
+    add_names(alloc, names, &mut set)?;
+    Ok(set)
+}
+
+/// Adds names to a set without one.
+fn add_names(alloc: Global, names: &[Text], set: &mut IndexSet<Text>) -> Result<(), NoMemory>
+    requires none { set.old.keys ≡ [] }
+    ensures { OnOk result ((name : List ℕ)
+        → list_any (bytes_eq name) set.new.keys ≡ list_any (bytes_eq name) names.now) }
+{
     for name in names {
         set.insert(name.copy(alloc)?)?;
     }
-    Ok(set)
+    Ok(())
 }
 
 /// A name of a Service's slices by its number.

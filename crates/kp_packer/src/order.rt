@@ -1,8 +1,8 @@
 //! Slices and names in order.
-ghost use Rattle.std.specs.Prelude.{◌≡◌, IfOk, map};
+ghost use Rattle.std.specs.Prelude.{◌≡◌, [], IfOk, OnOk, map};
 ghost use Rattle.std.specs.Map.Iter.{deref_pair};
 ghost use Rattle.kp_base.specs.Keys.{text_cmp};
-ghost use Rattle.kp_object_defs.specs.Order.{in_order};
+ghost use Rattle.kp_object_defs.specs.Order.{by_key, in_order};
 ghost use Rattle.kp_object_defs.specs.Packing as spec;
 ghost use Rattle.kp_packer.specs.Views.{shown};
 
@@ -27,10 +27,23 @@ pub fn sorted_slices(alloc: Global, slices: Vec<Slice>) -> Result<Items<Slice>, 
     ensures { IfOk result (λ sorted. sorted ≡ spec.in_slice_order slices.items) }
 {
     let mut by_name = BTreeMap::new(alloc);
+    add_slices(alloc, slices, &mut by_name)?;
+    Ok(Items::from_vec(values(alloc, by_name)?))
+}
+
+/// Adds slices by their names to a map without one.
+fn add_slices(
+    alloc: Global,
+    slices: Vec<Slice>,
+    by_name: &mut BTreeMap<Text, Slice>,
+) -> Result<(), NoMemory>
+    requires none { by_name.old.entries ≡ [] }
+    ensures { OnOk result (by_name.new.entries ≡ by_key text_cmp (λ s. s.key.name) slices.items) }
+{
     for slice in slices {
         by_name.insert(slice.key.name.copy(alloc)?, slice)?;
     }
-    Ok(Items::from_vec(values(alloc, by_name)?))
+    Ok(())
 }
 
 /// The values of a map, in the order of their keys.

@@ -1,6 +1,7 @@
 //! The third step: what is left goes into new slices, or into the fullest slice that has room for
 //! it.
-ghost use Rattle.std.specs.Prelude.{◌≡◌, ◌+◌, ◌<◌, ◌≤◌, map, drop, length, cond, None, Some, IfOk, OnOk};
+ghost use Rattle.std.specs.Prelude.{◌≡◌, ◌+◌, ◌<◌, ◌≤◌, ◌++◌, ◌∷◌, [], map, take, drop, length, cond};
+ghost use Rattle.std.specs.Prelude.{None, Some, IfOk, OnOk};
 ghost use Rattle.std.specs.List.{list_any, position};
 ghost use Rattle.kp_object_defs.specs.Packing as spec;
 ghost use Rattle.kp_packer.specs.Views.{shown, filling_of, progress_of, placed_of, with_made, IsChunked};
@@ -76,11 +77,26 @@ fn full_chunks<'a>(alloc: Global, most: usize, left: &[&'a Wanted]) -> Result<Ch
     let mut used = 0;
     while left.len() - used >= most {
         let (_, rest) = left.split_at(used);
-        let (chunk, _) = rest.split_at(most);
-        made.push(Vec::from_slice(alloc, chunk)?)?;
+        add_chunk(alloc, most, rest, &mut made)?;
         used += most;
     }
     Ok(Chunks { made, used })
+}
+
+/// Adds a full new slice of the first endpoints that are left.
+fn add_chunk<'a>(
+    alloc: Global,
+    most: usize,
+    left: &[&'a Wanted],
+    made: &mut Vec<Vec<&'a Wanted>>,
+) -> Result<(), NoMemory>
+    requires many { most ≤ length left.now }
+    ensures { OnOk result (map (λ v. shown v.items) made.new.items
+        ≡ map (λ v. shown v.items) made.old.items ++ shown (take most left.now) ∷ []) }
+{
+    let (chunk, _) = left.split_at(most);
+    made.push(Vec::from_slice(alloc, chunk)?)?;
+    Ok(())
 }
 
 /// How many endpoints the fullest unchanged slice with room for so many more has, if there is one.

@@ -1,5 +1,5 @@
 //! Lists of ports in order, and the groups that they make.
-ghost use Rattle.std.specs.Prelude.{◌≡◌, List, IfOk, map};
+ghost use Rattle.std.specs.Prelude.{◌≡◌, List, [], IfOk, OnOk, map};
 ghost use Rattle.kp_types.specs.declared.slice.SlicePort.{SlicePort as Port};
 ghost use Rattle.kp_object_defs.specs.Packing as spec;
 
@@ -55,8 +55,21 @@ pub fn groups_of(alloc: Global, wanted: &[Wanted]) -> Result<IndexSet<Vec<SliceP
     ensures { IfOk result (λ groups. map (λ g. g.items) groups.keys ≡ spec.groups_of wanted.now) }
 {
     let mut groups = IndexSet::new(alloc);
+    add_groups(alloc, wanted, &mut groups)?;
+    Ok(groups)
+}
+
+/// Adds the groups of wanted endpoints where there is none.
+fn add_groups(
+    alloc: Global,
+    wanted: &[Wanted],
+    groups: &mut IndexSet<Vec<SlicePort>>,
+) -> Result<(), NoMemory>
+    requires none { groups.old.keys ≡ [] }
+    ensures { OnOk result (map (λ g. g.items) groups.new.keys ≡ spec.groups_of wanted.now) }
+{
     for endpoint in wanted {
         groups.insert(sorted_ports(alloc, &endpoint.ports)?)?;
     }
-    Ok(groups)
+    Ok(())
 }

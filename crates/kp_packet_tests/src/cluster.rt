@@ -5,14 +5,13 @@ ghost use Rattle.kp_choice_defs.specs.Draws.{draw_of_list};
 ghost use Rattle.kp_text_defs.specs.ListedDraws.{listed};
 
 use crate::draws::draw_at;
-use crate::transcript::Session;
-use crate::walks::{answer_on, verdict_on};
+use crate::walks::push_walk;
 use kp_base::{Config, NoMemory, Steps};
 use kp_decide::decide;
 use kp_draws::DrawSource;
 use kp_full_table::{TableFault, rebuild};
 use kp_recent::RecentLists;
-use kp_report::{push_answer, push_explain, push_refusal, push_sync, push_trail};
+use kp_report::{push_explain, push_refusal, push_sync};
 use kp_rules::{Batch, Edit, Table, changed};
 use kp_script::{LineRefusal, Op, PacketLine};
 use kp_store::Objects;
@@ -34,18 +33,37 @@ pub struct Cluster {
 }
 
 impl Cluster {
-    /// A cluster without objects.
-    pub fn new(alloc: Global, config: Config) -> Result<Cluster, TableFault> {
-        let objects = Objects::new(alloc);
+    /// A cluster without objects, of which no chains clash.
+    pub fn new(alloc: Global, config: Config) -> Result<Cluster, Fail> {
         let lists = RecentLists::new(alloc, config.recent_size)?;
-        let table = table_of(alloc, &objects, &config)?;
-        Ok(Cluster {
-            config,
-            objects,
-            events: 0,
-            table,
-            lists,
-        })
+        let objects = Objects::new(alloc);
+        match table_of(alloc, &objects, &config) {
+            Ok(table) => Ok(Cluster {
+                config,
+                objects,
+                events: 0,
+                table,
+                lists,
+            }),
+            Err(_) => Err(Fail::from("a table")),
+        }
+    }
+
+    /// Does what a line asks for, and adds what it prints.
+    pub fn take(
+        &mut self,
+        alloc: Global,
+        number: u64,
+        op: &Op,
+        text: &mut String,
+    ) -> Result<(), Fail> {
+        match op {
+            Op::Events(events) => Ok(self.apply(alloc, events.as_slice())?),
+            Op::Sync => Ok(self.sync(alloc, number, text)?),
+            Op::Packet(line) => self.answer(number, line, text),
+            Op::Explain(line) => Ok(self.explain(alloc, number, line, text)?),
+            _ => Err(Fail::from("an event, a sync or a packet")),
+        }
     }
 
     fn apply(&mut self, alloc: Global, events: &[Event]) -> Result<(), NoMemory> {
@@ -56,26 +74,40 @@ impl Cluster {
         Ok(())
     }
 
-    /// Leads the table over to that of the objects by now.
-    fn sync(&mut self, alloc: Global, text: &mut String) -> Result<(), TableFault> {
-        let table = table_of(alloc, &self.objects, &self.config)?;
-        let batch = lead_over(alloc, &mut self.table, &table)?;
-        push_batch(text, self.table.syncs(), self.events, &batch)?;
+    /// Leads the table over to that of the objects by now, where no two chains have one name.
+    fn sync(&mut self, alloc: Global, number: u64, text: &mut String) -> Result<(), NoMemory> {
+        match table_of(alloc, &self.objects, &self.config) {
+            Ok(table) => self.lead_to(alloc, &table, text),
+            Err(TableFault::ChainClash(clash)) => {
+                push_refusal(alloc, text, number, &LineRefusal::ChainClash(clash))
+            }
+            Err(TableFault::NoMemory) => Err(NoMemory),
+        }
+    }
+
+    /// Leads the table over to another one, by the edits between them.
+    fn lead_to(&mut self, alloc: Global, next: &Table, text: &mut String) -> Result<(), NoMemory> {
+        let batch = changed(alloc, &self.table, next)?;
+        self.make(&batch, text)
+    }
+
+    /// Makes the edits of a sync, and adds its line.
+    fn make(&mut self, batch: &Batch, text: &mut String) -> Result<(), NoMemory> {
+        self.table.apply(batch)?;
+        push_batch(text, self.table.syncs(), self.events, batch)?;
         self.events = 0;
         Ok(())
     }
 
     fn answer(&mut self, number: u64, line: &PacketLine, text: &mut String) -> Result<(), Fail> {
-        let sync = self.table.syncs();
-        if line.trail {
-            let answer = answer_on(&self.table, &self.config, number, line, &mut self.lists)?;
-            push_answer(text, number, sync, &answer.verdict)?;
-            push_trail(text, number, &answer.trail)?;
-        } else {
-            let verdict = verdict_on(&self.table, &self.config, number, line, &mut self.lists)?;
-            push_answer(text, number, sync, &verdict)?;
-        }
-        Ok(())
+        push_walk(
+            &self.table,
+            &self.config,
+            number,
+            line,
+            &mut self.lists,
+            text,
+        )
     }
 
     fn explain(
@@ -113,28 +145,6 @@ impl Cluster {
     }
 }
 
-impl Session for Cluster {
-    fn take(&mut self, alloc: Global, number: u64, op: Op, text: &mut String) -> Result<(), Fail> {
-        match op {
-            Op::Config(config) => *self = new_cluster(alloc, config)?,
-            Op::Events(events) => self.apply(alloc, events.as_slice())?,
-            Op::Sync => tell_clash(alloc, number, self.sync(alloc, text), text)?,
-            Op::Packet(line) => self.answer(number, &line, text)?,
-            Op::Explain(line) => self.explain(alloc, number, &line, text)?,
-            Op::Show(_) => return Err(Fail::from("a line that shows nothing")),
-        }
-        Ok(())
-    }
-}
-
-/// A cluster without objects, of which no chains clash.
-pub fn new_cluster(alloc: Global, config: Config) -> Result<Cluster, Fail> {
-    match Cluster::new(alloc, config) {
-        Ok(cluster) => Ok(cluster),
-        Err(_) => Err(Fail::from("a table")),
-    }
-}
-
 /// The full table of objects.
 fn table_of(alloc: Global, objects: &Objects, config: &Config) -> Result<Table, TableFault> {
     uncounted::<Brand>(alloc, Blank::new(1), objects, config)
@@ -155,36 +165,8 @@ fn uncounted<L: Ledger>(
     rebuild(alloc, objects, config, &mut steps)
 }
 
-/// Leads a table over to another one, by the edits between them.
-fn lead_over(alloc: Global, table: &mut Table, next: &Table) -> Result<Batch, NoMemory> {
-    let batch = changed(alloc, table, next)?;
-    table.apply(&batch)?;
-    Ok(batch)
-}
-
-/// Adds the refusal of a sync, where two chains have one name.
-pub fn tell_clash(
-    alloc: Global,
-    number: u64,
-    synced: Result<(), TableFault>,
-    text: &mut String,
-) -> Result<(), NoMemory> {
-    match synced {
-        Ok(()) => Ok(()),
-        Err(TableFault::ChainClash(clash)) => {
-            push_refusal(alloc, text, number, &LineRefusal::ChainClash(clash))
-        }
-        Err(TableFault::NoMemory) => Err(NoMemory),
-    }
-}
-
 /// Adds the line of a sync with this batch.
-pub fn push_batch(
-    text: &mut String,
-    sync: u64,
-    events: u64,
-    batch: &Batch,
-) -> Result<(), NoMemory> {
+fn push_batch(text: &mut String, sync: u64, events: u64, batch: &Batch) -> Result<(), NoMemory> {
     let edits = batch.edits.as_slice();
     let written = edits.iter().filter(|edit| is_write(*edit)).count() as u64;
     let removed = (edits.len() as u64).saturating_sub(written);

@@ -1,9 +1,6 @@
 //! Transcripts of packets to every kind of door. A line that begins with a space goes on with the
 //! line before.
-use crate::cluster::new_cluster;
-use crate::transcript::{follow, joined, op_of};
-use kp_base::Config;
-use kp_script::Op;
+use crate::transcript::follow;
 use std::alloc::Global;
 use std::process::Abort;
 use std::test::Fail;
@@ -458,45 +455,35 @@ packet 16 at 2: to 10.244.1.2:8080
 sync 3: events 0, written 0, removed 0
 "#;
 
-/// The configuration that a transcript begins with.
-fn config_of(alloc: Global, transcript: &str) -> Result<Config, Fail> {
-    let line = transcript.lines().next().ok_or("a line")?;
-    match op_of(alloc, 1, line)? {
-        Op::Config(config) => Ok(config),
-        _ => Err(Fail::from("a configuration")),
-    }
-}
-
-/// What the table of a cluster and its decisions answer, and what a transcript says.
-fn by_tables(alloc: Global, transcript: &str) -> Result<(String, String), Fail> {
-    let transcript = joined(alloc, transcript)?;
-    let config = config_of(alloc, transcript.as_str())?;
-    let mut cluster = new_cluster(alloc, config)?;
-    follow(alloc, &mut cluster, transcript.as_str())
-}
-
-fn check(rt: &impl Abort, alloc: Global, transcripts: &[&str]) -> Result<(), Fail> {
-    for transcript in transcripts {
-        let (printed, wanted) = by_tables(alloc, *transcript)?;
-        assert_eq!(rt; printed.as_str(), wanted.as_str());
-    }
+/// What the tables and the decisions of a cluster print is what its transcript says.
+fn check(rt: &impl Abort, alloc: Global, transcript: &str) -> Result<(), Fail> {
+    let transcript = transcript.replace(alloc, "\n ", "")?;
+    let mut printed = String::new(alloc);
+    let mut wanted = String::new(alloc);
+    follow(alloc, transcript.as_str(), &mut printed, &mut wanted)?;
+    assert_eq!(rt; printed.as_str(), wanted.as_str());
     Ok(())
 }
 
 #[test]
 fn packets_to_cluster_addresses(rt: HostRuntime) -> Result<(), Fail> {
-    let transcripts = [CLUSTER_ADDRESSES, NO_ENDPOINTS, CONDITIONS_AND_HINTS, PODS];
-    check(&rt, rt.alloc(), &transcripts)
+    check(&rt, rt.alloc(), CLUSTER_ADDRESSES)?;
+    check(&rt, rt.alloc(), NO_ENDPOINTS)?;
+    check(&rt, rt.alloc(), CONDITIONS_AND_HINTS)?;
+    check(&rt, rt.alloc(), PODS)
 }
 
 #[test]
 fn packets_from_outside(rt: HostRuntime) -> Result<(), Fail> {
-    let transcripts = [NODE_PORTS, EXTERNAL_ADDRESSES, SOURCE_RANGES];
-    check(&rt, rt.alloc(), &transcripts)
+    check(&rt, rt.alloc(), NODE_PORTS)?;
+    check(&rt, rt.alloc(), EXTERNAL_ADDRESSES)?;
+    check(&rt, rt.alloc(), SOURCE_RANGES)
 }
 
 #[test]
 fn sources_of_late_trails_and_names(rt: HostRuntime) -> Result<(), Fail> {
-    let transcripts = [AFFINITY, FULL_LIST, TRAILS, CLASHES];
-    check(&rt, rt.alloc(), &transcripts)
+    check(&rt, rt.alloc(), AFFINITY)?;
+    check(&rt, rt.alloc(), FULL_LIST)?;
+    check(&rt, rt.alloc(), TRAILS)?;
+    check(&rt, rt.alloc(), CLASHES)
 }

@@ -4,8 +4,6 @@
 #[cfg(test)]
 mod cluster;
 #[cfg(test)]
-mod destinations;
-#[cfg(test)]
 mod doors;
 #[cfg(test)]
 mod draws;

@@ -1,11 +1,12 @@
 //! What each look-up finds among the objects after events.
 use crate::transcript::op_of;
-use kp_base::{Items, NoMemory, ObjectKey, Text};
+use kp_base::{Address, Items, NoMemory, ObjectKey, PortNo, Proto, Text};
 use kp_print::push;
 use kp_script::Op;
 use kp_store::Objects;
-use kp_types::{Event, Kind, Node, Pod, Slice};
+use kp_types::{Event, Kind, Node, Pod, Service, Slice};
 use std::alloc::Global;
+use std::process::Abort;
 use std::test::Fail;
 
 /// Objects of two namespaces, of which some come twice.
@@ -41,16 +42,19 @@ fn delete(alloc: Global, objects: &mut Objects, kind: Kind, name: &str) -> Resul
     objects.apply(alloc, &Event::Delete { kind, key })
 }
 
-/// The objects after the list. A node is in no namespace, so that none goes.
-fn objects(alloc: Global) -> Result<Objects, Fail> {
-    let Op::Events(events) = op_of(alloc, 1, APPLIED)? else {
-        return Err(Fail::from("events"));
-    };
-    let mut objects = Objects::from_events(alloc, events.as_slice())?;
-    delete(alloc, &mut objects, Kind::Service, "gone")?;
-    delete(alloc, &mut objects, Kind::Pod, "gone")?;
-    delete(alloc, &mut objects, Kind::Node, "n1")?;
-    Ok(objects)
+/// Takes out what is there under these keys. A node is in no namespace, so that none goes.
+fn delete_some(alloc: Global, objects: &mut Objects) -> Result<(), NoMemory> {
+    delete(alloc, objects, Kind::Service, "gone")?;
+    delete(alloc, objects, Kind::Pod, "gone")?;
+    delete(alloc, objects, Kind::Node, "n1")
+}
+
+/// The objects of a list.
+fn objects_of(alloc: Global, list: &str) -> Result<Objects, Fail> {
+    match op_of(alloc, 1, list)? {
+        Op::Events(events) => Ok(Objects::from_events(alloc, events.as_slice())?),
+        _ => Err(Fail::from("events")),
+    }
 }
 
 /// An object with a name.
@@ -102,22 +106,45 @@ fn name(alloc: Global, found: Option<&Text>) -> Result<String, NoMemory> {
     Ok(text)
 }
 
-/// Whether each of these words is the answer of a call.
-fn is_right(alloc: Global, objects: &Objects, row: &str) -> Result<bool, Fail> {
-    let (asked, want) = row.split_once(":").ok_or("a colon")?;
-    let (look, asked) = asked.split_once(" ").ok_or("a call")?;
+/// The names that a call answers.
+fn answer(
+    alloc: Global,
+    objects: &Objects,
+    call: &str,
+    key: &ObjectKey,
+) -> Result<String, NoMemory> {
+    match call {
+        "services" => names(alloc, objects.services(alloc)?),
+        "service" => name(alloc, objects.service(key).map(|s| &s.key.name)),
+        "nodes" => names(alloc, objects.nodes(alloc)?),
+        "services_of_pod" => names(alloc, objects.services_of_pod(alloc, key)?),
+        "slices_of" => names(alloc, objects.slices_of(alloc, key)?),
+        "pods_of" => names(alloc, objects.pods_of(alloc, key)?),
+        _ => name(alloc, objects.zone_of(&key.name)),
+    }
+}
+
+/// What a call answers to a namespace and a name that stand apart by a slash.
+fn answer_to(alloc: Global, objects: &Objects, call: &str, asked: &str) -> Result<String, Fail> {
     let (namespace, asked) = asked.split_once("/").ok_or("a key")?;
     let key = object(alloc, namespace, asked)?;
-    let found = match look {
-        "services" => names(alloc, objects.services(alloc)?)?,
-        "service" => name(alloc, objects.service(&key).map(|s| &s.key.name))?,
-        "nodes" => names(alloc, objects.nodes(alloc)?)?,
-        "services_of_pod" => names(alloc, objects.services_of_pod(alloc, &key)?)?,
-        "slices_of" => names(alloc, objects.slices_of(alloc, &key)?)?,
-        "pods_of" => names(alloc, objects.pods_of(alloc, &key)?)?,
-        _ => name(alloc, objects.zone_of(&key.name))?,
-    };
+    Ok(answer(alloc, objects, call, &key)?)
+}
+
+/// Whether the names behind a row's colon are the answer of its call.
+fn is_right(alloc: Global, objects: &Objects, row: &str) -> Result<bool, Fail> {
+    let (asked, want) = row.split_once(":").ok_or("a colon")?;
+    let (call, asked) = asked.split_once(" ").ok_or("a call")?;
+    let found = answer_to(alloc, objects, call, asked)?;
     Ok(found.as_str() == want)
+}
+
+/// Each row's call answers its names.
+fn check(rt: &impl Abort, alloc: Global, objects: &Objects, rows: &str) -> Result<(), Fail> {
+    for row in rows.lines() {
+        assert!(rt; is_right(alloc, objects, row)?, "{row}");
+    }
+    Ok(())
 }
 
 /// A call, the namespace and name that it asks for, and the names that it answers.
@@ -138,18 +165,86 @@ zone_of /n2:";
 
 #[test]
 fn each_look_up_finds_its_objects_in_order(rt: HostRuntime) -> Result<(), Fail> {
-    let objects = objects(rt.alloc())?;
-    for row in ANSWERS.lines() {
-        assert!(rt; is_right(rt.alloc(), &objects, row)?, "{row}");
-    }
-    Ok(())
+    let mut objects = objects_of(rt.alloc(), APPLIED)?;
+    delete_some(rt.alloc(), &mut objects)?;
+    check(&rt, rt.alloc(), &objects, ANSWERS)
 }
 
 #[test]
 fn without_events_there_are_no_objects(rt: HostRuntime) -> Result<(), Fail> {
-    let objects = Objects::new(rt.alloc());
-    for row in ["services /:", "nodes /:"] {
-        assert!(rt; is_right(rt.alloc(), &objects, row)?, "{row}");
+    check(
+        &rt,
+        rt.alloc(),
+        &Objects::new(rt.alloc()),
+        "services /:\nnodes /:",
+    )
+}
+
+/// A load balancer, and a Service at one of its addresses.
+const BALANCED: &str = r#"{"kind":"List","items":[
+ {"kind":"Service","metadata":{"name":"web"},
+ "spec":{"type":"LoadBalancer","clusterIP":"10.96.0.10","externalIPs":["203.0.113.5"],
+ "ports":[{"port":80,"targetPort":8080,"nodePort":30080}]},
+ "status":{"loadBalancer":{"ingress":[{"ip":"203.0.113.9"}]}}},
+ {"kind":"Service","metadata":{"name":"api"},
+ "spec":{"clusterIP":"10.96.0.11","externalIPs":["203.0.113.5"],"ports":[{"port":80}]}}]}"#;
+
+/// Each destination, the node port at any address, and others beside them, with the names of the
+/// Services that may answer there.
+const DESTINATIONS: &str = "TCP 10.96.0.10 80: web
+TCP 203.0.113.5 80: api web
+TCP 203.0.113.9 80: web
+TCP 10.0.0.1 30080: web
+UDP 10.96.0.10 80:
+TCP 10.96.0.10 81:
+TCP 10.96.0.12 80:";
+
+/// The names of Services, with a space before each.
+fn names_of(alloc: Global, services: &[&Service]) -> Result<String, NoMemory> {
+    let mut text = String::new(alloc);
+    for service in services {
+        push(&mut text, " ")?;
+        push(&mut text, service.key.name.as_str())?;
+    }
+    Ok(text)
+}
+
+/// The names of the Services at a destination.
+fn names_at(
+    alloc: Global,
+    objects: &Objects,
+    proto: &str,
+    address: &Address,
+    port: PortNo,
+) -> Result<String, NoMemory> {
+    let proto = match proto {
+        "TCP" => Proto::Tcp,
+        _ => Proto::Udp,
+    };
+    names_of(alloc, &objects.services_at(alloc, proto, address, port)?)
+}
+
+/// The port of a text.
+fn port_of(text: &str) -> Result<PortNo, Fail> {
+    let number = text.parse::<u64>().ok().ok_or("a number")?;
+    Ok(PortNo::new(number).ok_or("a port")?)
+}
+
+/// Whether the names behind a row's colon are those of the Services at its destination.
+fn is_at(alloc: Global, objects: &Objects, row: &str) -> Result<bool, Fail> {
+    let (asked, want) = row.split_once(":").ok_or("a colon")?;
+    let (proto, asked) = asked.split_once(" ").ok_or("a protocol")?;
+    let (address, port) = asked.split_once(" ").ok_or("an address")?;
+    let address = Address::parse(address.as_bytes())?;
+    let found = names_at(alloc, objects, proto, &address, port_of(port)?)?;
+    Ok(found.as_str() == want)
+}
+
+#[test]
+fn services_are_found_by_their_destinations(rt: HostRuntime) -> Result<(), Fail> {
+    let objects = objects_of(rt.alloc(), BALANCED)?;
+    for row in DESTINATIONS.lines() {
+        assert!(rt; is_at(rt.alloc(), &objects, row)?, "{row}");
     }
     Ok(())
 }

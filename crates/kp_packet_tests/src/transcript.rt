@@ -1,40 +1,63 @@
 //! Transcripts: the lines of a script, and behind each line what it prints.
+use crate::cluster::Cluster;
 use kp_base::NoMemory;
 use kp_print::push;
 use kp_script::{Op, line_of};
 use std::alloc::Global;
 use std::test::Fail;
 
-/// What takes the lines of a script one after another.
-pub trait Session {
-    /// Takes the line of this number, and adds what it prints.
-    fn take(&mut self, alloc: Global, number: u64, op: Op, text: &mut String) -> Result<(), Fail>;
-}
-
-/// A transcript whose lines that begin with a space stand behind the line before.
-pub fn joined(alloc: Global, transcript: &str) -> Result<String, NoMemory> {
-    Ok(transcript.replace(alloc, "\n ", "")?)
-}
-
-/// What a session prints, and what its transcript says that it does. The lines of a transcript that
-/// begin with a brace are its script.
-pub fn follow<S: Session>(
+/// Adds what a cluster prints by the tables of its syncs and by its decisions, and what its
+/// transcript says that it does. The lines of a transcript that begin with a brace are its script,
+/// whose first line is a configuration.
+pub fn follow(
     alloc: Global,
-    session: &mut S,
     transcript: &str,
-) -> Result<(String, String), Fail> {
-    let mut printed = String::new(alloc);
-    let mut wanted = String::new(alloc);
-    let mut number: u64 = 0;
+    printed: &mut String,
+    wanted: &mut String,
+) -> Result<(), Fail> {
+    let (first, rest) = transcript.split_once('\n').ok_or("a line")?;
+    let mut cluster = cluster_of(alloc, first)?;
+    go_on(alloc, &mut cluster, rest, printed, wanted)
+}
+
+/// A cluster with the configuration of a line.
+fn cluster_of(alloc: Global, line: &str) -> Result<Cluster, Fail> {
+    match op_of(alloc, 1, line)? {
+        Op::Config(config) => Cluster::new(alloc, config),
+        _ => Err(Fail::from("a configuration")),
+    }
+}
+
+/// Goes on from the second line.
+fn go_on(
+    alloc: Global,
+    cluster: &mut Cluster,
+    transcript: &str,
+    printed: &mut String,
+    wanted: &mut String,
+) -> Result<(), Fail> {
+    let mut number: u64 = 1;
     for line in transcript.lines() {
         if line.starts_with('{') {
             number = number.saturating_add(1);
-            session.take(alloc, number, op_of(alloc, number, line)?, &mut printed)?;
+            take_line(alloc, cluster, number, line, printed)?;
         } else {
-            push_line(&mut wanted, line)?;
+            push_line(wanted, line)?;
         }
     }
-    Ok((printed, wanted))
+    Ok(())
+}
+
+/// Takes the line of this number, and adds what it prints.
+fn take_line(
+    alloc: Global,
+    cluster: &mut Cluster,
+    number: u64,
+    line: &str,
+    printed: &mut String,
+) -> Result<(), Fail> {
+    let op = op_of(alloc, number, line)?;
+    cluster.take(alloc, number, &op, printed)
 }
 
 /// What the line of this number asks for.

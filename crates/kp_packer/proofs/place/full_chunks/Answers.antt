@@ -1,5 +1,5 @@
 use Rattle.std.proofs.Common.{rules, ◌≡◌, ◌+◌, ◌-◌, ◌≤◌, ◌∙◌, ◌++◌, ◌∷◌, [], ap, sym, map, take, drop, length, arith}
-use Rattle.std.proofs.lemmas.List.{map-append, length-map, length-drop, drop-drop}
+use Rattle.std.proofs.lemmas.List.{length-map, length-drop, drop-drop}
 use Rattle.std.specs.List.{take-map, drop-map}
 use Rattle.kp_object_defs.specs.Packing as spec
 use Rattle.kp_packer.specs.Views.{shown, with_made}
@@ -13,14 +13,11 @@ loop-used-preserved c =
     let most = c.args.most in
     let rest = shown (drop used left) in
     let made = map (λ v. shown v.items) c.loop-used.made.items in
-    let chunk = c.in_ok-from_slice.field-0 in
     let many : most ≤ length left - used = search rules in
-    let pushed : c.push.new.self.items ≡ c.loop-used.made.items ++ chunk ∷ [] = search rules in
-    let taken : chunk.items ≡ take most (drop used left) = search rules in
-    let longer : map (λ v. shown v.items) c.push.new.self.items ≡ made ++ take most rest ∷ [] =
-    ap (map (λ v. shown v.items)) pushed
-    ∙ map-append (λ v. shown v.items) c.loop-used.made.items (chunk ∷ [])
-    ∙ ap (λ l. made ++ shown l ∷ []) taken
+    let behind_used : c.split_at.result.1.now ≡ drop used left = search rules in
+    let longer : map (λ v. shown v.items) c.add_chunk.new.made.items ≡ made ++ take most rest ∷ [] =
+    c.in_ok-add_chunk.ensures
+    ∙ ap (λ l. made ++ shown (take most l) ∷ []) behind_used
     ∙ ap (λ l. made ++ l ∷ []) (sym (take-map (λ b. b.now) most (drop used left))) in
     let behind : shown (drop (used + most) left) ≡ drop most rest =
     ap shown (sym (drop-drop most used left)) ∙ sym (drop-map (λ b. b.now) most (drop used left)) in

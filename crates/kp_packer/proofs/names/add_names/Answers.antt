@@ -1,6 +1,6 @@
 use Rattle.std.proofs.Common.{rules, ◌≡◌, ◌∙◌, true, cond, bytes_eq}
 use Rattle.kp_packer.proofs.Naming.{one_more_name}
-use Rattle.kp_packer.proofs.names.set_of.Goals as goal
+use Rattle.kp_packer.proofs.names.add_names.Goals as goal
 
 pub loop-name-preserved : goal.loop-name-preserved
 loop-name-preserved c = λ name.

@@ -2,7 +2,7 @@ use Rattle.std.proofs.Common.{rules, ◌≡◌, ◌∙◌, sym, refl}
 use Rattle.std.specs.FinMap.{put}
 use Rattle.kp_base.specs.Keys.{text_cmp}
 use Rattle.kp_object_defs.proofs.InOrder.{insert-put, by_key-push}
-use Rattle.kp_packer.proofs.order.sorted_slices.Goals as goal
+use Rattle.kp_packer.proofs.order.add_slices.Goals as goal
 
 pub loop-slice-preserved-in_ok-insert : goal.loop-slice-preserved-in_ok-insert
 loop-slice-preserved-in_ok-insert c =

@@ -6,7 +6,7 @@ use Rattle.kp_types.specs.declared.slice.Wanted.{Wanted}
 use Rattle.kp_object_defs.specs.Order.{first_places}
 use Rattle.kp_object_defs.specs.Packing as spec
 use Rattle.kp_packer.proofs.Grouping.{ports_alike, first_places-push, seen_insert}
-use Rattle.kp_packer.proofs.ports.groups_of.Goals as goal
+use Rattle.kp_packer.proofs.ports.add_groups.Goals as goal
 
 pub loop-endpoint-preserved : goal.loop-endpoint-preserved
 loop-endpoint-preserved c =

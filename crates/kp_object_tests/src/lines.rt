@@ -1,6 +1,6 @@
 //! Script lines, with what each is read as.
+use crate::words::is_fault;
 use kp_base::{Address, Config, PortNo, Proto, Text};
-use kp_json::{BadField, Why};
 use kp_script::{
     Draws, LineRefusal, Op, PacketLine, Scratch, ScriptFault, ScriptLine, Shown, default_config,
     line_of, line_with,
@@ -8,20 +8,6 @@ use kp_script::{
 use kp_types::{Origin, Packet};
 use std::alloc::Global;
 use std::test::Fail;
-
-/// A reason in a word.
-fn why_word(why: Why) -> &'static str {
-    match why {
-        Why::Missing => "Missing",
-        Why::WrongType => "WrongType",
-        Why::OutOfRange => "OutOfRange",
-        Why::BadName => "BadName",
-        Why::BadAddress => "BadAddress",
-        Why::BadCidr => "BadCidr",
-        Why::DuplicatePort => "DuplicatePort",
-        Why::TooMany => "TooMany",
-    }
-}
 
 /// What an operation is, in a word.
 fn op_word(op: &Op) -> &'static str {
@@ -38,14 +24,6 @@ fn op_word(op: &Op) -> &'static str {
         Op::Show(Shown::Nat) => "nat",
         Op::Show(Shown::Filter) => "filter",
         Op::Show(Shown::Batch) => "batch",
-    }
-}
-
-/// Whether a fault is told by these words: why, and where.
-fn is_fault(bad: &BadField, wanted: &str) -> bool {
-    match wanted.split_once(" ") {
-        Some((why, path)) => why == why_word(bad.why) && path == bad.path.as_str(),
-        None => false,
     }
 }
 

@@ -1,5 +1,0 @@
-//! Tests of kp_script's reader of script lines.
-#![tactic(auto)]
-
-#[cfg(test)]
-mod lines;
