@@ -13,7 +13,7 @@ use Rattle.kp_lemmas.proofs.Orders.{equal_from_test}
 use Rattle.kp_base.specs.Keys.{key_cmp}
 use Rattle.kp_base.specs.declared.key.ObjectKey.{ObjectKey}
 use Rattle.kp_base.proofs.KeyOrder.{key_total}
-use Rattle.kp_store.specs.Indexes.{Bucket, has, is_among, is_pair, is_tag_of, is_lost}
+use Rattle.kp_store.specs.Indexes.{Keys, has, is_among, is_pair, is_tag_of, is_lost}
 
 -- what follows from a call's clause at Ok, and at Err
 pub on_ok : {A E P Q : Type 0} (r : Result A E) → OnOk r P → (P → Q) → OnOk r Q
@@ -83,15 +83,15 @@ some_and : {X : Type 0} (b : Bool) (o : Option X) → is_some (cond b None o) �
 some_and true o = refl
 some_and false o = refl
 
-pub in_inserted : (m : Bucket) (key k : ObjectKey) → contains_key (insert m key tt) k ≡ eq_by_cmp key_cmp k key || contains_key m k
+pub in_inserted : (m : Keys) (key k : ObjectKey) → contains_key (insert m key tt) k ≡ eq_by_cmp key_cmp k key || contains_key m k
 in_inserted m key k = ap is_some (get-insert key_total m key tt k) ∙ some_or (eq_by_cmp key_cmp k key) tt (get m k)
 
-in_removed : (m : Bucket) (key k : ObjectKey) → contains_key (remove m key) k ≡ not (eq_by_cmp key_cmp k key) && contains_key m k
+in_removed : (m : Keys) (key k : ObjectKey) → contains_key (remove m key) k ≡ not (eq_by_cmp key_cmp k key) && contains_key m k
 in_removed m key k = ap is_some (get-remove key_total m key k) ∙ some_and (eq_by_cmp key_cmp k key) (get m k)
 
 module _ {T : Type 0} (cmp : T → T → Ordering) (total : IsTotalOrder cmp) where
   -- tags that tie have one bucket
-  lookup_tied : (tag t : T) → cmp tag t ≡ Equal → (es : List (T × Bucket)) → lookup (eq_by_cmp cmp t) es ≡ lookup (eq_by_cmp cmp tag) es
+  lookup_tied : (tag t : T) → cmp tag t ≡ Equal → (es : List (T × Keys)) → lookup (eq_by_cmp cmp t) es ≡ lookup (eq_by_cmp cmp tag) es
   lookup_tied tag t tie [] = refl
   lookup_tied tag t tie (e ∷ es) = λ i. cond (is_eq (sym (total.congr tag t e.0 tie) i)) (Some e.1) (lookup_tied tag t tie es i)
 
@@ -99,7 +99,7 @@ module _ {T : Type 0} (cmp : T → T → Ordering) (total : IsTotalOrder cmp) wh
   among_tied tag t tie [] = refl
   among_tied tag t tie (u ∷ us) = λ i. is_eq (sym (total.congr tag t u tie) i) || among_tied tag t tie us i
 
-  module _ (es fs : List (T × Bucket)) (tag : T) (w : Bucket) (h : (t : T) → lookup (eq_by_cmp cmp t) fs ≡ cond (eq_by_cmp cmp tag t) (Some w) (lookup (eq_by_cmp cmp t) es)) where
+  module _ (es fs : List (T × Keys)) (tag : T) (w : Keys) (h : (t : T) → lookup (eq_by_cmp cmp t) fs ≡ cond (eq_by_cmp cmp tag t) (Some w) (lookup (eq_by_cmp cmp t) es)) where
     -- what the new bucket is, and that others stay
     here : (t : T) (k : ObjectKey) → eq_by_cmp cmp tag t ≡ true → has cmp fs t k ≡ contains_key w k
     here t k e = ap (λ o. contains_key (unwrap_or o empty) k) (h t ∙ ap (λ b. cond b (Some w) (lookup (eq_by_cmp cmp t) es)) e)
@@ -150,7 +150,7 @@ module _ {T : Type 0} (cmp : T → T → Ordering) (total : IsTotalOrder cmp) wh
     stayed is t k = stayed_by is t k (eq_by_cmp cmp tag t) refl
 
   -- a tag that has no bucket has no keys to remove
-  pub none_removed : (es : List (T × Bucket)) (tag : T) (key : ObjectKey) → lookup (eq_by_cmp cmp tag) es ≡ None → (t : T) (k : ObjectKey) → has cmp es t k ≡ not (is_pair cmp tag key t k) && has cmp es t k
+  pub none_removed : (es : List (T × Keys)) (tag : T) (key : ObjectKey) → lookup (eq_by_cmp cmp tag) es ≡ None → (t : T) (k : ObjectKey) → has cmp es t k ≡ not (is_pair cmp tag key t k) && has cmp es t k
   none_removed es tag key none t k = by (eq_by_cmp cmp tag t) refl
     where
       by : (b : Bool) → eq_by_cmp cmp tag t ≡ b → has cmp es t k ≡ not (is_pair cmp tag key t k) && has cmp es t k

@@ -9,7 +9,7 @@ use Rattle.std.proofs.lemmas.List.{take_more}
 use Rattle.std.proofs.lemmas.List.Folds.{list_any-append}
 use Rattle.kp_base.specs.Keys.{key_cmp}
 use Rattle.kp_base.specs.declared.key.ObjectKey.{ObjectKey}
-use Rattle.kp_store.specs.Indexes.{Bucket, is_among, is_tagged}
+use Rattle.kp_store.specs.Indexes.{Keys, is_among, is_tagged}
 use Rattle.kp_store.proofs.Buckets.{or_none}
 use Rattle.kp_store.proofs.Found.{passes, found_passes}
 
@@ -60,7 +60,7 @@ union_more in_bucket tags i t new old lt is added before =
     added ∙ ap (λ b. in_bucket t || b) before ∙ any_more in_bucket tags i t lt is
 
 -- the objects of the keys with any of the tags
-pub found_any : {T X : Type 0} (cmp : T → T → Ordering) (tags : X → List T) (wanted : List T) (m : FinMap key_cmp X) (keys : Bucket) → ((k : ObjectKey) → contains_key keys k ≡ list_any (λ t. is_tagged cmp tags t (get m k)) wanted) → filter_map (get m) (finite.keys keys) ≡ filter (λ x. list_any (is_among cmp (tags x)) wanted) (finite.values m)
+pub found_any : {T X : Type 0} (cmp : T → T → Ordering) (tags : X → List T) (wanted : List T) (m : FinMap key_cmp X) (keys : Keys) → ((k : ObjectKey) → contains_key keys k ≡ list_any (λ t. is_tagged cmp tags t (get m k)) wanted) → filter_map (get m) (finite.keys keys) ≡ filter (λ x. list_any (is_among cmp (tags x)) wanted) (finite.values m)
 found_any {T} {X} cmp tags wanted m keys has = found_passes (λ x. list_any (is_among cmp (tags x)) wanted) m keys (λ k. has k ∙ same (get m k))
   where
     never : (ts : List T) → list_any (λ _. false) ts ≡ false

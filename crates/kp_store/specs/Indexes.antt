@@ -11,8 +11,18 @@ use Rattle.kp_base.specs.Keys.{key_cmp}
 use Rattle.kp_base.specs.declared.key.ObjectKey.{ObjectKey}
 
 -- keys, as a map to nothing
-abbrev pub Bucket : Type 0
-Bucket = finite.FinMap key_cmp (Unit {0})
+abbrev pub Keys : Type 0
+Keys = finite.FinMap key_cmp (Unit {0})
+
+-- keys with one more, if there is one
+abbrev pub with_only : Option ObjectKey → Keys → Keys
+with_only None keys = keys
+with_only (Some key) keys = finite.insert keys key tt
+
+-- one key stands alone
+abbrev pub IsAlone : Option ObjectKey → Keys → Type 0
+IsAlone None keys = Unit {0}
+IsAlone (Some key) keys = keys ≡ finite.empty
 
 module _ {T : Type 0} (cmp : T → T → Ordering) where
   -- a tag is among tags
@@ -20,11 +30,11 @@ module _ {T : Type 0} (cmp : T → T → Ordering) where
   is_among tags t = list_any (eq_by_cmp cmp t) tags
 
   -- the bucket of a tag
-  abbrev pub bucket : List (T × Bucket) → T → Bucket
+  abbrev pub bucket : List (T × Keys) → T → Keys
   bucket buckets t = unwrap_or (lookup (eq_by_cmp cmp t) buckets) finite.empty
 
   -- a key stands in the bucket of a tag
-  abbrev pub has : List (T × Bucket) → T → ObjectKey → Bool
+  abbrev pub has : List (T × Keys) → T → ObjectKey → Bool
   has buckets t k = finite.contains_key (bucket buckets t) k
 
   -- t and k are this tag and this key
@@ -41,7 +51,7 @@ module _ {T : Type 0} (cmp : T → T → Ordering) where
       eq_by_cmp key_cmp k key && (is_among gone t && not (is_among kept t))
 
   -- the key was added to the buckets of some first tags
-  abbrev pub IsPartly : List T → ObjectKey → List (T × Bucket) → List (T × Bucket) → Type 0
+  abbrev pub IsPartly : List T → ObjectKey → List (T × Keys) → List (T × Keys) → Type 0
   IsPartly tags key before after =
       (i : ℕ)
       × ((t : T) (k : ObjectKey) → has after t k ≡ is_tag_of (take i tags) key t k || has before t k)
@@ -52,6 +62,6 @@ module _ {T : Type 0} (cmp : T → T → Ordering) where
   is_tagged tags t (Some x) = is_among (tags x) t
 
   -- each bucket has the keys of the objects with its tag
-  abbrev pub IsIndexOf : {X : Type 0} → (X → List T) → finite.FinMap key_cmp X → List (T × Bucket) → Type 0
+  abbrev pub IsIndexOf : {X : Type 0} → (X → List T) → finite.FinMap key_cmp X → List (T × Keys) → Type 0
   IsIndexOf tags objects buckets =
       (t : T) (k : ObjectKey) → has buckets t k ≡ is_tagged tags t (finite.get objects k)

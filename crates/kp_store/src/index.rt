@@ -8,20 +8,22 @@ ghost use Rattle.kp_base.specs.declared.key.ObjectKey.{ObjectKey};
 ghost use Rattle.kp_store.specs.Indexes.{bucket, has, is_among, is_pair, is_tag_of, is_lost};
 ghost use Rattle.kp_store.specs.Indexes.{IsPartly};
 
+use crate::bucket::Bucket;
 use crate::keyed::Keyed;
+use indexmap::IndexMap;
 use kp_base::{Copied, NoMemory, ObjectKey};
 use std::alloc::Global;
 use std::cmp::{Ord, Ordering};
-use std::collections::BTreeMap;
+use std::hash::Hash;
 use std::marker::Model;
 
-/// A bucket of keys for each tag. Contracts see the buckets, in order of their tags.
+/// A bucket of keys for each tag, found by the tag's hash. Contracts see the buckets, in any order.
 #[derive(Drop)]
-pub struct Index<T: Ord> {
-    buckets: BTreeMap<T, Keyed<()>>,
+pub struct Index<T: Ord + Hash> {
+    buckets: IndexMap<T, Bucket>,
 }
 
-impl<T: Ord> Model for Index<T> {
+impl<T: Ord + Hash> Model for Index<T> {
     ghost use Rattle.std.specs.Prelude.{List};
     ghost use Rattle.kp_store.specs.Indexes.{Bucket};
     ghost use Rattle.kp_store.specs.Stored.{buckets_code};
@@ -33,13 +35,13 @@ impl<T: Ord> Model for Index<T> {
     ghost view = { λ i. i.buckets.entries };
 }
 
-impl<T: Ord + Drop> Index<T> {
+impl<T: Ord + Hash + Drop> Index<T> {
     /// No keys.
     pub fn new(alloc: Global) -> Index<T>
         ensures { result ≡ [] }
     {
         Index {
-            buckets: BTreeMap::new(alloc),
+            buckets: IndexMap::new(alloc),
         }
     }
 
@@ -64,19 +66,6 @@ impl<T: Ord + Drop> Index<T> {
             keys.put_all(alloc, self.keys(alloc, tag)?.as_slice())?;
         }
         Ok(keys)
-    }
-
-    /// Adds a key to the bucket of a tag. Where memory is out, all stays.
-    fn add(&mut self, alloc: Global, tag: T, key: ObjectKey) -> Result<(), NoMemory>
-        ensures ok { OnOk result ((t : T) (k : ObjectKey) → has T.cmp self.new t k
-            ≡ is_pair T.cmp tag key t k || has T.cmp self.old t k) }
-        ensures err { OnErr result ((t : T) (k : ObjectKey) → has T.cmp self.new t k
-            ≡ has T.cmp self.old t k) }
-    {
-        match self.buckets.get_mut(&tag) {
-            Some(bucket) => bucket.put(key, ()),
-            None => add_bucket(alloc, &mut self.buckets, tag, key),
-        }
     }
 
     /// Removes a key from the bucket of a tag.
@@ -114,7 +103,20 @@ impl<T: Ord + Drop> Index<T> {
     }
 }
 
-impl<T: Ord + Copied> Index<T> {
+impl<T: Ord + Hash + Copied> Index<T> {
+    /// Adds a key to the bucket of a tag. Where memory is out, all stays.
+    fn add(&mut self, alloc: Global, tag: &T, key: &ObjectKey) -> Result<(), NoMemory>
+        ensures ok { OnOk result ((t : T) (k : ObjectKey) → has T.cmp self.new t k
+            ≡ is_pair T.cmp tag.now key.now t k || has T.cmp self.old t k) }
+        ensures err { OnErr result ((t : T) (k : ObjectKey) → has T.cmp self.new t k
+            ≡ has T.cmp self.old t k) }
+    {
+        match self.buckets.get_mut(tag) {
+            Some(bucket) => bucket.put(alloc, key),
+            None => add_bucket(alloc, &mut self.buckets, tag, key),
+        }
+    }
+
     /// Adds a key to the buckets of its tags. Where memory is out, it may stand in some of them.
     fn add_each(&mut self, alloc: Global, tags: &[T], key: &ObjectKey) -> Result<(), NoMemory>
         ensures ok { OnOk result ((t : T) (k : ObjectKey) → has T.cmp self.new t k
@@ -122,7 +124,7 @@ impl<T: Ord + Copied> Index<T> {
         ensures err { OnErr result (IsPartly T.cmp tags.now key.now self.old self.new) }
     {
         for tag in tags {
-            self.add(alloc, tag.copy(alloc)?, key.copy(alloc)?)?;
+            self.add(alloc, tag, key)?;
         }
         Ok(())
     }
@@ -160,19 +162,18 @@ fn is_one_of<T: Ord>(tag: &T, tags: &[T]) -> bool
 }
 
 /// Adds a bucket of one key, where there is none of its tag.
-fn add_bucket<T: Ord + Drop>(
+fn add_bucket<T: Ord + Hash + Copied>(
     alloc: Global,
-    buckets: &mut BTreeMap<T, Keyed<()>>,
-    tag: T,
-    key: ObjectKey,
+    buckets: &mut IndexMap<T, Bucket>,
+    tag: &T,
+    key: &ObjectKey,
 ) -> Result<(), NoMemory>
-    requires { lookup (eq_by_cmp T.cmp tag) buckets.old.entries ≡ None }
+    requires { lookup (eq_by_cmp T.cmp tag.now) buckets.old.entries ≡ None }
     ensures ok { OnOk result ((t : T) (k : ObjectKey) → has T.cmp buckets.new.entries t k
-        ≡ is_pair T.cmp tag key t k || has T.cmp buckets.old.entries t k) }
+        ≡ is_pair T.cmp tag.now key.now t k || has T.cmp buckets.old.entries t k) }
     ensures err { OnErr result (buckets.new.entries ≡ buckets.old.entries) }
 {
-    let mut bucket = Keyed::new(alloc);
-    bucket.put(key, ())?;
-    buckets.insert(tag, bucket)?;
+    let bucket = Bucket::of(alloc, key)?;
+    buckets.insert(tag.copy(alloc)?, bucket)?;
     Ok(())
 }

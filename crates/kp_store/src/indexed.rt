@@ -11,6 +11,7 @@ use crate::selections::copies;
 use kp_base::{Copied, Items, NoMemory, ObjectKey};
 use std::alloc::Global;
 use std::cmp::Ord;
+use std::hash::Hash;
 use std::marker::Model;
 
 /// An object that is found by tags.
@@ -25,12 +26,12 @@ pub trait Tagged<T: Ord>: Copied {
 /// Objects of one kind, which contracts see as a finite map from their keys. The index has in the
 /// bucket of each tag the keys of the objects with this tag.
 #[derive(Drop)]
-pub struct Indexed<X: Tagged<T>, T: Ord + Copied> {
+pub struct Indexed<X: Tagged<T>, T: Ord + Hash + Copied> {
     objects: Hashed<X>,
     index: Index<T>,
 }
 
-impl<X: Tagged<T>, T: Ord + Copied> Model for Indexed<X, T> {
+impl<X: Tagged<T>, T: Ord + Hash + Copied> Model for Indexed<X, T> {
     ghost use Rattle.std.specs.FinMap as finite;
     ghost use Rattle.kp_base.specs.Keys.{key_cmp};
     ghost use Rattle.kp_store.specs.Indexes.{IsIndexOf};
@@ -45,7 +46,7 @@ impl<X: Tagged<T>, T: Ord + Copied> Model for Indexed<X, T> {
     ghost invariant = { λ s. IsIndexOf T.cmp X.tags s.objects s.index };
 }
 
-impl<X: Tagged<T>, T: Ord + Copied> Indexed<X, T> {
+impl<X: Tagged<T>, T: Ord + Hash + Copied> Indexed<X, T> {
     /// No objects.
     pub fn new(alloc: Global) -> Indexed<X, T>
         ensures { result ≡ finite.empty }
@@ -105,22 +106,22 @@ impl<X: Tagged<T>, T: Ord + Copied> Indexed<X, T> {
     }
 
     /// Puts an object in place of the one of its key. Where memory is out, all stays.
-    pub fn put(&mut self, alloc: Global, key: ObjectKey, object: X) -> Result<(), NoMemory>
-        ensures ok { OnOk result (self.new ≡ finite.insert self.old key object) }
+    pub fn put(&mut self, alloc: Global, key: &ObjectKey, object: X) -> Result<(), NoMemory>
+        ensures ok { OnOk result (self.new ≡ finite.insert self.old key.now object) }
         ensures err { OnErr result (self.new ≡ self.old) }
     {
         let new = object.tags(alloc)?;
-        let old = tags_at(alloc, &self.objects, &key)?;
+        let old = tags_at(alloc, &self.objects, key)?;
         let copy = key.copy(alloc)?;
         self.index
-            .add_all(alloc, new.as_slice(), old.as_slice(), &key)?;
+            .add_all(alloc, new.as_slice(), old.as_slice(), key)?;
         match self.objects.put(copy, object) {
             Ok(()) => {
-                self.index.trim(old.as_slice(), new.as_slice(), &key);
+                self.index.trim(old.as_slice(), new.as_slice(), key);
                 Ok(())
             }
             Err(refused) => {
-                self.index.trim(new.as_slice(), old.as_slice(), &key);
+                self.index.trim(new.as_slice(), old.as_slice(), key);
                 Err(refused)
             }
         }
@@ -140,7 +141,7 @@ impl<X: Tagged<T>, T: Ord + Copied> Indexed<X, T> {
 }
 
 /// The tags of the object of a key: none where there is no object.
-fn tags_at<X: Tagged<T>, T: Ord + Copied>(
+fn tags_at<X: Tagged<T>, T: Ord + Hash + Copied>(
     alloc: Global,
     objects: &Hashed<X>,
     key: &ObjectKey,

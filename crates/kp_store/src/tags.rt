@@ -11,7 +11,7 @@ use std::alloc::Global;
 
 /// A label in a namespace, which a pod has or a Service selects by. Labels are in order of their
 /// values first, in which most differ, so that a look-up seldom compares more than one text.
-#[derive(PartialEq, Eq, PartialOrd, Ord, Drop)]
+#[derive(PartialEq, Eq, PartialOrd, Ord, Hash, Drop)]
 pub struct Label {
     pub value: Text,
     pub key: Text,
@@ -19,7 +19,7 @@ pub struct Label {
 }
 
 /// What a Service is found by.
-#[derive(PartialEq, Eq, PartialOrd, Ord, Drop)]
+#[derive(PartialEq, Eq, PartialOrd, Ord, Hash, Drop)]
 pub enum ServiceTag {
     /// The first pair of its selector.
     Selector(Label),
