@@ -1,6 +1,5 @@
 -- The objects of the keys in a bucket are those with its tag.
 use Rattle.std.proofs.Common.{◌≡◌, Bool, true, false, cond, List, [], ◌∷◌, map, filter, Option, Some, None, is_some, refl, sym, ap, subst, ◌∙◌, T, Bor}
-use Rattle.std.specs.declared.cmp.Ordering.{Ordering}
 use Rattle.std.specs.List.{filter_map, cons_option, AllByRecursion}
 use Rattle.std.specs.Ordering.{eq_by_cmp, is_lt}
 use Rattle.std.specs.FinMap as finite
@@ -111,9 +110,9 @@ module _ {X : Type 0} (p : X → Bool) where
       ∙ got_all m (passing (entries m)) (all_filter (λ e. get m e.0 ≡ Some e.1) (λ e. p e.1) (entries m) (entries_found key_total m))
       ∙ values_passing (entries m)
 
-pub found_all : {T X : Type 0} (cmp : T → T → Ordering) (tags : X → List T) (tag : T) (m : FinMap key_cmp X) (keys : Keys) → ((k : ObjectKey) → contains_key keys k ≡ is_tagged cmp tags tag (get m k)) → filter_map (get m) (finite.keys keys) ≡ filter (λ x. is_among cmp (tags x) tag) (finite.values m)
-found_all {X} cmp tags tag m keys has = found_passes (λ x. is_among cmp (tags x) tag) m keys (λ k. has k ∙ same (get m k))
+pub found_all : {T X : Type 0} (same : T → T → Bool) (tags : X → List T) (tag : T) (m : FinMap key_cmp X) (keys : Keys) → ((k : ObjectKey) → contains_key keys k ≡ is_tagged same tags tag (get m k)) → filter_map (get m) (finite.keys keys) ≡ filter (λ x. is_among same (tags x) tag) (finite.values m)
+found_all {X} same tags tag m keys has = found_passes (λ x. is_among same (tags x) tag) m keys (λ k. has k ∙ agrees (get m k))
   where
-    same : (o : Option X) → is_tagged cmp tags tag o ≡ passes (λ x. is_among cmp (tags x) tag) o
-    same None = refl
-    same (Some x) = refl
+    agrees : (o : Option X) → is_tagged same tags tag o ≡ passes (λ x. is_among same (tags x) tag) o
+    agrees None = refl
+    agrees (Some x) = refl

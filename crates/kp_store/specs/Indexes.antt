@@ -1,10 +1,8 @@
--- Keys of objects by what the objects are found by, their tags: a bucket for each tag. Tags that
--- tie in their order are one.
-use Rattle.std.specs.Prelude.{◌≡◌, ℕ, ◌&&◌, ◌||◌, not, Bool, false, List, take, Option, Some, None}
+-- Keys of objects by what the objects are found by, their tags: a bucket for each tag.
+use Rattle.std.specs.Prelude.{◌≡◌, ℕ, ◌&&◌, ◌||◌, not, Bool, false, List, [], ◌∷◌, take, Option, Some, None}
 use Rattle.std.specs.List.{list_any}
 use Rattle.std.specs.Option.{unwrap_or}
 use Rattle.std.specs.Ordering.{eq_by_cmp}
-use Rattle.std.specs.declared.cmp.Ordering.{Ordering}
 use Rattle.std.specs.Map.{lookup}
 use Rattle.std.specs.FinMap as finite
 use Rattle.kp_base.specs.Keys.{key_cmp}
@@ -14,24 +12,20 @@ use Rattle.kp_base.specs.declared.key.ObjectKey.{ObjectKey}
 abbrev pub Keys : Type 0
 Keys = finite.FinMap key_cmp (Unit {0})
 
--- keys with one more, if there is one
-abbrev pub with_only : Option ObjectKey → Keys → Keys
-with_only None keys = keys
-with_only (Some key) keys = finite.insert keys key tt
+-- more keys beside keys
+abbrev pub with_keys : List ObjectKey → Keys → Keys
+with_keys [] keys = keys
+with_keys (k ∷ ks) keys = finite.insert (with_keys ks keys) k tt
 
--- one key stands alone
-abbrev pub IsAlone : Option ObjectKey → Keys → Type 0
-IsAlone None keys = Unit {0}
-IsAlone (Some key) keys = keys ≡ finite.empty
-
-module _ {T : Type 0} (cmp : T → T → Ordering) where
+-- same is the test of tags
+module _ {T : Type 0} (same : T → T → Bool) where
   -- a tag is among tags
   abbrev pub is_among : List T → T → Bool
-  is_among tags t = list_any (eq_by_cmp cmp t) tags
+  is_among tags t = list_any (same t) tags
 
   -- the bucket of a tag
   abbrev pub bucket : List (T × Keys) → T → Keys
-  bucket buckets t = unwrap_or (lookup (eq_by_cmp cmp t) buckets) finite.empty
+  bucket buckets t = unwrap_or (lookup (same t) buckets) finite.empty
 
   -- a key stands in the bucket of a tag
   abbrev pub has : List (T × Keys) → T → ObjectKey → Bool
@@ -39,7 +33,7 @@ module _ {T : Type 0} (cmp : T → T → Ordering) where
 
   -- t and k are this tag and this key
   abbrev pub is_pair : T → ObjectKey → T → ObjectKey → Bool
-  is_pair tag key t k = eq_by_cmp cmp t tag && eq_by_cmp key_cmp k key
+  is_pair tag key t k = same t tag && eq_by_cmp key_cmp k key
 
   -- t is among the tags, and k is this key
   abbrev pub is_tag_of : List T → ObjectKey → T → ObjectKey → Bool
