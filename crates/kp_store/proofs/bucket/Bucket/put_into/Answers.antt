@@ -1,4 +1,4 @@
-use Rattle.std.proofs.Common.{◌≡◌, ◌||◌, ℕ, Bool, List, map, Ok, ap, ◌∙◌, Bor}
+use Rattle.std.proofs.Common.{◌||◌, ℕ, Bool, List, map, Ok, ap, ◌∙◌, Bor}
 use Rattle.std.specs.List.{list_any}
 use Rattle.std.specs.Ordering.{eq_by_cmp}
 use Rattle.std.specs.FinMap as finite

@@ -1,4 +1,4 @@
-use Rattle.std.proofs.Common.{◌≡◌, ◌&&◌, not, filter, rules, ap, ◌∙◌}
+use Rattle.std.proofs.Common.{◌&&◌, not, filter, rules, ap, ◌∙◌}
 use Rattle.std.specs.Ordering.{eq_by_cmp}
 use Rattle.std.specs.FinMap as finite
 use Rattle.std.proofs.lemmas.Fn.{filter_same}
