@@ -30,7 +30,8 @@ fn pairs_here<'a>(alloc: Global, spot: &'a Spot<'a>) -> Result<Items<Pair>, Fiel
     ensures { Reads (λ p. p) result (form_fault texts (place_of spot.now))
         (map pair_of (members_of (place_of spot.now))) }
 {
-    let mut pairs = Vec::new(alloc);
+    let count = spot.member_len(alloc)? as usize;
+    let mut pairs = Vec::with_capacity(alloc, count)?;
     for (key, member) in spot.members(alloc)? {
         let value = member.str_at(alloc)?;
         pairs.push(copied_pair(alloc, key, value)?)?;

@@ -1,19 +1,17 @@
 -- What stands in which bucket once a key is added to one or removed.
 use Rattle.std.proofs.Common.{◌≡◌, ℕ, zero, suc, ◌+◌, ◌<◌, ◌&&◌, ◌||◌, Bool, true, false, not, cond, List, [], ◌∷◌, ◌++◌, take, length, get_or, Option, Some, None, is_some, Result, Ok, Err, OnOk, OnErr, IfOk, refl, sym, ap, ◌∙◌}
-use Rattle.std.specs.declared.cmp.Ordering.{Ordering}
-use Rattle.std.specs.declared.cmp.Ordering.TheVariants.{Equal}
 use Rattle.std.specs.Map.{lookup}
 use Rattle.std.specs.Option.{unwrap_or}
-use Rattle.std.specs.Ordering.{eq_by_cmp, is_eq}
-use Rattle.std.specs.Cmp.{IsTotalOrder, eq_by_cmp_equiv}
+use Rattle.std.specs.Ordering.{eq_by_cmp}
+use Rattle.std.specs.Cmp.{IsEquivalence}
 use Rattle.std.specs.FinMap.{get, get-empty, get-insert, get-remove, insert, remove, empty, contains_key}
 use Rattle.std.proofs.lemmas.List.{take_more}
 use Rattle.std.proofs.lemmas.List.Folds.{list_any-append}
-use Rattle.kp_lemmas.proofs.Orders.{equal_from_test}
+use Rattle.kp_lemmas.proofs.Orders.{one_from_tie}
 use Rattle.kp_base.specs.Keys.{key_cmp}
 use Rattle.kp_base.specs.declared.key.ObjectKey.{ObjectKey}
-use Rattle.kp_base.proofs.KeyOrder.{key_total}
-use Rattle.kp_store.specs.Indexes.{Bucket, has, is_among, is_pair, is_tag_of, is_lost}
+use Rattle.kp_base.proofs.KeyOrder.{key_total, key_exact}
+use Rattle.kp_store.specs.Indexes.{Keys, has, is_among, is_pair, is_tag_of, is_lost}
 
 -- what follows from a call's clause at Ok, and at Err
 pub on_ok : {A E P Q : Type 0} (r : Result A E) → OnOk r P → (P → Q) → OnOk r Q
@@ -83,110 +81,131 @@ some_and : {X : Type 0} (b : Bool) (o : Option X) → is_some (cond b None o) �
 some_and true o = refl
 some_and false o = refl
 
-pub in_inserted : (m : Bucket) (key k : ObjectKey) → contains_key (insert m key tt) k ≡ eq_by_cmp key_cmp k key || contains_key m k
+pub in_inserted : (m : Keys) (key k : ObjectKey) → contains_key (insert m key tt) k ≡ eq_by_cmp key_cmp k key || contains_key m k
 in_inserted m key k = ap is_some (get-insert key_total m key tt k) ∙ some_or (eq_by_cmp key_cmp k key) tt (get m k)
 
-in_removed : (m : Bucket) (key k : ObjectKey) → contains_key (remove m key) k ≡ not (eq_by_cmp key_cmp k key) && contains_key m k
+pub in_removed : (m : Keys) (key k : ObjectKey) → contains_key (remove m key) k ≡ not (eq_by_cmp key_cmp k key) && contains_key m k
 in_removed m key k = ap is_some (get-remove key_total m key k) ∙ some_and (eq_by_cmp key_cmp k key) (get m k)
 
-module _ {T : Type 0} (cmp : T → T → Ordering) (total : IsTotalOrder cmp) where
-  -- tags that tie have one bucket
-  lookup_tied : (tag t : T) → cmp tag t ≡ Equal → (es : List (T × Bucket)) → lookup (eq_by_cmp cmp t) es ≡ lookup (eq_by_cmp cmp tag) es
+module _ {T : Type 0} (same : T → T → Bool) (laws : IsEquivalence same) where
+  -- tags that are the same have one bucket
+  lookup_tied : (tag t : T) → same tag t ≡ true → (es : List (T × Keys)) → lookup (same t) es ≡ lookup (same tag) es
   lookup_tied tag t tie [] = refl
-  lookup_tied tag t tie (e ∷ es) = λ i. cond (is_eq (sym (total.congr tag t e.0 tie) i)) (Some e.1) (lookup_tied tag t tie es i)
+  lookup_tied tag t tie (e ∷ es) = λ i. cond (sym (laws.congr tag t e.0 tie) i) (Some e.1) (lookup_tied tag t tie es i)
 
-  among_tied : (tag t : T) → cmp tag t ≡ Equal → (tags : List T) → is_among cmp tags t ≡ is_among cmp tags tag
+  among_tied : (tag t : T) → same tag t ≡ true → (tags : List T) → is_among same tags t ≡ is_among same tags tag
   among_tied tag t tie [] = refl
-  among_tied tag t tie (u ∷ us) = λ i. is_eq (sym (total.congr tag t u tie) i) || among_tied tag t tie us i
+  among_tied tag t tie (u ∷ us) = λ i. sym (laws.congr tag t u tie) i || among_tied tag t tie us i
 
-  module _ (es fs : List (T × Bucket)) (tag : T) (w : Bucket) (h : (t : T) → lookup (eq_by_cmp cmp t) fs ≡ cond (eq_by_cmp cmp tag t) (Some w) (lookup (eq_by_cmp cmp t) es)) where
+  module _ (es fs : List (T × Keys)) (tag : T) (w : Keys) (h : (t : T) → lookup (same t) fs ≡ cond (same tag t) (Some w) (lookup (same t) es)) where
     -- what the new bucket is, and that others stay
-    here : (t : T) (k : ObjectKey) → eq_by_cmp cmp tag t ≡ true → has cmp fs t k ≡ contains_key w k
-    here t k e = ap (λ o. contains_key (unwrap_or o empty) k) (h t ∙ ap (λ b. cond b (Some w) (lookup (eq_by_cmp cmp t) es)) e)
+    here : (t : T) (k : ObjectKey) → same tag t ≡ true → has same fs t k ≡ contains_key w k
+    here t k e = ap (λ o. contains_key (unwrap_or o empty) k) (h t ∙ ap (λ b. cond b (Some w) (lookup (same t) es)) e)
 
-    before : (t : T) (k : ObjectKey) → eq_by_cmp cmp tag t ≡ true → contains_key (unwrap_or (lookup (eq_by_cmp cmp tag) es) empty) k ≡ has cmp es t k
-    before t k e = ap (λ o. contains_key (unwrap_or o empty) k) (sym (lookup_tied tag t (equal_from_test (cmp tag t) e) es))
+    before : (t : T) (k : ObjectKey) → same tag t ≡ true → contains_key (unwrap_or (lookup (same tag) es) empty) k ≡ has same es t k
+    before t k e = ap (λ o. contains_key (unwrap_or o empty) k) (sym (lookup_tied tag t e es))
 
-    elsewhere : (t : T) (k : ObjectKey) → eq_by_cmp cmp tag t ≡ false → has cmp fs t k ≡ has cmp es t k
-    elsewhere t k e = ap (λ o. contains_key (unwrap_or o empty) k) (h t ∙ ap (λ b. cond b (Some w) (lookup (eq_by_cmp cmp t) es)) e)
+    elsewhere : (t : T) (k : ObjectKey) → same tag t ≡ false → has same fs t k ≡ has same es t k
+    elsewhere t k e = ap (λ o. contains_key (unwrap_or o empty) k) (h t ∙ ap (λ b. cond b (Some w) (lookup (same t) es)) e)
 
-    turned : (t : T) (b : Bool) → eq_by_cmp cmp tag t ≡ b → eq_by_cmp cmp t tag ≡ b
-    turned t b e = (eq_by_cmp_equiv total).symm t tag ∙ e
+    turned : (t : T) (b : Bool) → same tag t ≡ b → same t tag ≡ b
+    turned t b e = laws.symm t tag ∙ e
 
-    added_by : (key : ObjectKey) → w ≡ insert (unwrap_or (lookup (eq_by_cmp cmp tag) es) empty) key tt → (t : T) (k : ObjectKey) (b : Bool) → eq_by_cmp cmp tag t ≡ b → has cmp fs t k ≡ is_pair cmp tag key t k || has cmp es t k
+    added_by : (key : ObjectKey) → ((k : ObjectKey) → contains_key w k ≡ eq_by_cmp key_cmp k key || contains_key (unwrap_or (lookup (same tag) es) empty) k) → (t : T) (k : ObjectKey) (b : Bool) → same tag t ≡ b → has same fs t k ≡ is_pair same tag key t k || has same es t k
     added_by key is t k true e =
         here t k e
-        ∙ ap (λ m. contains_key m k) is
-        ∙ in_inserted (unwrap_or (lookup (eq_by_cmp cmp tag) es) empty) key k
+        ∙ is k
         ∙ ap (λ b. eq_by_cmp key_cmp k key || b) (before t k e)
-        ∙ ap (λ b. (b && eq_by_cmp key_cmp k key) || has cmp es t k) (sym (turned t true e))
+        ∙ ap (λ b. (b && eq_by_cmp key_cmp k key) || has same es t k) (sym (turned t true e))
     added_by key is t k false e =
         elsewhere t k e
-        ∙ ap (λ b. (b && eq_by_cmp key_cmp k key) || has cmp es t k) (sym (turned t false e))
+        ∙ ap (λ b. (b && eq_by_cmp key_cmp k key) || has same es t k) (sym (turned t false e))
 
-    pub added : (key : ObjectKey) → w ≡ insert (unwrap_or (lookup (eq_by_cmp cmp tag) es) empty) key tt → (t : T) (k : ObjectKey) → has cmp fs t k ≡ is_pair cmp tag key t k || has cmp es t k
-    added key is t k = added_by key is t k (eq_by_cmp cmp tag t) refl
+    pub added : (key : ObjectKey) → ((k : ObjectKey) → contains_key w k ≡ eq_by_cmp key_cmp k key || contains_key (unwrap_or (lookup (same tag) es) empty) k) → (t : T) (k : ObjectKey) → has same fs t k ≡ is_pair same tag key t k || has same es t k
+    added key is t k = added_by key is t k (same tag t) refl
 
-    removed_by : (key : ObjectKey) → w ≡ remove (unwrap_or (lookup (eq_by_cmp cmp tag) es) empty) key → (t : T) (k : ObjectKey) (b : Bool) → eq_by_cmp cmp tag t ≡ b → has cmp fs t k ≡ not (is_pair cmp tag key t k) && has cmp es t k
+    removed_by : (key : ObjectKey) → ((k : ObjectKey) → contains_key w k ≡ not (eq_by_cmp key_cmp k key) && contains_key (unwrap_or (lookup (same tag) es) empty) k) → (t : T) (k : ObjectKey) (b : Bool) → same tag t ≡ b → has same fs t k ≡ not (is_pair same tag key t k) && has same es t k
     removed_by key is t k true e =
         here t k e
-        ∙ ap (λ m. contains_key m k) is
-        ∙ in_removed (unwrap_or (lookup (eq_by_cmp cmp tag) es) empty) key k
+        ∙ is k
         ∙ ap (λ b. not (eq_by_cmp key_cmp k key) && b) (before t k e)
-        ∙ ap (λ b. not (b && eq_by_cmp key_cmp k key) && has cmp es t k) (sym (turned t true e))
+        ∙ ap (λ b. not (b && eq_by_cmp key_cmp k key) && has same es t k) (sym (turned t true e))
     removed_by key is t k false e =
         elsewhere t k e
-        ∙ ap (λ b. not (b && eq_by_cmp key_cmp k key) && has cmp es t k) (sym (turned t false e))
+        ∙ ap (λ b. not (b && eq_by_cmp key_cmp k key) && has same es t k) (sym (turned t false e))
 
-    pub removed : (key : ObjectKey) → w ≡ remove (unwrap_or (lookup (eq_by_cmp cmp tag) es) empty) key → (t : T) (k : ObjectKey) → has cmp fs t k ≡ not (is_pair cmp tag key t k) && has cmp es t k
-    removed key is t k = removed_by key is t k (eq_by_cmp cmp tag t) refl
+    pub removed : (key : ObjectKey) → ((k : ObjectKey) → contains_key w k ≡ not (eq_by_cmp key_cmp k key) && contains_key (unwrap_or (lookup (same tag) es) empty) k) → (t : T) (k : ObjectKey) → has same fs t k ≡ not (is_pair same tag key t k) && has same es t k
+    removed key is t k = removed_by key is t k (same tag t) refl
 
-    stayed_by : w ≡ unwrap_or (lookup (eq_by_cmp cmp tag) es) empty → (t : T) (k : ObjectKey) (b : Bool) → eq_by_cmp cmp tag t ≡ b → has cmp fs t k ≡ has cmp es t k
+    stayed_by : w ≡ unwrap_or (lookup (same tag) es) empty → (t : T) (k : ObjectKey) (b : Bool) → same tag t ≡ b → has same fs t k ≡ has same es t k
     stayed_by is t k true e = here t k e ∙ ap (λ m. contains_key m k) is ∙ before t k e
     stayed_by is t k false e = elsewhere t k e
 
     -- a bucket that was written back as it was
-    pub stayed : w ≡ unwrap_or (lookup (eq_by_cmp cmp tag) es) empty → (t : T) (k : ObjectKey) → has cmp fs t k ≡ has cmp es t k
-    stayed is t k = stayed_by is t k (eq_by_cmp cmp tag t) refl
+    pub stayed : w ≡ unwrap_or (lookup (same tag) es) empty → (t : T) (k : ObjectKey) → has same fs t k ≡ has same es t k
+    stayed is t k = stayed_by is t k (same tag t) refl
 
   -- a tag that has no bucket has no keys to remove
-  pub none_removed : (es : List (T × Bucket)) (tag : T) (key : ObjectKey) → lookup (eq_by_cmp cmp tag) es ≡ None → (t : T) (k : ObjectKey) → has cmp es t k ≡ not (is_pair cmp tag key t k) && has cmp es t k
-  none_removed es tag key none t k = by (eq_by_cmp cmp tag t) refl
+  pub none_removed : (es : List (T × Keys)) (tag : T) (key : ObjectKey) → lookup (same tag) es ≡ None → (t : T) (k : ObjectKey) → has same es t k ≡ not (is_pair same tag key t k) && has same es t k
+  none_removed es tag key none t k = by (same tag t) refl
     where
-      by : (b : Bool) → eq_by_cmp cmp tag t ≡ b → has cmp es t k ≡ not (is_pair cmp tag key t k) && has cmp es t k
+      by : (b : Bool) → same tag t ≡ b → has same es t k ≡ not (is_pair same tag key t k) && has same es t k
       by true e =
-          let nothing : has cmp es t k ≡ false = ap (λ o. contains_key (unwrap_or o empty) k) (lookup_tied tag t (equal_from_test (cmp tag t) e) es ∙ none) ∙ ap is_some (get-empty key_cmp k) in
-          nothing ∙ sym (and_none (not (is_pair cmp tag key t k))) ∙ ap (λ b. not (is_pair cmp tag key t k) && b) (sym nothing)
-      by false e = ap (λ b. not (b && eq_by_cmp key_cmp k key) && has cmp es t k) (sym ((eq_by_cmp_equiv total).symm t tag ∙ e))
+          let nothing : has same es t k ≡ false = ap (λ o. contains_key (unwrap_or o empty) k) (lookup_tied tag t e es ∙ none) ∙ ap is_some (get-empty key_cmp k) in
+          nothing ∙ sym (and_none (not (is_pair same tag key t k))) ∙ ap (λ b. not (is_pair same tag key t k) && b) (sym nothing)
+      by false e = ap (λ b. not (b && eq_by_cmp key_cmp k key) && has same es t k) (sym (laws.symm t tag ∙ e))
+
+  -- an empty bucket that is forgotten was of no use
+  pub forgotten : (es fs : List (T × Keys)) (tag : T) (b : Keys) → Some b ≡ lookup (same tag) es → ((k : ObjectKey) → contains_key b k ≡ false) → ((t : T) → lookup (same t) fs ≡ cond (same tag t) None (lookup (same t) es)) → (t : T) (k : ObjectKey) → has same fs t k ≡ has same es t k
+  forgotten es fs tag b is none h t k = by (same tag t) refl
+    where
+      by : (c : Bool) → same tag t ≡ c → has same fs t k ≡ has same es t k
+      by true e =
+          ap (λ o. contains_key (unwrap_or o empty) k) (h t ∙ ap (λ c. cond c None (lookup (same t) es)) e)
+          ∙ ap is_some (get-empty key_cmp k)
+          ∙ sym (ap (λ o. contains_key (unwrap_or o empty) k) (lookup_tied tag t e es ∙ sym is) ∙ none k)
+      by false e = ap (λ o. contains_key (unwrap_or o empty) k) (h t ∙ ap (λ c. cond c None (lookup (same t) es)) e)
+
+  -- a key that stands in the bucket of a tag that is kept is added already
+  pub kept_there : (es : List (T × Keys)) (tag : T) (key : ObjectKey) → has same es tag key ≡ true → (t : T) (k : ObjectKey) → has same es t k ≡ is_pair same tag key t k || has same es t k
+  kept_there es tag key there t k = by (same t tag) (eq_by_cmp key_cmp k key) refl refl
+    where
+      by : (c d : Bool) → same t tag ≡ c → eq_by_cmp key_cmp k key ≡ d → has same es t k ≡ (c && d) || has same es t k
+      by false d e f = refl
+      by true false e f = refl
+      by true true e f =
+          ap (has same es t) (one_from_tie key_exact k key f)
+          ∙ ap (λ o. contains_key (unwrap_or o empty) key) (lookup_tied tag t (laws.symm tag t ∙ e) es)
+          ∙ there
 
   -- ---- tags one after the other
 
-  among_more : (tags : List T) (i : ℕ) (tag t : T) → i < length tags → tag ≡ get_or tags i tag → is_among cmp (take (i + 1) tags) t ≡ is_among cmp (take i tags) t || eq_by_cmp cmp t tag
+  among_more : (tags : List T) (i : ℕ) (tag t : T) → i < length tags → tag ≡ get_or tags i tag → is_among same (take (i + 1) tags) t ≡ is_among same (take i tags) t || same t tag
   among_more tags i tag t lt is =
-      ap (λ us. is_among cmp us t) (take_more tags i tag lt ∙ ap (λ u. take i tags ++ u ∷ []) (sym is))
-      ∙ list_any-append (eq_by_cmp cmp t) (take i tags) (tag ∷ [])
-      ∙ ap (λ b. is_among cmp (take i tags) t || b) (or_none (eq_by_cmp cmp t tag))
+      ap (λ us. is_among same us t) (take_more tags i tag lt ∙ ap (λ u. take i tags ++ u ∷ []) (sym is))
+      ∙ list_any-append (same t) (take i tags) (tag ∷ [])
+      ∙ ap (λ b. is_among same (take i tags) t || b) (or_none (same t tag))
 
   -- one more tag was added
-  pub add_step : (tags : List T) (i : ℕ) (tag : T) → i < length tags → tag ≡ get_or tags i tag → (key : ObjectKey) (t : T) (k : ObjectKey) (old : Bool) → is_pair cmp tag key t k || (is_tag_of cmp (take i tags) key t k || old) ≡ is_tag_of cmp (take (i + 1) tags) key t k || old
+  pub add_step : (tags : List T) (i : ℕ) (tag : T) → i < length tags → tag ≡ get_or tags i tag → (key : ObjectKey) (t : T) (k : ObjectKey) (old : Bool) → is_pair same tag key t k || (is_tag_of same (take i tags) key t k || old) ≡ is_tag_of same (take (i + 1) tags) key t k || old
   add_step tags i tag lt is key t k old =
-      one_more (eq_by_cmp cmp t tag) (eq_by_cmp key_cmp k key) (is_among cmp (take i tags) t) old
+      one_more (same t tag) (eq_by_cmp key_cmp k key) (is_among same (take i tags) t) old
       ∙ ap (λ b. (eq_by_cmp key_cmp k key && b) || old) (sym (among_more tags i tag t lt is))
 
   -- one more tag that is gone
-  pub trim_step : (gone kept : List T) (i : ℕ) (tag : T) → i < length gone → tag ≡ get_or gone i tag → (key : ObjectKey) (t : T) (k : ObjectKey) (old : Bool) → not (is_pair cmp tag key t k && not (is_among cmp kept tag)) && (not (is_lost cmp (take i gone) kept key t k) && old) ≡ not (is_lost cmp (take (i + 1) gone) kept key t k) && old
+  pub trim_step : (gone kept : List T) (i : ℕ) (tag : T) → i < length gone → tag ≡ get_or gone i tag → (key : ObjectKey) (t : T) (k : ObjectKey) (old : Bool) → not (is_pair same tag key t k && not (is_among same kept tag)) && (not (is_lost same (take i gone) kept key t k) && old) ≡ not (is_lost same (take (i + 1) gone) kept key t k) && old
   trim_step gone kept i tag lt is key t k old =
-      one_less (eq_by_cmp cmp t tag) (eq_by_cmp key_cmp k key) (is_among cmp kept tag) (is_among cmp (take i gone) t) (is_among cmp kept t) old (λ e. among_tied t tag (equal_from_test (cmp t tag) e) kept)
-      ∙ ap (λ b. not (eq_by_cmp key_cmp k key && (b && not (is_among cmp kept t))) && old) (sym (among_more gone i tag t lt is))
+      one_less (same t tag) (eq_by_cmp key_cmp k key) (is_among same kept tag) (is_among same (take i gone) t) (is_among same kept t) old (λ e. among_tied t tag e kept)
+      ∙ ap (λ b. not (eq_by_cmp key_cmp k key && (b && not (is_among same kept t))) && old) (sym (among_more gone i tag t lt is))
 
-  among_some : (i : ℕ) (tags : List T) (t : T) → is_among cmp (take i tags) t ≡ true → is_among cmp tags t ≡ true
+  among_some : (i : ℕ) (tags : List T) (t : T) → is_among same (take i tags) t ≡ true → is_among same tags t ≡ true
   among_some zero tags t h = absurd (cc)
   among_some (suc i) [] t h = h
-  among_some (suc i) (u ∷ us) t h = or_later (eq_by_cmp cmp t u) (is_among cmp (take i us) t) (is_among cmp us t) (among_some i us t) h
+  among_some (suc i) (u ∷ us) t h = or_later (same t u) (is_among same (take i us) t) (is_among same us t) (among_some i us t) h
 
   -- tags that were added in part, and removed again
-  pub undone : (tags kept : List T) (i : ℕ) (key : ObjectKey) (t : T) (k : ObjectKey) (old : Bool) → (eq_by_cmp key_cmp k key ≡ true → old ≡ is_among cmp kept t) → not (is_lost cmp tags kept key t k) && (is_tag_of cmp (take i tags) key t k || old) ≡ old
-  undone tags kept i key t k old same = back (eq_by_cmp key_cmp k key) (is_among cmp tags t) (is_among cmp kept t) (is_among cmp (take i tags) t) old same (among_some i tags t)
+  pub undone : (tags kept : List T) (i : ℕ) (key : ObjectKey) (t : T) (k : ObjectKey) (old : Bool) → (eq_by_cmp key_cmp k key ≡ true → old ≡ is_among same kept t) → not (is_lost same tags kept key t k) && (is_tag_of same (take i tags) key t k || old) ≡ old
+  undone tags kept i key t k old at = back (eq_by_cmp key_cmp k key) (is_among same tags t) (is_among same kept t) (is_among same (take i tags) t) old at (among_some i tags t)
 
 -- nothing is gone, and nothing is added
 pub trim_none : (b old : Bool) → old ≡ not (b && false) && old

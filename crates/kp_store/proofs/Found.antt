@@ -1,6 +1,5 @@
 -- The objects of the keys in a bucket are those with its tag.
 use Rattle.std.proofs.Common.{◌≡◌, Bool, true, false, cond, List, [], ◌∷◌, map, filter, Option, Some, None, is_some, refl, sym, ap, subst, ◌∙◌, T, Bor}
-use Rattle.std.specs.declared.cmp.Ordering.{Ordering}
 use Rattle.std.specs.List.{filter_map, cons_option, AllByRecursion}
 use Rattle.std.specs.Ordering.{eq_by_cmp, is_lt}
 use Rattle.std.specs.FinMap as finite
@@ -13,7 +12,7 @@ use Rattle.kp_lemmas.proofs.Entries.{entries_found}
 use Rattle.kp_base.specs.Keys.{key_cmp}
 use Rattle.kp_base.specs.declared.key.ObjectKey.{ObjectKey}
 use Rattle.kp_base.proofs.KeyOrder.{key_total, key_exact}
-use Rattle.kp_store.specs.Indexes.{Bucket, is_among, is_tagged}
+use Rattle.kp_store.specs.Indexes.{Keys, is_among, is_tagged}
 
 -- what references show
 pub map_shown : {K X : Type 0} (f : K → Option X) (ks : List (Bor K)) → filter_map (λ k. f k.now) ks ≡ filter_map f (map (λ k. k.now) ks)
@@ -100,20 +99,20 @@ module _ {X : Type 0} (p : X → Bool) where
   got_all m (e ∷ es) all = λ i. cons_option (all.0 i) (got_all m es all.1 i)
 
   -- a bucket that has the keys whose values pass has them in order
-  pub bucket_keys : (m : FinMap key_cmp X) (keys : Bucket) → ((k : ObjectKey) → contains_key keys k ≡ passes (get m k)) → finite.keys keys ≡ map (λ e. e.0) (passing (entries m))
+  pub bucket_keys : (m : FinMap key_cmp X) (keys : Keys) → ((k : ObjectKey) → contains_key keys k ≡ passes (get m k)) → finite.keys keys ≡ map (λ e. e.0) (passing (entries m))
   bucket_keys m keys has =
       ap (map (λ e. e.0)) (same_entries key_cmp key_total key_exact (entries keys) (bare (passing (entries m))) (entries_sorted keys) (sorted_passing (entries m) (entries_sorted m)) (λ k. one_option (find key_cmp k (entries keys)) (find key_cmp k (bare (passing (entries m)))) (ap is_some (sym (get-entries keys k)) ∙ has k ∙ ap passes (get-entries m k) ∙ sym (found_passing k (entries m) (entries_sorted m)))))
       ∙ bare_keys (passing (entries m))
 
-  pub found_passes : (m : FinMap key_cmp X) (keys : Bucket) → ((k : ObjectKey) → contains_key keys k ≡ passes (get m k)) → filter_map (get m) (finite.keys keys) ≡ filter p (finite.values m)
+  pub found_passes : (m : FinMap key_cmp X) (keys : Keys) → ((k : ObjectKey) → contains_key keys k ≡ passes (get m k)) → filter_map (get m) (finite.keys keys) ≡ filter p (finite.values m)
   found_passes m keys has =
       ap (filter_map (get m)) (bucket_keys m keys has)
       ∙ got_all m (passing (entries m)) (all_filter (λ e. get m e.0 ≡ Some e.1) (λ e. p e.1) (entries m) (entries_found key_total m))
       ∙ values_passing (entries m)
 
-pub found_all : {T X : Type 0} (cmp : T → T → Ordering) (tags : X → List T) (tag : T) (m : FinMap key_cmp X) (keys : Bucket) → ((k : ObjectKey) → contains_key keys k ≡ is_tagged cmp tags tag (get m k)) → filter_map (get m) (finite.keys keys) ≡ filter (λ x. is_among cmp (tags x) tag) (finite.values m)
-found_all {X} cmp tags tag m keys has = found_passes (λ x. is_among cmp (tags x) tag) m keys (λ k. has k ∙ same (get m k))
+pub found_all : {T X : Type 0} (same : T → T → Bool) (tags : X → List T) (tag : T) (m : FinMap key_cmp X) (keys : Keys) → ((k : ObjectKey) → contains_key keys k ≡ is_tagged same tags tag (get m k)) → filter_map (get m) (finite.keys keys) ≡ filter (λ x. is_among same (tags x) tag) (finite.values m)
+found_all {X} same tags tag m keys has = found_passes (λ x. is_among same (tags x) tag) m keys (λ k. has k ∙ agrees (get m k))
   where
-    same : (o : Option X) → is_tagged cmp tags tag o ≡ passes (λ x. is_among cmp (tags x) tag) o
-    same None = refl
-    same (Some x) = refl
+    agrees : (o : Option X) → is_tagged same tags tag o ≡ passes (λ x. is_among same (tags x) tag) o
+    agrees None = refl
+    agrees (Some x) = refl

@@ -1,6 +1,7 @@
 pub mod Buckets
 pub mod Changed
 pub mod Found
+pub mod KeyLists
 pub mod NodeNames
 pub mod OwnObjects
 pub mod Ordered

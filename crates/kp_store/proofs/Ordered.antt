@@ -8,7 +8,7 @@ use Rattle.std.specs.FinMap.Entries.{is_some-find}
 use Rattle.kp_base.specs.Keys.{key_cmp}
 use Rattle.kp_base.specs.declared.key.ObjectKey.{ObjectKey}
 use Rattle.kp_base.proofs.KeyOrder.{key_total}
-use Rattle.kp_store.specs.Indexes.{Bucket}
+use Rattle.kp_store.specs.Indexes.{Keys}
 use Rattle.kp_store.proofs.Found.{passes, bucket_keys, found_passes}
 
 -- no key is there before the first
@@ -40,7 +40,7 @@ all_pass : {X : Type 0} (xs : List X) → filter (λ x. true) xs ≡ xs
 all_pass [] = refl
 all_pass (x ∷ xs) = ap (λ ys. x ∷ ys) (all_pass xs)
 
-module _ {X : Type 0} (m : FinMap key_cmp X) (keys : Bucket)
+module _ {X : Type 0} (m : FinMap key_cmp X) (keys : Keys)
     (has : (k : ObjectKey) → contains_key keys k ≡ contains_key m k) where
   each_passes : (k : ObjectKey) → contains_key keys k ≡ passes (λ (x : X). true) (get m k)
   each_passes k = has k ∙ by (get m k)

@@ -2,14 +2,11 @@
 use Rattle.std.proofs.Common.{◌≡◌, ℕ, ◌==◌, ◌&&◌, ◌||◌, Bool, true, false, cond, not, List, [], ◌∷◌, ◌++◌, map, filter, flat_map, bytes_eq, Option, Some, None, option_map, slice_get, refl, sym, ap, ◌∙◌, arith, ◌⊎◌, inl, inr}
 use Rattle.std.specs.List.{list_any, list_all}
 use Rattle.std.specs.Option.{option_to_list}
-use Rattle.std.specs.declared.cmp.Ordering.{Ordering}
-use Rattle.std.specs.Ordering.{eq_by_cmp}
-use Rattle.std.specs.Cmp.{IsTotalOrder}
+use Rattle.std.specs.Cmp.{IsEquivalence}
 use Rattle.std.proofs.lemmas.Bool.{and_parts, or_left, or_right}
 use Rattle.std.proofs.lemmas.Bool.Decides.{nat_tests}
 use Rattle.std.proofs.lemmas.List.Folds.{list_any-append}
 use Rattle.std.proofs.lemmas.Slice.Eq.{bytes_eq-Decides}
-use Rattle.kp_lemmas.proofs.Orders.{tie_of_itself}
 use Rattle.kp_base.specs.Net.{AddressParts, same_address}
 use Rattle.kp_base.specs.Keys.{same_proto}
 use Rattle.kp_base.specs.declared.key.Pair.{Pair}
@@ -62,13 +59,13 @@ selected_parts s pod h =
     let inner = and_parts (has_selector s) (bytes_eq s.key.namespace pod.key.namespace) outer.0 in
     (inner.0, (sym ((bytes_eq-Decides s.key.namespace pod.key.namespace).0 inner.1), outer.1))
 
-module _ (cmp : Label → Label → Ordering) (total : IsTotalOrder cmp) where
+module _ (same : Label → Label → Bool) (laws : IsEquivalence same) where
   -- a pod that a Service selects has the first term
-  pub has_first : (s : Service) (first : Pair) → slice_get s.selector 0 ≡ Some first → (pod : Pod) → selects s pod ≡ true → is_among cmp (labels_of pod) (label_in s.key.namespace first) ≡ true
+  pub has_first : (s : Service) (first : Pair) → slice_get s.selector 0 ≡ Some first → (pod : Pod) → selects s pod ≡ true → is_among same (labels_of pod) (label_in s.key.namespace first) ≡ true
   has_first s first at pod h =
       let parts = selected_parts s pod h in
-      any_mapped (λ l. bytes_eq l.key first.key && bytes_eq l.value first.value) (label_in pod.key.namespace) (eq_by_cmp cmp (label_in s.key.namespace first))
-      (λ l matches. ap (eq_by_cmp cmp (label_in s.key.namespace first)) (one_label s.key.namespace pod.key.namespace l first parts.1.0 matches) ∙ tie_of_itself total (label_in s.key.namespace first))
+      any_mapped (λ l. bytes_eq l.key first.key && bytes_eq l.value first.value) (label_in pod.key.namespace) (same (label_in s.key.namespace first))
+      (λ l matches. ap (same (label_in s.key.namespace first)) (one_label s.key.namespace pod.key.namespace l first parts.1.0 matches) ∙ laws.refl (label_in s.key.namespace first))
       pod.labels (of_first s.selector at parts.1.1)
     where
       of_first : (terms : List Pair) → slice_get terms 0 ≡ Some first → list_all (has_label pod) terms ≡ true → has_label pod first ≡ true
@@ -86,12 +83,12 @@ none_selected s at pod = by s.selector at
     by [] is = refl
     by (t ∷ ts) is = absurd (cc)
 
-module _ (cmp : ServiceTag → ServiceTag → Ordering) (total : IsTotalOrder cmp) where
+module _ (same : ServiceTag → ServiceTag → Bool) (laws : IsEquivalence same) where
   -- a Service that selects a pod begins with one of its labels
-  pub has_label_of : (pod : Pod) (s : Service) → selects s pod ≡ true → list_any (is_among cmp (tags_of s)) (selected_by pod) ≡ true
+  pub has_label_of : (pod : Pod) (s : Service) → selects s pod ≡ true → list_any (is_among same (tags_of s)) (selected_by pod) ≡ true
   has_label_of pod s h = by s.selector refl
     where
-      by : (terms : List Pair) → s.selector ≡ terms → list_any (is_among cmp (option_to_list (option_map (selector_of s.key.namespace) (slice_get terms 0)) ++ flat_map (tags_of_port s) s.ports)) (selected_by pod) ≡ true
+      by : (terms : List Pair) → s.selector ≡ terms → list_any (is_among same (option_to_list (option_map (selector_of s.key.namespace) (slice_get terms 0)) ++ flat_map (tags_of_port s) s.ports)) (selected_by pod) ≡ true
       by [] is =
           let parts = selected_parts s pod h in
           let none : not (is_empty s.selector) && not (is_external_name s.kind) ≡ false = ap (λ ts. not (is_empty ts) && not (is_external_name s.kind)) is in
@@ -99,10 +96,10 @@ module _ (cmp : ServiceTag → ServiceTag → Ordering) (total : IsTotalOrder cm
       by (first ∷ terms) is =
           let parts = selected_parts s pod h in
           let tag = selector_of s.key.namespace first in
-          any_mapped (λ l. bytes_eq l.key first.key && bytes_eq l.value first.value) (selector_of pod.key.namespace) (is_among cmp (tag ∷ flat_map (tags_of_port s) s.ports))
+          any_mapped (λ l. bytes_eq l.key first.key && bytes_eq l.value first.value) (selector_of pod.key.namespace) (is_among same (tag ∷ flat_map (tags_of_port s) s.ports))
           (λ l matches.
-          ap (is_among cmp (tag ∷ flat_map (tags_of_port s) s.ports)) (ap Selector (one_label s.key.namespace pod.key.namespace l first parts.1.0 matches))
-          ∙ or_left (eq_by_cmp cmp tag tag) (is_among cmp (flat_map (tags_of_port s) s.ports) tag) (tie_of_itself total tag))
+          ap (is_among same (tag ∷ flat_map (tags_of_port s) s.ports)) (ap Selector (one_label s.key.namespace pod.key.namespace l first parts.1.0 matches))
+          ∙ or_left (same tag tag) (is_among same (flat_map (tags_of_port s) s.ports) tag) (laws.refl tag))
           pod.labels ((and_parts (has_label pod first) (list_all (has_label pod) terms) (ap (list_all (has_label pod)) (sym is) ∙ parts.1.1)).0)
 
   module _ (proto : Proto) (target : AddressParts) (number : ℕ) where
@@ -114,19 +111,19 @@ module _ (cmp : ServiceTag → ServiceTag → Ordering) (total : IsTotalOrder cm
 
     -- one of the two tags is among tags
     abbrev either : List ServiceTag → Bool
-    either tags = list_any (is_among cmp tags) (At target number proto ∷ NodePort number proto ∷ [])
+    either tags = list_any (is_among same tags) (At target number proto ∷ NodePort number proto ∷ [])
 
-    either_here : (tags : List ServiceTag) → is_among cmp tags here ≡ true → either tags ≡ true
-    either_here tags h = or_left (is_among cmp tags here) (is_among cmp tags node || false) h
+    either_here : (tags : List ServiceTag) → is_among same tags here ≡ true → either tags ≡ true
+    either_here tags h = or_left (is_among same tags here) (is_among same tags node || false) h
 
-    either_node : (tags : List ServiceTag) → is_among cmp tags node ≡ true → either tags ≡ true
-    either_node tags h = or_right (is_among cmp tags here) (is_among cmp tags node || false) (or_left (is_among cmp tags node) false h)
+    either_node : (tags : List ServiceTag) → is_among same tags node ≡ true → either tags ≡ true
+    either_node tags h = or_right (is_among same tags here) (is_among same tags node || false) (or_left (is_among same tags node) false h)
 
-    in_first : (t : ServiceTag) (us vs : List ServiceTag) → is_among cmp us t ≡ true → is_among cmp (us ++ vs) t ≡ true
-    in_first t us vs h = list_any-append (eq_by_cmp cmp t) us vs ∙ or_left (is_among cmp us t) (is_among cmp vs t) h
+    in_first : (t : ServiceTag) (us vs : List ServiceTag) → is_among same us t ≡ true → is_among same (us ++ vs) t ≡ true
+    in_first t us vs h = list_any-append (same t) us vs ∙ or_left (is_among same us t) (is_among same vs t) h
 
-    in_second : (t : ServiceTag) (us vs : List ServiceTag) → is_among cmp vs t ≡ true → is_among cmp (us ++ vs) t ≡ true
-    in_second t us vs h = list_any-append (eq_by_cmp cmp t) us vs ∙ or_right (is_among cmp us t) (is_among cmp vs t) h
+    in_second : (t : ServiceTag) (us vs : List ServiceTag) → is_among same vs t ≡ true → is_among same (us ++ vs) t ≡ true
+    in_second t us vs h = list_any-append (same t) us vs ∙ or_right (is_among same us t) (is_among same vs t) h
 
     cases : (a b : Bool) → a || b ≡ true → (a ≡ true) ⊎ (b ≡ true)
     cases true b h = inl refl
@@ -134,10 +131,10 @@ module _ (cmp : ServiceTag → ServiceTag → Ordering) (total : IsTotalOrder cm
 
     either_first : (us vs : List ServiceTag) → either us ≡ true → either (us ++ vs) ≡ true
     either_first us vs h =
-        elim (cases (is_among cmp us here) (is_among cmp us node || false) h) [
+        elim (cases (is_among same us here) (is_among same us node || false) h) [
           | inl a ↦ either_here (us ++ vs) (in_first here us vs a)
           | inr b ↦
-              elim (cases (is_among cmp us node) false b) [
+              elim (cases (is_among same us node) false b) [
                 | inl n ↦ either_node (us ++ vs) (in_first node us vs n)
                 | inr e ↦ absurd (cc)
               ]
@@ -145,10 +142,10 @@ module _ (cmp : ServiceTag → ServiceTag → Ordering) (total : IsTotalOrder cm
 
     either_second : (us vs : List ServiceTag) → either vs ≡ true → either (us ++ vs) ≡ true
     either_second us vs h =
-        elim (cases (is_among cmp vs here) (is_among cmp vs node || false) h) [
+        elim (cases (is_among same vs here) (is_among same vs node || false) h) [
           | inl a ↦ either_here (us ++ vs) (in_second here us vs a)
           | inr b ↦
-              elim (cases (is_among cmp vs node) false b) [
+              elim (cases (is_among same vs node) false b) [
                 | inl n ↦ either_node (us ++ vs) (in_second node us vs n)
                 | inr e ↦ absurd (cc)
               ]
@@ -159,15 +156,15 @@ module _ (cmp : ServiceTag → ServiceTag → Ordering) (total : IsTotalOrder cm
 
     module _ (s : Service) (p : ServicePort) where
       -- the tag of an address
-      tagged_at : p.proto ≡ proto → p.port ≡ number → (listed : List AddressParts) → has_address target listed ≡ true → is_among cmp (map (tag_at p) listed) here ≡ true
+      tagged_at : p.proto ≡ proto → p.port ≡ number → (listed : List AddressParts) → has_address target listed ≡ true → is_among same (map (tag_at p) listed) here ≡ true
       tagged_at protos numbers listed h =
-          any_mapped (λ a. same_address a target) (tag_at p) (eq_by_cmp cmp here)
-          (λ a same. ap (eq_by_cmp cmp here) (λ i. At (same_address_exact a target same i) (numbers i) (protos i)) ∙ tie_of_itself total here) listed h
+          any_mapped (λ a. same_address a target) (tag_at p) (same here)
+          (λ a equal. ap (same here) (λ i. At (same_address_exact a target equal i) (numbers i) (protos i)) ∙ laws.refl here) listed h
 
-      tagged_node : p.proto ≡ proto → (own : Option ℕ) → is_node_port number own ≡ true → is_among cmp (option_to_list (option_map (node_tag p) own)) node ≡ true
+      tagged_node : p.proto ≡ proto → (own : Option ℕ) → is_node_port number own ≡ true → is_among same (option_to_list (option_map (node_tag p) own)) node ≡ true
       tagged_node protos None h = absurd (cc)
       tagged_node protos (Some n) h =
-          or_left (eq_by_cmp cmp node (node_tag p n)) false (ap (eq_by_cmp cmp node) (λ i. NodePort (one_number n number h i) (protos i)) ∙ tie_of_itself total node)
+          or_left (same node (node_tag p n)) false (ap (same node) (λ i. NodePort (one_number n number h i) (protos i)) ∙ laws.refl node)
 
       abbrev at_cluster : List ServiceTag
       at_cluster = map (tag_at p) (cluster_addresses s.cluster)
@@ -181,7 +178,7 @@ module _ (cmp : ServiceTag → ServiceTag → Ordering) (total : IsTotalOrder cm
       abbrev at_node : List ServiceTag
       at_node = option_to_list (option_map (node_tag p) p.node_port)
 
-      at_address : p.proto ≡ proto → p.port ≡ number → is_address_of target s ≡ true → is_among cmp (tags_of_port s p) here ≡ true
+      at_address : p.proto ≡ proto → p.port ≡ number → is_address_of target s ≡ true → is_among same (tags_of_port s p) here ≡ true
       at_address protos numbers h =
           elim (cases (has_address target (cluster_addresses s.cluster)) (has_address target s.external || has_address target s.balancer) h) [
             | inl c ↦ in_first here (at_cluster ++ at_external ++ at_balancer) at_node (in_first here (at_cluster ++ at_external) at_balancer (in_first here at_cluster at_external (tagged_at protos numbers (cluster_addresses s.cluster) c)))
@@ -213,5 +210,5 @@ module _ (cmp : ServiceTag → ServiceTag → Ordering) (total : IsTotalOrder cm
         ]
 
     -- a Service that answers has one of the two tags
-    pub has_destination : (s : Service) → answers proto target number s ≡ true → list_any (is_among cmp (tags_of s)) (At target number proto ∷ NodePort number proto ∷ []) ≡ true
+    pub has_destination : (s : Service) → answers proto target number s ≡ true → list_any (is_among same (tags_of s)) (At target number proto ∷ NodePort number proto ∷ []) ≡ true
     has_destination s h = either_second (selector_tags s) (flat_map (tags_of_port s) s.ports) (ports_tagged s s.ports h)

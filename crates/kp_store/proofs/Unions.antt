@@ -1,6 +1,5 @@
 -- The keys of several buckets, and the objects with any of several tags.
 use Rattle.std.proofs.Common.{◌≡◌, ℕ, ◌+◌, ◌<◌, ◌||◌, Bool, true, false, List, [], ◌∷◌, ◌++◌, map, take, length, get_or, filter, Option, Some, None, cond, is_some, refl, sym, ap, ◌∙◌, Bor}
-use Rattle.std.specs.declared.cmp.Ordering.{Ordering}
 use Rattle.std.specs.List.{list_any, filter_map}
 use Rattle.std.specs.Ordering.{eq_by_cmp}
 use Rattle.std.specs.FinMap as finite
@@ -9,7 +8,7 @@ use Rattle.std.proofs.lemmas.List.{take_more}
 use Rattle.std.proofs.lemmas.List.Folds.{list_any-append}
 use Rattle.kp_base.specs.Keys.{key_cmp}
 use Rattle.kp_base.specs.declared.key.ObjectKey.{ObjectKey}
-use Rattle.kp_store.specs.Indexes.{Bucket, is_among, is_tagged}
+use Rattle.kp_store.specs.Indexes.{Keys, is_among, is_tagged}
 use Rattle.kp_store.proofs.Buckets.{or_none}
 use Rattle.kp_store.proofs.Found.{passes, found_passes}
 
@@ -60,13 +59,13 @@ union_more in_bucket tags i t new old lt is added before =
     added ∙ ap (λ b. in_bucket t || b) before ∙ any_more in_bucket tags i t lt is
 
 -- the objects of the keys with any of the tags
-pub found_any : {T X : Type 0} (cmp : T → T → Ordering) (tags : X → List T) (wanted : List T) (m : FinMap key_cmp X) (keys : Bucket) → ((k : ObjectKey) → contains_key keys k ≡ list_any (λ t. is_tagged cmp tags t (get m k)) wanted) → filter_map (get m) (finite.keys keys) ≡ filter (λ x. list_any (is_among cmp (tags x)) wanted) (finite.values m)
-found_any {T} {X} cmp tags wanted m keys has = found_passes (λ x. list_any (is_among cmp (tags x)) wanted) m keys (λ k. has k ∙ same (get m k))
+pub found_any : {T X : Type 0} (same : T → T → Bool) (tags : X → List T) (wanted : List T) (m : FinMap key_cmp X) (keys : Keys) → ((k : ObjectKey) → contains_key keys k ≡ list_any (λ t. is_tagged same tags t (get m k)) wanted) → filter_map (get m) (finite.keys keys) ≡ filter (λ x. list_any (is_among same (tags x)) wanted) (finite.values m)
+found_any {T} {X} same tags wanted m keys has = found_passes (λ x. list_any (is_among same (tags x)) wanted) m keys (λ k. has k ∙ agrees (get m k))
   where
     never : (ts : List T) → list_any (λ _. false) ts ≡ false
     never [] = refl
     never (t ∷ ts) = never ts
 
-    same : (o : Option X) → list_any (λ t. is_tagged cmp tags t o) wanted ≡ passes (λ x. list_any (is_among cmp (tags x)) wanted) o
-    same None = never wanted
-    same (Some x) = refl
+    agrees : (o : Option X) → list_any (λ t. is_tagged same tags t o) wanted ≡ passes (λ x. list_any (is_among same (tags x)) wanted) o
+    agrees None = never wanted
+    agrees (Some x) = refl

@@ -1,35 +1,39 @@
--- Keys of objects by what the objects are found by, their tags: a bucket for each tag. Tags that
--- tie in their order are one.
-use Rattle.std.specs.Prelude.{◌≡◌, ℕ, ◌&&◌, ◌||◌, not, Bool, false, List, take, Option, Some, None}
+-- Keys of objects by what the objects are found by, their tags: a bucket for each tag.
+use Rattle.std.specs.Prelude.{◌≡◌, ℕ, ◌&&◌, ◌||◌, not, Bool, false, List, [], ◌∷◌, take, Option, Some, None}
 use Rattle.std.specs.List.{list_any}
 use Rattle.std.specs.Option.{unwrap_or}
 use Rattle.std.specs.Ordering.{eq_by_cmp}
-use Rattle.std.specs.declared.cmp.Ordering.{Ordering}
 use Rattle.std.specs.Map.{lookup}
 use Rattle.std.specs.FinMap as finite
 use Rattle.kp_base.specs.Keys.{key_cmp}
 use Rattle.kp_base.specs.declared.key.ObjectKey.{ObjectKey}
 
 -- keys, as a map to nothing
-abbrev pub Bucket : Type 0
-Bucket = finite.FinMap key_cmp (Unit {0})
+abbrev pub Keys : Type 0
+Keys = finite.FinMap key_cmp (Unit {0})
 
-module _ {T : Type 0} (cmp : T → T → Ordering) where
+-- more keys beside keys
+abbrev pub with_keys : List ObjectKey → Keys → Keys
+with_keys [] keys = keys
+with_keys (k ∷ ks) keys = finite.insert (with_keys ks keys) k tt
+
+-- same is the test of tags
+module _ {T : Type 0} (same : T → T → Bool) where
   -- a tag is among tags
   abbrev pub is_among : List T → T → Bool
-  is_among tags t = list_any (eq_by_cmp cmp t) tags
+  is_among tags t = list_any (same t) tags
 
   -- the bucket of a tag
-  abbrev pub bucket : List (T × Bucket) → T → Bucket
-  bucket buckets t = unwrap_or (lookup (eq_by_cmp cmp t) buckets) finite.empty
+  abbrev pub bucket : List (T × Keys) → T → Keys
+  bucket buckets t = unwrap_or (lookup (same t) buckets) finite.empty
 
   -- a key stands in the bucket of a tag
-  abbrev pub has : List (T × Bucket) → T → ObjectKey → Bool
+  abbrev pub has : List (T × Keys) → T → ObjectKey → Bool
   has buckets t k = finite.contains_key (bucket buckets t) k
 
   -- t and k are this tag and this key
   abbrev pub is_pair : T → ObjectKey → T → ObjectKey → Bool
-  is_pair tag key t k = eq_by_cmp cmp t tag && eq_by_cmp key_cmp k key
+  is_pair tag key t k = same t tag && eq_by_cmp key_cmp k key
 
   -- t is among the tags, and k is this key
   abbrev pub is_tag_of : List T → ObjectKey → T → ObjectKey → Bool
@@ -41,7 +45,7 @@ module _ {T : Type 0} (cmp : T → T → Ordering) where
       eq_by_cmp key_cmp k key && (is_among gone t && not (is_among kept t))
 
   -- the key was added to the buckets of some first tags
-  abbrev pub IsPartly : List T → ObjectKey → List (T × Bucket) → List (T × Bucket) → Type 0
+  abbrev pub IsPartly : List T → ObjectKey → List (T × Keys) → List (T × Keys) → Type 0
   IsPartly tags key before after =
       (i : ℕ)
       × ((t : T) (k : ObjectKey) → has after t k ≡ is_tag_of (take i tags) key t k || has before t k)
@@ -52,6 +56,6 @@ module _ {T : Type 0} (cmp : T → T → Ordering) where
   is_tagged tags t (Some x) = is_among (tags x) t
 
   -- each bucket has the keys of the objects with its tag
-  abbrev pub IsIndexOf : {X : Type 0} → (X → List T) → finite.FinMap key_cmp X → List (T × Bucket) → Type 0
+  abbrev pub IsIndexOf : {X : Type 0} → (X → List T) → finite.FinMap key_cmp X → List (T × Keys) → Type 0
   IsIndexOf tags objects buckets =
       (t : T) (k : ObjectKey) → has buckets t k ≡ is_tagged tags t (finite.get objects k)

@@ -10,7 +10,7 @@ use Rattle.kp_types.specs.contracts.slice.Slice as slice_row
 use Rattle.kp_types.specs.contracts.pod.Pod as pod_row
 use Rattle.kp_types.specs.contracts.pod.Node as node_row
 use Rattle.kp_object_defs.specs.Objects.{Objects}
-use Rattle.kp_store.specs.Indexes.{Bucket}
+use Rattle.kp_store.specs.Indexes.{Keys}
 
 -- objects of one kind, as finite maps are
 abbrev pub keyed_code : {X : Type 0} → Coded X → Coded (finite.FinMap key_cmp X)
@@ -28,5 +28,5 @@ objects_code =
     (λ _. refl)
 
 -- buckets, as a list
-abbrev pub buckets_code : {T : Type 0} → Coded T → Coded (List (T × Bucket))
+abbrev pub buckets_code : {T : Type 0} → Coded T → Coded (List (T × Keys))
 buckets_code t = coded_list (coded× t (keyed_code coded_unit))

@@ -1,88 +1,85 @@
 //! Keys of objects by what the objects are found by.
-ghost use Rattle.std.specs.Prelude.{◌≡◌, ◌&&◌, ◌||◌, not, [], map, None, IfOk, OnOk, OnErr};
-ghost use Rattle.std.specs.Ordering.{eq_by_cmp};
+ghost use Rattle.std.specs.Prelude.{◌≡◌, ◌&&◌, ◌||◌, not, true, [], None, IfOk, OnOk, OnErr};
 ghost use Rattle.std.specs.FinMap as finite;
 ghost use Rattle.std.specs.List.{list_any};
 ghost use Rattle.std.specs.Map.{lookup};
 ghost use Rattle.kp_base.specs.declared.key.ObjectKey.{ObjectKey};
-ghost use Rattle.kp_store.specs.Indexes.{bucket, has, is_among, is_pair, is_tag_of, is_lost};
+ghost use Rattle.kp_store.specs.Indexes.{has, is_among, is_pair, is_tag_of, is_lost};
 ghost use Rattle.kp_store.specs.Indexes.{IsPartly};
 
+use crate::bucket::Bucket;
 use crate::keyed::Keyed;
+use indexmap::IndexMap;
 use kp_base::{Copied, NoMemory, ObjectKey};
 use std::alloc::Global;
-use std::cmp::{Ord, Ordering};
-use std::collections::BTreeMap;
+use std::hash::Hash;
 use std::marker::Model;
 
-/// A bucket of keys for each tag. Contracts see the buckets, in order of their tags.
+/// A bucket of keys for each tag, found by the tag's hash. Contracts see the buckets, in no order.
 #[derive(Drop)]
-pub struct Index<T: Ord> {
-    buckets: BTreeMap<T, Keyed<()>>,
+pub struct Index<T: Eq + Hash> {
+    buckets: IndexMap<T, Bucket>,
 }
 
-impl<T: Ord> Model for Index<T> {
+impl<T: Eq + Hash> Model for Index<T> {
     ghost use Rattle.std.specs.Prelude.{List};
-    ghost use Rattle.kp_store.specs.Indexes.{Bucket};
+    ghost use Rattle.kp_store.specs.Indexes.{Keys};
     ghost use Rattle.kp_store.specs.Stored.{buckets_code};
 
-    ghost Value = { List (T × Bucket) };
+    ghost Value = { List (T × Keys) };
 
     ghost coded = { buckets_code T.code };
 
     ghost view = { λ i. i.buckets.entries };
 }
 
-impl<T: Ord + Drop> Index<T> {
+impl<T: Eq + Hash + Drop> Index<T> {
     /// No keys.
     pub fn new(alloc: Global) -> Index<T>
         ensures { result ≡ [] }
     {
         Index {
-            buckets: BTreeMap::new(alloc),
+            buckets: IndexMap::new(alloc),
         }
     }
 
-    /// The keys of a tag, in order.
-    pub fn keys(&self, alloc: Global, tag: &T) -> Result<Vec<&ObjectKey>, NoMemory>
-        ensures { IfOk result (λ ks. map (λ k. k.now) ks.items
-            ≡ finite.keys (bucket T.cmp self.now tag.now)) }
+    /// The keys of a tag.
+    pub fn keys(&self, alloc: Global, tag: &T) -> Result<Keyed<()>, NoMemory>
+        ensures { IfOk result (λ ks. (k : ObjectKey) → finite.contains_key ks k
+            ≡ has T.eq self.now tag.now k) }
     {
-        match self.buckets.get(tag) {
-            Some(bucket) => bucket.keys(alloc),
-            None => Ok(Vec::new(alloc)),
-        }
+        let mut bucket = Keyed::new(alloc);
+        self.put_into(alloc, tag, &mut bucket)?;
+        Ok(bucket)
     }
 
     /// The keys of any of some tags.
     pub fn keys_of_any(&self, alloc: Global, tags: &[T]) -> Result<Keyed<()>, NoMemory>
         ensures { IfOk result (λ ks. (k : ObjectKey) → finite.contains_key ks k
-            ≡ list_any (λ t. has T.cmp self.now t k) tags.now) }
+            ≡ list_any (λ t. has T.eq self.now t k) tags.now) }
     {
         let mut keys = Keyed::new(alloc);
         for tag in tags {
-            keys.put_all(alloc, self.keys(alloc, tag)?.as_slice())?;
+            self.put_into(alloc, tag, &mut keys)?;
         }
         Ok(keys)
     }
 
-    /// Adds a key to the bucket of a tag. Where memory is out, all stays.
-    fn add(&mut self, alloc: Global, tag: T, key: ObjectKey) -> Result<(), NoMemory>
-        ensures ok { OnOk result ((t : T) (k : ObjectKey) → has T.cmp self.new t k
-            ≡ is_pair T.cmp tag key t k || has T.cmp self.old t k) }
-        ensures err { OnErr result ((t : T) (k : ObjectKey) → has T.cmp self.new t k
-            ≡ has T.cmp self.old t k) }
+    /// Puts the keys of a tag beside others.
+    fn put_into(&self, alloc: Global, tag: &T, keys: &mut Keyed<()>) -> Result<(), NoMemory>
+        ensures { OnOk result ((k : ObjectKey) → finite.contains_key keys.new k
+            ≡ has T.eq self.now tag.now k || finite.contains_key keys.old k) }
     {
-        match self.buckets.get_mut(&tag) {
-            Some(bucket) => bucket.put(key, ()),
-            None => add_bucket(alloc, &mut self.buckets, tag, key),
+        match self.buckets.get(tag) {
+            Some(bucket) => bucket.put_into(alloc, keys),
+            None => Ok(()),
         }
     }
 
     /// Removes a key from the bucket of a tag.
     fn remove(&mut self, tag: &T, key: &ObjectKey)
-        ensures { (t : T) (k : ObjectKey) → has T.cmp self.new t k
-            ≡ not (is_pair T.cmp tag.now key.now t k) && has T.cmp self.old t k }
+        ensures { (t : T) (k : ObjectKey) → has T.eq self.new t k
+            ≡ not (is_pair T.eq tag.now key.now t k) && has T.eq self.old t k }
     {
         match self.buckets.get_mut(tag) {
             Some(bucket) => {
@@ -92,21 +89,36 @@ impl<T: Ord + Drop> Index<T> {
         }
     }
 
+    /// Forgets a tag whose bucket is empty.
+    fn forget(&mut self, tag: &T)
+        ensures { (t : T) (k : ObjectKey) → has T.eq self.new t k ≡ has T.eq self.old t k }
+    {
+        match self.buckets.get(tag) {
+            Some(bucket) => {
+                if bucket.is_empty() {
+                    self.buckets.swap_remove(tag);
+                }
+            }
+            None => return,
+        }
+    }
+
     /// Removes a key from the bucket of a tag, unless the tag is kept.
     fn remove_unless(&mut self, tag: &T, kept: &[T], key: &ObjectKey)
-        ensures { (t : T) (k : ObjectKey) → has T.cmp self.new t k
-            ≡ not (is_pair T.cmp tag.now key.now t k && not (is_among T.cmp kept.now tag.now))
-            && has T.cmp self.old t k }
+        ensures { (t : T) (k : ObjectKey) → has T.eq self.new t k
+            ≡ not (is_pair T.eq tag.now key.now t k && not (is_among T.eq kept.now tag.now))
+            && has T.eq self.old t k }
     {
         if !is_one_of(tag, kept) {
             self.remove(tag, key);
+            self.forget(tag);
         }
     }
 
     /// Removes a key from the buckets of the tags that are gone and not kept.
     pub fn trim(&mut self, gone: &[T], kept: &[T], key: &ObjectKey)
-        ensures { (t : T) (k : ObjectKey) → has T.cmp self.new t k
-            ≡ not (is_lost T.cmp gone.now kept.now key.now t k) && has T.cmp self.old t k }
+        ensures { (t : T) (k : ObjectKey) → has T.eq self.new t k
+            ≡ not (is_lost T.eq gone.now kept.now key.now t k) && has T.eq self.old t k }
     {
         for tag in gone {
             self.remove_unless(tag, kept, key);
@@ -114,15 +126,58 @@ impl<T: Ord + Drop> Index<T> {
     }
 }
 
-impl<T: Ord + Copied> Index<T> {
-    /// Adds a key to the buckets of its tags. Where memory is out, it may stand in some of them.
-    fn add_each(&mut self, alloc: Global, tags: &[T], key: &ObjectKey) -> Result<(), NoMemory>
-        ensures ok { OnOk result ((t : T) (k : ObjectKey) → has T.cmp self.new t k
-            ≡ is_tag_of T.cmp tags.now key.now t k || has T.cmp self.old t k) }
-        ensures err { OnErr result (IsPartly T.cmp tags.now key.now self.old self.new) }
+impl<T: Eq + Hash + Copied> Index<T> {
+    /// Adds a key to the bucket of a tag. Where memory is out, all stays.
+    fn add(&mut self, alloc: Global, tag: &T, key: &ObjectKey) -> Result<(), NoMemory>
+        ensures ok { OnOk result ((t : T) (k : ObjectKey) → has T.eq self.new t k
+            ≡ is_pair T.eq tag.now key.now t k || has T.eq self.old t k) }
+        ensures err { OnErr result ((t : T) (k : ObjectKey) → has T.eq self.new t k
+            ≡ has T.eq self.old t k) }
+    {
+        match self.buckets.get_mut(tag) {
+            Some(bucket) => bucket.add(alloc, key),
+            None => add_bucket(alloc, &mut self.buckets, tag, key),
+        }
+    }
+
+    /// Adds a key to the bucket of a tag, unless it stands there because the tag is kept. Where
+    /// memory is out, all stays.
+    fn add_unless(
+        &mut self,
+        alloc: Global,
+        tag: &T,
+        kept: &[T],
+        key: &ObjectKey,
+    ) -> Result<(), NoMemory>
+        requires { (t : T) → is_among T.eq kept.now t ≡ true → has T.eq self.old t key.now ≡ true }
+        ensures ok { OnOk result ((t : T) (k : ObjectKey) → has T.eq self.new t k
+            ≡ is_pair T.eq tag.now key.now t k || has T.eq self.old t k) }
+        ensures err { OnErr result ((t : T) (k : ObjectKey) → has T.eq self.new t k
+            ≡ has T.eq self.old t k) }
+    {
+        if is_one_of(tag, kept) {
+            Ok(())
+        } else {
+            self.add(alloc, tag, key)
+        }
+    }
+
+    /// Adds a key to the buckets of its tags, where it stands in those of the tags that are kept.
+    /// Where memory is out, it may stand in some of them.
+    fn add_each(
+        &mut self,
+        alloc: Global,
+        tags: &[T],
+        kept: &[T],
+        key: &ObjectKey,
+    ) -> Result<(), NoMemory>
+        requires { (t : T) → is_among T.eq kept.now t ≡ true → has T.eq self.old t key.now ≡ true }
+        ensures ok { OnOk result ((t : T) (k : ObjectKey) → has T.eq self.new t k
+            ≡ is_tag_of T.eq tags.now key.now t k || has T.eq self.old t k) }
+        ensures err { OnErr result (IsPartly T.eq tags.now key.now self.old self.new) }
     {
         for tag in tags {
-            self.add(alloc, tag.copy(alloc)?, key.copy(alloc)?)?;
+            self.add_unless(alloc, tag, kept, key)?;
         }
         Ok(())
     }
@@ -136,13 +191,13 @@ impl<T: Ord + Copied> Index<T> {
         kept: &[T],
         key: &ObjectKey,
     ) -> Result<(), NoMemory>
-        requires { (t : T) → has T.cmp self.old t key.now ≡ is_among T.cmp kept.now t }
-        ensures ok { OnOk result ((t : T) (k : ObjectKey) → has T.cmp self.new t k
-            ≡ is_tag_of T.cmp tags.now key.now t k || has T.cmp self.old t k) }
-        ensures err { OnErr result ((t : T) (k : ObjectKey) → has T.cmp self.new t k
-            ≡ has T.cmp self.old t k) }
+        requires { (t : T) → has T.eq self.old t key.now ≡ is_among T.eq kept.now t }
+        ensures ok { OnOk result ((t : T) (k : ObjectKey) → has T.eq self.new t k
+            ≡ is_tag_of T.eq tags.now key.now t k || has T.eq self.old t k) }
+        ensures err { OnErr result ((t : T) (k : ObjectKey) → has T.eq self.new t k
+            ≡ has T.eq self.old t k) }
     {
-        match self.add_each(alloc, tags, key) {
+        match self.add_each(alloc, tags, kept, key) {
             Ok(()) => Ok(()),
             Err(refused) => {
                 self.trim(tags, kept, key);
@@ -153,26 +208,25 @@ impl<T: Ord + Copied> Index<T> {
 }
 
 /// Whether a tag is among tags.
-fn is_one_of<T: Ord>(tag: &T, tags: &[T]) -> bool
-    ensures { result ≡ is_among T.cmp tags.now tag.now }
+fn is_one_of<T: Eq>(tag: &T, tags: &[T]) -> bool
+    ensures { result ≡ is_among T.eq tags.now tag.now }
 {
-    tags.iter().any(|other| tag.cmp(other) == Ordering::Equal)
+    tags.iter().any(|other| *tag == *other)
 }
 
 /// Adds a bucket of one key, where there is none of its tag.
-fn add_bucket<T: Ord + Drop>(
+fn add_bucket<T: Eq + Hash + Copied>(
     alloc: Global,
-    buckets: &mut BTreeMap<T, Keyed<()>>,
-    tag: T,
-    key: ObjectKey,
+    buckets: &mut IndexMap<T, Bucket>,
+    tag: &T,
+    key: &ObjectKey,
 ) -> Result<(), NoMemory>
-    requires { lookup (eq_by_cmp T.cmp tag) buckets.old.entries ≡ None }
-    ensures ok { OnOk result ((t : T) (k : ObjectKey) → has T.cmp buckets.new.entries t k
-        ≡ is_pair T.cmp tag key t k || has T.cmp buckets.old.entries t k) }
+    requires { lookup (T.eq tag.now) buckets.old.entries ≡ None }
+    ensures ok { OnOk result ((t : T) (k : ObjectKey) → has T.eq buckets.new.entries t k
+        ≡ is_pair T.eq tag.now key.now t k || has T.eq buckets.old.entries t k) }
     ensures err { OnErr result (buckets.new.entries ≡ buckets.old.entries) }
 {
-    let mut bucket = Keyed::new(alloc);
-    bucket.put(key, ())?;
-    buckets.insert(tag, bucket)?;
+    let bucket = Bucket::of(alloc, key)?;
+    buckets.insert(tag.copy(alloc)?, bucket)?;
     Ok(())
 }

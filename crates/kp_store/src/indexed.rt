@@ -10,11 +10,11 @@ use crate::index::Index;
 use crate::selections::copies;
 use kp_base::{Copied, Items, NoMemory, ObjectKey};
 use std::alloc::Global;
-use std::cmp::Ord;
+use std::hash::Hash;
 use std::marker::Model;
 
 /// An object that is found by tags.
-pub trait Tagged<T: Ord>: Copied {
+pub trait Tagged<T: Eq>: Copied {
     ghost tags: { Self → List T };
 
     /// The tags of the object.
@@ -25,12 +25,12 @@ pub trait Tagged<T: Ord>: Copied {
 /// Objects of one kind, which contracts see as a finite map from their keys. The index has in the
 /// bucket of each tag the keys of the objects with this tag.
 #[derive(Drop)]
-pub struct Indexed<X: Tagged<T>, T: Ord + Copied> {
+pub struct Indexed<X: Tagged<T>, T: Eq + Hash + Copied> {
     objects: Hashed<X>,
     index: Index<T>,
 }
 
-impl<X: Tagged<T>, T: Ord + Copied> Model for Indexed<X, T> {
+impl<X: Tagged<T>, T: Eq + Hash + Copied> Model for Indexed<X, T> {
     ghost use Rattle.std.specs.FinMap as finite;
     ghost use Rattle.kp_base.specs.Keys.{key_cmp};
     ghost use Rattle.kp_store.specs.Indexes.{IsIndexOf};
@@ -42,10 +42,10 @@ impl<X: Tagged<T>, T: Ord + Copied> Model for Indexed<X, T> {
 
     ghost view = { λ s. s.objects };
 
-    ghost invariant = { λ s. IsIndexOf T.cmp X.tags s.objects s.index };
+    ghost invariant = { λ s. IsIndexOf T.eq X.tags s.objects s.index };
 }
 
-impl<X: Tagged<T>, T: Ord + Copied> Indexed<X, T> {
+impl<X: Tagged<T>, T: Eq + Hash + Copied> Indexed<X, T> {
     /// No objects.
     pub fn new(alloc: Global) -> Indexed<X, T>
         ensures { result ≡ finite.empty }
@@ -85,9 +85,10 @@ impl<X: Tagged<T>, T: Ord + Copied> Indexed<X, T> {
     /// The objects with a tag, in order of their keys.
     pub fn found(&self, alloc: Global, tag: &T) -> Result<Vec<&X>, NoMemory>
         ensures { IfOk result (λ xs. map (λ x. x.now) xs.items
-            ≡ filter (λ x. is_among T.cmp (X.tags x) tag.now) (finite.values self.now)) }
+            ≡ filter (λ x. is_among T.eq (X.tags x) tag.now) (finite.values self.now)) }
     {
-        let keys = self.index.keys(alloc, tag)?;
+        let bucket = self.index.keys(alloc, tag)?;
+        let keys = bucket.keys(alloc)?;
         let found = found_at(alloc, &self.objects, keys.as_slice())?;
         Ok(found)
     }
@@ -95,7 +96,7 @@ impl<X: Tagged<T>, T: Ord + Copied> Indexed<X, T> {
     /// The objects with any of some tags, in order of their keys.
     pub fn found_any(&self, alloc: Global, tags: &[T]) -> Result<Vec<&X>, NoMemory>
         ensures { IfOk result (λ xs. map (λ x. x.now) xs.items
-            ≡ filter (λ x. list_any (is_among T.cmp (X.tags x)) tags.now)
+            ≡ filter (λ x. list_any (is_among T.eq (X.tags x)) tags.now)
             (finite.values self.now)) }
     {
         let union = self.index.keys_of_any(alloc, tags)?;
@@ -105,22 +106,22 @@ impl<X: Tagged<T>, T: Ord + Copied> Indexed<X, T> {
     }
 
     /// Puts an object in place of the one of its key. Where memory is out, all stays.
-    pub fn put(&mut self, alloc: Global, key: ObjectKey, object: X) -> Result<(), NoMemory>
-        ensures ok { OnOk result (self.new ≡ finite.insert self.old key object) }
+    pub fn put(&mut self, alloc: Global, key: &ObjectKey, object: X) -> Result<(), NoMemory>
+        ensures ok { OnOk result (self.new ≡ finite.insert self.old key.now object) }
         ensures err { OnErr result (self.new ≡ self.old) }
     {
         let new = object.tags(alloc)?;
-        let old = tags_at(alloc, &self.objects, &key)?;
+        let old = tags_at(alloc, &self.objects, key)?;
         let copy = key.copy(alloc)?;
         self.index
-            .add_all(alloc, new.as_slice(), old.as_slice(), &key)?;
+            .add_all(alloc, new.as_slice(), old.as_slice(), key)?;
         match self.objects.put(copy, object) {
             Ok(()) => {
-                self.index.trim(old.as_slice(), new.as_slice(), &key);
+                self.index.trim(old.as_slice(), new.as_slice(), key);
                 Ok(())
             }
             Err(refused) => {
-                self.index.trim(new.as_slice(), old.as_slice(), &key);
+                self.index.trim(new.as_slice(), old.as_slice(), key);
                 Err(refused)
             }
         }
@@ -140,13 +141,13 @@ impl<X: Tagged<T>, T: Ord + Copied> Indexed<X, T> {
 }
 
 /// The tags of the object of a key: none where there is no object.
-fn tags_at<X: Tagged<T>, T: Ord + Copied>(
+fn tags_at<X: Tagged<T>, T: Eq + Hash + Copied>(
     alloc: Global,
     objects: &Hashed<X>,
     key: &ObjectKey,
 ) -> Result<Items<T>, NoMemory>
-    ensures { IfOk result (λ ts. (t : T) → is_among T.cmp ts t
-        ≡ is_tagged T.cmp X.tags t (finite.get objects.now key.now)) }
+    ensures { IfOk result (λ ts. (t : T) → is_among T.eq ts t
+        ≡ is_tagged T.eq X.tags t (finite.get objects.now key.now)) }
 {
     match objects.get(key) {
         Some(object) => object.tags(alloc),

@@ -1,5 +1,5 @@
 //! Objects of one kind by their keys.
-ghost use Rattle.std.specs.Prelude.{◌≡◌, ◌||◌, map, IfOk, OnOk, OnErr, option_copied};
+ghost use Rattle.std.specs.Prelude.{◌≡◌, ◌||◌, map, IfOk, OnOk, OnErr, IsTrue, option_copied};
 ghost use Rattle.std.specs.List.{list_any};
 ghost use Rattle.std.specs.Ordering.{eq_by_cmp};
 ghost use Rattle.kp_base.specs.Keys.{key_cmp};
@@ -51,6 +51,13 @@ impl<X: Drop> Keyed<X> {
         ensures { IfOk result (λ ks. map (λ k. k.now) ks.items ≡ finite.keys self.now) }
     {
         Ok(self.entries.keys().collect(alloc)?)
+    }
+
+    /// Whether there are no objects.
+    pub fn is_empty(&self) -> bool
+        ensures { IsTrue result → self.now ≡ finite.empty }
+    {
+        self.entries.is_empty()
     }
 
     /// Puts an object in place of the one of its key. Where memory is out, all stays.

@@ -1,6 +1,7 @@
 //! The objects of the cluster, after events.
 #![tactic(auto)]
 
+mod bucket;
 mod hashed;
 mod index;
 mod indexed;

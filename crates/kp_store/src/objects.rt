@@ -93,9 +93,9 @@ impl Objects {
         ensures err { OnErr result (self.new ≡ self.old) }
     {
         match object {
-            Object::Service(s) => self.services.put(alloc, s.key.copy(alloc)?, s.copy(alloc)?),
-            Object::EndpointSlice(s) => self.slices.put(alloc, s.key.copy(alloc)?, s.copy(alloc)?),
-            Object::Pod(p) => self.pods.put(alloc, p.key.copy(alloc)?, p.copy(alloc)?),
+            Object::Service(s) => self.services.put(alloc, &s.key, s.copy(alloc)?),
+            Object::EndpointSlice(s) => self.slices.put(alloc, &s.key, s.copy(alloc)?),
+            Object::Pod(p) => self.pods.put(alloc, &p.key, p.copy(alloc)?),
             Object::Node(n) => self.nodes.put(n.name.copy(alloc)?, n.copy(alloc)?),
         }
     }

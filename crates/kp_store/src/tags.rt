@@ -9,17 +9,16 @@ use kp_base::{Address, Copied, Items, NoMemory, ObjectKey, Pair, PortNo, Proto, 
 use kp_types::{ClusterAddress, Pod, Service, ServicePort, Slice};
 use std::alloc::Global;
 
-/// A label in a namespace, which a pod has or a Service selects by. Labels are in order of their
-/// values first, in which most differ, so that a look-up seldom compares more than one text.
-#[derive(PartialEq, Eq, PartialOrd, Ord, Drop)]
+/// A label in a namespace, which a pod has or a Service selects by.
+#[derive(PartialEq, Eq, Hash, Drop)]
 pub struct Label {
-    pub value: Text,
-    pub key: Text,
     pub namespace: Text,
+    pub key: Text,
+    pub value: Text,
 }
 
 /// What a Service is found by.
-#[derive(PartialEq, Eq, PartialOrd, Ord, Drop)]
+#[derive(PartialEq, Eq, Hash, Drop)]
 pub enum ServiceTag {
     /// The first pair of its selector.
     Selector(Label),
@@ -62,7 +61,7 @@ impl Tagged<ObjectKey> for Slice {
             Some(name) => {
                 let namespace = self.key.namespace.copy(alloc)?;
                 let name = name.copy(alloc)?;
-                let mut owners = Vec::new(alloc);
+                let mut owners = Vec::with_capacity(alloc, 1)?;
                 owners.push(ObjectKey { namespace, name })?;
                 Ok(Items::from_vec(owners))
             }
@@ -78,7 +77,7 @@ impl Tagged<Label> for Pod {
     ghost tags = { labels_of };
 
     fn tags(&self, alloc: Global) -> Result<Items<Label>, NoMemory> {
-        let mut labels = Vec::new(alloc);
+        let mut labels = Vec::with_capacity(alloc, self.labels.as_slice().len())?;
         for pair in self.labels.as_slice() {
             labels.push(label_in(alloc, &self.key.namespace, pair)?)?;
         }
@@ -125,7 +124,7 @@ fn selector_of(alloc: Global, namespace: &Text, pair: &Pair) -> Result<ServiceTa
 pub fn selected_by(alloc: Global, pod: &Pod) -> Result<Vec<ServiceTag>, NoMemory>
     ensures { IfOk result (λ ts. ts.items ≡ spec.selected_by pod.now) }
 {
-    let mut tags = Vec::new(alloc);
+    let mut tags = Vec::with_capacity(alloc, pod.labels.as_slice().len())?;
     for pair in pod.labels.as_slice() {
         tags.push(selector_of(alloc, &pod.key.namespace, pair)?)?;
     }

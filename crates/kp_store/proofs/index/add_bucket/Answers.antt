@@ -1,9 +1,21 @@
-use Rattle.std.proofs.Common.{sym, ap, ◌∙◌}
+use Rattle.std.proofs.Common.{◌≡◌, ◌||◌, false, sym, ap, ◌∙◌}
+use Rattle.std.specs.Map.{lookup}
 use Rattle.std.specs.Option.{unwrap_or}
+use Rattle.std.specs.Ordering.{eq_by_cmp}
 use Rattle.std.specs.FinMap as finite
-use Rattle.kp_store.proofs.Buckets.{added}
+use Rattle.kp_base.specs.Keys.{key_cmp}
+use Rattle.kp_base.specs.declared.key.ObjectKey.{ObjectKey}
+use Rattle.kp_store.specs.Indexes.{Keys, has, is_pair}
+use Rattle.kp_store.proofs.Buckets.{added, or_none}
+use Rattle.kp_store.proofs.Ordered.{none_before}
 use Rattle.kp_store.proofs.index.add_bucket.Goals as goal
 
 pub returns-clause-ok : goal.returns-clause-ok
-returns-clause-ok g c =
-    added g.T.Ord.cmp g.met.T.Ord.total c.args.buckets.now.entries c.insert.new.self.entries c.args.tag c.put.new.self c.in_ok-insert.ensures.updates.0 c.args.key (c.in_ok-put.ensures.ok ∙ ap (λ m. finite.insert m c.args.key tt) (c.new-bucket.ensures ∙ ap (λ o. unwrap_or o finite.empty) (sym c.requires)))
+returns-clause-ok g c = λ t k.
+    let same = g.T.PartialEq.eq in
+    let key = c.args.key.now in
+    let es = c.args.buckets.now.entries in
+    let absent : (q : ObjectKey) → finite.contains_key (unwrap_or {T = Keys} (lookup (same c.in_ok-copy.field-0) es) finite.empty) q ≡ false = λ q. ap (λ x. finite.contains_key (unwrap_or {T = Keys} (lookup (same x) es) finite.empty) q) c.in_ok-copy.ensures
+    ∙ ap (λ o. finite.contains_key (unwrap_or {T = Keys} o finite.empty) q) c.requires ∙ none_before q in
+    added same g.met.T.Eq.laws es c.insert.new.self.entries c.in_ok-copy.field-0 c.in_ok-bucket.bucket c.in_ok-insert.ensures.updates.0 key (λ q. c.in_ok-bucket.ensures q ∙ sym (ap (λ b. eq_by_cmp key_cmp q key || b) (absent q) ∙ or_none (eq_by_cmp key_cmp q key))) t k
+    ∙ ap (λ x. is_pair same x key t k || has same es t k) c.in_ok-copy.ensures

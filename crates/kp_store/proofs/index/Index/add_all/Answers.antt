@@ -10,5 +10,5 @@ returns-in-Err-clause-err g c = λ t k.
     let key = c.args.key.now in
     let partly = c.in-Err.ensures.err in
     c.trim.ensures t k
-    ∙ ap (λ b. not (is_lost g.T.Ord.cmp c.args.tags.now c.args.kept.now key t k) && b) (partly.1 t k)
-    ∙ undone g.T.Ord.cmp g.met.T.Ord.total c.args.tags.now c.args.kept.now partly.0 key t k (has g.T.Ord.cmp c.args.self.now t k) (λ e. ap (has g.T.Ord.cmp c.args.self.now t) (one_from_tie key_exact k key e) ∙ c.requires t)
+    ∙ ap (λ b. not (is_lost g.T.PartialEq.eq c.args.tags.now c.args.kept.now key t k) && b) (partly.1 t k)
+    ∙ undone g.T.PartialEq.eq g.met.T.Eq.laws c.args.tags.now c.args.kept.now partly.0 key t k (has g.T.PartialEq.eq c.args.self.now t k) (λ e. ap (has g.T.PartialEq.eq c.args.self.now t) (one_from_tie key_exact k key e) ∙ c.requires t)

@@ -1,14 +1,14 @@
-use Rattle.std.proofs.Common.{map, sym, ap, ◌∙◌}
+use Rattle.std.proofs.Common.{◌||◌, ap, ◌∙◌}
 use Rattle.std.specs.FinMap as finite
-use Rattle.std.specs.Option.{unwrap_or}
-use Rattle.kp_base.specs.Keys.{key_cmp}
-use Rattle.kp_lemmas.proofs.Entries.{empty_entries}
-use Rattle.kp_store.specs.Indexes.{Bucket, bucket}
+use Rattle.kp_store.specs.Indexes.{has}
+use Rattle.kp_store.proofs.Buckets.{or_none}
+use Rattle.kp_store.proofs.Ordered.{none_before}
 use Rattle.kp_store.proofs.index.Index.keys.Goals as goal
 
-pub returns-in-None : goal.returns-in-None
-returns-in-None g c =
-    ap (map (λ k. k.now)) c.new.ensures.items
-    ∙ ap (map (λ e. e.0)) (sym (empty_entries {X = Unit {0}} key_cmp))
-    ∙ ap (λ o. finite.keys (unwrap_or {T = Bucket} o finite.empty)) c.in-None.ensures.value
-    ∙ ap (λ es. finite.keys (bucket g.T.Ord.cmp es c.args.tag.now)) c.self.view_is
+pub returns : goal.returns
+returns g c = λ k.
+    let here = has g.T.PartialEq.eq c.args.self.now c.args.tag.now k in
+    c.in_ok-put_into.ensures k
+    ∙ ap (λ m. here || finite.contains_key m k) c.new-bucket.ensures
+    ∙ ap (λ b. here || b) (none_before k)
+    ∙ or_none here

@@ -8,4 +8,4 @@ use Rattle.kp_store.proofs.index.Index.keys_of_any.Given as goal
 
 abbrev pub invariant-loop-tag : goal.invariant-loop-tag
 invariant-loop-tag g l =
-    (k : ObjectKey) → finite.contains_key l.keys k ≡ list_any (λ t. has g.T.Ord.cmp l.self t k) (take l.tag-index l.tags)
+    (k : ObjectKey) → finite.contains_key l.keys k ≡ list_any (λ t. has g.T.PartialEq.eq l.self t k) (take l.tag-index l.tags)

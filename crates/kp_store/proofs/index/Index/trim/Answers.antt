@@ -9,5 +9,5 @@ loop-tag-init g c = λ t k. trim_none _ _
 pub loop-tag-preserved : goal.loop-tag-preserved
 loop-tag-preserved g c = λ t k.
     c.remove_unless.ensures t k
-    ∙ ap (λ b. not (is_pair g.T.Ord.cmp c.tag-item.result c.args.key.now t k && not (is_among g.T.Ord.cmp c.args.kept.now c.tag-item.result)) && b) (c.loop-tag.invariant t k)
-    ∙ trim_step g.T.Ord.cmp g.met.T.Ord.total c.args.gone.now c.args.kept.now c.loop-tag.tag-index c.tag-item.result c.loop-tag-test.true c.tag-item.is c.args.key.now t k _
+    ∙ ap (λ b. not (is_pair g.T.PartialEq.eq c.tag-item.result c.args.key.now t k && not (is_among g.T.PartialEq.eq c.args.kept.now c.tag-item.result)) && b) (c.loop-tag.invariant t k)
+    ∙ trim_step g.T.PartialEq.eq g.met.T.Eq.laws c.args.gone.now c.args.kept.now c.loop-tag.tag-index c.tag-item.result c.loop-tag-test.true c.tag-item.is c.args.key.now t k _

@@ -5,4 +5,4 @@ use Rattle.kp_store.specs.Indexes.{has, is_lost}
 use Rattle.kp_store.proofs.index.Index.trim.Given as goal
 
 abbrev pub invariant-loop-tag : goal.invariant-loop-tag
-invariant-loop-tag g l = (t : _) (k : ObjectKey) → has g.T.Ord.cmp l.self t k ≡ not (is_lost g.T.Ord.cmp (take l.tag-index l.gone) l.kept l.key t k) && has g.T.Ord.cmp l.fn.self t k
+invariant-loop-tag g l = (t : _) (k : ObjectKey) → has g.T.PartialEq.eq l.self t k ≡ not (is_lost g.T.PartialEq.eq (take l.tag-index l.gone) l.kept l.key t k) && has g.T.PartialEq.eq l.fn.self t k

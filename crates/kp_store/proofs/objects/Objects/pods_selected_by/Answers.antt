@@ -6,8 +6,8 @@ use Rattle.kp_object_defs.specs.Desired.{selects}
 use Rattle.kp_object_defs.specs.Objects.{Objects}
 use Rattle.kp_store.specs.Indexes.{is_among}
 use Rattle.kp_store.specs.Tags.{labels_of}
-use Rattle.kp_store.specs.contracts.tags.LabelOrd.TheImpl as label_ord
-use Rattle.kp_store.specs.contracts.tags.LabelOrd.TheImpl.Laws as label_laws
+use Rattle.kp_store.specs.contracts.tags.LabelPartialEq.TheImpl as label_eq
+use Rattle.kp_store.specs.contracts.tags.LabelEq.TheImpl.Laws as label_laws
 use Rattle.kp_store.proofs.Buckets.{if_ok}
 use Rattle.kp_store.proofs.Selected.{filter_within, has_first, none_selected}
 use Rattle.kp_store.proofs.objects.Objects.pods_selected_by.Goals as goal
@@ -21,8 +21,8 @@ returns-in_ok-found-in-Some c =
     is
     ∙ ap (λ (xs : List (Bor Pod)). filter (selects s) (map (λ p. p.now) xs)) c.as_slice-in-Some.ensures.value
     ∙ ap (filter (selects s)) c.in_ok-found-in-Some.ensures
-    ∙ ap (λ l. filter (selects s) (filter (λ p. is_among label_ord.ghosts.cmp (labels_of p) l) pods)) c.in_ok-label-in-Some.ensures
-    ∙ filter_within _ (selects s) (has_first label_ord.ghosts.cmp label_laws.total-law s pair (search rules)) pods
+    ∙ ap (λ l. filter (selects s) (filter (λ p. is_among label_eq.ghosts.eq (labels_of p) l) pods)) c.in_ok-label-in-Some.ensures
+    ∙ filter_within _ (selects s) (has_first label_eq.ghosts.eq label_laws.laws-law s pair (search rules)) pods
     ∙ ap (λ (o : Objects). filter (selects s) (finite.values o.pods)) c.self.view_is) c.pods_selected.ensures
 
 pub returns-in-None : goal.returns-in-None

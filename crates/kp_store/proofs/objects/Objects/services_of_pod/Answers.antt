@@ -7,8 +7,8 @@ use Rattle.kp_object_defs.specs.Objects.{Objects}
 use Rattle.kp_store.specs.Indexes.{is_among}
 use Rattle.kp_store.specs.LookUps.{selecting, services_of_pod}
 use Rattle.kp_store.specs.Tags.{tags_of}
-use Rattle.kp_store.specs.contracts.tags.ServiceTagOrd.TheImpl as tag_ord
-use Rattle.kp_store.specs.contracts.tags.ServiceTagOrd.TheImpl.Laws as tag_laws
+use Rattle.kp_store.specs.contracts.tags.ServiceTagPartialEq.TheImpl as tag_eq
+use Rattle.kp_store.specs.contracts.tags.ServiceTagEq.TheImpl.Laws as tag_laws
 use Rattle.kp_store.proofs.Buckets.{if_ok}
 use Rattle.kp_store.proofs.Selected.{filter_within, has_label_of}
 use Rattle.kp_store.proofs.objects.Objects.services_of_pod.Goals as goal
@@ -22,7 +22,7 @@ returns-in_ok-found-in-Some c =
     is
     ∙ ap (λ (xs : List (Bor Service)). keys (map (λ s. s.now) xs)) c.as_slice-in-Some.ensures.value
     ∙ ap keys c.in_ok-found-in-Some.ensures
-    ∙ ap (λ ts. keys (filter (λ s. list_any (is_among tag_ord.ghosts.cmp (tags_of s)) ts) services)) (c.as_slice.ensures.value ∙ c.in_ok-tags-in-Some.ensures)
-    ∙ ap (map (λ (s : Service). s.key)) (filter_within _ (λ s. selects s pod) (has_label_of tag_ord.ghosts.cmp tag_laws.total-law pod) services)
+    ∙ ap (λ ts. keys (filter (λ s. list_any (is_among tag_eq.ghosts.eq (tags_of s)) ts) services)) (c.as_slice.ensures.value ∙ c.in_ok-tags-in-Some.ensures)
+    ∙ ap (map (λ (s : Service). s.key)) (filter_within _ (λ s. selects s pod) (has_label_of tag_eq.ghosts.eq tag_laws.laws-law pod) services)
     ∙ ap (selecting (record { services = c.self.inside.services; slices = c.self.inside.slices; pods = c.self.inside.pods; nodes = c.self.inside.nodes })) c.in-Some.ensures
     ∙ ap (λ (o : Objects). services_of_pod o c.args.pod.now) c.self.view_is) c.keys_selecting.ensures

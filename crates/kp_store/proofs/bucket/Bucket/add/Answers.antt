@@ -1,0 +1,28 @@
+use Rattle.std.proofs.Common.{◌||◌, ◌∷◌, ◌++◌, [], ap, ◌∙◌}
+use Rattle.std.specs.Ordering.{eq_by_cmp}
+use Rattle.std.specs.FinMap as finite
+use Rattle.kp_base.specs.Keys.{key_cmp}
+use Rattle.kp_store.specs.Indexes.{with_keys}
+use Rattle.kp_store.proofs.Buckets.{on_ok}
+use Rattle.kp_store.proofs.KeyLists.{pushed, put_beside}
+use Rattle.kp_store.proofs.bucket.Bucket.add.Goals as goal
+
+pub returns-in_ok-push-clause-ok : goal.returns-in_ok-push-clause-ok
+returns-in_ok-push-clause-ok c = λ k.
+    let few = c.self.inside.few.items in
+    let many = c.self.inside.many in
+    let key = c.args.key.now in
+    let items = c.in_ok-push.ensures.items ∙ ap (λ x. few ++ x ∷ []) c.in_ok-key.ensures in
+    ap (λ ks. finite.contains_key (with_keys ks many) k) items
+    ∙ pushed few many key k
+    ∙ ap (λ m. eq_by_cmp key_cmp k key || finite.contains_key m k) c.self.view_is
+
+pub returns-else-len-lt-FEW-clause-ok : goal.returns-else-len-lt-FEW-clause-ok
+returns-else-len-lt-FEW-clause-ok c =
+    let few = c.self.inside.few.items in
+    let many = c.self.inside.many in
+    let key = c.args.key.now in
+    on_ok c.put.result c.put.ensures.ok (λ is k.
+    ap (λ m. finite.contains_key (with_keys few m) k) (is ∙ ap (λ x. finite.insert many x tt) c.in_ok-key.ensures)
+    ∙ put_beside few many key k
+    ∙ ap (λ m. eq_by_cmp key_cmp k key || finite.contains_key m k) c.self.view_is)

@@ -1,0 +1,91 @@
+//! The keys of the objects with one tag.
+ghost use Rattle.std.specs.Prelude.{◌≡◌, ◌&&◌, ◌||◌, not, false, IfOk, OnOk, OnErr, IsTrue};
+ghost use Rattle.std.specs.FinMap as finite;
+ghost use Rattle.std.specs.Ordering.{eq_by_cmp};
+ghost use Rattle.kp_base.specs.Keys.{key_cmp};
+ghost use Rattle.kp_base.specs.declared.key.ObjectKey.{ObjectKey};
+
+use crate::keyed::Keyed;
+use kp_base::{Copied, NoMemory, ObjectKey};
+use std::alloc::Global;
+use std::marker::Model;
+
+/// How many keys a bucket keeps in its list.
+const FEW: usize = 8;
+
+/// Keys, which contracts see as a map to nothing. Most tags have few objects: the first keys stand in
+/// a list, where one is added without a look at the others, and further ones in a tree.
+#[derive(Drop)]
+pub struct Bucket {
+    few: Vec<ObjectKey>,
+    many: Keyed<()>,
+}
+
+impl Model for Bucket {
+    ghost use base.Stored.{coded_unit};
+    ghost use Rattle.kp_store.specs.Indexes.{Keys, with_keys};
+    ghost use Rattle.kp_store.specs.Stored.{keyed_code};
+
+    ghost Value = { Keys };
+
+    ghost coded = { keyed_code coded_unit };
+
+    ghost view = { λ b. with_keys b.few.items b.many };
+}
+
+impl Bucket {
+    /// One key.
+    pub fn of(alloc: Global, key: &ObjectKey) -> Result<Bucket, NoMemory>
+        ensures { IfOk result (λ b. (k : ObjectKey) → finite.contains_key b k
+            ≡ eq_by_cmp key_cmp k key.now) }
+    {
+        let mut few = Vec::with_capacity(alloc, 1)?;
+        few.push(key.copy(alloc)?)?;
+        Ok(Bucket {
+            few,
+            many: Keyed::new(alloc),
+        })
+    }
+
+    /// Whether no key is there.
+    pub fn is_empty(&self) -> bool
+        ensures { IsTrue result → (k : ObjectKey) → finite.contains_key self.now k ≡ false }
+    {
+        self.few.as_slice().is_empty() && self.many.is_empty()
+    }
+
+    /// Adds a key. Where memory is out, all stays.
+    pub fn add(&mut self, alloc: Global, key: &ObjectKey) -> Result<(), NoMemory>
+        ensures ok { OnOk result ((k : ObjectKey) → finite.contains_key self.new k
+            ≡ eq_by_cmp key_cmp k key.now || finite.contains_key self.old k) }
+        ensures err { OnErr result (self.new ≡ self.old) }
+    {
+        let key = key.copy(alloc)?;
+        if self.few.len() < FEW {
+            self.few.push(key)?;
+            Ok(())
+        } else {
+            self.many.put(key, ())
+        }
+    }
+
+    /// Takes out a key, if it is there.
+    pub fn take(&mut self, key: &ObjectKey)
+        ensures { (k : ObjectKey) → finite.contains_key self.new k
+            ≡ not (eq_by_cmp key_cmp k key.now) && finite.contains_key self.old k }
+    {
+        self.few.retain(|other| *other != *key);
+        self.many.take(key);
+    }
+
+    /// Puts the keys beside others.
+    pub fn put_into(&self, alloc: Global, keys: &mut Keyed<()>) -> Result<(), NoMemory>
+        ensures { OnOk result ((k : ObjectKey) → finite.contains_key keys.new k
+            ≡ finite.contains_key self.now k || finite.contains_key keys.old k) }
+    {
+        let few: Vec<&ObjectKey> = self.few.iter().collect(alloc)?;
+        keys.put_all(alloc, few.as_slice())?;
+        let many = self.many.keys(alloc)?;
+        keys.put_all(alloc, many.as_slice())
+    }
+}
