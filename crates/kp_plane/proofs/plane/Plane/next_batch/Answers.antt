@@ -1,8 +1,8 @@
-use Rattle.std.proofs.Common.{length, sym, ap, subst, ◌∙◌}
+use Rattle.std.proofs.Common.{length, sym, ap, subst, ◌∙◌, arith}
 use Rattle.kp_object_defs.specs.Objects.{objects_after}
 use Rattle.kp_full_table.specs.Faults.{TellsClash}
 use Rattle.kp_plane.specs.Parts.{PlaneParts, objects_in, next_edits}
-use Rattle.kp_plane.proofs.Synced.{at_end, made_chains, made_edits, no_edits, nothing_new, same_chains, same_clash}
+use Rattle.kp_plane.proofs.Synced.{at_end, made_chains, made_edits, no_edits, nothing_new, same_chains, same_clash, same_steps}
 use Rattle.kp_plane.proofs.plane.Plane.next_batch.Goals as goal
 
 pub returns-then-events-self-clause-batch : goal.returns-then-events-self-clause-batch
@@ -50,3 +50,21 @@ returns-in-Err-clause-clash g c =
     let p : PlaneParts = record { config = c.self.inside.config; events = c.self.inside.journal.events; counts = c.self.inside.history.counts.items } in
     let all = at_end c.events-events.result.now c.advance.new.self c.advance.ensures.place c.in_ok-advance.ensures.ok ∙ ap objects_after c.events-events.ensures in
     subst (λ clash. TellsClash clash c.in-Err.fault) (same_clash p c.args.self.now c.self.view_is c.advance.new.self.objects all) c.in-Err.ensures.clash
+
+pub returns-clause-bound : goal.returns-clause-bound
+returns-clause-bound g c =
+    let p : PlaneParts = record { config = c.self.inside.config; events = c.self.inside.journal.events; counts = c.self.inside.history.counts.items } in
+    let all = at_end c.events-events.result.now c.advance.new.self c.advance.ensures.place c.in_ok-advance.ensures.ok ∙ ap objects_after c.events-events.ensures in
+    omega (arith, c.rebuild.ensures.bound, same_steps p c.args.self.now c.self.view_is c.advance.new.self.objects all)
+
+pub returns-in-Err-clause-bound : goal.returns-in-Err-clause-bound
+returns-in-Err-clause-bound g c =
+    let p : PlaneParts = record { config = c.self.inside.config; events = c.self.inside.journal.events; counts = c.self.inside.history.counts.items } in
+    let all = at_end c.events-events.result.now c.advance.new.self c.advance.ensures.place c.in_ok-advance.ensures.ok ∙ ap objects_after c.events-events.ensures in
+    omega (arith, c.rebuild.ensures.bound, same_steps p c.args.self.now c.self.view_is c.advance.new.self.objects all)
+
+pub returns-in_err-batch-clause-bound : goal.returns-in_err-batch-clause-bound
+returns-in_err-batch-clause-bound g c =
+    let p : PlaneParts = record { config = c.self.inside.config; events = c.self.inside.journal.events; counts = c.self.inside.history.counts.items } in
+    let all = at_end c.events-events.result.now c.advance.new.self c.advance.ensures.place c.in_ok-advance.ensures.ok ∙ ap objects_after c.events-events.ensures in
+    omega (arith, c.rebuild.ensures.bound, same_steps p c.args.self.now c.self.view_is c.advance.new.self.objects all)
