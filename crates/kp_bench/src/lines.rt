@@ -5,8 +5,8 @@ use kp_script::{Op, Scratch, line_with};
 use kp_types::Verdict;
 use std::alloc::Global;
 
-/// Reads the lines of a source as a replay does, and writes the same answer to each so often. `None`
-/// where a line isn't a packet's or something fails, and else how many lines there were.
+/// Reads the lines of a source as a replay does, and writes the same answer to each so often.
+/// `None` where a line isn't a packet's or something fails, and else how many lines there were.
 pub fn answered<S: Source, K: Sink>(
     alloc: Global,
     times: u32,

@@ -164,7 +164,7 @@ impl Plane {
             (clash_of (setting_in self.old) (objects_after self.old.events))) }
         ensures err { OnErr result (self.new ≡ self.old) }
 
-        // It takes a step for each rule of a port, and none where no event came since the last sync.
+        // It takes a step for each rule of a port, and none where no event came since the last one.
         ensures bound { steps.new ≤ steps.old + parts.most_steps self.old }
         ensures unchanged { parts.uncovered_in self.old ≡ 0 → steps.new ≡ steps.old }
     {
@@ -194,7 +194,7 @@ impl Plane {
             (clash_of (setting_in self.old) (objects_after self.old.events))) }
         ensures err { OnErr result (self.new ≡ self.old) }
 
-        // It takes a step for each rule of a port, and none where no event came since the last sync.
+        // It takes a step for each rule of a port, and none where no event came since the last one.
         ensures bound { steps.new ≤ steps.old + parts.most_steps self.old }
         ensures unchanged { parts.uncovered_in self.old ≡ 0 → steps.new ≡ steps.old }
     {
