@@ -48,7 +48,11 @@ fn number(word: &str) -> Result<u64, Fail> {
 }
 
 fn proto_of(word: &str) -> Proto {
-    if word == "UDP" { Proto::Udp } else { Proto::Tcp }
+    if word == "UDP" {
+        Proto::Udp
+    } else {
+        Proto::Tcp
+    }
 }
 
 #[test]
