@@ -1,15 +1,16 @@
 //! The real ends: std's readers and writers. What they give and take is the outside, of which
 //! nothing is told; their failures are counted.
-ghost use Rattle.std.specs.Prelude.{◌≡◌, ◌≤◌, None, length, IfOk};
+ghost use Rattle.std.specs.Prelude.{◌≡◌, ◌≢◌, ◌≤◌, None, length, IfErr, IfOk};
 ghost use Rattle.std.specs.Io.{ReadsAtMost};
 ghost use Rattle.std.specs.Io.KnownBytes.{Keeps, ReadConsumes, WriteAppends};
+ghost use Rattle.std.specs.IoError.{error_kind};
 ghost use Rattle.kp_io.specs.Faults.{Rose, HasCause, one_more};
 ghost use Rattle.kp_io.specs.Told.{TakesFront};
 
 use crate::sink::Sink;
 use crate::source::{Failed, Source};
 use std::io;
-use std::io::{ErrorKind, Read, Write};
+use std::io::{Error, ErrorKind, Read, Write};
 use std::marker::Model;
 
 /// How often a call that a signal interrupts is tried again before that is a failure: for ever, as
@@ -70,6 +71,7 @@ impl<R: Read> Source for RealSource<R> {
 fn read_again<R: Read>(reader: &mut R, buf: &mut [u8]) -> io::Result<usize>
     ensures bound { ReadsAtMost result buf.new }
     ensures bytes { ReadConsumes (R.remaining reader.old) (R.remaining reader.new) result buf.new }
+    ensures retried { IfErr result (λ e. error_kind e ≢ ErrorKind.Interrupted) }
 {
     for _ in 0..TRIES {
         match reader.read(buf) {
@@ -77,21 +79,22 @@ fn read_again<R: Read>(reader: &mut R, buf: &mut [u8]) -> io::Result<usize>
             answer => return answer,
         }
     }
-    reader.read(buf)
+    Err(Error::from(ErrorKind::TimedOut))
 }
 
 /// Writes, and again where a signal interrupts the write, which is no failure.
 fn write_again<W: Write>(writer: &mut W, bytes: &[u8]) -> io::Result<usize>
     ensures bound { IfOk result (λ n. n ≤ length bytes.now) }
     ensures bytes { WriteAppends (W.contents writer.old) (W.contents writer.new) result bytes.now }
+    ensures retried { IfErr result (λ e. error_kind e ≢ ErrorKind.Interrupted) }
 {
     for _ in 0..TRIES {
         match writer.write(bytes) {
-            Err(error) if error.kind() == ErrorKind::Interrupted => {}
+            Err(fault) if fault.kind() == ErrorKind::Interrupted => {}
             answer => return answer,
         }
     }
-    writer.write(bytes)
+    Err(Error::from(ErrorKind::TimedOut))
 }
 
 /// A sink over a writer of std, of whose content it tells nothing. Hand it a writer with a buffer,
