@@ -52,9 +52,14 @@ fn delete_some(alloc: Global, objects: &mut Objects) -> Result<(), NoMemory> {
 /// The objects of a list.
 fn objects_of(alloc: Global, list: &str) -> Result<Objects, Fail> {
     match op_of(alloc, 1, list)? {
-        Op::Events(events) => Ok(Objects::from_events(alloc, events.as_slice())?),
+        Op::Events(events) => Ok(objects_after(alloc, events.as_slice())?),
         _ => Err(Fail::from("events")),
     }
+}
+
+/// The objects after events.
+fn objects_after(alloc: Global, events: &[Event]) -> Result<Objects, NoMemory> {
+    Objects::from_events(alloc, events)
 }
 
 /// An object with a name.
