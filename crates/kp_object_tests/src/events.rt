@@ -1,10 +1,10 @@
 //! Texts of events, with what is read of them; and a journal that is full.
 mod kubectl;
 
-use crate::words::{is_fault, is_key};
+use crate::words::{is_fault, is_key, tree_of};
 use kp_base::Items;
 use kp_events::{Event, EventFault, Journal, JournalFault, Kind, Object, event_of};
-use kp_json::read_tree;
+use kp_json::Spot;
 use std::alloc::Global;
 use std::test::Fail;
 
@@ -72,10 +72,15 @@ fn is_answer(answer: &Result<Items<Event>, EventFault>, wanted: &str) -> bool {
     }
 }
 
+/// The events here.
+fn events_at<'a>(alloc: Global, spot: &'a Spot<'a>) -> Result<Items<Event>, EventFault> {
+    event_of(alloc, spot)
+}
+
 /// Whether a text is read as these words say.
 fn reads_as(alloc: Global, text: &str, wanted: &str) -> Result<bool, Fail> {
-    let tree = read_tree(alloc, text.as_bytes())?;
-    Ok(is_answer(&event_of(alloc, &tree.root()), wanted))
+    let tree = tree_of(alloc, text)?;
+    Ok(is_answer(&events_at(alloc, &tree.root()), wanted))
 }
 
 /// Whether the text of a row, with what stands before it and behind it, is read as the row says
@@ -187,8 +192,8 @@ const TWO: &str = r#"{"kind":"List","items":[{"kind":"Node","metadata":{"name":"
  {"kind":"Node","metadata":{"name":"n"}}]}"#;
 
 fn events(alloc: Global, text: &str) -> Result<Items<Event>, Fail> {
-    let tree = read_tree(alloc, text.as_bytes())?;
-    match event_of(alloc, &tree.root()) {
+    let tree = tree_of(alloc, text)?;
+    match events_at(alloc, &tree.root()) {
         Ok(events) => Ok(events),
         Err(_) => Err(Fail::new("the list was refused")),
     }

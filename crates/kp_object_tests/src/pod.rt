@@ -1,19 +1,29 @@
 //! Texts of Pods and Nodes, and what is read of them.
-use crate::words::{is_copied, is_key, is_text};
+use crate::words::{is_copied, is_key, is_text, tree_of};
 use kp_base::{Address, Proto};
-use kp_json::read_tree;
+use kp_json::{FieldFault, Spot};
 use kp_pod::{ContainerPort, Node, Pod, node_of, pod_of};
 use std::alloc::Global;
 use std::test::Fail;
 
+/// The Pod here. A call with a long contract is behind a function that has none.
+fn pod_at<'a>(alloc: Global, spot: &'a Spot<'a>) -> Result<Pod, FieldFault> {
+    pod_of(alloc, spot)
+}
+
+/// The Node here.
+fn node_at<'a>(alloc: Global, spot: &'a Spot<'a>) -> Result<Node, FieldFault> {
+    node_of(alloc, spot)
+}
+
 pub(crate) fn read_pod(alloc: Global, text: &str) -> Result<Pod, Fail> {
-    let tree = read_tree(alloc, text.as_bytes())?;
-    Ok(pod_of(alloc, &tree.root())?)
+    let tree = tree_of(alloc, text)?;
+    Ok(pod_at(alloc, &tree.root())?)
 }
 
 pub(crate) fn read_node(alloc: Global, text: &str) -> Result<Node, Fail> {
-    let tree = read_tree(alloc, text.as_bytes())?;
-    Ok(node_of(alloc, &tree.root())?)
+    let tree = tree_of(alloc, text)?;
+    Ok(node_at(alloc, &tree.root())?)
 }
 
 /// A Pod with all its members.

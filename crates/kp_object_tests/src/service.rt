@@ -1,16 +1,21 @@
 //! Texts of Services, and what is read of them.
-use crate::words::{is_copied, is_key};
+use crate::words::{is_copied, is_key, tree_of};
 use kp_base::{Address, Cidr, PortNo, Proto};
-use kp_json::read_tree;
+use kp_json::{FieldFault, Spot};
 use kp_service::{
     ClusterAddress, Policy, Service, ServiceKind, ServicePort, TargetPort, service_of,
 };
 use std::alloc::Global;
 use std::test::Fail;
 
+/// The Service here.
+fn service_at<'a>(alloc: Global, spot: &'a Spot<'a>) -> Result<Service, FieldFault> {
+    service_of(alloc, spot)
+}
+
 pub(crate) fn read_service(alloc: Global, text: &str) -> Result<Service, Fail> {
-    let tree = read_tree(alloc, text.as_bytes())?;
-    Ok(service_of(alloc, &tree.root())?)
+    let tree = tree_of(alloc, text)?;
+    Ok(service_at(alloc, &tree.root())?)
 }
 
 /// Whether a port has this name, protocol, number and node port, 0 for none.

@@ -1,7 +1,7 @@
 //! Texts of EndpointSlices, and what is read of them.
-use crate::words::{is_key, is_text};
+use crate::words::{is_key, is_text, tree_of};
 use kp_base::{Address, Copied, ObjectKey, PortNo, Proto};
-use kp_json::{FieldFault, Why, read_tree};
+use kp_json::{FieldFault, Spot, Why};
 use kp_slice::{AddressType, Slice, SliceEndpoint, SlicePort, slice_of};
 use std::alloc::{AllocError, Global};
 use std::test::Fail;
@@ -18,11 +18,16 @@ fn listed(alloc: Global, name: &str, count: u64) -> Result<String, AllocError> {
     Ok(text)
 }
 
+/// The slice here.
+fn slice_at<'a>(alloc: Global, spot: &'a Spot<'a>) -> Result<Slice, FieldFault> {
+    slice_of(alloc, spot)
+}
+
 /// Whether a list with as many objects is refused as too long, with its length.
 fn is_too_long(alloc: Global, name: &str, count: u64) -> Result<bool, Fail> {
     let text = listed(alloc, name, count)?;
-    let tree = read_tree(alloc, text.as_bytes())?;
-    match slice_of(alloc, &tree.root()) {
+    let tree = tree_of(alloc, text.as_str())?;
+    match slice_at(alloc, &tree.root()) {
         Err(FieldFault::Bad(bad)) => Ok(bad.why == Why::TooMany && bad.count == count),
         _ => Ok(false),
     }
@@ -37,8 +42,8 @@ fn longer_lists_are_refused(rt: HostRuntime) -> Result<(), Fail> {
 }
 
 fn read(alloc: Global, text: &str) -> Result<Slice, Fail> {
-    let tree = read_tree(alloc, text.as_bytes())?;
-    Ok(slice_of(alloc, &tree.root())?)
+    let tree = tree_of(alloc, text)?;
+    Ok(slice_at(alloc, &tree.root())?)
 }
 
 /// A slice with all its members.

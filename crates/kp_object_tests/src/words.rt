@@ -1,7 +1,8 @@
 //! Faults and keys, held against words.
 use kp_base::{Copied, NoMemory, ObjectKey, Text};
-use kp_json::{BadField, Why};
+use kp_json::{BadField, Tree, Why, read_tree};
 use std::alloc::Global;
+use std::test::Fail;
 
 /// A reason in a word.
 fn word(why: Why) -> &'static str {
@@ -15,6 +16,11 @@ fn word(why: Why) -> &'static str {
         Why::DuplicatePort => "DuplicatePort",
         Why::TooMany => "TooMany",
     }
+}
+
+/// The tree of a text.
+pub(crate) fn tree_of(alloc: Global, text: &str) -> Result<Tree, Fail> {
+    Ok(read_tree(alloc, text.as_bytes())?)
 }
 
 /// Whether a fault is told by these words: why, and where.

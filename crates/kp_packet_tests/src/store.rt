@@ -52,9 +52,14 @@ fn delete_some(alloc: Global, objects: &mut Objects) -> Result<(), NoMemory> {
 /// The objects of a list.
 fn objects_of(alloc: Global, list: &str) -> Result<Objects, Fail> {
     match op_of(alloc, 1, list)? {
-        Op::Events(events) => Ok(Objects::from_events(alloc, events.as_slice())?),
+        Op::Events(events) => Ok(objects_after(alloc, events.as_slice())?),
         _ => Err(Fail::from("events")),
     }
+}
+
+/// The objects after events.
+fn objects_after(alloc: Global, events: &[Event]) -> Result<Objects, NoMemory> {
+    Objects::from_events(alloc, events)
 }
 
 /// An object with a name.
@@ -240,11 +245,16 @@ fn is_at(alloc: Global, objects: &Objects, row: &str) -> Result<bool, Fail> {
     Ok(found.as_str() == want)
 }
 
+/// The Services at each row's destination have its names.
+fn check_at(rt: &impl Abort, alloc: Global, objects: &Objects, rows: &str) -> Result<(), Fail> {
+    for row in rows.lines() {
+        assert!(rt; is_at(alloc, objects, row)?, "{row}");
+    }
+    Ok(())
+}
+
 #[test]
 fn services_are_found_by_their_destinations(rt: HostRuntime) -> Result<(), Fail> {
     let objects = objects_of(rt.alloc(), BALANCED)?;
-    for row in DESTINATIONS.lines() {
-        assert!(rt; is_at(rt.alloc(), &objects, row)?, "{row}");
-    }
-    Ok(())
+    check_at(&rt, rt.alloc(), &objects, DESTINATIONS)
 }

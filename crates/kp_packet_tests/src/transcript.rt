@@ -2,7 +2,7 @@
 use crate::cluster::Cluster;
 use kp_base::NoMemory;
 use kp_print::push;
-use kp_script::{Op, line_of};
+use kp_script::{Op, ScriptFault, ScriptLine, line_of};
 use std::alloc::Global;
 use std::test::Fail;
 
@@ -62,10 +62,15 @@ fn take_line(
 
 /// What the line of this number asks for.
 pub fn op_of(alloc: Global, number: u64, line: &str) -> Result<Op, Fail> {
-    match line_of(alloc, line.as_bytes(), number == 1) {
+    match read(alloc, number, line) {
         Ok(line) => Ok(line.op),
         Err(_) => Err(Fail::from("a line of a script")),
     }
+}
+
+/// What a line is read as. A call with a long contract is behind a function that has none.
+fn read(alloc: Global, number: u64, line: &str) -> Result<ScriptLine, ScriptFault> {
+    line_of(alloc, line.as_bytes(), number == 1)
 }
 
 /// Adds a line.

@@ -34,9 +34,14 @@ COMMIT
 COMMIT
 ";
 
+/// What a text is read as. A call with a long contract is behind a function that has none.
+fn read(alloc: Global, text: &[u8]) -> Result<Batch, TextFault> {
+    read_batch(alloc, text)
+}
+
 /// The batch of a text.
 fn batch_of(alloc: Global, text: &str) -> Result<Batch, Fail> {
-    Ok(read_batch(alloc, text.as_bytes()).ok().ok_or("a batch")?)
+    Ok(read(alloc, text.as_bytes()).ok().ok_or("a batch")?)
 }
 
 #[test]
@@ -134,7 +139,7 @@ fn with_line_feeds(alloc: Global, text: &str) -> Result<Vec<u8>, NoMemory> {
 
 /// The number of the first bad line, if there is one.
 fn bad_line(alloc: Global, text: &[u8]) -> Option<u64> {
-    match read_batch(alloc, text) {
+    match read(alloc, text) {
         Err(TextFault::BadText { line }) => Some(line),
         _ => None,
     }

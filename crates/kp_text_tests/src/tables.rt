@@ -51,9 +51,14 @@ COMMIT
 COMMIT
 ";
 
+/// What a text is read as.
+fn read(alloc: Global, text: &str) -> Result<Table, TextFault> {
+    read_table(alloc, text.as_bytes())
+}
+
 /// The table of a text.
 pub(crate) fn table_of(alloc: Global, text: &str) -> Result<Table, Fail> {
-    Ok(read_table(alloc, text.as_bytes()).ok().ok_or("a table")?)
+    Ok(read(alloc, text).ok().ok_or("a table")?)
 }
 
 #[test]
@@ -66,7 +71,7 @@ fn a_table_is_printed_as_it_is_read(rt: HostRuntime) -> Result<(), Fail> {
 
 /// The number of a text's first bad line, if it has one.
 fn bad_line(alloc: Global, text: &str) -> Option<u64> {
-    match read_table(alloc, text.as_bytes()) {
+    match read(alloc, text) {
         Err(TextFault::BadText { line }) => Some(line),
         _ => None,
     }
