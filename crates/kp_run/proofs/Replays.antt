@@ -1,5 +1,5 @@
 -- Words that ask for a replay are never answered by the usage line.
-use Rattle.std.proofs.Common.{◌≡◌, true, Option, Some, None, subst, absurd}
+use Rattle.std.proofs.Common.{◌≡◌, true, Option, Some, None, subst}
 use Rattle.kp_words.specs.declared.mode.Mode.{Mode}
 use Rattle.kp_words.specs.declared.mode.Mode.TheVariants as mode
 use Rattle.kp_run.specs.declared.status.Status.{Status}
