@@ -13,20 +13,22 @@ use std::alloc::Global;
 use std::cmp::Ordering;
 use std::hash::{Hash, Hasher};
 use std::marker::Model;
+use std::sync::ArcStr;
 
-/// A text, which contracts see as the list of its bytes.
+/// A text that no longer changes, with several owners, in any threads: a copy takes no memory.
+/// Contracts see the list of its bytes.
 #[derive(Drop)]
 pub struct Text {
-    inner: String,
+    inner: ArcStr,
 }
 
 impl Model for Text {
     ghost use Rattle.std.specs.Prelude.{List, ℕ};
-    ghost use Rattle.std.specs.String.{string_bytes};
+    ghost use Rattle.std.specs.Arc.{arc_str_bytes};
 
     ghost Value = { List ℕ };
 
-    ghost view = { λ t. string_bytes t.inner };
+    ghost view = { λ t. arc_str_bytes t.inner };
 }
 
 impl Text {
@@ -35,15 +37,17 @@ impl Text {
         ensures { IfOk result (λ t. t ≡ text.now) }
     {
         Ok(Text {
-            inner: String::from_str(alloc, text)?,
+            inner: ArcStr::from_str(alloc, text)?,
         })
     }
 
     /// The text of a string, whose bytes are kept where they are.
-    pub fn from_string(text: String) -> Text
-        ensures { result ≡ string_bytes text }
+    pub fn from_string(text: String) -> Result<Text, NoMemory>
+        ensures { IfOk result (λ t. t ≡ string_bytes text) }
     {
-        Text { inner: text }
+        Ok(Text {
+            inner: ArcStr::from_string(text)?,
+        })
     }
 
     /// The text as a slice of std.
@@ -55,8 +59,10 @@ impl Text {
 }
 
 impl Copied for Text {
-    fn copy(&self, alloc: Global) -> Result<Text, NoMemory> {
-        Text::of(alloc, self.as_str())
+    fn copy(&self, _alloc: Global) -> Result<Text, NoMemory> {
+        Ok(Text {
+            inner: self.inner.clone()?,
+        })
     }
 }
 

@@ -133,7 +133,7 @@ fn port_key(alloc: Global) -> Result<PortKey, NoMemory> {
 /// A label, whose value was a string.
 fn pair(alloc: Global) -> Result<Pair, NoMemory> {
     let key = Text::of(alloc, "app")?;
-    let value = Text::from_string(String::from_str(alloc, "web")?);
+    let value = Text::from_string(String::from_str(alloc, "web")?)?;
     Ok(Pair { key, value })
 }
 

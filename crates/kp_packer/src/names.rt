@@ -149,5 +149,5 @@ fn slice_name(alloc: Global, service: &ObjectKey, number: u128) -> Result<Text, 
     let mut name = String::from_str(alloc, service.name.as_str())?;
     name.push_str("-kp")?;
     name.push_str(Buffer::new().format(number))?;
-    Ok(Text::from_string(name))
+    Text::from_string(name)
 }

@@ -19,7 +19,7 @@ pub fn answer_text(
 {
     let mut text = String::new(alloc);
     push_answer(&mut text, number, sync, verdict)?;
-    Ok(Text::from_string(text))
+    Text::from_string(text)
 }
 
 /// Adds the line of a packet.

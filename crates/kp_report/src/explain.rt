@@ -21,7 +21,7 @@ pub fn explain_text(
 {
     let mut text = String::new(alloc);
     push_explain(&mut text, number, sync, decision)?;
-    Ok(Text::from_string(text))
+    Text::from_string(text)
 }
 
 /// Adds the line that explains a packet.

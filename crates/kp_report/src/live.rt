@@ -23,7 +23,7 @@ pub fn event_text(
 {
     let mut text = String::new(alloc);
     push_event(&mut text, place, stream.as_str(), number, event)?;
-    Ok(Text::from_string(text))
+    Text::from_string(text)
 }
 
 /// Adds the line of an event of the journal.
@@ -118,7 +118,7 @@ pub fn record_text(
 {
     let mut text = String::new(alloc);
     push_record(&mut text, number, events, written, removed)?;
-    Ok(Text::from_string(text))
+    Text::from_string(text)
 }
 
 /// Adds the line of a record.
@@ -142,7 +142,7 @@ pub fn live_sync_text(alloc: Global, number: u64, sync: u64) -> Result<Text, NoM
 {
     let mut text = String::new(alloc);
     push_live_sync(&mut text, number, sync)?;
-    Ok(Text::from_string(text))
+    Text::from_string(text)
 }
 
 /// Adds the line of a sync of a live run.
@@ -162,7 +162,7 @@ pub fn final_text(alloc: Global, sync: u64, clash: Option<&Clash>) -> Result<Tex
 {
     let mut text = String::new(alloc);
     push_final(&mut text, sync, clash)?;
-    Ok(Text::from_string(text))
+    Text::from_string(text)
 }
 
 /// Adds the last line of a live run before its table.

@@ -17,7 +17,7 @@ pub fn refusal_text(alloc: Global, number: u64, refusal: &LineRefusal) -> Result
 {
     let mut text = String::new(alloc);
     push_refusal(alloc, &mut text, number, refusal)?;
-    Ok(Text::from_string(text))
+    Text::from_string(text)
 }
 
 /// Adds the line of a refusal. Texts in quotes take memory of their own.

@@ -16,7 +16,7 @@ pub fn slices_text(alloc: Global, slices: &Items<Slice>, entries: bool) -> Resul
 {
     let mut text = String::new(alloc);
     push_slices(&mut text, slices.as_slice(), entries)?;
-    Ok(Text::from_string(text))
+    Text::from_string(text)
 }
 
 /// Adds the lines of slices, or of their endpoints.

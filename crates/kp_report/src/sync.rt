@@ -18,7 +18,7 @@ pub fn sync_text(
 {
     let mut text = String::new(alloc);
     push_sync(&mut text, number, events, written, removed)?;
-    Ok(Text::from_string(text))
+    Text::from_string(text)
 }
 
 /// Adds the line of a sync.

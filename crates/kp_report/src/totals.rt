@@ -13,7 +13,7 @@ pub fn totals_text(alloc: Global, totals: &Totals) -> Result<Text, NoMemory>
 {
     let mut text = String::new(alloc);
     push_totals(&mut text, totals)?;
-    Ok(Text::from_string(text))
+    Text::from_string(text)
 }
 
 /// Adds the line of the generator.

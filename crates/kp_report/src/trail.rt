@@ -15,7 +15,7 @@ pub fn trail_text(alloc: Global, number: u64, trail: &Trail) -> Result<Text, NoM
 {
     let mut text = String::new(alloc);
     push_trail(&mut text, number, trail)?;
-    Ok(Text::from_string(text))
+    Text::from_string(text)
 }
 
 /// Adds the line of a packet's trail.

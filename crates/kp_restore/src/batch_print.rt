@@ -18,7 +18,7 @@ pub fn batch_text(alloc: Global, batch: &Batch) -> Result<Text, NoMemory>
 {
     let mut text = String::new(alloc);
     push_batch(alloc, &mut text, batch.edits.as_slice())?;
-    Ok(Text::from_string(text))
+    Text::from_string(text)
 }
 
 /// Adds the sections of both tables' edits.

@@ -19,7 +19,7 @@ pub fn section_text(alloc: Global, table: &Table, which: TableName) -> Result<Te
 {
     let mut text = String::new(alloc);
     push_section(alloc, &mut text, table, which)?;
-    Ok(Text::from_string(text))
+    Text::from_string(text)
 }
 
 /// Both sections as iptables-restore(8) takes them, nat before filter.
@@ -28,7 +28,7 @@ pub fn table_text(alloc: Global, table: &Table) -> Result<Text, NoMemory>
 {
     let mut text = String::new(alloc);
     push_table(alloc, &mut text, table)?;
-    Ok(Text::from_string(text))
+    Text::from_string(text)
 }
 
 /// Adds both sections.

@@ -63,11 +63,11 @@ fn trails_are_printed(rt: HostRuntime) {
 }
 
 /// The key of no object.
-fn no_key(alloc: Global) -> ObjectKey {
-    ObjectKey {
-        namespace: Text::from_string(String::new(alloc)),
-        name: Text::from_string(String::new(alloc)),
-    }
+fn no_key(alloc: Global) -> Result<ObjectKey, NoMemory> {
+    Ok(ObjectKey {
+        namespace: Text::of(alloc, "")?,
+        name: Text::of(alloc, "")?,
+    })
 }
 
 #[test]
@@ -75,7 +75,7 @@ fn events_are_printed(rt: HostRuntime) -> Result<(), Fail> {
     let stream = Text::of(rt.alloc(), "main")?;
     let event = Event::Delete {
         kind: Kind::Pod,
-        key: no_key(rt.alloc()),
+        key: no_key(rt.alloc())?,
     };
     let line = "event 2: main 1 delete Pod /\n";
     assert!(rt; is_line(&event_text(rt.alloc(), 2, &stream, 1, &event), line));
@@ -96,20 +96,20 @@ fn refusals_are_printed(rt: HostRuntime) -> Result<(), Fail> {
 }
 
 /// A slice that has nothing.
-fn bare(alloc: Global) -> Slice {
-    Slice {
-        key: no_key(alloc),
+fn bare(alloc: Global) -> Result<Slice, NoMemory> {
+    Ok(Slice {
+        key: no_key(alloc)?,
         service: None,
         managed: true,
         family: AddressType::Ipv6,
         ports: Items::new(alloc),
         endpoints: Items::new(alloc),
-    }
+    })
 }
 
 #[test]
 fn slices_are_printed(rt: HostRuntime) -> Result<(), Fail> {
-    let slices = Items::from_vec(vec![in rt.alloc(); bare(rt.alloc())]?);
+    let slices = Items::from_vec(vec![in rt.alloc(); bare(rt.alloc())?]?);
     let line = "slice /: IPv6, managed, service -, ports -, endpoints 0\n";
     assert!(rt; is_line(&slices_text(rt.alloc(), &slices, false), line));
     Ok(())

@@ -27,15 +27,15 @@ fn kind_of(number: u64) -> Kind {
 }
 
 /// A small event of this number.
-fn numbered(alloc: Global, number: u64) -> Event {
+fn numbered(alloc: Global, number: u64) -> Result<Event, NoMemory> {
     let key = ObjectKey {
-        namespace: Text::from_string(String::new(alloc)),
-        name: Text::from_string(String::new(alloc)),
+        namespace: Text::of(alloc, "")?,
+        name: Text::of(alloc, "")?,
     };
-    Event::Delete {
+    Ok(Event::Delete {
         kind: kind_of(number),
         key,
-    }
+    })
 }
 
 /// Whether an event is the one after so many of its feeder.
@@ -62,7 +62,9 @@ fn feed_all<R: Wait>(rt: &R, alloc: Global, feed: &Feed, pass: FeedPass, done: &
 {
     let mut pass = pass;
     for turn in 0..EACH {
-        let _fed = feed.feed(rt, &mut pass, numbered(alloc, turn + 1)).is_ok();
+        if let Ok(event) = numbered(alloc, turn + 1) {
+            let _fed = feed.feed(rt, &mut pass, event).is_ok();
+        }
     }
     done.fetch_add(1, Ordering::SeqCst);
 }

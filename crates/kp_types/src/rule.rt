@@ -55,8 +55,8 @@ pub struct Rule {
     pub target: Target,
 }
 
-/// A change of one chain: its rules are written, in place of the old ones, or it is removed. A table
-/// that makes the change shares the rules.
+/// A change of one chain: its rules are written, in place of the old ones, or it is removed. A
+/// table that makes the change shares the rules.
 #[derive(Drop)]
 pub enum Edit {
     Write { at: ChainAt, rules: Shared<Rule> },
