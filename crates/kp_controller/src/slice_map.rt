@@ -59,7 +59,7 @@ impl SliceMap {
         ensures err { OnErr result (self.new ≡ self.old) }
     {
         match event {
-            Event::Apply(Object::EndpointSlice(slice)) => self.put(alloc, slice.copy(alloc)?),
+            Event::Apply(Object::EndpointSlice(slice)) => self.put(alloc, slice.get().copy(alloc)?),
             Event::Delete {
                 kind: Kind::EndpointSlice,
                 key,

@@ -1,12 +1,12 @@
 //! Objects of the four kinds, and their keys.
-ghost use Rattle.std.specs.Prelude.{◌≡◌};
+ghost use Rattle.std.specs.Prelude.{◌≡◌, None};
 ghost use Rattle.kp_json.specs.Answers.{Gives};
 ghost use Rattle.kp_json.specs.Views.{place_of};
 ghost use Rattle.kp_event_defs.specs.EventText.{object_at, deleted_row, deleted_key};
 ghost use Rattle.kp_row_defs.specs.Reads.{Reads};
 ghost use Rattle.kp_row_defs.specs.Rows.{row_fault};
 
-use kp_base::ObjectKey;
+use kp_base::{Kept, ObjectKey};
 use kp_fields::{copied_text, key_field, name_field};
 use kp_json::{FieldFault, Spot};
 use kp_pod::{node_of, pod_of};
@@ -24,10 +24,20 @@ pub(crate) fn object_of<'a>(
     ensures { Gives (λ o. o) result (object_at kind (place_of spot.now)) }
 {
     match kind {
-        Kind::Service => Ok(Object::Service(service_of(alloc, spot)?)),
-        Kind::EndpointSlice => Ok(Object::EndpointSlice(slice_of(alloc, spot)?)),
-        Kind::Pod => Ok(Object::Pod(pod_of(alloc, spot)?)),
-        Kind::Node => Ok(Object::Node(node_of(alloc, spot)?)),
+        Kind::Service => Ok(Object::Service(kept(alloc, service_of(alloc, spot)?)?)),
+        Kind::EndpointSlice => Ok(Object::EndpointSlice(kept(alloc, slice_of(alloc, spot)?)?)),
+        Kind::Pod => Ok(Object::Pod(kept(alloc, pod_of(alloc, spot)?)?)),
+        Kind::Node => Ok(Object::Node(kept(alloc, node_of(alloc, spot)?)?)),
+    }
+}
+
+/// The same object, with several owners.
+fn kept<X: Drop>(alloc: Global, object: X) -> Result<Kept<X>, FieldFault>
+    ensures { Reads (λ k. k) result None object }
+{
+    match Kept::of(alloc, object) {
+        Ok(kept) => Ok(kept),
+        Err(_) => Err(FieldFault::NoMemory),
     }
 }
 

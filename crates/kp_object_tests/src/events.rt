@@ -31,10 +31,10 @@ fn deleted_word(kind: Kind) -> &'static str {
 /// Whether an event is of the object with this key.
 fn is_of(event: &Event, key: &str) -> bool {
     match event {
-        Event::Apply(Object::Service(service)) => is_key(&service.key, key),
-        Event::Apply(Object::EndpointSlice(slice)) => is_key(&slice.key, key),
-        Event::Apply(Object::Pod(pod)) => is_key(&pod.key, key),
-        Event::Apply(Object::Node(node)) => node.name.as_str() == key,
+        Event::Apply(Object::Service(service)) => is_key(&service.get().key, key),
+        Event::Apply(Object::EndpointSlice(slice)) => is_key(&slice.get().key, key),
+        Event::Apply(Object::Pod(pod)) => is_key(&pod.get().key, key),
+        Event::Apply(Object::Node(node)) => node.get().name.as_str() == key,
         Event::Delete { key: deleted, .. } => is_key(deleted, key),
     }
 }
@@ -169,7 +169,7 @@ fn what_kubectl_prints_is_read(rt: HostRuntime) -> Result<(), Fail> {
 fn is_service(alloc: Global, text: &str, name: &str) -> Result<bool, Fail> {
     let events = events(alloc, text)?;
     match events.as_slice().first() {
-        Some(Event::Apply(Object::Service(service))) => Ok(service.key.name.as_str() == name),
+        Some(Event::Apply(Object::Service(service))) => Ok(service.get().key.name.as_str() == name),
         _ => Ok(false),
     }
 }

@@ -69,10 +69,10 @@ fn push_applied(text: &mut String, object: &Object) -> Result<(), NoMemory>
         ≡ string_bytes text.old ++ spec.applied_text object.now) }
 {
     match object {
-        Object::Service(service) => push_named(text, Kind::Service, &service.key),
-        Object::EndpointSlice(slice) => push_named(text, Kind::EndpointSlice, &slice.key),
-        Object::Pod(pod) => push_named(text, Kind::Pod, &pod.key),
-        Object::Node(node) => push_node(text, node.name.as_str()),
+        Object::Service(service) => push_named(text, Kind::Service, &service.get().key),
+        Object::EndpointSlice(slice) => push_named(text, Kind::EndpointSlice, &slice.get().key),
+        Object::Pod(pod) => push_named(text, Kind::Pod, &pod.get().key),
+        Object::Node(node) => push_node(text, node.get().name.as_str()),
     }
 }
 

@@ -5,7 +5,7 @@ ghost use Rattle.std.specs.FinMap as finite;
 
 use crate::keyed::Keyed;
 use indexmap::IndexMap;
-use kp_base::{NoMemory, ObjectKey};
+use kp_base::{Kept, NoMemory, ObjectKey};
 use std::alloc::Global;
 use std::marker::Model;
 
@@ -13,7 +13,7 @@ use std::marker::Model;
 /// key, however many there are; they have no order but one that is made when it is asked for.
 #[derive(Drop)]
 pub struct Hashed<X> {
-    entries: IndexMap<ObjectKey, X>,
+    entries: IndexMap<ObjectKey, Kept<X>>,
 }
 
 impl<X> Model for Hashed<X> {
@@ -42,7 +42,10 @@ impl<X: Drop> Hashed<X> {
     pub fn get(&self, key: &ObjectKey) -> Option<&X>
         ensures { option_copied result ≡ finite.get self.now key.now }
     {
-        self.entries.get(key)
+        match self.entries.get(key) {
+            None => None,
+            Some(object) => Some(object.get()),
+        }
     }
 
     /// The keys, in their order.
@@ -57,7 +60,7 @@ impl<X: Drop> Hashed<X> {
     }
 
     /// Puts an object in place of the one of its key. Where memory is out, all stays.
-    pub fn put(&mut self, key: ObjectKey, object: X) -> Result<(), NoMemory>
+    pub fn put(&mut self, key: ObjectKey, object: Kept<X>) -> Result<(), NoMemory>
         ensures ok { OnOk result (self.new ≡ finite.insert self.old key object) }
         ensures err { OnErr result (self.new ≡ self.old) }
     {

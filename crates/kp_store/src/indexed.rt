@@ -8,7 +8,7 @@ ghost use Rattle.kp_store.specs.Indexes.{is_among, is_tagged};
 use crate::hashed::Hashed;
 use crate::index::Index;
 use crate::selections::copies;
-use kp_base::{Copied, Items, NoMemory, ObjectKey};
+use kp_base::{Copied, Items, Kept, NoMemory, ObjectKey};
 use std::alloc::Global;
 use std::hash::Hash;
 use std::marker::Model;
@@ -106,11 +106,11 @@ impl<X: Tagged<T>, T: Eq + Hash + Copied> Indexed<X, T> {
     }
 
     /// Puts an object in place of the one of its key. Where memory is out, all stays.
-    pub fn put(&mut self, alloc: Global, key: &ObjectKey, object: X) -> Result<(), NoMemory>
+    pub fn put(&mut self, alloc: Global, key: &ObjectKey, object: Kept<X>) -> Result<(), NoMemory>
         ensures ok { OnOk result (self.new ≡ finite.insert self.old key.now object) }
         ensures err { OnErr result (self.new ≡ self.old) }
     {
-        let new = object.tags(alloc)?;
+        let new = object.get().tags(alloc)?;
         let old = tags_at(alloc, &self.objects, key)?;
         let copy = key.copy(alloc)?;
         self.index

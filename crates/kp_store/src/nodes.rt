@@ -5,7 +5,7 @@ ghost use Rattle.kp_base.specs.Keys.{key_cmp};
 ghost use Rattle.kp_object_defs.specs.Objects.{node_key};
 ghost use Rattle.kp_store.specs.Named.{keyed_nodes};
 
-use kp_base::{NoMemory, ObjectKey, Text};
+use kp_base::{Kept, NoMemory, ObjectKey, Text};
 use kp_types::Node;
 use std::alloc::Global;
 use std::collections::BTreeMap;
@@ -15,7 +15,7 @@ use std::marker::Model;
 /// text, so that its name finds it.
 #[derive(Drop)]
 pub struct Nodes {
-    by_name: BTreeMap<Text, Node>,
+    by_name: BTreeMap<Text, Kept<Node>>,
 }
 
 impl Model for Nodes {
@@ -58,18 +58,21 @@ impl Nodes {
     pub fn get(&self, name: &Text) -> Option<&Node>
         ensures { option_copied result ≡ finite.get self.now (node_key name.now) }
     {
-        self.by_name.get(name)
+        match self.by_name.get(name) {
+            None => None,
+            Some(node) => Some(node.get()),
+        }
     }
 
     /// The nodes, in order of their names.
     pub fn values(&self, alloc: Global) -> Result<Vec<&Node>, NoMemory>
         ensures { IfOk result (λ ns. map (λ n. n.now) ns.items ≡ finite.values self.now) }
     {
-        Ok(self.by_name.values().collect(alloc)?)
+        Ok(self.by_name.values().map(|node| node.get()).collect(alloc)?)
     }
 
     /// Puts a node in place of the one of its name. Where memory is out, all stays.
-    pub fn put(&mut self, name: Text, node: Node) -> Result<(), NoMemory>
+    pub fn put(&mut self, name: Text, node: Kept<Node>) -> Result<(), NoMemory>
         ensures ok { OnOk result (self.new ≡ finite.insert self.old (node_key name) node) }
         ensures err { OnErr result (self.new ≡ self.old) }
     {
@@ -88,7 +91,7 @@ impl Nodes {
 }
 
 /// Takes out the node of a name, if there is one.
-fn take_named(nodes: &mut BTreeMap<Text, Node>, name: &Text)
+fn take_named(nodes: &mut BTreeMap<Text, Kept<Node>>, name: &Text)
     ensures { finite.from_entries {R = key_cmp} (keyed_nodes nodes.new.entries)
         ≡ finite.remove (finite.from_entries (keyed_nodes nodes.old.entries)) (node_key name.now) }
 {

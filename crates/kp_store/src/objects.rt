@@ -87,16 +87,16 @@ impl Objects {
         }
     }
 
-    /// Puts a copy of an object in place of the old one.
+    /// Puts an object, of which this is one owner more, in place of the old one.
     fn put(&mut self, alloc: Global, object: &Object) -> Result<(), NoMemory>
         ensures ok { OnOk result (self.new ≡ with_object self.old object.now) }
         ensures err { OnErr result (self.new ≡ self.old) }
     {
         match object {
-            Object::Service(s) => self.services.put(alloc, &s.key, s.copy(alloc)?),
-            Object::EndpointSlice(s) => self.slices.put(alloc, &s.key, s.copy(alloc)?),
-            Object::Pod(p) => self.pods.put(alloc, &p.key, p.copy(alloc)?),
-            Object::Node(n) => self.nodes.put(n.name.copy(alloc)?, n.copy(alloc)?),
+            Object::Service(s) => self.services.put(alloc, &s.get().key, s.copy(alloc)?),
+            Object::EndpointSlice(s) => self.slices.put(alloc, &s.get().key, s.copy(alloc)?),
+            Object::Pod(p) => self.pods.put(alloc, &p.get().key, p.copy(alloc)?),
+            Object::Node(n) => self.nodes.put(n.get().name.copy(alloc)?, n.copy(alloc)?),
         }
     }
 

@@ -4,7 +4,7 @@ ghost use Rattle.std.specs.Prelude.{◌≡◌, IfOk};
 use crate::pod::{Node, Pod};
 use crate::service::Service;
 use crate::slice::Slice;
-use kp_base::{Copied, NoMemory, ObjectKey};
+use kp_base::{Copied, Kept, NoMemory, ObjectKey};
 use std::alloc::Global;
 
 /// The kinds of objects that the proxy reads.
@@ -16,13 +16,13 @@ pub enum Kind {
     Node,
 }
 
-/// An object of the cluster.
+/// An object of the cluster, with several owners: who keeps what an event brings copies nothing.
 #[derive(Drop)]
 pub enum Object {
-    Service(Service),
-    EndpointSlice(Slice),
-    Pod(Pod),
-    Node(Node),
+    Service(Kept<Service>),
+    EndpointSlice(Kept<Slice>),
+    Pod(Kept<Pod>),
+    Node(Kept<Node>),
 }
 
 /// A change: an object is put in place of the old one, or is deleted.
