@@ -9,7 +9,6 @@ use crate::text::Text;
 use std::alloc::Global;
 
 /// What the proxy of one node is told before any event.
-#[derive(Drop)]
 pub struct Config {
     /// The name of the node.
     pub node: Text,
@@ -36,6 +35,22 @@ pub struct Config {
     pub ghost recent_from: { 1 ≤ recent_size },
     pub ghost recent_to: { recent_size ≤ 1000 },
     pub ghost name_to: { name_length ≤ 16 },
+}
+
+impl Drop for Config {
+    fn drop(self) {
+        let Config {
+            node,
+            addresses,
+            cluster,
+            masquerade_all,
+            controller,
+            max_per_slice,
+            max_events,
+            recent_size,
+            name_length,
+        } = self;
+    }
 }
 
 impl Copied for Config {

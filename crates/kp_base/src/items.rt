@@ -7,9 +7,14 @@ use std::alloc::Global;
 use std::marker::Model;
 
 /// A list that grows at its end.
-#[derive(Drop)]
 pub struct Items<T> {
     inner: Vec<T>,
+}
+
+impl<T: Drop> Drop for Items<T> {
+    fn drop(self) {
+        let Items { inner } = self;
+    }
 }
 
 impl<T> Model for Items<T> {
@@ -60,7 +65,8 @@ impl<T> Items<T> {
     pub fn into_vec(self) -> Vec<T>
         ensures { result.items ≡ self }
     {
-        self.inner
+        let Items { inner } = self;
+        inner
     }
 }
 

@@ -8,9 +8,14 @@ use std::sync::Arc;
 
 /// A value that no longer changes, with several owners, in any threads: a copy takes no memory.
 /// Contracts see the value.
-#[derive(Drop)]
 pub struct Kept<T> {
     value: Arc<T>,
+}
+
+impl<T: Drop> Drop for Kept<T> {
+    fn drop(self) {
+        let Kept { value } = self;
+    }
 }
 
 impl<T> Model for Kept<T> {

@@ -8,9 +8,14 @@ use std::marker::Model;
 use std::sync::Arc;
 
 /// A list that no longer changes, with several owners, in any threads: a copy takes no memory.
-#[derive(Drop)]
 pub struct Shared<T> {
     items: Arc<Items<T>>,
+}
+
+impl<T: Drop> Drop for Shared<T> {
+    fn drop(self) {
+        let Shared { items } = self;
+    }
 }
 
 impl<T> Model for Shared<T> {

@@ -17,9 +17,14 @@ use std::sync::ArcStr;
 
 /// A text that no longer changes, with several owners, in any threads: a copy takes no memory.
 /// Contracts see the list of its bytes.
-#[derive(Drop)]
 pub struct Text {
     inner: ArcStr,
+}
+
+impl Drop for Text {
+    fn drop(self) {
+        let Text { inner } = self;
+    }
 }
 
 impl Model for Text {

@@ -184,10 +184,22 @@ pub enum PortChain {
 }
 
 /// What a chain is for: a Service port, or an endpoint of one (`KUBE-SEP-`).
-#[derive(PartialEq, Eq, PartialOrd, Ord, Hash, Drop)]
+#[derive(PartialEq, Eq, PartialOrd, Ord, Hash)]
 pub enum ChainKey {
     Port { kind: PortChain, port: PortKey },
     Sep { port: PortKey, endpoint: Endpoint },
+}
+
+impl Drop for ChainKey {
+    fn drop(self) {
+        match self {
+            ChainKey::Port { kind: _, port: _ } => {}
+            ChainKey::Sep {
+                port: _,
+                endpoint: _,
+            } => {}
+        }
+    }
 }
 
 impl Copied for ChainKey {
@@ -206,11 +218,20 @@ impl Copied for ChainKey {
 }
 
 /// Two different chains that are needed and have one name.
-#[derive(Drop)]
 pub struct Clash {
     pub name: ChainName,
     pub first: ChainKey,
     pub second: ChainKey,
+}
+
+impl Drop for Clash {
+    fn drop(self) {
+        let Clash {
+            name,
+            first,
+            second,
+        } = self;
+    }
 }
 
 impl Copied for Clash {

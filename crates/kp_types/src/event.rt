@@ -17,7 +17,6 @@ pub enum Kind {
 }
 
 /// An object of the cluster, with several owners: who keeps what an event brings copies nothing.
-#[derive(Drop)]
 pub enum Object {
     Service(Kept<Service>),
     EndpointSlice(Kept<Slice>),
@@ -25,11 +24,30 @@ pub enum Object {
     Node(Kept<Node>),
 }
 
+impl Drop for Object {
+    fn drop(self) {
+        match self {
+            Object::Service(_) => {}
+            Object::EndpointSlice(_) => {}
+            Object::Pod(_) => {}
+            Object::Node(_) => {}
+        }
+    }
+}
+
 /// A change: an object is put in place of the old one, or is deleted.
-#[derive(Drop)]
 pub enum Event {
     Apply(Object),
     Delete { kind: Kind, key: ObjectKey },
+}
+
+impl Drop for Event {
+    fn drop(self) {
+        match self {
+            Event::Apply(_) => {}
+            Event::Delete { kind: _, key: _ } => {}
+        }
+    }
 }
 
 impl Copied for Object {

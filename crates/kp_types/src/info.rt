@@ -18,7 +18,6 @@ pub struct ServiceSources {
 
 /// One Service port in one address family, as kube-proxy's service port info: its destinations, its
 /// policies and its endpoints.
-#[derive(Drop)]
 pub struct PortInfo {
     pub key: PortKey,
     /// The port of the cluster address, the external and the load-balancer addresses.
@@ -40,6 +39,24 @@ pub struct PortInfo {
     /// The external traffic policy.
     pub outer: Policy,
     pub lists: Lists,
+}
+
+impl Drop for PortInfo {
+    fn drop(self) {
+        let PortInfo {
+            key,
+            number,
+            address,
+            external,
+            balancer,
+            node_port,
+            ranges,
+            affinity,
+            internal,
+            outer,
+            lists,
+        } = self;
+    }
 }
 
 impl Copied for ServiceSources {

@@ -13,7 +13,7 @@ pub struct ContainerPort {
 }
 
 /// A Pod.
-#[derive(PartialEq, Eq, Drop)]
+#[derive(PartialEq, Eq)]
 pub struct Pod {
     pub key: ObjectKey,
     /// The labels, in byte order of the keys.
@@ -30,11 +30,32 @@ pub struct Pod {
     pub ready: bool,
 }
 
+impl Drop for Pod {
+    fn drop(self) {
+        let Pod {
+            key,
+            labels,
+            deleting,
+            node,
+            ports,
+            finished,
+            address,
+            ready,
+        } = self;
+    }
+}
+
 /// A Node.
-#[derive(PartialEq, Eq, Drop)]
+#[derive(PartialEq, Eq)]
 pub struct Node {
     pub name: Text,
     pub zone: Option<Text>,
+}
+
+impl Drop for Node {
+    fn drop(self) {
+        let Node { name, zone } = self;
+    }
 }
 
 impl Copied for ContainerPort {

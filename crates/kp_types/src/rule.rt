@@ -57,16 +57,29 @@ pub struct Rule {
 
 /// A change of one chain: its rules are written, in place of the old ones, or it is removed. A
 /// table that makes the change shares the rules.
-#[derive(Drop)]
 pub enum Edit {
     Write { at: ChainAt, rules: Shared<Rule> },
     Remove { at: ChainAt },
 }
 
+impl Drop for Edit {
+    fn drop(self) {
+        match self {
+            Edit::Write { at: _, rules: _ } => {}
+            Edit::Remove { at: _ } => {}
+        }
+    }
+}
+
 /// Edits that are made together, in their order.
-#[derive(Drop)]
 pub struct Batch {
     pub edits: Items<Edit>,
+}
+
+impl Drop for Batch {
+    fn drop(self) {
+        let Batch { edits } = self;
+    }
 }
 
 /// A chain's place and rules.

@@ -30,14 +30,23 @@ pub enum ClusterAddress {
 }
 
 /// `spec.ports[i].targetPort`: a number, or the name of a container port.
-#[derive(PartialEq, Eq, Drop)]
+#[derive(PartialEq, Eq)]
 pub enum TargetPort {
     Number(PortNo),
     Named(Text),
 }
 
+impl Drop for TargetPort {
+    fn drop(self) {
+        match self {
+            TargetPort::Number(_) => {}
+            TargetPort::Named(_) => {}
+        }
+    }
+}
+
 /// One entry of `spec.ports`.
-#[derive(PartialEq, Eq, Drop)]
+#[derive(PartialEq, Eq)]
 pub struct ServicePort {
     pub name: Text,
     pub proto: Proto,
@@ -46,8 +55,20 @@ pub struct ServicePort {
     pub node_port: Option<PortNo>,
 }
 
+impl Drop for ServicePort {
+    fn drop(self) {
+        let ServicePort {
+            name,
+            proto,
+            port,
+            target,
+            node_port,
+        } = self;
+    }
+}
+
 /// A Service. No two of its ports have the same name and protocol.
-#[derive(PartialEq, Eq, Drop)]
+#[derive(PartialEq, Eq)]
 pub struct Service {
     pub key: ObjectKey,
     pub kind: ServiceKind,
@@ -72,6 +93,26 @@ pub struct Service {
     /// The addresses of `status.loadBalancer.ingress`.
     pub balancer: Items<Address>,
     pub ghost distinct: { distinct_ports ports ≡ true },
+}
+
+impl Drop for Service {
+    fn drop(self) {
+        let Service {
+            key,
+            kind,
+            cluster,
+            ports,
+            selector,
+            external,
+            affinity,
+            internal,
+            outer,
+            publish_not_ready,
+            ranges,
+            same_zone,
+            balancer,
+        } = self;
+    }
 }
 
 impl Copied for TargetPort {

@@ -21,7 +21,6 @@ pub struct SlicePort {
 }
 
 /// One entry of a slice's `endpoints`, with the defaults of its conditions filled in.
-#[derive(Drop)]
 pub struct SliceEndpoint {
     pub address: Option<Address>,
     pub ready: bool,
@@ -34,8 +33,22 @@ pub struct SliceEndpoint {
     pub pod: Option<ObjectKey>,
 }
 
+impl Drop for SliceEndpoint {
+    fn drop(self) {
+        let SliceEndpoint {
+            address,
+            ready,
+            serving,
+            terminating,
+            node,
+            zone,
+            hints,
+            pod,
+        } = self;
+    }
+}
+
 /// An EndpointSlice.
-#[derive(Drop)]
 pub struct Slice {
     pub key: ObjectKey,
     /// The Service that the label `kubernetes.io/service-name` names.
@@ -45,6 +58,19 @@ pub struct Slice {
     pub family: AddressType,
     pub ports: Items<SlicePort>,
     pub endpoints: Items<SliceEndpoint>,
+}
+
+impl Drop for Slice {
+    fn drop(self) {
+        let Slice {
+            key,
+            service,
+            managed,
+            family,
+            ports,
+            endpoints,
+        } = self;
+    }
 }
 
 /// An endpoint that the controller wants in the slices of a Service: its pod, its resolved ports
