@@ -1,5 +1,8 @@
 //! Values that every crate of the proxy speaks of: text, lists, addresses, ranges, keys and the
 //! configuration of a node.
+//!
+//! Types that own much have a `drop` of their own, so that letting one go is a call: a derived one
+//! is written out at each way out of each function that owns such a value, and proved there.
 #![tactic(auto)]
 
 mod address;
