@@ -3,3 +3,4 @@ pub mod NodeNames
 pub mod PodNames
 pub mod PortNumbers
 pub mod Steps
+pub mod WithPorts

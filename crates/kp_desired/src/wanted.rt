@@ -73,14 +73,16 @@ fn add_wanted<'a>(
     ensures { OnOk result (wanted.new.items ≡ wanted.old.items ++ option_to_list
         (desired_of V4 (zone_in (shown nodes.now.entries)) service.now pod.now)) }
 {
-    if let Some(endpoint) = wanted_endpoint(alloc, service, pod, zone_of_pod(nodes, pod))? {
+    if let Some(endpoint) = desired_endpoint(alloc, service, pod, zone_of_pod(nodes, pod))? {
         wanted.push(endpoint)?;
     }
     Ok(())
 }
 
-/// The endpoint that a Service wants of a pod, whose node has this zone.
-fn wanted_endpoint(
+/// The endpoint that a Service wants of a pod that it selects, whose node has this zone (Kubernetes
+/// documents on EndpointSlices): none of a pod that has finished, has no IPv4 address or resolves
+/// no port.
+pub fn desired_endpoint(
     alloc: Global,
     service: &Service,
     pod: &Pod,
@@ -110,7 +112,7 @@ fn wanted_at(
         (spec.resolved_ports service.now pod.now)) }
 {
     let ports = resolved_ports(alloc, service, pod)?;
-    if ports.is_empty() {
+    if ports.as_slice().is_empty() {
         return Ok(None);
     }
     Ok(Some(Wanted {
