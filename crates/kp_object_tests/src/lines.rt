@@ -74,7 +74,12 @@ fn is_row_read(alloc: Global, row: &str, first: bool) -> Result<bool, Fail> {
     Ok(is_answer(&by_tree, wanted) && is_answer(&read(alloc, line, first), wanted))
 }
 
-/// The form of lines, their streams and their commands.
+/// A text whose lines that begin with a space go on with the line before.
+fn unfolded(alloc: Global, text: &str) -> Result<String, Fail> {
+    Ok(text.replace(alloc, "\n ", "")?)
+}
+
+/// The form of lines, their streams and their commands, folded.
 const COMMANDS: &str = r#"{"op":"sync" => bad json
 [] => not an event
 "sync" => not an event
@@ -82,8 +87,11 @@ null => not an event
 {"by":1,"op":"pull"} => WrongType by
 {"by":"","op":"sync"} => BadName by
 {"by":"A","op":"config","node":1} => BadName by
-{"by":"a1234567890123456789012345678901234567890123456789012345678901234","op":"sync"} => BadName by
-{"by":"a12345678901234567890123456789012345678901234567890123456789012","op":"sync"} => sync of a12345678901234567890123456789012345678901234567890123456789012
+{"by":"a1234567890123456789012345678901234567890123456789012345678901234",
+ "op":"sync"} => BadName by
+{"by":"a12345678901234567890123456789012345678901234567890123456789012",
+ "op":"sync"}
+  => sync of a12345678901234567890123456789012345678901234567890123456789012
 {"by":null,"op":"sync"} => sync
 {"by":"main","op":"sync"} => sync
 {"by":"s-1","op":"sync"} => sync of s-1
@@ -107,12 +115,14 @@ null => not an event
 {"op":"event","event":[]} => not an event
 {"op":"event","event":{"kind":"Ingress"}} => kind Ingress
 {"op":"event","event":{"kind":"Pod"}} => Missing event.metadata
-{"op":"event","event":{"kind":"List","items":[{"kind":"Node","metadata":{}}]}} => Missing event.items[0].metadata.name
+{"op":"event","event":{"kind":"List","items":[{"kind":"Node","metadata":{}}]}}
+  => Missing event.items[0].metadata.name
 {"op":"event","event":{"by":1,"op":1,"kind":"Node","metadata":{"name":"n1"}}} => an event
 {"kind":"Node","metadata":{"name":"n1"},"by":"s1"} => an event of s1
 {"kind":"Node","metadata":{}} => Missing metadata.name
 {"type":"BOOKMARK","object":{}} => no events
-{"kind":"List","items":[{"kind":"Node","metadata":{"name":"n1"}},{"kind":"Node","metadata":{"name":"n2"}}]} => events"#;
+{"kind":"List","items":[{"kind":"Node","metadata":{"name":"n1"}},
+ {"kind":"Node","metadata":{"name":"n2"}}]} => events"#;
 
 /// The members of a configuration.
 const CONFIGS: &str = r#"{"op":"config"} => config
@@ -161,7 +171,7 @@ const LATER: &str = r#"{"op":"config"} => config is late
 {"op":"configure"} => op configure
 {"op":"sync"} => sync"#;
 
-/// The members of a packet, each put into a line that has the others.
+/// The members of a packet, each put into a line that has the others, folded.
 const MEMBERS: &str = r#""src":"10.244.9.9" => Missing dst
 "dst":"10.96.0.10" => Missing src
 "src":null,"dst":"10.96.0.10","dport":80 => Missing src
@@ -191,7 +201,8 @@ const MEMBERS: &str = r#""src":"10.244.9.9" => Missing dst
 "now":18446744073709551615,"src":"10.244.9.9","dst":"10.96.0.10","dport":80 => packet
 "draws":1,"src":"10.244.9.9","dst":"10.96.0.10","dport":80 => WrongType draws
 "draws":[0,"1"],"src":"10.244.9.9","dst":"10.96.0.10","dport":80 => WrongType draws[1]
-"draws":[0,2147483648],"seed":-1,"src":"10.244.9.9","dst":"10.96.0.10","dport":80 => OutOfRange draws[1]
+"draws":[0,2147483648],"seed":-1,"src":"10.244.9.9","dst":"10.96.0.10","dport":80
+  => OutOfRange draws[1]
 "draws":[0,2147483647],"src":"10.244.9.9","dst":"10.96.0.10","dport":80 => packet
 "seed":-1,"draws":[],"src":"10.244.9.9","dst":"10.96.0.10","dport":80 => WrongType seed
 "seed":18446744073709551615,"src":"10.244.9.9","dst":"10.96.0.10","dport":80 => packet
@@ -200,7 +211,8 @@ const MEMBERS: &str = r#""src":"10.244.9.9" => Missing dst
 
 #[test]
 fn commands_and_events_are_read(rt: HostRuntime) -> Result<(), Fail> {
-    for row in COMMANDS.lines() {
+    let rows = unfolded(rt.alloc(), COMMANDS)?;
+    for row in rows.lines() {
         assert!(rt; is_row_read(rt.alloc(), row, true)?, "{row}");
     }
     Ok(())
@@ -236,7 +248,8 @@ fn are_members_read(
 #[test]
 fn packets_are_read(rt: HostRuntime) -> Result<(), Fail> {
     let mut scratch = Scratch::new(rt.alloc());
-    for row in MEMBERS.lines() {
+    let rows = unfolded(rt.alloc(), MEMBERS)?;
+    for row in rows.lines() {
         assert!(rt;
             are_members_read(rt.alloc(), "packet", row, &mut scratch)?,
             "{row}"
@@ -301,12 +314,16 @@ fn are_draws(draws: &Draws, wanted: &[u32]) -> bool {
     }
 }
 
+/// A packet line with each member, folded.
+const ALL_OF_A_PACKET: &str = r#"{"op":"packet","from":"node","src":"10.244.9.9",
+ "dst":"10.96.0.10","proto":"UDP","sport":9,"dport":53,"now":7,"draws":[5,6],"seed":1,
+ "trail":true}"#;
+
 #[test]
 fn a_packet_has_the_values_of_its_members(rt: HostRuntime) -> Result<(), Fail> {
     let alloc = rt.alloc();
-    let line =
-        r#"{"op":"packet","from":"node","src":"10.244.9.9","dst":"10.96.0.10","proto":"UDP","sport":9,"dport":53,"now":7,"draws":[5,6],"seed":1,"trail":true}"#;
-    let read = packet(alloc, line)?;
+    let line = unfolded(alloc, ALL_OF_A_PACKET)?;
+    let read = packet(alloc, line.as_str())?;
     let wanted = Packet {
         from: Origin::Node,
         source: Address::v4(183_765_257),
@@ -356,12 +373,17 @@ fn config(alloc: Global, text: &str) -> Result<Config, Fail> {
     }
 }
 
+/// A configuration with each member, folded.
+const ALL_OF_A_CONFIG: &str = r#"{"op":"config","node":"n1",
+ "nodeAddresses":["10.0.0.1","fd00::1","10.0.0.2"],"clusterCIDR":"10.244.9.9/16",
+ "masqueradeAll":true,"controller":false,"maxEndpointsPerSlice":2,"maxEvents":3,"recentSize":4,
+ "nameLength":5}"#;
+
 #[test]
 fn a_configuration_has_the_values_of_its_members(rt: HostRuntime) -> Result<(), Fail> {
     let alloc = rt.alloc();
-    let line =
-        r#"{"op":"config","node":"n1","nodeAddresses":["10.0.0.1","fd00::1","10.0.0.2"],"clusterCIDR":"10.244.9.9/16","masqueradeAll":true,"controller":false,"maxEndpointsPerSlice":2,"maxEvents":3,"recentSize":4,"nameLength":5}"#;
-    let read = config(alloc, line)?;
+    let line = unfolded(alloc, ALL_OF_A_CONFIG)?;
+    let read = config(alloc, line.as_str())?;
     assert_eq!(rt; read.node.as_str(), "n1");
     let addresses = [Address::v4(167_772_161), Address::v4(167_772_162)];
     assert!(rt; read.addresses.as_slice() == addresses.as_slice());
