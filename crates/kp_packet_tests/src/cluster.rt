@@ -22,7 +22,6 @@ use std::sync::ledger::{Blank, Ledger};
 use std::test::Fail;
 
 /// A cluster, and what its last sync made.
-#[derive(Drop)]
 pub struct Cluster {
     config: Config,
     objects: Objects,
@@ -30,6 +29,19 @@ pub struct Cluster {
     events: u64,
     table: Table,
     lists: RecentLists,
+}
+
+/// One call on each way out of what owns a cluster.
+impl Drop for Cluster {
+    fn drop(self) {
+        let Cluster {
+            config,
+            objects,
+            events,
+            table,
+            lists,
+        } = self;
+    }
 }
 
 impl Cluster {

@@ -1,17 +1,13 @@
 -- Before the first event.
-use Rattle.std.proofs.Common.{◌≡◌, ◌≤◌, ℕ, length, subst, arith, List, [], ◌++◌, map, None, sym, ap, ◌∙◌, append-nil}
+use Rattle.std.proofs.Common.{◌≡◌, ◌≤◌, ℕ, length, subst, arith, List, [], ◌++◌, None, sym, ap, ◌∙◌, append-nil}
 use Rattle.std.specs.FinMap as finite
-use Rattle.kp_lemmas.proofs.Entries.{empty_entries}
-use Rattle.kp_base.specs.Keys.{key_cmp}
-use Rattle.kp_base.specs.declared.key.ObjectKey.{ObjectKey}
 use Rattle.kp_base.specs.declared.address.Family.TheVariants.{V4}
 use Rattle.kp_base.specs.declared.config.Config.{Config}
 use Rattle.kp_types.specs.Places.{chain_cmp}
 use Rattle.kp_types.specs.Setting.{Setting}
-use Rattle.kp_types.specs.declared.service.Service.{Service}
 use Rattle.kp_choice_defs.specs.Names.{first_clash}
 use Rattle.kp_choice_defs.specs.Settings.{setting_of}
-use Rattle.kp_object_defs.specs.Objects.{no_objects, zone_of}
+use Rattle.kp_object_defs.specs.Objects.{no_objects}
 use Rattle.kp_object_defs.specs.PortInfo.{PortInfo}
 use Rattle.kp_types.specs.declared.event.Event.{Event}
 use Rattle.kp_events.specs.JournalContents.{Contents}

@@ -10,12 +10,22 @@ use std::alloc::Global;
 
 /// How many events each sync covers more than the one before it, how many all of them cover, the
 /// table after them, and the batch of the last.
-#[derive(Drop)]
 pub(crate) struct History {
     pub(crate) counts: Vec<u64>,
     pub(crate) covered: u64,
     pub(crate) table: Table,
     pub(crate) last: Option<Batch>,
+}
+
+impl Drop for History {
+    fn drop(self) {
+        let History {
+            counts,
+            covered,
+            table,
+            last,
+        } = self;
+    }
 }
 
 impl History {

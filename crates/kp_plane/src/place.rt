@@ -5,10 +5,15 @@ use kp_types::Event;
 use std::alloc::Global;
 
 /// The objects after the first events of a journal, and how many of them these are.
-#[derive(Drop)]
 pub(crate) struct ObjectsAt {
     pub(crate) objects: Objects,
     pub(crate) at: usize,
+}
+
+impl Drop for ObjectsAt {
+    fn drop(self) {
+        let ObjectsAt { objects, at } = self;
+    }
 }
 
 impl ObjectsAt {

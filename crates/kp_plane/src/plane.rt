@@ -37,7 +37,6 @@ use std::mem::replace;
 use std::sync::ledger::Ledger;
 
 /// One order of events: those that were accepted, and the syncs that cover the first of them.
-#[derive(Drop)]
 pub struct Plane {
     config: Config,
     journal: Journal,
@@ -48,6 +47,20 @@ pub struct Plane {
     explained: ObjectsAt,
     /// The slices, where they were last asked for.
     slices: SlicesAt,
+}
+
+/// One call on each way out of what owns a plane.
+impl Drop for Plane {
+    fn drop(self) {
+        let Plane {
+            config,
+            journal,
+            history,
+            latest,
+            explained,
+            slices,
+        } = self;
+    }
 }
 
 impl Model for Plane {

@@ -6,7 +6,6 @@ use kp_types::Event;
 use std::alloc::Global;
 
 /// The slices after the first events of a journal, and after the first syncs.
-#[derive(Drop)]
 pub(crate) struct SlicesAt {
     pub(crate) slices: SliceMap,
     /// The objects after these events.
@@ -14,6 +13,17 @@ pub(crate) struct SlicesAt {
     pub(crate) syncs: usize,
     /// How many events these syncs cover.
     pub(crate) covered: usize,
+}
+
+impl Drop for SlicesAt {
+    fn drop(self) {
+        let SlicesAt {
+            slices,
+            place,
+            syncs,
+            covered,
+        } = self;
+    }
 }
 
 impl SlicesAt {

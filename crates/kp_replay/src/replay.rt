@@ -13,7 +13,6 @@ use std::alloc::Global;
 
 /// Where a replay of lines stands: its events, records and tables, the sources that packets came
 /// from of late, and whether a line was refused.
-#[derive(Drop)]
 pub struct Replay {
     /// Whether no line but blank ones was read.
     pub(crate) fresh: bool,
@@ -22,6 +21,19 @@ pub struct Replay {
     pub(crate) refused: bool,
     /// What lines are read with, one after another.
     pub(crate) scratch: Scratch,
+}
+
+/// One call on each way out of what owns a replay.
+impl Drop for Replay {
+    fn drop(self) {
+        let Replay {
+            fresh,
+            plane,
+            lists,
+            refused,
+            scratch,
+        } = self;
+    }
 }
 
 impl Replay {
