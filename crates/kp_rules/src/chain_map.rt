@@ -3,14 +3,16 @@ ghost use Rattle.std.specs.Prelude.{◌≡◌, ◌+◌, ◌<◌, ◌≤◌, slic
 ghost use Rattle.std.specs.FinMap as finite;
 ghost use Rattle.std.specs.Option.{option_copied};
 ghost use Rattle.kp_types.specs.Places.{chain_cmp};
+ghost use Rattle.kp_types.specs.contracts.chain.ChainAtPartialEq.TheImpl as same;
 
 use crate::chain::Chain;
+use crate::hooks::Hooks;
 use crate::new_chain::NewChain;
 use crate::places::Places;
 use crate::slots::Slots;
 use indexmap::IndexMap;
 use kp_base::{Copied, NoMemory};
-use kp_types::{ChainAt, Target};
+use kp_types::{ChainAt, ChainName, TableName, Target};
 use std::alloc::Global;
 use std::marker::Model;
 
@@ -21,6 +23,7 @@ pub struct ChainMap {
     rules: IndexMap<ChainAt, Chain>,
     places: Places,
     slots: Slots,
+    hooks: Hooks,
 }
 
 impl Model for ChainMap {
@@ -52,6 +55,7 @@ impl ChainMap {
             rules: IndexMap::new(alloc),
             places: Places::empty(),
             slots: Slots::new(alloc),
+            hooks: Hooks::none(),
         }
     }
 
@@ -62,23 +66,53 @@ impl ChainMap {
         self.rules.get(at)
     }
 
-    /// A chain, looked for in a slot before its name is hashed.
-    pub fn reached(&self, slot: Option<usize>, at: &ChainAt) -> Option<&Chain>
+    /// A chain, of which no name is hashed where it is a built-in one.
+    pub fn hook(&self, at: &ChainAt) -> Option<&Chain>
         ensures { option_copied result ≡ finite.get self.now.chains at.now }
     {
-        match self.in_slot(slot, at) {
-            None => self.get(at),
+        self.reached(self.hooks.slot(at), at.table, &at.chain)
+    }
+
+    /// The chain of a table with this name, looked for in a slot before the name is hashed.
+    pub fn reached(
+        &self,
+        slot: Option<usize>,
+        table: TableName,
+        chain: &ChainName,
+    ) -> Option<&Chain>
+        ensures { option_copied result
+            ≡ finite.get self.now.chains (record { table = table; chain = chain.now }) }
+    {
+        match self.in_slot(slot, table, chain) {
+            None => self.named(table, chain),
             Some(found) => Some(found),
         }
     }
 
     /// The chain in a slot, where it has this name.
-    fn in_slot(&self, slot: Option<usize>, at: &ChainAt) -> Option<&Chain>
-        ensures { IfSome result (λ c. Some c.now ≡ finite.get self.now.chains at.now) }
+    fn in_slot(&self, slot: Option<usize>, table: TableName, chain: &ChainName) -> Option<&Chain>
+        ensures { IfSome result (λ c. Some c.now
+            ≡ finite.get self.now.chains (record { table = table; chain = chain.now })) }
     {
         let index = self.slots.index(slot?)?;
-        let (name, found) = self.rules.get_index(index)?;
-        if *name == *at { Some(found) } else { None }
+        let (at, found) = self.rules.get_index(index)?;
+        if is_at(at, table, chain) {
+            Some(found)
+        } else {
+            None
+        }
+    }
+
+    /// The chain of a table with this name.
+    fn named(&self, table: TableName, chain: &ChainName) -> Option<&Chain>
+        ensures { option_copied result
+            ≡ finite.get self.now.chains (record { table = table; chain = chain.now }) }
+    {
+        let at = ChainAt {
+            table,
+            chain: chain.same(),
+        };
+        self.get(&at)
     }
 
     /// The places of the chains.
@@ -129,7 +163,9 @@ impl ChainMap {
         if let Some(chain) = self.rules.get(at) {
             return chain.slot();
         }
-        self.slots.take(self.rules.len())
+        let slot = self.slots.take(self.rules.len());
+        self.hooks.set_slot(at, slot);
+        slot
     }
 
     /// Writes a chain that has its slot.
@@ -227,6 +263,13 @@ impl ChainMap {
             self.link_index(index);
         }
     }
+}
+
+/// Whether a place is that of the chain of a table with this name.
+fn is_at(at: &ChainAt, table: TableName, chain: &ChainName) -> bool
+    ensures { result ≡ same.ghosts.eq at.now (record { table = table; chain = chain.now }) }
+{
+    at.table == table && at.chain == *chain
 }
 
 /// The chains of these entries.

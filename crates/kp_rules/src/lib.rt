@@ -5,6 +5,7 @@ mod chain;
 mod chain_map;
 mod changes;
 mod destination;
+mod hooks;
 mod index;
 pub mod laws;
 mod limits;

@@ -14,7 +14,7 @@ use crate::places::Places;
 use crate::ranks::are_ranked;
 use crate::ready::{link_written, make_all, ready_edits};
 use kp_base::{Address, Copied, Items, NoMemory, PortNo, Proto, Shared};
-use kp_types::{Batch, ChainAt, Rule};
+use kp_types::{Batch, ChainAt, ChainName, Rule, TableName};
 use std::alloc::Global;
 use std::marker::Model;
 
@@ -76,19 +76,26 @@ impl Table {
         }
     }
 
-    /// The chain at this place, as a walk reads it.
+    /// The chain at this place, as a walk reads it. No name is hashed for a built-in chain.
     pub fn walked(&self, at: &ChainAt) -> Option<&Chain>
         ensures { option_copied result ≡ finite.get self.now.chains at.now }
     {
-        self.chains.get(at)
+        self.chains.hook(at)
     }
 
-    /// The chain at this place, to which the rule at a place of another chain jumps. Where the
-    /// other knows in which slot it stands, no name is hashed.
-    pub fn jumped(&self, from: &Chain, place: u64, at: &ChainAt) -> Option<&Chain>
-        ensures { option_copied result ≡ finite.get self.now.chains at.now }
+    /// The chain of a table with this name, to which the rule at a place of another chain jumps.
+    /// Where the other knows in which slot it stands, no name is hashed.
+    pub fn jumped(
+        &self,
+        from: &Chain,
+        place: u64,
+        table: TableName,
+        chain: &ChainName,
+    ) -> Option<&Chain>
+        ensures { option_copied result
+            ≡ finite.get self.now.chains (record { table = table; chain = chain.now }) }
     {
-        self.chains.reached(from.jump(place), at)
+        self.chains.reached(from.jump(place), table, chain)
     }
 
     /// The least place, from 0, at or after `from` of a rule of the chain at this place that may

@@ -18,7 +18,7 @@ use crate::recorder::Recorder;
 use kp_base::NoMemory;
 use kp_recent::RecentLists;
 use kp_rules::Chain;
-use kp_types::{ChainAt, ChainName, Ending, Target};
+use kp_types::{ChainName, Ending, Target};
 
 impl<F: Fn(u64, u32) -> u32> Hook<'_, F> {
     /// Walks the chain that was found under a name, with at most `depth` chains on the way. Where a
@@ -159,10 +159,7 @@ impl<F: Fn(u64, u32) -> u32> Hook<'_, F> {
         ensures { option_copied result ≡ lookup_of self.now.around.now
             (record { table = self.now.table; chain = chain.now }) }
     {
-        let at = ChainAt {
-            table: self.table,
-            chain: chain.same(),
-        };
-        self.around.chains.jumped(next.chain, next.place, &at)
+        let chains = self.around.chains;
+        chains.jumped(next.chain, next.place, self.table, chain)
     }
 }
