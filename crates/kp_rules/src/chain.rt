@@ -17,7 +17,6 @@ use std::marker::Model;
 
 /// The rules of a chain, as a walk reads them. Contracts see the list of rules. Beside them stand
 /// hints: the chain's own slot, and for each rule the slot of the chain that it jumps to.
-#[derive(Drop)]
 pub struct Chain {
     rules: Shared<Rule>,
     keyed: Vec<KeyedPlace>,
@@ -25,6 +24,19 @@ pub struct Chain {
     limits: Vec<Option<u32>>,
     jumps: Vec<Option<usize>>,
     slot: Option<usize>,
+}
+
+impl Drop for Chain {
+    fn drop(self) {
+        let Chain {
+            rules,
+            keyed,
+            others,
+            limits,
+            jumps,
+            slot,
+        } = self;
+    }
 }
 
 impl Model for Chain {

@@ -18,12 +18,22 @@ use std::marker::Model;
 
 /// Chains by place. Contracts see a finite map, and how many new chains can be written with no
 /// more memory.
-#[derive(Drop)]
 pub struct ChainMap {
     rules: IndexMap<ChainAt, Chain>,
     places: Places,
     slots: Slots,
     hooks: Hooks,
+}
+
+impl Drop for ChainMap {
+    fn drop(self) {
+        let ChainMap {
+            rules,
+            places,
+            slots,
+            hooks,
+        } = self;
+    }
 }
 
 impl Model for ChainMap {

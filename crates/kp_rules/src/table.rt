@@ -19,11 +19,20 @@ use std::alloc::Global;
 use std::marker::Model;
 
 /// The tables: a finite map from places to lists of rules, and how many batches were applied.
-#[derive(Drop)]
 pub struct Table {
     alloc: Global,
     chains: ChainMap,
     syncs: u64,
+}
+
+impl Drop for Table {
+    fn drop(self) {
+        let Table {
+            alloc,
+            chains,
+            syncs,
+        } = self;
+    }
 }
 
 impl Model for Table {
