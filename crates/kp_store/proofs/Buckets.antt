@@ -89,7 +89,7 @@ in_removed m key k = ap is_some (get-remove key_total m key k) ∙ some_and (eq_
 
 module _ {T : Type 0} (same : T → T → Bool) (laws : IsEquivalence same) where
   -- tags that are the same have one bucket
-  lookup_tied : (tag t : T) → same tag t ≡ true → (es : List (T × Keys)) → lookup (same t) es ≡ lookup (same tag) es
+  pub lookup_tied : (tag t : T) → same tag t ≡ true → (es : List (T × Keys)) → lookup (same t) es ≡ lookup (same tag) es
   lookup_tied tag t tie [] = refl
   lookup_tied tag t tie (e ∷ es) = λ i. cond (sym (laws.congr tag t e.0 tie) i) (Some e.1) (lookup_tied tag t tie es i)
 

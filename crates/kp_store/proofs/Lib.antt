@@ -1,5 +1,6 @@
 pub mod Buckets
 pub mod Changed
+pub mod Filled
 pub mod Found
 pub mod KeyLists
 pub mod NodeNames

@@ -31,6 +31,15 @@ module _ {T : Type 0} (same : T → T → Bool) where
   abbrev pub has : List (T × Keys) → T → ObjectKey → Bool
   has buckets t k = finite.contains_key (bucket buckets t) k
 
+  -- no bucket is empty: what a tag finds has a key
+  abbrev pub AreFilled : List (T × Keys) → Type 0
+  AreFilled buckets = (t : T) → ¬ (lookup (same t) buckets ≡ Some finite.empty)
+
+  -- no bucket but that of this tag is empty
+  abbrev pub AreFilledBut : T → List (T × Keys) → Type 0
+  AreFilledBut tag buckets =
+      (t : T) → same tag t ≡ false → ¬ (lookup (same t) buckets ≡ Some finite.empty)
+
   -- t and k are this tag and this key
   abbrev pub is_pair : T → ObjectKey → T → ObjectKey → Bool
   is_pair tag key t k = same t tag && eq_by_cmp key_cmp k key

@@ -1,5 +1,5 @@
 //! The keys of the objects with one tag.
-ghost use Rattle.std.specs.Prelude.{◌≡◌, ◌&&◌, ◌||◌, not, false, IfOk, OnOk, OnErr, IsTrue};
+ghost use Rattle.std.specs.Prelude.{◌≡◌, ◌&&◌, ◌||◌, ◌↔◌, not, IfOk, OnOk, OnErr, IsTrue};
 ghost use Rattle.std.specs.FinMap as finite;
 ghost use Rattle.std.specs.Ordering.{eq_by_cmp};
 ghost use Rattle.kp_base.specs.Keys.{key_cmp};
@@ -15,10 +15,15 @@ const FEW: usize = 8;
 
 /// Keys, which contracts see as a map to nothing. Most tags have few objects: the first keys stand in
 /// a list, where one is added without a look at the others, and further ones in a tree.
-#[derive(Drop)]
 pub struct Bucket {
     few: Vec<ObjectKey>,
     many: Keyed<()>,
+}
+
+impl Drop for Bucket {
+    fn drop(self) {
+        let Bucket { few, many } = self;
+    }
 }
 
 impl Model for Bucket {
@@ -49,7 +54,7 @@ impl Bucket {
 
     /// Whether no key is there.
     pub fn is_empty(&self) -> bool
-        ensures { IsTrue result → (k : ObjectKey) → finite.contains_key self.now k ≡ false }
+        ensures { IsTrue result ↔ (self.now ≡ finite.empty) }
     {
         self.few.as_slice().is_empty() && self.many.is_empty()
     }

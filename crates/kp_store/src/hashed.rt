@@ -11,9 +11,14 @@ use std::marker::Model;
 
 /// Objects of one kind, which contracts see as a finite map from their keys. A look-up compares one
 /// key, however many there are; they have no order but one that is made when it is asked for.
-#[derive(Drop)]
 pub struct Hashed<X> {
     entries: IndexMap<ObjectKey, Kept<X>>,
+}
+
+impl<X: Drop> Drop for Hashed<X> {
+    fn drop(self) {
+        let Hashed { entries } = self;
+    }
 }
 
 impl<X> Model for Hashed<X> {

@@ -5,7 +5,7 @@ ghost use Rattle.std.specs.List.{list_any};
 ghost use Rattle.std.specs.Map.{lookup};
 ghost use Rattle.kp_base.specs.declared.key.ObjectKey.{ObjectKey};
 ghost use Rattle.kp_store.specs.Indexes.{has, is_among, is_pair, is_tag_of, is_lost};
-ghost use Rattle.kp_store.specs.Indexes.{IsPartly};
+ghost use Rattle.kp_store.specs.Indexes.{AreFilled, AreFilledBut, IsPartly};
 
 use crate::bucket::Bucket;
 use crate::keyed::Keyed;
@@ -16,14 +16,20 @@ use std::hash::Hash;
 use std::marker::Model;
 
 /// A bucket of keys for each tag, found by the tag's hash. Contracts see the buckets, in no order.
-#[derive(Drop)]
+/// No bucket is empty: a tag that no object has takes no room.
 pub struct Index<T: Eq + Hash> {
     buckets: IndexMap<T, Bucket>,
 }
 
+impl<T: Eq + Hash + Drop> Drop for Index<T> {
+    fn drop(self) {
+        let Index { buckets } = self;
+    }
+}
+
 impl<T: Eq + Hash> Model for Index<T> {
     ghost use Rattle.std.specs.Prelude.{List};
-    ghost use Rattle.kp_store.specs.Indexes.{Keys};
+    ghost use Rattle.kp_store.specs.Indexes.{AreFilled, Keys};
     ghost use Rattle.kp_store.specs.Stored.{buckets_code};
 
     ghost Value = { List (T × Keys) };
@@ -31,6 +37,8 @@ impl<T: Eq + Hash> Model for Index<T> {
     ghost coded = { buckets_code T.code };
 
     ghost view = { λ i. i.buckets.entries };
+
+    ghost invariant = { λ i. AreFilled T.eq i.buckets.entries };
 }
 
 impl<T: Eq + Hash + Drop> Index<T> {
@@ -76,33 +84,6 @@ impl<T: Eq + Hash + Drop> Index<T> {
         }
     }
 
-    /// Removes a key from the bucket of a tag.
-    fn remove(&mut self, tag: &T, key: &ObjectKey)
-        ensures { (t : T) (k : ObjectKey) → has T.eq self.new t k
-            ≡ not (is_pair T.eq tag.now key.now t k) && has T.eq self.old t k }
-    {
-        match self.buckets.get_mut(tag) {
-            Some(bucket) => {
-                bucket.take(key);
-            }
-            None => return,
-        }
-    }
-
-    /// Forgets a tag whose bucket is empty.
-    fn forget(&mut self, tag: &T)
-        ensures { (t : T) (k : ObjectKey) → has T.eq self.new t k ≡ has T.eq self.old t k }
-    {
-        match self.buckets.get(tag) {
-            Some(bucket) => {
-                if bucket.is_empty() {
-                    self.buckets.swap_remove(tag);
-                }
-            }
-            None => return,
-        }
-    }
-
     /// Removes a key from the bucket of a tag, unless the tag is kept.
     fn remove_unless(&mut self, tag: &T, kept: &[T], key: &ObjectKey)
         ensures { (t : T) (k : ObjectKey) → has T.eq self.new t k
@@ -110,8 +91,7 @@ impl<T: Eq + Hash + Drop> Index<T> {
             && has T.eq self.old t k }
     {
         if !is_one_of(tag, kept) {
-            self.remove(tag, key);
-            self.forget(tag);
+            remove_key(&mut self.buckets, tag, key);
         }
     }
 
@@ -225,8 +205,55 @@ fn add_bucket<T: Eq + Hash + Copied>(
     ensures ok { OnOk result ((t : T) (k : ObjectKey) → has T.eq buckets.new.entries t k
         ≡ is_pair T.eq tag.now key.now t k || has T.eq buckets.old.entries t k) }
     ensures err { OnErr result (buckets.new.entries ≡ buckets.old.entries) }
+    ensures filled { AreFilled T.eq buckets.old.entries → AreFilled T.eq buckets.new.entries }
 {
     let bucket = Bucket::of(alloc, key)?;
     buckets.insert(tag.copy(alloc)?, bucket)?;
     Ok(())
+}
+
+/// Removes a key from the bucket of a tag, and the bucket with its last key.
+fn remove_key<T: Eq + Hash + Drop>(
+    buckets: &mut IndexMap<T, Bucket>,
+    tag: &T,
+    key: &ObjectKey,
+)
+    ensures keys { (t : T) (k : ObjectKey) → has T.eq buckets.new.entries t k
+        ≡ not (is_pair T.eq tag.now key.now t k) && has T.eq buckets.old.entries t k }
+    ensures filled { AreFilled T.eq buckets.old.entries → AreFilled T.eq buckets.new.entries }
+{
+    take_key(buckets, tag, key);
+    forget_empty(buckets, tag);
+}
+
+/// Takes a key out of the bucket of a tag, which may be empty then.
+fn take_key<T: Eq + Hash + Drop>(buckets: &mut IndexMap<T, Bucket>, tag: &T, key: &ObjectKey)
+    ensures keys { (t : T) (k : ObjectKey) → has T.eq buckets.new.entries t k
+        ≡ not (is_pair T.eq tag.now key.now t k) && has T.eq buckets.old.entries t k }
+    ensures others { AreFilled T.eq buckets.old.entries →
+        AreFilledBut T.eq tag.now buckets.new.entries }
+{
+    match buckets.get_mut(tag) {
+        Some(bucket) => {
+            bucket.take(key);
+        }
+        None => return,
+    }
+}
+
+/// Forgets the bucket of a tag, if it is empty.
+fn forget_empty<T: Eq + Hash + Drop>(buckets: &mut IndexMap<T, Bucket>, tag: &T)
+    ensures keys { (t : T) (k : ObjectKey) → has T.eq buckets.new.entries t k
+        ≡ has T.eq buckets.old.entries t k }
+    ensures filled { AreFilledBut T.eq tag.now buckets.old.entries →
+        AreFilled T.eq buckets.new.entries }
+{
+    match buckets.get(tag) {
+        Some(bucket) => {
+            if bucket.is_empty() {
+                buckets.swap_remove(tag);
+            }
+        }
+        None => return,
+    }
 }

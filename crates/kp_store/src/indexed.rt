@@ -24,10 +24,15 @@ pub trait Tagged<T: Eq>: Copied {
 
 /// Objects of one kind, which contracts see as a finite map from their keys. The index has in the
 /// bucket of each tag the keys of the objects with this tag.
-#[derive(Drop)]
 pub struct Indexed<X: Tagged<T>, T: Eq + Hash + Copied> {
     objects: Hashed<X>,
     index: Index<T>,
+}
+
+impl<X: Tagged<T>, T: Eq + Hash + Copied> Drop for Indexed<X, T> {
+    fn drop(self) {
+        let Indexed { objects, index } = self;
+    }
 }
 
 impl<X: Tagged<T>, T: Eq + Hash + Copied> Model for Indexed<X, T> {

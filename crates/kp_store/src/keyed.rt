@@ -1,5 +1,5 @@
 //! Objects of one kind by their keys.
-ghost use Rattle.std.specs.Prelude.{◌≡◌, ◌||◌, map, IfOk, OnOk, OnErr, IsTrue, option_copied};
+ghost use Rattle.std.specs.Prelude.{◌≡◌, ◌||◌, ◌↔◌, map, IfOk, OnOk, OnErr, IsTrue, option_copied};
 ghost use Rattle.std.specs.List.{list_any};
 ghost use Rattle.std.specs.Ordering.{eq_by_cmp};
 ghost use Rattle.kp_base.specs.Keys.{key_cmp};
@@ -12,9 +12,14 @@ use std::collections::BTreeMap;
 use std::marker::Model;
 
 /// Objects of one kind, which contracts see as a finite map from their keys.
-#[derive(Drop)]
 pub struct Keyed<X> {
     entries: BTreeMap<ObjectKey, X>,
+}
+
+impl<X: Drop> Drop for Keyed<X> {
+    fn drop(self) {
+        let Keyed { entries } = self;
+    }
 }
 
 impl<X> Model for Keyed<X> {
@@ -55,7 +60,7 @@ impl<X: Drop> Keyed<X> {
 
     /// Whether there are no objects.
     pub fn is_empty(&self) -> bool
-        ensures { IsTrue result → self.now ≡ finite.empty }
+        ensures { IsTrue result ↔ (self.now ≡ finite.empty) }
     {
         self.entries.is_empty()
     }

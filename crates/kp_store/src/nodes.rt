@@ -13,9 +13,14 @@ use std::marker::Model;
 
 /// Nodes, which contracts see as a finite map from their keys. A node's namespace is the empty
 /// text, so that its name finds it.
-#[derive(Drop)]
 pub struct Nodes {
     by_name: BTreeMap<Text, Kept<Node>>,
+}
+
+impl Drop for Nodes {
+    fn drop(self) {
+        let Nodes { by_name } = self;
+    }
 }
 
 impl Model for Nodes {

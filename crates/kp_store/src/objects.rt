@@ -1,7 +1,8 @@
 //! The objects of the cluster.
-ghost use Rattle.std.specs.Prelude.{◌≡◌, map, Some, IfOk, OnOk, OnErr, option_copied};
+ghost use Rattle.std.specs.Prelude.{◌≡◌, map, IfOk, OnOk, OnErr, option_copied};
 ghost use Rattle.std.specs.List.{filter};
 ghost use Rattle.std.specs.FinMap as finite;
+ghost use Rattle.kp_object_defs.specs.Desired.{selects};
 ghost use Rattle.kp_object_defs.specs.Entries as entries;
 ghost use Rattle.kp_object_defs.specs.Objects as objects;
 ghost use Rattle.kp_object_defs.specs.Objects.{no_objects, objects_step, objects_after};
@@ -20,12 +21,17 @@ use std::alloc::Global;
 use std::marker::Model;
 
 /// The objects of the cluster after events, which contracts see as four finite maps.
-#[derive(Drop)]
 pub struct Objects {
     services: Indexed<Service, ServiceTag>,
     slices: Indexed<Slice, ObjectKey>,
     pods: Indexed<Pod, Label>,
     nodes: Nodes,
+}
+
+impl Drop for Objects {
+    fn drop(self) {
+        let Objects { services, slices, pods, nodes } = self;
+    }
 }
 
 impl Model for Objects {
@@ -164,28 +170,37 @@ impl Objects {
         }
     }
 
-    /// The slices of a Service, in order of their keys.
+    /// Copies of the slices of a Service, in order of their keys.
     pub fn slices_of(&self, alloc: Global, service: &ObjectKey) -> Result<Items<Slice>, NoMemory>
         ensures { IfOk result (λ ss. ss ≡ entries.slices_of self.now service.now) }
     {
-        let found = self.slices.found(alloc, service)?;
-        copies(alloc, found.as_slice())
+        copies(alloc, self.slices_found(alloc, service)?.as_slice())
     }
 
-    /// The pods that a Service selects, in order of their keys. A Service that isn't there selects
-    /// none.
+    /// The slices of a Service, in order of their keys.
+    pub fn slices_found(&self, alloc: Global, service: &ObjectKey) -> Result<Vec<&Slice>, NoMemory>
+        ensures { IfOk result (λ ss. map (λ s. s.now) ss.items
+            ≡ entries.slices_of self.now service.now) }
+    {
+        self.slices.found(alloc, service)
+    }
+
+    /// Copies of the pods that a Service selects, in order of their keys. A Service that isn't there
+    /// selects none.
     pub fn pods_of(&self, alloc: Global, service: &ObjectKey) -> Result<Items<Pod>, NoMemory>
         ensures { IfOk result (λ ps. ps ≡ find.pods_of self.now service.now) }
     {
         match self.services.get(service) {
-            Some(service) => self.pods_selected_by(alloc, service),
+            Some(service) => copies(alloc, self.pods_selected(alloc, service)?.as_slice()),
             None => Ok(Items::new(alloc)),
         }
     }
 
-    /// The pods that a Service selects: each has the first pair of its selector among its labels.
-    fn pods_selected_by(&self, alloc: Global, service: &Service) -> Result<Items<Pod>, NoMemory>
-        ensures { IfOk result (λ ps. ps ≡ find.selected self.now (Some service.now)) }
+    /// The pods that a Service selects, in order of their keys. Each has the first pair of the
+    /// selector among its labels.
+    pub fn pods_selected(&self, alloc: Global, service: &Service) -> Result<Vec<&Pod>, NoMemory>
+        ensures { IfOk result (λ ps. map (λ p. p.now) ps.items
+            ≡ filter (selects service.now) (finite.values self.now.pods)) }
     {
         match service.selector.as_slice().first() {
             Some(pair) => {
@@ -193,7 +208,7 @@ impl Objects {
                 let found = self.pods.found(alloc, &label)?;
                 pods_selected(alloc, found.as_slice(), service)
             }
-            None => Ok(Items::new(alloc)),
+            None => Ok(Vec::new(alloc)),
         }
     }
 

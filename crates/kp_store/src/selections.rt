@@ -1,4 +1,4 @@
-//! Copies of the objects that a look-up finds.
+//! What of the objects that are found by a tag a look-up is for.
 ghost use Rattle.std.specs.Prelude.{◌≡◌, map, IfOk};
 ghost use Rattle.std.specs.List.{filter};
 ghost use Rattle.kp_object_defs.specs.Desired as Desired;
@@ -111,15 +111,15 @@ pub fn pods_selected<'a>(
     alloc: Global,
     pods: &[&'a Pod],
     service: &Service,
-) -> Result<Items<Pod>, NoMemory>
-    ensures { IfOk result (λ ps. ps
+) -> Result<Vec<&'a Pod>, NoMemory>
+    ensures { IfOk result (λ ps. map (λ p. p.now) ps.items
         ≡ filter (Desired.selects service.now) (map (λ p. p.now) pods.now)) }
 {
     let mut selected = Vec::new(alloc);
     for pod in pods {
-        if selects(service, pod) {
-            selected.push(pod.copy(alloc)?)?;
+        if selects(service, *pod) {
+            selected.push(*pod)?;
         }
     }
-    Ok(Items::from_vec(selected))
+    Ok(selected)
 }

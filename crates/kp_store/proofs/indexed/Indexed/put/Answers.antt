@@ -8,9 +8,10 @@ pub invariant_of-self-in-Ok : goal.invariant_of-self-in-Ok
 invariant_of-self-in-Ok g c = λ t k.
     let same = g.T.PartialEq.eq in
     let key = c.args.key.now in
-    let all = c.in_ok-add_all.ensures.ok t k ∙ ap (λ us. is_tag_of same us key t k || has same c.self.inside.index t k) (c.as_slice.ensures ∙ c.in_ok-new.ensures) in
+    let tagged = c.in_ok-new.ensures ∙ ap g.X.Tagged.tags c.get.ensures in
+    let all = c.in_ok-add_all.ensures.ok t k ∙ ap (λ us. is_tag_of same us key t k || has same c.self.inside.index t k) (c.as_slice.ensures ∙ tagged) in
     c.trim.ensures t k
-    ∙ (λ i. not (is_lost same (c.as_slice-in-Ok.ensures i) ((c.as_slice-in-Ok-2.ensures ∙ c.in_ok-new.ensures) i) key t k) && all i)
+    ∙ (λ i. not (is_lost same (c.as_slice-in-Ok.ensures i) ((c.as_slice-in-Ok-2.ensures ∙ tagged) i) key t k) && all i)
     ∙ put_ok same g.X.Tagged.tags c.self.inside.objects key c.args.object c.in_ok-old.old c.self.inside.index c.self.invariant c.in_ok-old.ensures t k
     ∙ ap (λ m. is_tagged same g.X.Tagged.tags t (finite.get m k)) (sym (c.in-Ok.ensures.ok ∙ ap (λ at. finite.insert c.self.inside.objects at c.args.object) c.in_ok-copy.ensures))
 

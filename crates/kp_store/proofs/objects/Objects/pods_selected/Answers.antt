@@ -10,7 +10,7 @@ use Rattle.kp_store.specs.contracts.tags.LabelPartialEq.TheImpl as label_eq
 use Rattle.kp_store.specs.contracts.tags.LabelEq.TheImpl.Laws as label_laws
 use Rattle.kp_store.proofs.Buckets.{if_ok}
 use Rattle.kp_store.proofs.Selected.{filter_within, has_first, none_selected}
-use Rattle.kp_store.proofs.objects.Objects.pods_selected_by.Goals as goal
+use Rattle.kp_store.proofs.objects.Objects.pods_selected.Goals as goal
 
 pub returns-in_ok-found-in-Some : goal.returns-in_ok-found-in-Some
 returns-in_ok-found-in-Some c =
@@ -26,4 +26,4 @@ returns-in_ok-found-in-Some c =
     ∙ ap (λ (o : Objects). filter (selects s) (finite.values o.pods)) c.self.view_is) c.pods_selected.ensures
 
 pub returns-in-None : goal.returns-in-None
-returns-in-None c = c.new.ensures ∙ sym (none_pass (selects c.args.service.now) (none_selected c.args.service.now (search rules)) (finite.values c.args.self.now.pods))
+returns-in-None c = ap (map (λ p. p.now)) c.new.ensures.items ∙ sym (none_pass (selects c.args.service.now) (none_selected c.args.service.now (search rules)) (finite.values c.args.self.now.pods))
