@@ -1,3 +1,2 @@
 pub mod KnownPorts
-pub mod PodNodes
 pub mod StoredServices

@@ -19,10 +19,6 @@ use Rattle.kp_object_defs.specs.PortInfo.{PortInfo, cluster_address_in, info_of,
 abbrev pub AreStored : Objects → List Service → Type 0
 AreStored o services = (s : Service) → Contains services s → get o.services s.key ≡ Some s
 
--- the node of a pod, if both are there
-abbrev pub node_of_pod : Objects → Pod → Option Node
-node_of_pod o pod = option_and_then (λ name. get o.nodes (node_key name)) pod.node
-
 -- what is known of ports by their names, in order, on a node in a zone; of a port that takes no part
 -- that it is known
 abbrev pub known_ports :

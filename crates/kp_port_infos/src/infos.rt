@@ -67,8 +67,6 @@ fn known_of_services(
     config: &Config,
     services: &[&Service],
 ) -> Result<BTreeMap<PortKey, Option<PortInfo>>, NoMemory>
-    requires own_keys { AreUnderOwnKeys objects.now }
-    requires stored { AreStored objects.now (map (λ s. s.now) services.now) }
     ensures { IfOk result (λ known. known.entries
         ≡ known_ports V4 config.now.node (zone_of objects.now config.now.node)
         (flat_map spec.ports_of (map (sources_of V4 (config_for V4 config.now) objects.now)
@@ -89,8 +87,6 @@ fn add_service(
     config: &Config,
     service: &Service,
 ) -> Result<(), NoMemory>
-    requires own_keys { AreUnderOwnKeys objects.now }
-    requires stored { get objects.now.services service.now.key ≡ Some service.now }
     ensures { (before : List (Sources × ServicePort)) → known.old.entries
         ≡ known_ports V4 config.now.node (zone_of objects.now config.now.node) before →
         OnOk result (known.new.entries

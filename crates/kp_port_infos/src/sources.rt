@@ -1,20 +1,19 @@
 //! What the endpoints of a Service are taken from.
-ghost use Rattle.std.specs.Prelude.{◌≡◌, ◌++◌, Some, IfOk, OnOk};
-ghost use Rattle.std.specs.FinMap.{get};
+ghost use Rattle.std.specs.Prelude.{◌≡◌, ◌++◌, map, IfOk, OnOk, option_and_then, option_copied};
 ghost use Rattle.std.specs.List.{filter_map};
 ghost use Rattle.std.specs.Option.{option_to_list};
 ghost use Rattle.kp_base.specs.declared.address.Family.TheVariants.{V4};
 ghost use Rattle.kp_types.specs.Setting.{config_for};
 ghost use Rattle.kp_object_defs.specs.Desired as desired;
 ghost use Rattle.kp_object_defs.specs.Entries as spec;
-ghost use Rattle.kp_object_defs.specs.OwnKeys.{AreUnderOwnKeys};
-ghost use Rattle.kp_port_infos.specs.Known.{node_of_pod, sources_in};
+ghost use Rattle.kp_object_defs.specs.Objects.{zone_of};
+ghost use Rattle.kp_port_infos.specs.Known.{sources_in};
 
-use kp_base::{Config, Copied, Items, NoMemory};
-use kp_desired::desired_endpoints;
+use kp_base::{Config, Copied, Items, NoMemory, Text};
+use kp_desired::desired_endpoint;
 use kp_port_info::cluster_address;
 use kp_store::Objects;
-use kp_types::{Node, Pod, Service, ServiceKind, ServiceSources, Slice, Wanted};
+use kp_types::{Pod, Service, ServiceKind, ServiceSources, Slice, Wanted};
 use std::alloc::Global;
 
 /// What the endpoints of a Service are taken from, where it takes part: where it has a cluster
@@ -25,8 +24,6 @@ pub fn sources_in_part(
     config: &Config,
     service: &Service,
 ) -> Result<Option<ServiceSources>, NoMemory>
-    requires own_keys { AreUnderOwnKeys objects.now }
-    requires stored { get objects.now.services service.now.key ≡ Some service.now }
     ensures { IfOk result (λ s. s
         ≡ sources_in V4 (config_for V4 config.now) objects.now service.now) }
 {
@@ -44,23 +41,21 @@ fn sources_of(
     config: &Config,
     service: &Service,
 ) -> Result<ServiceSources, NoMemory>
-    requires own_keys { AreUnderOwnKeys objects.now }
-    requires stored { get objects.now.services service.now.key ≡ Some service.now }
     ensures { IfOk result (λ s. s
         ≡ spec.sources_of V4 (config_for V4 config.now) objects.now service.now) }
 {
-    let slices = objects.slices_of(alloc, &service.key)?;
     if is_reconciled(config, service) {
+        let slices = objects.slices_found(alloc, &service.key)?;
         Ok(ServiceSources {
             service: service.copy(alloc)?,
             wanted: wanted_of(alloc, objects, service)?,
-            slices: unmanaged(alloc, slices)?,
+            slices: unmanaged(alloc, slices.as_slice())?,
         })
     } else {
         Ok(ServiceSources {
             service: service.copy(alloc)?,
             wanted: Items::new(alloc),
-            slices,
+            slices: objects.slices_of(alloc, &service.key)?,
         })
     }
 }
@@ -74,59 +69,71 @@ fn is_reconciled(config: &Config, service: &Service) -> bool
         && service.kind != ServiceKind::ExternalName
 }
 
-/// The endpoints that the controller wants for a Service of the objects. Of the nodes only those of
-/// its pods are looked at.
+/// The endpoints that the controller wants for a Service of the pods that it selects, in order of
+/// their names. Of the nodes only those of these pods are looked at.
 pub fn wanted_of(
     alloc: Global,
     objects: &Objects,
     service: &Service,
 ) -> Result<Items<Wanted>, NoMemory>
-    requires own_keys { AreUnderOwnKeys objects.now }
-    requires stored { get objects.now.services service.now.key ≡ Some service.now }
     ensures { IfOk result (λ ws. ws ≡ desired.desired_endpoints_of V4 objects.now service.now) }
 {
-    let pods = objects.pods_of(alloc, &service.key)?;
-    let nodes = nodes_of_pods(alloc, objects, pods.as_slice())?;
-    desired_endpoints(alloc, service, &pods, &nodes)
+    let pods = objects.pods_selected(alloc, service)?;
+    wanted_of_pods(alloc, objects, service, pods.as_slice())
 }
 
-/// The nodes of pods.
-fn nodes_of_pods(alloc: Global, objects: &Objects, pods: &[Pod]) -> Result<Items<Node>, NoMemory>
-    ensures { IfOk result (λ ns. ns ≡ filter_map (node_of_pod objects.now) pods.now) }
-{
-    let mut nodes = Vec::new(alloc);
-    for pod in pods {
-        add_node(alloc, &mut nodes, objects, pod)?;
-    }
-    Ok(Items::from_vec(nodes))
-}
-
-/// Adds the node of a pod, if both are there.
-fn add_node(
+/// The endpoints that a Service wants of pods that it selects, in their order.
+fn wanted_of_pods<'a>(
     alloc: Global,
-    nodes: &mut Vec<Node>,
     objects: &Objects,
+    service: &Service,
+    pods: &[&'a Pod],
+) -> Result<Items<Wanted>, NoMemory>
+    ensures { IfOk result (λ ws. ws ≡ filter_map
+        (desired.desired_of V4 (zone_of objects.now) service.now) (map (λ p. p.now) pods.now)) }
+{
+    let mut wanted = Vec::new(alloc);
+    for pod in pods {
+        add_wanted(alloc, &mut wanted, objects, service, *pod)?;
+    }
+    Ok(Items::from_vec(wanted))
+}
+
+/// Adds the endpoint that a Service wants of a pod, if it wants one.
+fn add_wanted(
+    alloc: Global,
+    wanted: &mut Vec<Wanted>,
+    objects: &Objects,
+    service: &Service,
     pod: &Pod,
 ) -> Result<(), NoMemory>
-    ensures { OnOk result (nodes.new.items
-        ≡ nodes.old.items ++ option_to_list (node_of_pod objects.now pod.now)) }
+    ensures { OnOk result (wanted.new.items ≡ wanted.old.items ++ option_to_list
+        (desired.desired_of V4 (zone_of objects.now) service.now pod.now)) }
 {
-    if let Some(name) = &pod.node {
-        if let Some(node) = objects.node(name) {
-            nodes.push(node.copy(alloc)?)?;
-        }
+    if let Some(endpoint) = desired_endpoint(alloc, service, pod, zone_of_pod(objects, pod))? {
+        wanted.push(endpoint)?;
     }
     Ok(())
 }
 
-/// The slices that the controller doesn't manage.
-fn unmanaged(alloc: Global, slices: Items<Slice>) -> Result<Items<Slice>, NoMemory>
-    ensures { IfOk result (λ ss. ss ≡ spec.unmanaged slices) }
+/// The zone of a pod's node, if it has both.
+fn zone_of_pod<'a>(objects: &'a Objects, pod: &Pod) -> Option<&'a Text>
+    ensures { option_copied result ≡ option_and_then (zone_of objects.now) pod.now.node }
+{
+    match &pod.node {
+        Some(name) => objects.zone_of(name),
+        None => None,
+    }
+}
+
+/// Copies of the slices that the controller doesn't manage.
+fn unmanaged<'a>(alloc: Global, slices: &[&'a Slice]) -> Result<Items<Slice>, NoMemory>
+    ensures { IfOk result (λ ss. ss ≡ spec.unmanaged (map (λ s. s.now) slices.now)) }
 {
     let mut unmanaged = Vec::new(alloc);
-    for slice in slices.into_vec() {
+    for slice in slices {
         if !slice.managed {
-            unmanaged.push(slice)?;
+            unmanaged.push(slice.copy(alloc)?)?;
         }
     }
     Ok(Items::from_vec(unmanaged))
