@@ -1,16 +1,11 @@
 -- A fold over the elements so far that pass, and one more.
-use Rattle.std.proofs.Common.{◌≡◌, ◌<◌, ◌+◌, ℕ, Bool, true, false, cond, List, [], ◌∷◌, ◌++◌, map, take, filter, length, get_or, Contains, refl, sym, ap, subst, ◌∙◌}
+use Rattle.std.proofs.Common.{◌≡◌, ◌<◌, ◌+◌, ℕ, Bool, true, false, cond, List, [], ◌∷◌, ◌++◌, map, take, filter, length, get_or, refl, sym, ap, ◌∙◌}
 use Rattle.std.specs.List.{fold}
 use Rattle.std.proofs.lemmas.List.{take_more, map-append}
-use Rattle.std.proofs.lemmas.List.Elements.{Contains-get_or, filter-append}
+use Rattle.std.proofs.lemmas.List.Elements.{filter-append}
 use Rattle.std.proofs.lemmas.List.Sums.{fold-append}
-use Rattle.kp_lemmas.proofs.Members.{in_map}
 
 module _ {R A : Type 0} (shown : R → A) (xs : List R) (i : ℕ) (r : R) (within : i < length xs) (is : r ≡ get_or xs i r) where
-  -- the element is one of all
-  pub element_in : Contains (map shown xs) (shown r)
-  element_in = in_map shown r xs (subst (Contains xs) (sym is) (Contains-get_or xs i r within))
-
   pub one_more : {B : Type 0} (f : B → A → B) (p : A → Bool) (start before after : B)
       → before ≡ fold f start (filter p (map shown (take i xs)))
       → after ≡ cond (p (shown r)) (f before (shown r)) before

@@ -1,6 +1,5 @@
 //! The slices that the controller manages for one Service.
-ghost use Rattle.std.specs.Prelude.{◌≡◌, ◌<◌, ◌^◌, length, map, nat_eq, Some, IfOk, OnOk};
-ghost use Rattle.std.specs.FinMap.{get};
+ghost use Rattle.std.specs.Prelude.{◌≡◌, ◌<◌, ◌^◌, length, map, nat_eq, IfOk, OnOk};
 ghost use Rattle.std.specs.List.{filter, starts_with};
 ghost use Rattle.kp_base.specs.declared.address.Family.TheVariants.{V4};
 ghost use Rattle.kp_object_defs.specs.Entries as entries;
@@ -29,7 +28,6 @@ pub fn pack_service(
     slices: &mut SliceMap,
 ) -> Result<(), NoMemory>
     requires own { AreUnderOwnKeys objects.now }
-    requires stored { get objects.now.services service.now.key ≡ Some service.now }
     ensures { OnOk result (slices.new
         ≡ after_packing config.now.max_per_slice objects.now service.now slices.old V4) }
 {
@@ -47,7 +45,6 @@ fn packed_now(
     slices: &SliceMap,
 ) -> Result<(Items<ObjectKey>, Items<Slice>), NoMemory>
     requires own { AreUnderOwnKeys objects.now }
-    requires stored { get objects.now.services service.now.key ≡ Some service.now }
     ensures own_keys { IsUnderOwnKeys (λ s. s.key) slices.now }
     ensures managed { IfOk result (λ (managed, _). managed
         ≡ map (λ s. s.key) (now.managed_slices V4 service.now.key slices.now)) }

@@ -3,7 +3,7 @@ ghost use Rattle.std.specs.Prelude.{◌≡◌, OnOk};
 ghost use Rattle.kp_controller.specs.Replaced.{with_slices, without_keys};
 
 use crate::slice_map::SliceMap;
-use kp_base::{Items, NoMemory, ObjectKey};
+use kp_base::{Items, Kept, NoMemory, ObjectKey};
 use kp_types::Slice;
 use std::alloc::Global;
 
@@ -22,7 +22,7 @@ pub fn put_all(alloc: Global, packed: Items<Slice>, slices: &mut SliceMap) -> Re
 {
     let mut left = packed.into_vec();
     while let Some(slice) = left.pop() {
-        slices.put(alloc, slice)?;
+        slices.put(alloc, Kept::of(alloc, slice)?)?;
     }
     Ok(())
 }

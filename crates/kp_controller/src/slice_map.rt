@@ -1,14 +1,20 @@
 //! Slices by their keys.
-use kp_base::{Copied, Items, NoMemory, ObjectKey};
+use kp_base::{Copied, Items, Kept, NoMemory, ObjectKey};
 use kp_types::{Event, Kind, Object, Slice};
 use std::alloc::Global;
 use std::collections::BTreeMap;
 use std::marker::Model;
 
-/// Slices by namespace and name, each under its own key. Contracts see a finite map.
-#[derive(Drop)]
+/// Slices by namespace and name, each under its own key and shared with the event that brought it.
+/// Contracts see a finite map.
 pub struct SliceMap {
-    entries: BTreeMap<ObjectKey, Slice>,
+    entries: BTreeMap<ObjectKey, Kept<Slice>>,
+}
+
+impl Drop for SliceMap {
+    fn drop(self) {
+        let SliceMap { entries } = self;
+    }
 }
 
 impl Model for SliceMap {
@@ -49,7 +55,12 @@ impl SliceMap {
         ensures found { IfOk result (λ ss. map (λ s. s.now) ss.items ≡ finite.values self.now) }
         ensures own_keys { IsUnderOwnKeys (λ s. s.key) self.now }
     {
-        Ok(self.entries.values().collect(alloc)?)
+        Ok(
+            self.entries
+                .values()
+                .map(|slice| slice.get())
+                .collect(alloc)?,
+        )
     }
 
     /// Applies an event, which changes the slices at once where it is about one. Where memory is
@@ -59,7 +70,7 @@ impl SliceMap {
         ensures err { OnErr result (self.new ≡ self.old) }
     {
         match event {
-            Event::Apply(Object::EndpointSlice(slice)) => self.put(alloc, slice.get().copy(alloc)?),
+            Event::Apply(Object::EndpointSlice(slice)) => self.put(alloc, slice.copy(alloc)?),
             Event::Delete {
                 kind: Kind::EndpointSlice,
                 key,
@@ -94,11 +105,12 @@ impl SliceMap {
     }
 
     /// Puts a slice in place of the one of its key. Where memory is out, all stays.
-    pub(crate) fn put(&mut self, alloc: Global, slice: Slice) -> Result<(), NoMemory>
+    pub(crate) fn put(&mut self, alloc: Global, slice: Kept<Slice>) -> Result<(), NoMemory>
         ensures ok { OnOk result (self.new ≡ finite.insert self.old slice.key slice) }
         ensures err { OnErr result (self.new ≡ self.old) }
     {
-        self.entries.insert(slice.key.copy(alloc)?, slice)?;
+        let key = slice.get().key.copy(alloc)?;
+        self.entries.insert(key, slice)?;
         Ok(())
     }
 

@@ -5,7 +5,6 @@ ghost use Rattle.kp_base.specs.declared.address.Family.TheVariants.{V4};
 ghost use Rattle.kp_object_defs.specs.Desired as desired;
 ghost use Rattle.kp_object_defs.specs.OwnKeys.{AreUnderOwnKeys};
 ghost use Rattle.kp_object_defs.specs.SlicesNow.{after_packing, controller_step};
-ghost use Rattle.kp_port_infos.specs.Known.{AreStored};
 
 use crate::leftovers::remove_leftovers;
 use crate::managed::pack_service;
@@ -44,7 +43,6 @@ fn pack_services<'a>(
     slices: &mut SliceMap,
 ) -> Result<(), NoMemory>
     requires own { AreUnderOwnKeys objects.now }
-    requires stored { AreStored objects.now (map (λ s. s.now) services.now) }
     ensures { OnOk result (slices.new
         ≡ fold (λ m s. after_packing config.now.max_per_slice objects.now s m V4) slices.old
         (filter desired.has_selector (map (λ s. s.now) services.now))) }

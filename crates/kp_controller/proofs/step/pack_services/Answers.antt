@@ -2,14 +2,9 @@ use Rattle.std.proofs.Common.{cond, ap, ◌∙◌}
 use Rattle.kp_base.specs.declared.address.Family.TheVariants.{V4}
 use Rattle.kp_object_defs.specs.Desired.{has_selector}
 use Rattle.kp_object_defs.specs.SlicesNow.{after_packing}
-use Rattle.kp_controller.proofs.OneMore.{element_in, one_more}
+use Rattle.kp_controller.proofs.OneMore.{one_more}
 use Rattle.kp_controller.proofs.step.pack_services.Goals.{then-has_selector+in_ok-pack_service, else-has_selector}
 use Rattle.kp_controller.proofs.step.pack_services.Goals as goal
-
-pub pack_service-requires-clause-stored : goal.pack_service-requires-clause-stored
-pack_service-requires-clause-stored c =
-    c.requires.stored c.service-item.result.now
-    (element_in (λ s. s.now) c.args.services.now c.loop-service.service-index c.service-item.result c.loop-service-test.true c.service-item.is)
 
 pub loop-service-preserved : goal.loop-service-preserved
 loop-service-preserved c =

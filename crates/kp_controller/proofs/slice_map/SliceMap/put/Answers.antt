@@ -9,13 +9,14 @@ use Rattle.kp_controller.proofs.slice_map.SliceMap.put.Goals as goal
 
 pub returns-clause-ok : goal.returns-clause-ok
 returns-clause-ok c =
-    inserted key_total key_tree_ties key_exact c.self.inside.entries.entries c.insert.new.self.entries c.in_ok-copy.field-0 c.args.slice c.in_ok-insert.ensures.updates.0
-    ∙ (λ i. finite.insert (c.self.view_is i) (c.in_ok-copy.ensures i) c.args.slice)
+    let own_key = c.in_ok-key.ensures ∙ ap (λ (s : Slice). s.key) c.get.ensures in
+    inserted key_total key_tree_ties key_exact c.self.inside.entries.entries c.insert.new.self.entries c.in_ok-key.key c.args.slice c.in_ok-insert.ensures.updates.0
+    ∙ (λ i. finite.insert (c.self.view_is i) (own_key i) c.args.slice)
 
 pub invariant_of-self-2 : goal.invariant_of-self-2
 invariant_of-self-2 c =
     let old = finite.from_entries {R = key_cmp} c.self.inside.entries.entries in
     of_inserted (λ (s : Slice). s.key) old (finite.from_entries {R = key_cmp} c.insert.new.self.entries) c.args.slice
-    (inserted key_total key_tree_ties key_exact c.self.inside.entries.entries c.insert.new.self.entries c.in_ok-copy.field-0 c.args.slice c.in_ok-insert.ensures.updates.0
-    ∙ ap (λ k. finite.insert old k c.args.slice) c.in_ok-copy.ensures)
+    (inserted key_total key_tree_ties key_exact c.self.inside.entries.entries c.insert.new.self.entries c.in_ok-key.key c.args.slice c.in_ok-insert.ensures.updates.0
+    ∙ ap (λ k. finite.insert old k c.args.slice) (c.in_ok-key.ensures ∙ ap (λ (s : Slice). s.key) c.get.ensures))
     c.self.invariant
