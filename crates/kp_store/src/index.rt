@@ -213,11 +213,7 @@ fn add_bucket<T: Eq + Hash + Copied>(
 }
 
 /// Removes a key from the bucket of a tag, and the bucket with its last key.
-fn remove_key<T: Eq + Hash + Drop>(
-    buckets: &mut IndexMap<T, Bucket>,
-    tag: &T,
-    key: &ObjectKey,
-)
+fn remove_key<T: Eq + Hash + Drop>(buckets: &mut IndexMap<T, Bucket>, tag: &T, key: &ObjectKey)
     ensures keys { (t : T) (k : ObjectKey) → has T.eq buckets.new.entries t k
         ≡ not (is_pair T.eq tag.now key.now t k) && has T.eq buckets.old.entries t k }
     ensures filled { AreFilled T.eq buckets.old.entries → AreFilled T.eq buckets.new.entries }

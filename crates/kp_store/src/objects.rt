@@ -30,7 +30,12 @@ pub struct Objects {
 
 impl Drop for Objects {
     fn drop(self) {
-        let Objects { services, slices, pods, nodes } = self;
+        let Objects {
+            services,
+            slices,
+            pods,
+            nodes,
+        } = self;
     }
 }
 

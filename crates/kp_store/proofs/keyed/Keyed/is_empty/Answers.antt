@@ -6,6 +6,7 @@ use Rattle.kp_store.proofs.keyed.Keyed.is_empty.Goals as goal
 
 pub returns : goal.returns
 returns g c =
-    let es = c.self.inside.entries.entries in
-    ((λ is. sym c.self.view_is ∙ ap (λ es. finite.from_entries {R = key_cmp} es) (no_length es (c.is_empty.ensures.0 is))),
-    (λ none. c.is_empty.ensures.1 (ap length (no_entries es (c.self.view_is ∙ none)))))
+    let es = c.self.inside.entries.entries in (
+      (λ is. sym c.self.view_is ∙ ap (λ es. finite.from_entries {R = key_cmp} es) (no_length es (c.is_empty.ensures.0 is))),
+      (λ none. c.is_empty.ensures.1 (ap length (no_entries es (c.self.view_is ∙ none)))),
+    )
