@@ -63,19 +63,19 @@ went_on keeps e jump s then to rules from place rule limit heading is next =
     ∙ sym (rules_from e jump s rules from place rule limit (subst (λ d. IsNext d rules from place rule limit) heading is))
 
 -- an outcome other than Next stays
-stays : (keeps : Bool) (header : Header) (flow : Flow) (path : List (List ℕ)) (lists : RecentParts) (o : Outcome) (next : WalkState → Outcome) → ((p : Progress) → flow ≡ Next p → ⊥) → outcome_of header flow path lists ≡ shorn keeps o → outcome_of header flow path lists ≡ shorn keeps (and_then o next)
-stays keeps header (Next p) path lists o next other is = absurd (other p refl)
-stays keeps header (Left p) path lists (walk.Next s) next other is = cc
-stays keeps header (Ended end p) path lists (walk.Next s) next other is = cc
-stays keeps header Stuck path lists (walk.Next s) next other is = cc
-stays keeps header flow path lists (walk.Left s) next other is = is
-stays keeps header flow path lists (walk.Ended end way s) next other is = is
-stays keeps header flow path lists walk.Stuck next other is = is
+stays : (keeps : Bool) (header : Header) (flow : Flow) (p : Progress) (path : List (List ℕ)) (lists : RecentParts) (o : Outcome) (next : WalkState → Outcome) → (flow ≡ Next → ⊥) → outcome_of header flow p path lists ≡ shorn keeps o → outcome_of header flow p path lists ≡ shorn keeps (and_then o next)
+stays keeps header Next p path lists o next other is = absurd (other refl)
+stays keeps header Left p path lists (walk.Next s) next other is = cc
+stays keeps header Ended p path lists (walk.Next s) next other is = cc
+stays keeps header Stuck p path lists (walk.Next s) next other is = cc
+stays keeps header flow p path lists (walk.Left s) next other is = is
+stays keeps header flow p path lists (walk.Ended end way s) next other is = is
+stays keeps header flow p path lists walk.Stuck next other is = is
 
 -- a rule that doesn't go on is the outcome of the rules from a place on
-pub ended_here : (keeps : Bool) (e : Surroundings) (jump : List ℕ → WalkState → Outcome) (s : WalkState) (to : Destination) (rules : List Rule) (from place : ℕ) (rule : Rule) (limit : Option ℕ) (header : Header) (flow : Flow) (path : List (List ℕ)) (lists : RecentParts) → to ≡ destination_in e s → IsNext to rules from place rule limit → ((p : Progress) → flow ≡ Next p → ⊥) → outcome_of header flow path lists ≡ shorn keeps (rule_outcome e jump rule s) → outcome_of header flow path lists ≡ shorn keeps (rules_outcome e jump (drop from rules) s)
-ended_here keeps e jump s to rules from place rule limit header flow path lists heading next other is =
-    stays keeps header flow path lists (rule_outcome e jump rule s) (rules_outcome e jump (drop (place + 1) rules)) other is
+pub ended_here : (keeps : Bool) (e : Surroundings) (jump : List ℕ → WalkState → Outcome) (s : WalkState) (to : Destination) (rules : List Rule) (from place : ℕ) (rule : Rule) (limit : Option ℕ) (header : Header) (flow : Flow) (p : Progress) (path : List (List ℕ)) (lists : RecentParts) → to ≡ destination_in e s → IsNext to rules from place rule limit → (flow ≡ Next → ⊥) → outcome_of header flow p path lists ≡ shorn keeps (rule_outcome e jump rule s) → outcome_of header flow p path lists ≡ shorn keeps (rules_outcome e jump (drop from rules) s)
+ended_here keeps e jump s to rules from place rule limit header flow p path lists heading next other is =
+    stays keeps header flow p path lists (rule_outcome e jump rule s) (rules_outcome e jump (drop (place + 1) rules)) other is
     ∙ ap (shorn keeps) (sym (rules_from e jump s rules from place rule limit (subst (λ d. IsNext d rules from place rule limit) heading next)))
 
 -- behind a jump nothing more is told of an outcome

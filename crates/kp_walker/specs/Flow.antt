@@ -9,20 +9,22 @@ use Rattle.kp_walker.specs.Surroundings.{surroundings_of, lookup_of}
 use Rattle.kp_walker.specs.declared.header.Header.{Header}
 use Rattle.kp_walker.specs.declared.hook.Hook.{Hook}
 use Rattle.kp_walker.specs.declared.flow.Flow.{Flow}
+use Rattle.kp_walker.specs.declared.progress.Progress.{Progress}
 use Rattle.kp_walker.specs.declared.flow.Flow.TheVariants.{Next, Left, Ended, Stuck}
 
--- the outcome that a flow stands for, where a traversal was ended on the way through these chains
-abbrev pub outcome_of : Header → Flow → List (List ℕ) → RecentParts → walk.Outcome
-outcome_of header (Next p) path lists = walk.Next (state_of header p lists)
-outcome_of header (Left p) path lists = walk.Left (state_of header p lists)
-outcome_of header (Ended end p) path lists = walk.Ended end path (state_of header p lists)
-outcome_of header Stuck path lists = walk.Stuck
+-- the outcome that a flow stands for with the progress by then, where a traversal was ended on the way through these
+-- chains
+abbrev pub outcome_of : Header → Flow → Progress → List (List ℕ) → RecentParts → walk.Outcome
+outcome_of header Next p path lists = walk.Next (state_of header p lists)
+outcome_of header Left p path lists = walk.Left (state_of header p lists)
+outcome_of header Ended p path lists = walk.Ended p.ending path (state_of header p lists)
+outcome_of header Stuck p path lists = walk.Stuck
 
 -- the way has chains only where a traversal was ended, and at most so many
 abbrev pub IsThrough : Flow → ℕ → List (List ℕ) → Type 0
-IsThrough (Next p) n path = path ≡ []
-IsThrough (Left p) n path = path ≡ []
-IsThrough (Ended end p) n path = length path ≤ n
+IsThrough Next n path = path ≡ []
+IsThrough Left n path = path ≡ []
+IsThrough Ended n path = length path ≤ n
 IsThrough Stuck n path = path ≡ []
 
 -- what a jump does, with at most so many chains on the way

@@ -1,9 +1,9 @@
 -- What a packet's progress through the rules of a hook means in the walk, with the recent lists by then.
+use Rattle.std.specs.Prelude.{Bool}
 use Rattle.kp_choice_defs.specs.Recent.{RecentParts}
 use Rattle.kp_table_defs.specs.Matching as walk
 use Rattle.kp_walker.specs.declared.header.Header.{Header}
 use Rattle.kp_walker.specs.declared.progress.Progress.{Progress}
-use Rattle.kp_walker.specs.declared.progress.Tried.{Tried}
 
 -- the state of a packet with these recent lists
 abbrev pub state_of : Header → Progress → RecentParts → walk.WalkState
@@ -17,5 +17,5 @@ state_of header p lists = record {
 }
 
 -- matches that were tried
-abbrev pub tried_of : Header → Tried → RecentParts → walk.Tried
-tried_of header t lists = record { holds = t.holds; state = state_of header t.progress lists }
+abbrev pub tried_of : Header → Bool → Progress → RecentParts → walk.Tried
+tried_of header holds p lists = record { holds = holds; state = state_of header p lists }

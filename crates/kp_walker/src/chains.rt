@@ -29,7 +29,7 @@ impl<F: Fn(u64, u32) -> u32> Hook<'_, F> {
         found: Option<&Chain>,
         chain: &ChainName,
         depth: usize,
-        progress: Progress,
+        progress: &mut Progress,
         lists: &mut RecentLists,
         recorder: &mut R,
     ) -> Result<Flow, NoMemory>
@@ -41,14 +41,15 @@ impl<F: Fn(u64, u32) -> u32> Hook<'_, F> {
         requires room { depth ≤ 8 }
         ensures outcome { IfOk result (λ flow. (draws : _)
             → AreDraws (F.post self.now.around.now.draws.now) self.now.around.now.number draws
-            → outcome_of self.now.header flow (R.way recorder.new) lists.new ≡ shorn R.keeps
+            → outcome_of self.now.header flow progress.new (R.way recorder.new) lists.new
+            ≡ shorn R.keeps
             (jump_of self.now draws depth chain.now
-            (state_of self.now.header progress lists.old))) }
+            (state_of self.now.header progress.old lists.old))) }
         ensures way { IfOk result (λ flow. IsThrough flow depth (R.way recorder.new)) }
         ensures refused { OnErr result ((draws : _)
             → AreDraws (F.post self.now.around.now.draws.now) self.now.around.now.number draws
             → sets_of self.now draws depth chain.now
-            (state_of self.now.header progress lists.old) lists.new) }
+            (state_of self.now.header progress.old lists.old) lists.new) }
         ensures trail { R.trail recorder.new ≡ R.trail recorder.old }
     {
         if depth == 0 {
@@ -70,7 +71,7 @@ impl<F: Fn(u64, u32) -> u32> Hook<'_, F> {
         &self,
         chain: &Chain,
         depth: usize,
-        progress: Progress,
+        progress: &mut Progress,
         lists: &mut RecentLists,
         recorder: &mut R,
     ) -> Result<Flow, NoMemory>
@@ -80,30 +81,29 @@ impl<F: Fn(u64, u32) -> u32> Hook<'_, F> {
         requires room { depth < 8 }
         ensures outcome { IfOk result (λ flow. (draws : _)
             → AreDraws (F.post self.now.around.now.draws.now) self.now.around.now.number draws
-            → outcome_of self.now.header flow (R.way recorder.new) lists.new ≡ shorn R.keeps
+            → outcome_of self.now.header flow progress.new (R.way recorder.new) lists.new
+            ≡ shorn R.keeps
             (rules_outcome (surroundings_of self.now.around.now draws)
             (jump_of self.now draws depth) chain.now
-            (state_of self.now.header progress lists.old))) }
+            (state_of self.now.header progress.old lists.old))) }
         ensures way { IfOk result (λ flow. IsThrough flow depth (R.way recorder.new)) }
         ensures refused { OnErr result ((draws : _)
             → AreDraws (F.post self.now.around.now.draws.now) self.now.around.now.number draws
             → RulesSet (surroundings_of self.now.around.now draws) (jump_of self.now draws depth)
             (sets_of self.now draws depth) chain.now
-            (state_of self.now.header progress lists.old) lists.new) }
+            (state_of self.now.header progress.old lists.old) lists.new) }
         ensures trail { R.trail recorder.new ≡ R.trail recorder.old }
     {
         let to = self.destination();
-        let mut progress = progress;
         let mut from = 0;
         while let Some(next) = next_rule(chain, from, &to) {
             let flow = self.run_rule(&next, depth, progress, lists, recorder)?;
             match flow {
-                Flow::Next(after) => progress = after,
+                Flow::Next => from = next.place + 1,
                 _ => return Ok(flow),
             }
-            from = next.place + 1;
         }
-        Ok(Flow::Next(progress))
+        Ok(Flow::Next)
     }
 
     /// Walks one rule: its target, where its matches hold.
@@ -112,7 +112,7 @@ impl<F: Fn(u64, u32) -> u32> Hook<'_, F> {
         &self,
         next: &NextRule<'_>,
         depth: usize,
-        progress: Progress,
+        progress: &mut Progress,
         lists: &mut RecentLists,
         recorder: &mut R,
     ) -> Result<Flow, NoMemory>
@@ -123,34 +123,55 @@ impl<F: Fn(u64, u32) -> u32> Hook<'_, F> {
         requires ready { next.now.limit ≡ limit_of next.now.rule.now }
         ensures outcome { IfOk result (λ flow. (draws : _)
             → AreDraws (F.post self.now.around.now.draws.now) self.now.around.now.number draws
-            → outcome_of self.now.header flow (R.way recorder.new) lists.new ≡ shorn R.keeps
+            → outcome_of self.now.header flow progress.new (R.way recorder.new) lists.new
+            ≡ shorn R.keeps
             (rule_outcome (surroundings_of self.now.around.now draws)
             (jump_of self.now draws depth) next.now.rule.now
-            (state_of self.now.header progress lists.old))) }
+            (state_of self.now.header progress.old lists.old))) }
         ensures way { IfOk result (λ flow. IsThrough flow depth (R.way recorder.new)) }
         ensures refused { OnErr result ((draws : _)
             → AreDraws (F.post self.now.around.now.draws.now) self.now.around.now.number draws
             → RuleSets (surroundings_of self.now.around.now draws) (sets_of self.now draws depth)
-            next.now.rule.now (state_of self.now.header progress lists.old) lists.new) }
+            next.now.rule.now (state_of self.now.header progress.old lists.old) lists.new) }
         ensures trail { R.trail recorder.new ≡ R.trail recorder.old }
     {
-        let tried = self.try_rule(next.rule, next.limit, progress, lists)?;
-        if !tried.holds {
-            return Ok(Flow::Next(tried.progress));
+        if !self.try_rule(next.rule, next.limit, progress, lists)? {
+            return Ok(Flow::Next);
         }
         match &next.rule.target {
             Target::Jump(chain) => {
                 let found = self.jumped(next, chain);
-                self.run_chain(found, chain, depth, tried.progress, lists, recorder)
+                self.run_chain(found, chain, depth, progress, lists, recorder)
             }
-            Target::Return => Ok(Flow::Left(tried.progress)),
-            Target::Accept => Ok(Flow::Ended(Ending::Accept, tried.progress)),
-            Target::Drop => Ok(Flow::Ended(Ending::Drop, tried.progress)),
-            Target::Reject => Ok(Flow::Ended(Ending::Reject, tried.progress)),
-            Target::SetMark => Ok(Flow::Next(tried.progress.with_mark(true))),
-            Target::FlipMark => Ok(Flow::Next(tried.progress.with_mark(!tried.progress.marked))),
-            Target::Dnat(endpoint) => Ok(Flow::Ended(Ending::Dnat(*endpoint), tried.progress)),
-            Target::Masquerade => Ok(Flow::Ended(Ending::Masquerade, tried.progress)),
+            Target::Return => Ok(Flow::Left),
+            Target::SetMark => {
+                progress.marked = true;
+                Ok(Flow::Next)
+            }
+            Target::FlipMark => {
+                progress.marked = !progress.marked;
+                Ok(Flow::Next)
+            }
+            Target::Accept => {
+                progress.ending = Ending::Accept;
+                Ok(Flow::Ended)
+            }
+            Target::Drop => {
+                progress.ending = Ending::Drop;
+                Ok(Flow::Ended)
+            }
+            Target::Reject => {
+                progress.ending = Ending::Reject;
+                Ok(Flow::Ended)
+            }
+            Target::Dnat(endpoint) => {
+                progress.ending = Ending::Dnat(*endpoint);
+                Ok(Flow::Ended)
+            }
+            Target::Masquerade => {
+                progress.ending = Ending::Masquerade;
+                Ok(Flow::Ended)
+            }
         }
     }
 

@@ -218,9 +218,9 @@ impl<F: Fn(u64, u32) -> u32> Surroundings<'_, F> {
             chain: chain.same(),
         };
         let found = self.chains.walked(&at);
-        let (progress, recorder) = (journey.progress, &mut journey.recorder);
-        let flow = hook.run_chain(found, chain, MOST_CHAINS, progress, lists, recorder)?;
-        journey.after_hook(stage, flow);
+        let (mut progress, recorder) = (journey.progress, &mut journey.recorder);
+        let flow = hook.run_chain(found, chain, MOST_CHAINS, &mut progress, lists, recorder)?;
+        journey.after_hook(stage, flow, progress);
         Ok(())
     }
 }

@@ -49,6 +49,7 @@ impl<R: Recorder> Journey<R> {
             progress: Progress {
                 marked: false,
                 used: 0,
+                ending: Ending::Accept,
             },
             translated: None,
             masked: false,
@@ -58,12 +59,13 @@ impl<R: Recorder> Journey<R> {
     }
 
     /// Takes in how a hook went. Where a rule ended it, its way goes into the trail.
-    pub(crate) fn after_hook(&mut self, stage: Stage, flow: Flow)
+    pub(crate) fn after_hook(&mut self, stage: Stage, flow: Flow, progress: Progress)
         requires room { length (R.trail self.old.recorder) < 4 }
         requires way { IsThrough flow 8 (R.way self.old.recorder) }
         ensures hook { (j : walk.Journey) (o : walk.Outcome) (before lists : RecentParts)
             → journey_of R.trail self.old before ≡ told R.keeps j
-            → outcome_of self.old.header flow (R.way self.old.recorder) lists ≡ shorn R.keeps o
+            → outcome_of self.old.header flow progress (R.way self.old.recorder) lists
+            ≡ shorn R.keeps o
             → (o ≡ walk.Stuck → ⊥)
             → journey_of R.trail self.new lists
             ≡ told R.keeps (walk.after_hook (stage_of stage) j o) }
@@ -71,8 +73,9 @@ impl<R: Recorder> Journey<R> {
         ensures way { R.way self.new.recorder ≡ [] }
     {
         match flow {
-            Flow::Next(progress) | Flow::Left(progress) => self.progress = progress,
-            Flow::Ended(ending, progress) => {
+            Flow::Next | Flow::Left => self.progress = progress,
+            Flow::Ended => {
+                let ending = progress.ending;
                 self.progress = progress;
                 self.recorder.end_hook();
                 self.ended_by(stage, ending);

@@ -10,7 +10,7 @@ ghost use Rattle.kp_walker.specs.Surroundings.{surroundings_of};
 
 use crate::hook::Hook;
 use crate::local::is_local;
-use crate::progress::{Progress, Tried};
+use crate::progress::Progress;
 use kp_base::NoMemory;
 use kp_recent::RecentLists;
 use kp_types::{ChainName, Match, Rule};
@@ -21,21 +21,21 @@ impl<F: Fn(u64, u32) -> u32> Hook<'_, F> {
         &self,
         rule: &Rule,
         limit: Option<u32>,
-        progress: Progress,
+        progress: &mut Progress,
         lists: &mut RecentLists,
-    ) -> Result<Tried, NoMemory>
+    ) -> Result<bool, NoMemory>
         requires stated { IsStated (F.pre self.now.around.now.draws.now)
             (F.post self.now.around.now.draws.now) }
         requires limit { limit ≡ limit_of rule.now }
-        ensures ok { IfOk result (λ t. (draws : _)
+        ensures ok { IfOk result (λ holds. (draws : _)
             → AreDraws (F.post self.now.around.now.draws.now) self.now.around.now.number draws
-            → tried_of self.now.header t lists.new
+            → tried_of self.now.header holds progress.new lists.new
             ≡ walk.try_all (surroundings_of self.now.around.now draws) rule.now.matches.items
-            (state_of self.now.header progress lists.old)) }
+            (state_of self.now.header progress.old lists.old)) }
         ensures err { OnErr result ((draws : _)
             → AreDraws (F.post self.now.around.now.draws.now) self.now.around.now.number draws
             → MatchesSet (surroundings_of self.now.around.now draws) rule.now.matches.items
-            (state_of self.now.header progress lists.old) lists.new) }
+            (state_of self.now.header progress.old lists.old) lists.new) }
     {
         match limit {
             None => self.try_all(rule.matches.as_slice(), progress, lists),
@@ -44,50 +44,45 @@ impl<F: Fn(u64, u32) -> u32> Hook<'_, F> {
     }
 
     /// Compares the next draw with a limit.
-    fn try_limit(&self, limit: u32, progress: Progress) -> Tried
+    fn try_limit(&self, limit: u32, progress: &mut Progress) -> bool
         requires { IsStated (F.pre self.now.around.now.draws.now)
             (F.post self.now.around.now.draws.now) }
         ensures { (draws lists : _)
             → AreDraws (F.post self.now.around.now.draws.now) self.now.around.now.number draws
-            → tried_of self.now.header result lists
-            ≡ walk.tried_as (walk.with_draw (state_of self.now.header progress lists))
-            (nat_lt (draw_at draws progress.used) limit) }
+            → tried_of self.now.header result progress.new lists
+            ≡ walk.tried_as (walk.with_draw (state_of self.now.header progress.old lists))
+            (nat_lt (draw_at draws progress.old.used) limit) }
     {
         let draw = self.around.draws.draw(self.around.number, progress.used);
-        progress.drawn(draw < limit)
+        progress.use_draw();
+        draw < limit
     }
 
     /// Tries matches from the left, up to the first that fails.
     fn try_all(
         &self,
         matches: &[Match],
-        progress: Progress,
+        progress: &mut Progress,
         lists: &mut RecentLists,
-    ) -> Result<Tried, NoMemory>
+    ) -> Result<bool, NoMemory>
         requires { IsStated (F.pre self.now.around.now.draws.now)
             (F.post self.now.around.now.draws.now) }
-        ensures ok { IfOk result (λ t. (draws : _)
+        ensures ok { IfOk result (λ holds. (draws : _)
             → AreDraws (F.post self.now.around.now.draws.now) self.now.around.now.number draws
-            → tried_of self.now.header t lists.new
+            → tried_of self.now.header holds progress.new lists.new
             ≡ walk.try_all (surroundings_of self.now.around.now draws) matches.now
-            (state_of self.now.header progress lists.old)) }
+            (state_of self.now.header progress.old lists.old)) }
         ensures err { OnErr result ((draws : _)
             → AreDraws (F.post self.now.around.now.draws.now) self.now.around.now.number draws
             → MatchesSet (surroundings_of self.now.around.now draws) matches.now
-            (state_of self.now.header progress lists.old) lists.new) }
+            (state_of self.now.header progress.old lists.old) lists.new) }
     {
-        let mut progress = progress;
         for matched in matches {
-            let tried = self.try_match(matched, progress, lists)?;
-            if !tried.holds {
-                return Ok(tried);
+            if !self.try_match(matched, progress, lists)? {
+                return Ok(false);
             }
-            progress = tried.progress;
         }
-        Ok(Tried {
-            holds: true,
-            progress,
-        })
+        Ok(true)
     }
 
     /// Tries one match. A draw counts as used whether or not the test holds. Only a set of a source
@@ -95,56 +90,51 @@ impl<F: Fn(u64, u32) -> u32> Hook<'_, F> {
     fn try_match(
         &self,
         matched: &Match,
-        progress: Progress,
+        progress: &mut Progress,
         lists: &mut RecentLists,
-    ) -> Result<Tried, NoMemory>
+    ) -> Result<bool, NoMemory>
         requires { IsStated (F.pre self.now.around.now.draws.now)
             (F.post self.now.around.now.draws.now) }
-        ensures ok { IfOk result (λ t. (draws : _)
+        ensures ok { IfOk result (λ holds. (draws : _)
             → AreDraws (F.post self.now.around.now.draws.now) self.now.around.now.number draws
-            → tried_of self.now.header t lists.new
+            → tried_of self.now.header holds progress.new lists.new
             ≡ walk.try_match (surroundings_of self.now.around.now draws) matched.now
-            (state_of self.now.header progress lists.old)) }
+            (state_of self.now.header progress.old lists.old)) }
         ensures err { OnErr result
-            (MatchSets matched.now (state_of self.now.header progress lists.old) lists.new) }
+            (MatchSets matched.now (state_of self.now.header progress.old lists.old) lists.new) }
     {
         match matched {
             Match::Statistic { p } => Ok(self.try_draw(*p, progress)),
-            Match::Seen { list, seconds } => {
-                Ok(progress.tried(self.look_up(list, *seconds, lists)))
-            }
+            Match::Seen { list, seconds } => Ok(self.look_up(list, *seconds, lists)),
             Match::SetSeen { list } => {
                 lists.set(list, &self.header.source, self.around.packet.now)?;
-                Ok(progress.tried(true))
+                Ok(true)
             }
-            Match::Src { range, not } => {
-                Ok(progress.tried(range.contains(&self.header.source) != *not))
+            Match::Src { range, not } => Ok(range.contains(&self.header.source) != *not),
+            Match::Dst { range, not } => Ok(range.contains(&self.header.target) != *not),
+            Match::Proto { proto } => Ok(*proto == self.around.packet.proto),
+            Match::Port { proto, port } => {
+                Ok(*proto == self.around.packet.proto && *port == self.header.port)
             }
-            Match::Dst { range, not } => {
-                Ok(progress.tried(range.contains(&self.header.target) != *not))
-            }
-            Match::Proto { proto } => Ok(progress.tried(*proto == self.around.packet.proto)),
-            Match::Port { proto, port } => Ok(progress.tried(
-                *proto == self.around.packet.proto && *port == self.header.port,
-            )),
-            Match::SrcLocal => Ok(progress.tried(is_local(self.around.node, &self.header.source))),
-            Match::DstLocal => Ok(progress.tried(is_local(self.around.node, &self.header.target))),
-            Match::Marked { not } => Ok(progress.tried(progress.marked != *not)),
+            Match::SrcLocal => Ok(is_local(self.around.node, &self.header.source)),
+            Match::DstLocal => Ok(is_local(self.around.node, &self.header.target)),
+            Match::Marked { not } => Ok(progress.marked != *not),
         }
     }
 
     /// Tries a statistic match by the next draw.
-    fn try_draw(&self, p: u64, progress: Progress) -> Tried
+    fn try_draw(&self, p: u64, progress: &mut Progress) -> bool
         requires { IsStated (F.pre self.now.around.now.draws.now)
             (F.post self.now.around.now.draws.now) }
         ensures { (draws lists : _)
             → AreDraws (F.post self.now.around.now.draws.now) self.now.around.now.number draws
-            → tried_of self.now.header result lists
+            → tried_of self.now.header result progress.new lists
             ≡ walk.try_match (surroundings_of self.now.around.now draws) (Match.Statistic p)
-            (state_of self.now.header progress lists) }
+            (state_of self.now.header progress.old lists) }
     {
         let draw = self.around.draws.draw(self.around.number, progress.used);
-        progress.drawn(is_drawn(p, draw))
+        progress.use_draw();
+        is_drawn(p, draw)
     }
 
     /// Whether the source is in the list within the timeout. What is past it is dropped.

@@ -14,7 +14,7 @@ run_chain-returns-in-None-clause-outcome g t c draws drawn =
     let h = c.args.self.now in
     ap (shorn g.R.Recorder.keeps)
     (chain_found (surroundings_of h.around.now draws) (lookup_of h.around.now) h.table c.args.depth (c.args.depth - 1)
-    c.args.chain.now (state_of h.header c.args.progress c.args.lists.now) None (omega arith)
+    c.args.chain.now (state_of h.header c.args.progress.now c.args.lists.now) None (omega arith)
     (sym (ap option_copied c.in-None.is) ∙ c.requires.found))
 
 -- what the chain's rules do, and back behind the jump
@@ -22,10 +22,10 @@ pub run_chain-returns-in_ok-flow-in-Some-clause-outcome : goal.run_chain-returns
 run_chain-returns-in_ok-flow-in-Some-clause-outcome g t c draws drawn =
     let h = c.args.self.now in
     let e = surroundings_of h.around.now draws in
-    let s = state_of h.header c.args.progress c.args.lists.now in
+    let s = state_of h.header c.args.progress.now c.args.lists.now in
     let keeps = g.R.Recorder.keeps in
     let less = c.args.depth - 1 in
-    c.returned_from.ensures.outcome h.header c.run_rules.new.lists
+    c.returned_from.ensures.outcome h.header c.run_rules.new.progress c.run_rules.new.lists
     ∙ ap (λ o. shorn keeps (returned_from c.args.chain.now o)) (c.in_ok-flow-in-Some.ensures.outcome draws drawn)
     ∙ shorn_returned keeps c.args.chain.now (rules_outcome e (jump_of h draws less) c.in-Some.found.now s)
     ∙ ap (shorn keeps) (chain_found e (lookup_of h.around.now) h.table c.args.depth less c.args.chain.now s
@@ -36,7 +36,7 @@ pub run_chain-returns-in_err-flow-in-Some-clause-refused : goal.run_chain-return
 run_chain-returns-in_err-flow-in-Some-clause-refused g t c = on_err c.from_residual.result (λ draws drawn.
     let h = c.args.self.now in
     let e = surroundings_of h.around.now draws in
-    let s = state_of h.header c.args.progress c.args.lists.now in
+    let s = state_of h.header c.args.progress.now c.args.lists.now in
     let less = c.args.depth - 1 in
     chain_sets e (lookup_of h.around.now) h.table c.args.depth less c.args.chain.now s c.run_rules.new.lists
     (Some c.in-Some.found.now) (omega arith) (sym (ap option_copied c.in-Some.is) ∙ c.requires.found)
@@ -59,13 +59,13 @@ run_rules-loop-next-preserved g t c =
     let h = c.args.self.now in
     let n = c.in-Some.next in
     let s = state_of h.header c.loop-next.progress c.loop-next.lists in
-    let then = state_of h.header c.in-Next.after c.run_rule.new.lists in
+    let then = state_of h.header c.run_rule.new.progress c.run_rule.new.lists in
     record {
       same = λ draws drawn.
           went_on g.R.Recorder.keeps (surroundings_of h.around.now draws) (jump_of h draws c.args.depth) s then
           c.destination-to.result c.args.chain.now c.loop-next.from n.place n.rule.now n.limit c.destination-to.ensures
           c.in-Some.ensures.next
-          (sym (ap (λ f. outcome_of h.header f (g.R.Recorder.way c.run_rule.new.recorder) c.run_rule.new.lists) c.in-Next.is)
+          (sym (ap (λ f. outcome_of h.header f c.run_rule.new.progress (g.R.Recorder.way c.run_rule.new.recorder) c.run_rule.new.lists) c.in-Next.is)
           ∙ c.in_ok-flow.ensures.outcome draws drawn)
           ∙ c.loop-next.invariant.same draws drawn;
       sets = λ draws drawn left set.
@@ -74,7 +74,7 @@ run_rules-loop-next-preserved g t c =
           s then c.destination-to.result c.args.chain.now c.loop-next.from n.place n.rule.now n.limit left
           c.destination-to.ensures c.in-Some.ensures.next
           (went_next g.R.Recorder.keeps _ then
-          (sym (ap (λ f. outcome_of h.header f (g.R.Recorder.way c.run_rule.new.recorder) c.run_rule.new.lists) c.in-Next.is)
+          (sym (ap (λ f. outcome_of h.header f c.run_rule.new.progress (g.R.Recorder.way c.run_rule.new.recorder) c.run_rule.new.lists) c.in-Next.is)
           ∙ c.in_ok-flow.ensures.outcome draws drawn))
           set);
       new = subst (λ f. IsThrough f c.args.depth (g.R.Recorder.way c.run_rule.new.recorder)) c.in-Next.is
@@ -90,7 +90,7 @@ run_rules-returns-in_default-flow g t c = record {
       let n = c.in-Some.next in
       ended_here g.R.Recorder.keeps (surroundings_of h.around.now draws) (jump_of h draws c.args.depth)
       (state_of h.header c.loop-next.progress c.loop-next.lists) c.destination-to.result c.args.chain.now c.loop-next.from
-      n.place n.rule.now n.limit h.header c.in_ok-flow.flow (g.R.Recorder.way c.run_rule.new.recorder)
+      n.place n.rule.now n.limit h.header c.in_ok-flow.flow c.run_rule.new.progress (g.R.Recorder.way c.run_rule.new.recorder)
       c.run_rule.new.lists c.destination-to.ensures c.in-Some.ensures.next c.in_default-flow.not-Next
       (c.in_ok-flow.ensures.outcome draws drawn)
       ∙ ap (shorn g.R.Recorder.keeps) (c.loop-next.invariant.same draws drawn);
