@@ -1,7 +1,8 @@
 -- Chains and rules, one step at a time.
+use Rattle.std.proofs.lemmas.Bool.{eqb-true}
 use Rattle.std.proofs.lemmas.List.{at_drop_more}
 use Rattle.std.proofs.lemmas.Option.{unwrap_or-slice_get}
-use Rattle.std.proofs.Common.{◌≡◌, ℕ, zero, suc, ◌+◌, Bool, true, false, List, [], ◌∷◌, ◌++◌, Option, Some, None, is_some, drop, get_or, slice_get, unwrap_or, refl, sym, ap, subst, ◌∙◌, arith}
+use Rattle.std.proofs.Common.{◌≡◌, ℕ, zero, suc, ◌+◌, Bool, true, false, List, [], ◌∷◌, ◌++◌, Option, Some, None, is_some, drop, get_or, length, ◌==◌, slice_get, unwrap_or, refl, sym, ap, subst, ◌∙◌, arith}
 use Rattle.kp_types.specs.declared.chain.ChainAt.{ChainAt}
 use Rattle.kp_types.specs.declared.chain.TableName.{TableName}
 use Rattle.kp_types.specs.declared.packet.Packet.{Packet}
@@ -32,6 +33,11 @@ chain_found e at table (suc n) less chain s found room look =
     let same : less ≡ n = omega (arith, room) in
     ap (λ m. found_outcome e (chain_outcome e at table m) chain found s) same
     ∙ ap (λ f. found_outcome e (chain_outcome e at table n) chain f s) look
+
+-- a chain that is found without rules is left at once
+pub nothing_done : (e : Surroundings) (at : ChainAt → Option (List Rule)) (table : TableName) (n less : ℕ) (chain : List ℕ) (s : WalkState) (rules : List Rule) → less + 1 ≡ n → (length rules == 0) ≡ true → Some rules ≡ at (record { table = table; chain = chain }) → walk.Next s ≡ chain_outcome e at table n chain s
+nothing_done e at table n less chain s [] room none look = chain_found e at table n less chain s (Some []) room look
+nothing_done e at table n less chain s (r ∷ rs) room none look = absurd (omega (arith, eqb-true _ _ none))
 
 -- a rule that stands at a place
 pub at_place : (rules : List Rule) (place : ℕ) (rule : Rule) → slice_get rules place ≡ Some rule → rule ≡ get_or rules place rule

@@ -58,6 +58,10 @@ impl<F: Fn(u64, u32) -> u32> Hook<'_, F> {
         match found {
             None => Ok(Flow::Stuck),
             Some(found) => {
+                // Three of the chains that a packet of a Service meets have no rules.
+                if found.rules().is_empty() {
+                    return Ok(Flow::Next);
+                }
                 let flow = self.run_rules(found, depth - 1, progress, lists, recorder)?;
                 Ok(flow.returned_from(chain, recorder))
             }

@@ -1,11 +1,11 @@
-use Rattle.std.proofs.Common.{◌-◌, ◌∙◌, sym, ap, subst, arith, option_copied, None, Some}
+use Rattle.std.proofs.Common.{◌-◌, ◌∙◌, sym, ap, subst, arith, option_copied, None, Some, length, ◌==◌}
 use Rattle.kp_table_defs.specs.Walk.{rules_outcome, returned_from}
 use Rattle.kp_walker.specs.Flow.{jump_of, sets_of, outcome_of, IsThrough}
 use Rattle.kp_walker.specs.Progress.{state_of}
 use Rattle.kp_walker.specs.Shorn.{shorn}
 use Rattle.kp_walker.specs.Surroundings.{surroundings_of, lookup_of}
 use Rattle.kp_walker.proofs.SetSteps.{on_err, rule_here, rule_behind, chain_sets}
-use Rattle.kp_walker.proofs.Steps.{chain_found, none_left, went_on, went_next, ended_here, shorn_returned}
+use Rattle.kp_walker.proofs.Steps.{chain_found, nothing_done, none_left, went_on, went_next, ended_here, shorn_returned}
 use Rattle.kp_walker.proofs.hook.Hook.+walk.Goals as goal
 
 -- the jump goes to no chain
@@ -16,6 +16,16 @@ run_chain-returns-in-None-clause-outcome g t c draws drawn =
     (chain_found (surroundings_of h.around.now draws) (lookup_of h.around.now) h.table c.args.depth (c.args.depth - 1)
     c.args.chain.now (state_of h.header c.args.progress.now c.args.lists.now) None (omega arith)
     (sym (ap option_copied c.in-None.is) ∙ c.requires.found))
+
+-- the chain has no rules
+pub run_chain-returns-then-is_empty-clause-outcome : goal.run_chain-returns-then-is_empty-clause-outcome
+run_chain-returns-then-is_empty-clause-outcome g t c draws drawn =
+    let h = c.args.self.now in
+    ap (shorn g.R.Recorder.keeps)
+    (nothing_done (surroundings_of h.around.now draws) (lookup_of h.around.now) h.table c.args.depth (c.args.depth - 1)
+    c.args.chain.now (state_of h.header c.args.progress.now c.args.lists.now) c.in-Some.found.now (omega arith)
+    (ap (λ rs. length rs == 0) (sym c.rules.ensures) ∙ sym c.is_empty.ensures ∙ c.if-is_empty.true)
+    (sym (ap option_copied c.in-Some.is) ∙ c.requires.found))
 
 -- what the chain's rules do, and back behind the jump
 pub run_chain-returns-in_ok-flow-in-Some-clause-outcome : goal.run_chain-returns-in_ok-flow-in-Some-clause-outcome
