@@ -1,5 +1,5 @@
 -- The next of the rules that ask for one destination, found among the places of keyed rules.
-use Rattle.std.proofs.Common.{◌≡◌, ◌≤◌, ◌<◌, ◌&&◌, ◌==◌, ℕ, Bool, true, false, cond, List, length, Option, Some, None, option_map, slice_get, slice_index_or, nat_lt, refl, sym, ap, ◌∙◌, arith}
+use Rattle.std.proofs.Common.{◌≡◌, ◌≤◌, ◌<◌, ◌&&◌, ◌==◌, ℕ, Bool, true, false, cond, List, [], ◌∷◌, length, Option, Some, None, option_map, slice_get, slice_index_or, nat_lt, refl, sym, ap, ◌∙◌, arith}
 use Rattle.std.specs.declared.cmp.Ordering.{Ordering}
 use Rattle.std.specs.declared.cmp.Ordering.TheVariants.{Less, Equal, Greater}
 use Rattle.std.specs.Cmp.{IsStrictWeakOrder}
@@ -122,3 +122,11 @@ module _ (rules : List Rule) (keyed : List KeyedPlace) (to : Destination) (from 
   keyed_past here =
       found_none (is_place to) (λ x. is_lt (order.ghosts.cmp x (record { to = to; place = from }))) rules (asks to) keyed from i told point soon
       (λ k j y late short at is. absurd (omega (arith, past_all keyed i here, late, short)))
+
+-- no rule asks for a destination where none is keyed
+pub keyed_none : (rules : List Rule) (keyed : List KeyedPlace) (to : Destination) (from : ℕ) → AreKeyed rules keyed → length keyed ≡ 0 → next_place (asks to) rules from ≡ None
+keyed_none rules keyed to from are none = keyed_past rules keyed to from 0 are ((λ k x low high. absurd (omega (arith, high))), (λ k x low high. absurd (omega (arith, none, high)))) (past keyed none)
+  where
+    past : (es : List KeyedPlace) → length es ≡ 0 → slice_get es 0 ≡ None
+    past [] h = refl
+    past (e ∷ es) h = absurd (omega (arith, h))

@@ -91,8 +91,20 @@ pub(crate) fn earlier(one: Option<u64>, other: Option<u64>) -> Option<u64>
 }
 
 /// The least place at or after `from`, among these of a chain's rules, of one that asks for this
-/// destination.
+/// destination. Most chains have no such rules.
 pub(crate) fn next_keyed(keyed: &[KeyedPlace], from: u64, to: &Destination) -> Option<u64>
+    ensures { (rules : List Rule) → Index.AreKeyed rules keyed.now
+        → result ≡ next_place (Index.asks to.now) rules from }
+{
+    if keyed.is_empty() {
+        None
+    } else {
+        search_keyed(keyed, from, to)
+    }
+}
+
+/// The same, among all of these places.
+fn search_keyed(keyed: &[KeyedPlace], from: u64, to: &Destination) -> Option<u64>
     ensures { (rules : List Rule) → Index.AreKeyed rules keyed.now
         → result ≡ next_place (Index.asks to.now) rules from }
 {
