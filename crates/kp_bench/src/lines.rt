@@ -10,10 +10,10 @@ use std::alloc::Global;
 pub fn answered<S: Source, K: Sink>(
     alloc: Global,
     times: u32,
+    reader: &mut LineReader,
     source: &mut S,
     sink: &mut K,
 ) -> Option<u64> {
-    let mut reader = LineReader::new(alloc).ok()?;
     let mut scratch = Scratch::new(alloc);
     let mut text = String::new(alloc);
     for _ in 0..INPUT_LIMIT {

@@ -1,10 +1,19 @@
-//! Makes calls of single libraries so often, so that they can be timed from outside.
+//! Makes calls of single libraries so often, so that they can be timed from outside: a figure is the
+//! difference of two numbers of times.
 #![tactic(auto)]
 
+mod input;
 mod lines;
+mod storing;
+mod walking;
 
+use crate::input::{block_in, events, packet_in, table_of};
 use crate::lines::answered;
-use kp_io::{RealSink, RealSource, Sink, Source};
+use crate::storing::{changed, decided, read, stored};
+use crate::walking::{applied, looked_up, walked};
+use kp_io::{LineReader, RealSink, RealSource, Sink, Source};
+use kp_store::Objects;
+use kp_types::Packet;
 use std::alloc::Global;
 use std::io::BufWriter;
 use std::process::ExitCode;
@@ -23,7 +32,9 @@ fn main(rt: HostRuntime) -> io::Result<ExitCode> {
             Ok(ExitCode::SUCCESS)
         }
         None => {
-            eprintln!(rt; "usage: kp_bench lines TIMES, with packet lines as input")?;
+            eprintln!(rt;
+                "usage: kp_bench lines|read|store|pod|decide|walk|next|apply TIMES <INPUT"
+            )?;
             Ok(ExitCode::FAILURE)
         }
     }
@@ -40,8 +51,51 @@ fn counted_by<S: Source, K: Sink>(
         return None;
     };
     let times = times.parse::<u32>().ok()?;
+    let mut reader = LineReader::new(alloc).ok()?;
     match layer.as_str() {
-        "lines" => answered(alloc, times, source, sink),
+        "lines" => answered(alloc, times, &mut reader, source, sink),
+        "decide" | "walk" | "next" => {
+            let packet = packet_in(alloc, &mut reader, source)?;
+            let block = block_in(alloc, &mut reader, source)?;
+            on_packet(alloc, layer.as_str(), &packet, block.as_slice(), times)
+        }
+        "apply" => {
+            let text = block_in(alloc, &mut reader, source)?;
+            let mut table = table_of(alloc, text.as_slice())?;
+            let batch = block_in(alloc, &mut reader, source)?;
+            applied(alloc, &mut table, batch.as_slice(), times)
+        }
+        _ => {
+            let lines = block_in(alloc, &mut reader, source)?;
+            on_objects(alloc, layer.as_str(), lines.as_slice(), times)
+        }
+    }
+}
+
+/// The layers that a packet goes through: the objects of the block decide it, or it walks the table
+/// of the block.
+fn on_packet(alloc: Global, layer: &str, packet: &Packet, block: &[u8], times: u32) -> Option<u64> {
+    if layer == "decide" {
+        let events = events(alloc, block)?;
+        let objects = Objects::from_events(alloc, events.as_slice()).ok()?;
+        return decided(alloc, &objects, packet, times);
+    }
+    let table = table_of(alloc, block)?;
+    match layer {
+        "walk" => walked(alloc, &table, packet, times),
+        _ => looked_up(&table, packet, times),
+    }
+}
+
+/// The layers of objects.
+fn on_objects(alloc: Global, layer: &str, lines: &[u8], times: u32) -> Option<u64> {
+    if layer == "read" {
+        return read(alloc, lines, times);
+    }
+    let events = events(alloc, lines)?;
+    match layer {
+        "store" => stored(alloc, events.as_slice(), times),
+        "pod" => changed(alloc, events.as_slice(), times),
         _ => None,
     }
 }
