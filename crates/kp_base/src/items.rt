@@ -1,5 +1,5 @@
 //! Lists that contracts see as lists.
-ghost use Rattle.std.specs.Prelude.{◌≡◌, [], ◌∷◌, ◌++◌, OnOk, OnErr, IfErr};
+ghost use Rattle.std.specs.Prelude.{◌≡◌, ◌<◌, ◌^◌, [], ◌∷◌, ◌++◌, length, OnOk, OnErr, IfErr};
 ghost use Rattle.std.specs.Cmp.Lexicographic.{pointwise, lists_per, lists_equiv};
 
 use crate::memory::{Copied, NoMemory};
@@ -93,4 +93,11 @@ impl<T: Copied> Copied for Items<T> {
         }
         Ok(Items::from_vec(copies))
     }
+}
+
+/// A list in memory has less than 2^64 elements: what a law asks of a list that a call has at hand.
+pub fn fits_memory<T>(items: &[T])
+    ensures { length items.now < 2 ^ 64 }
+{
+    items.len();
 }

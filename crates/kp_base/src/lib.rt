@@ -26,7 +26,7 @@ pub use address::{Address, BadAddress, Family};
 pub use config::Config;
 pub use dotted::printed_addresses_are_read;
 pub use grammar::{is_label_value, is_name, is_port_name};
-pub use items::Items;
+pub use items::{Items, fits_memory};
 pub use kept::Kept;
 pub use key::{Endpoint, ObjectKey, Pair, PortKey};
 pub use memory::{Copied, NoMemory};

@@ -1,5 +1,5 @@
 //! The slices that the controller manages for one Service.
-ghost use Rattle.std.specs.Prelude.{◌≡◌, ◌<◌, ◌^◌, length, map, nat_eq, IfOk, OnOk};
+ghost use Rattle.std.specs.Prelude.{◌≡◌, map, nat_eq, IfOk, OnOk};
 ghost use Rattle.std.specs.List.{filter, starts_with};
 ghost use Rattle.kp_base.specs.declared.address.Family.TheVariants.{V4};
 ghost use Rattle.kp_object_defs.specs.Entries as entries;
@@ -11,7 +11,7 @@ ghost use Rattle.kp_object_defs.specs.SlicesNow.{after_packing};
 
 use crate::replaced::{put_all, take_all};
 use crate::slice_map::SliceMap;
-use kp_base::{Config, Copied, Items, NoMemory, ObjectKey, Text};
+use kp_base::{Config, Copied, Items, NoMemory, ObjectKey, Text, fits_memory};
 use kp_object_laws::{slices_now, wanted_endpoints};
 use kp_packer::pack;
 use kp_port_infos::wanted_of;
@@ -137,13 +137,6 @@ fn begins_with(text: &Text, front: &Text) -> bool
     text.as_str()
         .as_bytes()
         .starts_with(front.as_str().as_bytes())
-}
-
-/// A list in memory has less than 2^64 elements.
-fn fits_memory<T>(items: &[T])
-    ensures { length items.now < 2 ^ 64 }
-{
-    items.len();
 }
 
 /// The keys of slices.

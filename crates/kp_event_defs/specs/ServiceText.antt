@@ -20,7 +20,7 @@ use Rattle.kp_types.specs.declared.service.TargetPort.{TargetPort}
 use Rattle.kp_types.specs.declared.service.TargetPort.TheVariants.{Number, Named}
 use Rattle.kp_row_defs.specs.Fields.{inner, text_of, text_in, flag_in, whole_of, whole_in, items_in, is_text, chosen, texts_of, protocols, proto_in, port_name_in, address_of_text, address_at, address_in, range_at, pairs_in, key_in}
 use Rattle.kp_row_defs.specs.Metadata.{key_row}
-use Rattle.kp_row_defs.specs.Rows.{Row, Rows, done, ◌▸◌, field, inside, each, each_port, itself, needed, optional, any_text, port_name_text, address_text, range_text, cluster_address_text, choice, whole, whole_or_text, truth_value, texts, rows_fault}
+use Rattle.kp_row_defs.specs.Rows.{Row, Rows, done, ◌▸◌, field, inside, each, each_port, itself, needed, optional, any_text, port_name_text, address_text, range_text, cluster_address_text, choice, whole, whole_or_text, truth_value, texts, address_rows, rows_fault}
 
 -- types of Services
 abbrev pub service_kinds : List (List ℕ × ServiceKind)
@@ -49,10 +49,6 @@ service_port_rows =
 -- the ports
 abbrev pub ports_row : Row
 ports_row = each_port (codes "ports") service_port_rows
-
--- the rows of an address in a list
-abbrev pub address_rows : Rows
-address_rows = itself address_text ▸ done
 
 -- the external addresses
 abbrev pub external_row : Row

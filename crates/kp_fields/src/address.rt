@@ -1,12 +1,14 @@
 //! Addresses and ranges.
 ghost use Rattle.std.specs.Prelude.{◌≡◌};
+ghost use Rattle.std.specs.List.{filter_map};
+ghost use Rattle.kp_json.specs.Places.{elements_of};
 ghost use Rattle.kp_json.specs.Views.{place_of};
 ghost use Rattle.kp_base.specs.Dotted.{address_of, range_of};
-ghost use Rattle.kp_row_defs.specs.Fields.{is_other_family, unless_other, address_at, address_in, range_at};
+ghost use Rattle.kp_row_defs.specs.Fields.{is_other_family, unless_other, address_at, address_in, items_in, range_at};
 ghost use Rattle.kp_row_defs.specs.Reads.{Reads};
-ghost use Rattle.kp_row_defs.specs.Rows.{optional, address_text, range_text, field_fault, form_fault};
+ghost use Rattle.kp_row_defs.specs.Rows.{optional, address_rows, address_text, each, range_text, field_fault, form_fault, list_fault, row_fault, rows_fault};
 
-use kp_base::{Address, BadAddress, BadCidr, Cidr};
+use kp_base::{Address, BadAddress, BadCidr, Cidr, Items};
 use kp_json::{FieldFault, Spot, Why};
 use std::alloc::Global;
 
@@ -71,6 +73,34 @@ pub fn address_field<'a>(
             _ => address_here(alloc, &member),
         },
     }
+}
+
+/// The addresses of a list that may be absent. Those of another family are passed over.
+pub fn addresses_field<'a>(
+    alloc: Global,
+    spot: &'a Spot<'a>,
+    name: &'a str,
+) -> Result<Items<Address>, FieldFault>
+    ensures { Reads (λ v. v) result (row_fault (each name.now address_rows) (place_of spot.now))
+        (filter_map address_at (items_in name.now (place_of spot.now))) }
+{
+    match spot.field(alloc, name)? {
+        None => Ok(Items::new(alloc)),
+        Some(list) => addresses_here(alloc, &list),
+    }
+}
+
+fn addresses_here<'a>(alloc: Global, list: &'a Spot<'a>) -> Result<Items<Address>, FieldFault>
+    ensures { Reads (λ v. v) result (list_fault (rows_fault address_rows) (place_of list.now))
+        (filter_map address_at (elements_of (place_of list.now))) }
+{
+    let mut addresses = Vec::new(alloc);
+    for element in list.elements(alloc)? {
+        if let Some(address) = address_here(alloc, &element)? {
+            addresses.push(address)?;
+        }
+    }
+    Ok(Items::from_vec(addresses))
 }
 
 /// The range here. One of another family is passed over.

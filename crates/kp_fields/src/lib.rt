@@ -8,7 +8,9 @@ mod number;
 mod proto;
 mod text;
 
-pub use address::{address_field, address_here, address_text, range_here, range_text};
+pub use address::{
+    address_field, address_here, address_text, addresses_field, range_here, range_text,
+};
 pub use key::{copied_key, key_field, name_field};
 pub use labels::{check_texts, pairs_field};
 pub use number::{flag_field, needed_port, port_field, whole_field};

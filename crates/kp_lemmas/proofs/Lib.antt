@@ -6,3 +6,4 @@ pub mod Members
 pub mod Numbers
 pub mod Options
 pub mod Orders
+pub mod Results

@@ -1,5 +1,5 @@
 //! Packing: all groups, each by itself.
-ghost use Rattle.std.specs.Prelude.{◌≡◌, ◌++◌, ◌≤◌, ◌<◌, ◌^◌, true, IfOk, OnOk, map, not, length};
+ghost use Rattle.std.specs.Prelude.{◌≡◌, ◌++◌, ◌≤◌, true, IfOk, OnOk, map, not, length};
 ghost use Rattle.std.specs.List.{filter, list_all, flat_map};
 ghost use Rattle.kp_base.specs.declared.address.Family.TheVariants.{V4};
 ghost use Rattle.kp_object_defs.specs.Packing as spec;
@@ -17,7 +17,7 @@ use crate::order::{names_in_order, slices_in_order, sorted_slices};
 use crate::place::{Placed, place_left};
 use crate::ports::groups_of;
 use indexmap::IndexSet;
-use kp_base::{Copied, Items, NoMemory, ObjectKey, Text};
+use kp_base::{Copied, Items, NoMemory, ObjectKey, Text, fits_memory};
 use kp_pack_laws::{packing_goes_on, packing_places_each};
 use kp_types::{Packed, Slice, SliceEndpoint, SlicePort, Wanted};
 use std::alloc::Global;
@@ -55,13 +55,6 @@ pub fn pack<'a>(
     fits_memory(wanted.as_slice());
     fits_memory(taken.as_slice());
     packed(alloc, service, before, wanted, most, taken)
-}
-
-/// A list in memory has less than 2^64 elements.
-fn fits_memory<T>(items: &[T])
-    ensures { length items.now < 2 ^ 64 }
-{
-    items.len();
 }
 
 /// The slices after packing.

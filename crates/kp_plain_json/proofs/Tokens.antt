@@ -1,8 +1,7 @@
 -- The values that tokens begin with, a turn at a time.
-use Rattle.std.proofs.Common.{◌≡◌, ℕ, ◌-◌, ◌^◌, ◌<◌, ◌≤◌, ◌==◌, true, false, get_or, lt-ltb, eq-eqb, List, [], ◌∷◌, ◌++◌, length, Bool, Option, Some, None, option_map, option_and_then, unwrap_or, Result, Ok, Err, refl, sym, subst, ap, ◌∙◌, arith}
+use Rattle.std.proofs.Common.{◌≡◌, ℕ, ◌-◌, ◌^◌, ◌<◌, ◌≤◌, ◌==◌, true, false, get_or, lt-ltb, eq-eqb, List, [], ◌∷◌, ◌++◌, length, Bool, Option, Some, None, option_map, option_and_then, refl, sym, ap, ◌∙◌, arith}
 use Rattle.std.specs.Option.{SomeIff}
-use Rattle.std.specs.Prelude.{IfOk, IfSome, MatchResult}
-use Rattle.std.specs.Result.{result_ok}
+use Rattle.std.specs.Prelude.{IfSome}
 use Rattle.fast_float.specs.Text.{Parts, scan, digits_of, IsInteger}
 use Rattle.json.specs.Json as json
 use Rattle.json.specs.Token.{Token}
@@ -103,14 +102,3 @@ whole_text text bytes parts (Some n) same plain is fits =
     let first : number_of bytes ≡ number_from false (scan bytes) = rw plain in
     let taken : number_from false parts ≡ Some (unsigned (digits_of parts)) = rw (integer, lt-ltb _ _ fits.0.1) in
     ap number_of (sym same) ∙ first ∙ ap (number_from false) (sym is) ∙ taken ∙ ap (λ k. Some (unsigned k)) (sym fits.1)
-
--- ---- results
-
--- what holds of a result that was given, holds of what it gave
-pub of_ok : {X E : Type 0} (P : X → Type 0) (Q : E → Type 0) (r : Result X E) (x : X) → MatchResult r P Q → Some x ≡ result_ok r → P x
-of_ok P Q (Ok y) x h is = subst P (sym (ap (λ o. unwrap_or o y) is)) h
-of_ok P Q (Err e) x h is = absurd (cc)
-
-pub of_if_ok : {X E : Type 0} (P : X → Type 0) (r : Result X E) (x : X) → IfOk r P → Some x ≡ result_ok r → P x
-of_if_ok P (Ok y) x h is = subst P (sym (ap (λ o. unwrap_or o y) is)) h
-of_if_ok P (Err e) x h is = absurd (cc)

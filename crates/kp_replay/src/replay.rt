@@ -1,6 +1,7 @@
 //! Where a replay stands, and the lines that it takes.
 ghost use Rattle.std.specs.Prelude.{◌≡◌, ◌<◌, ◌-◌, ◌^◌, [], false, length, string_bytes};
 ghost use Rattle.std.specs.Prelude.{None, IfOk, OnOk};
+ghost use Rattle.std.specs.Option.{option_copied};
 ghost use Rattle.kp_run_defs.specs.ReplayText as spec;
 
 use kp_base::{Config, Items, NoMemory};
@@ -62,27 +63,29 @@ impl Replay {
         self.refused
     }
 
-    /// Takes the line of this number, which isn't too long, and adds what it prints to the text.
-    /// Without memory the replay and the text are of no more use.
+    /// Takes the line of this number, or refuses it as too long where nothing of it is given, and
+    /// adds what it prints to the text. Without memory the replay and the text are of no more use.
     pub fn take_line(
         &mut self,
         alloc: Global,
         number: u64,
-        bytes: &[u8],
+        given: Option<&[u8]>,
         text: &mut String,
     ) -> Result<(), NoMemory>
         requires { IsReady (standing_of self.old) }
-        ensures { OnOk result (Takes (spec.short_line number bytes.now (standing_of self.old))
+        ensures { OnOk result (Takes
+            (given_line number (option_copied given) (standing_of self.old))
             self.new (string_bytes text.old) (string_bytes text.new)) }
     {
-        if is_blank(bytes) {
-            return Ok(());
+        match given {
+            None => self.refuse_long(alloc, number, text),
+            Some(bytes) if is_blank(bytes) => Ok(()),
+            Some(bytes) => self.take_script(alloc, number, bytes, text),
         }
-        self.take_script(alloc, number, bytes, text)
     }
 
-    /// Refuses the line of this number, of which nothing is given, as too long.
-    pub fn refuse_long(
+    /// Refuses the line of this number as too long.
+    pub(crate) fn refuse_long(
         &mut self,
         alloc: Global,
         number: u64,

@@ -249,6 +249,10 @@ abbrev mutual
   rows_fault done p = None
   rows_fault (row ▸ rows) p = or_then (row_fault row p) (rows_fault rows p)
 
+-- the rows of an address in a list
+abbrev pub address_rows : Rows
+address_rows = itself address_text ▸ done
+
 -- what is read, unless there is a fault
 abbrev pub unless_fault : {A : Type 0} → Option BadField → A → Result A BadField
 unless_fault None x = Ok x

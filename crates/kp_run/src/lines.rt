@@ -1,5 +1,6 @@
 //! A replay of lines.
-ghost use Rattle.std.specs.Prelude.{◌≡◌, ◌≤◌, Some, None, Err, IfSome, IfOk, OnOk, OnErr};
+ghost use Rattle.std.specs.Prelude.{◌≡◌, ◌≤◌, Err, IfSome, IfOk, OnOk, OnErr};
+ghost use Rattle.std.specs.Option.{option_copied};
 ghost use Rattle.kp_io.specs.Faults.{Rose};
 ghost use Rattle.kp_io.specs.Reader.{fresh_reader};
 ghost use Rattle.kp_run_defs.specs.ReplayText as spec;
@@ -105,10 +106,10 @@ fn replay_lines<S: Source, K: Sink>(
     'lines: loop {
         match reader.next_line(source) {
             Ok(NextLine::Line { number }) => {
-                replay_line(alloc, replay, number, reader.bytes(), &mut text, sink)?;
+                replay_line(alloc, replay, number, Some(reader.bytes()), &mut text, sink)?;
             }
             Err(LineFault::TooLongLine { number }) => {
-                replay_long_line(alloc, replay, number, &mut text, sink)?;
+                replay_line(alloc, replay, number, None, &mut text, sink)?;
             }
             Ok(NextLine::End { lines: _ }) => return Ok(()),
             Err(LineFault::ReadFault) => return Err(Stop::Read),
@@ -118,21 +119,22 @@ fn replay_lines<S: Source, K: Sink>(
     }
 }
 
-/// Takes a line, and writes what it prints. The text is used again for each line.
+/// Takes a line, of which nothing is given where it is too long, and writes what it prints. The
+/// text is used again for each line.
 fn replay_line<K: Sink>(
     alloc: Global,
     replay: &mut Replay,
     number: u64,
-    bytes: &[u8],
+    given: Option<&[u8]>,
     text: &mut String,
     sink: &mut K,
 ) -> Result<(), Stop>
     requires { IsReady (standing_of replay.old) }
     ensures whole { OnOk result (outcome.TakesLine
-        (given_line number (Some bytes.now) (standing_of replay.old)) (standing_of replay.new)
+        (given_line number (option_copied given) (standing_of replay.old)) (standing_of replay.new)
         (K.written sink.old) (K.written sink.new)) }
     ensures front { OnErr result (outcome.GrowsFront (K.written sink.old) (K.written sink.new)
-        (given_line number (Some bytes.now) (standing_of replay.old)).text) }
+        (given_line number (option_copied given) (standing_of replay.old)).text) }
     ensures later { K.faults sink.old ≤ K.faults sink.new }
     ensures sure { OnOk result (K.faults sink.new ≡ K.faults sink.old) }
     ensures write { result ≡ Err Stop.Write → Rose (K.faults sink.old) (K.faults sink.new) }
@@ -141,34 +143,7 @@ fn replay_line<K: Sink>(
     ensures long { result ≡ Err Stop.InputTooLong → ⊥ }
 {
     text.clear();
-    match replay.take_line(alloc, number, bytes, text) {
-        Ok(()) => write_text(sink, text.as_bytes()),
-        Err(NoMemory) => Err(Stop::NoMemory),
-    }
-}
-
-/// Refuses a line that is too long, and writes so.
-fn replay_long_line<K: Sink>(
-    alloc: Global,
-    replay: &mut Replay,
-    number: u64,
-    text: &mut String,
-    sink: &mut K,
-) -> Result<(), Stop>
-    ensures whole { OnOk result (outcome.TakesLine
-        (given_line number None (standing_of replay.old)) (standing_of replay.new)
-        (K.written sink.old) (K.written sink.new)) }
-    ensures front { OnErr result (outcome.GrowsFront (K.written sink.old) (K.written sink.new)
-        (given_line number None (standing_of replay.old)).text) }
-    ensures later { K.faults sink.old ≤ K.faults sink.new }
-    ensures sure { OnOk result (K.faults sink.new ≡ K.faults sink.old) }
-    ensures write { result ≡ Err Stop.Write → Rose (K.faults sink.old) (K.faults sink.new) }
-    ensures memory { result ≡ Err Stop.NoMemory → K.faults sink.new ≡ K.faults sink.old }
-    ensures read { result ≡ Err Stop.Read → ⊥ }
-    ensures long { result ≡ Err Stop.InputTooLong → ⊥ }
-{
-    text.clear();
-    match replay.refuse_long(alloc, number, text) {
+    match replay.take_line(alloc, number, given, text) {
         Ok(()) => write_text(sink, text.as_bytes()),
         Err(NoMemory) => Err(Stop::NoMemory),
     }

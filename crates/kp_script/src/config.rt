@@ -1,16 +1,14 @@
 //! Lines that set the configuration.
 ghost use Rattle.std.specs.Prelude.{◌≡◌, ◌≤◌, codes, option_and_then, unwrap_or, IfOk};
-ghost use Rattle.std.specs.List.{filter_map};
-ghost use Rattle.kp_json.specs.Places.{elements_of};
 ghost use Rattle.kp_json.specs.Views.{place_of};
-ghost use Rattle.kp_row_defs.specs.Fields.{address_at, flag_in, items_in, range_of_text, text_in};
+ghost use Rattle.kp_row_defs.specs.Fields.{flag_in, range_of_text, text_in};
 ghost use Rattle.kp_row_defs.specs.Reads.{Reads};
-ghost use Rattle.kp_row_defs.specs.Rows.{each, field_fault, list_fault, name_text, optional, range_text, row_fault, rows_fault, truth_value, whole};
-ghost use Rattle.kp_text_defs.specs.ConfigText.{config_from, config_rows, default_config, node_address_rows, number_in};
+ghost use Rattle.kp_row_defs.specs.Rows.{field_fault, name_text, optional, range_text, rows_fault, truth_value, whole};
+ghost use Rattle.kp_text_defs.specs.ConfigText.{config_from, config_rows, default_config, number_in};
 
-use kp_base::{Address, Cidr, Config, Items, NoMemory, Text};
+use kp_base::{Cidr, Config, Items, NoMemory, Text};
 use kp_fields::{
-    TextForm, address_here, copied_text, flag_field, range_here, text_field, whole_field,
+    TextForm, addresses_field, copied_text, flag_field, range_here, text_field, whole_field,
 };
 use kp_json::{FieldFault, Spot};
 use std::alloc::Global;
@@ -38,7 +36,7 @@ pub(crate) fn config_of<'a>(alloc: Global, spot: &'a Spot<'a>) -> Result<Config,
         (config_from (place_of spot.now)) }
 {
     let node = node_field(alloc, spot)?;
-    let addresses = addresses_field(alloc, spot)?;
+    let addresses = addresses_field(alloc, spot, "nodeAddresses")?;
     let cluster = range_field(alloc, spot, "clusterCIDR")?;
     let masquerade_all = flag_or(alloc, spot, "masqueradeAll", false)?;
     let controller = flag_or(alloc, spot, "controller", true)?;
@@ -67,31 +65,6 @@ fn node_field<'a>(alloc: Global, spot: &'a Spot<'a>) -> Result<Text, FieldFault>
 {
     let name = text_field(alloc, spot, "node", TextForm::Name)?;
     copied_text(alloc, name.unwrap_or("node"))
-}
-
-/// The addresses of the node. Those of another family are passed over.
-fn addresses_field<'a>(alloc: Global, spot: &'a Spot<'a>) -> Result<Items<Address>, FieldFault>
-    ensures { Reads (λ v. v) result
-        (row_fault (each (codes "nodeAddresses") node_address_rows) (place_of spot.now))
-        (filter_map address_at (items_in (codes "nodeAddresses") (place_of spot.now))) }
-{
-    match spot.field(alloc, "nodeAddresses")? {
-        None => Ok(Items::new(alloc)),
-        Some(list) => addresses_here(alloc, &list),
-    }
-}
-
-fn addresses_here<'a>(alloc: Global, list: &'a Spot<'a>) -> Result<Items<Address>, FieldFault>
-    ensures { Reads (λ v. v) result (list_fault (rows_fault node_address_rows) (place_of list.now))
-        (filter_map address_at (elements_of (place_of list.now))) }
-{
-    let mut addresses = Vec::new(alloc);
-    for element in list.elements(alloc)? {
-        if let Some(address) = address_here(alloc, &element)? {
-            addresses.push(address)?;
-        }
-    }
-    Ok(Items::from_vec(addresses))
 }
 
 /// The range of a member that may be absent. One of another family is passed over.

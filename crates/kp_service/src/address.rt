@@ -3,10 +3,10 @@ ghost use Rattle.std.specs.Prelude.{◌≡◌, codes};
 ghost use Rattle.std.specs.List.{filter_map};
 ghost use Rattle.kp_json.specs.Places.{elements_of};
 ghost use Rattle.kp_json.specs.Views.{place_of};
-ghost use Rattle.kp_row_defs.specs.Fields.{address_at, inner, items_in, range_at, text_in, text_of};
+ghost use Rattle.kp_row_defs.specs.Fields.{inner, items_in, range_at, text_in, text_of};
 ghost use Rattle.kp_row_defs.specs.Reads.{Reads};
 ghost use Rattle.kp_row_defs.specs.Rows.{optional, cluster_address_text, field_fault, form_fault, list_fault, row_fault, rows_fault};
-ghost use Rattle.kp_event_defs.specs.ServiceText.{at_address, cluster_of, external_row, address_rows, ranges_row, range_rows, ranges_of, ingress_rows, ingress_list_rows, load_balancer_rows, status_row, ingress_address};
+ghost use Rattle.kp_event_defs.specs.ServiceText.{at_address, cluster_of, ranges_row, range_rows, ranges_of, ingress_rows, ingress_list_rows, load_balancer_rows, status_row, ingress_address};
 
 use kp_base::{Address, Cidr, Items};
 use kp_fields::{TextForm, address_field, address_here, range_here, text_field};
@@ -50,33 +50,6 @@ fn at_address(address: Option<Address>) -> ClusterAddress
         Some(address) => ClusterAddress::At(address),
         None => ClusterAddress::Absent,
     }
-}
-
-/// The external addresses.
-pub(crate) fn external_field<'a>(
-    alloc: Global,
-    spec: &'a Spot<'a>,
-) -> Result<Items<Address>, FieldFault>
-    ensures { Reads (λ v. v) result (row_fault external_row (place_of spec.now))
-        (filter_map address_at (items_in (codes "externalIPs") (place_of spec.now))) }
-{
-    match spec.field(alloc, "externalIPs")? {
-        None => Ok(Items::new(alloc)),
-        Some(list) => addresses_here(alloc, &list),
-    }
-}
-
-fn addresses_here<'a>(alloc: Global, list: &'a Spot<'a>) -> Result<Items<Address>, FieldFault>
-    ensures { Reads (λ v. v) result (list_fault (rows_fault address_rows) (place_of list.now))
-        (filter_map address_at (elements_of (place_of list.now))) }
-{
-    let mut addresses = Vec::new(alloc);
-    for element in list.elements(alloc)? {
-        if let Some(address) = address_here(alloc, &element)? {
-            addresses.push(address)?;
-        }
-    }
-    Ok(Items::from_vec(addresses))
 }
 
 /// The source ranges of a load balancer, where there is one.

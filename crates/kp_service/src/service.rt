@@ -6,11 +6,11 @@ ghost use Rattle.kp_event_defs.specs.ServiceText.{read_service, service_rows};
 ghost use Rattle.kp_row_defs.specs.Rows.{rows_fault};
 ghost use Rattle.kp_service.specs.Parts.{ReadsService};
 
-use crate::address::{balancer_field, cluster_field, external_field, ranges_field};
+use crate::address::{balancer_field, cluster_field, ranges_field};
 use crate::affinity::{affinity_of, timeout_field};
 use crate::choices::{affinity_field, kind_field, policy_field, same_zone_field};
 use crate::port::ports_field;
-use kp_fields::{flag_field, key_field, pairs_field};
+use kp_fields::{addresses_field, flag_field, key_field, pairs_field};
 use kp_json::{FieldFault, Spot};
 use kp_types::Service;
 use std::alloc::Global;
@@ -32,7 +32,7 @@ fn read<'a>(alloc: Global, spot: &'a Spot<'a>) -> Result<Service, FieldFault>
     let cluster = cluster_field(alloc, &spec)?;
     let ports = ports_field(alloc, &spec)?;
     let selector = pairs_field(alloc, &spec, "selector")?;
-    let external = external_field(alloc, &spec)?;
+    let external = addresses_field(alloc, &spec, "externalIPs")?;
     let is_sticky = affinity_field(alloc, &spec)?;
     let timeout = timeout_field(alloc, &spec)?;
     let internal = policy_field(alloc, &spec, "internalTrafficPolicy")?;

@@ -1,10 +1,8 @@
 -- No bucket is empty, once a key is added to one or removed.
-use Rattle.std.proofs.Common.{◌≡◌, ◌==◌, ◌||◌, Bool, true, false, true≢false, cond, List, [], ◌∷◌, length, map, Option, Some, None, Result, Ok, Err, OnOk, OnErr, refl, sym, ap, ◌∙◌, arith}
-use Rattle.std.proofs.lemmas.Bool.Decides.{nat_tests}
+use Rattle.std.proofs.Common.{◌≡◌, ◌||◌, Bool, true, false, true≢false, cond, List, [], ◌∷◌, map, Option, Some, None, Result, Ok, Err, OnOk, OnErr, refl, sym, ap, ◌∙◌}
 use Rattle.std.specs.List.{list_any}
 use Rattle.std.specs.Map.{lookup}
 use Rattle.std.specs.Cmp.{IsEquivalence}
-use Rattle.std.specs.Option.{unwrap_or}
 use Rattle.std.specs.Ordering.{eq_by_cmp}
 use Rattle.std.specs.FinMap.{FinMap, contains_key, empty, from_entries}
 use Rattle.kp_lemmas.proofs.Orders.{tie_of_itself}
@@ -33,14 +31,6 @@ pub none_listed : (ks : List ObjectKey) (m : Keys) → with_keys ks m ≡ empty 
 none_listed [] m none = refl
 none_listed (k ∷ ks) m none =
     absurd (not_empty (with_keys (k ∷ ks) m) k (in_inserted (with_keys ks m) k k ∙ ap (λ b. b || contains_key (with_keys ks m) k) (tie_of_itself key_total k)) none)
-
--- lists without elements
-pub no_length : {A : Type 0} (xs : List A) → length xs ≡ 0 → xs ≡ []
-no_length [] none = refl
-no_length (x ∷ xs) none = absurd (omega arith)
-
-pub no_items : {A : Type 0} (xs : List A) → (length xs == 0) ≡ true → xs ≡ []
-no_items xs none = no_length xs (grind (arith, nat_tests))
 
 -- nor is the map of an entry
 pub no_entries : {X : Type 0} (es : List (ObjectKey × X)) → from_entries {R = key_cmp} es ≡ empty → es ≡ []
@@ -77,10 +67,3 @@ filled_there same laws es tag filled there t = by (same tag t) refl
     by : (b : Bool) → same tag t ≡ b → ¬ (lookup (same t) es ≡ Some empty)
     by true e none = there (sym (lookup_tied same laws tag t e es) ∙ none)
     by false e none = filled t e none
-
--- an option with a value is the value's
-pub some_one : {X : Type 0} (x y : X) → Some x ≡ Some y → x ≡ y
-some_one x y e = ap (λ o. unwrap_or o x) e
-
-pub none_some : {X : Type 0} {x : X} → ¬ (◌≡◌ {A = Option X} None (Some x))
-none_some e = absurd (cc)

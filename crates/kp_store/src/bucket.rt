@@ -13,8 +13,8 @@ use std::marker::Model;
 /// How many keys a bucket keeps in its list.
 const FEW: usize = 8;
 
-/// Keys, which contracts see as a map to nothing. Most tags have few objects: the first keys stand in
-/// a list, where one is added without a look at the others, and further ones in a tree.
+/// Keys, which contracts see as a map to nothing. Most tags have few objects: the first keys stand
+/// in a list, where one is added without a look at the others, and further ones in a tree.
 pub struct Bucket {
     few: Vec<ObjectKey>,
     many: Keyed<()>,

@@ -190,8 +190,8 @@ impl Objects {
         self.slices.found(alloc, service)
     }
 
-    /// Copies of the pods that a Service selects, in order of their keys. A Service that isn't there
-    /// selects none.
+    /// Copies of the pods that a Service selects, in order of their keys. A Service that isn't
+    /// there selects none.
     pub fn pods_of(&self, alloc: Global, service: &ObjectKey) -> Result<Items<Pod>, NoMemory>
         ensures { IfOk result (λ ps. ps ≡ find.pods_of self.now service.now) }
     {

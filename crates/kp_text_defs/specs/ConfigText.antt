@@ -7,7 +7,7 @@ use Rattle.kp_base.specs.declared.config.Config.{Config}
 use Rattle.kp_json.specs.Places.{Place}
 use Rattle.kp_json.specs.declared.fault.BadField.{BadField}
 use Rattle.kp_row_defs.specs.Fields.{text_in, flag_in, whole_in, items_in, address_at, range_of_text}
-use Rattle.kp_row_defs.specs.Rows.{Rows, done, ◌▸◌, field, each, itself, optional, name_text, address_text, range_text, whole, truth_value, rows_fault, unless_fault}
+use Rattle.kp_row_defs.specs.Rows.{Rows, done, ◌▸◌, field, each, optional, name_text, range_text, whole, truth_value, address_rows, rows_fault, unless_fault}
 use Rattle.kp_text_defs.specs.Bounds.{between, between_from, between_to}
 
 -- the configuration without a line that says otherwise
@@ -31,15 +31,11 @@ default_config = record {
   name_to = lit≤ tt;
 }
 
--- the rows of an address of the node
-abbrev pub node_address_rows : Rows
-node_address_rows = itself address_text ▸ done
-
 -- the rows of a configuration
 abbrev pub config_rows : Rows
 config_rows =
     field (codes "node") optional name_text
-    ▸ each (codes "nodeAddresses") node_address_rows
+    ▸ each (codes "nodeAddresses") address_rows
     ▸ field (codes "clusterCIDR") optional range_text
     ▸ field (codes "masqueradeAll") optional truth_value
     ▸ field (codes "controller") optional truth_value

@@ -58,7 +58,7 @@ impl<F: Fn(u64, u32) -> u32> Hook<'_, F> {
         match found {
             None => Ok(Flow::Stuck),
             Some(found) => {
-                // Three of the chains that a packet of a Service meets have no rules.
+                // Some of the chains that a packet meets may have no rules.
                 if found.rules().is_empty() {
                     return Ok(Flow::Next);
                 }

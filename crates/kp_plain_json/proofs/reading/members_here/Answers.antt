@@ -2,9 +2,10 @@ use Rattle.std.proofs.Common.{◌≡◌, ◌-◌, ◌<◌, [], ◌∷◌, ◌++�
 use Rattle.json.specs.Json.{read_key}
 use Rattle.json.proofs.Grammar.{read_key-shorter}
 use Rattle.serde_json.specs.Data.{put}
+use Rattle.kp_lemmas.proofs.Results.{of_ok}
 use Rattle.kp_plain_json.specs.Plain.{members_of, plain_data}
 use Rattle.kp_plain_json.proofs.Members.{one_more}
-use Rattle.kp_plain_json.proofs.Tokens.{MembersSoFar, one_more_member, all_members, of_ok}
+use Rattle.kp_plain_json.proofs.Tokens.{MembersSoFar, one_more_member, all_members}
 use Rattle.kp_plain_json.proofs.reading.members_here.Goals as goal
 
 pub members-preserved : goal.members-preserved

@@ -2,9 +2,10 @@ use Rattle.std.proofs.Common.{◌≡◌, [], ◌∷◌, sym, subst, ◌∙◌, a
 use Rattle.json.specs.Lex.{tokens}
 use Rattle.json.specs.Reads.{token_of}
 use Rattle.json.specs.Token.{Token}
+use Rattle.kp_lemmas.proofs.Results.{of_if_ok}
 use Rattle.kp_plain_json.specs.Plain.{members_of}
 use Rattle.kp_plain_json.specs.Reading.{HasMembers}
-use Rattle.kp_plain_json.proofs.Tokens.{object_read, of_if_ok}
+use Rattle.kp_plain_json.proofs.Tokens.{object_read}
 use Rattle.kp_plain_json.proofs.reading.plain_object.Goals as goal
 
 pub returns-in-None : goal.returns-in-None

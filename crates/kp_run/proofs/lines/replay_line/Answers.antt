@@ -1,5 +1,5 @@
 use Rattle.std.proofs.Common.{ap, subst, ◌++◌, ◌∙◌}
-use Rattle.std.specs.Prelude.{Some}
+use Rattle.std.specs.Option.{option_copied}
 use Rattle.kp_io.specs.Told.{Grows}
 use Rattle.kp_replay.specs.Steps.{standing_of, given_line}
 use Rattle.kp_replay.proofs.OkLemmas.{on_ok}
@@ -11,7 +11,7 @@ use Rattle.kp_run.proofs.lines.replay_line.Goals as goal
 -- the line was taken, and its text was written, or a front of it
 pub returns-in-Ok-clause-whole : goal.returns-in-Ok-clause-whole
 returns-in-Ok-clause-whole g c =
-    let line = given_line c.args.number (Some c.args.bytes.now) (standing_of c.args.replay.now) in
+    let line = given_line c.args.number (option_copied c.args.given) (standing_of c.args.replay.now) in
     on_ok _ _ c.write_text.result c.write_text.ensures.whole (λ grown. record {
       stands = c.in-Ok.ensures.stands;
       grown =
@@ -21,7 +21,7 @@ returns-in-Ok-clause-whole g c =
 
 pub returns-in-Ok-clause-front : goal.returns-in-Ok-clause-front
 returns-in-Ok-clause-front g c =
-    let line = given_line c.args.number (Some c.args.bytes.now) (standing_of c.args.replay.now) in
+    let line = given_line c.args.number (option_copied c.args.given) (standing_of c.args.replay.now) in
     front_as c.write_text.result (g.K.Sink.written c.args.sink.now) (g.K.Sink.written c.write_text.new.sink) c.as_bytes.result.now line.text
     (c.as_bytes.ensures.value ∙ c.in-Ok.ensures.text ∙ ap (λ t. t ++ line.text) c.clear.ensures.bytes) c.write_text.ensures.front
 
@@ -46,4 +46,4 @@ returns-in-Ok-clause-long g c = λ stopped. let other = c.write_text.ensures.oth
 -- without memory nothing was written
 pub returns-in-Err-clause-front : goal.returns-in-Err-clause-front
 returns-in-Err-clause-front g c =
-    none_written (given_line c.args.number (Some c.args.bytes.now) (standing_of c.args.replay.now)).text (g.K.Sink.written c.args.sink.now)
+    none_written (given_line c.args.number (option_copied c.args.given) (standing_of c.args.replay.now)).text (g.K.Sink.written c.args.sink.now)

@@ -1,4 +1,5 @@
 use Rattle.std.proofs.Common.{◌≡◌, ◌||◌, false, Some, sym, ap, ◌∙◌}
+use Rattle.std.proofs.lemmas.Option.{same_Some}
 use Rattle.std.specs.Map.{lookup}
 use Rattle.std.specs.Option.{unwrap_or}
 use Rattle.std.specs.Ordering.{eq_by_cmp}
@@ -8,7 +9,7 @@ use Rattle.kp_base.specs.declared.key.ObjectKey.{ObjectKey}
 use Rattle.kp_store.specs.Indexes.{Keys, has, is_pair}
 use Rattle.kp_store.proofs.Buckets.{added, or_none}
 use Rattle.kp_store.proofs.Ordered.{none_before}
-use Rattle.kp_store.proofs.Filled.{filled_still, not_empty, some_one}
+use Rattle.kp_store.proofs.Filled.{filled_still, not_empty}
 use Rattle.kp_lemmas.proofs.Orders.{tie_of_itself}
 use Rattle.kp_base.proofs.KeyOrder.{key_total}
 use Rattle.kp_store.proofs.index.add_bucket.Goals as goal
@@ -28,4 +29,4 @@ returns-clause-filled g c = λ filled.
     let key = c.args.key.now in
     let bucket = c.in_ok-bucket.bucket in
     filled_still g.T.PartialEq.eq c.args.buckets.now.entries c.insert.new.self.entries c.in_ok-copy.field-0 (Some bucket) c.in_ok-insert.ensures.updates.0 filled
-    (λ none. not_empty bucket key (c.in_ok-bucket.ensures key ∙ tie_of_itself key_total key) (some_one _ _ none))
+    (λ none. not_empty bucket key (c.in_ok-bucket.ensures key ∙ tie_of_itself key_total key) (same_Some _ _ none))

@@ -1,10 +1,11 @@
 use Rattle.std.proofs.Common.{◌||◌, Some, rules, sym, ap, ◌∙◌}
+use Rattle.std.proofs.lemmas.Option.{same_Some}
 use Rattle.std.specs.Option.{unwrap_or}
 use Rattle.std.specs.Ordering.{eq_by_cmp}
 use Rattle.std.specs.FinMap as finite
 use Rattle.kp_base.specs.Keys.{key_cmp}
 use Rattle.kp_store.proofs.Buckets.{added, stayed, on_ok, on_err}
-use Rattle.kp_store.proofs.Filled.{filled_still, added_or_not, some_one}
+use Rattle.kp_store.proofs.Filled.{filled_still, added_or_not}
 use Rattle.kp_store.specs.Indexes.{has, is_pair}
 use Rattle.kp_store.proofs.index.Index.add.Goals as goal
 
@@ -32,4 +33,4 @@ invariant_of-self g c =
     let put = ((c.get_mut.follows.holds w).3 (search rules)).0 in
     let found = c.in-Some.ensures.value in
     filled_still g.T.PartialEq.eq es (c.get_mut.follows.lender w).entries c.args.tag.now (Some w) put c.self.invariant
-    (λ none. added_or_not c.add.result _ _ c.args.key.now c.add.ensures.ok c.add.ensures.err (λ was. c.self.invariant c.args.tag.now (sym found ∙ ap Some was)) (some_one _ _ none))
+    (λ none. added_or_not c.add.result _ _ c.args.key.now c.add.ensures.ok c.add.ensures.err (λ was. c.self.invariant c.args.tag.now (sym found ∙ ap Some was)) (same_Some _ _ none))
