@@ -1,7 +1,7 @@
 //! Names and protocols of ports.
 ghost use Rattle.std.specs.Prelude.{◌≡◌, codes, option_map};
 ghost use Rattle.kp_json.specs.Views.{place_of};
-ghost use Rattle.kp_row_defs.specs.Fields.{proto_in, port_name_in, protocols, texts_of, chosen};
+ghost use Rattle.kp_row_defs.specs.Fields.{port_name_in, protocols, text_in, texts_of, chosen};
 ghost use Rattle.kp_row_defs.specs.Reads.{Reads};
 ghost use Rattle.kp_row_defs.specs.Rows.{optional, port_name_text, choice, field_fault};
 
@@ -10,13 +10,17 @@ use kp_base::{Proto, Text};
 use kp_json::{FieldFault, Spot};
 use std::alloc::Global;
 
-/// The protocol of a port. It is TCP where none is given.
-pub fn proto_field<'a>(alloc: Global, spot: &'a Spot<'a>) -> Result<Proto, FieldFault>
+/// The protocol of a port, or of a packet. It is TCP where none is given.
+pub fn proto_field<'a>(
+    alloc: Global,
+    spot: &'a Spot<'a>,
+    name: &'a str,
+) -> Result<Proto, FieldFault>
     ensures { Reads (λ p. p) result
-        (field_fault (codes "protocol") optional (choice (texts_of protocols)) (place_of spot.now))
-        (proto_in (place_of spot.now)) }
+        (field_fault name.now optional (choice (texts_of protocols)) (place_of spot.now))
+        (chosen protocols Proto.Tcp (text_in name.now (place_of spot.now))) }
 {
-    let text = choice_field(alloc, spot, "protocol", &["TCP", "UDP", "SCTP"])?;
+    let text = choice_field(alloc, spot, name, &["TCP", "UDP", "SCTP"])?;
     Ok(proto_of(text))
 }
 

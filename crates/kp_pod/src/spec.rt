@@ -112,7 +112,7 @@ fn port_of<'a>(alloc: Global, spot: &'a Spot<'a>) -> Result<ContainerPort, Field
         (container_port (place_of spot.now)) }
 {
     let name = port_name_field(alloc, spot)?;
-    let proto = proto_field(alloc, spot)?;
+    let proto = proto_field(alloc, spot, "protocol")?;
     let port = needed_port(alloc, spot, "containerPort")?;
     Ok(ContainerPort { name, proto, port })
 }

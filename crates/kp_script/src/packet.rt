@@ -1,15 +1,15 @@
 //! Lines that send or explain a packet.
 ghost use Rattle.std.specs.Prelude.{◌≡◌, ◌<◌, ◌^◌, codes, option_map, unwrap_or, IfOk, IfSome};
 ghost use Rattle.kp_json.specs.Views.{place_of};
-ghost use Rattle.kp_row_defs.specs.Fields.{chosen, protocols, text_in, texts_of, whole_in};
+ghost use Rattle.kp_row_defs.specs.Fields.{chosen, text_in, texts_of, whole_in};
 ghost use Rattle.kp_row_defs.specs.Reads.{Reads};
 ghost use Rattle.kp_row_defs.specs.Rows.{choice, each_up_to, field_fault, list_fault, needed, optional, own_address_text, row_fault, rows_fault, whole};
 ghost use Rattle.kp_text_defs.specs.ListedDraws.{AreLow, listed};
 ghost use Rattle.kp_text_defs.specs.PacketText.{draw_from, draw_list, draw_rows, draws_of, listed_in, origins, own_address_in, packet_line_from, packet_rows};
 
 use crate::config::flag_or;
-use kp_base::{Address, Items, Proto};
-use kp_fields::{choice_field, needed_port, whole_field};
+use kp_base::{Address, Items};
+use kp_fields::{choice_field, needed_port, proto_field, whole_field};
 use kp_json::{FieldFault, Spot, Why};
 use kp_text_defs::{Draws, PacketLine};
 use kp_types::{Origin, Packet};
@@ -26,7 +26,7 @@ pub(crate) fn packet_of<'a>(alloc: Global, spot: &'a Spot<'a>) -> Result<PacketL
     let from = origin_field(alloc, spot)?;
     let source = address_field(alloc, spot, "src")?;
     let target = address_field(alloc, spot, "dst")?;
-    let proto = proto_field(alloc, spot)?;
+    let proto = proto_field(alloc, spot, "proto")?;
     let _sport = whole_field(alloc, spot, "sport", 0, 65535)?;
     let port = needed_port(alloc, spot, "dport")?;
     let now = now_field(alloc, spot)?;
@@ -73,25 +73,6 @@ fn origin_of(text: Option<&str>) -> Origin
     match text {
         Some("node") => Origin::Node,
         _ => Origin::Wire,
-    }
-}
-
-fn proto_field<'a>(alloc: Global, spot: &'a Spot<'a>) -> Result<Proto, FieldFault>
-    ensures { Reads (λ p. p) result
-        (field_fault (codes "proto") optional (choice (texts_of protocols)) (place_of spot.now))
-        (chosen protocols Proto.Tcp (text_in (codes "proto") (place_of spot.now))) }
-{
-    let text = choice_field(alloc, spot, "proto", &["TCP", "UDP", "SCTP"])?;
-    Ok(proto_of(text))
-}
-
-fn proto_of(text: Option<&str>) -> Proto
-    ensures { result ≡ chosen protocols Proto.Tcp (option_map (λ t. t.now) text.entry) }
-{
-    match text {
-        Some("UDP") => Proto::Udp,
-        Some("SCTP") => Proto::Sctp,
-        _ => Proto::Tcp,
     }
 }
 

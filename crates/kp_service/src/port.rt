@@ -53,7 +53,7 @@ fn port_of<'a>(alloc: Global, spot: &'a Spot<'a>) -> Result<ServicePort, FieldFa
         (service_port (place_of spot.now)) }
 {
     let name = port_name_field(alloc, spot)?;
-    let proto = proto_field(alloc, spot)?;
+    let proto = proto_field(alloc, spot, "protocol")?;
     let port = needed_port(alloc, spot, "port")?;
     let target = target_field(alloc, spot, port)?;
     let node_port = node_port_field(alloc, spot)?;

@@ -122,7 +122,7 @@ fn port_of<'a>(alloc: Global, spot: &'a Spot<'a>) -> Result<SlicePort, FieldFaul
         (slice_port (place_of spot.now)) }
 {
     let name = port_name_field(alloc, spot)?;
-    let proto = proto_field(alloc, spot)?;
+    let proto = proto_field(alloc, spot, "protocol")?;
     let port = port_field(alloc, spot, "port")?;
     Ok(SlicePort { name, proto, port })
 }
