@@ -74,7 +74,7 @@ impl Replay {
     ) -> Result<(), NoMemory>
         requires { IsReady (standing_of self.old) }
         ensures { OnOk result (Takes
-            (given_line number (option_copied given) (standing_of self.old))
+            (given_line number (option_copied given.entry) (standing_of self.old))
             self.new (string_bytes text.old) (string_bytes text.new)) }
     {
         match given {

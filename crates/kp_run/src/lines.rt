@@ -131,10 +131,10 @@ fn replay_line<K: Sink>(
 ) -> Result<(), Stop>
     requires { IsReady (standing_of replay.old) }
     ensures whole { OnOk result (outcome.TakesLine
-        (given_line number (option_copied given) (standing_of replay.old)) (standing_of replay.new)
-        (K.written sink.old) (K.written sink.new)) }
+        (given_line number (option_copied given.entry) (standing_of replay.old))
+        (standing_of replay.new) (K.written sink.old) (K.written sink.new)) }
     ensures front { OnErr result (outcome.GrowsFront (K.written sink.old) (K.written sink.new)
-        (given_line number (option_copied given) (standing_of replay.old)).text) }
+        (given_line number (option_copied given.entry) (standing_of replay.old)).text) }
     ensures later { K.faults sink.old ≤ K.faults sink.new }
     ensures sure { OnOk result (K.faults sink.new ≡ K.faults sink.old) }
     ensures write { result ≡ Err Stop.Write → Rose (K.faults sink.old) (K.faults sink.new) }

@@ -64,20 +64,20 @@ lines-preserved g c =
     let after = to_come c.next_line.new.self (g.S.Source.left c.next_line.new.source) in
     let left = g.S.Source.left c.args.source.now in
     let start = g.K.Sink.written c.args.sink.now in
-    let later = g.K.Sink.written c.replay_long_line.new.sink in
+    let later = g.K.Sink.written c.replay_line-in-Err-TooLongLine.new.sink in
     record {
       come =
-          subst (λ k. Come (standing_of c.replay_long_line.new.replay) k left after start later) (sym counts.1)
-          (come_more (standing_of c.lines.replay) (standing_of c.replay_long_line.new.replay) c.lines.reader.number c.in-Err-TooLongLine.number (None)
+          subst (λ k. Come (standing_of c.replay_line-in-Err-TooLongLine.new.replay) k left after start later) (sym counts.1)
+          (come_more (standing_of c.lines.replay) (standing_of c.replay_line-in-Err-TooLongLine.new.replay) c.lines.reader.number c.in-Err-TooLongLine.number None
           left rest after start (g.K.Sink.written c.lines.sink) later c.lines.invariant.come counts.0
           answer
-          c.in_ok-replay_long_line-in-Err-TooLongLine.ensures.whole);
+          c.in_ok-replay_line-in-Err-TooLongLine.ensures.whole);
       taken = taken_more c.lines.reader.taken c.next_line.new.self.taken left (g.S.Source.left c.lines.source) (g.S.Source.left c.next_line.new.source) c.lines.invariant.taken c.in-Err-TooLongLine.ensures.input.all;
       feeds = λ open_. by_end (CountsFeeds c.next_line.new.self left (g.S.Source.left c.next_line.new.source)) c.lines.reader.ended (λ was. let h = again was in absurd (cc)) (λ was.
           counts_more c.lines.reader c.next_line.new.self left (g.S.Source.left c.lines.source) (g.S.Source.left c.next_line.new.source) (c.lines.invariant.feeds was) (c.in-Err-TooLongLine.ensures.feeds open_));
       ended = λ ended. by_end (IsAtEnd (g.S.Source.left c.next_line.new.source)) c.lines.reader.ended (λ was. let h = again was in absurd (cc)) (λ was. c.in-Err-TooLongLine.ensures.ended was ended);
       read = cause.kept (λ e. absurd (cc)) ∙ c.lines.invariant.read;
-      wrote = c.in_ok-replay_long_line-in-Err-TooLongLine.ensures.sure ∙ c.lines.invariant.wrote;
+      wrote = c.in_ok-replay_line-in-Err-TooLongLine.ensures.sure ∙ c.lines.invariant.wrote;
     }
 
 pub returns-in_err-replay_line-in-Ok-Line-clause-front : goal.returns-in_err-replay_line-in-Ok-Line-clause-front
@@ -111,15 +111,15 @@ returns-in-Ok-End-clause-all g c =
     (λ was. c.in-Ok-End.ensures.ended was counts.3))
     limit
 
-pub returns-in_err-replay_long_line-in-Err-TooLongLine-clause-front : goal.returns-in_err-replay_long_line-in-Err-TooLongLine-clause-front
-returns-in_err-replay_long_line-in-Err-TooLongLine-clause-front g c =
+pub returns-in_err-replay_line-in-Err-TooLongLine-clause-front : goal.returns-in_err-replay_line-in-Err-TooLongLine-clause-front
+returns-in_err-replay_line-in-Err-TooLongLine-clause-front g c =
     let counts = rw c.in-Err-TooLongLine.field-0-is at c.in-Err-TooLongLine.ensures.counts in
     let answer = rw c.in-Err-TooLongLine.field-0-is at c.in-Err-TooLongLine.ensures.answer in
     let rest = to_come c.lines.reader (g.S.Source.left c.lines.source) in
     let after = to_come c.next_line.new.self (g.S.Source.left c.next_line.new.source) in
     come_part (standing_of c.lines.replay) c.lines.reader.number c.in-Err-TooLongLine.number None (g.S.Source.left c.args.source.now) rest after
-    (g.K.Sink.written c.args.sink.now) (g.K.Sink.written c.lines.sink) (g.K.Sink.written c.replay_long_line.new.sink) c.lines.invariant.come counts.0
-    answer c.in_err-replay_long_line-in-Err-TooLongLine.ensures.front
+    (g.K.Sink.written c.args.sink.now) (g.K.Sink.written c.lines.sink) (g.K.Sink.written c.replay_line-in-Err-TooLongLine.new.sink) c.lines.invariant.come counts.0
+    answer c.in_err-replay_line-in-Err-TooLongLine.ensures.front
 
 pub returns-in-Err-ReadFault-clause-front : goal.returns-in-Err-ReadFault-clause-front
 returns-in-Err-ReadFault-clause-front g c =
