@@ -5,7 +5,7 @@ use Rattle.std.specs.List.{list_all, take-map}
 use Rattle.std.proofs.lemmas.Bool.{and_parts, and_from}
 use Rattle.std.proofs.lemmas.List.{map-append, length-map, take-append-drop, append-nil}
 use Rattle.std.proofs.lemmas.List.Folds.{list_all-append}
-use Rattle.std.proofs.lemmas.Option.{same_Some}
+use Rattle.std.proofs.lemmas.Option.{none-some, same_Some}
 use Rattle.kp_restore_defs.specs.FirstBadLine.{ended_lines, IsFirstBadLine}
 use Rattle.kp_restore_defs.specs.TableText.{text_of_lines}
 use Rattle.kp_restore.specs.Machine.{run}
@@ -72,9 +72,6 @@ front (x ∷ xs) ys (suc n) h = ap (λ zs. x ∷ zs) (front xs ys n (omega arith
 nothing_behind : {A : Type 0} (xs ys : List A) → xs ≡ xs ++ ys → ys ≡ []
 nothing_behind xs [] h = refl
 nothing_behind xs (y ∷ ys) h = absurd (omega (arith, ap length h, length-append xs (y ∷ ys)))
-
-pub none_some : {A : Type 0} {x : A} → None ≡ Some x → ⊥
-none_some h = cc
 
 -- the last element of what a map gives
 last_of_map : {A B : Type 0} (f : A → B) (ls : List B) (l : B) (ps : List A) → map f ps ≡ ls ++ l ∷ []
@@ -145,7 +142,7 @@ module _ {S X V : Type 0} (step : S → X → Option S) (start : S) (IsEnd : S �
         let whole = reader.complete v h in
         let m = run_between step start whole.0 ps (drop n (parts v)) (ap (run step start) (take-append-drop n (parts v)) ∙ whole.1) in
         let taken : step s cut.1 ≡ Some m.0 = run_last step start s m.0 xs cut.1 ran (ap (λ ys. run step start (ys ++ cut.1 ∷ [])) (sym same) ∙ ap (run step start) (sym cut.2) ∙ m.1) in
-        absurd (none_some (sym (stuck cut.1 (and_parts _ _ good_cut.1).0 cut.4) ∙ taken))
+        absurd (none-some _ (sym (stuck cut.1 (and_parts _ _ good_cut.1).0 cut.4) ∙ taken))
 
     -- the number of lines so far
     counted : length (map text xs) ≡ length xs

@@ -5,7 +5,7 @@ use Rattle.std.specs.Ordering.{is_lt}
 use Rattle.std.proofs.lemmas.Bool.{and_parts, and_from, not-true}
 use Rattle.std.proofs.lemmas.List.{map-append, append-nil}
 use Rattle.std.proofs.lemmas.List.Folds.{list_all-append}
-use Rattle.std.proofs.lemmas.Option.{same_Some}
+use Rattle.std.proofs.lemmas.Option.{none-some, same_Some}
 use Rattle.kp_base.specs.Keys.{text_cmp}
 use Rattle.kp_types.specs.Places.{table_place}
 use Rattle.kp_types.specs.declared.chain.TableName.{TableName}
@@ -20,7 +20,6 @@ use Rattle.kp_restore.specs.declared.table_reader.Phase.{Phase}
 use Rattle.kp_restore.specs.declared.table_reader.Phase.TheVariants.{Opening, Declaring, Ruling, Done}
 use Rattle.kp_restore.specs.Machine.{run}
 use Rattle.kp_restore.specs.TableSteps.{step, put, may_follow, declared, with_rule, ruled, declaring}
-use Rattle.kp_restore.proofs.Machine.{none_some}
 use Rattle.kp_restore.proofs.Rows.{names_of, rising, with_rows, with_section}
 use Rattle.kp_restore.proofs.TableRows.{IsSection}
 use Rattle.kp_restore.proofs.TableParts.{row_parts, section_parts}
@@ -89,12 +88,12 @@ module _ (e : TableReader) (done : e.phase ≡ Done) where
       by : (b : Bool) → (table_place other == table_place table) ≡ b → option_and_then (λ m. run step m ls) (cond b (Some (naming t table [])) None) ≡ Some e
           → (rest : List Line) × (Section other ∷ ls ≡ Section table ∷ rest) × (run step (naming t table []) rest ≡ Some e)
       by true k g = (ls, ap (λ n. Section n ∷ ls) (one_table_from_test other table k), g)
-      by false k g = absurd (none_some g)
-  opening_back t table (BuiltIn chain ∷ ls) h = absurd (none_some h)
-  opening_back t table (Declared chain ∷ ls) h = absurd (none_some h)
-  opening_back t table (Ruled chain rule ∷ ls) h = absurd (none_some h)
-  opening_back t table (Removed chain ∷ ls) h = absurd (none_some h)
-  opening_back t table (Commit ∷ ls) h = absurd (none_some h)
+      by false k g = absurd (none-some _ g)
+  opening_back t table (BuiltIn chain ∷ ls) h = absurd (none-some _ h)
+  opening_back t table (Declared chain ∷ ls) h = absurd (none-some _ h)
+  opening_back t table (Ruled chain rule ∷ ls) h = absurd (none-some _ h)
+  opening_back t table (Removed chain ∷ ls) h = absurd (none-some _ h)
+  opening_back t table (Commit ∷ ls) h = absurd (none-some _ h)
 
   -- ---- Built-in chains
 
@@ -118,12 +117,12 @@ module _ (e : TableReader) (done : e.phase ≡ Done) where
             let same = text_test_exact other c k in
             let r = more same g in
             (r.0, (λ i. BuiltIn (same i) ∷ r.1 i), ap (λ ns. run step (naming (with_names table (put t table c []) left) table ns) r.0) (sym (append_assoc names (c ∷ []) left)) ∙ r.2)
-        by false k g more = absurd (none_some g)
-    built_in_back (c ∷ left) names t (Section other ∷ us) d h = absurd (none_some (with_next t names (Some c) (Section other) us (get_dropped (built_in_chains table) (length names) c left d) h))
-    built_in_back (c ∷ left) names t (Declared chain ∷ us) d h = absurd (none_some (with_next t names (Some c) (Declared chain) us (get_dropped (built_in_chains table) (length names) c left d) h))
-    built_in_back (c ∷ left) names t (Ruled chain rule ∷ us) d h = absurd (none_some (with_next t names (Some c) (Ruled chain rule) us (get_dropped (built_in_chains table) (length names) c left d) h))
-    built_in_back (c ∷ left) names t (Removed chain ∷ us) d h = absurd (none_some (with_next t names (Some c) (Removed chain) us (get_dropped (built_in_chains table) (length names) c left d) h))
-    built_in_back (c ∷ left) names t (Commit ∷ us) d h = absurd (none_some (with_next t names (Some c) Commit us (get_dropped (built_in_chains table) (length names) c left d) h))
+        by false k g more = absurd (none-some _ g)
+    built_in_back (c ∷ left) names t (Section other ∷ us) d h = absurd (none-some _ (with_next t names (Some c) (Section other) us (get_dropped (built_in_chains table) (length names) c left d) h))
+    built_in_back (c ∷ left) names t (Declared chain ∷ us) d h = absurd (none-some _ (with_next t names (Some c) (Declared chain) us (get_dropped (built_in_chains table) (length names) c left d) h))
+    built_in_back (c ∷ left) names t (Ruled chain rule ∷ us) d h = absurd (none-some _ (with_next t names (Some c) (Ruled chain rule) us (get_dropped (built_in_chains table) (length names) c left d) h))
+    built_in_back (c ∷ left) names t (Removed chain ∷ us) d h = absurd (none-some _ (with_next t names (Some c) (Removed chain) us (get_dropped (built_in_chains table) (length names) c left d) h))
+    built_in_back (c ∷ left) names t (Commit ∷ us) d h = absurd (none-some _ (with_next t names (Some c) Commit us (get_dropped (built_in_chains table) (length names) c left d) h))
 
     -- ---- Other chains
 
@@ -153,11 +152,11 @@ module _ (e : TableReader) (done : e.phase ≡ Done) where
               (k, subst (λ o. Follow table o r.0) (last_again names c) r.4),
               ap (λ ns. run step (naming (with_names table (put t table c []) r.0) table ns) r.1) (sym (append_assoc names (c ∷ []) r.0)) ∙ r.5,
             )
-        by false k g more = absurd (none_some g)
-    other_back (Section other ∷ us) names t d h = absurd (none_some (with_next t names None (Section other) us (get_past (built_in_chains table) (length names) d) h))
-    other_back (BuiltIn chain ∷ us) names t d h = absurd (none_some (with_next t names None (BuiltIn chain) us (get_past (built_in_chains table) (length names) d) h))
+        by false k g more = absurd (none-some _ g)
+    other_back (Section other ∷ us) names t d h = absurd (none-some _ (with_next t names None (Section other) us (get_past (built_in_chains table) (length names) d) h))
+    other_back (BuiltIn chain ∷ us) names t d h = absurd (none-some _ (with_next t names None (BuiltIn chain) us (get_past (built_in_chains table) (length names) d) h))
     other_back (Ruled chain rule ∷ us) names t d h = no_others names t (Ruled chain rule ∷ us) tt h
-    other_back (Removed chain ∷ us) names t d h = absurd (none_some (with_next t names None (Removed chain) us (get_past (built_in_chains table) (length names) d) h))
+    other_back (Removed chain ∷ us) names t d h = absurd (none-some _ (with_next t names None (Removed chain) us (get_past (built_in_chains table) (length names) d) h))
     other_back (Commit ∷ us) names t d h = no_others names t (Commit ∷ us) tt h
 
     -- ---- Rules
@@ -189,7 +188,7 @@ module _ (e : TableReader) (done : e.phase ≡ Done) where
     one_rule : (d : List ℕ) (r : Rule) (us : List Line)
         → ((names : List (List ℕ)) (t : TableParts) (rules : List Rule) → all_jump t.chains table rules ≡ true → run step (filling t table names rules) us ≡ Some e → Filled names t rules us)
         → (names : List (List ℕ)) (t : TableParts) (rules : List Rule) → all_jump t.chains table rules ≡ true → run step (filling t table names rules) (Ruled d r ∷ us) ≡ Some e → Filled names t rules (Ruled d r ∷ us)
-    one_rule d r us more [] t rules j h = absurd (none_some h)
+    one_rule d r us more [] t rules j h = absurd (none-some _ h)
     one_rule d r us more (c ∷ cs) t rules j h =
         by (bytes_eq c d) refl h (λ g. passed c cs t rules (Ruled d r ∷ us) j (one_rule d r us more cs (put t table c rules) [] refl g))
       where
@@ -203,7 +202,7 @@ module _ (e : TableReader) (done : e.phase ≡ Done) where
               f.4,
               f.5,
             )
-        here k false to g = absurd (none_some g)
+        here k false to g = absurd (none-some _ g)
 
         by : (b : Bool) → bytes_eq c d ≡ b → option_and_then (λ m. run step m us) (cond b (with_rule t table (c ∷ cs) rules r) (ruled (put t table c rules) table cs [] d r)) ≡ Some e
             → (run step (filling (put t table c rules) table cs []) (Ruled d r ∷ us) ≡ Some e → Filled (c ∷ cs) t rules (Ruled d r ∷ us))
@@ -219,10 +218,10 @@ module _ (e : TableReader) (done : e.phase ≡ Done) where
     rules_back [] names t rules j h = absurd (filling_owes table names rules e.phase (phase_one (filling t table names rules) e h) done)
     rules_back (Ruled d r ∷ us) names t rules j h = one_rule d r us (λ ns u rs i g. rules_back us ns u rs i g) names t rules j h
     rules_back (Commit ∷ us) names t rules j h = last_line us names t rules j h
-    rules_back (Section other ∷ us) names t rules j h = absurd (none_some h)
-    rules_back (BuiltIn chain ∷ us) names t rules j h = absurd (none_some h)
-    rules_back (Declared chain ∷ us) names t rules j h = absurd (none_some h)
-    rules_back (Removed chain ∷ us) names t rules j h = absurd (none_some h)
+    rules_back (Section other ∷ us) names t rules j h = absurd (none-some _ h)
+    rules_back (BuiltIn chain ∷ us) names t rules j h = absurd (none-some _ h)
+    rules_back (Declared chain ∷ us) names t rules j h = absurd (none-some _ h)
+    rules_back (Removed chain ∷ us) names t rules j h = absurd (none-some _ h)
 
     -- ---- A section
 

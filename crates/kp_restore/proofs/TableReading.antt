@@ -7,7 +7,7 @@ use Rattle.std.specs.FinMap.{get, get-empty, same_map}
 use Rattle.std.proofs.lemmas.Bool.{and_parts, and_from}
 use Rattle.std.proofs.lemmas.List.{map-append, append-nil, take-append-drop}
 use Rattle.std.proofs.lemmas.List.Folds.{list_all-append, list_all-map}
-use Rattle.std.proofs.lemmas.Option.{same_Some}
+use Rattle.std.proofs.lemmas.Option.{none-some, same_Some}
 use Rattle.kp_base.specs.declared.address.Family.{Family}
 use Rattle.kp_types.specs.Chains.{is_chain_name}
 use Rattle.kp_types.specs.Places.{chain_cmp}
@@ -28,7 +28,7 @@ use Rattle.kp_restore.specs.Lines.{line_text, is_canonical_line}
 use Rattle.kp_restore.specs.Machine.{run}
 use Rattle.kp_restore.specs.TableSteps.{start, step, committed, put}
 use Rattle.kp_restore.proofs.LineTexts.{line_exact, line_plain}
-use Rattle.kp_restore.proofs.Machine.{IsReader, none_some, all_front}
+use Rattle.kp_restore.proofs.Machine.{IsReader, all_front}
 use Rattle.kp_restore.proofs.Rows.{at, rules_in, names_of, distinct, Agree, is_some_rules, no_rules, agree, agree_front, agree_same, all_found, all_there, one_found, with_section, empty_row, syncs_with, get_with, get_with_other}
 use Rattle.kp_restore.proofs.TableRows.{IsSection, section_distinct, rules_there, rows_section, built_in_again, others_again, every_entry, one_entry}
 use Rattle.kp_restore.proofs.TableParts.{row_parts, section_parts, table_parts, table_texts}
@@ -314,7 +314,7 @@ module _ (family : Family) where
   -- nothing stands behind the last section
   ended : (t : TableParts) (ls : List Line) (e : TableReader) → run step (behind t Filter) ls ≡ Some e → (ls ≡ []) × (behind t Filter ≡ e)
   ended t [] e h = (refl, same_Some (behind t Filter) e h)
-  ended t (l ∷ ls) e h = absurd (none_some h)
+  ended t (l ∷ ls) e h = absurd (none-some _ h)
 
   table_sound : (us : List Line) (e : TableReader) → list_all good us ≡ true → run step start us ≡ Some e → e.phase ≡ Done → HasText e.table.chains × (table_parts e.table.chains ≡ us) × (e.table.syncs ≡ 0)
   table_sound us e g h done =
