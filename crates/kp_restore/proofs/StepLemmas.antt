@@ -1,13 +1,9 @@
 -- The reader's steps, by the first chain that is left.
-use Rattle.std.proofs.Common.{◌≡◌, ℕ, true, List, [], ◌∷◌, Some, None, slice_get, bytes_eq, cond, Result, Ok, Err, IfOk, refl, sym, ap, ◌∙◌}
+use Rattle.std.proofs.Common.{◌≡◌, ℕ, true, List, [], ◌∷◌, Some, None, slice_get, bytes_eq, cond, refl, sym, ap, ◌∙◌}
 use Rattle.kp_types.specs.declared.chain.TableName.{TableName}
 use Rattle.kp_types.specs.declared.rule.Rule.{Rule}
 use Rattle.kp_table_defs.specs.Rebuild.{TableParts}
 use Rattle.kp_restore.specs.TableSteps.{put, phase_after, with_rule, ruled, committed}
-
-pub if_ok : {X E : Type 0} (r : Result X E) (P Q : X → Type 0) → ((x : X) → P x → Q x) → IfOk r P → IfOk r Q
-if_ok (Ok x) P Q f h = f x h
-if_ok (Err e) P Q f h = tt
 
 pub committed_all : (t : TableParts) (table : TableName) (left : List (List ℕ)) (rules : List Rule) → None ≡ slice_get left 0 → record { table = t; phase = phase_after table } ≡ committed t table left rules
 committed_all t table [] rules h = refl

@@ -4,6 +4,7 @@ ghost use Rattle.kp_restore.specs.BatchSteps as spec;
 
 use crate::built_in::is_built_in;
 use crate::line::Line;
+use crate::lists::with_last;
 use crate::row::{Left, Row};
 use kp_base::{Items, NoMemory, Shared};
 use kp_types::{ChainAt, ChainName, Edit, Rule, TableName};
@@ -386,13 +387,4 @@ fn add_edit(
         writes.push(Edit::Write { at, rules })?;
     }
     Ok(())
-}
-
-/// The items with one more behind them.
-fn with_last<T: Drop>(items: Items<T>, item: T) -> Result<Items<T>, NoMemory>
-    ensures { IfOk result (λ all. all ≡ items ++ item ∷ []) }
-{
-    let mut items = items.into_vec();
-    items.push(item)?;
-    Ok(Items::from_vec(items))
 }

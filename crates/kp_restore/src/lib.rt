@@ -8,6 +8,7 @@ mod batch_reader;
 mod built_in;
 pub mod laws;
 mod line;
+mod lists;
 mod pieces;
 mod places;
 mod print;

@@ -1,11 +1,12 @@
 //! What is read of a table so far, and what a further line makes of it.
-ghost use Rattle.std.specs.Prelude.{◌≡◌, [], ◌∷◌, ◌++◌, IfOk, slice_get, length};
+ghost use Rattle.std.specs.Prelude.{◌≡◌, [], ◌∷◌, ◌++◌, IfOk, OnOk, slice_get, length};
 ghost use Rattle.kp_table_defs.specs.Ranks.{built_in_chains};
 ghost use Rattle.kp_restore_defs.specs.TableText as TableText;
 ghost use Rattle.kp_restore.specs.TableSteps as spec;
 
 use crate::built_in::{built_in_at, may_follow};
 use crate::line::Line;
+use crate::lists::with_last;
 use crate::queue::Queue;
 use kp_base::{Items, NoMemory};
 use kp_rules::Table;
@@ -160,11 +161,7 @@ fn declared(
 ) -> Result<TableReader, NoMemory>
     ensures { IfOk result (λ next. next ≡ spec.declared table section names chain) }
 {
-    let at = ChainAt {
-        table: section,
-        chain: chain.same(),
-    };
-    table.put(at, Items::new(alloc))?;
+    put(&mut table, section, &chain, Items::new(alloc))?;
     let names = with_last(names, chain)?;
     Ok(TableReader {
         table,
@@ -206,11 +203,7 @@ fn ruled(
         if *name == chain {
             return with_rule(table, section, left, rules, rule);
         }
-        let at = ChainAt {
-            table: section,
-            chain: name.same(),
-        };
-        table.put(at, rules)?;
+        put(&mut table, section, name, rules)?;
         rules = Items::new(alloc);
         left.pass();
     }
@@ -268,11 +261,7 @@ fn committed(
     ensures { IfOk result (λ next. next ≡ spec.committed table section left rules) }
 {
     while let Some(name) = left.first() {
-        let at = ChainAt {
-            table: section,
-            chain: name.same(),
-        };
-        table.put(at, rules)?;
+        put(&mut table, section, name, rules)?;
         rules = Items::new(alloc);
         left.pass();
     }
@@ -280,6 +269,22 @@ fn committed(
         table,
         phase: phase_after(section),
     })
+}
+
+/// Puts a chain's rules into the table.
+fn put(
+    table: &mut Table,
+    section: TableName,
+    chain: &ChainName,
+    rules: Items<Rule>,
+) -> Result<(), NoMemory>
+    ensures { OnOk result (table.new ≡ spec.put table.old section chain.now rules) }
+{
+    let at = ChainAt {
+        table: section,
+        chain: chain.same(),
+    };
+    table.put(at, rules)
 }
 
 /// What comes behind a section.
@@ -292,13 +297,4 @@ fn phase_after(section: TableName) -> Phase
         },
         TableName::Filter => Phase::Done,
     }
-}
-
-/// The items with one more behind them.
-fn with_last<T: Drop>(items: Items<T>, item: T) -> Result<Items<T>, NoMemory>
-    ensures { IfOk result (λ all. all ≡ items ++ item ∷ []) }
-{
-    let mut items = items.into_vec();
-    items.push(item)?;
-    Ok(Items::from_vec(items))
 }
