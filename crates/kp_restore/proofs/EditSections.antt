@@ -14,8 +14,8 @@ use Rattle.kp_types.specs.declared.chain.ChainAt.{ChainAt}
 use Rattle.kp_types.specs.declared.rule.Edit.{Edit}
 use Rattle.kp_object_defs.specs.Order.{in_order, distinct_in_order}
 use Rattle.kp_object_defs.specs.Desired.{is_empty}
-use Rattle.kp_restore_defs.specs.TableText.{text_of_lines, table_line, commit_line, declared_line}
-use Rattle.kp_restore_defs.specs.BatchText.{place_of, written_lines, removing_lines, edits_in, edits_section, section_if_edited, batch_text_of}
+use Rattle.kp_restore_defs.specs.TableText.{text_of_lines, table_line, commit_line}
+use Rattle.kp_restore_defs.specs.BatchText.{place_of, written_lines, removing_lines, edits_in, edits_section, batch_text_of}
 use Rattle.kp_restore.specs.Printed.{ended}
 use Rattle.kp_restore.specs.PrintedEdits.{is_in, edits_text, edited_names, with_name, declared_text, written_text, removed_text}
 use Rattle.kp_restore.proofs.Sections.{lines-append}

@@ -1,5 +1,5 @@
 -- What stands before and behind the first line feed, and before and behind a name.
-use Rattle.std.proofs.Common.{◌≡◌, ℕ, ◌-◌, ◌<◌, ◌≤◌, ◌==◌, Bool, true, false, cond, not, bytes_eq, IfSome, IsSome, length-append, List, [], ◌∷◌, ◌++◌, length, take, drop, get_or, Option, Some, None, position, refl, sym, ap, ◌∙◌, arith, nat_lt, suc, zero}
+use Rattle.std.proofs.Common.{◌≡◌, ℕ, ◌-◌, ◌<◌, ◌≤◌, ◌==◌, Bool, true, false, cond, not, bytes_eq, IfSome, IsSome, length-append, List, [], ◌∷◌, ◌++◌, length, take, drop, get_or, Option, Some, None, position, refl, sym, ap, ◌∙◌, arith, nat_lt, suc}
 use Rattle.std.specs.List.{position_or_len}
 use Rattle.std.proofs.lemmas.Bool.{and_from}
 use Rattle.std.proofs.Math.Seq.{take-append_seam, drop-append_seam}

@@ -14,10 +14,10 @@ use Rattle.kp_table_defs.specs.Ranks.{built_in_chains, is_built_in}
 use Rattle.kp_table_defs.specs.Rebuild.{TableParts}
 use Rattle.kp_restore_defs.specs.TableText.{Row, jumps_to_declared}
 use Rattle.kp_restore.specs.declared.line.Line.{Line}
-use Rattle.kp_restore.specs.declared.line.Line.TheVariants.{Section, BuiltIn, Declared, Ruled, Removed, Commit}
+use Rattle.kp_restore.specs.declared.line.Line.TheVariants.{Section, BuiltIn, Declared, Ruled, Commit}
 use Rattle.kp_restore.specs.declared.table_reader.TableReader.{TableReader}
 use Rattle.kp_restore.specs.declared.table_reader.Phase.{Phase}
-use Rattle.kp_restore.specs.declared.table_reader.Phase.TheVariants.{Opening, Declaring, Ruling, Done}
+use Rattle.kp_restore.specs.declared.table_reader.Phase.TheVariants.{Done}
 use Rattle.kp_restore.specs.Machine.{run}
 use Rattle.kp_restore.specs.TableSteps.{step, put, may_follow, declared, with_rule, ruled, declaring}
 use Rattle.kp_restore.proofs.Rows.{names_of, rising, with_rows, with_section}

@@ -1,14 +1,12 @@
 -- The lines of a table's text as what they say.
-use Rattle.std.proofs.Common.{◌≡◌, ℕ, List, [], ◌∷◌, ◌++◌, map, refl, sym, ap, ◌∙◌, append_assoc}
+use Rattle.std.proofs.Common.{◌≡◌, List, [], ◌∷◌, ◌++◌, map, refl, ◌∙◌, append_assoc}
 use Rattle.std.specs.List.{flat_map}
 use Rattle.std.proofs.lemmas.List.{map-append}
 use Rattle.std.proofs.lemmas.Simd.{map-map}
 use Rattle.kp_types.specs.declared.chain.TableName.{TableName}
 use Rattle.kp_types.specs.declared.chain.TableName.TheVariants.{Nat, Filter}
-use Rattle.kp_types.specs.declared.rule.Rule.{Rule}
 use Rattle.kp_table_defs.specs.Rebuild.{Chains}
-use Rattle.kp_restore_defs.specs.RuleText.{rule_line}
-use Rattle.kp_restore_defs.specs.TableText.{Row, built_in_rows, other_rows, row_lines, section_of, table_lines, built_in_line, declared_line}
+use Rattle.kp_restore_defs.specs.TableText.{Row, built_in_rows, other_rows, row_lines, section_of, table_lines}
 use Rattle.kp_restore.specs.declared.line.Line.{Line}
 use Rattle.kp_restore.specs.declared.line.Line.TheVariants.{Section, BuiltIn, Declared, Ruled, Commit}
 use Rattle.kp_restore.specs.Lines.{line_text}

@@ -18,7 +18,7 @@ use Rattle.kp_table_defs.specs.Ranks.{built_in_chains, is_built_in}
 use Rattle.kp_table_defs.specs.Rebuild.{Chains, TableParts}
 use Rattle.kp_restore_defs.specs.TableText.{Row, jumps_to_declared}
 use Rattle.kp_restore.specs.declared.line.Line.{Line}
-use Rattle.kp_restore.specs.declared.line.Line.TheVariants.{Section, BuiltIn, Declared, Ruled, Removed, Commit}
+use Rattle.kp_restore.specs.declared.line.Line.TheVariants.{Section, BuiltIn, Declared, Ruled, Commit}
 use Rattle.kp_restore.specs.declared.table_reader.TableReader.{TableReader}
 use Rattle.kp_restore.specs.declared.table_reader.Phase.TheVariants.{Opening, Declaring, Ruling}
 use Rattle.kp_restore.specs.Machine.{run}
