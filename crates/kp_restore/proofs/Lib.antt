@@ -14,7 +14,6 @@ pub mod Rows
 pub mod RuleLines
 pub mod Sections
 pub mod Splits
-pub mod StepLemmas
 pub mod TableBack
 pub mod TableParts
 pub mod TableReading

@@ -77,16 +77,18 @@ split_names (row ∷ rows) (n ∷ ns) ms h =
     (row ∷ rest.0, rest.1, ap (λ rs. row ∷ rs) rest.2, λ i. first i ∷ rest.3 i, rest.4)
 
 module _ (e : TableReader) (done : e.phase ≡ Done) where
+  -- a step that a test lets pass
+  passes : (b : Bool) (m : TableReader) (ls : List Line) → option_and_then (λ n. run step n ls) (cond b (Some m) None) ≡ Some e → (b ≡ true) × (run step m ls ≡ Some e)
+  passes true m ls h = (refl, h)
+  passes false m ls h = absurd (none-some _ h)
+
   -- ---- The first line
 
   opening_back : (t : TableParts) (table : TableName) (us : List Line) → run step (opening t table) us ≡ Some e → (ls : List Line) × (us ≡ Section table ∷ ls) × (run step (naming t table []) ls ≡ Some e)
   opening_back t table [] h = absurd (owes (opening t table) e refl h done)
-  opening_back t table (Section other ∷ ls) h = by (table_place other == table_place table) refl h
-    where
-      by : (b : Bool) → (table_place other == table_place table) ≡ b → option_and_then (λ m. run step m ls) (cond b (Some (naming t table [])) None) ≡ Some e
-          → (rest : List Line) × (Section other ∷ ls ≡ Section table ∷ rest) × (run step (naming t table []) rest ≡ Some e)
-      by true k g = (ls, ap (λ n. Section n ∷ ls) (one_table_from_test other table k), g)
-      by false k g = absurd (none-some _ g)
+  opening_back t table (Section other ∷ ls) h =
+      let k = passes (table_place other == table_place table) (naming t table []) ls h in
+      (ls, ap (λ n. Section n ∷ ls) (one_table_from_test other table k.0), k.1)
   opening_back t table (l ∷ ls) h = absurd (none-some _ h)
 
   -- ---- Built-in chains
@@ -101,17 +103,10 @@ module _ (e : TableReader) (done : e.phase ≡ Done) where
     built_in_back [] names t us d h = (us, refl, ap (λ ns. run step (naming t table ns) us) (append-nil names) ∙ h)
     built_in_back (c ∷ left) names t [] d h = absurd (owes (naming t table names) e refl h done)
     built_in_back (c ∷ left) names t (BuiltIn other ∷ us) d h =
-        by (bytes_eq other c) refl (with_next t names (Some c) (BuiltIn other) us (next_of table names (c ∷ left) d) h)
-        (λ (k : other ≡ c) g. built_in_back left (names ++ c ∷ []) (put t table c []) us (left_behind table names c (c ∷ left) d) (ap (λ n. run step (declared t table names n) us) (sym k) ∙ g))
-      where
-        by : (b : Bool) → bytes_eq other c ≡ b → option_and_then (λ m. run step m us) (cond b (Some (declared t table names other)) None) ≡ Some e
-            → (other ≡ c → run step (declared t table names other) us ≡ Some e → (ls : List Line) × (us ≡ map BuiltIn left ++ ls) × (run step (naming (with_names table (put t table c []) left) table ((names ++ c ∷ []) ++ left)) ls ≡ Some e))
-            → (ls : List Line) × (BuiltIn other ∷ us ≡ map BuiltIn (c ∷ left) ++ ls) × (run step (naming (with_names table t (c ∷ left)) table (names ++ c ∷ left)) ls ≡ Some e)
-        by true k g more =
-            let same = text_test_exact other c k in
-            let r = more same g in
-            (r.0, (λ i. BuiltIn (same i) ∷ r.1 i), ap (λ ns. run step (naming (with_names table (put t table c []) left) table ns) r.0) (sym (append_assoc names (c ∷ []) left)) ∙ r.2)
-        by false k g more = absurd (none-some _ g)
+        let k = passes (bytes_eq other c) (declared t table names other) us (with_next t names (Some c) (BuiltIn other) us (next_of table names (c ∷ left) d) h) in
+        let same = text_test_exact other c k.0 in
+        let r = built_in_back left (names ++ c ∷ []) (put t table c []) us (left_behind table names c (c ∷ left) d) (ap (λ n. run step (declared t table names n) us) (sym same) ∙ k.1) in
+        (r.0, (λ i. BuiltIn (same i) ∷ r.1 i), ap (λ ns. run step (naming (with_names table (put t table c []) left) table ns) r.0) (sym (append_assoc names (c ∷ []) left)) ∙ r.2)
     built_in_back (c ∷ left) names t (l ∷ us) d h = absurd (none-some _ (with_next t names (Some c) l us (next_of table names (c ∷ left) d) h))
 
     -- ---- Other chains
@@ -127,22 +122,15 @@ module _ (e : TableReader) (done : e.phase ≡ Done) where
     unfolding Follow
     other_back [] names t d h = absurd (owes (naming t table names) e refl h done)
     other_back (Declared c ∷ us) names t d h =
-        by (may_follow table names c) refl (with_next t names None (Declared c) us (next_of table names [] d) h)
-        (λ g. other_back us (names ++ c ∷ []) (put t table c []) (left_behind table names c [] d) g)
-      where
-        by : (b : Bool) → may_follow table names c ≡ b → option_and_then (λ m. run step m us) (cond b (Some (declared t table names c)) None) ≡ Some e
-            → (run step (declared t table names c) us ≡ Some e → Others (names ++ c ∷ []) (put t table c []) us)
-            → Others names t (Declared c ∷ us)
-        by true k g more =
-            let r = more g in (
-              c ∷ r.0,
-              r.1,
-              ap (λ ls. Declared c ∷ ls) r.2,
-              r.3,
-              (k, subst (λ o. Follow table o r.0) (last_again names c) r.4),
-              ap (λ ns. run step (naming (with_names table (put t table c []) r.0) table ns) r.1) (sym (append_assoc names (c ∷ []) r.0)) ∙ r.5,
-            )
-        by false k g more = absurd (none-some _ g)
+        let k = passes (may_follow table names c) (declared t table names c) us (with_next t names None (Declared c) us (next_of table names [] d) h) in
+        let r = other_back us (names ++ c ∷ []) (put t table c []) (left_behind table names c [] d) k.1 in (
+          c ∷ r.0,
+          r.1,
+          ap (λ ls. Declared c ∷ ls) r.2,
+          r.3,
+          (k.0, subst (λ o. Follow table o r.0) (last_again names c) r.4),
+          ap (λ ns. run step (naming (with_names table (put t table c []) r.0) table ns) r.1) (sym (append_assoc names (c ∷ []) r.0)) ∙ r.5,
+        )
     other_back (Ruled chain rule ∷ us) names t d h = no_others names t (Ruled chain rule ∷ us) tt h
     other_back (Commit ∷ us) names t d h = no_others names t (Commit ∷ us) tt h
     other_back (l ∷ us) names t d h = absurd (none-some _ (with_next t names None l us (next_of table names [] d) h))
@@ -180,9 +168,10 @@ module _ (e : TableReader) (done : e.phase ≡ Done) where
     one_rule d r us more (c ∷ cs) t rules j h =
         by (bytes_eq c d) refl h (λ g. passed c cs t rules (Ruled d r ∷ us) j (one_rule d r us more cs (put t table c rules) [] refl g))
       where
-        here : c ≡ d → (b : Bool) → jumps_to_declared t.chains table r.target ≡ b → option_and_then (λ m. run step m us) (cond b (Some (filling t table (c ∷ cs) (rules ++ r ∷ []))) None) ≡ Some e → Filled (c ∷ cs) t rules (Ruled d r ∷ us)
-        here k true to g =
-            let f = more (c ∷ cs) t (rules ++ r ∷ []) (list_all-append (λ x. jumps_to_declared t.chains table x.target) rules (r ∷ []) ∙ and_from _ _ j (and_from _ _ to refl)) g in (
+        here : c ≡ d → option_and_then (λ m. run step m us) (with_rule t table (c ∷ cs) rules r) ≡ Some e → Filled (c ∷ cs) t rules (Ruled d r ∷ us)
+        here k g =
+            let to = passes (jumps_to_declared t.chains table r.target) (filling t table (c ∷ cs) (rules ++ r ∷ [])) us g in
+            let f = more (c ∷ cs) t (rules ++ r ∷ []) (list_all-append (λ x. jumps_to_declared t.chains table x.target) rules (r ∷ []) ∙ and_from _ _ j (and_from _ _ to.0 refl)) to.1 in (
               f.0,
               f.1,
               f.2,
@@ -190,12 +179,11 @@ module _ (e : TableReader) (done : e.phase ≡ Done) where
               f.4,
               f.5,
             )
-        here k false to g = absurd (none-some _ g)
 
         by : (b : Bool) → bytes_eq c d ≡ b → option_and_then (λ m. run step m us) (cond b (with_rule t table (c ∷ cs) rules r) (ruled (put t table c rules) table cs [] d r)) ≡ Some e
             → (run step (filling (put t table c rules) table cs []) (Ruled d r ∷ us) ≡ Some e → Filled (c ∷ cs) t rules (Ruled d r ∷ us))
             → Filled (c ∷ cs) t rules (Ruled d r ∷ us)
-        by true k g next = here (text_test_exact c d k) (jumps_to_declared t.chains table r.target) refl g
+        by true k g next = here (text_test_exact c d k) g
         by false k g next = next g
 
     last_line : (us : List Line) (names : List (List ℕ)) (t : TableParts) (rules : List Rule) → all_jump t.chains table rules ≡ true → run step (filling t table names rules) (Commit ∷ us) ≡ Some e → Filled names t rules (Commit ∷ us)

@@ -5,7 +5,7 @@ use Rattle.std.specs.Option.{option_or}
 use Rattle.std.specs.Ordering.{eq_by_cmp, is_lt}
 use Rattle.std.specs.FinMap.{entries, entries_sorted, get, get-entries, find, is_sorted}
 use Rattle.std.specs.FinMap.Entries.{below_all, where_key, is_sorted-where_key, find-where_key, same_entries}
-use Rattle.std.proofs.lemmas.Bool.{and_parts, and_from, false≢true, not-true, or_from, or_parts}
+use Rattle.std.proofs.lemmas.Bool.{and_parts, and_from, both_ways, false_from_ne_true, false≢true, not-true, or_from, or_parts}
 use Rattle.std.proofs.lemmas.List.Folds.{list_any-append}
 use Rattle.std.proofs.lemmas.List.{map-append}
 use Rattle.std.proofs.lemmas.Option.{same_Some}
@@ -77,11 +77,8 @@ pub not_among : (p : List ℕ → Bool) (name : List ℕ) (ns : List (List ℕ))
 not_among p name [] h a = refl
 not_among p name (n ∷ ns) h a =
     let q = and_parts _ _ a in
-    λ i. by (bytes_eq name n) refl i || not_among p name ns h q.1 i
-  where
-    by : (b : Bool) → bytes_eq name n ≡ b → b ≡ false
-    by false e = refl
-    by true e = let same = text_test_exact name n e in absurd (let t : true ≡ false = sym h ∙ ap p same ∙ not-true _ (and_parts _ _ a).0 in cc)
+    let other : bytes_eq name n ≡ false = false_from_ne_true _ (λ e. both_ways (p n) (not-true _ q.0) (sym (ap p (text_test_exact name n e)) ∙ h)) in
+    or_from _ _ other (not_among p name ns h q.1)
 
 module _ (table : TableName) (built_in others : List Row) (s : IsSection table built_in others) where
   pub built_in_there : (name : List ℕ) → is_some (rules_in built_in name) ≡ is_built_in table name
@@ -118,10 +115,9 @@ table_apart : (table : TableName) (q : ChainAt) (name : List ℕ) → (table_pla
 table_apart table q name h = by q.table table h
   where
     by : (a b : TableName) → (table_place a == table_place b) ≡ false → eq_by_cmp chain_cmp (at a q.chain) (at b name) ≡ false
-    by Nat Nat e = absurd (cc)
     by Nat Filter e = refl
     by Filter Nat e = refl
-    by Filter Filter e = absurd (cc)
+    by a b e = absurd (false≢true (sym e))
 
 less_at : (table : TableName) (n m : List ℕ) → is_lt (chain_cmp (at table n) (at table m)) ≡ is_lt (text_cmp n m)
 less_at Nat n m = refl
@@ -135,6 +131,10 @@ below_names table n (row ∷ rows) = λ i. less_at table n row.0 i && below_name
 sorted_names : (table : TableName) (rows : List Row) → is_sorted chain_cmp (entries_of table rows) ≡ rising (names_of rows)
 sorted_names table [] = refl
 sorted_names table (row ∷ rows) = λ i. below_names table row.0 rows i && sorted_names table rows i
+
+never : (b : Bool) → ◌≡◌ {A = Option (List Rule)} (cond b None None) None
+never true = refl
+never false = refl
 
 module _ (table : TableName) where
   -- the places of the table, and those of its chains that aren't built in
@@ -155,17 +155,15 @@ module _ (table : TableName) where
 
   entries_again : (es : List (ChainAt × List Rule)) → entries_of table (map row_of (others_in es)) ≡ others_in es
   entries_again [] = refl
-  entries_again (e ∷ es) = by (in_table e.0) refl (entries_again es)
-    where
-      keep : (b : Bool) → in_table e.0 ≡ true → entries_of table (map row_of (others_in es)) ≡ others_in es
-          → entries_of table (map row_of (cond b (e ∷ others_in es) (others_in es))) ≡ cond b (e ∷ others_in es) (others_in es)
-      keep true t h = λ i. (same_place e.0 t i, e.1) ∷ h i
-      keep false t h = h
-
-      by : (b : Bool) → in_table e.0 ≡ b → entries_of table (map row_of (others_in es)) ≡ others_in es
-          → entries_of table (map row_of (where_key chain_cmp is_other (cond b (e ∷ where_key chain_cmp in_table es) (where_key chain_cmp in_table es)))) ≡ where_key chain_cmp is_other (cond b (e ∷ where_key chain_cmp in_table es) (where_key chain_cmp in_table es))
-      by true t h = keep (is_other e.0) t h
-      by false t h = h
+  entries_again (e ∷ es) =
+      elim (in_table e.0) as (λ b. in_table e.0 ≡ b → entries_of table (map row_of (where_key chain_cmp is_other (cond b (e ∷ where_key chain_cmp in_table es) (where_key chain_cmp in_table es))))
+          ≡ where_key chain_cmp is_other (cond b (e ∷ where_key chain_cmp in_table es) (where_key chain_cmp in_table es))) [
+        | true ↦ λ t. elim (is_other e.0) as (λ b. entries_of table (map row_of (cond b (e ∷ others_in es) (others_in es))) ≡ cond b (e ∷ others_in es) (others_in es)) [
+          | true ↦ λ i. (same_place e.0 t i, e.1) ∷ entries_again es i
+          | false ↦ entries_again es
+        ]
+        | false ↦ λ t. entries_again es
+      ] refl
 
   rows_of_entries : (rows : List Row) → map row_of (entries_of table rows) ≡ rows
   rows_of_entries [] = refl
@@ -206,8 +204,7 @@ module _ (table : TableName) where
     built_in_rules (n ∷ ns) name = by (get chains (at table n)) refl (bytes_eq name n) refl (built_in_rules ns name)
       where
         nothing : (b : Bool) (o : Option (List Rule)) → o ≡ None → cond b o None ≡ o
-        nothing true o h = refl
-        nothing false o h = sym h
+        nothing b o h = ap (λ o. cond b o None) h ∙ never b ∙ sym h
 
         by : (o : Option (List Rule)) → get chains (at table n) ≡ o → (b : Bool) → bytes_eq name n ≡ b
             → rules_in (filter_map (row_at chains table) ns) name ≡ cond (list_any (bytes_eq name) ns) (get chains (at table name)) None
@@ -258,10 +255,6 @@ module _ (table : TableName) where
       in_place : (q : ChainAt) → find chain_cmp q (others_in (entries chains)) ≡ find chain_cmp q (entries_of table others)
       in_place q = others_found q ∙ by (in_table q) refl
         where
-          never : (b : Bool) → ◌≡◌ {A = Option (List Rule)} (cond b None None) None
-          never true = refl
-          never false = refl
-
           here : (b : Bool) → is_built_in table q.chain ≡ b → cond (not b) (rules_in (built_in ++ others) q.chain) None ≡ rules_in others q.chain
           here true e = sym (other_missing table built_in others s q.chain e)
           here false e = rules_append built_in others q.chain ∙ ap (λ o. option_or o (rules_in others q.chain)) (none_of _ (built_in_there table built_in others s q.chain ∙ e))

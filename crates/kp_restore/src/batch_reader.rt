@@ -3,9 +3,10 @@ ghost use Rattle.std.specs.Prelude.{◌≡◌, ◌∷◌, ◌++◌, [], IfOk, On
 ghost use Rattle.kp_restore.specs.BatchSteps as spec;
 
 use crate::built_in::is_built_in;
+use crate::left::Left;
 use crate::line::Line;
 use crate::lists::with_last;
-use crate::row::{Left, Row};
+use crate::row::Row;
 use kp_base::{Items, NoMemory, Shared};
 use kp_types::{ChainAt, ChainName, Edit, Rule, TableName};
 use std::alloc::Global;
@@ -34,7 +35,7 @@ pub(crate) enum BatchPhase {
         section: TableName,
         part: Part,
         passed: Items<Row>,
-        left: Left,
+        left: Left<Row>,
     },
 }
 
@@ -114,7 +115,7 @@ fn within(
     section: TableName,
     part: Part,
     passed: Items<Row>,
-    left: Left,
+    left: Left<Row>,
     line: Line,
 ) -> Result<Option<BatchReader>, NoMemory>
     ensures { IfOk result (λ next. next ≡ spec.within edits section part passed left line) }
@@ -183,7 +184,7 @@ fn ruled_in(
     section: TableName,
     part: Part,
     passed: Items<Row>,
-    left: Left,
+    left: Left<Row>,
     chain: ChainName,
     rule: Rule,
 ) -> Result<Option<BatchReader>, NoMemory>
@@ -205,7 +206,7 @@ fn ruled(
     edits: Items<Edit>,
     section: TableName,
     passed: Items<Row>,
-    mut left: Left,
+    mut left: Left<Row>,
     chain: ChainName,
     rule: Rule,
 ) -> Result<Option<BatchReader>, NoMemory>
@@ -253,7 +254,7 @@ fn removed_in(
     section: TableName,
     part: Part,
     passed: Items<Row>,
-    left: Left,
+    left: Left<Row>,
     chain: ChainName,
 ) -> Result<Option<BatchReader>, NoMemory>
     ensures { IfOk result (λ next. next ≡ spec.removed_in edits section part passed left chain) }
@@ -272,7 +273,7 @@ fn removed(
     edits: Items<Edit>,
     section: TableName,
     passed: Items<Row>,
-    mut left: Left,
+    mut left: Left<Row>,
     chain: ChainName,
 ) -> Result<Option<BatchReader>, NoMemory>
     ensures { IfOk result (λ next. next ≡ spec.removed_from edits section passed left chain) }
@@ -294,7 +295,7 @@ fn with_removed(
     section: TableName,
     passed: Items<Row>,
     row: Row,
-    left: Left,
+    left: Left<Row>,
 ) -> Result<Option<BatchReader>, NoMemory>
     ensures { IfOk result (λ next. next ≡ spec.with_removed edits section passed row left) }
 {
@@ -324,7 +325,7 @@ fn committed(
     alloc: Global,
     edits: Items<Edit>,
     section: TableName,
-    left: Left,
+    left: Left<Row>,
 ) -> Result<Option<BatchReader>, NoMemory>
     ensures { IfOk result (λ next. next ≡ spec.committed edits section left) }
 {
@@ -345,7 +346,7 @@ fn with_edits(
     alloc: Global,
     edits: Items<Edit>,
     section: TableName,
-    mut left: Left,
+    mut left: Left<Row>,
 ) -> Result<Items<Edit>, NoMemory>
     ensures { IfOk result (λ all. all ≡ edits ++ spec.edits_of section left) }
 {

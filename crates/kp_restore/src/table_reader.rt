@@ -5,9 +5,9 @@ ghost use Rattle.kp_restore_defs.specs.TableText as TableText;
 ghost use Rattle.kp_restore.specs.TableSteps as spec;
 
 use crate::built_in::{built_in_at, may_follow};
+use crate::left::Left;
 use crate::line::Line;
 use crate::lists::with_last;
-use crate::queue::Queue;
 use kp_base::{Items, NoMemory};
 use kp_rules::Table;
 use kp_types::{ChainAt, ChainName, Rule, TableName, Target};
@@ -28,7 +28,7 @@ pub(crate) enum Phase {
     /// The rules of the first of these chains are read.
     Ruling {
         section: TableName,
-        left: Queue,
+        left: Left<ChainName>,
         rules: Items<Rule>,
     },
     /// Nothing is owed.
@@ -140,11 +140,11 @@ fn other_declared(
             Ok(Some(declared(alloc, table, section, names, chain)?))
         }
         Line::Ruled(chain, rule) => {
-            let left = Queue::of(names);
+            let left = Left::of(alloc, names)?;
             ruled(alloc, table, section, left, Items::new(alloc), chain, rule)
         }
         Line::Commit => {
-            let left = Queue::of(names);
+            let left = Left::of(alloc, names)?;
             Ok(Some(committed(alloc, table, section, left, Items::new(alloc))?))
         }
         _ => Ok(None),
@@ -174,7 +174,7 @@ fn ruling(
     alloc: Global,
     table: Table,
     section: TableName,
-    left: Queue,
+    left: Left<ChainName>,
     rules: Items<Rule>,
     line: Line,
 ) -> Result<Option<TableReader>, NoMemory>
@@ -192,20 +192,20 @@ fn ruled(
     alloc: Global,
     mut table: Table,
     section: TableName,
-    mut left: Queue,
+    mut left: Left<ChainName>,
     mut rules: Items<Rule>,
     chain: ChainName,
     rule: Rule,
 ) -> Result<Option<TableReader>, NoMemory>
     ensures { IfOk result (λ next. next ≡ spec.ruled table section left rules chain rule) }
 {
-    while let Some(name) = left.first() {
-        if *name == chain {
+    while let Some(name) = left.pop() {
+        if name == chain {
+            left.put(name)?;
             return with_rule(table, section, left, rules, rule);
         }
-        put(&mut table, section, name, rules)?;
+        put(&mut table, section, &name, rules)?;
         rules = Items::new(alloc);
-        left.pass();
     }
     Ok(None)
 }
@@ -214,7 +214,7 @@ fn ruled(
 fn with_rule(
     table: Table,
     section: TableName,
-    left: Queue,
+    left: Left<ChainName>,
     rules: Items<Rule>,
     rule: Rule,
 ) -> Result<Option<TableReader>, NoMemory>
@@ -255,15 +255,14 @@ fn committed(
     alloc: Global,
     mut table: Table,
     section: TableName,
-    mut left: Queue,
+    mut left: Left<ChainName>,
     mut rules: Items<Rule>,
 ) -> Result<TableReader, NoMemory>
     ensures { IfOk result (λ next. next ≡ spec.committed table section left rules) }
 {
-    while let Some(name) = left.first() {
-        put(&mut table, section, name, rules)?;
+    while let Some(name) = left.pop() {
+        put(&mut table, section, &name, rules)?;
         rules = Items::new(alloc);
-        left.pass();
     }
     Ok(TableReader {
         table,
