@@ -157,7 +157,7 @@ module _ (table : TableName) where
   entries_again [] = refl
   entries_again (e ∷ es) =
       elim (in_table e.0) as (λ b. in_table e.0 ≡ b → entries_of table (map row_of (where_key chain_cmp is_other (cond b (e ∷ where_key chain_cmp in_table es) (where_key chain_cmp in_table es))))
-          ≡ where_key chain_cmp is_other (cond b (e ∷ where_key chain_cmp in_table es) (where_key chain_cmp in_table es))) [
+      ≡ where_key chain_cmp is_other (cond b (e ∷ where_key chain_cmp in_table es) (where_key chain_cmp in_table es))) [
         | true ↦ λ t. elim (is_other e.0) as (λ b. entries_of table (map row_of (cond b (e ∷ others_in es) (others_in es))) ≡ cond b (e ∷ others_in es) (others_in es)) [
           | true ↦ λ i. (same_place e.0 t i, e.1) ∷ entries_again es i
           | false ↦ entries_again es
