@@ -4,9 +4,10 @@ use Rattle.std.specs.Ordering.{nat_cmp, is_lt, ordering_then}
 use Rattle.std.specs.declared.cmp.Ordering.{Ordering}
 use Rattle.std.specs.declared.cmp.Ordering.TheVariants.{Less}
 use Rattle.std.specs.FinMap.Entries.{by_order}
-use Rattle.std.specs.List.{list_all, list_any, flat_map, filter}
-use Rattle.std.proofs.lemmas.Bool.{and_parts, and_from, false≢true, not-true}
+use Rattle.std.specs.List.{list_all, flat_map, filter}
+use Rattle.std.proofs.lemmas.Bool.{and_parts, and_from, false≢true, not-true, or_right}
 use Rattle.std.proofs.lemmas.List.{append-nil}
+use Rattle.std.proofs.lemmas.List.Elements.{filter-append}
 use Rattle.std.proofs.lemmas.List.Folds.{list_all-append}
 use Rattle.kp_base.specs.declared.address.Family.{Family}
 use Rattle.kp_base.specs.Keys.{text_cmp}
@@ -18,13 +19,15 @@ use Rattle.kp_types.specs.declared.chain.ChainAt.{ChainAt}
 use Rattle.kp_types.specs.declared.rule.Edit.{Edit}
 use Rattle.kp_types.specs.declared.rule.Edit.TheVariants.{Remove}
 use Rattle.kp_object_defs.specs.Desired.{is_empty}
+use Rattle.kp_object_defs.proofs.AllOf.{all_filter}
 use Rattle.kp_table_defs.specs.Ranks.{is_built_in}
 use Rattle.kp_restore_defs.specs.RuleText.{is_canonical_rule}
 use Rattle.kp_restore_defs.specs.BatchText.{place_of, edits_in, edit_cmp, are_in_order, is_same_place, edit_each_once, kind_place, is_canonical_edit, is_canonical_batch}
 use Rattle.kp_restore.specs.BatchSteps.{written, removed, edits_of}
 use Rattle.kp_restore.specs.declared.row.Row.{Row}
-use Rattle.kp_restore.proofs.BatchOrder.{less_differs_turned, less_turned}
-use Rattle.kp_restore.proofs.BatchRows.{all_both, none_of, row_of, put_row, rows_of, is_below, rising, fits, all_rows_of, put_first, write_of, remove_of, all_written, all_removed, edits_all, is_in}
+use Rattle.std.specs.Cmp.Lexicographic.{nat_list_eq_equiv}
+use Rattle.kp_restore.proofs.Tests.{all_both, none_of}
+use Rattle.kp_restore.proofs.BatchRows.{row_of, put_row, rows_of, is_below, rising, fits, all_rows_of, put_first, less_turned, write_of, remove_of, all_written, all_removed, edits_all, is_in}
 use Rattle.kp_lemmas.proofs.ListFacts.{test_weaker, test_always}
 use Rattle.kp_lemmas.proofs.Orders.{lesser_text_differs}
 
@@ -44,14 +47,6 @@ insert_first at (e ∷ xs) ys g h =
     ∙ ap (λ o. by_order o (row_of e ∷ row_of (Remove at) ∷ rows_of (xs ++ ys)) (record (row_of e) { chain = at.chain } ∷ rows_of (xs ++ ys)) (row_of (Remove at) ∷ put_row (row_of e) (rows_of (xs ++ ys))))
     (less_turned at.chain (row_of e).chain k.0)
 
-or_right : (b c : Bool) → c ≡ true → (b || c) ≡ true
-or_right true c h = refl
-or_right false c h = h
-
-or_first : (b c : Bool) → b ≡ true → (b || c) ≡ true
-or_first true c h = refl
-or_first false c h = absurd (false≢true h)
-
 pub rows_again : (t : TableName) (rows : List Row) → rising rows ≡ true → list_all (fits t) rows ≡ true → rows_of (edits_of t rows) ≡ rows
 rows_again t [] h f = refl
 rows_again t (row ∷ rows) h f =
@@ -69,8 +64,8 @@ rows_again t (row ∷ rows) h f =
         let bare : row.rules ≡ [] = no_items row.rules (sym (ap (λ b. not b || is_empty row.rules) e) ∙ clear) in
         ap (λ b. rows_of ((cond b [] (write_of t row ∷ []) ++ flat_map (written t) rows) ++ (cond b (remove_of t row ∷ []) [] ++ flat_map (removed t) rows))) e
         ∙ insert_first (record { table = t; chain = row.chain }) (flat_map (written t) rows) (flat_map (removed t) rows)
-        (all_written (λ x. is_below row.chain (row_of x)) t rows ∙ test_weaker (is_below row.chain) (λ s. s.removed || is_below row.chain s) (λ s l. or_right s.removed (is_below row.chain s) l) rows k.0)
-        (all_removed (λ x. is_below row.chain (row_of x)) t rows ∙ test_weaker (is_below row.chain) (λ s. not s.removed || is_below row.chain s) (λ s l. or_right (not s.removed) (is_below row.chain s) l) rows k.0)
+        (all_written (λ x. is_below row.chain (row_of x)) t rows ∙ test_weaker (is_below row.chain) (λ s. s.removed || is_below row.chain s) (λ s. or_right s.removed (is_below row.chain s)) rows k.0)
+        (all_removed (λ x. is_below row.chain (row_of x)) t rows ∙ test_weaker (is_below row.chain) (λ s. not s.removed || is_below row.chain s) (λ s. or_right (not s.removed) (is_below row.chain s)) rows k.0)
         ∙ ap (λ l. record { chain = row.chain; rules = []; removed = true } ∷ l) again
         ∙ (λ i. record { chain = row.chain; rules = sym bare i; removed = sym e i } ∷ rows)
 
@@ -114,29 +109,23 @@ placed_table Filter b = refl
 module _ (t : TableName) where
   writes_in_order : (rows : List Row) → rising rows ≡ true → are_in_order (flat_map (written t) rows) ≡ true
   writes_in_order [] h = refl
-  writes_in_order (r ∷ rows) h = by r.removed (writes_in_order rows (and_parts _ _ h).1)
-    where
-      by : (b : Bool) → are_in_order (flat_map (written t) rows) ≡ true → are_in_order (cond b [] (write_of t r ∷ []) ++ flat_map (written t) rows) ≡ true
-      by true rest = rest
-      by false rest =
-          and_from _ _
-          (all_written (λ x. is_lt (edit_cmp (write_of t r) x)) t rows
-          ∙ test_weaker (is_below r.chain) (λ s. s.removed || is_lt (edit_cmp (write_of t r) (write_of t s)))
-          (λ s l. or_right s.removed _ (ap is_lt (tied_table t (text_cmp r.chain s.chain)) ∙ l)) rows (and_parts _ _ h).0)
-          rest
+  writes_in_order (r ∷ rows) h =
+      let k = and_parts _ _ h in
+      let rest = writes_in_order rows k.1 in
+      let first = all_written (λ x. is_lt (edit_cmp (write_of t r) x)) t rows
+      ∙ test_weaker (is_below r.chain) (λ s. s.removed || is_lt (edit_cmp (write_of t r) (write_of t s)))
+      (λ s l. or_right s.removed _ (ap is_lt (tied_table t (text_cmp r.chain s.chain)) ∙ l)) rows k.0 in
+      elim r.removed as (λ b. are_in_order (cond b [] (write_of t r ∷ []) ++ flat_map (written t) rows) ≡ true) [ true ↦ rest | false ↦ and_from _ _ first rest ]
 
   removes_in_order : (rows : List Row) → rising rows ≡ true → are_in_order (flat_map (removed t) rows) ≡ true
   removes_in_order [] h = refl
-  removes_in_order (r ∷ rows) h = by r.removed (removes_in_order rows (and_parts _ _ h).1)
-    where
-      by : (b : Bool) → are_in_order (flat_map (removed t) rows) ≡ true → are_in_order (cond b (remove_of t r ∷ []) [] ++ flat_map (removed t) rows) ≡ true
-      by false rest = rest
-      by true rest =
-          and_from _ _
-          (all_removed (λ x. is_lt (edit_cmp (remove_of t r) x)) t rows
-          ∙ test_weaker (is_below r.chain) (λ s. not s.removed || is_lt (edit_cmp (remove_of t r) (remove_of t s)))
-          (λ s l. or_right (not s.removed) _ (ap is_lt (tied_table t (text_cmp r.chain s.chain)) ∙ l)) rows (and_parts _ _ h).0)
-          rest
+  removes_in_order (r ∷ rows) h =
+      let k = and_parts _ _ h in
+      let rest = removes_in_order rows k.1 in
+      let first = all_removed (λ x. is_lt (edit_cmp (remove_of t r) x)) t rows
+      ∙ test_weaker (is_below r.chain) (λ s. not s.removed || is_lt (edit_cmp (remove_of t r) (remove_of t s)))
+      (λ s l. or_right (not s.removed) _ (ap is_lt (tied_table t (text_cmp r.chain s.chain)) ∙ l)) rows k.0 in
+      elim r.removed as (λ b. are_in_order (cond b (remove_of t r ∷ []) [] ++ flat_map (removed t) rows) ≡ true) [ true ↦ and_from _ _ first rest | false ↦ rest ]
 
   pub in_order : (rows : List Row) → rising rows ≡ true → are_in_order (edits_of t rows) ≡ true
   in_order rows h =
@@ -171,7 +160,7 @@ module _ (t : TableName) where
           once_insert (flat_map (written t) rows) (flat_map (removed t) rows) (remove_of t r) rest
           (all_written (λ x. not (is_same_place x (remove_of t r))) t rows
           ∙ test_weaker (is_below r.chain) (λ s. s.removed || not (is_same_place (write_of t s) (remove_of t r)))
-          (λ s l. or_right s.removed _ (apart s.chain r.chain (less_differs_turned r.chain s.chain l))) rows (and_parts _ _ h).0)
+          (λ s l. or_right s.removed _ (apart s.chain r.chain (nat_list_eq_equiv.symm s.chain r.chain ∙ lesser_text_differs r.chain s.chain l))) rows (and_parts _ _ h).0)
           (all_removed (λ x. not (is_same_place (remove_of t r) x)) t rows
           ∙ test_weaker (is_below r.chain) (λ s. not s.removed || not (is_same_place (remove_of t r) (remove_of t s)))
           (λ s l. or_right (not s.removed) _ (apart r.chain s.chain (lesser_text_differs r.chain s.chain l))) rows (and_parts _ _ h).0)
@@ -231,49 +220,31 @@ filter_none p (x ∷ xs) h =
     let k = and_parts _ _ h in
     ap (λ b. cond b (x ∷ filter p xs) (filter p xs)) (not-true (p x) k.0) ∙ filter_none p xs k.1
 
-filter_append : {X : Type 0} (p : X → Bool) (xs ys : List X) → filter p (xs ++ ys) ≡ filter p xs ++ filter p ys
-filter_append p [] ys = refl
-filter_append p (x ∷ xs) ys = by (p x) (filter_append p xs ys)
-  where
-    by : (b : Bool) → filter p (xs ++ ys) ≡ filter p xs ++ filter p ys → cond b (x ∷ filter p (xs ++ ys)) (filter p (xs ++ ys)) ≡ cond b (x ∷ filter p xs) (filter p xs) ++ filter p ys
-    by true h = ap (λ l. x ∷ l) h
-    by false h = h
-
-pub all_filter : {X : Type 0} (p q : X → Bool) (xs : List X) → list_all p xs ≡ true → list_all p (filter q xs) ≡ true
-all_filter p q [] h = refl
-all_filter p q (x ∷ xs) h = by (q x) (and_parts _ _ h) (all_filter p q xs (and_parts _ _ h).1)
-  where
-    by : (b : Bool) → (p x ≡ true) × (list_all p xs ≡ true) → list_all p (filter q xs) ≡ true → list_all p (cond b (x ∷ filter q xs) (filter q xs)) ≡ true
-    by true k rest = and_from _ _ k.0 rest
-    by false k rest = rest
-
 pub order_filter : (q : Edit → Bool) (es : List Edit) → are_in_order es ≡ true → are_in_order (filter q es) ≡ true
 order_filter q [] h = refl
-order_filter q (e ∷ es) h = by (q e) (and_parts _ _ h) (order_filter q es (and_parts _ _ h).1)
-  where
-    by : (b : Bool) → (list_all (λ x. is_lt (edit_cmp e x)) es ≡ true) × (are_in_order es ≡ true) → are_in_order (filter q es) ≡ true → are_in_order (cond b (e ∷ filter q es) (filter q es)) ≡ true
-    by true k rest = and_from _ _ (all_filter (λ x. is_lt (edit_cmp e x)) q es k.0) rest
-    by false k rest = rest
+order_filter q (e ∷ es) h =
+    let k = and_parts _ _ h in
+    let rest = order_filter q es k.1 in
+    elim (q e) as (λ b. are_in_order (cond b (e ∷ filter q es) (filter q es)) ≡ true) [ true ↦ and_from _ _ (all_filter (λ x. is_lt (edit_cmp e x)) q es k.0) rest | false ↦ rest ]
 
 pub once_filter : (q : Edit → Bool) (es : List Edit) → edit_each_once es ≡ true → edit_each_once (filter q es) ≡ true
 once_filter q [] h = refl
-once_filter q (e ∷ es) h = by (q e) (and_parts _ _ h) (once_filter q es (and_parts _ _ h).1)
-  where
-    by : (b : Bool) → (not (list_any (is_same_place e) es) ≡ true) × (edit_each_once es ≡ true) → edit_each_once (filter q es) ≡ true → edit_each_once (cond b (e ∷ filter q es) (filter q es)) ≡ true
-    by true k rest =
-        and_from _ _ (none_of (is_same_place e) (filter q es) ∙ all_filter (λ x. not (is_same_place e x)) q es (sym (none_of (is_same_place e) es) ∙ k.0)) rest
-    by false k rest = rest
+once_filter q (e ∷ es) h =
+    let k = and_parts _ _ h in
+    let rest = once_filter q es k.1 in
+    let others = none_of (is_same_place e) (filter q es) ∙ all_filter (λ x. not (is_same_place e x)) q es (sym (none_of (is_same_place e) es) ∙ k.0) in
+    elim (q e) as (λ b. edit_each_once (cond b (e ∷ filter q es) (filter q es)) ≡ true) [ true ↦ and_from _ _ others rest | false ↦ rest ]
 
 -- the sections of the edits of rows
 pub nat_part : (n f : List Row) → edits_in Nat (edits_of Nat n ++ edits_of Filter f) ≡ edits_of Nat n
 nat_part n f =
-    filter_append (is_in Nat) (edits_of Nat n) (edits_of Filter f)
+    filter-append (is_in Nat) (edits_of Nat n) (edits_of Filter f)
     ∙ (λ i. filter_all (is_in Nat) (edits_of Nat n) (edits_true (is_in Nat) Nat (λ r. refl) (λ r. refl) n) i ++ filter_none (is_in Nat) (edits_of Filter f) (edits_true (λ e. not (is_in Nat e)) Filter (λ r. refl) (λ r. refl) f) i)
     ∙ append-nil (edits_of Nat n)
 
 pub filter_part : (n f : List Row) → edits_in Filter (edits_of Nat n ++ edits_of Filter f) ≡ edits_of Filter f
 filter_part n f =
-    filter_append (is_in Filter) (edits_of Nat n) (edits_of Filter f)
+    filter-append (is_in Filter) (edits_of Nat n) (edits_of Filter f)
     ∙ (λ i. filter_none (is_in Filter) (edits_of Nat n) (edits_true (λ e. not (is_in Filter e)) Nat (λ r. refl) (λ r. refl) n) i ++ filter_all (is_in Filter) (edits_of Filter f) (edits_true (is_in Filter) Filter (λ r. refl) (λ r. refl) f) i)
 
 -- behind an edit of filter stand only such

@@ -6,7 +6,7 @@ use Rattle.std.specs.FinMap.Entries.{by_order, put}
 use Rattle.std.specs.List.{list_all, flat_map}
 use Rattle.std.proofs.lemmas.Bool.{and_parts, and_from}
 use Rattle.std.proofs.lemmas.List.{append-nil, map-append}
-use Rattle.std.proofs.lemmas.List.Folds.{list_all-append}
+use Rattle.std.proofs.lemmas.List.Folds.{list_all-append, list_all-map}
 use Rattle.std.proofs.lemmas.Grind.{flat_map-append}
 use Rattle.std.proofs.lemmas.Simd.{map-map}
 use Rattle.kp_base.specs.declared.address.Family.{Family}
@@ -27,7 +27,8 @@ use Rattle.kp_restore.specs.BatchSteps.{written, removed, edits_of}
 use Rattle.kp_restore.specs.declared.line.Line.{Line}
 use Rattle.kp_restore.specs.declared.line.Line.TheVariants as line
 use Rattle.kp_restore.specs.declared.row.Row.{Row}
-use Rattle.kp_restore.proofs.BatchRows.{all_both, row_of, put_row, rows_of, fits, write_of, remove_of, is_in, edits_again}
+use Rattle.kp_restore.proofs.Tests.{all_both, all_flat}
+use Rattle.kp_restore.proofs.BatchRows.{row_of, put_row, rows_of, fits, write_of, remove_of, is_in, edits_again}
 use Rattle.kp_restore.proofs.BatchEdits.{no_items, is_good}
 use Rattle.kp_lemmas.proofs.ListFacts.{test_weaker}
 
@@ -66,8 +67,6 @@ closed t rows =
 keys_put : (k v : List ℕ) (es : List (List ℕ × List ℕ)) (r : Row) (rows : List Row) → k ≡ r.chain → map (λ e. e.0) es ≡ map (λ s. s.chain) rows
     → map (λ e. e.0) (put text_cmp k v es) ≡ map (λ s. s.chain) (put_row r rows)
 keys_put k v [] r [] e h = ap (λ x. x ∷ []) e
-keys_put k v [] r (s ∷ rows) e h = absurd (cc)
-keys_put k v (x ∷ es) r [] e h = absurd (cc)
 keys_put k v (x ∷ es) r (s ∷ rows) e h =
     let first : x.0 ≡ s.chain = cc in
     let rest : map (λ e. e.0) es ≡ map (λ s. s.chain) rows = cc in
@@ -79,12 +78,8 @@ keys_put k v (x ∷ es) r (s ∷ rows) e h =
     by Less Less q f g t = λ i. e i ∷ (f i ∷ g i)
     by Equal Equal q f g t = λ i. f i ∷ g i
     by Greater Greater q f g t = λ i. f i ∷ t i
-    by Less Equal q f g t = absurd (cc)
-    by Less Greater q f g t = absurd (cc)
-    by Equal Less q f g t = absurd (cc)
-    by Equal Greater q f g t = absurd (cc)
-    by Greater Less q f g t = absurd (cc)
-    by Greater Equal q f g t = absurd (cc)
+    by o p q f g t = absurd (cc)
+keys_put k v es r rows e h = absurd (cc)
 
 chain_of : (e : Edit) → (place_of e).chain ≡ (row_of e).chain
 chain_of (Write at rules) = refl
@@ -111,28 +106,19 @@ lines_of_writes t (r ∷ rows) h =
 
 no_writes : (t : TableName) (rows : List Row) → flat_map written_lines (flat_map (removed t) rows) ≡ []
 no_writes t [] = refl
-no_writes t (r ∷ rows) = by r.removed (no_writes t rows)
-  where
-    by : (b : Bool) → flat_map written_lines (flat_map (removed t) rows) ≡ [] → flat_map written_lines (cond b (remove_of t r ∷ []) [] ++ flat_map (removed t) rows) ≡ []
-    by true rest = rest
-    by false rest = rest
+no_writes t (r ∷ rows) = elim r.removed as (λ b. flat_map written_lines (cond b (remove_of t r ∷ []) [] ++ flat_map (removed t) rows) ≡ []) [ true ↦ no_writes t rows | false ↦ no_writes t rows ]
 
 no_removes : (t : TableName) (rows : List Row) → flat_map removing_lines (flat_map (written t) rows) ≡ []
 no_removes t [] = refl
-no_removes t (r ∷ rows) = by r.removed (no_removes t rows)
-  where
-    by : (b : Bool) → flat_map removing_lines (flat_map (written t) rows) ≡ [] → flat_map removing_lines (cond b [] (write_of t r ∷ []) ++ flat_map (written t) rows) ≡ []
-    by true rest = rest
-    by false rest = rest
+no_removes t (r ∷ rows) = elim r.removed as (λ b. flat_map removing_lines (cond b [] (write_of t r ∷ []) ++ flat_map (written t) rows) ≡ []) [ true ↦ no_removes t rows | false ↦ no_removes t rows ]
 
 lines_of_removes : (t : TableName) (rows : List Row) → flat_map removing_lines (flat_map (removed t) rows) ≡ map line_text (flat_map removed_part rows)
 lines_of_removes t [] = refl
-lines_of_removes t (r ∷ rows) = by r.removed (lines_of_removes t rows)
-  where
-    by : (b : Bool) → flat_map removing_lines (flat_map (removed t) rows) ≡ map line_text (flat_map removed_part rows)
-        → flat_map removing_lines (cond b (remove_of t r ∷ []) [] ++ flat_map (removed t) rows) ≡ map line_text (cond b (line.Removed r.chain ∷ []) [] ++ flat_map removed_part rows)
-    by true rest = ap (λ l. line_text (line.Removed r.chain) ∷ l) rest
-    by false rest = rest
+lines_of_removes t (r ∷ rows) =
+    elim r.removed as (λ b. flat_map removing_lines (cond b (remove_of t r ∷ []) [] ++ flat_map (removed t) rows) ≡ map line_text (cond b (line.Removed r.chain ∷ []) [] ++ flat_map removed_part rows)) [
+      | true ↦ ap (λ l. line_text (line.Removed r.chain) ∷ l) (lines_of_removes t rows)
+      | false ↦ lines_of_removes t rows
+    ]
 
 written_printed : (t : TableName) (rows : List Row) → list_all (fits t) rows ≡ true → flat_map written_lines (edits_of t rows) ≡ map line_text (flat_map rule_parts rows)
 written_printed t rows h =
@@ -148,6 +134,9 @@ removed_printed t rows =
 shape : (t : TableName) (es : List Edit) → edits_section t es ≡ table_line t ∷ (map declared_line (distinct_in_order text_cmp (map (λ e. (place_of e).chain) es)) ++ (flat_map written_lines es ++ (flat_map removing_lines es ++ commit_line ∷ [])))
 shape t es = simp append_assoc
 
+split : (t : TableName) (rows : List Row) → map line_text (section_parts t rows) ≡ table_line t ∷ (map line_text (map declared_part rows) ++ (map line_text (flat_map rule_parts rows) ++ (map line_text (flat_map removed_part rows) ++ commit_line ∷ [])))
+split t rows = simp map-append
+
 -- a section's lines from its rows
 section_printed : (t : TableName) (es : List Edit) (rows : List Row) → edits_of t rows ≡ es → list_all (fits t) rows ≡ true
     → distinct_in_order text_cmp (map (λ e. (place_of e).chain) es) ≡ map (λ s. s.chain) rows → edits_section t es ≡ map line_text (section_parts t rows)
@@ -159,20 +148,12 @@ section_printed t es rows e f d =
     let gone : flat_map removing_lines es ≡ map line_text (flat_map removed_part rows) = ap (flat_map removing_lines) (sym e) ∙ removed_printed t rows in
     shape t es
     ∙ (λ i. table_line t ∷ (declared i ++ (ruled i ++ (gone i ++ commit_line ∷ []))))
-    ∙ ap (λ l. table_line t ∷ l) (sym (
-    map-append line_text (map declared_part rows) (flat_map rule_parts rows ++ (flat_map removed_part rows ++ line.Commit ∷ []))
-    ∙ ap (λ l. map line_text (map declared_part rows) ++ l) (
-    map-append line_text (flat_map rule_parts rows) (flat_map removed_part rows ++ line.Commit ∷ [])
-    ∙ ap (λ l. map line_text (flat_map rule_parts rows) ++ l) (map-append line_text (flat_map removed_part rows) (line.Commit ∷ [])))))
+    ∙ sym (split t rows)
 
 put_some : (r : Row) (rows : List Row) → is_empty (put_row r rows) ≡ false
 put_some r [] = refl
-put_some r (s ∷ rows) = by (text_cmp r.chain s.chain)
-  where
-    by : (o : Ordering) → is_empty (by_order o (r ∷ s ∷ rows) (record r { chain = s.chain } ∷ rows) (s ∷ put_row r rows)) ≡ false
-    by Less = refl
-    by Equal = refl
-    by Greater = refl
+put_some r (s ∷ rows) =
+    elim (text_cmp r.chain s.chain) as (λ o. is_empty (by_order o (r ∷ s ∷ rows) (record r { chain = s.chain } ∷ rows) (s ∷ put_row r rows)) ≡ false) [ Less ↦ refl | Equal ↦ refl | Greater ↦ refl ]
 
 pub if_printed : (t : TableName) (es : List Edit) → list_all (is_in t) es ≡ true → are_in_order es ≡ true → edit_each_once es ≡ true → list_all (fits t) (rows_of es) ≡ true
     → section_if_edited t es ≡ map line_text (parts_if t (rows_of es))
@@ -183,20 +164,12 @@ if_printed t (e ∷ es) a o d f =
 
 -- ---- Parts within their bounds
 
-all_flat : {A B : Type 0} (p : B → Bool) (f : A → List B) (xs : List A) → list_all p (flat_map f xs) ≡ list_all (λ x. list_all p (f x)) xs
-all_flat p f [] = refl
-all_flat p f (x ∷ xs) = list_all-append p (f x) (flat_map f xs) ∙ ap (λ b. list_all p (f x) && b) (all_flat p f xs)
-
-all_map : {A B : Type 0} (p : B → Bool) (f : A → B) (xs : List A) → list_all p (map f xs) ≡ list_all (λ x. p (f x)) xs
-all_map p f [] = refl
-all_map p f (x ∷ xs) = ap (λ b. p (f x) && b) (all_map p f xs)
-
 module _ (family : Family) (t : TableName) where
   good_parts : (rows : List Row) → list_all (is_good t family) rows ≡ true → list_all (is_canonical_line family) (section_parts t rows) ≡ true
   good_parts rows g =
       list_all-append (is_canonical_line family) (map declared_part rows) (flat_map rule_parts rows ++ (flat_map removed_part rows ++ line.Commit ∷ []))
       ∙ and_from _ _
-      (all_map (is_canonical_line family) declared_part rows ∙ test_weaker (is_good t family) (λ r. is_chain_name r.chain) (λ r k. (and_parts _ _ k).0) rows g)
+      (list_all-map (is_canonical_line family) declared_part rows ∙ test_weaker (is_good t family) (λ r. is_chain_name r.chain) (λ r k. (and_parts _ _ k).0) rows g)
       (list_all-append (is_canonical_line family) (flat_map rule_parts rows) (flat_map removed_part rows ++ line.Commit ∷ [])
       ∙ and_from _ _
       (all_flat (is_canonical_line family) rule_parts rows
@@ -209,7 +182,7 @@ module _ (family : Family) (t : TableName) where
     where
       good_rules : (chain : List ℕ) (rules : List Rule) → is_chain_name chain ≡ true → list_all (is_canonical_rule family) rules ≡ true → list_all (is_canonical_line family) (map (line.Ruled chain) rules) ≡ true
       good_rules chain rules n k =
-          all_map (is_canonical_line family) (line.Ruled chain) rules
+          list_all-map (is_canonical_line family) (line.Ruled chain) rules
           ∙ test_weaker (is_canonical_rule family) (λ rule. is_chain_name chain && is_canonical_rule family rule) (λ rule l. and_from _ _ n l) rules k
 
       good_removed : (r : Row) (b : Bool) → is_chain_name r.chain ≡ true → list_all (is_canonical_line family) (cond b (line.Removed r.chain ∷ []) []) ≡ true
@@ -226,13 +199,13 @@ module _ (family : Family) (t : TableName) where
       let more = and_parts _ _ (sym (list_all-append (is_canonical_line family) (flat_map rule_parts rows) (flat_map removed_part rows ++ line.Commit ∷ [])) ∙ parts.1) in
       all_both (λ r. is_chain_name r.chain) (λ r. list_all (is_canonical_line family) (rule_parts r)) (is_good t family)
       (λ r k l. and_from (is_chain_name r.chain) (list_all (is_canonical_rule family) r.rules) k (rules_good r.chain r.rules l)) rows
-      (sym (all_map (is_canonical_line family) declared_part rows) ∙ parts.0)
+      (sym (list_all-map (is_canonical_line family) declared_part rows) ∙ parts.0)
       (sym (all_flat (is_canonical_line family) rule_parts rows) ∙ more.0)
     where
       rules_good : (chain : List ℕ) (rules : List Rule) → list_all (is_canonical_line family) (map (line.Ruled chain) rules) ≡ true → list_all (is_canonical_rule family) rules ≡ true
       rules_good chain rules k =
           test_weaker (λ rule. is_chain_name chain && is_canonical_rule family rule) (is_canonical_rule family) (λ rule l. (and_parts (is_chain_name chain) (is_canonical_rule family rule) l).1) rules
-          (sym (all_map (is_canonical_line family) (line.Ruled chain) rules) ∙ k)
+          (sym (list_all-map (is_canonical_line family) (line.Ruled chain) rules) ∙ k)
 
   pub if_good : (rows : List Row) → list_all (is_canonical_line family) (parts_if t rows) ≡ true → list_all (is_good t family) rows ≡ true
   if_good [] h = refl

@@ -1,15 +1,16 @@
 -- The chains of a section in order, with what its edits say of each.
 use Rattle.std.proofs.Common.{◌≡◌, ℕ, Bool, true, false, cond, not, ◌&&◌, ◌||◌, ◌==◌, List, [], ◌∷◌, ◌++◌, bytes_eq, refl, sym, ap, subst, ◌∙◌}
-use Rattle.std.specs.Ordering.{nat_cmp, is_lt, ordering_then}
+use Rattle.std.specs.Ordering.{nat_cmp, is_lt, ordering_reverse, ordering_then}
 use Rattle.std.specs.Cmp.{nat_cmp_total}
 use Rattle.std.specs.declared.cmp.Ordering.{Ordering}
 use Rattle.std.specs.declared.cmp.Ordering.TheVariants.{Less, Equal, Greater}
 use Rattle.std.specs.FinMap.Entries.{by_order}
-use Rattle.std.specs.List.{list_all, list_any, flat_map}
+use Rattle.std.specs.List.{list_all, flat_map}
 use Rattle.std.proofs.lemmas.Bool.{and_parts, and_from, false≢true, eqb-true}
 use Rattle.std.proofs.lemmas.Cmp.{tied_itself}
 use Rattle.std.proofs.lemmas.List.Folds.{list_all-append}
-use Rattle.std.specs.Cmp.Lexicographic.{nat_list_eq_equiv}
+use Rattle.std.specs.Cmp.Lexicographic.{nat_list_cmp_total, nat_list_eq_equiv}
+use Rattle.std.specs.FinMap.{nat_cmp-IsAntisymmetric, slice_cmp-IsAntisymmetric}
 use Rattle.kp_base.specs.Keys.{text_cmp}
 use Rattle.kp_types.specs.Places.{table_place}
 use Rattle.kp_types.specs.declared.chain.TableName.{TableName}
@@ -22,27 +23,18 @@ use Rattle.kp_table_defs.specs.Ranks.{is_built_in}
 use Rattle.kp_restore_defs.specs.BatchText.{place_of, edit_cmp, are_in_order, is_same_place, edit_each_once}
 use Rattle.kp_restore.specs.BatchSteps.{written, removed, edits_of}
 use Rattle.kp_restore.specs.declared.row.Row.{Row}
-use Rattle.kp_restore.proofs.BatchOrder.{tied_names, less_through, greater_turned}
+use Rattle.kp_restore.proofs.Tests.{all_both, none_of}
 use Rattle.kp_lemmas.proofs.ListFacts.{test_weaker}
-use Rattle.kp_lemmas.proofs.Orders.{less_from_test}
+use Rattle.kp_lemmas.proofs.Orders.{less_from_test, less_through}
 use Rattle.kp_types.proofs.ChainOrder.{one_table_from_test}
 
--- ---- Tests of all elements
+-- ---- The order of names
 
-pub all_both : {X : Type 0} (p q r : X → Bool) → ((x : X) → p x ≡ true → q x ≡ true → r x ≡ true) → (xs : List X) → list_all p xs ≡ true → list_all q xs ≡ true → list_all r xs ≡ true
-all_both p q r f [] g h = refl
-all_both p q r f (x ∷ xs) g h =
-    let k = and_parts _ _ g in
-    let l = and_parts _ _ h in
-    and_from _ _ (f x k.0 l.0) (all_both p q r f xs k.1 l.1)
+greater_turned : (a b : List ℕ) → text_cmp a b ≡ Greater → is_lt (text_cmp b a) ≡ true
+greater_turned a b e = ap is_lt (nat_list_cmp_total.antisymm b a ∙ ap ordering_reverse e)
 
-pub none_of : {X : Type 0} (p : X → Bool) (xs : List X) → not (list_any p xs) ≡ list_all (λ x. not (p x)) xs
-none_of p [] = refl
-none_of p (x ∷ xs) = by (p x) (none_of p xs)
-  where
-    by : (b : Bool) → not (list_any p xs) ≡ list_all (λ y. not (p y)) xs → not (b || list_any p xs) ≡ (not b && list_all (λ y. not (p y)) xs)
-    by true h = refl
-    by false h = h
+pub less_turned : (a b : List ℕ) → is_lt (text_cmp a b) ≡ true → text_cmp b a ≡ Greater
+less_turned a b h = nat_list_cmp_total.antisymm b a ∙ ap ordering_reverse (less_from_test (text_cmp a b) h)
 
 -- ---- Rows of edits
 
@@ -75,7 +67,7 @@ abbrev pub fits : TableName → Row → Bool
 fits table row = not (is_built_in table row.chain) && (not row.removed || is_empty row.rules)
 
 pub below_all : (a b : List ℕ) (rows : List Row) → is_lt (text_cmp a b) ≡ true → list_all (is_below b) rows ≡ true → list_all (is_below a) rows ≡ true
-below_all a b rows h = test_weaker (is_below b) (is_below a) (λ s k. less_through a b s.chain h k) rows
+below_all a b rows h = test_weaker (is_below b) (is_below a) (λ s k. less_through nat_list_cmp_total a b s.chain h k) rows
 
 all_put : (p : Row → Bool) → ((r s : Row) → p r ≡ true → p s ≡ true → p (record r { chain = s.chain }) ≡ true) → (r : Row) (rows : List Row) → p r ≡ true → list_all p rows ≡ true → list_all p (put_row r rows) ≡ true
 all_put p f r [] h all = and_from _ _ h refl
@@ -122,21 +114,19 @@ remove_of table row = Remove (record { table = table; chain = row.chain })
 
 pub all_written : (p : Edit → Bool) (t : TableName) (rows : List Row) → list_all p (flat_map (written t) rows) ≡ list_all (λ s. s.removed || p (write_of t s)) rows
 all_written p t [] = refl
-all_written p t (s ∷ rows) = by s.removed (all_written p t rows)
-  where
-    by : (b : Bool) → list_all p (flat_map (written t) rows) ≡ list_all (λ s. s.removed || p (write_of t s)) rows
-        → list_all p (cond b [] (write_of t s ∷ []) ++ flat_map (written t) rows) ≡ ((b || p (write_of t s)) && list_all (λ s. s.removed || p (write_of t s)) rows)
-    by true h = h
-    by false h = ap (λ x. p (write_of t s) && x) h
+all_written p t (s ∷ rows) =
+    elim s.removed as (λ b. list_all p (cond b [] (write_of t s ∷ []) ++ flat_map (written t) rows) ≡ ((b || p (write_of t s)) && list_all (λ s. s.removed || p (write_of t s)) rows)) [
+      | true ↦ all_written p t rows
+      | false ↦ ap (λ x. p (write_of t s) && x) (all_written p t rows)
+    ]
 
 pub all_removed : (p : Edit → Bool) (t : TableName) (rows : List Row) → list_all p (flat_map (removed t) rows) ≡ list_all (λ s. not s.removed || p (remove_of t s)) rows
 all_removed p t [] = refl
-all_removed p t (s ∷ rows) = by s.removed (all_removed p t rows)
-  where
-    by : (b : Bool) → list_all p (flat_map (removed t) rows) ≡ list_all (λ s. not s.removed || p (remove_of t s)) rows
-        → list_all p (cond b (remove_of t s ∷ []) [] ++ flat_map (removed t) rows) ≡ ((not b || p (remove_of t s)) && list_all (λ s. not s.removed || p (remove_of t s)) rows)
-    by true h = ap (λ x. p (remove_of t s) && x) h
-    by false h = h
+all_removed p t (s ∷ rows) =
+    elim s.removed as (λ b. list_all p (cond b (remove_of t s ∷ []) [] ++ flat_map (removed t) rows) ≡ ((not b || p (remove_of t s)) && list_all (λ s. not s.removed || p (remove_of t s)) rows)) [
+      | true ↦ ap (λ x. p (remove_of t s) && x) (all_removed p t rows)
+      | false ↦ all_removed p t rows
+    ]
 
 -- what holds of the edits of rows, by row
 pub edits_all : (p : Edit → Bool) (t : TableName) (rows : List Row) → list_all (λ s. s.removed || p (write_of t s)) rows ≡ true → list_all (λ s. not s.removed || p (remove_of t s)) rows ≡ true → list_all p (edits_of t rows) ≡ true
@@ -181,7 +171,7 @@ put_write t r (s ∷ rows) kept h = by (text_cmp r.chain s.chain) refl (and_part
         × (flat_map (removed t) (by_order o (r ∷ s ∷ rows) (record r { chain = s.chain } ∷ rows) (s ∷ put_row r rows)) ≡ flat_map (removed t) (s ∷ rows))
     by Less e k rest = (refl, ap (λ b. cond b (remove_of t r ∷ []) [] ++ flat_map (removed t) (s ∷ rows)) kept)
     by Equal e k rest =
-        absurd (false≢true (ap not (sym (subst (λ x. bytes_eq r.chain x ≡ true) (tied_names r.chain s.chain e) (nat_list_eq_equiv.refl r.chain))) ∙ k.0))
+        absurd (false≢true (ap not (sym (subst (λ x. bytes_eq r.chain x ≡ true) (slice_cmp-IsAntisymmetric nat_cmp-IsAntisymmetric r.chain s.chain e) (nat_list_eq_equiv.refl r.chain))) ∙ k.0))
     by Greater e k rest =
         let gone : written t s ≡ [] = ap (λ b. cond b [] (write_of t s ∷ [])) (either_true s.removed (is_lt (text_cmp r.chain s.chain)) k.1 (ap is_lt e)) in (
           ap (λ l. l ++ flat_map (written t) (put_row r rows)) gone ∙ rest.0 ∙ ap (λ l. written t r ++ (l ++ flat_map (written t) rows)) (sym gone),

@@ -1,7 +1,7 @@
 -- What the reader of batches takes begins the lines of a batch.
 use Rattle.std.proofs.Common.{◌≡◌, ℕ, ◌-◌, Bool, true, false, cond, not, ◌&&◌, ◌||◌, List, [], ◌∷◌, ◌++◌, map, length, bytes_eq, slice_get, Option, Some, None, refl, sym, ap, subst, ◌∙◌, append_assoc, option_and_then}
 use Rattle.std.specs.List.{list_all, flat_map}
-use Rattle.std.proofs.lemmas.Bool.{and_parts, and_from, false≢true}
+use Rattle.std.proofs.lemmas.Bool.{and_parts, and_from, false≢true, not-true, or_left}
 use Rattle.std.proofs.lemmas.List.{append-nil, map-append}
 use Rattle.std.proofs.lemmas.List.Folds.{list_all-append}
 use Rattle.std.proofs.lemmas.Grind.{flat_map-append}
@@ -21,12 +21,13 @@ use Rattle.kp_restore.specs.declared.batch_reader.Part.TheVariants.{Declaring, R
 use Rattle.kp_restore.specs.declared.batch_reader.BatchPhase.{BatchPhase}
 use Rattle.kp_restore.specs.declared.batch_reader.BatchPhase.TheVariants.{Between, Within}
 use Rattle.kp_restore.specs.declared.batch_reader.BatchReader.{BatchReader}
-use Rattle.kp_restore.proofs.BatchOrder.{less_through}
 use Rattle.kp_restore.proofs.BatchRows.{is_below, rising, fits}
 use Rattle.kp_restore.proofs.BatchParts.{declared_part, rule_parts, removed_part, open_parts, section_parts, parts_if, closed}
-use Rattle.kp_restore.proofs.BatchTaken.{rising_swap, last_more}
-use Rattle.std.proofs.lemmas.Option.{cond_some, none-some}
+use Rattle.kp_restore.proofs.BatchTaken.{all_swap, all_at, rising_swap, last_more}
+use Rattle.std.proofs.lemmas.Option.{cond_some, none-some, same_Some}
 use Rattle.kp_lemmas.proofs.ListFacts.{test_weaker}
+use Rattle.kp_lemmas.proofs.Orders.{less_through}
+use Rattle.std.specs.Cmp.Lexicographic.{nat_list_cmp_total}
 use Rattle.kp_base.proofs.SameParts.{text_test_exact}
 
 -- ---- Rows of a section
@@ -92,7 +93,7 @@ rising_more (r ∷ s ∷ rows) chain h b =
     let below = and_parts _ _ (sym (list_all-append (is_below s.chain) rows (fresh chain ∷ [])) ∙ (and_parts _ _ rest).0) in
     and_from _ _
     (list_all-append (is_below r.chain) (s ∷ rows) (fresh chain ∷ [])
-    ∙ and_from _ _ k.0 (and_from _ _ (less_through r.chain s.chain chain (and_parts _ _ k.0).0 (and_parts _ _ below.1).0) refl))
+    ∙ and_from _ _ k.0 (and_from _ _ (less_through nat_list_cmp_total r.chain s.chain chain (and_parts _ _ k.0).0 (and_parts _ _ below.1).0) refl))
     rest
 
 open_fresh : (t : TableName) (rows : List Row) → list_all is_fresh rows ≡ true → open_parts t rows ≡ line.Section t ∷ map declared_part rows
@@ -103,8 +104,6 @@ open_fresh t rows h =
 module _ (edits : List Edit) (t : TableName) where
   declare_holds : (part : Part) (passed left : List Row) (chain : List ℕ) (next : BatchReader) → IsSection t (passed ++ left) → PartHolds part passed left
       → declared edits t part passed chain ≡ Some next → Led edits t (passed ++ left) (line.Declared chain) next
-  declare_holds Ruling passed left chain next s h e = absurd (none-some next e)
-  declare_holds Removing passed left chain next s h e = absurd (none-some next e)
   declare_holds Declaring passed left chain next s h e =
       let all : passed ++ left ≡ passed = ap (λ l. passed ++ l) h.0 ∙ append-nil passed in
       let more : (passed ++ fresh chain ∷ []) ++ [] ≡ passed ++ fresh chain ∷ [] = append-nil (passed ++ fresh chain ∷ []) in
@@ -126,47 +125,21 @@ module _ (edits : List Edit) (t : TableName) where
             ∙ ap (λ l. line.Section t ∷ l) (map-append declared_part passed (fresh chain ∷ []))
             ∙ ap (λ l. l ++ line.Declared chain ∷ []) (sym (ap (open_parts t) all ∙ open_fresh t passed h.1));
       }
+  declare_holds part passed left chain next s h e = absurd (none-some next e)
 
   -- ---- Rules
-
-  fits_swap : (before : List Row) (a b : Row) (behind : List Row) → list_all (fits t) (before ++ a ∷ behind) ≡ true → fits t b ≡ true → list_all (fits t) (before ++ b ∷ behind) ≡ true
-  fits_swap before a b behind h k =
-      let l = and_parts _ _ (sym (list_all-append (fits t) before (a ∷ behind)) ∙ h) in
-      list_all-append (fits t) before (b ∷ behind) ∙ and_from _ _ l.0 (and_from _ _ k (and_parts _ _ l.1).1)
 
   -- a rule at the end of the rules so far
   one_rule : (before : List Row) (row : Row) (rule : Rule) (behind : List Row) → list_all is_kept (before ++ row ∷ behind) ≡ true → list_all is_kept (before ++ with_rule row rule ∷ behind) ≡ true → list_all is_fresh behind ≡ true
       → open_parts t (before ++ with_rule row rule ∷ behind) ≡ open_parts t (before ++ row ∷ behind) ++ line.Ruled row.chain rule ∷ []
   one_rule before row rule behind k l f =
-      let names : map declared_part (before ++ with_rule row rule ∷ behind) ≡ map declared_part (before ++ row ∷ behind) =
-      map-append declared_part before (with_rule row rule ∷ behind) ∙ sym (map-append declared_part before (row ∷ behind))
-      in
-      let old : flat_map rule_parts (before ++ row ∷ behind) ≡ flat_map rule_parts before ++ rule_parts row =
-      flat_map-append rule_parts before (row ∷ behind) ∙ (λ i. flat_map rule_parts before ++ (rule_parts row ++ no_rules behind f i)) ∙ ap (λ q. flat_map rule_parts before ++ q) (append-nil (rule_parts row))
-      in
-      let new : flat_map rule_parts (before ++ with_rule row rule ∷ behind) ≡ flat_map rule_parts before ++ (rule_parts row ++ line.Ruled row.chain rule ∷ []) =
-      flat_map-append rule_parts before (with_rule row rule ∷ behind) ∙ (λ i. flat_map rule_parts before ++ (rule_parts (with_rule row rule) ++ no_rules behind f i))
-      ∙ ap (λ q. flat_map rule_parts before ++ q) (append-nil (rule_parts (with_rule row rule)) ∙ map-append (line.Ruled row.chain) row.rules (rule ∷ []))
-      in
-      let rules : flat_map rule_parts (before ++ with_rule row rule ∷ behind) ≡ flat_map rule_parts (before ++ row ∷ behind) ++ line.Ruled row.chain rule ∷ [] =
-      new ∙ sym (append_assoc (flat_map rule_parts before) (rule_parts row) (line.Ruled row.chain rule ∷ [])) ∙ ap (λ q. q ++ line.Ruled row.chain rule ∷ []) (sym old)
-      in
-      (λ i. line.Section t ∷ names i ++ (rules i ++ no_removes (before ++ with_rule row rule ∷ behind) l i))
-      ∙ ap (λ q. (line.Section t ∷ map declared_part (before ++ row ∷ behind)) ++ q) (append-nil (flat_map rule_parts (before ++ row ∷ behind) ++ line.Ruled row.chain rule ∷ []))
-      ∙ sym (append_assoc (line.Section t ∷ map declared_part (before ++ row ∷ behind)) (flat_map rule_parts (before ++ row ∷ behind)) (line.Ruled row.chain rule ∷ []))
-      ∙ ap (λ q. ((line.Section t ∷ map declared_part (before ++ row ∷ behind)) ++ q) ++ line.Ruled row.chain rule ∷ [])
-      (sym ((λ i. flat_map rule_parts (before ++ row ∷ behind) ++ no_removes (before ++ row ∷ behind) k i) ∙ append-nil (flat_map rule_parts (before ++ row ∷ behind))))
-
-  kept_swap : (before : List Row) (a b : Row) (behind : List Row) → list_all is_kept (before ++ a ∷ behind) ≡ true → is_kept b ≡ true → list_all is_kept (before ++ b ∷ behind) ≡ true
-  kept_swap before a b behind h k =
-      let l = and_parts _ _ (sym (list_all-append is_kept before (a ∷ behind)) ∙ h) in
-      list_all-append is_kept before (b ∷ behind) ∙ and_from _ _ l.0 (and_from _ _ k (and_parts _ _ l.1).1)
-
-  kept_at : (before : List Row) (a : Row) (behind : List Row) → list_all is_kept (before ++ a ∷ behind) ≡ true → is_kept a ≡ true
-  kept_at before a behind h = (and_parts _ _ (and_parts _ _ (sym (list_all-append is_kept before (a ∷ behind)) ∙ h)).1).0
-
-  fits_at : (before : List Row) (a : Row) (behind : List Row) → list_all (fits t) (before ++ a ∷ behind) ≡ true → fits t a ≡ true
-  fits_at before a behind h = (and_parts _ _ (and_parts _ _ (sym (list_all-append (fits t) before (a ∷ behind)) ∙ h)).1).0
+      let parts = and_parts _ _ (sym (list_all-append is_kept before (row ∷ behind)) ∙ k) in
+      let more = and_parts _ _ parts.1 in
+      let kept : row.removed ≡ false = not-true _ more.0 in
+      let first : flat_map removed_part before ≡ [] = no_removes before parts.0 in
+      let last : flat_map removed_part behind ≡ [] = no_removes behind more.1 in
+      let bare : flat_map rule_parts behind ≡ [] = no_rules behind f in
+      simp (map-append, flat_map-append, kept, first, last, bare, append-nil, append_assoc)
 
   -- the tail of what is left
   abbrev tail_fresh : List Row → Bool
@@ -192,29 +165,22 @@ module _ (edits : List Edit) (t : TableName) where
       by true g e later =
           let kept_all : list_all is_kept (passed ++ row ∷ rows) ≡ true = ap (list_all is_kept) a ∙ k in
           let fit_all : list_all (fits t) (passed ++ row ∷ rows) ≡ true = ap (list_all (fits t)) a ∙ s.fit in
-          let kept_row = kept_at passed row rows kept_all in
-          let new_kept = kept_swap passed row (with_rule row rule) rows kept_all kept_row in
+          let kept_row = all_at is_kept passed row rows kept_all in
+          let new_kept = all_swap is_kept passed row (with_rule row rule) rows kept_all kept_row in
           record {
             part = Ruling;
             passed = passed;
             left = with_rule row rule ∷ rows;
-            is = same next e;
+            is = sym (same_Some _ next e);
             section = record {
               rises = rising_swap passed row (with_rule row rule) rows refl (ap rising a ∙ s.rises);
-              fit = fits_swap passed row (with_rule row rule) rows fit_all
-                  (and_from _ _ (and_parts (not (is_built_in t row.chain)) (not row.removed || is_empty row.rules) (fits_at passed row rows fit_all)).0 (or_first (not row.removed) (is_empty (row.rules ++ rule ∷ [])) kept_row));
+              fit = all_swap (fits t) passed row (with_rule row rule) rows fit_all
+                  (and_from _ _ (and_parts (not (is_built_in t row.chain)) (not row.removed || is_empty row.rules) (all_at (fits t) passed row rows fit_all)).0 (or_left (not row.removed) (is_empty (row.rules ++ rule ∷ [])) kept_row));
             };
             holds = (new_kept, with_rule row rule, rows, refl, f);
             parts = one_rule passed row rule rows kept_all new_kept f
                 ∙ (λ i. open_parts t (a i) ++ line.Ruled (text_test_exact row.chain chain g i) rule ∷ []);
           }
-        where
-          same : (next : BatchReader) → Some (record { edits = edits; phase = Within t Ruling passed (with_rule row rule ∷ rows) }) ≡ Some next → next ≡ record { edits = edits; phase = Within t Ruling passed (with_rule row rule ∷ rows) }
-          same next e = cc
-
-          or_first : (b c : Bool) → b ≡ true → (b || c) ≡ true
-          or_first true c h = refl
-          or_first false c h = absurd (false≢true h)
 
   ruled_holds : (part : Part) (passed left : List Row) (chain : List ℕ) (rule : Rule) (next : BatchReader) → IsSection t (passed ++ left) → PartHolds part passed left
       → ruled_in edits t part passed left chain rule ≡ Some next → Led edits t (passed ++ left) (line.Ruled chain rule) next
@@ -223,33 +189,16 @@ module _ (edits : List Edit) (t : TableName) where
       rule_holds [] (passed ++ left) (passed ++ left) chain rule next refl s (fresh_kept (passed ++ left) all) (tail_of (passed ++ left) all) e
   ruled_holds Ruling passed left chain rule next s h e =
       rule_holds passed left (passed ++ left) chain rule next refl s h.0 (ap tail_fresh h.3 ∙ h.4) e
-  ruled_holds Removing passed left chain rule next s h e = absurd (none-some next e)
+  ruled_holds part passed left chain rule next s h e = absurd (none-some next e)
 
   -- ---- Removes
 
   one_remove : (before : List Row) (row : Row) (behind : List Row) → is_kept row ≡ true → list_all is_kept behind ≡ true
       → open_parts t (before ++ record row { removed = true } ∷ behind) ≡ open_parts t (before ++ row ∷ behind) ++ line.Removed row.chain ∷ []
   one_remove before row behind k l =
-      let gone : Row = record row { removed = true } in
-      let names : map declared_part (before ++ gone ∷ behind) ≡ map declared_part (before ++ row ∷ behind) =
-      map-append declared_part before (gone ∷ behind) ∙ sym (map-append declared_part before (row ∷ behind))
-      in
-      let rules : flat_map rule_parts (before ++ gone ∷ behind) ≡ flat_map rule_parts (before ++ row ∷ behind) =
-      flat_map-append rule_parts before (gone ∷ behind) ∙ sym (flat_map-append rule_parts before (row ∷ behind))
-      in
-      let old : flat_map removed_part (before ++ row ∷ behind) ≡ flat_map removed_part before =
-      flat_map-append removed_part before (row ∷ behind) ∙ ap (λ q. flat_map removed_part before ++ q) (no_removes (row ∷ behind) (and_from _ _ k l)) ∙ append-nil (flat_map removed_part before)
-      in
-      let new : flat_map removed_part (before ++ gone ∷ behind) ≡ flat_map removed_part before ++ line.Removed row.chain ∷ [] =
-      flat_map-append removed_part before (gone ∷ behind) ∙ ap (λ q. flat_map removed_part before ++ line.Removed row.chain ∷ q) (no_removes behind l)
-      in
-      let removes : flat_map removed_part (before ++ gone ∷ behind) ≡ flat_map removed_part (before ++ row ∷ behind) ++ line.Removed row.chain ∷ [] =
-      new ∙ ap (λ q. q ++ line.Removed row.chain ∷ []) (sym old)
-      in
-      (λ i. line.Section t ∷ names i ++ (rules i ++ removes i))
-      ∙ ap (λ q. (line.Section t ∷ map declared_part (before ++ row ∷ behind)) ++ q)
-      (sym (append_assoc (flat_map rule_parts (before ++ row ∷ behind)) (flat_map removed_part (before ++ row ∷ behind)) (line.Removed row.chain ∷ [])))
-      ∙ sym (append_assoc (line.Section t ∷ map declared_part (before ++ row ∷ behind)) (flat_map rule_parts (before ++ row ∷ behind) ++ flat_map removed_part (before ++ row ∷ behind)) (line.Removed row.chain ∷ []))
+      let kept : row.removed ≡ false = not-true _ k in
+      let last : flat_map removed_part behind ≡ [] = no_removes behind l in
+      simp (map-append, flat_map-append, kept, last, append-nil, append_assoc)
 
   some_more : (rows : List Row) (row : Row) → is_empty (rows ++ row ∷ []) ≡ false
   some_more [] row = refl
@@ -262,9 +211,6 @@ module _ (edits : List Edit) (t : TableName) where
       by (bytes_eq row.chain chain) refl e
       (remove_holds (passed ++ row ∷ []) rows all chain next (append_assoc passed (row ∷ []) rows ∙ a) s (and_parts _ _ k).1)
     where
-      gone : Row
-      gone = record row { removed = true }
-
       by : (b : Bool) → bytes_eq row.chain chain ≡ b
           → cond b (with_removed edits t passed row rows) (removed_from edits t (passed ++ row ∷ []) rows chain) ≡ Some next
           → (removed_from edits t (passed ++ row ∷ []) rows chain ≡ Some next → Led edits t all (line.Removed chain) next)
@@ -282,8 +228,8 @@ module _ (edits : List Edit) (t : TableName) where
             is = sym step.1;
             section = record {
               rises = ap rising whole ∙ rising_swap passed row (record row { removed = true }) rows refl (ap rising a ∙ s.rises);
-              fit = ap (list_all (fits t)) whole ∙ fits_swap passed row (record row { removed = true }) rows fit_all
-                  (and_from _ _ (and_parts (not (is_built_in t row.chain)) (not row.removed || is_empty row.rules) (fits_at passed row rows fit_all)).0 step.0);
+              fit = ap (list_all (fits t)) whole ∙ all_swap (fits t) passed row (record row { removed = true }) rows fit_all
+                  (and_from _ _ (and_parts (not (is_built_in t row.chain)) (not row.removed || is_empty row.rules) (all_at (fits t) passed row rows fit_all)).0 step.0);
             };
             holds = (kept_ones.1, some_more passed (record row { removed = true }));
             parts = ap (open_parts t) whole ∙ one_remove passed row rows kept_ones.0 kept_ones.1
@@ -385,13 +331,6 @@ commit_holds edits t part passed left next xs s e =
 
 step_holds : (edits : List Edit) (phase : BatchPhase) (x : Line) (next : BatchReader) (xs : List Line) → Tells edits phase xs → step_in edits phase x ≡ Some next → Tells next.edits next.phase (xs ++ x ∷ [])
 step_holds edits (Between last) (line.Section t) next xs b e = open_holds edits last t next xs b e
-step_holds edits (Between last) (line.BuiltIn c) next xs b e = absurd (none-some next e)
-step_holds edits (Between last) (line.Declared c) next xs b e = absurd (none-some next e)
-step_holds edits (Between last) (line.Ruled c r) next xs b e = absurd (none-some next e)
-step_holds edits (Between last) (line.Removed c) next xs b e = absurd (none-some next e)
-step_holds edits (Between last) line.Commit next xs b e = absurd (none-some next e)
-step_holds edits (Within t part passed left) (line.Section u) next xs s e = absurd (none-some next e)
-step_holds edits (Within t part passed left) (line.BuiltIn c) next xs s e = absurd (none-some next e)
 step_holds edits (Within t part passed left) (line.Declared c) next xs s e =
     led_holds edits t part passed left (line.Declared c) next xs s (declare_holds edits t part passed left c next s.section s.holds e)
 step_holds edits (Within t part passed left) (line.Ruled c r) next xs s e =
@@ -399,12 +338,10 @@ step_holds edits (Within t part passed left) (line.Ruled c r) next xs s e =
 step_holds edits (Within t part passed left) (line.Removed c) next xs s e =
     led_holds edits t part passed left (line.Removed c) next xs s (removed_holds edits t part passed left c next s.section s.holds e)
 step_holds edits (Within t part passed left) line.Commit next xs s e = commit_holds edits t part passed left next xs s e
+step_holds edits phase x next xs h e = absurd (none-some next e)
 
 run_holds : (s : BatchReader) (ys xs : List Line) (next : BatchReader) → Tells s.edits s.phase ys → run step s xs ≡ Some next → Tells next.edits next.phase (ys ++ xs)
-run_holds s ys [] next h e = subst (λ n. Tells n.edits n.phase (ys ++ [])) (same s next e) (subst (Tells s.edits s.phase) (sym (append-nil ys)) h)
-  where
-    same : (a b : BatchReader) → Some a ≡ Some b → a ≡ b
-    same a b e = cc
+run_holds s ys [] next h e = subst (λ n. Tells n.edits n.phase (ys ++ [])) (same_Some s next e) (subst (Tells s.edits s.phase) (sym (append-nil ys)) h)
 run_holds s ys (x ∷ xs) next h e = by (step s x) refl e (λ m k. run_holds m (ys ++ x ∷ []) xs next k)
   where
     by : (o : Option BatchReader) → step s x ≡ o → option_and_then (λ m. run step m xs) o ≡ Some next

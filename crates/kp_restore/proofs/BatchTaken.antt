@@ -33,11 +33,11 @@ first_step s t x xs e = ap (option_and_then (λ next. run step next xs)) e
 
 -- ---- Rows
 
-all_swap : (p : Row → Bool) (before : List Row) (a b : Row) (behind : List Row) → list_all p (before ++ a ∷ behind) ≡ true → p b ≡ true → list_all p (before ++ b ∷ behind) ≡ true
+pub all_swap : (p : Row → Bool) (before : List Row) (a b : Row) (behind : List Row) → list_all p (before ++ a ∷ behind) ≡ true → p b ≡ true → list_all p (before ++ b ∷ behind) ≡ true
 all_swap p [] a b behind h k = and_from _ _ k (and_parts _ _ h).1
 all_swap p (r ∷ before) a b behind h k = let l = and_parts _ _ h in and_from _ _ l.0 (all_swap p before a b behind l.1 k)
 
-all_at : (p : Row → Bool) (before : List Row) (a : Row) (behind : List Row) → list_all p (before ++ a ∷ behind) ≡ true → p a ≡ true
+pub all_at : (p : Row → Bool) (before : List Row) (a : Row) (behind : List Row) → list_all p (before ++ a ∷ behind) ≡ true → p a ≡ true
 all_at p [] a behind h = (and_parts _ _ h).0
 all_at p (r ∷ before) a behind h = all_at p before a behind (and_parts _ _ h).1
 
@@ -87,6 +87,15 @@ apart_more l x (r ∷ rest) a h =
       list_all-append (λ y. not (bytes_eq y.chain r.chain)) l (x ∷ []) ∙ and_from _ _ a.0 (and_from _ _ (ap not (lesser_text_differs x.chain r.chain k.0)) refl),
       apart_more l x rest a.1 k.1,
     )
+
+-- a state that lines lead to, which is such at these chains, in parts that are passed and left
+record After (IsAt : List Row → List Row → BatchReader → Type 0) (s : BatchReader) (lines : List Line) (rows : List Row) : Type 0 where
+  state : BatchReader
+  passed : List Row
+  left : List Row
+  ran : run step s lines ≡ Some state
+  is : IsAt passed left state
+  rows_are : passed ++ left ≡ rows
 
 module _ (edits : List Edit) (t : TableName) where
   -- ---- Declarations
@@ -142,16 +151,7 @@ module _ (edits : List Edit) (t : TableName) where
       ∙ more_rules p (with_rule x r) rows rules
       ∙ ap (λ rs. Some (ruling p (record x { rules = rs } ∷ rows))) (append_assoc x.rules (r ∷ []) rules)
 
-  -- the chains are these at the end of the rules
-  record AfterRules (s : BatchReader) (parts : List Line) (rows : List Row) : Type 0 where
-    state : BatchReader
-    passed : List Row
-    left : List Row
-    ran : run step s parts ≡ Some state
-    is : IsRuling passed left state
-    rows_are : passed ++ left ≡ rows
-
-  rules_run : (rest p l : List Row) (s : BatchReader) → IsRuling p (l ++ map bare rest) s → Apart l rest → rising rest ≡ true → AfterRules s (flat_map rule_parts rest) (p ++ (l ++ map kept rest))
+  rules_run : (rest p l : List Row) (s : BatchReader) → IsRuling p (l ++ map bare rest) s → Apart l rest → rising rest ≡ true → After IsRuling s (flat_map rule_parts rest) (p ++ (l ++ map kept rest))
   rules_run [] p l s at a h = record { state = s; passed = p; left = l ++ []; ran = refl; is = at; rows_are = refl }
   rules_run (row ∷ rest) p l s at a h = by row.rules refl (rules_run rest)
     where
@@ -159,8 +159,8 @@ module _ (edits : List Edit) (t : TableName) where
       k = and_parts (list_all (is_below row.chain) rest) (rising rest) h
 
       by : (rules : List Rule) → row.rules ≡ rules
-          → ((p l : List Row) (s : BatchReader) → IsRuling p (l ++ map bare rest) s → Apart l rest → rising rest ≡ true → AfterRules s (flat_map rule_parts rest) (p ++ (l ++ map kept rest)))
-          → AfterRules s (map (line.Ruled row.chain) row.rules ++ flat_map rule_parts rest) (p ++ (l ++ kept row ∷ map kept rest))
+          → ((p l : List Row) (s : BatchReader) → IsRuling p (l ++ map bare rest) s → Apart l rest → rising rest ≡ true → After IsRuling s (flat_map rule_parts rest) (p ++ (l ++ map kept rest)))
+          → After IsRuling s (map (line.Ruled row.chain) row.rules ++ flat_map rule_parts rest) (p ++ (l ++ kept row ∷ map kept rest))
       by [] e more =
           let m = more p (l ++ bare row ∷ []) s (subst (λ q. IsRuling p q s) (sym (append_assoc l (bare row ∷ []) (map bare rest))) at) (apart_more l (bare row) rest a.1 k.0) k.1 in
           record {
@@ -212,16 +212,7 @@ module _ (edits : List Edit) (t : TableName) where
       ∙ skip_removed (p ++ x ∷ []) l row rows c k.1 e
       ∙ ap (λ q. with_removed edits t q row rows) (append_assoc p (x ∷ []) l)
 
-  -- the chains are these at the end of the removes
-  record AfterRemoves (s : BatchReader) (parts : List Line) (rows : List Row) : Type 0 where
-    state : BatchReader
-    passed : List Row
-    left : List Row
-    ran : run step s parts ≡ Some state
-    is : IsRemoving passed left state
-    rows_are : passed ++ left ≡ rows
-
-  removes_run : (rest p l : List Row) (s : BatchReader) → IsRemoving p (l ++ map kept rest) s → Apart l rest → rising rest ≡ true → list_all (fits t) rest ≡ true → AfterRemoves s (flat_map removed_part rest) (p ++ (l ++ rest))
+  removes_run : (rest p l : List Row) (s : BatchReader) → IsRemoving p (l ++ map kept rest) s → Apart l rest → rising rest ≡ true → list_all (fits t) rest ≡ true → After IsRemoving s (flat_map removed_part rest) (p ++ (l ++ rest))
   removes_run [] p l s at a h f = record { state = s; passed = p; left = l ++ []; ran = refl; is = at; rows_are = refl }
   removes_run (row ∷ rest) p l s at a h f = by row.removed refl (removes_run rest)
     where
@@ -232,8 +223,8 @@ module _ (edits : List Edit) (t : TableName) where
       g = and_parts (fits t row) (list_all (fits t) rest) f
 
       by : (b : Bool) → row.removed ≡ b
-          → ((p l : List Row) (s : BatchReader) → IsRemoving p (l ++ map kept rest) s → Apart l rest → rising rest ≡ true → list_all (fits t) rest ≡ true → AfterRemoves s (flat_map removed_part rest) (p ++ (l ++ rest)))
-          → AfterRemoves s (cond row.removed (line.Removed row.chain ∷ []) [] ++ flat_map removed_part rest) (p ++ (l ++ row ∷ rest))
+          → ((p l : List Row) (s : BatchReader) → IsRemoving p (l ++ map kept rest) s → Apart l rest → rising rest ≡ true → list_all (fits t) rest ≡ true → After IsRemoving s (flat_map removed_part rest) (p ++ (l ++ rest)))
+          → After IsRemoving s (cond row.removed (line.Removed row.chain ∷ []) [] ++ flat_map removed_part rest) (p ++ (l ++ row ∷ rest))
       by false e more =
           let m = more p (l ++ kept row ∷ []) s (subst (λ q. IsRemoving p q s) (sym (append_assoc l (kept row ∷ []) (map kept rest))) at) (apart_more l (kept row) rest a.1 k.0) k.1 g.1 in
           record {

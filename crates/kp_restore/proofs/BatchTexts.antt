@@ -11,6 +11,7 @@ use Rattle.kp_types.specs.declared.chain.TableName.TheVariants.{Nat, Filter}
 use Rattle.kp_types.specs.declared.rule.Edit.{Edit}
 use Rattle.kp_types.specs.declared.rule.Edit.TheVariants.{Write, Remove}
 use Rattle.kp_object_defs.specs.Desired.{is_empty}
+use Rattle.kp_object_defs.proofs.AllOf.{all_filter}
 use Rattle.kp_table_defs.specs.Ranks.{is_built_in}
 use Rattle.kp_restore_defs.specs.RuleText.{is_canonical_rule}
 use Rattle.kp_restore_defs.specs.BatchText.{edits_in, are_in_order, edit_each_once, is_canonical_edit, is_canonical_batch, batch_lines, BatchTextsDiffer}
@@ -27,9 +28,10 @@ use Rattle.kp_restore.specs.declared.batch_reader.BatchPhase.TheVariants.{Betwee
 use Rattle.kp_restore.specs.declared.batch_reader.BatchReader.{BatchReader}
 use Rattle.kp_restore.proofs.Machine.{IsReader, run_on, same_value}
 use Rattle.kp_restore.proofs.LineTexts.{line_exact, line_plain}
-use Rattle.kp_restore.proofs.BatchRows.{all_both, row_of, rows_of, rising, fits, all_rows_of, is_in, rising_rows_of, edits_again}
+use Rattle.kp_restore.proofs.Tests.{all_both}
+use Rattle.kp_restore.proofs.BatchRows.{row_of, rows_of, rising, fits, all_rows_of, is_in, rising_rows_of, edits_again}
 use Rattle.kp_lemmas.proofs.Members.{filter_passes}
-use Rattle.kp_restore.proofs.BatchEdits.{is_good, rows_again, canonical_batch, all_filter, order_filter, once_filter, nat_part, filter_part, both_parts}
+use Rattle.kp_restore.proofs.BatchEdits.{is_good, rows_again, canonical_batch, order_filter, once_filter, nat_part, filter_part, both_parts}
 use Rattle.kp_restore.proofs.BatchParts.{parts_if, batch_parts, if_printed, good_if, if_good}
 use Rattle.kp_restore.proofs.BatchTaken.{section_run}
 use Rattle.kp_restore.proofs.BatchSound.{IsSection, PartHolds, Behind, Tells, no_rows, told}
@@ -225,4 +227,4 @@ batch_reader family = record {
 }
 
 pub batch_texts_differ : BatchTextsDiffer
-batch_texts_differ family = same_value step start IsEnd value line_text (is_canonical_line family) (λ edits. is_canonical_batch family edits ≡ true) batch_lines batch_parts (batch_reader family)
+batch_texts_differ family = same_value (batch_reader family)

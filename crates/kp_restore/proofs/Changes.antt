@@ -28,9 +28,9 @@ use Rattle.kp_restore_defs.specs.RuleText.{is_canonical_rule}
 use Rattle.kp_restore_defs.specs.TableText.{may_stand, is_canonical_chain, is_canonical_table}
 use Rattle.kp_restore_defs.specs.BatchText.{place_of, kind_place, edit_cmp, are_in_order, is_same_place, edit_each_once, is_canonical_edit, is_canonical_batch}
 use Rattle.kp_restore_defs.specs.BatchesBetween.{HaveSameBuiltIn, ChangesAreCanonical, ReadChangesLeadOver}
-use Rattle.kp_restore.proofs.BatchRows.{none_of}
+use Rattle.kp_restore.proofs.Tests.{all_true, none_of}
 use Rattle.kp_restore.proofs.BatchTexts.{batch_texts_differ}
-use Rattle.kp_lemmas.proofs.ListFacts.{test_weaker, all_append, all_both, all_tested, all_weaker}
+use Rattle.kp_lemmas.proofs.ListFacts.{test_weaker, all_append, all_both, all_filter, all_tested, all_weaker}
 use Rattle.kp_lemmas.proofs.Booleans.{both_facts}
 use Rattle.kp_lemmas.proofs.Orders.{less_from_fact}
 use Rattle.kp_lemmas.proofs.Entries.{entries_found}
@@ -50,31 +50,27 @@ pairs_append R (x ∷ xs) ys p q a = (all_append (R x) xs ys p.0 a.0, pairs_appe
 -- what passes a test, with the test
 all_kept : {X : Type 0} (P : X → Type 0) (test : X → Bool) (xs : List X) → AllByRecursion P xs → AllByRecursion (λ x. P x × (test x ≡ true)) (filter test xs)
 all_kept P test [] a = tt
-all_kept P test (x ∷ xs) a = by (test x) refl (all_kept P test xs a.1)
-  where
-    by : (b : Bool) → test x ≡ b → AllByRecursion (λ x. P x × (test x ≡ true)) (filter test xs) → AllByRecursion (λ x. P x × (test x ≡ true)) (cond b (x ∷ filter test xs) (filter test xs))
-    by true t rest = ((a.0, t), rest)
-    by false t rest = rest
+all_kept P test (x ∷ xs) a =
+    elim (test x) as (λ b. test x ≡ b → AllByRecursion (λ x. P x × (test x ≡ true)) (cond b (x ∷ filter test xs) (filter test xs))) [
+      | true ↦ λ t. ((a.0, t), all_kept P test xs a.1)
+      | false ↦ λ t. all_kept P test xs a.1
+    ] refl
 
 pairs_kept : {X : Type 0} (R : X → X → Type 0) (test : X → Bool) (xs : List X) → EachPair R xs → EachPair R (filter test xs)
 pairs_kept R test [] p = tt
-pairs_kept R test (x ∷ xs) p = by (test x) (pairs_kept R test xs p.1)
-  where
-    by : (b : Bool) → EachPair R (filter test xs) → EachPair R (cond b (x ∷ filter test xs) (filter test xs))
-    by true rest = (all_weaker (λ y. R x y × (test y ≡ true)) (R x) (λ y h. h.0) (filter test xs) (all_kept (R x) test xs p.0), rest)
-    by false rest = rest
+pairs_kept R test (x ∷ xs) p =
+    elim (test x) as (λ b. EachPair R (cond b (x ∷ filter test xs) (filter test xs))) [
+      | true ↦ (all_filter (R x) test xs p.0, pairs_kept R test xs p.1)
+      | false ↦ pairs_kept R test xs p.1
+    ]
 
 pairs_given : {X Y : Type 0} (R : X → X → Type 0) (S : Y → Y → Type 0) (f : X → Option Y) → ((a b : X) → R a b → In_option (λ y. In_option (S y) (f b)) (f a)) → (xs : List X) → EachPair R xs → EachPair S (filter_map f xs)
 pairs_given R S f h [] p = tt
-pairs_given {X = X} {Y = Y} R S f h (x ∷ xs) p = by (f x) (h x) (pairs_given R S f h xs p.1)
-  where
-    by : (o : Option Y) → ((b : X) → R x b → In_option (λ y. In_option (S y) (f b)) o) → EachPair S (filter_map f xs) → EachPair S (cons_option o (filter_map f xs))
-    by None g rest = rest
-    by (Some y) g rest = (all_filter_map (S y) f xs (all_weaker (R x) (λ b. In_option (S y) (f b)) g xs p.0), rest)
-
-all_true : {X : Type 0} (p : X → Bool) (P : X → Type 0) → ((x : X) → P x → p x ≡ true) → (xs : List X) → AllByRecursion P xs → list_all p xs ≡ true
-all_true p P f [] a = refl
-all_true p P f (x ∷ xs) a = and_from _ _ (f x a.0) (all_true p P f xs a.1)
+pairs_given {X = X} R S f h (x ∷ xs) p =
+    elim (f x) as (λ o. ((b : X) → R x b → In_option (λ y. In_option (S y) (f b)) o) → EachPair S (cons_option o (filter_map f xs))) [
+      | None ↦ λ g. pairs_given R S f h xs p.1
+      | Some y ↦ λ g. (all_filter_map (S y) f xs (all_weaker (R x) (λ b. In_option (S y) (f b)) g xs p.0), pairs_given R S f h xs p.1)
+    ] (h x)
 
 -- ---- Entries in order
 
@@ -112,21 +108,26 @@ apart a b other = by (table_place a.table == table_place b.table && bytes_eq a.c
 less_apart : (a b : ChainAt) → chain_cmp a b ≡ Less → a ≡ b → ⊥
 less_apart a b h e = false≢true (sym (ap is_lt (tied_itself chain_total a)) ∙ ap (λ c. is_lt (chain_cmp a c)) e ∙ ap is_lt h)
 
+-- where both are changes
+both_stand : (s t : Bool) (x y : Edit) → StandsBefore x y → In_option (λ x. In_option (StandsBefore x) (cond t None (Some y))) (cond s None (Some x))
+both_stand true t x y h = tt
+both_stand false true x y h = tt
+both_stand false false x y h = h
+
 writes_stand : (before : Chains) (a b : ChainAt × List Rule) → chain_cmp a.0 b.0 ≡ Less → In_option (λ x. In_option (StandsBefore x) (write_if_changed before b)) (write_if_changed before a)
-writes_stand before a b h = by (is_found_with a.1 (get before a.0)) (is_found_with b.1 (get before b.0))
-  where
-    by : (s t : Bool) → In_option (λ x. In_option (StandsBefore x) (cond t None (Some (Write b.0 b.1)))) (cond s None (Some (Write a.0 a.1)))
-    by true t = tt
-    by false true = tt
-    by false false = (ap is_lt h, apart a.0 b.0 (less_apart a.0 b.0 h))
+writes_stand before a b h =
+    both_stand (is_found_with a.1 (get before a.0)) (is_found_with b.1 (get before b.0)) (Write a.0 a.1) (Write b.0 b.1) (ap is_lt h, apart a.0 b.0 (less_apart a.0 b.0 h))
 
 removes_stand : (after : Chains) (a b : ChainAt × List Rule) → chain_cmp a.0 b.0 ≡ Less → In_option (λ x. In_option (StandsBefore x) (remove_if_gone after b)) (remove_if_gone after a)
-removes_stand after a b h = by (is_some (get after a.0)) (is_some (get after b.0))
-  where
-    by : (s t : Bool) → In_option (λ x. In_option (StandsBefore x) (cond t None (Some (Remove b.0)))) (cond s None (Some (Remove a.0)))
-    by true t = tt
-    by false true = tt
-    by false false = (ap is_lt h, apart a.0 b.0 (less_apart a.0 b.0 h))
+removes_stand after a b h =
+    both_stand (is_some (get after a.0)) (is_some (get after b.0)) (Remove a.0) (Remove b.0) (ap is_lt h, apart a.0 b.0 (less_apart a.0 b.0 h))
+
+-- what is made of the entries of a table stands in their order
+entries_stand : (chains : Chains) (table : TableName) (f : ChainAt × List Rule → Option Edit)
+    → ((a b : ChainAt × List Rule) → chain_cmp a.0 b.0 ≡ Less → In_option (λ x. In_option (StandsBefore x) (f b)) (f a)) → EachPair StandsBefore (filter_map f (chains_in table chains))
+entries_stand chains table f each =
+    pairs_given (λ e f. chain_cmp e.0 f.0 ≡ Less) StandsBefore f each (chains_in table chains)
+    (pairs_kept (λ e f. chain_cmp e.0 f.0 ≡ Less) (λ e. table_place e.0.table == table_place table) (entries chains) (sorted_pairs (entries chains) (entries_sorted chains)))
 
 -- ---- The changes of a table
 
@@ -193,19 +194,19 @@ module _ (family : Family) (before after : Chains) (first : is_canonical_table f
   abbrev removes : TableName → List Edit
   removes table = filter_map (remove_if_gone after) (chains_in table before)
 
-  all_writes : (table : TableName) → AllByRecursion (IsWriteIn table) (writes table)
-  all_writes table =
+  -- what holds of what is made of each entry of a table
+  all_made : (chains : Chains) → is_canonical_table family chains ≡ true → (table : TableName) (f : ChainAt × List Rule → Option Edit) (P : Edit → Type 0)
+      → ((e : ChainAt × List Rule) → IsEntry chains e × (table_place e.0.table == table_place table ≡ true) → In_option P (f e)) → AllByRecursion P (filter_map f (chains_in table chains))
+  all_made chains h table f P each =
       let test : ChainAt × List Rule → Bool = λ e. table_place e.0.table == table_place table in
-      all_filter_map (IsWriteIn table) (write_if_changed before) (filter test (entries after))
-      (all_weaker (λ e. IsEntry after e × (test e ≡ true)) (λ e. In_option (IsWriteIn table) (write_if_changed before e)) (write_is table) (filter test (entries after))
-      (all_kept (IsEntry after) test (entries after) (entries_are after second)))
+      all_filter_map P f (chains_in table chains)
+      (all_weaker (λ e. IsEntry chains e × (test e ≡ true)) (λ e. In_option P (f e)) each (chains_in table chains) (all_kept (IsEntry chains) test (entries chains) (entries_are chains h)))
+
+  all_writes : (table : TableName) → AllByRecursion (IsWriteIn table) (writes table)
+  all_writes table = all_made after second table (write_if_changed before) (IsWriteIn table) (write_is table)
 
   all_removes : (table : TableName) → AllByRecursion (IsRemoveIn table) (removes table)
-  all_removes table =
-      let test : ChainAt × List Rule → Bool = λ e. table_place e.0.table == table_place table in
-      all_filter_map (IsRemoveIn table) (remove_if_gone after) (filter test (entries before))
-      (all_weaker (λ e. IsEntry before e × (test e ≡ true)) (λ e. In_option (IsRemoveIn table) (remove_if_gone after e)) (remove_is table) (filter test (entries before))
-      (all_kept (IsEntry before) test (entries before) (entries_are before first)))
+  all_removes table = all_made before first table (remove_if_gone after) (IsRemoveIn table) (remove_is table)
 
   -- a write stands before the removes of its table
   write_stands : (table : TableName) (a b : Edit) → IsWriteIn table a → IsRemoveIn table b → StandsBefore a b
@@ -225,12 +226,9 @@ module _ (family : Family) (before after : Chains) (first : is_canonical_table f
 
   changes_stand : (table : TableName) → EachPair StandsBefore (table_changes before after table)
   changes_stand table =
-      let test : ChainAt × List Rule → Bool = λ e. table_place e.0.table == table_place table in
       pairs_append StandsBefore (writes table) (removes table)
-      (pairs_given (λ e f. chain_cmp e.0 f.0 ≡ Less) StandsBefore (write_if_changed before) (writes_stand before) (filter test (entries after))
-      (pairs_kept (λ e f. chain_cmp e.0 f.0 ≡ Less) test (entries after) (sorted_pairs (entries after) (entries_sorted after))))
-      (pairs_given (λ e f. chain_cmp e.0 f.0 ≡ Less) StandsBefore (remove_if_gone after) (removes_stand after) (filter test (entries before))
-      (pairs_kept (λ e f. chain_cmp e.0 f.0 ≡ Less) test (entries before) (sorted_pairs (entries before) (entries_sorted before))))
+      (entries_stand after table (write_if_changed before) (writes_stand before))
+      (entries_stand before table (remove_if_gone after) (removes_stand after))
       (all_weaker (IsWriteIn table) (λ a. AllByRecursion (StandsBefore a) (removes table))
       (λ a w. all_weaker (IsRemoveIn table) (StandsBefore a) (λ b r. write_stands table a b w r) (removes table) (all_removes table)) (writes table) (all_writes table))
 

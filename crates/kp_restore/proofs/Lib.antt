@@ -1,5 +1,4 @@
 pub mod BatchEdits
-pub mod BatchOrder
 pub mod BatchParts
 pub mod BatchRows
 pub mod BatchSound
@@ -10,16 +9,15 @@ pub mod EditSections
 pub mod LineTexts
 pub mod Machine
 pub mod ReadLines
-pub mod ReadTables
 pub mod Reading
 pub mod Rows
 pub mod RuleLines
 pub mod Sections
 pub mod Splits
-pub mod StepLemmas
 pub mod TableBack
 pub mod TableParts
 pub mod TableReading
 pub mod TableRows
 pub mod TableRuns
+pub mod Tests
 pub mod Texts

@@ -1,5 +1,5 @@
 -- The texts of lines: no line feed stands in one, and different lines have different texts.
-use Rattle.std.proofs.Common.{◌≡◌, ℕ, ◌==◌, true, false, List, [], ◌∷◌, ◌++◌, codes, drop, refl, sym, ap, ◌∙◌, arith}
+use Rattle.std.proofs.Common.{◌≡◌, ℕ, ◌==◌, true, false, cond, List, [], ◌∷◌, ◌++◌, codes, drop, refl, sym, ap, ◌∙◌, arith}
 use Rattle.std.specs.List.{list_all}
 use Rattle.std.proofs.lemmas.Bool.{and_parts}
 use Rattle.std.proofs.lemmas.Bool.Decides.{nat_tests}
@@ -41,45 +41,46 @@ cut_at_space (a ∷ as') (b ∷ bs) x y g h e =
     let rest = cut_at_space as' bs x y (and_parts _ _ g).1 (and_parts _ _ h).1 (cc) in
     (λ i. first i ∷ rest.0 i, rest.1)
 
+-- the first byte of a text
 first_of_text : List ℕ → ℕ
 first_of_text [] = 0
 first_of_text (b ∷ bs) = b
 
--- the first byte of a line
-kind : Line → ℕ
-kind (Section table) = 42
-kind (BuiltIn chain) = 58
-kind (Declared chain) = 58
-kind (Ruled chain rule) = 45
-kind (Removed chain) = 45
-kind Commit = 67
-
-first_kind : (l : Line) → first_of_text (line_text l) ≡ kind l
-unfolding first_of_text kind
-first_kind (Section Nat) = refl
-first_kind (Section Filter) = refl
-first_kind (BuiltIn chain) = refl
-first_kind (Declared chain) = refl
-first_kind (Ruled chain rule) = refl
-first_kind (Removed chain) = refl
-first_kind Commit = refl
-
-same_kind : (l m : Line) → line_text l ≡ line_text m → kind l ≡ kind m
-same_kind l m e = sym (first_kind l) ∙ ap first_of_text e ∙ first_kind m
-
+-- the second one
 second_of_text : List ℕ → ℕ
 second_of_text [] = 0
 second_of_text (b ∷ bs) = first_of_text bs
 
+-- the first byte that tells lines apart, behind a hyphen the next one; both lines that declare a chain have the same
+mark_of_text : List ℕ → ℕ
+mark_of_text bytes = cond (first_of_text bytes == 45) (second_of_text bytes) (first_of_text bytes)
+
+mark : Line → ℕ
+mark (Section table) = 42
+mark (BuiltIn chain) = 58
+mark (Declared chain) = 58
+mark (Ruled chain rule) = 65
+mark (Removed chain) = 88
+mark Commit = 67
+
+mark_is : (l : Line) → mark_of_text (line_text l) ≡ mark l
+unfolding mark_of_text first_of_text second_of_text mark
+mark_is (Section Nat) = refl
+mark_is (Section Filter) = refl
+mark_is (BuiltIn chain) = refl
+mark_is (Declared chain) = refl
+mark_is (Ruled chain rule) = refl
+mark_is (Removed chain) = refl
+mark_is Commit = refl
+
 section_exact : (a b : TableName) → line_text (Section a) ≡ line_text (Section b) → a ≡ b
 unfolding second_of_text first_of_text
 section_exact Nat Nat e = refl
-section_exact Nat Filter e = absurd (apart _ _ refl (ap second_of_text e))
-section_exact Filter Nat e = absurd (apart _ _ refl (ap second_of_text e))
 section_exact Filter Filter e = refl
+section_exact a b e = absurd (apart _ _ refl (ap second_of_text e))
 
 pub line_exact : (family : Family) (l m : Line) → is_canonical_line family l ≡ true → is_canonical_line family m ≡ true → line_text l ≡ line_text m → l ≡ m
-unfolding kind second_of_text first_of_text
+unfolding mark first_of_text
 line_exact family (Section a) (Section b) g h e = ap (λ t. Section t) (section_exact a b e)
 line_exact family (BuiltIn a) (BuiltIn b) g h e = ap (λ n. BuiltIn n) (cut_at_space a b (codes "ACCEPT [0:0]") (codes "ACCEPT [0:0]") (name_bytes a g) (name_bytes b h) (ap (drop 1) e)).0
 line_exact family (Declared a) (Declared b) g h e = ap (λ n. Declared n) (cut_at_space a b (codes "- [0:0]") (codes "- [0:0]") (name_bytes a g) (name_bytes b h) (ap (drop 1) e)).0
@@ -92,31 +93,4 @@ line_exact family (Ruled a r) (Ruled b s) g h e =
     λ i. Ruled (same.0 i) (same.1 i)
 line_exact family (Removed a) (Removed b) g h e = ap (λ n. Removed n) (ap (drop 3) e)
 line_exact family Commit Commit g h e = refl
-line_exact family (Ruled a r) (Removed b) g h e = absurd (apart _ _ refl (ap second_of_text e))
-line_exact family (Removed a) (Ruled b s) g h e = absurd (apart _ _ refl (ap second_of_text e))
-line_exact family (Section a) (BuiltIn b) g h e = absurd (apart _ _ refl (same_kind (Section a) (BuiltIn b) e))
-line_exact family (Section a) (Declared b) g h e = absurd (apart _ _ refl (same_kind (Section a) (Declared b) e))
-line_exact family (Section a) (Ruled b s) g h e = absurd (apart _ _ refl (same_kind (Section a) (Ruled b s) e))
-line_exact family (Section a) (Removed b) g h e = absurd (apart _ _ refl (same_kind (Section a) (Removed b) e))
-line_exact family (Section a) Commit g h e = absurd (apart _ _ refl (same_kind (Section a) Commit e))
-line_exact family (BuiltIn a) (Section b) g h e = absurd (apart _ _ refl (same_kind (BuiltIn a) (Section b) e))
-line_exact family (BuiltIn a) (Ruled b s) g h e = absurd (apart _ _ refl (same_kind (BuiltIn a) (Ruled b s) e))
-line_exact family (BuiltIn a) (Removed b) g h e = absurd (apart _ _ refl (same_kind (BuiltIn a) (Removed b) e))
-line_exact family (BuiltIn a) Commit g h e = absurd (apart _ _ refl (same_kind (BuiltIn a) Commit e))
-line_exact family (Declared a) (Section b) g h e = absurd (apart _ _ refl (same_kind (Declared a) (Section b) e))
-line_exact family (Declared a) (Ruled b s) g h e = absurd (apart _ _ refl (same_kind (Declared a) (Ruled b s) e))
-line_exact family (Declared a) (Removed b) g h e = absurd (apart _ _ refl (same_kind (Declared a) (Removed b) e))
-line_exact family (Declared a) Commit g h e = absurd (apart _ _ refl (same_kind (Declared a) Commit e))
-line_exact family (Ruled a r) (Section b) g h e = absurd (apart _ _ refl (same_kind (Ruled a r) (Section b) e))
-line_exact family (Ruled a r) (BuiltIn b) g h e = absurd (apart _ _ refl (same_kind (Ruled a r) (BuiltIn b) e))
-line_exact family (Ruled a r) (Declared b) g h e = absurd (apart _ _ refl (same_kind (Ruled a r) (Declared b) e))
-line_exact family (Ruled a r) Commit g h e = absurd (apart _ _ refl (same_kind (Ruled a r) Commit e))
-line_exact family (Removed a) (Section b) g h e = absurd (apart _ _ refl (same_kind (Removed a) (Section b) e))
-line_exact family (Removed a) (BuiltIn b) g h e = absurd (apart _ _ refl (same_kind (Removed a) (BuiltIn b) e))
-line_exact family (Removed a) (Declared b) g h e = absurd (apart _ _ refl (same_kind (Removed a) (Declared b) e))
-line_exact family (Removed a) Commit g h e = absurd (apart _ _ refl (same_kind (Removed a) Commit e))
-line_exact family Commit (Section b) g h e = absurd (apart _ _ refl (same_kind Commit (Section b) e))
-line_exact family Commit (BuiltIn b) g h e = absurd (apart _ _ refl (same_kind Commit (BuiltIn b) e))
-line_exact family Commit (Declared b) g h e = absurd (apart _ _ refl (same_kind Commit (Declared b) e))
-line_exact family Commit (Ruled b s) g h e = absurd (apart _ _ refl (same_kind Commit (Ruled b s) e))
-line_exact family Commit (Removed b) g h e = absurd (apart _ _ refl (same_kind Commit (Removed b) e))
+line_exact family l m g h e = absurd (apart (mark l) (mark m) refl (sym (mark_is l) ∙ ap mark_of_text e ∙ mark_is m))

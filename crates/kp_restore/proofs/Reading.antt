@@ -1,37 +1,34 @@
 -- A loop that reads a text line by line, and what its end says of the text.
-use Rattle.std.proofs.Common.{◌≡◌, ℕ, ◌+◌, ◌≤◌, Bool, true, List, [], ◌∷◌, ◌++◌, map, length, Option, Some, None, refl, sym, ap, subst, ◌∙◌, arith, append_assoc, length-append}
+use Rattle.std.proofs.Common.{◌≡◌, ℕ, ◌+◌, ◌-◌, ◌≤◌, Bool, true, List, [], ◌∷◌, ◌++◌, map, length, take, Option, Some, None, IfSome, Result, Err, IfOk, refl, sym, ap, subst, ◌∙◌, arith, append_assoc, length-append}
 use Rattle.std.specs.List.{list_all}
+use Rattle.std.specs.Option.{ok_or}
 use Rattle.std.proofs.lemmas.Bool.{and_from}
-use Rattle.std.proofs.lemmas.List.{map-append, length-map}
+use Rattle.std.proofs.lemmas.Grind.{flat_map-append}
+use Rattle.std.proofs.lemmas.List.{append-nil, append_cancel_left, map-append, length-map, take_at}
 use Rattle.std.proofs.lemmas.List.Folds.{list_all-append}
-use Rattle.kp_restore_defs.specs.FirstBadLine.{IsFirstBadLine}
+use Rattle.std.proofs.lemmas.Option.{same_Some}
+use Rattle.kp_restore_defs.specs.FirstBadLine.{ended_lines, IsFirstBadLine}
 use Rattle.kp_restore_defs.specs.TableText.{text_of_lines}
+use Rattle.kp_restore.specs.declared.read.TextFault.{TextFault}
+use Rattle.kp_restore.specs.declared.read.TextFault.TheVariants.{BadText}
 use Rattle.kp_restore.specs.Machine.{run}
 use Rattle.kp_restore.specs.Pieces.{no_line_feed}
-use Rattle.kp_restore.proofs.Machine.{IsReader, run_one, bad_line, no_value, bad_end, no_value_at_end, is_text}
-
--- a text has at least as many bytes as lines
-lines_within : (lines : List (List ℕ)) → length lines ≤ length (text_of_lines lines)
-lines_within [] = omega arith
-lines_within (line ∷ lines) =
-    omega (arith, lines_within lines, length-append (line ++ 10 ∷ []) (text_of_lines lines), length-append line (10 ∷ []))
+use Rattle.kp_restore.proofs.Machine.{IsReader, run_one, same_parts, all_plain, lines_known, begun, not_with}
+use Rattle.kp_restore.proofs.Texts.{ended_with_line, ended_with_none}
 
 -- a further line of a text
 text_behind : (lines : List (List ℕ)) (line : List ℕ) (rest : List ℕ) → text_of_lines lines ++ (line ++ 10 ∷ rest) ≡ text_of_lines (lines ++ line ∷ []) ++ rest
-text_behind [] line rest = simp append_assoc
-text_behind (l ∷ lines) line rest =
-    let others = text_behind lines line rest in
-    append_assoc (l ++ 10 ∷ []) (text_of_lines lines) (line ++ 10 ∷ rest)
-    ∙ ap (λ t. (l ++ 10 ∷ []) ++ t) others
-    ∙ sym (append_assoc (l ++ 10 ∷ []) (text_of_lines (lines ++ line ∷ [])) rest)
+text_behind lines line rest = simp (flat_map-append, append_assoc)
 
--- What is read of a text: lines that lead to a state, with a rest behind them, before a line's number.
+-- What is read of a text: lines that lead to a state, with a rest behind them, before a line's number. Each of them
+-- has its line feed.
 pub record IsRead {S X : Type 0} (step : S → X → Option S) (start : S) (text : X → List ℕ) (good : X → Bool) (bytes : List ℕ) (s : S) (rest : List ℕ) (number : ℕ) : Type 0 where
   pub lines : List X
   pub all_good : list_all good lines ≡ true
   pub ran : run step start lines ≡ Some s
   pub cut : bytes ≡ text_of_lines (map text lines) ++ rest
   pub counted : length lines + 1 ≡ number
+  pub within : number + length rest ≤ length bytes + 1
 
 -- No value has this text, and the line of this number is its first bad one.
 pub record IsBadFrom {V : Type 0} (has_text : V → Type 0) (lines_of : V → List (List ℕ)) (bytes : List ℕ) (number : ℕ) : Type 0 where
@@ -40,7 +37,7 @@ pub record IsBadFrom {V : Type 0} (has_text : V → Type 0) (lines_of : V → Li
 
 module _ {S X : Type 0} {step : S → X → Option S} {start : S} {text : X → List ℕ} {good : X → Bool} where
   pub read_nothing : (bytes : List ℕ) → IsRead step start text good bytes start bytes 1
-  read_nothing bytes = record { lines = []; all_good = refl; ran = refl; cut = refl; counted = omega arith }
+  read_nothing bytes = record { lines = []; all_good = refl; ran = refl; cut = refl; counted = omega arith; within = omega arith }
 
   pub read_more : {bytes : List ℕ} {s t : S} {rest : List ℕ} {number : ℕ} → IsRead step start text good bytes s rest number
       → (line behind : List ℕ) → rest ≡ line ++ 10 ∷ behind → (x : X) → good x ≡ true → text x ≡ line → step s x ≡ Some t
@@ -54,36 +51,94 @@ module _ {S X : Type 0} {step : S → X → Option S} {start : S} {text : X → 
         ran = run_one step start s t xs x r.ran goes;
         cut = r.cut ∙ ap (λ l. text_of_lines (map text xs) ++ l) ended ∙ text_behind (map text xs) line behind ∙ ap (λ ls. text_of_lines ls ++ behind) (sym texts);
         counted = omega (arith, length-append xs (x ∷ []), r.counted);
+        within = omega (arith, r.within, ap length ended, length-append line (10 ∷ behind));
       }
 
-  -- each line that is read has its line feed
-  pub read_within : {bytes : List ℕ} {s : S} {rest : List ℕ} {number : ℕ} → IsRead step start text good bytes s rest number → number + length rest ≤ length bytes + 1
-  read_within {bytes} {s} {rest} {number} r =
-      omega (arith, r.counted, lines_within (map text r.lines), length-map r.lines text, length-append (text_of_lines (map text r.lines)) rest, ap length r.cut)
+  -- a line that is ended, and that a call took
+  pub read_taken : {bytes : List ℕ} {s : S} {rest : List ℕ} {number : ℕ} → IsRead step start text good bytes s rest number
+      → (line behind : List ℕ) → rest ≡ line ++ 10 ∷ behind → (t : S) (found : Option S) → found ≡ Some t
+      → IfSome found (λ next. (x : X) × (good x ≡ true) × (text x ≡ line) × (step s x ≡ Some next)) → IsRead step start text good bytes t behind (number + 1)
+  read_taken {s = s} r line behind ended t found is taken =
+      let k = subst (λ o. IfSome o (λ next. (x : X) × (good x ≡ true) × (text x ≡ line) × (step s x ≡ Some next))) is taken in
+      read_more r line behind ended k.0 k.1 k.2 k.3
 
 module _ {S X V : Type 0} {step : S → X → Option S} {start : S} {IsEnd : S → Type 0} {value : S → V} {text : X → List ℕ} {good : X → Bool}
-    {has_text : V → Type 0} {lines_of : V → List (List ℕ)} {parts : V → List X} (reader : IsReader step start IsEnd value text good has_text lines_of parts) where
+    {has_text : V → Type 0} {lines_of : V → List (List ℕ)} {parts : V → List X} (reader : IsReader step start IsEnd value text good has_text lines_of parts)
+    {bytes : List ℕ} {s : S} {rest : List ℕ} {number : ℕ} (r : IsRead step start text good bytes s rest number) where
+  counted : length (map text r.lines) + 1 ≡ number
+  counted = omega (arith, length-map r.lines text, r.counted)
+
+  plain_lines : list_all no_line_feed (map text r.lines) ≡ true
+  plain_lines = all_plain reader r.lines r.all_good
+
+  -- some value has the lines before this one
+  before : (more : List (List ℕ)) → ended_lines bytes ≡ map text r.lines ++ more
+      → (v : V) × has_text v × (take (number - 1) (ended_lines bytes) ≡ take (number - 1) (lines_of v))
+  before more lines =
+      let b = begun reader r.lines s r.all_good r.ran in
+      let first : (ls : List (List ℕ)) → take (number - 1) (map text r.lines ++ ls) ≡ map text r.lines = λ ls. take_at (map text r.lines) ls (number - 1) (omega (arith, counted)) in
+      (b.0, b.1, ap (take (number - 1)) lines ∙ first more ∙ sym (ap (take (number - 1)) b.3 ∙ first (map text b.2)))
+
   -- a line is ended and isn't taken
-  pub refused : {bytes : List ℕ} {s : S} {rest : List ℕ} {number : ℕ} → IsRead step start text good bytes s rest number
-      → (line behind : List ℕ) → rest ≡ line ++ 10 ∷ behind → no_line_feed line ≡ true → ((x : X) → good x ≡ true → text x ≡ line → step s x ≡ None)
+  pub refused : (line behind : List ℕ) → rest ≡ line ++ 10 ∷ behind → no_line_feed line ≡ true → ((x : X) → good x ≡ true → text x ≡ line → step s x ≡ None)
       → IsBadFrom has_text lines_of bytes number
-  refused {bytes} {s} {rest} r line behind ended plain stuck = record {
-    none = no_value step start IsEnd value text good has_text lines_of parts reader r.lines s r.all_good r.ran bytes rest r.cut line behind ended plain stuck;
-    first = subst (IsFirstBadLine has_text lines_of bytes) r.counted
-        (bad_line step start IsEnd value text good has_text lines_of parts reader r.lines s r.all_good r.ran bytes rest r.cut line behind ended plain stuck);
-  }
+  refused line behind ended plain stuck =
+      let lines : ended_lines bytes ≡ map text r.lines ++ line ∷ ended_lines behind =
+      ap ended_lines (r.cut ∙ ap (λ t. text_of_lines (map text r.lines) ++ t) ended) ∙ ended_with_line (map text r.lines) plain_lines line behind plain
+      in
+      let with_line : take number (ended_lines bytes) ≡ map text r.lines ++ line ∷ [] =
+      ap (take number) (lines ∙ sym (append_assoc (map text r.lines) (line ∷ []) (ended_lines behind)))
+      ∙ take_at (map text r.lines ++ line ∷ []) (ended_lines behind) number (omega (arith, counted, length-append (map text r.lines) (line ∷ [])))
+      in
+      let none = not_with reader r.lines s r.all_good r.ran line stuck in
+      record {
+        none = λ v h e. none v h number (sym with_line ∙ ap (take number) (lines_known reader v h bytes e ∙ sym (reader.printed v h)));
+        first = record {
+          counted = omega (arith, counted);
+          within = omega (arith, ap length lines, length-append (map text r.lines) (line ∷ ended_lines behind), counted);
+          before = before (line ∷ ended_lines behind) lines;
+          bad = λ v h n e. none v h number (sym with_line ∙ e);
+        };
+      }
 
   -- no line is ended, and the text doesn't end here
-  pub unfinished : {bytes : List ℕ} {s : S} {rest : List ℕ} {number : ℕ} → IsRead step start text good bytes s rest number
-      → no_line_feed rest ≡ true → (rest ≡ [] → IsEnd s → ⊥) → IsBadFrom has_text lines_of bytes number
-  unfinished {bytes} {s} {rest} r plain owed = record {
-    none = no_value_at_end step start IsEnd value text good has_text lines_of parts reader r.lines s r.all_good r.ran bytes rest r.cut plain owed;
-    first = subst (IsFirstBadLine has_text lines_of bytes) r.counted
-        (bad_end step start IsEnd value text good has_text lines_of parts reader r.lines s r.all_good r.ran bytes rest r.cut plain);
-  }
+  pub unfinished : no_line_feed rest ≡ true → (rest ≡ [] → IsEnd s → ⊥) → IsBadFrom has_text lines_of bytes number
+  unfinished plain owed =
+      let lines : ended_lines bytes ≡ map text r.lines ++ [] = ap ended_lines r.cut ∙ ended_with_none (map text r.lines) plain_lines rest plain in
+      let n : length (ended_lines bytes) + 1 ≡ number = omega (arith, ap length lines, length-append (map text r.lines) [], counted) in
+      record {
+        none = λ v h e.
+            let same = same_parts reader (parts v) r.lines (reader.all_good v h) r.all_good (sym (lines_known reader v h bytes e) ∙ lines ∙ append-nil (map text r.lines)) in
+            let whole = reader.complete v h in
+            let here : whole.0 ≡ s = same_Some whole.0 s (sym whole.1 ∙ ap (run step start) same ∙ r.ran) in
+            let all : text_of_lines (map text r.lines) ≡ bytes = ap (λ ys. text_of_lines (map text ys)) (sym same) ∙ ap text_of_lines (sym (reader.printed v h)) ∙ e in
+            owed (append_cancel_left (text_of_lines (map text r.lines)) rest [] (sym (append-nil _ ∙ all ∙ r.cut))) (subst IsEnd here whole.2);
+        first = record {
+          counted = omega (arith, counted);
+          within = omega (arith, n);
+          before = before [] lines;
+          bad = λ v h k e. absurd (omega (arith, n));
+        };
+      }
 
   -- the text ends here
-  pub finished : {bytes : List ℕ} {s : S} {rest : List ℕ} {number : ℕ} → IsRead step start text good bytes s rest number
-      → rest ≡ [] → IsEnd s → has_text (value s) × (text_of_lines (lines_of (value s)) ≡ bytes)
-  finished {bytes} {s} {rest} r none end =
-      is_text step start IsEnd value text good has_text lines_of parts reader r.lines s r.all_good r.ran bytes rest r.cut none end
+  pub finished : rest ≡ [] → IsEnd s → has_text (value s) × (text_of_lines (lines_of (value s)) ≡ bytes)
+  finished none end =
+      let sound = reader.sound r.lines s r.all_good r.ran end in
+      (sound.0, ap text_of_lines (reader.printed (value s) sound.0 ∙ ap (map text) sound.1) ∙ sym (r.cut ∙ ap (λ t. text_of_lines (map text r.lines) ++ t) none ∙ append-nil (text_of_lines (map text r.lines))))
+
+-- ---- What is answered
+
+-- a fault has one number
+pub one_number : {B : Type 0} {k n : ℕ} → ◌≡◌ {A = Result B TextFault} (Err (BadText k)) (Err (BadText n)) → k ≡ n
+one_number e = cc
+
+-- what is known of the answer, by what was found at the end
+pub answered : {B : Type 0} (P : B → Type 0) (o : Option B) (fault : TextFault) (r : Result B TextFault) → r ≡ ok_or o fault → IfSome o P → IfOk r P
+answered P None fault r e h = subst (λ r. IfOk r P) (sym e) tt
+answered P (Some b) fault r e h = subst (λ r. IfOk r P) (sym e) h
+
+-- a fault, where nothing was found
+pub not_answered : {B : Type 0} (o : Option B) (k n : ℕ) (r : Result B TextFault) → r ≡ ok_or o (BadText k) → r ≡ Err (BadText n) → (o ≡ None) × (k ≡ n)
+not_answered None k n r e h = (refl, cc)
+not_answered (Some b) k n r e h = absurd (cc)

@@ -54,11 +54,7 @@ Agree g (row ∷ rows) = (g row.0 ≡ Some row.1) × Agree g rows
 -- ---- Booleans
 
 pub turned_false : (x y : List ℕ) → bytes_eq x y ≡ false → bytes_eq y x ≡ false
-turned_false x y h = by (bytes_eq y x) refl
-  where
-    by : (b : Bool) → bytes_eq y x ≡ b → b ≡ false
-    by false e = refl
-    by true e = let same = text_test_exact y x e in absurd (let t : true ≡ false = sym (nat_list_eq_equiv.refl x) ∙ ap (bytes_eq x) (sym same) ∙ h in cc)
+turned_false x y h = nat_list_eq_equiv.symm y x ∙ h
 
 -- ---- Keys
 
@@ -75,13 +71,10 @@ find_rows table (row ∷ rows) name = λ i. cond (tie table name row.0 i) (Some 
 
 pub is_some_rules : (rows : List Row) (name : List ℕ) → is_some (rules_in rows name) ≡ list_any (bytes_eq name) (names_of rows)
 is_some_rules [] name = refl
-is_some_rules (row ∷ rows) name = by (bytes_eq name row.0) (is_some_rules rows name)
-  where
-    by : (b : Bool) → is_some (rules_in rows name) ≡ list_any (bytes_eq name) (names_of rows) → is_some (cond b (Some row.1) (rules_in rows name)) ≡ (b || list_any (bytes_eq name) (names_of rows))
-    by true h = refl
-    by false h = h
+is_some_rules (row ∷ rows) name =
+    elim (bytes_eq name row.0) as (λ b. is_some (cond b (Some row.1) (rules_in rows name)) ≡ (b || list_any (bytes_eq name) (names_of rows))) [ true ↦ refl | false ↦ is_some_rules rows name ]
 
-none_of : (o : Option (List Rule)) → is_some o ≡ false → o ≡ None
+pub none_of : (o : Option (List Rule)) → is_some o ≡ false → o ≡ None
 none_of None h = refl
 none_of (Some x) h = absurd (cc)
 
@@ -90,11 +83,8 @@ no_rules rows name h = none_of (rules_in rows name) (is_some_rules rows name ∙
 
 pub rules_append : (rows more : List Row) (name : List ℕ) → rules_in (rows ++ more) name ≡ option_or (rules_in rows name) (rules_in more name)
 rules_append [] more name = refl
-rules_append (row ∷ rows) more name = by (bytes_eq name row.0) (rules_append rows more name)
-  where
-    by : (b : Bool) → rules_in (rows ++ more) name ≡ option_or (rules_in rows name) (rules_in more name) → cond b (Some row.1) (rules_in (rows ++ more) name) ≡ option_or (cond b (Some row.1) (rules_in rows name)) (rules_in more name)
-    by true h = refl
-    by false h = h
+rules_append (row ∷ rows) more name =
+    elim (bytes_eq name row.0) as (λ b. cond b (Some row.1) (rules_in (rows ++ more) name) ≡ option_or (cond b (Some row.1) (rules_in rows name)) (rules_in more name)) [ true ↦ refl | false ↦ rules_append rows more name ]
 
 -- a look-up that differs at no row's name
 agree_with : (g : List ℕ → Option (List Rule)) (name : List ℕ) (rules : List Rule) (rows : List Row) → list_any (bytes_eq name) (names_of rows) ≡ false → Agree g rows
@@ -141,11 +131,11 @@ all_there g (row ∷ rows) a = and_from _ _ (ap is_some a.0) (all_there g rows a
 
 pub one_found : (p : Row → Bool) (rows : List Row) → list_all p rows ≡ true → (name : List ℕ) (rules : List Rule) → rules_in rows name ≡ Some rules → p (name, rules) ≡ true
 one_found p [] h name rules e = absurd (cc)
-one_found p (row ∷ rows) h name rules e = by (bytes_eq name row.0) refl e (one_found p rows (and_parts _ _ h).1 name rules)
-  where
-    by : (b : Bool) → bytes_eq name row.0 ≡ b → cond b (Some row.1) (rules_in rows name) ≡ Some rules → (rules_in rows name ≡ Some rules → p (name, rules) ≡ true) → p (name, rules) ≡ true
-    by true t e f = (λ i. p (text_test_exact name row.0 t i, sym (same_Some row.1 rules e) i)) ∙ (and_parts _ _ h).0
-    by false t e f = f e
+one_found p (row ∷ rows) h name rules e =
+    elim (bytes_eq name row.0) as (λ b. bytes_eq name row.0 ≡ b → cond b (Some row.1) (rules_in rows name) ≡ Some rules → p (name, rules) ≡ true) [
+      | true ↦ λ t f. (λ i. p (text_test_exact name row.0 t i, sym (same_Some row.1 rules f) i)) ∙ (and_parts _ _ h).0
+      | false ↦ λ t f. one_found p rows (and_parts _ _ h).1 name rules f
+    ] refl e
 
 -- ---- Tables with rows
 
@@ -176,11 +166,10 @@ get_with table t (row ∷ rows) h q =
     let p = and_parts _ _ h in
     get_with table (put t table row.0 row.1) rows p.1 q
     ∙ ap (option_or (rules_in rows q)) (get_put t table row.0 row.1 q)
-    ∙ by (bytes_eq q row.0) refl
-  where
-    by : (b : Bool) → bytes_eq q row.0 ≡ b → option_or (rules_in rows q) (cond b (Some row.1) (get t.chains (at table q))) ≡ option_or (cond b (Some row.1) (rules_in rows q)) (get t.chains (at table q))
-    by true e = ap (λ o. option_or o (Some row.1)) (no_rules rows q (ap (λ n. list_any (bytes_eq n) (names_of rows)) (text_test_exact q row.0 e) ∙ not-true _ (and_parts _ _ h).0))
-    by false e = refl
+    ∙ elim (bytes_eq q row.0) as (λ b. bytes_eq q row.0 ≡ b → option_or (rules_in rows q) (cond b (Some row.1) (get t.chains (at table q))) ≡ option_or (cond b (Some row.1) (rules_in rows q)) (get t.chains (at table q))) [
+      | true ↦ λ e. ap (λ o. option_or o (Some row.1)) (no_rules rows q (ap (λ n. list_any (bytes_eq n) (names_of rows)) (text_test_exact q row.0 e) ∙ not-true _ p.0))
+      | false ↦ λ e. refl
+    ] refl
 
 pub get_with_other : (table other : TableName) → ((a b : List ℕ) → eq_by_cmp chain_cmp (at other a) (at table b) ≡ false) → (t : TableParts) (rows : List Row) (q : List ℕ) → get (with_rows table t rows).chains (at other q) ≡ get t.chains (at other q)
 get_with_other table other h t [] q = refl

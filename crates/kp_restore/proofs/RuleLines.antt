@@ -5,7 +5,7 @@ use Rattle.std.specs.Net.Text.{dotted_text}
 use Rattle.std.proofs.lemmas.Bool.{and_parts, and_from}
 use Rattle.std.proofs.lemmas.Bool.Decides.{nat_tests}
 use Rattle.std.proofs.lemmas.List.Elements.{All-head, All-tail}
-use Rattle.std.proofs.lemmas.List.Folds.{list_all-append}
+use Rattle.std.proofs.lemmas.List.Folds.{list_all-map}
 use Rattle.std.proofs.NetLemmas.Alphabet.{IsHexOrColon, All-hex_groups_text}
 use Rattle.kp_base.specs.Dotted.{is_digit}
 use Rattle.kp_base.specs.Net.{RangeParts, width}
@@ -13,7 +13,7 @@ use Rattle.kp_base.specs.declared.address.Family.{Family}
 use Rattle.kp_base.specs.declared.address.Family.TheVariants.{V4, V6}
 use Rattle.kp_base.specs.declared.key.Endpoint.{Endpoint}
 use Rattle.kp_base.specs.declared.port.Proto.{Proto}
-use Rattle.kp_base.specs.declared.port.Proto.TheVariants.{Tcp, Udp, Sctp}
+use Rattle.kp_base.specs.declared.port.Proto.TheVariants.{Tcp}
 use Rattle.kp_types.specs.Chains.{is_chain_byte, is_chain_name}
 use Rattle.kp_types.specs.declared.rule.Match.{Match}
 use Rattle.kp_types.specs.declared.rule.Match.TheVariants as match
@@ -27,7 +27,8 @@ use Rattle.kp_rule_text.proofs.AddressWords.{dotted_bytes, is_dotted_byte}
 use Rattle.kp_rule_text.proofs.FamilyWords.{segments_low}
 use Rattle.kp_rule_text.proofs.Words.{number_digits, port_digits}
 use Rattle.kp_restore.specs.Pieces.{no_line_feed}
-use Rattle.kp_lemmas.proofs.ListFacts.{test_weaker}
+use Rattle.kp_lemmas.proofs.ListFacts.{test_always, test_append, test_weaker}
+use Rattle.kp_restore.proofs.Tests.{all_flat}
 use Rattle.kp_lemmas.proofs.Numbers.{within_32_bits}
 use Rattle.kp_types.proofs.ChainBytes.{name_bytes}
 
@@ -53,7 +54,7 @@ pub name_plain : (name : List ℕ) → is_chain_name name ≡ true → no_line_f
 name_plain name h = test_weaker is_chain_byte no_feed chain_byte name (name_bytes name h)
 
 pub both_plain : (a b : List ℕ) → no_line_feed a ≡ true → no_line_feed b ≡ true → no_line_feed (a ++ b) ≡ true
-both_plain a b g h = list_all-append no_feed a b ∙ and_from _ _ g h
+both_plain a b g h = test_append no_feed a b g h
 
 number_plain : (most n : ℕ) → most < 2 ^ 64 → nat_le n most ≡ true → no_line_feed (decimal n) ≡ true
 number_plain most n small h = test_weaker is_digit no_feed digit_byte (decimal n) (number_digits most small n h)
@@ -103,8 +104,7 @@ digit_plain : (p place : ℕ) → no_feed (digit_at p place) ≡ true
 digit_plain p place = grind (arith, nat_tests)
 
 digits_plain : (p : ℕ) (places : List ℕ) → no_line_feed (map (digit_at p) places) ≡ true
-digits_plain p [] = refl
-digits_plain p (place ∷ places) = and_from _ _ (digit_plain p place) (digits_plain p places)
+digits_plain p places = list_all-map no_feed (digit_at p) places ∙ test_always (λ place. no_feed (digit_at p place)) (digit_plain p) places
 
 probability_plain : (p : ℕ) → no_line_feed (probability_text_of p) ≡ true
 probability_plain p = and_from _ _ (digit_plain p 10) (digits_plain p (9 ∷ 8 ∷ 7 ∷ 6 ∷ 5 ∷ 4 ∷ 3 ∷ 2 ∷ 1 ∷ 0 ∷ []))
@@ -114,11 +114,10 @@ words_plain words = list_all no_line_feed words
 
 proto_plain : (proto : Proto) → no_line_feed (proto_word proto) ≡ true
 proto_plain Tcp = refl
-proto_plain Udp = refl
-proto_plain Sctp = refl
+proto_plain proto = refl
 
 words_behind : (xs ys : List (List ℕ)) → words_plain xs ≡ true → words_plain ys ≡ true → words_plain (xs ++ ys) ≡ true
-words_behind xs ys g h = list_all-append no_line_feed xs ys ∙ and_from _ _ g h
+words_behind xs ys g h = test_append no_line_feed xs ys g h
 
 not_plain : (negated : Bool) → words_plain (not_words negated) ≡ true
 not_plain true = refl
@@ -129,30 +128,21 @@ match_plain family (match.Src range negated) h = words_behind (not_words negated
 match_plain family (match.Dst range negated) h = words_behind (not_words negated) (codes "-d" ∷ range_text range ∷ []) (not_plain negated) (and_from _ _ (range_plain family range h) refl)
 match_plain family (match.Proto proto) h = and_from _ _ (proto_plain proto) refl
 match_plain family (match.Port proto port) h = and_from _ _ (proto_plain proto) (and_from _ _ (proto_plain proto) (and_from _ _ (port_plain port h) refl))
-match_plain family match.SrcLocal h = refl
-match_plain family match.DstLocal h = refl
-match_plain family (match.Marked true) h = refl
-match_plain family (match.Marked false) h = refl
 match_plain family (match.Statistic p) h = and_from _ _ (probability_plain p) refl
 match_plain family (match.Seen list seconds) h =
     let q = and_parts _ _ h in
     and_from _ _ (name_plain list q.0) (and_from _ _ (number_plain 4294967295 seconds (omega arith) (within_32_bits seconds q.1)) refl)
 match_plain family (match.SetSeen list) h = and_from _ _ (name_plain list h) refl
+match_plain family (match.Marked true) h = refl
+match_plain family m h = refl
 
 target_plain : (family : Family) (t : Target) → is_canonical_target family t ≡ true → words_plain (target_words t) ≡ true
 target_plain family (target.Jump chain) h = and_from _ _ (name_plain chain h) refl
-target_plain family target.Return h = refl
-target_plain family target.Accept h = refl
-target_plain family target.Drop h = refl
-target_plain family target.Reject h = refl
-target_plain family target.SetMark h = refl
-target_plain family target.FlipMark h = refl
 target_plain family (target.Dnat endpoint) h = and_from _ _ (endpoint_plain family endpoint h) refl
-target_plain family target.Masquerade h = refl
+target_plain family t h = refl
 
 matches_plain : (family : Family) (ms : List Match) → list_all (is_canonical_match family) ms ≡ true → words_plain (flat_map match_words ms) ≡ true
-matches_plain family [] h = refl
-matches_plain family (m ∷ ms) h = let q = and_parts _ _ h in words_behind (match_words m) (flat_map match_words ms) (match_plain family m q.0) (matches_plain family ms q.1)
+matches_plain family ms h = all_flat no_line_feed match_words ms ∙ test_weaker (is_canonical_match family) (λ m. words_plain (match_words m)) (match_plain family) ms h
 
 -- ---- Lines
 

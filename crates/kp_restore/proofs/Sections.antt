@@ -3,6 +3,7 @@ use Rattle.std.proofs.Common.{◌≡◌, ℕ, ◌+◌, ◌<◌, ◌≤◌, lengt
 use Rattle.std.specs.FinMap.{entries, get}
 use Rattle.std.specs.List.{slice_get, filter, filter_map, flat_map, cons_option, AllByRecursion}
 use Rattle.std.proofs.lemmas.Grind.{flat_map-append}
+use Rattle.std.proofs.lemmas.List.Concat.{flat_map_single}
 use Rattle.std.proofs.lemmas.List.{append-nil, take_more, take_all}
 use Rattle.std.proofs.lemmas.List.Elements.{filter-append}
 use Rattle.std.proofs.lemmas.Option.{none-some, slice_get_within, slice_get-get_or, get_or_from_slice_get}
@@ -18,7 +19,7 @@ use Rattle.kp_restore_defs.specs.RuleText.{rule_line}
 use Rattle.kp_restore_defs.specs.TableText.{text_of_lines, table_line, commit_line, built_in_line, declared_line, Row, row_at, built_in_rows, other_rows, row_lines, section_of, section_text_of, table_text_of, section_lines}
 use Rattle.kp_rules.proofs.ChangeLists.{Entries}
 use Rattle.kp_restore.specs.Printed.{ended, place, if_there, built_in_places, is_other, other_places, chain_text, rules_text, rules_at}
-use Rattle.kp_lemmas.proofs.ListFacts.{added_twice}
+use Rattle.kp_lemmas.proofs.ListFacts.{added_twice, all_filter}
 use Rattle.kp_lemmas.proofs.Entries.{entries_found}
 use Rattle.kp_types.proofs.ChainOrder.{chain_total}
 
@@ -31,26 +32,23 @@ lines-append a b = flat_map-append ended a b
 abbrev built_in_text : ChainAt → List ℕ
 built_in_text = chain_text (codes " ACCEPT [0:0]")
 
-built_in_line_step : (table : TableName) (name : List ℕ) (ps : List ChainAt) (rows : List Row) → flat_map built_in_text ps ≡ text_of_lines (map (λ row. built_in_line row.0) rows) → (o : Option (List Rule))
-    → flat_map built_in_text (cond (is_some o) (place table name ∷ []) [] ++ ps) ≡ text_of_lines (map (λ row. built_in_line row.0) (cons_option (option_map (λ rules. (name, rules)) o) rows))
-built_in_line_step table name ps rows h None = h
-built_in_line_step table name ps rows h (Some rules) = ap (λ l. ended (built_in_line name) ++ l) h
+-- the places of built-in chains have the text of their rows, where each does
+built_in_are : (chains : Chains) (table : TableName) (shown : ChainAt → List ℕ) (lines : Row → List (List ℕ))
+    → ((name : List ℕ) (rules : List Rule) → get chains (place table name) ≡ Some rules → shown (place table name) ≡ text_of_lines (lines (name, rules)))
+    → (names : List (List ℕ)) → flat_map shown (flat_map (λ name. if_there chains (place table name)) names) ≡ text_of_lines (flat_map lines (filter_map (row_at chains table) names))
+built_in_are chains table shown lines each [] = refl
+built_in_are chains table shown lines each (name ∷ names) =
+    by (get chains (place table name)) refl (flat_map (λ name. if_there chains (place table name)) names) (filter_map (row_at chains table) names) (built_in_are chains table shown lines each names)
+  where
+    by : (o : Option (List Rule)) → get chains (place table name) ≡ o → (places : List ChainAt) (rows : List Row) → flat_map shown places ≡ text_of_lines (flat_map lines rows)
+        → flat_map shown (cond (is_some o) (place table name ∷ []) [] ++ places) ≡ text_of_lines (flat_map lines (cons_option (option_map (λ rules. (name, rules)) o) rows))
+    by None e places rows h = h
+    by (Some rules) e places rows h = (λ i. each name rules e i ++ h i) ∙ sym (lines-append (lines (name, rules)) (flat_map lines rows))
 
 built_in_lines_are : (chains : Chains) (table : TableName) (names : List (List ℕ)) → flat_map built_in_text (flat_map (λ name. if_there chains (place table name)) names) ≡ text_of_lines (map (λ row. built_in_line row.0) (filter_map (row_at chains table) names))
-built_in_lines_are chains table [] = refl
-built_in_lines_are chains table (name ∷ names) =
-    built_in_line_step table name (flat_map (λ name. if_there chains (place table name)) names) (filter_map (row_at chains table) names) (built_in_lines_are chains table names) (get chains (place table name))
-
-built_in_rules_step : (chains : Chains) (table : TableName) (name : List ℕ) (ps : List ChainAt) (rows : List Row) → flat_map (rules_at chains) ps ≡ text_of_lines (flat_map row_lines rows) → (o : Option (List Rule)) → get chains (place table name) ≡ o
-    → flat_map (rules_at chains) (cond (is_some o) (place table name ∷ []) [] ++ ps) ≡ text_of_lines (flat_map row_lines (cons_option (option_map (λ rules. (name, rules)) o) rows))
-built_in_rules_step chains table name ps rows h None e = h
-built_in_rules_step chains table name ps rows h (Some rules) e =
-    (λ i. rules_text name (e i) ++ h i) ∙ sym (lines-append (map (rule_line name) rules) (flat_map row_lines rows))
-
-built_in_rules_are : (chains : Chains) (table : TableName) (names : List (List ℕ)) → flat_map (rules_at chains) (flat_map (λ name. if_there chains (place table name)) names) ≡ text_of_lines (flat_map row_lines (filter_map (row_at chains table) names))
-built_in_rules_are chains table [] = refl
-built_in_rules_are chains table (name ∷ names) =
-    built_in_rules_step chains table name (flat_map (λ name. if_there chains (place table name)) names) (filter_map (row_at chains table) names) (built_in_rules_are chains table names) (get chains (place table name)) refl
+built_in_lines_are chains table names =
+    built_in_are chains table built_in_text (λ row. built_in_line row.0 ∷ []) (λ name rules e. sym (append-nil (ended (built_in_line name)))) names
+    ∙ ap text_of_lines (flat_map_single (λ (row : Row). built_in_line row.0) (filter_map (row_at chains table) names))
 
 -- ---- the other chains
 
@@ -87,14 +85,6 @@ other_rules_are : (chains : Chains) (es : Entries) → AllByRecursion (λ e. get
 other_rules_are chains [] h = refl
 other_rules_are chains (e ∷ es) h =
     (λ i. rules_text e.0.chain (h.0 i) ++ other_rules_are chains es h.1 i) ∙ sym (lines-append (map (rule_line e.0.chain) e.1) (flat_map row_lines (map row_of es)))
-
-all_kept : (P : ChainAt × List Rule → Type 0) (b : Bool) (e : ChainAt × List Rule) (es : Entries) → P e → AllByRecursion P es → AllByRecursion P (cond b (e ∷ es) es)
-all_kept P true e es p h = (p, h)
-all_kept P false e es p h = h
-
-all_filter : (P : ChainAt × List Rule → Type 0) (test : ChainAt × List Rule → Bool) (es : Entries) → AllByRecursion P es → AllByRecursion P (filter test es)
-all_filter P test [] h = tt
-all_filter P test (e ∷ es) h = all_kept P (test e) e (filter test es) h.0 (all_filter P test es h.1)
 
 -- ---- a section
 
@@ -147,28 +137,16 @@ module _ (chains : Chains) (table : TableName) where
       ∙ (λ i. ended (table_line table)
       ++ (sym (built_in_lines_are chains table (built_in_chains table)) i
       ++ (sym (ap (flat_map other_text) others_are ∙ other_lines_are free_entries) i
-      ++ (sym (built_in_rules_are chains table (built_in_chains table)) i
+      ++ (sym (built_in_are chains table (rules_at chains) row_lines (λ name rules e. ap (rules_text name) e) (built_in_chains table)) i
       ++ (sym (ap (flat_map (rules_at chains)) others_are ∙ other_rules_are chains free_entries free_found) i ++ ended commit_line)))))
 
 -- a section whose pieces are added one after the other
 pub section_added : (chains : Chains) (table : TableName) (bs os : List ChainAt) (old s1 s2 s3 s4 s5 new : List ℕ) → bs ≡ built_in_places chains table → os ≡ other_places chains table
     → s1 ≡ old ++ ended (table_line table) → s2 ≡ s1 ++ flat_map (chain_text (codes " ACCEPT [0:0]")) bs → s3 ≡ s2 ++ flat_map (chain_text (codes " - [0:0]")) os
     → s4 ≡ s3 ++ flat_map (rules_at chains) bs → s5 ≡ s4 ++ flat_map (rules_at chains) os → new ≡ s5 ++ ended commit_line → new ≡ old ++ section_text_of chains table
-section_added chains table bs os old s1 s2 s3 s4 s5 new p q a b c d e f =
-    let rb = flat_map (rules_at chains) bs in
-    let ro = flat_map (rules_at chains) os in
-    let lb = flat_map built_in_text bs in
-    let lo = flat_map other_text os in
-    added_twice old s1 new (ended (table_line table)) (lb ++ (lo ++ (rb ++ (ro ++ ended commit_line)))) a
-    (added_twice s1 s2 new lb (lo ++ (rb ++ (ro ++ ended commit_line))) b
-    (added_twice s2 s3 new lo (rb ++ (ro ++ ended commit_line)) c (added_twice s3 s4 new rb (ro ++ ended commit_line) d (added_twice s4 s5 new ro (ended commit_line) e f))))
-    ∙ (λ i. old ++ (ended (table_line table) ++ (flat_map built_in_text (p i) ++ (flat_map other_text (q i) ++ (flat_map (rules_at chains) (p i) ++ (flat_map (rules_at chains) (q i) ++ ended commit_line))))))
-    ∙ ap (λ l. old ++ l) (sym (section_is chains table))
+section_added chains table bs os old s1 s2 s3 s4 s5 new p q a b c d e f = simp (f, e, d, c, b, a, p, q, section_is, append_assoc)
 
 -- ---- places
-
-places_joined : (old mid new a b : List ChainAt) → mid ≡ old ++ a → new ≡ mid ++ b → new ≡ old ++ (a ++ b)
-places_joined old mid new a b p q = q ∙ ap (λ l. l ++ b) p ∙ append_assoc old a b
 
 -- one more place
 pub places_more : (table : TableName) (ks : List ChainAt) (i : ℕ) (at : ChainAt) → Some at ≡ slice_get ks i → filter (is_other table) (take (i + 1) ks) ≡ filter (is_other table) (take i ks) ++ filter (is_other table) (at ∷ [])
@@ -188,21 +166,11 @@ places_end table ks i past = ap (filter (is_other table)) (take_all i ks past)
 -- the places of the built-in chains, one after the other
 pub nat_added : (chains : Chains) (old s1 s2 s3 new : List ChainAt) → s1 ≡ old ++ if_there chains (place Nat (codes "PREROUTING")) → s2 ≡ s1 ++ if_there chains (place Nat (codes "INPUT")) → s3 ≡ s2 ++ if_there chains (place Nat (codes "OUTPUT"))
     → new ≡ s3 ++ if_there chains (place Nat (codes "POSTROUTING")) → new ≡ old ++ built_in_places chains Nat
-nat_added chains old s1 s2 s3 new a b c d =
-    let A = if_there chains (place Nat (codes "PREROUTING")) in
-    let B = if_there chains (place Nat (codes "INPUT")) in
-    let C = if_there chains (place Nat (codes "OUTPUT")) in
-    let D = if_there chains (place Nat (codes "POSTROUTING")) in
-    places_joined old s1 new A (B ++ (C ++ D)) a (places_joined s1 s2 new B (C ++ D) b (places_joined s2 s3 new C D c d))
-    ∙ ap (λ l. old ++ (A ++ (B ++ (C ++ l)))) (sym (append-nil D))
+nat_added chains old s1 s2 s3 new a b c d = simp (d, c, b, a, append_assoc, append-nil)
 
 pub filter_added : (chains : Chains) (old s1 s2 new : List ChainAt) → s1 ≡ old ++ if_there chains (place Filter (codes "INPUT")) → s2 ≡ s1 ++ if_there chains (place Filter (codes "FORWARD")) → new ≡ s2 ++ if_there chains (place Filter (codes "OUTPUT"))
     → new ≡ old ++ built_in_places chains Filter
-filter_added chains old s1 s2 new a b c =
-    let A = if_there chains (place Filter (codes "INPUT")) in
-    let B = if_there chains (place Filter (codes "FORWARD")) in
-    let C = if_there chains (place Filter (codes "OUTPUT")) in
-    places_joined old s1 new A (B ++ C) a (places_joined s1 s2 new B C b c) ∙ ap (λ l. old ++ (A ++ (B ++ l))) (sym (append-nil C))
+filter_added chains old s1 s2 new a b c = simp (c, b, a, append_assoc, append-nil)
 
 -- both sections
 pub table_added : (chains : Chains) (old s1 new : List ℕ) → s1 ≡ old ++ section_text_of chains Nat → new ≡ s1 ++ section_text_of chains Filter → new ≡ old ++ table_text_of chains

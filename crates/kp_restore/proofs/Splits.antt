@@ -1,9 +1,9 @@
 -- What stands before and behind the first line feed, and before and behind a name.
-use Rattle.std.proofs.Common.{◌≡◌, ℕ, ◌-◌, ◌<◌, ◌≤◌, ◌==◌, Bool, true, false, cond, not, bytes_eq, IfSome, IsSome, length-append, List, [], ◌∷◌, ◌++◌, length, take, drop, get_or, Option, Some, None, position, refl, sym, ap, ◌∙◌, arith, nat_lt, suc, zero}
+use Rattle.std.proofs.Common.{◌≡◌, ℕ, ◌-◌, ◌<◌, ◌≤◌, ◌==◌, Bool, true, false, cond, not, bytes_eq, IfSome, IsSome, length-append, List, [], ◌∷◌, ◌++◌, length, take, drop, get_or, Option, Some, None, position, refl, sym, ap, ◌∙◌, arith, nat_lt, suc}
 use Rattle.std.specs.List.{position_or_len}
 use Rattle.std.proofs.lemmas.Bool.{and_from}
 use Rattle.std.proofs.Math.Seq.{take-append_seam, drop-append_seam}
-use Rattle.std.proofs.lemmas.List.{take-append-drop}
+use Rattle.std.proofs.lemmas.List.{drop-drop, drop_more, get_or-take, length-take, take-append-drop}
 use Rattle.std.proofs.lemmas.Slice.Eq.{bytes_eq-Decides}
 use Rattle.std.proofs.lemmas.Bool.Decides.{nat_tests}
 use Rattle.std.proofs.lemmas.List.Quantifiers.{position-Some}
@@ -16,26 +16,19 @@ is_feed b = b == 10
 feed : (b : ℕ) → (b == 10) ≡ true → b ≡ 10
 feed b h = grind (arith, nat_tests)
 
--- the first place of a line feed is found from the front
-pub position_from_start : (bytes : List ℕ) (i : ℕ) → position is_feed bytes ≡ Some i → (bytes ≡ take i bytes ++ 10 ∷ drop 1 (drop i bytes)) × (no_line_feed (take i bytes) ≡ true)
-position_from_start bytes i h =
-    let p = position-Some is_feed bytes i 0 h in
-    (sym (take-append-drop i bytes) ∙ ap (λ ys. take i bytes ++ ys) (opened bytes i p.0 (feed _ p.1)), before bytes i p.2 p.0)
-  where
-    opened : (bs : List ℕ) (k : ℕ) → k < length bs → get_or bs k 0 ≡ 10 → drop k bs ≡ 10 ∷ drop 1 (drop k bs)
-    opened [] k l e = absurd (omega arith)
-    opened (b ∷ bs) zero l e = ap (λ x. x ∷ bs) e
-    opened (b ∷ bs) (suc k) l e = opened bs k (omega arith) e
-
-    before : (bs : List ℕ) (k : ℕ) → ((j : ℕ) → j < k → (get_or bs j 0 == 10) ≡ false) → k < length bs → no_line_feed (take k bs) ≡ true
-    before [] k f l = absurd (omega arith)
-    before (b ∷ bs) zero f l = refl
-    before (b ∷ bs) (suc k) f l = and_from _ _ (ap not (f 0 (omega arith))) (before bs k (λ j m. f (suc j) (omega arith)) (omega arith))
-
 -- bytes none of which is one
 quiet : (bs : List ℕ) → ((j : ℕ) → j < length bs → (get_or bs j 0 == 10) ≡ false) → no_line_feed bs ≡ true
 quiet [] f = refl
 quiet (b ∷ bs) f = and_from _ _ (ap not (f 0 (omega arith))) (quiet bs (λ j m. f (suc j) (omega arith)))
+
+-- the first place of a line feed is found from the front
+pub position_from_start : (bytes : List ℕ) (i : ℕ) → position is_feed bytes ≡ Some i → (bytes ≡ take i bytes ++ 10 ∷ drop 1 (drop i bytes)) × (no_line_feed (take i bytes) ≡ true)
+position_from_start bytes i h =
+    let p = position-Some is_feed bytes i 0 h in
+    let parts = drop_more bytes i 0 p.0 ∙ (λ j. feed _ p.1 j ∷ sym (drop-drop 1 i bytes) j) in (
+      sym (take-append-drop i bytes) ∙ ap (λ ys. take i bytes ++ ys) parts,
+      quiet (take i bytes) (λ j m. let within : j < i = omega (arith, m, length-take i bytes) in ap is_feed (get_or-take i bytes j 0 within) ∙ p.2 j within),
+    )
 
 -- where there is none, no byte is one
 pub position_none : (bytes : List ℕ) → position is_feed bytes ≡ None → no_line_feed bytes ≡ true

@@ -2,7 +2,7 @@
 use Rattle.std.proofs.Common.{◌≡◌, ℕ, ◌-◌, ◌==◌, Bool, true, false, cond, not, ◌||◌, List, [], ◌∷◌, ◌++◌, map, length, drop, Option, Some, None, slice_get, bytes_eq, refl, sym, ap, subst, ◌∙◌, append_assoc, option_and_then}
 use Rattle.std.specs.List.{list_all, flat_map}
 use Rattle.std.specs.Ordering.{is_lt}
-use Rattle.std.proofs.lemmas.Bool.{and_parts, and_from, not-true}
+use Rattle.std.proofs.lemmas.Bool.{and_parts, and_from, false≢true, not-true}
 use Rattle.std.proofs.lemmas.List.{map-append, append-nil}
 use Rattle.std.proofs.lemmas.List.Folds.{list_all-append}
 use Rattle.std.proofs.lemmas.Option.{none-some, same_Some}
@@ -14,33 +14,32 @@ use Rattle.kp_table_defs.specs.Ranks.{built_in_chains, is_built_in}
 use Rattle.kp_table_defs.specs.Rebuild.{TableParts}
 use Rattle.kp_restore_defs.specs.TableText.{Row, jumps_to_declared}
 use Rattle.kp_restore.specs.declared.line.Line.{Line}
-use Rattle.kp_restore.specs.declared.line.Line.TheVariants.{Section, BuiltIn, Declared, Ruled, Removed, Commit}
+use Rattle.kp_restore.specs.declared.line.Line.TheVariants.{Section, BuiltIn, Declared, Ruled, Commit}
 use Rattle.kp_restore.specs.declared.table_reader.TableReader.{TableReader}
 use Rattle.kp_restore.specs.declared.table_reader.Phase.{Phase}
-use Rattle.kp_restore.specs.declared.table_reader.Phase.TheVariants.{Opening, Declaring, Ruling, Done}
+use Rattle.kp_restore.specs.declared.table_reader.Phase.TheVariants.{Done}
 use Rattle.kp_restore.specs.Machine.{run}
 use Rattle.kp_restore.specs.TableSteps.{step, put, may_follow, declared, with_rule, ruled, declaring}
 use Rattle.kp_restore.proofs.Rows.{names_of, rising, with_rows, with_section}
 use Rattle.kp_restore.proofs.TableRows.{IsSection}
 use Rattle.kp_restore.proofs.TableParts.{row_parts, section_parts}
-use Rattle.kp_restore.proofs.TableRuns.{opening, naming, filling, behind, get_dropped, get_past, next_left, none_left, last_again, keeps_put, keeps_with, all_jump, rows_jump, still_jump, Follow, IsFilling, filling_run, with_names, names_twice, dropped_all, dropped_first, ungrouped}
-use Rattle.kp_restore.proofs.BatchOrder.{less_through}
+use Rattle.kp_restore.proofs.TableRuns.{opening, naming, filling, behind, next_of, left_behind, last_again, keeps_put, keeps_with, all_jump, rows_jump, still_jump, Follow, IsFilling, filling_run, with_names, names_twice, dropped_all, dropped_first, ungrouped}
 use Rattle.kp_types.proofs.ChainOrder.{one_table_from_test}
 use Rattle.kp_base.proofs.SameParts.{text_test_exact}
+use Rattle.kp_lemmas.proofs.ListFacts.{test_weaker}
+use Rattle.kp_lemmas.proofs.Orders.{less_through}
+use Rattle.std.specs.Cmp.Lexicographic.{nat_list_cmp_total}
 
 -- ---- Phases
 
-opening_owes : (table : TableName) (p : Phase) → Opening table ≡ p → p ≡ Done → ⊥
-opening_owes table p h k = let e : Opening table ≡ Done = h ∙ k in cc
+-- a phase in which nothing is owed
+abbrev is_done : Phase → Bool
+is_done Done = true
+is_done p = false
 
-naming_owes : (table : TableName) (names : List (List ℕ)) (p : Phase) → Declaring table names ≡ p → p ≡ Done → ⊥
-naming_owes table names p h k = let e : Declaring table names ≡ Done = h ∙ k in cc
-
-filling_owes : (table : TableName) (left : List (List ℕ)) (rules : List Rule) (p : Phase) → Ruling table left rules ≡ p → p ≡ Done → ⊥
-filling_owes table left rules p h k = let e : Ruling table left rules ≡ Done = h ∙ k in cc
-
-phase_one : (r e : TableReader) → Some r ≡ Some e → r.phase ≡ e.phase
-phase_one r e h = ap (λ (s : TableReader). s.phase) (same_Some r e h)
+-- an end isn't a state in which something is owed
+owes : (r e : TableReader) → is_done r.phase ≡ false → Some r ≡ Some e → e.phase ≡ Done → ⊥
+owes r e h same done = false≢true (sym h ∙ ap (λ (s : TableReader). is_done s.phase) (same_Some r e same) ∙ ap is_done done)
 
 -- ---- Names that follow each other are in order
 
@@ -50,8 +49,7 @@ follow_apart table last [] f = refl
 follow_apart table last (c ∷ cs) f = and_from _ _ (and_parts _ _ f.0).0 (follow_apart table (Some c) cs f.1)
 
 below_all : (a b : List ℕ) (cs : List (List ℕ)) → is_lt (text_cmp a b) ≡ true → list_all (λ m. is_lt (text_cmp b m)) cs ≡ true → list_all (λ m. is_lt (text_cmp a m)) cs ≡ true
-below_all a b [] g h = refl
-below_all a b (c ∷ cs) g h = let p = and_parts _ _ h in and_from _ _ (less_through a b c g p.0) (below_all a b cs g p.1)
+below_all a b cs g = test_weaker (λ m. is_lt (text_cmp b m)) (λ m. is_lt (text_cmp a m)) (λ m. less_through nat_list_cmp_total a b m g) cs
 
 follow_rises : (table : TableName) (last : List ℕ) (cs : List (List ℕ)) → is_built_in table last ≡ false → Follow table (Some last) cs → (list_all (λ m. is_lt (text_cmp last m)) cs ≡ true) × (rising cs ≡ true)
 unfolding Follow
@@ -79,21 +77,19 @@ split_names (row ∷ rows) (n ∷ ns) ms h =
     (row ∷ rest.0, rest.1, ap (λ rs. row ∷ rs) rest.2, λ i. first i ∷ rest.3 i, rest.4)
 
 module _ (e : TableReader) (done : e.phase ≡ Done) where
+  -- a step that a test lets pass
+  passes : (b : Bool) (m : TableReader) (ls : List Line) → option_and_then (λ n. run step n ls) (cond b (Some m) None) ≡ Some e → (b ≡ true) × (run step m ls ≡ Some e)
+  passes true m ls h = (refl, h)
+  passes false m ls h = absurd (none-some _ h)
+
   -- ---- The first line
 
   opening_back : (t : TableParts) (table : TableName) (us : List Line) → run step (opening t table) us ≡ Some e → (ls : List Line) × (us ≡ Section table ∷ ls) × (run step (naming t table []) ls ≡ Some e)
-  opening_back t table [] h = absurd (opening_owes table e.phase (phase_one (opening t table) e h) done)
-  opening_back t table (Section other ∷ ls) h = by (table_place other == table_place table) refl h
-    where
-      by : (b : Bool) → (table_place other == table_place table) ≡ b → option_and_then (λ m. run step m ls) (cond b (Some (naming t table [])) None) ≡ Some e
-          → (rest : List Line) × (Section other ∷ ls ≡ Section table ∷ rest) × (run step (naming t table []) rest ≡ Some e)
-      by true k g = (ls, ap (λ n. Section n ∷ ls) (one_table_from_test other table k), g)
-      by false k g = absurd (none-some _ g)
-  opening_back t table (BuiltIn chain ∷ ls) h = absurd (none-some _ h)
-  opening_back t table (Declared chain ∷ ls) h = absurd (none-some _ h)
-  opening_back t table (Ruled chain rule ∷ ls) h = absurd (none-some _ h)
-  opening_back t table (Removed chain ∷ ls) h = absurd (none-some _ h)
-  opening_back t table (Commit ∷ ls) h = absurd (none-some _ h)
+  opening_back t table [] h = absurd (owes (opening t table) e refl h done)
+  opening_back t table (Section other ∷ ls) h =
+      let k = passes (table_place other == table_place table) (naming t table []) ls h in
+      (ls, ap (λ n. Section n ∷ ls) (one_table_from_test other table k.0), k.1)
+  opening_back t table (l ∷ ls) h = absurd (none-some _ h)
 
   -- ---- Built-in chains
 
@@ -105,24 +101,13 @@ module _ (e : TableReader) (done : e.phase ≡ Done) where
     built_in_back : (left names : List (List ℕ)) (t : TableParts) (us : List Line) → drop (length names) (built_in_chains table) ≡ left → run step (naming t table names) us ≡ Some e
         → (ls : List Line) × (us ≡ map BuiltIn left ++ ls) × (run step (naming (with_names table t left) table (names ++ left)) ls ≡ Some e)
     built_in_back [] names t us d h = (us, refl, ap (λ ns. run step (naming t table ns) us) (append-nil names) ∙ h)
-    built_in_back (c ∷ left) names t [] d h = absurd (naming_owes table names e.phase (phase_one (naming t table names) e h) done)
+    built_in_back (c ∷ left) names t [] d h = absurd (owes (naming t table names) e refl h done)
     built_in_back (c ∷ left) names t (BuiltIn other ∷ us) d h =
-        by (bytes_eq other c) refl (with_next t names (Some c) (BuiltIn other) us (get_dropped (built_in_chains table) (length names) c left d) h)
-        (λ (k : other ≡ c) g. built_in_back left (names ++ c ∷ []) (put t table c []) us (next_left table names c left d) (ap (λ n. run step (declared t table names n) us) (sym k) ∙ g))
-      where
-        by : (b : Bool) → bytes_eq other c ≡ b → option_and_then (λ m. run step m us) (cond b (Some (declared t table names other)) None) ≡ Some e
-            → (other ≡ c → run step (declared t table names other) us ≡ Some e → (ls : List Line) × (us ≡ map BuiltIn left ++ ls) × (run step (naming (with_names table (put t table c []) left) table ((names ++ c ∷ []) ++ left)) ls ≡ Some e))
-            → (ls : List Line) × (BuiltIn other ∷ us ≡ map BuiltIn (c ∷ left) ++ ls) × (run step (naming (with_names table t (c ∷ left)) table (names ++ c ∷ left)) ls ≡ Some e)
-        by true k g more =
-            let same = text_test_exact other c k in
-            let r = more same g in
-            (r.0, (λ i. BuiltIn (same i) ∷ r.1 i), ap (λ ns. run step (naming (with_names table (put t table c []) left) table ns) r.0) (sym (append_assoc names (c ∷ []) left)) ∙ r.2)
-        by false k g more = absurd (none-some _ g)
-    built_in_back (c ∷ left) names t (Section other ∷ us) d h = absurd (none-some _ (with_next t names (Some c) (Section other) us (get_dropped (built_in_chains table) (length names) c left d) h))
-    built_in_back (c ∷ left) names t (Declared chain ∷ us) d h = absurd (none-some _ (with_next t names (Some c) (Declared chain) us (get_dropped (built_in_chains table) (length names) c left d) h))
-    built_in_back (c ∷ left) names t (Ruled chain rule ∷ us) d h = absurd (none-some _ (with_next t names (Some c) (Ruled chain rule) us (get_dropped (built_in_chains table) (length names) c left d) h))
-    built_in_back (c ∷ left) names t (Removed chain ∷ us) d h = absurd (none-some _ (with_next t names (Some c) (Removed chain) us (get_dropped (built_in_chains table) (length names) c left d) h))
-    built_in_back (c ∷ left) names t (Commit ∷ us) d h = absurd (none-some _ (with_next t names (Some c) Commit us (get_dropped (built_in_chains table) (length names) c left d) h))
+        let k = passes (bytes_eq other c) (declared t table names other) us (with_next t names (Some c) (BuiltIn other) us (next_of table names (c ∷ left) d) h) in
+        let same = text_test_exact other c k.0 in
+        let r = built_in_back left (names ++ c ∷ []) (put t table c []) us (left_behind table names c (c ∷ left) d) (ap (λ n. run step (declared t table names n) us) (sym same) ∙ k.1) in
+        (r.0, (λ i. BuiltIn (same i) ∷ r.1 i), ap (λ ns. run step (naming (with_names table (put t table c []) left) table ns) r.0) (sym (append_assoc names (c ∷ []) left)) ∙ r.2)
+    built_in_back (c ∷ left) names t (l ∷ us) d h = absurd (none-some _ (with_next t names (Some c) l us (next_of table names (c ∷ left) d) h))
 
     -- ---- Other chains
 
@@ -135,29 +120,20 @@ module _ (e : TableReader) (done : e.phase ≡ Done) where
 
     other_back : (us : List Line) (names : List (List ℕ)) (t : TableParts) → drop (length names) (built_in_chains table) ≡ [] → run step (naming t table names) us ≡ Some e → Others names t us
     unfolding Follow
-    other_back [] names t d h = absurd (naming_owes table names e.phase (phase_one (naming t table names) e h) done)
+    other_back [] names t d h = absurd (owes (naming t table names) e refl h done)
     other_back (Declared c ∷ us) names t d h =
-        by (may_follow table names c) refl (with_next t names None (Declared c) us (get_past (built_in_chains table) (length names) d) h)
-        (λ g. other_back us (names ++ c ∷ []) (put t table c []) (none_left table names c d) g)
-      where
-        by : (b : Bool) → may_follow table names c ≡ b → option_and_then (λ m. run step m us) (cond b (Some (declared t table names c)) None) ≡ Some e
-            → (run step (declared t table names c) us ≡ Some e → Others (names ++ c ∷ []) (put t table c []) us)
-            → Others names t (Declared c ∷ us)
-        by true k g more =
-            let r = more g in (
-              c ∷ r.0,
-              r.1,
-              ap (λ ls. Declared c ∷ ls) r.2,
-              r.3,
-              (k, subst (λ o. Follow table o r.0) (last_again names c) r.4),
-              ap (λ ns. run step (naming (with_names table (put t table c []) r.0) table ns) r.1) (sym (append_assoc names (c ∷ []) r.0)) ∙ r.5,
-            )
-        by false k g more = absurd (none-some _ g)
-    other_back (Section other ∷ us) names t d h = absurd (none-some _ (with_next t names None (Section other) us (get_past (built_in_chains table) (length names) d) h))
-    other_back (BuiltIn chain ∷ us) names t d h = absurd (none-some _ (with_next t names None (BuiltIn chain) us (get_past (built_in_chains table) (length names) d) h))
+        let k = passes (may_follow table names c) (declared t table names c) us (with_next t names None (Declared c) us (next_of table names [] d) h) in
+        let r = other_back us (names ++ c ∷ []) (put t table c []) (left_behind table names c [] d) k.1 in (
+          c ∷ r.0,
+          r.1,
+          ap (λ ls. Declared c ∷ ls) r.2,
+          r.3,
+          (k.0, subst (λ o. Follow table o r.0) (last_again names c) r.4),
+          ap (λ ns. run step (naming (with_names table (put t table c []) r.0) table ns) r.1) (sym (append_assoc names (c ∷ []) r.0)) ∙ r.5,
+        )
     other_back (Ruled chain rule ∷ us) names t d h = no_others names t (Ruled chain rule ∷ us) tt h
-    other_back (Removed chain ∷ us) names t d h = absurd (none-some _ (with_next t names None (Removed chain) us (get_past (built_in_chains table) (length names) d) h))
     other_back (Commit ∷ us) names t d h = no_others names t (Commit ∷ us) tt h
+    other_back (l ∷ us) names t d h = absurd (none-some _ (with_next t names None l us (next_of table names [] d) h))
 
     -- ---- Rules
 
@@ -192,9 +168,10 @@ module _ (e : TableReader) (done : e.phase ≡ Done) where
     one_rule d r us more (c ∷ cs) t rules j h =
         by (bytes_eq c d) refl h (λ g. passed c cs t rules (Ruled d r ∷ us) j (one_rule d r us more cs (put t table c rules) [] refl g))
       where
-        here : c ≡ d → (b : Bool) → jumps_to_declared t.chains table r.target ≡ b → option_and_then (λ m. run step m us) (cond b (Some (filling t table (c ∷ cs) (rules ++ r ∷ []))) None) ≡ Some e → Filled (c ∷ cs) t rules (Ruled d r ∷ us)
-        here k true to g =
-            let f = more (c ∷ cs) t (rules ++ r ∷ []) (list_all-append (λ x. jumps_to_declared t.chains table x.target) rules (r ∷ []) ∙ and_from _ _ j (and_from _ _ to refl)) g in (
+        here : c ≡ d → option_and_then (λ m. run step m us) (with_rule t table (c ∷ cs) rules r) ≡ Some e → Filled (c ∷ cs) t rules (Ruled d r ∷ us)
+        here k g =
+            let to = passes (jumps_to_declared t.chains table r.target) (filling t table (c ∷ cs) (rules ++ r ∷ [])) us g in
+            let f = more (c ∷ cs) t (rules ++ r ∷ []) (list_all-append (λ x. jumps_to_declared t.chains table x.target) rules (r ∷ []) ∙ and_from _ _ j (and_from _ _ to.0 refl)) to.1 in (
               f.0,
               f.1,
               f.2,
@@ -202,12 +179,11 @@ module _ (e : TableReader) (done : e.phase ≡ Done) where
               f.4,
               f.5,
             )
-        here k false to g = absurd (none-some _ g)
 
         by : (b : Bool) → bytes_eq c d ≡ b → option_and_then (λ m. run step m us) (cond b (with_rule t table (c ∷ cs) rules r) (ruled (put t table c rules) table cs [] d r)) ≡ Some e
             → (run step (filling (put t table c rules) table cs []) (Ruled d r ∷ us) ≡ Some e → Filled (c ∷ cs) t rules (Ruled d r ∷ us))
             → Filled (c ∷ cs) t rules (Ruled d r ∷ us)
-        by true k g next = here (text_test_exact c d k) (jumps_to_declared t.chains table r.target) refl g
+        by true k g next = here (text_test_exact c d k) g
         by false k g next = next g
 
     last_line : (us : List Line) (names : List (List ℕ)) (t : TableParts) (rules : List Rule) → all_jump t.chains table rules ≡ true → run step (filling t table names rules) (Commit ∷ us) ≡ Some e → Filled names t rules (Commit ∷ us)
@@ -215,13 +191,10 @@ module _ (e : TableReader) (done : e.phase ≡ Done) where
     last_line us (c ∷ cs) t rules j h = passed c cs t rules (Commit ∷ us) j (last_line us cs (put t table c rules) [] refl h)
 
     rules_back : (us : List Line) (names : List (List ℕ)) (t : TableParts) (rules : List Rule) → all_jump t.chains table rules ≡ true → run step (filling t table names rules) us ≡ Some e → Filled names t rules us
-    rules_back [] names t rules j h = absurd (filling_owes table names rules e.phase (phase_one (filling t table names rules) e h) done)
+    rules_back [] names t rules j h = absurd (owes (filling t table names rules) e refl h done)
     rules_back (Ruled d r ∷ us) names t rules j h = one_rule d r us (λ ns u rs i g. rules_back us ns u rs i g) names t rules j h
     rules_back (Commit ∷ us) names t rules j h = last_line us names t rules j h
-    rules_back (Section other ∷ us) names t rules j h = absurd (none-some _ h)
-    rules_back (BuiltIn chain ∷ us) names t rules j h = absurd (none-some _ h)
-    rules_back (Declared chain ∷ us) names t rules j h = absurd (none-some _ h)
-    rules_back (Removed chain ∷ us) names t rules j h = absurd (none-some _ h)
+    rules_back (l ∷ us) names t rules j h = absurd (none-some _ h)
 
     -- ---- A section
 

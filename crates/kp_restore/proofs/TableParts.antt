@@ -1,13 +1,12 @@
 -- The lines of a table's text as what they say.
-use Rattle.std.proofs.Common.{◌≡◌, ℕ, List, [], ◌∷◌, ◌++◌, map, refl, sym, ap, ◌∙◌, append_assoc}
+use Rattle.std.proofs.Common.{◌≡◌, List, [], ◌∷◌, ◌++◌, map, refl, ◌∙◌, append_assoc}
 use Rattle.std.specs.List.{flat_map}
 use Rattle.std.proofs.lemmas.List.{map-append}
+use Rattle.std.proofs.lemmas.Simd.{map-map}
 use Rattle.kp_types.specs.declared.chain.TableName.{TableName}
 use Rattle.kp_types.specs.declared.chain.TableName.TheVariants.{Nat, Filter}
-use Rattle.kp_types.specs.declared.rule.Rule.{Rule}
 use Rattle.kp_table_defs.specs.Rebuild.{Chains}
-use Rattle.kp_restore_defs.specs.RuleText.{rule_line}
-use Rattle.kp_restore_defs.specs.TableText.{Row, built_in_rows, other_rows, row_lines, section_of, table_lines, built_in_line, declared_line}
+use Rattle.kp_restore_defs.specs.TableText.{Row, built_in_rows, other_rows, row_lines, section_of, table_lines}
 use Rattle.kp_restore.specs.declared.line.Line.{Line}
 use Rattle.kp_restore.specs.declared.line.Line.TheVariants.{Section, BuiltIn, Declared, Ruled, Commit}
 use Rattle.kp_restore.specs.Lines.{line_text}
@@ -28,34 +27,12 @@ table_parts chains = section_parts Nat (built_in_rows chains Nat) (other_rows ch
 
 -- ---- Their texts
 
-built_in_texts : (rows : List Row) (rest : List Line) → map line_text (map BuiltIn (names_of rows) ++ rest) ≡ map (λ row. built_in_line row.0) rows ++ map line_text rest
-built_in_texts [] rest = refl
-built_in_texts (row ∷ rows) rest = ap (λ ls. built_in_line row.0 ∷ ls) (built_in_texts rows rest)
-
-declared_texts : (rows : List Row) (rest : List Line) → map line_text (map Declared (names_of rows) ++ rest) ≡ map (λ row. declared_line row.0) rows ++ map line_text rest
-declared_texts [] rest = refl
-declared_texts (row ∷ rows) rest = ap (λ ls. declared_line row.0 ∷ ls) (declared_texts rows rest)
-
-rule_texts : (chain : List ℕ) (rules : List Rule) → map line_text (map (Ruled chain) rules) ≡ map (rule_line chain) rules
-rule_texts chain [] = refl
-rule_texts chain (rule ∷ rules) = ap (λ ls. rule_line chain rule ∷ ls) (rule_texts chain rules)
-
 row_texts : (rows : List Row) → map line_text (flat_map row_parts rows) ≡ flat_map row_lines rows
 row_texts [] = refl
-row_texts (row ∷ rows) = map-append line_text (row_parts row) (flat_map row_parts rows) ∙ (λ i. rule_texts row.0 row.1 i ++ row_texts rows i)
-
-regrouped : {A : Type 0} (a b c d : List A) → a ++ (b ++ (c ++ d)) ≡ a ++ b ++ c ++ d
-regrouped a b c d = sym (append_assoc a b (c ++ d)) ∙ sym (append_assoc (a ++ b) c d)
+row_texts (row ∷ rows) = map-append line_text (row_parts row) (flat_map row_parts rows) ∙ (λ i. map-map line_text (Ruled row.0) row.1 i ++ row_texts rows i)
 
 section_texts : (table : TableName) (built_in others : List Row) → map line_text (section_parts table built_in others) ≡ section_of table built_in others
-section_texts table built_in others =
-    ap (λ ls. line_text (Section table) ∷ ls)
-    (built_in_texts built_in (map Declared (names_of others) ++ (flat_map row_parts (built_in ++ others) ++ Commit ∷ []))
-    ∙ ap (λ ls. map (λ row. built_in_line row.0) built_in ++ ls)
-    (declared_texts others (flat_map row_parts (built_in ++ others) ++ Commit ∷ [])
-    ∙ ap (λ ls. map (λ row. declared_line row.0) others ++ ls)
-    (map-append line_text (flat_map row_parts (built_in ++ others)) (Commit ∷ []) ∙ ap (λ ls. ls ++ line_text Commit ∷ []) (row_texts (built_in ++ others))))
-    ∙ regrouped (map (λ row. built_in_line row.0) built_in) (map (λ row. declared_line row.0) others) (flat_map row_lines (built_in ++ others)) (line_text Commit ∷ []))
+section_texts table built_in others = simp (map-append, map-map, row_texts, append_assoc)
 
 -- the lines of a table's text are the texts of its parts
 pub table_texts : (chains : Chains) → map line_text (table_parts chains) ≡ table_lines chains

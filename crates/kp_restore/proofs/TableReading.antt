@@ -1,13 +1,14 @@
 -- The reader of tables reads exactly the texts of canonical tables.
-use Rattle.std.proofs.Common.{◌≡◌, ℕ, Bool, true, false, ◌&&◌, List, [], ◌∷◌, ◌++◌, map, length, take, drop, Option, Some, None, is_some, bytes_eq, refl, sym, ap, ◌∙◌}
+use Rattle.std.proofs.Common.{◌≡◌, ℕ, Bool, true, false, ◌&&◌, List, [], ◌∷◌, ◌++◌, map, length, take, drop, Option, Some, None, is_some, bytes_eq, refl, sym, ap, ◌∙◌, arith}
 use Rattle.std.specs.List.{list_all, list_any, flat_map}
 use Rattle.std.specs.Option.{option_or}
 use Rattle.std.specs.Ordering.{eq_by_cmp}
 use Rattle.std.specs.FinMap.{get, get-empty, same_map}
 use Rattle.std.proofs.lemmas.Bool.{and_parts, and_from}
-use Rattle.std.proofs.lemmas.List.{map-append, append-nil, take-append-drop}
+use Rattle.std.proofs.lemmas.List.{map-append, map-id, append-nil, drop_all, length-append, length-drop, take-append-drop}
 use Rattle.std.proofs.lemmas.List.Folds.{list_all-append, list_all-map}
 use Rattle.std.proofs.lemmas.Option.{none-some, same_Some}
+use Rattle.std.proofs.lemmas.Simd.{map-map}
 use Rattle.kp_base.specs.declared.address.Family.{Family}
 use Rattle.kp_types.specs.Chains.{is_chain_name}
 use Rattle.kp_types.specs.Places.{chain_cmp}
@@ -34,23 +35,22 @@ use Rattle.kp_restore.proofs.TableRows.{IsSection, section_distinct, rules_there
 use Rattle.kp_restore.proofs.TableParts.{row_parts, section_parts, table_parts, table_texts}
 use Rattle.kp_restore.proofs.TableRuns.{opening, naming, filling, behind, Keeps, keeps_with, jumps_by, all_jump, rows_jump, rows_still_jump, built_in_run, filling_run, with_names, section_run}
 use Rattle.kp_restore.proofs.TableBack.{section_back}
+use Rattle.kp_restore.proofs.Tests.{all_both, all_flat}
 use Rattle.kp_lemmas.proofs.ListFacts.{test_weaker}
 
 -- ---- What a table with a section has
 
 names_of_empty : (ns : List (List ℕ)) → names_of (map empty_row ns) ≡ ns
-names_of_empty [] = refl
-names_of_empty (n ∷ ns) = ap (λ ms. n ∷ ms) (names_of_empty ns)
+names_of_empty ns = map-map (λ (row : Row). row.0) empty_row ns ∙ map-id ns
 
 pub get_section : (table : TableName) (t : TableParts) (rows : List Row) → distinct (names_of rows) ≡ true → (q : List ℕ) → get (with_section table t rows).chains (at table q) ≡ option_or (rules_in rows q) (get t.chains (at table q))
 get_section table t rows d q =
     get_with table (with_names table t (names_of rows)) rows d q
     ∙ ap (option_or (rules_in rows q)) (get_with table t (map empty_row (names_of rows)) (ap distinct (names_of_empty (names_of rows)) ∙ d) q)
-    ∙ by (rules_in rows q) (is_some_rules rows q)
-  where
-    by : (o : Option (List Rule)) → is_some o ≡ list_any (bytes_eq q) (names_of rows) → option_or o (option_or (rules_in (map empty_row (names_of rows)) q) (get t.chains (at table q))) ≡ option_or o (get t.chains (at table q))
-    by (Some rules) h = refl
-    by None h = ap (λ o. option_or o (get t.chains (at table q))) (no_rules (map empty_row (names_of rows)) q (ap (list_any (bytes_eq q)) (names_of_empty (names_of rows)) ∙ sym h))
+    ∙ elim (rules_in rows q) as (λ o. is_some o ≡ list_any (bytes_eq q) (names_of rows) → option_or o (option_or (rules_in (map empty_row (names_of rows)) q) (get t.chains (at table q))) ≡ option_or o (get t.chains (at table q))) [
+      | Some rules ↦ λ h. refl
+      | None ↦ λ h. ap (λ o. option_or o (get t.chains (at table q))) (no_rules (map empty_row (names_of rows)) q (ap (list_any (bytes_eq q)) (names_of_empty (names_of rows)) ∙ sym h))
+    ] (is_some_rules rows q)
 
 -- the other table's chains are as they were
 apart : (a b : List ℕ) → eq_by_cmp chain_cmp (at Nat a) (at Filter b) ≡ false
@@ -111,31 +111,28 @@ module _ (family : Family) where
   names_good names = list_all is_chain_name names
 
   built_in_good : (names : List (List ℕ)) → list_all good (map BuiltIn names) ≡ names_good names
-  built_in_good [] = refl
-  built_in_good (n ∷ ns) = ap (λ b. is_chain_name n && b) (built_in_good ns)
+  built_in_good = list_all-map good BuiltIn
 
   declared_good : (names : List (List ℕ)) → list_all good (map Declared names) ≡ names_good names
-  declared_good [] = refl
-  declared_good (n ∷ ns) = ap (λ b. is_chain_name n && b) (declared_good ns)
+  declared_good = list_all-map good Declared
 
   row_good : (chain : List ℕ) (rules : List Rule) → list_all good (map (Ruled chain) rules) ≡ true → list_all (is_canonical_rule family) rules ≡ true
-  row_good chain [] h = refl
-  row_good chain (r ∷ rs) h = let p = and_parts _ _ h in and_from _ _ (and_parts _ _ p.0).1 (row_good chain rs p.1)
+  row_good chain rules h =
+      test_weaker (λ r. is_chain_name chain && is_canonical_rule family r) (is_canonical_rule family) (λ r k. (and_parts _ _ k).1) rules (sym (list_all-map good (Ruled chain) rules) ∙ h)
 
   row_from : (chain : List ℕ) (rules : List Rule) → is_chain_name chain ≡ true → list_all (is_canonical_rule family) rules ≡ true → list_all good (map (Ruled chain) rules) ≡ true
-  row_from chain [] n h = refl
-  row_from chain (r ∷ rs) n h = let p = and_parts _ _ h in and_from _ _ (and_from _ _ n p.0) (row_from chain rs n p.1)
+  row_from chain rules n h =
+      list_all-map good (Ruled chain) rules ∙ test_weaker (is_canonical_rule family) (λ r. is_chain_name chain && is_canonical_rule family r) (λ r. and_from _ _ n) rules h
 
   rows_good : (rows : List Row) → list_all good (flat_map row_parts rows) ≡ true → rules_good rows ≡ true
-  rows_good [] h = refl
-  rows_good (row ∷ rows) h = let p = all_front good (row_parts row) (flat_map row_parts rows) h in and_from _ _ (row_good row.0 row.1 p.0) (rows_good rows p.1)
+  rows_good rows h =
+      test_weaker (λ row. list_all good (row_parts row)) (λ row. list_all (is_canonical_rule family) row.1) (λ row. row_good row.0 row.1) rows (sym (all_flat good row_parts rows) ∙ h)
 
   rows_from : (rows : List Row) → names_good (names_of rows) ≡ true → rules_good rows ≡ true → list_all good (flat_map row_parts rows) ≡ true
-  rows_from [] n h = refl
-  rows_from (row ∷ rows) n h =
-      let p = and_parts _ _ n in
-      let q = and_parts _ _ h in
-      list_all-append good (row_parts row) (flat_map row_parts rows) ∙ and_from _ _ (row_from row.0 row.1 p.0 q.0) (rows_from rows p.1 q.1)
+  rows_from rows n h =
+      all_flat good row_parts rows
+      ∙ all_both (λ row. is_chain_name row.0) (λ row. list_all (is_canonical_rule family) row.1) (λ row. list_all good (row_parts row)) (λ row. row_from row.0 row.1)
+      rows (sym (list_all-map is_chain_name (λ (row : Row). row.0) rows) ∙ n) h
 
   section_good : (table : TableName) (built_in others : List Row) → list_all good (section_parts table built_in others) ≡ true → (names_good (names_of (built_in ++ others)) ≡ true) × (rules_good (built_in ++ others) ≡ true)
   section_good table built_in others h =
@@ -253,19 +250,11 @@ module _ (family : Family) where
 
   rows_canonical : (chains : Chains) (table : TableName) (rows : List Row) → names_good (names_of rows) ≡ true → rules_good rows ≡ true → rows_jump chains table rows ≡ true
       → list_all (λ row. is_canonical_chain family chains (at table row.0, row.1)) rows ≡ true
-  rows_canonical chains table [] n r j = refl
-  rows_canonical chains table (row ∷ rows) n r j =
-      let p = and_parts _ _ n in
-      let q = and_parts _ _ r in
-      let k = and_parts _ _ j in
-      and_from _ _ (and_from _ _ p.0 (may_all row.1 q.0 k.0)) (rows_canonical chains table rows p.1 q.1 k.1)
-    where
-      may_all : (rules : List Rule) → list_all (is_canonical_rule family) rules ≡ true → all_jump chains table rules ≡ true → list_all (may_stand family chains table) rules ≡ true
-      may_all [] g h = refl
-      may_all (rule ∷ rules) g h =
-          let a = and_parts _ _ g in
-          let b = and_parts _ _ h in
-          and_from _ _ (and_from _ _ a.0 b.0) (may_all rules a.1 b.1)
+  rows_canonical chains table rows n r j =
+      all_both (λ row. is_chain_name row.0) (λ row. list_all (may_stand family chains table) row.1) (λ row. is_canonical_chain family chains (at table row.0, row.1)) (λ row. and_from _ _)
+      rows (sym (list_all-map is_chain_name (λ (row : Row). row.0) rows) ∙ n)
+      (all_both (λ row. list_all (is_canonical_rule family) row.1) (λ row. all_jump chains table row.1) (λ row. list_all (may_stand family chains table) row.1)
+      (λ row. all_both (is_canonical_rule family) (λ r. jumps_to_declared chains table r.target) (may_stand family chains table) (λ rule. and_from _ _) row.1) rows r j)
 
   -- a section of the table
   module _ (chains : Chains) (table : TableName) (built_in others : List Row) (s : IsSection table built_in others) (has : (name : List ℕ) → get chains (at table name) ≡ rules_in (built_in ++ others) name) where
@@ -378,10 +367,7 @@ module _ (family : Family) where
       earlier (filling t table names rules) (behind u.0 table) (Commit ∷ []) refl (λ ys. ap (λ m. run step m ys) u.1) (ends_behind table u.0)
 
   rest_dropped : {A : Type 0} (xs ys : List A) → drop (length (xs ++ drop (length xs) ys)) ys ≡ []
-  rest_dropped [] [] = refl
-  rest_dropped [] (y ∷ ys) = rest_dropped [] ys
-  rest_dropped (x ∷ xs) [] = refl
-  rest_dropped (x ∷ xs) (y ∷ ys) = rest_dropped xs ys
+  rest_dropped xs ys = drop_all (length (xs ++ drop (length xs) ys)) ys (omega (arith, length-append xs (drop (length xs) ys), length-drop (length xs) ys))
 
   built_in_named : (table : TableName) → names_good (built_in_chains table) ≡ true
   built_in_named Nat = refl

@@ -1,14 +1,12 @@
 -- The rows of a table's section, and the table that has them.
 use Rattle.std.proofs.Common.{◌≡◌, ℕ, ◌==◌, Bool, true, false, cond, not, ◌&&◌, ◌||◌, T, List, [], ◌∷◌, ◌++◌, map, Option, Some, None, is_some, bytes_eq, refl, sym, ap, subst, ◌∙◌, option_map}
-use Rattle.std.specs.declared.cmp.Ordering.{Ordering}
-use Rattle.std.specs.declared.cmp.Ordering.TheVariants.{Less, Equal, Greater}
 use Rattle.std.specs.List.{list_all, list_any, filter_map, cons_option}
 use Rattle.std.specs.Option.{option_or}
-use Rattle.std.specs.Ordering.{eq_by_cmp, is_eq, is_lt}
-use Rattle.std.specs.Cmp.{tied_itself}
+use Rattle.std.specs.Ordering.{eq_by_cmp, is_lt}
 use Rattle.std.specs.FinMap.{entries, entries_sorted, get, get-entries, find, is_sorted}
 use Rattle.std.specs.FinMap.Entries.{below_all, where_key, is_sorted-where_key, find-where_key, same_entries}
-use Rattle.std.proofs.lemmas.Bool.{and_parts, and_from, not-true, or_parts}
+use Rattle.std.proofs.lemmas.Bool.{and_parts, and_from, both_ways, false_from_ne_true, false≢true, not-true, or_from, or_parts}
+use Rattle.std.proofs.lemmas.List.Folds.{list_any-append}
 use Rattle.std.proofs.lemmas.List.{map-append}
 use Rattle.std.proofs.lemmas.Option.{same_Some}
 use Rattle.kp_base.specs.Keys.{text_cmp}
@@ -21,9 +19,11 @@ use Rattle.kp_types.proofs.ChainOrder.{chain_total, chain_exact, one_table_from_
 use Rattle.kp_table_defs.specs.Ranks.{built_in_chains, is_built_in, has_built_in}
 use Rattle.kp_table_defs.specs.Rebuild.{Chains}
 use Rattle.kp_restore_defs.specs.TableText.{Row, row_at, built_in_rows, other_rows}
-use Rattle.kp_restore.proofs.Rows.{at, entries_of, rules_in, names_of, distinct, rising, Agree, turned_false, find_rows, is_some_rules, no_rules, rules_append, agree, agree_front, agree_same, rows_again}
-use Rattle.kp_lemmas.proofs.Orders.{lesser_text_differs, less_from_fact}
-use Rattle.kp_lemmas.proofs.Booleans.{both_facts, true_from_fact}
+use Rattle.kp_restore.proofs.Rows.{at, entries_of, rules_in, names_of, distinct, rising, Agree, turned_false, find_rows, is_some_rules, none_of, no_rules, rules_append, agree, agree_front, agree_same, rows_again}
+use Rattle.kp_lemmas.proofs.Orders.{equal_from_test, lesser_text_differs}
+use Rattle.kp_lemmas.proofs.Booleans.{true_from_fact}
+use Rattle.kp_lemmas.proofs.Entries.{entries_found}
+use Rattle.kp_restore.proofs.Tests.{all_true}
 use Rattle.kp_base.proofs.SameParts.{text_test_exact}
 
 -- a section's rows: its built-in chains in their order, and the others by their bytes
@@ -54,16 +54,12 @@ foreign_head n ns (m ∷ ms) h =
     let rest = foreign_head n ns ms p.1 in
     (λ i. turned_false m n q.0 i || rest.0 i, λ i. not (q.1 i) && rest.1 i)
 
-any_append : (p : List ℕ → Bool) (xs ys : List (List ℕ)) → list_any p xs ≡ false → list_any p ys ≡ false → list_any p (xs ++ ys) ≡ false
-any_append p [] ys g h = h
-any_append p (x ∷ xs) ys g h = let q = or_parts _ _ g in λ i. q.0 i || any_append p xs ys q.1 h i
-
 distinct_append : (ns ms : List (List ℕ)) → distinct ns ≡ true → distinct ms ≡ true → foreign ns ms ≡ true → distinct (ns ++ ms) ≡ true
 distinct_append [] ms g h f = h
 distinct_append (n ∷ ns) ms g h f =
     let p = and_parts _ _ g in
     let q = foreign_head n ns ms f in
-    λ i. not (any_append (bytes_eq n) ns ms (not-true _ p.0) q.0 i) && distinct_append ns ms p.1 h q.1 i
+    λ i. not ((list_any-append (bytes_eq n) ns ms ∙ or_from _ _ (not-true _ p.0) q.0) i) && distinct_append ns ms p.1 h q.1 i
 
 built_in_distinct : (table : TableName) → distinct (built_in_chains table) ≡ true
 built_in_distinct Nat = refl
@@ -81,11 +77,8 @@ pub not_among : (p : List ℕ → Bool) (name : List ℕ) (ns : List (List ℕ))
 not_among p name [] h a = refl
 not_among p name (n ∷ ns) h a =
     let q = and_parts _ _ a in
-    λ i. by (bytes_eq name n) refl i || not_among p name ns h q.1 i
-  where
-    by : (b : Bool) → bytes_eq name n ≡ b → b ≡ false
-    by false e = refl
-    by true e = let same = text_test_exact name n e in absurd (let t : true ≡ false = sym h ∙ ap p same ∙ not-true _ (and_parts _ _ a).0 in cc)
+    let other : bytes_eq name n ≡ false = false_from_ne_true _ (λ e. both_ways (p n) (not-true _ q.0) (sym (ap p (text_test_exact name n e)) ∙ h)) in
+    or_from _ _ other (not_among p name ns h q.1)
 
 module _ (table : TableName) (built_in others : List Row) (s : IsSection table built_in others) where
   pub built_in_there : (name : List ℕ) → is_some (rules_in built_in name) ≡ is_built_in table name
@@ -96,48 +89,18 @@ module _ (table : TableName) (built_in others : List Row) (s : IsSection table b
 
 -- ---- Entries
 
--- a key below all others isn't found among them
-find_below : (q : ChainAt) (es : List (ChainAt × List Rule)) → T (below_all chain_cmp q es) → find chain_cmp q es ≡ None
-find_below q [] h = refl
-find_below q (e ∷ es) h =
-    let p = both_facts _ _ h in
-    ap (λ o. cond (is_eq o) (Some e.1) (find chain_cmp q es)) (less_from_fact _ p.0) ∙ find_below q es p.1
-
 -- what holds of all that is found holds of all entries
-every_in : (p : ChainAt × List Rule → Bool) (es : List (ChainAt × List Rule)) → T (is_sorted chain_cmp es) → ((q : ChainAt) (rules : List Rule) → find chain_cmp q es ≡ Some rules → p (q, rules) ≡ true) → list_all p es ≡ true
-every_in p [] s h = refl
-every_in p (e ∷ es) s h =
-    let c = both_facts _ _ s in
-    and_from _ _ (h e.0 e.1 (ap (λ o. cond (is_eq o) (Some e.1) (find chain_cmp e.0 es)) (tied_itself chain_total e.0)))
-    (every_in p es c.1 (λ q rules f. h q rules (by q rules f (eq_by_cmp chain_cmp q e.0) refl)))
-  where
-    equal : (o : Ordering) → is_eq o ≡ true → o ≡ Equal
-    equal Less h = absurd (cc)
-    equal Equal h = refl
-    equal Greater h = absurd (cc)
-
-    by : (q : ChainAt) (rules : List Rule) → find chain_cmp q es ≡ Some rules → (b : Bool) → eq_by_cmp chain_cmp q e.0 ≡ b → cond b (Some e.1) (find chain_cmp q es) ≡ Some rules
-    by q rules f false t = f
-    by q rules f true t =
-        let same : q ≡ e.0 = chain_exact q e.0 (equal _ t) in
-        absurd (let n : None ≡ Some rules = sym (find_below e.0 es (both_facts _ _ s).0) ∙ ap (λ k. find chain_cmp k es) (sym same) ∙ f in cc)
-
 pub every_entry : (p : ChainAt × List Rule → Bool) (chains : Chains) → ((q : ChainAt) (rules : List Rule) → get chains q ≡ Some rules → p (q, rules) ≡ true) → list_all p (entries chains) ≡ true
-every_entry p chains h = every_in p (entries chains) (entries_sorted chains) (λ q rules f. h q rules (get-entries chains q ∙ f))
+every_entry p chains h = all_true p (λ e. get chains e.0 ≡ Some e.1) (λ e. h e.0 e.1) (entries chains) (entries_found chain_total chains)
 
 -- what holds of all entries holds of all that is found
 one_in : (p : ChainAt × List Rule → Bool) (es : List (ChainAt × List Rule)) → list_all p es ≡ true → (q : ChainAt) (rules : List Rule) → find chain_cmp q es ≡ Some rules → p (q, rules) ≡ true
 one_in p [] a q rules f = absurd (cc)
-one_in p (e ∷ es) a q rules f = by (eq_by_cmp chain_cmp q e.0) refl f (one_in p es (and_parts _ _ a).1 q rules)
-  where
-    equal : (o : Ordering) → is_eq o ≡ true → o ≡ Equal
-    equal Less h = absurd (cc)
-    equal Equal h = refl
-    equal Greater h = absurd (cc)
-
-    by : (b : Bool) → eq_by_cmp chain_cmp q e.0 ≡ b → cond b (Some e.1) (find chain_cmp q es) ≡ Some rules → (find chain_cmp q es ≡ Some rules → p (q, rules) ≡ true) → p (q, rules) ≡ true
-    by true t f g = (λ i. p (chain_exact q e.0 (equal _ t) i, sym (same_Some e.1 rules f) i)) ∙ (and_parts _ _ a).0
-    by false t f g = g f
+one_in p (e ∷ es) a q rules f =
+    elim (eq_by_cmp chain_cmp q e.0) as (λ b. eq_by_cmp chain_cmp q e.0 ≡ b → cond b (Some e.1) (find chain_cmp q es) ≡ Some rules → p (q, rules) ≡ true) [
+      | true ↦ λ t f. (λ i. p (chain_exact q e.0 (equal_from_test _ t) i, sym (same_Some e.1 rules f) i)) ∙ (and_parts _ _ a).0
+      | false ↦ λ t f. one_in p es (and_parts _ _ a).1 q rules f
+    ] refl f
 
 pub one_entry : (p : ChainAt × List Rule → Bool) (chains : Chains) → list_all p (entries chains) ≡ true → (q : ChainAt) (rules : List Rule) → get chains q ≡ Some rules → p (q, rules) ≡ true
 one_entry p chains a q rules f = one_in p (entries chains) a q rules (sym (get-entries chains q) ∙ f)
@@ -152,10 +115,9 @@ table_apart : (table : TableName) (q : ChainAt) (name : List ℕ) → (table_pla
 table_apart table q name h = by q.table table h
   where
     by : (a b : TableName) → (table_place a == table_place b) ≡ false → eq_by_cmp chain_cmp (at a q.chain) (at b name) ≡ false
-    by Nat Nat e = absurd (cc)
     by Nat Filter e = refl
     by Filter Nat e = refl
-    by Filter Filter e = absurd (cc)
+    by a b e = absurd (false≢true (sym e))
 
 less_at : (table : TableName) (n m : List ℕ) → is_lt (chain_cmp (at table n) (at table m)) ≡ is_lt (text_cmp n m)
 less_at Nat n m = refl
@@ -169,6 +131,10 @@ below_names table n (row ∷ rows) = λ i. less_at table n row.0 i && below_name
 sorted_names : (table : TableName) (rows : List Row) → is_sorted chain_cmp (entries_of table rows) ≡ rising (names_of rows)
 sorted_names table [] = refl
 sorted_names table (row ∷ rows) = λ i. below_names table row.0 rows i && sorted_names table rows i
+
+never : (b : Bool) → ◌≡◌ {A = Option (List Rule)} (cond b None None) None
+never true = refl
+never false = refl
 
 module _ (table : TableName) where
   -- the places of the table, and those of its chains that aren't built in
@@ -189,17 +155,15 @@ module _ (table : TableName) where
 
   entries_again : (es : List (ChainAt × List Rule)) → entries_of table (map row_of (others_in es)) ≡ others_in es
   entries_again [] = refl
-  entries_again (e ∷ es) = by (in_table e.0) refl (entries_again es)
-    where
-      keep : (b : Bool) → in_table e.0 ≡ true → entries_of table (map row_of (others_in es)) ≡ others_in es
-          → entries_of table (map row_of (cond b (e ∷ others_in es) (others_in es))) ≡ cond b (e ∷ others_in es) (others_in es)
-      keep true t h = λ i. (same_place e.0 t i, e.1) ∷ h i
-      keep false t h = h
-
-      by : (b : Bool) → in_table e.0 ≡ b → entries_of table (map row_of (others_in es)) ≡ others_in es
-          → entries_of table (map row_of (where_key chain_cmp is_other (cond b (e ∷ where_key chain_cmp in_table es) (where_key chain_cmp in_table es)))) ≡ where_key chain_cmp is_other (cond b (e ∷ where_key chain_cmp in_table es) (where_key chain_cmp in_table es))
-      by true t h = keep (is_other e.0) t h
-      by false t h = h
+  entries_again (e ∷ es) =
+      elim (in_table e.0) as (λ b. in_table e.0 ≡ b → entries_of table (map row_of (where_key chain_cmp is_other (cond b (e ∷ where_key chain_cmp in_table es) (where_key chain_cmp in_table es))))
+      ≡ where_key chain_cmp is_other (cond b (e ∷ where_key chain_cmp in_table es) (where_key chain_cmp in_table es))) [
+        | true ↦ λ t. elim (is_other e.0) as (λ b. entries_of table (map row_of (cond b (e ∷ others_in es) (others_in es))) ≡ cond b (e ∷ others_in es) (others_in es)) [
+          | true ↦ λ i. (same_place e.0 t i, e.1) ∷ entries_again es i
+          | false ↦ entries_again es
+        ]
+        | false ↦ λ t. entries_again es
+      ] refl
 
   rows_of_entries : (rows : List Row) → map row_of (entries_of table rows) ≡ rows
   rows_of_entries [] = refl
@@ -207,12 +171,11 @@ module _ (table : TableName) where
 
   all_other : (es : List (ChainAt × List Rule)) → list_all (λ n. not (is_built_in table n)) (names_of (map row_of (where_key chain_cmp is_other es))) ≡ true
   all_other [] = refl
-  all_other (e ∷ es) = by (is_other e.0) refl (all_other es)
-    where
-      by : (b : Bool) → is_other e.0 ≡ b → list_all (λ n. not (is_built_in table n)) (names_of (map row_of (where_key chain_cmp is_other es))) ≡ true
-          → list_all (λ n. not (is_built_in table n)) (names_of (map row_of (cond b (e ∷ where_key chain_cmp is_other es) (where_key chain_cmp is_other es)))) ≡ true
-      by true t h = and_from _ _ t h
-      by false t h = h
+  all_other (e ∷ es) =
+      elim (is_other e.0) as (λ b. is_other e.0 ≡ b → list_all (λ n. not (is_built_in table n)) (names_of (map row_of (cond b (e ∷ where_key chain_cmp is_other es) (where_key chain_cmp is_other es)))) ≡ true) [
+        | true ↦ λ t. and_from _ _ t (all_other es)
+        | false ↦ λ t. all_other es
+      ] refl
 
   -- a look-up among the rows of one table finds no place of the other
   find_foreign : (q : ChainAt) (rows : List Row) → in_table q ≡ false → find chain_cmp q (entries_of table rows) ≡ None
@@ -241,8 +204,7 @@ module _ (table : TableName) where
     built_in_rules (n ∷ ns) name = by (get chains (at table n)) refl (bytes_eq name n) refl (built_in_rules ns name)
       where
         nothing : (b : Bool) (o : Option (List Rule)) → o ≡ None → cond b o None ≡ o
-        nothing true o h = refl
-        nothing false o h = sym h
+        nothing b o h = ap (λ o. cond b o None) h ∙ never b ∙ sym h
 
         by : (o : Option (List Rule)) → get chains (at table n) ≡ o → (b : Bool) → bytes_eq name n ≡ b
             → rules_in (filter_map (row_at chains table) ns) name ≡ cond (list_any (bytes_eq name) ns) (get chains (at table name)) None
@@ -266,11 +228,11 @@ module _ (table : TableName) where
 
     first_names : (ns : List (List ℕ)) → list_all (λ n. is_some (get chains (at table n))) ns ≡ true → names_of (filter_map (row_at chains table) ns) ≡ ns
     first_names [] h = refl
-    first_names (n ∷ ns) h = by (get chains (at table n)) (and_parts _ _ h).0 (first_names ns (and_parts _ _ h).1)
-      where
-        by : (o : Option (List Rule)) → is_some o ≡ true → names_of (filter_map (row_at chains table) ns) ≡ ns → names_of (cons_option (option_map (λ rules. (n, rules)) o) (filter_map (row_at chains table) ns)) ≡ n ∷ ns
-        by None g h = absurd (cc)
-        by (Some rules) g h = ap (λ ms. n ∷ ms) h
+    first_names (n ∷ ns) h =
+        elim (get chains (at table n)) as (λ o. is_some o ≡ true → names_of (cons_option (option_map (λ rules. (n, rules)) o) (filter_map (row_at chains table) ns)) ≡ n ∷ ns) [
+          | None ↦ λ g. absurd (false≢true g)
+          | Some rules ↦ λ g. ap (λ ms. n ∷ ms) (first_names ns (and_parts _ _ h).1)
+        ] (and_parts _ _ h).0
 
     -- a table with its built-in chains has a section's rows
     pub rows_section : has_built_in chains table ≡ true → IsSection table (built_in_rows chains table) (other_rows chains table)
@@ -293,17 +255,9 @@ module _ (table : TableName) where
       in_place : (q : ChainAt) → find chain_cmp q (others_in (entries chains)) ≡ find chain_cmp q (entries_of table others)
       in_place q = others_found q ∙ by (in_table q) refl
         where
-          never : (b : Bool) → ◌≡◌ {A = Option (List Rule)} (cond b None None) None
-          never true = refl
-          never false = refl
-
-          missing : (o : Option (List Rule)) → is_some o ≡ false → o ≡ None
-          missing None e = refl
-          missing (Some x) e = absurd (cc)
-
           here : (b : Bool) → is_built_in table q.chain ≡ b → cond (not b) (rules_in (built_in ++ others) q.chain) None ≡ rules_in others q.chain
           here true e = sym (other_missing table built_in others s q.chain e)
-          here false e = rules_append built_in others q.chain ∙ ap (λ o. option_or o (rules_in others q.chain)) (missing _ (built_in_there table built_in others s q.chain ∙ e))
+          here false e = rules_append built_in others q.chain ∙ ap (λ o. option_or o (rules_in others q.chain)) (none_of _ (built_in_there table built_in others s q.chain ∙ e))
 
           by : (b : Bool) → in_table q ≡ b → cond (is_other q) (cond b (get chains q) None) None ≡ find chain_cmp q (entries_of table others)
           by false t = never (is_other q) ∙ sym (find_foreign q others t)

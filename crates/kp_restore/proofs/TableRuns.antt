@@ -5,8 +5,8 @@ use Rattle.std.specs.Ordering.{eq_by_cmp, is_lt}
 use Rattle.std.specs.Cmp.Lexicographic.{nat_list_eq_equiv}
 use Rattle.kp_base.specs.Keys.{text_cmp}
 use Rattle.std.specs.FinMap.{get, get-insert}
-use Rattle.std.proofs.lemmas.Bool.{and_parts, and_from, not-true, or_parts}
-use Rattle.std.proofs.lemmas.List.{map-append, append-nil}
+use Rattle.std.proofs.lemmas.Bool.{and_parts, and_from, not-true, or_parts, or_right}
+use Rattle.std.proofs.lemmas.List.{map-append, append-nil, drop-drop, drop_all, length_push}
 use Rattle.kp_types.specs.Places.{chain_cmp}
 use Rattle.kp_types.specs.declared.chain.TableName.{TableName}
 use Rattle.kp_types.specs.declared.chain.TableName.TheVariants.{Nat, Filter}
@@ -18,7 +18,7 @@ use Rattle.kp_table_defs.specs.Ranks.{built_in_chains, is_built_in}
 use Rattle.kp_table_defs.specs.Rebuild.{Chains, TableParts}
 use Rattle.kp_restore_defs.specs.TableText.{Row, jumps_to_declared}
 use Rattle.kp_restore.specs.declared.line.Line.{Line}
-use Rattle.kp_restore.specs.declared.line.Line.TheVariants.{Section, BuiltIn, Declared, Ruled, Removed, Commit}
+use Rattle.kp_restore.specs.declared.line.Line.TheVariants.{Section, BuiltIn, Declared, Ruled, Commit}
 use Rattle.kp_restore.specs.declared.table_reader.TableReader.{TableReader}
 use Rattle.kp_restore.specs.declared.table_reader.Phase.TheVariants.{Opening, Declaring, Ruling}
 use Rattle.kp_restore.specs.Machine.{run}
@@ -44,43 +44,22 @@ behind t table = record { table = t; phase = phase_after table }
 
 -- ---- Lists
 
-pub get_dropped : {A : Type 0} (xs : List A) (n : ℕ) (y : A) (ys : List A) → drop n xs ≡ y ∷ ys → slice_get xs n ≡ Some y
-get_dropped [] zero y ys h = absurd (cc)
-get_dropped [] (suc n) y ys h = absurd (cc)
-get_dropped (x ∷ xs) zero y ys h = let e : x ≡ y = cc in ap (λ z. Some z) e
-get_dropped (x ∷ xs) (suc n) y ys h = get_dropped xs n y ys h
-
-pub get_past : {A : Type 0} (xs : List A) (n : ℕ) → drop n xs ≡ [] → slice_get xs n ≡ None
-get_past [] n h = refl
-get_past (x ∷ xs) zero h = absurd (cc)
-get_past (x ∷ xs) (suc n) h = get_past xs n h
-
-drop_next : {A : Type 0} (xs : List A) (n : ℕ) (y : A) (ys : List A) → drop n xs ≡ y ∷ ys → drop (suc n) xs ≡ ys
-drop_next [] zero y ys h = absurd (cc)
-drop_next [] (suc n) y ys h = absurd (cc)
-drop_next (x ∷ xs) zero y ys h = cc
-drop_next (x ∷ xs) (suc n) y ys h = drop_next xs n y ys h
-
-drop_past : {A : Type 0} (xs : List A) (n : ℕ) → drop n xs ≡ [] → drop (suc n) xs ≡ []
-drop_past [] n h = refl
-drop_past (x ∷ xs) zero h = absurd (cc)
-drop_past (x ∷ xs) (suc n) h = drop_past xs n h
-
-one_longer : {A : Type 0} (xs : List A) (x : A) → length (xs ++ x ∷ []) ≡ suc (length xs)
-one_longer xs x = omega (arith, length-append xs (x ∷ []))
-
-get_last : {A : Type 0} (xs : List A) (x : A) → slice_get (xs ++ x ∷ []) (length xs) ≡ Some x
-get_last [] x = refl
-get_last (y ∷ xs) x = get_last xs x
-
 pub last_again : {A : Type 0} (xs : List A) (x : A) → slice_get (xs ++ x ∷ []) (length (xs ++ x ∷ []) - 1) ≡ Some x
-last_again xs x = let n : length (xs ++ x ∷ []) - 1 ≡ length xs = omega (arith, length-append xs (x ∷ [])) in ap (slice_get (xs ++ x ∷ [])) n ∙ get_last xs x
+last_again [] x = refl
+last_again (y ∷ xs) x = let n : length (y ∷ xs ++ x ∷ []) - 1 ≡ suc (length (xs ++ x ∷ []) - 1) = omega (arith, length-append xs (x ∷ [])) in ap (slice_get (y ∷ xs ++ x ∷ [])) n ∙ last_again xs x
 
-pub next_left : (table : TableName) (names : List (List ℕ)) (c : List ℕ) (left : List (List ℕ)) → drop (length names) (built_in_chains table) ≡ c ∷ left → drop (length (names ++ c ∷ [])) (built_in_chains table) ≡ left
-next_left table names c left h = ap (λ n. drop n (built_in_chains table)) (one_longer names c) ∙ drop_next (built_in_chains table) (length names) c left h
+-- the built-in chain that is declared next is the first of those that are left
+get_drop : {A : Type 0} (xs : List A) (n : ℕ) → slice_get xs n ≡ slice_get (drop n xs) 0
+get_drop xs zero = refl
+get_drop [] (suc n) = refl
+get_drop (x ∷ xs) (suc n) = get_drop xs n
 
-pub none_left : (table : TableName) (names : List (List ℕ)) (c : List ℕ) → drop (length names) (built_in_chains table) ≡ [] → drop (length (names ++ c ∷ [])) (built_in_chains table) ≡ []
-none_left table names c h = ap (λ n. drop n (built_in_chains table)) (one_longer names c) ∙ drop_past (built_in_chains table) (length names) h
+pub next_of : (table : TableName) (names left : List (List ℕ)) → drop (length names) (built_in_chains table) ≡ left → slice_get (built_in_chains table) (length names) ≡ slice_get left 0
+next_of table names left h = get_drop (built_in_chains table) (length names) ∙ ap (λ l. slice_get l 0) h
+
+-- behind a further one those behind it are left
+pub left_behind : (table : TableName) (names : List (List ℕ)) (c : List ℕ) (left : List (List ℕ)) → drop (length names) (built_in_chains table) ≡ left → drop (length (names ++ c ∷ [])) (built_in_chains table) ≡ drop 1 left
+left_behind table names c left h = ap (λ n. drop n (built_in_chains table)) (length_push names c) ∙ sym (drop-drop 1 (length names) (built_in_chains table)) ∙ ap (drop 1) h
 
 -- ---- Jumps
 
@@ -89,11 +68,9 @@ abbrev pub Keeps : TableName → TableParts → TableParts → Type 0
 Keeps table t u = (name : List ℕ) → is_some (get t.chains (at table name)) ≡ true → is_some (get u.chains (at table name)) ≡ true
 
 pub keeps_put : (table other : TableName) (t : TableParts) (chain : List ℕ) (rules : List Rule) → Keeps table t (put t other chain rules)
-keeps_put table other t chain rules name h = ap is_some (get-insert chain_total t.chains (at other chain) rules (at table name)) ∙ by (eq_by_cmp chain_cmp (at table name) (at other chain))
-  where
-    by : (b : Bool) → is_some (cond b (Some rules) (get t.chains (at table name))) ≡ true
-    by true = refl
-    by false = h
+keeps_put table other t chain rules name h =
+    ap is_some (get-insert chain_total t.chains (at other chain) rules (at table name))
+    ∙ elim (eq_by_cmp chain_cmp (at table name) (at other chain)) as (λ b. is_some (cond b (Some rules) (get t.chains (at table name))) ≡ true) [ true ↦ refl | false ↦ h ]
 
 pub keeps_with : (table other : TableName) (t : TableParts) (rows : List Row) → Keeps table t (with_rows other t rows)
 keeps_with table other t [] name h = h
@@ -101,14 +78,7 @@ keeps_with table other t (row ∷ rows) name h = keeps_with table other (put t o
 
 pub jumps_by : (table : TableName) (a b : Chains) → ((name : List ℕ) → is_some (get a (at table name)) ≡ true → is_some (get b (at table name)) ≡ true) → (to : Target) → jumps_to_declared a table to ≡ true → jumps_to_declared b table to ≡ true
 jumps_by table a b f (target.Jump chain) h = f chain h
-jumps_by table a b f target.Return h = refl
-jumps_by table a b f target.Accept h = refl
-jumps_by table a b f target.Drop h = refl
-jumps_by table a b f target.Reject h = refl
-jumps_by table a b f target.SetMark h = refl
-jumps_by table a b f target.FlipMark h = refl
-jumps_by table a b f (target.Dnat endpoint) h = refl
-jumps_by table a b f target.Masquerade h = refl
+jumps_by table a b f to h = refl
 
 -- each jump goes to a chain of the table
 abbrev pub all_jump : Chains → TableName → List Rule → Bool
@@ -132,8 +102,8 @@ pub built_in_run : (table : TableName) (left names : List (List ℕ)) (t : Table
     → run step (naming t table names) (map BuiltIn left ++ ys) ≡ run step (naming (with_rows table t (map empty_row left)) table (names ++ left)) ys
 built_in_run table [] names t ys h = ap (λ ns. run step (naming t table ns) ys) (sym (append-nil names))
 built_in_run table (c ∷ left) names t ys h =
-    ap (option_and_then (λ m. run step m (map BuiltIn left ++ ys))) (step_built_in t table names c (get_dropped (built_in_chains table) (length names) c left h))
-    ∙ built_in_run table left (names ++ c ∷ []) (put t table c []) ys (next_left table names c left h)
+    ap (option_and_then (λ m. run step m (map BuiltIn left ++ ys))) (step_built_in t table names c (next_of table names (c ∷ left) h))
+    ∙ built_in_run table left (names ++ c ∷ []) (put t table c []) ys (left_behind table names c (c ∷ left) h)
     ∙ ap (λ ns. run step (naming (with_rows table (put t table c []) (map empty_row left)) table ns) ys) (append_assoc names (c ∷ []) left)
 
 -- each of these may be declared behind the one before it
@@ -142,7 +112,7 @@ Follow table last [] = Unit {0}
 Follow table last (c ∷ cs) = (not (is_built_in table c) && is_behind table last c ≡ true) × Follow table (Some c) cs
 
 step_other : (t : TableParts) (table : TableName) (names : List (List ℕ)) (c : List ℕ) → drop (length names) (built_in_chains table) ≡ [] → may_follow table names c ≡ true → step (naming t table names) (Declared c) ≡ Some (declared t table names c)
-step_other t table names c h m = ap (λ o. declaring t table names o (Declared c)) (get_past (built_in_chains table) (length names) h) ∙ ap (λ b. cond b (Some (declared t table names c)) None) m
+step_other t table names c h m = ap (λ o. declaring t table names o (Declared c)) (next_of table names [] h) ∙ ap (λ b. cond b (Some (declared t table names c)) None) m
 
 pub other_run : (table : TableName) (cs names : List (List ℕ)) (t : TableParts) (ys : List Line) → drop (length names) (built_in_chains table) ≡ [] → Follow table (slice_get names (length names - 1)) cs
     → run step (naming t table names) (map Declared cs ++ ys) ≡ run step (naming (with_rows table t (map empty_row cs)) table (names ++ cs)) ys
@@ -150,29 +120,21 @@ unfolding Follow
 other_run table [] names t ys h f = ap (λ ns. run step (naming t table ns) ys) (sym (append-nil names))
 other_run table (c ∷ cs) names t ys h f =
     ap (option_and_then (λ m. run step m (map Declared cs ++ ys))) (step_other t table names c h f.0)
-    ∙ other_run table cs (names ++ c ∷ []) (put t table c []) ys (none_left table names c h) (subst (λ o. Follow table o cs) (sym (last_again names c)) f.1)
+    ∙ other_run table cs (names ++ c ∷ []) (put t table c []) ys (left_behind table names c [] h) (subst (λ o. Follow table o cs) (sym (last_again names c)) f.1)
     ∙ ap (λ ns. run step (naming (with_rows table (put t table c []) (map empty_row cs)) table ns) ys) (append_assoc names (c ∷ []) cs)
 
 -- ---- Rules
 
 -- lines that begin with a rule or with the end
 abbrev pub IsFilling : List Line → Type 0
-IsFilling [] = ⊥
-IsFilling (Section table ∷ ls) = ⊥
-IsFilling (BuiltIn chain ∷ ls) = ⊥
-IsFilling (Declared chain ∷ ls) = ⊥
 IsFilling (Ruled chain rule ∷ ls) = Unit {0}
-IsFilling (Removed chain ∷ ls) = ⊥
 IsFilling (Commit ∷ ls) = Unit {0}
+IsFilling ls = ⊥
 
 pub filling_run : (table : TableName) (names : List (List ℕ)) (t : TableParts) (ls : List Line) → drop (length names) (built_in_chains table) ≡ [] → IsFilling ls → run step (naming t table names) ls ≡ run step (filling t table names []) ls
-filling_run table names t [] h f = absurd f
-filling_run table names t (Section other ∷ ls) h f = absurd f
-filling_run table names t (BuiltIn chain ∷ ls) h f = absurd f
-filling_run table names t (Declared chain ∷ ls) h f = absurd f
-filling_run table names t (Ruled chain rule ∷ ls) h f = ap (λ o. option_and_then (λ m. run step m ls) (declaring t table names o (Ruled chain rule))) (get_past (built_in_chains table) (length names) h)
-filling_run table names t (Removed chain ∷ ls) h f = absurd f
-filling_run table names t (Commit ∷ ls) h f = ap (λ o. option_and_then (λ m. run step m ls) (declaring t table names o Commit)) (get_past (built_in_chains table) (length names) h)
+filling_run table names t (Ruled chain rule ∷ ls) h f = ap (λ o. option_and_then (λ m. run step m ls) (declaring t table names o (Ruled chain rule))) (next_of table names [] h)
+filling_run table names t (Commit ∷ ls) h f = ap (λ o. option_and_then (λ m. run step m ls) (declaring t table names o Commit)) (next_of table names [] h)
+filling_run table names t ls h f = absurd f
 
 rows_fill : (rows : List Row) (zs : List Line) → IsFilling (flat_map row_parts rows ++ Commit ∷ zs)
 rows_fill [] zs = tt
@@ -234,29 +196,20 @@ follow_from table last [] b a r = tt
 follow_from table last (c ∷ cs) b a r =
     let p = and_parts _ _ a in
     let q = and_parts _ _ r in
-    (and_from _ _ p.0 (and_parts _ _ b).0, follow_from table c cs (test_weaker (λ m. is_lt (text_cmp c m)) (λ m. is_built_in table c || is_lt (text_cmp c m)) (λ m l. or_right _ _ l) cs q.0) p.1 q.1)
-  where
-    or_right : (x y : Bool) → y ≡ true → (x || y) ≡ true
-    or_right true y h = refl
-    or_right false y h = h
+    (and_from _ _ p.0 (and_parts _ _ b).0, follow_from table c cs (test_weaker (λ m. is_lt (text_cmp c m)) (λ m. is_built_in table c || is_lt (text_cmp c m)) (λ m. or_right (is_built_in table c) _) cs q.0) p.1 q.1)
 
 pub follow_first : (table : TableName) (cs : List (List ℕ)) → list_all (λ m. not (is_built_in table m)) cs ≡ true → rising cs ≡ true → Follow table (slice_get (built_in_chains table) (length (built_in_chains table) - 1)) cs
 follow_first Nat cs a r = follow_from Nat (codes "POSTROUTING") cs (test_always (λ m. is_built_in Nat (codes "POSTROUTING") || is_lt (text_cmp (codes "POSTROUTING") m)) (λ m. refl) cs) a r
 follow_first Filter cs a r = follow_from Filter (codes "OUTPUT") cs (test_always (λ m. is_built_in Filter (codes "OUTPUT") || is_lt (text_cmp (codes "OUTPUT") m)) (λ m. refl) cs) a r
 
 pub dropped_all : {A : Type 0} (xs ys : List A) → drop (length (xs ++ ys)) xs ≡ []
-dropped_all [] [] = refl
-dropped_all [] (y ∷ ys) = refl
-dropped_all (x ∷ xs) ys = dropped_all xs ys
+dropped_all xs ys = drop_all (length (xs ++ ys)) xs (omega (arith, length-append xs ys))
 
 pub dropped_first : (table : TableName) → drop (length (built_in_chains table)) (built_in_chains table) ≡ []
-dropped_first Nat = refl
-dropped_first Filter = refl
+dropped_first table = drop_all (length (built_in_chains table)) (built_in_chains table) (omega arith)
 
 pub ungrouped : {A : Type 0} (a b c d zs : List A) → (a ++ (b ++ (c ++ d))) ++ zs ≡ a ++ (b ++ (c ++ (d ++ zs)))
-ungrouped a b c d zs =
-    append_assoc a (b ++ (c ++ d)) zs
-    ∙ ap (λ x. a ++ x) (append_assoc b (c ++ d) zs ∙ ap (λ x. b ++ x) (append_assoc c d zs))
+ungrouped a b c d zs = simp append_assoc
 
 pub section_names : (table : TableName) (built_in others : List Row) → IsSection table built_in others → names_of (built_in ++ others) ≡ built_in_chains table ++ names_of others
 section_names table built_in others s = map-append (λ (row : Row). row.0) built_in others ∙ ap (λ ns. ns ++ names_of others) s.first

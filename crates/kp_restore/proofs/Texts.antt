@@ -1,5 +1,5 @@
 -- Texts of lines, and the lines of texts.
-use Rattle.std.proofs.Common.{◌≡◌, ℕ, ◌+◌, ◌-◌, ◌==◌, Bool, true, false, cond, List, [], ◌∷◌, ◌++◌, length, take, refl, sym, ap, ◌∙◌, append_assoc, length-append, arith}
+use Rattle.std.proofs.Common.{◌≡◌, ℕ, ◌+◌, ◌-◌, ◌==◌, true, false, cond, List, [], ◌∷◌, ◌++◌, length, take, refl, sym, ap, ◌∙◌, append_assoc, length-append, arith}
 use Rattle.std.specs.List.{list_all, slice_split, onto_first}
 use Rattle.std.proofs.Math.Seq.{take-append-add}
 use Rattle.std.proofs.lemmas.Bool.{and_parts, not-true}
@@ -47,11 +47,9 @@ without_one x = refl
 -- a text has a piece
 pub some_piece : (text : List ℕ) → (x : List ℕ) × (xs : List (List ℕ)) × (pieces text ≡ x ∷ xs)
 some_piece [] = ([], [], refl)
-some_piece (b ∷ bs) = by (b == 10) (some_piece bs)
-  where
-    by : (t : Bool) → (x : List ℕ) × (xs : List (List ℕ)) × (pieces bs ≡ x ∷ xs) → (x : List ℕ) × (xs : List (List ℕ)) × (cond t ([] ∷ pieces bs) (onto_first b (pieces bs)) ≡ x ∷ xs)
-    by true h = ([], pieces bs, refl)
-    by false h = (b ∷ h.0, h.1, ap (onto_first b) h.2)
+some_piece (b ∷ bs) =
+    let h = some_piece bs in
+    elim (b == 10) as (λ t. (x : List ℕ) × (xs : List (List ℕ)) × (cond t ([] ∷ pieces bs) (onto_first b (pieces bs)) ≡ x ∷ xs)) [ true ↦ ([], pieces bs, refl) | false ↦ (b ∷ h.0, h.1, ap (onto_first b) h.2) ]
 
 module _ (lines : List (List ℕ)) (h : list_all no_line_feed lines ≡ true) where
   -- the lines that are ended, where one more line is

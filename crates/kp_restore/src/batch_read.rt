@@ -63,9 +63,8 @@ fn after_line(
 
 /// The batch, where nothing stands behind the last line and no section is open.
 fn finished(reader: BatchReader, rest: &[u8]) -> Option<Batch>
-    ensures rest { IfSome result (λ b. rest.now ≡ []) }
-    ensures end { IfSome result (λ b. IsEnd reader) }
-    ensures edits { IfSome result (λ b. b.edits ≡ reader.edits) }
+    ensures batch { IfSome result (λ b. (rest.now ≡ []) × IsEnd reader
+        × (b.edits ≡ reader.edits)) }
     ensures none { result ≡ None → rest.now ≡ [] → IsEnd reader → ⊥ }
 {
     match reader.phase {

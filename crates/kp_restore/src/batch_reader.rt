@@ -3,8 +3,10 @@ ghost use Rattle.std.specs.Prelude.{◌≡◌, ◌∷◌, ◌++◌, [], IfOk, On
 ghost use Rattle.kp_restore.specs.BatchSteps as spec;
 
 use crate::built_in::is_built_in;
+use crate::left::Left;
 use crate::line::Line;
-use crate::row::{Left, Row};
+use crate::lists::with_last;
+use crate::row::Row;
 use kp_base::{Items, NoMemory, Shared};
 use kp_types::{ChainAt, ChainName, Edit, Rule, TableName};
 use std::alloc::Global;
@@ -33,7 +35,7 @@ pub(crate) enum BatchPhase {
         section: TableName,
         part: Part,
         passed: Items<Row>,
-        left: Left,
+        left: Left<Row>,
     },
 }
 
@@ -113,7 +115,7 @@ fn within(
     section: TableName,
     part: Part,
     passed: Items<Row>,
-    left: Left,
+    left: Left<Row>,
     line: Line,
 ) -> Result<Option<BatchReader>, NoMemory>
     ensures { IfOk result (λ next. next ≡ spec.within edits section part passed left line) }
@@ -182,7 +184,7 @@ fn ruled_in(
     section: TableName,
     part: Part,
     passed: Items<Row>,
-    left: Left,
+    left: Left<Row>,
     chain: ChainName,
     rule: Rule,
 ) -> Result<Option<BatchReader>, NoMemory>
@@ -204,7 +206,7 @@ fn ruled(
     edits: Items<Edit>,
     section: TableName,
     passed: Items<Row>,
-    mut left: Left,
+    mut left: Left<Row>,
     chain: ChainName,
     rule: Rule,
 ) -> Result<Option<BatchReader>, NoMemory>
@@ -252,7 +254,7 @@ fn removed_in(
     section: TableName,
     part: Part,
     passed: Items<Row>,
-    left: Left,
+    left: Left<Row>,
     chain: ChainName,
 ) -> Result<Option<BatchReader>, NoMemory>
     ensures { IfOk result (λ next. next ≡ spec.removed_in edits section part passed left chain) }
@@ -271,7 +273,7 @@ fn removed(
     edits: Items<Edit>,
     section: TableName,
     passed: Items<Row>,
-    mut left: Left,
+    mut left: Left<Row>,
     chain: ChainName,
 ) -> Result<Option<BatchReader>, NoMemory>
     ensures { IfOk result (λ next. next ≡ spec.removed_from edits section passed left chain) }
@@ -293,7 +295,7 @@ fn with_removed(
     section: TableName,
     passed: Items<Row>,
     row: Row,
-    left: Left,
+    left: Left<Row>,
 ) -> Result<Option<BatchReader>, NoMemory>
     ensures { IfOk result (λ next. next ≡ spec.with_removed edits section passed row left) }
 {
@@ -323,7 +325,7 @@ fn committed(
     alloc: Global,
     edits: Items<Edit>,
     section: TableName,
-    left: Left,
+    left: Left<Row>,
 ) -> Result<Option<BatchReader>, NoMemory>
     ensures { IfOk result (λ next. next ≡ spec.committed edits section left) }
 {
@@ -344,7 +346,7 @@ fn with_edits(
     alloc: Global,
     edits: Items<Edit>,
     section: TableName,
-    mut left: Left,
+    mut left: Left<Row>,
 ) -> Result<Items<Edit>, NoMemory>
     ensures { IfOk result (λ all. all ≡ edits ++ spec.edits_of section left) }
 {
@@ -386,13 +388,4 @@ fn add_edit(
         writes.push(Edit::Write { at, rules })?;
     }
     Ok(())
-}
-
-/// The items with one more behind them.
-fn with_last<T: Drop>(items: Items<T>, item: T) -> Result<Items<T>, NoMemory>
-    ensures { IfOk result (λ all. all ≡ items ++ item ∷ []) }
-{
-    let mut items = items.into_vec();
-    items.push(item)?;
-    Ok(Items::from_vec(items))
 }

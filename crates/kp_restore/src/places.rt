@@ -3,9 +3,9 @@ ghost use Rattle.std.specs.Prelude.{◌≡◌, [], ◌∷◌, ◌++◌, IfOk, On
 ghost use Rattle.std.specs.List.{filter};
 ghost use Rattle.kp_types.specs.Chains.{is_chain_name};
 ghost use Rattle.kp_types.specs.declared.chain.TableName.TheVariants as table_name;
-ghost use Rattle.kp_table_defs.specs.Ranks as ranks;
 ghost use Rattle.kp_restore.specs.Printed as spec;
 
+use crate::built_in::is_built_in;
 use kp_base::{Items, NoMemory};
 use kp_rules::Table;
 use kp_types::{ChainAt, ChainName, TableName};
@@ -104,16 +104,4 @@ fn add_if_other(at: &ChainAt, which: TableName, places: &mut Vec<ChainAt>) -> Re
         places.push(at.same())?;
     }
     Ok(())
-}
-
-/// Whether a table has a built-in chain of this name.
-fn is_built_in(table: TableName, name: &str) -> bool
-    ensures { result ≡ ranks.is_built_in table name.now }
-{
-    match table {
-        TableName::Nat => {
-            name == "PREROUTING" || name == "INPUT" || name == "OUTPUT" || name == "POSTROUTING"
-        }
-        TableName::Filter => name == "INPUT" || name == "FORWARD" || name == "OUTPUT",
-    }
 }

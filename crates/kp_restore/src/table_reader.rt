@@ -1,12 +1,13 @@
 //! What is read of a table so far, and what a further line makes of it.
-ghost use Rattle.std.specs.Prelude.{◌≡◌, [], ◌∷◌, ◌++◌, IfOk, slice_get, length};
+ghost use Rattle.std.specs.Prelude.{◌≡◌, [], ◌∷◌, ◌++◌, IfOk, OnOk, slice_get, length};
 ghost use Rattle.kp_table_defs.specs.Ranks.{built_in_chains};
 ghost use Rattle.kp_restore_defs.specs.TableText as TableText;
 ghost use Rattle.kp_restore.specs.TableSteps as spec;
 
 use crate::built_in::{built_in_at, may_follow};
+use crate::left::Left;
 use crate::line::Line;
-use crate::queue::Queue;
+use crate::lists::with_last;
 use kp_base::{Items, NoMemory};
 use kp_rules::Table;
 use kp_types::{ChainAt, ChainName, Rule, TableName, Target};
@@ -27,7 +28,7 @@ pub(crate) enum Phase {
     /// The rules of the first of these chains are read.
     Ruling {
         section: TableName,
-        left: Queue,
+        left: Left<ChainName>,
         rules: Items<Rule>,
     },
     /// Nothing is owed.
@@ -139,11 +140,11 @@ fn other_declared(
             Ok(Some(declared(alloc, table, section, names, chain)?))
         }
         Line::Ruled(chain, rule) => {
-            let left = Queue::of(names);
+            let left = Left::of(alloc, names)?;
             ruled(alloc, table, section, left, Items::new(alloc), chain, rule)
         }
         Line::Commit => {
-            let left = Queue::of(names);
+            let left = Left::of(alloc, names)?;
             Ok(Some(committed(alloc, table, section, left, Items::new(alloc))?))
         }
         _ => Ok(None),
@@ -160,11 +161,7 @@ fn declared(
 ) -> Result<TableReader, NoMemory>
     ensures { IfOk result (λ next. next ≡ spec.declared table section names chain) }
 {
-    let at = ChainAt {
-        table: section,
-        chain: chain.same(),
-    };
-    table.put(at, Items::new(alloc))?;
+    put(&mut table, section, &chain, Items::new(alloc))?;
     let names = with_last(names, chain)?;
     Ok(TableReader {
         table,
@@ -177,7 +174,7 @@ fn ruling(
     alloc: Global,
     table: Table,
     section: TableName,
-    left: Queue,
+    left: Left<ChainName>,
     rules: Items<Rule>,
     line: Line,
 ) -> Result<Option<TableReader>, NoMemory>
@@ -195,24 +192,20 @@ fn ruled(
     alloc: Global,
     mut table: Table,
     section: TableName,
-    mut left: Queue,
+    mut left: Left<ChainName>,
     mut rules: Items<Rule>,
     chain: ChainName,
     rule: Rule,
 ) -> Result<Option<TableReader>, NoMemory>
     ensures { IfOk result (λ next. next ≡ spec.ruled table section left rules chain rule) }
 {
-    while let Some(name) = left.first() {
-        if *name == chain {
+    while let Some(name) = left.pop() {
+        if name == chain {
+            left.put(name)?;
             return with_rule(table, section, left, rules, rule);
         }
-        let at = ChainAt {
-            table: section,
-            chain: name.same(),
-        };
-        table.put(at, rules)?;
+        put(&mut table, section, &name, rules)?;
         rules = Items::new(alloc);
-        left.pass();
     }
     Ok(None)
 }
@@ -221,7 +214,7 @@ fn ruled(
 fn with_rule(
     table: Table,
     section: TableName,
-    left: Queue,
+    left: Left<ChainName>,
     rules: Items<Rule>,
     rule: Rule,
 ) -> Result<Option<TableReader>, NoMemory>
@@ -262,24 +255,35 @@ fn committed(
     alloc: Global,
     mut table: Table,
     section: TableName,
-    mut left: Queue,
+    mut left: Left<ChainName>,
     mut rules: Items<Rule>,
 ) -> Result<TableReader, NoMemory>
     ensures { IfOk result (λ next. next ≡ spec.committed table section left rules) }
 {
-    while let Some(name) = left.first() {
-        let at = ChainAt {
-            table: section,
-            chain: name.same(),
-        };
-        table.put(at, rules)?;
+    while let Some(name) = left.pop() {
+        put(&mut table, section, &name, rules)?;
         rules = Items::new(alloc);
-        left.pass();
     }
     Ok(TableReader {
         table,
         phase: phase_after(section),
     })
+}
+
+/// Puts a chain's rules into the table.
+fn put(
+    table: &mut Table,
+    section: TableName,
+    chain: &ChainName,
+    rules: Items<Rule>,
+) -> Result<(), NoMemory>
+    ensures { OnOk result (table.new ≡ spec.put table.old section chain.now rules) }
+{
+    let at = ChainAt {
+        table: section,
+        chain: chain.same(),
+    };
+    table.put(at, rules)
 }
 
 /// What comes behind a section.
@@ -292,13 +296,4 @@ fn phase_after(section: TableName) -> Phase
         },
         TableName::Filter => Phase::Done,
     }
-}
-
-/// The items with one more behind them.
-fn with_last<T: Drop>(items: Items<T>, item: T) -> Result<Items<T>, NoMemory>
-    ensures { IfOk result (λ all. all ≡ items ++ item ∷ []) }
-{
-    let mut items = items.into_vec();
-    items.push(item)?;
-    Ok(Items::from_vec(items))
 }
