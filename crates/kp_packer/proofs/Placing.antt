@@ -73,32 +73,6 @@ last_none most fs (w ∷ ws) none made = absurd (omega (arith, none))
 
 -- ---- the first slice that passes
 
-module _ {X : Type 0} (p : X → Bool) where
-  at_place : (xs : List X) (i : ℕ) (x : X) → i < length xs → x ≡ get_or xs i x → list_any p (take i xs) ≡ false → p x ≡ true → position_or_len p xs ≡ i
-  at_place [] i x within is none fits = absurd (omega (arith, within))
-  at_place (y ∷ xs) zero x within is none fits = ap (λ b. cond (not b) (1 + position_or_len p xs) 0) (ap p (sym is) ∙ fits)
-  at_place (y ∷ xs) (suc i) x within is none fits =
-      let parts = or_parts (p y) (list_any p (take i xs)) none in
-      let rest = at_place xs i x (omega (arith, within)) is parts.1 fits in
-      ap (λ b. cond (not b) (1 + position_or_len p xs) 0) parts.0 ∙ omega (arith, rest)
-
-  pub position_at : (xs : List X) (i : ℕ) (x : X) → i < length xs → x ≡ get_or xs i x → list_any p (take i xs) ≡ false → p x ≡ true → Some i ≡ position p xs
-  position_at xs i x within is none fits =
-      let below : nat_lt i (length xs) ≡ true = grind (arith, nat_tests, within) in
-      sym (ap (λ k. cond (nat_lt k (length xs)) (Some k) None) (at_place xs i x within is none fits) ∙ ap (λ b. cond b (Some i) None) below)
-
-  no_place : (xs : List X) → list_any p xs ≡ false → position_or_len p xs ≡ length xs
-  no_place [] none = refl
-  no_place (y ∷ xs) none =
-      let parts = or_parts (p y) (list_any p xs) none in
-      let rest = no_place xs parts.1 in
-      ap (λ b. cond (not b) (1 + position_or_len p xs) 0) parts.0 ∙ omega (arith, rest)
-
-  pub position_none : (xs : List X) → list_any p xs ≡ false → None ≡ position p xs
-  position_none xs none =
-      let past : nat_lt (length xs) (length xs) ≡ false = grind (arith, nat_tests) in
-      sym (ap (λ k. cond (nat_lt k (length xs)) (Some k) None) (no_place xs none) ∙ ap (λ b. cond b (Some (length xs)) None) past)
-
 past_by : (b : Bool) (k n : ℕ) → nat_lt k n ≡ b → cond b (Some k) None ≡ None → n ≤ k
 past_by true k n e h = absurd (cc)
 past_by false k n e h = grind (arith, nat_tests)

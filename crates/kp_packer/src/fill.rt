@@ -6,21 +6,22 @@ ghost use Rattle.kp_packer.specs.Views.{shown, filling_of, progress_of};
 
 use kp_base::NoMemory;
 use kp_types::{Slice, SliceEndpoint, Wanted};
-use std::alloc::Global;
 
 /// A slice with its endpoints by now, and whether it has to be changed.
-#[derive(Drop)]
 pub struct Fill<'a> {
     pub slice: &'a Slice,
     pub endpoints: Vec<&'a SliceEndpoint>,
     pub is_changed: bool,
 }
 
-/// Slices by now, and how many of the endpoints that were left they took.
-#[derive(Drop)]
-pub struct Filled<'a> {
-    pub fills: Vec<Fill<'a>>,
-    pub used: usize,
+impl Drop for Fill<'_> {
+    fn drop(self) {
+        let Fill {
+            slice,
+            endpoints,
+            is_changed,
+        } = self;
+    }
 }
 
 impl<'a> Fill<'a> {
@@ -57,24 +58,20 @@ impl<'a> Fill<'a> {
     }
 }
 
-/// Fills the slices that are changed, in their order.
+/// Fills the slices that are changed, in their order, and counts what they take.
 pub fn fill_changed<'a>(
-    alloc: Global,
     most: usize,
-    kept: Vec<Fill<'a>>,
+    fills: &mut [Fill<'a>],
     left: &[&'a Wanted],
-) -> Result<Filled<'a>, NoMemory>
-    ensures used { IfOk result (λ f. f.used ≤ length left.now) }
-    ensures filled { IfOk result (λ f. progress_of f.fills.items (shown (drop f.used left.now))
-        ≡ spec.fill_changed most (progress_of kept.entry.items (shown left.now))) }
+) -> Result<usize, NoMemory>
+    ensures used { IfOk result (λ used. used ≤ length left.now) }
+    ensures filled { IfOk result (λ used. progress_of fills.new (shown (drop used left.now))
+        ≡ spec.fill_changed most (progress_of fills.old (shown left.now))) }
 {
-    let mut fills = Vec::new(alloc);
     let mut used = 0;
-    for fill in kept {
-        let mut fill = fill;
+    for fill in fills.iter_mut() {
         let (_, rest) = left.split_at(used);
         used += fill.fill_up(most, rest)?;
-        fills.push(fill)?;
     }
-    Ok(Filled { fills, used })
+    Ok(used)
 }

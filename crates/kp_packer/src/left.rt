@@ -12,10 +12,15 @@ use std::alloc::Global;
 
 /// The wanted endpoints of a group, each at its place until a slice keeps it, and the places of
 /// their pods.
-#[derive(Drop)]
 pub struct Left<'a> {
     pub places: Vec<Option<&'a Wanted>>,
     pub by_pod: IndexMap<&'a ObjectKey, usize>,
+}
+
+impl Drop for Left<'_> {
+    fn drop(self) {
+        let Left { places, by_pod } = self;
+    }
 }
 
 impl<'a> Left<'a> {
@@ -70,7 +75,10 @@ impl<'a> Left<'a> {
         ensures value { result ≡ option_and_then (λ p. p) (slice_get self.now.places.items place) }
         ensures some { IfSome result (λ w. slice_get self.now.places.items place ≡ Some (Some w)) }
     {
-        *self.places.get(place)?
+        match self.places.get(place) {
+            Some(endpoint) => *endpoint,
+            None => None,
+        }
     }
 
     /// The wanted endpoints that are left, in their order.

@@ -50,22 +50,14 @@ fn add_slices(
 fn values<K: Ord + Drop, V: Drop>(alloc: Global, by_key: BTreeMap<K, V>) -> Result<Vec<V>, NoMemory>
     ensures { IfOk result (λ values. values.items ≡ map (λ e. e.1) by_key.entries) }
 {
-    let mut values = Vec::new(alloc);
-    for value in by_key.into_values() {
-        values.push(value)?;
-    }
-    Ok(values)
+    Ok(by_key.into_values().collect(alloc)?)
 }
 
 /// The keys of a map, in their order.
 fn keys<K: Ord + Drop, V: Drop>(alloc: Global, by_key: BTreeMap<K, V>) -> Result<Vec<K>, NoMemory>
     ensures { IfOk result (λ keys. keys.items ≡ map (λ e. e.0) by_key.entries) }
 {
-    let mut keys = Vec::new(alloc);
-    for key in by_key.into_keys() {
-        keys.push(key)?;
-    }
-    Ok(keys)
+    Ok(by_key.into_keys().collect(alloc)?)
 }
 
 /// The names of slices, in order.

@@ -8,7 +8,7 @@ ghost use Rattle.kp_object_defs.specs.PackingLaws.{are_managed_for, have_own_nam
 ghost use Rattle.kp_packer.specs.Views.{shown, filling_of, placed_of, new_slice_of, packings_of};
 
 use crate::entry::same_entries;
-use crate::fill::{Fill, Filled, fill_changed};
+use crate::fill::{Fill, fill_changed};
 use crate::groups::{grouped, left_over};
 use crate::keep::keep_all;
 use crate::left::Left;
@@ -23,10 +23,15 @@ use kp_types::{Packed, Slice, SliceEndpoint, SlicePort, Wanted};
 use std::alloc::Global;
 
 /// The slices of all groups by now, and the new ones to come.
-#[derive(Drop)]
 struct Packing<'a, 'g> {
     fills: Vec<Fill<'a>>,
     made: Vec<NewSlice<'a, 'g>>,
+}
+
+impl Drop for Packing<'_, '_> {
+    fn drop(self) {
+        let Packing { fills, made } = self;
+    }
 }
 
 /// Packs the endpoints that a Service wants into its managed IPv4 slices, with at most so many
@@ -74,24 +79,39 @@ fn packed<'a>(
     let before = before.as_slice();
     let wanted = wanted.as_slice();
     let groups = groups_of(alloc, wanted)?;
-    let left_over = left_over(alloc, &groups, before)?;
-    let sorted = slices_in_order(alloc, before)?;
-    let slices = grouped(alloc, &groups, &sorted)?;
-    let endpoints = grouped(alloc, &groups, &references(alloc, wanted)?)?;
-    let packing = pack_groups(alloc, most as usize, groups.as_slice(), &slices, &endpoints)?;
+    let packing = pack_all(alloc, most as usize, &groups, before, wanted)?;
     let made = new_slices(alloc, service, taken.as_slice(), &packing.made)?;
+    let left_over = left_over(alloc, &groups, before)?;
     packed_by(alloc, left_over, &packing.fills, made)
+}
+
+/// Packs the slices and the wanted endpoints of all groups, each group by itself.
+fn pack_all<'a, 'g>(
+    alloc: Global,
+    most: usize,
+    groups: &'g IndexSet<Vec<SlicePort>>,
+    before: &'a [Slice],
+    wanted: &'a [Wanted],
+) -> Result<Packing<'a, 'g>, NoMemory>
+    requires some { 1 ≤ most }
+    requires groups { map (λ g. g.items) groups.now.keys ≡ spec.groups_of wanted.now }
+    requires pods { have_own_pods wanted.now ≡ true }
+    ensures fills { IfOk result (λ p. map filling_of p.fills.items ≡ flat_map (λ g. g.fillings)
+        (spec.pack_groups most (spec.in_slice_order before.now) wanted.now)) }
+    ensures made { IfOk result (λ p. map new_slice_of p.made.items ≡ flat_map (λ g. g.made)
+        (spec.pack_groups most (spec.in_slice_order before.now) wanted.now)) }
+{
+    let sorted = slices_in_order(alloc, before)?;
+    let slices = grouped(alloc, groups, &sorted)?;
+    let endpoints = grouped(alloc, groups, &references(alloc, wanted)?)?;
+    pack_groups(alloc, most, groups.as_slice(), &slices, &endpoints)
 }
 
 /// References to values.
 fn references<'a, T>(alloc: Global, values: &'a [T]) -> Result<Vec<&'a T>, NoMemory>
     ensures { IfOk result (λ refs. shown refs.items ≡ values.now) }
 {
-    let mut references = Vec::new(alloc);
-    for value in values {
-        references.push(value)?;
-    }
-    Ok(references)
+    Ok(values.iter().collect(alloc)?)
 }
 
 /// Packs all groups, each by itself.
@@ -172,9 +192,9 @@ fn pack_group<'a>(
         ≡ spec.packed_group most (shown slices.now) (shown wanted.now)) }
 {
     let mut left = Left::of(alloc, wanted)?;
-    let kept = keep_all(alloc, most, slices, &mut left)?;
+    let mut fills = keep_all(alloc, most, slices, &mut left)?;
     let rest = left.rest(alloc)?;
-    let Filled { fills, used } = fill_changed(alloc, most, kept, &rest)?;
+    let used = fill_changed(most, &mut fills, &rest)?;
     let (_, rest) = rest.split_at(used);
     place_left(alloc, most, fills, rest)
 }

@@ -141,12 +141,9 @@ fn fill_first<'a>(
 fn first_as_full(most: usize, more: usize, size: usize, fills: &[Fill]) -> Option<usize>
     ensures { result ≡ position (λ f. spec.is_as_full most more size (filling_of f)) fills.now }
 {
-    for place in 0..fills.len() {
-        if is_as_full(most, more, size, &fills[place]) {
-            return Some(place);
-        }
-    }
-    None
+    fills
+        .iter()
+        .position(|fill| is_as_full(most, more, size, fill))
 }
 
 /// Whether a slice with room for so many more has so many endpoints.

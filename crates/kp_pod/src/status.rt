@@ -107,25 +107,17 @@ fn condition_of<'a>(alloc: Global, spot: &'a Spot<'a>) -> Result<Condition, Fiel
     let kind = text_field(alloc, spot, "type", TextForm::Any)?;
     let status = text_field(alloc, spot, "status", TextForm::Any)?;
     Ok(Condition {
-        is_readiness: is_ready_text(kind),
-        holds: is_true_text(status),
+        is_readiness: is_text(kind, "Ready"),
+        holds: is_text(status, "True"),
     })
 }
 
-fn is_ready_text(text: Option<&str>) -> bool
-    ensures { result ≡ is_text (codes "Ready") (option_map (λ t. t.now) text.entry) }
+/// Whether a text is there, and it is this one.
+fn is_text(text: Option<&str>, wanted: &str) -> bool
+    ensures { result ≡ is_text wanted.now (option_map (λ t. t.now) text.entry) }
 {
     match text {
-        Some(text) => text == "Ready",
-        None => false,
-    }
-}
-
-fn is_true_text(text: Option<&str>) -> bool
-    ensures { result ≡ is_text (codes "True") (option_map (λ t. t.now) text.entry) }
-{
-    match text {
-        Some(text) => text == "True",
+        Some(text) => text == wanted,
         None => false,
     }
 }

@@ -7,19 +7,62 @@ ghost use Rattle.kp_row_defs.specs.Rows.{row_fault, rows_fault};
 ghost use Rattle.kp_event_defs.specs.SliceText.{metadata_row, metadata_rows, label_rows, labels_row};
 ghost use Rattle.kp_slice.specs.Metadata.{metadata_at, metadata_from, labels_from};
 
-use kp_base::{ObjectKey, Text};
+use kp_base::{Items, ObjectKey, Text};
 use kp_fields::{TextForm, check_texts, copied_key, copied_option, needed_text, text_field};
 use kp_json::{FieldFault, Spot};
+use kp_types::{AddressType, Slice, SliceEndpoint, SlicePort};
 use std::alloc::Global;
 
 /// What is read of a slice's metadata.
-#[derive(Drop)]
 pub(crate) struct Metadata {
     pub(crate) key: ObjectKey,
     /// The Service that a label names.
-    pub(crate) service: Option<Text>,
+    service: Option<Text>,
     /// Whether a label says that the controller manages the slice.
-    pub(crate) managed: bool,
+    managed: bool,
+}
+
+impl Drop for Metadata {
+    fn drop(self) {
+        let Metadata {
+            key,
+            service,
+            managed,
+        } = self;
+    }
+}
+
+impl Metadata {
+    /// The slice with this metadata.
+    pub(crate) fn into_slice(
+        self,
+        family: AddressType,
+        endpoints: Items<SliceEndpoint>,
+        ports: Items<SlicePort>,
+    ) -> Slice
+        ensures { result ≡ record {
+          key = self.key;
+          service = self.service;
+          managed = self.managed;
+          family = family;
+          ports = ports;
+          endpoints = endpoints;
+        } }
+    {
+        let Metadata {
+            key,
+            service,
+            managed,
+        } = self;
+        Slice {
+            key,
+            service,
+            managed,
+            family,
+            ports,
+            endpoints,
+        }
+    }
 }
 
 /// The labels of a slice that count.

@@ -38,14 +38,7 @@ fn read<'a>(alloc: Global, spot: &'a Spot<'a>) -> Result<Slice, FieldFault>
     let family = address_type_field(alloc, spot)?;
     let endpoints = endpoints_field(alloc, spot, family, &metadata.key.namespace)?;
     let ports = ports_field(alloc, spot)?;
-    Ok(Slice {
-        key: metadata.key,
-        service: metadata.service,
-        managed: metadata.managed,
-        family,
-        ports,
-        endpoints,
-    })
+    Ok(metadata.into_slice(family, endpoints, ports))
 }
 
 fn address_type_field<'a>(alloc: Global, spot: &'a Spot<'a>) -> Result<AddressType, FieldFault>

@@ -1,3 +1,4 @@
+use Rattle.std.proofs.Common.{◌∙◌}
 use Rattle.kp_json.specs.Views.{place_of}
 use Rattle.kp_slice.proofs.SliceMade.{endpoints_refused, ports_refused, no_fault, refused, slice_is}
 use Rattle.kp_slice.proofs.slice.read.Goals as goal
@@ -15,6 +16,7 @@ returns-in_err-ports c =
 pub returns : goal.returns
 returns c = (
   no_fault (place_of c.args.spot.now) c.in_ok-family.family c.in_ok-metadata.ensures.0 c.in_ok-family.ensures c.in_ok-endpoints.ensures.0 c.in_ok-ports.ensures.0,
-  slice_is (place_of c.args.spot.now) c.in_ok-metadata.metadata c.in_ok-family.family c.in_ok-ports.ports c.in_ok-endpoints.endpoints
+  c.into_slice.ensures
+      ∙ slice_is (place_of c.args.spot.now) c.in_ok-metadata.metadata c.in_ok-family.family c.in_ok-ports.ports c.in_ok-endpoints.endpoints
       c.in_ok-metadata.ensures.1 c.in_ok-family.ensures.1 c.in_ok-ports.ensures.1 c.in_ok-endpoints.ensures.1,
 )
