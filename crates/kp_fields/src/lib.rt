@@ -16,5 +16,6 @@ pub use labels::{check_texts, pairs_field};
 pub use number::{flag_field, needed_port, port_field, whole_field};
 pub use proto::{port_name_field, proto_field};
 pub use text::{
-    TextForm, choice_field, copied_option, copied_text, needed_choice, needed_text, text_field,
+    TextForm, choice_field, copied_option, copied_text, is_text, needed_choice, needed_text,
+    text_field,
 };

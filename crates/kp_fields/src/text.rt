@@ -2,7 +2,7 @@
 ghost use Rattle.std.specs.Prelude.{◌≡◌, bytes_eq, map, option_map, unwrap_or, [], None, Some};
 ghost use Rattle.std.specs.List.{list_any};
 ghost use Rattle.kp_json.specs.Views.{place_of};
-ghost use Rattle.kp_row_defs.specs.Fields.{text_in};
+ghost use Rattle.kp_row_defs.specs.Fields.{is_text, text_in};
 ghost use Rattle.kp_row_defs.specs.Reads.{Reads};
 ghost use Rattle.kp_row_defs.specs.Rows.{optional, needed, choice, field_fault, is_one_of};
 ghost use Rattle.kp_fields.specs.TextForms.{form_of, accepts};
@@ -134,6 +134,16 @@ fn equals_any(text: &str, choices: &[&str]) -> bool
         }
     }
     false
+}
+
+/// Whether a text is there, and it is this one.
+pub fn is_text(text: Option<&str>, wanted: &str) -> bool
+    ensures { result ≡ is_text wanted.now (option_map (λ t. t.now) text.entry) }
+{
+    match text {
+        Some(text) => text == wanted,
+        None => false,
+    }
 }
 
 /// A copy of a text.

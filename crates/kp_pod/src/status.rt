@@ -2,14 +2,14 @@
 ghost use Rattle.std.specs.Prelude.{◌≡◌, codes, find, option_map};
 ghost use Rattle.kp_json.specs.Places.{elements_of};
 ghost use Rattle.kp_json.specs.Views.{place_of};
-ghost use Rattle.kp_row_defs.specs.Fields.{inner, items_in, is_text, text_in};
+ghost use Rattle.kp_row_defs.specs.Fields.{inner, items_in, text_in};
 ghost use Rattle.kp_row_defs.specs.Reads.{Reads};
 ghost use Rattle.kp_row_defs.specs.Rows.{each, list_fault, row_fault, rows_fault};
 ghost use Rattle.kp_event_defs.specs.PodText.{pod_status_row, pod_status_rows, condition_rows, is_readiness, holds, is_finished};
 ghost use Rattle.kp_pod.specs.Parts.{status_from, condition_from, first_answer};
 
 use kp_base::Address;
-use kp_fields::{TextForm, address_field, text_field};
+use kp_fields::{TextForm, address_field, is_text, text_field};
 use kp_json::{FieldFault, Spot};
 use std::alloc::Global;
 
@@ -110,14 +110,4 @@ fn condition_of<'a>(alloc: Global, spot: &'a Spot<'a>) -> Result<Condition, Fiel
         is_readiness: is_text(kind, "Ready"),
         holds: is_text(status, "True"),
     })
-}
-
-/// Whether a text is there, and it is this one.
-fn is_text(text: Option<&str>, wanted: &str) -> bool
-    ensures { result ≡ is_text wanted.now (option_map (λ t. t.now) text.entry) }
-{
-    match text {
-        Some(text) => text == wanted,
-        None => false,
-    }
 }

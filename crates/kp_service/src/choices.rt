@@ -6,7 +6,7 @@ ghost use Rattle.kp_row_defs.specs.Reads.{Reads};
 ghost use Rattle.kp_row_defs.specs.Rows.{optional, any_text, choice, field_fault};
 ghost use Rattle.kp_event_defs.specs.ServiceText.{service_kinds, policies, affinities};
 
-use kp_fields::{TextForm, choice_field, text_field};
+use kp_fields::{TextForm, choice_field, is_text, text_field};
 use kp_json::{FieldFault, Spot};
 use kp_types::{Policy, ServiceKind};
 use std::alloc::Global;
@@ -85,14 +85,5 @@ pub(crate) fn same_zone_field<'a>(alloc: Global, spec: &'a Spot<'a>) -> Result<b
         (text_in (codes "trafficDistribution") (place_of spec.now))) }
 {
     let text = text_field(alloc, spec, "trafficDistribution", TextForm::Any)?;
-    Ok(is_prefer_close(text))
-}
-
-fn is_prefer_close(text: Option<&str>) -> bool
-    ensures { result ≡ is_text (codes "PreferClose") (option_map (λ t. t.now) text.entry) }
-{
-    match text {
-        Some(text) => text == "PreferClose",
-        None => false,
-    }
+    Ok(is_text(text, "PreferClose"))
 }

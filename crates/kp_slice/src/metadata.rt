@@ -1,14 +1,16 @@
 //! The metadata of a slice.
-ghost use Rattle.std.specs.Prelude.{◌≡◌, codes, option_map};
+ghost use Rattle.std.specs.Prelude.{◌≡◌, codes};
 ghost use Rattle.kp_json.specs.Views.{place_of};
-ghost use Rattle.kp_row_defs.specs.Fields.{inner, is_text};
+ghost use Rattle.kp_row_defs.specs.Fields.{inner};
 ghost use Rattle.kp_row_defs.specs.Reads.{Reads};
 ghost use Rattle.kp_row_defs.specs.Rows.{row_fault, rows_fault};
 ghost use Rattle.kp_event_defs.specs.SliceText.{metadata_row, metadata_rows, label_rows, labels_row};
 ghost use Rattle.kp_slice.specs.Metadata.{metadata_at, metadata_from, labels_from};
 
 use kp_base::{Items, ObjectKey, Text};
-use kp_fields::{TextForm, check_texts, copied_key, copied_option, needed_text, text_field};
+use kp_fields::{
+    TextForm, check_texts, copied_key, copied_option, is_text, needed_text, text_field,
+};
 use kp_json::{FieldFault, Spot};
 use kp_types::{AddressType, Slice, SliceEndpoint, SlicePort};
 use std::alloc::Global;
@@ -122,16 +124,6 @@ fn labels_here<'a>(alloc: Global, labels: &'a Spot<'a>) -> Result<Labels, FieldF
     )?;
     Ok(Labels {
         service: copied_option(alloc, service)?,
-        managed: is_controller(managed_by),
+        managed: is_text(managed_by, "endpointslice-controller.k8s.io"),
     })
-}
-
-fn is_controller(text: Option<&str>) -> bool
-    ensures { result ≡ is_text (codes "endpointslice-controller.k8s.io")
-        (option_map (λ t. t.now) text.entry) }
-{
-    match text {
-        Some(text) => text == "endpointslice-controller.k8s.io",
-        None => false,
-    }
 }
