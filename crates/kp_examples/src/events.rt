@@ -5,7 +5,7 @@ use std::test::Fail;
 
 /// Objects that a controller watches.
 const EVENTS: &str = r#"# a kubectl List with pods in every state
-{"op":"config","node":"n1","nodeAddresses":["10.0.0.1"],"clusterCIDR":"10.244.0.0/16"}
+{"op":"config",@node}
 {"apiVersion":"v1","kind":"List","metadata":{"resourceVersion":""},
  "items":[{"apiVersion":"v1","kind":"Node",
  "metadata":{"name":"n1","labels":{"topology.kubernetes.io/zone":"a"}}},
@@ -38,30 +38,27 @@ const EVENTS: &str = r#"# a kubectl List with pods in every state
 {"op":"sync"}
 {"op":"show","what":"endpoints"}
 {"op":"packet","src":"10.244.9.9","dst":"10.96.0.10","dport":80,"draws":[]}
+{"op":"show","what":"slices"}
 =>
 sync 1: events 6, written 3, removed 0
 endpoint default/web-abc12 1: 10.244.1.2 rs- node n1 zone a hints -
 endpoint default/web-abc12 2: 10.244.1.3 --- node n1 zone a hints -
 endpoint default/web-abc12 3: 10.244.1.4 -st node n1 zone a hints -
 packet 5 at 1: to 10.244.1.2:8080
+slice default/web-abc12: IPv4, managed, service web, ports :8080/TCP, endpoints 3
 # a pod that isn't ready gives no usable endpoint
-{"op":"config","node":"n1","nodeAddresses":["10.0.0.1"],"clusterCIDR":"10.244.0.0/16"}
-{"apiVersion":"v1","kind":"Service","metadata":{"name":"web"},
- "spec":{"clusterIP":"10.96.0.10","ports":[{"port":80,"targetPort":8080}],"selector":{"app":"web"}}}
-{"apiVersion":"v1","kind":"Pod","metadata":{"name":"a","labels":{"app":"web"}},
- "status":{"podIP":"10.244.1.2"}}
+{"op":"config",@node}
+{@web,"spec":{@port,"selector":{"app":"web"}}}
+{@pod,"status":{"podIP":"10.244.1.2"}}
 {"op":"sync"}
 {"op":"packet","src":"10.244.9.9","dst":"10.96.0.10","dport":80,"draws":[]}
 =>
 sync 1: events 2, written 1, removed 0
 packet 5 at 1: rejected
 # a finished pod gives no endpoint
-{"op":"config","node":"n1","nodeAddresses":["10.0.0.1"],"clusterCIDR":"10.244.0.0/16"}
-{"apiVersion":"v1","kind":"Service","metadata":{"name":"web"},
- "spec":{"clusterIP":"10.96.0.10","ports":[{"port":80,"targetPort":8080}],"selector":{"app":"web"}}}
-{"apiVersion":"v1","kind":"Pod","metadata":{"name":"a","labels":{"app":"web"}},
- "status":{"podIP":"10.244.1.2","conditions":[{"type":"Ready","status":"True"}],
- "phase":"Succeeded"}}
+{"op":"config",@node}
+{@web,"spec":{@port,"selector":{"app":"web"}}}
+{@pod,"status":{"podIP":"10.244.1.2",@ready,"phase":"Succeeded"}}
 {"op":"sync"}
 {"op":"packet","src":"10.244.9.9","dst":"10.96.0.10","dport":80,"draws":[]}
 =>
@@ -71,13 +68,9 @@ packet 5 at 1: rejected
 
 /// Lines and syncs that are refused.
 const REFUSALS: &str = r#"# bad JSON
-{"op":"config","node":"n1","nodeAddresses":["10.0.0.1"],"clusterCIDR":"10.244.0.0/16"}
-{"apiVersion":"v1","kind":"Service","metadata":{"name":"web"},
- "spec":{"clusterIP":"10.96.0.10","ports":[{"port":80,"targetPort":8080}]}}
-{"apiVersion":"discovery.k8s.io/v1","kind":"EndpointSlice",
- "metadata":{"name":"web-x","labels":{"kubernetes.io/service-name":"web"}},"addressType":"IPv4",
- "ports":[{"port":8080}],"endpoints":[{"addresses":["10.244.1.2"],"nodeName":"n1"},
- {"addresses":["10.244.2.3"],"nodeName":"n2"}]}
+{"op":"config",@node}
+{@web,"spec":{@port}}
+{@slice,"endpoints":[{@n1},{@n2}]}
 {"op":"sync"}
 {"op":"packet","src":"10.244.9.9","dst":"10.96.0.10","dport":80,"draws":[0]}
 {"op":"packet",
@@ -86,19 +79,14 @@ sync 1: events 2, written 4, removed 0
 packet 5 at 1: to 10.244.1.2:8080
 line 6: refused: bad json
 # a full journal
-{"op":"config","node":"n1","nodeAddresses":["10.0.0.1"],"clusterCIDR":"10.244.0.0/16","maxEvents":2}
-{"apiVersion":"v1","kind":"Service","metadata":{"name":"web"},
- "spec":{"clusterIP":"10.96.0.10","ports":[{"port":80,"targetPort":8080}]}}
-{"apiVersion":"discovery.k8s.io/v1","kind":"EndpointSlice",
- "metadata":{"name":"web-x","labels":{"kubernetes.io/service-name":"web"}},"addressType":"IPv4",
- "ports":[{"port":8080}],"endpoints":[{"addresses":["10.244.1.2"],"nodeName":"n1"},
- {"addresses":["10.244.2.3"],"nodeName":"n2"}]}
-{"apiVersion":"v1","kind":"Service","metadata":{"name":"web"},
- "spec":{"clusterIP":"10.96.0.10","ports":[{"port":80,"targetPort":8080}]}}
+{"op":"config",@node,"maxEvents":2}
+{@web,"spec":{@port}}
+{@slice,"endpoints":[{@n1},{@n2}]}
+{@web,"spec":{@port}}
 =>
 line 4: refused: journal full at 2
 # port number out of range
-{"apiVersion":"v1","kind":"Service","metadata":{"name":"web"},"spec":{"ports":[{"port":70000}]}}
+{@web,"spec":{"ports":[{"port":70000}]}}
 =>
 line 1: refused: out of range at "spec.ports[0].port"
 # 127 and 128 brackets
@@ -111,24 +99,22 @@ line 1: refused: out of range at "spec.ports[0].port"
 =>
 line 1: refused: bad json
 line 2: refused: not an event
+# commands and kinds that are not known, and a configuration behind the first line
+{"op":"pull"}
+{"op":"config"}
+{"kind":"Deployment"}
+=>
+line 1: refused: op "pull" is not known
+line 2: refused: config is not the first line
+line 3: refused: kind "Deployment" is not supported
 # chain name clash refuses the sync
-{"op":"config","node":"n1","nodeAddresses":["10.0.0.1"],"clusterCIDR":"10.244.0.0/16",
- "nameLength":0}
-{"apiVersion":"v1","kind":"Service","metadata":{"name":"web"},
- "spec":{"clusterIP":"10.96.0.10","ports":[{"port":80,"targetPort":8080}]}}
-{"apiVersion":"discovery.k8s.io/v1","kind":"EndpointSlice",
- "metadata":{"name":"web-x","labels":{"kubernetes.io/service-name":"web"}},"addressType":"IPv4",
- "ports":[{"port":8080}],"endpoints":[{"addresses":["10.244.1.2"],"nodeName":"n1"},
- {"addresses":["10.244.2.3"],"nodeName":"n2"}]}
+{"op":"config",@node,"nameLength":0}
+{@web,"spec":{@port}}
+{@slice,"endpoints":[{@n1},{@n2}]}
 {"op":"sync"}
-{"apiVersion":"discovery.k8s.io/v1","kind":"EndpointSlice",
- "metadata":{"name":"web-x","labels":{"kubernetes.io/service-name":"web"}},"addressType":"IPv4",
- "ports":[{"port":8080}],"endpoints":[{"addresses":["10.244.1.2"],"nodeName":"n1"}]}
+{@slice,"endpoints":[{@n1}]}
 {"op":"sync"}
-{"apiVersion":"discovery.k8s.io/v1","kind":"EndpointSlice",
- "metadata":{"name":"web-x","labels":{"kubernetes.io/service-name":"web"}},"addressType":"IPv4",
- "ports":[{"port":8080}],"endpoints":[{"addresses":["10.244.1.2"],"nodeName":"n1"},
- {"addresses":["10.244.2.3"],"nodeName":"n2"}]}
+{@slice,"endpoints":[{@n1},{@n2}]}
 {"op":"sync"}
 {"op":"packet","src":"10.244.9.9","dst":"10.96.0.10","dport":80,"draws":[]}
 =>
@@ -139,25 +125,15 @@ line 8: refused: chain name KUBE-SEP- of default/web/TCP 10.244.1.2:8080
   and of default/web/TCP 10.244.2.3:8080
 packet 9 at 1: to 10.244.1.2:8080
 # a clash, a port change and the next accepted sync
-{"op":"config","node":"n1","nodeAddresses":["10.0.0.1"],"clusterCIDR":"10.244.0.0/16",
- "nameLength":0}
-{"apiVersion":"v1","kind":"Service","metadata":{"name":"web"},
- "spec":{"clusterIP":"10.96.0.10","ports":[{"port":80,"targetPort":8080}]}}
-{"apiVersion":"discovery.k8s.io/v1","kind":"EndpointSlice",
- "metadata":{"name":"web-x","labels":{"kubernetes.io/service-name":"web"}},"addressType":"IPv4",
- "ports":[{"port":8080}],"endpoints":[{"addresses":["10.244.1.2"],"nodeName":"n1"}]}
+{"op":"config",@node,"nameLength":0}
+{@web,"spec":{@port}}
+{@slice,"endpoints":[{@n1}]}
 {"op":"sync"}
-{"apiVersion":"discovery.k8s.io/v1","kind":"EndpointSlice",
- "metadata":{"name":"web-x","labels":{"kubernetes.io/service-name":"web"}},"addressType":"IPv4",
- "ports":[{"port":8080}],"endpoints":[{"addresses":["10.244.1.2"],"nodeName":"n1"},
- {"addresses":["10.244.2.3"],"nodeName":"n2"}]}
+{@slice,"endpoints":[{@n1},{@n2}]}
 {"op":"sync"}
-{"apiVersion":"v1","kind":"Service","metadata":{"name":"web"},
- "spec":{"clusterIP":"10.96.0.10","ports":[{"port":81,"targetPort":8080}]}}
+{@web,"spec":{"clusterIP":"10.96.0.10","ports":[{"port":81,"targetPort":8080}]}}
 {"op":"sync"}
-{"apiVersion":"discovery.k8s.io/v1","kind":"EndpointSlice",
- "metadata":{"name":"web-x","labels":{"kubernetes.io/service-name":"web"}},"addressType":"IPv4",
- "ports":[{"port":8080}],"endpoints":[{"addresses":["10.244.1.2"],"nodeName":"n1"}]}
+{@slice,"endpoints":[{@n1}]}
 {"op":"sync"}
 =>
 sync 1: events 2, written 3, removed 0
@@ -167,19 +143,12 @@ line 8: refused: chain name KUBE-SEP- of default/web/TCP 10.244.1.2:8080
   and of default/web/TCP 10.244.2.3:8080
 sync 2: events 3, written 2, removed 0
 # repeated clashes in replay
-{"op":"config","node":"n1","nodeAddresses":["10.0.0.1"],"clusterCIDR":"10.244.0.0/16",
- "nameLength":0}
-{"apiVersion":"v1","kind":"Service","metadata":{"name":"web"},
- "spec":{"clusterIP":"10.96.0.10","ports":[{"port":80,"targetPort":8080}]}}
-{"apiVersion":"discovery.k8s.io/v1","kind":"EndpointSlice",
- "metadata":{"name":"web-x","labels":{"kubernetes.io/service-name":"web"}},"addressType":"IPv4",
- "ports":[{"port":8080}],"endpoints":[{"addresses":["10.244.1.2"],"nodeName":"n1"},
- {"addresses":["10.244.2.3"],"nodeName":"n2"}]}
+{"op":"config",@node,"nameLength":0}
+{@web,"spec":{@port}}
+{@slice,"endpoints":[{@n1},{@n2}]}
 {"op":"sync"}
 {"op":"sync"}
-{"apiVersion":"discovery.k8s.io/v1","kind":"EndpointSlice",
- "metadata":{"name":"web-x","labels":{"kubernetes.io/service-name":"web"}},"addressType":"IPv4",
- "ports":[{"port":8080}],"endpoints":[{"addresses":["10.244.1.2"],"nodeName":"n1"}]}
+{@slice,"endpoints":[{@n1}]}
 {"op":"sync"}
 {"op":"sync"}
 =>

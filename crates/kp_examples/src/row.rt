@@ -33,17 +33,44 @@ pub(crate) fn run_on(
     Ok((Vec::from_slice(alloc, sink.written())?, status))
 }
 
+/// What stands often in replays, behind the sign for it: members of objects.
+const SIGNS: &str = r#"@node "node":"n1","nodeAddresses":["10.0.0.1"],"clusterCIDR":"10.244.0.0/16"
+@web "apiVersion":"v1","kind":"Service","metadata":{"name":"web"}
+@port "clusterIP":"10.96.0.10","ports":[{"port":80,"targetPort":8080}]
+@slice "apiVersion":"discovery.k8s.io/v1","kind":"EndpointSlice",
+ "metadata":{"name":"web-x","labels":{"kubernetes.io/service-name":"web"}},"addressType":"IPv4",
+ "ports":[{"port":8080}]
+@n1 "addresses":["10.244.1.2"],"nodeName":"n1"
+@n2 "addresses":["10.244.2.3"],"nodeName":"n2"
+@n3 "addresses":["10.244.3.4"],"nodeName":"n3"
+@leaves "conditions":{"ready":false,"serving":true,"terminating":true}
+@in_a "hints":{"forZones":[{"name":"a"}]}
+@in_b "hints":{"forZones":[{"name":"b"}]}
+@pod "apiVersion":"v1","kind":"Pod","metadata":{"name":"a","labels":{"app":"web"}}
+@ready "conditions":[{"type":"Ready","status":"True"}]"#;
+
+/// A text with what its signs stand for. A line that begins with a space goes on with the line
+/// before.
+fn unfolded(alloc: Global, text: &str) -> Result<String, Fail> {
+    let signs = SIGNS.replace(alloc, "\n ", "")?;
+    let mut whole = text.replace(alloc, "\n ", "")?;
+    for row in signs.as_str().lines() {
+        let (sign, members) = row.split_once(' ').ok_or("a sign")?;
+        whole = whole.as_str().replace(alloc, sign, members)?;
+    }
+    Ok(whole)
+}
+
 /// Each of these replays prints its text and ends with this status. A replay begins with a number
-/// sign and its name, and an arrow stands between its input and what it prints. A line that begins
-/// with a space goes on with the line before.
+/// sign and its name, and an arrow stands between its input and what it prints.
 pub(crate) fn check(
     rt: &impl Abort,
     alloc: Global,
     replays: &str,
     status: Status,
 ) -> Result<(), Fail> {
-    let joined = replays.replace(alloc, "\n ", "")?;
-    for replay in joined.as_str().split("# ").skip(1) {
+    let replays = unfolded(alloc, replays)?;
+    for replay in replays.as_str().split("# ").skip(1) {
         let (name, lines) = replay.split_once("\n").ok_or("a name")?;
         let (input, want) = lines.split_once("=>\n").ok_or("an arrow")?;
         let (printed, found) = run_on(alloc, "kproxy replay", input)?;

@@ -3,15 +3,11 @@ use crate::row::check;
 use kp_run::Status;
 use std::test::Fail;
 
-/// A table, and the batch that leads to it.
+/// The two sections of tables, and the batch that leads to one.
 const TABLES: &str = r#"# nat text of a one-endpoint table
-{"op":"config","node":"n1","nodeAddresses":["10.0.0.1"],"clusterCIDR":"10.244.0.0/16",
- "nameLength":0}
-{"apiVersion":"v1","kind":"Service","metadata":{"name":"web"},
- "spec":{"clusterIP":"10.96.0.10","ports":[{"port":80,"targetPort":8080}]}}
-{"apiVersion":"discovery.k8s.io/v1","kind":"EndpointSlice",
- "metadata":{"name":"web-x","labels":{"kubernetes.io/service-name":"web"}},"addressType":"IPv4",
- "ports":[{"port":8080}],"endpoints":[{"addresses":["10.244.1.2"],"nodeName":"n1"}]}
+{"op":"config",@node,"nameLength":0}
+{@web,"spec":{@port}}
+{@slice,"endpoints":[{@n1}]}
 {"op":"sync"}
 {"op":"packet","src":"10.244.9.9","dst":"10.96.0.10","dport":80,"draws":[]}
 {"op":"show","what":"nat"}
@@ -44,13 +40,9 @@ packet 5 at 1: to 10.244.1.2:8080
 -A KUBE-SVC- -j KUBE-SEP-
 COMMIT
 # batch text of the first sync
-{"op":"config","node":"n1","nodeAddresses":["10.0.0.1"],"clusterCIDR":"10.244.0.0/16",
- "nameLength":0}
-{"apiVersion":"v1","kind":"Service","metadata":{"name":"web"},
- "spec":{"clusterIP":"10.96.0.10","ports":[{"port":80,"targetPort":8080}]}}
-{"apiVersion":"discovery.k8s.io/v1","kind":"EndpointSlice",
- "metadata":{"name":"web-x","labels":{"kubernetes.io/service-name":"web"}},"addressType":"IPv4",
- "ports":[{"port":8080}],"endpoints":[{"addresses":["10.244.1.2"],"nodeName":"n1"}]}
+{"op":"config",@node,"nameLength":0}
+{@web,"spec":{@port}}
+{@slice,"endpoints":[{@n1}]}
 {"op":"sync"}
 {"op":"packet","src":"10.244.9.9","dst":"10.96.0.10","dport":80,"draws":[]}
 {"op":"show","what":"batch"}
@@ -67,6 +59,32 @@ packet 5 at 1: to 10.244.1.2:8080
 -A KUBE-SERVICES ! -d 127.0.0.0/8 -m addrtype --dst-type LOCAL -j KUBE-NODEPORTS
 -A KUBE-SVC- ! -s 10.244.0.0/16 -d 10.96.0.10/32 -p tcp -m tcp --dport 80 -j KUBE-MARK-MASQ
 -A KUBE-SVC- -j KUBE-SEP-
+COMMIT
+# filter text of a Service without endpoints
+{"op":"config",@node}
+{@web,"spec":{@port}}
+{"op":"sync"}
+{"op":"show","what":"filter"}
+=>
+sync 1: events 1, written 1, removed 0
+*filter
+:INPUT ACCEPT [0:0]
+:FORWARD ACCEPT [0:0]
+:OUTPUT ACCEPT [0:0]
+:KUBE-EXTERNAL-SERVICES - [0:0]
+:KUBE-FORWARD - [0:0]
+:KUBE-PROXY-FIREWALL - [0:0]
+:KUBE-SERVICES - [0:0]
+-A INPUT -j KUBE-PROXY-FIREWALL
+-A INPUT -j KUBE-EXTERNAL-SERVICES
+-A FORWARD -j KUBE-PROXY-FIREWALL
+-A FORWARD -j KUBE-EXTERNAL-SERVICES
+-A FORWARD -j KUBE-SERVICES
+-A FORWARD -j KUBE-FORWARD
+-A OUTPUT -j KUBE-PROXY-FIREWALL
+-A OUTPUT -j KUBE-SERVICES
+-A KUBE-FORWARD -m mark --mark 0x4000/0x4000 -j ACCEPT
+-A KUBE-SERVICES -d 10.96.0.10/32 -p tcp -m tcp --dport 80 -j REJECT
 COMMIT
 "#;
 

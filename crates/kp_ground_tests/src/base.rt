@@ -1,9 +1,10 @@
 //! Each call of kp_base with enough memory, with each kind of its answers.
 ghost use Rattle.std.specs.Prelude.{◌≡◌, ◌<◌};
 
+use crate::keys::{is_copied, object, port_key};
 use kp_base::{
     Address, BadAddress, BadCidr, Cidr, Config, Copied, Endpoint, Family, Items, NoMemory,
-    ObjectKey, Pair, PortKey, PortNo, Proto, Steps, Text, is_label_value, is_name, is_port_name,
+    ObjectKey, Pair, PortNo, Proto, Steps, Text, is_label_value, is_name, is_port_name,
     printed_addresses_are_read, split_once,
 };
 use std::alloc::Global;
@@ -58,10 +59,14 @@ fn is_cut(text: &[u8], before: &[u8], behind: &[u8]) -> bool {
     }
 }
 
+/// Whether no equals sign cuts a text.
+fn is_whole(text: &[u8]) -> bool {
+    split_once(text, b'=').is_none()
+}
+
 #[test]
 fn a_text_is_cut_at_the_first_such_byte(rt: HostRuntime) {
-    assert!(rt; is_cut(b"a=b=c", b"a", b"b=c") && is_cut(b"=", b"", b""));
-    assert!(rt; split_once(b"app", b'=').is_none());
+    assert!(rt; is_cut(b"a=b=c", b"a", b"b=c") && is_cut(b"=", b"", b"") && is_whole(b"app"));
 }
 
 #[test]
@@ -74,18 +79,16 @@ fn a_list_keeps_what_is_pushed(rt: HostRuntime) -> Result<(), Fail> {
     Ok(())
 }
 
-/// The object of this namespace and name.
-fn object(alloc: Global, namespace: &str, name: &str) -> Result<ObjectKey, NoMemory> {
-    let namespace = Text::of(alloc, namespace)?;
-    let name = Text::of(alloc, name)?;
-    Ok(ObjectKey { namespace, name })
+/// Whether the first of two objects comes first.
+fn is_before(first: &ObjectKey, second: &ObjectKey) -> bool {
+    *first < *second && *first != *second
 }
 
-/// Whether the first of two objects comes first.
+/// Whether the first of two namespaces and names comes first.
 fn comes_first(alloc: Global, first: (&str, &str), second: (&str, &str)) -> Result<bool, NoMemory> {
     let first = object(alloc, first.0, first.1)?;
     let second = object(alloc, second.0, second.1)?;
-    Ok(first < second && first != second)
+    Ok(is_before(&first, &second))
 }
 
 #[test]
@@ -119,17 +122,6 @@ fn endpoints_are_ordered_by_address_and_port(rt: HostRuntime) -> Result<(), Fail
     Ok(())
 }
 
-/// The key of a Service's port.
-fn port_key(alloc: Global) -> Result<PortKey, NoMemory> {
-    let object = object(alloc, "default", "web")?;
-    let port_name = Text::of(alloc, "http")?;
-    Ok(PortKey {
-        object,
-        port_name,
-        proto: Proto::Tcp,
-    })
-}
-
 /// A label, whose value was a string.
 fn pair(alloc: Global) -> Result<Pair, NoMemory> {
     let key = Text::of(alloc, "app")?;
@@ -137,25 +129,16 @@ fn pair(alloc: Global) -> Result<Pair, NoMemory> {
     Ok(Pair { key, value })
 }
 
-/// Whether the copy of a value is equal to it.
-pub(crate) fn is_copied<T: Copied + PartialEq>(alloc: Global, value: &T) -> Result<bool, NoMemory> {
-    Ok(value.copy(alloc)? == *value)
-}
-
 #[test]
 fn copies_are_equal(rt: HostRuntime) -> Result<(), Fail> {
-    assert!(rt; is_copied(rt.alloc(), &port_key(rt.alloc())?)?);
+    assert!(rt; is_copied(rt.alloc(), &port_key(rt.alloc(), "web", "http")?)?);
     assert!(rt; is_copied(rt.alloc(), &pair(rt.alloc())?)?);
     Ok(())
 }
 
 /// The configuration of a node.
 fn config(alloc: Global) -> Result<Config, NoMemory> {
-    let mut addresses = Items::new(alloc);
-    match addresses.push(Address::v4(1)) {
-        Ok(()) => {}
-        Err(_) => return Err(NoMemory),
-    }
+    let addresses = Items::from_vec(Vec::from_slice(alloc, &[Address::v4(1)])?);
     let node = Text::of(alloc, "node-1")?;
     Ok(Config {
         node,
@@ -165,7 +148,7 @@ fn config(alloc: Global) -> Result<Config, NoMemory> {
         controller: true,
         max_per_slice: 100,
         max_events: 1_000_000,
-        recent_size: 100,
+        recent_size: 50,
         name_length: 16,
     })
 }
@@ -175,8 +158,12 @@ fn keeps_config(copy: &Config, first: &Config) -> bool {
     copy.node == first.node
         && copy.cluster == first.cluster
         && copy.addresses == first.addresses
+        && !copy.masquerade_all
+        && copy.controller
         && copy.max_per_slice == 100
         && copy.max_events == 1_000_000
+        && copy.recent_size == 50
+        && copy.name_length == 16
 }
 
 #[test]

@@ -1,4 +1,5 @@
 //! Lines that are read and bytes that are written, through each source and sink.
+use crate::keys::is_number;
 use kp_base::{Items, NoMemory};
 use kp_io::{
     LINE_LIMIT, LineFault, LineReader, MemorySink, MemorySource, NextLine, RealSink, RealSource,
@@ -23,76 +24,70 @@ fn next<S: Source>(reader: &mut LineReader, source: &mut S) -> Result<NextLine, 
     reader.next_line(source)
 }
 
-/// Whether a reader gives this line next, with its number.
-fn gives_line<S: Source>(
-    reader: &mut LineReader,
-    source: &mut S,
-    number: u64,
-    line: &[u8],
-) -> bool {
-    next(reader, source) == Ok(NextLine::Line { number }) && reader.bytes() == line
+/// Whether an answer, with the bytes that the reader then has, is what two words tell: the number
+/// of a line and the line, `end` and how many lines there were, `long` and the number of the line
+/// that is skipped, or that the `read` `fails`.
+fn is_told(answer: Result<NextLine, LineFault>, bytes: &[u8], word: &str, rest: &str) -> bool {
+    match answer {
+        Ok(NextLine::Line { number }) => is_number(word, number) && bytes == rest.as_bytes(),
+        Ok(NextLine::End { lines }) => word == "end" && is_number(rest, lines) && bytes.is_empty(),
+        Err(LineFault::TooLongLine { number }) => {
+            word == "long" && is_number(rest, number) && bytes.is_empty()
+        }
+        Err(LineFault::ReadFault) => word == "read" && rest == "fails" && bytes.is_empty(),
+        Err(_) => false,
+    }
 }
 
-/// Whether a reader tells the end, after so many lines.
-fn ends<S: Source>(reader: &mut LineReader, source: &mut S, lines: u64) -> bool {
-    next(reader, source) == Ok(NextLine::End { lines }) && reader.bytes().is_empty()
+/// Whether a reader answers next what a row tells.
+fn answers<S: Source>(reader: &mut LineReader, source: &mut S, row: &str) -> bool {
+    let answer = next(reader, source);
+    match row.split_once(' ') {
+        Some((word, rest)) => is_told(answer, reader.bytes(), word, rest),
+        None => false,
+    }
 }
 
-/// Whether a reader gives these two lines, and then the end for good.
-fn gives_two<S: Source>(
-    reader: &mut LineReader,
-    source: &mut S,
-    first: &[u8],
-    second: &[u8],
-) -> bool {
-    gives_line(reader, source, 1, first)
-        && gives_line(reader, source, 2, second)
-        && ends(reader, source, 2)
-        && ends(reader, source, 2)
+/// Whether a reader of this source answers what the rows tell, one call each.
+fn is_read<S: Source>(alloc: Global, source: &mut S, rows: &str) -> Result<bool, NoMemory> {
+    let mut reader = LineReader::new(alloc)?;
+    for row in rows.split('\n') {
+        if !answers(&mut reader, source, row) {
+            return Ok(false);
+        }
+    }
+    Ok(true)
 }
 
-/// Whether a text that comes in pieces of this size has these two lines.
-fn has_lines(
-    alloc: Global,
-    piece: u64,
-    text: &[u8],
-    first: &[u8],
-    second: &[u8],
-) -> Result<bool, NoMemory> {
+/// Whether a text that comes in pieces of this size is read as the rows tell.
+fn has_lines(alloc: Global, piece: u64, text: &[u8], rows: &str) -> Result<bool, NoMemory> {
     if piece == 0 {
         return Ok(false);
     }
-    let mut reader = LineReader::new(alloc)?;
     let mut source = SureSource::new(bytes_of(alloc, text)?, piece);
-    Ok(gives_two(&mut reader, &mut source, first, second))
+    is_read(alloc, &mut source, rows)
 }
+
+/// What a reader answers where there are two lines: after the end comes the end again.
+const TWO: &str = "1 one\n2 two\nend 2\nend 2";
 
 #[test]
 fn lines_do_not_depend_on_the_pieces(rt: HostRuntime) -> Result<(), Fail> {
+    let others = "1 \n2 the second\r\nend 2\nend 2";
     for piece in 1..9u64 {
-        assert!(rt; has_lines(rt.alloc(), piece, b"one\ntwo", b"one", b"two")?);
-        assert!(rt; has_lines(rt.alloc(), piece, b"\nthe second\r\n", b"", b"the second\r")?);
+        assert!(rt; has_lines(rt.alloc(), piece, b"one\ntwo", TWO)?);
+        assert!(rt; has_lines(rt.alloc(), piece, b"\nthe second\r\n", others)?);
     }
-    let mut reader = LineReader::new(rt.alloc())?;
-    assert!(rt; ends(&mut reader, &mut RealSource::new(b"".as_slice()), 0));
     Ok(())
 }
 
 #[test]
 fn a_failed_read_is_told_and_changes_nothing(rt: HostRuntime) -> Result<(), Fail> {
-    let mut reader = LineReader::new(rt.alloc())?;
     let fails = calls(rt.alloc(), 1, 3)?;
     let mut source = MemorySource::new(bytes_of(rt.alloc(), b"one\ntwo")?, 2, fails);
-    assert!(rt;
-        next(&mut reader, &mut source) == Err(LineFault::ReadFault),
-        "the first read"
-    );
-    assert!(rt;
-        next(&mut reader, &mut source) == Err(LineFault::ReadFault),
-        "within a line"
-    );
-    assert!(rt; reader.bytes().is_empty());
-    assert!(rt; gives_two(&mut reader, &mut source, b"one", b"two"));
+    // the first read, and one within a line
+    let rows = "read fails\nread fails\n1 one\n2 two\nend 2\nend 2";
+    assert!(rt; is_read(rt.alloc(), &mut source, rows)?);
     Ok(())
 }
 
@@ -105,34 +100,30 @@ fn three_lines(alloc: Global, length: usize) -> Result<Items<u8>, NoMemory> {
     Ok(Items::from_vec(text))
 }
 
-/// Whether a reader tells that the second line is too long, and goes on with the third.
-fn skips_the_second<S: Source>(reader: &mut LineReader, source: &mut S) -> bool {
-    next(reader, source) == Err(LineFault::TooLongLine { number: 2 })
-        && reader.bytes().is_empty()
-        && gives_line(reader, source, 3, b"three")
-        && ends(reader, source, 3)
+/// Whether the second of three lines is given with the most bytes that a line may have.
+fn gives_the_longest<S: Source>(reader: &mut LineReader, source: &mut S) -> bool {
+    answers(reader, source, "1 one")
+        && next(reader, source) == Ok(NextLine::Line { number: 2 })
+        && reader.bytes().len() == 16_777_216
+        && answers(reader, source, "3 three")
 }
 
 #[test]
 fn a_line_of_the_most_bytes_is_given(rt: HostRuntime) -> Result<(), Fail> {
     let mut reader = LineReader::new(rt.alloc())?;
     let mut source = SureSource::new(three_lines(rt.alloc(), LINE_LIMIT)?, 65536);
-    assert!(rt; gives_line(&mut reader, &mut source, 1, b"one"));
-    assert!(rt; next(&mut reader, &mut source) == Ok(NextLine::Line { number: 2 }));
-    assert!(rt; reader.bytes().len() == 16_777_216);
-    assert!(rt; gives_line(&mut reader, &mut source, 3, b"three"));
+    assert!(rt; gives_the_longest(&mut reader, &mut source));
     Ok(())
 }
 
 #[test]
 fn a_longer_line_is_skipped_to_its_end(rt: HostRuntime) -> Result<(), Fail> {
     for more in [1, 300_000] {
-        let mut reader = LineReader::new(rt.alloc())?;
         let text = three_lines(rt.alloc(), LINE_LIMIT + more)?;
         let mut source = SureSource::new(text, 65536);
-        assert!(rt; gives_line(&mut reader, &mut source, 1, b"one"));
+        let rows = "1 one\nlong 2\n3 three\nend 3";
         assert!(rt;
-            skips_the_second(&mut reader, &mut source),
+            is_read(rt.alloc(), &mut source, rows)?,
             "{more} bytes more"
         );
     }
@@ -141,12 +132,11 @@ fn a_longer_line_is_skipped_to_its_end(rt: HostRuntime) -> Result<(), Fail> {
 
 #[test]
 fn a_read_may_fail_within_a_line_that_is_skipped(rt: HostRuntime) -> Result<(), Fail> {
-    let mut reader = LineReader::new(rt.alloc())?;
+    let fails = calls(rt.alloc(), 259, 259)?;
     let text = three_lines(rt.alloc(), LINE_LIMIT + 300_000)?;
-    let mut source = MemorySource::new(text, 65536, calls(rt.alloc(), 259, 259)?);
-    assert!(rt; gives_line(&mut reader, &mut source, 1, b"one"));
-    assert!(rt; next(&mut reader, &mut source) == Err(LineFault::ReadFault));
-    assert!(rt; skips_the_second(&mut reader, &mut source));
+    let mut source = MemorySource::new(text, 65536, fails);
+    let rows = "1 one\nread fails\nlong 2\n3 three\nend 3";
+    assert!(rt; is_read(rt.alloc(), &mut source, rows)?);
     Ok(())
 }
 
@@ -160,13 +150,20 @@ fn is_flushed<S: Sink>(sink: &mut S) -> bool {
     sink.flush() == Ok(())
 }
 
+/// Whether a sink that takes a byte a call refuses the third one and a flush, which counts as a
+/// call too, and then takes the rest.
+fn goes_on(sink: &mut MemorySink) -> bool {
+    !is_written(sink, b"abc")
+        && !is_flushed(sink)
+        && is_written(sink, b"c")
+        && is_flushed(sink)
+        && sink.written() == b"abc".as_slice()
+}
+
 #[test]
 fn a_failed_write_comes_after_a_part(rt: HostRuntime) -> Result<(), Fail> {
     let mut sink = MemorySink::new(rt.alloc(), 1, 0, calls(rt.alloc(), 3, 4)?)?;
-    assert!(rt; !is_written(&mut sink, b"abc"));
-    assert!(rt; !is_flushed(&mut sink), "a flush counts as a call");
-    assert!(rt; is_written(&mut sink, b"c") && is_flushed(&mut sink));
-    assert!(rt; sink.written() == b"abc".as_slice());
+    assert!(rt; goes_on(&mut sink));
     Ok(())
 }
 
@@ -180,27 +177,38 @@ fn a_sure_sink_takes_a_piece(rt: HostRuntime) -> Result<(), Fail> {
 
 #[test]
 fn a_real_source_gives_everything(rt: HostRuntime) -> Result<(), Fail> {
-    let mut reader = LineReader::new(rt.alloc())?;
-    let mut source = RealSource::new(b"one\ntwo".as_slice());
-    assert!(rt; gives_two(&mut reader, &mut source, b"one", b"two"));
+    assert!(rt;
+        is_read(
+            rt.alloc(),
+            &mut RealSource::new(b"one\ntwo".as_slice()),
+            TWO
+        )?
+    );
+    assert!(rt; is_read(rt.alloc(), &mut RealSource::new(b"".as_slice()), "end 0")?);
     Ok(())
+}
+
+/// A buffer of 16 bytes before a list of bytes.
+fn buffered(alloc: Global) -> Result<BufWriter<Vec<u8>>, Fail> {
+    Ok(BufWriter::with_capacity(alloc, 16, Vec::new(alloc))?)
+}
+
+/// Whether a sink takes the bytes, and these are then behind the buffer.
+fn leaves(writer: &mut BufWriter<Vec<u8>>, bytes: &[u8], behind: &[u8]) -> bool {
+    is_written(&mut RealSink::new(&mut *writer), bytes) && writer.get_ref().as_slice() == behind
 }
 
 #[test]
 fn small_writes_are_gathered_up_to_a_flush(rt: HostRuntime) -> Result<(), Fail> {
-    let mut writer = BufWriter::with_capacity(rt.alloc(), 16, Vec::new(rt.alloc()))?;
-    assert!(rt; is_written(&mut RealSink::new(&mut writer), b"three"));
-    assert!(rt; writer.get_ref().as_slice().is_empty());
-    assert!(rt; is_flushed(&mut RealSink::new(&mut writer)));
+    let mut writer = buffered(rt.alloc())?;
+    assert!(rt; leaves(&mut writer, b"three", b"") && is_flushed(&mut RealSink::new(&mut writer)));
     assert!(rt; writer.get_ref().as_slice() == b"three".as_slice());
     Ok(())
 }
 
 #[test]
 fn no_piece_is_too_long(rt: HostRuntime) -> Result<(), Fail> {
-    let mut writer = BufWriter::with_capacity(rt.alloc(), 16, Vec::new(rt.alloc()))?;
     let long = Vec::from_elem(rt.alloc(), b'x', 100_000)?;
-    assert!(rt; is_written(&mut RealSink::new(&mut writer), &long));
-    assert!(rt; writer.get_ref().len() == 100_000);
+    assert!(rt; leaves(&mut buffered(rt.alloc())?, &long, &long));
     Ok(())
 }

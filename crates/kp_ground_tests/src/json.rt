@@ -1,4 +1,5 @@
 //! Texts and fields, with what is read of them.
+use crate::keys::is_number;
 use kp_json::{FieldFault, JsonFault, Spot, Why, quoted_text, read_tree};
 use std::alloc::{AllocError, Global};
 use std::test::Fail;
@@ -16,47 +17,6 @@ fn is_fault<T>(answer: &Result<T, FieldFault>, why: Why, path: &str) -> bool {
         }
         _ => false,
     }
-}
-
-/// Whether a member is this text.
-fn is_text<'a>(alloc: Global, root: &'a Spot<'a>, name: &'a str, wanted: &str) -> bool {
-    match root.get(name) {
-        Some(member) => match member.text_at(alloc) {
-            Ok(text) => text.as_str() == wanted,
-            Err(_) => false,
-        },
-        None => false,
-    }
-}
-
-/// Whether a member is set.
-fn is_set<'a>(alloc: Global, root: &'a Spot<'a>, name: &'a str) -> bool {
-    match root.get(name) {
-        Some(member) => match member.flag_at(alloc) {
-            Ok(flag) => flag,
-            Err(_) => false,
-        },
-        None => false,
-    }
-}
-
-/// Whether the list and the object have three elements and two members.
-fn have_lengths<'a>(alloc: Global, root: &'a Spot<'a>) -> Result<bool, FieldFault> {
-    let list = root.needed(alloc, "list")?;
-    let labels = root.needed(alloc, "labels")?;
-    Ok(list.list_len(alloc)? == 3 && labels.member_len(alloc)? == 2)
-}
-
-/// Whether values of other types are refused.
-fn refuses_values<'a>(alloc: Global, root: &'a Spot<'a>) -> Result<bool, FieldFault> {
-    let text = root.needed(alloc, "text")?;
-    let list = root.needed(alloc, "list")?;
-    Ok(
-        is_fault(&list.text_at(alloc), Why::WrongType, "list")
-            && is_fault(&text.flag_at(alloc), Why::WrongType, "text")
-            && is_fault(&text.list_len(alloc), Why::WrongType, "text")
-            && is_fault(&list.member_len(alloc), Why::WrongType, "list"),
-    )
 }
 
 /// Whether a label has its path.
@@ -88,71 +48,86 @@ fn tells_faults<'a>(alloc: Global, root: &'a Spot<'a>) -> Result<bool, FieldFaul
 }
 
 #[test]
-fn fields_are_read_as_kubernetes_means_them(rt: HostRuntime) -> Result<(), Fail> {
+fn absent_and_wrong_members_are_told(rt: HostRuntime) -> Result<(), Fail> {
     let tree = read_tree(rt.alloc(), OBJECT.as_bytes())?;
     let root = tree.root();
-    assert!(rt; is_text(rt.alloc(), &root, "text", "t") && is_set(rt.alloc(), &root, "flag"));
-    assert!(rt; have_lengths(rt.alloc(), &root)? && refuses_values(rt.alloc(), &root)?);
     assert!(rt; tells_faults(rt.alloc(), &root)? && finds_members(rt.alloc(), &root)?);
     Ok(())
 }
 
-/// Whether a member is this number, within these bounds.
-fn is_whole<'a>(
-    alloc: Global,
-    root: &'a Spot<'a>,
-    name: &'a str,
-    (least, most): (u64, u64),
-    wanted: u64,
-) -> bool {
-    match root.get(name) {
-        Some(member) => match member.whole_at(alloc, least, most) {
-            Ok(number) => number == wanted,
-            Err(_) => false,
+/// Calls and the members that they are asked of, with what each answers: the text, the truth value
+/// or the number there, how many elements or members there are that aren't null, or the fault. A
+/// number is asked for within bounds. Of a member that comes twice the last one counts.
+const ANSWERS: &str = "text text => t
+flag flag => true
+elements list => 3
+members labels => 2
+text list => WrongType list
+flag text => WrongType text
+elements text => WrongType text
+members list => WrongType list
+seven n => 7
+any most => 18446744073709551615
+digit twice => 2
+8to99 n => OutOfRange n
+8to99 most => OutOfRange most
+8to99 over => WrongType over
+8to99 below => WrongType below
+8to99 zero => WrongType zero
+8to99 point => WrongType point
+8to99 power => WrongType power
+8to99 flag => WrongType flag";
+
+/// The bounds of a call that asks for a number.
+fn bounds_of(call: &str) -> (u64, u64) {
+    match call {
+        "seven" => (7, 7),
+        "digit" => (0, 9),
+        "8to99" => (8, 99),
+        _ => (0, u64::MAX),
+    }
+}
+
+/// Whether a call answers this, unless it answers a fault.
+fn answers(alloc: Global, spot: &Spot<'_>, call: &str, wanted: &str) -> Result<bool, FieldFault> {
+    match call {
+        "text" => Ok(spot.text_at(alloc)?.as_str() == wanted),
+        "flag" => Ok(spot.flag_at(alloc)? == (wanted == "true")),
+        "elements" => Ok(is_number(wanted, spot.list_len(alloc)?)),
+        "members" => Ok(is_number(wanted, spot.member_len(alloc)?)),
+        _ => {
+            let (least, most) = bounds_of(call);
+            Ok(is_number(wanted, spot.whole_at(alloc, least, most)?))
+        }
+    }
+}
+
+/// Whether an answer is what these words tell, a fault by its reason and its path.
+fn is_told(answer: &Result<bool, FieldFault>, wanted: &str) -> bool {
+    match answer {
+        Ok(is_right) => *is_right,
+        Err(_) => match wanted.split_once(' ') {
+            Some(("WrongType", path)) => is_fault(answer, Why::WrongType, path),
+            Some(("OutOfRange", path)) => is_fault(answer, Why::OutOfRange, path),
+            _ => false,
         },
-        None => false,
     }
 }
 
-/// Whether a member is refused as a number up to 9.
-fn is_no_whole<'a>(alloc: Global, root: &'a Spot<'a>, name: &'a str, why: Why) -> bool {
-    match root.get(name) {
-        Some(member) => is_fault(&member.whole_at(alloc, 8, 99), why, name),
-        None => false,
-    }
-}
-
-/// Members that are no whole numbers.
-const NO_NUMBERS: &str = "over
-below
-zero
-point
-power
-flag";
-
-#[test]
-fn numbers_are_read_within_their_bounds(rt: HostRuntime) -> Result<(), Fail> {
-    let alloc = rt.alloc();
-    let tree = read_tree(alloc, OBJECT.as_bytes())?;
-    let root = tree.root();
-    assert!(rt; is_whole(alloc, &root, "n", (7, 7), 7));
-    assert!(rt; is_whole(alloc, &root, "most", (0, u64::MAX), u64::MAX));
-    assert!(rt;
-        is_whole(alloc, &root, "twice", (0, 9), 2),
-        "the last of two"
-    );
-    Ok(())
+/// Whether a row's call answers as the row says behind the arrow.
+fn is_row_right<'a>(alloc: Global, root: &'a Spot<'a>, row: &'a str) -> Result<bool, Fail> {
+    let (asked, wanted) = row.split_once(" => ").ok_or("an arrow")?;
+    let (call, name) = asked.split_once(' ').ok_or("a call")?;
+    let member = root.get(name).ok_or("a member")?;
+    Ok(is_told(&answers(alloc, &member, call, wanted), wanted))
 }
 
 #[test]
-fn other_values_are_no_numbers(rt: HostRuntime) -> Result<(), Fail> {
-    let alloc = rt.alloc();
-    let tree = read_tree(alloc, OBJECT.as_bytes())?;
+fn fields_are_read_as_kubernetes_means_them(rt: HostRuntime) -> Result<(), Fail> {
+    let tree = read_tree(rt.alloc(), OBJECT.as_bytes())?;
     let root = tree.root();
-    assert!(rt; is_no_whole(alloc, &root, "n", Why::OutOfRange));
-    assert!(rt; is_no_whole(alloc, &root, "most", Why::OutOfRange));
-    for name in NO_NUMBERS.lines() {
-        assert!(rt; is_no_whole(alloc, &root, name, Why::WrongType), "{name}");
+    for row in ANSWERS.lines() {
+        assert!(rt; is_row_right(rt.alloc(), &root, row)?, "{row}");
     }
     Ok(())
 }
@@ -173,12 +148,23 @@ fn paths<'a>(alloc: Global, list: &'a Spot<'a>) -> Result<String, FieldFault> {
     Ok(paths)
 }
 
+/// Adds a member's name and its text.
+fn push_member<'a>(
+    alloc: Global,
+    text: &mut String,
+    name: &str,
+    member: &Spot<'a>,
+) -> Result<(), FieldFault> {
+    text.push_str(name)?;
+    text.push_str(member.str_at(alloc)?)?;
+    Ok(())
+}
+
 /// The names of the members, each with its text.
 fn names<'a>(alloc: Global, spot: &'a Spot<'a>) -> Result<String, FieldFault> {
     let mut names = String::new(alloc);
     for (name, member) in spot.members(alloc)? {
-        names.push_str(name)?;
-        names.push_str(member.str_at(alloc)?)?;
+        push_member(alloc, &mut names, name, &member)?;
     }
     Ok(names)
 }

@@ -11,6 +11,8 @@ mod io;
 #[cfg(test)]
 mod json;
 #[cfg(test)]
+mod keys;
+#[cfg(test)]
 mod names;
 #[cfg(test)]
 mod recent;

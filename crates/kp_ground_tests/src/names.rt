@@ -1,20 +1,9 @@
 //! Names computed by sha256sum and base32 of coreutils, and clashes of shortened names.
-use kp_base::{Address, Endpoint, Items, NoMemory, ObjectKey, PortKey, PortNo, Proto, Text};
+use crate::keys::port_key;
+use kp_base::{Address, Endpoint, Items, NoMemory, PortKey, PortNo};
 use kp_names::{ChainKey, NameFault, Namer, PortChain};
 use std::alloc::Global;
 use std::test::*;
-
-/// The TCP port of this name of a Service in the default namespace.
-fn port(alloc: Global, service: &str, name: &str) -> Result<PortKey, NoMemory> {
-    Ok(PortKey {
-        object: ObjectKey {
-            namespace: Text::of(alloc, "default")?,
-            name: Text::of(alloc, service)?,
-        },
-        port_name: Text::of(alloc, name)?,
-        proto: Proto::Tcp,
-    })
-}
 
 /// 10.244.1.2:8080.
 fn endpoint() -> Option<Endpoint> {
@@ -24,16 +13,28 @@ fn endpoint() -> Option<Endpoint> {
     })
 }
 
+/// Whether a port's chain of this kind has this name.
+fn is_named(namer: &Namer, kind: PortChain, port: &PortKey, name: &str) -> bool {
+    namer.port_chain_name(kind, port).as_str() == name
+}
+
+// What a port's chain is for stands in the prefix alone.
 #[test]
-fn names_are_those_of_kube_proxy(rt: HostRuntime) -> Result<(), Fail> {
+fn names_of_a_port_are_those_of_kube_proxy(rt: HostRuntime) -> Result<(), Fail> {
     let namer = Namer::new(16);
-    let https = port(rt.alloc(), "kubernetes", "https")?;
-    let name = namer.port_chain_name(PortChain::Svc, &https);
-    assert_eq!(rt; name.as_str(), "KUBE-SVC-NPX46M4PTMTKRN6Y");
-    let short = Namer::new(9).port_chain_name(PortChain::Fw, &https);
-    assert_eq!(rt; short.as_str(), "KUBE-FW-NPX46M4PT");
-    let web = port(rt.alloc(), "web", "")?;
-    let name = namer.endpoint_chain_name(&web, &endpoint().ok_or("a port number")?);
+    let https = port_key(rt.alloc(), "kubernetes", "https")?;
+    assert!(rt; is_named(&namer, PortChain::Svc, &https, "KUBE-SVC-NPX46M4PTMTKRN6Y"));
+    assert!(rt; is_named(&namer, PortChain::Svl, &https, "KUBE-SVL-NPX46M4PTMTKRN6Y"));
+    assert!(rt; is_named(&namer, PortChain::Ext, &https, "KUBE-EXT-NPX46M4PTMTKRN6Y"));
+    assert!(rt; is_named(&Namer::new(9), PortChain::Fw, &https, "KUBE-FW-NPX46M4PT"));
+    Ok(())
+}
+
+#[test]
+fn names_of_an_endpoint_are_those_of_kube_proxy(rt: HostRuntime) -> Result<(), Fail> {
+    let endpoint = endpoint().ok_or("a port number")?;
+    let web = port_key(rt.alloc(), "web", "")?;
+    let name = Namer::new(16).endpoint_chain_name(&web, &endpoint);
     assert_eq!(rt; name.as_str(), "KUBE-SEP-PXJ2U7QYT2QW5545");
     Ok(())
 }
@@ -44,7 +45,7 @@ fn keys(alloc: Global, names: &[&str]) -> Result<Items<ChainKey>, NoMemory> {
     for name in names {
         keys.push(ChainKey::Port {
             kind: PortChain::Svc,
-            port: port(alloc, name, "")?,
+            port: port_key(alloc, name, "")?,
         })?;
     }
     Ok(Items::from_vec(keys))

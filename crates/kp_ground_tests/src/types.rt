@@ -1,11 +1,8 @@
 //! Names of chains, and copies of their keys and of records. Copies of objects are tested where
 //! objects are read.
-use crate::base::is_copied;
+use crate::keys::{is_copied, port_key};
 use arrayvec::ArrayVec;
-use kp_base::{
-    Address, Cidr, Copied, Endpoint, Items, NoMemory, ObjectKey, PortKey, PortNo, Proto, Shared,
-    Text,
-};
+use kp_base::{Address, Cidr, Copied, Endpoint, Items, NoMemory, PortNo, Shared};
 use kp_types::{
     Batch, ChainAt, ChainKey, ChainName, Edit, Match, PortChain, Rule, SyncRecord, TableName,
     Target,
@@ -20,12 +17,6 @@ fn chains_are_named(rt: HostRuntime) {
         Some(name) => assert!(rt; name.as_str() == "KUBE-SEP"),
         None => assert!(rt; false, "a name"),
     }
-}
-
-fn web(alloc: Global) -> Result<ObjectKey, NoMemory> {
-    let namespace = Text::of(alloc, "default")?;
-    let name = Text::of(alloc, "web")?;
-    Ok(ObjectKey { namespace, name })
 }
 
 /// A rule of two matches that leads to an endpoint.
@@ -83,13 +74,7 @@ fn copied_records_write_equal_rules(rt: HostRuntime) -> Result<(), Fail> {
 
 /// The key of a chain of a Service's port.
 fn chain_key(alloc: Global) -> Result<ChainKey, NoMemory> {
-    let object = web(alloc)?;
-    let port_name = Text::of(alloc, "http")?;
-    let port = PortKey {
-        object,
-        port_name,
-        proto: Proto::Tcp,
-    };
+    let port = port_key(alloc, "web", "http")?;
     let kind = PortChain::Svc;
     Ok(ChainKey::Port { kind, port })
 }

@@ -1,7 +1,7 @@
 //! Texts of events, with what is read of them; and a journal that is full.
 mod kubectl;
 
-use crate::words::{is_fault, is_key, tree_of};
+use crate::words::{is_fault, is_key, is_named, tree_of, unfolded};
 use kp_base::Items;
 use kp_events::{Event, EventFault, Journal, JournalFault, Kind, Object, event_of};
 use kp_json::Spot;
@@ -59,16 +59,21 @@ fn are_events(events: &[Event], wanted: &str) -> bool {
     rest.is_empty()
 }
 
+/// Whether a fault is told by these words.
+fn is_refusal(fault: &EventFault, wanted: &str) -> bool {
+    match fault {
+        EventFault::NotEvent => wanted == "not an event",
+        EventFault::UnsupportedKind { kind } => is_named("kind", kind, wanted),
+        EventFault::Bad(bad) => is_fault(bad, wanted),
+        EventFault::NoMemory => false,
+    }
+}
+
 /// Whether an answer is told by these words.
 fn is_answer(answer: &Result<Items<Event>, EventFault>, wanted: &str) -> bool {
     match answer {
         Ok(events) => are_events(events.as_slice(), wanted),
-        Err(EventFault::NotEvent) => wanted == "not an event",
-        Err(EventFault::UnsupportedKind { kind }) => {
-            wanted.split_once("kind ") == Some(("", kind.as_str()))
-        }
-        Err(EventFault::Bad(bad)) => is_fault(bad, wanted),
-        Err(EventFault::NoMemory) => false,
+        Err(fault) => is_refusal(fault, wanted),
     }
 }
 
@@ -144,7 +149,7 @@ const EVENTS: &str = r#"5 => not an event
 
 #[test]
 fn events_are_read(rt: HostRuntime) -> Result<(), Fail> {
-    let rows = EVENTS.replace(rt.alloc(), "\n ", "")?;
+    let rows = unfolded(rt.alloc(), EVENTS)?;
     for row in rows.as_str().lines() {
         assert!(rt; is_row_read(rt.alloc(), ("", ""), row)?, "{row}");
     }

@@ -1,6 +1,7 @@
 //! Texts of objects, and the first fault of each. A line that begins with a space goes on with the
 //! line before.
 use crate::events::is_row_read;
+use crate::words::unfolded;
 use std::alloc::Global;
 use std::process::Abort;
 use std::test::Fail;
@@ -219,7 +220,7 @@ const NODES: &str = r#"{"kind":"Node","metadata":5} => WrongType metadata
 
 /// Each row's text is refused as it says behind the arrow.
 fn check(rt: &impl Abort, alloc: Global, around: Around, rows: &str) -> Result<(), Fail> {
-    let rows = rows.replace(alloc, "\n ", "")?;
+    let rows = unfolded(alloc, rows)?;
     for row in rows.as_str().lines() {
         assert!(rt; is_row_read(alloc, around, row)?, "{row}");
     }

@@ -10,6 +10,8 @@ mod faults;
 #[cfg(test)]
 mod lines;
 #[cfg(test)]
+mod members;
+#[cfg(test)]
 mod pod;
 #[cfg(test)]
 mod service;

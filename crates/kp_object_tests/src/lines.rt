@@ -1,11 +1,6 @@
 //! Script lines, with what each is read as.
-use crate::words::is_fault;
-use kp_base::{Address, Config, PortNo, Proto, Text};
-use kp_script::{
-    Draws, LineRefusal, Op, PacketLine, Scratch, ScriptFault, ScriptLine, Shown, default_config,
-    line_of, line_with,
-};
-use kp_types::{Origin, Packet};
+use crate::words::{is_fault, is_named, unfolded};
+use kp_script::{LineRefusal, Op, Scratch, ScriptFault, ScriptLine, Shown, line_of, line_with};
 use std::alloc::Global;
 use std::test::Fail;
 
@@ -27,19 +22,14 @@ fn op_word(op: &Op) -> &'static str {
     }
 }
 
-/// Whether words are a first one and this text.
-fn is_named(first: &str, text: &Text, wanted: &str) -> bool {
-    wanted.split_once(first) == Some(("", text.as_str()))
-}
-
 /// Whether a refusal is told by these words.
 fn is_refusal(refusal: &LineRefusal, wanted: &str) -> bool {
     match refusal {
         LineRefusal::BadJson => wanted == "bad json",
         LineRefusal::NotEvent => wanted == "not an event",
-        LineRefusal::UnsupportedKind { kind } => is_named("kind ", kind, wanted),
+        LineRefusal::UnsupportedKind { kind } => is_named("kind", kind, wanted),
         LineRefusal::Bad(bad) => is_fault(bad, wanted),
-        LineRefusal::UnknownOp { op } => is_named("op ", op, wanted),
+        LineRefusal::UnknownOp { op } => is_named("op", op, wanted),
         LineRefusal::ConfigLate => wanted == "config is late",
         _ => false,
     }
@@ -63,7 +53,7 @@ fn is_answer(answer: &Result<ScriptLine, ScriptFault>, wanted: &str) -> bool {
 }
 
 /// What a line is read as.
-fn read(alloc: Global, line: &str, first: bool) -> Result<ScriptLine, ScriptFault> {
+pub(crate) fn read(alloc: Global, line: &str, first: bool) -> Result<ScriptLine, ScriptFault> {
     line_with(alloc, line.as_bytes(), first, &mut Scratch::new(alloc))
 }
 
@@ -72,11 +62,6 @@ fn is_row_read(alloc: Global, row: &str, first: bool) -> Result<bool, Fail> {
     let (line, wanted) = row.split_once(" => ").ok_or("an arrow")?;
     let by_tree = line_of(alloc, line.as_bytes(), first);
     Ok(is_answer(&by_tree, wanted) && is_answer(&read(alloc, line, first), wanted))
-}
-
-/// A text whose lines that begin with a space go on with the line before.
-fn unfolded(alloc: Global, text: &str) -> Result<String, Fail> {
-    Ok(text.replace(alloc, "\n ", "")?)
 }
 
 /// The form of lines, their streams and their commands, folded.
@@ -287,132 +272,5 @@ fn a_packet_has_at_most_a_thousand_draws(rt: HostRuntime) -> Result<(), Fail> {
         }
         _ => assert!(rt; false, "1001 draws were taken"),
     }
-    Ok(())
-}
-
-/// The packet line of an operation.
-fn packet_of(op: Op) -> Result<PacketLine, Fail> {
-    match op {
-        Op::Packet(packet) => Ok(packet),
-        _other => Err(Fail::new("a packet line")),
-    }
-}
-
-/// The packet line that a text is.
-fn packet(alloc: Global, text: &str) -> Result<PacketLine, Fail> {
-    match read(alloc, text, false) {
-        Ok(line) => packet_of(line.op),
-        Err(_fault) => Err(Fail::new("a line")),
-    }
-}
-
-/// Whether the draws are these.
-fn are_draws(draws: &Draws, wanted: &[u32]) -> bool {
-    match draws {
-        Draws::List(list) => list.as_slice() == wanted,
-        Draws::Seed(_) => false,
-    }
-}
-
-/// A packet line with each member, folded.
-const ALL_OF_A_PACKET: &str = r#"{"op":"packet","from":"node","src":"10.244.9.9",
- "dst":"10.96.0.10","proto":"UDP","sport":9,"dport":53,"now":7,"draws":[5,6],"seed":1,
- "trail":true}"#;
-
-#[test]
-fn a_packet_has_the_values_of_its_members(rt: HostRuntime) -> Result<(), Fail> {
-    let alloc = rt.alloc();
-    let line = unfolded(alloc, ALL_OF_A_PACKET)?;
-    let read = packet(alloc, line.as_str())?;
-    let wanted = Packet {
-        from: Origin::Node,
-        source: Address::v4(183_765_257),
-        target: Address::v4(174_063_626),
-        proto: Proto::Udp,
-        port: PortNo::new(53).ok_or("a port")?,
-        now: 7,
-    };
-    assert_eq!(rt; read.packet, wanted);
-    assert!(rt; are_draws(&read.draws, &[5, 6]));
-    assert!(rt; read.trail);
-    Ok(())
-}
-
-#[test]
-fn a_packet_has_defaults(rt: HostRuntime) -> Result<(), Fail> {
-    let alloc = rt.alloc();
-    let line = r#"{"op":"packet","src":"10.244.9.9","dst":"10.96.0.10","dport":80}"#;
-    let read = packet(alloc, line)?;
-    assert!(rt; read.packet.from == Origin::Wire && read.packet.proto == Proto::Tcp);
-    assert!(rt; read.packet.now == 0 && !read.trail);
-    assert!(rt; are_draws(&read.draws, &[]));
-    let line = r#"{"op":"packet","src":"1.2.3.4","dst":"1.2.3.4","dport":80,"seed":9,"draws":[]}"#;
-    let read = packet(alloc, line)?;
-    assert!(rt; are_draws(&read.draws, &[]));
-    let line = r#"{"op":"packet","src":"1.2.3.4","dst":"1.2.3.4","dport":80,"seed":9}"#;
-    match packet(alloc, line)?.draws {
-        Draws::Seed(seed) => assert_eq!(rt; seed, 9),
-        Draws::List(_) => assert!(rt; false, "a seed was taken as a list"),
-    }
-    Ok(())
-}
-
-/// The configuration of an operation.
-fn config_of(op: Op) -> Result<Config, Fail> {
-    match op {
-        Op::Config(config) => Ok(config),
-        _other => Err(Fail::new("a configuration")),
-    }
-}
-
-/// The configuration that a text is.
-fn config(alloc: Global, text: &str) -> Result<Config, Fail> {
-    match read(alloc, text, true) {
-        Ok(line) => config_of(line.op),
-        Err(_fault) => Err(Fail::new("a line")),
-    }
-}
-
-/// A configuration with each member, folded.
-const ALL_OF_A_CONFIG: &str = r#"{"op":"config","node":"n1",
- "nodeAddresses":["10.0.0.1","fd00::1","10.0.0.2"],"clusterCIDR":"10.244.9.9/16",
- "masqueradeAll":true,"controller":false,"maxEndpointsPerSlice":2,"maxEvents":3,"recentSize":4,
- "nameLength":5}"#;
-
-#[test]
-fn a_configuration_has_the_values_of_its_members(rt: HostRuntime) -> Result<(), Fail> {
-    let alloc = rt.alloc();
-    let line = unfolded(alloc, ALL_OF_A_CONFIG)?;
-    let read = config(alloc, line.as_str())?;
-    assert_eq!(rt; read.node.as_str(), "n1");
-    let addresses = [Address::v4(167_772_161), Address::v4(167_772_162)];
-    assert!(rt; read.addresses.as_slice() == addresses.as_slice());
-    let range = read.cluster.ok_or("a range")?;
-    assert!(rt; range.base() == Address::v4(183_762_944) && range.bits() == 16);
-    assert!(rt; read.masquerade_all && !read.controller);
-    assert!(rt; read.max_per_slice == 2 && read.max_events == 3);
-    assert!(rt; read.recent_size == 4 && read.name_length == 5);
-    Ok(())
-}
-
-/// Whether each member is what it is where nothing is said of it.
-fn has_defaults(config: &Config) -> bool {
-    config.node.as_str() == "node"
-        && config.addresses.as_slice().is_empty()
-        && config.cluster.is_none()
-        && !config.masquerade_all
-        && config.controller
-        && config.max_per_slice == 100
-        && config.max_events == 1_000_000
-        && config.recent_size == 100
-        && config.name_length == 16
-}
-
-#[test]
-fn a_configuration_has_defaults(rt: HostRuntime) -> Result<(), Fail> {
-    let alloc = rt.alloc();
-    let empty = r#"{"op":"config","node":"","clusterCIDR":"fd00::/56"}"#;
-    assert!(rt; has_defaults(&config(alloc, empty)?));
-    assert!(rt; has_defaults(&default_config(alloc)?));
     Ok(())
 }

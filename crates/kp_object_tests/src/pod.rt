@@ -1,5 +1,5 @@
 //! Texts of Pods and Nodes, and what is read of them.
-use crate::words::{is_copied, is_key, is_text, tree_of};
+use crate::words::{is_copied, is_key, is_text, tree_of, unfolded};
 use kp_base::{Address, Proto};
 use kp_json::{FieldFault, Spot};
 use kp_pod::{ContainerPort, Node, Pod, node_of, pod_of};
@@ -83,7 +83,7 @@ fn is_done(pod: &Pod) -> bool {
 
 #[test]
 fn pods_are_done_by_their_phase(rt: HostRuntime) -> Result<(), Fail> {
-    let texts = DONE.replace(rt.alloc(), "\n ", "")?;
+    let texts = unfolded(rt.alloc(), DONE)?;
     for text in texts.as_str().lines() {
         assert!(rt; is_done(&read_pod(rt.alloc(), text)?), "{text}");
     }

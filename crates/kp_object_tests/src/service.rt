@@ -1,5 +1,5 @@
 //! Texts of Services, and what is read of them.
-use crate::words::{is_copied, is_key, tree_of};
+use crate::words::{is_copied, is_key, tree_of, unfolded};
 use kp_base::{Address, Cidr, PortNo, Proto};
 use kp_json::{FieldFault, Spot};
 use kp_service::{
@@ -120,7 +120,7 @@ fn is_default(service: &Service) -> bool {
 
 #[test]
 fn absent_members_of_a_service_have_defaults(rt: HostRuntime) -> Result<(), Fail> {
-    let texts = DEFAULTS.replace(rt.alloc(), "\n ", "")?;
+    let texts = unfolded(rt.alloc(), DEFAULTS)?;
     for text in texts.as_str().lines() {
         let service = read_service(rt.alloc(), text)?;
         assert!(rt;

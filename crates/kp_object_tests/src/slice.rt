@@ -1,5 +1,5 @@
 //! Texts of EndpointSlices, and what is read of them.
-use crate::words::{is_key, is_text, tree_of};
+use crate::words::{is_key, is_text, tree_of, unfolded};
 use kp_base::{Address, Copied, ObjectKey, PortNo, Proto};
 use kp_json::{FieldFault, Spot, Why};
 use kp_slice::{AddressType, Slice, SliceEndpoint, SlicePort, slice_of};
@@ -138,7 +138,7 @@ fn is_of_other_type(slice: &Slice) -> bool {
 
 #[test]
 fn addresses_of_other_types_are_passed_over(rt: HostRuntime) -> Result<(), Fail> {
-    let texts = OTHERS.replace(rt.alloc(), "\n ", "")?;
+    let texts = unfolded(rt.alloc(), OTHERS)?;
     for text in texts.as_str().lines() {
         assert!(rt; is_of_other_type(&read(rt.alloc(), text)?), "{text}");
     }

@@ -1,4 +1,4 @@
-//! Faults and keys, held against words.
+//! Faults and keys, held against words; and texts of folded lines.
 use kp_base::{Copied, NoMemory, ObjectKey, Text};
 use kp_json::{BadField, Tree, Why, read_tree};
 use std::alloc::Global;
@@ -18,6 +18,11 @@ fn word(why: Why) -> &'static str {
     }
 }
 
+/// A text whose lines that begin with a space go on with the line before.
+pub(crate) fn unfolded(alloc: Global, text: &str) -> Result<String, Fail> {
+    Ok(text.replace(alloc, "\n ", "")?)
+}
+
 /// The tree of a text.
 pub(crate) fn tree_of(alloc: Global, text: &str) -> Result<Tree, Fail> {
     Ok(read_tree(alloc, text.as_bytes())?)
@@ -27,6 +32,14 @@ pub(crate) fn tree_of(alloc: Global, text: &str) -> Result<Tree, Fail> {
 pub(crate) fn is_fault(bad: &BadField, wanted: &str) -> bool {
     match wanted.split_once(" ") {
         Some((why, path)) => why == word(bad.why) && path == bad.path.as_str(),
+        None => false,
+    }
+}
+
+/// Whether words are a first one and, behind a space, this text.
+pub(crate) fn is_named(first: &str, text: &Text, wanted: &str) -> bool {
+    match wanted.split_once(" ") {
+        Some((word, named)) => word == first && named == text.as_str(),
         None => false,
     }
 }

@@ -1,20 +1,14 @@
-//! Transcripts of packets to every kind of door. A line that begins with a space goes on with the
-//! line before.
-use crate::transcript::follow;
+//! Transcripts of packets to every kind of door.
+use crate::transcript::{follow, unfolded};
 use std::alloc::Global;
 use std::process::Abort;
 use std::test::Fail;
 
 /// A cluster address with three endpoints, by the draws; a hairpin packet, and sources outside the
 /// cluster; a port that no one has; and the Service deleted.
-const CLUSTER_ADDRESSES: &str =
-    r#"{"op":"config","node":"n1","nodeAddresses":["10.0.0.1"],"clusterCIDR":"10.244.0.0/16"}
-{"apiVersion":"v1","kind":"Service","metadata":{"name":"web"},
- "spec":{"clusterIP":"10.96.0.10","ports":[{"port":80,"targetPort":8080}]}}
-{"apiVersion":"discovery.k8s.io/v1","kind":"EndpointSlice",
- "metadata":{"name":"web-x","labels":{"kubernetes.io/service-name":"web"}},"addressType":"IPv4",
- "ports":[{"port":8080}],"endpoints":[{"addresses":["10.244.1.2"],"nodeName":"n1"},
- {"addresses":["10.244.2.3"],"nodeName":"n2"},{"addresses":["10.244.3.4"],"nodeName":"n3"}]}
+const CLUSTER_ADDRESSES: &str = r#"{"op":"config",@node}
+{@web,"spec":{@port}}
+{@slice,"endpoints":[{@n1},{@n2},{@n3}]}
 {"op":"sync"}
 sync 1: events 2, written 5, removed 0
 {"op":"packet","src":"10.244.9.9","dst":"10.96.0.10","dport":80,"draws":[715827882]}
@@ -49,7 +43,7 @@ packet 16 at 1: left alone
 explain 17 at 1: left alone; no door decides
 {"op":"packet","src":"10.244.9.9","dst":"10.96.0.10","dport":80,"draws":[0],"proto":"UDP"}
 packet 18 at 1: left alone
-{"type":"DELETED","object":{"apiVersion":"v1","kind":"Service","metadata":{"name":"web"}}}
+{"type":"DELETED","object":{@web}}
 {"op":"packet","src":"10.244.9.9","dst":"10.96.0.10","dport":80,"draws":[0]}
 packet 20 at 1: to 10.244.1.2:8080
 {"op":"sync"}
@@ -61,10 +55,8 @@ explain 23 at 2: left alone; no door decides
 "#;
 
 /// No endpoints, from the wire and from the node; and an internal Local policy without local ones.
-const NO_ENDPOINTS: &str =
-    r#"{"op":"config","node":"n1","nodeAddresses":["10.0.0.1"],"clusterCIDR":"10.244.0.0/16"}
-{"apiVersion":"v1","kind":"Service","metadata":{"name":"web"},
- "spec":{"clusterIP":"10.96.0.10","ports":[{"port":80,"targetPort":8080}]}}
+const NO_ENDPOINTS: &str = r#"{"op":"config",@node}
+{@web,"spec":{@port}}
 {"op":"sync"}
 sync 1: events 1, written 1, removed 0
 {"op":"packet","src":"10.244.9.9","dst":"10.96.0.10","dport":80}
@@ -75,21 +67,15 @@ explain 5 at 1: rejected; door cluster default/web/TCP has no endpoints
 packet 6 at 1: rejected
 {"op":"packet","src":"10.244.9.9","dst":"10.96.0.10","dport":80,"proto":"UDP"}
 packet 7 at 1: left alone
-{"apiVersion":"v1","kind":"Service","metadata":{"name":"web"},
- "spec":{"clusterIP":"10.96.0.10","ports":[{"port":80,"targetPort":8080}],
- "internalTrafficPolicy":"Local"}}
-{"apiVersion":"discovery.k8s.io/v1","kind":"EndpointSlice",
- "metadata":{"name":"web-x","labels":{"kubernetes.io/service-name":"web"}},"addressType":"IPv4",
- "ports":[{"port":8080}],"endpoints":[{"addresses":["10.244.2.3"],"nodeName":"n2"}]}
+{@web,"spec":{@port,"internalTrafficPolicy":"Local"}}
+{@slice,"endpoints":[{@n2}]}
 {"op":"sync"}
 sync 2: events 2, written 1, removed 0
 {"op":"packet","src":"10.244.9.9","dst":"10.96.0.10","dport":80}
 packet 11 at 2: dropped
 {"op":"explain","src":"10.244.9.9","dst":"10.96.0.10","dport":80}
 explain 12 at 2: dropped; door cluster default/web/TCP has no local endpoints
-{"apiVersion":"discovery.k8s.io/v1","kind":"EndpointSlice",
- "metadata":{"name":"web-x","labels":{"kubernetes.io/service-name":"web"}},"addressType":"IPv4",
- "ports":[{"port":8080}],"endpoints":[]}
+{@slice,"endpoints":[]}
 {"op":"sync"}
 sync 3: events 1, written 1, removed 0
 {"op":"packet","src":"10.244.9.9","dst":"10.96.0.10","dport":80}
@@ -100,16 +86,9 @@ explain 16 at 3: rejected; door cluster default/web/TCP has no endpoints
 
 /// Endpoints that terminate, alone and beside a ready one; and hints for the zone of the node, of
 /// two endpoints of three and of all.
-const CONDITIONS_AND_HINTS: &str =
-    r#"{"op":"config","node":"n1","nodeAddresses":["10.0.0.1"],"clusterCIDR":"10.244.0.0/16"}
-{"apiVersion":"v1","kind":"Service","metadata":{"name":"web"},
- "spec":{"clusterIP":"10.96.0.10","ports":[{"port":80,"targetPort":8080}]}}
-{"apiVersion":"discovery.k8s.io/v1","kind":"EndpointSlice",
- "metadata":{"name":"web-x","labels":{"kubernetes.io/service-name":"web"}},"addressType":"IPv4",
- "ports":[{"port":8080}],"endpoints":[{"addresses":["10.244.1.2"],"nodeName":"n1",
- "conditions":{"ready":false,"serving":true,"terminating":true}},
- {"addresses":["10.244.2.3"],"nodeName":"n2",
- "conditions":{"ready":false,"serving":true,"terminating":true}}]}
+const CONDITIONS_AND_HINTS: &str = r#"{"op":"config",@node}
+{@web,"spec":{@port}}
+{@slice,"endpoints":[{@n1,@leaves},{@n2,@leaves}]}
 {"op":"sync"}
 sync 1: events 2, written 4, removed 0
 {"op":"packet","src":"10.244.9.9","dst":"10.96.0.10","dport":80,"draws":[0]}
@@ -117,11 +96,7 @@ packet 5 at 1: to 10.244.1.2:8080
 {"op":"explain","src":"10.244.9.9","dst":"10.96.0.10","dport":80,"draws":[0]}
 explain 6 at 1: to 10.244.1.2:8080;
   door cluster default/web/TCP list cluster size 2 by draws place 1
-{"apiVersion":"discovery.k8s.io/v1","kind":"EndpointSlice",
- "metadata":{"name":"web-x","labels":{"kubernetes.io/service-name":"web"}},"addressType":"IPv4",
- "ports":[{"port":8080}],"endpoints":[{"addresses":["10.244.1.2"],"nodeName":"n1",
- "conditions":{"ready":false,"serving":true,"terminating":true}},
- {"addresses":["10.244.2.3"],"nodeName":"n2"}]}
+{@slice,"endpoints":[{@n1,@leaves},{@n2}]}
 {"op":"sync"}
 sync 2: events 1, written 1, removed 1
 {"op":"packet","src":"10.244.9.9","dst":"10.96.0.10","dport":80,"draws":[0]}
@@ -131,12 +106,7 @@ explain 10 at 2: to 10.244.2.3:8080;
   door cluster default/web/TCP list cluster size 1 by draws place 1
 {"apiVersion":"v1","kind":"Node",
  "metadata":{"name":"n1","labels":{"topology.kubernetes.io/zone":"a"}}}
-{"apiVersion":"discovery.k8s.io/v1","kind":"EndpointSlice",
- "metadata":{"name":"web-x","labels":{"kubernetes.io/service-name":"web"}},"addressType":"IPv4",
- "ports":[{"port":8080}],"endpoints":[{"addresses":["10.244.1.2"],"nodeName":"n1",
- "hints":{"forZones":[{"name":"a"}]}},
- {"addresses":["10.244.2.3"],"nodeName":"n2","hints":{"forZones":[{"name":"a"}]}},
- {"addresses":["10.244.3.4"],"nodeName":"n3"}]}
+{@slice,"endpoints":[{@n1,@in_a},{@n2,@in_a},{@n3}]}
 {"op":"sync"}
 sync 3: events 2, written 3, removed 0
 {"op":"packet","src":"10.244.9.9","dst":"10.96.0.10","dport":80,"draws":[]}
@@ -144,12 +114,7 @@ packet 14 at 3: to 10.244.3.4:8080
 {"op":"explain","src":"10.244.9.9","dst":"10.96.0.10","dport":80}
 explain 15 at 3: to 10.244.3.4:8080;
   door cluster default/web/TCP list cluster size 3 by draws place 3
-{"apiVersion":"discovery.k8s.io/v1","kind":"EndpointSlice",
- "metadata":{"name":"web-x","labels":{"kubernetes.io/service-name":"web"}},"addressType":"IPv4",
- "ports":[{"port":8080}],"endpoints":[{"addresses":["10.244.1.2"],"nodeName":"n1",
- "hints":{"forZones":[{"name":"a"}]}},
- {"addresses":["10.244.2.3"],"nodeName":"n2","hints":{"forZones":[{"name":"a"}]}},
- {"addresses":["10.244.3.4"],"nodeName":"n3","hints":{"forZones":[{"name":"b"}]}}]}
+{@slice,"endpoints":[{@n1,@in_a},{@n2,@in_a},{@n3,@in_b}]}
 {"op":"sync"}
 sync 4: events 1, written 1, removed 1
 {"op":"packet","src":"10.244.9.9","dst":"10.96.0.10","dport":80,"draws":[]}
@@ -160,13 +125,9 @@ explain 19 at 4: to 10.244.2.3:8080;
 "#;
 
 /// A pod that is ready, isn't, is again, and has finished.
-const PODS: &str =
-    r#"{"op":"config","node":"n1","nodeAddresses":["10.0.0.1"],"clusterCIDR":"10.244.0.0/16"}
-{"apiVersion":"v1","kind":"Service","metadata":{"name":"web"},
- "spec":{"clusterIP":"10.96.0.10","ports":[{"port":80,"targetPort":8080}],"selector":{"app":"web"}}}
-{"apiVersion":"v1","kind":"Pod","metadata":{"name":"a","labels":{"app":"web"}},
- "spec":{"nodeName":"n1"},"status":{"phase":"Running","podIP":"10.244.1.2",
- "conditions":[{"type":"Ready","status":"True"}]}}
+const PODS: &str = r#"{"op":"config",@node}
+{@web,"spec":{@port,"selector":{"app":"web"}}}
+{@pod,"spec":{"nodeName":"n1"},"status":{"phase":"Running","podIP":"10.244.1.2",@ready}}
 {"op":"sync"}
 sync 1: events 2, written 3, removed 0
 {"op":"packet","src":"10.244.9.9","dst":"10.96.0.10","dport":80}
@@ -174,8 +135,7 @@ packet 5 at 1: to 10.244.1.2:8080
 {"op":"explain","src":"10.244.9.9","dst":"10.96.0.10","dport":80}
 explain 6 at 1: to 10.244.1.2:8080;
   door cluster default/web/TCP list cluster size 1 by draws place 1
-{"apiVersion":"v1","kind":"Pod","metadata":{"name":"a","labels":{"app":"web"}},
- "spec":{"nodeName":"n1"},"status":{"phase":"Running","podIP":"10.244.1.2",
+{@pod,"spec":{"nodeName":"n1"},"status":{"phase":"Running","podIP":"10.244.1.2",
  "conditions":[{"type":"Ready","status":"False"}]}}
 {"op":"sync"}
 sync 2: events 1, written 2, removed 2
@@ -183,16 +143,12 @@ sync 2: events 1, written 2, removed 2
 packet 9 at 2: rejected
 {"op":"explain","src":"10.244.9.9","dst":"10.96.0.10","dport":80}
 explain 10 at 2: rejected; door cluster default/web/TCP has no endpoints
-{"apiVersion":"v1","kind":"Pod","metadata":{"name":"a","labels":{"app":"web"}},
- "spec":{"nodeName":"n1"},"status":{"phase":"Running","podIP":"10.244.1.2",
- "conditions":[{"type":"Ready","status":"True"}]}}
+{@pod,"spec":{"nodeName":"n1"},"status":{"phase":"Running","podIP":"10.244.1.2",@ready}}
 {"op":"sync"}
 sync 3: events 1, written 4, removed 0
 {"op":"packet","src":"10.244.9.9","dst":"10.96.0.10","dport":80}
 packet 13 at 3: to 10.244.1.2:8080
-{"apiVersion":"v1","kind":"Pod","metadata":{"name":"a","labels":{"app":"web"}},
- "spec":{"nodeName":"n1"},"status":{"phase":"Succeeded","podIP":"10.244.1.2",
- "conditions":[{"type":"Ready","status":"True"}]}}
+{@pod,"spec":{"nodeName":"n1"},"status":{"phase":"Succeeded","podIP":"10.244.1.2",@ready}}
 {"op":"sync"}
 sync 4: events 1, written 2, removed 2
 {"op":"packet","src":"10.244.9.9","dst":"10.96.0.10","dport":80}
@@ -202,14 +158,10 @@ explain 17 at 4: rejected; door cluster default/web/TCP has no endpoints
 "#;
 
 /// A node port with an external Local policy; and one whose endpoint is on the node.
-const NODE_PORTS: &str =
-    r#"{"op":"config","node":"n1","nodeAddresses":["10.0.0.1"],"clusterCIDR":"10.244.0.0/16"}
-{"apiVersion":"v1","kind":"Service","metadata":{"name":"web"},
- "spec":{"clusterIP":"10.96.0.10","ports":[{"port":80,"targetPort":8080,"nodePort":30080}],
+const NODE_PORTS: &str = r#"{"op":"config",@node}
+{@web,"spec":{"clusterIP":"10.96.0.10","ports":[{"port":80,"targetPort":8080,"nodePort":30080}],
  "type":"NodePort","externalTrafficPolicy":"Local"}}
-{"apiVersion":"discovery.k8s.io/v1","kind":"EndpointSlice",
- "metadata":{"name":"web-x","labels":{"kubernetes.io/service-name":"web"}},"addressType":"IPv4",
- "ports":[{"port":8080}],"endpoints":[{"addresses":["10.244.2.3"],"nodeName":"n2"}]}
+{@slice,"endpoints":[{@n2}]}
 {"op":"sync"}
 sync 1: events 2, written 6, removed 0
 {"op":"packet","src":"192.0.2.7","dst":"10.0.0.1","dport":30080}
@@ -226,12 +178,9 @@ packet 9 at 1: to 10.244.2.3:8080 masked
 packet 10 at 1: left alone
 {"op":"explain","src":"127.0.0.1","dst":"127.0.0.1","dport":30080,"from":"node"}
 explain 11 at 1: left alone; no door decides
-{"apiVersion":"v1","kind":"Service","metadata":{"name":"web"},
- "spec":{"clusterIP":"10.96.0.10","ports":[{"port":80,"targetPort":8080,"nodePort":30080}],
+{@web,"spec":{"clusterIP":"10.96.0.10","ports":[{"port":80,"targetPort":8080,"nodePort":30080}],
  "type":"NodePort"}}
-{"apiVersion":"discovery.k8s.io/v1","kind":"EndpointSlice",
- "metadata":{"name":"web-x","labels":{"kubernetes.io/service-name":"web"}},"addressType":"IPv4",
- "ports":[{"port":8080}],"endpoints":[{"addresses":["10.0.0.1"],"nodeName":"n1"}]}
+{@slice,"endpoints":[{"addresses":["10.0.0.1"],"nodeName":"n1"}]}
 {"op":"sync"}
 sync 2: events 2, written 4, removed 1
 {"op":"packet","src":"192.0.2.7","dst":"10.0.0.1","dport":30080}
@@ -242,11 +191,8 @@ explain 16 at 2: to 10.0.0.1:8080; door node default/web/TCP list cluster size 1
 
 /// An external address without endpoints, from the node and from the wire; and one of two Services,
 /// of which the first has no local endpoints for a source outside.
-const EXTERNAL_ADDRESSES: &str =
-    r#"{"op":"config","node":"n1","nodeAddresses":["10.0.0.1"],"clusterCIDR":"10.244.0.0/16"}
-{"apiVersion":"v1","kind":"Service","metadata":{"name":"web"},
- "spec":{"clusterIP":"10.96.0.10","ports":[{"port":80,"targetPort":8080}],
- "externalIPs":["203.0.113.5"]}}
+const EXTERNAL_ADDRESSES: &str = r#"{"op":"config",@node}
+{@web,"spec":{@port,"externalIPs":["203.0.113.5"]}}
 {"op":"sync"}
 sync 1: events 1, written 2, removed 0
 {"op":"packet","src":"10.0.0.1","dst":"203.0.113.5","dport":80,"from":"node"}
@@ -257,12 +203,8 @@ explain 5 at 1: left alone; no door decides
 packet 6 at 1: rejected
 {"op":"explain","src":"192.0.2.7","dst":"203.0.113.5","dport":80}
 explain 7 at 1: rejected; door external default/web/TCP has no endpoints
-{"apiVersion":"v1","kind":"Service","metadata":{"name":"web"},
- "spec":{"clusterIP":"10.96.0.10","ports":[{"port":80,"targetPort":8080}],
- "externalIPs":["203.0.113.5"],"externalTrafficPolicy":"Local"}}
-{"apiVersion":"discovery.k8s.io/v1","kind":"EndpointSlice",
- "metadata":{"name":"web-x","labels":{"kubernetes.io/service-name":"web"}},"addressType":"IPv4",
- "ports":[{"port":8080}],"endpoints":[{"addresses":["10.244.2.3"],"nodeName":"n2"}]}
+{@web,"spec":{@port,"externalIPs":["203.0.113.5"],"externalTrafficPolicy":"Local"}}
+{@slice,"endpoints":[{@n2}]}
 {"apiVersion":"v1","kind":"Service","metadata":{"name":"web-2"},
  "spec":{"clusterIP":"10.96.0.12","ports":[{"port":80,"targetPort":8080}],
  "externalIPs":["203.0.113.5"]}}
@@ -284,16 +226,10 @@ explain 16 at 2: to 10.244.2.3:8080;
 "#;
 
 /// The source ranges of a load balancer, with endpoints and without.
-const SOURCE_RANGES: &str =
-    r#"{"op":"config","node":"n1","nodeAddresses":["10.0.0.1"],"clusterCIDR":"10.244.0.0/16"}
-{"apiVersion":"v1","kind":"Service","metadata":{"name":"web"},
- "spec":{"clusterIP":"10.96.0.10","ports":[{"port":80,"targetPort":8080}],"type":"LoadBalancer",
- "loadBalancerSourceRanges":["192.0.2.0/24"]},
+const SOURCE_RANGES: &str = r#"{"op":"config",@node}
+{@web,"spec":{@port,"type":"LoadBalancer","loadBalancerSourceRanges":["192.0.2.0/24"]},
  "status":{"loadBalancer":{"ingress":[{"ip":"203.0.113.9"}]}}}
-{"apiVersion":"discovery.k8s.io/v1","kind":"EndpointSlice",
- "metadata":{"name":"web-x","labels":{"kubernetes.io/service-name":"web"}},"addressType":"IPv4",
- "ports":[{"port":8080}],"endpoints":[{"addresses":["10.244.1.2"],"nodeName":"n1"},
- {"addresses":["10.244.2.3"],"nodeName":"n2"}]}
+{@slice,"endpoints":[{@n1},{@n2}]}
 {"op":"sync"}
 sync 1: events 2, written 7, removed 0
 {"op":"packet","src":"192.0.2.255","dst":"203.0.113.9","dport":80,"draws":[0]}
@@ -305,9 +241,7 @@ explain 6 at 1: to 10.244.1.2:8080 masked;
 packet 7 at 1: dropped
 {"op":"explain","src":"192.0.3.0","dst":"203.0.113.9","dport":80,"draws":[0]}
 explain 8 at 1: dropped; door balancer default/web/TCP is closed to the source
-{"apiVersion":"discovery.k8s.io/v1","kind":"EndpointSlice",
- "metadata":{"name":"web-x","labels":{"kubernetes.io/service-name":"web"}},"addressType":"IPv4",
- "ports":[{"port":8080}],"endpoints":[]}
+{@slice,"endpoints":[]}
 {"op":"sync"}
 sync 2: events 1, written 4, removed 5
 {"op":"packet","src":"192.0.2.7","dst":"203.0.113.9","dport":80}
@@ -318,15 +252,9 @@ explain 12 at 2: rejected; door balancer default/web/TCP has no endpoints
 
 /// Session affinity for three hours: the timeout is inclusive, packets renew it, and explanations
 /// don't.
-const AFFINITY: &str =
-    r#"{"op":"config","node":"n1","nodeAddresses":["10.0.0.1"],"clusterCIDR":"10.244.0.0/16"}
-{"apiVersion":"v1","kind":"Service","metadata":{"name":"web"},
- "spec":{"clusterIP":"10.96.0.10","ports":[{"port":80,"targetPort":8080}],
- "sessionAffinity":"ClientIP"}}
-{"apiVersion":"discovery.k8s.io/v1","kind":"EndpointSlice",
- "metadata":{"name":"web-x","labels":{"kubernetes.io/service-name":"web"}},"addressType":"IPv4",
- "ports":[{"port":8080}],"endpoints":[{"addresses":["10.244.1.2"],"nodeName":"n1"},
- {"addresses":["10.244.2.3"],"nodeName":"n2"}]}
+const AFFINITY: &str = r#"{"op":"config",@node}
+{@web,"spec":{@port,"sessionAffinity":"ClientIP"}}
+{@slice,"endpoints":[{@n1},{@n2}]}
 {"op":"sync"}
 sync 1: events 2, written 4, removed 0
 {"op":"packet","src":"10.244.9.9","dst":"10.96.0.10","dport":80,"draws":[0],"now":100}
@@ -347,16 +275,9 @@ explain 10 at 1: to 10.244.2.3:8080;
 "#;
 
 /// Three sources of one part of a recent list, which has room for two: the oldest is forgotten.
-const FULL_LIST: &str =
-    r#"{"op":"config","node":"n1","nodeAddresses":["10.0.0.1"],"clusterCIDR":"10.244.0.0/16",
- "recentSize":2}
-{"apiVersion":"v1","kind":"Service","metadata":{"name":"web"},
- "spec":{"clusterIP":"10.96.0.10","ports":[{"port":80,"targetPort":8080}],
- "sessionAffinity":"ClientIP"}}
-{"apiVersion":"discovery.k8s.io/v1","kind":"EndpointSlice",
- "metadata":{"name":"web-x","labels":{"kubernetes.io/service-name":"web"}},"addressType":"IPv4",
- "ports":[{"port":8080}],"endpoints":[{"addresses":["10.244.1.2"],"nodeName":"n1"},
- {"addresses":["10.244.2.3"],"nodeName":"n2"}]}
+const FULL_LIST: &str = r#"{"op":"config",@node,"recentSize":2}
+{@web,"spec":{@port,"sessionAffinity":"ClientIP"}}
+{@slice,"endpoints":[{@n1},{@n2}]}
 {"op":"sync"}
 sync 1: events 2, written 4, removed 0
 {"op":"packet","src":"10.244.9.1","dst":"10.96.0.10","dport":80,"draws":[0],"now":100}
@@ -372,14 +293,9 @@ packet 9 at 1: to 10.244.1.2:8080
 "#;
 
 /// The chains on a packet's way to each rule that ends a traversal.
-const TRAILS: &str =
-    r#"{"op":"config","node":"n1","nodeAddresses":["10.0.0.1"],"clusterCIDR":"10.244.0.0/16",
- "nameLength":0}
-{"apiVersion":"v1","kind":"Service","metadata":{"name":"web"},
- "spec":{"clusterIP":"10.96.0.10","ports":[{"port":80,"targetPort":8080}]}}
-{"apiVersion":"discovery.k8s.io/v1","kind":"EndpointSlice",
- "metadata":{"name":"web-x","labels":{"kubernetes.io/service-name":"web"}},"addressType":"IPv4",
- "ports":[{"port":8080}],"endpoints":[{"addresses":["10.244.1.2"],"nodeName":"n1"}]}
+const TRAILS: &str = r#"{"op":"config",@node,"nameLength":0}
+{@web,"spec":{@port}}
+{@slice,"endpoints":[{@n1}]}
 {"op":"sync"}
 sync 1: events 2, written 3, removed 0
 {"op":"packet","src":"10.244.9.9","dst":"10.96.0.10","dport":80,"draws":[],"trail":true}
@@ -395,9 +311,7 @@ trail 7: OUTPUT KUBE-SERVICES KUBE-SVC- KUBE-SEP-, POSTROUTING KUBE-POSTROUTING
 {"op":"packet","src":"10.244.9.9","dst":"10.96.0.10","dport":81,"trail":true}
 packet 8 at 1: left alone
 trail 8: none
-{"apiVersion":"discovery.k8s.io/v1","kind":"EndpointSlice",
- "metadata":{"name":"web-x","labels":{"kubernetes.io/service-name":"web"}},"addressType":"IPv4",
- "ports":[{"port":8080}],"endpoints":[]}
+{@slice,"endpoints":[]}
 {"op":"sync"}
 sync 2: events 1, written 2, removed 2
 {"op":"packet","src":"10.244.9.9","dst":"10.96.0.10","dport":80,"trail":true}
@@ -409,42 +323,28 @@ trail 12: OUTPUT KUBE-SERVICES
 "#;
 
 /// Two chains of one name: the sync is refused, and its events stay for the next one.
-const CLASHES: &str =
-    r#"{"op":"config","node":"n1","nodeAddresses":["10.0.0.1"],"clusterCIDR":"10.244.0.0/16",
- "nameLength":0}
-{"apiVersion":"v1","kind":"Service","metadata":{"name":"web"},
- "spec":{"clusterIP":"10.96.0.10","ports":[{"port":80,"targetPort":8080}]}}
-{"apiVersion":"discovery.k8s.io/v1","kind":"EndpointSlice",
- "metadata":{"name":"web-x","labels":{"kubernetes.io/service-name":"web"}},"addressType":"IPv4",
- "ports":[{"port":8080}],"endpoints":[{"addresses":["10.244.1.2"],"nodeName":"n1"},
- {"addresses":["10.244.2.3"],"nodeName":"n2"}]}
+const CLASHES: &str = r#"{"op":"config",@node,"nameLength":0}
+{@web,"spec":{@port}}
+{@slice,"endpoints":[{@n1},{@n2}]}
 {"op":"sync"}
 line 4: refused: chain name KUBE-SEP- of default/web/TCP 10.244.1.2:8080
   and of default/web/TCP 10.244.2.3:8080
 {"op":"packet","src":"10.244.9.9","dst":"10.96.0.10","dport":80}
 packet 5 at 0: left alone
-{"apiVersion":"discovery.k8s.io/v1","kind":"EndpointSlice",
- "metadata":{"name":"web-x","labels":{"kubernetes.io/service-name":"web"}},"addressType":"IPv4",
- "ports":[{"port":8080}],"endpoints":[{"addresses":["10.244.1.2"],"nodeName":"n1"}]}
+{@slice,"endpoints":[{@n1}]}
 {"op":"sync"}
 sync 1: events 3, written 3, removed 0
-{"apiVersion":"discovery.k8s.io/v1","kind":"EndpointSlice",
- "metadata":{"name":"web-x","labels":{"kubernetes.io/service-name":"web"}},"addressType":"IPv4",
- "ports":[{"port":8080}],"endpoints":[{"addresses":["10.244.1.2"],"nodeName":"n1"},
- {"addresses":["10.244.2.3"],"nodeName":"n2"}]}
+{@slice,"endpoints":[{@n1},{@n2}]}
 {"op":"sync"}
 line 9: refused: chain name KUBE-SEP- of default/web/TCP 10.244.1.2:8080
   and of default/web/TCP 10.244.2.3:8080
 {"op":"packet","src":"10.244.9.9","dst":"10.96.0.10","dport":80}
 packet 10 at 1: to 10.244.1.2:8080
-{"apiVersion":"v1","kind":"Service","metadata":{"name":"web"},
- "spec":{"clusterIP":"10.96.0.10","ports":[{"port":81,"targetPort":8080}]}}
+{@web,"spec":{"clusterIP":"10.96.0.10","ports":[{"port":81,"targetPort":8080}]}}
 {"op":"sync"}
 line 12: refused: chain name KUBE-SEP- of default/web/TCP 10.244.1.2:8080
   and of default/web/TCP 10.244.2.3:8080
-{"apiVersion":"discovery.k8s.io/v1","kind":"EndpointSlice",
- "metadata":{"name":"web-x","labels":{"kubernetes.io/service-name":"web"}},"addressType":"IPv4",
- "ports":[{"port":8080}],"endpoints":[{"addresses":["10.244.1.2"],"nodeName":"n1"}]}
+{@slice,"endpoints":[{@n1}]}
 {"op":"sync"}
 sync 2: events 3, written 2, removed 0
 {"op":"packet","src":"10.244.9.9","dst":"10.96.0.10","dport":80}
@@ -457,7 +357,7 @@ sync 3: events 0, written 0, removed 0
 
 /// What the tables and the decisions of a cluster print is what its transcript says.
 fn check(rt: &impl Abort, alloc: Global, transcript: &str) -> Result<(), Fail> {
-    let transcript = transcript.replace(alloc, "\n ", "")?;
+    let transcript = unfolded(alloc, transcript)?;
     let mut printed = String::new(alloc);
     let mut wanted = String::new(alloc);
     follow(alloc, transcript.as_str(), &mut printed, &mut wanted)?;

@@ -6,6 +6,34 @@ use kp_script::{Op, ScriptFault, ScriptLine, line_of};
 use std::alloc::Global;
 use std::test::Fail;
 
+/// What stands often in transcripts, behind the sign for it: members of objects.
+const SIGNS: &str = r#"@node "node":"n1","nodeAddresses":["10.0.0.1"],"clusterCIDR":"10.244.0.0/16"
+@web "apiVersion":"v1","kind":"Service","metadata":{"name":"web"}
+@port "clusterIP":"10.96.0.10","ports":[{"port":80,"targetPort":8080}]
+@slice "apiVersion":"discovery.k8s.io/v1","kind":"EndpointSlice",
+ "metadata":{"name":"web-x","labels":{"kubernetes.io/service-name":"web"}},"addressType":"IPv4",
+ "ports":[{"port":8080}]
+@n1 "addresses":["10.244.1.2"],"nodeName":"n1"
+@n2 "addresses":["10.244.2.3"],"nodeName":"n2"
+@n3 "addresses":["10.244.3.4"],"nodeName":"n3"
+@leaves "conditions":{"ready":false,"serving":true,"terminating":true}
+@in_a "hints":{"forZones":[{"name":"a"}]}
+@in_b "hints":{"forZones":[{"name":"b"}]}
+@pod "apiVersion":"v1","kind":"Pod","metadata":{"name":"a","labels":{"app":"web"}}
+@ready "conditions":[{"type":"Ready","status":"True"}]"#;
+
+/// A text with what its signs stand for. A line that begins with a space goes on with the line
+/// before.
+pub fn unfolded(alloc: Global, text: &str) -> Result<String, Fail> {
+    let signs = SIGNS.replace(alloc, "\n ", "")?;
+    let mut whole = text.replace(alloc, "\n ", "")?;
+    for row in signs.as_str().lines() {
+        let (sign, members) = row.split_once(' ').ok_or("a sign")?;
+        whole = whole.as_str().replace(alloc, sign, members)?;
+    }
+    Ok(whole)
+}
+
 /// Adds what a cluster prints by the tables of its syncs and by its decisions, and what its
 /// transcript says that it does. The lines of a transcript that begin with a brace are its script,
 /// whose first line is a configuration.
