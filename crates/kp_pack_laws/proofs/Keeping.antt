@@ -1,5 +1,6 @@
 -- The first step of packing a group, and the second: no endpoint is lost, and no slice gets too many.
 use Rattle.std.proofs.Common.{◌≡◌, ℕ, ◌-◌, ◌≤◌, Bool, true, false, cond, nat_lt, List, [], ◌∷◌, ◌++◌, map, take, drop, length, Option, Some, None, refl, sym, ap, ◌∙◌, append_assoc, append-nil, length-append, length-take, arith, IsPermutation, ltb-true}
+use Rattle.std.proofs.lemmas.Option.{none-some}
 use Rattle.std.specs.List.{find, fold, flat_map, AllByRecursion}
 use Rattle.std.specs.Option.{unwrap_or}
 use Rattle.std.proofs.lemmas.Grind.{flat_map-append}
@@ -30,11 +31,8 @@ AreWithin most fs = AllByRecursion (λ f. length f.endpoints ≤ most) fs
 
 -- ---- lists
 
-pub not_some : {X : Type 0} (x : X) → None ≡ Some x → ⊥
-not_some x e = cc
-
 found_first : {X : Type 0} (test : X → Bool) (xs : List X) (w : X) → find test xs ≡ Some w → IsPermutation xs (w ∷ without_first test xs)
-found_first test [] w h = absurd (not_some w h)
+found_first test [] w h = absurd (none-some w h)
 found_first test (x ∷ xs) w h = by (test x) h (found_first test xs w)
   where
     by : (b : Bool) → cond b (Some x) (find test xs) ≡ Some w → (find test xs ≡ Some w → IsPermutation xs (w ∷ without_first test xs)) → IsPermutation (x ∷ xs) (w ∷ cond b xs (x ∷ without_first test xs))

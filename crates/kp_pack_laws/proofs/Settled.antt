@@ -1,5 +1,6 @@
 -- Slices of a group that have its wanted endpoints: packing finds each entry where it stands.
 use Rattle.std.proofs.Common.{◌≡◌, ℕ, ◌+◌, ◌-◌, ◌<◌, ◌≤◌, Bool, true, false, cond, not, ◌&&◌, List, [], ◌∷◌, ◌++◌, map, length, bytes_eq, Option, Some, None, refl, sym, ap, ◌∙◌, append_assoc, append-nil, length-append, arith, lt-ltb, eq-eqb}
+use Rattle.std.proofs.lemmas.Option.{none-some}
 use Rattle.std.specs.List.{find, filter, fold, flat_map, AllByRecursion, IsDistinct}
 use Rattle.std.specs.Cmp.Lexicographic.{pointwise, nat_list_eq_equiv}
 use Rattle.std.proofs.lemmas.Bool.{and_parts, and_from}
@@ -13,7 +14,6 @@ use Rattle.kp_types.specs.declared.slice.Wanted.{Wanted}
 use Rattle.kp_object_defs.specs.Packing.{Filling, Keeping, Progress, same_option, same_object, same_flag, same_entry, is_entry_of, without_first, dropped, kept, kept_or_dropped, keep_entry, keep_slice, add_keeping, fill_if, fill_changed, placed_from, packed_group}
 use Rattle.kp_lemmas.proofs.ListFacts.{all_both, all_weaker}
 use Rattle.kp_pack_laws.proofs.Shuffles.{all_unmapped}
-use Rattle.kp_pack_laws.proofs.Keeping.{not_some}
 use Rattle.kp_object_defs.proofs.SameObjects.{object_itself}
 use Rattle.kp_pack_laws.proofs.Pods.{object_turned, same_pod, pod_exact, pod_same, pod_turned, AreNamed, ArePodsApart}
 
@@ -110,7 +110,7 @@ without_other p q never (w ∷ ws) = by (p w) refl (without_other p q never ws)
 
 one_less : (p : Wanted → Bool) (ws : List Wanted) (w : Wanted) → find p ws ≡ Some w
     → length ws ≡ 1 + length (without_first p ws)
-one_less p [] w h = absurd (not_some w h)
+one_less p [] w h = absurd (none-some w h)
 one_less p (v ∷ ws) w h = by (p v) h (one_less p ws w)
   where
     by : (b : Bool) → cond b (Some v) (find p ws) ≡ Some w
