@@ -110,10 +110,10 @@ arriving otherwise setting e s None = otherwise
 arriving otherwise setting e s (Some t) =
     Ended (ending.Dnat t.chosen.endpoint) (way_of setting t) (arrived_state setting.config e s t)
 
--- what a port's own chains do with a packet that a door takes
-abbrev pub arrives : Setting → Surroundings → WalkState → Door → Outcome
-arrives setting e s d =
-    arriving Stuck setting e s (translation_at setting (packet_of e s) e.draws s.lists d)
+module _ (setting : Setting) (e : Surroundings) (s : WalkState) where
+  -- what a port's own chains do with a packet that a door takes
+  abbrev pub arrives : Door → Outcome
+  arrives d = arriving Stuck setting e s (translation_at setting (packet_of e s) e.draws s.lists d)
 
 -- ---- The chains on the way
 

@@ -77,12 +77,21 @@ module _ (i : PortInfo) (cluster : i.lists.cluster ≡ []) (local : i.lists.loca
 
 -- ---- What the chains of a port do at its doors
 
--- what a jump to a port's chain does that goes to an endpoint of a door, or comes back where the
--- door offers none
-abbrev pub goes_to : Setting → Surroundings → WalkState → Door → Outcome
-goes_to setting e s d =
-    cond (not (is_empty (offer_of setting.config (packet_of e s) d).endpoints))
-    (arrives setting e s d) (Next s)
+module _ (setting : Setting) (e : Surroundings) (s : WalkState) where
+  -- what a jump to a port's chain does that goes to an endpoint of a door, or comes back where the
+  -- door offers none
+  abbrev pub goes_to : Door → Outcome
+  goes_to d =
+      cond (not (is_empty (offer_of setting.config (packet_of e s) d).endpoints))
+      (arrives setting e s d) (Next s)
+
+  -- the packet is taken by a door
+  abbrev pub is_taken : Door → Bool
+  is_taken d = takes setting.config (packet_of e s) d
+
+  -- what a door does that takes the packet, whatever the chains on the way
+  abbrev pub does : Door → Outcome
+  does d = pathless (arrives setting e s d)
 
 -- A port's chains do at its doors what these say. A door from outside is reached only where the
 -- port's cluster address didn't take the packet.
@@ -101,15 +110,12 @@ pub record LeadsTo (setting : Setting) (e : Surroundings) (at : ChainAt → Opti
       (port_chain setting i (entry_chain kind i)) s
       ≡ goes_to setting e s (door_of i kind a number)
 
+-- a jump in a shared chain of nat, where a port's own chains and so many others may follow
+abbrev pub jump_at : Surroundings → (ChainAt → Option (List Rule)) → ℕ → List ℕ → WalkState
+    → Outcome
+jump_at e at n = chain_outcome e at Nat (suc (suc (suc (suc (suc n)))))
+
 -- ---- Rules that stand for doors
-
--- the packet is taken by a door
-abbrev pub is_taken : Setting → Surroundings → WalkState → Door → Bool
-is_taken setting e s d = takes setting.config (packet_of e s) d
-
--- what a door does that takes the packet, whatever the chains on the way
-abbrev pub does : Setting → Surroundings → WalkState → Door → Outcome
-does setting e s d = pathless (arrives setting e s d)
 
 pathless_cond : (b : Bool) (o : Outcome) (s : WalkState)
     → pathless (cond b o (Next s)) ≡ cond b (pathless o) (Next s)
@@ -133,7 +139,8 @@ module _ (setting : Setting) (e : Surroundings) (s : WalkState) where
     -- no rules, where none of the doors takes it
     pub none_sends : (doors : List Door) → find (is_taken setting e s) doors ≡ None
         → SendAs [] doors
-    none_sends doors none = ap (λ o. or_next (option_map (does setting e s) o) s) (sym none)
+    none_sends doors none =
+        record { same = ap (λ o. or_next (option_map (does setting e s) o) s) (sym none) }
 
     -- a jump does what a door does that fits the packet
     by_fit : (d : Door) (chain : List ℕ) (b : Bool)
@@ -155,13 +162,15 @@ module _ (setting : Setting) (e : Surroundings) (s : WalkState) where
           (rule_at i (target.Jump chain) a) (door_at kind i a)
       address_rule kind a h =
           let proto_port : Bool = same_proto i.key.proto e.proto && (i.number == s.port) in
-          ap pathless (rule_if e jump s (match.Dst (single_range a) false
-          ∷ match.Port i.key.proto i.number ∷ []) (target.Jump chain)
-          (same_address a s.target && proto_port) (door_tried e jump s a i.key.proto i.number)
-          ∙ ap (λ b. target_if b jump (target.Jump chain) s)
-          (and_comm (same_address a s.target) proto_port))
-          ∙ by_fit (door_at kind i a) chain
-          (fits setting.config.addresses (packet_of e s) (door_at kind i a)) h
+          record {
+            same =
+                ap pathless (rule_if e jump s (match.Dst (single_range a) false
+                ∷ match.Port i.key.proto i.number ∷ []) (target.Jump chain)
+                (same_address a s.target && proto_port) (door_tried e jump s a i.key.proto i.number)
+                ∙ ap (λ b. target_if b jump (target.Jump chain) s)
+                (and_comm (same_address a s.target) proto_port))
+                ∙ by_fit (door_at kind i a) chain _ h;
+          }
 
       -- a rule for a port of the node, of whose addresses the destination is one
       pub node_rule : (d : Door)
@@ -173,10 +182,13 @@ module _ (setting : Setting) (e : Surroundings) (s : WalkState) where
           (rule_of (match.Port i.key.proto d.number ∷ []) (target.Jump chain)) d
       node_rule d same h =
           let proto_port : Bool = same_proto i.key.proto e.proto && (d.number == s.port) in
-          ap pathless (rule_if e jump s (match.Port i.key.proto d.number ∷ [])
-          (target.Jump chain) proto_port (tried_alone s proto_port)
-          ∙ ap (λ b. target_if b jump (target.Jump chain) s) same)
-          ∙ by_fit d chain (fits setting.config.addresses (packet_of e s) d) h
+          record {
+            same =
+                ap pathless (rule_if e jump s (match.Port i.key.proto d.number ∷ [])
+                (target.Jump chain) proto_port (tried_alone s proto_port)
+                ∙ ap (λ b. target_if b jump (target.Jump chain) s) same)
+                ∙ by_fit d chain _ h;
+          }
 
   -- ---- The doors of one port
 

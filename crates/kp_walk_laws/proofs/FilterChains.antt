@@ -112,9 +112,8 @@ module _ (config : FamilyConfig) (family : Family) (infos : List PortInfo) (e : 
       (sym (ap (λ o. found_outcome e (chain_outcome e at Filter n) chain o s) found))
       (refused_chain chain (first_line config e s (flat_map lines infos)) s
       (rules_outcome e (chain_outcome e at Filter n) (flat_map block infos) s)
-      (find_in_each (fits_line config e s) (refusing s)
-      (refusing_last config family e (chain_outcome e at Filter n) s) e
-      (chain_outcome e at Filter n) s block lines infos h))
+      (find_in_each (refusing_last config family e (chain_outcome e at Filter n) s) block lines infos
+      h).same)
 
   firewall_chain : IsRefused (first_line config e s (flat_map firewall_lines infos)) s
       (chain_outcome e at Filter (suc n) kube_proxy_firewall s)

@@ -122,5 +122,5 @@ module _ (setting : Setting) (by_draws : setting.pick ≡ pick_by_draws) (infos 
       (ap pathless (and_then_next (chain_outcome e at Nat 7 kube_services s)
       ∙ ap (λ o. found_outcome e (chain_outcome e at Nat 6) kube_services o s) finds.services)
       ∙ chain_translates kube_services (rules_outcome e (chain_outcome e at Nat 6) rules s) t
-      (services_send setting e own at s infos ports 0 finds.node_ports
+      ((services_send setting e own at s infos ports 0 finds.node_ports).same
       ∙ by_door (taking_door setting.config infos (packet_of e s)) refl))

@@ -3,7 +3,7 @@ use Rattle.std.proofs.Common.{◌≡◌, inl, inr, Bool, true, false, not, cond,
 use Rattle.std.proofs.lemmas.Bool.{or_right}
 use Rattle.std.specs.FinMap.{values}
 use Rattle.std.proofs.Math.Bool.{not-not}
-use Rattle.std.proofs.lemmas.Option.{same_Some}
+use Rattle.std.proofs.lemmas.Option.{cond_some}
 use Rattle.kp_lemmas.proofs.Members.{from_filter_map, in_map}
 use Rattle.kp_lemmas.proofs.Options.{from_option_map}
 use Rattle.kp_base.specs.Net.{AddressParts, same_family}
@@ -28,18 +28,13 @@ use Rattle.kp_walk_laws.specs.Laws.{IsKnown, KnownPorts, PortKeysOnce}
 use Rattle.kp_walk_laws.proofs.Entries.{one_sorted}
 
 -- an address of a family is of it
-in_family_by : (family : Family) (a b : AddressParts) (same : Bool)
-    → same_family a.family family ≡ same → cond same (Some a) None ≡ Some b → b.family ≡ family
-in_family_by family a b true is h =
-    ap (λ (c : AddressParts). c.family) (sym (same_Some a b h))
-    ∙ same_family_exact a.family family is
-in_family_by family a b false is h = absurd (cc)
-
 at_family : (family : Family) (field : ClusterAddress) (b : AddressParts)
     → address_at family field ≡ Some b → b.family ≡ family
 at_family family Absent b h = absurd (cc)
 at_family family Headless b h = absurd (cc)
-at_family family (At a) b h = in_family_by family a b (same_family a.family family) refl h
+at_family family (At a) b h =
+    let (is, same) = cond_some (same_family a.family family) a b h in
+    ap (λ (c : AddressParts). c.family) (sym same) ∙ same_family_exact a.family family is
 
 unless_name : (family : Family) (field : ClusterAddress) (b : AddressParts) (name : Bool)
     → cond name None (address_at family field) ≡ Some b → b.family ≡ family

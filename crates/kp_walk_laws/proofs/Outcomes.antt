@@ -125,18 +125,18 @@ pathless_by o false end t s h = ap pathless h
 
 -- ---- Rules and doors
 
--- Rules that do in a state what the first of some doors does whose test holds, whatever chains they
--- go through.
-abbrev pub FindIn : {D : Type 0} → (D → Bool) → (D → Outcome) → Surroundings
-    → (List ℕ → WalkState → Outcome) → WalkState → List Rule → List D → Type 0
-FindIn test stop e jump s rules doors =
-    pathless (rules_outcome e jump rules s) ≡ or_next (option_map stop (find test doors)) s
+-- Rules do in a state what the first of some doors does whose test holds, whatever chains they go
+-- through.
+pub record FindIn {D : Type 0} (test : D → Bool) (stop : D → Outcome) (e : Surroundings)
+    (jump : List ℕ → WalkState → Outcome) (s : WalkState) (rules : List Rule)
+    (doors : List D) : Type 0 where
+  pub same : pathless (rules_outcome e jump rules s)
+      ≡ or_next (option_map stop (find test doors)) s
 
--- a rule that does in a state what a door does
-abbrev pub IsRuleOf : {D : Type 0} → (D → Bool) → (D → Outcome) → Surroundings
-    → (List ℕ → WalkState → Outcome) → WalkState → Rule → D → Type 0
-IsRuleOf test stop e jump s r d =
-    pathless (rule_outcome e jump r s) ≡ cond (test d) (stop d) (Next s)
+-- A rule does in a state what a door does whose test holds.
+pub record IsRuleOf {D : Type 0} (test : D → Bool) (stop : D → Outcome) (e : Surroundings)
+    (jump : List ℕ → WalkState → Outcome) (s : WalkState) (r : Rule) (d : D) : Type 0 where
+  pub same : pathless (rule_outcome e jump r s) ≡ cond (test d) (stop d) (Next s)
 
 -- the first of some elements and others is that of the ones or of the others
 none_before : {D : Type 0} (a b : Option D) → option_or a b ≡ None → (a ≡ None) × (b ≡ None)
@@ -193,62 +193,68 @@ none_in_all test doors (x ∷ xs) h =
     none_appended test (doors x) (flat_map doors xs) (h x (first_in x xs))
     (none_in_all test doors xs (λ y c. h y (later_in y x xs c)))
 
-module _ {D : Type 0} (test : D → Bool) (stop : D → Outcome) (last : (d : D) → IsLast (stop d))
-    (e : Surroundings) (jump : List ℕ → WalkState → Outcome) (s : WalkState) where
-  -- what is found of the doors is last
-  found_last : (a : Option D) (o : Outcome) → option_map stop a ≡ Some o → IsLast o
-  found_last None o h = absurd (cc)
-  found_last (Some d) o h = subst IsLast (same_Some (stop d) o h) (last d)
+-- what is found of the doors is last
+found_last : {D : Type 0} (stop : D → Outcome) → ((d : D) → IsLast (stop d)) → (a : Option D)
+    (o : Outcome) → option_map stop a ≡ Some o → IsLast o
+found_last stop last None o h = absurd (cc)
+found_last stop last (Some d) o h = subst IsLast (same_Some (stop d) o h) (last d)
 
+by_test : {D : Type 0} (stop : D → Outcome) (s : WalkState) (d : D) (b : Bool)
+    → cond b (stop d) (Next s) ≡ or_next (option_map stop (cond b (Some d) None)) s
+by_test stop s d true = refl
+by_test stop s d false = refl
+
+-- one rule for one door
+pub find_in_one : {D : Type 0} {test : D → Bool} {stop : D → Outcome} {e : Surroundings}
+    {jump : List ℕ → WalkState → Outcome} {s : WalkState} {r : Rule} {d : D}
+    → IsRuleOf test stop e jump s r d → FindIn test stop e jump s (r ∷ []) (d ∷ [])
+find_in_one {test = test} {stop = stop} {e = e} {jump = jump} {s = s} {r = r} {d = d} h = record {
+  same =
+      ap pathless (and_then_next (rule_outcome e jump r s)) ∙ h.same ∙ by_test stop s d (test d);
+}
+
+module _ {D : Type 0} {test : D → Bool} {stop : D → Outcome} {e : Surroundings}
+    {jump : List ℕ → WalkState → Outcome} {s : WalkState}
+    (last : (d : D) → IsLast (stop d)) where
   -- rules that find in some doors, behind others, which were not found
-  pub find_in_behind : (rules more : List Rule) (doors others : List D)
+  pub find_in_behind : {rules more : List Rule} {doors others : List D}
       → FindIn test stop e jump s rules doors
       → (find test doors ≡ None → FindIn test stop e jump s more others)
       → FindIn test stop e jump s (rules ++ more) (doors ++ others)
-  find_in_behind rules more doors others h k =
+  find_in_behind {rules = rules} {more = more} {doors = doors} {others = others} h k =
       let next : WalkState → Outcome = λ t. pathless (rules_outcome e jump more t) in
-      ap pathless (rules_append e jump rules more s)
-      ∙ pathless_then (rules_outcome e jump rules s) (rules_outcome e jump more)
-      ∙ ap (λ o. and_then o next) h
-      ∙ or_next_append (option_map stop (find test doors)) (option_map stop (find test others)) s
-      next (found_last (find test doors)) (λ n. k (none_of_map stop (find test doors) n))
-      ∙ ap (λ o. or_next o s) (sym (map_or stop (find test doors) (find test others)))
-      ∙ ap (λ o. or_next (option_map stop o) s) (sym (find-append test doors others))
+      let found : Option D = find test doors in
+      record {
+        same =
+            ap pathless (rules_append e jump rules more s)
+            ∙ pathless_then (rules_outcome e jump rules s) (rules_outcome e jump more)
+            ∙ ap (λ o. and_then o next) h.same
+            ∙ or_next_append (option_map stop found) (option_map stop (find test others)) s next
+            (found_last stop last found) (λ n. (k (none_of_map stop found n)).same)
+            ∙ ap (λ o. or_next o s) (sym (map_or stop found (find test others)))
+            ∙ ap (λ o. or_next (option_map stop o) s) (sym (find-append test doors others));
+      }
 
   -- rules that find in some doors, behind others
-  pub find_in_append : (rules more : List Rule) (doors others : List D)
+  pub find_in_append : {rules more : List Rule} {doors others : List D}
       → FindIn test stop e jump s rules doors → FindIn test stop e jump s more others
       → FindIn test stop e jump s (rules ++ more) (doors ++ others)
-  find_in_append rules more doors others h k =
-      find_in_behind rules more doors others h (λ n. k)
+  find_in_append h k = find_in_behind h (λ n. k)
 
   -- rules that find in the doors of each element
   pub find_in_each : {X : Type 0} (rules : X → List Rule) (doors : X → List D) (xs : List X)
       → ((x : X) → Contains xs x → FindIn test stop e jump s (rules x) (doors x))
       → FindIn test stop e jump s (flat_map rules xs) (flat_map doors xs)
-  find_in_each rules doors [] h = refl
+  find_in_each rules doors [] h = record { same = refl }
   find_in_each rules doors (x ∷ xs) h =
-      find_in_append (rules x) (flat_map rules xs) (doors x) (flat_map doors xs)
-      (h x (first_in x xs))
+      find_in_append (h x (first_in x xs))
       (find_in_each rules doors xs (λ y k. h y (later_in y x xs k)))
-
-  by_test : (d : D) (b : Bool) → cond b (stop d) (Next s)
-      ≡ or_next (option_map stop (cond b (Some d) None)) s
-  by_test d true = refl
-  by_test d false = refl
-
-  -- one rule for one door
-  pub find_in_one : (r : Rule) (d : D) → IsRuleOf test stop e jump s r d
-      → FindIn test stop e jump s (r ∷ []) (d ∷ [])
-  find_in_one r d h =
-      ap pathless (and_then_next (rule_outcome e jump r s)) ∙ h ∙ by_test d (test d)
 
   -- a rule for each door
   pub find_in_map : {X : Type 0} (rule : X → Rule) (door : X → D) (xs : List X)
       → ((x : X) → Contains xs x → IsRuleOf test stop e jump s (rule x) (door x))
       → FindIn test stop e jump s (map rule xs) (map door xs)
-  find_in_map rule door [] h = refl
+  find_in_map rule door [] h = record { same = refl }
   find_in_map rule door (x ∷ xs) h =
-      find_in_append (rule x ∷ []) (map rule xs) (door x ∷ []) (map door xs)
-      (find_in_one (rule x) (door x) (h x (first_in x xs)))
+      find_in_append (find_in_one (h x (first_in x xs)))
       (find_in_map rule door xs (λ y k. h y (later_in y x xs k)))

@@ -1,5 +1,5 @@
 -- What a look-up in the full table finds of ports: the rules of each chain that they need.
-use Rattle.std.proofs.Common.{◌≡◌, inl, inr, Bool, true, false, not, List, [], ◌∷◌, ◌++◌, map, Contains, Some, None, flat_map, bytes_eq, refl, sym, ap, ap₂, subst, ◌∙◌}
+use Rattle.std.proofs.Common.{◌≡◌, inl, inr, ℕ, Bool, true, false, not, List, [], ◌∷◌, ◌++◌, map, Contains, Some, None, flat_map, bytes_eq, refl, sym, ap, ap₂, subst, ◌∙◌}
 use Rattle.std.specs.FinMap.{IsAntisymmetric, find, put}
 use Rattle.std.specs.FinMap.Entries.{by_order}
 use Rattle.std.specs.List.{filter, list_any}
@@ -302,24 +302,18 @@ needed_cases infos P ports endpoints k c =
 -- ---- The full table
 
 module _ (setting : Setting) (infos : List PortInfo) (prefixed : IsPrefixed setting.name_of) where
-  -- the name of a port's or an endpoint's chain is no fixed chain's
-  unfixed : (k : ChainKey) → list_any (λ r. bytes_eq (setting.name_of k) r.0.chain)
-      (fixed_nat setting infos ++ fixed_filter setting infos) ≡ false
-  unfixed (key.Port Svc port) =
-      ap (λ n. list_any (λ r. bytes_eq n r.0.chain)
-      (fixed_nat setting infos ++ fixed_filter setting infos)) (prefixed.port Svc port).1
-  unfixed (key.Port Svl port) =
-      ap (λ n. list_any (λ r. bytes_eq n r.0.chain)
-      (fixed_nat setting infos ++ fixed_filter setting infos)) (prefixed.port Svl port).1
-  unfixed (key.Port Ext port) =
-      ap (λ n. list_any (λ r. bytes_eq n r.0.chain)
-      (fixed_nat setting infos ++ fixed_filter setting infos)) (prefixed.port Ext port).1
-  unfixed (key.Port Fw port) =
-      ap (λ n. list_any (λ r. bytes_eq n r.0.chain)
-      (fixed_nat setting infos ++ fixed_filter setting infos)) (prefixed.port Fw port).1
-  unfixed (key.Sep port e) =
-      ap (λ n. list_any (λ r. bytes_eq n r.0.chain)
-      (fixed_nat setting infos ++ fixed_filter setting infos)) (prefixed.endpoint port e).1
+  -- a fixed chain has this name
+  abbrev is_fixed : List ℕ → Bool
+  is_fixed name =
+      list_any (λ r. bytes_eq name r.0.chain) (fixed_nat setting infos ++ fixed_filter setting infos)
+
+  -- no port's or endpoint's chain has the name of one
+  unfixed : (k : ChainKey) → is_fixed (setting.name_of k) ≡ false
+  unfixed (key.Port Svc port) = ap is_fixed (prefixed.port Svc port).1
+  unfixed (key.Port Svl port) = ap is_fixed (prefixed.port Svl port).1
+  unfixed (key.Port Ext port) = ap is_fixed (prefixed.port Ext port).1
+  unfixed (key.Port Fw port) = ap is_fixed (prefixed.port Fw port).1
+  unfixed (key.Sep port e) = ap is_fixed (prefixed.endpoint port e).1
 
   -- so a look-up of it passes over the fixed chains
   find_made : (k : ChainKey) → look_up setting infos

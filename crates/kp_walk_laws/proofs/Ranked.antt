@@ -32,7 +32,7 @@ use Rattle.kp_object_defs.specs.Desired.{is_empty}
 use Rattle.kp_object_defs.specs.Lists.{is_local_policy, list_by_policy}
 use Rattle.kp_object_defs.specs.PortInfo.{PortInfo, internal_list, external_list, port_infos}
 use Rattle.kp_table_defs.specs.Layout.{rule_at, jump_to, affinity_rules, balancer_chain, choice_rules, external_rules, firewall_chain_rules, node_port_rules, pod_rules, mark_rules, rules_if, list_rules, endpoint_rules, endpoint_chain, port_chain, chain_of_policy, mark_masq, kube_services, kube_node_ports, kube_postrouting, kube_proxy_firewall, kube_external_services, kube_forward, service_block, node_port_block, has_firewall, firewall_block, node_port_refusal, external_block, refusal_block, refusal_target, own_addresses, nat_rows, filter_rows, port_rows, rows_of}
-use Rattle.kp_table_defs.specs.Ranks.{rank_of, is_above, goes_on, jumps_go_on, is_ranked_chain, is_ranked, has_built_in}
+use Rattle.kp_table_defs.specs.Ranks.{rank_of, is_above, goes_on, jumps_go_on, is_ranked_chain, is_ranked, built_in_chains, has_built_in}
 use Rattle.kp_table_defs.specs.Rebuild.{Chains, full_chains, needs}
 use Rattle.kp_table_defs.specs.StandIn.{hex_text}
 use Rattle.kp_walk_laws.specs.Laws.{OffersAny, IsPrefixed, StandInPrefixed, HashedPrefixed, FullTableRanked, FullTableRankedObjects}
@@ -174,19 +174,17 @@ module _ (setting : Setting) (infos : List PortInfo) (prefixed : IsPrefixed sett
   abbrev IsRankedRow : Row → Type 0
   IsRankedRow r = is_ranked_chain table r ≡ true
 
+  -- the rank of a chain of nat
+  abbrev nat_rank : List ℕ → Option ℕ
+  nat_rank chain = rank_of (record { table = Nat; chain = chain })
+
   -- a chain has its rank by what its name begins with
-  made_rank : (k : ChainKey) → rank_of (record { table = Nat; chain = setting.name_of k })
-      ≡ Some (key_rank k)
-  made_rank (key.Port Fw port) =
-      ap (λ n. rank_of (record { table = Nat; chain = n })) (prefixed.port Fw port).1
-  made_rank (key.Port Ext port) =
-      ap (λ n. rank_of (record { table = Nat; chain = n })) (prefixed.port Ext port).1
-  made_rank (key.Port Svc port) =
-      ap (λ n. rank_of (record { table = Nat; chain = n })) (prefixed.port Svc port).1
-  made_rank (key.Port Svl port) =
-      ap (λ n. rank_of (record { table = Nat; chain = n })) (prefixed.port Svl port).1
-  made_rank (key.Sep port e) =
-      ap (λ n. rank_of (record { table = Nat; chain = n })) (prefixed.endpoint port e).1
+  made_rank : (k : ChainKey) → nat_rank (setting.name_of k) ≡ Some (key_rank k)
+  made_rank (key.Port Fw port) = ap nat_rank (prefixed.port Fw port).1
+  made_rank (key.Port Ext port) = ap nat_rank (prefixed.port Ext port).1
+  made_rank (key.Port Svc port) = ap nat_rank (prefixed.port Svc port).1
+  made_rank (key.Port Svl port) = ap nat_rank (prefixed.port Svl port).1
+  made_rank (key.Sep port e) = ap nat_rank (prefixed.endpoint port e).1
 
   -- a jump to a chain that a port needs goes on
   goes : (i : PortInfo) → Contains infos i → (k : ChainKey) → Contains (own_keys i) k → (rank : ℕ)
@@ -267,29 +265,26 @@ module _ (setting : Setting) (infos : List PortInfo) (prefixed : IsPrefixed sett
       (λ r. rule_of (match.Src r false ∷ []) (target.Jump (port_chain setting i Ext))) ranges
       (λ r d. to_kind i c Ext (needs_external i need) 3 refl)
 
+  -- a chain of a port is ranked where its rules go on from its rank
+  ranked_by : (i : PortInfo) (k : ChainKey) → GoOn table Nat (key_rank k) (key_rules setting i k)
+      → IsRankedRow (row_of setting i k)
+  ranked_by i k h =
+      ap (λ o. jumps_go_on table Nat o (key_rules setting i k)) (made_rank k) ∙ h
+
   kind_ranked : (i : PortInfo) → Contains infos i → (kind : PortChain) → needs kind i ≡ true
       → IsRankedRow (row_of setting i (key.Port kind i.key))
-  kind_ranked i c Svc need =
-      ap (λ o. jumps_go_on table Nat o (key_rules setting i (key.Port Svc i.key)))
-      (made_rank (key.Port Svc i.key)) ∙ list_on i c Cluster (not (is_local_policy i.internal))
-  kind_ranked i c Svl need =
-      ap (λ o. jumps_go_on table Nat o (key_rules setting i (key.Port Svl i.key)))
-      (made_rank (key.Port Svl i.key)) ∙ list_on i c Local (is_local_policy i.internal)
-  kind_ranked i c Ext need =
-      ap (λ o. jumps_go_on table Nat o (key_rules setting i (key.Port Ext i.key)))
-      (made_rank (key.Port Ext i.key)) ∙ external_ranked i c need i.outer
-  kind_ranked i c Fw need =
-      ap (λ o. jumps_go_on table Nat o (key_rules setting i (key.Port Fw i.key)))
-      (made_rank (key.Port Fw i.key)) ∙ firewall_ranked i c need i.ranges
+  kind_ranked i c Svc need = ranked_by i _ (list_on i c Cluster (not (is_local_policy i.internal)))
+  kind_ranked i c Svl need = ranked_by i _ (list_on i c Local (is_local_policy i.internal))
+  kind_ranked i c Ext need = ranked_by i _ (external_ranked i c need i.outer)
+  kind_ranked i c Fw need = ranked_by i _ (firewall_ranked i c need i.ranges)
 
   port_ranked : (i : PortInfo) → Contains infos i → (r : Row) → Contains (port_rows setting i) r
       → IsRankedRow r
   port_ranked i c r d =
       let (k, ck, is) = row_key setting i r d in
       subst IsRankedRow is (key_cases (λ l. IsRankedRow (row_of setting i l)) i (kind_ranked i c)
-      (λ e in_e. ap (λ o. jumps_go_on table Nat o (endpoint_rules setting i e))
-      (made_rank (key.Sep i.key e))
-      ∙ and_from (goes_on table Nat 6 (target.Jump mark_masq)) true (marks 6 refl) refl) k ck)
+      (λ e in_e. ranked_by i (key.Sep i.key e)
+      (and_from (goes_on table Nat 6 (target.Jump mark_masq)) true (marks 6 refl) refl)) k ck)
 
   to_list : (i : PortInfo) → Contains infos i → (p : Policy)
       → not (is_empty (list_by_policy p i.lists)) ≡ true
@@ -443,29 +438,14 @@ module _ (setting : Setting) (infos : List PortInfo) (prefixed : IsPrefixed sett
       (from_in_order chain_cmp chain_exact (rows_of setting infos) r
       (subst (λ es. Contains es r) (entries_in_order chain_total (rows_of setting infos)) c)))
 
-  -- the full table has a chain
-  abbrev has : TableName → List ℕ → Bool
-  has at chain = is_some (get table (record { table = at; chain = chain }))
-
+  -- a look-up finds each built-in chain among the rows
   built_in : (at : TableName) → has_built_in table at ≡ true
-  built_in Nat =
-      and_from (has Nat (codes "PREROUTING")) _
-      (ap is_some (in_rows setting infos (record { table = Nat; chain = codes "PREROUTING" })))
-      (and_from (has Nat (codes "INPUT")) _ (ap is_some
-      (in_rows setting infos (record { table = Nat; chain = codes "INPUT" })))
-      (and_from (has Nat (codes "OUTPUT")) _
-      (ap is_some (in_rows setting infos (record { table = Nat; chain = codes "OUTPUT" })))
-      (and_from (has Nat (codes "POSTROUTING")) true
-      (ap is_some (in_rows setting infos (record { table = Nat; chain = codes "POSTROUTING" })))
-      refl)))
-  built_in Filter =
-      and_from (has Filter (codes "INPUT")) _
-      (ap is_some (in_rows setting infos (record { table = Filter; chain = codes "INPUT" })))
-      (and_from (has Filter (codes "FORWARD")) _
-      (ap is_some (in_rows setting infos (record { table = Filter; chain = codes "FORWARD" })))
-      (and_from (has Filter (codes "OUTPUT")) true
-      (ap is_some (in_rows setting infos (record { table = Filter; chain = codes "OUTPUT" })))
-      refl))
+  built_in Nat i =
+      list_all (λ chain. is_some (in_rows setting infos (record { table = Nat; chain = chain }) i))
+      (built_in_chains Nat)
+  built_in Filter i =
+      list_all (λ chain. is_some (in_rows setting infos (record { table = Filter; chain = chain }) i))
+      (built_in_chains Filter)
 
 pub full_table_ranked_by : FullTableRanked
 full_table_ranked_by setting infos prefixed any = record {

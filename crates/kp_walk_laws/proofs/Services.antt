@@ -22,7 +22,7 @@ use Rattle.kp_walk_laws.specs.Laws.{IsKnown}
 use Rattle.kp_walk_laws.proofs.Outcomes.{pathless, pathless_returned, find_in_each, find_in_behind, none_in_all, none_in_each, none_first, or_next, and_then_next}
 use Rattle.kp_walk_laws.proofs.Matches.{packet_of, rule_if, tried_alone, tried_before}
 use Rattle.kp_walk_laws.proofs.Arrivals.{arriving}
-use Rattle.kp_walk_laws.proofs.DoorRules.{LeadsTo, SendAs, is_taken, does, does_last, none_sends}
+use Rattle.kp_walk_laws.proofs.DoorRules.{LeadsTo, SendAs, jump_at, is_taken, does, does_last, none_sends}
 use Rattle.kp_walk_laws.proofs.ServiceBlocks.{is_own, block_sends, node_block_sends, none_elsewhere}
 
 module _ (setting : Setting) (e : Surroundings) (own : e.node_addresses ≡ setting.config.addresses)
@@ -32,14 +32,6 @@ module _ (setting : Setting) (e : Surroundings) (own : e.node_addresses ≡ sett
   -- the doors of node ports
   abbrev node_doors : List Door
   node_doors = flat_map (λ i. node_door i i.node_port) infos
-
-  -- a jump in KUBE-NODEPORTS
-  abbrev node_jump : List ℕ → WalkState → Outcome
-  node_jump = chain_outcome e at Nat (suc (suc (suc (suc (suc n)))))
-
-  -- and one in KUBE-SERVICES
-  abbrev jump : List ℕ → WalkState → Outcome
-  jump = chain_outcome e at Nat (suc (suc (suc (suc (suc (suc n))))))
 
   -- a chain does what its rules do
   chain_sends : (chain : List ℕ) (d : Option Door)
@@ -67,49 +59,48 @@ module _ (setting : Setting) (e : Surroundings) (own : e.node_addresses ≡ sett
         (none_in_each (is_taken setting e s) address_doors infos none i c)
 
     by_own : (b : Bool) → is_own setting e s ≡ b
-        → pathless (target_if b jump (target.Jump kube_node_ports) s)
+        → pathless (target_if b (jump_at e at (suc n)) (target.Jump kube_node_ports) s)
         ≡ or_next (option_map (does setting e s) (find (is_taken setting e s) node_doors)) s
     by_own true here =
         let rules : List Rule = flat_map (node_port_block setting) infos in
-        ap (λ o. pathless (found_outcome e node_jump kube_node_ports o s)) found
-        ∙ pathless_returned kube_node_ports (rules_outcome e node_jump rules s)
+        ap (λ o. pathless (found_outcome e (jump_at e at n) kube_node_ports o s)) found
+        ∙ pathless_returned kube_node_ports (rules_outcome e (jump_at e at n) rules s)
         ∙ ap (λ o. pathless (returned_from kube_node_ports o))
-        (find_in_each (is_taken setting e s) (does setting e s) (does_last setting e s) e node_jump
-        s (node_port_block setting) (λ i. node_door i i.node_port) infos
+        (find_in_each (does_last setting e s) (node_port_block setting)
+        (λ i. node_door i i.node_port) infos
         (λ i c. node_block_sends setting e at s i (ports i c).0 (ports i c).1 n own
-        (not_inside i c) here))
+        (not_inside i c) here)).same
         ∙ chain_sends kube_node_ports (find (is_taken setting e s) node_doors)
     by_own false elsewhere =
-        none_sends setting e s jump node_doors
+        (none_sends setting e s (jump_at e at n) node_doors
         (none_in_all (is_taken setting e s) (λ i. node_door i i.node_port) infos
         (λ i c. none_elsewhere setting e at s i (ports i c).0 (ports i c).1 n own elsewhere
-        i.node_port))
+        i.node_port))).same
 
     -- the rule for the node's own addresses
-    own_sends : SendAs setting e s jump
+    own_sends : SendAs setting e s (jump_at e at (suc n))
         (rule_of (own_addresses setting.family) (target.Jump kube_node_ports) ∷ []) node_doors
     own_sends =
         let rule : Rule = rule_of (own_addresses setting.family) (target.Jump kube_node_ports) in
         let outside : Bool = not (range_contains (loopback_range setting.family) s.target) in
         let local : Bool = is_local_address e.node_addresses s.target in
-        ap pathless (and_then_next (rule_outcome e jump rule s)
-        ∙ rule_if e jump s (own_addresses setting.family) (target.Jump kube_node_ports)
-        (outside && local)
-        (tried_before s outside local (try_all e (match.DstLocal ∷ [])) (tried_alone s local)))
-        ∙ by_own (outside && local) refl
+        record {
+          same =
+              ap pathless (and_then_next (rule_outcome e (jump_at e at (suc n)) rule s)
+              ∙ rule_if e (jump_at e at (suc n)) s (own_addresses setting.family)
+              (target.Jump kube_node_ports) (outside && local)
+              (tried_before s outside local (try_all e (match.DstLocal ∷ [])) (tried_alone s local)))
+              ∙ by_own (outside && local) refl;
+        }
 
   -- KUBE-SERVICES sends as the first door does that takes the packet
   pub services_send : at (record { table = Nat; chain = kube_node_ports })
       ≡ Some (flat_map (node_port_block setting) infos)
-      → SendAs setting e s jump
+      → SendAs setting e s (jump_at e at (suc n))
       (flat_map (service_block setting) infos ++ rule_of (own_addresses setting.family)
       (target.Jump kube_node_ports) ∷ []) (flat_map address_doors infos ++ node_doors)
   services_send found =
-      find_in_behind (is_taken setting e s) (does setting e s) (does_last setting e s) e jump s
-      (flat_map (service_block setting) infos)
-      (rule_of (own_addresses setting.family) (target.Jump kube_node_ports) ∷ [])
-      (flat_map address_doors infos) node_doors
-      (find_in_each (is_taken setting e s) (does setting e s) (does_last setting e s) e jump s
-      (service_block setting) address_doors infos
+      find_in_behind (does_last setting e s)
+      (find_in_each (does_last setting e s) (service_block setting) address_doors infos
       (λ i c. block_sends setting e at s i (ports i c).0 (ports i c).1 (suc n)))
       (own_sends found)
