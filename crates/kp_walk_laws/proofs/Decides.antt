@@ -66,12 +66,11 @@ module _ (config : FamilyConfig) (packet : Packet) (draws : ℕ → ℕ) (lists 
   packet_after (Some t) =
       ap (λ (a : AddressParts). record packet
       { source = a; target = t.chosen.endpoint.address; port = t.chosen.endpoint.port })
-      (marked_source (is_marked config t.door.kind t.door.info packet.source t.chosen.endpoint) _)
+      (marked_source _ _)
 
   recent_after : (t : Option Translation) → (after t).lists ≡ lists_after t lists
   recent_after None = refl
-  recent_after (Some t) =
-      marked_lists (is_marked config t.door.kind t.door.info packet.source t.chosen.endpoint) _
+  recent_after (Some t) = marked_lists _ _
 
   -- the verdict of the walk is that of the decision
   same_verdict : (t : Option Translation) (line : Option Line)
@@ -87,9 +86,7 @@ module _ (config : FamilyConfig) (packet : Packet) (draws : ℕ → ℕ) (lists 
       by_refusal DropsNoLocal = refl
   same_verdict None None = refl
   same_verdict (Some t) None =
-      ap₂ (λ b c. To t.chosen.endpoint (b && c))
-      (mark_is (is_marked config t.door.kind t.door.info packet.source t.chosen.endpoint) _ refl)
-      (leaves_by packet.from (is_local_address config.addresses t.chosen.endpoint.address))
+      ap₂ (λ b c. To t.chosen.endpoint (b && c)) (mark_is _ _ refl) (leaves_by packet.from _)
 
   same_lists : (t : Option Translation) (line : Option Line)
       → lists_after t lists ≡ (by_filter config packet t (lists_after t lists) line).lists
@@ -126,8 +123,7 @@ module _ (setting : Setting) (infos : List PortInfo) (packet : Packet) (draws : 
   translated_journey None o h =
       ([], ap (after_hook Translating (journey_at s None None [])) (next_of o s h))
   translated_journey (Some t) o h =
-      let (path, is) = ended_of o (ending.Dnat t.chosen.endpoint)
-      (arrived_state setting.config e s t) h in
+      let (path, is) = ended_of o _ _ h in
       (path ∷ [], ap (after_hook Translating (journey_at s None None [])) is)
 
   -- from a translation on, the walk goes as the decision does
@@ -145,18 +141,17 @@ module _ (setting : Setting) (infos : List PortInfo) (packet : Packet) (draws : 
       let stopped : Option Verdict = option_map line_verdict (line (packet_of e u)) in
       let leaving : Bool = leaves config (packet_of e u) in
       let (later, refused) =
-      filter_journey config setting.family infos e refl at filter u to family e.from trail in
+      filter_journey config _ infos e refl at filter u to family e.from trail in
       subst (λ j. Agree (walked_by (postrouting_if leaving e at j))
       (decision_by config infos packet lists t)) (sym refused) (record {
         verdict =
             last_verdict setting infos e at nat u to later stopped leaving
             ∙ ap (λ p. verdict_by (option_map line_verdict (line p)) to
             (u.marked && leaves config p)) (packet_after config packet draws lists t)
-            ∙ same_verdict config packet draws lists t (line (translated packet t));
+            ∙ same_verdict config packet draws lists t _;
         lists =
             last_lists setting infos e at nat u to later stopped leaving
-            ∙ recent_after config packet draws lists t
-            ∙ same_lists config packet draws lists t (line (translated packet t));
+            ∙ recent_after config packet draws lists t ∙ same_lists config packet draws lists t _;
       })
 
   -- where a look-up finds the shared chains, and those of the ports do what their doors do, walking
@@ -168,8 +163,7 @@ module _ (setting : Setting) (infos : List PortInfo) (packet : Packet) (draws : 
       (decision_from setting infos packet draws lists)
   walk_agrees by_draws nat filter ports =
       let t : Option Translation = translation_of setting infos packet draws lists in
-      let (trail, first) = translated_journey t
-      (chain_outcome e at Nat most_chains (first_hook packet.from) s)
+      let (trail, first) = translated_journey t _
       (first_outcome setting by_draws infos e refl at nat s ports packet.from) in
       subst (λ j. Agree (walked_by (onward e at j)) (decision_by setting.config infos packet lists t))
       (sym first) (decided nat filter (λ i k c h. (ports i c).0.address) t trail)

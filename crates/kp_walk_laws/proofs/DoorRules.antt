@@ -58,8 +58,7 @@ module _ (i : PortInfo) (cluster : i.lists.cluster ≡ []) (local : i.lists.loca
   nothing_outside : (config : FamilyConfig) (p : Policy) (source : AddressParts)
       → (outer_offer config i p source).endpoints ≡ []
   nothing_outside config Cluster source = cluster
-  nothing_outside config Local source =
-      nothing_of (is_in_cluster config source || is_local_address config.addresses source)
+  nothing_outside config Local source = nothing_of _
 
   nothing_admitted : (b : Bool) (o : Offer) → o.endpoints ≡ [] → (offer_if b o).endpoints ≡ []
   nothing_admitted true o h = h
@@ -71,8 +70,7 @@ module _ (i : PortInfo) (cluster : i.lists.cluster ≡ []) (local : i.lists.loca
   nothing_offered config door.Cluster source = nothing_by_policy i.internal
   nothing_offered config door.External source = nothing_outside config i.outer source
   nothing_offered config door.Balancer source =
-      nothing_admitted (is_admitted i.ranges source) (outer_offer config i i.outer source)
-      (nothing_outside config i.outer source)
+      nothing_admitted _ _ (nothing_outside config i.outer source)
   nothing_offered config door.Node source = nothing_outside config i.outer source
 
 -- ---- What the chains of a port do at its doors
@@ -129,7 +127,7 @@ module _ (setting : Setting) (e : Surroundings) (s : WalkState) where
 
   -- nothing is tried behind a door that takes the packet
   pub does_last : (d : Door) → IsLast (does setting e s d)
-  does_last d = last_by (translation_at setting (packet_of e s) e.draws s.lists d)
+  does_last d = last_by _
 
   module _ (jump : List ℕ → WalkState → Outcome) where
     -- rules that send the packet as the first of some doors does that takes it
@@ -148,9 +146,7 @@ module _ (setting : Setting) (e : Surroundings) (s : WalkState) where
         → pathless (target_if b jump (target.Jump chain) s)
         ≡ cond (b && not (is_empty (offer_of setting.config (packet_of e s) d).endpoints))
         (does setting e s d) (Next s)
-    by_fit d chain true h = ap pathless (h refl)
-        ∙ pathless_cond (not (is_empty (offer_of setting.config (packet_of e s) d).endpoints))
-        (arrives setting e s d) s
+    by_fit d chain true h = ap pathless (h refl) ∙ pathless_cond _ _ s
     by_fit d chain false h = refl
 
     module _ (i : PortInfo) (chain : List ℕ) where
@@ -165,8 +161,8 @@ module _ (setting : Setting) (e : Surroundings) (s : WalkState) where
           record {
             same =
                 ap pathless (rule_if e jump s (match.Dst (single_range a) false
-                ∷ match.Port i.key.proto i.number ∷ []) (target.Jump chain)
-                (same_address a s.target && proto_port) (door_tried e jump s a i.key.proto i.number)
+                ∷ match.Port i.key.proto i.number ∷ []) _
+                _ (door_tried e jump s a i.key.proto i.number)
                 ∙ ap (λ b. target_if b jump (target.Jump chain) s)
                 (and_comm (same_address a s.target) proto_port))
                 ∙ by_fit (door_at kind i a) chain _ h;
@@ -185,9 +181,8 @@ module _ (setting : Setting) (e : Surroundings) (s : WalkState) where
           record {
             same =
                 ap pathless (rule_if e jump s (match.Port i.key.proto d.number ∷ [])
-                (target.Jump chain) proto_port (tried_alone s proto_port)
-                ∙ ap (λ b. target_if b jump (target.Jump chain) s) same)
-                ∙ by_fit d chain _ h;
+                _ proto_port (tried_alone s proto_port)
+                ∙ ap (λ b. target_if b jump (target.Jump chain) s) same) ∙ by_fit d chain _ h;
           }
 
   -- ---- The doors of one port
@@ -231,4 +226,4 @@ module _ (setting : Setting) (e : Surroundings) (s : WalkState) where
     -- where it doesn't take a packet that is for it, its list is empty
     pub passed : is_taken setting e s (door_at door.Cluster i i.address) ≡ false
         → is_for_address i (packet_of e s) ≡ true → is_empty (internal_list i) ≡ true
-    passed not_taken here = passed_by (is_empty (internal_list i)) here refl not_taken
+    passed not_taken here = passed_by _ here refl not_taken

@@ -70,7 +70,7 @@ module _ (config : FamilyConfig) (family : Family) (e : Surroundings)
   refusal_targets false = refl
 
   pub refusing_last : (l : Line) → IsLast (refusing s l)
-  refusing_last l = ended_last (ending_of l.refusal) [] s
+  refusing_last l = ended_last _ [] s
 
   refuse_if : (b : Bool) {rules : List Rule} {lines : List Line} → Refuses rules lines
       → Refuses (rules_if b rules) (cond b lines [])
@@ -91,12 +91,9 @@ module _ (config : FamilyConfig) (family : Family) (e : Surroundings)
       let proto_port : Bool = same_proto i.key.proto e.proto && (i.number == s.port) in
       record {
         same =
-            pathless_by (rule_outcome e jump (rule_at i t a) s)
-            (fits_line config e s (line_of r (door_at kind i a))) (ending_of r) s s
-            (rule_if e jump s (match.Dst (single_range a) false
-            ∷ match.Port i.key.proto i.number ∷ []) t
-            (same_address a s.target && proto_port) (door_tried e jump s a i.key.proto i.number)
-            ∙ by_target t r (same_address a s.target && proto_port) h
+            pathless_by _ _ _ s s (rule_if e jump s (match.Dst (single_range a) false
+            ∷ match.Port i.key.proto i.number ∷ []) t _ (door_tried e jump s a i.key.proto i.number)
+            ∙ by_target t r _ h
             ∙ ap (λ b. cond b (Ended (ending_of r) [] s) (Next s))
             (and_comm (same_address a s.target) proto_port));
       }
@@ -106,7 +103,7 @@ module _ (config : FamilyConfig) (family : Family) (e : Surroundings)
       → (addresses : List AddressParts)
       → Refuses (map (rule_at i t) addresses) (map (λ a. line_of r (door_at kind i a)) addresses)
   line_rules i kind t r h addresses =
-      find_in_map refusing_last (rule_at i t) (λ a. line_of r (door_at kind i a)) addresses (λ a c. line_rule i kind t r h a)
+      find_in_map refusing_last _ (λ a. line_of r (door_at kind i a)) addresses (λ a c. line_rule i kind t r h a)
 
   nothing_refused : (b c : Bool) → Refuses (rules_if b []) (cond c [] [])
   nothing_refused true true = record { same = refl }
@@ -117,7 +114,7 @@ module _ (config : FamilyConfig) (family : Family) (e : Surroundings)
   -- the firewall's rules of a port
   pub firewall_refuses : (i : PortInfo) → Refuses (firewall_block i) (firewall_lines i)
   firewall_refuses i =
-      by_balancer i.balancer (line_rules i door.Balancer target.Drop DropsClosed refl i.balancer)
+      by_balancer i.balancer (line_rules i _ target.Drop DropsClosed refl i.balancer)
     where
       by_balancer : (balancer : List AddressParts)
           → Refuses (map (rule_at i target.Drop) balancer)
@@ -126,16 +123,13 @@ module _ (config : FamilyConfig) (family : Family) (e : Surroundings)
           (map (rule_at i target.Drop) balancer))
           (cond (is_some i.ranges && i.lists.has_any)
           (map (λ a. line_of DropsClosed (door_at door.Balancer i a)) balancer) [])
-      by_balancer [] h = nothing_refused (is_some i.ranges && (false && i.lists.has_any))
-          (is_some i.ranges && i.lists.has_any)
-      by_balancer (a ∷ more) h = refuse_if (is_some i.ranges && i.lists.has_any) h
+      by_balancer [] h = nothing_refused _ _
+      by_balancer (a ∷ more) h = refuse_if _ h
 
   -- the rule of a cluster address without endpoints
   pub service_refuses : (i : PortInfo) → Refuses (refusal_block i) (service_lines i)
   service_refuses i =
-      refuse_if (is_empty (internal_list i))
-      (find_in_one (line_rule i door.Cluster (refusal_target i.lists.has_any)
-      (refusal_by i.lists.has_any) (refusal_targets i.lists.has_any) i.address))
+      refuse_if _ (find_in_one (line_rule i door.Cluster _ _ (refusal_targets _) i.address))
 
   -- the rule of a node port
   node_refuses : e.node_addresses ≡ config.addresses → (i : PortInfo) (t : Target) (r : Refusal)
@@ -146,24 +140,18 @@ module _ (config : FamilyConfig) (family : Family) (e : Surroundings)
       let not_loop : Bool = not (range_contains (loopback_range family) s.target) in
       let local : Bool = is_local_address e.node_addresses s.target in
       let proto_port : Bool = same_proto i.key.proto e.proto && (n == s.port) in
-      let rule : Rule = rule_of (own_addresses family ++ match.Port i.key.proto n ∷ []) t in
-      let line : Line =
-      line_of r (record { kind = door.Node; info = i; address = None; number = n }) in
       find_in_one (record {
         same =
-            pathless_by (rule_outcome e jump rule s) (fits_line config e s line) (ending_of r) s s
-            (rule_if e jump s (own_addresses family ++ match.Port i.key.proto n ∷ []) t
-            (not_loop && (local && proto_port))
-            (tried_before s not_loop (local && proto_port)
-            (try_all e (match.DstLocal ∷ match.Port i.key.proto n ∷ []))
+            pathless_by _ _ _ s s
+            (rule_if e jump s (own_addresses family ++ match.Port i.key.proto n ∷ []) t _
+            (tried_before s not_loop _ (try_all e (match.DstLocal ∷ match.Port i.key.proto n ∷ []))
             (tried_before s local proto_port (try_all e (match.Port i.key.proto n ∷ []))
             (tried_alone s proto_port)))
-            ∙ by_target t r (not_loop && (local && proto_port)) h
+            ∙ by_target t r _ h
             ∙ ap (λ b. cond b (Ended (ending_of r) [] s) (Next s)) (and_turn not_loop local proto_port)
             ∙ ap (λ a. cond (proto_port && (is_local_address a s.target && not_loop))
             (Ended (ending_of r) [] s) (Next s)) own
-            ∙ ap (λ f.
-            cond (proto_port && (is_local_address config.addresses s.target
+            ∙ ap (λ f. cond (proto_port && (is_local_address config.addresses s.target
             && not (range_contains (loopback_range f) s.target))) (Ended (ending_of r) [] s) (Next s))
             (sym (same n refl)));
       })
@@ -178,11 +166,9 @@ module _ (config : FamilyConfig) (family : Family) (e : Surroundings)
       let rules : List AddressParts → List Rule = map (rule_at i t) in
       let node : List Rule = node_port_refusal family i t i.node_port in
       let by_address = find_in_append refusing_last
-      (line_rules i door.External t r (refusal_targets i.lists.has_any) i.external)
-      (line_rules i door.Balancer t r (refusal_targets i.lists.has_any) i.balancer) in
+      (line_rules i _ t r (refusal_targets _) i.external)
+      (line_rules i _ t r (refusal_targets _) i.balancer) in
       let all_parts = find_in_append refusing_last by_address
-      (node_refuses own i t r (refusal_targets i.lists.has_any) i.node_port same) in
-      refuse_if (is_empty (external_list i))
-      (subst (Refuses (rules i.external ++ rules i.balancer ++ node))
-      (sym (lines_of r (door_at door.External i) (door_at door.Balancer i) i.external i.balancer
-      (node_door i i.node_port))) all_parts)
+      (node_refuses own i t r (refusal_targets _) i.node_port same) in
+      refuse_if _ (subst (Refuses (rules i.external ++ rules i.balancer ++ node))
+      (sym (lines_of r _ _ i.external i.balancer _)) all_parts)

@@ -58,8 +58,7 @@ passes_by test x y found later false t h = later h
 pub found_passes : {X : Type 0} (test : X → Bool) (xs : List X) (x : X) → find test xs ≡ Some x
     → test x ≡ true
 found_passes test [] x h = absurd (cc)
-found_passes test (y ∷ ys) x h =
-    passes_by test x y (find test ys) (found_passes test ys x) (test y) refl h
+found_passes test (y ∷ ys) x h = passes_by test x y _ (found_passes test ys x) _ refl h
 
 module _ (setting : Setting) (by_draws : setting.pick ≡ pick_by_draws) (infos : List PortInfo)
     (e : Surroundings) (own : e.node_addresses ≡ setting.config.addresses)
@@ -76,8 +75,7 @@ module _ (setting : Setting) (by_draws : setting.pick ≡ pick_by_draws) (infos 
       (option_and_then (translation_at setting (packet_of e s) e.draws s.lists) d))
   by_door None h = refl
   by_door (Some d) h =
-      same_translation (translation_at setting (packet_of e s) e.draws s.lists d)
-      (translates setting by_draws (packet_of e s) e.draws s.lists d
+      same_translation _ (translates setting by_draws (packet_of e s) e.draws s.lists d
       (and_parts (fits setting.config.addresses (packet_of e s) d)
       (not (is_empty (offer_of setting.config (packet_of e s) d).endpoints))
       (found_passes (takes setting.config (packet_of e s)) (doors_of infos) d h)).1)
@@ -110,17 +108,10 @@ module _ (setting : Setting) (by_draws : setting.pick ≡ pick_by_draws) (infos 
       ≡ pathless (arriving (Next s) setting e s (translation_of setting infos
       (packet_of e s) e.draws s.lists))
   first_outcome ports from =
-      let t : Option Translation =
-      translation_of setting infos (packet_of e s) e.draws s.lists in
-      let rules : List Rule =
-      flat_map (service_block setting) infos ++ rule_of (own_addresses setting.family)
-      (target.Jump kube_node_ports) ∷ [] in
+      let t : Option Translation = translation_of setting infos (packet_of e s) e.draws s.lists in
       ap (λ o. pathless (found_outcome e (chain_outcome e at Nat 7) (first_hook from) o s))
       (first_rules from)
-      ∙ chain_translates (first_hook from)
-      (rules_outcome e (chain_outcome e at Nat 7) (jump_to kube_services ∷ []) s) t
-      (ap pathless (and_then_next (chain_outcome e at Nat 7 kube_services s)
+      ∙ chain_translates _ _ t (ap pathless (and_then_next _
       ∙ ap (λ o. found_outcome e (chain_outcome e at Nat 6) kube_services o s) finds.services)
-      ∙ chain_translates kube_services (rules_outcome e (chain_outcome e at Nat 6) rules s) t
-      ((services_send setting e own at s infos ports 0 finds.node_ports).same
-      ∙ by_door (taking_door setting.config infos (packet_of e s)) refl))
+      ∙ chain_translates _ _ t
+      ((services_send setting e own at s infos ports 0 finds.node_ports).same ∙ by_door _ refl))

@@ -77,9 +77,7 @@ module _ (config : FamilyConfig) (family : Family) (infos : List PortInfo) (e : 
       (journey_at s to None trail) ≡ journey_at s to
       (option_map line_verdict (first_line config e s (hook_lines h infos))) after)
   one_hook h trail =
-      after_filter s to trail (first_line config e s (hook_lines h infos))
-      (chain_outcome e at Filter most_chains (hook_chain h) s)
-      (hook_filtered config family infos e at finds 6 s own nodes h)
+      after_filter s to trail _ _ (hook_filtered config family infos e at finds 6 s own nodes h)
 
   -- one hook that is all of the filter
   only_hook : (h : Hook) (trail : List (List (List ℕ)))
@@ -115,7 +113,7 @@ module _ (config : FamilyConfig) (family : Family) (infos : List PortInfo) (e : 
   sent false trail = only_hook Output trail
   sent true trail =
       let (middle, is) = one_hook Output trail in
-      let (after, then) = second_hook (first_line config e s (hook_lines Output infos)) middle in (
+      let (after, then) = second_hook _ middle in (
         after,
         ap (through e at Filtering Filter (codes "INPUT")) is ∙ then
             ∙ ap (λ o. journey_at s to (option_map line_verdict o) after)
@@ -130,8 +128,8 @@ module _ (config : FamilyConfig) (family : Family) (infos : List PortInfo) (e : 
       ≡ journey_at s to (option_map line_verdict
       (first_line config e s (flat_map (λ h. hook_lines h infos)
       (hooks_by from (is_local_address e.node_addresses s.target))))) after)
-  filter_journey Wire trail = routed (is_local_address e.node_addresses s.target) trail
-  filter_journey Node trail = sent (is_local_address e.node_addresses s.target) trail
+  filter_journey Wire trail = routed _ trail
+  filter_journey Node trail = sent _ trail
 
 module _ (setting : Setting) (infos : List PortInfo) (e : Surroundings)
     (at : ChainAt → Option (List Rule)) (finds : FindsNat setting infos at) (s : WalkState)

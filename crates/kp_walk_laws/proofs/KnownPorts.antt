@@ -33,7 +33,7 @@ at_family : (family : Family) (field : ClusterAddress) (b : AddressParts)
 at_family family Absent b h = absurd (cc)
 at_family family Headless b h = absurd (cc)
 at_family family (At a) b h =
-    let (is, same) = cond_some (same_family a.family family) a b h in
+    let (is, same) = cond_some _ a b h in
     ap (λ (c : AddressParts). c.family) (sym same) ∙ same_family_exact a.family family is
 
 unless_name : (family : Family) (field : ClusterAddress) (b : AddressParts) (name : Bool)
@@ -44,7 +44,7 @@ unless_name family field b false h = at_family family field b h
 -- a cluster address in a family is of it
 cluster_family : (family : Family) (s : Service) (b : AddressParts)
     → cluster_address_in family s ≡ Some b → b.family ≡ family
-cluster_family family s b h = unless_name family s.cluster b (is_external_name s.kind) h
+cluster_family family s b h = unless_name family s.cluster b _ h
 
 -- what is known of a port
 known_from : (family : Family) (s : Service) (p : ServicePort) (zone : Option (List ℕ))
@@ -56,26 +56,24 @@ known_from family s p zone entries address h = record {
   none = none_usable s.internal s.outer (is_reachable_in family s p) zone entries;
   any = λ reachable. sym (not-not (has_any_endpoint entries))
       ∙ ap not (sym (cluster_empty s.internal s.outer (is_reachable_in family s p) zone entries
-      (or_right (not (is_local_policy s.internal)) (is_reachable_in family s p) reachable)));
+      (or_right _ _ reachable)));
 }
 
 pub known_ports_by : KnownPorts
 known_ports_by family config o i c =
     let zone : Option (List ℕ) = zone_of o config.node in
     let services : List ServiceSources = map (sources_of family config o) (values o.services) in
-    let (sp, in_ports, made) =
-    from_filter_map (info_of family config.node zone) i (service_ports services) c in
+    let (sp, in_ports, made) = from_filter_map _ i (service_ports services) c in
     let entries : List Candidate =
     entries_from family config.node sp.0 (port_key_of sp.0.service sp.1) in
     let (address, found, is) = from_option_map (info_from family sp.0.service sp.1 zone entries)
-    (cluster_address_in family sp.0.service) i made in
+    _ i made in
     subst (IsKnown family) is (known_from family sp.0.service sp.1 zone entries address found)
 
 pub port_keys_once_by : PortKeysOnce
 port_keys_once_by family config o i j ci cj same =
     let infos : List PortInfo = port_infos family config o in
     let named : PortInfo → PortKey × PortInfo = λ k. (k.key, k) in
-    ap (λ (e : PortKey × PortInfo). e.1)
-    (one_sorted port_key_total (map named infos)
+    ap (λ (e : PortKey × PortInfo). e.1) (one_sorted port_key_total _
     (subst T (sym (ports_are_in_order family config o)) tt)
-    (named i) (named j) (in_map named i infos ci) (in_map named j infos cj) same)
+    _ _ (in_map named i infos ci) (in_map named j infos cj) same)

@@ -146,8 +146,7 @@ none_before (Some d) b h = absurd (cc)
 -- where nothing is found, nothing is found in a part
 pub none_in_append : {D : Type 0} (test : D → Bool) (xs ys : List D)
     → find test (xs ++ ys) ≡ None → (find test xs ≡ None) × (find test ys ≡ None)
-none_in_append test xs ys h =
-    none_before (find test xs) (find test ys) (sym (find-append test xs ys) ∙ h)
+none_in_append test xs ys h = none_before _ _ (sym (find-append test xs ys) ∙ h)
 
 none_first_by : {D : Type 0} (b : Bool) (d : D) (found : Option D) → cond b (Some d) found ≡ None
     → b ≡ false
@@ -157,7 +156,7 @@ none_first_by false d found h = refl
 -- nor is the first element
 pub none_first : {D : Type 0} (test : D → Bool) (d : D) (ds : List D)
     → find test (d ∷ ds) ≡ None → test d ≡ false
-none_first test d ds h = none_first_by (test d) d (find test ds) h
+none_first test d ds h = none_first_by _ d _ h
 
 -- nor anything in the doors of an element
 pub none_in_each : {X D : Type 0} (test : D → Bool) (doors : X → List D) (xs : List X)
@@ -165,7 +164,7 @@ pub none_in_each : {X D : Type 0} (test : D → Bool) (doors : X → List D) (xs
     → (x : X) → Contains xs x → find test (doors x) ≡ None
 none_in_each test doors [] h x c = absurd (none_in x c)
 none_in_each test doors (y ∷ ys) h x c =
-    let parts = none_in_append test (doors y) (flat_map doors ys) h in
+    let parts = none_in_append test _ _ h in
     elim (in_cases x y ys c) [
       | inl is ↦ ap (λ z. find test (doors z)) (sym is) ∙ parts.0
       | inr d ↦ none_in_each test doors ys parts.1 x d
@@ -190,7 +189,7 @@ pub none_in_all : {X D : Type 0} (test : D → Bool) (doors : X → List D) (xs 
     → find test (flat_map doors xs) ≡ None
 none_in_all test doors [] h = refl
 none_in_all test doors (x ∷ xs) h =
-    none_appended test (doors x) (flat_map doors xs) (h x (first_in x xs))
+    none_appended test _ _ (h x (first_in x xs))
     (none_in_all test doors xs (λ y c. h y (later_in y x xs c)))
 
 -- what is found of the doors is last
@@ -209,8 +208,7 @@ pub find_in_one : {D : Type 0} {test : D → Bool} {stop : D → Outcome} {e : S
     {jump : List ℕ → WalkState → Outcome} {s : WalkState} {r : Rule} {d : D}
     → IsRuleOf test stop e jump s r d → FindIn test stop e jump s (r ∷ []) (d ∷ [])
 find_in_one {test = test} {stop = stop} {e = e} {jump = jump} {s = s} {r = r} {d = d} h = record {
-  same =
-      ap pathless (and_then_next (rule_outcome e jump r s)) ∙ h.same ∙ by_test stop s d (test d);
+  same = ap pathless (and_then_next _) ∙ h.same ∙ by_test stop s d _;
 }
 
 module _ {D : Type 0} {test : D → Bool} {stop : D → Outcome} {e : Surroundings}
@@ -229,9 +227,9 @@ module _ {D : Type 0} {test : D → Bool} {stop : D → Outcome} {e : Surroundin
             ap pathless (rules_append e jump rules more s)
             ∙ pathless_then (rules_outcome e jump rules s) (rules_outcome e jump more)
             ∙ ap (λ o. and_then o next) h.same
-            ∙ or_next_append (option_map stop found) (option_map stop (find test others)) s next
+            ∙ or_next_append _ _ s next
             (found_last stop last found) (λ n. (k (none_of_map stop found n)).same)
-            ∙ ap (λ o. or_next o s) (sym (map_or stop found (find test others)))
+            ∙ ap (λ o. or_next o s) (sym (map_or stop found _))
             ∙ ap (λ o. or_next (option_map stop o) s) (sym (find-append test doors others));
       }
 

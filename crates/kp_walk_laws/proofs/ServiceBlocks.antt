@@ -57,14 +57,13 @@ module _ (setting : Setting) (e : Surroundings) (at : ChainAt → Option (List R
   cluster_part : (b : Bool) → not (is_empty (internal_list i)) ≡ b
       → Sends (rules_if b (rule_to door.Cluster i.address ∷ [])) (inner ∷ [])
   cluster_part true some =
-      find_in_one (address_rule setting e s (jump_at e at n) i
-      (port_chain setting i (chain_of_policy i.internal)) door.Cluster i.address
+      find_in_one (address_rule setting e s _ i _ door.Cluster i.address
       (λ fit. leads.inside (suc (suc n)) some (sym (cluster_fits setting e s i) ∙ fit)
       ∙ ap (λ b. cond b (arrives setting e s inner) (Next s))
       (sym (ap (λ es. not (is_empty es)) (offers i i.internal) ∙ some))))
   cluster_part false none =
       let fit : Bool = fits setting.config.addresses (packet_of e s) inner in
-      none_sends setting e s (jump_at e at n) (inner ∷ [])
+      none_sends setting e s _ _
       (ap (λ b. cond b (Some inner) None) (ap (λ es. fit && not (is_empty es)) (offers i i.internal)
       ∙ ap (λ b. fit && b) none ∙ and-false fit))
 
@@ -76,8 +75,7 @@ module _ (setting : Setting) (e : Surroundings) (at : ChainAt → Option (List R
   no_doors : i.lists.has_any ≡ false → (kind : DoorKind) (addresses : List AddressParts)
       → find (is_taken setting e s) (map (door_at kind i) addresses) ≡ None
   no_doors none kind addresses =
-      none_found (is_taken setting e s) (door_at kind i) addresses
-      (λ a c. none_taken setting e s i known none kind (Some a) i.number)
+      none_found _ _ addresses (λ a c. none_taken setting e s i known none kind (Some a) i.number)
 
   module _ (not_taken : is_taken setting e s inner ≡ false) where
     -- a jump to a chain for what comes from outside does what its door does
@@ -95,20 +93,18 @@ module _ (setting : Setting) (e : Surroundings) (at : ChainAt → Option (List R
         → ((a : AddressParts) → Contains addresses a → needs (entry_chain kind i) i ≡ true)
         → Sends (map (rule_to kind) addresses) (map (door_at kind i) addresses)
     outer_rules kind outer addresses needed =
-        find_in_map (does_last setting e s) (rule_to kind) (door_at kind i) addresses
-        (λ a c. address_rule setting e s (jump_at e at n) i
-        (port_chain setting i (entry_chain kind i)) kind a
-        (jumps kind outer (Some a) i.number (needed a c)))
+        find_in_map (does_last setting e s) _ _ addresses (λ a c. address_rule setting e s _ i
+        _ kind a (jumps kind outer _ i.number (needed a c)))
 
     outer_part : (b : Bool) → i.lists.has_any ≡ b
         → Sends (rules_if b (map (rule_to door.External) i.external
         ++ map (rule_to door.Balancer) i.balancer)) outer_doors
     outer_part true any =
         find_in_append (does_last setting e s)
-        (outer_rules door.External refl i.external (external_needs i any))
-        (outer_rules door.Balancer refl i.balancer (balancer_needs i any))
+        (outer_rules _ refl i.external (external_needs i any))
+        (outer_rules _ refl i.balancer (balancer_needs i any))
     outer_part false none =
-        none_sends setting e s (jump_at e at n) outer_doors
+        none_sends setting e s _ outer_doors
         (none_appended (is_taken setting e s) (map (door_at door.External i) i.external)
         (map (door_at door.Balancer i) i.balancer) (no_doors none door.External i.external)
         (no_doors none door.Balancer i.balancer))
@@ -116,8 +112,8 @@ module _ (setting : Setting) (e : Surroundings) (at : ChainAt → Option (List R
   -- the block of a port sends as its doors at addresses do
   pub block_sends : Sends (service_block setting i) (address_doors i)
   block_sends =
-      find_in_behind (does_last setting e s) (cluster_part (not (is_empty (internal_list i))) refl)
-      (λ none. outer_part (none_first (is_taken setting e s) inner [] none) i.lists.has_any refl)
+      find_in_behind (does_last setting e s) (cluster_part _ refl)
+      (λ none. outer_part (none_first (is_taken setting e s) inner [] none) _ refl)
 
   -- ---- KUBE-NODEPORTS
 
@@ -150,8 +146,7 @@ module _ (setting : Setting) (e : Surroundings) (at : ChainAt → Option (List R
       node_rules any None is = record { same = refl }
       node_rules any (Some number) is =
           let proto_port : Bool = same_proto i.key.proto e.proto && (number == s.port) in
-          find_in_one (node_rule setting e s (jump_at e at n) i (port_chain setting i Ext)
-          (node number)
+          find_in_one (node_rule setting e s _ i _ _
           (sym (node_fits number ∙ ap (λ b. proto_port && b) here ∙ and-true proto_port))
           (jumps not_taken door.Node refl None number (node_port_needs i any (ap is_some is))))
 
@@ -160,13 +155,11 @@ module _ (setting : Setting) (e : Surroundings) (at : ChainAt → Option (List R
           (node_port_rules i (target.Jump (port_chain setting i Ext)) i.node_port))
           (node_door i i.node_port)
       node_part true any = node_rules any i.node_port refl
-      node_part false none =
-          none_sends setting e s (jump_at e at n) (node_door i i.node_port)
-          (none_at_node none i.node_port)
+      node_part false none = none_sends setting e s _ _ (none_at_node none i.node_port)
 
       -- the block of a port sends as its door at the node's own addresses does
       pub node_block_sends : Sends (node_port_block setting i) (node_door i i.node_port)
-      node_block_sends = node_part i.lists.has_any refl
+      node_block_sends = node_part _ refl
 
     -- at any other address it takes nothing
     pub none_elsewhere : is_own setting e s ≡ false → (port : Option ℕ)

@@ -38,8 +38,7 @@ module _ (setting : Setting) (e : Surroundings) (own : e.node_addresses ≡ sett
       → pathless (returned_from chain (or_next (option_map (does setting e s) d) s))
       ≡ or_next (option_map (does setting e s) d) s
   chain_sends chain None = refl
-  chain_sends chain (Some d) =
-      by_translation (translation_at setting (packet_of e s) e.draws s.lists d)
+  chain_sends chain (Some d) = by_translation _
     where
       by_translation : (t : Option Translation)
           → pathless (returned_from chain (pathless (arriving Stuck setting e s t)))
@@ -62,18 +61,15 @@ module _ (setting : Setting) (e : Surroundings) (own : e.node_addresses ≡ sett
         → pathless (target_if b (jump_at e at (suc n)) (target.Jump kube_node_ports) s)
         ≡ or_next (option_map (does setting e s) (find (is_taken setting e s) node_doors)) s
     by_own true here =
-        let rules : List Rule = flat_map (node_port_block setting) infos in
         ap (λ o. pathless (found_outcome e (jump_at e at n) kube_node_ports o s)) found
-        ∙ pathless_returned kube_node_ports (rules_outcome e (jump_at e at n) rules s)
+        ∙ pathless_returned _ _
         ∙ ap (λ o. pathless (returned_from kube_node_ports o))
-        (find_in_each (does_last setting e s) (node_port_block setting)
-        (λ i. node_door i i.node_port) infos
+        (find_in_each (does_last setting e s) _ (λ i. node_door i i.node_port) infos
         (λ i c. node_block_sends setting e at s i (ports i c).0 (ports i c).1 n own
-        (not_inside i c) here)).same
-        ∙ chain_sends kube_node_ports (find (is_taken setting e s) node_doors)
+        (not_inside i c) here)).same ∙ chain_sends _ _
     by_own false elsewhere =
         (none_sends setting e s (jump_at e at n) node_doors
-        (none_in_all (is_taken setting e s) (λ i. node_door i i.node_port) infos
+        (none_in_all _ (λ i. node_door i i.node_port) infos
         (λ i c. none_elsewhere setting e at s i (ports i c).0 (ports i c).1 n own elsewhere
         i.node_port))).same
 
@@ -81,16 +77,14 @@ module _ (setting : Setting) (e : Surroundings) (own : e.node_addresses ≡ sett
     own_sends : SendAs setting e s (jump_at e at (suc n))
         (rule_of (own_addresses setting.family) (target.Jump kube_node_ports) ∷ []) node_doors
     own_sends =
-        let rule : Rule = rule_of (own_addresses setting.family) (target.Jump kube_node_ports) in
         let outside : Bool = not (range_contains (loopback_range setting.family) s.target) in
         let local : Bool = is_local_address e.node_addresses s.target in
         record {
           same =
-              ap pathless (and_then_next (rule_outcome e (jump_at e at (suc n)) rule s)
-              ∙ rule_if e (jump_at e at (suc n)) s (own_addresses setting.family)
-              (target.Jump kube_node_ports) (outside && local)
+              ap pathless (and_then_next _
+              ∙ rule_if e _ s (own_addresses setting.family) _ _
               (tried_before s outside local (try_all e (match.DstLocal ∷ [])) (tried_alone s local)))
-              ∙ by_own (outside && local) refl;
+              ∙ by_own _ refl;
         }
 
   -- KUBE-SERVICES sends as the first door does that takes the packet
@@ -100,7 +94,5 @@ module _ (setting : Setting) (e : Surroundings) (own : e.node_addresses ≡ sett
       (flat_map (service_block setting) infos ++ rule_of (own_addresses setting.family)
       (target.Jump kube_node_ports) ∷ []) (flat_map address_doors infos ++ node_doors)
   services_send found =
-      find_in_behind (does_last setting e s)
-      (find_in_each (does_last setting e s) (service_block setting) address_doors infos
-      (λ i c. block_sends setting e at s i (ports i c).0 (ports i c).1 (suc n)))
-      (own_sends found)
+      find_in_behind (does_last setting e s) (find_in_each (does_last setting e s) _ _ infos
+      (λ i c. block_sends setting e at s i (ports i c).0 (ports i c).1 (suc n))) (own_sends found)
