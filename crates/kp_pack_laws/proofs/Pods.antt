@@ -50,7 +50,7 @@ pub are_named : (ws : List Wanted) → entries_name_pods ws ≡ true → AreName
 are_named [] h = tt
 are_named (w ∷ ws) h =
     let p = and_parts (same_pod w.entry.pod (Some w.pod)) (entries_name_pods ws) h in
-    (pod_exact w.entry.pod (Some w.pod) p.0, are_named ws p.1)
+    (pod_exact w.entry.pod _ p.0, are_named ws p.1)
 
 -- no two wanted endpoints are of one pod
 abbrev pub ArePodsApart : List Wanted → Type 0
@@ -80,8 +80,7 @@ tagged_pods : (slices : List Slice)
 tagged_pods slices =
     mapped_pieces (λ t. t.1.pod) (λ s. map (λ e. (sorted_ports s.ports, e)) s.endpoints) slices
     ∙ same_pieces _ (λ s. map (λ e. e.pod) s.endpoints) slices
-    (all_of _ (λ s. map-map (λ t. t.1.pod)
-    (λ e. (sorted_ports s.ports, e)) s.endpoints) slices)
+    (all_of _ (λ s. map-map (λ t. t.1.pod) (λ e. (sorted_ports s.ports, e)) s.endpoints) slices)
     ∙ sym (mapped_pieces (λ e. e.pod) (λ s. s.endpoints) slices)
 
 pub pods_once : (most : ℕ) (wanted : List Wanted) (slices : List Slice)
