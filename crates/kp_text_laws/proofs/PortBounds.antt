@@ -7,7 +7,7 @@ use Rattle.std.specs.FinMap.{entries}
 use Rattle.std.specs.Str.{bytes_eq}
 use Rattle.std.proofs.lemmas.Bool.{and_from, and_parts}
 use Rattle.std.proofs.lemmas.List.Elements.{Contains-append_cases}
-use Rattle.std.proofs.lemmas.Option.{same_Some}
+use Rattle.std.proofs.lemmas.Option.{cond_some, same_Some}
 use Rattle.kp_lemmas.proofs.Entries.{entries_found}
 use Rattle.kp_lemmas.proofs.Members.{none_in, in_cases, all_from, from_all, from_filter, from_filter_map, from_flat_map, from_map, from_reverse}
 use Rattle.kp_lemmas.proofs.Options.{from_option_map, from_and_then}
@@ -116,17 +116,12 @@ module _ (family : Family) where
   range_of_family r h same =
       subst (λ f. is_canonical_range f r ≡ true) (same_family_exact r.base.family family same) h
 
-  found_in_by : (a b : AddressParts) (same : Bool) → is_bounded_address a ≡ true
-      → same_family a.family family ≡ same → cond same (Some a) None ≡ Some b
-      → is_canonical_address family b ≡ true
-  found_in_by a b true h is e =
-      subst (λ c. is_canonical_address family c ≡ true) (same_Some a b e) (of_family a h is)
-  found_in_by a b false h is e = absurd (cc)
-
   -- an address that is taken for the family
   found_in : (a b : AddressParts) → is_bounded_address a ≡ true → address_in family a ≡ Some b
       → is_canonical_address family b ≡ true
-  found_in a b h e = found_in_by a b (same_family a.family family) h refl e
+  found_in a b h e =
+      let (same, is) = cond_some (same_family a.family family) a b e in
+      subst (λ c. is_canonical_address family c ≡ true) is (of_family a h same)
 
   at_fits : (field : ClusterAddress) (b : AddressParts) → is_bounded_cluster_address field ≡ true
       → address_at family field ≡ Some b → is_canonical_address family b ≡ true
@@ -321,13 +316,8 @@ module _ (family : Family) where
       let (a, given, found) = from_and_then (address_in family) pod.address b taken in
       given_ports pod (entry_of s pod place b) (resolved_ports s pod) w
       (resolved_fit s pod bounded of_pod)
-      (taken_by a b (some_passes is_bounded_address pod.address a of_pod.address given)
-      (same_family a.family family) found) made
-    where
-      taken_by : (a b : AddressParts) → is_bounded_address a ≡ true → (same : Bool)
-          → cond same (Some a) None ≡ Some b → is_bounded_address b ≡ true
-      taken_by a b h true e = ap is_bounded_address (sym (same_Some a b e)) ∙ h
-      taken_by a b h false e = absurd (cc)
+      (ap is_bounded_address (sym (cond_some (same_family a.family family) a b found).1)
+      ∙ some_passes is_bounded_address pod.address a of_pod.address given) made
 
   desired_fit : (o : Objects) (s : Service) → AreBounded o → IsBoundedService s → (w : Wanted)
       → Contains (desired_endpoints_of family o s) w → IsBoundedWanted w

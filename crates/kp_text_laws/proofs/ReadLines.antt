@@ -29,7 +29,7 @@ use Rattle.kp_text_laws.specs.Bounds.{AreBoundedEvents, IsBoundedConfig, is_boun
 use Rattle.kp_text_laws.specs.BoundLaws.{ReadIsBounded}
 use Rattle.kp_text_laws.specs.ShownLaws.{ConfigIsBounded, IsBoundedOp, IsBoundedStanding, LinesAreBounded, ReplaysAreBounded}
 use Rattle.kp_text_laws.proofs.ReadAddresses.{some_from, text_range}
-use Rattle.kp_text_laws.proofs.ReadObjects.{read_by}
+use Rattle.kp_text_laws.proofs.ReadObjects.{by_ok, read_by}
 
 -- ---- Operations
 
@@ -56,15 +56,13 @@ made_op : {A : Type 0} (of : A → Op) (r : Result A BadField) (o : Op)
     → ((x : A) → r ≡ Ok x → IsBoundedOp (of x)) → as_op of r ≡ Ok o → IsBoundedOp o
 made_op of r o h e =
     let (x, of_x, made) = from_then (of_members r) (λ x. Ok (of x)) o e in
-    let same : of x ≡ o = cc in subst IsBoundedOp same (h x (from_members r x of_x))
+    by_ok IsBoundedOp made (h x (from_members r x of_x))
 
 module _ (read_is_bounded : ReadIsBounded) where
   events_op : (p : Place) (r : Result (List Event) Refused) (o : Op) → read_events p ≡ r
       → of_events r ≡ Ok o → IsBoundedOp o
   events_op p (Err why) o is e = absurd (cc)
-  events_op p (Ok events) o is e =
-      let same : op.Events events ≡ o = cc in
-      subst IsBoundedOp same (read_is_bounded p events is)
+  events_op p (Ok events) o is e = by_ok IsBoundedOp e (read_is_bounded p events is)
 
   first_op : (first : Bool) (p : Place) (o : Op) → config_op first p ≡ Ok o → IsBoundedOp o
   first_op true p o e = made_op op.Config (read_config p) o (config_is_bounded p) e
@@ -77,7 +75,7 @@ module _ (read_is_bounded : ReadIsBounded) where
       let (q, of_q, made) = from_then (of_members (needed_at p (codes "event")))
       (λ q. of_events (read_events q)) o e in
       events_op q (read_events q) o refl made
-  command_op first p sync o e = let same : op.Sync ≡ o = cc in subst IsBoundedOp same tt
+  command_op first p sync o e = by_ok IsBoundedOp e tt
   command_op first p packet o e = made_op op.Packet (read_packet p) o (λ x h. tt) e
   command_op first p explain o e = made_op op.Explain (read_packet p) o (λ x h. tt) e
   command_op first p show o e = made_op op.Show (read_shown p) o (λ x h. tt) e
@@ -93,8 +91,7 @@ module _ (read_is_bounded : ReadIsBounded) where
   made_line : (stream : Stream) (operation : Op) (line : ScriptLine)
       → with_stream stream operation ≡ Ok line → IsBoundedOp operation → IsBoundedOp line.op
   made_line stream operation line e h =
-      let same : record { by = stream; op = operation } ≡ line = cc in
-      subst (λ (l : ScriptLine). IsBoundedOp l.op) same h
+      by_ok (λ (l : ScriptLine). IsBoundedOp l.op) e h
 
   pub lines_are_bounded : LinesAreBounded
   lines_are_bounded bytes first line e =

@@ -39,6 +39,11 @@ use Rattle.kp_text_laws.specs.BoundLaws.{ReadIsBounded}
 use Rattle.kp_text_laws.proofs.ReadAddresses.{member_address, place_address, place_addresses, place_ranges, some_from, text_address}
 use Rattle.kp_text_laws.proofs.ReadRows.{each_fine, each_port_fine, either_fine, inside_fine, limited_fine, needed_fine, number_fine, optional_fine, port_from, row_fine}
 
+-- what holds of a value that was read holds of what the reading is said to give
+pub by_ok : {A E : Type 0} {x y : A} (P : A → Type 0) → ◌≡◌ {A = Result A E} (Ok x) (Ok y) → P x
+    → P y
+by_ok {x = x} {y = y} P e h = let same : x ≡ y = cc in subst P same h
+
 -- a number that a row bounds
 abbrev IsWithin : ℕ → ℕ → Option ℕ → Type 0
 IsWithin least most o = (n : ℕ) → o ≡ Some n → (nat_le least n && nat_le n most) ≡ true
@@ -188,8 +193,7 @@ service_by : (p : Place) (s : Service) (fault : Option BadField) (b : Bool)
     (is : distinct_ports (service_ports p) ≡ b) → rows_fault service_rows p ≡ fault
     → service_unless fault p b is ≡ Ok s → IsBoundedService s
 service_by p s (Some fault) b is h e = absurd (cc)
-service_by p s None true is h e =
-    let same : service_from p is ≡ s = cc in subst IsBoundedService same (service_fits p is h)
+service_by p s None true is h e = by_ok IsBoundedService e (service_fits p is h)
 service_by p s None false is h e = absurd (cc)
 
 service_read : (p : Place) (s : Service) → read_service p ≡ Ok s → IsBoundedService s
@@ -215,8 +219,7 @@ first_fits : (family : AddressType) (items : List Place)
     → passes_if_some is_bounded_address (first_of_type family items) ≡ true
 first_fits family [] = refl
 first_fits Ipv4 (p ∷ ps) = some_from is_bounded_address _ (λ x is. place_address p x is)
-first_fits Ipv6 (p ∷ ps) = refl
-first_fits Fqdn (p ∷ ps) = refl
+first_fits family (p ∷ ps) = refl
 
 slice_fits : (p : Place) → rows_fault (slice_rows (address_type_in p)) p ≡ None
     → IsBoundedSlice (slice_from p)
@@ -283,8 +286,7 @@ from_object : {A : Type 0} (of : A → Object) (P : A → Type 0) (r : Result A 
     → ((x : A) → P x → IsBoundedObject (of x)) → ((x : A) → r ≡ Ok x → P x)
     → object_as of r ≡ Ok o → IsBoundedObject o
 from_object of P (Err fault) o h k e = absurd (cc)
-from_object of P (Ok x) o h k e =
-    let same : of x ≡ o = cc in subst IsBoundedObject same (h x (k x refl))
+from_object of P (Ok x) o h k e = by_ok IsBoundedObject e (h x (k x refl))
 
 object_read : (k : Kind) (p : Place) (o : Object) → object_at k p ≡ Ok o → IsBoundedObject o
 object_read kind.Service p o e =
@@ -301,8 +303,7 @@ apply_read p e h =
     let (k, of_k, next) = from_then (kind_at p)
     (λ k. of_field (object_at k p) >>= λ o. Ok (Apply o)) e h in
     let (o, of_o, made) = from_then (of_field (object_at k p)) (λ o. Ok (Apply o)) e next in
-    let same : Apply o ≡ e = cc in
-    subst IsBoundedEvent same (object_read k p o (from_field (object_at k p) o of_o))
+    by_ok IsBoundedEvent made (object_read k p o (from_field (object_at k p) o of_o))
 
 delete_read : (p : Place) (e : Event) → delete_at p ≡ Ok e → IsBoundedEvent e
 delete_read p e h =
@@ -312,7 +313,7 @@ delete_read p e h =
     let (key, of_key, made) = from_then
     (of_field (unless_fault (row_fault (deleted_row k) p) (deleted_key k p)))
     (λ key. Ok (Delete k key)) e next in
-    let same : Delete k key ≡ e = cc in subst IsBoundedEvent same tt
+    by_ok IsBoundedEvent made tt
 
 one_event : (e : Event) → IsBoundedEvent e → AreBoundedEvents (e ∷ [])
 one_event e h f c =
@@ -321,8 +322,7 @@ one_event e h f c =
 single_read : (r : Result Event Refused) (es : List Event)
     → ((e : Event) → r ≡ Ok e → IsBoundedEvent e) → (r >>= single) ≡ Ok es → AreBoundedEvents es
 single_read (Err why) es h e = absurd (cc)
-single_read (Ok x) es h e =
-    let same : x ∷ [] ≡ es = cc in subst AreBoundedEvents same (one_event x (h x refl))
+single_read (Ok x) es h e = by_ok AreBoundedEvents e (one_event x (h x refl))
 
 no_events : AreBoundedEvents []
 no_events e c = absurd (none_in e c)
@@ -330,16 +330,15 @@ no_events e c = absurd (none_in e c)
 acted_read : (p : Place) (a : Action) (es : List Event) → acted p a ≡ Ok es → AreBoundedEvents es
 acted_read p applies es h = single_read (apply_at p) es (apply_read p) h
 acted_read p deletes es h = single_read (delete_at p) es (delete_read p) h
-acted_read p passes es h = let same : [] ≡ es = cc in subst AreBoundedEvents same no_events
+acted_read p passes es h = by_ok AreBoundedEvents h no_events
 
 each_read : (ps : List Place) (es : List Event) → apply_each ps ≡ Ok es → AreBoundedEvents es
-each_read [] es h = let same : [] ≡ es = cc in subst AreBoundedEvents same no_events
+each_read [] es h = by_ok AreBoundedEvents h no_events
 each_read (p ∷ ps) es h =
     let (e, of_e, next) = from_then (apply_at p)
     (λ e. apply_each ps >>= λ events. Ok (e ∷ events)) es h in
     let (rest, of_rest, made) = from_then (apply_each ps) (λ events. Ok (e ∷ events)) es next in
-    let same : e ∷ rest ≡ es = cc in
-    subst AreBoundedEvents same (λ f c.
+    by_ok AreBoundedEvents made (λ f c.
     elim (in_cases f e rest c) [
       | inl is ↦ subst IsBoundedEvent is (apply_read p e of_e)
       | inr d ↦ each_read ps rest of_rest f d

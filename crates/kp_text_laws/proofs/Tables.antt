@@ -44,14 +44,7 @@ module _ (chains : Chains) where
       → jumps_to_declared chains table t ≡ true
   declared_by table rank (target.Jump chain) h =
       (and_parts (is_some (get chains (record { table = table; chain = chain }))) _ h).0
-  declared_by table rank target.Return h = refl
-  declared_by table rank target.Accept h = refl
-  declared_by table rank target.Drop h = refl
-  declared_by table rank target.Reject h = refl
-  declared_by table rank target.SetMark h = refl
-  declared_by table rank target.FlipMark h = refl
-  declared_by table rank (target.Dnat e) h = refl
-  declared_by table rank target.Masquerade h = refl
+  declared_by table rank t h = refl
 
   pub declared : (table : TableName) (rank : Option ℕ) (rules : List Rule)
       → jumps_go_on chains table rank rules ≡ true → (r : Rule) → Contains rules r

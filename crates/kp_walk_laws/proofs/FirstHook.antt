@@ -2,7 +2,6 @@
 use Rattle.std.proofs.Common.{◌≡◌, ℕ, Bool, true, false, not, cond, List, [], ◌∷◌, ◌++◌, Contains, Option, Some, None, is_some, option_map, option_and_then, flat_map, codes, refl, sym, ap, ◌∙◌}
 use Rattle.std.specs.List.{find}
 use Rattle.std.proofs.lemmas.Bool.{and_parts}
-use Rattle.std.proofs.lemmas.Option.{same_Some}
 use Rattle.kp_types.specs.Setting.{Setting}
 use Rattle.kp_types.specs.Rules.{rule_of}
 use Rattle.kp_types.specs.declared.chain.TableName.TheVariants.{Nat}
@@ -21,6 +20,7 @@ use Rattle.kp_table_defs.specs.Layout.{jump_to, mark_masq, kube_services, kube_n
 use Rattle.kp_table_defs.specs.Matching.{WalkState, Surroundings}
 use Rattle.kp_table_defs.specs.Walk.{Outcome, found_outcome, returned_from, rules_outcome, chain_outcome, first_hook, most_chains}
 use Rattle.kp_table_defs.specs.Walk.Outcome.{Next, Stuck}
+use Rattle.kp_object_laws.proofs.PortByKey.{found_passes}
 use Rattle.kp_walk_laws.specs.Laws.{IsKnown}
 use Rattle.kp_walk_laws.proofs.Matches.{packet_of}
 use Rattle.kp_walk_laws.proofs.Outcomes.{or_next, and_then_next, pathless, pathless_returned}
@@ -47,18 +47,6 @@ pub record FindsNat (setting : Setting) (infos : List PortInfo)
   pub services : at (record { table = Nat; chain = kube_services })
       ≡ Some (flat_map (service_block setting) infos ++ rule_of (own_addresses setting.family)
       (target.Jump kube_node_ports) ∷ [])
-
-passes_by : {X : Type 0} (test : X → Bool) (x y : X) (found : Option X)
-    → (found ≡ Some x → test x ≡ true) → (b : Bool) → test y ≡ b → cond b (Some y) found ≡ Some x
-    → test x ≡ true
-passes_by test x y found later true t h = ap test (sym (same_Some y x h)) ∙ t
-passes_by test x y found later false t h = later h
-
--- what is found passes the test
-pub found_passes : {X : Type 0} (test : X → Bool) (xs : List X) (x : X) → find test xs ≡ Some x
-    → test x ≡ true
-found_passes test [] x h = absurd (cc)
-found_passes test (y ∷ ys) x h = passes_by test x y _ (found_passes test ys x) _ refl h
 
 module _ (setting : Setting) (by_draws : setting.pick ≡ pick_by_draws) (infos : List PortInfo)
     (e : Surroundings) (own : e.node_addresses ≡ setting.config.addresses)

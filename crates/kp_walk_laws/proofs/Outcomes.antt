@@ -105,9 +105,7 @@ pathless_returned chain Stuck = refl
 -- what goes on has no path
 pub next_of : (o : Outcome) (s : WalkState) → pathless o ≡ Next s → o ≡ Next s
 next_of (Next t) s h = h
-next_of (Left t) s h = absurd (cc)
-next_of (Ended end path t) s h = absurd (cc)
-next_of Stuck s h = absurd (cc)
+next_of o s h = absurd (cc)
 
 -- what ends has one
 pub ended_of : (o : Outcome) (end : Ending) (s : WalkState) → pathless o ≡ Ended end [] s
