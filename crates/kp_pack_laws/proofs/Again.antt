@@ -1,5 +1,6 @@
 -- Packing slices that have the wanted endpoints already changes nothing.
 use Rattle.std.proofs.Common.{◌≡◌, ℕ, ◌+◌, ◌≤◌, Bool, true, false, cond, not, ◌&&◌, List, [], ◌∷◌, ◌++◌, map, length, refl, sym, ap, subst, ◌∙◌, append-nil, arith, IsPermutation, bytes_eq}
+use Rattle.std.proofs.lemmas.List.Folds.{flat_map-map}
 use Rattle.std.specs.List.{filter, flat_map, list_any, sum_by, zip, AllByRecursion, IsDistinct}
 use Rattle.std.proofs.lemmas.List.{length-append}
 use Rattle.std.proofs.lemmas.List.Elements.{recursion_from_All}
@@ -12,11 +13,11 @@ use Rattle.kp_types.specs.declared.slice.SliceEndpoint.{SliceEndpoint}
 use Rattle.kp_types.specs.declared.slice.Slice.{Slice}
 use Rattle.kp_types.specs.declared.slice.Wanted.{Wanted}
 use Rattle.kp_object_defs.specs.Desired.{is_empty}
-use Rattle.kp_object_defs.specs.Packing.{Packing, sorted_ports, same_ports, is_in_group, is_left_over, groups_of, pack_group, pack_groups, new_slice, new_slices, free_names, filled_slice, stays, is_updated, in_slice_order, slice_names, packed_by, packed_groups, packed_slices}
+use Rattle.kp_object_defs.specs.Packing.{Packing, sorted_ports, same_ports, is_in_group, is_left_over, groups_of, pack_group, pack_groups, new_slice, new_slices, filled_slice, stays, is_updated, in_slice_order, slice_names, packed_by, packed_groups, packed_slices}
 use Rattle.kp_object_defs.specs.PackingLaws.{have_own_pods, entries_name_pods, entries_with_ports, wanted_with_ports, IsPackingOf, unchanged, PackedStay, PackingAgainChangesNothing}
 use Rattle.std.proofs.lemmas.Simd.{map-map}
 use Rattle.kp_lemmas.proofs.ListFacts.{all_append, all_filter, all_weaker}
-use Rattle.kp_pack_laws.proofs.Shuffles.{same_list, turned, and_then, mapped_pieces, same_itself, same_pieces, pieces_of_map, all_of, all_mapped, all_unmapped, all_split, all_permuted, all_pass}
+use Rattle.kp_pack_laws.proofs.Shuffles.{same_list, turned, and_then, mapped_pieces, same_itself, same_pieces, all_of, all_mapped, all_unmapped, all_split, all_permuted, all_pass}
 use Rattle.kp_pack_laws.proofs.Distinct.{distinct_from_test, distinct_filtered}
 use Rattle.kp_pack_laws.proofs.Groups.{in_groups}
 use Rattle.kp_pack_laws.proofs.Ordered.{single}
@@ -199,7 +200,7 @@ module _ (most : ℕ) (wanted : List Wanted) (ss : List Slice) (own : have_own_p
   fillings_are : (groups : List (List SlicePort)) → flat_map (λ p. p.fillings) (map settled groups)
       ≡ map whole (flat_map (λ group. slices_here group ss) groups)
   fillings_are groups =
-      pieces_of_map (λ p. p.fillings) settled groups
+      flat_map-map (λ p. p.fillings) settled groups
       ∙ sym (mapped_pieces whole (λ group. slices_here group ss) groups)
 
 -- ---- slices that have what is wanted

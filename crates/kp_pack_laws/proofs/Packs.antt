@@ -1,5 +1,6 @@
 -- All groups: what they have is what is wanted, each slice is in one group at most, and no group makes too many slices.
 use Rattle.std.proofs.Common.{◌≡◌, ℕ, ◌≤◌, Bool, true, List, [], ◌∷◌, ◌++◌, map, length, bytes_eq, refl, sym, ap, subst, ◌∙◌, length-append, arith, IsPermutation}
+use Rattle.std.proofs.lemmas.List.Folds.{flat_map-map}
 use Rattle.std.specs.List.{filter, flat_map, list_any, AllByRecursion, IsDistinct}
 use Rattle.std.specs.Cmp.Lexicographic.{nat_list_eq_equiv}
 use Rattle.std.proofs.lemmas.List.{length-map, map-append}
@@ -15,7 +16,7 @@ use Rattle.kp_object_defs.specs.Packing.{Filling, Placed, NewSlice, Packing, sor
 use Rattle.kp_object_defs.specs.PackingLaws.{wanted_with_ports}
 use Rattle.std.proofs.lemmas.Simd.{map-map}
 use Rattle.kp_lemmas.proofs.ListFacts.{all_filter, all_weaker}
-use Rattle.kp_pack_laws.proofs.Shuffles.{same_list, turned, and_then, joined, two_pieces, alike_pieces, same_pieces, pieces_twice, mapped_pieces, pieces_of_map, passing, all_pass, all_mapped, all_unmapped, all_in_pieces, all_of}
+use Rattle.kp_pack_laws.proofs.Shuffles.{same_list, turned, and_then, joined, two_pieces, alike_pieces, same_pieces, pieces_twice, mapped_pieces, passing, all_pass, all_mapped, all_unmapped, all_in_pieces, all_of}
 use Rattle.kp_pack_laws.proofs.Distinct.{each_there, first_places_differ, first_places_find, distinct_mapped}
 use Rattle.kp_pack_laws.proofs.Groups.{in_groups}
 use Rattle.kp_pack_laws.proofs.Ports.{ports_exact, ports_equiv, sorted_twice}
@@ -50,7 +51,7 @@ fillings_tagged group fs all =
 made_tagged : (group : List SlicePort) (made : List (List Wanted)) → sorted_ports group ≡ group
     → flat_map entries_of_new (map (λ more. record { ports = group; wanted = more }) made) ≡ map (with_ports group) (flat_map entries_of made)
 made_tagged group made sorted =
-    pieces_of_map _ (λ more. record { ports = group; wanted = more }) made
+    flat_map-map _ (λ more. record { ports = group; wanted = more }) made
     ∙ same_pieces (λ more. map (λ w. (sorted_ports group, w.entry)) more) (λ more. map (with_ports group) (entries_of more)) made
     (all_of (λ more. map (λ w. (sorted_ports group, w.entry)) more ≡ map (with_ports group) (entries_of more))
     (λ more. ap (λ ports. map (λ w. (ports, w.entry)) more) sorted ∙ sym (map-map (with_ports group) (λ w. w.entry) more)) made)
@@ -137,8 +138,8 @@ module _ (most : ℕ) (some : 1 ≤ most) (slices : List Slice) (wanted : List W
       let groups = groups_of wanted in
       let of_fillings = λ (group : List SlicePort). flat_map entries_of_filling (pack_group most slices wanted group).fillings in
       let of_made = λ (group : List SlicePort). flat_map entries_of_new (pack_group most slices wanted group).made in
-      let first = pieces_twice _ (λ p. p.fillings) (pack_groups most slices wanted) ∙ pieces_of_map (λ p. flat_map entries_of_filling p.fillings) _ groups in
-      let second = pieces_twice _ (λ p. p.made) (pack_groups most slices wanted) ∙ pieces_of_map (λ p. flat_map entries_of_new p.made) _ groups in
+      let first = pieces_twice _ (λ p. p.fillings) (pack_groups most slices wanted) ∙ flat_map-map (λ p. flat_map entries_of_filling p.fillings) _ groups in
+      let second = pieces_twice _ (λ p. p.made) (pack_groups most slices wanted) ∙ flat_map-map (λ p. flat_map entries_of_new p.made) _ groups in
       and_then (joined (same_list first) (same_list second))
       (and_then (two_pieces of_fillings of_made groups)
       (and_then (alike_pieces (λ group. of_fillings group ++ of_made group) (λ group. map entry_of (filter (λ w. is_in_group group w.ports) wanted)) groups
@@ -149,7 +150,7 @@ module _ (most : ℕ) (some : 1 ≤ most) (slices : List Slice) (wanted : List W
   slices_in_groups : slices_of (all_fillings (pack_groups most slices wanted)) ≡ flat_map (λ group. filter (λ s. is_in_group group s.ports) slices) (groups_of wanted)
   slices_in_groups =
       mapped_pieces (λ f. f.slice) (λ p. p.fillings) (pack_groups most slices wanted)
-      ∙ pieces_of_map (λ p. slices_of p.fillings) (pack_group most slices wanted) (groups_of wanted)
+      ∙ flat_map-map (λ p. slices_of p.fillings) (pack_group most slices wanted) (groups_of wanted)
       ∙ same_pieces (λ group. slices_of (pack_group most slices wanted group).fillings) (λ group. filter (λ s. is_in_group group s.ports) slices) _
       (all_of _ (λ group. (right group).slices) _)
 
@@ -198,7 +199,7 @@ module _ (most : ℕ) (some : 1 ≤ most) (slices : List Slice) (wanted : List W
   made_few =
       let groups = groups_of wanted in
       let ours = λ (group : List SlicePort). map entry_of (filter (λ w. is_in_group group w.ports) wanted) in
-      let made = pieces_of_map (λ p. p.made) (pack_group most slices wanted) groups in
+      let made = flat_map-map (λ p. p.made) (pack_group most slices wanted) groups in
       let fewer = shorter_pieces (λ group. (pack_group most slices wanted group).made) ours groups
       (all_of _ group_few groups) in
       omega (arith, fewer, ap length made, length_permutation _ _ (wanted_in_groups wanted), length-map wanted entry_of)

@@ -6,7 +6,7 @@ use Rattle.std.specs.Cmp.Lexicographic.{pointwise, nat_list_eq_equiv}
 use Rattle.std.proofs.lemmas.Bool.{and_parts, and_from, cond_both}
 use Rattle.std.proofs.lemmas.Cmp.{lists_equiv}
 use Rattle.std.proofs.lemmas.List.{nil_from_length}
-use Rattle.kp_base.specs.Net.{AddressParts, same_family, same_address}
+use Rattle.kp_base.specs.Net.{AddressParts, same_address}
 use Rattle.kp_base.proofs.SameParts.{family_itself}
 use Rattle.kp_types.specs.declared.slice.SliceEndpoint.{SliceEndpoint}
 use Rattle.kp_types.specs.declared.slice.Slice.{Slice}

@@ -1,10 +1,9 @@
 -- Lists with the same elements, and the pieces of lists put together.
 use Rattle.std.proofs.Common.{◌≡◌, Bool, true, false, cond, ◌||◌, List, [], ◌∷◌, ◌++◌, map, reverse, refl, sym, ap, subst, ◌∙◌, true≢false, append_assoc, append-nil, IsPermutation}
 use Rattle.std.specs.List.{filter, flat_map, AllByRecursion}
-use Rattle.std.proofs.lemmas.Bool.{cond_both}
 use Rattle.std.proofs.lemmas.List.{map-append, reverse-append}
 use Rattle.std.proofs.lemmas.Grind.{flat_map-append}
-use Rattle.std.proofs.lemmas.List.Elements.{All-from_recursion, recursion_from_All}
+use Rattle.std.proofs.lemmas.List.Elements.{All-from_recursion, filter_passes, recursion_from_All}
 use Rattle.std.proofs.lemmas.List.Sorted.{IsPermutation-refl, IsPermutation-sym, IsPermutation-trans, IsPermutation-append, IsPermutation-append_comm, All-permutation}
 use Rattle.kp_lemmas.proofs.ListFacts.{all_append}
 
@@ -81,16 +80,9 @@ pub same_itself : {X : Type 0} (xs : List X) → map (λ x. x) xs ≡ xs
 same_itself [] = refl
 same_itself (x ∷ xs) = ap (λ rest. x ∷ rest) (same_itself xs)
 
-pub pieces_of_map : {X Y Z : Type 0} (f : Y → List Z) (h : X → Y) (xs : List X) → flat_map f (map h xs) ≡ flat_map (λ x. f (h x)) xs
-pieces_of_map f h [] = refl
-pieces_of_map f h (x ∷ xs) = ap (λ rest. f (h x) ++ rest) (pieces_of_map f h xs)
-
 -- elements that pass do
 pub passing : {X : Type 0} (p : X → Bool) (xs : List X) → AllByRecursion (λ x. p x ≡ true) (filter p xs)
-passing p [] = tt
-passing p (x ∷ xs) =
-    let rest = passing p xs in
-    cond_both (p x) _ _ (AllByRecursion (λ y. p y ≡ true)) (λ e. (e, rest)) (λ e. rest)
+passing p xs = recursion_from_All (λ x. p x ≡ true) _ (filter_passes p xs)
 
 pub all_pass : {X : Type 0} (p : X → Bool) (xs : List X) → AllByRecursion (λ x. p x ≡ true) xs → filter p xs ≡ xs
 all_pass p [] all = refl

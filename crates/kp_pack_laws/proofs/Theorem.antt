@@ -1,5 +1,6 @@
 -- Packing places each wanted endpoint once, in slices with different names.
 use Rattle.std.proofs.Common.{◌≡◌, ℕ, ◌+◌, ◌^◌, ◌<◌, ◌≤◌, Bool, true, false, not, cond, List, [], ◌∷◌, ◌++◌, map, length, bytes_eq, refl, sym, ap, subst, ◌∙◌, arith, IsPermutation}
+use Rattle.std.proofs.lemmas.List.Folds.{flat_map-map}
 use Rattle.std.specs.List.{filter, flat_map, list_any, AllByRecursion, IsDistinct}
 use Rattle.std.specs.Ordering.{eq_by_cmp}
 use Rattle.std.specs.Cmp.Lexicographic.{texts_ties, nat_list_eq_equiv}
@@ -23,7 +24,7 @@ use Rattle.kp_object_defs.specs.Packing.{Filling, NewSlice, sorted_ports, pack_g
 use Rattle.kp_object_defs.specs.PackingLaws.{have_own_names, are_taken, entries_with_ports, wanted_with_ports, IsPackingOf, PackingPlacesEach}
 use Rattle.std.proofs.lemmas.Simd.{map-map}
 use Rattle.kp_lemmas.proofs.ListFacts.{all_append, all_both, all_filter, all_weaker}
-use Rattle.kp_pack_laws.proofs.Shuffles.{same_list, turned, and_then, pieces_of_map, passing, all_mapped, all_unmapped, all_permuted}
+use Rattle.kp_pack_laws.proofs.Shuffles.{same_list, turned, and_then, passing, all_mapped, all_unmapped, all_permuted}
 use Rattle.kp_pack_laws.proofs.Distinct.{distinct_from_test, distinct_mapped, distinct_joined}
 use Rattle.kp_pack_laws.proofs.Ordered.{by_key_pieces, by_key_keeps, by_key_permuted}
 use Rattle.kp_pack_laws.proofs.Names.{new_names_differ, new_names_free, new_pieces, new_all}
@@ -85,7 +86,7 @@ stayed fs = map filled_slice (filter stays fs)
 
 -- those that don't have nothing
 stayed_entries : (fs : List Filling) → entries_with_ports (stayed fs) ≡ flat_map entries_of_filling fs
-stayed_entries fs = pieces_of_map (λ s. map (λ e. (sorted_ports s.ports, e)) s.endpoints) filled_slice (filter stays fs) ∙ some_have fs
+stayed_entries fs = flat_map-map (λ s. map (λ e. (sorted_ports s.ports, e)) s.endpoints) filled_slice (filter stays fs) ∙ some_have fs
   where
     by : (f : Filling) (rest all : List Entry) (es : List SliceEndpoint) → f.endpoints ≡ es → rest ≡ all → cond (not (is_empty es)) (entries_of_filling f ++ rest) rest ≡ entries_of_filling f ++ all
     by f rest all [] e h = h ∙ ap (λ es. map (λ e. (sorted_ports f.slice.ports, e)) es ++ all) (sym e)
