@@ -1,5 +1,5 @@
 -- Elements that are kept once, at their first place.
-use Rattle.std.proofs.Common.{inl, inr, Bool, not, List, [], ◌∷◌, Contains, filter, sym, subst}
+use Rattle.std.proofs.Common.{inl, inr, Bool, not, List, [], ◌∷◌, Contains, sym, subst}
 use Rattle.kp_lemmas.proofs.Members.{first_in, later_in, in_cases, from_filter}
 use Rattle.kp_object_defs.specs.Order.{first_places}
 

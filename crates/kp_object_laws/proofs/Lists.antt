@@ -11,7 +11,7 @@ use Rattle.kp_base.proofs.KeyOrder.{endpoint_total, endpoint_exact}
 use Rattle.kp_types.specs.declared.lists.Candidate.{Candidate}
 use Rattle.kp_object_defs.specs.Desired.{is_empty}
 use Rattle.kp_object_defs.specs.Entries.{counted_once, candidates_from}
-use Rattle.kp_object_defs.specs.Lists.{is_ready, is_serving_terminating, is_local_policy, hints_zone, hints_apply, in_zone, or_else, cluster_endpoints, local_endpoints, has_any_endpoint, used}
+use Rattle.kp_object_defs.specs.Lists.{is_ready, is_serving_terminating, hints_zone, in_zone, or_else, cluster_endpoints, local_endpoints, has_any_endpoint, used}
 use Rattle.kp_object_defs.specs.Order.{rises}
 use Rattle.kp_object_laws.specs.ListLaws.{are_in_order, endpoints_of, usable, is_usable, local, AreAmong, CountedInOrder, EntriesInOrder, ListsAmongUsable, ListsInOrder, NoneUsable, ClusterListEmpty, LocalListEmpty}
 use Rattle.kp_lemmas.proofs.Members.{none_passes, without_elements, none_in, in_filter, from_filter, in_map, from_map}

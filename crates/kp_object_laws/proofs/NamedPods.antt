@@ -8,7 +8,7 @@ use Rattle.kp_types.specs.declared.slice.SlicePort.{SlicePort}
 use Rattle.kp_types.specs.declared.slice.Wanted.{Wanted}
 use Rattle.kp_types.specs.declared.pod.Pod.{Pod}
 use Rattle.kp_object_defs.specs.Objects.{zone_of}
-use Rattle.kp_object_defs.specs.Desired.{selects, desired_of, zone_among, in_name_order, with_ports, entry_of, resolved_ports, address_in}
+use Rattle.kp_object_defs.specs.Desired.{selects, desired_of, zone_among, in_name_order, with_ports, entry_of, resolved_ports}
 use Rattle.kp_object_defs.specs.Packing.{same_option, same_object}
 use Rattle.kp_object_defs.proofs.SameObjects.{object_itself}
 use Rattle.kp_object_defs.proofs.AllOf.{holds_of, all_filter_map}

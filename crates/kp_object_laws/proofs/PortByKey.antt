@@ -25,12 +25,11 @@ use Rattle.kp_types.specs.declared.info.ServiceSources.{ServiceSources}
 use Rattle.kp_types.specs.declared.lists.Candidate.{Candidate}
 use Rattle.kp_types.specs.declared.service.Service.{Service}
 use Rattle.kp_types.specs.declared.service.ServicePort.{ServicePort}
-use Rattle.kp_object_defs.specs.Desired.{is_reconciled}
 use Rattle.kp_object_defs.specs.Entries.{sources_of, entries_from}
 use Rattle.kp_object_defs.specs.Objects.{Objects, zone_of}
 use Rattle.kp_object_defs.specs.OwnKeys.{AreUnderOwnKeys}
 use Rattle.kp_object_defs.specs.Order.{by_key, distinct_in_order}
-use Rattle.kp_object_defs.specs.PortInfo.{PortInfo, port_key_of, info_from, info_of, infos_from, ports_of, name_of_port, cluster_address_in}
+use Rattle.kp_object_defs.specs.PortInfo.{PortInfo, port_key_of, info_from, info_of, infos_from, ports_of, name_of_port}
 use Rattle.kp_object_defs.specs.PortByKey.{port_keys_of, port_named, info_in, info_at}
 use Rattle.kp_object_defs.proofs.InOrder.{sorted-in_order}
 use Rattle.kp_object_laws.specs.PortLaws.{PortIsNamed, InfoHasKey, InfosByKeys}

@@ -30,7 +30,7 @@ use Rattle.kp_object_defs.specs.Entries.{is_of_service, is_named, is_type_of}
 use Rattle.kp_object_defs.specs.Objects.{Objects, no_objects, objects_step}
 use Rattle.kp_object_defs.specs.OwnKeys.{IsUnderOwnKeys}
 use Rattle.kp_object_defs.specs.PackingLaws.{have_own_names, are_managed_for, is_managed_for}
-use Rattle.kp_object_defs.specs.SlicesNow.{Slices, slices_step, is_leftover, without_leftovers, managed_slices, names_in, packed_now, after_packing, after_controller, controller_step, Synced, unsynced, sync_step, synced, slices_now}
+use Rattle.kp_object_defs.specs.SlicesNow.{Slices, slices_step, is_leftover, managed_slices, names_in, packed_now, after_packing, after_controller, controller_step, Synced, sync_step, synced, slices_now}
 use Rattle.kp_object_laws.specs.SliceLaws.{SlicesAsFed, SlicesWithoutController, SlicesAfterEvent, SlicesAfterSync, SlicesUnderOwnKeys, ManagedCanBePacked}
 use Rattle.kp_object_laws.proofs.OwnEntries.{owned, AreOwn, own_entries, filter_in_order}
 use Rattle.kp_object_laws.proofs.OwnKeys.{of_none, of_inserted, own_at_first, own_after_event, values_in_order}

@@ -4,7 +4,7 @@ use Rattle.std.specs.List.{list_any, list_all}
 use Rattle.std.proofs.lemmas.Bool.{and_parts}
 use Rattle.kp_types.specs.declared.lists.Candidate.{Candidate}
 use Rattle.kp_object_defs.specs.Desired.{is_empty}
-use Rattle.kp_object_defs.specs.Lists.{is_ready, is_serving_terminating, hints_zone, hints_apply, in_zone, topology_filtered, or_else, cluster_endpoints, has_any_endpoint}
+use Rattle.kp_object_defs.specs.Lists.{is_ready, is_serving_terminating, hints_zone, hints_apply, in_zone, or_else, cluster_endpoints, has_any_endpoint}
 
 -- a list has an element
 abbrev pub is_some_list : {X : Type 0} → List X → Bool

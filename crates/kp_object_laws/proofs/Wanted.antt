@@ -1,5 +1,5 @@
 -- The endpoints that a Service wants of the objects, in whatever order these are given, and their pods.
-use Rattle.std.proofs.Common.{◌≡◌, Bool, true, false, cond, not, ℕ, List, [], ◌∷◌, map, reverse, bytes_eq, Option, Some, None, option_and_then, filter, filter_map, refl, ap, ◌∙◌, Less, is_eq, is_lt}
+use Rattle.std.proofs.Common.{◌≡◌, Bool, true, false, cond, not, ℕ, List, [], ◌∷◌, map, bytes_eq, Option, Some, None, option_and_then, filter, filter_map, refl, ap, ◌∙◌, Less, is_eq, is_lt}
 use Rattle.std.specs.List as list
 use Rattle.std.specs.List.{cons_option, list_any}
 use Rattle.std.specs.Cmp.{eq_by_cmp_equiv}
@@ -22,7 +22,7 @@ use Rattle.kp_types.specs.declared.pod.Pod.{Pod}
 use Rattle.kp_types.specs.declared.pod.Node.{Node}
 use Rattle.kp_object_defs.specs.Objects.{Objects, node_key, zone_of}
 use Rattle.kp_object_defs.specs.OwnKeys.{AreUnderOwnKeys}
-use Rattle.kp_object_defs.specs.Desired.{selects, desired_of, zone_among, in_name_order, with_ports, entry_of, resolved_ports, address_in}
+use Rattle.kp_object_defs.specs.Desired.{selects, desired_of, zone_among, in_name_order, with_ports}
 use Rattle.kp_object_defs.specs.Packing.{same_object}
 use Rattle.kp_object_defs.specs.PackingLaws.{have_own_pods}
 use Rattle.kp_object_laws.specs.ObjectLaws.{HaveSameElements, WantedOfObjects, WantedOfOwnPods, DesiredOfOwnPods}

@@ -1,6 +1,6 @@
 -- What the rules of session affinity do: they go to the first endpoint whose recent list has the
 -- source, and drop what is too old from each list that they look at.
-use Rattle.std.proofs.Common.{◌≡◌, ℕ, suc, Bool, true, false, cond, List, [], ◌∷◌, Contains, Option, Some, None, option_map, refl, sym, ap, ◌∙◌}
+use Rattle.std.proofs.Common.{◌≡◌, ℕ, Bool, true, false, cond, List, [], ◌∷◌, Contains, Option, Some, None, option_map, refl, sym, ap, ◌∙◌}
 use Rattle.kp_lemmas.proofs.Members.{first_in, later_in}
 use Rattle.kp_base.specs.Net.{AddressParts}
 use Rattle.kp_base.specs.declared.key.Endpoint.{Endpoint}

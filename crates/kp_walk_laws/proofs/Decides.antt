@@ -3,7 +3,6 @@ use Rattle.std.proofs.Common.{◌≡◌, ℕ, Bool, true, false, not, ◌&&◌, 
 use Rattle.kp_base.specs.Net.{AddressParts, is_local_address}
 use Rattle.kp_base.specs.declared.key.Endpoint.{Endpoint}
 use Rattle.kp_types.specs.Setting.{FamilyConfig, Setting}
-use Rattle.kp_types.specs.declared.chain.TableName.TheVariants.{Nat}
 use Rattle.kp_types.specs.declared.chain.ChainAt.{ChainAt}
 use Rattle.kp_types.specs.declared.packet.Packet.{Packet}
 use Rattle.kp_types.specs.declared.packet.Origin.{Origin}
@@ -17,9 +16,9 @@ use Rattle.kp_choice_defs.specs.Settings.{pick_by_draws}
 use Rattle.kp_object_defs.specs.PortInfo.{PortInfo}
 use Rattle.kp_door_defs.specs.Decision.{Translation, translation_of, translated, lists_after, refused_by, by_filter, decision_by, decision_from}
 use Rattle.kp_door_defs.specs.Filter.{Refusal, Rejects, DropsClosed, DropsNoLocal, Line, filtered}
-use Rattle.kp_door_defs.specs.Marks.{is_from_node, is_marked}
+use Rattle.kp_door_defs.specs.Marks.{is_from_node}
 use Rattle.kp_table_defs.specs.Matching.{WalkState, Surroundings}
-use Rattle.kp_table_defs.specs.Walk.{Outcome, sent_to, Journey, Translating, after_hook, chain_outcome, most_chains, through, first_hook, is_leaving, onward, verdict_by, walked_by, initial_state, surroundings_of, walk_of, postrouting_if}
+use Rattle.kp_table_defs.specs.Walk.{Outcome, sent_to, Journey, Translating, after_hook, is_leaving, onward, verdict_by, walked_by, initial_state, surroundings_of, walk_of, postrouting_if}
 use Rattle.kp_table_defs.specs.Walk.Outcome.{Next}
 use Rattle.kp_walk_laws.specs.Laws.{Agree, IsKnown}
 use Rattle.kp_walk_laws.proofs.Outcomes.{pathless, next_of, ended_of}

@@ -4,7 +4,7 @@ use Rattle.std.proofs.Common.{◌≡◌, true≢false, ℕ, suc, ◌==◌, Bool,
 use Rattle.std.proofs.Math.Bool.{and_comm, and-false}
 use Rattle.std.specs.List.{find}
 use Rattle.std.proofs.lemmas.Bool.{and_parts}
-use Rattle.kp_base.specs.Net.{AddressParts, same_address, single_range, is_local_address}
+use Rattle.kp_base.specs.Net.{AddressParts, same_address, single_range}
 use Rattle.kp_types.specs.Setting.{FamilyConfig, Setting}
 use Rattle.kp_types.specs.Rules.{rule_of}
 use Rattle.kp_types.specs.Ports.{same_proto}
@@ -20,8 +20,8 @@ use Rattle.kp_types.specs.declared.service.Policy.TheVariants.{Cluster, Local}
 use Rattle.kp_object_defs.specs.Desired.{is_empty}
 use Rattle.kp_object_defs.specs.Lists.{list_by_policy}
 use Rattle.kp_object_defs.specs.PortInfo.{PortInfo, internal_list}
-use Rattle.kp_door_defs.specs.Decision.{Translation, translation_at}
-use Rattle.kp_door_defs.specs.Doors.{Door, Offer, door_at, offer_by_policy, offer_if, offered, outer_offer, is_admitted, is_in_cluster, offer_of, fits, takes}
+use Rattle.kp_door_defs.specs.Decision.{Translation}
+use Rattle.kp_door_defs.specs.Doors.{Door, Offer, door_at, offer_by_policy, offer_if, offered, outer_offer, offer_of, fits, takes}
 use Rattle.kp_table_defs.specs.Matching.{WalkState, Surroundings}
 use Rattle.kp_table_defs.specs.Layout.{port_chain, rule_at, chain_of_policy}
 use Rattle.kp_table_defs.specs.Rebuild.{needs}

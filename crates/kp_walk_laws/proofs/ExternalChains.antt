@@ -1,8 +1,8 @@
 -- What the chain of what comes in from outside does: by the external traffic policy it goes to the
 -- chain of a list, and it comes back where that list is empty, with the packet as it was.
-use Rattle.std.proofs.Common.{◌≡◌, ℕ, suc, Bool, true, false, not, cond, ◌&&◌, ◌||◌, List, [], ◌∷◌, length, Option, Some, None, refl, sym, ap, ap₂, ◌∙◌, true≢false}
+use Rattle.std.proofs.Common.{◌≡◌, ℕ, suc, Bool, true, false, not, cond, ◌&&◌, ◌||◌, List, [], ◌∷◌, Option, Some, None, refl, sym, ap, ap₂, ◌∙◌, true≢false}
 use Rattle.std.proofs.Math.Bool.{and-false}
-use Rattle.kp_base.specs.Net.{RangeParts, range_contains, is_local_address, same_address}
+use Rattle.kp_base.specs.Net.{RangeParts, is_local_address}
 use Rattle.kp_types.specs.Setting.{Setting}
 use Rattle.kp_types.specs.Rules.{rule_of}
 use Rattle.kp_types.specs.Ports.{same_proto}
@@ -20,7 +20,7 @@ use Rattle.kp_choice_defs.specs.Settings.{pick_by_draws}
 use Rattle.kp_object_defs.specs.Desired.{is_empty}
 use Rattle.kp_object_defs.specs.Lists.{is_local_policy, list_by_policy}
 use Rattle.kp_object_defs.specs.PortInfo.{PortInfo, internal_list}
-use Rattle.kp_door_defs.specs.Choice.{Chosen, chosen_endpoint}
+use Rattle.kp_door_defs.specs.Choice.{Chosen}
 use Rattle.kp_door_defs.specs.Doors.{Offer, is_in_cluster, is_in_range, offer_by_policy, outer_offer}
 use Rattle.kp_door_defs.specs.Marks.{marked_outside}
 use Rattle.kp_table_defs.specs.Layout.{mark_masq, jump_to, pod_rules, external_rules, rules_if, chain_of_policy, endpoint_chain, port_chain}
@@ -31,7 +31,7 @@ use Rattle.kp_walk_laws.proofs.Outcomes.{and_then_next, rules_append}
 use Rattle.kp_walk_laws.proofs.Matches.{packet_of, rule_if, tried_alone}
 use Rattle.kp_walk_laws.proofs.EndpointChains.{marked_if, mark_outcome}
 use Rattle.kp_walk_laws.proofs.ListChains.{is_for_address, list_outcome, marks_packet}
-use Rattle.kp_walk_laws.proofs.Arrivals.{FindsChains, chosen_outcome, offer_last, offer_outcome, used_by}
+use Rattle.kp_walk_laws.proofs.Arrivals.{FindsChains, chosen_outcome, offer_last, offer_outcome}
 use Rattle.kp_walk_laws.proofs.PortLookups.{in_either}
 
 -- ---- The chain of a policy's list

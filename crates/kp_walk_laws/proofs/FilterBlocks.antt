@@ -7,7 +7,6 @@ use Rattle.std.proofs.lemmas.Simd.{map-map}
 use Rattle.kp_base.specs.Net.{AddressParts, same_address, single_range, range_contains, loopback_range, is_local_address}
 use Rattle.kp_base.specs.declared.address.Family.{Family}
 use Rattle.kp_types.specs.Setting.{FamilyConfig}
-use Rattle.kp_types.specs.Rules.{rule_of}
 use Rattle.kp_types.specs.Ports.{same_proto}
 use Rattle.kp_types.specs.declared.decision.DoorKind.{DoorKind}
 use Rattle.kp_types.specs.declared.decision.DoorKind.TheVariants as door
@@ -18,12 +17,12 @@ use Rattle.kp_types.specs.declared.rule.Target.TheVariants as target
 use Rattle.kp_types.specs.declared.walk.Ending.{Ending}
 use Rattle.kp_types.specs.declared.walk.Ending.TheVariants as ending
 use Rattle.kp_object_defs.specs.Desired.{is_empty}
-use Rattle.kp_object_defs.specs.PortInfo.{PortInfo, internal_list, external_list}
+use Rattle.kp_object_defs.specs.PortInfo.{PortInfo}
 use Rattle.kp_door_defs.specs.Doors.{Door, door_at, node_door, fits}
 use Rattle.kp_door_defs.specs.Filter.{Refusal, Rejects, DropsClosed, DropsNoLocal, Line, line_of, refusal_by, firewall_lines, external_lines, service_lines}
 use Rattle.kp_table_defs.specs.Matching.{WalkState, Surroundings, try_all}
 use Rattle.kp_table_defs.specs.Layout.{rule_at, rules_if, firewall_block, external_block, refusal_block, refusal_target, node_port_refusal, own_addresses}
-use Rattle.kp_table_defs.specs.Walk.{Outcome, target_if, target_outcome, rule_outcome}
+use Rattle.kp_table_defs.specs.Walk.{Outcome, target_if, target_outcome}
 use Rattle.kp_table_defs.specs.Walk.Outcome.{Next, Ended}
 use Rattle.kp_walk_laws.proofs.Outcomes.{FindIn, IsRuleOf, IsLast, pathless_by, ended_last, find_in_one, find_in_map, find_in_append}
 use Rattle.kp_walk_laws.proofs.Matches.{packet_of, rule_if, door_tried, tried_alone, tried_before}

@@ -1,6 +1,5 @@
 -- What the first hook does: it translates as the first door says that takes the packet.
-use Rattle.std.proofs.Common.{◌≡◌, ℕ, Bool, true, false, not, cond, List, [], ◌∷◌, ◌++◌, Contains, Option, Some, None, is_some, option_map, option_and_then, flat_map, codes, refl, sym, ap, ◌∙◌}
-use Rattle.std.specs.List.{find}
+use Rattle.std.proofs.Common.{◌≡◌, ℕ, true, not, List, [], ◌∷◌, ◌++◌, Contains, Option, Some, None, is_some, option_map, option_and_then, flat_map, codes, refl, ap, ◌∙◌}
 use Rattle.std.proofs.lemmas.Bool.{and_parts}
 use Rattle.kp_types.specs.Setting.{Setting}
 use Rattle.kp_types.specs.Rules.{rule_of}
@@ -18,7 +17,7 @@ use Rattle.kp_door_defs.specs.Decision.{Translation, translation_at, translation
 use Rattle.kp_door_defs.specs.Doors.{Door, doors_of, fits, offer_of, takes, taking_door}
 use Rattle.kp_table_defs.specs.Layout.{jump_to, mark_masq, kube_services, kube_node_ports, kube_postrouting, service_block, node_port_block, own_addresses}
 use Rattle.kp_table_defs.specs.Matching.{WalkState, Surroundings}
-use Rattle.kp_table_defs.specs.Walk.{Outcome, found_outcome, returned_from, rules_outcome, chain_outcome, first_hook, most_chains}
+use Rattle.kp_table_defs.specs.Walk.{Outcome, found_outcome, returned_from, chain_outcome, first_hook, most_chains}
 use Rattle.kp_table_defs.specs.Walk.Outcome.{Next, Stuck}
 use Rattle.kp_object_laws.proofs.PortByKey.{found_passes}
 use Rattle.kp_walk_laws.specs.Laws.{IsKnown}

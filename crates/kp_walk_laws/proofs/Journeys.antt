@@ -17,7 +17,7 @@ use Rattle.kp_types.specs.declared.verdict.Verdict.TheVariants.{Rejected, Droppe
 use Rattle.kp_object_defs.specs.PortInfo.{PortInfo}
 use Rattle.kp_door_defs.specs.Filter.{Refusal, Rejects, DropsClosed, DropsNoLocal, Line, Hook, Input, Forward, Output, hook_lines, hooks_by}
 use Rattle.kp_table_defs.specs.Matching.{WalkState, Surroundings}
-use Rattle.kp_table_defs.specs.Walk.{Outcome, chain_outcome, most_chains, Journey, Filtering, Masquerading, after_hook, through, routed_hook, input_if, filter_hooks, postrouting_if, verdict_by, walked_by}
+use Rattle.kp_table_defs.specs.Walk.{Outcome, Journey, Filtering, Masquerading, after_hook, through, routed_hook, input_if, filter_hooks, postrouting_if, verdict_by, walked_by}
 use Rattle.kp_table_defs.specs.Walk.Outcome.{Ended}
 use Rattle.kp_walk_laws.proofs.FilterBlocks.{ending_of, fits_line}
 use Rattle.kp_walk_laws.proofs.FilterChains.{IsFiltered, FindsFilter, first_line, hook_chain, hook_filtered}

@@ -1,12 +1,12 @@
 -- The ports of some objects have keys of their own, and what is known of them hangs together.
-use Rattle.std.proofs.Common.{◌≡◌, inl, inr, Bool, true, false, not, cond, ℕ, List, [], ◌∷◌, map, Contains, Option, Some, None, option_map, filter_map, refl, sym, ap, subst, ◌∙◌, T}
+use Rattle.std.proofs.Common.{◌≡◌, Bool, true, false, not, cond, ℕ, List, ◌∷◌, map, Option, Some, None, sym, ap, subst, ◌∙◌, T}
 use Rattle.std.proofs.lemmas.Bool.{or_right}
 use Rattle.std.specs.FinMap.{values}
 use Rattle.std.proofs.Math.Bool.{not-not}
 use Rattle.std.proofs.lemmas.Option.{cond_some}
 use Rattle.kp_lemmas.proofs.Members.{from_filter_map, in_map}
 use Rattle.kp_lemmas.proofs.Options.{from_option_map}
-use Rattle.kp_base.specs.Net.{AddressParts, same_family}
+use Rattle.kp_base.specs.Net.{AddressParts}
 use Rattle.kp_base.specs.declared.address.Family.{Family}
 use Rattle.kp_base.specs.declared.key.PortKey.{PortKey}
 use Rattle.kp_base.proofs.KeyOrder.{port_key_total}
@@ -17,11 +17,10 @@ use Rattle.kp_types.specs.declared.service.ClusterAddress.{ClusterAddress}
 use Rattle.kp_types.specs.declared.service.ClusterAddress.TheVariants.{Absent, Headless, At}
 use Rattle.kp_types.specs.declared.service.Service.{Service}
 use Rattle.kp_types.specs.declared.service.ServicePort.{ServicePort}
-use Rattle.kp_object_defs.specs.Desired.{is_external_name}
 use Rattle.kp_object_defs.specs.Entries.{sources_of, entries_from}
-use Rattle.kp_object_defs.specs.Lists.{is_local_policy, has_any_endpoint}
+use Rattle.kp_object_defs.specs.Lists.{has_any_endpoint}
 use Rattle.kp_object_defs.specs.Objects.{zone_of}
-use Rattle.kp_object_defs.specs.PortInfo.{PortInfo, port_infos, address_at, cluster_address_in, is_reachable_in, port_key_of, info_from, info_of, service_ports}
+use Rattle.kp_object_defs.specs.PortInfo.{PortInfo, port_infos, address_at, cluster_address_in, is_reachable_in, port_key_of, info_from, service_ports}
 use Rattle.kp_object_laws.proofs.Lists.{none_usable, cluster_empty}
 use Rattle.kp_table_laws.proofs.PortOrder.{ports_are_in_order}
 use Rattle.kp_walk_laws.specs.Laws.{IsKnown, KnownPorts, PortKeysOnce}

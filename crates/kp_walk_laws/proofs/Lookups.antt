@@ -12,11 +12,10 @@ use Rattle.std.proofs.lemmas.Bool.{or_parts}
 use Rattle.std.proofs.lemmas.Map.Views.{list_any-from_Contains}
 use Rattle.kp_lemmas.proofs.Orders.{equal_from_test, tie_of_itself}
 use Rattle.kp_lemmas.proofs.Members.{first_in, later_in, in_map}
-use Rattle.kp_base.specs.Keys.{text_cmp}
 use Rattle.kp_base.specs.declared.address.Family.{Family}
 use Rattle.kp_base.specs.declared.address.Family.TheVariants.{V4, V6}
 use Rattle.kp_types.specs.Setting.{Setting}
-use Rattle.kp_types.specs.Places.{chain_cmp, table_cmp}
+use Rattle.kp_types.specs.Places.{chain_cmp}
 use Rattle.kp_types.proofs.ChainOrder.{chain_total, chain_exact}
 use Rattle.kp_types.specs.declared.chain.TableName.TheVariants.{Nat, Filter}
 use Rattle.kp_types.specs.declared.chain.ChainAt.{ChainAt}

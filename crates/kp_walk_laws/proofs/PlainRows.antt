@@ -1,5 +1,5 @@
 -- Without session affinity no row of the full table has a recent match.
-use Rattle.std.proofs.Common.{◌≡◌, ℕ, Bool, true, false, not, cond, ◌&&◌, List, [], ◌∷◌, ◌++◌, map, Contains, Option, Some, None, flat_map, refl, sym, ap, ◌∙◌}
+use Rattle.std.proofs.Common.{◌≡◌, ℕ, Bool, true, false, not, cond, ◌&&◌, List, [], ◌∷◌, ◌++◌, map, Contains, Option, Some, None, refl, sym, ap, ◌∙◌}
 use Rattle.std.specs.FinMap.{find, get-from_entries}
 use Rattle.std.specs.Ordering.{eq_by_cmp}
 use Rattle.std.specs.List.{list_all}
@@ -13,7 +13,7 @@ use Rattle.kp_types.specs.Places.{chain_cmp}
 use Rattle.kp_types.proofs.ChainOrder.{chain_total}
 use Rattle.kp_types.specs.Rules.{rule_of}
 use Rattle.kp_types.specs.declared.chain.ChainAt.{ChainAt}
-use Rattle.kp_types.specs.declared.chain.PortChain.TheVariants.{Svc, Svl, Ext, Fw}
+use Rattle.kp_types.specs.declared.chain.PortChain.TheVariants.{Svc}
 use Rattle.kp_types.specs.declared.rule.Rule.{Rule}
 use Rattle.kp_types.specs.declared.rule.Match.TheVariants as match
 use Rattle.kp_types.specs.declared.rule.Target.{Target}
@@ -21,9 +21,8 @@ use Rattle.kp_types.specs.declared.rule.Target.TheVariants as target
 use Rattle.kp_types.specs.declared.service.Policy.{Policy}
 use Rattle.kp_types.specs.declared.service.Policy.TheVariants.{Cluster, Local}
 use Rattle.kp_object_defs.specs.Desired.{is_empty}
-use Rattle.kp_object_defs.specs.Lists.{is_local_policy}
 use Rattle.kp_object_defs.specs.PortInfo.{PortInfo, internal_list, external_list, is_accessible}
-use Rattle.kp_table_defs.specs.Layout.{rule_at, jump_to, choice_rules, affinity_rules, mark_rules, rules_if, list_rules, set_seen, endpoint_rules, external_rules, pod_rules, firewall_chain_rules, service_block, node_port_rules, node_port_block, firewall_block, has_firewall, refusal_target, node_port_refusal, external_block, refusal_block, port_chain, endpoint_chain, chain_of_policy, balancer_chain, mark_masq, rows_if, row, nat_table, all_endpoints, nat_rows, filter_rows, port_rows, rows_of, own_addresses, kube_node_ports}
+use Rattle.kp_table_defs.specs.Layout.{rule_at, choice_rules, affinity_rules, mark_rules, list_rules, set_seen, endpoint_rules, external_rules, pod_rules, firewall_chain_rules, service_block, node_port_rules, node_port_block, firewall_block, has_firewall, node_port_refusal, external_block, refusal_block, port_chain, endpoint_chain, rows_if, all_endpoints, nat_rows, filter_rows, port_rows, rows_of, own_addresses, kube_node_ports}
 use Rattle.kp_table_defs.specs.Plain.{is_plain_match, is_plain}
 use Rattle.kp_walk_laws.specs.Laws.{FullTablePlain}
 use Rattle.kp_walk_laws.proofs.Lookups.{Row}

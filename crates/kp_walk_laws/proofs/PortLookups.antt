@@ -2,7 +2,7 @@
 use Rattle.std.proofs.Common.{◌≡◌, inl, inr, ℕ, Bool, true, false, not, List, [], ◌∷◌, ◌++◌, map, Contains, Some, None, flat_map, bytes_eq, refl, sym, ap, ap₂, subst, ◌∙◌}
 use Rattle.std.specs.FinMap.{IsAntisymmetric, find, put}
 use Rattle.std.specs.FinMap.Entries.{by_order}
-use Rattle.std.specs.List.{filter, list_any}
+use Rattle.std.specs.List.{list_any}
 use Rattle.std.specs.declared.cmp.Ordering.{Ordering}
 use Rattle.std.specs.declared.cmp.Ordering.TheVariants.{Less, Equal, Greater}
 use Rattle.std.proofs.lemmas.List.{map-append}
@@ -33,7 +33,7 @@ use Rattle.kp_object_defs.specs.Lists.{list_by_policy}
 use Rattle.kp_object_defs.specs.Order.{in_order, distinct_in_order}
 use Rattle.kp_object_defs.specs.PortInfo.{PortInfo}
 use Rattle.kp_table_defs.specs.Layout.{row, rows_if, nat_table, endpoint_rules, all_endpoints, has_endpoint, port_rows}
-use Rattle.kp_table_defs.specs.Rebuild.{needs, port_keys, endpoint_keys, needed_keys}
+use Rattle.kp_table_defs.specs.Rebuild.{needs, port_keys, needed_keys}
 use Rattle.kp_walk_laws.specs.Laws.{HaveOwnKeys, IsPrefixed}
 use Rattle.kp_walk_laws.proofs.Arrivals.{FindsChains, chain_rules}
 use Rattle.kp_walk_laws.proofs.Entries.{from_in_order}

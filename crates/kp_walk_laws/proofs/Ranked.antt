@@ -1,5 +1,5 @@
 -- Each jump of the full table goes to a chain that stands and has a greater rank.
-use Rattle.std.proofs.Common.{◌≡◌, ℕ, Bool, true, false, not, nat_lt, List, [], ◌∷◌, ◌++◌, map, Contains, Option, Some, None, is_some, flat_map, codes, append-nil, refl, sym, ap, subst, ◌∙◌}
+use Rattle.std.proofs.Common.{◌≡◌, ℕ, Bool, true, false, not, nat_lt, List, [], ◌∷◌, ◌++◌, map, Contains, Option, Some, None, is_some, flat_map, append-nil, refl, sym, ap, subst, ◌∙◌}
 use Rattle.std.specs.FinMap.{entries, get}
 use Rattle.std.specs.List.{list_all}
 use Rattle.std.proofs.lemmas.Bool.{and_from}
@@ -30,7 +30,7 @@ use Rattle.kp_choice_defs.specs.Names.{hash_text, port_text, port_chain_prefix}
 use Rattle.kp_object_defs.specs.Desired.{is_empty}
 use Rattle.kp_object_defs.specs.Lists.{is_local_policy, list_by_policy}
 use Rattle.kp_object_defs.specs.PortInfo.{PortInfo, internal_list, external_list, port_infos}
-use Rattle.kp_table_defs.specs.Layout.{rule_at, jump_to, affinity_rules, balancer_chain, choice_rules, external_rules, firewall_chain_rules, node_port_rules, pod_rules, mark_rules, rules_if, list_rules, endpoint_rules, endpoint_chain, port_chain, chain_of_policy, mark_masq, kube_services, kube_node_ports, kube_postrouting, kube_proxy_firewall, kube_external_services, kube_forward, service_block, node_port_block, has_firewall, firewall_block, node_port_refusal, external_block, refusal_block, refusal_target, own_addresses, nat_rows, filter_rows, port_rows, rows_of}
+use Rattle.kp_table_defs.specs.Layout.{rule_at, jump_to, affinity_rules, balancer_chain, choice_rules, external_rules, firewall_chain_rules, node_port_rules, pod_rules, mark_rules, list_rules, endpoint_chain, port_chain, chain_of_policy, mark_masq, kube_services, kube_node_ports, kube_postrouting, kube_proxy_firewall, kube_external_services, kube_forward, service_block, node_port_block, has_firewall, firewall_block, node_port_refusal, external_block, refusal_block, refusal_target, own_addresses, nat_rows, filter_rows, port_rows, rows_of}
 use Rattle.kp_table_defs.specs.Ranks.{rank_of, is_above, goes_on, jumps_go_on, is_ranked_chain, is_ranked, built_in_chains, has_built_in}
 use Rattle.kp_table_defs.specs.Rebuild.{Chains, full_chains, needs}
 use Rattle.kp_table_defs.specs.StandIn.{hex_text}

@@ -5,9 +5,7 @@ use Rattle.std.proofs.Math.Bool.{and_comm, and-false, and-true}
 use Rattle.std.specs.List.{find}
 use Rattle.kp_base.specs.Net.{AddressParts, range_contains, loopback_range, is_local_address}
 use Rattle.kp_types.specs.Setting.{Setting}
-use Rattle.kp_types.specs.Rules.{rule_of}
 use Rattle.kp_types.specs.Ports.{same_proto}
-use Rattle.kp_types.specs.declared.chain.TableName.TheVariants.{Nat}
 use Rattle.kp_types.specs.declared.chain.ChainAt.{ChainAt}
 use Rattle.kp_types.specs.declared.chain.PortChain.TheVariants.{Ext}
 use Rattle.kp_types.specs.declared.decision.DoorKind.{DoorKind}
@@ -19,9 +17,8 @@ use Rattle.kp_object_defs.specs.Desired.{is_empty}
 use Rattle.kp_object_defs.specs.PortInfo.{PortInfo, internal_list}
 use Rattle.kp_door_defs.specs.Doors.{Door, door_at, offer_of, address_doors, node_door, fits}
 use Rattle.kp_table_defs.specs.Matching.{WalkState, Surroundings}
-use Rattle.kp_table_defs.specs.Layout.{port_chain, rule_at, service_block, node_port_block, node_port_rules, chain_of_policy, rules_if}
+use Rattle.kp_table_defs.specs.Layout.{port_chain, rule_at, service_block, node_port_block, node_port_rules, rules_if}
 use Rattle.kp_table_defs.specs.Rebuild.{needs}
-use Rattle.kp_table_defs.specs.Walk.{Outcome, chain_outcome}
 use Rattle.kp_table_defs.specs.Walk.Outcome.{Next}
 use Rattle.kp_walk_laws.specs.Laws.{IsKnown}
 use Rattle.kp_walk_laws.proofs.Outcomes.{find_in_one, find_in_map, find_in_append, find_in_behind, none_found, none_appended, none_first}

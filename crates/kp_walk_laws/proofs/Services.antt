@@ -12,15 +12,15 @@ use Rattle.kp_types.specs.declared.rule.Match.TheVariants as match
 use Rattle.kp_types.specs.declared.rule.Rule.{Rule}
 use Rattle.kp_types.specs.declared.rule.Target.TheVariants as target
 use Rattle.kp_object_defs.specs.PortInfo.{PortInfo}
-use Rattle.kp_door_defs.specs.Decision.{Translation, translation_at}
+use Rattle.kp_door_defs.specs.Decision.{Translation}
 use Rattle.kp_door_defs.specs.Doors.{Door, door_at, address_doors, node_door}
 use Rattle.kp_table_defs.specs.Matching.{WalkState, Surroundings, try_all}
 use Rattle.kp_table_defs.specs.Layout.{kube_node_ports, service_block, node_port_block, own_addresses}
-use Rattle.kp_table_defs.specs.Walk.{Outcome, found_outcome, returned_from, target_if, rule_outcome, rules_outcome, chain_outcome}
+use Rattle.kp_table_defs.specs.Walk.{found_outcome, returned_from, target_if}
 use Rattle.kp_table_defs.specs.Walk.Outcome.{Stuck}
 use Rattle.kp_walk_laws.specs.Laws.{IsKnown}
 use Rattle.kp_walk_laws.proofs.Outcomes.{pathless, pathless_returned, find_in_each, find_in_behind, none_in_all, none_in_each, none_first, or_next, and_then_next}
-use Rattle.kp_walk_laws.proofs.Matches.{packet_of, rule_if, tried_alone, tried_before}
+use Rattle.kp_walk_laws.proofs.Matches.{rule_if, tried_alone, tried_before}
 use Rattle.kp_walk_laws.proofs.Arrivals.{arriving}
 use Rattle.kp_walk_laws.proofs.DoorRules.{LeadsTo, SendAs, jump_at, is_taken, does, does_last, none_sends}
 use Rattle.kp_walk_laws.proofs.ServiceBlocks.{is_own, block_sends, node_block_sends, none_elsewhere}

@@ -5,12 +5,12 @@ use Rattle.kp_base.specs.declared.key.Endpoint.{Endpoint}
 use Rattle.kp_base.specs.declared.key.PortKey.{PortKey}
 use Rattle.kp_types.specs.Setting.{Pick, Setting}
 use Rattle.kp_types.specs.declared.packet.Packet.{Packet}
-use Rattle.kp_choice_defs.specs.Draws.{draw_at, draw_matches, probability_of, selected_index}
+use Rattle.kp_choice_defs.specs.Draws.{selected_index}
 use Rattle.kp_choice_defs.specs.Recent.{RecentParts}
 use Rattle.kp_choice_defs.specs.Settings.{pick_by_draws}
 use Rattle.kp_object_defs.specs.Desired.{is_empty}
-use Rattle.kp_door_defs.specs.Choice.{Chosen, chosen_endpoint, drawn_as, drawn_at, drawn, found_or, live_endpoint, recent_name, remembered}
-use Rattle.kp_door_defs.specs.Decision.{translation_at, choice_at}
+use Rattle.kp_door_defs.specs.Choice.{Chosen, chosen_endpoint, drawn_at, drawn, found_or, live_endpoint, recent_name, remembered}
+use Rattle.kp_door_defs.specs.Decision.{translation_at}
 use Rattle.kp_door_defs.specs.Doors.{Door, offer_of}
 
 below_if : (b : Bool) (x n : ℕ) → x < n → (if b then 0 else suc x) < suc n
