@@ -23,7 +23,7 @@ use Rattle.kp_object_defs.specs.Objects.{Objects, objects_step}
 use Rattle.kp_object_defs.specs.Order.{rises, in_order, distinct_in_order}
 use Rattle.kp_object_defs.specs.OwnKeys.{AreUnderOwnKeys}
 use Rattle.kp_object_defs.specs.Packing.{same_option}
-use Rattle.kp_object_defs.specs.PortByKey.{port_keys, port_keys_of}
+use Rattle.kp_object_defs.specs.PortByKey.{port_keys_of}
 use Rattle.kp_object_defs.proofs.AllOf.{all_filter}
 use Rattle.kp_object_defs.proofs.InOrder.{sorted-in_order}
 use Rattle.kp_history_defs.specs.Affected.{affects, affected_ports}

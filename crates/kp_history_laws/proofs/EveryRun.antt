@@ -17,7 +17,7 @@ use Rattle.kp_door_defs.specs.Decision.{decision_of}
 use Rattle.kp_walk_laws.specs.Laws.{Agree, HashedPrefixed, WalkDecidesObjects}
 use Rattle.kp_history_defs.specs.History.{counts_of, objects_covered}
 use Rattle.kp_history_defs.specs.declared.fed.Fed.{Fed}
-use Rattle.kp_history_defs.specs.Runs.{RunState, Step, Feed, Take, Sync, Refuse, Publish, Read, Tell, IsRun, IsAllowed, initial, state_after, after_take, after_sync, events_of, objects_now, next_record}
+use Rattle.kp_history_defs.specs.Runs.{RunState, Step, Feed, Take, Sync, IsRun, IsAllowed, initial, state_after, after_take, after_sync, events_of, objects_now}
 use Rattle.kp_history_laws.specs.EventLaws.{has_port, UnaffectedInputs}
 use Rattle.kp_history_laws.specs.HistoryLaws.{ExactTables}
 use Rattle.kp_history_laws.specs.KeptLaws.{EnoughByRules}

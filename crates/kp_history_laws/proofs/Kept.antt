@@ -11,7 +11,7 @@ use Rattle.kp_types.specs.Setting.{Setting}
 use Rattle.kp_object_defs.specs.Objects.{Objects, objects_step}
 use Rattle.kp_object_defs.specs.OwnKeys.{AreUnderOwnKeys}
 use Rattle.kp_object_defs.specs.PortInfo.{PortInfo, port_infos}
-use Rattle.kp_object_defs.specs.PortByKey.{port_keys, info_at}
+use Rattle.kp_object_defs.specs.PortByKey.{port_keys}
 use Rattle.kp_object_laws.specs.ObjectLaws.{OwnKeysAfterEvent}
 use Rattle.kp_object_laws.specs.PortLaws.{InfoHasKey, InfosByKeys}
 use Rattle.kp_table_defs.specs.Parts.{PortRules, RulesByPort, rules_of_port, rules_of_objects}

@@ -7,7 +7,7 @@ use Rattle.kp_types.specs.Setting.{Setting}
 use Rattle.kp_types.specs.declared.event.Event.{Event}
 use Rattle.kp_types.specs.declared.sync.SyncRecord.{SyncRecord}
 use Rattle.kp_history_defs.specs.declared.fed.Fed.{Fed}
-use Rattle.kp_history_defs.specs.Runs.{RunState, Step, Feed, Take, Sync, Refuse, Publish, Read, Tell, IsRun, IsRunFrom, IsAllowed, initial, state_after, after_take, at_number, longer, is_of_stream, numbered, published_records, next_record}
+use Rattle.kp_history_defs.specs.Runs.{RunState, Step, Feed, Take, Sync, Refuse, Publish, Read, Tell, IsRun, IsRunFrom, IsAllowed, initial, state_after, after_take, at_number, is_of_stream, numbered, next_record}
 use Rattle.kp_history_defs.proofs.Numbered.{numbered_push}
 use Rattle.kp_history_laws.specs.RunLaws.{RunsJoin, RunsSplit, StreamsKeepOrder, SeenIsPublished, PublishedAreRecords, SeenOnlyGrows, BeginsWith}
 

@@ -29,9 +29,8 @@ use Rattle.kp_types.specs.declared.service.Policy.{Policy}
 use Rattle.kp_types.specs.declared.service.Policy.TheVariants.{Cluster, Local}
 use Rattle.kp_choice_defs.specs.Draws.{half_even, probability_of}
 use Rattle.kp_object_defs.specs.Desired.{is_empty}
-use Rattle.kp_object_defs.specs.Lists.{is_local_policy}
 use Rattle.kp_object_defs.specs.PortInfo.{PortInfo, is_accessible, internal_list, external_list}
-use Rattle.kp_table_defs.specs.Layout.{mark_masq, kube_node_ports, port_chain, endpoint_chain, chain_of_policy, jump_to, rule_at, chance, choice_rules, affinity_rules, mark_rules, rules_if, list_rules, set_seen, endpoint_rules, pod_rules, external_rules, balancer_chain, service_block, node_port_rules, node_port_block, has_firewall, firewall_block, refusal_target, own_addresses, node_port_refusal, external_block, refusal_block, nat_table, row, nat_rows_with, nat_rows, filter_rows_with, filter_rows, rows_if, all_endpoints, has_endpoint, firewall_chain_rules, port_rows, rows_of}
+use Rattle.kp_table_defs.specs.Layout.{mark_masq, kube_node_ports, port_chain, endpoint_chain, chain_of_policy, jump_to, rule_at, choice_rules, affinity_rules, mark_rules, list_rules, set_seen, endpoint_rules, pod_rules, external_rules, balancer_chain, service_block, node_port_rules, node_port_block, has_firewall, firewall_block, refusal_target, own_addresses, node_port_refusal, external_block, refusal_block, nat_table, row, nat_rows_with, nat_rows, filter_rows_with, filter_rows, all_endpoints, has_endpoint, firewall_chain_rules, port_rows, rows_of}
 use Rattle.kp_restore_defs.specs.RuleText.{is_canonical_address, is_canonical_range, is_canonical_endpoint, is_canonical_match, is_canonical_target, is_canonical_rule, is_port_number}
 use Rattle.kp_walk_laws.proofs.Passing.{Pass, pass_none, pass_first, pass_one, pass_both, pass_map, pass_pieces, pass_if, pass_rows_if}
 use Rattle.kp_text_laws.specs.Bounds.{passes_if_some, is_timeout, IsBoundedInfo}

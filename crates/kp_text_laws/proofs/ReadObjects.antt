@@ -22,17 +22,17 @@ use Rattle.kp_types.specs.declared.pod.Pod.{Pod}
 use Rattle.kp_types.specs.declared.service.ClusterAddress.TheVariants.{Headless}
 use Rattle.kp_types.specs.declared.service.Service.{Service}
 use Rattle.kp_types.specs.declared.slice.AddressType.{AddressType}
-use Rattle.kp_types.specs.declared.slice.AddressType.TheVariants.{Ipv4, Ipv6, Fqdn}
+use Rattle.kp_types.specs.declared.slice.AddressType.TheVariants.{Ipv4}
 use Rattle.kp_types.specs.declared.slice.Slice.{Slice}
 use Rattle.kp_restore_defs.specs.RuleText.{is_port_number}
 use Rattle.kp_row_defs.specs.Fields.{address_in, address_of_text, inner, is_text, items_in, text_in, whole_in, whole_of}
 use Rattle.kp_row_defs.specs.Rows.{each, field, form_fault, inside, needed, optional, row_fault, rows_fault, unless_fault, whole, whole_or_text}
 use Rattle.kp_event_defs.specs.EventText.{Action, Refused, acted, apply_at, apply_each, applies, delete_at, deleted_key, deleted_row, deletes, kind_at, kind_text, kinded, list_events, object_as, object_at, object_events, of_field, or_no_event, passes, single, watched, actions, ◌>>=◌}
 use Rattle.kp_event_defs.specs.PodText.{container_port, container_port_rows, container_ports, container_rows, pod_from, pod_rows, pod_spec_row, pod_spec_rows, read_node, read_pod}
-use Rattle.kp_event_defs.specs.ServiceText.{affinity_of, affinity_row, affinity_timeout, at_address, client_rows, cluster_of, ingress_address, not_zero, numbered_target, ranges_of, read_service, service_from, service_port, service_port_rows, service_ports, service_rows, service_spec_rows, service_unless, target_of, timeout_rows}
+use Rattle.kp_event_defs.specs.ServiceText.{affinity_of, affinity_row, affinity_timeout, at_address, client_rows, cluster_of, ingress_address, not_zero, ranges_of, read_service, service_from, service_port, service_port_rows, service_ports, service_rows, service_spec_rows, service_unless, target_of, timeout_rows}
 use Rattle.kp_event_defs.specs.ServiceText as service
 use Rattle.kp_event_defs.specs.SliceText as slice
-use Rattle.kp_event_defs.specs.SliceText.{address_of_type, address_type_in, endpoint_from, first_of_type, read_slice, slice_from, slice_port, slice_port_rows, slice_rows}
+use Rattle.kp_event_defs.specs.SliceText.{address_type_in, endpoint_from, first_of_type, read_slice, slice_from, slice_port, slice_port_rows, slice_rows}
 use Rattle.kp_json.specs.Places as places
 use Rattle.kp_text_laws.specs.Bounds.{AreBoundedEvents, IsBoundedEvent, IsBoundedObject, IsBoundedPod, IsBoundedService, IsBoundedSlice, is_bounded_address, is_bounded_cluster_address, is_bounded_container_port, is_bounded_entry, is_bounded_port, is_bounded_range, is_bounded_slice_port, is_bounded_target, is_timeout, passes_if_some}
 use Rattle.kp_text_laws.specs.BoundLaws.{ReadIsBounded}
