@@ -40,7 +40,7 @@ same_by : (setting : Setting) (o p : Objects) (key : PortKey) → get p.services
     → ((s : Service) → get o.services key.object ≡ Some s → (port : ServicePort) → inputs_in setting p s port ≡ inputs_in setting o s port)
     → inputs_of setting p key ≡ inputs_of setting o key
 same_by setting o p key at each =
-    ap (option_and_then (λ s. option_map (inputs_in setting p s) (port_named key s))) at ∙ service (get o.services key.object) refl
+    ap (option_and_then (λ s. option_map (inputs_in setting p s) (port_named key s))) at ∙ service _ refl
   where
     port : (s : Service) → get o.services key.object ≡ Some s → (found : Option ServicePort) → option_map (inputs_in setting p s) found ≡ option_map (inputs_in setting o s) found
     port s is None = refl
@@ -49,7 +49,7 @@ same_by setting o p key at each =
     service : (found : Option Service) → get o.services key.object ≡ found
         → option_and_then (λ s. option_map (inputs_in setting p s) (port_named key s)) found ≡ option_and_then (λ s. option_map (inputs_in setting o s) (port_named key s)) found
     service None is = refl
-    service (Some s) is = port s is (port_named key s)
+    service (Some s) is = port s is _
 
 -- what a port contributes to the table is told by its inputs
 pub same_rules : (setting : Setting) (o p : Objects) (key : PortKey) → inputs_of setting p key ≡ inputs_of setting o key → rules_at setting p key ≡ rules_at setting o key
@@ -81,7 +81,7 @@ slices_stay : (setting : Setting) (o : Objects) (slices : finite.FinMap key_cmp 
     → filter (is_of_service key.object) (finite.values slices) ≡ filter (is_of_service key.object) (finite.values o.slices)
     → inputs_of setting (record o { slices = slices }) key ≡ inputs_of setting o key
 slices_stay setting o slices key own same =
-    same_by setting o (record o { slices = slices }) key refl (λ s at port.
+    same_by setting o _ key refl (λ s at port.
     let named : s.key ≡ key.object = own.services key.object s at in
     let of_s : filter (is_of_service s.key) (finite.values slices) ≡ slices_of o s.key =
     ap (λ k. filter (is_of_service k) (finite.values slices)) named ∙ same ∙ sym (ap (λ k. filter (is_of_service k) (finite.values o.slices)) named) in
@@ -108,7 +108,7 @@ others o s = record { service = s; wanted = []; slices = slices_of o s.key }
 sources_by_pods : (setting : Setting) (o : Objects) (s : Service) (pods : finite.FinMap key_cmp Pod)
     → (is_reconciled setting.config s ≡ true → filter (selects s) (finite.values pods) ≡ filter (selects s) (finite.values o.pods))
     → sources_of setting.family setting.config (record o { pods = pods }) s ≡ sources_of setting.family setting.config o s
-sources_by_pods setting o s pods same = by (is_reconciled setting.config s) refl
+sources_by_pods setting o s pods same = by _ refl
   where
     by : (b : Bool) → is_reconciled setting.config s ≡ b
         → cond b (managed o s (desired_endpoints_of setting.family (record o { pods = pods }) s)) (others o s) ≡ cond b (managed o s (desired_endpoints_of setting.family o s)) (others o s)
@@ -119,7 +119,7 @@ pods_stay : (setting : Setting) (o : Objects) (pods : finite.FinMap key_cmp Pod)
     → ((s : Service) → get o.services key.object ≡ Some s → is_reconciled setting.config s ≡ true → filter (selects s) (finite.values pods) ≡ filter (selects s) (finite.values o.pods))
     → inputs_of setting (record o { pods = pods }) key ≡ inputs_of setting o key
 pods_stay setting o pods key same =
-    same_by setting o (record o { pods = pods }) key refl (λ s at port i. record {
+    same_by setting o _ key refl (λ s at port i. record {
       service = s;
       entries = entries_from setting.family setting.config.node (sources_by_pods setting o s pods (same s at) i) (port_key_of s port);
       zone = zone_of o setting.config.node;
@@ -135,26 +135,26 @@ neither setting o key before after h s at is =
 
 pub unaffected_service : UnaffectedService
 unaffected_service setting o (Apply (object.Service s)) key own h =
-    same_by setting o (record o { services = finite.insert o.services s.key s }) key
+    same_by setting o _ key
     (get-insert key_total o.services s.key s key.object ∙ ap (λ b. cond b (Some s) (get o.services key.object)) (other_key key.object s.key h)) (λ t at port. refl)
 unaffected_service setting o (Delete kind.Service k) key own h =
-    same_by setting o (record o { services = finite.remove o.services k }) key
+    same_by setting o _ key
     (get-remove key_total o.services k key.object ∙ ap (λ b. cond b None (get o.services key.object)) (other_key key.object k h)) (λ t at port. refl)
 unaffected_service setting o (Apply (object.EndpointSlice s)) key own h =
-    let parts = or_parts (is_slice_of key.object (get o.slices s.key)) (is_of_service key.object s) h in
-    slices_stay setting o (finite.insert o.slices s.key s) key own
-    (passing_inserted key_total key_exact (is_of_service key.object) o.slices s.key s (none_passes key.object (get o.slices s.key) parts.0) parts.1)
+    let parts = or_parts _ _ h in
+    slices_stay setting o _ key own
+    (passing_inserted key_total key_exact _ o.slices s.key s (none_passes key.object _ parts.0) parts.1)
 unaffected_service setting o (Delete kind.EndpointSlice k) key own h =
-    slices_stay setting o (finite.remove o.slices k) key own
-    (passing_removed key_total key_exact (is_of_service key.object) o.slices k (none_passes key.object (get o.slices k) h))
+    slices_stay setting o _ key own
+    (passing_removed key_total key_exact _ o.slices k (none_passes key.object _ h))
 unaffected_service setting o (Apply (object.Pod p)) key own h =
-    pods_stay setting o (finite.insert o.pods p.key p) key (λ s at is.
-    let parts = or_parts (selects_some s (get o.pods p.key)) (selects s p) (neither setting o key.object (get o.pods p.key) (Some p) h s at is) in
-    passing_inserted key_total key_exact (selects s) o.pods p.key p (none_selected s (get o.pods p.key) parts.0) parts.1)
+    pods_stay setting o _ key (λ s at is.
+    let parts = or_parts _ _ (neither setting o key.object _ _ h s at is) in
+    passing_inserted key_total key_exact _ o.pods p.key p (none_selected s _ parts.0) parts.1)
 unaffected_service setting o (Delete kind.Pod k) key own h =
-    pods_stay setting o (finite.remove o.pods k) key (λ s at is.
-    let parts = or_parts (selects_some s (get o.pods k)) false (neither setting o key.object (get o.pods k) None h s at is) in
-    passing_removed key_total key_exact (selects s) o.pods k (none_selected s (get o.pods k) parts.0))
+    pods_stay setting o _ key (λ s at is.
+    let parts = or_parts _ false (neither setting o key.object _ None h s at is) in
+    passing_removed key_total key_exact _ o.pods k (none_selected s _ parts.0))
 unaffected_service setting o (Apply (object.Node n)) key own h = absurd (true≢false h)
 unaffected_service setting o (Delete kind.Node k) key own h = absurd (true≢false h)
 
@@ -167,20 +167,19 @@ module _ (setting : Setting) (o : Objects) (event : Event) (key : PortKey) where
   no_port h is =
       sym (has_either o (objects_step o event) key)
       ∙ sym (ap (λ b. b && has_port (ports_of_either o (objects_step o event)) key) is)
-      ∙ sym (has_filtered (λ k. affects setting o event k.object) (ports_of_either o (objects_step o event)) key)
-      ∙ h
+      ∙ sym (has_filtered (λ k. affects setting o event k.object) _ key) ∙ h
 
   unaffected_by : AreUnderOwnKeys o → AreUnderOwnKeys (objects_step o event) → has_port (affected_ports setting o event) key ≡ false
       → (b : Bool) → affects setting o event key.object ≡ b → inputs_of setting (objects_step o event) key ≡ inputs_of setting o key
   unaffected_by own own_after h true is =
-      let parts = or_parts (has_port (port_keys o) key) (has_port (port_keys (objects_step o event)) key) (no_port h is) in
-      no_inputs setting (objects_step o event) own_after key parts.1 ∙ sym (no_inputs setting o own key parts.0)
+      let parts = or_parts _ _ (no_port h is) in
+      no_inputs setting _ own_after key parts.1 ∙ sym (no_inputs setting o own key parts.0)
   unaffected_by own own_after h false is = unaffected_service setting o event key own is
 
 module _ (own_after : OwnKeysAfterEvent) where
   pub unaffected_inputs : UnaffectedInputs
   unaffected_inputs setting o event key own h =
-      unaffected_by setting o event key own (own_after o event own) h (affects setting o event key.object) refl
+      unaffected_by setting o event key own (own_after o event own) h _ refl
 
   pub unaffected_rules : UnaffectedRules
-  unaffected_rules setting o event key own h = same_rules setting o (objects_step o event) key (unaffected_inputs setting o event key own h)
+  unaffected_rules setting o event key own h = same_rules setting o _ key (unaffected_inputs setting o event key own h)

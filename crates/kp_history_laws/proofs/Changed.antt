@@ -1,5 +1,6 @@
 -- The lists of changed and of affected ports.
 use Rattle.std.proofs.Common.{◌≡◌, Bool, true, false, true≢false, cond, not, ◌&&◌, List, [], ◌∷◌, ◌++◌, map, filter, flat_map, bytes_eq, Option, Some, None, refl, sym, ap, ◌∙◌, is_lt, Ordering}
+use Rattle.std.proofs.Math.Bool.{and-true, not-not}
 use Rattle.std.specs.List.{list_all}
 use Rattle.std.specs.Cmp.Lexicographic.{pointwise, nat_list_eq_equiv}
 use Rattle.std.specs.FinMap.{is_sorted, values}
@@ -22,7 +23,7 @@ use Rattle.kp_object_defs.specs.Objects.{Objects, objects_step}
 use Rattle.kp_object_defs.specs.Order.{rises, in_order, distinct_in_order}
 use Rattle.kp_object_defs.specs.OwnKeys.{AreUnderOwnKeys}
 use Rattle.kp_object_defs.specs.Packing.{same_option}
-use Rattle.kp_object_defs.specs.PortByKey.{port_keys, port_keys_of}
+use Rattle.kp_object_defs.specs.PortByKey.{port_keys_of}
 use Rattle.kp_object_defs.proofs.AllOf.{all_filter}
 use Rattle.kp_object_defs.proofs.InOrder.{sorted-in_order}
 use Rattle.kp_history_defs.specs.Affected.{affects, affected_ports}
@@ -50,30 +51,20 @@ inputs_exact a b h =
       zone = options_same bytes_eq (λ x y e. (bytes_eq-Decides x y).0 e) a.zone b.zone rest.1 i;
     }
 
-not_false : (b : Bool) → not b ≡ false → b ≡ true
-not_false true h = refl
-not_false false h = absurd (true≢false h)
-
 module _ (setting : Setting) (before after : Objects) (own : AreUnderOwnKeys before) (own_after : AreUnderOwnKeys after) (key : PortKey) where
   unchanged_by : has_port (changed_ports setting before after) key ≡ false → (b : Bool) → has_port (ports_of_either before after) key ≡ b → inputs_of setting after key ≡ inputs_of setting before key
   unchanged_by h true is =
-      let kept : not (keeps_inputs setting before after key) ≡ false =
-      sym (with_true (not (keeps_inputs setting before after key)))
+      let kept : not (keeps_inputs setting before after key) ≡ false = sym (and-true _)
       ∙ sym (ap (λ b. not (keeps_inputs setting before after key) && b) is)
-      ∙ sym (has_filtered (λ k. not (keeps_inputs setting before after k)) (ports_of_either before after) key)
-      ∙ h in
-      sym (options_same same_inputs inputs_exact (inputs_of setting before key) (inputs_of setting after key) (not_false (keeps_inputs setting before after key) kept))
-    where
-      with_true : (b : Bool) → (b && true) ≡ b
-      with_true true = refl
-      with_true false = refl
+      ∙ sym (has_filtered (λ k. not (keeps_inputs setting before after k)) _ key) ∙ h in
+      sym (options_same same_inputs inputs_exact (inputs_of setting before key) (inputs_of setting after key) (sym (not-not _) ∙ ap not kept))
   unchanged_by h false is =
-      let parts = or_parts (has_port (port_keys before) key) (has_port (port_keys after) key) (sym (has_either before after key) ∙ is) in
+      let parts = or_parts _ _ (sym (has_either before after key) ∙ is) in
       no_inputs setting after own_after key parts.1 ∙ sym (no_inputs setting before own key parts.0)
 
 pub unchanged_inputs : UnchangedInputs
 unchanged_inputs setting before after key own own_after h =
-    unchanged_by setting before after own own_after key h (has_port (ports_of_either before after) key) refl
+    unchanged_by setting before after own own_after key h _ refl
 
 -- ---- Inputs are the same as themselves
 
@@ -83,8 +74,7 @@ option_itself test each (Some x) = each x
 
 inputs_itself : (inputs : PortInputs) → same_inputs inputs inputs ≡ true
 inputs_itself inputs =
-    and_from _ _ (service_laws.laws-law.refl inputs.service)
-    (and_from (pointwise same_candidate.ghosts.eq inputs.entries inputs.entries) (same_option bytes_eq inputs.zone inputs.zone)
+    and_from _ _ (service_laws.laws-law.refl inputs.service) (and_from _ _
     ((lists_equiv candidate_laws.laws-law).refl inputs.entries) (option_itself bytes_eq nat_list_eq_equiv.refl inputs.zone))
 
 -- a port with the same inputs keeps them
@@ -95,16 +85,16 @@ kept_by setting before after key same =
 pub changed_inputs : ChangedInputs
 changed_inputs setting before after key has same =
     let parts = and_parts (not (keeps_inputs setting before after key)) (has_port (ports_of_either before after) key)
-    (sym (has_filtered (λ k. not (keeps_inputs setting before after k)) (ports_of_either before after) key) ∙ has) in
+    (sym (has_filtered (λ k. not (keeps_inputs setting before after k)) _ key) ∙ has) in
     true≢false (sym parts.0 ∙ ap not (kept_by setting before after key same))
 
 -- ---- What the lists hold
 
 pub none_changed : NoneChanged
-none_changed setting o = none_pass (λ key. not (keeps_inputs setting o o key)) (λ key. ap not (kept_by setting o o key refl)) (ports_of_either o o)
+none_changed setting o = none_pass (λ key. not (keeps_inputs setting o o key)) (λ key. ap not (kept_by setting o o key refl)) _
 
 pub affected_hold_changed : UnaffectedInputs → AffectedHoldChanged
-affected_hold_changed unaffected setting o event key own changed = by (has_port (affected_ports setting o event) key) refl
+affected_hold_changed unaffected setting o event key own changed = by _ refl
   where
     by : (b : Bool) → has_port (affected_ports setting o event) key ≡ b → b ≡ true
     by true is = refl
@@ -129,7 +119,7 @@ rises_filter R p (k ∷ ks) h =
     let parts = and_parts (list_all (λ l. is_lt (R k l)) ks) (rises R ks) h in
     let rest = rises_filter R p ks parts.1 in
     elim (p k) as (λ b. rises R (cond b (k ∷ filter p ks) (filter p ks)) ≡ true) [
-      | true ↦ and_from (list_all (λ l. is_lt (R k l)) (filter p ks)) (rises R (filter p ks)) (all_filter (λ l. is_lt (R k l)) p ks parts.0) rest
+      | true ↦ and_from _ _ (all_filter (λ l. is_lt (R k l)) p ks parts.0) rest
       | false ↦ rest
     ]
 
@@ -140,10 +130,10 @@ distinct_rise keys =
 
 either_rise : (before after : Objects) → rises port_key_cmp (ports_of_either before after) ≡ true
 either_rise before after =
-    distinct_rise (flat_map port_keys_of (values before.services) ++ flat_map port_keys_of (values after.services))
+    distinct_rise (flat_map port_keys_of (values _) ++ flat_map port_keys_of (values _))
 
 pub changed_in_order : ChangedInOrder
-changed_in_order setting before after = rises_filter port_key_cmp (λ key. not (keeps_inputs setting before after key)) (ports_of_either before after) (either_rise before after)
+changed_in_order setting before after = rises_filter port_key_cmp (λ key. not (keeps_inputs setting before after key)) _ (either_rise before after)
 
 pub affected_in_order : AffectedInOrder
-affected_in_order setting o event = rises_filter port_key_cmp (λ key. affects setting o event key.object) (ports_of_either o (objects_step o event)) (either_rise o (objects_step o event))
+affected_in_order setting o event = rises_filter port_key_cmp (λ key. affects setting o event key.object) _ (either_rise o (objects_step o event))

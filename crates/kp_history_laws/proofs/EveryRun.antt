@@ -17,7 +17,7 @@ use Rattle.kp_door_defs.specs.Decision.{decision_of}
 use Rattle.kp_walk_laws.specs.Laws.{Agree, HashedPrefixed, WalkDecidesObjects}
 use Rattle.kp_history_defs.specs.History.{counts_of, objects_covered}
 use Rattle.kp_history_defs.specs.declared.fed.Fed.{Fed}
-use Rattle.kp_history_defs.specs.Runs.{RunState, Step, Feed, Take, Sync, Refuse, Publish, Read, Tell, IsRun, IsAllowed, initial, state_after, after_take, after_sync, events_of, objects_now, next_record}
+use Rattle.kp_history_defs.specs.Runs.{RunState, Step, Feed, Take, Sync, IsRun, IsAllowed, initial, state_after, after_take, after_sync, events_of, objects_now}
 use Rattle.kp_history_laws.specs.EventLaws.{has_port, UnaffectedInputs}
 use Rattle.kp_history_laws.specs.HistoryLaws.{ExactTables}
 use Rattle.kp_history_laws.specs.KeptLaws.{EnoughByRules}
@@ -41,18 +41,15 @@ module _ (own : OwnKeysAfterEvents) (unaffected : UnaffectedInputs) (enough : En
   take_synced s h [] = h
   take_synced s h (f ∷ rest) =
       subst (λ events. IsSynced setting events s.records s.kept (after_take setting (f ∷ rest) s).touched) (sym (map_push (λ (g : Fed). g.event) s.journal f))
-      (taken_synced own unaffected setting (events_of s.journal) s.records s.kept s.touched h f.event)
+      (taken_synced own unaffected setting _ s.records s.kept s.touched h f.event)
 
   step_synced : (s : RunState) (step : Step) → IsAllowed setting s step → Synced s → Synced (state_after setting s step)
   step_synced s (Feed by e) allowed h = h
   step_synced s Take allowed h = take_synced s h s.queue
   step_synced s Sync allowed h =
-      synced own unaffected setting (events_of s.journal) s.records s.kept s.touched h enough joined (next_record setting s) allowed refl
-      (rest_counted (sum (counts_of s.records)) (length s.journal) (length (events_of s.journal)) (length-map s.journal (λ (f : Fed). f.event)) h.exact.within) refl
-  step_synced s Refuse allowed h = h
-  step_synced s Publish allowed h = h
-  step_synced s (Read worker packet draws lists answer) allowed h = h
-  step_synced s (Tell worker n) allowed h = h
+      synced own unaffected setting _ s.records s.kept s.touched h enough joined _ allowed refl
+      (rest_counted _ _ _ (length-map s.journal (λ (f : Fed). f.event)) h.exact.within) refl
+  step_synced s step allowed h = h
 
   run_synced : (steps : List Step) (s : RunState) → IsRun setting steps s → Synced s
   run_synced steps s run = kept_by_steps setting Synced step_synced steps initial s (nothing_synced setting) run
@@ -62,7 +59,7 @@ module _ (own : OwnKeysAfterEvents) (unaffected : UnaffectedInputs) (enough : En
   history_is_exact setting steps s run = (run_synced own unaffected enough joined setting steps s run).exact
 
   pub touched_hold_changed : TouchedHoldChanged
-  touched_hold_changed setting steps s run key changed = by (has_port s.touched key) refl
+  touched_hold_changed setting steps s run key changed = by _ refl
     where
       by : (b : Bool) → has_port s.touched key ≡ b → b ≡ true
       by true is = refl
@@ -80,7 +77,7 @@ module _ (own : OwnKeysAfterEvents) (unaffected : UnaffectedInputs) (enough : En
       let full = tables setting (events_of s.journal) s.records s.published exact le in
       subst (λ a. Agree a (decision_of setting covers packet draws lists))
       (sym (step.allowed ∙ ap (λ chains. walk_of (λ at. finite.get chains at) setting.config.addresses packet draws lists) full))
-      (decides setting covers packet draws lists picks prefixed (no_clash_covered setting (events_of s.journal) s.records s.published exact le))
+      (decides setting covers packet draws lists picks prefixed (no_clash_covered setting _ s.records s.published exact le))
 
   pub product_reads_decide : ExactTables → WalkDecidesObjects → HashedPrefixed → ProductReadsDecide
   product_reads_decide tables decides prefixed family config =
@@ -97,7 +94,7 @@ module _ (families : List Family) (config : Config) (setting : Setting) (s : Run
 
   slices_synced : SlicesAfterSync → slices_in families config (after_sync setting s) ≡ controller_step families config (objects_now s) (slices_in families config s)
   slices_synced at_sync =
-      ap (slices_now families config (events_of s.journal)) (map_push (λ (r : SyncRecord). r.events) s.records (next_record setting s))
+      ap (slices_now families config (events_of s.journal)) (map_push (λ (r : SyncRecord). r.events) s.records _)
       ∙ ap (λ (n : ℕ). slices_now families config (events_of s.journal) (counts_of s.records ++ (n - sum (counts_of s.records)) ∷ [])) (sym (length-map s.journal (λ (f : Fed). f.event)))
       ∙ at_sync families config (events_of s.journal) (counts_of s.records) within
 
@@ -106,7 +103,4 @@ module _ (after_event : SlicesAfterEvent) (at_sync : SlicesAfterSync) (exact : H
   slices_of_steps families config setting steps s run (Feed stream e) allowed = refl
   slices_of_steps families config setting steps s run Take allowed = slices_taken families config setting s (exact setting steps s run).within after_event s.queue
   slices_of_steps families config setting steps s run Sync allowed = slices_synced families config setting s (exact setting steps s run).within at_sync
-  slices_of_steps families config setting steps s run Refuse allowed = refl
-  slices_of_steps families config setting steps s run Publish allowed = refl
-  slices_of_steps families config setting steps s run (Read worker packet draws lists answer) allowed = refl
-  slices_of_steps families config setting steps s run (Tell worker n) allowed = refl
+  slices_of_steps families config setting steps s run other allowed = refl

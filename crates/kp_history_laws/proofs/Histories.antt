@@ -70,12 +70,12 @@ module _ (events : List Event) (records : List SyncRecord) (r : SyncRecord) wher
 
   covers_all : CoversRest events records r → (n : ℕ) → length (records ++ r ∷ []) ≤ n → objects_covered events (counts_of (records ++ r ∷ [])) n ≡ objects_after events
   covers_all rest n le =
-      ap (λ counts. objects_after (take (sum counts) events)) (take_all n (counts_of (records ++ r ∷ [])) (subst (λ (m : ℕ). m ≤ n) (sym (length_counts (records ++ r ∷ []))) le))
+      ap (λ counts. objects_after (take (sum counts) events)) (take_all n (counts_of (records ++ r ∷ [])) (subst (λ (m : ℕ). m ≤ n) (sym (length_counts _)) le))
       ∙ ap (λ (count : ℕ). objects_after (take count events)) (all_counted rest)
       ∙ ap objects_after (take_all (length events) events (omega arith))
 
 pub covered_by_record : CoveredByRecord
-covered_by_record events records r rest = covers_all events records r rest (length (records ++ r ∷ [])) (omega arith)
+covered_by_record events records r rest = covers_all events records r rest _ (omega arith)
 
 -- ---- Exact histories
 
@@ -94,7 +94,7 @@ exact_by_events setting events more records h = record {
 }
 
 pub covered_stays : CoveredStays
-covered_stays setting events more records h = with_events events more records h.within (length records)
+covered_stays setting events more records h = with_events events more records h.within _
 
 module _ (setting : Setting) (events : List Event) (records : List SyncRecord) (r : SyncRecord) (h : IsExactHistory setting events records) (rest : CoversRest events records r)
     (last : IsExactRecord setting (all_covered events records) (objects_after events) (suc (length records)) r) where
@@ -108,8 +108,8 @@ module _ (setting : Setting) (events : List Event) (records : List SyncRecord) (
         | inr (at, is) ↦
             subst (IsExactRecord setting _ _ (suc n)) is
             (subst (λ (m : ℕ). IsExactRecord setting (objects_covered events (counts_of (records ++ r ∷ [])) m) (objects_covered events (counts_of (records ++ r ∷ [])) (suc m)) (suc m) r) (sym at)
-            (same_record setting _ _ _ _ (suc (length records)) r (with_record events records r (length records) (omega arith))
-            (covers_all events records r rest (suc (length records)) at_end) last))
+            (same_record setting _ _ _ _ _ r (with_record events records r _ (omega arith))
+            (covers_all events records r rest _ at_end) last))
       ]
     where
       at_end : length (records ++ r ∷ []) ≤ suc (length records)

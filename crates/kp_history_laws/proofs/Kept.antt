@@ -11,7 +11,7 @@ use Rattle.kp_types.specs.Setting.{Setting}
 use Rattle.kp_object_defs.specs.Objects.{Objects, objects_step}
 use Rattle.kp_object_defs.specs.OwnKeys.{AreUnderOwnKeys}
 use Rattle.kp_object_defs.specs.PortInfo.{PortInfo, port_infos}
-use Rattle.kp_object_defs.specs.PortByKey.{port_keys, info_at}
+use Rattle.kp_object_defs.specs.PortByKey.{port_keys}
 use Rattle.kp_object_laws.specs.ObjectLaws.{OwnKeysAfterEvent}
 use Rattle.kp_object_laws.specs.PortLaws.{InfoHasKey, InfosByKeys}
 use Rattle.kp_table_defs.specs.Parts.{PortRules, RulesByPort, rules_of_port, rules_of_objects}
@@ -35,7 +35,7 @@ module _ {X Y : Type 0} (g : PortKey → Option X) (name : X → PortKey) (named
       → find port_key_cmp q (map (λ x. (name x, f x)) (cons_option o (filter_map g ks))) ≡ cond (b || has_port ks q) (option_map f (g q)) None
   found_by q k ks rest None at true is =
       let none : option_map f (g q) ≡ None = ap (λ key. option_map f (g key)) (one_from_tie port_key_exact q k is) ∙ ap (option_map f) at in
-      rest ∙ ap (λ o. cond (has_port ks q) o None) none ∙ same (has_port ks q) ∙ sym none
+      rest ∙ ap (λ o. cond (has_port ks q) o None) none ∙ same _ ∙ sym none
     where
       same : (b : Bool) → ◌≡◌ {A = Option Y} (cond b None None) None
       same true = refl
@@ -52,7 +52,7 @@ module _ {X Y : Type 0} (g : PortKey → Option X) (name : X → PortKey) (named
 
   found : (q : PortKey) (ks : List PortKey) → find port_key_cmp q (made ks) ≡ cond (has_port ks q) (option_map f (g q)) None
   found q [] = refl
-  found q (k ∷ ks) = found_by q k ks (found q ks) (g k) refl (eq_by_cmp port_key_cmp q k) refl
+  found q (k ∷ ks) = found_by q k ks (found q ks) (g k) refl _ refl
 
 -- a port that isn't among the ports of the objects contributes nothing
 no_rules : (setting : Setting) (o : Objects) (key : PortKey) → AreUnderOwnKeys o → has_port (port_keys o) key ≡ false → rules_at setting o key ≡ None
@@ -64,8 +64,8 @@ module _ (has_key : InfoHasKey) (by_keys : InfosByKeys) where
   rules_by_name setting o key own =
       get-from_entries port_key_total (map (λ i. (i.key, rules_of_port setting i)) (port_infos setting.family setting.config o)) key
       ∙ ap (λ infos. find port_key_cmp key (map (λ (i : PortInfo). (i.key, rules_of_port setting i)) infos)) (by_keys setting.family setting.config o own)
-      ∙ found (info_at setting.family setting.config o) (λ i. i.key) (λ k i at. has_key setting.family setting.config o k i own at) (rules_of_port setting) key (port_keys o)
-      ∙ by (has_port (port_keys o) key) refl
+      ∙ found _ (λ i. i.key) (λ k i at. has_key setting.family setting.config o k i own at) _ key _
+      ∙ by _ refl
     where
       by : (b : Bool) → has_port (port_keys o) key ≡ b → cond b (rules_at setting o key) None ≡ rules_at setting o key
       by true is = refl
@@ -86,18 +86,16 @@ module _ (at : PortKey → Option PortRules) (q : PortKey) where
   get_made_anew : (keys : List PortKey) (kept : RulesByPort) → get (fold (λ m k. with_rules m k (at k)) kept keys) q ≡ cond (has_port keys q) (at q) (get kept q)
   get_made_anew [] kept = refl
   get_made_anew (k ∷ ks) kept =
-      get_made_anew ks (with_rules kept k (at k))
-      ∙ ap (cond (has_port ks q) (at q)) (get_with_rules kept k (at k) q)
-      ∙ newest k (get kept q) (eq_by_cmp port_key_cmp q k) refl (has_port ks q)
+      get_made_anew ks _
+      ∙ ap (cond (has_port ks q) (at q)) (get_with_rules kept k (at k) q) ∙ newest k _ _ refl _
 
 module _ (by_name : RulesByName) where
   pub enough_by_rules : EnoughByRules
   enough_by_rules setting before after keys own own_after others =
       same_map port_key_total port_key_exact (with_rules_of setting after keys (rules_of_objects setting before)) (rules_of_objects setting after) (λ q.
-      get_made_anew (rules_at setting after) q keys (rules_of_objects setting before)
+      get_made_anew _ q keys _
       ∙ ap (cond (has_port keys q) (rules_at setting after q)) (by_name setting before q own)
-      ∙ either q (has_port keys q) refl
-      ∙ sym (by_name setting after q own_after))
+      ∙ either q _ refl ∙ sym (by_name setting after q own_after))
     where
       either : (q : PortKey) (b : Bool) → has_port keys q ≡ b → cond b (rules_at setting after q) (rules_at setting before q) ≡ rules_at setting after q
       either q true is = refl

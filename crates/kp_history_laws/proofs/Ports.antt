@@ -1,5 +1,6 @@
 -- The ports of objects, and what is known of a port by its inputs.
 use Rattle.std.proofs.Common.{◌≡◌, ℕ, Bool, true, false, true≢false, cond, ◌&&◌, ◌||◌, List, [], ◌∷◌, ◌++◌, map, bytes_eq, filter, flat_map, Option, Some, None, option_map, option_and_then, is_some, refl, sym, ap, ◌∙◌}
+use Rattle.std.proofs.Math.Bool.{and-false, and-true, or-true}
 use Rattle.std.specs.List as list
 use Rattle.std.specs.Ordering.{eq_by_cmp}
 use Rattle.std.specs.FinMap as finite
@@ -35,22 +36,14 @@ use Rattle.kp_history_laws.specs.EventLaws.{has_port}
 
 -- of the ports that pass a test
 pub has_filtered : (p : PortKey → Bool) (keys : List PortKey) (key : PortKey) → has_port (filter p keys) key ≡ (p key && has_port keys key)
-has_filtered p [] key = none (p key)
+has_filtered p [] key = sym (and-false (p key))
+has_filtered p (k ∷ ks) key = by (has_filtered p ks key) _ refl (p k) refl
   where
-    none : (b : Bool) → false ≡ (b && false)
-    none true = refl
-    none false = refl
-has_filtered p (k ∷ ks) key = by (has_filtered p ks key) (eq_by_cmp port_key_cmp key k) refl (p k) refl
-  where
-    first : (b : Bool) → (b && true) ≡ b
-    first true = refl
-    first false = refl
-
     by : has_port (filter p ks) key ≡ (p key && has_port ks key) → (b : Bool) → eq_by_cmp port_key_cmp key k ≡ b → (c : Bool) → p k ≡ c
         → has_port (cond c (k ∷ filter p ks) (filter p ks)) key ≡ (p key && (b || has_port ks key))
     by rest true is true passes =
         ap (λ t. t || has_port (filter p ks) key) is
-        ∙ sym (first (p key) ∙ ap p (one_from_tie port_key_exact key k is) ∙ passes)
+        ∙ sym (and-true (p key) ∙ ap p (one_from_tie port_key_exact key k is) ∙ passes)
     by rest true is false fails =
         let never : p key ≡ false = ap p (one_from_tie port_key_exact key k is) ∙ fails in
         rest ∙ ap (λ t. t && has_port ks key) never ∙ sym (ap (λ t. t && true) never)
@@ -78,23 +71,19 @@ has_either before after key =
 
 -- ---- A port that is found has its name among the ports
 
-or_true : (a : Bool) → (a || true) ≡ true
-or_true true = refl
-or_true false = refl
-
 named_in : (s : Service) (key : PortKey) → s.key ≡ key.object → (ps : List ServicePort) (p : ServicePort) → list.find (is_port key.port_name key.proto) ps ≡ Some p
     → has_port (map (port_key_of s) ps) key ≡ true
 named_in s key own [] p h = absurd (cc)
-named_in s key own (q ∷ qs) p h = by (named_in s key own qs p) (is_port key.port_name key.proto q) refl h
+named_in s key own (q ∷ qs) p h = by (named_in s key own qs p) _ refl h
   where
     by : (list.find (is_port key.port_name key.proto) qs ≡ Some p → has_port (map (port_key_of s) qs) key ≡ true) → (b : Bool) → is_port key.port_name key.proto q ≡ b → cond b (Some q) (list.find (is_port key.port_name key.proto) qs) ≡ Some p
         → has_port (port_key_of s q ∷ map (port_key_of s) qs) key ≡ true
     by rest true is h =
         let parts = and_parts (bytes_eq q.name key.port_name) (same_proto q.proto key.proto) is in
-        let same : port_key_of s q ≡ key = λ i. record { object = own i; port_name = (bytes_eq-Decides q.name key.port_name).0 parts.0 i; proto = same_proto_exact q.proto key.proto parts.1 i } in
+        let same : port_key_of s q ≡ key = λ i. record { object = own i; port_name = (bytes_eq-Decides q.name _).0 parts.0 i; proto = same_proto_exact q.proto key.proto parts.1 i } in
         ap (λ b. b || has_port (map (port_key_of s) qs) key) (ap (eq_by_cmp port_key_cmp key) same ∙ tie_of_itself port_key_total key)
     by rest false is h =
-        ap (λ b. eq_by_cmp port_key_cmp key (port_key_of s q) || b) (rest h) ∙ or_true (eq_by_cmp port_key_cmp key (port_key_of s q))
+        ap (λ b. eq_by_cmp port_key_cmp key (port_key_of s q) || b) (rest h) ∙ or-true _
 
 among_entries : (key : PortKey) (s : Service) → has_port (port_keys_of s) key ≡ true → (es : List (ObjectKey × Service)) → find key_cmp key.object es ≡ Some s
     → has_port (flat_map port_keys_of (map (λ e. e.1) es)) key ≡ true
@@ -105,22 +94,22 @@ among_entries key s has (e ∷ es) h =
   where
     by : (find key_cmp key.object es ≡ Some s → has_port (flat_map port_keys_of (map (λ f. f.1) es)) key ≡ true) → (b : Bool) → cond b (Some e.1) (find key_cmp key.object es) ≡ Some s → (has_port (port_keys_of e.1) key || has_port (flat_map port_keys_of (map (λ f. f.1) es)) key) ≡ true
     by rest true h = ap (λ b. b || has_port (flat_map port_keys_of (map (λ f. f.1) es)) key) (ap (λ t. has_port (port_keys_of t) key) (same_Some e.1 s h) ∙ has)
-    by rest false h = ap (λ b. has_port (port_keys_of e.1) key || b) (rest h) ∙ or_true (has_port (port_keys_of e.1) key)
+    by rest false h = ap (λ b. has_port (port_keys_of e.1) key || b) (rest h) ∙ or-true (has_port (port_keys_of e.1) key)
 
 module _ (setting : Setting) (o : Objects) (own : AreUnderOwnKeys o) (key : PortKey) where
   -- a port that isn't among the ports of the objects has no inputs
   pub no_inputs : has_port (port_keys o) key ≡ false → inputs_of setting o key ≡ None
-  no_inputs none = service (get o.services key.object) refl
+  no_inputs none = service _ refl
     where
       port : (s : Service) → get o.services key.object ≡ Some s → (found : Option ServicePort) → port_named key s ≡ found → option_map (inputs_in setting o s) found ≡ None
       port s at None is = refl
       port s at (Some p) is =
-          absurd (true≢false (sym (has_distinct (flat_map port_keys_of (finite.values o.services)) key
-          ∙ among_entries key s (named_in s key (own.services key.object s at) s.ports p is) (finite.entries o.services) (sym (get-entries o.services key.object) ∙ at)) ∙ none))
+          absurd (true≢false (sym (has_distinct _ key
+          ∙ among_entries key s (named_in s key (own.services key.object s at) s.ports p is) _ (sym (get-entries o.services key.object) ∙ at)) ∙ none))
 
       service : (found : Option Service) → get o.services key.object ≡ found → option_and_then (λ s. option_map (inputs_in setting o s) (port_named key s)) found ≡ None
       service None at = refl
-      service (Some s) at = port s at (port_named key s) refl
+      service (Some s) at = port s at _ refl
 
 -- ---- What is known of a port
 
@@ -131,7 +120,7 @@ info_by setting key inputs =
 
 -- the inputs of a port tell what is known of it
 pub info_by_inputs : (setting : Setting) (o : Objects) (key : PortKey) → info_at setting.family setting.config o key ≡ option_and_then (info_by setting key) (inputs_of setting o key)
-info_by_inputs setting o key = service (get o.services key.object)
+info_by_inputs setting o key = service _
   where
     port : (s : Service) (found : Option ServicePort) → port_named key s ≡ found
         → option_and_then (λ p. info_of setting.family setting.config.node (zone_of o setting.config.node) (sources_of setting.family setting.config o s, p)) found
@@ -140,9 +129,9 @@ info_by_inputs setting o key = service (get o.services key.object)
     port s (Some p) is =
         let from : ServiceSources = sources_of setting.family setting.config o s in
         let zone : Option (List ℕ) = zone_of o setting.config.node in
-        ap (λ t. option_map (info_from setting.family t p zone (entries_from setting.family setting.config.node from (port_key_of t p))) (cluster_address_in setting.family t)) (sources_service setting.family setting.config o s)
+        ap (λ t. option_map (info_from setting.family t p zone (entries_from setting.family setting.config.node from (port_key_of t p))) (cluster_address_in setting.family t)) (sources_service _ setting.config o s)
         ∙ ap (option_and_then (λ q. option_map (info_from setting.family s q zone (entries_from setting.family setting.config.node from (port_key_of s p))) (cluster_address_in setting.family s))) (sym is)
 
     service : (found : Option Service) → option_and_then (info_in setting.family setting.config o key) found ≡ option_and_then (info_by setting key) (option_and_then (λ s. option_map (inputs_in setting o s) (port_named key s)) found)
     service None = refl
-    service (Some s) = port s (port_named key s) refl
+    service (Some s) = port s _ refl

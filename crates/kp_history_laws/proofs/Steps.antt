@@ -7,7 +7,7 @@ use Rattle.kp_types.specs.Setting.{Setting}
 use Rattle.kp_types.specs.declared.event.Event.{Event}
 use Rattle.kp_types.specs.declared.sync.SyncRecord.{SyncRecord}
 use Rattle.kp_history_defs.specs.declared.fed.Fed.{Fed}
-use Rattle.kp_history_defs.specs.Runs.{RunState, Step, Feed, Take, Sync, Refuse, Publish, Read, Tell, IsRun, IsRunFrom, IsAllowed, initial, state_after, after_take, at_number, longer, is_of_stream, numbered, published_records, next_record}
+use Rattle.kp_history_defs.specs.Runs.{RunState, Step, Feed, Take, Sync, Refuse, Publish, Read, Tell, IsRun, IsRunFrom, IsAllowed, initial, state_after, after_take, at_number, is_of_stream, numbered, next_record}
 use Rattle.kp_history_defs.proofs.Numbered.{numbered_push}
 use Rattle.kp_history_laws.specs.RunLaws.{RunsJoin, RunsSplit, StreamsKeepOrder, SeenIsPublished, PublishedAreRecords, SeenOnlyGrows, BeginsWith}
 
@@ -46,8 +46,7 @@ fed_by s by e stream holds true is =
     let none : length (s.fed by) ≡ 0 + length (s.fed by) = omega arith in
     ap (λ fed. fed ++ record { feeder = by; number = suc (length (s.fed by)); event = e } ∷ []) (holds stream ∙ ap (λ (m : ℕ). numbered m 0 (s.fed m)) same)
     ∙ ap (λ (m : ℕ). numbered by 0 (s.fed by) ++ record { feeder = by; number = suc m; event = e } ∷ []) none
-    ∙ sym (numbered_push by 0 (s.fed by) e)
-    ∙ ap (λ (m : ℕ). numbered m 0 (s.fed by ++ e ∷ [])) (sym same)
+    ∙ sym (numbered_push by 0 _ e) ∙ ap (λ (m : ℕ). numbered m 0 (s.fed by ++ e ∷ [])) (sym same)
 fed_by s by e stream holds false is = append-nil (filter (is_of_stream stream) (s.journal ++ s.queue)) ∙ holds stream
 
 fed_in_order : (s : RunState) (by : ℕ) (e : Event) → InOrder s → (stream : ℕ)
@@ -57,7 +56,7 @@ fed_in_order s by e holds stream =
     let f : Fed = record { feeder = by; number = suc (length (s.fed by)); event = e } in
     ap (filter (is_of_stream stream)) (sym (append_assoc s.journal s.queue (f ∷ [])))
     ∙ filter-append (is_of_stream stream) (s.journal ++ s.queue) (f ∷ [])
-    ∙ fed_by s by e stream holds (stream == by) refl
+    ∙ fed_by s by e stream holds _ refl
 
 taken_in_order : (setting : Setting) (s : RunState) → InOrder s → (queue : List Fed) → s.queue ≡ queue → InOrder (after_take setting queue s)
 taken_in_order setting s holds [] is stream = holds stream
@@ -67,11 +66,7 @@ taken_in_order setting s holds (f ∷ rest) is stream =
 step_in_order : (setting : Setting) (s : RunState) (step : Step) → IsAllowed setting s step → InOrder s → InOrder (state_after setting s step)
 step_in_order setting s (Feed by e) allowed holds = fed_in_order s by e holds
 step_in_order setting s Take allowed holds = taken_in_order setting s holds s.queue refl
-step_in_order setting s Sync allowed holds = holds
-step_in_order setting s Refuse allowed holds = holds
-step_in_order setting s Publish allowed holds = holds
-step_in_order setting s (Read worker packet draws lists answer) allowed holds = holds
-step_in_order setting s (Tell worker n) allowed holds = holds
+step_in_order setting s step allowed holds = holds
 
 pub streams_keep_order : StreamsKeepOrder
 streams_keep_order setting steps s run =
@@ -89,7 +84,7 @@ pub record IsSeen (s : RunState) : Type 0 where
 
 -- the worker that a step is of has seen these, and the others what they had
 of_worker : (s : RunState) (worker : ℕ) (these : List SyncRecord) → IsFirst s these → ((w : ℕ) → IsFirst s (s.seen w)) → (w : ℕ) → IsFirst s (at_number s.seen worker these w)
-of_worker s worker these first seen w = by (w == worker)
+of_worker s worker these first seen w = by _
   where
     by : (b : Bool) → IsFirst s (cond b these (s.seen w))
     by true = first
@@ -107,7 +102,7 @@ step_seen setting s Take allowed h = taken s.queue
     taken [] = record { published = h.published; seen = h.seen }
     taken (f ∷ rest) = record { published = h.published; seen = h.seen }
 step_seen setting s Sync allowed h = record {
-  published = more (next_record setting s);
+  published = more _;
   seen = λ worker. let (n, told, is) = h.seen worker in (n, told, is ∙ sym (take-append-le n s.records (next_record setting s ∷ []) (within n told)));
 }
   where
@@ -126,11 +121,11 @@ step_seen setting s Publish allowed h = record {
     within n told = let most = h.published in omega arith
 step_seen setting s (Read worker packet draws lists answer) allowed h = record {
   published = h.published;
-  seen = of_worker s worker (published_records s) (s.published, omega arith, refl) h.seen;
+  seen = of_worker s worker _ (s.published, omega arith, refl) h.seen;
 }
 step_seen setting s (Tell worker n) allowed h = record {
   published = h.published;
-  seen = of_worker s worker (longer (s.seen worker) (take n s.records)) (longer_first s n (s.seen worker) allowed (h.seen worker) (nat_lt (length (s.seen worker)) (length (take n s.records)))) h.seen;
+  seen = of_worker s worker _ (longer_first s n _ allowed (h.seen worker) _) h.seen;
 }
 
 pub run_seen : (setting : Setting) (steps : List Step) (s : RunState) → IsRun setting steps s → IsSeen s
@@ -160,26 +155,25 @@ abbrev Grows : (ℕ → List SyncRecord) → (ℕ → List SyncRecord) → Type 
 Grows after before = (w : ℕ) → BeginsWith (after w) (before w)
 
 worker_grows : (seen : ℕ → List SyncRecord) (worker : ℕ) (these : List SyncRecord) → BeginsWith these (seen worker) → Grows (at_number seen worker these) seen
-worker_grows seen worker these more w = by (w == worker) refl
+worker_grows seen worker these more w = by _ refl
   where
     by : (b : Bool) → (w == worker) ≡ b → BeginsWith (cond b these (seen w)) (seen w)
     by true is = subst (λ (m : ℕ). BeginsWith these (seen m)) (sym (eqb-true w worker is)) more
-    by false is = same_list (seen w)
+    by false is = same_list _
 
 step_grows : (setting : Setting) (s : RunState) (step : Step) → IsAllowed setting s step → IsSeen s → Grows (state_after setting s step).seen s.seen
-step_grows setting s (Feed by e) allowed h w = same_list (s.seen w)
+step_grows setting s (Feed by e) allowed h w = same_list _
 step_grows setting s Take allowed h w = taken s.queue
   where
     taken : (queue : List Fed) → BeginsWith ((after_take setting queue s).seen w) (s.seen w)
-    taken [] = same_list (s.seen w)
-    taken (f ∷ rest) = same_list (s.seen w)
-step_grows setting s Sync allowed h w = same_list (s.seen w)
-step_grows setting s Refuse allowed h w = same_list (s.seen w)
-step_grows setting s Publish allowed h w = same_list (s.seen w)
+    taken [] = same_list _
+    taken (f ∷ rest) = same_list _
+step_grows setting s Sync allowed h w = same_list _
+step_grows setting s Refuse allowed h w = same_list _
+step_grows setting s Publish allowed h w = same_list _
 step_grows setting s (Read worker packet draws lists answer) allowed h w =
-    let (n, told, is) = h.seen worker in worker_grows s.seen worker (published_records s) (more_of n s.published s.records (s.seen worker) told is) w
-step_grows setting s (Tell worker m) allowed h w =
-    worker_grows s.seen worker (longer (s.seen worker) (take m s.records)) (by (nat_lt (length (s.seen worker)) (length (take m s.records))) refl) w
+    let (n, told, is) = h.seen worker in worker_grows s.seen worker _ (more_of n s.published s.records _ told is) w
+step_grows setting s (Tell worker m) allowed h w = worker_grows s.seen worker _ (by _ refl) w
   where
     by : (b : Bool) → nat_lt (length (s.seen worker)) (length (take m s.records)) ≡ b → BeginsWith (cond b (take m s.records) (s.seen worker)) (s.seen worker)
     by true is =
@@ -189,8 +183,8 @@ step_grows setting s (Tell worker m) allowed h w =
         let n_long : length (take n s.records) ≡ n = length-take-le n s.records (omega arith) in
         let m_long : length (take m s.records) ≡ m = length-take-le m s.records (omega arith) in
         let same = ap length was in
-        more_of n m s.records (s.seen worker) (omega arith) was
-    by false is = same_list (s.seen worker)
+        more_of n m s.records _ (omega arith) was
+    by false is = same_list _
 
 -- what holds while steps follow a state: what was seen there is seen
 record HasGrown (before s : RunState) : Type 0 where
@@ -201,5 +195,5 @@ pub seen_only_grows : SeenOnlyGrows
 seen_only_grows setting steps more s t run after =
     (kept_by_steps setting (HasGrown s) (λ u step allowed h. record {
       is_seen = step_seen setting u step allowed h.is_seen;
-      grows = λ w. begins_through ((state_after setting u step).seen w) (u.seen w) (s.seen w) (step_grows setting u step allowed h.is_seen w) (h.grows w);
-    }) more s t (record { is_seen = run_seen setting steps s run; grows = λ w. same_list (s.seen w) }) after).grows
+      grows = λ w. begins_through _ _ _ (step_grows setting u step allowed h.is_seen w) (h.grows w);
+    }) more s t (record { is_seen = run_seen setting steps s run; grows = λ w. same_list _ }) after).grows

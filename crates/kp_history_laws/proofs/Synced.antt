@@ -4,8 +4,6 @@ use Rattle.std.specs.FinMap as finite
 use Rattle.std.proofs.lemmas.Bool.{or_parts}
 use Rattle.std.proofs.lemmas.List.Folds.{list_any-append}
 use Rattle.std.proofs.lemmas.List.Sums.{fold_push}
-use Rattle.std.specs.Ordering.{eq_by_cmp}
-use Rattle.kp_base.specs.Keys.{port_key_cmp}
 use Rattle.kp_base.specs.declared.key.PortKey.{PortKey}
 use Rattle.kp_types.specs.Setting.{Setting}
 use Rattle.kp_types.specs.declared.event.Event.{Event}
@@ -48,8 +46,7 @@ module _ (own : OwnKeysAfterEvents) (unaffected : UnaffectedInputs) (setting : S
   taken_untouched : (e : Event) (key : PortKey) → has_port (touched ++ affected_ports setting (objects_after events) e) key ≡ false
       → inputs_of setting (objects_after (events ++ e ∷ [])) key ≡ inputs_of setting (all_covered (events ++ e ∷ []) records) key
   taken_untouched e key none =
-      let parts = or_parts (has_port touched key) (has_port (affected_ports setting (objects_after events) e) key)
-      (sym (list_any-append (eq_by_cmp port_key_cmp key) touched (affected_ports setting (objects_after events) e)) ∙ none) in
+      let parts = or_parts _ _ (sym (list_any-append _ touched _) ∙ none) in
       ap (λ o. inputs_of setting o key) (fold_push objects_step no_objects events e)
       ∙ unaffected setting (objects_after events) e key (own events) parts.1
       ∙ h.untouched key parts.0
@@ -71,7 +68,7 @@ module _ (own : OwnKeysAfterEvents) (unaffected : UnaffectedInputs) (setting : S
         ap (with_rules_of setting (objects_after events) touched) h.kept_rules
         ∙ enough setting (all_covered events records) (objects_after events) touched
         (own (covered events (counts_of records) (length records))) (own events) (λ key none.
-        same_rules setting (all_covered events records) (objects_after events) key (h.untouched key none))
+        same_rules setting _ _ key (h.untouched key none))
 
     last_exact : IsExactRecord setting (all_covered events records) (objects_after events) (suc (length records)) r
     last_exact = record {

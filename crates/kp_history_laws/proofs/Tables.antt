@@ -47,4 +47,4 @@ counted_from start (r ∷ records) le =
     rest ∙ ap (λ (n : ℕ). n + length records) one ∙ omega arith
 
 pub table_counted : TableCounted
-table_counted setting records le = counted_from (full_table setting no_objects) records (omega arith) ∙ omega arith
+table_counted setting records le = counted_from _ records (omega arith) ∙ omega arith

@@ -33,7 +33,7 @@ module _ {K X : Type 0} {R : K → K → Ordering} (total : IsTotalOrder R) (exa
       let parts = and_parts (is_lt (R k e.0)) (below_all R k es) h in
       let rest = below_passed k es parts.1 in
       elim (p e.1) as (λ b. below_all R k (cond b (e ∷ passed es) (passed es)) ≡ true) [
-        | true ↦ and_from (is_lt (R k e.0)) (below_all R k (passed es)) parts.0 rest
+        | true ↦ and_from _ _ parts.0 rest
         | false ↦ rest
       ]
 
@@ -43,7 +43,7 @@ module _ {K X : Type 0} {R : K → K → Ordering} (total : IsTotalOrder R) (exa
       let parts = and_parts (below_all R e.0 es) (is_sorted R es) h in
       let rest = sorted_passed es parts.1 in
       elim (p e.1) as (λ b. is_sorted R (cond b (e ∷ passed es) (passed es)) ≡ true) [
-        | true ↦ and_from (below_all R e.0 (passed es)) (is_sorted R (passed es)) (below_passed e.0 es parts.0) rest
+        | true ↦ and_from _ _ (below_passed e.0 es parts.0) rest
         | false ↦ rest
       ]
 
@@ -62,22 +62,19 @@ module _ {K X : Type 0} {R : K → K → Ordering} (total : IsTotalOrder R) (exa
   find_passed q [] h = refl
   find_passed q (e ∷ es) h =
       let parts = and_parts (below_all R e.0 es) (is_sorted R es) h in
-      found_by q e es parts.0 (find_passed q es parts.1) (eq_by_cmp R q e.0) refl (p e.1) refl
+      found_by q e es parts.0 (find_passed q es parts.1) _ refl (p e.1) refl
 
   -- maps that have the same passing value at each key have the same passing values
   pub same_passing : (m n : FinMap R X) → ((q : K) → passing (get m q) ≡ passing (get n q)) → filter p (values m) ≡ filter p (values n)
   same_passing m n alike =
-      let sorted : (o : FinMap R X) → is_sorted R (entries o) ≡ true = λ o. true_from_fact (is_sorted R (entries o)) (entries_sorted o) in
-      sym (values_passed (entries m))
-      ∙ ap (map (λ (e : K × X). e.1))
-      (same_entries R total exact (passed (entries m)) (passed (entries n))
-      (fact_from_true (sorted_passed (entries m) (sorted m))) (fact_from_true (sorted_passed (entries n) (sorted n))) (λ q.
-      find_passed q (entries m) (sorted m)
+      let sorted : (o : FinMap R X) → is_sorted R (entries o) ≡ true = λ o. true_from_fact _ (entries_sorted o) in
+      sym (values_passed _)
+      ∙ ap (map (λ (e : K × X). e.1)) (same_entries R total exact _ (passed (entries n))
+      (fact_from_true (sorted_passed _ (sorted m))) (fact_from_true (sorted_passed _ (sorted n))) (λ q.
+      find_passed q _ (sorted m)
       ∙ ap passing (sym (get-entries m q))
       ∙ alike q
-      ∙ ap passing (get-entries n q)
-      ∙ sym (find_passed q (entries n) (sorted n))))
-      ∙ values_passed (entries n)
+      ∙ ap passing (get-entries n q) ∙ sym (find_passed q _ (sorted n)))) ∙ values_passed _
 
   changed_by : (m : FinMap R X) (k q : K) (o : Option X) → passing (get m k) ≡ None → passing o ≡ None → (b : Bool) → eq_by_cmp R q k ≡ b
       → passing (cond b o (get m q)) ≡ passing (get m q)
@@ -87,12 +84,11 @@ module _ {K X : Type 0} {R : K → K → Ordering} (total : IsTotalOrder R) (exa
   -- a value that doesn't pass, in place of one that doesn't either
   pub passing_inserted : (m : FinMap R X) (k : K) (v : X) → passing (get m k) ≡ None → p v ≡ false → filter p (values (insert m k v)) ≡ filter p (values m)
   passing_inserted m k v old new =
-      same_passing (insert m k v) m (λ q.
-      ap passing (get-insert total m k v q)
-      ∙ changed_by m k q (Some v) old (ap (λ b. cond b (Some v) None) new) (eq_by_cmp R q k) refl)
+      same_passing _ m (λ q. ap passing (get-insert total m k v q)
+      ∙ changed_by m k q _ old (ap (λ b. cond b (Some v) None) new) _ refl)
 
   -- a value that doesn't pass is removed
   pub passing_removed : (m : FinMap R X) (k : K) → passing (get m k) ≡ None → filter p (values (remove m k)) ≡ filter p (values m)
   passing_removed m k old =
-      same_passing (remove m k) m (λ q.
-      ap passing (get-remove total m k q) ∙ changed_by m k q None old refl (eq_by_cmp R q k) refl)
+      same_passing _ m (λ q.
+      ap passing (get-remove total m k q) ∙ changed_by m k q None old refl _ refl)

@@ -1,5 +1,6 @@
 -- The endpoints of a Service port in order, and its lists.
 use Rattle.std.proofs.Common.{◌≡◌, true≢false, Bool, true, false, cond, not, ◌&&◌, ◌||◌, ℕ, List, [], ◌∷◌, ◌++◌, map, reverse, Contains, Option, Some, None, filter, refl, sym, ap, subst, ◌∙◌, Ordering, is_lt}
+use Rattle.std.proofs.Math.Bool.{not-not}
 use Rattle.std.specs.List.{list_all}
 use Rattle.std.specs.FinMap.{is_sorted}
 use Rattle.std.specs.FinMap.Entries.{below_all}
@@ -10,7 +11,7 @@ use Rattle.kp_base.proofs.KeyOrder.{endpoint_total, endpoint_exact}
 use Rattle.kp_types.specs.declared.lists.Candidate.{Candidate}
 use Rattle.kp_object_defs.specs.Desired.{is_empty}
 use Rattle.kp_object_defs.specs.Entries.{counted_once, candidates_from}
-use Rattle.kp_object_defs.specs.Lists.{is_ready, is_serving_terminating, is_local_policy, hints_zone, hints_apply, in_zone, or_else, cluster_endpoints, local_endpoints, has_any_endpoint, used}
+use Rattle.kp_object_defs.specs.Lists.{is_ready, is_serving_terminating, hints_zone, in_zone, or_else, cluster_endpoints, local_endpoints, has_any_endpoint, used}
 use Rattle.kp_object_defs.specs.Order.{rises}
 use Rattle.kp_object_laws.specs.ListLaws.{are_in_order, endpoints_of, usable, is_usable, local, AreAmong, CountedInOrder, EntriesInOrder, ListsAmongUsable, ListsInOrder, NoneUsable, ClusterListEmpty, LocalListEmpty}
 use Rattle.kp_lemmas.proofs.Members.{none_passes, without_elements, none_in, in_filter, from_filter, in_map, from_map}
@@ -34,7 +35,7 @@ module _ {K X : Type 0} (R : K → K → Ordering) (key : X → K) where
   all_filter q p (x ∷ xs) h =
       let parts = and_parts (q (key x)) (list_all q (map key xs)) h in
       let rest = all_filter q p xs parts.1 in
-      elim (p x) as (λ b. list_all q (map key (cond b (x ∷ filter p xs) (filter p xs))) ≡ true) [ true ↦ and_from (q (key x)) _ parts.0 rest | false ↦ rest ]
+      elim (p x) as (λ b. list_all q (map key (cond b (x ∷ filter p xs) (filter p xs))) ≡ true) [ true ↦ and_from _ _ parts.0 rest | false ↦ rest ]
 
   -- they rise too where some elements are left out
   rises_filter : (p : X → Bool) (xs : List X) → rises R (map key xs) ≡ true → rises R (map key (filter p xs)) ≡ true
@@ -43,7 +44,7 @@ module _ {K X : Type 0} (R : K → K → Ordering) (key : X → K) where
       let parts = and_parts (list_all (λ l. is_lt (R (key x) l)) (map key xs)) (rises R (map key xs)) h in
       let rest = rises_filter p xs parts.1 in
       elim (p x) as (λ b. rises R (map key (cond b (x ∷ filter p xs) (filter p xs))) ≡ true) [
-        | true ↦ and_from (list_all (λ l. is_lt (R (key x) l)) (map key (filter p xs))) (rises R (map key (filter p xs))) (all_filter (λ l. is_lt (R (key x) l)) p xs parts.0) rest
+        | true ↦ and_from _ _ (all_filter (λ l. is_lt (R (key x) l)) p xs parts.0) rest
         | false ↦ rest
       ]
 
@@ -71,7 +72,7 @@ module _ (P : List Candidate → Type 0) (kept : (p : Candidate → Bool) (cs : 
   of_hints false zone cs h = h
 
   of_cluster : (zone : Option (List ℕ)) (cs : List Candidate) → P (filter is_ready cs) → P (filter is_serving_terminating cs) → P (cluster_endpoints zone cs)
-  of_cluster zone cs h k = of_either _ _ (of_hints (hints_apply zone (filter is_ready cs)) zone (filter is_ready cs) h) k
+  of_cluster zone cs h k = of_either _ _ (of_hints _ zone _ h) k
 
   of_local : (cs : List Candidate) → P (filter is_ready (local cs)) → P (filter is_serving_terminating (local cs)) → P (local_endpoints cs)
   of_local cs h k = of_either _ _ h k
@@ -88,11 +89,11 @@ part_filter cs p ds h c d = h c (from_filter p c ds d).0
 
 ready_usable : (cs : List Candidate) → IsPart (usable cs) (filter is_ready cs)
 unfolding IsPart
-ready_usable cs c d = let (in_cs, is) = from_filter is_ready c cs d in in_filter is_usable c cs in_cs (or_left (is_ready c) (is_serving_terminating c) is)
+ready_usable cs c d = let (in_cs, is) = from_filter is_ready c cs d in in_filter is_usable c cs in_cs (or_left _ _ is)
 
 serving_usable : (cs : List Candidate) → IsPart (usable cs) (filter is_serving_terminating cs)
 unfolding IsPart
-serving_usable cs c d = let (in_cs, is) = from_filter is_serving_terminating c cs d in in_filter is_usable c cs in_cs (or_right (is_ready c) (is_serving_terminating c) is)
+serving_usable cs c d = let (in_cs, is) = from_filter _ c cs d in in_filter is_usable c cs in_cs (or_right _ _ is)
 
 endpoints_among : (cs ds : List Candidate) (b : Bool) → IsPart cs ds → AreAmong cs (used b ds)
 unfolding IsPart
@@ -101,7 +102,7 @@ endpoints_among cs ds true h e c = let (d, in_ds, is) = from_map (λ (d : Candid
 
 pub among_usable : ListsAmongUsable
 among_usable internal outer accessible zone cs =
-    (endpoints_among (usable cs) (cluster_endpoints zone cs) (not (is_local_policy internal) || accessible) (of_cluster (IsPart (usable cs)) (part_filter (usable cs)) zone cs (ready_usable cs) (serving_usable cs)), endpoints_among (usable (local cs)) (local_endpoints cs) (is_local_policy internal || (accessible && is_local_policy outer)) (of_local (IsPart (usable (local cs))) (part_filter (usable (local cs))) cs (ready_usable (local cs)) (serving_usable (local cs))))
+    (endpoints_among _ _ _ (of_cluster _ (part_filter _) zone cs (ready_usable cs) (serving_usable cs)), endpoints_among _ _ _ (of_local _ (part_filter _) cs (ready_usable (local cs)) (serving_usable (local cs))))
 
 -- ---- Lists in order
 
@@ -124,36 +125,30 @@ lists_in_order internal outer accessible zone cs h =
 none_among : (cs ds : List Candidate) (es : List Endpoint) → has_any_endpoint cs ≡ false → ((c : Candidate) → Contains ds c → Contains cs c) → AreAmong (usable ds) es → es ≡ []
 none_among cs ds es none part among =
     without_elements es (λ e c.
-    let (d, in_usable, is) = from_map (λ (d : Candidate). d.endpoint) e (usable ds) (among e c) in
+    let (d, in_usable, is) = from_map (λ (d : Candidate). d.endpoint) e _ (among e c) in
     let (in_ds, passes) = from_filter is_usable d ds in_usable in
     true≢false (sym passes ∙ none_passes is_usable d cs none (part d in_ds)))
 
 pub none_usable : NoneUsable
 none_usable internal outer accessible zone cs none =
     let among = among_usable internal outer accessible zone cs in
-    (none_among cs cs _ none (λ c d. d) among.0, none_among cs (local cs) _ none (λ c d. (from_filter (λ (x : Candidate). x.local) c cs d).0) among.1)
+    (none_among cs cs _ none (λ c d. d) among.0, none_among cs _ _ none (λ c d. (from_filter (λ (x : Candidate). x.local) c cs d).0) among.1)
 
 empty_mapped : (b : Bool) (cs : List Candidate) → b ≡ true → is_empty (used b cs) ≡ is_empty cs
 empty_mapped true [] h = refl
 empty_mapped true (c ∷ cs) h = refl
 empty_mapped false cs h = absurd (true≢false (sym h))
 
-twice_not : (b : Bool) → b ≡ not (not b)
-twice_not true = refl
-twice_not false = refl
-
 pub cluster_empty : ClusterListEmpty
 cluster_empty internal outer accessible zone cs is_used =
-    empty_mapped (not (is_local_policy internal) || accessible) (cluster_endpoints zone cs) is_used
-    ∙ twice_not (is_empty (cluster_endpoints zone cs)) ∙ ap not (sym (has_any_is zone cs))
+    empty_mapped _ _ is_used ∙ sym (not-not _) ∙ ap not (sym (has_any_is zone cs))
 
 local_any : (cs : List Candidate) → is_some_list (local_endpoints cs) ≡ has_any_endpoint (local cs)
 local_any cs =
-    some_or_else (filter is_ready (local cs)) (filter is_serving_terminating (local cs))
+    some_or_else _ _
     ∙ (λ i. some_filtered is_ready (local cs) i || some_filtered is_serving_terminating (local cs) i)
-    ∙ sym (any_or is_ready is_serving_terminating (local cs))
+    ∙ sym (any_or is_ready _ (local cs))
 
 pub local_empty : LocalListEmpty
 local_empty internal outer accessible zone cs is_used =
-    empty_mapped (is_local_policy internal || (accessible && is_local_policy outer)) (local_endpoints cs) is_used
-    ∙ twice_not (is_empty (local_endpoints cs)) ∙ ap not (local_any cs)
+    empty_mapped _ _ is_used ∙ sym (not-not _) ∙ ap not (local_any cs)

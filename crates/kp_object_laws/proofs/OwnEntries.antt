@@ -26,7 +26,7 @@ pub missing : {K X : Type 0} (R : K → K → Ordering) (k : K) (es : List (K ×
 missing R k [] h = refl
 missing R k (e ∷ es) h =
     let parts = and_parts (is_lt (R k e.0)) (below_all R k es) h in
-    ap (λ o. cond (is_eq o) (Some e.1) (find R k es)) (less_from_test (R k e.0) parts.0) ∙ missing R k es parts.1
+    ap (λ o. cond (is_eq o) (Some e.1) (find R k es)) (less_from_test _ parts.0) ∙ missing R k es parts.1
 
 module _ {K X : Type 0} {R : K → K → Ordering} (total : IsTotalOrder R) (exact : IsAntisymmetric R) (key : X → K) where
   -- ---- Look-ups
@@ -39,7 +39,7 @@ module _ {K X : Type 0} {R : K → K → Ordering} (total : IsTotalOrder R) (exa
   -- what is found is an element with the key
   pub found_in : (k : K) (xs : List X) (x : X) → find R k (owned key xs) ≡ Some x → Contains xs x × (key x ≡ k)
   found_in k [] x h = absurd (cc)
-  found_in k (y ∷ ys) x h = found_by k y ys x (found_in k ys x) (eq_by_cmp R k (key y)) refl h
+  found_in k (y ∷ ys) x h = found_by k y ys x (found_in k ys x) _ refl h
 
   tied_key : (k l : K) → l ≡ k → eq_by_cmp R k l ≡ true
   tied_key k l e = ap (λ m. is_eq (R m l)) (sym e) ∙ tie_of_itself total l
@@ -56,7 +56,7 @@ module _ {K X : Type 0} {R : K → K → Ordering} (total : IsTotalOrder R) (exa
   -- where an element has the key, one is found
   found_some : (k : K) (xs : List X) (x : X) → Contains xs x → key x ≡ k → (z : X) × (find R k (owned key xs) ≡ Some z)
   found_some k [] x c is = absurd (none_in x c)
-  found_some k (y ∷ ys) x c is = some_by k y ys x is c (λ d. found_some k ys x d is) (eq_by_cmp R k (key y)) refl
+  found_some k (y ∷ ys) x c is = some_by k y ys x is c (λ d. found_some k ys x d is) _ refl
 
   -- elements with one key are one
   abbrev pub AreApart : List X → Type 0
@@ -64,7 +64,7 @@ module _ {K X : Type 0} {R : K → K → Ordering} (total : IsTotalOrder R) (exa
 
   -- lists of the same elements have the same at each key
   pub same_found : (xs ys : List X) → HaveSameElements xs ys → AreApart ys → (k : K) → find R k (owned key xs) ≡ find R k (owned key ys)
-  same_found xs ys same apart k = by (find R k (owned key xs)) (find R k (owned key ys)) refl refl
+  same_found xs ys same apart k = by _ _ refl refl
     where
       by : (a b : Option X) → find R k (owned key xs) ≡ a → find R k (owned key ys) ≡ b → a ≡ b
       by None None p q = refl
@@ -91,7 +91,7 @@ module _ {K X : Type 0} {R : K → K → Ordering} (total : IsTotalOrder R) (exa
   below_in k (y ∷ ys) x h c =
       let parts = and_parts (is_lt (R k (key y))) (below_all R k (owned key ys)) h in
       elim (in_cases x y ys c) [
-        | inl e ↦ subst (λ z. R k (key z) ≡ Less) e (less_from_test (R k (key y)) parts.0)
+        | inl e ↦ subst (λ z. R k (key z) ≡ Less) e (less_from_test _ parts.0)
         | inr d ↦ below_in k ys x parts.1 d
       ]
 
@@ -125,7 +125,7 @@ module _ {K X : Type 0} {R : K → K → Ordering} (total : IsTotalOrder R) (exa
   below_filter p k (x ∷ xs) h =
       let parts = and_parts (is_lt (R k (key x))) (below_all R k (owned key xs)) h in
       let rest = below_filter p k xs parts.1 in
-      elim (p x) as (λ b. below_all R k (owned key (cond b (x ∷ filter p xs) (filter p xs))) ≡ true) [ true ↦ and_from (is_lt (R k (key x))) (below_all R k (owned key (filter p xs))) parts.0 rest | false ↦ rest ]
+      elim (p x) as (λ b. below_all R k (owned key (cond b (x ∷ filter p xs) (filter p xs))) ≡ true) [ true ↦ and_from _ _ parts.0 rest | false ↦ rest ]
 
   -- elements of a list in order, of which those that pass are taken
   pub filter_in_order : (p : X → Bool) (xs : List X) → is_sorted R (owned key xs) ≡ true → is_sorted R (owned key (filter p xs)) ≡ true
@@ -134,7 +134,7 @@ module _ {K X : Type 0} {R : K → K → Ordering} (total : IsTotalOrder R) (exa
       let parts = and_parts (below_all R (key x) (owned key xs)) (is_sorted R (owned key xs)) h in
       let rest = filter_in_order p xs parts.1 in
       elim (p x) as (λ b. is_sorted R (owned key (cond b (x ∷ filter p xs) (filter p xs))) ≡ true) [
-        | true ↦ and_from (below_all R (key x) (owned key (filter p xs))) (is_sorted R (owned key (filter p xs))) (below_filter p (key x) xs parts.0) rest
+        | true ↦ and_from _ _ (below_filter p (key x) xs parts.0) rest
         | false ↦ rest
       ]
 
@@ -168,34 +168,33 @@ module _ {K X : Type 0} {R : K → K → Ordering} (total : IsTotalOrder R) (exa
 
   own_in_order : (es : List (K × X)) → AreOwn es → AreOwn (in_order R es)
   own_in_order [] h = tt
-  own_in_order (e ∷ es) h = own_put e.0 e.1 (in_order R es) h.0 (own_in_order es h.1)
+  own_in_order (e ∷ es) h = own_put e.0 e.1 _ h.0 (own_in_order es h.1)
 
   own_by_key : (xs : List X) → AreOwn (by_key R key xs)
-  own_by_key xs = own_in_order (reverse (owned key xs)) (subst AreOwn (map-reverse (λ x. (key x, x)) xs) (own_owned (reverse xs)))
+  own_by_key xs = own_in_order _ (subst AreOwn (map-reverse (λ x. (key x, x)) xs) (own_owned _))
 
   -- the first element of each key is taken, in order
   pub first_in_order : (xs : List X) → is_sorted R (owned key (values_of (in_order R (owned key xs)))) ≡ true
-  first_in_order xs = ap (is_sorted R) (owned_values (in_order R (owned key xs)) (own_in_order (owned key xs) (own_owned xs))) ∙ sorted-in_order total (owned key xs)
+  first_in_order xs = ap (is_sorted R) (owned_values _ (own_in_order _ (own_owned xs))) ∙ sorted-in_order total (owned key xs)
 
   -- each entry of elements by their keys is of an element
   pub of_element : (xs : List X) (e : K × X) → find R e.0 (by_key R key xs) ≡ Some e.1 → Contains xs e.1 × (key e.1 ≡ e.0)
   of_element xs e h =
-      let (c, is) = found_in e.0 (reverse xs) e.1 (ap (find R e.0) (map-reverse (λ x. (key x, x)) xs) ∙ sym (find-in_order total e.0 (reverse (owned key xs))) ∙ h) in
-      (Contains-permutation (reverse xs) xs e.1 (IsPermutation-sym xs (reverse xs) (IsPermutation-reverse xs)) c, is)
+      let (c, is) = found_in e.0 _ e.1 (ap (find R e.0) (map-reverse (λ x. (key x, x)) xs) ∙ sym (find-in_order total e.0 _) ∙ h) in
+      (Contains-permutation _ xs e.1 (IsPermutation-sym xs (reverse xs) (IsPermutation-reverse xs)) c, is)
 
   -- elements by their keys are in order
   pub by_key_in_order : (xs : List X) → is_sorted R (owned key (values_of (by_key R key xs))) ≡ true
-  by_key_in_order xs = ap (is_sorted R) (owned_values (by_key R key xs) (own_by_key xs)) ∙ sorted-in_order total (reverse (owned key xs))
+  by_key_in_order xs = ap (is_sorted R) (owned_values _ (own_by_key xs)) ∙ sorted-in_order total (reverse (owned key xs))
 
   -- in any order, the elements of a list in order are that list once they are put in order
   pub put_in_order : (xs ys : List X) → HaveSameElements xs ys → is_sorted R (owned key ys) ≡ true → values_of (by_key R key xs) ≡ ys
   put_in_order xs ys same sorted =
       ap values_of
-      (same_entries R total exact (by_key R key xs) (owned key ys) (fact_from_true (sorted-in_order total (reverse (owned key xs)))) (fact_from_true sorted) (λ k.
-      find-in_order total k (reverse (owned key xs))
+      (same_entries R total exact _ (owned key ys) (fact_from_true (sorted-in_order total (reverse (owned key xs)))) (fact_from_true sorted) (λ k.
+      find-in_order total k _
       ∙ ap (find R k) (sym (map-reverse (λ x. (key x, x)) xs))
-      ∙ same_found (reverse xs) ys (same_reversed xs ys same) (in_order_apart ys sorted) k))
-      ∙ values_owned ys
+      ∙ same_found _ ys (same_reversed xs ys same) (in_order_apart ys sorted) k)) ∙ values_owned ys
 
   -- ---- Maps whose values stand under their own keys
 
@@ -204,7 +203,7 @@ module _ {K X : Type 0} {R : K → K → Ordering} (total : IsTotalOrder R) (exa
   FoundOwn es = (k : K) (x : X) → find R k es ≡ Some x → key x ≡ k
 
   found_later : (e : K × X) (es : List (K × X)) → below_all R e.0 es ≡ true → FoundOwn (e ∷ es) → FoundOwn es
-  found_later e es below own k x h = own k x (by (eq_by_cmp R k e.0) refl)
+  found_later e es below own k x h = own k x (by _ refl)
     where
       by : (b : Bool) → eq_by_cmp R k e.0 ≡ b → cond b (Some e.1) (find R k es) ≡ Some x
       by true p = let none : find R k es ≡ None = ap (λ m. find R m es) (one_from_tie exact k e.0 p) ∙ missing R e.0 es below in absurd (cc)
@@ -228,7 +227,7 @@ module _ {K : Type 0} (R : K → K → Ordering) where
   keys_of_order : {X : Type 0} (es : List (K × X)) → map (λ e. e.0) (in_order R es) ≡ keys_in_order (map (λ e. e.0) es)
   unfolding keys_in_order
   keys_of_order [] = refl
-  keys_of_order (e ∷ es) = put_keys R e.0 e.1 (in_order R es) ∙ ap (λ ks. insert_key R ks e.0) (keys_of_order es)
+  keys_of_order (e ∷ es) = put_keys R e.0 e.1 _ ∙ ap (λ ks. insert_key R ks e.0) (keys_of_order es)
 
   -- they are the same for entries with the same keys
   pub same_keys : {X Y : Type 0} (es : List (K × X)) (fs : List (K × Y)) → map (λ e. e.0) es ≡ map (λ f. f.0) fs → map (λ e. e.0) (in_order R es) ≡ map (λ f. f.0) (in_order R fs)
@@ -245,14 +244,12 @@ module _ {K X : Type 0} {R : K → K → Ordering} (total : IsTotalOrder R) (exa
 
   reversed_keys : (ks : List K) → in_order R (owned (λ k. k) (reverse ks)) ≡ in_order R (owned (λ k. k) ks)
   reversed_keys ks =
-      same_order total exact (owned (λ k. k) (reverse ks)) (owned (λ k. k) ks)
-      (same_found total exact (λ k. k) (reverse ks) ks (same_reversed ks ks (λ x. (λ c. c, λ c. c))) (λ x y c d e. e))
+      same_order total exact _ _
+      (same_found total exact (λ k. k) _ ks (same_reversed ks ks (λ x. (λ c. c, λ c. c))) (λ x y c d e. e))
 
   -- the keys of elements in order are the elements' keys, once each in order
   pub keys_of_elements : (xs : List X) → map (λ e. e.0) (by_key R key xs) ≡ distinct_in_order R (map key xs)
   keys_of_elements xs =
-      same_keys R (reverse (owned key xs)) (owned (λ k. k) (reverse (map key xs)))
-      (sym (ap (map (λ e. e.0)) (map-reverse (λ x. (key x, x)) xs))
-      ∙ keys_of_owned (reverse xs) ∙ map-reverse key xs
-      ∙ sym (keys_by_themselves (reverse (map key xs))))
-      ∙ ap (map (λ e. e.0)) (reversed_keys (map key xs))
+      same_keys R _ _ (sym (ap (map (λ e. e.0)) (map-reverse (λ x. (key x, x)) xs))
+      ∙ keys_of_owned _ ∙ map-reverse key xs
+      ∙ sym (keys_by_themselves _)) ∙ ap (map (λ e. e.0)) (reversed_keys (map key xs))

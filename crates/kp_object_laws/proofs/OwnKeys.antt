@@ -26,18 +26,18 @@ module _ {X : Type 0} (key_of : X → ObjectKey) where
   of_none key x h = let none : get (finite.empty {X = X} {R = key_cmp}) key ≡ None = get-empty key_cmp key in absurd (cc)
 
   inserted_by : (m : finite.FinMap key_cmp X) (v : X) → IsUnderOwnKeys key_of m → (key : ObjectKey) (x : X) (b : Bool) → eq_by_cmp key_cmp key (key_of v) ≡ b → cond b (Some v) (get m key) ≡ Some x → key_of x ≡ key
-  inserted_by m v own key x true e h = ap key_of (sym (same_Some v x h)) ∙ sym (one_from_tie key_exact key (key_of v) e)
+  inserted_by m v own key x true e h = ap key_of (sym (same_Some v x h)) ∙ sym (one_from_tie key_exact key _ e)
   inserted_by m v own key x false e h = own key x h
 
   pub of_inserted : (m : finite.FinMap key_cmp X) (v : X) → IsUnderOwnKeys key_of m → IsUnderOwnKeys key_of (finite.insert m (key_of v) v)
-  of_inserted m v own key x h = inserted_by m v own key x (eq_by_cmp key_cmp key (key_of v)) refl (sym (get-insert key_total m (key_of v) v key) ∙ h)
+  of_inserted m v own key x h = inserted_by m v own key x _ refl (sym (get-insert key_total m (key_of v) v key) ∙ h)
 
   removed_by : (m : finite.FinMap key_cmp X) → IsUnderOwnKeys key_of m → (key : ObjectKey) (x : X) (b : Bool) → cond b None (get m key) ≡ Some x → key_of x ≡ key
   removed_by m own key x true h = absurd (cc)
   removed_by m own key x false h = own key x h
 
   pub of_removed : (m : finite.FinMap key_cmp X) (k : ObjectKey) → IsUnderOwnKeys key_of m → IsUnderOwnKeys key_of (finite.remove m k)
-  of_removed m k own key x h = removed_by m own key x (eq_by_cmp key_cmp key k) (sym (get-remove key_total m k key) ∙ h)
+  of_removed m k own key x h = removed_by m own key x _ (sym (get-remove key_total m k key) ∙ h)
 
 -- ---- All objects
 
@@ -56,7 +56,7 @@ own_after_event o (Delete kind.Node key) own = record { services = own.services;
 
 after_from : (events : List Event) (o : Objects) → AreUnderOwnKeys o → AreUnderOwnKeys (fold objects_step o events)
 after_from [] o own = own
-after_from (e ∷ es) o own = after_from es (objects_step o e) (own_after_event o e own)
+after_from (e ∷ es) o own = after_from es _ (own_after_event o e own)
 
 pub own_after_events : OwnKeysAfterEvents
 own_after_events events = after_from events no_objects own_at_first
@@ -68,11 +68,11 @@ module _ {X : Type 0} (key_of : X → ObjectKey) (m : finite.FinMap key_cmp X) (
   found_own es is k x h = own k x (get-entries m k ∙ ap (find key_cmp k) is ∙ h)
 
   entries_in_order : is_sorted key_cmp (entries m) ≡ true
-  entries_in_order = true_from_fact (is_sorted key_cmp (entries m)) (entries_sorted m)
+  entries_in_order = true_from_fact _ (entries_sorted m)
 
   -- are its entries, by their own keys
   pub owned_entries : owned key_of (finite.values m) ≡ entries m
-  owned_entries = owned_values key_total key_exact key_of (entries m) (own_entries key_total key_exact key_of (entries m) entries_in_order (found_own (entries m) refl))
+  owned_entries = owned_values key_total key_exact key_of _ (own_entries key_total key_exact key_of _ entries_in_order (found_own _ refl))
 
   -- in order
   pub values_in_order : is_sorted key_cmp (owned key_of (finite.values m)) ≡ true

@@ -25,12 +25,11 @@ use Rattle.kp_types.specs.declared.info.ServiceSources.{ServiceSources}
 use Rattle.kp_types.specs.declared.lists.Candidate.{Candidate}
 use Rattle.kp_types.specs.declared.service.Service.{Service}
 use Rattle.kp_types.specs.declared.service.ServicePort.{ServicePort}
-use Rattle.kp_object_defs.specs.Desired.{is_reconciled}
 use Rattle.kp_object_defs.specs.Entries.{sources_of, entries_from}
 use Rattle.kp_object_defs.specs.Objects.{Objects, zone_of}
 use Rattle.kp_object_defs.specs.OwnKeys.{AreUnderOwnKeys}
 use Rattle.kp_object_defs.specs.Order.{by_key, distinct_in_order}
-use Rattle.kp_object_defs.specs.PortInfo.{PortInfo, port_key_of, info_from, info_of, infos_from, ports_of, name_of_port, cluster_address_in}
+use Rattle.kp_object_defs.specs.PortInfo.{PortInfo, port_key_of, info_from, info_of, infos_from, ports_of, name_of_port}
 use Rattle.kp_object_defs.specs.PortByKey.{port_keys_of, port_named, info_in, info_at}
 use Rattle.kp_object_defs.proofs.InOrder.{sorted-in_order}
 use Rattle.kp_object_laws.specs.PortLaws.{PortIsNamed, InfoHasKey, InfosByKeys}
@@ -41,7 +40,7 @@ use Rattle.kp_object_laws.proofs.OwnKeys.{values_in_order, found_in_values}
 -- ---- A port of a Service
 
 same_port_itself : (p : ServicePort) → is_port p.name p.proto p ≡ true
-same_port_itself p = and_from (bytes_eq p.name p.name) (same_proto p.proto p.proto) ((bytes_eq-Decides p.name p.name).1 refl) (proto_itself p.proto)
+same_port_itself p = and_from _ _ ((bytes_eq-Decides p.name p.name).1 refl) (proto_itself p.proto)
   where
     proto_itself : (q : Proto) → same_proto q q ≡ true
     proto_itself Sctp = refl
@@ -51,7 +50,7 @@ same_port_itself p = and_from (bytes_eq p.name p.name) (same_proto p.proto p.pro
 -- a port of another name or protocol isn't found
 other_port : (p q : ServicePort) → is_port q.name q.proto p ≡ false → is_port p.name p.proto q ≡ false
 other_port p q other =
-    false_from_ne_true (is_port p.name p.proto q) (λ same.
+    false_from_ne_true _ (λ same.
     let parts = and_parts (bytes_eq q.name p.name) (same_proto q.proto p.proto) same in
     let names : q.name ≡ p.name = (bytes_eq-Decides q.name p.name).0 parts.0 in
     let protos : q.proto ≡ p.proto = same_proto_exact q.proto p.proto parts.1 in
@@ -64,7 +63,7 @@ found_port (q ∷ qs) h p c =
     elim (in_cases p q qs c) [
       | inl e ↦ ap (λ b. cond b (Some q) (list.find (is_port p.name p.proto) qs)) (ap (is_port p.name p.proto) e ∙ same_port_itself p) ∙ ap Some e
       | inr d ↦
-          ap (λ b. cond b (Some q) (list.find (is_port p.name p.proto) qs)) (other_port p q (none_passes (is_port q.name q.proto) p qs (not-true _ parts.0) d))
+          ap (λ b. cond b (Some q) (list.find (is_port p.name p.proto) qs)) (other_port p q (none_passes _ p qs (not-true _ parts.0) d))
           ∙ found_port qs parts.1 p d
     ]
 
@@ -82,7 +81,7 @@ service_by false x y h = refl
 -- what a Service's endpoints are taken from tells the Service
 pub sources_service : (family : Family) (config : FamilyConfig) (o : Objects) (s : Service)
     → (sources_of family config o s).service ≡ s
-sources_service family config o s = service_by (is_reconciled config s) _ _ refl
+sources_service family config o s = service_by _ _ _ refl
 
 -- of Services that the objects have
 module _ (family : Family) (config : FamilyConfig) (o : Objects) (ss : List Service) (stored : (s : Service) → Contains ss s → get o.services s.key ≡ Some s) where
@@ -102,15 +101,14 @@ module _ (family : Family) (config : FamilyConfig) (o : Objects) (ss : List Serv
 
   of_port : (q : ServiceSources × ServicePort) → Contains ports q → info_at family config o (name_of_port q) ≡ known q
   of_port q c =
-      let (from, in_sources, in_its) = from_flat_map ports_of q (map (sources_of family config o) ss) c in
-      let (s, in_services, is) = from_map (sources_of family config o) from ss in_sources in
-      let (p, in_ports, of) = from_map (λ p. (from, p)) q from.service.ports in_its in
+      let (from, in_sources, in_its) = from_flat_map ports_of q _ c in
+      let (s, in_services, is) = from_map _ from ss in_sources in
+      let (p, in_ports, of) = from_map (λ p. (from, p)) q _ in_its in
       let same : from.service ≡ s = ap (λ (t : ServiceSources). t.service) (sym is) ∙ sources_service family config o s in
       ap (λ r. info_at family config o (name_of_port r)) (sym of)
       ∙ ap (λ t. info_at family config o (port_key_of t p)) same
       ∙ of_service s p in_services (subst (λ (t : Service). Contains t.ports p) same in_ports)
-      ∙ ap (λ t. known (t, p)) is
-      ∙ ap known of
+      ∙ ap (λ t. known (t, p)) is ∙ ap known of
 
   abbrev named_ports : List (PortKey × (ServiceSources × ServicePort))
   named_ports = by_key port_key_cmp name_of_port (flat_map ports_of (map (sources_of family config o) ss))
@@ -142,7 +140,7 @@ named_pieces family config o (s ∷ ss) =
 pub infos_by_names : (family : Family) (config : FamilyConfig) (o : Objects) (ss : List Service) → ((s : Service) → Contains ss s → get o.services s.key ≡ Some s)
     → infos_from family config.node (zone_of o config.node) (map (sources_of family config o) ss) ≡ filter_map (info_at family config o) (distinct_in_order port_key_cmp (flat_map port_keys_of ss))
 infos_by_names family config o ss stored =
-    made_alike (info_at family config o) (info_of family config.node (zone_of o config.node)) (named_ports family config o ss stored) (each_port family config o ss stored)
+    made_alike _ _ _ (each_port family config o ss stored)
     ∙ ap (filter_map (info_at family config o))
     (keys_of_elements port_key_total port_key_exact name_of_port (ports family config o ss stored)
     ∙ ap (distinct_in_order port_key_cmp) (named_pieces family config o ss))
@@ -151,16 +149,17 @@ infos_by_names family config o ss stored =
 pub all_stored : (o : Objects) → AreUnderOwnKeys o → (s : Service) → Contains (finite.values o.services) s → get o.services s.key ≡ Some s
 all_stored o own s c =
     sym (found_in_values (λ x. x.key) o.services own.services s.key)
-    ∙ found_itself key_total key_exact (λ x. x.key) (finite.values o.services) (values_in_order (λ x. x.key) o.services own.services) s c
+    ∙ found_itself key_total key_exact (λ x. x.key) _ (values_in_order (λ x. x.key) o.services own.services) s c
 
 pub infos_by_keys : InfosByKeys
-infos_by_keys family config o own = infos_by_names family config o (finite.values o.services) (all_stored o own)
+infos_by_keys family config o own = infos_by_names family config o _ (all_stored o own)
 
 -- ---- The name of what is found
 
-found_passes : {X : Type 0} (test : X → Bool) (xs : List X) (x : X) → list.find test xs ≡ Some x → test x ≡ true
+-- what is found passes the test
+pub found_passes : {X : Type 0} (test : X → Bool) (xs : List X) (x : X) → list.find test xs ≡ Some x → test x ≡ true
 found_passes test [] x h = absurd (cc)
-found_passes test (y ∷ ys) x h = by (test y) refl (found_passes test ys x) h
+found_passes test (y ∷ ys) x h = by _ refl (found_passes test ys x) h
   where
     by : (b : Bool) → test y ≡ b → (list.find test ys ≡ Some x → test x ≡ true) → cond b (Some y) (list.find test ys) ≡ Some x → test x ≡ true
     by true e rest h = ap test (sym (same_Some y x h)) ∙ e
@@ -177,14 +176,14 @@ module _ (family : Family) (config : FamilyConfig) (o : Objects) (key : PortKey)
   key_of_port s is None named h = absurd (cc)
   key_of_port s is (Some p) named h =
       let from : ServiceSources = sources_of family config o s in
-      let parts = and_parts (bytes_eq p.name key.port_name) (same_proto p.proto key.proto) (found_passes (is_port key.port_name key.proto) s.ports p named) in
-      info_key family from.service p (zone_of o config.node) (entries_from family config.node from (port_key_of from.service p)) (cluster_address_in family from.service) i h
+      let parts = and_parts (bytes_eq p.name key.port_name) (same_proto p.proto key.proto) (found_passes _ s.ports p named) in
+      info_key family from.service p _ (entries_from family config.node from (port_key_of from.service p)) _ i h
       ∙ ap (λ t. port_key_of t p) (sources_service family config o s)
-      ∙ (λ j. record { object = is j; port_name = (bytes_eq-Decides p.name key.port_name).0 parts.0 j; proto = same_proto_exact p.proto key.proto parts.1 j })
+      ∙ (λ j. record { object = is j; port_name = (bytes_eq-Decides p.name _).0 parts.0 j; proto = same_proto_exact p.proto key.proto parts.1 j })
 
   key_of_service : AreUnderOwnKeys o → (found : Option Service) → get o.services key.object ≡ found → option_and_then (info_in family config o key) found ≡ Some i → i.key ≡ key
   key_of_service own None at h = absurd (cc)
-  key_of_service own (Some s) at h = key_of_port s (own.services key.object s at) (port_named key s) refl h
+  key_of_service own (Some s) at h = key_of_port s (own.services key.object s at) _ refl h
 
 pub info_has_key : InfoHasKey
-info_has_key family config o key i own h = key_of_service family config o key i own (get o.services key.object) refl h
+info_has_key family config o key i own h = key_of_service family config o key i own _ refl h

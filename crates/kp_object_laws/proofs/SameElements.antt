@@ -12,4 +12,4 @@ same_filtered p xs ys same x =
 -- a reversed list has the same elements
 pub same_reversed : {A : Type 0} (xs ys : List A) → HaveSameElements xs ys → HaveSameElements (reverse xs) ys
 same_reversed xs ys same x =
-    (λ c. (same x).0 (Contains-permutation (reverse xs) xs x (IsPermutation-sym xs (reverse xs) (IsPermutation-reverse xs)) c), λ c. Contains-permutation xs (reverse xs) x (IsPermutation-reverse xs) ((same x).1 c))
+    (λ c. (same x).0 (Contains-permutation _ xs x (IsPermutation-sym xs (reverse xs) (IsPermutation-reverse xs)) c), λ c. Contains-permutation xs _ x (IsPermutation-reverse xs) ((same x).1 c))

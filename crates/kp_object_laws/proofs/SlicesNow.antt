@@ -30,7 +30,7 @@ use Rattle.kp_object_defs.specs.Entries.{is_of_service, is_named, is_type_of}
 use Rattle.kp_object_defs.specs.Objects.{Objects, no_objects, objects_step}
 use Rattle.kp_object_defs.specs.OwnKeys.{IsUnderOwnKeys}
 use Rattle.kp_object_defs.specs.PackingLaws.{have_own_names, are_managed_for, is_managed_for}
-use Rattle.kp_object_defs.specs.SlicesNow.{Slices, slices_step, is_leftover, without_leftovers, managed_slices, names_in, packed_now, after_packing, after_controller, controller_step, Synced, unsynced, sync_step, synced, slices_now}
+use Rattle.kp_object_defs.specs.SlicesNow.{Slices, slices_step, is_leftover, managed_slices, names_in, packed_now, after_packing, after_controller, controller_step, Synced, sync_step, synced, slices_now}
 use Rattle.kp_object_laws.specs.SliceLaws.{SlicesAsFed, SlicesWithoutController, SlicesAfterEvent, SlicesAfterSync, SlicesUnderOwnKeys, ManagedCanBePacked}
 use Rattle.kp_object_laws.proofs.OwnEntries.{owned, AreOwn, own_entries, filter_in_order}
 use Rattle.kp_object_laws.proofs.OwnKeys.{of_none, of_inserted, own_at_first, own_after_event, values_in_order}
@@ -49,7 +49,7 @@ step_same o (Delete kind.Node key) = refl
 
 fed : (events : List Event) (o : Objects) → fold slices_step o.slices events ≡ (fold objects_step o events).slices
 fed [] o = refl
-fed (e ∷ es) o = ap (λ m. fold slices_step m es) (sym (step_same o e)) ∙ fed es (objects_step o e)
+fed (e ∷ es) o = ap (λ m. fold slices_step m es) (sym (step_same o e)) ∙ fed es _
 
 pub as_fed : SlicesAsFed
 as_fed families config events = fed events no_objects
@@ -63,7 +63,7 @@ split_fold f a n xs = sym (fold-append f a (take n xs) (drop n xs)) ∙ ap (fold
 covered : (families : List Family) (config : Config) (counts : List ℕ) (c : Synced)
     → let last = fold (sync_step families config) c counts in fold objects_step last.objects last.left ≡ fold objects_step c.objects c.left
 covered families config [] c = refl
-covered families config (n ∷ ns) c = covered families config ns (sync_step families config c n) ∙ split_fold objects_step c.objects n c.left
+covered families config (n ∷ ns) c = covered families config ns _ ∙ split_fold objects_step c.objects n c.left
 
 off_same : (families : List Family) (config : Config) (o : Objects) (slices : Slices) → config.controller ≡ false → controller_step families config o slices ≡ slices
 off_same families config o slices off = ap (λ b. cond b (after_controller families config.max_per_slice o slices) slices) off
@@ -73,15 +73,14 @@ without_by : (families : List Family) (config : Config) → config.controller �
 without_by families config off [] c same = same
 without_by families config off (n ∷ ns) c same =
     without_by families config off ns (sync_step families config c n)
-    (off_same families config (fold objects_step c.objects (take n c.left)) (fold slices_step c.slices (take n c.left)) off
+    (off_same families config (fold objects_step c.objects (take n c.left)) _ off
     ∙ ap (λ m. fold slices_step m (take n c.left)) same ∙ fed (take n c.left) c.objects)
 
 pub without_controller : SlicesWithoutController
 without_controller families config events counts off =
     let last = synced families config events counts in
-    ap (λ m. fold slices_step m last.left) (without_by families config off counts (unsynced events) refl)
-    ∙ fed last.left last.objects
-    ∙ ap (λ (o : Objects). o.slices) (covered families config counts (unsynced events))
+    ap (λ m. fold slices_step m last.left) (without_by families config off counts _ refl)
+    ∙ fed last.left last.objects ∙ ap (λ (o : Objects). o.slices) (covered families config counts _)
 
 -- ---- One more event
 
@@ -109,12 +108,12 @@ with_event_synced families config [] c e few = refl
 with_event_synced families config (n ∷ ns) c e few =
     let parts : sum (n ∷ ns) ≡ n + sum ns = sum_cons n ns in
     ap (λ d. fold (sync_step families config) d ns) (with_event_step families config c e n (omega arith))
-    ∙ with_event_synced families config ns (sync_step families config c n) e (let left : length (drop n c.left) ≡ length c.left - n = length-drop n c.left in omega arith)
+    ∙ with_event_synced families config ns _ e (let left : length (drop n c.left) ≡ length c.left - n = length-drop n c.left in omega arith)
 
 pub after_event : SlicesAfterEvent
 after_event families config events counts event few =
-    ap (λ (last : Synced). fold slices_step last.slices last.left) (with_event_synced families config counts (unsynced events) event few)
-    ∙ fold-append slices_step (synced families config events counts).slices (synced families config events counts).left (event ∷ [])
+    ap (λ (last : Synced). fold slices_step last.slices last.left) (with_event_synced families config counts _ event few)
+    ∙ fold-append slices_step (synced families config events counts).slices (synced families config events counts).left _
 
 -- ---- One more sync
 
@@ -124,7 +123,7 @@ length_left families config [] c few = omega arith
 length_left families config (n ∷ ns) c few =
     let parts : sum (n ∷ ns) ≡ n + sum ns = sum_cons n ns in
     let left : length (drop n c.left) ≡ length c.left - n = length-drop n c.left in
-    let rest = length_left families config ns (sync_step families config c n) (omega arith) in
+    let rest = length_left families config ns _ (omega arith) in
     rest ∙ omega arith
 
 whole_step : (families : List Family) (config : Config) (c : Synced) (n : ℕ) → length c.left ≡ n
@@ -137,9 +136,9 @@ whole_step families config c n all =
 pub after_sync : SlicesAfterSync
 after_sync families config events counts few =
     let last = synced families config events counts in
-    ap (λ (next : Synced). fold slices_step next.slices next.left) (fold-append (sync_step families config) (unsynced events) counts ((length events - sum counts) ∷ []))
-    ∙ whole_step families config last (length events - sum counts) (length_left families config counts (unsynced events) few)
-    ∙ ap (λ o. controller_step families config o (slices_now families config events counts)) (covered families config counts (unsynced events))
+    ap (λ (next : Synced). fold slices_step next.slices next.left) (fold-append _ _ counts _)
+    ∙ whole_step families config last _ (length_left families config counts _ few)
+    ∙ ap (λ o. controller_step families config o (slices_now families config events counts)) (covered families config counts _)
 
 -- ---- Own keys
 
@@ -149,7 +148,7 @@ own_step slices event own =
 
 own_fed : (events : List Event) (slices : Slices) → IsUnderOwnKeys (λ (s : Slice). s.key) slices → IsUnderOwnKeys (λ (s : Slice). s.key) (fold slices_step slices events)
 own_fed [] slices own = own
-own_fed (e ∷ es) slices own = own_fed es (slices_step slices e) (own_step slices e own)
+own_fed (e ∷ es) slices own = own_fed es _ (own_step slices e own)
 
 -- entries under the keys of their slices
 abbrev AreOwnSlices : List (ObjectKey × Slice) → Type 0
@@ -159,7 +158,7 @@ own_made : (es : List (ObjectKey × Slice)) → AreOwnSlices es → IsUnderOwnKe
 own_made [] own = of_none (λ (s : Slice). s.key)
 own_made (e ∷ es) own =
     subst (λ k. IsUnderOwnKeys (λ (s : Slice). s.key) (finite.insert (finite.from_entries es) k e.1)) (sym own.0)
-    (of_inserted (λ (s : Slice). s.key) (finite.from_entries es) e.1 (own_made es own.1))
+    (of_inserted (λ (s : Slice). s.key) _ e.1 (own_made es own.1))
 
 -- what each step keeps holds at the end
 kept_by : {A B : Type 0} (P : B → Type 0) (f : B → A → B) → ((b : B) (a : A) → P b → P (f b a)) → (xs : List A) (b : B) → P b → P (fold f b xs)
@@ -172,49 +171,48 @@ all_own (e ∷ es) own = (own.0, all_own es own.1)
 
 own_entries_of : (m : Slices) → IsUnderOwnKeys (λ (s : Slice). s.key) m → AreOwnSlices (entries m)
 own_entries_of m own =
-    all_own (entries m)
-    (own_entries key_total key_exact (λ s. s.key) (entries m) (true_from_fact (is_sorted key_cmp (entries m)) (entries_sorted m)) (λ k x h. own k x (get-entries m k ∙ h)))
+    all_own _
+    (own_entries key_total key_exact (λ s. s.key) _ (true_from_fact _ (entries_sorted m)) (λ k x h. own k x (get-entries m k ∙ h)))
 
 own_packed : (slices : List Slice) → AreOwnSlices (map (λ s. (s.key, s)) slices)
 own_packed [] = tt
 own_packed (s ∷ ss) = (refl, own_packed ss)
 
 own_controlled : (families : List Family) (config : Config) (o : Objects) (slices : Slices) → IsUnderOwnKeys (λ (s : Slice). s.key) slices → IsUnderOwnKeys (λ (s : Slice). s.key) (controller_step families config o slices)
-own_controlled families config o slices own = by config.controller
+own_controlled families config o slices own = by _
   where
     filtered : (m : Slices) → IsUnderOwnKeys (λ (s : Slice). s.key) m → (test : ObjectKey × Slice → Bool) → AreOwnSlices (filter test (entries m))
-    filtered m owned test = all_filter (λ e. e.0 ≡ e.1.key) test (entries m) (own_entries_of m owned)
+    filtered m owned test = all_filter (λ e. e.0 ≡ e.1.key) test _ (own_entries_of m owned)
 
     packed : (s : Service) (family : Family) (m : Slices) → IsUnderOwnKeys (λ (s : Slice). s.key) m → IsUnderOwnKeys (λ (s : Slice). s.key) (after_packing config.max_per_slice o s m family)
     packed s family m owned =
-        own_made _
-        (all_append (λ e. e.0 ≡ e.1.key) (map (λ t. (t.key, t)) (packed_now family config.max_per_slice o s m).slices) (filter (λ e. not (is_managed_for family s.key e.1)) (entries m))
+        own_made _ (all_append (λ e. e.0 ≡ e.1.key) _ _
         (own_packed (packed_now family config.max_per_slice o s m).slices) (filtered m owned (λ e. not (is_managed_for family s.key e.1))))
 
     by : (b : Bool) → IsUnderOwnKeys (λ (s : Slice). s.key) (cond b (after_controller families config.max_per_slice o slices) slices)
     by true =
         kept_by (λ m. IsUnderOwnKeys (λ (s : Slice). s.key) m) (λ so_far s. fold (after_packing config.max_per_slice o s) so_far families)
-        (λ m s owned. kept_by (λ n. IsUnderOwnKeys (λ (s : Slice). s.key) n) (after_packing config.max_per_slice o s) (λ n family. packed s family n) families m owned)
-        (filter has_selector (finite.values o.services)) (without_leftovers o slices) (own_made (filter (λ e. not (is_leftover o e.1)) (entries slices)) (filtered slices own (λ e. not (is_leftover o e.1))))
+        (λ m s owned. kept_by (λ n. IsUnderOwnKeys (λ (s : Slice). s.key) n) _ (λ n family. packed s family n) families m owned)
+        (filter has_selector (finite.values o.services)) _ (own_made _ (filtered slices own (λ e. not (is_leftover o e.1))))
     by false = own
 
 own_synced : (families : List Family) (config : Config) (counts : List ℕ) (c : Synced) → IsUnderOwnKeys (λ (s : Slice). s.key) c.slices → IsUnderOwnKeys (λ (s : Slice). s.key) (fold (sync_step families config) c counts).slices
 own_synced families config [] c own = own
 own_synced families config (n ∷ ns) c own =
-    own_synced families config ns (sync_step families config c n)
-    (own_controlled families config (fold objects_step c.objects (take n c.left)) (fold slices_step c.slices (take n c.left)) (own_fed (take n c.left) c.slices own))
+    own_synced families config ns _
+    (own_controlled families config (fold objects_step c.objects (take n c.left)) _ (own_fed (take n c.left) c.slices own))
 
 pub under_own_keys : SlicesUnderOwnKeys
 under_own_keys families config events counts =
     let last = synced families config events counts in
-    own_fed last.left last.slices (own_synced families config counts (unsynced events) own_at_first.slices)
+    own_fed last.left last.slices (own_synced families config counts _ own_at_first.slices)
 
 -- ---- What packing asks
 
 -- keys of one namespace, of which one is below the other, have different names
 other_names : (a b : ObjectKey) → a.namespace ≡ b.namespace → key_cmp a b ≡ Less → bytes_eq a.name b.name ≡ false
 other_names a b same less =
-    false_from_ne_true (bytes_eq a.name b.name) (λ e.
+    false_from_ne_true _ (λ e.
     let names : a.name ≡ b.name = (bytes_eq-Decides a.name b.name).0 e in
     let keys : a ≡ b = λ i. record { namespace = same i; name = names i } in
     let tied : key_cmp a b ≡ Equal = ap (key_cmp a) (sym keys) ∙ tied_itself key_total a in
@@ -230,13 +228,13 @@ module _ (namespace : List ℕ) where
   later_names key here [] there h = refl
   later_names key here (s ∷ ss) there h =
       let parts = and_parts (is_lt (key_cmp key s.key)) (below_all key_cmp key (owned (λ t. t.key) ss)) h in
-      or_from (bytes_eq key.name s.key.name) (list_any (bytes_eq key.name) (map (λ t. t.key.name) ss)) (other_names key s.key (here ∙ sym there.0) (less_from_test (key_cmp key s.key) parts.0)) (later_names key here ss there.1 parts.1)
+      or_from _ _ (other_names key s.key (here ∙ sym there.0) (less_from_test _ parts.0)) (later_names key here ss there.1 parts.1)
 
   own_names : (slices : List Slice) → AreThere slices → is_sorted key_cmp (owned (λ s. s.key) slices) ≡ true → have_own_names slices ≡ true
   own_names [] there h = refl
   own_names (s ∷ ss) there h =
       let parts = and_parts (below_all key_cmp s.key (owned (λ t. t.key) ss)) (is_sorted key_cmp (owned (λ t. t.key) ss)) h in
-      and_from (not (list_any (bytes_eq s.key.name) (map (λ t. t.key.name) ss))) (have_own_names ss) (ap not (later_names s.key there.0 ss there.1 parts.0)) (own_names ss there.1 parts.1)
+      and_from _ _ (ap not (later_names s.key there.0 ss there.1 parts.0)) (own_names ss there.1 parts.1)
 
 managed_there : (family : Family) (service : ObjectKey) (s : Slice) → is_managed_for family service s ≡ true → bytes_eq s.key.namespace service.namespace ≡ true
 managed_there family service s h =
@@ -247,7 +245,7 @@ all_there : (family : Family) (service : ObjectKey) (slices : List Slice) → li
 all_there family service [] h = tt
 all_there family service (s ∷ ss) h =
     let parts = and_parts (is_managed_for family service s) (list_all (is_managed_for family service) ss) h in
-    ((bytes_eq-Decides s.key.namespace service.namespace).0 (managed_there family service s parts.0), all_there family service ss parts.1)
+    ((bytes_eq-Decides _ _).0 (managed_there family service s parts.0), all_there family service ss parts.1)
 
 pub managed_can_be_packed : ManagedCanBePacked
 managed_can_be_packed family service slices own =
@@ -258,7 +256,7 @@ managed_can_be_packed family service slices own =
       own_names service.namespace managed (all_there family service managed pass) in_order,
       all_from (λ s. list_any (bytes_eq s.key.name) (names_in service.namespace slices)) managed (λ s c.
           let (in_values, is) = from_filter (is_managed_for family service) s (finite.values slices) c in
-          any_from (bytes_eq s.key.name) s.key.name (names_in service.namespace slices)
+          any_from _ s.key.name _
           (in_map (λ (t : Slice). t.key.name) s _ (in_filter (λ t. bytes_eq t.key.namespace service.namespace) s (finite.values slices) in_values (managed_there family service s is)))
           ((bytes_eq-Decides s.key.name s.key.name).1 refl)),
     )

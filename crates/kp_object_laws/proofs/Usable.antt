@@ -4,7 +4,7 @@ use Rattle.std.specs.List.{list_any, list_all}
 use Rattle.std.proofs.lemmas.Bool.{and_parts}
 use Rattle.kp_types.specs.declared.lists.Candidate.{Candidate}
 use Rattle.kp_object_defs.specs.Desired.{is_empty}
-use Rattle.kp_object_defs.specs.Lists.{is_ready, is_serving_terminating, hints_zone, hints_apply, in_zone, topology_filtered, or_else, cluster_endpoints, has_any_endpoint}
+use Rattle.kp_object_defs.specs.Lists.{is_ready, is_serving_terminating, hints_zone, hints_apply, in_zone, or_else, cluster_endpoints, has_any_endpoint}
 
 -- a list has an element
 abbrev pub is_some_list : {X : Type 0} → List X → Bool
@@ -17,7 +17,7 @@ some_filtered_by x xs false c h = h
 -- a filter leaves something where some element passes
 pub some_filtered : {X : Type 0} (p : X → Bool) (xs : List X) → is_some_list (filter p xs) ≡ list_any p xs
 some_filtered p [] = refl
-some_filtered p (x ∷ xs) = some_filtered_by x (filter p xs) (p x) (list_any p xs) (some_filtered p xs)
+some_filtered p (x ∷ xs) = some_filtered_by x _ (p x) _ (some_filtered p xs)
 
 pub some_or_else : {X : Type 0} (xs ys : List X) → is_some_list (or_else xs ys) ≡ (is_some_list xs || is_some_list ys)
 some_or_else [] ys = refl
@@ -33,7 +33,7 @@ or_turn false false false d = refl
 -- some element passes one of two tests
 pub any_or : {X : Type 0} (p q : X → Bool) (xs : List X) → list_any (λ x. p x || q x) xs ≡ (list_any p xs || list_any q xs)
 any_or p q [] = refl
-any_or p q (x ∷ xs) = ap (λ b. (p x || q x) || b) (any_or p q xs) ∙ or_turn (p x) (q x) (list_any p xs) (list_any q xs)
+any_or p q (x ∷ xs) = ap (λ b. (p x || q x) || b) (any_or p q xs) ∙ or_turn (p x) (q x) _ _
 
 any_some_by : {X : Type 0} (p : X → Bool) (xs : List X) → list_any p xs ≡ true → is_some_list xs ≡ true
 any_some_by p [] h = absurd (cc)
@@ -44,12 +44,12 @@ hinted place ready false h = refl
 hinted None ready true h = absurd (cc)
 hinted (Some z) ready true h =
     let some : list_any (hints_zone z) ready ≡ true = (and_parts (list_all (λ c. not (is_empty c.hints)) ready) (list_any (hints_zone z) ready) h).1 in
-    some_filtered (hints_zone z) ready ∙ some ∙ sym (any_some_by (hints_zone z) ready some)
+    some_filtered _ ready ∙ some ∙ sym (any_some_by _ ready some)
 
 -- the list of the whole cluster has an endpoint where any is usable
 pub has_any_is : (zone : Option (List ℕ)) (cs : List Candidate) → has_any_endpoint cs ≡ not (is_empty (cluster_endpoints zone cs))
 has_any_is zone cs =
-    any_or is_ready is_serving_terminating cs
-    ∙ ap₂ (λ a b. a || b) (sym (some_filtered is_ready cs)) (sym (some_filtered is_serving_terminating cs))
-    ∙ ap (λ a. a || is_some_list (filter is_serving_terminating cs)) (sym (hinted zone (filter is_ready cs) (hints_apply zone (filter is_ready cs)) refl))
-    ∙ sym (some_or_else (topology_filtered zone (filter is_ready cs)) (filter is_serving_terminating cs))
+    any_or is_ready _ cs
+    ∙ ap₂ (λ a b. a || b) (sym (some_filtered is_ready cs)) (sym (some_filtered _ cs))
+    ∙ ap (λ a. a || is_some_list (filter is_serving_terminating cs)) (sym (hinted zone _ _ refl))
+    ∙ sym (some_or_else _ _)

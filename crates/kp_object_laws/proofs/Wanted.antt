@@ -1,5 +1,5 @@
 -- The endpoints that a Service wants of the objects, in whatever order these are given, and their pods.
-use Rattle.std.proofs.Common.{◌≡◌, Bool, true, false, cond, not, ℕ, List, [], ◌∷◌, map, reverse, bytes_eq, Option, Some, None, option_and_then, filter, filter_map, refl, ap, ◌∙◌, Less, is_eq, is_lt}
+use Rattle.std.proofs.Common.{◌≡◌, Bool, true, false, cond, not, ℕ, List, [], ◌∷◌, map, bytes_eq, Option, Some, None, option_and_then, filter, filter_map, refl, ap, ◌∙◌, Less, is_eq, is_lt}
 use Rattle.std.specs.List as list
 use Rattle.std.specs.List.{cons_option, list_any}
 use Rattle.std.specs.Cmp.{eq_by_cmp_equiv}
@@ -22,7 +22,7 @@ use Rattle.kp_types.specs.declared.pod.Pod.{Pod}
 use Rattle.kp_types.specs.declared.pod.Node.{Node}
 use Rattle.kp_object_defs.specs.Objects.{Objects, node_key, zone_of}
 use Rattle.kp_object_defs.specs.OwnKeys.{AreUnderOwnKeys}
-use Rattle.kp_object_defs.specs.Desired.{selects, desired_of, zone_among, in_name_order, with_ports, entry_of, resolved_ports, address_in}
+use Rattle.kp_object_defs.specs.Desired.{selects, desired_of, zone_among, in_name_order, with_ports}
 use Rattle.kp_object_defs.specs.Packing.{same_object}
 use Rattle.kp_object_defs.specs.PackingLaws.{have_own_pods}
 use Rattle.kp_object_laws.specs.ObjectLaws.{HaveSameElements, WantedOfObjects, WantedOfOwnPods, DesiredOfOwnPods}
@@ -44,11 +44,10 @@ named_node name (n ∷ nodes) =
 
 same_zones : (o : Objects) → AreUnderOwnKeys o → (nodes : List Node) → HaveSameElements nodes (finite.values o.nodes) → (name : List ℕ) → zone_among nodes name ≡ zone_of o name
 same_zones o own nodes same name =
-    ap (option_and_then (λ n. n.zone))
-    (named_node name (reverse nodes)
-    ∙ same_found key_total key_exact (λ n. node_key n.name) (reverse nodes) (finite.values o.nodes) (same_reversed nodes (finite.values o.nodes) same)
-    (in_order_apart key_total key_exact (λ n. node_key n.name) (finite.values o.nodes) (values_in_order (λ n. node_key n.name) o.nodes own.nodes)) (node_key name)
-    ∙ found_in_values (λ n. node_key n.name) o.nodes own.nodes (node_key name))
+    ap (option_and_then (λ n. n.zone)) (named_node name _
+    ∙ same_found key_total key_exact (λ n. node_key n.name) _ _ (same_reversed nodes _ same)
+    (in_order_apart key_total key_exact (λ n. node_key n.name) _ (values_in_order (λ n. node_key n.name) o.nodes own.nodes)) (node_key name)
+    ∙ found_in_values (λ n. node_key n.name) o.nodes own.nodes _)
 
 -- ---- The same endpoints
 
@@ -56,7 +55,7 @@ pub wanted_of_objects : WantedOfObjects
 wanted_of_objects family o s pods nodes own same_pods same_nodes =
     (λ i. filter_map (desired_of family (λ name. same_zones o own nodes same_nodes name i) s) (in_name_order (filter (selects s) pods)))
     ∙ ap (filter_map (desired_of family (zone_of o) s))
-    (put_in_order key_total key_exact (λ p. p.key) (filter (selects s) pods) (filter (selects s) (finite.values o.pods)) (same_filtered (selects s) pods (finite.values o.pods) same_pods)
+    (put_in_order key_total key_exact (λ p. p.key) _ _ (same_filtered _ pods _ same_pods)
     (filter_in_order key_total key_exact (λ p. p.key) (selects s) (finite.values o.pods) (values_in_order (λ p. p.key) o.pods own.pods)))
 
 -- ---- Their pods
@@ -72,16 +71,14 @@ of_ports pod entry (p ∷ ps) = refl
 
 of_address : (pod : Pod) (entry : AddressParts → SliceEndpoint) (ports : List SlicePort) (address : Option AddressParts) → IsOfPod pod.key (option_and_then (λ a. with_ports pod (entry a) ports) address)
 of_address pod entry ports None = tt
-of_address pod entry ports (Some a) = of_ports pod (entry a) ports
+of_address pod entry ports (Some a) = of_ports pod _ ports
 
 of_finished : (key : ObjectKey) (finished : Bool) (made : Option Wanted) → IsOfPod key made → IsOfPod key (cond finished None made)
 of_finished key true made h = tt
 of_finished key false made h = h
 
 of_pod : (family : Family) (zone_at : List ℕ → Option (List ℕ)) (s : Service) (pod : Pod) → IsOfPod pod.key (desired_of family zone_at s pod)
-of_pod family zone_at s pod =
-    of_finished pod.key pod.finished _
-    (of_address pod (entry_of s pod (option_and_then zone_at pod.node)) (resolved_ports s pod) (option_and_then (address_in family) pod.address))
+of_pod family zone_at s pod = of_finished pod.key pod.finished _ (of_address pod _ _ _)
 
 other_object : (a b c : ObjectKey) → key_cmp a b ≡ Less → c ≡ b → same_object a c ≡ false
 other_object a b c less same = ap (same_object a) same ∙ key_ties a b ∙ ap is_eq less
@@ -94,7 +91,7 @@ module _ (made : Pod → Option Wanted) (of_own : (pod : Pod) → IsOfPod pod.ke
       let rest = later_pods key ps parts.1 in
       elim (made p) as (λ o. IsOfPod p.key o → list_any (same_object key) (map (λ w. w.pod) (cons_option o (filter_map made ps))) ≡ false) [
         | None ↦ λ own. rest
-        | Some w ↦ λ own. or_from (same_object key w.pod) _ (other_object key p.key w.pod (less_from_test (key_cmp key p.key) parts.0) own) rest
+        | Some w ↦ λ own. or_from _ _ (other_object key p.key w.pod (less_from_test _ parts.0) own) rest
       ] (of_own p)
 
   own_pods : (pods : List Pod) → is_sorted key_cmp (owned (λ p. p.key) pods) ≡ true → have_own_pods (filter_map made pods) ≡ true
@@ -105,14 +102,14 @@ module _ (made : Pod → Option Wanted) (of_own : (pod : Pod) → IsOfPod pod.ke
       let later = later_pods p.key ps parts.0 in
       elim (made p) as (λ o. IsOfPod p.key o → have_own_pods (cons_option o (filter_map made ps)) ≡ true) [
         | None ↦ λ own. rest
-        | Some w ↦ λ own. and_from _ (have_own_pods (filter_map made ps)) (ap (λ k. not (list_any (same_object k) (map (λ v. v.pod) (filter_map made ps)))) own ∙ ap not later) rest
+        | Some w ↦ λ own. and_from _ _ (ap (λ k. not (list_any (same_object k) (map (λ v. v.pod) (filter_map made ps)))) own ∙ ap not later) rest
       ] (of_own p)
 
 pub wanted_of_own_pods : WantedOfOwnPods
 wanted_of_own_pods family s pods nodes =
-    own_pods (desired_of family (zone_among nodes) s) (of_pod family (zone_among nodes) s) (in_name_order (filter (selects s) pods)) (by_key_in_order key_total key_exact (λ p. p.key) (filter (selects s) pods))
+    own_pods _ (of_pod family _ s) (in_name_order (filter (selects s) pods)) (by_key_in_order key_total key_exact (λ p. p.key) (filter (selects s) pods))
 
 pub desired_of_own_pods : DesiredOfOwnPods
 desired_of_own_pods family o s own =
-    own_pods (desired_of family (zone_of o) s) (of_pod family (zone_of o) s) (filter (selects s) (finite.values o.pods))
-    (filter_in_order key_total key_exact (λ p. p.key) (selects s) (finite.values o.pods) (values_in_order (λ p. p.key) o.pods own.pods))
+    own_pods _ (of_pod family _ s) (filter (selects s) (finite.values o.pods))
+    (filter_in_order key_total key_exact (λ p. p.key) _ (finite.values o.pods) (values_in_order (λ p. p.key) o.pods own.pods))

@@ -1,5 +1,6 @@
 -- Packing slices that have the wanted endpoints already changes nothing.
 use Rattle.std.proofs.Common.{◌≡◌, ℕ, ◌+◌, ◌≤◌, Bool, true, false, cond, not, ◌&&◌, List, [], ◌∷◌, ◌++◌, map, length, refl, sym, ap, subst, ◌∙◌, append-nil, arith, IsPermutation, bytes_eq}
+use Rattle.std.proofs.lemmas.List.Folds.{flat_map-map}
 use Rattle.std.specs.List.{filter, flat_map, list_any, sum_by, zip, AllByRecursion, IsDistinct}
 use Rattle.std.proofs.lemmas.List.{length-append}
 use Rattle.std.proofs.lemmas.List.Elements.{recursion_from_All}
@@ -12,11 +13,11 @@ use Rattle.kp_types.specs.declared.slice.SliceEndpoint.{SliceEndpoint}
 use Rattle.kp_types.specs.declared.slice.Slice.{Slice}
 use Rattle.kp_types.specs.declared.slice.Wanted.{Wanted}
 use Rattle.kp_object_defs.specs.Desired.{is_empty}
-use Rattle.kp_object_defs.specs.Packing.{Packing, sorted_ports, same_ports, is_in_group, is_left_over, groups_of, pack_group, pack_groups, new_slice, new_slices, free_names, filled_slice, stays, is_updated, in_slice_order, slice_names, packed_by, packed_groups, packed_slices}
+use Rattle.kp_object_defs.specs.Packing.{Packing, sorted_ports, same_ports, is_in_group, is_left_over, groups_of, pack_group, pack_groups, new_slice, new_slices, filled_slice, stays, is_updated, in_slice_order, slice_names, packed_by, packed_groups, packed_slices}
 use Rattle.kp_object_defs.specs.PackingLaws.{have_own_pods, entries_name_pods, entries_with_ports, wanted_with_ports, IsPackingOf, unchanged, PackedStay, PackingAgainChangesNothing}
 use Rattle.std.proofs.lemmas.Simd.{map-map}
 use Rattle.kp_lemmas.proofs.ListFacts.{all_append, all_filter, all_weaker}
-use Rattle.kp_pack_laws.proofs.Shuffles.{same_list, turned, and_then, mapped_pieces, same_itself, same_pieces, pieces_of_map, all_of, all_mapped, all_unmapped, all_split, all_permuted, all_pass}
+use Rattle.kp_pack_laws.proofs.Shuffles.{same_list, turned, and_then, mapped_pieces, same_itself, same_pieces, all_of, all_mapped, all_unmapped, all_split, all_permuted, all_pass}
 use Rattle.kp_pack_laws.proofs.Distinct.{distinct_from_test, distinct_filtered}
 use Rattle.kp_pack_laws.proofs.Groups.{in_groups}
 use Rattle.kp_pack_laws.proofs.Ordered.{single}
@@ -45,10 +46,8 @@ module _ (group : List SlicePort) where
       → AllByRecursion P (entries_in (slices_here ss))
   all_here P [] all = tt
   all_here P (s ∷ ss) all =
-      let parts =
-      all_split (λ t. t.0 ≡ group → P t.1) (map (λ e. (sorted_ports s.ports, e)) s.endpoints)
-      (entries_with_ports ss) all in
-      by (is_in_group group s.ports) refl parts.0 (all_here P ss parts.1)
+      let parts = all_split (λ t. t.0 ≡ group → P t.1) _ _ all in
+      by _ refl parts.0 (all_here P ss parts.1)
     where
       by : (b : Bool) → is_in_group group s.ports ≡ b
           → AllByRecursion {X = Entry} (λ t. t.0 ≡ group → P t.1)
@@ -56,8 +55,7 @@ module _ (group : List SlicePort) where
           → AllByRecursion P (entries_in (slices_here ss))
           → AllByRecursion P (entries_in (cond b (s ∷ slices_here ss) (slices_here ss)))
       by true e own rest =
-          all_append P s.endpoints (entries_in (slices_here ss))
-          (all_weaker _ P (λ x h. h (ports_exact (sorted_ports s.ports) group e)) s.endpoints
+          all_append P s.endpoints _ (all_weaker _ P (λ x h. h (ports_exact _ group e)) s.endpoints
           (all_unmapped {Y = Entry} (λ t. t.0 ≡ group → P t.1)
           (λ e. (sorted_ports s.ports, e)) s.endpoints own)) rest
       by false e own rest = rest
@@ -67,8 +65,7 @@ module _ (group : List SlicePort) where
       → AllByRecursion (λ w. is_in_group group w.ports ≡ true → Finds (wanted_here all) w.entry) ws
       → AllByRecursion (λ t. t.0 ≡ group → Finds (wanted_here all) t.1) (wanted_with_ports ws)
   wanted_found ws all h =
-      all_mapped _ (λ w. (sorted_ports w.ports, w.entry)) ws
-      (all_weaker _ _ (λ w found is. found
+      all_mapped _ (λ w. (sorted_ports w.ports, w.entry)) ws (all_weaker _ _ (λ w found is. found
       (ap (λ p. same_ports p group) is ∙ ports_equiv.refl group)) ws h)
 
   -- ---- their number
@@ -95,9 +92,7 @@ module _ (group : List SlicePort) where
   number_of_entries [] = refl
   number_of_entries (s ∷ ss) =
       sum_by-append one_here (map (λ e. (sorted_ports s.ports, e)) s.endpoints)
-      (entries_with_ports ss)
-      ∙ by (is_in_group group s.ports) (number_of_one (sorted_ports s.ports) s.endpoints _ refl)
-      (number_of_entries ss)
+      (entries_with_ports ss) ∙ by _ (number_of_one _ s.endpoints _ refl) (number_of_entries ss)
     where
       by : {m n : ℕ} (b : Bool) → m ≡ cond b (length s.endpoints) 0
           → n ≡ length (entries_in (slices_here ss))
@@ -111,7 +106,7 @@ module _ (group : List SlicePort) where
   number_of_wanted [] = refl
   number_of_wanted (w ∷ ws) =
       sum_by-cons one_here (sorted_ports w.ports, w.entry) (wanted_with_ports ws)
-      ∙ by (is_in_group group w.ports) (number_of_wanted ws)
+      ∙ by _ (number_of_wanted ws)
     where
       by : {n : ℕ} (b : Bool) → n ≡ length (wanted_here ws)
           → cond b 1 0 + n ≡ length (cond b (w ∷ wanted_here ws) (wanted_here ws))
@@ -132,9 +127,7 @@ module _ (most : ℕ) (wanted : List Wanted) (ss : List Slice) (own : have_own_p
       let once = subst (IsDistinct same_pod) (mapped_pieces (λ e. e.pod) (λ s. s.endpoints) ss)
       (pods_once most wanted ss own named packing) in
       record {
-        finds =
-            all_here group (Finds (wanted_here group wanted)) ss
-            (all_permuted _ (turned packing.placed) found);
+        finds = all_here group _ ss (all_permuted _ (turned packing.placed) found);
         once =
             subst (IsDistinct same_pod)
             (sym (mapped_pieces (λ e. e.pod) (λ s. s.endpoints) (slices_here group ss)))
@@ -142,8 +135,7 @@ module _ (most : ℕ) (wanted : List Wanted) (ss : List Slice) (own : have_own_p
             (λ s. is_in_group group s.ports) ss once);
         many =
             sym (number_of_entries group ss)
-            ∙ sum_by-IsPermutation (one_here group) _ _ (turned packing.placed)
-            ∙ number_of_wanted group wanted;
+            ∙ sum_by-IsPermutation _ _ _ (turned packing.placed) ∙ number_of_wanted group wanted;
       }
 
   abbrev settled : List SlicePort → Packing
@@ -155,8 +147,7 @@ module _ (most : ℕ) (wanted : List Wanted) (ss : List Slice) (own : have_own_p
       ap (λ placed. record {
         fillings = placed.fillings;
         made = map (λ more. record { ports = group; wanted = more }) placed.made;
-      })
-      (group_stays most (slices_here group ss) (wanted_here group wanted) (there group)
+      }) (group_stays most _ _ (there group)
       (all_filter (λ s. length s.endpoints ≤ most) (λ s. is_in_group group s.ports) ss within))
 
   -- ---- all groups
@@ -176,11 +167,8 @@ module _ (most : ℕ) (wanted : List Wanted) (ss : List Slice) (own : have_own_p
       → AllByRecursion (λ s. in_some (sorted_ports s.ports) ≡ true) rest
   each_grouped [] some all = tt
   each_grouped (s ∷ rest) some all =
-      let parts =
-      all_split _ (map (λ e. (sorted_ports s.ports, e)) s.endpoints)
-      (entries_with_ports rest) all in (
-        has_some (λ ports. in_some ports ≡ true) s.endpoints
-            (sorted_ports s.ports) some.0 parts.0,
+      let parts = all_split _ _ _ all in (
+        has_some (λ ports. in_some ports ≡ true) s.endpoints _ some.0 parts.0,
         each_grouped rest some.1 parts.1,
       )
 
@@ -189,8 +177,7 @@ module _ (most : ℕ) (wanted : List Wanted) (ss : List Slice) (own : have_own_p
 
   all_grouped : AllByRecursion (λ s. in_some (sorted_ports s.ports) ≡ true) ss
   all_grouped =
-      each_grouped ss are_some
-      (all_permuted _ (turned packing.placed)
+      each_grouped ss are_some (all_permuted _ (turned packing.placed)
       (all_mapped _ (λ w. (sorted_ports w.ports, w.entry)) wanted (all_in_groups wanted)))
 
   -- the slices group by group
@@ -202,8 +189,7 @@ module _ (most : ℕ) (wanted : List Wanted) (ss : List Slice) (own : have_own_p
       and_then (same_list (same_pieces _ _ (groups_of wanted)
       (all_of (λ group. slices_here group ss ≡ flat_map (λ s. s ∷ []) (slices_here group ss))
       (λ group. sym (single (slices_here group ss))) (groups_of wanted))))
-      (and_then (in_groups same_ports ports_exact (λ s. sorted_ports s.ports) (λ s. s ∷ []) ss
-      (groups_of wanted)
+      (and_then (in_groups same_ports ports_exact (λ s. sorted_ports s.ports) (λ s. s ∷ []) ss _
       (groups_differ wanted))
       (same_list (single _ ∙ all_pass (λ s. in_some (sorted_ports s.ports)) ss all_grouped)))
 
@@ -214,7 +200,7 @@ module _ (most : ℕ) (wanted : List Wanted) (ss : List Slice) (own : have_own_p
   fillings_are : (groups : List (List SlicePort)) → flat_map (λ p. p.fillings) (map settled groups)
       ≡ map whole (flat_map (λ group. slices_here group ss) groups)
   fillings_are groups =
-      pieces_of_map (λ p. p.fillings) settled groups
+      flat_map-map (λ p. p.fillings) settled groups
       ∙ sym (mapped_pieces whole (λ group. slices_here group ss) groups)
 
 -- ---- slices that have what is wanted
@@ -243,19 +229,17 @@ left_alone ss some =
     (all_weaker _ _ (λ s h. isnt_empty s.endpoints h) ss some) in
     let same = all_mapped (λ f. is_updated f ≡ false) whole ss
     (all_of (λ s. is_updated (whole s) ≡ false)
-    (λ s. no_difference (stays (whole s)) _ (entries_same s.endpoints)) ss) in
-    let gone =
-    all_weaker (λ f. stays f ≡ true) (λ f. not (stays f) ≡ false) (λ f h. ap not h)
-    (map whole ss) stay in
+    (λ s. no_difference _ _ (entries_same s.endpoints)) ss) in
+    let gone = all_weaker (λ f. stays f ≡ true) (λ f. not (stays f) ≡ false) (λ f h. ap not h)
+    _ stay in
     let kept : map filled_slice (filter stays (map whole ss)) ++ [] ≡ ss =
-    append-nil _ ∙ ap (map filled_slice) (all_pass stays (map whole ss) stay)
+    append-nil _ ∙ ap (map filled_slice) (all_pass stays _ stay)
     ∙ map-map filled_slice whole ss ∙ same_itself ss in
     λ i. record {
       slices = in_slice_order (kept i);
       created = [];
-      updated = slice_names (map (λ f. f.slice) (none_pass is_updated (map whole ss) same i));
-      deleted =
-          slice_names (map (λ f. f.slice) (none_pass (λ f. not (stays f)) (map whole ss) gone i));
+      updated = slice_names (map (λ f. f.slice) (none_pass is_updated _ same i));
+      deleted = slice_names (map (λ f. f.slice) (none_pass (λ f. not (stays f)) _ gone i));
     }
   where
     no_difference : (b c : Bool) → c ≡ true → (b && not c) ≡ false
@@ -272,8 +256,7 @@ in_order_stay : (family : Family) (service : ObjectKey) (slices : List Slice) (w
 in_order_stay family service slices wanted most taken differ own named packing ordered =
     let ss = in_slice_order slices in
     let groups = groups_of wanted in
-    let over : filter (is_left_over wanted) slices ≡ [] =
-    none_pass (is_left_over wanted) slices
+    let over : filter (is_left_over wanted) slices ≡ [] = none_pass _ slices
     (all_weaker _ (λ s. is_left_over wanted s ≡ false) (λ s h. ap not h) slices
     (all_grouped most wanted slices own named packing)) in
     let packs : pack_groups most ss wanted ≡ map (settled most wanted ss own named ordered) groups =
@@ -284,9 +267,8 @@ in_order_stay family service slices wanted most taken differ own named packing o
     ∙ (λ i. packed_by [] (fillings_are most wanted ss own named ordered groups i)
     (new_slices family service taken (none_made most wanted ss own named ordered groups i)))
     ∙ ap (packed_by [] (map whole (by_groups most wanted ss own named ordered)))
-    (no_new family service (free_names service taken 0))
-    ∙ left_alone (by_groups most wanted ss own named ordered)
-    (all_permuted _ (turned same) (are_some most wanted ss own named ordered))
+    (no_new family service _)
+    ∙ left_alone _ (all_permuted _ (turned same) (are_some most wanted ss own named ordered))
     ∙ ap unchanged (ordered_same _ ss same apart ∙ ordered_twice slices differ)
 
 stay : (family : Family) (service : ObjectKey) (slices : List Slice) (wanted : List Wanted)
@@ -296,8 +278,7 @@ stay : (family : Family) (service : ObjectKey) (slices : List Slice) (wanted : L
     → IsPackingOf most wanted slices
     → packed_slices family service slices wanted most taken ≡ unchanged (in_slice_order slices)
 stay family service slices wanted most taken differ own named packing =
-    in_order_stay family service slices wanted most taken differ own named packing
-    (record {
+    in_order_stay family service slices wanted most taken differ own named packing (record {
       placed = and_then (ordered_entries slices differ) packing.placed;
       some =
           All-permutation (λ s. 1 ≤ length s.endpoints) _ _
@@ -316,7 +297,6 @@ pub packing_again : PackingAgainChangesNothing
 packing_again family service before wanted most taken later some small names are own named =
     let placed = placed_slices family service before wanted most taken in
     let differ = placed_differ family service before wanted most taken some small names are in
-    stay family service (in_slice_order placed) wanted most later
-    (ordered_differ placed differ) own named
+    stay family service _ wanted most later (ordered_differ placed differ) own named
     (is_packing family service before wanted most taken some small names are)
     ∙ ap unchanged (ordered_twice placed differ)

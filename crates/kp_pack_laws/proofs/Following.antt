@@ -2,13 +2,13 @@
 use Rattle.std.proofs.Common.{◌≡◌, ℕ, Bool, true, not, List, [], ◌∷◌, ◌++◌, map, bytes_eq, refl, sym, ap, subst, ◌∙◌}
 use Rattle.std.specs.declared.cmp.Ordering.{Ordering}
 use Rattle.std.specs.declared.cmp.Ordering.TheVariants.{Less, Equal, Greater}
-use Rattle.std.specs.List.{filter, list_all, list_any, AllByRecursion}
+use Rattle.std.specs.List.{list_all, list_any, AllByRecursion}
 use Rattle.std.specs.Ordering.{eq_by_cmp}
 use Rattle.std.specs.Option.{is_some}
 use Rattle.std.specs.Cmp.Lexicographic.{texts_ties, nat_list_eq_equiv}
 use Rattle.std.specs.FinMap.{put}
 use Rattle.std.specs.FinMap.Entries.{by_order, is_some-find}
-use Rattle.std.proofs.lemmas.Bool.{and_parts, and_from, or_left, or_right}
+use Rattle.std.proofs.lemmas.Bool.{and_from, or_left, or_right}
 use Rattle.std.proofs.lemmas.List.Folds.{list_any-append}
 use Rattle.kp_base.specs.Keys.{text_cmp}
 use Rattle.kp_base.specs.declared.address.Family.{Family}
@@ -36,7 +36,7 @@ use Rattle.kp_pack_laws.proofs.Theorem.{name_of, ordered_differ, ordered_all, st
 test_all : {X : Type 0} (p : X → Bool) (xs : List X) → AllByRecursion (λ x. p x ≡ true) xs
     → list_all p xs ≡ true
 test_all p [] all = refl
-test_all p (x ∷ xs) all = and_from (p x) (list_all p xs) all.0 (test_all p xs all.1)
+test_all p (x ∷ xs) all = and_from (p x) _ all.0 (test_all p xs all.1)
 
 -- ---- names in order
 
@@ -44,7 +44,7 @@ module _ {K X : Type 0} (R : K → K → Ordering) (P : K → Type 0) where
   keys_put : (k : K) (v : X) (es : List (K × X)) → P k → AllByRecursion P (map (λ e. e.0) es)
       → AllByRecursion P (map (λ e. e.0) (put R k v es))
   keys_put k v [] own all = (own, tt)
-  keys_put k v (e ∷ es) own all = by (R k e.0) (keys_put k v es own all.1)
+  keys_put k v (e ∷ es) own all = by _ (keys_put k v es own all.1)
     where
       by : (o : Ordering) → AllByRecursion P (map (λ e. e.0) (put R k v es))
           → AllByRecursion P (map (λ e. e.0)
@@ -56,7 +56,7 @@ module _ {K X : Type 0} (R : K → K → Ordering) (P : K → Type 0) where
   keys_in_order : (es : List (K × X)) → AllByRecursion P (map (λ e. e.0) es)
       → AllByRecursion P (map (λ e. e.0) (in_order R es))
   keys_in_order [] all = tt
-  keys_in_order (e ∷ es) all = keys_put e.0 e.1 (in_order R es) all.0 (keys_in_order es all.1)
+  keys_in_order (e ∷ es) all = keys_put e.0 e.1 _ all.0 (keys_in_order es all.1)
 
 keys_are : {K : Type 0} (ks : List K) → map {A = K × K} (λ e. e.0) (map (λ k. (k, k)) ks) ≡ ks
 keys_are {K = K} ks = map-map {B = K × K} (λ e. e.0) (λ k. (k, k)) ks ∙ same_itself ks
@@ -64,8 +64,7 @@ keys_are {K = K} ks = map-map {B = K × K} (λ e. e.0) (λ k. (k, k)) ks ∙ sam
 all_distinct : {K : Type 0} (R : K → K → Ordering) (P : K → Type 0) (ks : List K)
     → AllByRecursion P ks
     → AllByRecursion P (distinct_in_order R ks)
-all_distinct R P ks all =
-    keys_in_order R P (map (λ k. (k, k)) ks) (subst (AllByRecursion P) (sym (keys_are ks)) all)
+all_distinct R P ks all = keys_in_order R P _ (subst (AllByRecursion P) (sym (keys_are ks)) all)
 
 -- a name is in the list exactly if it was
 in_names : (name : List ℕ) (names : List (List ℕ))
@@ -97,8 +96,7 @@ stayed_all : (P : Slice → Type 0) → ((f : Filling) → P f.slice → P (fill
     → (fs : List Filling)
     → AllByRecursion P (slices_of fs) → AllByRecursion P (stayed fs)
 stayed_all P keeps fs all =
-    all_mapped P filled_slice (filter stays fs)
-    (all_weaker _ _ keeps (filter stays fs)
+    all_mapped P filled_slice _ (all_weaker _ _ keeps _
     (all_filter (λ f. P f.slice) stays fs (all_unmapped P (λ f. f.slice) fs all)))
 
 -- ---- the law
@@ -113,30 +111,25 @@ packing_goes_on family service before wanted most taken some small managed own a
     let few = few_made family service before wanted most taken some small own are in
     let Managed = λ (s : Slice). is_managed_for family service s ≡ true in
     let known = λ (name : List ℕ). list_any (bytes_eq name) (taken ++ slice_names news) ≡ true in
-    let all_managed = all_append Managed (stayed fs) news
-    (stayed_all Managed (λ f h. h) fs
+    let all_managed = all_append Managed _ news (stayed_all Managed (λ f h. h) fs
     (filled_all family service before wanted most taken some small own are Managed
-    (all_tested _ before managed)))
-    (new_all family service (λ m. Unit {0}) Managed
+    (all_tested _ before managed))) (new_all family service (λ m. Unit {0}) Managed
     (λ name m h. new_managed family service name m) taken made (all_of _ (λ m. tt) made)) in
-    let old_known = all_unmapped known name_of (stayed fs)
-    (all_weaker _ known (λ name h. list_any-append (bytes_eq name) taken (slice_names news)
-    ∙ or_left _ _ h) _
-    (stayed_taken taken fs
+    let old_known = all_unmapped known name_of _
+    (all_weaker _ known (λ name h. list_any-append _ taken _
+    ∙ or_left _ _ h) _ (stayed_taken taken fs
     (filled_taken family service before wanted most taken some small own are))) in
     let new_known = all_unmapped known name_of news
-    (all_weaker _ known (λ name h. list_any-append (bytes_eq name) taken (slice_names news)
-    ∙ or_right (list_any (bytes_eq name) taken) _ (in_names name (map name_of news) ∙ h)) _
-    (each_there bytes_eq nat_list_eq_equiv (map name_of news))) in
+    (all_weaker _ known (λ name h. list_any-append _ taken _
+    ∙ or_right _ _ (in_names name _ ∙ h)) _ (each_there bytes_eq nat_list_eq_equiv _)) in
     record {
       managed = test_all _ _ (ordered_all Managed placed differ all_managed);
       names = test_from_distinct bytes_eq _ (ordered_differ placed differ);
       fresh = test_all (λ name. not (list_any (bytes_eq name) taken)) _
-          (all_distinct text_cmp _ (map name_of news)
-          (new_names_free family service taken made few));
+          (all_distinct text_cmp _ _ (new_names_free family service taken made few));
       known = test_all (λ s. list_any (bytes_eq s.key.name) (taken ++ slice_names news)) _
           (ordered_all (λ s. known s.key.name) placed differ
-          (all_append (λ s. known s.key.name) (stayed fs) news old_known new_known));
+          (all_append (λ s. known s.key.name) _ news old_known new_known));
       pods = λ pods named. test_from_distinct _ _
           (pods_once most wanted _ pods named
           (is_packing family service before wanted most taken some small own are));

@@ -11,7 +11,7 @@ none_left (x ∷ xs) = none_left xs
 
 module _ {K : Type 0} (same : K → K → Bool) (exact : (x y : K) → same x y ≡ true → x ≡ y) where
   apart : (g : K) (gs : List K) → AllByRecursion (λ h. same g h ≡ false) gs → (k : K) → same k g ≡ true → list_any (same k) gs ≡ false
-  apart g gs all k e = subst (λ l. list_any (same l) gs ≡ false) (sym (exact k g e)) (any_of_none (same g) gs all)
+  apart g gs all k e = subst (λ l. list_any (same l) gs ≡ false) (sym (exact k g e)) (any_of_none _ gs all)
 
   pub in_groups : {X Y : Type 0} (key : X → K) (f : X → List Y) (xs : List X) (gs : List K) → IsDistinct same gs
       → IsPermutation (flat_map (λ g. flat_map f (filter (λ x. same (key x) g) xs)) gs) (flat_map f (filter (λ x. list_any (same (key x)) gs) xs))

@@ -24,7 +24,7 @@ one_number m n p q e = sym (decimal_is_IsNumeral_wide m p).1 ∙ ap (digits_valu
 names_apart : (service : ObjectKey) (j k : ℕ) → j < k → k < 10 ^ 64 → bytes_eq (slice_name service j) (slice_name service k) ≡ false
 names_apart service j k less small =
     false_from_ne_true _ (λ e.
-    let same = append_cancel_left (service.name ++ codes "-kp") (decimal j) (decimal k) ((bytes_eq-Decides (slice_name service j) (slice_name service k)).0 e) in
+    let same = append_cancel_left (service.name ++ codes "-kp") (decimal j) (decimal k) ((bytes_eq-Decides _ _).0 e) in
     omega (arith, one_number j k (omega arith) small same))
 
 module _ (service : ObjectKey) where
@@ -45,18 +45,18 @@ module _ (service : ObjectKey) where
 
   module _ (taken : List (List ℕ)) (n : ℕ) (small : length taken + n < 10 ^ 64) where
     all_differ : IsDistinct bytes_eq (slice_names_from service (length taken + n) 1)
-    all_differ = names_differ (length taken + n) 1 (omega (arith, small))
+    all_differ = names_differ _ 1 (omega (arith, small))
 
     pub enough_free : n ≤ length (free_names service taken n)
     enough_free =
-        let all = enough_others bytes_eq nat_list_eq_equiv (λ x y. (bytes_eq-Decides x y).0) taken (slice_names_from service (length taken + n) 1) all_differ in
+        let all = enough_others bytes_eq nat_list_eq_equiv (λ x y. (bytes_eq-Decides x y).0) taken _ all_differ in
         omega (arith, all, length_names (length taken + n) 1)
 
     pub free_differ : IsDistinct bytes_eq (free_names service taken n)
-    free_differ = distinct_filter bytes_eq (λ name. not (list_any (bytes_eq name) taken)) (slice_names_from service (length taken + n) 1) all_differ
+    free_differ = distinct_filter bytes_eq (λ name. not (list_any (bytes_eq name) taken)) _ all_differ
 
     pub free_not_taken : AllByRecursion (λ name. not (list_any (bytes_eq name) taken) ≡ true) (free_names service taken n)
-    free_not_taken = passing (λ name. not (list_any (bytes_eq name) taken)) (slice_names_from service (length taken + n) 1)
+    free_not_taken = passing (λ name. not (list_any (bytes_eq name) taken)) _
 
 -- ---- new slices
 
@@ -82,21 +82,21 @@ module _ (family : Family) (service : ObjectKey) where
 
   module _ (taken : List (List ℕ)) (made : List NewSlice) (small : length taken + length made < 10 ^ 64) where
     names_are : map (λ s. s.key.name) (new_slices family service taken made) ≡ take (length made) (free_names service taken (length made))
-    names_are = names_of_new (free_names service taken (length made)) made (enough_free service taken (length made) small)
+    names_are = names_of_new _ made (enough_free service taken _ small)
 
     pub new_names_differ : IsDistinct bytes_eq (map (λ s. s.key.name) (new_slices family service taken made))
-    new_names_differ = subst (IsDistinct bytes_eq) (sym names_are) (distinct_taken bytes_eq (length made) _ (free_differ service taken (length made) small))
+    new_names_differ = subst (IsDistinct bytes_eq) (sym names_are) (distinct_taken bytes_eq _ _ (free_differ service taken _ small))
 
     pub new_names_free : AllByRecursion (λ name. not (list_any (bytes_eq name) taken) ≡ true) (map (λ s. s.key.name) (new_slices family service taken made))
     new_names_free =
         subst (AllByRecursion (λ name. not (list_any (bytes_eq name) taken) ≡ true)) (sym names_are)
-        (all_taken bytes_eq (λ name. not (list_any (bytes_eq name) taken) ≡ true) (length made) _ (free_not_taken service taken (length made) small))
+        (all_taken bytes_eq (λ name. not (list_any (bytes_eq name) taken) ≡ true) _ _ (free_not_taken service taken _ small))
 
     -- what new slices have is what was made
     pub new_pieces : {Y : Type 0} (f : Slice → List Y) (g : NewSlice → List Y) → ((name : List ℕ) (m : NewSlice) → f (new_slice family service (name, m)) ≡ g m)
         → flat_map f (new_slices family service taken made) ≡ flat_map g made
-    new_pieces f g same = pieces_of_new f g same (free_names service taken (length made)) made (enough_free service taken (length made) small)
+    new_pieces f g same = pieces_of_new f g same _ made (enough_free service taken _ small)
 
   pub new_all : (P : NewSlice → Type 0) (Q : Slice → Type 0) → ((name : List ℕ) (m : NewSlice) → P m → Q (new_slice family service (name, m)))
       → (taken : List (List ℕ)) (made : List NewSlice) → AllByRecursion P made → AllByRecursion Q (new_slices family service taken made)
-  new_all P Q h taken made all = all_of_new P Q h (free_names service taken (length made)) made all
+  new_all P Q h taken made all = all_of_new P Q h _ made all

@@ -1,5 +1,6 @@
 -- Elements in the order of keys that differ: none is lost.
-use Rattle.std.proofs.Common.{◌≡◌, Bool, true, false, cond, Option, List, [], ◌∷◌, ◌++◌, map, reverse, Some, None, refl, sym, ap, subst, ◌∙◌, IsPermutation}
+use Rattle.std.proofs.Common.{◌≡◌, true, false, cond, Option, List, [], ◌∷◌, ◌++◌, map, reverse, Some, None, refl, sym, ap, subst, ◌∙◌, IsPermutation}
+use Rattle.std.proofs.lemmas.Bool.{cond_both}
 use Rattle.std.specs.declared.cmp.Ordering.{Ordering}
 use Rattle.std.specs.declared.cmp.Ordering.TheVariants.{Less, Equal, Greater}
 use Rattle.std.specs.List.{flat_map, AllByRecursion, IsDistinct}
@@ -22,7 +23,7 @@ module _ {K X Y : Type 0} {R : K → K → Ordering} (total : IsTotalOrder R) (f
   -- a new entry adds what it has
   put_pieces : (k : K) (v : X) (es : List (K × X)) → find R k es ≡ None → IsPermutation (flat_map f (values_of (put R k v es))) (f v ++ flat_map f (values_of es))
   put_pieces k v [] absent = IsPermutation-refl _
-  put_pieces k v (e ∷ es) absent = by (R k e.0) absent (put_pieces k v es)
+  put_pieces k v (e ∷ es) absent = by _ absent (put_pieces k v es)
     where
       by : (o : Ordering) → cond (is_eq o) (Some e.1) (find R k es) ≡ None
           → (find R k es ≡ None → IsPermutation (flat_map f (values_of (put R k v es))) (f v ++ flat_map f (values_of es)))
@@ -39,7 +40,7 @@ module _ {K X Y : Type 0} {R : K → K → Ordering} (total : IsTotalOrder R) (f
   unfolding IsDistinct
   in_order_pieces [] d = IsPermutation-refl _
   in_order_pieces (e ∷ es) d =
-      and_then (put_pieces e.0 e.1 (in_order R es) (find-in_order total e.0 es ∙ not_found e.0 es d.0))
+      and_then (put_pieces e.0 e.1 _ (find-in_order total e.0 es ∙ not_found e.0 es d.0))
       (joined (IsPermutation-refl (f e.1)) (in_order_pieces es d.1))
 
   module _ (key : X → K) where
@@ -51,8 +52,8 @@ module _ {K X Y : Type 0} {R : K → K → Ordering} (total : IsTotalOrder R) (f
 
     pub by_key_pieces : (xs : List X) → IsDistinct (eq_by_cmp R) (map key xs) → IsPermutation (flat_map f (values_of (by_key R key xs))) (flat_map f xs)
     by_key_pieces xs d =
-        and_then (in_order_pieces (reverse (map (λ x. (key x, x)) xs))
-        (subst (IsDistinct (eq_by_cmp R)) (sym (keys_are xs)) (IsDistinct-IsPermutation (eq_by_cmp R) (eq_by_cmp_equiv total).symm (map key xs) (reverse (map key xs)) (IsPermutation-reverse (map key xs)) d)))
+        and_then (in_order_pieces _
+        (subst (IsDistinct (eq_by_cmp R)) (sym (keys_are xs)) (IsDistinct-IsPermutation _ (eq_by_cmp_equiv total).symm _ _ (IsPermutation-reverse _) d)))
         (and_then (same_list (ap (flat_map f) (values_are xs))) (pieces_of_reversed f xs))
 
 -- ---- elements that change their places
@@ -70,8 +71,7 @@ module _ {K X : Type 0} {R : K → K → Ordering} (total : IsTotalOrder R) wher
       laws.congr q k e.0 is ∙ laws.symm k e.0 ∙ apart in (
         λ h. ap (λ b. cond b (Some e.1) (find R q es)) h,
         all_weaker _ _ (λ f known is. ap (λ b. cond b (Some e.1) (find R q es))
-            (missed f.0 known.0 is) ∙ known.1 is) es
-            (all_both _ _ es others (each_found q es d.1)),
+            (missed f.0 known.0 is) ∙ known.1 is) es (all_both _ _ es others (each_found q es d.1)),
       )
 
   found_alike : (q : K) (o : Option X) (es : List (K × X))
@@ -79,18 +79,14 @@ module _ {K X : Type 0} {R : K → K → Ordering} (total : IsTotalOrder R) wher
       → (AllByRecursion (λ e. eq_by_cmp R q e.0 ≡ false) es → o ≡ None) → find R q es ≡ o
   found_alike q o [] all none = sym (none tt)
   found_alike q o (e ∷ es) all none =
-      by (eq_by_cmp R q e.0) refl (λ h. found_alike q o es all.1 (λ rest. none (h, rest)))
-    where
-      by : (b : Bool) → eq_by_cmp R q e.0 ≡ b → (eq_by_cmp R q e.0 ≡ false → find R q es ≡ o)
-          → cond b (Some e.1) (find R q es) ≡ o
-      by true h rest = sym (all.0 h)
-      by false h rest = rest h
+      cond_both _ _ _ (λ found. found ≡ o)
+      (λ h. sym (all.0 h)) (λ h. found_alike q o es all.1 (λ rest. none (h, rest)))
 
   find_permuted : (q : K) {es fs : List (K × X)} → IsPermutation es fs
       → IsDistinct (eq_by_cmp R) (map (λ e. e.0) fs)
       → find R q es ≡ find R q fs
   find_permuted q {es = es} {fs = fs} same d =
-      found_alike q (find R q fs) es (all_permuted _ (turned same) (each_found q fs d))
+      found_alike q _ es (all_permuted _ (turned same) (each_found q fs d))
       (λ none. not_found total (λ (v : X). v ∷ []) q fs
       (all_mapped _ (λ e. e.0) fs (all_permuted _ same none)))
 
@@ -98,16 +94,12 @@ module _ {K X : Type 0} {R : K → K → Ordering} (total : IsTotalOrder R) wher
   pub by_key_permuted : IsAntisymmetric R → (key : X → K) {xs ys : List X} → IsPermutation xs ys
       → IsDistinct (eq_by_cmp R) (map key ys) → by_key R key xs ≡ by_key R key ys
   by_key_permuted exact key {xs = xs} {ys = ys} same d =
-      let named : List X → List (K × X) = λ l. map (λ x. (key x, x)) l in
-      let reversed = and_then (turned (IsPermutation-reverse (named xs)))
+      let reversed = and_then (turned (IsPermutation-reverse _))
       (and_then (IsPermutation-map {X = K × X} (λ x. (key x, x)) xs ys same)
-      (IsPermutation-reverse (named ys))) in
-      let differ =
-      IsDistinct-IsPermutation (eq_by_cmp R) (eq_by_cmp_equiv total).symm (map key ys)
-      (reverse (map key ys))
-      (IsPermutation-reverse (map key ys)) d in
-      same_order total exact (reverse (named xs)) (reverse (named ys))
-      (λ q. find_permuted q reversed
+      (IsPermutation-reverse _)) in
+      let differ = IsDistinct-IsPermutation _ (eq_by_cmp_equiv total).symm _ _
+      (IsPermutation-reverse _) d in
+      same_order total exact _ _ (λ q. find_permuted q reversed
       (subst (IsDistinct (eq_by_cmp R)) (sym (keys_are total (λ (v : X). v ∷ []) key ys)) differ))
 
 -- with each element as a piece
@@ -117,4 +109,4 @@ single (x ∷ xs) = ap (λ rest. x ∷ rest) (single xs)
 
 pub by_key_keeps : {K X : Type 0} {R : K → K → Ordering} → IsTotalOrder R → (key : X → K) (xs : List X) → IsDistinct (eq_by_cmp R) (map key xs) → IsPermutation (values_of (by_key R key xs)) xs
 by_key_keeps {R = R} total key xs d =
-    and_then (same_list (sym (single (values_of (by_key R key xs))))) (and_then (by_key_pieces total (λ x. x ∷ []) key xs d) (same_list (single xs)))
+    and_then (same_list (sym (single _))) (and_then (by_key_pieces total (λ x. x ∷ []) key xs d) (same_list (single xs)))

@@ -1,7 +1,7 @@
 -- The third step of packing a group: what is left goes to a slice with room for it, or to new slices.
 use Rattle.std.proofs.Common.{◌≡◌, ◌⊎◌, inl, inr, ⊎_elim, ℕ, zero, suc, ◌+◌, ◌≤◌, ◌<◌, max, Bool, true, false, cond, not, ◌&&◌, ◌||◌, ◌==◌, nat_le, List, [], ◌∷◌, ◌++◌, take, drop, length, refl, sym, ap, ◌∙◌, append_assoc, append-nil, length-append, length-take, length-drop, arith, IsPermutation, leb-true, eq-eqb}
 use Rattle.std.specs.List.{filter, fold, flat_map, list_any, AllByRecursion}
-use Rattle.std.proofs.lemmas.Bool.{false≢true, or_left, or_right, and_parts, cases_lt}
+use Rattle.std.proofs.lemmas.Bool.{false≢true, cond_both, or_left, or_right, and_parts, cases_lt}
 use Rattle.std.proofs.lemmas.List.{length-map}
 use Rattle.std.proofs.lemmas.List.Sorted.{IsPermutation-refl, IsPermutation-append_comm}
 use Rattle.kp_types.specs.declared.slice.Slice.{Slice}
@@ -15,11 +15,9 @@ use Rattle.kp_pack_laws.proofs.Keeping.{entries, entries_of, slices_of, AreWithi
 module _ {X : Type 0} (p : X → Bool) where
   some_pass : (xs : List X) → list_any p xs ≡ true → 0 < length (filter p xs)
   some_pass [] h = absurd (false≢true h)
-  some_pass (x ∷ xs) h = by (p x) h (some_pass xs)
-    where
-      by : (b : Bool) → b || list_any p xs ≡ true → (list_any p xs ≡ true → 0 < length (filter p xs)) → 0 < length (cond b (x ∷ filter p xs) (filter p xs))
-      by true e rest = omega arith
-      by false e rest = rest e
+  some_pass (x ∷ xs) h =
+      cond_both (p x) _ _ (λ ys. 0 < length ys) (λ e. omega arith)
+      (λ e. some_pass xs (sym (ap (λ b. b || list_any p xs) e) ∙ h))
 
   any_filtered : (q : X → Bool) (xs : List X) → list_any q (filter p xs) ≡ list_any (λ x. p x && q x) xs
   any_filtered q [] = refl
@@ -33,55 +31,53 @@ abbrev size_from : ℕ → List Filling → ℕ
 size_from size fs = fold (λ n f. max n (length f.endpoints)) size fs
 
 size_step : (all size own : ℕ) (b : Bool) → (all ≡ max size own) ⊎ (b ≡ true) → (all ≡ size) ⊎ (((own == all) || b) ≡ true)
-size_step all size own b (inr h) = inr (or_right (own == all) b h)
+size_step all size own b (inr h) = inr (or_right _ b h)
 size_step all size own b (inl e) =
-    ⊎_elim (λ less. inr (or_left (own == all) b (eq-eqb own all (omega (arith, e))))) (λ more. inl (omega (arith, e))) (cases_lt size own)
+    ⊎_elim (λ less. inr (or_left _ b (eq-eqb own all (omega (arith, e))))) (λ more. inl (omega (arith, e))) (cases_lt size own)
 
 -- the size that was found is the one that it began with, or one of a slice
 reached : (fs : List Filling) (size : ℕ) → (size_from size fs ≡ size) ⊎ (list_any (λ f. length f.endpoints == size_from size fs) fs ≡ true)
 reached [] size = inl refl
-reached (f ∷ fs) size =
-    size_step (size_from size (f ∷ fs)) size (length f.endpoints) (list_any (λ g. length g.endpoints == size_from size (f ∷ fs)) fs) (reached fs (max size (length f.endpoints)))
+reached (f ∷ fs) size = size_step _ size _ _ (reached fs _)
 
 reached_from_none : (fs : List Filling) → 0 < length fs → list_any (λ f. length f.endpoints == size_from 0 fs) fs ≡ true
 reached_from_none [] some = absurd (omega arith)
 reached_from_none (f ∷ fs) some =
     let own = length f.endpoints in
     let all = size_from (max 0 own) fs in
-    ⊎_elim (λ e. or_left (own == all) _ (eq-eqb own all (omega (arith, e)))) (λ h. or_right (own == all) _ h) (reached fs (max 0 own))
+    ⊎_elim (λ e. or_left _ _ (eq-eqb own all (omega (arith, e)))) (λ h. or_right _ _ h) (reached fs _)
 
 one_is_as_full : (most n : ℕ) (fs : List Filling) → list_any (has_room most n) fs ≡ true → list_any (is_as_full most n (fullest most n fs)) fs ≡ true
 one_is_as_full most n fs h =
-    sym (any_filtered (has_room most n) (λ f. length f.endpoints == fullest most n fs) fs)
-    ∙ reached_from_none (filter (has_room most n) fs) (some_pass (has_room most n) fs h)
+    sym (any_filtered _ (λ f. length f.endpoints == fullest most n fs) fs)
+    ∙ reached_from_none _ (some_pass _ fs h)
 
 -- ---- one slice takes endpoints
 
 given : (test : Filling → Bool) (more : List Wanted) (fs : List Filling) → list_any test fs ≡ true → IsPermutation (entries (give_first test more fs)) (entries_of more ++ entries fs)
 given test more [] h = absurd (false≢true h)
-given test more (f ∷ fs) h = by (test f) h (given test more fs)
-  where
-    by : (b : Bool) → b || list_any test fs ≡ true → (list_any test fs ≡ true → IsPermutation (entries (give_first test more fs)) (entries_of more ++ entries fs))
-        → IsPermutation (entries (cond b (with_more f more ∷ fs) (f ∷ give_first test more fs))) (entries_of more ++ (f.endpoints ++ entries fs))
-    by true e rest = and_then (same_list (append_assoc f.endpoints (entries_of more) (entries fs))) (to_front f.endpoints (entries_of more) (entries fs))
-    by false e rest = and_then (joined (IsPermutation-refl f.endpoints) (rest e)) (to_front f.endpoints (entries_of more) (entries fs))
+given test more (f ∷ fs) h =
+    cond_both _ _ _
+    (λ gs. IsPermutation (entries gs) (entries_of more ++ (f.endpoints ++ entries fs)))
+    (λ e. and_then (same_list (append_assoc f.endpoints (entries_of more) (entries fs)))
+    (to_front f.endpoints _ _)) (λ e. and_then (joined (IsPermutation-refl f.endpoints)
+    (given test more fs (sym (ap (λ b. b || list_any test fs) e) ∙ h))) (to_front f.endpoints _ _))
 
 given_within : (most : ℕ) (test : Filling → Bool) (more : List Wanted) → ((f : Filling) → test f ≡ true → length f.endpoints + length more ≤ most)
     → (fs : List Filling) → AreWithin most fs → AreWithin most (give_first test more fs)
 given_within most test more fits [] le = tt
-given_within most test more fits (f ∷ fs) le = by (test f) refl (given_within most test more fits fs le.1)
-  where
-    by : (b : Bool) → test f ≡ b → AreWithin most (give_first test more fs) → AreWithin most (cond b (with_more f more ∷ fs) (f ∷ give_first test more fs))
-    by true e rest = (let long = length-append f.endpoints (entries_of more) in let same = length-map more (λ w. w.entry) in omega (arith, fits f e), le.1)
-    by false e rest = (le.0, rest)
+given_within most test more fits (f ∷ fs) le =
+    let long = length-append f.endpoints (entries_of more) in
+    let same = length-map more (λ w. w.entry) in
+    cond_both (test f) _ _ (AreWithin most) (λ e. (omega (arith, fits f e), le.1))
+    (λ e. (le.0, given_within most test more fits fs le.1))
 
 given_slices : (test : Filling → Bool) (more : List Wanted) (fs : List Filling) → slices_of (give_first test more fs) ≡ slices_of fs
 given_slices test more [] = refl
-given_slices test more (f ∷ fs) = by (test f) (given_slices test more fs)
-  where
-    by : (b : Bool) → slices_of (give_first test more fs) ≡ slices_of fs → slices_of (cond b (with_more f more ∷ fs) (f ∷ give_first test more fs)) ≡ f.slice ∷ slices_of fs
-    by true rest = refl
-    by false rest = ap (λ ss. f.slice ∷ ss) rest
+given_slices test more (f ∷ fs) =
+    cond_both (test f) (with_more f more ∷ fs) (f ∷ give_first test more fs)
+    (λ gs. slices_of gs ≡ f.slice ∷ slices_of fs) (λ e. refl)
+    (λ e. ap (λ ss. f.slice ∷ ss) (given_slices test more fs))
 
 has_room_fits : (most n size : ℕ) (f : Filling) → is_as_full most n size f ≡ true → length f.endpoints + n ≤ most
 has_room_fits most n size f h =
@@ -106,7 +102,7 @@ in_one most fs left le h =
     let test = is_as_full most n (fullest most n fs) in
     record {
       slices = given_slices test left fs;
-      within = given_within most test left (has_room_fits most n (fullest most n fs)) fs le;
+      within = given_within most test left (has_room_fits most n _) fs le;
       sizes = tt;
       few = omega arith;
       same =
@@ -126,9 +122,8 @@ one_new most fs w ws rest le h =
       sizes = ((omega arith, omega arith), h.sizes);
       few = omega (arith, h.few);
       same =
-          and_then (to_front (entries rest.fillings) first (flat_map entries_of rest.made))
-          (and_then (joined (IsPermutation-refl first) h.same)
-          (and_then (to_front first (entries fs) (entries_of (drop most (w ∷ ws)))) (joined (IsPermutation-refl (entries fs)) (same_list (taken_and_left most (w ∷ ws))))));
+          and_then (to_front _ first _) (and_then (joined (IsPermutation-refl first) h.same)
+          (and_then (to_front first _ _) (joined (IsPermutation-refl (entries fs)) (same_list (taken_and_left most _)))));
     }
 
 placed : (most : ℕ) (fs : List Filling) → 1 ≤ most → AreWithin most fs → (n : ℕ) (left : List Wanted) → length left ≤ n → IsPlaced most fs left (place_left n most fs left)
@@ -136,13 +131,12 @@ placed most fs some le zero [] few = nothing_left most fs le
 placed most fs some le zero (w ∷ ws) few = absurd (omega arith)
 placed most fs some le (suc n) [] few = nothing_left most fs le
 placed most fs some le (suc n) (w ∷ ws) few =
-    by (fits_in_one most (w ∷ ws) fs) refl
-    (placed most fs some le n (drop most (w ∷ ws)) (let behind = length-drop most (w ∷ ws) in omega arith))
+    by _ refl (placed most fs some le n _ (let behind = length-drop most (w ∷ ws) in omega arith))
   where
     by : (b : Bool) → fits_in_one most (w ∷ ws) fs ≡ b → IsPlaced most fs (drop most (w ∷ ws)) (place_left n most fs (drop most (w ∷ ws)))
         → IsPlaced most fs (w ∷ ws) (placed_if b most (w ∷ ws) fs (place_left n most fs (drop most (w ∷ ws))))
-    by true e rest = in_one most fs (w ∷ ws) le e
-    by false e rest = one_new most fs w ws (place_left n most fs (drop most (w ∷ ws))) some rest
+    by true e rest = in_one most fs _ le e
+    by false e rest = one_new most fs w ws _ some rest
 
 -- ---- all three steps
 
@@ -157,7 +151,7 @@ pub three_steps : (most : ℕ) (before : List Slice) (wanted : List Wanted) → 
 three_steps most before wanted some =
     let p = fill_changed most (keep_all most before wanted) in
     let ready = two_steps most before wanted in
-    let done = placed most p.fillings some ready.within (length p.left) p.left (omega arith) in
+    let done = placed most p.fillings some ready.within _ p.left (omega arith) in
     record {
       slices = done.slices ∙ ready.slices;
       within = done.within;

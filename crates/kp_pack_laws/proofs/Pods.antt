@@ -1,11 +1,10 @@
 -- Pods of entries: their test is exact, and slices of the wanted endpoints have each pod once.
-use Rattle.std.proofs.Common.{◌≡◌, ℕ, Bool, true, false, ◌&&◌, List, [], ◌∷◌, map, Option, Some, None, bytes_eq, refl, sym, ap, subst, ◌∙◌, IsPermutation}
+use Rattle.std.proofs.Common.{◌≡◌, ℕ, Bool, true, false, ◌&&◌, List, [], ◌∷◌, map, Option, Some, None, refl, sym, ap, subst, ◌∙◌, IsPermutation}
 use Rattle.std.specs.List.{flat_map, AllByRecursion, IsDistinct}
 use Rattle.std.specs.Cmp.Lexicographic.{nat_list_eq_equiv}
-use Rattle.std.proofs.lemmas.Bool.{false≢true, and_parts, and_from}
+use Rattle.std.proofs.lemmas.Bool.{false≢true, and_parts}
 use Rattle.std.proofs.lemmas.List.Sorted.{IsPermutation-map, IsPermutation-sym}
 use Rattle.std.proofs.lemmas.Map.Keys.{IsDistinct-IsPermutation}
-use Rattle.std.proofs.lemmas.Slice.Eq.{bytes_eq-Decides}
 use Rattle.kp_base.specs.declared.key.ObjectKey.{ObjectKey}
 use Rattle.kp_types.specs.declared.slice.Slice.{Slice}
 use Rattle.kp_types.specs.declared.slice.Wanted.{Wanted}
@@ -50,7 +49,7 @@ pub are_named : (ws : List Wanted) → entries_name_pods ws ≡ true → AreName
 are_named [] h = tt
 are_named (w ∷ ws) h =
     let p = and_parts (same_pod w.entry.pod (Some w.pod)) (entries_name_pods ws) h in
-    (pod_exact w.entry.pod (Some w.pod) p.0, are_named ws p.1)
+    (pod_exact w.entry.pod _ p.0, are_named ws p.1)
 
 -- no two wanted endpoints are of one pod
 abbrev pub ArePodsApart : List Wanted → Type 0
@@ -80,8 +79,7 @@ tagged_pods : (slices : List Slice)
 tagged_pods slices =
     mapped_pieces (λ t. t.1.pod) (λ s. map (λ e. (sorted_ports s.ports, e)) s.endpoints) slices
     ∙ same_pieces _ (λ s. map (λ e. e.pod) s.endpoints) slices
-    (all_of _ (λ s. map-map (λ t. t.1.pod)
-    (λ e. (sorted_ports s.ports, e)) s.endpoints) slices)
+    (all_of _ (λ s. map-map (λ t. t.1.pod) (λ e. (sorted_ports s.ports, e)) s.endpoints) slices)
     ∙ sym (mapped_pieces (λ e. e.pod) (λ s. s.endpoints) slices)
 
 pub pods_once : (most : ℕ) (wanted : List Wanted) (slices : List Slice)

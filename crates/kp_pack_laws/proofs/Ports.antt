@@ -1,18 +1,17 @@
 -- Lists of ports: their test is exact, and those that are in order stay as they are.
-use Rattle.std.proofs.Common.{◌≡◌, ℕ, eqb, bytes_eq, Bool, true, false, cond, List, [], ◌∷◌, Option, Some, None, refl, ap, ◌∙◌}
+use Rattle.std.proofs.Common.{◌≡◌, ℕ, eqb, bytes_eq, true, false, cond, List, [], ◌∷◌, Option, Some, None, refl, ap, ◌∙◌}
 use Rattle.std.specs.Cmp.{IsEquivalence, IsTotalOrder}
 use Rattle.std.specs.Ordering.{is_gt, ordering_reverse}
 use Rattle.std.specs.declared.cmp.Ordering.{Ordering}
 use Rattle.std.specs.declared.cmp.Ordering.TheVariants.{Less, Equal, Greater}
-use Rattle.std.proofs.lemmas.Bool.{false≢true, and_parts}
+use Rattle.std.proofs.lemmas.Bool.{cond_both, false≢true, and_parts}
 use Rattle.std.proofs.lemmas.Cmp.{lists_equiv, then_total, on_total, nat_cmp_total}
 use Rattle.std.specs.Option.{option_eq}
 use Rattle.std.proofs.lemmas.Slice.Eq.{bytes_eq-Decides}
 use Rattle.std.proofs.lemmas.Map.Views.{exact_unsigned_eq}
 use Rattle.kp_base.proofs.KeyOrder.{text_total}
 use Rattle.kp_base.specs.Keys.{proto_place}
-use Rattle.kp_base.specs.declared.port.Proto.{Proto}
-use Rattle.kp_base.specs.declared.port.Proto.TheVariants.{Sctp, Tcp, Udp}
+use Rattle.kp_base.proofs.SameParts.{proto_test_exact}
 use Rattle.kp_base.specs.contracts.port.ProtoPartialEq.TheImpl as same_proto
 use Rattle.kp_types.specs.declared.slice.SlicePort.{SlicePort}
 use Rattle.kp_types.specs.contracts.slice.SlicePortPartialEq.TheImpl as same_port
@@ -20,17 +19,6 @@ use Rattle.kp_types.specs.contracts.slice.SlicePortEq.TheImpl.Laws as port_laws
 use Rattle.kp_object_defs.specs.Packing.{port_cmp, port_in_place, sorted_ports, same_ports}
 
 -- ---- equal ports
-
-proto_exact : (a b : Proto) → same_proto.ghosts.eq a b ≡ true → a ≡ b
-proto_exact Sctp Sctp h = refl
-proto_exact Sctp Tcp h = absurd (false≢true h)
-proto_exact Sctp Udp h = absurd (false≢true h)
-proto_exact Tcp Sctp h = absurd (false≢true h)
-proto_exact Tcp Tcp h = refl
-proto_exact Tcp Udp h = absurd (false≢true h)
-proto_exact Udp Sctp h = absurd (false≢true h)
-proto_exact Udp Tcp h = absurd (false≢true h)
-proto_exact Udp Udp h = refl
 
 number_exact : (a b : Option ℕ) → option_eq eqb a b ≡ true → a ≡ b
 number_exact None None h = refl
@@ -42,7 +30,7 @@ port_exact : (a b : SlicePort) → same_port.ghosts.eq a b ≡ true → a ≡ b
 port_exact a b h =
     let p = and_parts (bytes_eq a.name b.name) _ h in
     let q = and_parts (same_proto.ghosts.eq a.proto b.proto) _ p.1 in
-    λ i. record { name = (bytes_eq-Decides a.name b.name).0 p.0 i; proto = proto_exact a.proto b.proto q.0 i; port = number_exact a.port b.port q.1 i }
+    λ i. record { name = (bytes_eq-Decides a.name b.name).0 p.0 i; proto = proto_test_exact a.proto b.proto q.0 i; port = number_exact a.port b.port q.1 i }
 
 pub ports_exact : (xs ys : List SlicePort) → same_ports xs ys ≡ true → xs ≡ ys
 ports_exact [] [] h = refl
@@ -64,7 +52,7 @@ greater Equal h = absurd (false≢true h)
 greater Greater h = refl
 
 one_way : (p q : SlicePort) → is_gt (port_cmp p q) ≡ true → is_gt (port_cmp q p) ≡ false
-one_way p q h = ap is_gt (port_total.antisymm q p) ∙ greater (port_cmp p q) h
+one_way p q h = ap is_gt (port_total.antisymm q p) ∙ greater _ h
 
 -- a port may stand before these
 StandsBefore : SlicePort → List SlicePort → Type 0
@@ -84,25 +72,20 @@ in_front p (q ∷ qs) h = ap (λ b. cond b (q ∷ port_in_place p qs) (p ∷ q �
 still_before : (r p : SlicePort) (qs : List SlicePort) → is_gt (port_cmp r p) ≡ false → StandsBefore r qs → StandsBefore r (port_in_place p qs)
 unfolding StandsBefore
 still_before r p [] h g = h
-still_before r p (q ∷ qs) h g = by (is_gt (port_cmp p q))
-  where
-    by : (b : Bool) → StandsBefore r (cond b (q ∷ port_in_place p qs) (p ∷ q ∷ qs))
-    by true = g
-    by false = h
+still_before r p (q ∷ qs) h g =
+    cond_both (is_gt (port_cmp p q)) _ _ (StandsBefore r) (λ e. g) (λ e. h)
 
 placed_in_order : (p : SlicePort) (qs : List SlicePort) → AreInOrder qs → AreInOrder (port_in_place p qs)
 unfolding AreInOrder StandsBefore
 placed_in_order p [] a = (tt, tt)
-placed_in_order p (q ∷ qs) a = by (is_gt (port_cmp p q)) refl (placed_in_order p qs a.1)
-  where
-    by : (b : Bool) → is_gt (port_cmp p q) ≡ b → AreInOrder (port_in_place p qs) → AreInOrder (cond b (q ∷ port_in_place p qs) (p ∷ q ∷ qs))
-    by true e rest = (still_before q p qs (one_way p q e) a.0, rest)
-    by false e rest = (e, a)
+placed_in_order p (q ∷ qs) a =
+    cond_both (is_gt (port_cmp p q)) (q ∷ port_in_place p qs) (p ∷ q ∷ qs) AreInOrder
+    (λ e. (still_before q p qs (one_way p q e) a.0, placed_in_order p qs a.1)) (λ e. (e, a))
 
 are_in_order : (ps : List SlicePort) → AreInOrder (sorted_ports ps)
 unfolding AreInOrder
 are_in_order [] = tt
-are_in_order (p ∷ ps) = placed_in_order p (sorted_ports ps) (are_in_order ps)
+are_in_order (p ∷ ps) = placed_in_order p _ (are_in_order ps)
 
 in_order_stay : (ps : List SlicePort) → AreInOrder ps → sorted_ports ps ≡ ps
 unfolding AreInOrder
@@ -110,4 +93,4 @@ in_order_stay [] a = refl
 in_order_stay (p ∷ ps) a = ap (port_in_place p) (in_order_stay ps a.1) ∙ in_front p ps a.0
 
 pub sorted_twice : (ps : List SlicePort) → sorted_ports (sorted_ports ps) ≡ sorted_ports ps
-sorted_twice ps = in_order_stay (sorted_ports ps) (are_in_order ps)
+sorted_twice ps = in_order_stay _ (are_in_order ps)

@@ -3,10 +3,10 @@ use Rattle.std.proofs.Common.{◌≡◌, ℕ, ◌+◌, ◌-◌, ◌<◌, ◌≤�
 use Rattle.std.proofs.lemmas.Option.{none-some}
 use Rattle.std.specs.List.{find, filter, fold, flat_map, AllByRecursion, IsDistinct}
 use Rattle.std.specs.Cmp.Lexicographic.{pointwise, nat_list_eq_equiv}
-use Rattle.std.proofs.lemmas.Bool.{and_parts, and_from}
+use Rattle.std.proofs.lemmas.Bool.{and_parts, and_from, cond_both}
 use Rattle.std.proofs.lemmas.Cmp.{lists_equiv}
 use Rattle.std.proofs.lemmas.List.{nil_from_length}
-use Rattle.kp_base.specs.Net.{AddressParts, same_family, same_address}
+use Rattle.kp_base.specs.Net.{AddressParts, same_address}
 use Rattle.kp_base.proofs.SameParts.{family_itself}
 use Rattle.kp_types.specs.declared.slice.SliceEndpoint.{SliceEndpoint}
 use Rattle.kp_types.specs.declared.slice.Slice.{Slice}
@@ -21,9 +21,7 @@ use Rattle.kp_pack_laws.proofs.Pods.{object_turned, same_pod, pod_exact, pod_sam
 
 address_same : (a : Option AddressParts) → same_option same_address a a ≡ true
 address_same None = refl
-address_same (Some a) =
-    and_from (same_family a.family a.family) _ (family_itself a.family)
-    (eq-eqb a.number a.number refl)
+address_same (Some a) = and_from _ _ (family_itself a.family) (eq-eqb a.number a.number refl)
 
 flag_same : (b : Bool) → same_flag b b ≡ true
 flag_same true = refl
@@ -35,23 +33,20 @@ text_same (Some a) = nat_list_eq_equiv.refl a
 
 entry_same : (e : SliceEndpoint) → same_entry e e ≡ true
 entry_same e =
-    and_from _ _
-    (and_from _ _ (address_same e.address)
-    (and_from _ _ (flag_same e.ready)
+    and_from _ _ (and_from _ _ (address_same e.address) (and_from _ _ (flag_same e.ready)
     (and_from _ _ (flag_same e.serving) (flag_same e.terminating))))
     (and_from _ _ (text_same e.node) (and_from _ _ (text_same e.zone)
     (and_from _ _ ((lists_equiv nat_list_eq_equiv).refl e.hints) (pod_same e.pod))))
 
 pub entries_same : (es : List SliceEndpoint) → pointwise same_entry es es ≡ true
 entries_same [] = refl
-entries_same (e ∷ es) =
-    and_from (same_entry e e) (pointwise same_entry es es) (entry_same e) (entries_same es)
+entries_same (e ∷ es) = and_from _ _ (entry_same e) (entries_same es)
 
 -- ---- an entry finds its wanted endpoint
 
 own_entry : (w : Wanted) → w.entry.pod ≡ Some w.pod → is_entry_of w.entry w ≡ true
 own_entry w named =
-    and_from (same_pod w.entry.pod (Some w.pod)) _
+    and_from _ _
     (ap (λ p. same_pod p (Some w.pod)) named ∙ object_itself w.pod) (address_same w.entry.address)
 
 other_entry : (v w : Wanted) → w.entry.pod ≡ Some w.pod → same_object w.pod v.pod ≡ false
@@ -79,8 +74,7 @@ module _ (q : Wanted → Bool) where
       → (v.entry.pod ≡ Some v.pod) × ((same_object w.pod v.pod ≡ false) × FoundIn ws v)
       → FoundIn (w ∷ ws) v
   later_found w ws v known h =
-      passed_over (is_entry_of v.entry) w (filter q ws) (q w)
-      (other_entry w v known.0 (object_turned v.pod w.pod ∙ known.1.0))
+      passed_over _ w _ (q w) (other_entry w v known.0 (object_turned v.pod w.pod ∙ known.1.0))
       ∙ known.1.1 h
 
   pub each_found : (ws : List Wanted) → AreNamed ws → ArePodsApart ws
@@ -91,7 +85,7 @@ module _ (q : Wanted → Bool) where
       let others = all_unmapped (λ p. same_object w.pod p ≡ false) (λ v. v.pod) ws apart.0 in
       let rest = all_both _ _ ws others (each_found ws named.1 apart.1) in (
         first_found w ws named.0,
-        all_weaker _ (FoundIn (w ∷ ws)) (later_found w ws) ws
+        all_weaker _ _ (later_found w ws) ws
             (all_both _ _ ws named.1 rest),
       )
 
@@ -101,23 +95,17 @@ without_other : (p q : Wanted → Bool) → ((w : Wanted) → p w ≡ true → q
     → (ws : List Wanted)
     → find q (without_first p ws) ≡ find q ws
 without_other p q never [] = refl
-without_other p q never (w ∷ ws) = by (p w) refl (without_other p q never ws)
-  where
-    by : (b : Bool) → p w ≡ b → find q (without_first p ws) ≡ find q ws
-        → find q (cond b ws (w ∷ without_first p ws)) ≡ cond (q w) (Some w) (find q ws)
-    by true e rest = sym (ap (λ c. cond c (Some w) (find q ws)) (never w e))
-    by false e rest = ap (cond (q w) (Some w)) rest
+without_other p q never (w ∷ ws) =
+    cond_both (p w) ws _ (λ vs. find q vs ≡ cond (q w) (Some w) (find q ws))
+    (λ e. sym (ap (λ c. cond c (Some w) (find q ws)) (never w e)))
+    (λ e. ap (cond (q w) (Some w)) (without_other p q never ws))
 
 one_less : (p : Wanted → Bool) (ws : List Wanted) (w : Wanted) → find p ws ≡ Some w
     → length ws ≡ 1 + length (without_first p ws)
 one_less p [] w h = absurd (none-some w h)
-one_less p (v ∷ ws) w h = by (p v) h (one_less p ws w)
-  where
-    by : (b : Bool) → cond b (Some v) (find p ws) ≡ Some w
-        → (find p ws ≡ Some w → length ws ≡ 1 + length (without_first p ws))
-        → length (v ∷ ws) ≡ 1 + length (cond b ws (v ∷ without_first p ws))
-    by true e rest = omega arith
-    by false e rest = omega (arith, rest e)
+one_less p (v ∷ ws) w h =
+    cond_both (p v) ws _ (λ vs. length (v ∷ ws) ≡ 1 + length vs) (λ e. omega arith)
+    (λ e. omega (arith, one_less p ws w (sym (ap (λ b. cond b (Some v) (find p ws)) e) ∙ h)))
 
 -- an entry finds a wanted endpoint whose content is its own
 abbrev pub Finds : List Wanted → SliceEndpoint → Type 0
@@ -132,13 +120,12 @@ pub record AreThere (es : List SliceEndpoint) (left : List Wanted) : Type 0 wher
 apart_finds : (e x : SliceEndpoint) (left : List Wanted)
     → Finds left x × (same_pod e.pod x.pod ≡ false)
     → Finds (without_first (is_entry_of e) left) x
-apart_finds e x left known =
-    (known.0.0, without_other (is_entry_of e) (is_entry_of x) never left ∙ known.0.1, known.0.2)
+apart_finds e x left known = (known.0.0, without_other _ _ never left ∙ known.0.1, known.0.2)
   where
     never : (w : Wanted) → is_entry_of e w ≡ true → is_entry_of x w ≡ false
     never w h =
         let at = same_option same_address x.address w.entry.address in
-        let is = pod_exact e.pod (Some w.pod) (and_parts (same_pod e.pod (Some w.pod)) _ h).0 in
+        let is = pod_exact e.pod _ (and_parts (same_pod e.pod (Some w.pod)) _ h).0 in
         ap (λ p. same_pod x.pod p && at) (sym is)
         ∙ ap (λ b. b && at) (pod_turned x.pod e.pod ∙ known.1)
 
@@ -194,9 +181,9 @@ module _ (most : ℕ) (s : Slice) where
       let f = there.finds.0 in
       let long = length-append done (e ∷ []) in
       let less : length done < most = omega arith in
-      let next = one_kept e (es ++ rest) left f.0 f.1 there in
+      let next = one_kept e _ left f.0 f.1 there in
       let still = without_first (is_entry_of e) left in
-      let more = keep_rest es (done ++ e ∷ []) rest still next (omega arith) in (
+      let more = keep_rest es _ rest still next (omega arith) in (
         more.0,
         ap (λ k. fold (keep_entry most) k es) (keep_one done e left f less) ∙ more.1
             ∙ ap (λ l. keeping s l more.0) (append_assoc done (e ∷ []) es),
@@ -221,14 +208,10 @@ keep_every most [] p there le =
       left = nil_from_length p.left (sym there.many) i;
     }
 keep_every most (s ∷ ss) p there le =
-    let k =
-    keep_rest most s s.endpoints [] (flat_map (λ s. s.endpoints) ss) p.left there
-    (omega (arith, le.0)) in
+    let k = keep_rest most s s.endpoints [] _ p.left there (omega (arith, le.0)) in
     ap (λ k. fold (λ p s. add_keeping p (keep_slice most p.left s)) (add_keeping p k) ss) k.1
-    ∙ keep_every most ss (add_keeping p (keeping s s.endpoints k.0)) k.2 le.1
-    ∙ ap (λ fs. record {
-      fillings =
-          fs;
+    ∙ keep_every most ss _ k.2 le.1 ∙ ap (λ fs. record {
+      fillings = fs;
       left = [];
     }) (append_assoc p.fillings (whole s ∷ []) (map whole ss))
 
@@ -241,7 +224,7 @@ fill_none : (most : ℕ) (ss : List Slice) (fs : List Filling)
     ≡ record { fillings = fs ++ map whole ss; left = [] }
 fill_none most [] fs = ap (λ l. record { fillings = l; left = [] }) (sym (append-nil fs))
 fill_none most (s ∷ ss) fs =
-    fill_none most ss (fs ++ whole s ∷ [])
+    fill_none most ss _
     ∙ ap (λ l. record { fillings = l; left = [] }) (append_assoc fs (whole s ∷ []) (map whole ss))
 
 -- slices of a group that have its wanted endpoints stay as they are
@@ -250,9 +233,5 @@ pub group_stays : (most : ℕ) (ss : List Slice) (ws : List Wanted)
     → AllByRecursion (λ s. length s.endpoints ≤ most) ss
     → packed_group most ss ws ≡ record { fillings = map whole ss; made = [] }
 group_stays most ss ws there le =
-    ap (λ p. placed_from most (fill_changed most p)) (keep_every most ss (record {
-      fillings =
-          [];
-      left = ws;
-    }) there le)
+    ap (λ p. placed_from most (fill_changed most p)) (keep_every most ss _ there le)
     ∙ ap (placed_from most) (fill_none most ss [])

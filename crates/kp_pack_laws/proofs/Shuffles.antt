@@ -3,7 +3,7 @@ use Rattle.std.proofs.Common.{◌≡◌, Bool, true, false, cond, ◌||◌, List
 use Rattle.std.specs.List.{filter, flat_map, AllByRecursion}
 use Rattle.std.proofs.lemmas.List.{map-append, reverse-append}
 use Rattle.std.proofs.lemmas.Grind.{flat_map-append}
-use Rattle.std.proofs.lemmas.List.Elements.{All-from_recursion, recursion_from_All}
+use Rattle.std.proofs.lemmas.List.Elements.{All-from_recursion, filter_passes, recursion_from_All}
 use Rattle.std.proofs.lemmas.List.Sorted.{IsPermutation-refl, IsPermutation-sym, IsPermutation-trans, IsPermutation-append, IsPermutation-append_comm, All-permutation}
 use Rattle.kp_lemmas.proofs.ListFacts.{all_append}
 
@@ -56,7 +56,7 @@ module _ {X Y : Type 0} (f : X → List Y) where
 -- two pieces of each element
 pub two_pieces : {X Y : Type 0} (f g : X → List Y) (xs : List X) → IsPermutation (flat_map f xs ++ flat_map g xs) (flat_map (λ x. f x ++ g x) xs)
 two_pieces f g [] = IsPermutation-refl []
-two_pieces f g (x ∷ xs) = and_then (crossed (f x) (flat_map f xs) (g x) (flat_map g xs)) (joined (IsPermutation-refl (f x ++ g x)) (two_pieces f g xs))
+two_pieces f g (x ∷ xs) = and_then (crossed (f x) _ (g x) _) (joined (IsPermutation-refl (f x ++ g x)) (two_pieces f g xs))
 
 -- pieces that are alike, element by element
 pub alike_pieces : {X Y : Type 0} (f g : X → List Y) (xs : List X) → AllByRecursion (λ x. IsPermutation (f x) (g x)) xs → IsPermutation (flat_map f xs) (flat_map g xs)
@@ -70,7 +70,7 @@ same_pieces f g (x ∷ xs) all = λ i. all.0 i ++ same_pieces f g xs all.1 i
 -- pieces of pieces
 pub pieces_twice : {X Y Z : Type 0} (f : Y → List Z) (g : X → List Y) (xs : List X) → flat_map f (flat_map g xs) ≡ flat_map (λ x. flat_map f (g x)) xs
 pieces_twice f g [] = refl
-pieces_twice f g (x ∷ xs) = flat_map-append f (g x) (flat_map g xs) ∙ ap (λ rest. flat_map f (g x) ++ rest) (pieces_twice f g xs)
+pieces_twice f g (x ∷ xs) = flat_map-append f (g x) _ ∙ ap (λ rest. flat_map f (g x) ++ rest) (pieces_twice f g xs)
 
 pub mapped_pieces : {X Y Z : Type 0} (h : Y → Z) (f : X → List Y) (xs : List X) → map h (flat_map f xs) ≡ flat_map (λ x. map h (f x)) xs
 mapped_pieces h f [] = refl
@@ -80,18 +80,9 @@ pub same_itself : {X : Type 0} (xs : List X) → map (λ x. x) xs ≡ xs
 same_itself [] = refl
 same_itself (x ∷ xs) = ap (λ rest. x ∷ rest) (same_itself xs)
 
-pub pieces_of_map : {X Y Z : Type 0} (f : Y → List Z) (h : X → Y) (xs : List X) → flat_map f (map h xs) ≡ flat_map (λ x. f (h x)) xs
-pieces_of_map f h [] = refl
-pieces_of_map f h (x ∷ xs) = ap (λ rest. f (h x) ++ rest) (pieces_of_map f h xs)
-
 -- elements that pass do
 pub passing : {X : Type 0} (p : X → Bool) (xs : List X) → AllByRecursion (λ x. p x ≡ true) (filter p xs)
-passing p [] = tt
-passing p (x ∷ xs) = by (p x) refl (passing p xs)
-  where
-    by : (b : Bool) → p x ≡ b → AllByRecursion (λ y. p y ≡ true) (filter p xs) → AllByRecursion (λ y. p y ≡ true) (cond b (x ∷ filter p xs) (filter p xs))
-    by true e rest = (e, rest)
-    by false e rest = rest
+passing p xs = recursion_from_All (λ x. p x ≡ true) _ (filter_passes p xs)
 
 pub all_pass : {X : Type 0} (p : X → Bool) (xs : List X) → AllByRecursion (λ x. p x ≡ true) xs → filter p xs ≡ xs
 all_pass p [] all = refl
@@ -117,7 +108,7 @@ all_unmapped P f (x ∷ xs) all = (all.0, all_unmapped P f xs all.1)
 
 pub all_in_pieces : {X Y : Type 0} (P : Y → Type 0) (f : X → List Y) (xs : List X) → AllByRecursion (λ x. AllByRecursion P (f x)) xs → AllByRecursion P (flat_map f xs)
 all_in_pieces P f [] all = tt
-all_in_pieces P f (x ∷ xs) all = all_append P (f x) (flat_map f xs) all.0 (all_in_pieces P f xs all.1)
+all_in_pieces P f (x ∷ xs) all = all_append P (f x) _ all.0 (all_in_pieces P f xs all.1)
 
 pub all_of : {X : Type 0} (P : X → Type 0) → ((x : X) → P x) → (xs : List X) → AllByRecursion P xs
 all_of P h [] = tt

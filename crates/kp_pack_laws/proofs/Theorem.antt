@@ -1,5 +1,6 @@
 -- Packing places each wanted endpoint once, in slices with different names.
 use Rattle.std.proofs.Common.{◌≡◌, ℕ, ◌+◌, ◌^◌, ◌<◌, ◌≤◌, Bool, true, false, not, cond, List, [], ◌∷◌, ◌++◌, map, length, bytes_eq, refl, sym, ap, subst, ◌∙◌, arith, IsPermutation}
+use Rattle.std.proofs.lemmas.List.Folds.{flat_map-map}
 use Rattle.std.specs.List.{filter, flat_map, list_any, AllByRecursion, IsDistinct}
 use Rattle.std.specs.Ordering.{eq_by_cmp}
 use Rattle.std.specs.Cmp.Lexicographic.{texts_ties, nat_list_eq_equiv}
@@ -23,7 +24,7 @@ use Rattle.kp_object_defs.specs.Packing.{Filling, NewSlice, sorted_ports, pack_g
 use Rattle.kp_object_defs.specs.PackingLaws.{have_own_names, are_taken, entries_with_ports, wanted_with_ports, IsPackingOf, PackingPlacesEach}
 use Rattle.std.proofs.lemmas.Simd.{map-map}
 use Rattle.kp_lemmas.proofs.ListFacts.{all_append, all_both, all_filter, all_weaker}
-use Rattle.kp_pack_laws.proofs.Shuffles.{same_list, turned, and_then, pieces_of_map, passing, all_mapped, all_unmapped, all_permuted}
+use Rattle.kp_pack_laws.proofs.Shuffles.{same_list, turned, and_then, passing, all_mapped, all_unmapped, all_permuted}
 use Rattle.kp_pack_laws.proofs.Distinct.{distinct_from_test, distinct_mapped, distinct_joined}
 use Rattle.kp_pack_laws.proofs.Ordered.{by_key_pieces, by_key_keeps, by_key_permuted}
 use Rattle.kp_pack_laws.proofs.Names.{new_names_differ, new_names_free, new_pieces, new_all}
@@ -43,11 +44,11 @@ by_order_of_texts names d = subst (λ (same : List ℕ → List ℕ → Bool). I
 
 pub ordered_keeps : (slices : List Slice) → Differ slices
     → IsPermutation (in_slice_order slices) slices
-ordered_keeps slices d = by_key_keeps text_total name_of slices (by_order_of_texts (map name_of slices) d)
+ordered_keeps slices d = by_key_keeps text_total name_of slices (by_order_of_texts _ d)
 
 pub ordered_entries : (slices : List Slice) → Differ slices
     → IsPermutation (entries_with_ports (in_slice_order slices)) (entries_with_ports slices)
-ordered_entries slices d = by_key_pieces text_total (λ s. map (λ e. (sorted_ports s.ports, e)) s.endpoints) name_of slices (by_order_of_texts (map name_of slices) d)
+ordered_entries slices d = by_key_pieces text_total (λ s. map (λ e. (sorted_ports s.ports, e)) s.endpoints) name_of slices (by_order_of_texts _ d)
 
 pub ordered_all : (P : Slice → Type 0) (slices : List Slice) → Differ slices
     → AllByRecursion P slices → AllByRecursion P (in_slice_order slices)
@@ -60,21 +61,32 @@ ordered_differ slices d = IsDistinct-IsPermutation bytes_eq nat_list_eq_equiv.sy
 pub ordered_same : (xs ys : List Slice) → IsPermutation xs ys → Differ ys
     → in_slice_order xs ≡ in_slice_order ys
 ordered_same xs ys same d =
-    ap values_of (by_key_permuted text_total text_exact name_of same
-    (by_order_of_texts (map name_of ys) d))
+    ap values_of (by_key_permuted text_total text_exact name_of same (by_order_of_texts _ d))
 
 pub ordered_twice : (slices : List Slice) → Differ slices
     → in_slice_order (in_slice_order slices) ≡ in_slice_order slices
-ordered_twice slices d = ordered_same (in_slice_order slices) slices (ordered_keeps slices d) d
+ordered_twice slices d = ordered_same _ slices (ordered_keeps slices d) d
 
 -- ---- slices that stay
+
+-- a slice has an endpoint, and no more than so many
+abbrev pub IsSized : ℕ → Slice → Type 0
+IsSized most s = (1 ≤ length s.endpoints) × (length s.endpoints ≤ most)
+
+-- so has one that is to be made
+abbrev pub IsSizedNew : ℕ → NewSlice → Type 0
+IsSizedNew most m = (1 ≤ length m.wanted) × (length m.wanted ≤ most)
+
+-- the name of a slice is among these
+abbrev pub IsTaken : List (List ℕ) → Slice → Type 0
+IsTaken taken s = list_any (bytes_eq s.key.name) taken ≡ true
 
 abbrev pub stayed : List Filling → List Slice
 stayed fs = map filled_slice (filter stays fs)
 
 -- those that don't have nothing
 stayed_entries : (fs : List Filling) → entries_with_ports (stayed fs) ≡ flat_map entries_of_filling fs
-stayed_entries fs = pieces_of_map (λ s. map (λ e. (sorted_ports s.ports, e)) s.endpoints) filled_slice (filter stays fs) ∙ some_have fs
+stayed_entries fs = flat_map-map (λ s. map (λ e. (sorted_ports s.ports, e)) s.endpoints) filled_slice (filter stays fs) ∙ some_have fs
   where
     by : (f : Filling) (rest all : List Entry) (es : List SliceEndpoint) → f.endpoints ≡ es → rest ≡ all → cond (not (is_empty es)) (entries_of_filling f ++ rest) rest ≡ entries_of_filling f ++ all
     by f rest all [] e h = h ∙ ap (λ es. map (λ e. (sorted_ports f.slice.ports, e)) es ++ all) (sym e)
@@ -86,7 +98,7 @@ stayed_entries fs = pieces_of_map (λ s. map (λ e. (sorted_ports s.ports, e)) s
 
     some_have : (gs : List Filling) → flat_map entries_of_filling (filter stays gs) ≡ flat_map entries_of_filling gs
     some_have [] = refl
-    some_have (g ∷ gs) = inside g (filter stays gs) (stays g) ∙ by g _ _ g.endpoints refl (some_have gs)
+    some_have (g ∷ gs) = inside g _ (stays g) ∙ by g _ _ g.endpoints refl (some_have gs)
 
 stayed_names : (fs : List Filling) → map name_of (stayed fs) ≡ map (λ f. f.slice.key.name) (filter stays fs)
 stayed_names fs = map-map name_of filled_slice (filter stays fs)
@@ -100,31 +112,27 @@ some_endpoints : (es : List SliceEndpoint) → not (is_empty es) ≡ true → 1 
 some_endpoints [] h = absurd (false≢true h)
 some_endpoints (e ∷ es) h = omega arith
 
-stayed_sizes : (most : ℕ) (fs : List Filling) → AreWithin most fs → AllByRecursion (λ s. (1 ≤ length s.endpoints) × (length s.endpoints ≤ most)) (stayed fs)
+stayed_sizes : (most : ℕ) (fs : List Filling) → AreWithin most fs → AllByRecursion (IsSized most) (stayed fs)
 stayed_sizes most fs le =
-    all_mapped (λ s. (1 ≤ length s.endpoints) × (length s.endpoints ≤ most)) filled_slice (filter stays fs)
-    (all_both (λ f. 1 ≤ length f.endpoints) (λ f. length f.endpoints ≤ most) (filter stays fs)
-    (all_weaker (λ f. stays f ≡ true) (λ f. 1 ≤ length f.endpoints) (λ f. some_endpoints f.endpoints) (filter stays fs) (passing stays fs))
+    all_mapped (IsSized most) filled_slice _
+    (all_both (λ f. 1 ≤ length f.endpoints) (λ f. length f.endpoints ≤ most) _
+    (all_weaker (λ f. stays f ≡ true) (λ f. 1 ≤ length f.endpoints) (λ f. some_endpoints f.endpoints) _ (passing stays fs))
     (all_filter (λ f. length f.endpoints ≤ most) stays fs le))
 
 -- ---- names
 
 pub taken_each : (taken : List (List ℕ)) (slices : List Slice) → are_taken taken slices ≡ true
-    → AllByRecursion (λ s. list_any (bytes_eq s.key.name) taken ≡ true) slices
+    → AllByRecursion (IsTaken taken) slices
 taken_each taken [] h = tt
 taken_each taken (s ∷ slices) h = let p = and_parts (list_any (bytes_eq s.key.name) taken) (are_taken taken slices) h in (p.0, taken_each taken slices p.1)
 
 pub stayed_taken : (taken : List (List ℕ)) (fs : List Filling)
-    → AllByRecursion (λ s. list_any (bytes_eq s.key.name) taken ≡ true) (slices_of fs)
+    → AllByRecursion (IsTaken taken) (slices_of fs)
     → AllByRecursion (λ name. list_any (bytes_eq name) taken ≡ true) (map name_of (stayed fs))
 stayed_taken taken fs all =
     let T = λ (name : List ℕ). list_any (bytes_eq name) taken ≡ true in
     subst (AllByRecursion T) (sym (stayed_names fs))
-    (all_mapped T (λ f. f.slice.key.name) (filter stays fs) (all_filter (λ f. T f.slice.key.name) stays fs (all_unmapped (λ s. T s.key.name) (λ f. f.slice) fs all)))
-
-clash : (b : Bool) → b ≡ true → not b ≡ true → ⊥
-clash true h k = false≢true k
-clash false h k = false≢true h
+    (all_mapped T (λ f. f.slice.key.name) _ (all_filter (λ f. T f.slice.key.name) stays fs (all_unmapped (λ s. T s.key.name) (λ f. f.slice) fs all)))
 
 -- a name that is taken isn't a free one
 apart : (taken names free : List (List ℕ)) → AllByRecursion (λ name. list_any (bytes_eq name) taken ≡ true) names → AllByRecursion (λ name. not (list_any (bytes_eq name) taken) ≡ true) free
@@ -132,7 +140,7 @@ apart : (taken names free : List (List ℕ)) → AllByRecursion (λ name. list_a
 apart taken names free a b =
     all_weaker (λ x. list_any (bytes_eq x) taken ≡ true) (λ x. AllByRecursion (λ y. bytes_eq x y ≡ false) free)
     (λ x is. all_weaker (λ y. not (list_any (bytes_eq y) taken) ≡ true) (λ y. bytes_eq x y ≡ false)
-    (λ y isnt. false_from_ne_true (bytes_eq x y) (λ e. clash (list_any (bytes_eq y) taken) (subst (λ n. list_any (bytes_eq n) taken ≡ true) ((bytes_eq-Decides x y).0 e) is) isnt)) free b) names a
+    (λ y isnt. false_from_ne_true _ (λ e. false≢true (sym (ap not (subst (λ n. list_any (bytes_eq n) taken ≡ true) ((bytes_eq-Decides x y).0 e) is)) ∙ isnt))) free b) names a
 
 -- ---- all slices
 
@@ -140,35 +148,35 @@ module _ (family : Family) (service : ObjectKey) (taken : List (List ℕ)) where
   abbrev all_slices : List Filling → List NewSlice → List Slice
   all_slices fs made = stayed fs ++ new_slices family service taken made
 
-  all_differ : (fs : List Filling) (made : List NewSlice) → length taken + length made < 10 ^ 64 → Differ (slices_of fs) → AllByRecursion (λ s. list_any (bytes_eq s.key.name) taken ≡ true) (slices_of fs) → Differ (all_slices fs made)
+  all_differ : (fs : List Filling) (made : List NewSlice) → length taken + length made < 10 ^ 64 → Differ (slices_of fs) → AllByRecursion (IsTaken taken) (slices_of fs) → Differ (all_slices fs made)
   all_differ fs made small d are =
       subst (IsDistinct bytes_eq) (sym (map-append name_of (stayed fs) (new_slices family service taken made)))
-      (distinct_joined bytes_eq (map name_of (stayed fs)) (map name_of (new_slices family service taken made)) (stayed_differ fs d) (new_names_differ family service taken made small)
-      (apart taken (map name_of (stayed fs)) (map name_of (new_slices family service taken made)) (stayed_taken taken fs are) (new_names_free family service taken made small)))
+      (distinct_joined bytes_eq _ _ (stayed_differ fs d) (new_names_differ family service taken made small)
+      (apart taken _ _ (stayed_taken taken fs are) (new_names_free family service taken made small)))
 
   all_entries : (fs : List Filling) (made : List NewSlice) → length taken + length made < 10 ^ 64 → entries_with_ports (all_slices fs made) ≡ flat_map entries_of_filling fs ++ flat_map entries_of_new made
   all_entries fs made small =
       flat_map-append (λ s. map (λ e. (sorted_ports s.ports, e)) s.endpoints) (stayed fs) (new_slices family service taken made)
-      ∙ (λ i. stayed_entries fs i ++ new_pieces family service taken made small (λ s. map (λ e. (sorted_ports s.ports, e)) s.endpoints) entries_of_new
+      ∙ (λ i. stayed_entries fs i ++ new_pieces family service taken made small (λ s. map (λ e. (sorted_ports s.ports, e)) s.endpoints) _
       (λ name m. map-map (λ e. (sorted_ports m.ports, e)) (λ w. w.entry) m.wanted) i)
 
-  all_sizes : (most : ℕ) (fs : List Filling) (made : List NewSlice) → AreWithin most fs → AllByRecursion (λ m. (1 ≤ length m.wanted) × (length m.wanted ≤ most)) made
-      → AllByRecursion (λ s. (1 ≤ length s.endpoints) × (length s.endpoints ≤ most)) (all_slices fs made)
+  all_sizes : (most : ℕ) (fs : List Filling) (made : List NewSlice) → AreWithin most fs → AllByRecursion (IsSizedNew most) made
+      → AllByRecursion (IsSized most) (all_slices fs made)
   all_sizes most fs made le sizes =
-      all_append (λ s. (1 ≤ length s.endpoints) × (length s.endpoints ≤ most)) (stayed fs) (new_slices family service taken made) (stayed_sizes most fs le)
-      (new_all family service (λ m. (1 ≤ length m.wanted) × (length m.wanted ≤ most)) (λ s. (1 ≤ length s.endpoints) × (length s.endpoints ≤ most))
+      all_append (IsSized most) _ _ (stayed_sizes most fs le)
+      (new_all family service (IsSizedNew most) (IsSized most)
       (λ name m h. let long = length-map m.wanted (λ w. w.entry) in (omega (arith, h), omega (arith, h))) taken made sizes)
 
   packing_of : (most : ℕ) (wanted : List Wanted) (fs : List Filling) (made : List NewSlice) → length taken + length made < 10 ^ 64 → Differ (slices_of fs)
-      → AllByRecursion (λ s. list_any (bytes_eq s.key.name) taken ≡ true) (slices_of fs) → AreWithin most fs → AllByRecursion (λ m. (1 ≤ length m.wanted) × (length m.wanted ≤ most)) made
+      → AllByRecursion (IsTaken taken) (slices_of fs) → AreWithin most fs → AllByRecursion (IsSizedNew most) made
       → IsPermutation (flat_map entries_of_filling fs ++ flat_map entries_of_new made) (wanted_with_ports wanted) → IsPackingOf most wanted (in_slice_order (all_slices fs made))
   packing_of most wanted fs made small d are le sizes same =
       let differ = all_differ fs made small d are in
-      let both = ordered_all (λ s. (1 ≤ length s.endpoints) × (length s.endpoints ≤ most)) (all_slices fs made) differ (all_sizes most fs made le sizes) in
+      let both = ordered_all (IsSized most) _ differ (all_sizes most fs made le sizes) in
       record {
-        placed = and_then (ordered_entries (all_slices fs made) differ) (and_then (same_list (all_entries fs made small)) same);
-        some = All-from_recursion (λ s. 1 ≤ length s.endpoints) _ (all_weaker (λ s. (1 ≤ length s.endpoints) × (length s.endpoints ≤ most)) (λ s. 1 ≤ length s.endpoints) (λ s h. h.0) _ both);
-        bounded = All-from_recursion (λ s. length s.endpoints ≤ most) _ (all_weaker (λ s. (1 ≤ length s.endpoints) × (length s.endpoints ≤ most)) (λ s. length s.endpoints ≤ most) (λ s h. h.1) _ both);
+        placed = and_then (ordered_entries _ differ) (and_then (same_list (all_entries fs made small)) same);
+        some = All-from_recursion (λ s. 1 ≤ length s.endpoints) _ (all_weaker (IsSized most) (λ s. 1 ≤ length s.endpoints) (λ s h. h.0) _ both);
+        bounded = All-from_recursion (λ s. length s.endpoints ≤ most) _ (all_weaker (IsSized most) (λ s. length s.endpoints ≤ most) (λ s h. h.1) _ both);
       }
 
 -- ---- the slices after packing
@@ -190,32 +198,26 @@ module _ (family : Family) (service : ObjectKey) (before : List Slice) (wanted :
     few_made = omega (arith, small, made_few most some (in_slice_order before) wanted)
 
     before_differ : Differ before
-    before_differ = distinct_from_test bytes_eq (map name_of before) own
+    before_differ = distinct_from_test bytes_eq _ own
 
     pub filled_all : (P : Slice → Type 0) → AllByRecursion P before
         → AllByRecursion P (slices_of (all_fillings packs))
-    filled_all P all =
-        packed_all most some (in_slice_order before) wanted P
-        (ordered_all P before before_differ all)
+    filled_all P all = packed_all most some _ wanted P (ordered_all P before before_differ all)
 
-    pub filled_taken : AllByRecursion (λ s. list_any (bytes_eq s.key.name) taken ≡ true)
+    pub filled_taken : AllByRecursion (IsTaken taken)
         (slices_of (all_fillings packs))
     filled_taken = filled_all _ (taken_each taken before are)
 
     filled_differ : Differ (slices_of (all_fillings packs))
-    filled_differ =
-        packed_differ most some (in_slice_order before) wanted (ordered_differ before before_differ)
+    filled_differ = packed_differ most some _ wanted (ordered_differ before before_differ)
 
     pub placed_differ : Differ placed_slices
-    placed_differ =
-        all_differ family service taken (all_fillings packs)
-        (all_made packs) few_made filled_differ filled_taken
+    placed_differ = all_differ family service taken _ _ few_made filled_differ filled_taken
 
     pub is_packing : IsPackingOf most wanted
         (packed_slices family service before wanted most taken).slices
     is_packing =
-        packing_of family service taken most wanted (all_fillings packs)
-        (all_made packs) few_made filled_differ
+        packing_of family service taken most wanted _ _ few_made filled_differ
         filled_taken (packed_within most some (in_slice_order before) wanted)
         (made_within most some (in_slice_order before) wanted)
         (packed_entries most some (in_slice_order before) wanted)

@@ -29,14 +29,7 @@ module _ (e : Surroundings) where
 
   target_extends : (f g : List ℕ → WalkState → Outcome) → Extends f g → (t : Target) (s : WalkState) → is_settled (target_outcome f t s) ≡ true → target_outcome g t s ≡ target_outcome f t s
   target_extends f g more (target.Jump chain) s h = more chain s h
-  target_extends f g more target.Return s h = refl
-  target_extends f g more target.Accept s h = refl
-  target_extends f g more target.Drop s h = refl
-  target_extends f g more target.Reject s h = refl
-  target_extends f g more target.SetMark s h = refl
-  target_extends f g more target.FlipMark s h = refl
-  target_extends f g more (target.Dnat endpoint) s h = refl
-  target_extends f g more target.Masquerade s h = refl
+  target_extends f g more t s h = refl
 
   if_extends : (f g : List ℕ → WalkState → Outcome) → Extends f g → (b : Bool) (t : Target) (s : WalkState) → is_settled (target_if b f t s) ≡ true → target_if b g t s ≡ target_if b f t s
   if_extends f g more true t s h = target_extends f g more t s h
@@ -45,9 +38,7 @@ module _ (e : Surroundings) where
   -- the rules behind a rule, by how that went
   behind : (f g : List ℕ → WalkState → Outcome) (rs : List Rule) → ((s : WalkState) → is_settled (rules_outcome e f rs s) ≡ true → rules_outcome e g rs s ≡ rules_outcome e f rs s) → (o : Outcome) → is_settled (and_then o (rules_outcome e f rs)) ≡ true → and_then o (rules_outcome e g rs) ≡ and_then o (rules_outcome e f rs)
   behind f g rs rest (Next s) h = rest s h
-  behind f g rs rest (Left s) h = refl
-  behind f g rs rest (Ended end path s) h = refl
-  behind f g rs rest Stuck h = refl
+  behind f g rs rest o h = refl
 
   pub rules_extend : (f g : List ℕ → WalkState → Outcome) → Extends f g → (rs : List Rule) (s : WalkState) → is_settled (rules_outcome e f rs s) ≡ true → rules_outcome e g rs s ≡ rules_outcome e f rs s
   rules_extend f g more [] s h = refl

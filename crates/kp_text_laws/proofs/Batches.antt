@@ -1,8 +1,8 @@
 -- The batch between two full tables: it is read back, it leads from the first to the second, and no
 -- rule of that jumps to a chain that the batch removes.
-use Rattle.std.proofs.Common.{◌≡◌, inl, inr, Bool, true, false, cond, List, Contains, Some, None, is_some, true≢false, filter_map, refl, sym, ap, subst, ◌∙◌}
+use Rattle.std.proofs.Common.{◌≡◌, inl, inr, Bool, true, false, cond, List, Contains, Some, None, is_some, true≢false, refl, sym, ap, subst, ◌∙◌}
 use Rattle.std.specs.List.{fold}
-use Rattle.std.specs.FinMap.{entries, get}
+use Rattle.std.specs.FinMap.{get}
 use Rattle.std.proofs.lemmas.List.Elements.{Contains-append_cases}
 use Rattle.kp_lemmas.proofs.Members.{from_all, from_filter_map}
 use Rattle.kp_types.specs.declared.chain.ChainAt.{ChainAt}
@@ -12,8 +12,8 @@ use Rattle.kp_types.specs.declared.rule.Edit.{Edit}
 use Rattle.kp_types.specs.declared.rule.Edit.TheVariants.{Write, Remove}
 use Rattle.kp_types.specs.declared.rule.Rule.{Rule}
 use Rattle.kp_object_defs.specs.PortInfo.{port_infos}
-use Rattle.kp_table_defs.specs.Edits.{chains_after_edit, chains_in, changes_between, is_found_with, remove_if_gone, table_changes, write_if_changed}
-use Rattle.kp_table_defs.specs.Ranks.{is_ranked, is_ranked_chain, rank_of}
+use Rattle.kp_table_defs.specs.Edits.{chains_after_edit, chains_in, changes_between, is_found_with, table_changes, write_if_changed}
+use Rattle.kp_table_defs.specs.Ranks.{is_ranked}
 use Rattle.kp_table_defs.specs.Rebuild.{Chains, full_table}
 use Rattle.kp_restore_defs.specs.BatchText.{is_canonical_batch, BatchTextsDiffer}
 use Rattle.kp_restore_defs.specs.BatchesBetween.{ChangesAreCanonical, HaveSameBuiltIn, ReadChangesLeadOver}
@@ -38,24 +38,20 @@ module _ (before after : Chains) (to : ChainAt) where
   removed_in : (table : TableName) → Contains (table_changes before after table) (Remove to)
       → is_some (get after to) ≡ false
   removed_in table c =
-      elim (Contains-append_cases (filter_map (write_if_changed before) (chains_in table after))
-      (filter_map (remove_if_gone after) (chains_in table before)) (Remove to) c) [
+      elim (Contains-append_cases _ _ _ c) [
         | inl d ↦
             let (r, stands, made) =
             from_filter_map (write_if_changed before) (Remove to) (chains_in table after) d in
             absurd (no_remove r.0 to r.1 (is_found_with r.1 (get before r.0)) made)
         | inr d ↦
-            let (r, stands, made) =
-            from_filter_map (remove_if_gone after) (Remove to) (chains_in table before) d in
+            let (r, stands, made) = from_filter_map _ (Remove to) (chains_in table before) d in
             gone_by after r.0 to (is_some (get after r.0)) refl made
       ]
 
   -- a chain that the changes remove isn't there afterwards
   removed : Contains (changes_between before after) (Remove to) → is_some (get after to) ≡ false
   removed c =
-      elim (Contains-append_cases (table_changes before after Nat)
-      (table_changes before after Filter)
-      (Remove to) c) [
+      elim (Contains-append_cases _ _ _ c) [
         | inl d ↦ removed_in Nat d
         | inr d ↦ removed_in Filter d
       ]
@@ -64,9 +60,8 @@ module _ (before after : Chains) (to : ChainAt) where
 closed_by : (before after : Chains) → is_ranked after ≡ true → (to : ChainAt)
     → Contains (changes_between before after) (Remove to) → NoneJumpsTo after to
 closed_by before after ranked to c at rules r stands in_rules same_table jumps =
-    let goes : jumps_to_declared after at.table r.target ≡ true =
-    declared after at.table (rank_of at) rules
-    (from_all (is_ranked_chain after) (entries after) ranked (at, rules) stands) r in_rules in
+    let goes : jumps_to_declared after at.table r.target ≡ true = declared after at.table _ rules
+    (from_all _ _ ranked _ stands) r in_rules in
     let found : is_some (get after to) ≡ true =
     ap (λ table. is_some (get after (record { table = table; chain = to.chain }))) (sym same_table)
     ∙ sym (ap (jumps_to_declared after at.table) jumps) ∙ goes in

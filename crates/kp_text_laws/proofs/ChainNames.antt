@@ -28,41 +28,31 @@ base32_fits (a ∷ b ∷ c ∷ d ∷ e ∷ rest) =
     test_append is_chain_byte (quantum_text a b c d e) (base32 rest) (quantum_fits a b c d e)
     (base32_fits rest)
 
--- a K, few bytes of names and at most sixteen more are a name
-name_fits : (bytes more : List ℕ) → length bytes ≤ 11 → Fit bytes → length more ≤ 16 → Fit more
-    → is_chain_name (75 ∷ (bytes ++ more)) ≡ true
-name_fits bytes more few h short k =
-    let all : List ℕ = 75 ∷ (bytes ++ more) in
-    let long : length (bytes ++ more) ≡ length bytes + length more = length-append bytes more in
+-- a K, few bytes of names and at most sixteen characters of a hash are a name
+name_fits : (bytes : List ℕ) (n : ℕ) (text : List ℕ) → length bytes ≤ 11 → Fit bytes → n ≤ 16
+    → is_chain_name (75 ∷ (bytes ++ hash_text n text)) ≡ true
+name_fits bytes n text few h at_most =
+    let hash : List ℕ = hash_text n text in
+    let all : List ℕ = 75 ∷ (bytes ++ hash) in
+    let short : length hash ≤ 16 = omega (arith, length-take n (base32 (sha256 text))) in
+    let long : length (bytes ++ hash) ≡ length bytes + length hash = length-append bytes hash in
     let most : nat_le (length all) 28 ≡ true = grind (arith, nat_tests, long, few, short) in
     let least : nat_le 1 (length all) ≡ true = grind (arith, nat_tests) in
-    let fit : list_all is_chain_byte all ≡ true = test_append is_chain_byte bytes more h k in
+    let fit : list_all is_chain_byte all ≡ true = test_append is_chain_byte bytes hash h
+    (test_take is_chain_byte n (base32 (sha256 text)) (base32_fits (sha256 text))) in
     and_from (nat_le 1 (length all) && nat_le (length all) 28 && list_all is_chain_byte all) _
     (and_from (nat_le 1 (length all) && nat_le (length all) 28) (list_all is_chain_byte all)
     (and_from (nat_le 1 (length all)) (nat_le (length all) 28) least most) fit)
-    (no_target (bytes ++ more))
-
-hash_short : (n : ℕ) (text : List ℕ) → n ≤ 16 → length (hash_text n text) ≤ 16
-hash_short n text few = omega (arith, length-take n (base32 (sha256 text)), few)
-
-hash_fits : (n : ℕ) (text : List ℕ) → Fit (hash_text n text)
-hash_fits n text = test_take is_chain_byte n (base32 (sha256 text)) (base32_fits (sha256 text))
+    (no_target (bytes ++ hash))
 
 -- a name of at most sixteen characters of its hash
 pub hashed_names : (n : ℕ) → n ≤ 16 → (k : ChainKey) → is_chain_name (chain_name n k) ≡ true
 hashed_names n few (Port Svc key) =
-    name_fits (codes "UBE-SVC-") (hash_text n (port_text key)) (lit≤ tt) refl
-    (hash_short n (port_text key) few) (hash_fits n (port_text key))
+    name_fits (codes "UBE-SVC-") n (port_text key) (lit≤ tt) refl few
 hashed_names n few (Port Svl key) =
-    name_fits (codes "UBE-SVL-") (hash_text n (port_text key)) (lit≤ tt) refl
-    (hash_short n (port_text key) few) (hash_fits n (port_text key))
+    name_fits (codes "UBE-SVL-") n (port_text key) (lit≤ tt) refl few
 hashed_names n few (Port Ext key) =
-    name_fits (codes "UBE-EXT-") (hash_text n (port_text key)) (lit≤ tt) refl
-    (hash_short n (port_text key) few) (hash_fits n (port_text key))
-hashed_names n few (Port Fw key) =
-    name_fits (codes "UBE-FW-") (hash_text n (port_text key)) (lit≤ tt) refl
-    (hash_short n (port_text key) few) (hash_fits n (port_text key))
+    name_fits (codes "UBE-EXT-") n (port_text key) (lit≤ tt) refl few
+hashed_names n few (Port Fw key) = name_fits (codes "UBE-FW-") n (port_text key) (lit≤ tt) refl few
 hashed_names n few (Sep key e) =
-    name_fits (codes "UBE-SEP-") (hash_text n (port_text key ++ endpoint_text e)) (lit≤ tt) refl
-    (hash_short n (port_text key ++ endpoint_text e) few)
-    (hash_fits n (port_text key ++ endpoint_text e))
+    name_fits (codes "UBE-SEP-") n (port_text key ++ endpoint_text e) (lit≤ tt) refl few

@@ -3,7 +3,6 @@ use Rattle.std.proofs.Common.{◌≡◌, Bool, true, false, cond, List, [], ◌�
 use Rattle.std.specs.List.{fold}
 use Rattle.std.specs.FinMap as finite
 use Rattle.std.specs.FinMap.{get, get-empty, get-insert, get-remove}
-use Rattle.std.specs.Ordering.{eq_by_cmp}
 use Rattle.std.proofs.lemmas.Option.{same_Some}
 use Rattle.kp_lemmas.proofs.Members.{first_in, later_in}
 use Rattle.kp_base.specs.Keys.{key_cmp}
@@ -14,7 +13,7 @@ use Rattle.kp_types.specs.declared.event.Event.TheVariants.{Apply, Delete}
 use Rattle.kp_types.specs.declared.event.Kind.TheVariants as kind
 use Rattle.kp_types.specs.declared.event.Object.TheVariants as object
 use Rattle.kp_object_defs.specs.Objects.{Objects, no_objects, objects_step}
-use Rattle.kp_text_laws.specs.Bounds.{AreBounded, AreBoundedEvents, HoldsOfEach, IsBoundedEvent, IsBoundedService, IsBoundedSlice, IsBoundedPod}
+use Rattle.kp_text_laws.specs.Bounds.{AreBounded, AreBoundedEvents, HoldsOfEach, IsBoundedEvent, IsBoundedPod}
 use Rattle.kp_text_laws.specs.BoundLaws.{ObjectsAreBounded}
 
 module _ {X : Type 0} (P : X → Type 0) where
@@ -31,8 +30,7 @@ module _ {X : Type 0} (P : X → Type 0) where
   of_inserted : (m : finite.FinMap key_cmp X) (k : ObjectKey) (v : X) → P v → HoldsOfEach P m
       → HoldsOfEach P (finite.insert m k v)
   of_inserted m k v of_v h key x e =
-      inserted_by m v of_v h key x (eq_by_cmp key_cmp key k)
-      (sym (get-insert key_total m k v key) ∙ e)
+      inserted_by m v of_v h key x _ (sym (get-insert key_total m k v key) ∙ e)
 
   removed_by : (m : finite.FinMap key_cmp X) → HoldsOfEach P m → (key : ObjectKey) (x : X)
       (b : Bool) → cond b None (get m key) ≡ Some x → P x
@@ -41,26 +39,25 @@ module _ {X : Type 0} (P : X → Type 0) where
 
   of_removed : (m : finite.FinMap key_cmp X) (k : ObjectKey) → HoldsOfEach P m
       → HoldsOfEach P (finite.remove m k)
-  of_removed m k h key x e =
-      removed_by m h key x (eq_by_cmp key_cmp key k) (sym (get-remove key_total m k key) ∙ e)
+  of_removed m k h key x e = removed_by m h key x _ (sym (get-remove key_total m k key) ∙ e)
 
 at_first : AreBounded no_objects
 at_first = record {
-  services = of_none IsBoundedService;
-  slices = of_none IsBoundedSlice;
+  services = of_none _;
+  slices = of_none _;
   pods = of_none IsBoundedPod;
 }
 
 after_event : (o : Objects) (e : Event) → AreBounded o → IsBoundedEvent e
     → AreBounded (objects_step o e)
 after_event o (Apply (object.Service s)) h k = record {
-  services = of_inserted IsBoundedService o.services s.key s k h.services;
+  services = of_inserted _ o.services s.key s k h.services;
   slices = h.slices;
   pods = h.pods;
 }
 after_event o (Apply (object.EndpointSlice s)) h k = record {
   services = h.services;
-  slices = of_inserted IsBoundedSlice o.slices s.key s k h.slices;
+  slices = of_inserted _ o.slices s.key s k h.slices;
   pods = h.pods;
 }
 after_event o (Apply (object.Pod p)) h k = record {
@@ -74,13 +71,13 @@ after_event o (Apply (object.Node n)) h k = record {
   pods = h.pods;
 }
 after_event o (Delete kind.Service key) h k = record {
-  services = of_removed IsBoundedService o.services key h.services;
+  services = of_removed _ o.services key h.services;
   slices = h.slices;
   pods = h.pods;
 }
 after_event o (Delete kind.EndpointSlice key) h k = record {
   services = h.services;
-  slices = of_removed IsBoundedSlice o.slices key h.slices;
+  slices = of_removed _ o.slices key h.slices;
   pods = h.pods;
 }
 after_event o (Delete kind.Pod key) h k = record {
@@ -98,8 +95,7 @@ after_from : (events : List Event) (o : Objects) → AreBounded o → AreBounded
     → AreBounded (fold objects_step o events)
 after_from [] o h k = h
 after_from (e ∷ es) o h k =
-    after_from es (objects_step o e) (after_event o e h (k e (first_in e es)))
-    (λ f c. k f (later_in f e es c))
+    after_from es _ (after_event o e h (k e (first_in e es))) (λ f c. k f (later_in f e es c))
 
 pub objects_are_bounded : ObjectsAreBounded
 objects_are_bounded events h = after_from events no_objects at_first h

@@ -3,11 +3,10 @@ use Rattle.std.proofs.Common.{◌≡◌, ℕ, ◌^◌, ◌&&◌, inl, inr, Bool,
 use Rattle.std.specs.List as list
 use Rattle.std.specs.List.{list_all, AllByRecursion, slice_get}
 use Rattle.std.specs.FinMap as finite
-use Rattle.std.specs.FinMap.{entries}
 use Rattle.std.specs.Str.{bytes_eq}
 use Rattle.std.proofs.lemmas.Bool.{and_from, and_parts}
 use Rattle.std.proofs.lemmas.List.Elements.{Contains-append_cases}
-use Rattle.std.proofs.lemmas.Option.{same_Some}
+use Rattle.std.proofs.lemmas.Option.{cond_some, same_Some}
 use Rattle.kp_lemmas.proofs.Entries.{entries_found}
 use Rattle.kp_lemmas.proofs.Members.{none_in, in_cases, all_from, from_all, from_filter, from_filter_map, from_flat_map, from_map, from_reverse}
 use Rattle.kp_lemmas.proofs.Options.{from_option_map, from_and_then}
@@ -36,11 +35,11 @@ use Rattle.kp_types.specs.declared.slice.Slice.{Slice}
 use Rattle.kp_types.specs.declared.slice.SliceEndpoint.{SliceEndpoint}
 use Rattle.kp_types.specs.declared.slice.SlicePort.{SlicePort}
 use Rattle.kp_types.specs.declared.slice.Wanted.{Wanted}
-use Rattle.kp_object_defs.specs.Desired.{is_external_name, is_reconciled, address_in, desired_endpoints_of, desired_of, entry_of, resolved_port, resolved_ports, selects, target_number, with_ports}
-use Rattle.kp_object_defs.specs.Entries.{candidate_at, candidate_of, candidates_from, entries_from, is_of_service, is_type_of, number_at, number_if, slice_candidates, slices_of, sources_of, unmanaged, wanted_candidate}
+use Rattle.kp_object_defs.specs.Desired.{is_reconciled, address_in, desired_endpoints_of, entry_of, resolved_port, resolved_ports, target_number, with_ports}
+use Rattle.kp_object_defs.specs.Entries.{candidate_at, candidate_of, candidates_from, entries_from, number_at, number_if, slice_candidates, slices_of, sources_of, unmanaged, wanted_candidate}
 use Rattle.kp_object_defs.specs.Objects.{Objects, zone_of}
-use Rattle.kp_object_defs.specs.Order.{by_key, in_order}
-use Rattle.kp_object_defs.specs.PortInfo.{PortInfo, address_at, addresses_in, cluster_address_in, has_balancer, has_node_port, info_from, info_of, is_reachable_in, name_of_port, port_key_of, ports_of, ranges_in, restriction_in, same_range, service_ports}
+use Rattle.kp_object_defs.specs.Order.{in_order}
+use Rattle.kp_object_defs.specs.PortInfo.{PortInfo, address_at, addresses_in, cluster_address_in, has_balancer, info_from, info_of, is_reachable_in, name_of_port, port_key_of, ports_of, ranges_in, restriction_in, same_range, service_ports}
 use Rattle.kp_object_laws.specs.ListLaws.{AreAmong, is_usable, local}
 use Rattle.kp_object_laws.proofs.FirstPlaces.{from_places}
 use Rattle.kp_object_laws.proofs.Lists.{among_usable}
@@ -65,9 +64,9 @@ of_each P (y ∷ ys) all x c =
 of_value : {X : Type 0} (P : X → Type 0) (m : finite.FinMap key_cmp X) → HoldsOfEach P m → (x : X)
     → Contains (finite.values m) x → P x
 of_value {X} P m h x c =
-    let (e, stands, is) = from_map (λ (f : ObjectKey × X). f.1) x (entries m) c in
+    let (e, stands, is) = from_map (λ (f : ObjectKey × X). f.1) x _ c in
     let found : finite.get m e.0 ≡ Some e.1 =
-    of_each (λ (f : ObjectKey × X). finite.get m f.0 ≡ Some f.1) (entries m)
+    of_each (λ (f : ObjectKey × X). finite.get m f.0 ≡ Some f.1) _
     (entries_found key_total m) e stands in
     subst P is (h e.0 e.1 found)
 
@@ -107,7 +106,7 @@ module _ (family : Family) where
   of_family : (a : AddressParts) → is_bounded_address a ≡ true → same_family a.family family ≡ true
       → is_canonical_address family a ≡ true
   of_family a h same =
-      and_from (same_family a.family family) (nat_lt a.number (2 ^ width family)) same
+      and_from _ _ same
       (subst (λ f. nat_lt a.number (2 ^ width f) ≡ true) (same_family_exact a.family family same)
       (and_parts _ _ h).1)
 
@@ -116,17 +115,12 @@ module _ (family : Family) where
   range_of_family r h same =
       subst (λ f. is_canonical_range f r ≡ true) (same_family_exact r.base.family family same) h
 
-  found_in_by : (a b : AddressParts) (same : Bool) → is_bounded_address a ≡ true
-      → same_family a.family family ≡ same → cond same (Some a) None ≡ Some b
-      → is_canonical_address family b ≡ true
-  found_in_by a b true h is e =
-      subst (λ c. is_canonical_address family c ≡ true) (same_Some a b e) (of_family a h is)
-  found_in_by a b false h is e = absurd (cc)
-
   -- an address that is taken for the family
   found_in : (a b : AddressParts) → is_bounded_address a ≡ true → address_in family a ≡ Some b
       → is_canonical_address family b ≡ true
-  found_in a b h e = found_in_by a b (same_family a.family family) h refl e
+  found_in a b h e =
+      let (same, is) = cond_some _ a b e in
+      subst (λ c. is_canonical_address family c ≡ true) is (of_family a h same)
 
   at_fits : (field : ClusterAddress) (b : AddressParts) → is_bounded_cluster_address field ≡ true
       → address_at family field ≡ Some b → is_canonical_address family b ≡ true
@@ -143,20 +137,18 @@ module _ (family : Family) where
   addresses_fit : (addresses : List AddressParts) → list_all is_bounded_address addresses ≡ true
       → list_all (is_canonical_address family) (addresses_in family addresses) ≡ true
   addresses_fit addresses h =
-      all_from (is_canonical_address family) (addresses_in family addresses) (λ a c.
+      all_from _ _ (λ a c.
       let passes : AddressParts → Bool = λ b. same_family b.family family in
-      let (stands, same) = from_filter passes a addresses
-      (from_places same_address a (filter passes addresses) c) in
-      of_family a (from_all is_bounded_address addresses h a stands) same)
+      let (stands, same) = from_filter passes a addresses (from_places same_address a _ c) in
+      of_family a (from_all _ addresses h a stands) same)
 
   ranges_fit : (ranges : List RangeParts) → list_all is_bounded_range ranges ≡ true
       → list_all (is_canonical_range family) (ranges_in family ranges) ≡ true
   ranges_fit ranges h =
-      all_from (is_canonical_range family) (ranges_in family ranges) (λ r c.
+      all_from _ _ (λ r c.
       let passes : RangeParts → Bool = λ q. same_family q.base.family family in
-      let (stands, same) = from_filter passes r ranges
-      (from_places same_range r (filter passes ranges) c) in
-      range_of_family r (from_all is_bounded_range ranges h r stands) same)
+      let (stands, same) = from_filter passes r ranges (from_places same_range r _ c) in
+      range_of_family r (from_all _ ranges h r stands) same)
 
   restriction_fits : (ranges : Option (List RangeParts))
       → passes_if_some (list_all is_bounded_range) ranges ≡ true
@@ -177,16 +169,14 @@ module _ (family : Family) where
       let (n, has, at) = from_and_then
       (λ n. option_map (candidate_at node e n) (option_and_then (address_in family) e.address))
       number c made in
-      let (b, taken, is) = from_option_map (candidate_at node e n)
-      (option_and_then (address_in family) e.address) c at in
-      let (a, given, found) = from_and_then (address_in family) e.address b taken in
-      subst Fits is (and_from (is_canonical_address family b) (is_port_number n)
-      (found_in a b (some_passes is_bounded_address e.address a k given) found)
-      (some_passes is_port_number number n h has))
+      let (b, taken, is) = from_option_map _ _ c at in
+      let (a, given, found) = from_and_then _ e.address b taken in
+      subst Fits is (and_from _ _ (found_in a b (some_passes _ e.address a k given) found)
+      (some_passes _ number n h has))
 
   number_by : (name : List ℕ) (proto : Proto) (p : SlicePort) (n : ℕ) (b : Bool)
       → is_bounded_slice_port p ≡ true → cond b p.port None ≡ Some n → is_port_number n ≡ true
-  number_by name proto p n true h e = some_passes is_port_number p.port n h e
+  number_by name proto p n true h e = some_passes _ p.port n h e
   number_by name proto p n false h e = absurd (cc)
 
   number_fits : (name : List ℕ) (proto : Proto) (ports : List SlicePort)
@@ -194,20 +184,18 @@ module _ (family : Family) where
       → passes_if_some is_port_number (number_at name proto ports) ≡ true
   number_fits name proto ports h =
       first_passes is_port_number (filter_map (number_if name proto) ports)
-      (all_from is_port_number (filter_map (number_if name proto) ports) (λ n c.
+      (all_from _ (filter_map (number_if name proto) ports) (λ n c.
       let (p, stands, is) = from_filter_map (number_if name proto) n ports c in
       number_by name proto p n (bytes_eq p.name name && same_proto p.proto proto)
-      (from_all is_bounded_slice_port ports h p stands) is))
+      (from_all _ ports h p stands) is))
 
   slice_fits : (node : List ℕ) (port : PortKey) (s : Slice) → IsBoundedSlice s → (c : Candidate)
       → Contains (slice_candidates family node port s) c → Fits c
   slice_fits node port s bounded c d =
       let number : Option ℕ = number_at port.port_name port.proto s.ports in
-      let (e, stands, made) = from_filter_map (candidate_of family node number) c s.endpoints
-      (from_cond (is_type_of family s.family)
-      (filter_map (candidate_of family node number) s.endpoints) c d) in
-      candidate_fits node number e c (number_fits port.port_name port.proto s.ports bounded.ports)
-      (from_all is_bounded_entry s.endpoints bounded.endpoints e stands) made
+      let (e, stands, made) = from_filter_map _ c s.endpoints (from_cond _ _ c d) in
+      candidate_fits node number e c (number_fits _ port.proto s.ports bounded.ports)
+      (from_all _ s.endpoints bounded.endpoints e stands) made
 
   -- a wanted endpoint whose numbers are within their bounds
   pub record IsBoundedWanted (w : Wanted) : Type 0 where
@@ -217,8 +205,8 @@ module _ (family : Family) where
   wanted_fits : (node : List ℕ) (port : PortKey) (w : Wanted) → IsBoundedWanted w → (c : Candidate)
       → wanted_candidate family node port w ≡ Some c → Fits c
   wanted_fits node port w bounded c made =
-      candidate_fits node (number_at port.port_name port.proto w.ports) w.entry c
-      (number_fits port.port_name port.proto w.ports bounded.ports) bounded.entry made
+      candidate_fits node _ w.entry c
+      (number_fits _ port.proto w.ports bounded.ports) bounded.entry made
 
   entries_fit : (node : List ℕ) (sources : ServiceSources) (port : PortKey)
       → ((w : Wanted) → Contains sources.wanted w → IsBoundedWanted w)
@@ -259,8 +247,7 @@ module _ (family : Family) where
       → is_port_number n ≡ true
   named_fits proto name ports n h e =
       let test : ContainerPort → Bool = λ c. bytes_eq c.name name && same_proto c.proto proto in
-      let (c, found, is) = from_option_map (λ (x : ContainerPort). x.port)
-      (list.find test ports) n e in
+      let (c, found, is) = from_option_map (λ (x : ContainerPort). x.port) _ n e in
       ap is_port_number (sym is) ∙ found_fits test ports c h found
     where
       found_by : (test : ContainerPort → Bool) (p c : ContainerPort) (ps : List ContainerPort)
@@ -278,7 +265,7 @@ module _ (family : Family) where
       found_fits test (p ∷ ps) c h e =
           let parts = and_parts (is_bounded_container_port p)
           (list_all is_bounded_container_port ps) h in
-          found_by test p c ps parts.0 (found_fits test ps c parts.1) (test p) e
+          found_by test p c ps parts.0 (found_fits test ps c parts.1) _ e
 
   target_fits : (pod : Pod) (proto : Proto) (t : TargetPort) (n : ℕ) → IsBoundedPod pod
       → is_bounded_target t ≡ true → target_number pod proto t ≡ Some n → is_port_number n ≡ true
@@ -289,14 +276,12 @@ module _ (family : Family) where
   resolved_fit : (s : Service) (pod : Pod) → IsBoundedService s → IsBoundedPod pod
       → list_all is_bounded_slice_port (resolved_ports s pod) ≡ true
   resolved_fit s pod bounded of_pod =
-      all_from is_bounded_slice_port (resolved_ports s pod) (λ q c.
+      all_from _ (resolved_ports s pod) (λ q c.
       let (p, stands, made) = from_filter_map (resolved_port pod) q s.ports c in
       let (n, found, is) = from_option_map
-      (λ n. record { name = p.name; proto = p.proto; port = Some n })
-      (target_number pod p.proto p.target)
-      q made in
+      (λ n. record { name = p.name; proto = p.proto; port = Some n }) _ q made in
       let numbers = and_parts (is_port_number p.port) _
-      (from_all is_bounded_port s.ports bounded.ports p stands) in
+      (from_all _ s.ports bounded.ports p stands) in
       let target = and_parts (is_bounded_target p.target) _ numbers.1 in
       subst (λ (x : SlicePort). is_bounded_slice_port x ≡ true) is
       (target_fits pod p.proto p.target n of_pod target.0 found))
@@ -316,26 +301,18 @@ module _ (family : Family) where
   desired_by s pod place w true bounded of_pod e = absurd (cc)
   desired_by s pod place w false bounded of_pod e =
       let (b, taken, made) = from_and_then
-      (λ a. with_ports pod (entry_of s pod place a) (resolved_ports s pod))
-      (option_and_then (address_in family) pod.address) w e in
-      let (a, given, found) = from_and_then (address_in family) pod.address b taken in
-      given_ports pod (entry_of s pod place b) (resolved_ports s pod) w
-      (resolved_fit s pod bounded of_pod)
-      (taken_by a b (some_passes is_bounded_address pod.address a of_pod.address given)
-      (same_family a.family family) found) made
-    where
-      taken_by : (a b : AddressParts) → is_bounded_address a ≡ true → (same : Bool)
-          → cond same (Some a) None ≡ Some b → is_bounded_address b ≡ true
-      taken_by a b h true e = ap is_bounded_address (sym (same_Some a b e)) ∙ h
-      taken_by a b h false e = absurd (cc)
+      (λ a. with_ports pod (entry_of s pod place a) (resolved_ports s pod)) _ w e in
+      let (a, given, found) = from_and_then _ pod.address b taken in
+      given_ports pod _ _ w (resolved_fit s pod bounded of_pod)
+      (ap is_bounded_address (sym (cond_some _ a b found).1)
+      ∙ some_passes _ pod.address a of_pod.address given) made
 
   desired_fit : (o : Objects) (s : Service) → AreBounded o → IsBoundedService s → (w : Wanted)
       → Contains (desired_endpoints_of family o s) w → IsBoundedWanted w
   desired_fit o s objects bounded w c =
-      let (pod, passed, made) = from_filter_map (desired_of family (zone_of o) s) w
-      (filter (selects s) (finite.values o.pods)) c in
-      let stands = (from_filter (selects s) pod (finite.values o.pods) passed).0 in
-      desired_by s pod (option_and_then (zone_of o) pod.node) w pod.finished bounded
+      let (pod, passed, made) = from_filter_map _ w _ c in
+      let stands = (from_filter _ pod _ passed).0 in
+      desired_by s pod _ w pod.finished bounded
       (of_value IsBoundedPod o.pods objects.pods pod stands) made
 
   -- ---- What endpoints are taken from
@@ -354,21 +331,15 @@ module _ (family : Family) where
       → IsBoundedService s → AreBoundedSources (sources_of family config o s)
   sources_fit config o s objects bounded =
       let of_slice : (t : Slice) → Contains (slices_of o s.key) t → IsBoundedSlice t = λ t c.
-      of_value IsBoundedSlice o.slices objects.slices t
-      (from_filter (is_of_service s.key) t (finite.values o.slices) c).0 in
-      sources_by (is_reconciled config s)
-      (record {
+      of_value _ o.slices objects.slices t (from_filter _ t _ c).0 in
+      sources_by (is_reconciled config s) (record {
         service = s;
         wanted = desired_endpoints_of family o s;
         slices = unmanaged (slices_of o s.key);
-      })
-      (record { service = s; wanted = []; slices = slices_of o s.key })
-      (record {
+      }) (record { service = s; wanted = []; slices = slices_of o s.key }) (record {
         wanted = desired_fit o s objects bounded;
-        slices = λ t c. of_slice t (from_filter (λ (x : Slice). not x.managed) t
-            (slices_of o s.key) c).0;
-      })
-      (record { wanted = λ w c. absurd (none_in w c); slices = of_slice })
+        slices = λ t c. of_slice t (from_filter (λ (x : Slice). not x.managed) t _ c).0;
+      }) (record { wanted = λ w c. absurd (none_in w c); slices = of_slice })
 
   -- ---- Ports
 
@@ -376,8 +347,8 @@ module _ (family : Family) where
       → ((c : Candidate) → Contains cs c → Fits c) → AreAmong (filter p cs) es
       → list_all (is_canonical_endpoint family) es ≡ true
   list_fits cs p es fit among =
-      all_from (is_canonical_endpoint family) es (λ e d.
-      let (c, stands, is) = from_map (λ (x : Candidate). x.endpoint) e (filter p cs) (among e d) in
+      all_from _ es (λ e d.
+      let (c, stands, is) = from_map (λ (x : Candidate). x.endpoint) e _ (among e d) in
       ap (is_canonical_endpoint family) (sym is) ∙ fit c (from_filter p c cs stands).0)
 
   info_fits : (s : Service) (p : ServicePort) (zone : Option (List ℕ)) (cs : List Candidate)
@@ -391,15 +362,15 @@ module _ (family : Family) where
       let here : (c : Candidate) → Contains (local cs) c → Fits c = λ c d.
       fit c (from_filter (λ (x : Candidate). x.local) c cs d).0 in record {
         number = parts.0;
-        address = unless_name (is_external_name s.kind) s.cluster address bounded.cluster found;
+        address = unless_name _ s.cluster address bounded.cluster found;
         external = addresses_fit s.external bounded.external;
         balancer = all_cond (is_canonical_address family) (has_balancer s.kind)
             (addresses_in family s.balancer) (addresses_fit s.balancer bounded.balancer);
-        node_port = passes_cond is_port_number (has_node_port s.kind) p.node_port node_port;
+        node_port = passes_cond _ _ p.node_port node_port;
         ranges = restriction_fits s.ranges bounded.ranges;
         affinity = bounded.affinity;
         cluster = list_fits cs is_usable _ fit among.0;
-        local = list_fits (local cs) is_usable _ here among.1;
+        local = list_fits _ is_usable _ here among.1;
       }
 
   source_fits : (config : FamilyConfig) (o : Objects) (zone : Option (List ℕ)) (i : PortInfo)
@@ -410,18 +381,14 @@ module _ (family : Family) where
   source_fits config o zone i objects from s p stands is in_ports made =
       let same : from.service ≡ s =
       ap (λ (t : ServiceSources). t.service) (sym is) ∙ sources_service family config o s in
-      let of_s : IsBoundedService s =
-      of_value IsBoundedService o.services objects.services s stands in
+      let of_s : IsBoundedService s = of_value _ o.services objects.services s stands in
       let bounded : IsBoundedService from.service = subst IsBoundedService (sym same) of_s in
       let sources : AreBoundedSources from =
       subst AreBoundedSources is (sources_fit config o s objects of_s) in
       let cs : List Candidate = entries_from family config.node from (port_key_of from.service p) in
-      let (address, found, of_i) = from_option_map (info_from family from.service p zone cs)
-      (cluster_address_in family from.service) i made in
-      subst (IsBoundedInfo family) of_i
-      (info_fits from.service p zone cs address bounded
-      (from_all is_bounded_port from.service.ports bounded.ports p in_ports)
-      (entries_fit config.node from
+      let (address, found, of_i) = from_option_map _ _ i made in
+      subst (IsBoundedInfo family) of_i (info_fits from.service p zone cs address bounded
+      (from_all _ _ bounded.ports p in_ports) (entries_fit config.node from
       (port_key_of from.service p) sources.wanted sources.slices) found)
 
 -- a port of a Service stands among the ports of its sources
@@ -431,11 +398,10 @@ from_service_ports services sp c =
     let all : List (ServiceSources × ServicePort) = flat_map ports_of services in
     let named : ServiceSources × ServicePort → PortKey × (ServiceSources × ServicePort) = λ x.
     (name_of_port x, x) in
-    let (e, in_entries, is) = from_map
-    (λ (f : PortKey × (ServiceSources × ServicePort)). f.1) sp
-    (by_key port_key_cmp name_of_port all) c in
-    let (x, in_all, made) = from_map named e all (from_reverse e (map named all)
-    (from_in_order port_key_cmp port_key_exact (reverse (map named all)) e in_entries)) in
+    let (e, in_entries, is) = from_map (λ (f : PortKey × (ServiceSources × ServicePort)). f.1) sp
+    _ c in
+    let (x, in_all, made) = from_map named e all (from_reverse e _
+    (from_in_order port_key_cmp port_key_exact _ e in_entries)) in
     subst (Contains all) (ap (λ (f : PortKey × (ServiceSources × ServicePort)). f.1) made
     ∙ is) in_all
 
@@ -444,12 +410,10 @@ ports_are_bounded family config o i objects c =
     let zone : Option (List ℕ) = zone_of o config.node in
     let services : List ServiceSources =
     map (sources_of family config o) (finite.values o.services) in
-    let (sp, in_ports, made) =
-    from_filter_map (info_of family config.node zone) i (service_ports services) c in
+    let (sp, in_ports, made) = from_filter_map _ i _ c in
     let (from, in_sources, in_its) =
     from_flat_map ports_of sp services (from_service_ports services sp in_ports) in
-    let (s, stands, is) = from_map (sources_of family config o) from
-    (finite.values o.services) in_sources in
-    let (p, of_service, same) = from_map (λ q. (from, q)) sp from.service.ports in_its in
+    let (s, stands, is) = from_map _ from _ in_sources in
+    let (p, of_service, same) = from_map (λ q. (from, q)) sp _ in_its in
     source_fits family config o zone i objects from s p stands is of_service
     (ap (info_of family config.node zone) same ∙ made)

@@ -1,5 +1,5 @@
 -- The addresses and ranges that texts write are within their bounds.
-use Rattle.std.proofs.Common.{◌≡◌, ℕ, ◌+◌, ◌-◌, ◌*◌, ◌%◌, ◌^◌, ◌==◌, ◌&&◌, ◌≤◌, Bool, true, false, cond, nat_le, nat_lt, List, [], ◌∷◌, map, Option, Some, None, option_map, Ok, ok_or, filter_map, refl, sym, ap, subst, ◌∙◌, arith}
+use Rattle.std.proofs.Common.{◌≡◌, ℕ, ◌+◌, ◌-◌, ◌*◌, ◌%◌, ◌^◌, ◌==◌, ◌&&◌, ◌≤◌, Bool, true, false, cond, nat_le, nat_lt, List, [], ◌∷◌, Option, Some, None, option_map, Ok, ok_or, filter_map, refl, sym, ap, subst, ◌∙◌, arith}
 use Rattle.std.specs.List.{list_all, slice_split}
 use Rattle.std.proofs.Math.Nat.{sub-le}
 use Rattle.std.proofs.lemmas.Bool.{and_from, and_parts}
@@ -10,9 +10,8 @@ use Rattle.kp_lemmas.proofs.Numbers.{cleared}
 use Rattle.kp_lemmas.proofs.Options.{from_and_then, from_option_map}
 use Rattle.kp_json.specs.Places.{Place}
 use Rattle.kp_base.specs.Dotted.{address_of, decimal_up_to, digits_number, four_numbers, is_decimal, range_from, range_of, range_of_parts, split_once}
-use Rattle.kp_base.specs.Net.{AddressParts, RangeParts, range_size, v4_address}
-use Rattle.kp_base.specs.declared.address.Family.TheVariants.{V4}
-use Rattle.kp_row_defs.specs.Fields.{address_at, address_in, address_of_text, found, is_other_family, range_at, range_of_text, text_in, text_of, unless_other}
+use Rattle.kp_base.specs.Net.{AddressParts, RangeParts, v4_address}
+use Rattle.kp_row_defs.specs.Fields.{address_at, address_in, address_of_text, found, range_at, range_of_text, text_in, text_of, unless_other}
 use Rattle.kp_text_laws.specs.Bounds.{is_bounded_address, is_bounded_range, passes_if_some}
 use Rattle.kp_text_laws.proofs.PortBounds.{some_passes}
 
@@ -37,8 +36,7 @@ decimal_by most text false is = refl
 
 decimal_fits : (most : ℕ) (text : List ℕ)
     → passes_if_some (is_up_to most) (decimal_up_to most text) ≡ true
-decimal_fits most text =
-    decimal_by most text (is_decimal text && nat_le (digits_number 0 text) most) refl
+decimal_fits most text = decimal_by most text _ refl
 
 four_small : (a b c d : ℕ) → nat_le a 255 ≡ true → nat_le b 255 ≡ true → nat_le c 255 ≡ true
     → nat_le d 255 ≡ true → nat_lt (((a * 256 + b) * 256 + c) * 256 + d) 4294967296 ≡ true
@@ -59,8 +57,7 @@ four_fit numbers h x e = absurd (cc)
 
 address_fits : (text : List ℕ) (x : AddressParts) → address_of text ≡ Some x → IsV4 x
 address_fits text x e =
-    four_fit (map (decimal_up_to 255) (slice_split (λ b. b == 46) text))
-    (all_map (passes_if_some (is_up_to 255)) (decimal_up_to 255)
+    four_fit _ (all_map (passes_if_some (is_up_to 255)) (decimal_up_to 255)
     (slice_split (λ b. b == 46) text) (λ part c. decimal_fits 255 part)) x e
 
 v4_bounded : (a : AddressParts) → IsV4 a → is_bounded_address a ≡ true
@@ -73,25 +70,22 @@ range_by : (n s bits : ℕ) → nat_lt n 4294967296 ≡ true → nat_le bits 32 
 range_by n s bits h k =
     let less : n - n % s ≤ n = sub-le n (n % s) in
     let small : nat_lt (n - n % s) 4294967296 ≡ true = grind (arith, nat_tests, h, less) in
-    and_from (nat_lt (n - n % s) 4294967296) _ small
-    (and_from (nat_le bits 32) ((n - n % s) % s == 0) k (ap (λ m. m == 0) (cleared n s)))
+    and_from _ _ small (and_from _ _ k (ap (λ m. m == 0) (cleared n s)))
 
 from_fits : (a : AddressParts) (bits : ℕ) → IsV4 a → nat_le bits 32 ≡ true
     → is_bounded_range (range_from a bits) ≡ true
 from_fits a bits v h =
-    ap (λ b. is_bounded_range (range_from b bits)) v.is
-    ∙ range_by v.number (range_size V4 bits) bits v.small h
+    ap (λ b. is_bounded_range (range_from b bits)) v.is ∙ range_by v.number _ bits v.small h
 
 range_fits : (text : List ℕ) (r : RangeParts) → range_of text ≡ Some r → is_bounded_range r ≡ true
 range_fits text r e =
     let (parts, split, read) = from_and_then
     (λ (q : List ℕ × List ℕ). range_of_parts q.0 q.1) (split_once 47 text) r e in
     let (a, of_a, made) = from_and_then
-    (λ a. option_map (range_from a) (decimal_up_to 32 parts.1)) (address_of parts.0) r read in
-    let (bits, of_bits, is) = from_option_map (range_from a) (decimal_up_to 32 parts.1) r made in
-    subst (λ q. is_bounded_range q ≡ true) is
-    (from_fits a bits (address_fits parts.0 a of_a)
-    (some_passes (is_up_to 32) (decimal_up_to 32 parts.1) bits (decimal_fits 32 parts.1) of_bits))
+    (λ a. option_map (range_from a) (decimal_up_to 32 parts.1)) _ r read in
+    let (bits, of_bits, is) = from_option_map _ _ r made in
+    subst (λ q. is_bounded_range q ≡ true) is (from_fits a bits (address_fits parts.0 a of_a)
+    (some_passes _ _ bits (decimal_fits 32 parts.1) of_bits))
 
 -- ---- Texts
 
@@ -105,7 +99,7 @@ module _ {A : Type 0} (read : List ℕ → Option A) where
   -- what a text writes is read of it
   from_text : (text : List ℕ) (x : A) → found (unless_other (tt {0}) read text) ≡ Some x
       → read text ≡ Some x
-  from_text text x h = text_by text x (is_other_family text) (read text) h
+  from_text text x h = text_by text x _ _ h
 
 pub text_address : (text : List ℕ) (x : AddressParts) → address_of_text text ≡ Some x
     → is_bounded_address x ≡ true
@@ -132,7 +126,7 @@ place_address p x h =
 pub place_addresses : (places : List Place)
     → list_all is_bounded_address (filter_map address_at places) ≡ true
 place_addresses places =
-    all_from is_bounded_address (filter_map address_at places) (λ x c.
+    all_from _ _ (λ x c.
     let (p, stands, is) = from_filter_map address_at x places c in place_address p x is)
 
 pub member_address : (name : List ℕ) (p : Place) (x : AddressParts) → address_in name p ≡ Some x
@@ -144,7 +138,7 @@ member_address name p x h =
 pub place_ranges : (places : List Place)
     → list_all is_bounded_range (filter_map range_at places) ≡ true
 place_ranges places =
-    all_from is_bounded_range (filter_map range_at places) (λ r c.
+    all_from _ _ (λ r c.
     let (p, stands, is) = from_filter_map range_at r places c in
     let (text, of_text, read) = from_and_then range_of_text (text_of p) r is in
     text_range text r read)

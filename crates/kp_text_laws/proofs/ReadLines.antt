@@ -1,35 +1,29 @@
 -- What lines are read as, and where a replay stands, is within its bounds.
-use Rattle.std.proofs.Common.{◌≡◌, ℕ, suc, Bool, true, false, cond, List, [], ◌∷◌, ◌++◌, Option, Some, None, option_and_then, Result, Ok, Err, codes, inl, inr, refl, ap, subst}
+use Rattle.std.proofs.Common.{◌≡◌, ℕ, Bool, true, false, cond, List, [], ◌∷◌, ◌++◌, Option, Some, None, option_and_then, Result, Ok, Err, codes, inl, inr, refl, ap, subst}
 use Rattle.std.specs.List.{fold}
 use Rattle.std.proofs.lemmas.List.Elements.{Contains-append_cases}
-use Rattle.serde_json.specs.Find.{as_object}
 use Rattle.kp_lemmas.proofs.Members.{none_in}
 use Rattle.kp_lemmas.proofs.Options.{from_and_then}
 use Rattle.kp_json.specs.Places.{Place, member_at, needed_at, text_at}
 use Rattle.kp_json.specs.declared.fault.BadField.{BadField}
 use Rattle.kp_types.specs.declared.chain.Clash.{Clash}
 use Rattle.kp_types.specs.declared.event.Event.{Event}
-use Rattle.kp_object_defs.specs.Objects.{objects_after}
-use Rattle.kp_table_defs.specs.Rebuild.{clash_of}
 use Rattle.kp_event_defs.specs.EventText.{Refused, read_events}
 use Rattle.kp_row_defs.specs.Fields.{range_of_text, text_in}
-use Rattle.kp_row_defs.specs.Rows.{rows_fault}
-use Rattle.kp_text_defs.specs.ConfigText.{config_from, config_rows, read_config}
 use Rattle.kp_text_defs.specs.JsonText.{json_of}
-use Rattle.kp_text_defs.specs.PacketText.{read_packet}
-use Rattle.kp_text_defs.specs.ScriptLines.{Command, as_op, command_of, config, config_op, event, explain, line_of, of_events, of_members, op_at, op_named, op_of, or_refusal, packet, read_script, read_shown, read_stream, show, sync, with_stream, ◌>>=◌}
+use Rattle.kp_text_defs.specs.ScriptLines.{Command, as_op, command_of, config, config_op, event, explain, of_events, of_members, op_at, op_named, op_of, or_refusal, packet, read_script, read_stream, show, sync, with_stream, ◌>>=◌}
 use Rattle.kp_text_defs.specs.declared.line_refusal.LineRefusal.{LineRefusal}
-use Rattle.kp_text_defs.specs.declared.line_refusal.LineRefusal.TheVariants.{BadJson, NotEvent, TooLongLine}
+use Rattle.kp_text_defs.specs.declared.line_refusal.LineRefusal.TheVariants.{BadJson, TooLongLine}
 use Rattle.kp_text_defs.specs.declared.script.Op.{Op}
 use Rattle.kp_text_defs.specs.declared.script.Op.TheVariants as op
 use Rattle.kp_text_defs.specs.declared.script.ScriptLine.{ScriptLine}
 use Rattle.kp_text_defs.specs.declared.stream.Stream.{Stream}
-use Rattle.kp_run_defs.specs.ReplayText.{Progress, Standing, after_line, at_start, events_line, has_room, is_blank, is_too_long, op_line, quiet, read_line, refuse, script_line, setting_in, short_line, sync_line}
-use Rattle.kp_text_laws.specs.Bounds.{AreBoundedEvents, IsBoundedConfig, is_bounded_range}
+use Rattle.kp_run_defs.specs.ReplayText.{Progress, Standing, after_line, at_start, events_line, op_line, quiet, read_line, refuse, script_line, short_line, sync_line}
+use Rattle.kp_text_laws.specs.Bounds.{AreBoundedEvents, IsBoundedConfig}
 use Rattle.kp_text_laws.specs.BoundLaws.{ReadIsBounded}
 use Rattle.kp_text_laws.specs.ShownLaws.{ConfigIsBounded, IsBoundedOp, IsBoundedStanding, LinesAreBounded, ReplaysAreBounded}
 use Rattle.kp_text_laws.proofs.ReadAddresses.{some_from, text_range}
-use Rattle.kp_text_laws.proofs.ReadObjects.{read_by}
+use Rattle.kp_text_laws.proofs.ReadObjects.{by_ok, read_by}
 
 -- ---- Operations
 
@@ -44,9 +38,8 @@ from_members (Ok y) x e = let same : y ≡ x = cc in ap (λ z. Ok z) same
 
 pub config_is_bounded : ConfigIsBounded
 config_is_bounded p c e =
-    let (fine, is) = read_by (rows_fault config_rows p) (config_from p) c e in
-    subst IsBoundedConfig is
-    (some_from is_bounded_range
+    let (fine, is) = read_by _ _ c e in
+    subst IsBoundedConfig is (some_from _
     (option_and_then range_of_text (text_in (codes "clusterCIDR") p)) (λ r found.
     let (text, of_text, read) = from_and_then range_of_text
     (text_in (codes "clusterCIDR") p) r found in
@@ -55,19 +48,17 @@ config_is_bounded p c e =
 made_op : {A : Type 0} (of : A → Op) (r : Result A BadField) (o : Op)
     → ((x : A) → r ≡ Ok x → IsBoundedOp (of x)) → as_op of r ≡ Ok o → IsBoundedOp o
 made_op of r o h e =
-    let (x, of_x, made) = from_then (of_members r) (λ x. Ok (of x)) o e in
-    let same : of x ≡ o = cc in subst IsBoundedOp same (h x (from_members r x of_x))
+    let (x, of_x, made) = from_then _ (λ x. Ok (of x)) o e in
+    by_ok IsBoundedOp made (h x (from_members r x of_x))
 
 module _ (read_is_bounded : ReadIsBounded) where
   events_op : (p : Place) (r : Result (List Event) Refused) (o : Op) → read_events p ≡ r
       → of_events r ≡ Ok o → IsBoundedOp o
   events_op p (Err why) o is e = absurd (cc)
-  events_op p (Ok events) o is e =
-      let same : op.Events events ≡ o = cc in
-      subst IsBoundedOp same (read_is_bounded p events is)
+  events_op p (Ok events) o is e = by_ok IsBoundedOp e (read_is_bounded p events is)
 
   first_op : (first : Bool) (p : Place) (o : Op) → config_op first p ≡ Ok o → IsBoundedOp o
-  first_op true p o e = made_op op.Config (read_config p) o (config_is_bounded p) e
+  first_op true p o e = made_op op.Config _ o (config_is_bounded p) e
   first_op false p o e = absurd (cc)
 
   command_op : (first : Bool) (p : Place) (c : Command) (o : Op) → op_of first p c ≡ Ok o
@@ -76,15 +67,15 @@ module _ (read_is_bounded : ReadIsBounded) where
   command_op first p event o e =
       let (q, of_q, made) = from_then (of_members (needed_at p (codes "event")))
       (λ q. of_events (read_events q)) o e in
-      events_op q (read_events q) o refl made
-  command_op first p sync o e = let same : op.Sync ≡ o = cc in subst IsBoundedOp same tt
-  command_op first p packet o e = made_op op.Packet (read_packet p) o (λ x h. tt) e
-  command_op first p explain o e = made_op op.Explain (read_packet p) o (λ x h. tt) e
-  command_op first p show o e = made_op op.Show (read_shown p) o (λ x h. tt) e
+      events_op q _ o refl made
+  command_op first p sync o e = by_ok IsBoundedOp e tt
+  command_op first p packet o e = made_op op.Packet _ o (λ x h. tt) e
+  command_op first p explain o e = made_op op.Explain _ o (λ x h. tt) e
+  command_op first p show o e = made_op op.Show _ o (λ x h. tt) e
 
   place_op : (first : Bool) (p : Place) (m : Option Place) (o : Op) → op_at first p m ≡ Ok o
       → IsBoundedOp o
-  place_op first p None o e = events_op p (read_events p) o refl e
+  place_op first p None o e = events_op p _ o refl e
   place_op first p (Some q) o e =
       let (name, of_name, next) = from_then (of_members (text_at q)) (op_named first p) o e in
       let (c, of_c, made) = from_then (command_of name) (op_of first p) o next in
@@ -93,21 +84,20 @@ module _ (read_is_bounded : ReadIsBounded) where
   made_line : (stream : Stream) (operation : Op) (line : ScriptLine)
       → with_stream stream operation ≡ Ok line → IsBoundedOp operation → IsBoundedOp line.op
   made_line stream operation line e h =
-      let same : record { by = stream; op = operation } ≡ line = cc in
-      subst (λ (l : ScriptLine). IsBoundedOp l.op) same h
+      by_ok (λ (l : ScriptLine). IsBoundedOp l.op) e h
 
   pub lines_are_bounded : LinesAreBounded
   lines_are_bounded bytes first line e =
       let (d, of_d, read) = from_then (or_refusal BadJson (json_of bytes))
       (λ d. read_script first (record { value = d; path = [] })) line e in
       let p : Place = record { value = d; path = [] } in
-      let (ms, of_ms, next) = from_then (or_refusal NotEvent (as_object p.value))
+      let (ms, of_ms, next) = from_then _
       (λ ms. of_members (read_stream p) >>= λ stream. op_at first p (member_at p (codes "op"))
       >>= λ operation. Ok (record { by = stream; op = operation })) line read in
-      let (stream, of_stream, then) = from_then (of_members (read_stream p))
+      let (stream, of_stream, then) = from_then _
       (λ stream. op_at first p (member_at p (codes "op"))
       >>= λ operation. Ok (record { by = stream; op = operation })) line next in
-      let (operation, of_op, made) = from_then (op_at first p (member_at p (codes "op")))
+      let (operation, of_op, made) = from_then _
       (λ operation. Ok (record { by = stream; op = operation })) line then in
       made_line stream operation line made
       (place_op first p (member_at p (codes "op")) operation of_op)
@@ -134,9 +124,8 @@ module _ (read_is_bounded : ReadIsBounded) where
   op_keeps : (number : ℕ) (o : Op) (s : Standing) → IsBoundedStanding s → IsBoundedOp o
       → IsBoundedStanding (op_line number o s).next
   op_keeps number (op.Config c) s h k = record { config = k; events = h.events }
-  op_keeps number (op.Events events) s h k = events_keep number events (has_room s _) s h k
-  op_keeps number op.Sync s h k =
-      sync_keeps number (clash_of (setting_in s) (objects_after s.events)) s h
+  op_keeps number (op.Events events) s h k = events_keep number events _ s h k
+  op_keeps number op.Sync s h k = sync_keeps number _ s h
   op_keeps number (op.Packet p) s h k = record { config = h.config; events = h.events }
   op_keeps number (op.Explain p) s h k = record { config = h.config; events = h.events }
   op_keeps number (op.Show what) s h k = record { config = h.config; events = h.events }
@@ -152,21 +141,19 @@ module _ (read_is_bounded : ReadIsBounded) where
       → IsBoundedStanding (cond blank (quiet s) (script_line number bytes s)).next
   short_keeps number bytes s true h = h
   short_keeps number bytes s false h =
-      read_keeps number (line_of bytes s.fresh) (record s { fresh = false })
+      read_keeps number _ _
       (record { config = h.config; events = h.events }) (lines_are_bounded bytes s.fresh)
 
   line_keeps : (number : ℕ) (bytes : List ℕ) (s : Standing) (long : Bool) → IsBoundedStanding s
       → IsBoundedStanding (cond long (refuse number TooLongLine (record s { fresh = false }))
       (short_line number bytes s)).next
   line_keeps number bytes s true h = record { config = h.config; events = h.events }
-  line_keeps number bytes s false h = short_keeps number bytes s (is_blank bytes) h
+  line_keeps number bytes s false h = short_keeps number bytes s _ h
 
   replay_from : (lines : List (List ℕ)) (r : Progress) → IsBoundedStanding r.at
       → IsBoundedStanding (fold after_line r lines).at
   replay_from [] r h = h
-  replay_from (bytes ∷ lines) r h =
-      replay_from lines (after_line r bytes)
-      (line_keeps (suc r.number) bytes r.at (is_too_long bytes) h)
+  replay_from (bytes ∷ lines) r h = replay_from lines _ (line_keeps _ bytes r.at _ h)
 
   pub replays_are_bounded : ReplaysAreBounded
   replays_are_bounded lines =

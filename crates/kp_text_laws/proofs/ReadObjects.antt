@@ -22,22 +22,27 @@ use Rattle.kp_types.specs.declared.pod.Pod.{Pod}
 use Rattle.kp_types.specs.declared.service.ClusterAddress.TheVariants.{Headless}
 use Rattle.kp_types.specs.declared.service.Service.{Service}
 use Rattle.kp_types.specs.declared.slice.AddressType.{AddressType}
-use Rattle.kp_types.specs.declared.slice.AddressType.TheVariants.{Ipv4, Ipv6, Fqdn}
+use Rattle.kp_types.specs.declared.slice.AddressType.TheVariants.{Ipv4}
 use Rattle.kp_types.specs.declared.slice.Slice.{Slice}
 use Rattle.kp_restore_defs.specs.RuleText.{is_port_number}
 use Rattle.kp_row_defs.specs.Fields.{address_in, address_of_text, inner, is_text, items_in, text_in, whole_in, whole_of}
-use Rattle.kp_row_defs.specs.Rows.{each, field, form_fault, inside, needed, optional, row_fault, rows_fault, unless_fault, whole, whole_or_text}
-use Rattle.kp_event_defs.specs.EventText.{Action, Refused, acted, apply_at, apply_each, applies, delete_at, deleted_key, deleted_row, deletes, kind_at, kind_text, kinded, list_events, object_as, object_at, object_events, of_field, or_no_event, passes, single, watched, actions, ◌>>=◌}
-use Rattle.kp_event_defs.specs.PodText.{container_port, container_port_rows, container_ports, container_rows, pod_from, pod_rows, pod_spec_row, pod_spec_rows, read_node, read_pod}
-use Rattle.kp_event_defs.specs.ServiceText.{affinity_of, affinity_row, affinity_timeout, at_address, client_rows, cluster_of, ingress_address, not_zero, numbered_target, ranges_of, read_service, service_from, service_port, service_port_rows, service_ports, service_rows, service_spec_rows, service_unless, target_of, timeout_rows}
+use Rattle.kp_row_defs.specs.Rows.{each, field, form_fault, needed, optional, row_fault, rows_fault, unless_fault, whole, whole_or_text}
+use Rattle.kp_event_defs.specs.EventText.{Action, Refused, acted, apply_at, apply_each, applies, delete_at, deleted_key, deleted_row, deletes, kind_text, kinded, list_events, object_as, object_at, object_events, of_field, or_no_event, passes, single, watched, actions, ◌>>=◌}
+use Rattle.kp_event_defs.specs.PodText.{container_port, container_port_rows, container_ports, container_rows, pod_from, pod_rows, pod_spec_row, pod_spec_rows, read_pod}
+use Rattle.kp_event_defs.specs.ServiceText.{affinity_of, affinity_row, affinity_timeout, at_address, client_rows, cluster_of, ingress_address, not_zero, ranges_of, read_service, service_from, service_port, service_port_rows, service_ports, service_rows, service_spec_rows, service_unless, target_of, timeout_rows}
 use Rattle.kp_event_defs.specs.ServiceText as service
 use Rattle.kp_event_defs.specs.SliceText as slice
-use Rattle.kp_event_defs.specs.SliceText.{address_of_type, address_type_in, endpoint_from, first_of_type, read_slice, slice_from, slice_port, slice_port_rows, slice_rows}
+use Rattle.kp_event_defs.specs.SliceText.{address_type_in, endpoint_from, first_of_type, read_slice, slice_from, slice_port, slice_port_rows, slice_rows}
 use Rattle.kp_json.specs.Places as places
 use Rattle.kp_text_laws.specs.Bounds.{AreBoundedEvents, IsBoundedEvent, IsBoundedObject, IsBoundedPod, IsBoundedService, IsBoundedSlice, is_bounded_address, is_bounded_cluster_address, is_bounded_container_port, is_bounded_entry, is_bounded_port, is_bounded_range, is_bounded_slice_port, is_bounded_target, is_timeout, passes_if_some}
 use Rattle.kp_text_laws.specs.BoundLaws.{ReadIsBounded}
 use Rattle.kp_text_laws.proofs.ReadAddresses.{member_address, place_address, place_addresses, place_ranges, some_from, text_address}
 use Rattle.kp_text_laws.proofs.ReadRows.{each_fine, each_port_fine, either_fine, inside_fine, limited_fine, needed_fine, number_fine, optional_fine, port_from, row_fine}
+
+-- what holds of a value that was read holds of what the reading is said to give
+pub by_ok : {A E : Type 0} {x y : A} (P : A → Type 0) → ◌≡◌ {A = Result A E} (Ok x) (Ok y) → P x
+    → P y
+by_ok {x = x} {y = y} P e h = let same : x ≡ y = cc in subst P same h
 
 -- a number that a row bounds
 abbrev IsWithin : ℕ → ℕ → Option ℕ → Type 0
@@ -72,7 +77,7 @@ target_value port (object ms) path h k = h
 target_value port (number n) path h k =
     let p : Place = record { value = number n; path = path } in
     numbered_by port (option_and_then not_zero (whole_of p)) h
-    (not_zero_fits (whole_of p) (λ m is. number_fine p 0 65535 m k is))
+    (not_zero_fits _ (λ m is. number_fine p 0 65535 m k is))
 
 target_fits : (port : ℕ) (m : Option Place) → is_port_number port ≡ true
     → ((q : Place) → m ≡ Some q → form_fault (whole_or_text 0 65535) q ≡ None)
@@ -92,9 +97,7 @@ port_fits q h =
     let n : ℕ = unwrap_or (whole_in (codes "port") q) 0 in
     let is_port : is_port_number n ≡ true =
     port_from n (needed_fine (codes "port") 1 65535 q numbered) in
-    and_from (is_port_number n) _ is_port
-    (and_from (is_bounded_target (service_port q).target) _
-    (target_fits n (member_at q (codes "targetPort")) is_port
+    and_from _ _ is_port (and_from _ _ (target_fits n (member_at q (codes "targetPort")) is_port
     (λ t is. either_fine (codes "targetPort") 0 65535 q t targeted is))
     (not_zero_fits (whole_in (codes "nodePort") q)
     (λ m is. optional_fine (codes "nodePort") 0 65535 m q at_node is)))
@@ -111,15 +114,12 @@ timeout_fits : (spec : Place)
 timeout_fits spec h =
     inside_fine (codes "sessionAffinityConfig") optional client_rows spec
     (λ q. is_timeout (unwrap_or (whole_in (codes "timeoutSeconds")
-    (inner (codes "clientIP") q)) 10800) ≡ true)
-    refl
+    (inner (codes "clientIP") q)) 10800) ≡ true) refl
     (λ q fine. inside_fine (codes "clientIP") optional timeout_rows q
     (λ r. is_timeout (unwrap_or (whole_in (codes "timeoutSeconds") r) 10800) ≡ true) refl
     (λ r of_r. seconds_fit (whole_in (codes "timeoutSeconds") r)
     (λ n is. optional_fine (codes "timeoutSeconds") 1 86400 n r
-    (row_fine 0 timeout_rows r (field (codes "timeoutSeconds") optional
-    (whole 1 86400)) refl of_r) is))
-    (row_fine 0 client_rows q (inside (codes "clientIP") optional timeout_rows) refl fine)) h
+    (row_fine 0 timeout_rows r _ refl of_r) is)) (row_fine 0 client_rows q _ refl fine)) h
 
 affinity_fits : (b : Bool) (n : ℕ) → is_timeout n ≡ true
     → passes_if_some is_timeout (affinity_of b n) ≡ true
@@ -135,11 +135,11 @@ at_fits (Some x) h = h x refl
 cluster_by : (text : List ℕ) (b : Bool)
     → is_bounded_cluster_address (cond b Headless (at_address (address_of_text text))) ≡ true
 cluster_by text true = refl
-cluster_by text false = at_fits (address_of_text text) (λ x is. text_address text x is)
+cluster_by text false = at_fits _ (λ x is. text_address text x is)
 
 cluster_fits : (o : Option (List ℕ)) → is_bounded_cluster_address (cluster_of o) ≡ true
 cluster_fits None = refl
-cluster_fits (Some text) = cluster_by text (bytes_eq text (codes "None"))
+cluster_fits (Some text) = cluster_by text _
 
 ranges_fit : (items : List Place)
     → passes_if_some (list_all is_bounded_range) (ranges_of items) ≡ true
@@ -154,7 +154,7 @@ ingress_by q x false h = member_address (codes "ip") q x h
 ingress_fits : (items : List Place)
     → list_all is_bounded_address (filter_map ingress_address items) ≡ true
 ingress_fits items =
-    all_from is_bounded_address (filter_map ingress_address items) (λ x c.
+    all_from _ (filter_map ingress_address items) (λ x c.
     let (q, stands, is) = from_filter_map ingress_address x items c in
     ingress_by q x (is_text (codes "Proxy") (text_in (codes "ipMode") q)) is)
 
@@ -162,8 +162,7 @@ service_fits : (p : Place) (differ : distinct_ports (service_ports p) ≡ true)
     → rows_fault service_rows p ≡ None → IsBoundedService (service_from p differ)
 service_fits p differ h =
     let spec : Place = inner (codes "spec") p in
-    let specified = row_fine 1 service_rows p
-    (inside (codes "spec") needed service_spec_rows) refl h in
+    let specified = row_fine 1 service_rows p _ refl h in
     let ports : list_all is_bounded_port (map service_port (items_in (codes "ports") spec)) ≡ true =
     inside_fine (codes "spec") needed service_spec_rows p
     (λ q. list_all is_bounded_port (map service_port (items_in (codes "ports") q)) ≡ true) refl
@@ -178,7 +177,7 @@ service_fits p differ h =
       cluster = cluster_fits (text_in (codes "clusterIP") spec);
       ports = ports;
       external = place_addresses (items_in (codes "externalIPs") spec);
-      affinity = affinity_fits _ (affinity_timeout spec) timeout;
+      affinity = affinity_fits _ _ timeout;
       ranges = ranges_fit (items_in (codes "loadBalancerSourceRanges") spec);
       balancer = ingress_fits
           (items_in (codes "ingress") (inner (codes "loadBalancer") (inner (codes "status") p)));
@@ -188,13 +187,11 @@ service_by : (p : Place) (s : Service) (fault : Option BadField) (b : Bool)
     (is : distinct_ports (service_ports p) ≡ b) → rows_fault service_rows p ≡ fault
     → service_unless fault p b is ≡ Ok s → IsBoundedService s
 service_by p s (Some fault) b is h e = absurd (cc)
-service_by p s None true is h e =
-    let same : service_from p is ≡ s = cc in subst IsBoundedService same (service_fits p is h)
+service_by p s None true is h e = by_ok IsBoundedService e (service_fits p is h)
 service_by p s None false is h e = absurd (cc)
 
 service_read : (p : Place) (s : Service) → read_service p ≡ Ok s → IsBoundedService s
-service_read p s e =
-    service_by p s (rows_fault service_rows p) (distinct_ports (service_ports p)) refl refl e
+service_read p s e = service_by p s _ _ refl refl e
 
 -- ---- EndpointSlices and Pods
 
@@ -208,15 +205,14 @@ slice_port_fits : (q : Place) → rows_fault slice_port_rows q ≡ None
 slice_port_fits q h =
     let numbered = row_fine 2 slice_port_rows q
     (field (codes "port") optional (whole 1 65535)) refl h in
-    some_from is_port_number (whole_in (codes "port") q) (λ n is.
+    some_from _ (whole_in (codes "port") q) (λ n is.
     port_from n (optional_fine (codes "port") 1 65535 n q numbered is))
 
 first_fits : (family : AddressType) (items : List Place)
     → passes_if_some is_bounded_address (first_of_type family items) ≡ true
 first_fits family [] = refl
-first_fits Ipv4 (p ∷ ps) = some_from is_bounded_address _ (λ x is. place_address p x is)
-first_fits Ipv6 (p ∷ ps) = refl
-first_fits Fqdn (p ∷ ps) = refl
+first_fits Ipv4 (p ∷ ps) = some_from _ _ (λ x is. place_address p x is)
+first_fits family (p ∷ ps) = refl
 
 slice_fits : (p : Place) → rows_fault (slice_rows (address_type_in p)) p ≡ None
     → IsBoundedSlice (slice_from p)
@@ -231,7 +227,7 @@ slice_fits p h =
 
 slice_read : (p : Place) (s : Slice) → read_slice p ≡ Ok s → IsBoundedSlice s
 slice_read p s e =
-    let (fine, is) = read_by (rows_fault (slice_rows (address_type_in p)) p) (slice_from p) s e in
+    let (fine, is) = read_by _ _ s e in
     subst IsBoundedSlice is (slice_fits p fine)
 
 container_port_fits : (q : Place) → rows_fault container_port_rows q ≡ None
@@ -253,19 +249,18 @@ pod_fits p h =
           (items_in (codes "containers") q) (λ r c.
           let of_container = each_fine (codes "containers") container_rows q
           (row_fine 1 pod_spec_rows q (each (codes "containers") container_rows) refl fine) r c in
-          let of_ports =
-          row_fine 0 container_rows r (each
+          let of_ports = row_fine 0 container_rows r (each
           (codes "ports") container_port_rows) refl of_container in
           all_map is_bounded_container_port container_port (items_in (codes "ports") r) (λ s d.
           container_port_fits s (each_fine (codes "ports") container_port_rows r of_ports s d))))
           specified;
-      address = some_from is_bounded_address (address_in (codes "podIP") status)
+      address = some_from _ (address_in (codes "podIP") status)
           (λ x is. member_address (codes "podIP") status x is);
     }
 
 pod_read : (p : Place) (q : Pod) → read_pod p ≡ Ok q → IsBoundedPod q
 pod_read p q e =
-    let (fine, is) = read_by (rows_fault pod_rows p) (pod_from p) q e in
+    let (fine, is) = read_by _ _ q e in
     subst IsBoundedPod is (pod_fits p fine)
 
 -- ---- Events
@@ -283,36 +278,30 @@ from_object : {A : Type 0} (of : A → Object) (P : A → Type 0) (r : Result A 
     → ((x : A) → P x → IsBoundedObject (of x)) → ((x : A) → r ≡ Ok x → P x)
     → object_as of r ≡ Ok o → IsBoundedObject o
 from_object of P (Err fault) o h k e = absurd (cc)
-from_object of P (Ok x) o h k e =
-    let same : of x ≡ o = cc in subst IsBoundedObject same (h x (k x refl))
+from_object of P (Ok x) o h k e = by_ok IsBoundedObject e (h x (k x refl))
 
 object_read : (k : Kind) (p : Place) (o : Object) → object_at k p ≡ Ok o → IsBoundedObject o
-object_read kind.Service p o e =
-    from_object obj.Service IsBoundedService (read_service p) o (λ x h. h) (service_read p) e
-object_read kind.EndpointSlice p o e =
-    from_object obj.EndpointSlice IsBoundedSlice (read_slice p) o (λ x h. h) (slice_read p) e
-object_read kind.Pod p o e = from_object obj.Pod IsBoundedPod (read_pod p) o (λ x h. h)
-    (pod_read p) e
+object_read kind.Service p o e = from_object obj.Service _ _ o (λ x h. h) (service_read p) e
+object_read kind.EndpointSlice p o e = from_object _ _ _ o (λ x h. h) (slice_read p) e
+object_read kind.Pod p o e = from_object obj.Pod IsBoundedPod _ o (λ x h. h) (pod_read p) e
 object_read kind.Node p o e =
-    from_object obj.Node (λ (n : Node). Unit {0}) (read_node p) o (λ x h. tt) (λ x h. tt) e
+    from_object obj.Node (λ (n : Node). Unit {0}) _ o (λ x h. tt) (λ x h. tt) e
 
 apply_read : (p : Place) (e : Event) → apply_at p ≡ Ok e → IsBoundedEvent e
 apply_read p e h =
-    let (k, of_k, next) = from_then (kind_at p)
-    (λ k. of_field (object_at k p) >>= λ o. Ok (Apply o)) e h in
-    let (o, of_o, made) = from_then (of_field (object_at k p)) (λ o. Ok (Apply o)) e next in
-    let same : Apply o ≡ e = cc in
-    subst IsBoundedEvent same (object_read k p o (from_field (object_at k p) o of_o))
+    let (k, of_k, next) = from_then _ (λ k. of_field (object_at k p) >>= λ o. Ok (Apply o)) e h in
+    let (o, of_o, made) = from_then _ (λ o. Ok (Apply o)) e next in
+    by_ok IsBoundedEvent made (object_read k p o (from_field _ o of_o))
 
 delete_read : (p : Place) (e : Event) → delete_at p ≡ Ok e → IsBoundedEvent e
 delete_read p e h =
-    let (k, of_k, next) = from_then (kind_at p)
+    let (k, of_k, next) = from_then _
     (λ k. of_field (unless_fault (row_fault (deleted_row k) p) (deleted_key k p))
     >>= λ key. Ok (Delete k key)) e h in
     let (key, of_key, made) = from_then
     (of_field (unless_fault (row_fault (deleted_row k) p) (deleted_key k p)))
     (λ key. Ok (Delete k key)) e next in
-    let same : Delete k key ≡ e = cc in subst IsBoundedEvent same tt
+    by_ok IsBoundedEvent made tt
 
 one_event : (e : Event) → IsBoundedEvent e → AreBoundedEvents (e ∷ [])
 one_event e h f c =
@@ -321,26 +310,22 @@ one_event e h f c =
 single_read : (r : Result Event Refused) (es : List Event)
     → ((e : Event) → r ≡ Ok e → IsBoundedEvent e) → (r >>= single) ≡ Ok es → AreBoundedEvents es
 single_read (Err why) es h e = absurd (cc)
-single_read (Ok x) es h e =
-    let same : x ∷ [] ≡ es = cc in subst AreBoundedEvents same (one_event x (h x refl))
+single_read (Ok x) es h e = by_ok AreBoundedEvents e (one_event x (h x refl))
 
 no_events : AreBoundedEvents []
 no_events e c = absurd (none_in e c)
 
 acted_read : (p : Place) (a : Action) (es : List Event) → acted p a ≡ Ok es → AreBoundedEvents es
-acted_read p applies es h = single_read (apply_at p) es (apply_read p) h
-acted_read p deletes es h = single_read (delete_at p) es (delete_read p) h
-acted_read p passes es h = let same : [] ≡ es = cc in subst AreBoundedEvents same no_events
+acted_read p applies es h = single_read _ es (apply_read p) h
+acted_read p deletes es h = single_read _ es (delete_read p) h
+acted_read p passes es h = by_ok AreBoundedEvents h no_events
 
 each_read : (ps : List Place) (es : List Event) → apply_each ps ≡ Ok es → AreBoundedEvents es
-each_read [] es h = let same : [] ≡ es = cc in subst AreBoundedEvents same no_events
+each_read [] es h = by_ok AreBoundedEvents h no_events
 each_read (p ∷ ps) es h =
-    let (e, of_e, next) = from_then (apply_at p)
-    (λ e. apply_each ps >>= λ events. Ok (e ∷ events)) es h in
-    let (rest, of_rest, made) = from_then (apply_each ps) (λ events. Ok (e ∷ events)) es next in
-    let same : e ∷ rest ≡ es = cc in
-    subst AreBoundedEvents same (λ f c.
-    elim (in_cases f e rest c) [
+    let (e, of_e, next) = from_then _ (λ e. apply_each ps >>= λ events. Ok (e ∷ events)) es h in
+    let (rest, of_rest, made) = from_then _ (λ events. Ok (e ∷ events)) es next in
+    by_ok AreBoundedEvents made (λ f c. elim (in_cases f e rest c) [
       | inl is ↦ subst IsBoundedEvent is (apply_read p e of_e)
       | inr d ↦ each_read ps rest of_rest f d
     ])
@@ -356,7 +341,7 @@ list_read p es h =
 kinded_by : (p : Place) (es : List Event) (b : Bool)
     → cond b (list_events p) (apply_at p >>= single) ≡ Ok es → AreBoundedEvents es
 kinded_by p es true h = list_read p es h
-kinded_by p es false h = single_read (apply_at p) es (apply_read p) h
+kinded_by p es false h = single_read _ es (apply_read p) h
 
 kinded_read : (p : Place) (es : List Event) → kinded p ≡ Ok es → AreBoundedEvents es
 kinded_read p es h =

@@ -5,7 +5,6 @@ use Rattle.std.proofs.lemmas.Bool.{and_parts}
 use Rattle.std.proofs.lemmas.Bool.Decides.{nat_tests}
 use Rattle.std.proofs.lemmas.Option.{same_Some}
 use Rattle.serde_json.specs.Data.{Items}
-use Rattle.serde_json.specs.Find.{as_array, as_object}
 use Rattle.kp_lemmas.proofs.Members.{none_in, in_cases}
 use Rattle.kp_json.specs.Answers.{◌>>=◌, fault_at, too_many_at}
 use Rattle.kp_json.specs.Places.{Place, elements_at, elements_of, field_at, member_at, places_of_items, whole_at, within}
@@ -14,7 +13,7 @@ use Rattle.kp_json.specs.declared.fault.Why.TheVariants.{OutOfRange}
 use Rattle.kp_base.specs.declared.port.Proto.{Proto}
 use Rattle.kp_restore_defs.specs.RuleText.{is_port_number}
 use Rattle.kp_row_defs.specs.Fields.{inner, items_in, nowhere, whole_in, whole_of}
-use Rattle.kp_row_defs.specs.Rows.{Form, Presence, Row, Rows, ◌▸◌, absent_fault, done, each, each_port, each_up_to, field, first_in, form_fault, inside, needed, on_member, on_ok, optional, or_then, port_id, ports_fault, row_fault, rows_fault, twin_fault, unless_empty, whole, whole_or_text}
+use Rattle.kp_row_defs.specs.Rows.{Form, Presence, Row, Rows, ◌▸◌, done, each, each_port, each_up_to, field, first_in, form_fault, inside, needed, on_member, on_ok, optional, or_then, port_id, ports_fault, row_fault, rows_fault, twin_fault, unless_empty, whole, whole_or_text}
 
 -- neither of two faults
 pub neither : (a b : Option BadField) → or_then a b ≡ None → (a ≡ None) × (b ≡ None)
@@ -33,10 +32,8 @@ pub row_fine : (i : ℕ) (rows : Rows) (p : Place) (row : Row) → row_at i rows
 row_fine zero done p row is h = absurd (cc)
 row_fine (suc i) done p row is h = absurd (cc)
 row_fine zero (first ▸ rows) p row is h =
-    ap (λ r. row_fault r p) (sym (same_Some first row is))
-    ∙ (neither (row_fault first p) (rows_fault rows p) h).0
-row_fine (suc i) (first ▸ rows) p row is h =
-    row_fine i rows p row is (neither (row_fault first p) (rows_fault rows p) h).1
+    ap (λ r. row_fault r p) (sym (same_Some first row is)) ∙ (neither _ _ h).0
+row_fine (suc i) (first ▸ rows) p row is h = row_fine i rows p row is (neither _ _ h).1
 
 -- ---- Members
 
@@ -53,8 +50,7 @@ member_fine : (p : Place) (name : List ℕ) (absent : Option BadField)
     (faults : Place → Option BadField) (q : Place)
     → on_member (field_at p name) absent faults ≡ None → member_at p name ≡ Some q
     → faults q ≡ None
-member_fine p name absent faults q h is =
-    member_by _ absent faults q (as_object p.value) (member_at p name) h is
+member_fine p name absent faults q h is = member_by _ absent faults q _ _ h is
 
 inner_by : (P : Place → Type 0) (m : Option Place) → P nowhere → ((q : Place) → m ≡ Some q → P q)
     → P (unwrap_or m nowhere)
@@ -66,8 +62,7 @@ pub inside_fine : (name : List ℕ) (presence : Presence) (rows : Rows) (p : Pla
     (P : Place → Type 0) → P nowhere → ((q : Place) → rows_fault rows q ≡ None → P q)
     → row_fault (inside name presence rows) p ≡ None → P (inner name p)
 inside_fine name presence rows p P h k fine =
-    inner_by P (member_at p name) h (λ q is.
-    k q (member_fine p name (absent_fault presence p name) (λ r. rows_fault rows r) q fine is))
+    inner_by P _ h (λ q is. k q (member_fine p name _ (λ r. rows_fault rows r) q fine is))
 
 value_by : {M : Type 0} (e : BadField) (absent : Option BadField) (form : Form) (q : Place)
     (o : Option M) (m : Option Place)
@@ -98,12 +93,12 @@ number_by : (q : Place) (e : BadField) (least most n : ℕ) (o : Option ℕ)
 number_by q e least most n None h is = absurd (cc)
 number_by q e least most n (Some m) h is =
     subst (λ k. (nat_le least k && nat_le k most) ≡ true) (same_Some m n is)
-    (bounds_by q least most m (nat_le least m && nat_le m most) refl h)
+    (bounds_by q least most m _ refl h)
 
 -- a number without a fault is within its bounds
 pub number_fine : (q : Place) (least most n : ℕ) → result_err (whole_at q least most) ≡ None
     → whole_of q ≡ Some n → (nat_le least n && nat_le n most) ≡ true
-number_fine q least most n h is = number_by q _ least most n (whole_of q) h is
+number_fine q least most n h is = number_by q _ least most n _ h is
 
 found_by : (q : Place) (e : BadField) (least most : ℕ) (o : Option ℕ)
     → result_err (ok_or o e >>= within q least most) ≡ None → (n : ℕ) × (o ≡ Some n)
@@ -121,9 +116,7 @@ pub optional_fine : (name : List ℕ) (least most n : ℕ) (p : Place)
     → row_fault (field name optional (whole least most)) p ≡ None → whole_in name p ≡ Some n
     → (nat_le least n && nat_le n most) ≡ true
 optional_fine name least most n p h is =
-    whole_by least most n (member_at p name)
-    (λ q found. value_by _ None (whole least most) q (as_object p.value)
-    (member_at p name) h found) is
+    whole_by least most n _ (λ q found. value_by _ None (whole least most) q _ _ h found) is
 
 -- a member that has to be there
 pub needed_fine : (name : List ℕ) (least most : ℕ) (p : Place)
@@ -131,10 +124,10 @@ pub needed_fine : (name : List ℕ) (least most : ℕ) (p : Place)
     → (nat_le least (unwrap_or (whole_in name p) 0) && nat_le
     (unwrap_or (whole_in name p) 0) most) ≡ true
 needed_fine name least most p h =
-    let (q, there) = there_by _ _ (whole least most) (as_object p.value) (member_at p name) h in
+    let (q, there) = there_by _ _ (whole least most) _ _ h in
     let fine : result_err (whole_at q least most) ≡ None =
-    value_by _ _ (whole least most) q (as_object p.value) (member_at p name) h there in
-    let (n, found) = found_by q _ least most (whole_of q) fine in
+    value_by _ _ (whole least most) q _ _ h there in
+    let (n, found) = found_by q _ least most _ fine in
     let is : whole_in name p ≡ Some n = ap (option_and_then whole_of) there ∙ found in
     subst (λ o. (nat_le least (unwrap_or o 0) && nat_le (unwrap_or o 0) most) ≡ true) (sym is)
     (number_fine q least most n fine found)
@@ -143,8 +136,7 @@ needed_fine name least most p h =
 pub either_fine : (name : List ℕ) (least most : ℕ) (p q : Place)
     → row_fault (field name optional (whole_or_text least most)) p ≡ None
     → member_at p name ≡ Some q → form_fault (whole_or_text least most) q ≡ None
-either_fine name least most p q h is =
-    value_by _ None (whole_or_text least most) q (as_object p.value) (member_at p name) h is
+either_fine name least most p q h is = value_by _ None (whole_or_text least most) q _ _ h is
 
 -- ---- Elements
 
@@ -159,8 +151,7 @@ items_by : (P : Place → Type 0) (f : Place → List Place → Option BadField)
     → (m : Option Place) → ((r : Place) → m ≡ Some r → on_ok (elements_at r) (f r) ≡ None)
     → (q : Place) → Contains (elements_of (unwrap_or m nowhere)) q → P q
 items_by P f holds None h q c = absurd (none_in q c)
-items_by P f holds (Some r) h q c =
-    holds r (elements_of r) (elements_by _ r (f r) (as_array r.value) (h r refl)) q c
+items_by P f holds (Some r) h q c = holds r (elements_of r) (elements_by _ r (f r) _ (h r refl)) q c
 
 -- what holds of each element of lists without a fault holds of each element of a member
 items_fine : (name : List ℕ) (p : Place) (P : Place → Type 0)
@@ -169,14 +160,14 @@ items_fine : (name : List ℕ) (p : Place) (P : Place → Type 0)
     → on_member (field_at p name) None (λ r. on_ok (elements_at r) (f r)) ≡ None → (q : Place)
     → Contains (items_in name p) q → P q
 items_fine name p P f holds h q c =
-    items_by P f holds (member_at p name)
+    items_by P f holds _
     (λ r is. member_fine p name None (λ s. on_ok (elements_at s) (f s)) r h is) q c
 
 all_fine : (faults : Place → Option BadField) (items : List Place)
     → first_in (map faults items) ≡ None → (q : Place) → Contains items q → faults q ≡ None
 all_fine faults [] h q c = absurd (none_in q c)
 all_fine faults (p ∷ ps) h q c =
-    let parts = neither (faults p) (first_in (map faults ps)) h in
+    let parts = neither _ _ h in
     elim (in_cases q p ps c) [
       | inl e ↦ ap faults (sym e) ∙ parts.0
       | inr d ↦ all_fine faults ps parts.1 q d
@@ -207,8 +198,7 @@ pub limited_fine : (most : ℕ) (name : List ℕ) (rows : Rows) (p : Place)
     → row_fault (each_up_to most name rows) p ≡ None → (q : Place) → Contains (items_in name p) q
     → rows_fault rows q ≡ None
 limited_fine most name rows p h q c =
-    items_fine name p (λ r. rows_fault rows r ≡ None)
-    (λ r items. or_then
+    items_fine name p (λ r. rows_fault rows r ≡ None) (λ r items. or_then
     (cond (nat_lt most (length items)) (Some (too_many_at r.path (length items))) None)
     (first_in (map (λ s. rows_fault rows s) items)))
     (λ r items fine. all_fine (λ s. rows_fault rows s) items (neither _ _ fine).1) h q c

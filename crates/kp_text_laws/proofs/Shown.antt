@@ -1,5 +1,5 @@
 -- What a replay shows is read back.
-use Rattle.std.proofs.Common.{ℕ, suc, zero, ◌-◌, List, [], ◌∷◌, ◌++◌, take, sum, Contains, inl, inr, sym, ap, subst}
+use Rattle.std.proofs.Common.{ℕ, suc, zero, ◌-◌, List, [], ◌∷◌, ◌++◌, take, Contains, inl, inr, sym, ap, subst}
 use Rattle.std.proofs.lemmas.Grind.{flat_map-append}
 use Rattle.kp_lemmas.proofs.Members.{none_in, in_cases, first_in, later_in}
 use Rattle.kp_base.specs.declared.address.Family.TheVariants.{V4}
@@ -19,7 +19,7 @@ from_take : {A : Type 0} (n : ℕ) (xs : List A) (x : A) → Contains (take n xs
 from_take zero xs x c = absurd (none_in x c)
 from_take (suc n) [] x c = absurd (none_in x c)
 from_take (suc n) (y ∷ ys) x c =
-    elim (in_cases x y (take n ys) c) [
+    elim (in_cases x y _ c) [
       | inl e ↦ subst (Contains (y ∷ ys)) e (first_in y ys)
       | inr d ↦ later_in x y ys (from_take n ys x d)
     ]
@@ -28,7 +28,7 @@ module _ (objects : ObjectsAreBounded) where
   covered_bounded : (events : List Event) (counts : List ℕ) (n : ℕ) → AreBoundedEvents events
       → AreBounded (objects_covered events counts n)
   covered_bounded events counts n h =
-      objects (covered events counts n) (λ e c. h e (from_take (sum (take n counts)) events e c))
+      objects (covered events counts n) (λ e c. h e (from_take _ events e c))
 
   pub covered_tables_read_back_by : FullTableReadsBack → CoveredTablesReadBack
   covered_tables_read_back_by tables setting events counts n printable h =

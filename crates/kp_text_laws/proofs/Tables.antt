@@ -23,10 +23,10 @@ use Rattle.kp_choice_defs.specs.Settings.{setting_of}
 use Rattle.kp_object_defs.specs.PortInfo.{PortInfo, port_infos}
 use Rattle.kp_object_defs.proofs.InOrder.{entries_in_order}
 use Rattle.kp_table_defs.specs.Layout.{rows_of}
-use Rattle.kp_table_defs.specs.Ranks.{goes_on, is_built_in, built_in_chains, has_built_in, is_ranked_chain, jumps_go_on, rank_of}
+use Rattle.kp_table_defs.specs.Ranks.{goes_on, is_built_in, built_in_chains, is_ranked_chain, jumps_go_on}
 use Rattle.kp_table_defs.specs.Rebuild.{Chains, TableParts, full_chains, full_table}
 use Rattle.kp_restore_defs.specs.RuleText.{is_canonical_range, is_canonical_rule}
-use Rattle.kp_restore_defs.specs.TableText.{is_canonical_chain, is_canonical_table, jumps_to_declared, may_stand, TableTextsDiffer}
+use Rattle.kp_restore_defs.specs.TableText.{is_canonical_chain, is_canonical_table, jumps_to_declared, TableTextsDiffer}
 use Rattle.kp_walk_laws.specs.Laws.{FullTableRanked, FullTableRankedObjects, HashedPrefixed, IsSound, KnownPorts}
 use Rattle.kp_walk_laws.proofs.Entries.{from_in_order}
 use Rattle.kp_walk_laws.proofs.Lookups.{finds_filter, finds_nat, in_rows}
@@ -44,14 +44,7 @@ module _ (chains : Chains) where
       → jumps_to_declared chains table t ≡ true
   declared_by table rank (target.Jump chain) h =
       (and_parts (is_some (get chains (record { table = table; chain = chain }))) _ h).0
-  declared_by table rank target.Return h = refl
-  declared_by table rank target.Accept h = refl
-  declared_by table rank target.Drop h = refl
-  declared_by table rank target.Reject h = refl
-  declared_by table rank target.SetMark h = refl
-  declared_by table rank target.FlipMark h = refl
-  declared_by table rank (target.Dnat e) h = refl
-  declared_by table rank target.Masquerade h = refl
+  declared_by table rank t h = refl
 
   pub declared : (table : TableName) (rank : Option ℕ) (rules : List Rule)
       → jumps_go_on chains table rank rules ≡ true → (r : Rule) → Contains rules r
@@ -67,11 +60,8 @@ module _ (chains : Chains) where
   chain_fits family r ranked fit =
       let parts = and_parts (is_chain_name r.0.chain)
       (list_all (is_canonical_rule family) r.1) fit in
-      and_from (is_chain_name r.0.chain) (list_all (may_stand family chains r.0.table) r.1) parts.0
-      (all_from (may_stand family chains r.0.table) r.1 (λ q c.
-      and_from (is_canonical_rule family q) (jumps_to_declared chains r.0.table q.target)
-      (from_all (is_canonical_rule family) r.1 parts.1 q c)
-      (declared r.0.table (rank_of r.0) r.1 ranked q c)))
+      and_from _ _ parts.0 (all_from _ r.1 (λ q c. and_from _ _ (from_all _ r.1 parts.1 q c)
+      (declared r.0.table _ r.1 ranked q c)))
 
 -- ---- The full table
 
@@ -86,13 +76,8 @@ pub full_table_canonical_by : FullTableRanked → FullTableCanonical
 full_table_canonical_by is_sound setting infos printable any bounded =
     let chains : Chains = full_chains setting infos in
     let sound : IsSound chains = is_sound setting infos printable.prefixed any in
-    and_from (has_built_in chains Nat && has_built_in chains Filter)
-    (list_all (is_canonical_chain setting.family chains) (entries chains))
-    (and_from (has_built_in chains Nat) (has_built_in chains Filter) (sound.built_in Nat)
-    (sound.built_in Filter))
-    (all_from (is_canonical_chain setting.family chains) (entries chains) (λ r c.
-    chain_fits chains setting.family r
-    (from_all (is_ranked_chain chains) (entries chains) sound.ranked r c)
+    and_from _ _ (and_from _ _ (sound.built_in Nat) (sound.built_in Filter)) (all_from _ _ (λ r c.
+    chain_fits chains _ r (from_all _ _ sound.ranked r c)
     (from_all (row_fits setting.family) (rows_of setting infos)
     (rows_fit setting printable.named printable.cluster infos bounded) r
     (row_of_entry setting infos r c))))
@@ -103,15 +88,13 @@ full_table_reads_back_by canonical is_sound known ports differ setting o printab
     let infos : List PortInfo = port_infos setting.family setting.config o in
     let chains : Chains = (full_table setting o).chains in
     let sound : IsSound chains = is_sound setting o printable.prefixed in
-    let fit : is_canonical_table setting.family chains ≡ true =
-    canonical setting infos printable
+    let fit : is_canonical_table setting.family chains ≡ true = canonical setting infos printable
     (λ i c. (known setting.family setting.config o i c).any)
     (λ i c. ports setting.family setting.config o i bounded c) in record {
       canonical = fit;
       only = λ other h same. differ setting.family other chains h fit same;
       ranked = sound.ranked;
-      built_in = and_from (has_built_in chains Nat) (has_built_in chains Filter)
-          (sound.built_in Nat) (sound.built_in Filter);
+      built_in = and_from _ _ (sound.built_in Nat) (sound.built_in Filter);
     }
 
 pub rebuilt_reads_back_by : FullTableReadsBack → ProductIsPrintable → RebuiltReadsBack
@@ -131,8 +114,7 @@ one_of : (P : List ℕ → Type 0) (chain : List ℕ) (names : List (List ℕ)) 
     → list_any (bytes_eq chain) names ≡ true → P chain
 one_of P chain [] all h = absurd (cc)
 one_of P chain (name ∷ names) all h =
-    named_by P chain name (bytes_eq chain name) all.0 refl
-    (λ other. one_of P chain names all.1
+    named_by P chain name _ all.0 refl (λ other. one_of P chain names all.1
     (sym (ap (λ b. b || list_any (bytes_eq chain) names) other) ∙ h))
 
 module _ (setting : Setting) (before after : List PortInfo) where
@@ -184,11 +166,11 @@ range_in_fits : (family : Family) (range : Option RangeParts)
     → passes_if_some is_bounded_range range ≡ true
     → passes_if_some (is_canonical_range family) (option_and_then (range_in family) range) ≡ true
 range_in_fits family None h = refl
-range_in_fits family (Some r) h = range_in_by family r (same_family r.base.family family) h refl
+range_in_fits family (Some r) h = range_in_by family r _ h refl
 
 pub product_is_printable_by : HashedPrefixed → ProductIsPrintable
 product_is_printable_by prefixed family config bounded = record {
-  named = hashed_names config.name_length config.name_to;
+  named = hashed_names _ config.name_to;
   prefixed = prefixed config.name_length;
-  cluster = range_in_fits family config.cluster bounded;
+  cluster = range_in_fits family _ bounded;
 }

@@ -1,6 +1,6 @@
 -- What the rules of session affinity do: they go to the first endpoint whose recent list has the
 -- source, and drop what is too old from each list that they look at.
-use Rattle.std.proofs.Common.{◌≡◌, ℕ, suc, Bool, true, false, cond, List, [], ◌∷◌, Contains, Option, Some, None, option_map, refl, sym, ap, ◌∙◌}
+use Rattle.std.proofs.Common.{◌≡◌, ℕ, Bool, true, false, cond, List, [], ◌∷◌, Contains, Option, Some, None, option_map, refl, sym, ap, ◌∙◌}
 use Rattle.kp_lemmas.proofs.Members.{first_in, later_in}
 use Rattle.kp_base.specs.Net.{AddressParts}
 use Rattle.kp_base.specs.declared.key.Endpoint.{Endpoint}
@@ -43,16 +43,13 @@ pub choice_is : (setting : Setting) (port : PortKey) (affinity : Option ℕ) (so
     (found_or_drawn setting draws es
     (look_under affinity (recent_name setting port) source now 0 es lists))
     ≡ chosen_endpoint setting port affinity source now draws es lists
-choice_is setting port None source now draws es lists =
-    as_it_is (found_or_drawn setting draws es (record { found = None; lists = lists }))
+choice_is setting port None source now draws es lists = as_it_is _
   where
     as_it_is : (c : Option Chosen)
         → option_map (remembered_under None (recent_name setting port) source now) c ≡ c
     as_it_is None = refl
     as_it_is (Some c) = refl
-choice_is setting port (Some seconds) source now draws es lists =
-    set (found_or_drawn setting draws es
-    (live_endpoint (recent_name setting port) source now seconds 0 es lists))
+choice_is setting port (Some seconds) source now draws es lists = set _
   where
     set : (c : Option Chosen)
         → option_map (remembered_under (Some seconds) (recent_name setting port) source now) c
@@ -115,11 +112,8 @@ module _ (e : Surroundings) (jump : List ℕ → WalkState → Outcome) (name : 
   seen_outcome [] jumps place s = refl
   seen_outcome (f ∷ es) jumps place s =
       let t : WalkState = with_lists s (reaped s.lists (name f) s.source e.now seconds) in
-      seen_before f place s t (rules_outcome e jump (affinity_rules name (Some seconds) es))
-      (live_endpoint name s.source e.now seconds (suc place) es t.lists) refl
-      (jumps f (first_in f es) t)
-      (seen_outcome es (λ g c. jumps g (later_in g f es c)) (suc place) t)
-      (is_live s.lists (name f) s.source e.now seconds) refl
+      seen_before f place s t _ _ refl (jumps f (first_in f es) t)
+      (seen_outcome es (λ g c. jumps g (later_in g f es c)) _ t) _ refl
 
 module _ (e : Surroundings) (jump : List ℕ → WalkState → Outcome) (name : Endpoint → List ℕ)
     (goes : Endpoint → WalkState → Outcome)

@@ -110,10 +110,10 @@ arriving otherwise setting e s None = otherwise
 arriving otherwise setting e s (Some t) =
     Ended (ending.Dnat t.chosen.endpoint) (way_of setting t) (arrived_state setting.config e s t)
 
--- what a port's own chains do with a packet that a door takes
-abbrev pub arrives : Setting → Surroundings → WalkState → Door → Outcome
-arrives setting e s d =
-    arriving Stuck setting e s (translation_at setting (packet_of e s) e.draws s.lists d)
+module _ (setting : Setting) (e : Surroundings) (s : WalkState) where
+  -- what a port's own chains do with a packet that a door takes
+  abbrev pub arrives : Door → Outcome
+  arrives d = arriving Stuck setting e s (translation_at setting (packet_of e s) e.draws s.lists d)
 
 -- ---- The chains on the way
 
@@ -158,17 +158,12 @@ module _ (setting : Setting) (i : PortInfo) (e : Surroundings) (marked : Bool) (
       (returned_from list (chosen_outcome setting i e marked n s c)))
   chosen_last list n None = subst IsLast (sym (through_stuck setting i kinds)) stuck_last
   chosen_last list n (Some c) =
-      subst IsLast (sym (through_ended setting i kinds (ending.Dnat c.endpoint)
-      (list ∷ endpoint_chain setting i c.endpoint ∷ [])
-      (sent_state e (same_address c.endpoint.address s.source || marked) n s c)))
-      (ended_last _ _ _)
+      subst IsLast (sym (through_ended setting i kinds _ _ _)) (ended_last _ _ _)
 
   -- nothing is tried behind the chain of an offered list
   pub offer_last : (o : Offer)
       → IsLast (through_chains setting i kinds (offer_outcome setting i e marked s o))
-  offer_last o =
-      chosen_last (port_chain setting i (chain_of_list o.kind)) (length o.endpoints)
-      (chosen_endpoint setting i.key i.affinity s.source e.now e.draws o.endpoints s.lists)
+  offer_last o = chosen_last _ _ _
 
 module _ (setting : Setting) (e : Surroundings) (s : WalkState) (d : Door) where
   arrives_chosen : (o : Offer) (c : Option Chosen)
@@ -180,7 +175,7 @@ module _ (setting : Setting) (e : Surroundings) (s : WalkState) (d : Door) where
       (option_map (λ c. record { door = d; offer = o; chosen = c }) c)
   arrives_chosen o None = through_stuck setting d.info (chains_before d.kind d.info.ranges)
   arrives_chosen o (Some c) =
-      through_ended setting d.info (chains_before d.kind d.info.ranges) (ending.Dnat c.endpoint)
+      through_ended setting d.info (chains_before d.kind d.info.ranges) _
       (port_chain setting d.info (chain_of_list o.kind)
       ∷ endpoint_chain setting d.info c.endpoint ∷ [])
       (sent_state e (is_marked setting.config d.kind d.info s.source c.endpoint)
@@ -190,7 +185,4 @@ module _ (setting : Setting) (e : Surroundings) (s : WalkState) (d : Door) where
   pub arrives_at : through_chains setting d.info (chains_before d.kind d.info.ranges)
       (offer_outcome setting d.info e (marked_at setting.config d.kind d.info s.source) s
       (offer_of setting.config (packet_of e s) d)) ≡ arrives setting e s d
-  arrives_at =
-      arrives_chosen (offer_of setting.config (packet_of e s) d)
-      (chosen_endpoint setting d.info.key d.info.affinity s.source e.now e.draws
-      (offer_of setting.config (packet_of e s) d).endpoints s.lists)
+  arrives_at = arrives_chosen _ _

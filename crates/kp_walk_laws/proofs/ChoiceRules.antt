@@ -68,18 +68,15 @@ module _ (e : Surroundings) (jump : List ℕ → WalkState → Outcome) (name : 
       ≡ outcome_at goes (slice_get es (selected_index e.draws k (length es)))
       (with_used s (used_after e.draws s.used (length es)))
   choice_outcome [] jumps k s place = refl
-  choice_outcome (f ∷ []) jumps k s place =
-      and_then_next (jump (name f) s) ∙ jumps f (first_in f []) s
+  choice_outcome (f ∷ []) jumps k s place = and_then_next _ ∙ jumps f (first_in f []) s
   choice_outcome (f ∷ g ∷ es) jumps k s place =
       let n : ℕ = suc (suc (length es)) in
       let u : ℕ = min (s.used + 1) (2 ^ 32 - 1) in
       let x : ℕ = selected_index e.draws (suc k) (suc (length es)) in
       let y : ℕ = used_after e.draws u (suc (length es)) in
       let behind = choice_outcome (g ∷ es) (λ h c. jumps h (later_in h f (g ∷ es) c)) (suc k)
-      (with_draw s) (next_place s.used k (2 ^ 32 - 1) place) in
-      chance_before f (g ∷ es) n x y s (rules_outcome e jump (choice_rules name (g ∷ es)))
-      (jumps f (first_in f (g ∷ es)) (with_draw s)) behind
-      (draw_matches (probability_of n) (draw_at e.draws s.used)) refl
+      (with_draw s) (next_place s.used k _ place) in
+      chance_before f (g ∷ es) n x y s _ (jumps f (first_in f (g ∷ es)) (with_draw s)) behind _ refl
       ∙ ap (λ p. outcome_at goes (slice_get (f ∷ g ∷ es)
       (if draw_matches (probability_of n) (e.draws p) then 0 else suc x))
       (with_used s (if draw_matches (probability_of n) (draw_at e.draws s.used) then u else y)))

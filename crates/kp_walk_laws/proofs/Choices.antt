@@ -1,6 +1,6 @@
 -- What the chain of a list does, with or without session affinity: the packet goes to the endpoint
 -- that is chosen for it.
-use Rattle.std.proofs.Common.{◌≡◌, ℕ, ◌-◌, ◌^◌, min, Bool, true, false, not, ◌||◌, List, [], ◌∷◌, length, Contains, slice_get, Option, Some, None, is_some, option_map, refl, sym, ap, ap₂, ◌∙◌}
+use Rattle.std.proofs.Common.{◌≡◌, ℕ, ◌-◌, ◌^◌, min, Bool, true, false, not, ◌||◌, List, [], ◌∷◌, length, Contains, Option, Some, None, is_some, option_map, refl, sym, ap, ap₂, ◌∙◌}
 use Rattle.kp_base.specs.Net.{same_address}
 use Rattle.kp_base.specs.declared.key.Endpoint.{Endpoint}
 use Rattle.kp_types.specs.Setting.{Pick, Setting}
@@ -56,7 +56,7 @@ module _ (setting : Setting) (i : PortInfo) (e : Surroundings) where
       (marked_if (same_address c.endpoint.address a)
       (with_used (with_lists (marked_if marked s) c.lists) u)))) (marked_source marked s)
       ∙ ap (λ t. Ended (ending.Dnat c.endpoint) (name ∷ []) t)
-      (same_state i.affinity name (same_address c.endpoint.address s.source) marked s u c.lists)
+      (same_state i.affinity name _ marked s u c.lists)
 
   module _ (by_draws : setting.pick ≡ pick_by_draws) (jump : List ℕ → WalkState → Outcome)
       (es : List Endpoint) (some : not (is_empty es) ≡ true)
@@ -91,10 +91,9 @@ module _ (setting : Setting) (i : PortInfo) (e : Surroundings) where
         (record { endpoint = p.0; place = p.1; by = Affinity; lists = lists })
     after_look None lists =
         let place : ℕ = selected_index e.draws 0 (length es) in
-        choice_outcome e jump (endpoint_chain setting i) (sent_by e setting i)
-        (λ f u. ended_last _ _ _) es jumps 0 (with_lists past_marks lists)
+        choice_outcome e jump _ _ (λ f u. ended_last _ _ _) es jumps 0 _
         (ap (λ u. min u (2 ^ 32 - 1)) (marked_used marked s ∙ fresh))
-        ∙ drawn_outcome lists place (slice_get es place) (selected_some e.draws es some)
+        ∙ drawn_outcome lists place _ (selected_some e.draws es some)
         ∙ ap (λ (p : Pick). chosen_outcome setting i e marked (length es) s
         (option_map (kept s) (drawn_at es (p e.draws (length es)) lists))) (sym by_draws)
 
@@ -109,8 +108,8 @@ module _ (setting : Setting) (i : PortInfo) (e : Surroundings) where
         rules_outcome e jump (choice_rules (endpoint_chain setting i) es) in
         let look : Look =
         look_under i.affinity (endpoint_chain setting i) s.source e.now 0 es s.lists in
-        ap (λ o. and_then o draw) (affinity_outcome e jump (endpoint_chain setting i)
-        (sent_by e setting i) (λ f u. ended_last _ _ _) i.affinity es jumps past_marks)
+        ap (λ o. and_then o draw) (affinity_outcome e jump _
+        _ (λ f u. ended_last _ _ _) i.affinity es jumps past_marks)
         ∙ ap₂ (λ source lists. and_then (at_look (sent_by e setting i) past_marks
         (look_under i.affinity (endpoint_chain setting i) source e.now 0 es lists)) draw)
         (marked_source marked s) (marked_lists marked s)

@@ -1,14 +1,14 @@
 -- The walk decides a packet as the objects do, where a look-up finds the chains of the ports.
-use Rattle.std.proofs.Common.{◌≡◌, ℕ, Bool, true, false, not, ◌&&◌, ◌||◌, List, [], ◌∷◌, Contains, Option, Some, None, option_map, refl, ap, ap₂, ◌∙◌}
+use Rattle.std.proofs.Common.{◌≡◌, ℕ, Bool, true, false, not, ◌&&◌, ◌||◌, List, [], ◌∷◌, Contains, Option, Some, None, option_map, refl, sym, ap, ap₂, subst, ◌∙◌}
 use Rattle.kp_base.specs.Net.{AddressParts, is_local_address}
 use Rattle.kp_base.specs.declared.key.Endpoint.{Endpoint}
 use Rattle.kp_types.specs.Setting.{FamilyConfig, Setting}
-use Rattle.kp_types.specs.declared.chain.TableName.TheVariants.{Nat}
 use Rattle.kp_types.specs.declared.chain.ChainAt.{ChainAt}
 use Rattle.kp_types.specs.declared.packet.Packet.{Packet}
 use Rattle.kp_types.specs.declared.packet.Origin.{Origin}
 use Rattle.kp_types.specs.declared.packet.Origin.TheVariants.{Wire, Node}
 use Rattle.kp_types.specs.declared.rule.Rule.{Rule}
+use Rattle.kp_types.specs.declared.verdict.Verdict.{Verdict}
 use Rattle.kp_types.specs.declared.verdict.Verdict.TheVariants.{To}
 use Rattle.kp_types.specs.declared.walk.Ending.TheVariants as ending
 use Rattle.kp_choice_defs.specs.Recent.{RecentParts}
@@ -16,11 +16,11 @@ use Rattle.kp_choice_defs.specs.Settings.{pick_by_draws}
 use Rattle.kp_object_defs.specs.PortInfo.{PortInfo}
 use Rattle.kp_door_defs.specs.Decision.{Translation, translation_of, translated, lists_after, refused_by, by_filter, decision_by, decision_from}
 use Rattle.kp_door_defs.specs.Filter.{Refusal, Rejects, DropsClosed, DropsNoLocal, Line, filtered}
-use Rattle.kp_door_defs.specs.Marks.{is_from_node, is_marked}
+use Rattle.kp_door_defs.specs.Marks.{is_from_node}
 use Rattle.kp_table_defs.specs.Matching.{WalkState, Surroundings}
-use Rattle.kp_table_defs.specs.Walk.{Outcome, sent_to, Journey, Translating, after_hook, chain_outcome, most_chains, through, first_hook, is_leaving, onward, verdict_by, walked_by, initial_state, surroundings_of, walk_of, postrouting_if}
+use Rattle.kp_table_defs.specs.Walk.{Outcome, sent_to, Journey, Translating, after_hook, is_leaving, onward, verdict_by, walked_by, initial_state, surroundings_of, walk_of, postrouting_if}
 use Rattle.kp_table_defs.specs.Walk.Outcome.{Next}
-use Rattle.kp_walk_laws.specs.Laws.{IsKnown}
+use Rattle.kp_walk_laws.specs.Laws.{Agree, IsKnown}
 use Rattle.kp_walk_laws.proofs.Outcomes.{pathless, next_of, ended_of}
 use Rattle.kp_walk_laws.proofs.EndpointChains.{marked_if, marked_lists, marked_source}
 use Rattle.kp_walk_laws.proofs.Matches.{packet_of}
@@ -65,12 +65,11 @@ module _ (config : FamilyConfig) (packet : Packet) (draws : ℕ → ℕ) (lists 
   packet_after (Some t) =
       ap (λ (a : AddressParts). record packet
       { source = a; target = t.chosen.endpoint.address; port = t.chosen.endpoint.port })
-      (marked_source (is_marked config t.door.kind t.door.info packet.source t.chosen.endpoint) _)
+      (marked_source _ _)
 
   recent_after : (t : Option Translation) → (after t).lists ≡ lists_after t lists
   recent_after None = refl
-  recent_after (Some t) =
-      marked_lists (is_marked config t.door.kind t.door.info packet.source t.chosen.endpoint) _
+  recent_after (Some t) = marked_lists _ _
 
   -- the verdict of the walk is that of the decision
   same_verdict : (t : Option Translation) (line : Option Line)
@@ -86,9 +85,7 @@ module _ (config : FamilyConfig) (packet : Packet) (draws : ℕ → ℕ) (lists 
       by_refusal DropsNoLocal = refl
   same_verdict None None = refl
   same_verdict (Some t) None =
-      ap₂ (λ b c. To t.chosen.endpoint (b && c))
-      (mark_is (is_marked config t.door.kind t.door.info packet.source t.chosen.endpoint) _ refl)
-      (leaves_by packet.from (is_local_address config.addresses t.chosen.endpoint.address))
+      ap₂ (λ b c. To t.chosen.endpoint (b && c)) (mark_is _ _ refl) (leaves_by packet.from _)
 
   same_lists : (t : Option Translation) (line : Option Line)
       → lists_after t lists ≡ (by_filter config packet t (lists_after t lists) line).lists
@@ -104,84 +101,68 @@ module _ (config : FamilyConfig) (packet : Packet) (draws : ℕ → ℕ) (lists 
 
 module _ (setting : Setting) (infos : List PortInfo) (packet : Packet) (draws : ℕ → ℕ)
     (lists : RecentParts) (at : ChainAt → Option (List Rule)) where
+  -- the surroundings of the packet
+  abbrev e : Surroundings
+  e = surroundings_of setting.config.addresses packet draws
+
+  -- and its state at first
+  abbrev s : WalkState
+  s = initial_state packet lists
+
+  -- the journey from a translation on
+  abbrev journey_from : Option Translation → List (List (List ℕ)) → Journey
+  journey_from t trail =
+      journey_at (state_after setting.config e s t) (option_map endpoint_of t) None trail
+
   -- the first hook translates
   translated_journey : (t : Option Translation) (o : Outcome)
-      → pathless o ≡ pathless (arriving (Next (initial_state packet lists)) setting
-      (surroundings_of setting.config.addresses packet draws) (initial_state packet lists) t)
+      → pathless o ≡ pathless (arriving (Next s) setting e s t)
       → (trail : List (List (List ℕ)))
-      × (after_hook Translating (journey_at (initial_state packet lists) None None []) o
-      ≡ journey_at (state_after setting.config
-      (surroundings_of setting.config.addresses packet draws) (initial_state packet lists) t)
-      (option_map endpoint_of t) None trail)
-  translated_journey None o h = (
-    [],
-    ap (after_hook Translating (journey_at (initial_state packet lists) None None []))
-        (next_of o (initial_state packet lists) h),
-  )
+      × (after_hook Translating (journey_at s None None []) o ≡ journey_from t trail)
+  translated_journey None o h =
+      ([], ap (after_hook Translating (journey_at s None None [])) (next_of o s h))
   translated_journey (Some t) o h =
-      let (path, is) = ended_of o (ending.Dnat t.chosen.endpoint)
-      (arrived_state setting.config (surroundings_of setting.config.addresses packet draws)
-      (initial_state packet lists) t) h in (
-        path ∷ [],
-        ap (after_hook Translating (journey_at (initial_state packet lists) None None [])) is,
-      )
+      let (path, is) = ended_of o _ _ h in
+      (path ∷ [], ap (after_hook Translating (journey_at s None None [])) is)
 
   -- from a translation on, the walk goes as the decision does
   decided : FindsNat setting infos at → FindsFilter setting.family infos at
-      → (t : Option Translation) (trail : List (List (List ℕ))) (j : Journey)
       → ((i : PortInfo) (k : ℕ) → Contains infos i → i.node_port ≡ Some k
       → i.address.family ≡ setting.family)
-      → j ≡ journey_at (state_after setting.config
-      (surroundings_of setting.config.addresses packet draws) (initial_state packet lists) t)
-      (option_map endpoint_of t) None trail
-      → ((walked_by (onward (surroundings_of setting.config.addresses packet draws) at j)).verdict
-      ≡ (decision_by setting.config infos packet lists t).verdict)
-      × ((walked_by (onward (surroundings_of setting.config.addresses packet draws) at j)).lists
-      ≡ (decision_by setting.config infos packet lists t).lists)
-  decided nat filter t trail j family h =
-      let e : Surroundings = surroundings_of setting.config.addresses packet draws in
-      let u : WalkState = state_after setting.config e (initial_state packet lists) t in
+      → (t : Option Translation) (trail : List (List (List ℕ)))
+      → Agree (walked_by (onward e at (journey_from t trail)))
+      (decision_by setting.config infos packet lists t)
+  decided nat filter family t trail =
+      let config : FamilyConfig = setting.config in
+      let u : WalkState = state_after config e s t in
       let to : Option Endpoint = option_map endpoint_of t in
+      let line : Packet → Option Line = filtered config infos in
+      let stopped : Option Verdict = option_map line_verdict (line (packet_of e u)) in
+      let leaving : Bool = leaves config (packet_of e u) in
       let (later, refused) =
-      filter_journey setting.config setting.family infos e refl at filter u to family e.from
-      trail in
-      let leaving : Bool = leaves setting.config (packet_of e u) in (
-        ap (λ k. (walked_by (onward e at k)).verdict) h
-            ∙ ap (λ k. (walked_by (postrouting_if leaving e at k)).verdict) refused
-            ∙ last_verdict setting infos e at nat u to later
-            (option_map line_verdict (filtered setting.config infos (packet_of e u))) leaving
-            ∙ ap (λ p. verdict_by (option_map line_verdict (filtered setting.config infos p)) to
-            (u.marked && leaves setting.config p))
-            (packet_after setting.config packet draws lists t)
-            ∙ same_verdict setting.config packet draws lists t
-            (filtered setting.config infos (translated packet t)),
-        ap (λ k. (walked_by (onward e at k)).lists) h
-            ∙ ap (λ k. (walked_by (postrouting_if leaving e at k)).lists) refused
-            ∙ last_lists setting infos e at nat u to later
-            (option_map line_verdict (filtered setting.config infos (packet_of e u))) leaving
-            ∙ recent_after setting.config packet draws lists t
-            ∙ same_lists setting.config packet draws lists t
-            (filtered setting.config infos (translated packet t)),
-      )
+      filter_journey config _ infos e refl at filter u to family e.from trail in
+      subst (λ j. Agree (walked_by (postrouting_if leaving e at j))
+      (decision_by config infos packet lists t)) (sym refused) (record {
+        verdict =
+            last_verdict setting infos e at nat u to later stopped leaving
+            ∙ ap (λ p. verdict_by (option_map line_verdict (line p)) to
+            (u.marked && leaves config p)) (packet_after config packet draws lists t)
+            ∙ same_verdict config packet draws lists t _;
+        lists =
+            last_lists setting infos e at nat u to later stopped leaving
+            ∙ recent_after config packet draws lists t ∙ same_lists config packet draws lists t _;
+      })
 
   -- where a look-up finds the shared chains, and those of the ports do what their doors do, walking
   -- decides as the objects do
   pub walk_agrees : setting.pick ≡ pick_by_draws → FindsNat setting infos at
-      → FindsFilter setting.family infos at → ((i : PortInfo) → Contains infos i
-      → IsKnown setting.family i
-      × LeadsTo setting (surroundings_of setting.config.addresses packet draws) at
-      (initial_state packet lists) i)
-      → ((walk_of at setting.config.addresses packet draws lists).verdict
-      ≡ (decision_from setting infos packet draws lists).verdict)
-      × ((walk_of at setting.config.addresses packet draws lists).lists
-      ≡ (decision_from setting infos packet draws lists).lists)
+      → FindsFilter setting.family infos at
+      → ((i : PortInfo) → Contains infos i → IsKnown setting.family i × LeadsTo setting e at s i)
+      → Agree (walk_of at setting.config.addresses packet draws lists)
+      (decision_from setting infos packet draws lists)
   walk_agrees by_draws nat filter ports =
-      let e : Surroundings = surroundings_of setting.config.addresses packet draws in
-      let s : WalkState = initial_state packet lists in
       let t : Option Translation = translation_of setting infos packet draws lists in
-      let (trail, first) = translated_journey t
-      (chain_outcome e at Nat most_chains (first_hook packet.from) s)
+      let (trail, first) = translated_journey t _
       (first_outcome setting by_draws infos e refl at nat s ports packet.from) in
-      decided nat filter t trail (through e at Translating Nat (first_hook packet.from)
-      (journey_at s None None []))
-      (λ i k c h. (ports i c).0.address) first
+      subst (λ j. Agree (walked_by (onward e at j)) (decision_by setting.config infos packet lists t))
+      (sym first) (decided nat filter (λ i k c h. (ports i c).0.address) t trail)

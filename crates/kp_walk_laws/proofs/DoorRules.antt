@@ -4,7 +4,7 @@ use Rattle.std.proofs.Common.{◌≡◌, true≢false, ℕ, suc, ◌==◌, Bool,
 use Rattle.std.proofs.Math.Bool.{and_comm, and-false}
 use Rattle.std.specs.List.{find}
 use Rattle.std.proofs.lemmas.Bool.{and_parts}
-use Rattle.kp_base.specs.Net.{AddressParts, same_address, single_range, is_local_address}
+use Rattle.kp_base.specs.Net.{AddressParts, same_address, single_range}
 use Rattle.kp_types.specs.Setting.{FamilyConfig, Setting}
 use Rattle.kp_types.specs.Rules.{rule_of}
 use Rattle.kp_types.specs.Ports.{same_proto}
@@ -20,8 +20,8 @@ use Rattle.kp_types.specs.declared.service.Policy.TheVariants.{Cluster, Local}
 use Rattle.kp_object_defs.specs.Desired.{is_empty}
 use Rattle.kp_object_defs.specs.Lists.{list_by_policy}
 use Rattle.kp_object_defs.specs.PortInfo.{PortInfo, internal_list}
-use Rattle.kp_door_defs.specs.Decision.{Translation, translation_at}
-use Rattle.kp_door_defs.specs.Doors.{Door, Offer, door_at, offer_by_policy, offer_if, offered, outer_offer, is_admitted, is_in_cluster, offer_of, fits, takes}
+use Rattle.kp_door_defs.specs.Decision.{Translation}
+use Rattle.kp_door_defs.specs.Doors.{Door, Offer, door_at, offer_by_policy, offer_if, offered, outer_offer, offer_of, fits, takes}
 use Rattle.kp_table_defs.specs.Matching.{WalkState, Surroundings}
 use Rattle.kp_table_defs.specs.Layout.{port_chain, rule_at, chain_of_policy}
 use Rattle.kp_table_defs.specs.Rebuild.{needs}
@@ -58,8 +58,7 @@ module _ (i : PortInfo) (cluster : i.lists.cluster ≡ []) (local : i.lists.loca
   nothing_outside : (config : FamilyConfig) (p : Policy) (source : AddressParts)
       → (outer_offer config i p source).endpoints ≡ []
   nothing_outside config Cluster source = cluster
-  nothing_outside config Local source =
-      nothing_of (is_in_cluster config source || is_local_address config.addresses source)
+  nothing_outside config Local source = nothing_of _
 
   nothing_admitted : (b : Bool) (o : Offer) → o.endpoints ≡ [] → (offer_if b o).endpoints ≡ []
   nothing_admitted true o h = h
@@ -71,18 +70,26 @@ module _ (i : PortInfo) (cluster : i.lists.cluster ≡ []) (local : i.lists.loca
   nothing_offered config door.Cluster source = nothing_by_policy i.internal
   nothing_offered config door.External source = nothing_outside config i.outer source
   nothing_offered config door.Balancer source =
-      nothing_admitted (is_admitted i.ranges source) (outer_offer config i i.outer source)
-      (nothing_outside config i.outer source)
+      nothing_admitted _ _ (nothing_outside config i.outer source)
   nothing_offered config door.Node source = nothing_outside config i.outer source
 
 -- ---- What the chains of a port do at its doors
 
--- what a jump to a port's chain does that goes to an endpoint of a door, or comes back where the
--- door offers none
-abbrev pub goes_to : Setting → Surroundings → WalkState → Door → Outcome
-goes_to setting e s d =
-    cond (not (is_empty (offer_of setting.config (packet_of e s) d).endpoints))
-    (arrives setting e s d) (Next s)
+module _ (setting : Setting) (e : Surroundings) (s : WalkState) where
+  -- what a jump to a port's chain does that goes to an endpoint of a door, or comes back where the
+  -- door offers none
+  abbrev pub goes_to : Door → Outcome
+  goes_to d =
+      cond (not (is_empty (offer_of setting.config (packet_of e s) d).endpoints))
+      (arrives setting e s d) (Next s)
+
+  -- the packet is taken by a door
+  abbrev pub is_taken : Door → Bool
+  is_taken d = takes setting.config (packet_of e s) d
+
+  -- what a door does that takes the packet, whatever the chains on the way
+  abbrev pub does : Door → Outcome
+  does d = pathless (arrives setting e s d)
 
 -- A port's chains do at its doors what these say. A door from outside is reached only where the
 -- port's cluster address didn't take the packet.
@@ -101,15 +108,12 @@ pub record LeadsTo (setting : Setting) (e : Surroundings) (at : ChainAt → Opti
       (port_chain setting i (entry_chain kind i)) s
       ≡ goes_to setting e s (door_of i kind a number)
 
+-- a jump in a shared chain of nat, where a port's own chains and so many others may follow
+abbrev pub jump_at : Surroundings → (ChainAt → Option (List Rule)) → ℕ → List ℕ → WalkState
+    → Outcome
+jump_at e at n = chain_outcome e at Nat (suc (suc (suc (suc (suc n)))))
+
 -- ---- Rules that stand for doors
-
--- the packet is taken by a door
-abbrev pub is_taken : Setting → Surroundings → WalkState → Door → Bool
-is_taken setting e s d = takes setting.config (packet_of e s) d
-
--- what a door does that takes the packet, whatever the chains on the way
-abbrev pub does : Setting → Surroundings → WalkState → Door → Outcome
-does setting e s d = pathless (arrives setting e s d)
 
 pathless_cond : (b : Bool) (o : Outcome) (s : WalkState)
     → pathless (cond b o (Next s)) ≡ cond b (pathless o) (Next s)
@@ -123,7 +127,7 @@ module _ (setting : Setting) (e : Surroundings) (s : WalkState) where
 
   -- nothing is tried behind a door that takes the packet
   pub does_last : (d : Door) → IsLast (does setting e s d)
-  does_last d = last_by (translation_at setting (packet_of e s) e.draws s.lists d)
+  does_last d = last_by _
 
   module _ (jump : List ℕ → WalkState → Outcome) where
     -- rules that send the packet as the first of some doors does that takes it
@@ -133,7 +137,8 @@ module _ (setting : Setting) (e : Surroundings) (s : WalkState) where
     -- no rules, where none of the doors takes it
     pub none_sends : (doors : List Door) → find (is_taken setting e s) doors ≡ None
         → SendAs [] doors
-    none_sends doors none = ap (λ o. or_next (option_map (does setting e s) o) s) (sym none)
+    none_sends doors none =
+        record { same = ap (λ o. or_next (option_map (does setting e s) o) s) (sym none) }
 
     -- a jump does what a door does that fits the packet
     by_fit : (d : Door) (chain : List ℕ) (b : Bool)
@@ -141,9 +146,7 @@ module _ (setting : Setting) (e : Surroundings) (s : WalkState) where
         → pathless (target_if b jump (target.Jump chain) s)
         ≡ cond (b && not (is_empty (offer_of setting.config (packet_of e s) d).endpoints))
         (does setting e s d) (Next s)
-    by_fit d chain true h = ap pathless (h refl)
-        ∙ pathless_cond (not (is_empty (offer_of setting.config (packet_of e s) d).endpoints))
-        (arrives setting e s d) s
+    by_fit d chain true h = ap pathless (h refl) ∙ pathless_cond _ _ s
     by_fit d chain false h = refl
 
     module _ (i : PortInfo) (chain : List ℕ) where
@@ -155,13 +158,15 @@ module _ (setting : Setting) (e : Surroundings) (s : WalkState) where
           (rule_at i (target.Jump chain) a) (door_at kind i a)
       address_rule kind a h =
           let proto_port : Bool = same_proto i.key.proto e.proto && (i.number == s.port) in
-          ap pathless (rule_if e jump s (match.Dst (single_range a) false
-          ∷ match.Port i.key.proto i.number ∷ []) (target.Jump chain)
-          (same_address a s.target && proto_port) (door_tried e jump s a i.key.proto i.number)
-          ∙ ap (λ b. target_if b jump (target.Jump chain) s)
-          (and_comm (same_address a s.target) proto_port))
-          ∙ by_fit (door_at kind i a) chain
-          (fits setting.config.addresses (packet_of e s) (door_at kind i a)) h
+          record {
+            same =
+                ap pathless (rule_if e jump s (match.Dst (single_range a) false
+                ∷ match.Port i.key.proto i.number ∷ []) _
+                _ (door_tried e jump s a i.key.proto i.number)
+                ∙ ap (λ b. target_if b jump (target.Jump chain) s)
+                (and_comm (same_address a s.target) proto_port))
+                ∙ by_fit (door_at kind i a) chain _ h;
+          }
 
       -- a rule for a port of the node, of whose addresses the destination is one
       pub node_rule : (d : Door)
@@ -173,10 +178,12 @@ module _ (setting : Setting) (e : Surroundings) (s : WalkState) where
           (rule_of (match.Port i.key.proto d.number ∷ []) (target.Jump chain)) d
       node_rule d same h =
           let proto_port : Bool = same_proto i.key.proto e.proto && (d.number == s.port) in
-          ap pathless (rule_if e jump s (match.Port i.key.proto d.number ∷ [])
-          (target.Jump chain) proto_port (tried_alone s proto_port)
-          ∙ ap (λ b. target_if b jump (target.Jump chain) s) same)
-          ∙ by_fit d chain (fits setting.config.addresses (packet_of e s) d) h
+          record {
+            same =
+                ap pathless (rule_if e jump s (match.Port i.key.proto d.number ∷ [])
+                _ proto_port (tried_alone s proto_port)
+                ∙ ap (λ b. target_if b jump (target.Jump chain) s) same) ∙ by_fit d chain _ h;
+          }
 
   -- ---- The doors of one port
 
@@ -219,4 +226,4 @@ module _ (setting : Setting) (e : Surroundings) (s : WalkState) where
     -- where it doesn't take a packet that is for it, its list is empty
     pub passed : is_taken setting e s (door_at door.Cluster i i.address) ≡ false
         → is_for_address i (packet_of e s) ≡ true → is_empty (internal_list i) ≡ true
-    passed not_taken here = passed_by (is_empty (internal_list i)) here refl not_taken
+    passed not_taken here = passed_by _ here refl not_taken

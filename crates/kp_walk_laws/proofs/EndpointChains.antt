@@ -96,9 +96,7 @@ module _ (e : Surroundings) (at : ChainAt → Option (List Rule))
         rule_of (match.Proto i.key.proto ∷ set_seen name i.affinity) (target.Dnat f) in
         ap (λ o. found_outcome e jump name o s) found
         ∙ ap (λ o. returned_from name (and_then o (rules_outcome e jump (translate ∷ []))))
-        (rule_if e jump s (match.Src (single_range f.address) false ∷ [])
-        (target.Jump mark_masq) own
+        (rule_if e jump s (match.Src (single_range f.address) false ∷ []) _ own
         (src_tried e jump s f.address) ∙ mark_by n own s)
         ∙ ap (λ t. returned_from name (and_then (matched_outcome jump (target.Dnat f) t)
-        (λ u. Next u)))
-        (translation_tried i name (marked_if own s) proto)
+        (λ u. Next u))) (translation_tried i name _ proto)

@@ -17,7 +17,7 @@ module _ {K X : Type 0} (R : K → K → Ordering) (exact : IsAntisymmetric R) w
       (e ∷ more)) f → ((k, v) ≡ f) ⊎ Contains (e ∷ es) f
   put_row k v e es more f h Less t c = in_cases f (k, v) (e ∷ es) c
   put_row k v e es more f h Equal t c =
-      elim (in_cases f (e.0, v) es c) [
+      elim (in_cases f _ es c) [
         | inl d ↦ inl (ap (λ q. (q, v)) (exact k e.0 t) ∙ d)
         | inr d ↦ inr (later_in f e es d)
       ]
@@ -30,13 +30,13 @@ module _ {K X : Type 0} (R : K → K → Ordering) (exact : IsAntisymmetric R) w
   from_put : (k : K) (v : X) (es : List (K × X)) (f : K × X) → Contains (put R k v es) f
       → ((k, v) ≡ f) ⊎ Contains es f
   from_put k v [] f c = in_cases f (k, v) [] c
-  from_put k v (e ∷ es) f c = put_row k v e es (put R k v es) f (from_put k v es f) (R k e.0) refl c
+  from_put k v (e ∷ es) f c = put_row k v e es _ f (from_put k v es f) _ refl c
 
   -- each of the entries in order is an entry of the list
   pub from_in_order : (es : List (K × X)) (f : K × X) → Contains (in_order R es) f → Contains es f
   from_in_order [] f c = c
   from_in_order (e ∷ es) f c =
-      elim (from_put e.0 e.1 (in_order R es) f c) [
+      elim (from_put e.0 e.1 _ f c) [
         | inl d ↦ subst (λ g. Contains (e ∷ es) g) d (first_in e es)
         | inr d ↦ later_in f e es (from_in_order es f d)
       ]
@@ -51,7 +51,7 @@ module _ {K X : Type 0} {R : K → K → Ordering} (total : IsTotalOrder R) wher
       → T (is_lt (R k f.0))
   below_less k [] f h c = absurd (none_in f c)
   below_less k (e ∷ es) f h c =
-      let parts = both_facts (is_lt (R k e.0)) (below_all R k es) h in
+      let parts = both_facts _ _ h in
       elim (in_cases f e es c) [
         | inl d ↦ subst (λ (g : K × X). T (is_lt (R k g.0))) d parts.0
         | inr d ↦ below_less k es f parts.1 d
@@ -62,7 +62,7 @@ module _ {K X : Type 0} {R : K → K → Ordering} (total : IsTotalOrder R) wher
       → Contains es f → e.0 ≡ f.0 → e ≡ f
   one_sorted [] h e f ce cf same = absurd (none_in e ce)
   one_sorted (g ∷ es) h e f ce cf same =
-      let parts = both_facts (below_all R g.0 es) (is_sorted R es) h in
+      let parts = both_facts _ _ h in
       elim (in_cases e g es ce) [
         | inl d ↦ elim (in_cases f g es cf) [
           | inl t ↦ sym d ∙ t

@@ -1,8 +1,8 @@
 -- What the chain of what comes in from outside does: by the external traffic policy it goes to the
 -- chain of a list, and it comes back where that list is empty, with the packet as it was.
-use Rattle.std.proofs.Common.{◌≡◌, ℕ, suc, Bool, true, false, not, cond, ◌&&◌, ◌||◌, List, [], ◌∷◌, length, Option, Some, None, refl, sym, ap, ap₂, ◌∙◌, true≢false}
+use Rattle.std.proofs.Common.{◌≡◌, ℕ, suc, Bool, true, false, not, cond, ◌&&◌, ◌||◌, List, [], ◌∷◌, Option, Some, None, refl, sym, ap, ap₂, ◌∙◌, true≢false}
 use Rattle.std.proofs.Math.Bool.{and-false}
-use Rattle.kp_base.specs.Net.{RangeParts, range_contains, is_local_address, same_address}
+use Rattle.kp_base.specs.Net.{RangeParts, is_local_address}
 use Rattle.kp_types.specs.Setting.{Setting}
 use Rattle.kp_types.specs.Rules.{rule_of}
 use Rattle.kp_types.specs.Ports.{same_proto}
@@ -20,7 +20,7 @@ use Rattle.kp_choice_defs.specs.Settings.{pick_by_draws}
 use Rattle.kp_object_defs.specs.Desired.{is_empty}
 use Rattle.kp_object_defs.specs.Lists.{is_local_policy, list_by_policy}
 use Rattle.kp_object_defs.specs.PortInfo.{PortInfo, internal_list}
-use Rattle.kp_door_defs.specs.Choice.{Chosen, chosen_endpoint}
+use Rattle.kp_door_defs.specs.Choice.{Chosen}
 use Rattle.kp_door_defs.specs.Doors.{Offer, is_in_cluster, is_in_range, offer_by_policy, outer_offer}
 use Rattle.kp_door_defs.specs.Marks.{marked_outside}
 use Rattle.kp_table_defs.specs.Layout.{mark_masq, jump_to, pod_rules, external_rules, rules_if, chain_of_policy, endpoint_chain, port_chain}
@@ -31,7 +31,7 @@ use Rattle.kp_walk_laws.proofs.Outcomes.{and_then_next, rules_append}
 use Rattle.kp_walk_laws.proofs.Matches.{packet_of, rule_if, tried_alone}
 use Rattle.kp_walk_laws.proofs.EndpointChains.{marked_if, mark_outcome}
 use Rattle.kp_walk_laws.proofs.ListChains.{is_for_address, list_outcome, marks_packet}
-use Rattle.kp_walk_laws.proofs.Arrivals.{FindsChains, chosen_outcome, offer_last, offer_outcome, used_by}
+use Rattle.kp_walk_laws.proofs.Arrivals.{FindsChains, chosen_outcome, offer_last, offer_outcome}
 use Rattle.kp_walk_laws.proofs.PortLookups.{in_either}
 
 -- ---- The chain of a policy's list
@@ -56,14 +56,12 @@ module _ (setting : Setting) (by_draws : setting.pick ≡ pick_by_draws) (e : Su
       ap (λ o. found_outcome e (chain_outcome e at Nat (suc (suc n))) (port_chain setting i Svc) o
       s) (finds.port Svc some)
       ∙ ap (returned_from (port_chain setting i Svc)) (list_outcome setting by_draws e at mark i
-      proto (marks_inside Cluster i) i.lists.cluster some
-      (λ f c. finds.endpoint f (in_either i Cluster f c)) n s fresh)
+      proto _ _ some (λ f c. finds.endpoint f (in_either i Cluster f c)) n s fresh)
   policy_outcome Local some n s fresh =
       ap (λ o. found_outcome e (chain_outcome e at Nat (suc (suc n))) (port_chain setting i Svl) o
       s) (finds.port Svl some)
       ∙ ap (returned_from (port_chain setting i Svl)) (list_outcome setting by_draws e at mark i
-      proto (marks_inside Local i) i.lists.local some
-      (λ f c. finds.endpoint f (in_either i Local f c)) n s fresh)
+      proto _ _ some (λ f c. finds.endpoint f (in_either i Local f c)) n s fresh)
 
   -- ---- By the external traffic policy
 
@@ -101,7 +99,7 @@ module _ (setting : Setting) (by_draws : setting.pick ≡ pick_by_draws) (e : Su
     list_jump p h =
         policy_outcome p h n s fresh
         ∙ ap (λ m. offer_outcome setting i e m s (offer_by_policy i p))
-        (unmarked_by p i.internal (is_for_address i (packet_of e s)) _ refl h passed)
+        (unmarked_by p i.internal _ _ refl h passed)
 
     same_mark : (own : Bool) (c : Chosen) (used : ℕ)
         → marked_if (own || false) (record with_mark { used = used; lists = c.lists })
@@ -115,7 +113,7 @@ module _ (setting : Setting) (by_draws : setting.pick ≡ pick_by_draws) (e : Su
     marked_choice used None = refl
     marked_choice used (Some c) =
         ap (Ended (ending.Dnat c.endpoint) (endpoint_chain setting i c.endpoint ∷ []))
-        (same_mark (same_address c.endpoint.address s.source) c (used_by e.draws s.used used c.by))
+        (same_mark _ c _)
 
     -- the chain of the cluster list, for a packet that was marked
     marked_jump : jump (port_chain setting i Svc) with_mark
@@ -123,10 +121,8 @@ module _ (setting : Setting) (by_draws : setting.pick ≡ pick_by_draws) (e : Su
     marked_jump =
         policy_outcome Cluster some n with_mark fresh
         ∙ ap (λ m. offer_outcome setting i e m with_mark (offer_by_policy i Cluster))
-        (unmarked_by Cluster i.internal (is_for_address i (packet_of e s)) _ refl some passed)
-        ∙ ap (returned_from (port_chain setting i Svc))
-        (marked_choice (length i.lists.cluster) (chosen_endpoint setting i.key i.affinity s.source
-        e.now e.draws i.lists.cluster s.lists))
+        (unmarked_by Cluster i.internal _ _ refl some passed)
+        ∙ ap (returned_from (port_chain setting i Svc)) (marked_choice _ _)
 
     -- packets of the cluster's range go to all endpoints
     pod_outcome : (cluster : Option RangeParts)
@@ -134,23 +130,19 @@ module _ (setting : Setting) (by_draws : setting.pick ≡ pick_by_draws) (e : Su
         ≡ target_if (is_in_range cluster s.source) jump (target.Jump (port_chain setting i Svc)) s
     pod_outcome None = refl
     pod_outcome (Some r) =
-        and_then_next (rule_outcome e jump
-        (rule_of (match.Src r false ∷ []) (target.Jump (port_chain setting i Svc))) s)
-        ∙ rule_if e jump s (match.Src r false ∷ []) (target.Jump (port_chain setting i Svc))
-        (range_contains r s.source) (tried_alone s (range_contains r s.source))
+        and_then_next _ ∙ rule_if e jump s (match.Src r false ∷ []) _ _ (tried_alone s _)
 
     -- a rule for the node's own packets
     own_rule : (t : Target) (b : Bool) → is_local_address e.node_addresses s.source ≡ b
         → rule_outcome e jump (rule_of (match.SrcLocal ∷ []) t) s ≡ target_if b jump t s
     own_rule t b h = rule_if e jump s (match.SrcLocal ∷ []) t b
-        (tried_alone s (is_local_address e.node_addresses s.source) ∙ ap (tried_as s) h)
+        (tried_alone s _ ∙ ap (tried_as s) h)
 
     -- the rule for the local list, where it isn't empty
     local_outcome : (b : Bool) → not (is_empty i.lists.local) ≡ b
         → rules_outcome e jump (rules_if b (jump_to (port_chain setting i Svl) ∷ [])) s
         ≡ cond b (offer_outcome setting i e false s (offer_by_policy i Local)) (Next s)
-    local_outcome true h =
-        and_then_next (jump (port_chain setting i Svl) s) ∙ list_jump Local h
+    local_outcome true h = and_then_next _ ∙ list_jump Local h
     local_outcome false h = refl
 
     -- the rules behind those for pods
@@ -170,10 +162,10 @@ module _ (setting : Setting) (by_draws : setting.pick ≡ pick_by_draws) (e : Su
         let to_svc : Rule =
         rule_of (match.SrcLocal ∷ []) (target.Jump (port_chain setting i Svc)) in
         ap (λ o. and_then o (λ t. and_then (rule_outcome e jump to_svc t) last))
-        (own_rule (target.Jump mark_masq) true h ∙ mark_outcome e at mark (suc (suc n)) s)
+        (own_rule _ true h ∙ mark_outcome e at mark (suc (suc n)) s)
         ∙ ap (λ o. and_then o last)
         (rule_if e jump with_mark (match.SrcLocal ∷ []) (target.Jump (port_chain setting i Svc))
-        true (tried_alone with_mark (is_local_address e.node_addresses s.source)
+        true (tried_alone with_mark _
         ∙ ap (tried_as with_mark) h) ∙ marked_jump)
         ∙ (offer_last setting i e true s [] (offer_by_policy i Cluster)).stays last
     rest_outcome false h =
@@ -182,9 +174,7 @@ module _ (setting : Setting) (by_draws : setting.pick ≡ pick_by_draws) (e : Su
         let to_svc : Rule =
         rule_of (match.SrcLocal ∷ []) (target.Jump (port_chain setting i Svc)) in
         ap (λ o. and_then o (λ t. and_then (rule_outcome e jump to_svc t) last))
-        (own_rule (target.Jump mark_masq) false h)
-        ∙ ap (λ o. and_then o last) (own_rule (target.Jump (port_chain setting i Svc)) false h)
-        ∙ local_outcome (not (is_empty i.lists.local)) refl
+        (own_rule _ false h) ∙ ap (λ o. and_then o last) (own_rule _ false h) ∙ local_outcome _ refl
 
     -- what is done with an offer
     abbrev pub taken_if_any : Bool → Offer → Outcome
@@ -216,14 +206,14 @@ module _ (setting : Setting) (by_draws : setting.pick ≡ pick_by_draws) (e : Su
     external_outcome own Cluster =
         ap (λ o. and_then o (rules_outcome e jump (jump_to (port_chain setting i Svc) ∷ [])))
         (mark_outcome e at mark (suc (suc n)) s)
-        ∙ and_then_next (jump (port_chain setting i Svc) with_mark) ∙ marked_jump
+        ∙ and_then_next _ ∙ marked_jump
         ∙ ap (λ b. cond b (offer_outcome setting i e true s (offer_by_policy i Cluster)) (Next s))
         (sym some)
     external_outcome own Local =
         let pod : Bool = is_in_cluster setting.config s.source in
         rules_append e jump (pod_rules setting.config.cluster (port_chain setting i Svc)) rest s
-        ∙ ap (λ o. and_then o (rules_outcome e jump rest)) (pod_outcome setting.config.cluster)
-        ∙ local_policy pod (is_local_address e.node_addresses s.source) refl
+        ∙ ap (λ o. and_then o (rules_outcome e jump rest)) (pod_outcome _)
+        ∙ local_policy pod _ refl
         ∙ ap (λ addresses. taken_if_any (is_local_address addresses s.source && not pod)
         (cond (pod || is_local_address addresses s.source) (offer_by_policy i Cluster)
         (offer_by_policy i Local))) own

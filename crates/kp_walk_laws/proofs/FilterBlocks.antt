@@ -1,13 +1,12 @@
 -- What the rules of one port do in the filter: they refuse by the first of the port's lines that
 -- the packet fits.
 use Rattle.std.proofs.Common.{◌≡◌, ℕ, ◌==◌, Bool, true, false, not, cond, ◌&&◌, List, [], ◌∷◌, ◌++◌, map, Option, Some, None, is_some, refl, sym, ap, ap₂, subst, ◌∙◌}
-use Rattle.std.proofs.Math.Bool.{and_comm}
+use Rattle.std.proofs.Math.Bool.{and_assoc, and_comm}
 use Rattle.std.proofs.lemmas.List.{map-append}
 use Rattle.std.proofs.lemmas.Simd.{map-map}
 use Rattle.kp_base.specs.Net.{AddressParts, same_address, single_range, range_contains, loopback_range, is_local_address}
 use Rattle.kp_base.specs.declared.address.Family.{Family}
 use Rattle.kp_types.specs.Setting.{FamilyConfig}
-use Rattle.kp_types.specs.Rules.{rule_of}
 use Rattle.kp_types.specs.Ports.{same_proto}
 use Rattle.kp_types.specs.declared.decision.DoorKind.{DoorKind}
 use Rattle.kp_types.specs.declared.decision.DoorKind.TheVariants as door
@@ -18,12 +17,12 @@ use Rattle.kp_types.specs.declared.rule.Target.TheVariants as target
 use Rattle.kp_types.specs.declared.walk.Ending.{Ending}
 use Rattle.kp_types.specs.declared.walk.Ending.TheVariants as ending
 use Rattle.kp_object_defs.specs.Desired.{is_empty}
-use Rattle.kp_object_defs.specs.PortInfo.{PortInfo, internal_list, external_list}
+use Rattle.kp_object_defs.specs.PortInfo.{PortInfo}
 use Rattle.kp_door_defs.specs.Doors.{Door, door_at, node_door, fits}
 use Rattle.kp_door_defs.specs.Filter.{Refusal, Rejects, DropsClosed, DropsNoLocal, Line, line_of, refusal_by, firewall_lines, external_lines, service_lines}
 use Rattle.kp_table_defs.specs.Matching.{WalkState, Surroundings, try_all}
 use Rattle.kp_table_defs.specs.Layout.{rule_at, rules_if, firewall_block, external_block, refusal_block, refusal_target, node_port_refusal, own_addresses}
-use Rattle.kp_table_defs.specs.Walk.{Outcome, target_if, target_outcome, rule_outcome}
+use Rattle.kp_table_defs.specs.Walk.{Outcome, target_if, target_outcome}
 use Rattle.kp_table_defs.specs.Walk.Outcome.{Next, Ended}
 use Rattle.kp_walk_laws.proofs.Outcomes.{FindIn, IsRuleOf, IsLast, pathless_by, ended_last, find_in_one, find_in_map, find_in_append}
 use Rattle.kp_walk_laws.proofs.Matches.{packet_of, rule_if, door_tried, tried_alone, tried_before}
@@ -43,14 +42,7 @@ abbrev pub fits_line : FamilyConfig → Surroundings → WalkState → Line → 
 fits_line config e s l = fits config.addresses (packet_of e s) l.door
 
 and_turn : (a b c : Bool) → (a && (b && c)) ≡ (c && (b && a))
-and_turn true true true = refl
-and_turn true true false = refl
-and_turn true false true = refl
-and_turn true false false = refl
-and_turn false true true = refl
-and_turn false true false = refl
-and_turn false false true = refl
-and_turn false false false = refl
+and_turn a b c = and_comm a (b && c) ∙ ap (λ d. d && a) (and_comm b c) ∙ and_assoc c b a
 
 -- the lines of some doors
 lines_of : {X : Type 0} (r : Refusal) (f g : X → Door) (xs ys : List X) (ds : List Door)
@@ -77,12 +69,12 @@ module _ (config : FamilyConfig) (family : Family) (e : Surroundings)
   refusal_targets false = refl
 
   pub refusing_last : (l : Line) → IsLast (refusing s l)
-  refusing_last l = ended_last (ending_of l.refusal) [] s
+  refusing_last l = ended_last _ [] s
 
-  refuse_if : (b : Bool) (rules : List Rule) (lines : List Line) → Refuses rules lines
+  refuse_if : (b : Bool) {rules : List Rule} {lines : List Line} → Refuses rules lines
       → Refuses (rules_if b rules) (cond b lines [])
-  refuse_if true rules lines h = h
-  refuse_if false rules lines h = refl
+  refuse_if true h = h
+  refuse_if false h = record { same = refl }
 
   by_target : (t : Target) (r : Refusal) (b : Bool) → IsTargetOf t r
       → target_if b jump t s ≡ cond b (Ended (ending_of r) [] s) (Next s)
@@ -96,32 +88,32 @@ module _ (config : FamilyConfig) (family : Family) (e : Surroundings)
       (line_of r (door_at kind i a))
   line_rule i kind t r h a =
       let proto_port : Bool = same_proto i.key.proto e.proto && (i.number == s.port) in
-      pathless_by (rule_outcome e jump (rule_at i t a) s)
-      (fits_line config e s (line_of r (door_at kind i a))) (ending_of r) s s
-      (rule_if e jump s (match.Dst (single_range a) false ∷ match.Port i.key.proto i.number ∷ []) t
-      (same_address a s.target && proto_port) (door_tried e jump s a i.key.proto i.number)
-      ∙ by_target t r (same_address a s.target && proto_port) h
-      ∙ ap (λ b. cond b (Ended (ending_of r) [] s) (Next s))
-      (and_comm (same_address a s.target) proto_port))
+      record {
+        same =
+            pathless_by _ _ _ s s (rule_if e jump s (match.Dst (single_range a) false
+            ∷ match.Port i.key.proto i.number ∷ []) t _ (door_tried e jump s a i.key.proto i.number)
+            ∙ by_target t r _ h
+            ∙ ap (λ b. cond b (Ended (ending_of r) [] s) (Next s))
+            (and_comm (same_address a s.target) proto_port));
+      }
 
   -- rules for addresses of a port
   line_rules : (i : PortInfo) (kind : DoorKind) (t : Target) (r : Refusal) → IsTargetOf t r
       → (addresses : List AddressParts)
       → Refuses (map (rule_at i t) addresses) (map (λ a. line_of r (door_at kind i a)) addresses)
   line_rules i kind t r h addresses =
-      find_in_map (fits_line config e s) (refusing s) refusing_last e jump s (rule_at i t)
-      (λ a. line_of r (door_at kind i a)) addresses (λ a c. line_rule i kind t r h a)
+      find_in_map refusing_last _ (λ a. line_of r (door_at kind i a)) addresses (λ a c. line_rule i kind t r h a)
 
   nothing_refused : (b c : Bool) → Refuses (rules_if b []) (cond c [] [])
-  nothing_refused true true = refl
-  nothing_refused true false = refl
-  nothing_refused false true = refl
-  nothing_refused false false = refl
+  nothing_refused true true = record { same = refl }
+  nothing_refused true false = record { same = refl }
+  nothing_refused false true = record { same = refl }
+  nothing_refused false false = record { same = refl }
 
   -- the firewall's rules of a port
   pub firewall_refuses : (i : PortInfo) → Refuses (firewall_block i) (firewall_lines i)
   firewall_refuses i =
-      by_balancer i.balancer (line_rules i door.Balancer target.Drop DropsClosed refl i.balancer)
+      by_balancer i.balancer (line_rules i _ target.Drop DropsClosed refl i.balancer)
     where
       by_balancer : (balancer : List AddressParts)
           → Refuses (map (rule_at i target.Drop) balancer)
@@ -130,52 +122,38 @@ module _ (config : FamilyConfig) (family : Family) (e : Surroundings)
           (map (rule_at i target.Drop) balancer))
           (cond (is_some i.ranges && i.lists.has_any)
           (map (λ a. line_of DropsClosed (door_at door.Balancer i a)) balancer) [])
-      by_balancer [] h = nothing_refused (is_some i.ranges && (false && i.lists.has_any))
-          (is_some i.ranges && i.lists.has_any)
-      by_balancer (a ∷ more) h = refuse_if (is_some i.ranges && i.lists.has_any)
-          (map (rule_at i target.Drop) (a ∷ more))
-          (map (λ b. line_of DropsClosed (door_at door.Balancer i b)) (a ∷ more)) h
+      by_balancer [] h = nothing_refused _ _
+      by_balancer (a ∷ more) h = refuse_if _ h
 
   -- the rule of a cluster address without endpoints
   pub service_refuses : (i : PortInfo) → Refuses (refusal_block i) (service_lines i)
   service_refuses i =
-      refuse_if (is_empty (internal_list i))
-      (rule_at i (refusal_target i.lists.has_any) i.address ∷ [])
-      (line_of (refusal_by i.lists.has_any) (door_at door.Cluster i i.address) ∷ [])
-      (find_in_one (fits_line config e s) (refusing s) refusing_last e jump s
-      (rule_at i (refusal_target i.lists.has_any) i.address)
-      (line_of (refusal_by i.lists.has_any) (door_at door.Cluster i i.address))
-      (line_rule i door.Cluster (refusal_target i.lists.has_any) (refusal_by i.lists.has_any)
-      (refusal_targets i.lists.has_any) i.address))
+      refuse_if _ (find_in_one (line_rule i door.Cluster _ _ (refusal_targets _) i.address))
 
   -- the rule of a node port
   node_refuses : e.node_addresses ≡ config.addresses → (i : PortInfo) (t : Target) (r : Refusal)
       → IsTargetOf t r → (port : Option ℕ) → ((n : ℕ) → port ≡ Some n → i.address.family ≡ family)
       → Refuses (node_port_refusal family i t port) (map (line_of r) (node_door i port))
-  node_refuses own i t r h None same = refl
+  node_refuses own i t r h None same = record { same = refl }
   node_refuses own i t r h (Some n) same =
       let not_loop : Bool = not (range_contains (loopback_range family) s.target) in
       let local : Bool = is_local_address e.node_addresses s.target in
       let proto_port : Bool = same_proto i.key.proto e.proto && (n == s.port) in
-      let rule : Rule = rule_of (own_addresses family ++ match.Port i.key.proto n ∷ []) t in
-      let line : Line =
-      line_of r (record { kind = door.Node; info = i; address = None; number = n }) in
-      find_in_one (fits_line config e s) (refusing s) refusing_last e jump s rule line
-      (pathless_by (rule_outcome e jump rule s) (fits_line config e s line) (ending_of r) s s
-      (rule_if e jump s (own_addresses family ++ match.Port i.key.proto n ∷ []) t
-      (not_loop && (local && proto_port))
-      (tried_before s not_loop (local && proto_port)
-      (try_all e (match.DstLocal ∷ match.Port i.key.proto n ∷ []))
-      (tried_before s local proto_port (try_all e (match.Port i.key.proto n ∷ []))
-      (tried_alone s proto_port)))
-      ∙ by_target t r (not_loop && (local && proto_port)) h
-      ∙ ap (λ b. cond b (Ended (ending_of r) [] s) (Next s)) (and_turn not_loop local proto_port)
-      ∙ ap (λ a. cond (proto_port && (is_local_address a s.target && not_loop))
-      (Ended (ending_of r) [] s) (Next s)) own
-      ∙ ap (λ f.
-      cond (proto_port && (is_local_address config.addresses s.target
-      && not (range_contains (loopback_range f) s.target))) (Ended (ending_of r) [] s) (Next s))
-      (sym (same n refl))))
+      find_in_one (record {
+        same =
+            pathless_by _ _ _ s s
+            (rule_if e jump s (own_addresses family ++ match.Port i.key.proto n ∷ []) t _
+            (tried_before s not_loop _ (try_all e (match.DstLocal ∷ match.Port i.key.proto n ∷ []))
+            (tried_before s local proto_port (try_all e (match.Port i.key.proto n ∷ []))
+            (tried_alone s proto_port)))
+            ∙ by_target t r _ h
+            ∙ ap (λ b. cond b (Ended (ending_of r) [] s) (Next s)) (and_turn not_loop local proto_port)
+            ∙ ap (λ a. cond (proto_port && (is_local_address a s.target && not_loop))
+            (Ended (ending_of r) [] s) (Next s)) own
+            ∙ ap (λ f. cond (proto_port && (is_local_address config.addresses s.target
+            && not (range_contains (loopback_range f) s.target))) (Ended (ending_of r) [] s) (Next s))
+            (sym (same n refl)));
+      })
 
   -- the rules of a port for what comes from outside
   pub external_refuses : e.node_addresses ≡ config.addresses → (i : PortInfo)
@@ -185,22 +163,11 @@ module _ (config : FamilyConfig) (family : Family) (e : Surroundings)
       let t : Target = refusal_target i.lists.has_any in
       let r : Refusal = refusal_by i.lists.has_any in
       let rules : List AddressParts → List Rule = map (rule_at i t) in
-      let lines : DoorKind → List AddressParts → List Line =
-      λ kind addresses. map (λ a. line_of r (door_at kind i a)) addresses in
       let node : List Rule = node_port_refusal family i t i.node_port in
-      let node_lines : List Line = map (line_of r) (node_door i i.node_port) in
-      let balancer_part = find_in_append (fits_line config e s) (refusing s) refusing_last e jump s
-      (rules i.external) (rules i.balancer) (lines door.External i.external)
-      (lines door.Balancer i.balancer)
-      (line_rules i door.External t r (refusal_targets i.lists.has_any) i.external)
-      (line_rules i door.Balancer t r (refusal_targets i.lists.has_any) i.balancer) in
-      let all_parts = find_in_append (fits_line config e s) (refusing s) refusing_last e jump s
-      (rules i.external ++ rules i.balancer) node
-      (lines door.External i.external ++ lines door.Balancer i.balancer) node_lines
-      balancer_part (node_refuses own i t r (refusal_targets i.lists.has_any) i.node_port same) in
-      refuse_if (is_empty (external_list i)) (rules i.external ++ rules i.balancer ++ node)
-      (map (line_of r) (map (door_at door.External i) i.external
-      ++ map (door_at door.Balancer i) i.balancer ++ node_door i i.node_port))
-      (subst (Refuses (rules i.external ++ rules i.balancer ++ node))
-      (sym (lines_of r (door_at door.External i) (door_at door.Balancer i) i.external i.balancer
-      (node_door i i.node_port))) all_parts)
+      let by_address = find_in_append refusing_last
+      (line_rules i _ t r (refusal_targets _) i.external)
+      (line_rules i _ t r (refusal_targets _) i.balancer) in
+      let all_parts = find_in_append refusing_last by_address
+      (node_refuses own i t r (refusal_targets _) i.node_port same) in
+      refuse_if _ (subst (Refuses (rules i.external ++ rules i.balancer ++ node))
+      (sym (lines_of r _ _ i.external i.balancer _)) all_parts)

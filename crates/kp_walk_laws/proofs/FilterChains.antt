@@ -40,7 +40,7 @@ refused_chain : (chain : List ℕ) (found : Option Line) (s : WalkState) (o : Ou
     → IsRefused found s (returned_from chain o)
 refused_chain chain None s o h = ap (returned_from chain) (next_of o s h)
 refused_chain chain (Some l) s o h =
-    let (path, is) = ended_of o (ending_of l.refusal) s h in
+    let (path, is) = ended_of o _ s h in
     (chain ∷ path, ap (returned_from chain) is)
 
 -- a chain before what is behind it in a hook
@@ -110,28 +110,23 @@ module _ (config : FamilyConfig) (family : Family) (infos : List PortInfo) (e : 
   blocks_chain chain block lines found h =
       subst (IsRefused (first_line config e s (flat_map lines infos)) s)
       (sym (ap (λ o. found_outcome e (chain_outcome e at Filter n) chain o s) found))
-      (refused_chain chain (first_line config e s (flat_map lines infos)) s
-      (rules_outcome e (chain_outcome e at Filter n) (flat_map block infos) s)
-      (find_in_each (fits_line config e s) (refusing s)
-      (refusing_last config family e (chain_outcome e at Filter n) s) e
-      (chain_outcome e at Filter n) s block lines infos h))
+      (refused_chain chain _ s _
+      (find_in_each (refusing_last config family e (chain_outcome e at Filter n) s) block lines infos
+      h).same)
 
   firewall_chain : IsRefused (first_line config e s (flat_map firewall_lines infos)) s
       (chain_outcome e at Filter (suc n) kube_proxy_firewall s)
-  firewall_chain = blocks_chain kube_proxy_firewall firewall_block firewall_lines finds.firewall
-      (λ i c. firewall_refuses config family e (chain_outcome e at Filter n) s i)
+  firewall_chain = blocks_chain _ _ _ finds.firewall (λ i c. firewall_refuses config family e _ s i)
 
   external_chain : IsRefused (first_line config e s (flat_map external_lines infos)) s
       (chain_outcome e at Filter (suc n) kube_external_services s)
   external_chain =
-      blocks_chain kube_external_services (external_block family) external_lines finds.external
-      (λ i c. external_refuses config family e (chain_outcome e at Filter n) s own i
+      blocks_chain _ _ _ finds.external (λ i c. external_refuses config family e _ s own i
       (λ k. nodes i k c))
 
   services_chain : IsRefused (first_line config e s (flat_map service_lines infos)) s
       (chain_outcome e at Filter (suc n) kube_services s)
-  services_chain = blocks_chain kube_services refusal_block service_lines finds.services
-      (λ i c. service_refuses config family e (chain_outcome e at Filter n) s i)
+  services_chain = blocks_chain _ _ _ finds.services (λ i c. service_refuses config family e _ s i)
 
   -- the chain that accepts what is marked
   forward_chain : IsFiltered None s (chain_outcome e at Filter (suc n) kube_forward s)
@@ -139,8 +134,7 @@ module _ (config : FamilyConfig) (family : Family) (infos : List PortInfo) (e : 
       subst (IsFiltered None s)
       (sym (ap (λ o. found_outcome e (chain_outcome e at Filter n) kube_forward o s) finds.marked
       ∙ ap (λ o. returned_from kube_forward (and_then o (λ t. Next t)))
-      (rule_if e (chain_outcome e at Filter n) s (match.Marked false ∷ []) target.Accept s.marked
-      (tried_alone s s.marked))))
+      (rule_if e _ s (match.Marked false ∷ []) _ s.marked (tried_alone s s.marked))))
       (by_mark s.marked)
     where
       by_mark : (b : Bool) → IsFiltered None s
@@ -159,9 +153,7 @@ module _ (config : FamilyConfig) (family : Family) (infos : List PortInfo) (e : 
   hook_by h rules found stands same k =
       subst (IsFiltered (first_line config e s (hook_lines h infos)) s)
       (sym (ap (λ o. found_outcome e (chain_outcome e at Filter (suc n)) (hook_chain h) o s)
-      stands))
-      (filtered_hook (hook_chain h) (first_line config e s (hook_lines h infos)) s
-      (rules_outcome e (chain_outcome e at Filter (suc n)) rules s)
+      stands)) (filtered_hook _ _ s _
       (subst (λ o. IsFiltered o s (rules_outcome e (chain_outcome e at Filter (suc n)) rules s))
       (sym same) k))
 
@@ -175,44 +167,23 @@ module _ (config : FamilyConfig) (family : Family) (infos : List PortInfo) (e : 
       let ext : List Line = flat_map external_lines infos in
       let svc : List Line = flat_map service_lines infos in
       let last : IsFiltered None s (rules_outcome e jump (jump_to kube_forward ∷ []) s) =
-      subst (IsFiltered None s) (sym (and_then_next (jump kube_forward s))) forward_chain in
+      subst (IsFiltered None s) (sym (and_then_next _)) forward_chain in
       elim h as (λ k. IsFiltered (first_line config e s (hook_lines k infos)) s
       (chain_outcome e at Filter (suc (suc n)) (hook_chain k) s)) [
-        | Input ↦ hook_by Input (jump_to kube_proxy_firewall ∷ jump_to kube_external_services ∷ [])
-            (option_or (find test fw) (option_or (find test ext) None)) finds.input
-            (find-append test fw ext ∙ ap (option_or (find test fw))
-            (sym (or_none (find test ext))))
-            (filtered_then (find test fw) (option_or (find test ext) None) s
-            (jump kube_proxy_firewall s) (rules_outcome e jump
-            (jump_to kube_external_services ∷ [])) firewall_chain
-            (filtered_then (find test ext) None s (jump kube_external_services s)
+        | Input ↦ hook_by Input _
+            _ finds.input (find-append test fw ext ∙ ap (option_or (find test fw))
+            (sym (or_none _))) (filtered_then _ _ s _ _ firewall_chain (filtered_then _ None s _
             (λ t. Next t) external_chain (inl refl)))
         | Forward ↦
-            hook_by Forward (jump_to kube_proxy_firewall ∷ jump_to kube_external_services
-            ∷ jump_to kube_services ∷ jump_to kube_forward ∷ [])
-            (option_or (find test fw) (option_or (find test ext) (option_or (find test svc) None)))
-            finds.forward
-            (find-append test (fw ++ ext) svc ∙ ap (λ o. option_or o (find test svc))
+            hook_by Forward _ _ finds.forward
+            (find-append test _ svc ∙ ap (λ o. option_or o (find test svc))
             (find-append test fw ext) ∙ sym (or_assoc (find test fw) (find test ext)
             (find test svc))
-            ∙ ap (λ o. option_or (find test fw) (option_or (find test ext) o))
-            (sym (or_none (find test svc))))
-            (filtered_then (find test fw) (option_or (find test ext)
-            (option_or (find test svc) None)) s (jump kube_proxy_firewall s)
-            (rules_outcome e jump (jump_to kube_external_services ∷ jump_to kube_services
-            ∷ jump_to kube_forward ∷ [])) firewall_chain
-            (filtered_then (find test ext) (option_or (find test svc) None) s
-            (jump kube_external_services s) (rules_outcome e jump
-            (jump_to kube_services ∷ jump_to kube_forward ∷ [])) external_chain
-            (filtered_then (find test svc) None s (jump kube_services s)
-            (rules_outcome e jump (jump_to kube_forward ∷ [])) services_chain last)))
-        | Output ↦ hook_by Output (jump_to kube_proxy_firewall ∷ jump_to kube_services ∷ [])
-            (option_or (find test fw) (option_or (find test svc) None)) finds.output
-            (find-append test fw svc ∙ ap (option_or (find test fw))
-            (sym (or_none (find test svc))))
-            (filtered_then (find test fw) (option_or (find test svc) None) s
-            (jump kube_proxy_firewall s) (rules_outcome e jump (jump_to kube_services ∷ []))
-            firewall_chain
-            (filtered_then (find test svc) None s (jump kube_services s)
+            ∙ ap (λ o. option_or (find test fw) (option_or (find test ext) o)) (sym (or_none _)))
+            (filtered_then _ _ s _ _ firewall_chain (filtered_then _ _ s _ _ external_chain
+            (filtered_then _ None s _ _ services_chain last)))
+        | Output ↦ hook_by Output _
+            _ finds.output (find-append test fw svc ∙ ap (option_or (find test fw))
+            (sym (or_none _))) (filtered_then _ _ s _ _ firewall_chain (filtered_then _ None s _
             (λ t. Next t) services_chain (inl refl)))
       ]

@@ -1,8 +1,6 @@
 -- What the first hook does: it translates as the first door says that takes the packet.
-use Rattle.std.proofs.Common.{◌≡◌, ℕ, Bool, true, false, not, cond, List, [], ◌∷◌, ◌++◌, Contains, Option, Some, None, is_some, option_map, option_and_then, flat_map, codes, refl, sym, ap, ◌∙◌}
-use Rattle.std.specs.List.{find}
+use Rattle.std.proofs.Common.{◌≡◌, ℕ, true, not, List, [], ◌∷◌, ◌++◌, Contains, Option, Some, None, is_some, option_map, option_and_then, flat_map, codes, refl, ap, ◌∙◌}
 use Rattle.std.proofs.lemmas.Bool.{and_parts}
-use Rattle.std.proofs.lemmas.Option.{same_Some}
 use Rattle.kp_types.specs.Setting.{Setting}
 use Rattle.kp_types.specs.Rules.{rule_of}
 use Rattle.kp_types.specs.declared.chain.TableName.TheVariants.{Nat}
@@ -19,8 +17,9 @@ use Rattle.kp_door_defs.specs.Decision.{Translation, translation_at, translation
 use Rattle.kp_door_defs.specs.Doors.{Door, doors_of, fits, offer_of, takes, taking_door}
 use Rattle.kp_table_defs.specs.Layout.{jump_to, mark_masq, kube_services, kube_node_ports, kube_postrouting, service_block, node_port_block, own_addresses}
 use Rattle.kp_table_defs.specs.Matching.{WalkState, Surroundings}
-use Rattle.kp_table_defs.specs.Walk.{Outcome, found_outcome, returned_from, rules_outcome, chain_outcome, first_hook, most_chains}
+use Rattle.kp_table_defs.specs.Walk.{Outcome, found_outcome, returned_from, chain_outcome, first_hook, most_chains}
 use Rattle.kp_table_defs.specs.Walk.Outcome.{Next, Stuck}
+use Rattle.kp_object_laws.proofs.PortByKey.{found_passes}
 use Rattle.kp_walk_laws.specs.Laws.{IsKnown}
 use Rattle.kp_walk_laws.proofs.Matches.{packet_of}
 use Rattle.kp_walk_laws.proofs.Outcomes.{or_next, and_then_next, pathless, pathless_returned}
@@ -48,19 +47,6 @@ pub record FindsNat (setting : Setting) (infos : List PortInfo)
       ≡ Some (flat_map (service_block setting) infos ++ rule_of (own_addresses setting.family)
       (target.Jump kube_node_ports) ∷ [])
 
-passes_by : {X : Type 0} (test : X → Bool) (x y : X) (found : Option X)
-    → (found ≡ Some x → test x ≡ true) → (b : Bool) → test y ≡ b → cond b (Some y) found ≡ Some x
-    → test x ≡ true
-passes_by test x y found later true t h = ap test (sym (same_Some y x h)) ∙ t
-passes_by test x y found later false t h = later h
-
--- what is found passes the test
-pub found_passes : {X : Type 0} (test : X → Bool) (xs : List X) (x : X) → find test xs ≡ Some x
-    → test x ≡ true
-found_passes test [] x h = absurd (cc)
-found_passes test (y ∷ ys) x h =
-    passes_by test x y (find test ys) (found_passes test ys x) (test y) refl h
-
 module _ (setting : Setting) (by_draws : setting.pick ≡ pick_by_draws) (infos : List PortInfo)
     (e : Surroundings) (own : e.node_addresses ≡ setting.config.addresses)
     (at : ChainAt → Option (List Rule)) (finds : FindsNat setting infos at) (s : WalkState) where
@@ -76,8 +62,7 @@ module _ (setting : Setting) (by_draws : setting.pick ≡ pick_by_draws) (infos 
       (option_and_then (translation_at setting (packet_of e s) e.draws s.lists) d))
   by_door None h = refl
   by_door (Some d) h =
-      same_translation (translation_at setting (packet_of e s) e.draws s.lists d)
-      (translates setting by_draws (packet_of e s) e.draws s.lists d
+      same_translation _ (translates setting by_draws (packet_of e s) e.draws s.lists d
       (and_parts (fits setting.config.addresses (packet_of e s) d)
       (not (is_empty (offer_of setting.config (packet_of e s) d).endpoints))
       (found_passes (takes setting.config (packet_of e s)) (doors_of infos) d h)).1)
@@ -110,17 +95,10 @@ module _ (setting : Setting) (by_draws : setting.pick ≡ pick_by_draws) (infos 
       ≡ pathless (arriving (Next s) setting e s (translation_of setting infos
       (packet_of e s) e.draws s.lists))
   first_outcome ports from =
-      let t : Option Translation =
-      translation_of setting infos (packet_of e s) e.draws s.lists in
-      let rules : List Rule =
-      flat_map (service_block setting) infos ++ rule_of (own_addresses setting.family)
-      (target.Jump kube_node_ports) ∷ [] in
+      let t : Option Translation = translation_of setting infos (packet_of e s) e.draws s.lists in
       ap (λ o. pathless (found_outcome e (chain_outcome e at Nat 7) (first_hook from) o s))
       (first_rules from)
-      ∙ chain_translates (first_hook from)
-      (rules_outcome e (chain_outcome e at Nat 7) (jump_to kube_services ∷ []) s) t
-      (ap pathless (and_then_next (chain_outcome e at Nat 7 kube_services s)
+      ∙ chain_translates _ _ t (ap pathless (and_then_next _
       ∙ ap (λ o. found_outcome e (chain_outcome e at Nat 6) kube_services o s) finds.services)
-      ∙ chain_translates kube_services (rules_outcome e (chain_outcome e at Nat 6) rules s) t
-      (services_send setting e own at s infos ports 0 finds.node_ports
-      ∙ by_door (taking_door setting.config infos (packet_of e s)) refl))
+      ∙ chain_translates _ _ t
+      ((services_send setting e own at s infos ports 0 finds.node_ports).same ∙ by_door _ refl))

@@ -17,7 +17,7 @@ use Rattle.kp_types.specs.declared.verdict.Verdict.TheVariants.{Rejected, Droppe
 use Rattle.kp_object_defs.specs.PortInfo.{PortInfo}
 use Rattle.kp_door_defs.specs.Filter.{Refusal, Rejects, DropsClosed, DropsNoLocal, Line, Hook, Input, Forward, Output, hook_lines, hooks_by}
 use Rattle.kp_table_defs.specs.Matching.{WalkState, Surroundings}
-use Rattle.kp_table_defs.specs.Walk.{Outcome, chain_outcome, most_chains, Journey, Filtering, Masquerading, after_hook, through, routed_hook, input_if, filter_hooks, postrouting_if, verdict_by, walked_by}
+use Rattle.kp_table_defs.specs.Walk.{Outcome, Journey, Filtering, Masquerading, after_hook, through, routed_hook, input_if, filter_hooks, postrouting_if, verdict_by, walked_by}
 use Rattle.kp_table_defs.specs.Walk.Outcome.{Ended}
 use Rattle.kp_walk_laws.proofs.FilterBlocks.{ending_of, fits_line}
 use Rattle.kp_walk_laws.proofs.FilterChains.{IsFiltered, FindsFilter, first_line, hook_chain, hook_filtered}
@@ -77,9 +77,7 @@ module _ (config : FamilyConfig) (family : Family) (infos : List PortInfo) (e : 
       (journey_at s to None trail) ≡ journey_at s to
       (option_map line_verdict (first_line config e s (hook_lines h infos))) after)
   one_hook h trail =
-      after_filter s to trail (first_line config e s (hook_lines h infos))
-      (chain_outcome e at Filter most_chains (hook_chain h) s)
-      (hook_filtered config family infos e at finds 6 s own nodes h)
+      after_filter s to trail _ _ (hook_filtered config family infos e at finds 6 s own nodes h)
 
   -- one hook that is all of the filter
   only_hook : (h : Hook) (trail : List (List (List ℕ)))
@@ -115,7 +113,7 @@ module _ (config : FamilyConfig) (family : Family) (infos : List PortInfo) (e : 
   sent false trail = only_hook Output trail
   sent true trail =
       let (middle, is) = one_hook Output trail in
-      let (after, then) = second_hook (first_line config e s (hook_lines Output infos)) middle in (
+      let (after, then) = second_hook _ middle in (
         after,
         ap (through e at Filtering Filter (codes "INPUT")) is ∙ then
             ∙ ap (λ o. journey_at s to (option_map line_verdict o) after)
@@ -130,8 +128,8 @@ module _ (config : FamilyConfig) (family : Family) (infos : List PortInfo) (e : 
       ≡ journey_at s to (option_map line_verdict
       (first_line config e s (flat_map (λ h. hook_lines h infos)
       (hooks_by from (is_local_address e.node_addresses s.target))))) after)
-  filter_journey Wire trail = routed (is_local_address e.node_addresses s.target) trail
-  filter_journey Node trail = sent (is_local_address e.node_addresses s.target) trail
+  filter_journey Wire trail = routed _ trail
+  filter_journey Node trail = sent _ trail
 
 module _ (setting : Setting) (infos : List PortInfo) (e : Surroundings)
     (at : ChainAt → Option (List Rule)) (finds : FindsNat setting infos at) (s : WalkState)

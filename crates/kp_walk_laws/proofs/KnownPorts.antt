@@ -1,12 +1,12 @@
 -- The ports of some objects have keys of their own, and what is known of them hangs together.
-use Rattle.std.proofs.Common.{◌≡◌, inl, inr, Bool, true, false, not, cond, ℕ, List, [], ◌∷◌, map, Contains, Option, Some, None, option_map, filter_map, refl, sym, ap, subst, ◌∙◌, T}
+use Rattle.std.proofs.Common.{◌≡◌, Bool, true, false, not, cond, ℕ, List, ◌∷◌, map, Option, Some, None, sym, ap, subst, ◌∙◌, T}
 use Rattle.std.proofs.lemmas.Bool.{or_right}
 use Rattle.std.specs.FinMap.{values}
 use Rattle.std.proofs.Math.Bool.{not-not}
-use Rattle.std.proofs.lemmas.Option.{same_Some}
+use Rattle.std.proofs.lemmas.Option.{cond_some}
 use Rattle.kp_lemmas.proofs.Members.{from_filter_map, in_map}
 use Rattle.kp_lemmas.proofs.Options.{from_option_map}
-use Rattle.kp_base.specs.Net.{AddressParts, same_family}
+use Rattle.kp_base.specs.Net.{AddressParts}
 use Rattle.kp_base.specs.declared.address.Family.{Family}
 use Rattle.kp_base.specs.declared.key.PortKey.{PortKey}
 use Rattle.kp_base.proofs.KeyOrder.{port_key_total}
@@ -17,29 +17,23 @@ use Rattle.kp_types.specs.declared.service.ClusterAddress.{ClusterAddress}
 use Rattle.kp_types.specs.declared.service.ClusterAddress.TheVariants.{Absent, Headless, At}
 use Rattle.kp_types.specs.declared.service.Service.{Service}
 use Rattle.kp_types.specs.declared.service.ServicePort.{ServicePort}
-use Rattle.kp_object_defs.specs.Desired.{is_external_name}
 use Rattle.kp_object_defs.specs.Entries.{sources_of, entries_from}
-use Rattle.kp_object_defs.specs.Lists.{is_local_policy, has_any_endpoint}
+use Rattle.kp_object_defs.specs.Lists.{has_any_endpoint}
 use Rattle.kp_object_defs.specs.Objects.{zone_of}
-use Rattle.kp_object_defs.specs.PortInfo.{PortInfo, port_infos, address_at, cluster_address_in, is_reachable_in, port_key_of, info_from, info_of, service_ports}
+use Rattle.kp_object_defs.specs.PortInfo.{PortInfo, port_infos, address_at, cluster_address_in, is_reachable_in, port_key_of, info_from, service_ports}
 use Rattle.kp_object_laws.proofs.Lists.{none_usable, cluster_empty}
 use Rattle.kp_table_laws.proofs.PortOrder.{ports_are_in_order}
 use Rattle.kp_walk_laws.specs.Laws.{IsKnown, KnownPorts, PortKeysOnce}
 use Rattle.kp_walk_laws.proofs.Entries.{one_sorted}
 
 -- an address of a family is of it
-in_family_by : (family : Family) (a b : AddressParts) (same : Bool)
-    → same_family a.family family ≡ same → cond same (Some a) None ≡ Some b → b.family ≡ family
-in_family_by family a b true is h =
-    ap (λ (c : AddressParts). c.family) (sym (same_Some a b h))
-    ∙ same_family_exact a.family family is
-in_family_by family a b false is h = absurd (cc)
-
 at_family : (family : Family) (field : ClusterAddress) (b : AddressParts)
     → address_at family field ≡ Some b → b.family ≡ family
 at_family family Absent b h = absurd (cc)
 at_family family Headless b h = absurd (cc)
-at_family family (At a) b h = in_family_by family a b (same_family a.family family) refl h
+at_family family (At a) b h =
+    let (is, same) = cond_some _ a b h in
+    ap (λ (c : AddressParts). c.family) (sym same) ∙ same_family_exact a.family family is
 
 unless_name : (family : Family) (field : ClusterAddress) (b : AddressParts) (name : Bool)
     → cond name None (address_at family field) ≡ Some b → b.family ≡ family
@@ -49,7 +43,7 @@ unless_name family field b false h = at_family family field b h
 -- a cluster address in a family is of it
 cluster_family : (family : Family) (s : Service) (b : AddressParts)
     → cluster_address_in family s ≡ Some b → b.family ≡ family
-cluster_family family s b h = unless_name family s.cluster b (is_external_name s.kind) h
+cluster_family family s b h = unless_name family s.cluster b _ h
 
 -- what is known of a port
 known_from : (family : Family) (s : Service) (p : ServicePort) (zone : Option (List ℕ))
@@ -61,26 +55,24 @@ known_from family s p zone entries address h = record {
   none = none_usable s.internal s.outer (is_reachable_in family s p) zone entries;
   any = λ reachable. sym (not-not (has_any_endpoint entries))
       ∙ ap not (sym (cluster_empty s.internal s.outer (is_reachable_in family s p) zone entries
-      (or_right (not (is_local_policy s.internal)) (is_reachable_in family s p) reachable)));
+      (or_right _ _ reachable)));
 }
 
 pub known_ports_by : KnownPorts
 known_ports_by family config o i c =
     let zone : Option (List ℕ) = zone_of o config.node in
     let services : List ServiceSources = map (sources_of family config o) (values o.services) in
-    let (sp, in_ports, made) =
-    from_filter_map (info_of family config.node zone) i (service_ports services) c in
+    let (sp, in_ports, made) = from_filter_map _ i (service_ports services) c in
     let entries : List Candidate =
     entries_from family config.node sp.0 (port_key_of sp.0.service sp.1) in
     let (address, found, is) = from_option_map (info_from family sp.0.service sp.1 zone entries)
-    (cluster_address_in family sp.0.service) i made in
+    _ i made in
     subst (IsKnown family) is (known_from family sp.0.service sp.1 zone entries address found)
 
 pub port_keys_once_by : PortKeysOnce
 port_keys_once_by family config o i j ci cj same =
     let infos : List PortInfo = port_infos family config o in
     let named : PortInfo → PortKey × PortInfo = λ k. (k.key, k) in
-    ap (λ (e : PortKey × PortInfo). e.1)
-    (one_sorted port_key_total (map named infos)
+    ap (λ (e : PortKey × PortInfo). e.1) (one_sorted port_key_total _
     (subst T (sym (ports_are_in_order family config o)) tt)
-    (named i) (named j) (in_map named i infos ci) (in_map named j infos cj) same)
+    _ _ (in_map named i infos ci) (in_map named j infos cj) same)

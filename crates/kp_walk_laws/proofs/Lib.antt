@@ -22,6 +22,7 @@ pub mod Entries
 pub mod Lookups
 pub mod PortLookups
 pub mod StandInNames
+pub mod Passing
 pub mod PlainRows
 pub mod ExternalChains
 pub mod OwnChains

@@ -45,9 +45,7 @@ module _ (e : Surroundings) (at : ChainAt → Option (List Rule))
     marking_rule : (n : ℕ) (rule : Rule) (b c : Bool) (s : WalkState)
         → rule_outcome e (chain_outcome e at Nat (suc n)) rule s ≡ Next (marked_if b s) → b ≡ c
         → rules_outcome e (chain_outcome e at Nat (suc n)) (rule ∷ []) s ≡ Next (marked_if c s)
-    marking_rule n rule b c s h same =
-        and_then_next (rule_outcome e (chain_outcome e at Nat (suc n)) rule s) ∙ h
-        ∙ ap (λ x. Next (marked_if x s)) same
+    marking_rule n rule b c s h same = and_then_next _ ∙ h ∙ ap (λ x. Next (marked_if x s)) same
 
     -- the mark rules of a cluster address
     pub mark_rules_outcome : (n : ℕ) (all : Bool) (cluster : Option RangeParts) (i : PortInfo)
@@ -57,30 +55,23 @@ module _ (e : Surroundings) (at : ChainAt → Option (List Rule))
     mark_rules_outcome n true cluster i s =
         let jump : List ℕ → WalkState → Outcome = chain_outcome e at Nat (suc n) in
         let here : Bool = is_for_address i (packet_of e s) in
-        marking_rule n (rule_at i (target.Jump mark_masq) i.address) here
-        (marks_packet true cluster i (packet_of e s)) s
+        marking_rule n (rule_at i (target.Jump mark_masq) i.address) here _ s
         (rule_if e jump s (match.Dst (single_range i.address) false
         ∷ match.Port i.key.proto i.number
-        ∷ []) (target.Jump mark_masq) here (door_tried e jump s i.address i.key.proto i.number)
-        ∙ mark_by e at mark n here s)
-        (sym (and-true here))
-    mark_rules_outcome n false None i s =
-        ap (λ x. Next (marked_if x s)) (sym (and-false (is_for_address i (packet_of e s))))
+        ∷ []) _ here (door_tried e jump s i.address i.key.proto i.number)
+        ∙ mark_by e at mark n here s) (sym (and-true here))
+    mark_rules_outcome n false None i s = ap (λ x. Next (marked_if x s)) (sym (and-false _))
     mark_rules_outcome n false (Some cluster) i s =
         let jump : List ℕ → WalkState → Outcome = chain_outcome e at Nat (suc n) in
         let here : Bool = is_for_address i (packet_of e s) in
         let outside : Bool = not (range_contains cluster s.source) in
-        marking_rule n
-        (rule_of (match.Src cluster true ∷ match.Dst (single_range i.address) false
-        ∷ match.Port i.key.proto i.number ∷ []) (target.Jump mark_masq)) (outside && here)
-        (marks_packet false (Some cluster) i (packet_of e s)) s
+        marking_rule n (rule_of (match.Src cluster true ∷ match.Dst (single_range i.address) false
+        ∷ match.Port i.key.proto i.number ∷ []) (target.Jump mark_masq)) _ _ s
         (rule_if e jump s (match.Src cluster true ∷ match.Dst (single_range i.address) false
-        ∷ match.Port i.key.proto i.number ∷ []) (target.Jump mark_masq) (outside && here)
-        (tried_before s outside here (try_all e
+        ∷ match.Port i.key.proto i.number ∷ []) _ _ (tried_before s outside here (try_all e
         (match.Dst (single_range i.address) false ∷ match.Port i.key.proto i.number ∷ []))
         (door_tried e jump s i.address i.key.proto i.number))
-        ∙ mark_by e at mark n (outside && here) s)
-        (and_comm outside here)
+        ∙ mark_by e at mark n _ s) (and_comm outside here)
 
     -- the mark rules where they stand
     pub marks_if : (n : ℕ) (internal all : Bool) (cluster : Option RangeParts) (i : PortInfo)
@@ -114,8 +105,6 @@ module _ (setting : Setting) (by_draws : setting.pick ≡ pick_by_draws) (e : Su
       rules_append e jump (marks ++ seen) draws s
       ∙ ap (λ o. and_then o (rules_outcome e jump draws)) (rules_append e jump marks seen s
       ∙ ap (λ o. and_then o (rules_outcome e jump seen)) (marks_if e at mark (suc n) internal
-      setting.config.masquerade_all setting.config.cluster i s))
+      _ _ i s))
       ∙ chooses setting i e by_draws jump es some
-      (λ f c u. endpoint_outcome e at mark setting i f (found f c) n u proto)
-      (internal && marks_packet setting.config.masquerade_all setting.config.cluster i
-      (packet_of e s)) s fresh
+      (λ f c u. endpoint_outcome e at mark setting i f (found f c) n u proto) _ s fresh

@@ -12,11 +12,10 @@ use Rattle.std.proofs.lemmas.Bool.{or_parts}
 use Rattle.std.proofs.lemmas.Map.Views.{list_any-from_Contains}
 use Rattle.kp_lemmas.proofs.Orders.{equal_from_test, tie_of_itself}
 use Rattle.kp_lemmas.proofs.Members.{first_in, later_in, in_map}
-use Rattle.kp_base.specs.Keys.{text_cmp}
 use Rattle.kp_base.specs.declared.address.Family.{Family}
 use Rattle.kp_base.specs.declared.address.Family.TheVariants.{V4, V6}
 use Rattle.kp_types.specs.Setting.{Setting}
-use Rattle.kp_types.specs.Places.{chain_cmp, table_cmp}
+use Rattle.kp_types.specs.Places.{chain_cmp}
 use Rattle.kp_types.proofs.ChainOrder.{chain_total, chain_exact}
 use Rattle.kp_types.specs.declared.chain.TableName.TheVariants.{Nat, Filter}
 use Rattle.kp_types.specs.declared.chain.ChainAt.{ChainAt}
@@ -44,8 +43,7 @@ then_false Greater b h = refl
 -- a place of another name is another place
 other_place : (q at : ChainAt) → bytes_eq q.chain at.chain ≡ false
     → eq_by_cmp chain_cmp q at ≡ false
-other_place q at h = then_false (table_cmp q.table at.table) (text_cmp q.chain at.chain)
-    (sym (texts_ties q.chain at.chain) ∙ h)
+other_place q at h = then_false _ _ (sym (texts_ties q.chain at.chain) ∙ h)
 
 -- a look-up passes over rows of other names
 pub pass_over : (q : ChainAt) (rows more : List Row)
@@ -53,8 +51,7 @@ pub pass_over : (q : ChainAt) (rows more : List Row)
     → find chain_cmp q (rows ++ more) ≡ find chain_cmp q more
 pass_over q [] more h = refl
 pass_over q (r ∷ rows) more h =
-    let parts = or_parts (bytes_eq q.chain r.0.chain)
-    (list_any (λ s. bytes_eq q.chain s.0.chain) rows) h in
+    let parts = or_parts _ _ h in
     ap (λ b. cond b (Some r.1) (find chain_cmp q (rows ++ more))) (other_place q r.0 parts.0)
     ∙ pass_over q rows more parts.1
 
@@ -70,7 +67,7 @@ agreed_by : (q : ChainAt) (rules : List Rule) (r : Row) (found : Option (List Ru
     → (r.0 ≡ q → r.1 ≡ rules) → (b : Bool) → eq_by_cmp chain_cmp q r.0 ≡ b
     → (b ≡ false → found ≡ Some rules) → cond b (Some r.1) found ≡ Some rules
 agreed_by q rules r found here true t later =
-    ap (λ rs. Some rs) (here (sym (chain_exact q r.0 (equal_from_test (chain_cmp q r.0) t))))
+    ap (λ rs. Some rs) (here (sym (chain_exact q r.0 (equal_from_test _ t))))
 agreed_by q rules r found here false t later = later refl
 
 -- where all rows of a place have the same rules, a look-up finds these
@@ -78,8 +75,7 @@ pub agreed : (q : ChainAt) (rules : List Rule) (rows : List Row) → Contains ro
     → ((r : Row) → Contains rows r → r.0 ≡ q → r.1 ≡ rules) → find chain_cmp q rows ≡ Some rules
 agreed q rules [] (k, l, e) h = absurd (omega arith)
 agreed q rules (r ∷ rows) stands h =
-    agreed_by q rules r (find chain_cmp q rows) (h r (first_in r rows))
-    (eq_by_cmp chain_cmp q r.0) refl
+    agreed_by q rules r _ (h r (first_in r rows)) _ refl
     (λ other. agreed q rules rows (behind_other q rules r rows other stands)
     (λ s c. h s (later_in s r rows c)))
 
@@ -148,11 +144,8 @@ module _ (setting : Setting) (infos : List PortInfo) where
   pub rows_written : rows_of setting infos
       ≡ fixed_nat ++ fixed_filter ++ flat_map (port_rows setting) infos
   rows_written =
-      ap₂ (λ rs qs. rs ++ qs ++ flat_map (port_rows setting) infos)
-      (nat_written setting.family (flat_map (node_port_block setting) infos)
-      (flat_map (service_block setting) infos))
-      (filter_written setting.family (flat_map firewall_block infos)
-      (flat_map (external_block setting.family) infos) (flat_map refusal_block infos))
+      ap₂ (λ rs qs. rs ++ qs ++ flat_map (port_rows setting) infos) (nat_written _ _ _)
+      (filter_written _ _ _ _)
 
   pub in_rows : (q : ChainAt) → look_up q
       ≡ find chain_cmp q (fixed_nat ++ fixed_filter ++ flat_map (port_rows setting) infos)
@@ -166,29 +159,28 @@ module _ (setting : Setting) (infos : List PortInfo) where
       ap is_some (get-from_entries chain_total (rows_of setting infos) q)
       ∙ is_some-find chain_cmp q (rows_of setting infos)
       ∙ list_any-from_Contains (eq_by_cmp_equiv chain_total) q
-      (map (λ r. r.0) (rows_of setting infos))
-      (in_map (λ r. r.0) (q, rules) (rows_of setting infos) c)
+      (map (λ r. r.0) (rows_of setting infos)) (in_map (λ r. r.0) _ (rows_of setting infos) c)
 
   -- the shared chains of nat are found
   pub finds_nat : FindsNat setting infos look_up
   finds_nat = record {
-    prerouting = in_rows (record { table = Nat; chain = codes "PREROUTING" });
-    output = in_rows (record { table = Nat; chain = codes "OUTPUT" });
-    postrouting = in_rows (record { table = Nat; chain = codes "POSTROUTING" });
-    mark = in_rows (record { table = Nat; chain = mark_masq });
-    masquerade = in_rows (record { table = Nat; chain = kube_postrouting });
-    node_ports = in_rows (record { table = Nat; chain = kube_node_ports });
-    services = in_rows (record { table = Nat; chain = kube_services });
+    prerouting = in_rows _;
+    output = in_rows _;
+    postrouting = in_rows _;
+    mark = in_rows _;
+    masquerade = in_rows _;
+    node_ports = in_rows _;
+    services = in_rows _;
   }
 
   -- and those of filter
   pub finds_filter : FindsFilter setting.family infos look_up
   finds_filter = record {
-    input = in_rows (record { table = Filter; chain = codes "INPUT" });
-    forward = in_rows (record { table = Filter; chain = codes "FORWARD" });
-    output = in_rows (record { table = Filter; chain = codes "OUTPUT" });
-    marked = in_rows (record { table = Filter; chain = kube_forward });
-    firewall = in_rows (record { table = Filter; chain = kube_proxy_firewall });
-    external = in_rows (record { table = Filter; chain = kube_external_services });
-    services = in_rows (record { table = Filter; chain = kube_services });
+    input = in_rows _;
+    forward = in_rows _;
+    output = in_rows _;
+    marked = in_rows _;
+    firewall = in_rows _;
+    external = in_rows _;
+    services = in_rows _;
   }

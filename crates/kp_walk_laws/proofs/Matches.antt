@@ -65,8 +65,7 @@ module _ (e : Surroundings) (jump : List ℕ → WalkState → Outcome) (s : Wal
   -- a source
   pub src_tried : (a : AddressParts) → try_all e (match.Src (single_range a) false ∷ []) s
       ≡ tried_as s (same_address a s.source)
-  src_tried a = tried_alone s (range_contains (single_range a) s.source)
-      ∙ ap (tried_as s) (single_contains a s.source)
+  src_tried a = tried_alone s _ ∙ ap (tried_as s) (single_contains a s.source)
 
   -- a destination and a port
   pub door_tried : (a : AddressParts) (proto : Proto) (port : ℕ)
@@ -75,6 +74,6 @@ module _ (e : Surroundings) (jump : List ℕ → WalkState → Outcome) (s : Wal
   door_tried a proto port =
       tried_before s (range_contains (single_range a) s.target)
       (same_proto proto e.proto && (port == s.port)) (try_all e (match.Port proto port ∷ []))
-      (tried_alone s (same_proto proto e.proto && (port == s.port)))
+      (tried_alone s _)
       ∙ ap (λ b. tried_as s (b && (same_proto proto e.proto && (port == s.port))))
       (single_contains a s.target)

@@ -17,16 +17,14 @@ some_in x (y ∷ xs) c = refl
 module _ (i : PortInfo) where
   -- a port with a load-balancer address may be reached from outside
   balanced : not (is_empty i.balancer) ≡ true → is_accessible i ≡ true
-  balanced h =
-      or_right (not (is_empty i.external)) (not (is_empty i.balancer) || is_some i.node_port)
-      (or_left (not (is_empty i.balancer)) (is_some i.node_port) h)
+  balanced h = or_right _ _ (or_left _ _ h)
 
   -- what needs a firewall chain needs that of what comes in from outside
   pub needs_external : needs Fw i ≡ true → needs Ext i ≡ true
   needs_external need =
       let parts = and_parts (not (is_empty i.balancer)) i.lists.has_any
       (and_parts (is_some i.ranges) (not (is_empty i.balancer) && i.lists.has_any) need).1 in
-      and_from (is_accessible i) i.lists.has_any (balanced parts.0) parts.1
+      and_from _ _ (balanced parts.0) parts.1
 
   -- and what needs this needs that of the cluster list
   pub needs_list : OffersAny i → needs Ext i ≡ true → needs Svc i ≡ true
@@ -36,10 +34,7 @@ module _ (i : PortInfo) where
   module _ (any : i.lists.has_any ≡ true) where
     -- an external address leads to the chain of what comes in from outside
     pub external_needs : (a : AddressParts) → Contains i.external a → needs Ext i ≡ true
-    external_needs a c =
-        and_from (is_accessible i) i.lists.has_any
-        (or_left (not (is_empty i.external)) (not (is_empty i.balancer) || is_some i.node_port)
-        (some_in a i.external c)) any
+    external_needs a c = and_from _ _ (or_left _ _ (some_in a i.external c)) any
 
     -- a load-balancer address to that or to a firewall chain
     pub balancer_needs : (a : AddressParts) → Contains i.balancer a
@@ -48,16 +43,10 @@ module _ (i : PortInfo) where
       where
         by_ranges : (ranges : Option (List RangeParts)) → i.ranges ≡ ranges
             → needs (balancer_chain ranges) i ≡ true
-        by_ranges None h =
-            and_from (is_accessible i) i.lists.has_any (balanced (some_in a i.balancer c)) any
+        by_ranges None h = and_from _ _ (balanced (some_in a i.balancer c)) any
         by_ranges (Some ranges) h =
-            and_from (is_some i.ranges) (not (is_empty i.balancer) && i.lists.has_any)
-            (ap is_some h)
-            (and_from (not (is_empty i.balancer)) i.lists.has_any (some_in a i.balancer c) any)
+            and_from _ _ (ap is_some h) (and_from _ _ (some_in a i.balancer c) any)
 
     -- and a node port to the former
     pub node_port_needs : is_some i.node_port ≡ true → needs Ext i ≡ true
-    node_port_needs h =
-        and_from (is_accessible i) i.lists.has_any
-        (or_right (not (is_empty i.external)) (not (is_empty i.balancer) || is_some i.node_port)
-        (or_right (not (is_empty i.balancer)) (is_some i.node_port) h)) any
+    node_port_needs h = and_from _ _ (or_right _ _ (or_right _ _ h)) any

@@ -25,7 +25,7 @@ not_found : {X : Type 0} (p : X → Bool) (xs : List X) → find p xs ≡ None �
     → p x ≡ false
 not_found p [] h x c = absurd (none_in x c)
 not_found p (y ∷ ys) h x c =
-    let parts = none_passes y (find p ys) (p y) h in
+    let parts = none_passes y _ (p y) h in
     elim (in_cases x y ys c) [ inl e ↦ ap p (sym e) ∙ parts.0 | inr d ↦ not_found p ys parts.1 x d ]
 
 no_clash_parts : (name : ChainKey → List ℕ) (k : ChainKey) (other : Option ChainKey)
@@ -40,16 +40,14 @@ same_if false same h k = absurd (cc)
 
 module _ (name : ChainKey → List ℕ) where
   no_clash_behind : (k b : ChainKey) → is_clash name k b ≡ false → name k ≡ name b → k ≡ b
-  no_clash_behind k b h same = one_chain_key k b
-      (same_if (bytes_eq (name k) (name b)) (same_chain_key k b) h
-      ((bytes_eq-Decides (name k) (name b)).1 same))
+  no_clash_behind k b h same = one_chain_key k b (same_if _ _ h ((bytes_eq-Decides _ _).1 same))
 
   -- without a clash each name is one key's
   pub one_of_name : (keys : List ChainKey) → first_clash name keys ≡ None → (a b : ChainKey)
       → Contains keys a → Contains keys b → name a ≡ name b → a ≡ b
   one_of_name [] h a b ca cb same = absurd (none_in a ca)
   one_of_name (k ∷ ks) h a b ca cb same =
-      let parts = no_clash_parts name k (find (is_clash name k) ks) (first_clash name ks) h in
+      let parts = no_clash_parts name k (find _ ks) _ h in
       elim (in_cases a k ks ca) [
         | inl e ↦ elim (in_cases b k ks cb) [
           | inl f ↦ sym e ∙ f
@@ -68,7 +66,7 @@ module _ (name : ChainKey → List ℕ) where
       → bytes_eq (name k) (name b) ≡ named → is_clash name k b ≡ false
   no_clash_ahead k b h true t =
       ap (λ c. c && not (same_chain_key k b)) t
-      ∙ ap (λ l. not (same_chain_key k l)) (sym (h ((bytes_eq-Decides (name k) (name b)).0 t)))
+      ∙ ap (λ l. not (same_chain_key k l)) (sym (h ((bytes_eq-Decides _ _).0 t)))
       ∙ ap not (key_itself k)
   no_clash_ahead k b h false t = ap (λ c. c && not (same_chain_key k b)) t
 
@@ -77,7 +75,6 @@ module _ (name : ChainKey → List ℕ) where
       → name a ≡ name b → a ≡ b) → first_clash name keys ≡ None
   no_clash [] h = refl
   no_clash (k ∷ ks) h =
-      ap₂ (clash_or name k) (find_none (is_clash name k) ks
-      (λ b c. no_clash_ahead k b (h k b (first_in k ks) (later_in b k ks c))
-      (bytes_eq (name k) (name b)) refl))
+      ap₂ (clash_or name k) (find_none _ ks
+      (λ b c. no_clash_ahead k b (h k b (first_in k ks) (later_in b k ks c)) _ refl))
       (no_clash ks (λ a b ca cb. h a b (later_in a k ks ca) (later_in b k ks cb)))

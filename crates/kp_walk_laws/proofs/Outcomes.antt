@@ -105,9 +105,7 @@ pathless_returned chain Stuck = refl
 -- what goes on has no path
 pub next_of : (o : Outcome) (s : WalkState) → pathless o ≡ Next s → o ≡ Next s
 next_of (Next t) s h = h
-next_of (Left t) s h = absurd (cc)
-next_of (Ended end path t) s h = absurd (cc)
-next_of Stuck s h = absurd (cc)
+next_of o s h = absurd (cc)
 
 -- what ends has one
 pub ended_of : (o : Outcome) (end : Ending) (s : WalkState) → pathless o ≡ Ended end [] s
@@ -125,18 +123,18 @@ pathless_by o false end t s h = ap pathless h
 
 -- ---- Rules and doors
 
--- Rules that do in a state what the first of some doors does whose test holds, whatever chains they
--- go through.
-abbrev pub FindIn : {D : Type 0} → (D → Bool) → (D → Outcome) → Surroundings
-    → (List ℕ → WalkState → Outcome) → WalkState → List Rule → List D → Type 0
-FindIn test stop e jump s rules doors =
-    pathless (rules_outcome e jump rules s) ≡ or_next (option_map stop (find test doors)) s
+-- Rules do in a state what the first of some doors does whose test holds, whatever chains they go
+-- through.
+pub record FindIn {D : Type 0} (test : D → Bool) (stop : D → Outcome) (e : Surroundings)
+    (jump : List ℕ → WalkState → Outcome) (s : WalkState) (rules : List Rule)
+    (doors : List D) : Type 0 where
+  pub same : pathless (rules_outcome e jump rules s)
+      ≡ or_next (option_map stop (find test doors)) s
 
--- a rule that does in a state what a door does
-abbrev pub IsRuleOf : {D : Type 0} → (D → Bool) → (D → Outcome) → Surroundings
-    → (List ℕ → WalkState → Outcome) → WalkState → Rule → D → Type 0
-IsRuleOf test stop e jump s r d =
-    pathless (rule_outcome e jump r s) ≡ cond (test d) (stop d) (Next s)
+-- A rule does in a state what a door does whose test holds.
+pub record IsRuleOf {D : Type 0} (test : D → Bool) (stop : D → Outcome) (e : Surroundings)
+    (jump : List ℕ → WalkState → Outcome) (s : WalkState) (r : Rule) (d : D) : Type 0 where
+  pub same : pathless (rule_outcome e jump r s) ≡ cond (test d) (stop d) (Next s)
 
 -- the first of some elements and others is that of the ones or of the others
 none_before : {D : Type 0} (a b : Option D) → option_or a b ≡ None → (a ≡ None) × (b ≡ None)
@@ -146,8 +144,7 @@ none_before (Some d) b h = absurd (cc)
 -- where nothing is found, nothing is found in a part
 pub none_in_append : {D : Type 0} (test : D → Bool) (xs ys : List D)
     → find test (xs ++ ys) ≡ None → (find test xs ≡ None) × (find test ys ≡ None)
-none_in_append test xs ys h =
-    none_before (find test xs) (find test ys) (sym (find-append test xs ys) ∙ h)
+none_in_append test xs ys h = none_before _ _ (sym (find-append test xs ys) ∙ h)
 
 none_first_by : {D : Type 0} (b : Bool) (d : D) (found : Option D) → cond b (Some d) found ≡ None
     → b ≡ false
@@ -157,7 +154,7 @@ none_first_by false d found h = refl
 -- nor is the first element
 pub none_first : {D : Type 0} (test : D → Bool) (d : D) (ds : List D)
     → find test (d ∷ ds) ≡ None → test d ≡ false
-none_first test d ds h = none_first_by (test d) d (find test ds) h
+none_first test d ds h = none_first_by _ d _ h
 
 -- nor anything in the doors of an element
 pub none_in_each : {X D : Type 0} (test : D → Bool) (doors : X → List D) (xs : List X)
@@ -165,7 +162,7 @@ pub none_in_each : {X D : Type 0} (test : D → Bool) (doors : X → List D) (xs
     → (x : X) → Contains xs x → find test (doors x) ≡ None
 none_in_each test doors [] h x c = absurd (none_in x c)
 none_in_each test doors (y ∷ ys) h x c =
-    let parts = none_in_append test (doors y) (flat_map doors ys) h in
+    let parts = none_in_append test _ _ h in
     elim (in_cases x y ys c) [
       | inl is ↦ ap (λ z. find test (doors z)) (sym is) ∙ parts.0
       | inr d ↦ none_in_each test doors ys parts.1 x d
@@ -190,65 +187,70 @@ pub none_in_all : {X D : Type 0} (test : D → Bool) (doors : X → List D) (xs 
     → find test (flat_map doors xs) ≡ None
 none_in_all test doors [] h = refl
 none_in_all test doors (x ∷ xs) h =
-    none_appended test (doors x) (flat_map doors xs) (h x (first_in x xs))
+    none_appended test _ _ (h x (first_in x xs))
     (none_in_all test doors xs (λ y c. h y (later_in y x xs c)))
 
-module _ {D : Type 0} (test : D → Bool) (stop : D → Outcome) (last : (d : D) → IsLast (stop d))
-    (e : Surroundings) (jump : List ℕ → WalkState → Outcome) (s : WalkState) where
-  -- what is found of the doors is last
-  found_last : (a : Option D) (o : Outcome) → option_map stop a ≡ Some o → IsLast o
-  found_last None o h = absurd (cc)
-  found_last (Some d) o h = subst IsLast (same_Some (stop d) o h) (last d)
+-- what is found of the doors is last
+found_last : {D : Type 0} (stop : D → Outcome) → ((d : D) → IsLast (stop d)) → (a : Option D)
+    (o : Outcome) → option_map stop a ≡ Some o → IsLast o
+found_last stop last None o h = absurd (cc)
+found_last stop last (Some d) o h = subst IsLast (same_Some (stop d) o h) (last d)
 
+by_test : {D : Type 0} (stop : D → Outcome) (s : WalkState) (d : D) (b : Bool)
+    → cond b (stop d) (Next s) ≡ or_next (option_map stop (cond b (Some d) None)) s
+by_test stop s d true = refl
+by_test stop s d false = refl
+
+-- one rule for one door
+pub find_in_one : {D : Type 0} {test : D → Bool} {stop : D → Outcome} {e : Surroundings}
+    {jump : List ℕ → WalkState → Outcome} {s : WalkState} {r : Rule} {d : D}
+    → IsRuleOf test stop e jump s r d → FindIn test stop e jump s (r ∷ []) (d ∷ [])
+find_in_one {test = test} {stop = stop} {e = e} {jump = jump} {s = s} {r = r} {d = d} h = record {
+  same = ap pathless (and_then_next _) ∙ h.same ∙ by_test stop s d _;
+}
+
+module _ {D : Type 0} {test : D → Bool} {stop : D → Outcome} {e : Surroundings}
+    {jump : List ℕ → WalkState → Outcome} {s : WalkState}
+    (last : (d : D) → IsLast (stop d)) where
   -- rules that find in some doors, behind others, which were not found
-  pub find_in_behind : (rules more : List Rule) (doors others : List D)
+  pub find_in_behind : {rules more : List Rule} {doors others : List D}
       → FindIn test stop e jump s rules doors
       → (find test doors ≡ None → FindIn test stop e jump s more others)
       → FindIn test stop e jump s (rules ++ more) (doors ++ others)
-  find_in_behind rules more doors others h k =
+  find_in_behind {rules = rules} {more = more} {doors = doors} {others = others} h k =
       let next : WalkState → Outcome = λ t. pathless (rules_outcome e jump more t) in
-      ap pathless (rules_append e jump rules more s)
-      ∙ pathless_then (rules_outcome e jump rules s) (rules_outcome e jump more)
-      ∙ ap (λ o. and_then o next) h
-      ∙ or_next_append (option_map stop (find test doors)) (option_map stop (find test others)) s
-      next (found_last (find test doors)) (λ n. k (none_of_map stop (find test doors) n))
-      ∙ ap (λ o. or_next o s) (sym (map_or stop (find test doors) (find test others)))
-      ∙ ap (λ o. or_next (option_map stop o) s) (sym (find-append test doors others))
+      let found : Option D = find test doors in
+      record {
+        same =
+            ap pathless (rules_append e jump rules more s)
+            ∙ pathless_then (rules_outcome e jump rules s) (rules_outcome e jump more)
+            ∙ ap (λ o. and_then o next) h.same
+            ∙ or_next_append _ _ s next
+            (found_last stop last found) (λ n. (k (none_of_map stop found n)).same)
+            ∙ ap (λ o. or_next o s) (sym (map_or stop found _))
+            ∙ ap (λ o. or_next (option_map stop o) s) (sym (find-append test doors others));
+      }
 
   -- rules that find in some doors, behind others
-  pub find_in_append : (rules more : List Rule) (doors others : List D)
+  pub find_in_append : {rules more : List Rule} {doors others : List D}
       → FindIn test stop e jump s rules doors → FindIn test stop e jump s more others
       → FindIn test stop e jump s (rules ++ more) (doors ++ others)
-  find_in_append rules more doors others h k =
-      find_in_behind rules more doors others h (λ n. k)
+  find_in_append h k = find_in_behind h (λ n. k)
 
   -- rules that find in the doors of each element
   pub find_in_each : {X : Type 0} (rules : X → List Rule) (doors : X → List D) (xs : List X)
       → ((x : X) → Contains xs x → FindIn test stop e jump s (rules x) (doors x))
       → FindIn test stop e jump s (flat_map rules xs) (flat_map doors xs)
-  find_in_each rules doors [] h = refl
+  find_in_each rules doors [] h = record { same = refl }
   find_in_each rules doors (x ∷ xs) h =
-      find_in_append (rules x) (flat_map rules xs) (doors x) (flat_map doors xs)
-      (h x (first_in x xs))
+      find_in_append (h x (first_in x xs))
       (find_in_each rules doors xs (λ y k. h y (later_in y x xs k)))
-
-  by_test : (d : D) (b : Bool) → cond b (stop d) (Next s)
-      ≡ or_next (option_map stop (cond b (Some d) None)) s
-  by_test d true = refl
-  by_test d false = refl
-
-  -- one rule for one door
-  pub find_in_one : (r : Rule) (d : D) → IsRuleOf test stop e jump s r d
-      → FindIn test stop e jump s (r ∷ []) (d ∷ [])
-  find_in_one r d h =
-      ap pathless (and_then_next (rule_outcome e jump r s)) ∙ h ∙ by_test d (test d)
 
   -- a rule for each door
   pub find_in_map : {X : Type 0} (rule : X → Rule) (door : X → D) (xs : List X)
       → ((x : X) → Contains xs x → IsRuleOf test stop e jump s (rule x) (door x))
       → FindIn test stop e jump s (map rule xs) (map door xs)
-  find_in_map rule door [] h = refl
+  find_in_map rule door [] h = record { same = refl }
   find_in_map rule door (x ∷ xs) h =
-      find_in_append (rule x ∷ []) (map rule xs) (door x ∷ []) (map door xs)
-      (find_in_one (rule x) (door x) (h x (first_in x xs)))
+      find_in_append (find_in_one (h x (first_in x xs)))
       (find_in_map rule door xs (λ y k. h y (later_in y x xs k)))

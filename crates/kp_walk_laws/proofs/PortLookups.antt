@@ -1,8 +1,8 @@
 -- What a look-up in the full table finds of ports: the rules of each chain that they need.
-use Rattle.std.proofs.Common.{◌≡◌, inl, inr, Bool, true, false, not, List, [], ◌∷◌, ◌++◌, map, Contains, Some, None, flat_map, bytes_eq, refl, sym, ap, ap₂, subst, ◌∙◌}
+use Rattle.std.proofs.Common.{◌≡◌, inl, inr, ℕ, Bool, true, false, not, List, [], ◌∷◌, ◌++◌, map, Contains, Some, None, flat_map, bytes_eq, refl, sym, ap, ap₂, subst, ◌∙◌}
 use Rattle.std.specs.FinMap.{IsAntisymmetric, find, put}
 use Rattle.std.specs.FinMap.Entries.{by_order}
-use Rattle.std.specs.List.{filter, list_any}
+use Rattle.std.specs.List.{list_any}
 use Rattle.std.specs.declared.cmp.Ordering.{Ordering}
 use Rattle.std.specs.declared.cmp.Ordering.TheVariants.{Less, Equal, Greater}
 use Rattle.std.proofs.lemmas.List.{map-append}
@@ -33,7 +33,7 @@ use Rattle.kp_object_defs.specs.Lists.{list_by_policy}
 use Rattle.kp_object_defs.specs.Order.{in_order, distinct_in_order}
 use Rattle.kp_object_defs.specs.PortInfo.{PortInfo}
 use Rattle.kp_table_defs.specs.Layout.{row, rows_if, nat_table, endpoint_rules, all_endpoints, has_endpoint, port_rows}
-use Rattle.kp_table_defs.specs.Rebuild.{needs, port_keys, endpoint_keys, needed_keys}
+use Rattle.kp_table_defs.specs.Rebuild.{needs, port_keys, needed_keys}
 use Rattle.kp_walk_laws.specs.Laws.{HaveOwnKeys, IsPrefixed}
 use Rattle.kp_walk_laws.proofs.Arrivals.{FindsChains, chain_rules}
 use Rattle.kp_walk_laws.proofs.Entries.{from_in_order}
@@ -49,19 +49,18 @@ of_kinds f = f Svc ++ f Svl ++ f Ext ++ f Fw
 
 module _ (f : PortChain → List ChainKey) (k : ChainKey) where
   in_kinds : (kind : PortChain) → Contains (f kind) k → Contains (of_kinds f) k
-  in_kinds Svc c = Contains-append_left (f Svc ++ f Svl ++ f Ext) (f Fw) k
-      (Contains-append_left (f Svc ++ f Svl) (f Ext) k (Contains-append_left (f Svc) (f Svl) k c))
-  in_kinds Svl c = Contains-append_left (f Svc ++ f Svl ++ f Ext) (f Fw) k
-      (Contains-append_left (f Svc ++ f Svl) (f Ext) k (Contains-append_right (f Svc) (f Svl) k c))
-  in_kinds Ext c = Contains-append_left (f Svc ++ f Svl ++ f Ext) (f Fw) k
-      (Contains-append_right (f Svc ++ f Svl) (f Ext) k c)
-  in_kinds Fw c = Contains-append_right (f Svc ++ f Svl ++ f Ext) (f Fw) k c
+  in_kinds Svc c = Contains-append_left _ (f Fw) k
+      (Contains-append_left _ (f Ext) k (Contains-append_left (f Svc) (f Svl) k c))
+  in_kinds Svl c = Contains-append_left _ (f Fw) k
+      (Contains-append_left _ (f Ext) k (Contains-append_right (f Svc) (f Svl) k c))
+  in_kinds Ext c = Contains-append_left _ (f Fw) k (Contains-append_right _ (f Ext) k c)
+  in_kinds Fw c = Contains-append_right _ (f Fw) k c
 
   from_kinds : Contains (of_kinds f) k → (kind : PortChain) × Contains (f kind) k
   from_kinds c =
-      elim (Contains-append_cases (f Svc ++ f Svl ++ f Ext) (f Fw) k c) [
+      elim (Contains-append_cases _ (f Fw) k c) [
         | inr d ↦ (Fw, d)
-        | inl three ↦ elim (Contains-append_cases (f Svc ++ f Svl) (f Ext) k three) [
+        | inl three ↦ elim (Contains-append_cases _ (f Ext) k three) [
           | inr d ↦ (Ext, d)
           | inl two ↦ elim (Contains-append_cases (f Svc) (f Svl) k two) [
             | inr d ↦ (Svl, d)
@@ -123,28 +122,26 @@ module _ (setting : Setting) where
       ap₂ (λ r s. r ++ s ++ rows_if (needs Ext i)
       (f (key.Port Ext i.key) ∷ []) ++ rows_if (needs Fw i)
       (f (key.Port Fw i.key) ∷ []) ++ map (λ x. f (key.Sep i.key x)) (all_endpoints i))
-      (row_if f (needs Svc i) (key.Port Svc i.key)) (row_if f (needs Svl i) (key.Port Svl i.key))
+      (row_if f _ _) (row_if f _ _)
       ∙ ap₂ (λ r s. map f a ++ map f b ++ r ++ s ++ map (λ x. f (key.Sep i.key x))
-      (all_endpoints i))
-      (row_if f (needs Ext i) (key.Port Ext i.key)) (row_if f (needs Fw i) (key.Port Fw i.key))
+      (all_endpoints i)) (row_if f _ _) (row_if f _ _)
       ∙ ap₂ (λ r s. r ++ map f c ++ map f d ++ s) (sym (map-append f a b))
       (sym (map-map f (key.Sep i.key) (all_endpoints i)))
       ∙ ap (λ r. r ++ map f d ++ map f e) (sym (map-append f (a ++ b) c))
       ∙ ap (λ r. r ++ map f e) (sym (map-append f (a ++ b ++ c) d))
       ∙ sym (map-append f (a ++ b ++ c ++ d) e)
-      ∙ ap (λ t. map (row_in t setting i) (own_keys i)) (nat_is setting.family)
+      ∙ ap (λ t. map (row_in t setting i) (own_keys i)) (nat_is _)
 
   -- the row of each key stands among the rows
   pub row_stands : (i : PortInfo) (k : ChainKey) → Contains (own_keys i) k
       → Contains (port_rows setting i) (row_of setting i k)
   row_stands i k c = subst (λ rs. Contains rs (row_of setting i k)) (sym (port_rows_are i))
-      (in_map (row_of setting i) k (own_keys i) c)
+      (in_map _ k _ c)
 
   -- and each row is that of a key
   pub row_key : (i : PortInfo) (r : Row) → Contains (port_rows setting i) r
       → (k : ChainKey) × Contains (own_keys i) k × (row_of setting i k ≡ r)
-  row_key i r c =
-      from_map (row_of setting i) r (own_keys i) (subst (λ rs. Contains rs r) (port_rows_are i) c)
+  row_key i r c = from_map _ r _ (subst (λ rs. Contains rs r) (port_rows_are i) c)
 
 -- ---- The keys of a port are needed
 
@@ -165,9 +162,9 @@ key_cases P i ports endpoints k c =
     elim (Contains-append_cases (of_kinds (kind_key i))
     (map (key.Sep i.key) (all_endpoints i)) k c) [
       | inl d ↦ let (kind, in_it) = from_kinds (kind_key i) k d in
-          let parts = from_if (needs kind i) (key.Port kind i.key) k in_it in
+          let parts = from_if _ _ k in_it in
           subst P parts.1 (ports kind parts.0)
-      | inr d ↦ let (e, stands, is) = from_map (key.Sep i.key) k (all_endpoints i) d in
+      | inr d ↦ let (e, stands, is) = from_map (key.Sep i.key) k _ d in
           subst P is (endpoints e stands)
     ]
 
@@ -175,18 +172,13 @@ key_cases P i ports endpoints k c =
 pub own_kind : (i : PortInfo) (kind : PortChain) → needs kind i ≡ true
     → Contains (own_keys i) (key.Port kind i.key)
 own_kind i kind h =
-    Contains-append_left (of_kinds (kind_key i)) (map (key.Sep i.key) (all_endpoints i))
-    (key.Port kind i.key)
-    (in_kinds (kind_key i) (key.Port kind i.key) kind
-    (in_if (needs kind i) (key.Port kind i.key) h))
+    Contains-append_left (of_kinds (kind_key i)) (map (key.Sep i.key) (all_endpoints i)) _
+    (in_kinds (kind_key i) _ kind (in_if _ _ h))
 
 -- and so is that of each endpoint
 pub own_endpoint : (i : PortInfo) (e : Endpoint) → Contains (all_endpoints i) e
     → Contains (own_keys i) (key.Sep i.key e)
-own_endpoint i e c =
-    Contains-append_right (of_kinds (kind_key i)) (map (key.Sep i.key) (all_endpoints i))
-    (key.Sep i.key e)
-    (in_map (key.Sep i.key) e (all_endpoints i) c)
+own_endpoint i e c = Contains-append_right _ _ _ (in_map _ e _ c)
 
 -- a key is of its port
 key_port : (i : PortInfo) (k : ChainKey) → Contains (own_keys i) k → port_of k ≡ i.key
@@ -195,21 +187,17 @@ key_port i k c = key_cases (λ l. port_of l ≡ i.key) i (λ kind h. refl) (λ e
 local_by : (i : PortInfo) (f : Endpoint) → Contains i.lists.local f → (b : Bool)
     → has_endpoint i.lists.cluster f ≡ b → Contains (all_endpoints i) f
 local_by i f c true h =
-    Contains-append_left i.lists.cluster (filter (λ e. not (has_endpoint i.lists.cluster e))
-    i.lists.local) f
-    (Contains-from_any {eq = λ a b. same_endpoint b a}
-    (λ a b same. sym (one_endpoint b a same)) f i.lists.cluster h)
+    Contains-append_left _ _ f (Contains-from_any {eq = λ a b. same_endpoint b a}
+    (λ a b same. sym (one_endpoint b a same)) f _ h)
 local_by i f c false h =
-    Contains-append_right i.lists.cluster (filter (λ e. not (has_endpoint i.lists.cluster e))
-    i.lists.local) f
-    (in_filter (λ e. not (has_endpoint i.lists.cluster e)) f i.lists.local c (ap not h))
+    Contains-append_right _ _ f
+    (in_filter (λ e. not (has_endpoint i.lists.cluster e)) f _ c (ap not h))
 
 -- the endpoints of either list
 pub in_either : (i : PortInfo) (p : Policy) (f : Endpoint) → Contains (list_by_policy p i.lists) f
     → Contains (all_endpoints i) f
-in_either i Cluster f c = Contains-append_left i.lists.cluster
-    (filter (λ e. not (has_endpoint i.lists.cluster e)) i.lists.local) f c
-in_either i Local f c = local_by i f c (has_endpoint i.lists.cluster f) refl
+in_either i Cluster f c = Contains-append_left _ _ f c
+in_either i Local f c = local_by i f c _ refl
 
 module _ {K : Type 0} (R : K → K → Ordering) (exact : IsAntisymmetric R) where
   -- the keys of entries
@@ -221,12 +209,12 @@ module _ {K : Type 0} (R : K → K → Ordering) (exact : IsAntisymmetric R) whe
       → Contains (keys (by_order o ((k, k) ∷ e ∷ es) ((e.0, k) ∷ es) (e ∷ more))) k
   put_key_by k e es more c Less h = first_in k (e.0 ∷ keys es)
   put_key_by k e es more c Equal h =
-      subst (λ x. Contains (x ∷ keys es) k) (exact k e.0 h) (first_in k (keys es))
-  put_key_by k e es more c Greater h = later_in k e.0 (keys more) c
+      subst (λ x. Contains (x ∷ keys es) k) (exact k e.0 h) (first_in k _)
+  put_key_by k e es more c Greater h = later_in k e.0 _ c
 
   put_key : (k : K) (es : List (K × K)) → Contains (keys (put R k k es)) k
   put_key k [] = first_in k []
-  put_key k (e ∷ es) = put_key_by k e es (put R k k es) (put_key k es) (R k e.0) refl
+  put_key k (e ∷ es) = put_key_by k e es _ (put_key k es) _ refl
 
   keep_by : (x k : K) (e : K × K) (es more : List (K × K))
       → (Contains (keys es) x → Contains (keys more) x) → Contains (keys (e ∷ es)) x
@@ -235,14 +223,14 @@ module _ {K : Type 0} (R : K → K → Ordering) (exact : IsAntisymmetric R) whe
   keep_by x k e es more later c Less = later_in x k (keys (e ∷ es)) c
   keep_by x k e es more later c Equal = c
   keep_by x k e es more later c Greater =
-      elim (in_cases x e.0 (keys es) c) [
-        | inl d ↦ subst (λ z. Contains (e.0 ∷ keys more) z) d (first_in e.0 (keys more))
-        | inr d ↦ later_in x e.0 (keys more) (later d)
+      elim (in_cases x e.0 _ c) [
+        | inl d ↦ subst (λ z. Contains (e.0 ∷ keys more) z) d (first_in e.0 _)
+        | inr d ↦ later_in x e.0 _ (later d)
       ]
 
   keep : (x k : K) (es : List (K × K)) → Contains (keys es) x → Contains (keys (put R k k es)) x
   keep x k [] c = absurd (none_in x c)
-  keep x k (e ∷ es) c = keep_by x k e es (put R k k es) (keep x k es) c (R k e.0)
+  keep x k (e ∷ es) c = keep_by x k e es _ (keep x k es) c _
 
   -- each element is among the elements in order
   in_distinct : (ks : List K) (x : K) → Contains ks x → Contains (distinct_in_order R ks) x
@@ -259,26 +247,18 @@ pub own_needed : (infos : List PortInfo) (i : PortInfo) → Contains infos i →
     → Contains (own_keys i) k → Contains (needed_keys infos) k
 own_needed infos i c =
     let of_ports : PortChain → List ChainKey = λ kind. port_keys kind infos in
-    key_cases (λ k. Contains (needed_keys infos) k) i
-    (λ kind h. Contains-append_left (of_kinds of_ports) (flat_map endpoint_keys infos)
-    (key.Port kind i.key)
-    (in_kinds of_ports (key.Port kind i.key) kind
-    (in_map (λ j. key.Port kind j.key) i (filter (needs kind) infos)
-    (in_filter (needs kind) i infos c h))))
-    (λ e h. Contains-append_right (of_kinds of_ports) (flat_map endpoint_keys infos)
-    (key.Sep i.key e)
-    (in_flat_map endpoint_keys i (key.Sep i.key e) infos c
-    (in_map (key.Sep i.key) e (distinct_in_order endpoint_cmp (all_endpoints i))
-    (in_distinct endpoint_cmp endpoint_exact (all_endpoints i) e h))))
+    key_cases (λ k. Contains (needed_keys infos) k) i (λ kind h. Contains-append_left _ _ _
+    (in_kinds of_ports _ kind (in_map (λ j. key.Port kind j.key) i _ (in_filter _ i infos c h))))
+    (λ e h. Contains-append_right _ _ _ (in_flat_map _ i _ infos c (in_map _ e _
+    (in_distinct endpoint_cmp endpoint_exact _ e h))))
 
 -- each element in order is an element
 from_distinct : (es : List Endpoint) (e : Endpoint) → Contains (distinct_in_order endpoint_cmp es) e
     → Contains es e
 from_distinct es e c =
-    let (entry, in_entries, is) = from_map (λ (p : Endpoint × Endpoint). p.0) e
-    (in_order endpoint_cmp (map (λ k. (k, k)) es)) c in
+    let (entry, in_entries, is) = from_map (λ (p : Endpoint × Endpoint). p.0) e _ c in
     let (x, in_es, twice) = from_map (λ k. (k, k)) entry es
-    (from_in_order endpoint_cmp endpoint_exact (map (λ k. (k, k)) es) entry in_entries) in
+    (from_in_order endpoint_cmp endpoint_exact _ entry in_entries) in
     subst (Contains es) (ap (λ (p : Endpoint × Endpoint). p.0) twice ∙ is) in_es
 
 -- what holds of the chains of all ports holds of the needed keys
@@ -287,39 +267,30 @@ pub needed_cases : (infos : List PortInfo) (P : ChainKey → Type 0)
     → ((i : PortInfo) (e : Endpoint) → Contains infos i → Contains (all_endpoints i) e
     → P (key.Sep i.key e)) → (k : ChainKey) → Contains (needed_keys infos) k → P k
 needed_cases infos P ports endpoints k c =
-    elim (Contains-append_cases (of_kinds (λ kind. port_keys kind infos))
-    (flat_map endpoint_keys infos) k c) [
+    elim (Contains-append_cases _ _ k c) [
       | inl d ↦ let (kind, in_it) = from_kinds (λ kind. port_keys kind infos) k d in
-          let (i, passes, is) =
-          from_map (λ i. key.Port kind i.key) k (filter (needs kind) infos) in_it in
-          subst P is (ports kind i (from_filter (needs kind) i infos passes).0)
-      | inr d ↦ let (i, ci, in_its) = from_flat_map endpoint_keys k infos d in
-          let (e, stands, is) = from_map (key.Sep i.key) k
-          (distinct_in_order endpoint_cmp (all_endpoints i)) in_its in
-          subst P is (endpoints i e ci (from_distinct (all_endpoints i) e stands))
+          let (i, passes, is) = from_map (λ i. key.Port kind i.key) k _ in_it in
+          subst P is (ports kind i (from_filter _ i infos passes).0)
+      | inr d ↦ let (i, ci, in_its) = from_flat_map _ k infos d in
+          let (e, stands, is) = from_map _ k _ in_its in
+          subst P is (endpoints i e ci (from_distinct _ e stands))
     ]
 
 -- ---- The full table
 
 module _ (setting : Setting) (infos : List PortInfo) (prefixed : IsPrefixed setting.name_of) where
-  -- the name of a port's or an endpoint's chain is no fixed chain's
-  unfixed : (k : ChainKey) → list_any (λ r. bytes_eq (setting.name_of k) r.0.chain)
-      (fixed_nat setting infos ++ fixed_filter setting infos) ≡ false
-  unfixed (key.Port Svc port) =
-      ap (λ n. list_any (λ r. bytes_eq n r.0.chain)
-      (fixed_nat setting infos ++ fixed_filter setting infos)) (prefixed.port Svc port).1
-  unfixed (key.Port Svl port) =
-      ap (λ n. list_any (λ r. bytes_eq n r.0.chain)
-      (fixed_nat setting infos ++ fixed_filter setting infos)) (prefixed.port Svl port).1
-  unfixed (key.Port Ext port) =
-      ap (λ n. list_any (λ r. bytes_eq n r.0.chain)
-      (fixed_nat setting infos ++ fixed_filter setting infos)) (prefixed.port Ext port).1
-  unfixed (key.Port Fw port) =
-      ap (λ n. list_any (λ r. bytes_eq n r.0.chain)
-      (fixed_nat setting infos ++ fixed_filter setting infos)) (prefixed.port Fw port).1
-  unfixed (key.Sep port e) =
-      ap (λ n. list_any (λ r. bytes_eq n r.0.chain)
-      (fixed_nat setting infos ++ fixed_filter setting infos)) (prefixed.endpoint port e).1
+  -- a fixed chain has this name
+  abbrev is_fixed : List ℕ → Bool
+  is_fixed name =
+      list_any (λ r. bytes_eq name r.0.chain) (fixed_nat setting infos ++ fixed_filter setting infos)
+
+  -- no port's or endpoint's chain has the name of one
+  unfixed : (k : ChainKey) → is_fixed (setting.name_of k) ≡ false
+  unfixed (key.Port Svc port) = ap is_fixed (prefixed.port Svc port).1
+  unfixed (key.Port Svl port) = ap is_fixed (prefixed.port Svl port).1
+  unfixed (key.Port Ext port) = ap is_fixed (prefixed.port Ext port).1
+  unfixed (key.Port Fw port) = ap is_fixed (prefixed.port Fw port).1
+  unfixed (key.Sep port e) = ap is_fixed (prefixed.endpoint port e).1
 
   -- so a look-up of it passes over the fixed chains
   find_made : (k : ChainKey) → look_up setting infos
@@ -327,7 +298,7 @@ module _ (setting : Setting) (infos : List PortInfo) (prefixed : IsPrefixed sett
       ≡ find chain_cmp (record { table = Nat; chain = setting.name_of k })
       (flat_map (port_rows setting) infos)
   find_made k =
-      in_rows setting infos (record { table = Nat; chain = setting.name_of k })
+      in_rows setting infos _
       ∙ pass_over (record { table = Nat; chain = setting.name_of k })
       (fixed_nat setting infos ++ fixed_filter setting infos) (flat_map (port_rows setting) infos)
       (unfixed k)
@@ -339,9 +310,9 @@ module _ (setting : Setting) (infos : List PortInfo) (prefixed : IsPrefixed sett
         → (r : Row) → Contains (flat_map (port_rows setting) infos) r
         → r.0 ≡ record { table = Nat; chain = setting.name_of k } → r.1 ≡ key_rules setting i k
     key_agrees i c k ck r d same =
-        let (j, cj, in_j) = from_flat_map (port_rows setting) r infos d in
+        let (j, cj, in_j) = from_flat_map _ r infos d in
         let (l, cl, is) = row_key setting j r in_j in
-        let one : l ≡ k = one_of_name setting.name_of (needed_keys infos) apart l k
+        let one : l ≡ k = one_of_name setting.name_of _ apart l k
         (own_needed infos j cj l cl) (own_needed infos i c k ck)
         (ap (λ (s : Row). s.0.chain) is ∙ ap (λ (q : ChainAt). q.chain) same) in
         let port : j ≡ i =
@@ -354,15 +325,12 @@ module _ (setting : Setting) (infos : List PortInfo) (prefixed : IsPrefixed sett
         ≡ Some (key_rules setting i k)
     finds_key i c k ck =
         find_made k
-        ∙ agreed (record { table = Nat; chain = setting.name_of k }) (key_rules setting i k)
-        (flat_map (port_rows setting) infos)
-        (in_flat_map (port_rows setting) i (row_of setting i k) infos c (row_stands setting i k ck))
-        (key_agrees i c k ck)
+        ∙ agreed _ _ _ (in_flat_map _ i _ infos c (row_stands setting i k ck)) (key_agrees i c k ck)
 
     -- and so all chains of a port
     pub finds_chains : (i : PortInfo) → Contains infos i
         → FindsChains setting (look_up setting infos) i
     finds_chains i c = record {
-      port = λ kind need. finds_key i c (key.Port kind i.key) (own_kind i kind need);
-      endpoint = λ f cf. finds_key i c (key.Sep i.key f) (own_endpoint i f cf);
+      port = λ kind need. finds_key i c _ (own_kind i kind need);
+      endpoint = λ f cf. finds_key i c _ (own_endpoint i f cf);
     }

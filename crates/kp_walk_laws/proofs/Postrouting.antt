@@ -35,12 +35,10 @@ module _ (setting : Setting) (infos : List PortInfo) (e : Surroundings)
       ∙ ap (λ o. returned_from (codes "POSTROUTING")
       (and_then (found_outcome e (chain_outcome e at Nat n) kube_postrouting o s) (λ t. Next t)))
       finds.masquerade
-      ∙ ap (λ o. returned_from (codes "POSTROUTING")
-      (and_then (returned_from kube_postrouting
+      ∙ ap (λ o. returned_from (codes "POSTROUTING") (and_then (returned_from kube_postrouting
       (and_then o (rules_outcome e (chain_outcome e at Nat n) mask))) (λ t. Next t)))
       (rule_if e (chain_outcome e at Nat n) s (match.Marked true ∷ []) target.Return (not s.marked)
-      (tried_alone s (not s.marked)))
-      ∙ by_mark s.marked
+      (tried_alone s _)) ∙ by_mark s.marked
     where
       by_mark : (b : Bool) → returned_from (codes "POSTROUTING")
           (and_then (returned_from kube_postrouting

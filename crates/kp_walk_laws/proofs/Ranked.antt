@@ -1,11 +1,10 @@
 -- Each jump of the full table goes to a chain that stands and has a greater rank.
-use Rattle.std.proofs.Common.{◌≡◌, ℕ, Bool, true, false, not, nat_lt, List, [], ◌∷◌, ◌++◌, map, Contains, Option, Some, None, is_some, flat_map, codes, append-nil, refl, sym, ap, subst, ◌∙◌}
+use Rattle.std.proofs.Common.{◌≡◌, ℕ, Bool, true, false, not, nat_lt, List, [], ◌∷◌, ◌++◌, map, Contains, Option, Some, None, is_some, flat_map, append-nil, refl, sym, ap, subst, ◌∙◌}
 use Rattle.std.specs.FinMap.{entries, get}
 use Rattle.std.specs.List.{list_all}
 use Rattle.std.proofs.lemmas.Bool.{and_from}
 use Rattle.std.proofs.lemmas.List.Elements.{Contains-append_right}
-use Rattle.kp_lemmas.proofs.Members.{first_in, later_in, in_flat_map, all_from, from_all, all_map, all_flat_map}
-use Rattle.kp_lemmas.proofs.ListFacts.{test_append}
+use Rattle.kp_lemmas.proofs.Members.{first_in, later_in, in_flat_map, all_from, from_all}
 use Rattle.kp_base.specs.Net.{AddressParts, RangeParts}
 use Rattle.kp_base.specs.declared.key.Endpoint.{Endpoint}
 use Rattle.kp_base.specs.declared.address.Family.{Family}
@@ -31,8 +30,8 @@ use Rattle.kp_choice_defs.specs.Names.{hash_text, port_text, port_chain_prefix}
 use Rattle.kp_object_defs.specs.Desired.{is_empty}
 use Rattle.kp_object_defs.specs.Lists.{is_local_policy, list_by_policy}
 use Rattle.kp_object_defs.specs.PortInfo.{PortInfo, internal_list, external_list, port_infos}
-use Rattle.kp_table_defs.specs.Layout.{rule_at, jump_to, affinity_rules, balancer_chain, choice_rules, external_rules, firewall_chain_rules, node_port_rules, pod_rules, mark_rules, rules_if, list_rules, endpoint_rules, endpoint_chain, port_chain, chain_of_policy, mark_masq, kube_services, kube_node_ports, kube_postrouting, kube_proxy_firewall, kube_external_services, kube_forward, service_block, node_port_block, has_firewall, firewall_block, node_port_refusal, external_block, refusal_block, refusal_target, own_addresses, nat_rows, filter_rows, port_rows, rows_of}
-use Rattle.kp_table_defs.specs.Ranks.{rank_of, is_above, goes_on, jumps_go_on, is_ranked_chain, is_ranked, has_built_in}
+use Rattle.kp_table_defs.specs.Layout.{rule_at, jump_to, affinity_rules, balancer_chain, choice_rules, external_rules, firewall_chain_rules, node_port_rules, pod_rules, mark_rules, list_rules, endpoint_chain, port_chain, chain_of_policy, mark_masq, kube_services, kube_node_ports, kube_postrouting, kube_proxy_firewall, kube_external_services, kube_forward, service_block, node_port_block, has_firewall, firewall_block, node_port_refusal, external_block, refusal_block, refusal_target, own_addresses, nat_rows, filter_rows, port_rows, rows_of}
+use Rattle.kp_table_defs.specs.Ranks.{rank_of, is_above, goes_on, jumps_go_on, is_ranked_chain, is_ranked, built_in_chains, has_built_in}
 use Rattle.kp_table_defs.specs.Rebuild.{Chains, full_chains, needs}
 use Rattle.kp_table_defs.specs.StandIn.{hex_text}
 use Rattle.kp_walk_laws.specs.Laws.{OffersAny, IsPrefixed, StandInPrefixed, HashedPrefixed, FullTableRanked, FullTableRankedObjects}
@@ -42,6 +41,7 @@ use Rattle.kp_walk_laws.proofs.NeededChains.{balancer_needs, external_needs, nee
 use Rattle.kp_walk_laws.proofs.KnownPorts.{known_ports_by}
 use Rattle.kp_walk_laws.proofs.Lookups.{Row, look_up, fixed_nat, fixed_filter, rows_written, in_rows, is_found, finds_nat, finds_filter}
 use Rattle.kp_walk_laws.proofs.FirstHook.{FindsNat}
+use Rattle.kp_walk_laws.proofs.Passing.{Pass, pass_none, pass_first, pass_one, pass_both, pass_map, pass_pieces, pass_if}
 use Rattle.kp_walk_laws.proofs.FilterChains.{FindsFilter}
 use Rattle.kp_walk_laws.proofs.PortLookups.{own_keys, row_of, key_rules, row_stands, row_key, key_cases, own_kind, own_endpoint, in_either}
 
@@ -50,7 +50,7 @@ use Rattle.kp_walk_laws.proofs.PortLookups.{own_keys, row_of, key_rules, row_sta
 module _ (chains : Chains) where
   -- the rules of a chain of this rank go on
   abbrev pub GoOn : TableName → ℕ → List Rule → Type 0
-  GoOn table rank rules = list_all (λ r. goes_on chains table rank r.target) rules ≡ true
+  GoOn table rank rules = Pass (λ r. goes_on chains table rank r.target) rules
 
   -- a jump to a chain that stands and has a greater rank goes on
   jump_on : (table : TableName) (rank other : ℕ) (chain : List ℕ)
@@ -62,97 +62,68 @@ module _ (chains : Chains) where
       (is_above rank (rank_of (record { table = table; chain = chain }))) found
       (ap (is_above rank) ranked ∙ above)
 
-  -- rules that stand under a condition
-  on_if : (table : TableName) (rank : ℕ) (b : Bool) (rules : List Rule)
-      → (b ≡ true → GoOn table rank rules) → GoOn table rank (rules_if b rules)
-  on_if table rank true rules h = h refl
-  on_if table rank false rules h = refl
-
   refusal_on : (table : TableName) (rank : ℕ) (b : Bool)
       → goes_on chains table rank (refusal_target b) ≡ true
   refusal_on table rank true = refl
   refusal_on table rank false = refl
 
-  one_on : (table : TableName) (rank : ℕ) (r : Rule) → goes_on chains table rank r.target ≡ true
-      → GoOn table rank (r ∷ [])
-  one_on table rank r h = and_from (goes_on chains table rank r.target) true h refl
+  module _ (table : TableName) (rank : ℕ) where
+    affinity_on : (name : Endpoint → List ℕ) (affinity : Option ℕ) (es : List Endpoint)
+        → ((f : Endpoint) → Contains es f → goes_on chains table rank (target.Jump (name f)) ≡ true)
+        → GoOn table rank (affinity_rules name affinity es)
+    affinity_on name None es h = pass_none
+    affinity_on name (Some seconds) es h = pass_map _ es h
 
-  affinity_on : (table : TableName) (rank : ℕ) (name : Endpoint → List ℕ) (affinity : Option ℕ)
-      (es : List Endpoint)
-      → ((f : Endpoint) → Contains es f → goes_on chains table rank (target.Jump (name f)) ≡ true)
-      → GoOn table rank (affinity_rules name affinity es)
-  affinity_on table rank name None es h = refl
-  affinity_on table rank name (Some seconds) es h =
-      all_map (λ r. goes_on chains table rank r.target)
-      (λ f. rule_of (match.Seen (name f) seconds ∷ []) (target.Jump (name f))) es h
+    choice_on : (name : Endpoint → List ℕ) (es : List Endpoint)
+        → ((f : Endpoint) → Contains es f → goes_on chains table rank (target.Jump (name f)) ≡ true)
+        → GoOn table rank (choice_rules name es)
+    choice_on name [] h = pass_none
+    choice_on name (e ∷ []) h = pass_one _ (h e (first_in e []))
+    choice_on name (e ∷ f ∷ es) h =
+        pass_first _ (h e (first_in e (f ∷ es)))
+        (choice_on name (f ∷ es) (λ g c. h g (later_in g e (f ∷ es) c)))
 
-  choice_on : (table : TableName) (rank : ℕ) (name : Endpoint → List ℕ) (es : List Endpoint)
-      → ((f : Endpoint) → Contains es f → goes_on chains table rank (target.Jump (name f)) ≡ true)
-      → GoOn table rank (choice_rules name es)
-  choice_on table rank name [] h = refl
-  choice_on table rank name (e ∷ []) h =
-      and_from (goes_on chains table rank (target.Jump (name e))) true (h e (first_in e [])) refl
-  choice_on table rank name (e ∷ f ∷ es) h =
-      and_from (goes_on chains table rank (target.Jump (name e)))
-      (list_all (λ r. goes_on chains table rank r.target) (choice_rules name (f ∷ es)))
-      (h e (first_in e (f ∷ es)))
-      (choice_on table rank name (f ∷ es) (λ g c. h g (later_in g e (f ∷ es) c)))
+    marks_on : (all : Bool) (cluster : Option RangeParts) (i : PortInfo)
+        → goes_on chains table rank (target.Jump mark_masq) ≡ true
+        → GoOn table rank (mark_rules all cluster i)
+    marks_on true cluster i h = pass_one _ h
+    marks_on false None i h = pass_none
+    marks_on false (Some r) i h = pass_one _ h
 
-  marks_on : (table : TableName) (rank : ℕ) (all : Bool) (cluster : Option RangeParts)
-      (i : PortInfo) → goes_on chains table rank (target.Jump mark_masq) ≡ true
-      → GoOn table rank (mark_rules all cluster i)
-  marks_on table rank true cluster i h =
-      and_from (goes_on chains table rank (target.Jump mark_masq)) true h refl
-  marks_on table rank false None i h = refl
-  marks_on table rank false (Some r) i h =
-      and_from (goes_on chains table rank (target.Jump mark_masq)) true h refl
+    pods_on : (cluster : Option RangeParts) (svc : List ℕ)
+        → goes_on chains table rank (target.Jump svc) ≡ true
+        → GoOn table rank (pod_rules cluster svc)
+    pods_on None svc h = pass_none
+    pods_on (Some r) svc h = pass_one _ h
 
-  pods_on : (table : TableName) (rank : ℕ) (cluster : Option RangeParts) (svc : List ℕ)
-      → goes_on chains table rank (target.Jump svc) ≡ true
-      → GoOn table rank (pod_rules cluster svc)
-  pods_on table rank None svc h = refl
-  pods_on table rank (Some r) svc h =
-      one_on table rank (rule_of (match.Src r false ∷ []) (target.Jump svc)) h
-
-  node_port_on : (table : TableName) (rank : ℕ) (i : PortInfo) (t : Target) (port : Option ℕ)
-      → (is_some port ≡ true → goes_on chains table rank t ≡ true)
-      → GoOn table rank (node_port_rules i t port)
-  node_port_on table rank i t None h = refl
-  node_port_on table rank i t (Some n) h =
-      one_on table rank (rule_of (match.Port i.key.proto n ∷ []) t) (h refl)
+    node_port_on : (i : PortInfo) (t : Target) (port : Option ℕ)
+        → (is_some port ≡ true → goes_on chains table rank t ≡ true)
+        → GoOn table rank (node_port_rules i t port)
+    node_port_on i t None h = pass_none
+    node_port_on i t (Some n) h = pass_one _ (h refl)
 
   firewall_on : (i : PortInfo) → GoOn Filter 1 (firewall_block i)
-  firewall_on i = on_if Filter 1 (has_firewall i) (map (rule_at i target.Drop) i.balancer)
-      (λ _. all_map (λ r. goes_on chains Filter 1 r.target) (rule_at i target.Drop) i.balancer
-      (λ a c. refl))
+  firewall_on i =
+      pass_if (has_firewall i) (λ _. pass_map (rule_at i target.Drop) i.balancer (λ a c. refl))
 
   node_refusal_on : (family : Family) (i : PortInfo) (b : Bool) (port : Option ℕ)
       → GoOn Filter 1 (node_port_refusal family i (refusal_target b) port)
-  node_refusal_on family i b None = refl
-  node_refusal_on family i b (Some n) =
-      and_from (goes_on chains Filter 1 (refusal_target b)) true (refusal_on Filter 1 b) refl
+  node_refusal_on family i b None = pass_none
+  node_refusal_on family i b (Some n) = pass_one _ (refusal_on Filter 1 b)
 
   external_on : (family : Family) (i : PortInfo) → GoOn Filter 1 (external_block family i)
   external_on family i =
       let t : Target = refusal_target i.lists.has_any in
-      let goes : Rule → Bool = λ r. goes_on chains Filter 1 r.target in
       let refuses : (addresses : List AddressParts)
-      → GoOn Filter 1 (map (rule_at i t) addresses) = λ addresses. all_map goes
-      (rule_at i t) addresses (λ a c. refusal_on Filter 1 i.lists.has_any) in
-      on_if Filter 1 (is_empty (external_list i))
-      (map (rule_at i t) i.external ++ map (rule_at i t) i.balancer
-      ++ node_port_refusal family i t i.node_port)
-      (λ _. test_append goes (map (rule_at i t) i.external ++ map (rule_at i t) i.balancer)
-      (node_port_refusal family i t i.node_port)
-      (test_append goes (map (rule_at i t) i.external) (map (rule_at i t) i.balancer)
-      (refuses i.external) (refuses i.balancer))
+      → GoOn Filter 1 (map (rule_at i t) addresses) = λ addresses.
+      pass_map (rule_at i t) addresses (λ a c. refusal_on Filter 1 i.lists.has_any) in
+      pass_if (is_empty (external_list i))
+      (λ _. pass_both (pass_both (refuses i.external) (refuses i.balancer))
       (node_refusal_on family i i.lists.has_any i.node_port))
 
   rejects_on : (i : PortInfo) → GoOn Filter 1 (refusal_block i)
-  rejects_on i = on_if Filter 1 (is_empty (internal_list i))
-      (rule_at i (refusal_target i.lists.has_any) i.address ∷ [])
-      (λ _. one_on Filter 1 (rule_at i (refusal_target i.lists.has_any) i.address)
-      (refusal_on Filter 1 i.lists.has_any))
+  rejects_on i =
+      pass_if (is_empty (internal_list i)) (λ _. pass_one _ (refusal_on Filter 1 i.lists.has_any))
 
 -- ---- The full table
 
@@ -174,19 +145,17 @@ module _ (setting : Setting) (infos : List PortInfo) (prefixed : IsPrefixed sett
   abbrev IsRankedRow : Row → Type 0
   IsRankedRow r = is_ranked_chain table r ≡ true
 
+  -- the rank of a chain of nat
+  abbrev nat_rank : List ℕ → Option ℕ
+  nat_rank chain = rank_of (record { table = Nat; chain = chain })
+
   -- a chain has its rank by what its name begins with
-  made_rank : (k : ChainKey) → rank_of (record { table = Nat; chain = setting.name_of k })
-      ≡ Some (key_rank k)
-  made_rank (key.Port Fw port) =
-      ap (λ n. rank_of (record { table = Nat; chain = n })) (prefixed.port Fw port).1
-  made_rank (key.Port Ext port) =
-      ap (λ n. rank_of (record { table = Nat; chain = n })) (prefixed.port Ext port).1
-  made_rank (key.Port Svc port) =
-      ap (λ n. rank_of (record { table = Nat; chain = n })) (prefixed.port Svc port).1
-  made_rank (key.Port Svl port) =
-      ap (λ n. rank_of (record { table = Nat; chain = n })) (prefixed.port Svl port).1
-  made_rank (key.Sep port e) =
-      ap (λ n. rank_of (record { table = Nat; chain = n })) (prefixed.endpoint port e).1
+  made_rank : (k : ChainKey) → nat_rank (setting.name_of k) ≡ Some (key_rank k)
+  made_rank (key.Port Fw port) = ap nat_rank (prefixed.port Fw port).1
+  made_rank (key.Port Ext port) = ap nat_rank (prefixed.port Ext port).1
+  made_rank (key.Port Svc port) = ap nat_rank (prefixed.port Svc port).1
+  made_rank (key.Port Svl port) = ap nat_rank (prefixed.port Svl port).1
+  made_rank (key.Sep port e) = ap nat_rank (prefixed.endpoint port e).1
 
   -- a jump to a chain that a port needs goes on
   goes : (i : PortInfo) → Contains infos i → (k : ChainKey) → Contains (own_keys i) k → (rank : ℕ)
@@ -217,79 +186,55 @@ module _ (setting : Setting) (infos : List PortInfo) (prefixed : IsPrefixed sett
   list_on : (i : PortInfo) → Contains infos i → (p : Policy) (internal : Bool)
       → GoOn table Nat 5 (list_rules setting i internal (list_by_policy p i.lists))
   list_on i c p internal =
-      let rules : List Rule = mark_rules setting.config.masquerade_all setting.config.cluster i in
       let es : List Endpoint = list_by_policy p i.lists in
       let name : Endpoint → List ℕ = endpoint_chain setting i in
       let to : (f : Endpoint) → Contains es f
       → goes_on table Nat 5 (target.Jump (name f)) ≡ true = λ f d.
       goes i c (key.Sep i.key f) (own_endpoint i f (in_either i p f d)) 5 refl in
-      test_append (λ r. goes_on table Nat 5 r.target)
-      (rules_if internal rules ++ affinity_rules name i.affinity es) (choice_rules name es)
-      (test_append (λ r. goes_on table Nat 5 r.target) (rules_if internal rules)
-      (affinity_rules name i.affinity es) (on_if table Nat 5 internal rules (λ _.
-      marks_on table Nat 5 setting.config.masquerade_all setting.config.cluster i (marks 5 refl)))
+      pass_both (pass_both (pass_if internal (λ _. marks_on table Nat 5
+      setting.config.masquerade_all setting.config.cluster i (marks 5 refl)))
       (affinity_on table Nat 5 name i.affinity es to)) (choice_on table Nat 5 name es to)
 
   -- the chain of what comes in from outside
   external_ranked : (i : PortInfo) → Contains infos i → needs Ext i ≡ true → (p : Policy)
       → GoOn table Nat 4 (external_rules setting i p)
-  external_ranked i c need p =
-      let svc : goes_on table Nat 4 (target.Jump (port_chain setting i Svc)) ≡ true =
-      to_kind i c Svc (needs_list i (any i c) need) 4 refl in
-      by_policy svc p
+  external_ranked i c need p = by_policy (to_kind i c Svc (needs_list i (any i c) need) 4 refl) p
     where
       by_policy : goes_on table Nat 4 (target.Jump (port_chain setting i Svc)) ≡ true
           → (p : Policy) → GoOn table Nat 4 (external_rules setting i p)
-      by_policy svc Cluster =
-          and_from (goes_on table Nat 4 (target.Jump mark_masq)) _ (marks 4 refl)
-          (one_on table Nat 4 (jump_to (port_chain setting i Svc)) svc)
+      by_policy svc Cluster = pass_first _ (marks 4 refl) (pass_one _ svc)
       by_policy svc Local =
-          let here : Bool = not (is_empty i.lists.local) in
-          let local : List Rule = rules_if here (jump_to (port_chain setting i Svl) ∷ []) in
-          test_append (λ r. goes_on table Nat 4 r.target)
-          (pod_rules setting.config.cluster (port_chain setting i Svc))
-          (rule_of (match.SrcLocal ∷ []) (target.Jump mark_masq)
-          ∷ rule_of (match.SrcLocal ∷ []) (target.Jump (port_chain setting i Svc)) ∷ local)
-          (pods_on table Nat 4 setting.config.cluster (port_chain setting i Svc) svc)
-          (and_from (goes_on table Nat 4 (target.Jump mark_masq)) _ (marks 4 refl)
-          (and_from (goes_on table Nat 4 (target.Jump (port_chain setting i Svc)))
-          (list_all (λ r. goes_on table Nat 4 r.target) local) svc
-          (on_if table Nat 4 here (jump_to (port_chain setting i Svl) ∷ [])
-          (λ some. one_on table Nat 4 (jump_to (port_chain setting i Svl))
-          (to_kind i c Svl some 4 refl)))))
+          pass_both (pods_on table Nat 4 setting.config.cluster (port_chain setting i Svc) svc)
+          (pass_first _ (marks 4 refl) (pass_first _ svc (pass_if (not (is_empty i.lists.local))
+          (λ some. pass_one _ (to_kind i c Svl some 4 refl)))))
 
   -- and that of source ranges
   firewall_ranked : (i : PortInfo) → Contains infos i → needs Fw i ≡ true
       → (r : Option (List RangeParts)) → GoOn table Nat 3 (firewall_chain_rules setting i r)
-  firewall_ranked i c need None = refl
+  firewall_ranked i c need None = pass_none
   firewall_ranked i c need (Some ranges) =
-      all_map (λ r. goes_on table Nat 3 r.target)
-      (λ r. rule_of (match.Src r false ∷ []) (target.Jump (port_chain setting i Ext))) ranges
-      (λ r d. to_kind i c Ext (needs_external i need) 3 refl)
+      pass_map _ ranges (λ r d. to_kind i c Ext (needs_external i need) 3 refl)
+
+  -- a chain of a port is ranked where its rules go on from its rank
+  ranked_by : (i : PortInfo) (k : ChainKey) → GoOn table Nat (key_rank k) (key_rules setting i k)
+      → IsRankedRow (row_of setting i k)
+  ranked_by i k h =
+      ap (λ o. jumps_go_on table Nat o (key_rules setting i k)) (made_rank k) ∙ h.all
 
   kind_ranked : (i : PortInfo) → Contains infos i → (kind : PortChain) → needs kind i ≡ true
       → IsRankedRow (row_of setting i (key.Port kind i.key))
-  kind_ranked i c Svc need =
-      ap (λ o. jumps_go_on table Nat o (key_rules setting i (key.Port Svc i.key)))
-      (made_rank (key.Port Svc i.key)) ∙ list_on i c Cluster (not (is_local_policy i.internal))
-  kind_ranked i c Svl need =
-      ap (λ o. jumps_go_on table Nat o (key_rules setting i (key.Port Svl i.key)))
-      (made_rank (key.Port Svl i.key)) ∙ list_on i c Local (is_local_policy i.internal)
-  kind_ranked i c Ext need =
-      ap (λ o. jumps_go_on table Nat o (key_rules setting i (key.Port Ext i.key)))
-      (made_rank (key.Port Ext i.key)) ∙ external_ranked i c need i.outer
-  kind_ranked i c Fw need =
-      ap (λ o. jumps_go_on table Nat o (key_rules setting i (key.Port Fw i.key)))
-      (made_rank (key.Port Fw i.key)) ∙ firewall_ranked i c need i.ranges
+  kind_ranked i c Svc need = ranked_by i _ (list_on i c Cluster (not (is_local_policy i.internal)))
+  kind_ranked i c Svl need = ranked_by i _ (list_on i c Local (is_local_policy i.internal))
+  kind_ranked i c Ext need = ranked_by i _ (external_ranked i c need i.outer)
+  kind_ranked i c Fw need = ranked_by i _ (firewall_ranked i c need i.ranges)
 
   port_ranked : (i : PortInfo) → Contains infos i → (r : Row) → Contains (port_rows setting i) r
       → IsRankedRow r
   port_ranked i c r d =
       let (k, ck, is) = row_key setting i r d in
       subst IsRankedRow is (key_cases (λ l. IsRankedRow (row_of setting i l)) i (kind_ranked i c)
-      (λ e in_e. ap (λ o. jumps_go_on table Nat o (endpoint_rules setting i e))
-      (made_rank (key.Sep i.key e))
-      ∙ and_from (goes_on table Nat 6 (target.Jump mark_masq)) true (marks 6 refl) refl) k ck)
+      (λ e in_e. ranked_by i (key.Sep i.key e) (pass_first _ (marks 6 refl) (pass_one _ refl)))
+      k ck)
 
   to_list : (i : PortInfo) → Contains infos i → (p : Policy)
       → not (is_empty (list_by_policy p i.lists)) ≡ true
@@ -305,66 +250,45 @@ module _ (setting : Setting) (infos : List PortInfo) (prefixed : IsPrefixed sett
 
   service_on : (i : PortInfo) → Contains infos i → GoOn table Nat 1 (service_block setting i)
   service_on i c =
-      let passes : Rule → Bool = λ r. goes_on table Nat 1 r.target in
-      let inside : Rule =
-      rule_at i (target.Jump (port_chain setting i (chain_of_policy i.internal))) i.address in
-      let external : List Rule =
-      map (rule_at i (target.Jump (port_chain setting i Ext))) i.external in
-      let balancer : List Rule =
-      map (rule_at i (target.Jump (port_chain setting i (balancer_chain i.ranges)))) i.balancer in
-      test_append passes (rules_if (not (is_empty (internal_list i))) (inside ∷ []))
-      (rules_if i.lists.has_any (external ++ balancer))
-      (on_if table Nat 1 (not (is_empty (internal_list i))) (inside ∷ [])
-      (λ some. one_on table Nat 1 inside (to_list i c i.internal some)))
-      (on_if table Nat 1 i.lists.has_any (external ++ balancer) (λ any.
-      test_append passes external balancer
-      (all_map passes (rule_at i (target.Jump (port_chain setting i Ext))) i.external
-      (λ a d. to_kind i c Ext (external_needs i any a d) 1 refl))
-      (all_map passes
-      (rule_at i (target.Jump (port_chain setting i (balancer_chain i.ranges)))) i.balancer
-      (λ a d. to_kind i c (balancer_chain i.ranges) (balancer_needs i any a d) 1
-      (balancer_above i i.ranges)))))
+      pass_both (pass_if (not (is_empty (internal_list i)))
+      (λ some. pass_one _ (to_list i c i.internal some)))
+      (pass_if i.lists.has_any (λ any. pass_both
+      (pass_map _ i.external (λ a d. to_kind i c Ext (external_needs i any a d) 1 refl))
+      (pass_map _ i.balancer (λ a d. to_kind i c (balancer_chain i.ranges)
+      (balancer_needs i any a d) 1 (balancer_above i i.ranges)))))
 
   node_port_block_on : (i : PortInfo) → Contains infos i
       → GoOn table Nat 2 (node_port_block setting i)
   node_port_block_on i c =
-      let t : Target = target.Jump (port_chain setting i Ext) in
-      on_if table Nat 2 i.lists.has_any (node_port_rules i t i.node_port) (λ any.
-      node_port_on table Nat 2 i t i.node_port
+      pass_if i.lists.has_any
+      (λ any. node_port_on table Nat 2 i (target.Jump (port_chain setting i Ext)) i.node_port
       (λ port. to_kind i c Ext (node_port_needs i any port) 2 refl))
 
   module _ (finds : FindsNat setting infos (look_up setting infos)) where
     services_ranked : GoOn table Nat 1 (flat_map (service_block setting) infos
         ++ rule_of (own_addresses setting.family) (target.Jump kube_node_ports) ∷ [])
     services_ranked =
-        test_append (λ r. goes_on table Nat 1 r.target) (flat_map (service_block setting) infos)
-        (rule_of (own_addresses setting.family) (target.Jump kube_node_ports) ∷ [])
-        (all_flat_map (λ r. goes_on table Nat 1 r.target) (service_block setting) infos service_on)
-        (one_on table Nat 1 (rule_of (own_addresses setting.family) (target.Jump kube_node_ports))
-        (jump_on table Nat 1 2 kube_node_ports (ap is_some finds.node_ports) refl refl))
+        pass_both (pass_pieces (service_block setting) infos service_on)
+        (pass_one _ (jump_on table Nat 1 2 kube_node_ports (ap is_some finds.node_ports) refl refl))
 
     node_ports_ranked : GoOn table Nat 2 (flat_map (node_port_block setting) infos)
-    node_ports_ranked = all_flat_map (λ r. goes_on table Nat 2 r.target)
-        (node_port_block setting) infos node_port_block_on
+    node_ports_ranked = pass_pieces (node_port_block setting) infos node_port_block_on
 
     to_services : GoOn table Nat 0 (jump_to kube_services ∷ [])
-    to_services = one_on table Nat 0 (jump_to kube_services)
-        (jump_on table Nat 0 1 kube_services (ap is_some finds.services) refl refl)
+    to_services =
+        pass_one _ (jump_on table Nat 0 1 kube_services (ap is_some finds.services) refl refl)
 
-    nat_ranked : list_all (is_ranked_chain table) (fixed_nat setting infos) ≡ true
-    nat_ranked =
-        and_from (list_all (λ r. goes_on table Nat 0 r.target) (jump_to kube_services ∷ [])) _
-        to_services
-        (and_from (list_all (λ r. goes_on table Nat 0 r.target) (jump_to kube_services ∷ [])) _
-        to_services
-        (and_from (list_all (λ r. goes_on table Nat 0 r.target) (jump_to kube_postrouting ∷ [])) _
-        (one_on table Nat 0 (jump_to kube_postrouting)
-        (jump_on table Nat 0 1 kube_postrouting (ap is_some finds.masquerade) refl refl))
-        (and_from (list_all (λ r. goes_on table Nat 2 r.target)
-        (flat_map (node_port_block setting) infos)) _ node_ports_ranked
-        (and_from (list_all (λ r. goes_on table Nat 1 r.target)
-        (flat_map (service_block setting) infos ++ rule_of (own_addresses setting.family)
-        (target.Jump kube_node_ports) ∷ [])) true services_ranked refl))))
+    to_postrouting : GoOn table Nat 0 (jump_to kube_postrouting ∷ [])
+    to_postrouting =
+        pass_one _ (jump_on table Nat 0 1 kube_postrouting (ap is_some finds.masquerade) refl refl)
+
+    nat_ranked : Pass (is_ranked_chain table) (fixed_nat setting infos)
+    nat_ranked = record {
+      all =
+          and_from _ _ to_services.all (and_from _ _ to_services.all
+          (and_from _ _ to_postrouting.all (and_from _ _ node_ports_ranked.all
+          (and_from _ _ services_ranked.all refl))));
+    }
 
   module _ (finds : FindsFilter setting.family infos (look_up setting infos)) where
     on_firewall : goes_on table Filter 0 (target.Jump kube_proxy_firewall) ≡ true
@@ -380,61 +304,39 @@ module _ (setting : Setting) (infos : List PortInfo) (prefixed : IsPrefixed sett
     on_forward : goes_on table Filter 0 (target.Jump kube_forward) ≡ true
     on_forward = jump_on table Filter 0 1 kube_forward (ap is_some finds.marked) refl refl
 
-    -- a jump before other rules
-    before : (chain : List ℕ) (rules : List Rule)
-        → goes_on table Filter 0 (target.Jump chain) ≡ true → GoOn table Filter 0 rules
-        → GoOn table Filter 0 (jump_to chain ∷ rules)
-    before chain rules h k = and_from (goes_on table Filter 0 (target.Jump chain))
-        (list_all (λ r. goes_on table Filter 0 r.target) rules) h k
-
-    input_ranked : GoOn table Filter 0 (jump_to kube_proxy_firewall ∷ jump_to kube_external_services
-        ∷ [])
-    input_ranked = before kube_proxy_firewall (jump_to kube_external_services ∷ []) on_firewall
-        (before kube_external_services [] on_external refl)
-
-    forward_ranked : GoOn table Filter 0 (jump_to kube_proxy_firewall
-        ∷ jump_to kube_external_services ∷ jump_to kube_services ∷ jump_to kube_forward ∷ [])
-    forward_ranked =
-        before kube_proxy_firewall (jump_to kube_external_services ∷ jump_to kube_services
-        ∷ jump_to kube_forward ∷ []) on_firewall
-        (before kube_external_services (jump_to kube_services ∷ jump_to kube_forward ∷ [])
-        on_external
-        (before kube_services (jump_to kube_forward ∷ []) on_services
-        (before kube_forward [] on_forward refl)))
-
-    output_ranked : GoOn table Filter 0 (jump_to kube_proxy_firewall ∷ jump_to kube_services ∷ [])
-    output_ranked = before kube_proxy_firewall (jump_to kube_services ∷ []) on_firewall
-        (before kube_services [] on_services refl)
-
-    filter_ranked : list_all (is_ranked_chain table) (fixed_filter setting infos) ≡ true
+    filter_ranked : Pass (is_ranked_chain table) (fixed_filter setting infos)
     filter_ranked =
-        and_from (list_all (λ r. goes_on table Filter 0 r.target)
-        (jump_to kube_proxy_firewall ∷ jump_to kube_external_services ∷ [])) _ input_ranked
-        (and_from (list_all (λ r. goes_on table Filter 0 r.target)
-        (jump_to kube_proxy_firewall ∷ jump_to kube_external_services ∷ jump_to kube_services
-        ∷ jump_to kube_forward ∷ [])) _ forward_ranked
-        (and_from (list_all (λ r. goes_on table Filter 0 r.target)
-        (jump_to kube_proxy_firewall ∷ jump_to kube_services ∷ [])) _ output_ranked
-        (and_from (list_all (λ r. goes_on table Filter 1 r.target) (flat_map firewall_block infos))
-        _ (all_flat_map (λ r. goes_on table Filter 1 r.target) firewall_block infos
-        (λ i c. firewall_on table i))
-        (and_from (list_all (λ r. goes_on table Filter 1 r.target)
-        (flat_map (external_block setting.family) infos)) _
-        (all_flat_map (λ r. goes_on table Filter 1 r.target) (external_block setting.family) infos
-        (λ i c. external_on table setting.family i))
-        (and_from (list_all (λ r. goes_on table Filter 1 r.target) (flat_map refusal_block infos))
-        true (all_flat_map (λ r. goes_on table Filter 1 r.target) refusal_block infos
-        (λ i c. rejects_on table i)) refl)))))
+        let input : GoOn table Filter 0 (jump_to kube_proxy_firewall
+        ∷ jump_to kube_external_services ∷ []) =
+        pass_first _ on_firewall (pass_one _ on_external) in
+        let forward : GoOn table Filter 0 (jump_to kube_proxy_firewall
+        ∷ jump_to kube_external_services ∷ jump_to kube_services ∷ jump_to kube_forward ∷ []) =
+        pass_first _ on_firewall (pass_first _ on_external
+        (pass_first _ on_services (pass_one _ on_forward))) in
+        let output : GoOn table Filter 0 (jump_to kube_proxy_firewall
+        ∷ jump_to kube_services ∷ []) =
+        pass_first _ on_firewall (pass_one _ on_services) in
+        let firewall : GoOn table Filter 1 (flat_map firewall_block infos) =
+        pass_pieces firewall_block infos (λ i c. firewall_on table i) in
+        let external : GoOn table Filter 1 (flat_map (external_block setting.family) infos) =
+        pass_pieces _ infos (λ i c. external_on table setting.family i) in
+        let refusals : GoOn table Filter 1 (flat_map refusal_block infos) =
+        pass_pieces refusal_block infos (λ i c. rejects_on table i) in
+        record {
+          all =
+              and_from _ _ input.all (and_from _ _ forward.all (and_from _ _ output.all
+              (and_from _ _ firewall.all (and_from _ _ external.all
+              (and_from _ _ refusals.all refl)))));
+        }
 
   rows_ranked : list_all (is_ranked_chain table) (rows_of setting infos) ≡ true
   rows_ranked =
       ap (list_all (is_ranked_chain table)) (rows_written setting infos)
-      ∙ test_append (is_ranked_chain table) (fixed_nat setting infos ++ fixed_filter setting infos)
-      (flat_map (port_rows setting) infos)
-      (test_append (is_ranked_chain table) (fixed_nat setting infos) (fixed_filter setting infos)
-      (nat_ranked (finds_nat setting infos)) (filter_ranked (finds_filter setting infos)))
-      (all_flat_map (is_ranked_chain table) (port_rows setting) infos
-      (λ i c. all_from (is_ranked_chain table) (port_rows setting i) (port_ranked i c)))
+      ∙ (pass_both (pass_both (nat_ranked (finds_nat setting infos))
+      (filter_ranked (finds_filter setting infos)))
+      (pass_pieces (port_rows setting) infos (λ i c. record {
+        all = all_from (is_ranked_chain table) (port_rows setting i) (port_ranked i c);
+      }))).all
 
   table_ranked : is_ranked table ≡ true
   table_ranked =
@@ -443,29 +345,14 @@ module _ (setting : Setting) (infos : List PortInfo) (prefixed : IsPrefixed sett
       (from_in_order chain_cmp chain_exact (rows_of setting infos) r
       (subst (λ es. Contains es r) (entries_in_order chain_total (rows_of setting infos)) c)))
 
-  -- the full table has a chain
-  abbrev has : TableName → List ℕ → Bool
-  has at chain = is_some (get table (record { table = at; chain = chain }))
-
+  -- a look-up finds each built-in chain among the rows
   built_in : (at : TableName) → has_built_in table at ≡ true
-  built_in Nat =
-      and_from (has Nat (codes "PREROUTING")) _
-      (ap is_some (in_rows setting infos (record { table = Nat; chain = codes "PREROUTING" })))
-      (and_from (has Nat (codes "INPUT")) _ (ap is_some
-      (in_rows setting infos (record { table = Nat; chain = codes "INPUT" })))
-      (and_from (has Nat (codes "OUTPUT")) _
-      (ap is_some (in_rows setting infos (record { table = Nat; chain = codes "OUTPUT" })))
-      (and_from (has Nat (codes "POSTROUTING")) true
-      (ap is_some (in_rows setting infos (record { table = Nat; chain = codes "POSTROUTING" })))
-      refl)))
-  built_in Filter =
-      and_from (has Filter (codes "INPUT")) _
-      (ap is_some (in_rows setting infos (record { table = Filter; chain = codes "INPUT" })))
-      (and_from (has Filter (codes "FORWARD")) _
-      (ap is_some (in_rows setting infos (record { table = Filter; chain = codes "FORWARD" })))
-      (and_from (has Filter (codes "OUTPUT")) true
-      (ap is_some (in_rows setting infos (record { table = Filter; chain = codes "OUTPUT" })))
-      refl))
+  built_in Nat i =
+      list_all (λ chain. is_some (in_rows setting infos (record { table = Nat; chain = chain }) i))
+      (built_in_chains Nat)
+  built_in Filter i =
+      list_all (λ chain. is_some (in_rows setting infos (record { table = Filter; chain = chain }) i))
+      (built_in_chains Filter)
 
 pub full_table_ranked_by : FullTableRanked
 full_table_ranked_by setting infos prefixed any = record {

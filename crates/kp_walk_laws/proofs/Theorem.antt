@@ -55,15 +55,9 @@ module _ (setting : Setting) (infos : List PortInfo) (packet : Packet) (draws : 
 
 pub walk_decides_by : WalkDecides
 walk_decides_by setting infos packet draws lists by_draws prefixed own known apart =
-    let same = walk_agrees setting infos packet draws lists (look_up setting infos) by_draws
-    (finds_nat setting infos) (finds_filter setting infos)
-    (λ i c. (
-      known i c,
-      leads setting infos packet draws lists by_draws prefixed own apart i c (known i c),
-    )) in record {
-      verdict = same.0;
-      lists = same.1;
-    }
+    walk_agrees setting infos packet draws lists (look_up setting infos) by_draws
+    (finds_nat setting infos) (finds_filter setting infos) (λ i c.
+    (known i c, leads setting infos packet draws lists by_draws prefixed own apart i c (known i c)))
 
 pub walk_decides_objects_by : WalkDecidesObjects
 walk_decides_objects_by setting o packet draws lists by_draws prefixed apart =

@@ -5,12 +5,12 @@ use Rattle.kp_base.specs.declared.key.Endpoint.{Endpoint}
 use Rattle.kp_base.specs.declared.key.PortKey.{PortKey}
 use Rattle.kp_types.specs.Setting.{Pick, Setting}
 use Rattle.kp_types.specs.declared.packet.Packet.{Packet}
-use Rattle.kp_choice_defs.specs.Draws.{draw_at, draw_matches, probability_of, selected_index}
+use Rattle.kp_choice_defs.specs.Draws.{selected_index}
 use Rattle.kp_choice_defs.specs.Recent.{RecentParts}
 use Rattle.kp_choice_defs.specs.Settings.{pick_by_draws}
 use Rattle.kp_object_defs.specs.Desired.{is_empty}
-use Rattle.kp_door_defs.specs.Choice.{Chosen, chosen_endpoint, drawn_as, drawn_at, drawn, found_or, live_endpoint, recent_name, remembered}
-use Rattle.kp_door_defs.specs.Decision.{translation_at, choice_at}
+use Rattle.kp_door_defs.specs.Choice.{Chosen, chosen_endpoint, drawn_at, drawn, found_or, live_endpoint, recent_name, remembered}
+use Rattle.kp_door_defs.specs.Decision.{translation_at}
 use Rattle.kp_door_defs.specs.Doors.{Door, offer_of}
 
 below_if : (b : Bool) (x n : ℕ) → x < n → (if b then 0 else suc x) < suc n
@@ -20,9 +20,7 @@ below_if false x n h = omega arith
 -- the selected place is in the list
 pub selected_below : (draws : ℕ → ℕ) (k n : ℕ) → selected_index draws k (suc n) < suc n
 selected_below draws k zero = omega arith
-selected_below draws k (suc n) =
-    below_if (draw_matches (probability_of (suc (suc n))) (draw_at draws k))
-    (selected_index draws (suc k) (suc n)) (suc n) (selected_below draws (suc k) n)
+selected_below draws k (suc n) = below_if _ _ (suc n) (selected_below draws (suc k) n)
 
 -- a place in a list has an element
 get_below : {X : Type 0} (xs : List X) (k : ℕ) → k < length xs → is_some (slice_get xs k) ≡ true
@@ -51,9 +49,7 @@ module _ (setting : Setting) (by_draws : setting.pick ≡ pick_by_draws) where
       → is_some (drawn setting draws es lists) ≡ true
   drawn_some draws es lists h =
       ap (λ (p : Pick). is_some (drawn_at es (p draws (length es)) lists)) by_draws
-      ∙ some_of_map (drawn_as (selected_index draws 0 (length es)) lists)
-      (slice_get es (selected_index draws 0 (length es)))
-      ∙ selected_some draws es h
+      ∙ some_of_map _ _ ∙ selected_some draws es h
 
   found_some : (draws : ℕ → ℕ) (es : List Endpoint) (lists : RecentParts)
       (found : Option (Endpoint × ℕ)) → not (is_empty es) ≡ true
@@ -69,15 +65,13 @@ module _ (setting : Setting) (by_draws : setting.pick ≡ pick_by_draws) where
   chosen_some port None source now draws es lists h = drawn_some draws es lists h
   chosen_some port (Some seconds) source now draws es lists h =
       let look = live_endpoint (recent_name setting port) source now seconds 0 es lists in
-      some_remembered (recent_name setting port) source now
-      (found_or setting draws es look.lists look.found)
-      ∙ found_some draws es look.lists look.found h
+      some_remembered _ source now _ ∙ found_some draws es look.lists look.found h
 
   -- a door that offers an endpoint translates
   pub translates : (packet : Packet) (draws : ℕ → ℕ) (lists : RecentParts) (d : Door)
       → not (is_empty (offer_of setting.config packet d).endpoints) ≡ true
       → is_some (translation_at setting packet draws lists d) ≡ true
   translates packet draws lists d h =
-      some_of_map _ (choice_at setting packet draws lists d)
-      ∙ chosen_some d.info.key d.info.affinity packet.source packet.now draws
+      some_of_map _ _
+      ∙ chosen_some d.info.key _ _ packet.now draws
       (offer_of setting.config packet d).endpoints lists h

@@ -33,8 +33,8 @@ use Rattle.kp_table_defs.specs.Walk.{Walked, walk_of}
 abbrev pub OffersAny : PortInfo → Type 0
 OffersAny i = is_accessible i ≡ true → i.lists.has_any ≡ not (is_empty i.lists.cluster)
 
--- What holds of each port that is known of objects: its address is of the family, and where no
--- endpoint is usable, it has none.
+-- What holds of each port that is known of objects: its address is of the family, where no endpoint
+-- is usable it has none, and it offers some from outside where it has any.
 pub record IsKnown (family : Family) (i : PortInfo) : Type 0 where
   pub address : i.address.family ≡ family
   pub none : i.lists.has_any ≡ false → (i.lists.cluster ≡ []) × (i.lists.local ≡ [])

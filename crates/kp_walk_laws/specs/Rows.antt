@@ -121,29 +121,29 @@ verdict_on endpoints packet draws =
 abbrev pub three : List Endpoint
 three = endpoint_at 1 ∷ endpoint_at 2 ∷ endpoint_at 3 ∷ []
 
--- a packet of a pod goes to the one endpoint, whatever is drawn
+-- a packet of a pod goes to the one endpoint
 abbrev pub OneEndpoint : Type 0
 OneEndpoint =
     verdict_on (endpoint_at 1 ∷ []) (packet_from (pod 5) Tcp) [] ≡ To (endpoint_at 1) false
 
--- the first of three has one third of the draws
+-- the last draw below one third of 2^31 goes to the first of three
 abbrev pub FirstOfThree : Type 0
 FirstOfThree =
     verdict_on three (packet_from (pod 5) Tcp) (715827882 ∷ []) ≡ To (endpoint_at 1) false
 
--- the second has one half of those that are left
+-- the next one goes on, and then the last draw below one half goes to the second
 abbrev pub SecondOfThree : Type 0
 SecondOfThree =
     verdict_on three (packet_from (pod 5) Tcp) (715827883 ∷ 1073741823 ∷ [])
     ≡ To (endpoint_at 2) false
 
--- and the third has the rest
+-- and the one behind that to the third
 abbrev pub ThirdOfThree : Type 0
 ThirdOfThree =
     verdict_on three (packet_from (pod 5) Tcp) (715827883 ∷ 1073741824 ∷ [])
     ≡ To (endpoint_at 3) false
 
--- what an endpoint sends to itself is masqueraded
+-- what an endpoint sends that goes to itself is masqueraded
 abbrev pub ToItself : Type 0
 ToItself = verdict_on three (packet_from (pod 1) Tcp) (0 ∷ []) ≡ To (endpoint_at 1) true
 
@@ -179,7 +179,7 @@ FirstOfTwo = verdict_in prefixes two_ports (packet_to 1 (pod 5) Tcp) [] ≡ To (
 abbrev pub SecondOfTwo : Type 0
 SecondOfTwo = verdict_in prefixes two_ports (packet_to 2 (pod 5) Tcp) [] ≡ Rejected
 
--- and so each packet is decided as the objects do
+-- and the walk decides each packet as the objects do
 abbrev pub TwoDecided : Type 0
 TwoDecided =
     (packet : Packet) (draws : ℕ → ℕ) (lists : RecentParts)
@@ -251,7 +251,7 @@ abbrev pub ClientAtNode : Type 0
 ClientAtNode =
     verdict_at (record (packet_to 9 (client 5) Tcp) { port = 30080 }) [] ≡ To (endpoint_at 1) false
 
--- With session affinity too, the walk of each packet to it is decided as the objects do.
+-- With session affinity and without it, the walk decides each packet as the objects do.
 abbrev pub EveryDoorDecided : Type 0
 EveryDoorDecided =
     (affinity : Option ℕ) (packet : Packet) (draws : ℕ → ℕ) (lists : RecentParts)
