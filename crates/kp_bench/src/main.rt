@@ -1,5 +1,5 @@
-//! Makes calls of single libraries so often, so that they can be timed from outside: a figure is the
-//! difference of two numbers of times.
+//! Makes calls of single libraries so often, so that they can be timed from outside: a figure is
+//! the difference of two numbers of times.
 #![tactic(auto)]
 
 mod input;

@@ -34,7 +34,8 @@ pub fn stored(alloc: Global, events: &[Event], times: u32) -> Option<u64> {
     Some(count)
 }
 
-/// Applies the last of the events so often, which is a pod's, and counts the Services that select it.
+/// Applies the last of the events so often, which is a pod's, and counts the Services that select
+/// it.
 pub fn changed(alloc: Global, events: &[Event], times: u32) -> Option<u64> {
     let mut objects = Objects::from_events(alloc, events).ok()?;
     let last = events.last()?;
