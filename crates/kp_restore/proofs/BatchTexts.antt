@@ -26,7 +26,7 @@ use Rattle.kp_restore.specs.declared.batch_reader.Part.TheVariants.{Declaring, R
 use Rattle.kp_restore.specs.declared.batch_reader.BatchPhase.{BatchPhase}
 use Rattle.kp_restore.specs.declared.batch_reader.BatchPhase.TheVariants.{Between, Within}
 use Rattle.kp_restore.specs.declared.batch_reader.BatchReader.{BatchReader}
-use Rattle.kp_restore.proofs.Machine.{IsReader, run_on, same_value}
+use Rattle.kp_restore.proofs.Machine.{IsReader, LeadsToEnd, run_on, same_value}
 use Rattle.kp_restore.proofs.LineTexts.{line_exact, line_plain}
 use Rattle.kp_restore.proofs.Tests.{all_both}
 use Rattle.kp_restore.proofs.BatchRows.{row_of, rows_of, rising, fits, all_rows_of, is_in, rising_rows_of, edits_again}
@@ -165,28 +165,18 @@ complete family edits h =
 
 -- ---- Each state leads to an end
 
-record Ends (family : Family) (s : BatchReader) : Type 0 where
-  lines : List Line
-  good : list_all (is_canonical_line family) lines ≡ true
-  state : BatchReader
-  ran : run step s lines ≡ Some state
-  is_end : IsEnd state
+Ends : Family → BatchReader → Type 0
+Ends family = LeadsToEnd step (is_canonical_line family) IsEnd
 
 commit_ends : (family : Family) (edits : List Edit) (t : TableName) (part : Part) (passed left : List Row) → is_empty (passed ++ left) ≡ false → Ends family (record { edits = edits; phase = Within t part passed left })
 commit_ends family edits t part passed left some =
     let end : BatchReader = record { edits = edits ++ edits_of t (passed ++ left); phase = Between (Some t) } in
-    record {
-      lines = line.Commit ∷ [];
-      good = refl;
-      state = end;
-      ran = ap (λ b. option_and_then (λ n. Some n) (cond b None (Some end))) some;
-      is_end = refl;
-    }
+    (line.Commit ∷ [], refl, end, ap (λ b. option_and_then (λ n. Some n) (cond b None (Some end))) some, refl)
 
 -- a chain that isn't built in may be declared
 declare_ends : (family : Family) (edits : List Edit) (t : TableName) → Ends family (record { edits = edits; phase = Within t Declaring [] [] })
-declare_ends family edits Nat = record { lines = line.Declared (codes "A") ∷ line.Commit ∷ []; good = refl; state = _; ran = refl; is_end = refl }
-declare_ends family edits Filter = record { lines = line.Declared (codes "A") ∷ line.Commit ∷ []; good = refl; state = _; ran = refl; is_end = refl }
+declare_ends family edits Nat = (line.Declared (codes "A") ∷ line.Commit ∷ [], refl, _, refl, refl)
+declare_ends family edits Filter = (line.Declared (codes "A") ∷ line.Commit ∷ [], refl, _, refl, refl)
 
 some_right : {A : Type 0} (xs : List A) (y : A) (ys : List A) → is_empty (xs ++ y ∷ ys) ≡ false
 some_right [] y ys = refl
@@ -204,14 +194,11 @@ part_ends family edits t Ruling passed left h =
 part_ends family edits t Removing passed left h = commit_ends family edits t Removing passed left (some_left passed left h.1)
 
 phase_ends : (family : Family) (edits : List Edit) (phase : BatchPhase) (xs : List Line) → Tells edits phase xs → Ends family (record { edits = edits; phase = phase })
-phase_ends family edits (Between last) xs b = record { lines = []; good = refl; state = record { edits = edits; phase = Between last }; ran = refl; is_end = refl }
+phase_ends family edits (Between last) xs b = ([], refl, record { edits = edits; phase = Between last }, refl, refl)
 phase_ends family edits (Within t part passed left) xs s = part_ends family edits t part passed left s.holds
 
-ends : (family : Family) (xs : List Line) (s : BatchReader) → list_all (is_canonical_line family) xs ≡ true → run step start xs ≡ Some s
-    → (ys : List Line) × (list_all (is_canonical_line family) ys ≡ true) × (e : BatchReader) × (run step s ys ≡ Some e) × IsEnd e
-ends family xs s good ran =
-    let e = phase_ends family s.edits s.phase xs (told xs s ran) in
-    (e.lines, e.good, e.state, e.ran, e.is_end)
+ends : (family : Family) (xs : List Line) (s : BatchReader) → list_all (is_canonical_line family) xs ≡ true → run step start xs ≡ Some s → Ends family s
+ends family xs s good ran = phase_ends family s.edits s.phase xs (told xs s ran)
 
 -- ---- The reader
 

@@ -41,6 +41,10 @@ module _ {S X : Type 0} (step : S → X → Option S) where
   pub run_last : (s m e : S) (xs : List X) (x : X) → run step s xs ≡ Some m → run step s (xs ++ x ∷ []) ≡ Some e → step m x ≡ Some e
   run_last s m e xs x h k = elim (step m x) as (λ o. option_and_then (λ n. Some n) o ≡ Some e → o ≡ Some e) [ None ↦ λ p. p | Some n ↦ λ p. p ] (sym (run_on s m xs (x ∷ []) h) ∙ k)
 
+  -- good elements lead from the state to an end
+  pub LeadsToEnd : (good : X → Bool) (IsEnd : S → Type 0) → S → Type 0
+  LeadsToEnd good IsEnd s = (ys : List X) × (list_all good ys ≡ true) × (e : S) × (run step s ys ≡ Some e) × IsEnd e
+
 -- ---- Readers
 
 -- a machine over the lines of the texts of values
@@ -52,7 +56,7 @@ pub record IsReader {S X V : Type 0} (step : S → X → Option S) (start : S) (
   pub all_good : (v : V) → has_text v → list_all good (parts v) ≡ true
   pub sound : (xs : List X) (s : S) → list_all good xs ≡ true → run step start xs ≡ Some s → IsEnd s → has_text (value s) × (parts (value s) ≡ xs)
   pub complete : (v : V) → has_text v → (s : S) × (run step start (parts v) ≡ Some s) × IsEnd s × (value s ≡ v)
-  pub ends : (xs : List X) (s : S) → list_all good xs ≡ true → run step start xs ≡ Some s → (ys : List X) × (list_all good ys ≡ true) × (e : S) × (run step s ys ≡ Some e) × IsEnd e
+  pub ends : (xs : List X) (s : S) → list_all good xs ≡ true → run step start xs ≡ Some s → LeadsToEnd step good IsEnd s
 
 -- the last element of what a map gives
 last_of_map : {A B : Type 0} (f : A → B) (ls : List B) (l : B) (ps : List A) → map f ps ≡ ls ++ l ∷ []

@@ -29,7 +29,7 @@ use Rattle.kp_restore.specs.Lines.{line_text, is_canonical_line}
 use Rattle.kp_restore.specs.Machine.{run}
 use Rattle.kp_restore.specs.TableSteps.{start, step, committed, put}
 use Rattle.kp_restore.proofs.LineTexts.{line_exact, line_plain}
-use Rattle.kp_restore.proofs.Machine.{IsReader, all_front}
+use Rattle.kp_restore.proofs.Machine.{IsReader, LeadsToEnd, all_front}
 use Rattle.kp_restore.proofs.Rows.{at, rules_in, names_of, distinct, Agree, is_some_rules, no_rules, agree, agree_front, agree_same, all_found, all_there, one_found, with_section, empty_row, syncs_with, get_with, get_with_other}
 use Rattle.kp_restore.proofs.TableRows.{IsSection, section_distinct, rules_there, rows_section, built_in_again, others_again, every_entry, one_entry}
 use Rattle.kp_restore.proofs.TableParts.{row_parts, section_parts, table_parts, table_texts}
@@ -327,7 +327,7 @@ module _ (family : Family) where
   -- ---- From each state an end is reached
 
   Ends : TableReader → Type 0
-  Ends s = (ys : List Line) × (list_all good ys ≡ true) × (e : TableReader) × (run step s ys ≡ Some e) × (e.phase ≡ Done)
+  Ends = LeadsToEnd step good (λ e. e.phase ≡ Done)
 
   abbrev empty_section : TableName → List Line
   empty_section table = section_parts table (map empty_row (built_in_chains table)) []
