@@ -165,7 +165,7 @@ complete family edits h =
 
 -- ---- Each state leads to an end
 
-Ends : Family → BatchReader → Type 0
+abbrev Ends : Family → BatchReader → Type 0
 Ends family = LeadsToEnd step (is_canonical_line family) IsEnd
 
 commit_ends : (family : Family) (edits : List Edit) (t : TableName) (part : Part) (passed left : List Row) → is_empty (passed ++ left) ≡ false → Ends family (record { edits = edits; phase = Within t part passed left })

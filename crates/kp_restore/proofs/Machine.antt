@@ -42,7 +42,7 @@ module _ {S X : Type 0} (step : S → X → Option S) where
   run_last s m e xs x h k = elim (step m x) as (λ o. option_and_then (λ n. Some n) o ≡ Some e → o ≡ Some e) [ None ↦ λ p. p | Some n ↦ λ p. p ] (sym (run_on s m xs (x ∷ []) h) ∙ k)
 
   -- good elements lead from the state to an end
-  pub LeadsToEnd : (good : X → Bool) (IsEnd : S → Type 0) → S → Type 0
+  abbrev pub LeadsToEnd : (good : X → Bool) (IsEnd : S → Type 0) → S → Type 0
   LeadsToEnd good IsEnd s = (ys : List X) × (list_all good ys ≡ true) × (e : S) × (run step s ys ≡ Some e) × IsEnd e
 
 -- ---- Readers

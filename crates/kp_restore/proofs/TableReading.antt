@@ -326,7 +326,7 @@ module _ (family : Family) where
 
   -- ---- From each state an end is reached
 
-  Ends : TableReader → Type 0
+  abbrev Ends : TableReader → Type 0
   Ends = LeadsToEnd step good (λ e. e.phase ≡ Done)
 
   abbrev empty_section : TableName → List Line
@@ -348,7 +348,6 @@ module _ (family : Family) where
   empty_run table t zs = section_run table (map empty_row (built_in_chains table)) [] t zs (empty_is_section table) (empty_jump (with_names table t (names_of (map empty_row (built_in_chains table) ++ []))).chains table)
 
   ends_behind : (table : TableName) (t : TableParts) → Ends (behind t table)
-  unfolding Ends
   ends_behind Filter t = ([], refl, behind t Filter, refl, refl)
   ends_behind Nat t = (empty_section Filter ++ [], list_all-append good (empty_section Filter) [] ∙ and_from _ _ (empty_good Filter) refl, behind (with_section Filter t (map empty_row (built_in_chains Filter) ++ [])) Filter, empty_run Filter t [], refl)
 
@@ -358,7 +357,6 @@ module _ (family : Family) where
 
   -- more lines before an end
   earlier : (s m : TableReader) (xs : List Line) → list_all good xs ≡ true → ((ys : List Line) → run step s (xs ++ ys) ≡ run step m ys) → Ends m → Ends s
-  unfolding Ends
   earlier s m xs g h f = (xs ++ f.0, list_all-append good xs f.0 ∙ and_from _ _ g f.1, f.2, h f.0 ∙ f.3, f.4)
 
   ends_filling : (table : TableName) (names : List (List ℕ)) (t : TableParts) (rules : List Rule) → Ends (filling t table names rules)
@@ -395,7 +393,6 @@ module _ (family : Family) where
   -- ---- The reader of tables
 
   pub table_reader : IsReader step start (λ s. s.phase ≡ Done) (λ s. s.table.chains) line_text (is_canonical_line family) (λ chains. is_canonical_table family chains ≡ true) table_lines table_parts
-  unfolding Ends
   table_reader = record {
     exact = line_exact family;
     plain = line_plain family;
