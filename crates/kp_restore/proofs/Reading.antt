@@ -1,5 +1,5 @@
--- A loop that reads a text line by line, and what its end says of the text.
-use Rattle.std.proofs.Common.{◌≡◌, ℕ, ◌+◌, ◌-◌, ◌≤◌, Bool, true, List, [], ◌∷◌, ◌++◌, map, length, take, Option, Some, None, IfSome, Result, Err, IfOk, refl, sym, ap, subst, ◌∙◌, arith, append_assoc, length-append}
+-- What a text is that a machine reads line by line, by where it stops.
+use Rattle.std.proofs.Common.{◌≡◌, ℕ, ◌+◌, ◌-◌, true, List, [], ◌∷◌, ◌++◌, map, length, take, Option, Some, None, IfSome, Result, Err, IfOk, refl, sym, ap, subst, ◌∙◌, arith, append_assoc, length-append}
 use Rattle.std.specs.List.{list_all}
 use Rattle.std.specs.Option.{ok_or}
 use Rattle.std.proofs.lemmas.Bool.{and_from}
@@ -7,12 +7,16 @@ use Rattle.std.proofs.lemmas.Grind.{flat_map-append}
 use Rattle.std.proofs.lemmas.List.{append-nil, append_cancel_left, map-append, length-map, take_at}
 use Rattle.std.proofs.lemmas.List.Folds.{list_all-append}
 use Rattle.std.proofs.lemmas.Option.{same_Some}
+use Rattle.kp_base.specs.declared.address.Family.TheVariants.{V4}
 use Rattle.kp_restore_defs.specs.FirstBadLine.{ended_lines, IsFirstBadLine}
 use Rattle.kp_restore_defs.specs.TableText.{text_of_lines}
-use Rattle.kp_restore.specs.declared.read.TextFault.{TextFault}
-use Rattle.kp_restore.specs.declared.read.TextFault.TheVariants.{BadText}
+use Rattle.kp_restore.specs.declared.fault.TextFault.{TextFault}
+use Rattle.kp_restore.specs.declared.fault.TextFault.TheVariants.{BadText}
+use Rattle.kp_restore.specs.declared.line.Line.{Line}
+use Rattle.kp_restore.specs.Lines.{is_canonical_line, line_text}
 use Rattle.kp_restore.specs.Machine.{run}
 use Rattle.kp_restore.specs.Pieces.{no_line_feed}
+use Rattle.kp_restore.specs.Reading.{IsTaken, IsRefused, IsRead, IsStuck, Refused, Unfinished}
 use Rattle.kp_restore.proofs.Machine.{IsReader, run_one, same_parts, all_plain, lines_known, begun, not_with}
 use Rattle.kp_restore.proofs.Texts.{ended_with_line, ended_with_none}
 
@@ -20,112 +24,99 @@ use Rattle.kp_restore.proofs.Texts.{ended_with_line, ended_with_none}
 text_behind : (lines : List (List ℕ)) (line : List ℕ) (rest : List ℕ) → text_of_lines lines ++ (line ++ 10 ∷ rest) ≡ text_of_lines (lines ++ line ∷ []) ++ rest
 text_behind lines line rest = simp (flat_map-append, append_assoc)
 
--- What is read of a text: lines that lead to a state, with a rest behind them, before a line's number. Each of them
--- has its line feed.
-pub record IsRead {S X : Type 0} (step : S → X → Option S) (start : S) (text : X → List ℕ) (good : X → Bool) (bytes : List ℕ) (s : S) (rest : List ℕ) (number : ℕ) : Type 0 where
-  pub lines : List X
-  pub all_good : list_all good lines ≡ true
-  pub ran : run step start lines ≡ Some s
-  pub cut : bytes ≡ text_of_lines (map text lines) ++ rest
-  pub counted : length lines + 1 ≡ number
-  pub within : number + length rest ≤ length bytes + 1
-
 -- No value has this text, and the line of this number is its first bad one.
 pub record IsBadFrom {V : Type 0} (has_text : V → Type 0) (lines_of : V → List (List ℕ)) (bytes : List ℕ) (number : ℕ) : Type 0 where
   pub none : (v : V) → has_text v → text_of_lines (lines_of v) ≡ bytes → ⊥
   pub first : IsFirstBadLine has_text lines_of bytes number
 
-module _ {S X : Type 0} {step : S → X → Option S} {start : S} {text : X → List ℕ} {good : X → Bool} where
-  pub read_nothing : (bytes : List ℕ) → IsRead step start text good bytes start bytes 1
-  read_nothing bytes = record { lines = []; all_good = refl; ran = refl; cut = refl; counted = omega arith; within = omega arith }
-
-  pub read_more : {bytes : List ℕ} {s t : S} {rest : List ℕ} {number : ℕ} → IsRead step start text good bytes s rest number
-      → (line behind : List ℕ) → rest ≡ line ++ 10 ∷ behind → (x : X) → good x ≡ true → text x ≡ line → step s x ≡ Some t
-      → IsRead step start text good bytes t behind (number + 1)
-  read_more {bytes} {s} {t} {rest} {number} r line behind ended x is_good is goes =
+module _ {S : Type 0} {step : S → Line → Option S} {start : S} where
+  read_more : {bytes : List ℕ} {s t : S} {rest : List ℕ} {number : ℕ} → IsRead step start bytes s rest number
+      → (line behind : List ℕ) → rest ≡ line ++ 10 ∷ behind → IsTaken step s line t → IsRead step start bytes t behind (number + 1)
+  read_more {bytes} {s} {t} {rest} {number} r line behind ended (x, is_good, is, goes) =
       let xs = r.lines in
-      let texts : map text (xs ++ x ∷ []) ≡ map text xs ++ line ∷ [] = map-append text xs (x ∷ []) ∙ ap (λ l. map text xs ++ l ∷ []) is in
+      let texts : map line_text (xs ++ x ∷ []) ≡ map line_text xs ++ line ∷ [] = map-append line_text xs (x ∷ []) ∙ ap (λ l. map line_text xs ++ l ∷ []) is in
       record {
         lines = xs ++ x ∷ [];
-        all_good = list_all-append good xs (x ∷ []) ∙ and_from _ _ r.all_good (and_from _ _ is_good refl);
+        canonical = list_all-append (is_canonical_line V4) xs (x ∷ []) ∙ and_from _ _ r.canonical (and_from _ _ is_good refl);
         ran = run_one step start s t xs x r.ran goes;
-        cut = r.cut ∙ ap (λ l. text_of_lines (map text xs) ++ l) ended ∙ text_behind (map text xs) line behind ∙ ap (λ ls. text_of_lines ls ++ behind) (sym texts);
+        cut = r.cut ∙ ap (λ l. text_of_lines (map line_text xs) ++ l) ended ∙ text_behind (map line_text xs) line behind ∙ ap (λ ls. text_of_lines ls ++ behind) (sym texts);
         counted = omega (arith, length-append xs (x ∷ []), r.counted);
         within = omega (arith, r.within, ap length ended, length-append line (10 ∷ behind));
       }
 
   -- a line that is ended, and that a call took
-  pub read_taken : {bytes : List ℕ} {s : S} {rest : List ℕ} {number : ℕ} → IsRead step start text good bytes s rest number
-      → (line behind : List ℕ) → rest ≡ line ++ 10 ∷ behind → (t : S) (found : Option S) → found ≡ Some t
-      → IfSome found (λ next. (x : X) × (good x ≡ true) × (text x ≡ line) × (step s x ≡ Some next)) → IsRead step start text good bytes t behind (number + 1)
-  read_taken {s = s} r line behind ended t found is taken =
-      let k = subst (λ o. IfSome o (λ next. (x : X) × (good x ≡ true) × (text x ≡ line) × (step s x ≡ Some next))) is taken in
-      read_more r line behind ended k.0 k.1 k.2 k.3
+  pub read_taken : {bytes : List ℕ} {s : S} {rest : List ℕ} {number : ℕ} → IsRead step start bytes s rest number
+      → (line behind : List ℕ) → rest ≡ line ++ 10 ∷ behind → (t : S) (found : Option S) → found ≡ Some t → IfSome found (IsTaken step s line) → IsRead step start bytes t behind (number + 1)
+  read_taken {s = s} r line behind ended t found is taken = read_more r line behind ended (subst (λ o. IfSome o (IsTaken step s line)) is taken)
 
-module _ {S X V : Type 0} {step : S → X → Option S} {start : S} {IsEnd : S → Type 0} {value : S → V} {text : X → List ℕ} {good : X → Bool}
-    {has_text : V → Type 0} {lines_of : V → List (List ℕ)} {parts : V → List X} (reader : IsReader step start IsEnd value text good has_text lines_of parts)
-    {bytes : List ℕ} {s : S} {rest : List ℕ} {number : ℕ} (r : IsRead step start text good bytes s rest number) where
-  counted : length (map text r.lines) + 1 ≡ number
-  counted = omega (arith, length-map r.lines text, r.counted)
+module _ {S V : Type 0} {step : S → Line → Option S} {start : S} {IsEnd : S → Type 0} {value : S → V} {has_text : V → Type 0} {lines_of : V → List (List ℕ)} {parts : V → List Line}
+    (reader : IsReader step start IsEnd value line_text (is_canonical_line V4) has_text lines_of parts) where
+  module _ {bytes : List ℕ} {s : S} {rest : List ℕ} {number : ℕ} (r : IsRead step start bytes s rest number) where
+    counted : length (map line_text r.lines) + 1 ≡ number
+    counted = omega (arith, length-map r.lines line_text, r.counted)
 
-  plain_lines : list_all no_line_feed (map text r.lines) ≡ true
-  plain_lines = all_plain reader r.lines r.all_good
+    plain_lines : list_all no_line_feed (map line_text r.lines) ≡ true
+    plain_lines = all_plain reader r.lines r.canonical
 
-  -- some value has the lines before this one
-  before : (more : List (List ℕ)) → ended_lines bytes ≡ map text r.lines ++ more
-      → (v : V) × has_text v × (take (number - 1) (ended_lines bytes) ≡ take (number - 1) (lines_of v))
-  before more lines =
-      let b = begun reader r.lines s r.all_good r.ran in
-      let first : (ls : List (List ℕ)) → take (number - 1) (map text r.lines ++ ls) ≡ map text r.lines = λ ls. take_at (map text r.lines) ls (number - 1) (omega (arith, counted)) in
-      (b.0, b.1, ap (take (number - 1)) lines ∙ first more ∙ sym (ap (take (number - 1)) b.3 ∙ first (map text b.2)))
+    -- some value has the lines before this one
+    before : (more : List (List ℕ)) → ended_lines bytes ≡ map line_text r.lines ++ more
+        → (v : V) × has_text v × (take (number - 1) (ended_lines bytes) ≡ take (number - 1) (lines_of v))
+    before more lines =
+        let b = begun reader r.lines s r.canonical r.ran in
+        let first : (ls : List (List ℕ)) → take (number - 1) (map line_text r.lines ++ ls) ≡ map line_text r.lines = λ ls. take_at (map line_text r.lines) ls (number - 1) (omega (arith, counted)) in
+        (b.0, b.1, ap (take (number - 1)) lines ∙ first more ∙ sym (ap (take (number - 1)) b.3 ∙ first (map line_text b.2)))
 
-  -- a line is ended and isn't taken
-  pub refused : (line behind : List ℕ) → rest ≡ line ++ 10 ∷ behind → no_line_feed line ≡ true → ((x : X) → good x ≡ true → text x ≡ line → step s x ≡ None)
-      → IsBadFrom has_text lines_of bytes number
-  refused line behind ended plain stuck =
-      let lines : ended_lines bytes ≡ map text r.lines ++ line ∷ ended_lines behind =
-      ap ended_lines (r.cut ∙ ap (λ t. text_of_lines (map text r.lines) ++ t) ended) ∙ ended_with_line (map text r.lines) plain_lines line behind plain
-      in
-      let with_line : take number (ended_lines bytes) ≡ map text r.lines ++ line ∷ [] =
-      ap (take number) (lines ∙ sym (append_assoc (map text r.lines) (line ∷ []) (ended_lines behind)))
-      ∙ take_at (map text r.lines ++ line ∷ []) (ended_lines behind) number (omega (arith, counted, length-append (map text r.lines) (line ∷ [])))
-      in
-      let none = not_with reader r.lines s r.all_good r.ran line stuck in
-      record {
-        none = λ v h e. none v h number (sym with_line ∙ ap (take number) (lines_known reader v h bytes e ∙ sym (reader.printed v h)));
-        first = record {
-          counted = omega (arith, counted);
-          within = omega (arith, ap length lines, length-append (map text r.lines) (line ∷ ended_lines behind), counted);
-          before = before (line ∷ ended_lines behind) lines;
-          bad = λ v h n e. none v h number (sym with_line ∙ e);
-        };
-      }
+    -- a line is ended and isn't taken
+    refused : (line behind : List ℕ) → rest ≡ line ++ 10 ∷ behind → no_line_feed line ≡ true → IsRefused step s line → IsBadFrom has_text lines_of bytes number
+    refused line behind ended plain stuck =
+        let lines : ended_lines bytes ≡ map line_text r.lines ++ line ∷ ended_lines behind =
+        ap ended_lines (r.cut ∙ ap (λ t. text_of_lines (map line_text r.lines) ++ t) ended) ∙ ended_with_line (map line_text r.lines) plain_lines line behind plain
+        in
+        let with_line : take number (ended_lines bytes) ≡ map line_text r.lines ++ line ∷ [] =
+        ap (take number) (lines ∙ sym (append_assoc (map line_text r.lines) (line ∷ []) (ended_lines behind)))
+        ∙ take_at (map line_text r.lines ++ line ∷ []) (ended_lines behind) number (omega (arith, counted, length-append (map line_text r.lines) (line ∷ [])))
+        in
+        let none = not_with reader r.lines s r.canonical r.ran line stuck in
+        record {
+          none = λ v h e. none v h number (sym with_line ∙ ap (take number) (lines_known reader v h bytes e ∙ sym (reader.printed v h)));
+          first = record {
+            counted = omega (arith, counted);
+            within = omega (arith, ap length lines, length-append (map line_text r.lines) (line ∷ ended_lines behind), counted);
+            before = before (line ∷ ended_lines behind) lines;
+            bad = λ v h n e. none v h number (sym with_line ∙ e);
+          };
+        }
 
-  -- no line is ended, and the text doesn't end here
-  pub unfinished : no_line_feed rest ≡ true → (rest ≡ [] → IsEnd s → ⊥) → IsBadFrom has_text lines_of bytes number
-  unfinished plain owed =
-      let lines : ended_lines bytes ≡ map text r.lines ++ [] = ap ended_lines r.cut ∙ ended_with_none (map text r.lines) plain_lines rest plain in
-      let n : length (ended_lines bytes) + 1 ≡ number = omega (arith, ap length lines, length-append (map text r.lines) [], counted) in
-      record {
-        none = λ v h e.
-            let same = same_parts reader (parts v) r.lines (reader.all_good v h) r.all_good (sym (lines_known reader v h bytes e) ∙ lines ∙ append-nil (map text r.lines)) in
-            let whole = reader.complete v h in
-            let here : whole.0 ≡ s = same_Some whole.0 s (sym whole.1 ∙ ap (run step start) same ∙ r.ran) in
-            let all : text_of_lines (map text r.lines) ≡ bytes = ap (λ ys. text_of_lines (map text ys)) (sym same) ∙ ap text_of_lines (sym (reader.printed v h)) ∙ e in
-            owed (append_cancel_left (text_of_lines (map text r.lines)) rest [] (sym (append-nil _ ∙ all ∙ r.cut))) (subst IsEnd here whole.2);
-        first = record {
-          counted = omega (arith, counted);
-          within = omega (arith, n);
-          before = before [] lines;
-          bad = λ v h k e. absurd (omega (arith, n));
-        };
-      }
+    -- no line is ended, and the text doesn't end here
+    unfinished : no_line_feed rest ≡ true → (rest ≡ [] → IsEnd s → ⊥) → IsBadFrom has_text lines_of bytes number
+    unfinished plain owed =
+        let lines : ended_lines bytes ≡ map line_text r.lines ++ [] = ap ended_lines r.cut ∙ ended_with_none (map line_text r.lines) plain_lines rest plain in
+        let n : length (ended_lines bytes) + 1 ≡ number = omega (arith, ap length lines, length-append (map line_text r.lines) [], counted) in
+        record {
+          none = λ v h e.
+              let same = same_parts reader (parts v) r.lines (reader.all_good v h) r.canonical (sym (lines_known reader v h bytes e) ∙ lines ∙ append-nil (map line_text r.lines)) in
+              let whole = reader.complete v h in
+              let here : whole.0 ≡ s = same_Some whole.0 s (sym whole.1 ∙ ap (run step start) same ∙ r.ran) in
+              let all : text_of_lines (map line_text r.lines) ≡ bytes = ap (λ ys. text_of_lines (map line_text ys)) (sym same) ∙ ap text_of_lines (sym (reader.printed v h)) ∙ e in
+              owed (append_cancel_left (text_of_lines (map line_text r.lines)) rest [] (sym (append-nil _ ∙ all ∙ r.cut))) (subst IsEnd here whole.2);
+          first = record {
+            counted = omega (arith, counted);
+            within = omega (arith, n);
+            before = before [] lines;
+            bad = λ v h k e. absurd (omega (arith, n));
+          };
+        }
 
-  -- the text ends here
-  pub finished : rest ≡ [] → IsEnd s → has_text (value s) × (text_of_lines (lines_of (value s)) ≡ bytes)
-  finished none end =
-      let sound = reader.sound r.lines s r.all_good r.ran end in
-      (sound.0, ap text_of_lines (reader.printed (value s) sound.0 ∙ ap (map text) sound.1) ∙ sym (r.cut ∙ ap (λ t. text_of_lines (map text r.lines) ++ t) none ∙ append-nil (text_of_lines (map text r.lines))))
+  -- a text that isn't read to an end
+  pub bad_from : {bytes : List ℕ} {number : ℕ} → (s : S) × (rest : List ℕ) × IsRead step start bytes s rest number × IsStuck step IsEnd s rest → IsBadFrom has_text lines_of bytes number
+  bad_from (s, rest, r, Refused line behind ended plain stuck) = refused r line behind ended plain stuck
+  bad_from (s, rest, r, Unfinished plain owed) = unfinished r plain owed
+
+  -- one that is
+  pub finished : {bytes : List ℕ} {s : S} {number : ℕ} → IsRead step start bytes s [] number → IsEnd s → has_text (value s) × (text_of_lines (lines_of (value s)) ≡ bytes)
+  finished {s = s} r end =
+      let sound = reader.sound r.lines s r.canonical r.ran end in
+      (sound.0, ap text_of_lines (reader.printed (value s) sound.0 ∙ ap (map line_text) sound.1) ∙ sym (r.cut ∙ append-nil (text_of_lines (map line_text r.lines))))
 
 -- ---- What is answered
 

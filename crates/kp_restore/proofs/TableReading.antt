@@ -27,7 +27,7 @@ use Rattle.kp_restore.specs.declared.table_reader.Phase.{Phase}
 use Rattle.kp_restore.specs.declared.table_reader.Phase.TheVariants.{Opening, Declaring, Ruling, Done}
 use Rattle.kp_restore.specs.Lines.{line_text, is_canonical_line}
 use Rattle.kp_restore.specs.Machine.{run}
-use Rattle.kp_restore.specs.TableSteps.{start, step, committed, put}
+use Rattle.kp_restore.specs.TableSteps.{start, step, committed, put, IsEnd}
 use Rattle.kp_restore.proofs.LineTexts.{line_exact, line_plain}
 use Rattle.kp_restore.proofs.Machine.{IsReader, LeadsToEnd, all_front}
 use Rattle.kp_restore.proofs.Rows.{at, rules_in, names_of, distinct, Agree, is_some_rules, no_rules, agree, agree_front, agree_same, all_found, all_there, one_found, with_section, empty_row, syncs_with, get_with, get_with_other}
@@ -305,7 +305,7 @@ module _ (family : Family) where
   ended t [] e h = (refl, same_Some (behind t Filter) e h)
   ended t (l ∷ ls) e h = absurd (none-some _ h)
 
-  table_sound : (us : List Line) (e : TableReader) → list_all good us ≡ true → run step start us ≡ Some e → e.phase ≡ Done → HasText e.table.chains × (table_parts e.table.chains ≡ us) × (e.table.syncs ≡ 0)
+  table_sound : (us : List Line) (e : TableReader) → list_all good us ≡ true → run step start us ≡ Some e → IsEnd e → HasText e.table.chains × (table_parts e.table.chains ≡ us) × (e.table.syncs ≡ 0)
   table_sound us e g h done =
       let a = section_back e done Nat bare us h in
       let f = section_back e done Filter (with_section Nat bare (a.0 ++ a.1)) a.2 a.5 in
@@ -327,7 +327,7 @@ module _ (family : Family) where
   -- ---- From each state an end is reached
 
   abbrev Ends : TableReader → Type 0
-  Ends = LeadsToEnd step good (λ e. e.phase ≡ Done)
+  Ends = LeadsToEnd step good IsEnd
 
   abbrev empty_section : TableName → List Line
   empty_section table = section_parts table (map empty_row (built_in_chains table)) []
@@ -392,7 +392,7 @@ module _ (family : Family) where
 
   -- ---- The reader of tables
 
-  pub table_reader : IsReader step start (λ s. s.phase ≡ Done) (λ s. s.table.chains) line_text (is_canonical_line family) (λ chains. is_canonical_table family chains ≡ true) table_lines table_parts
+  pub table_reader : IsReader step start IsEnd (λ s. s.table.chains) line_text (is_canonical_line family) (λ chains. is_canonical_table family chains ≡ true) table_lines table_parts
   table_reader = record {
     exact = line_exact family;
     plain = line_plain family;
@@ -403,5 +403,5 @@ module _ (family : Family) where
     ends = λ us s g h. ends_in s.table s.phase;
   }
 
-  pub no_syncs : (us : List Line) (e : TableReader) → list_all good us ≡ true → run step start us ≡ Some e → e.phase ≡ Done → e.table.syncs ≡ 0
+  pub no_syncs : (us : List Line) (e : TableReader) → list_all good us ≡ true → run step start us ≡ Some e → IsEnd e → e.table.syncs ≡ 0
   no_syncs us e g h done = (table_sound us e g h done).2

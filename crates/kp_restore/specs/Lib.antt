@@ -4,4 +4,5 @@ pub mod Machine
 pub mod Pieces
 pub mod Printed
 pub mod PrintedEdits
+pub mod Reading
 pub mod TableSteps

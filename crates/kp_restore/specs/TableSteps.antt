@@ -1,5 +1,5 @@
 -- The reading of a table's text line by line: what is read so far, and what a further line makes of it.
-use Rattle.std.specs.Prelude.{ℕ, ◌-◌, ◌==◌, ◌&&◌, ◌||◌, Bool, true, cond, not, List, [], ◌∷◌, ◌++◌, length, bytes_eq, slice_get, Option, Some, None}
+use Rattle.std.specs.Prelude.{◌≡◌, ℕ, ◌-◌, ◌==◌, ◌&&◌, ◌||◌, Bool, true, cond, not, List, [], ◌∷◌, ◌++◌, length, bytes_eq, slice_get, Option, Some, None}
 use Rattle.std.specs.Ordering.{is_lt}
 use Rattle.std.specs.FinMap as finite
 use Rattle.kp_base.specs.Keys.{text_cmp}
@@ -113,3 +113,9 @@ step_in t Done l = None
 -- a further line
 abbrev pub step : TableReader → Line → Option TableReader
 step reader l = step_in reader.table reader.phase l
+
+-- ---- The end of the text
+
+-- nothing is owed
+abbrev pub IsEnd : TableReader → Type 0
+IsEnd reader = reader.phase ≡ Done

@@ -5,10 +5,11 @@ ghost use Rattle.kp_restore.specs.BatchSteps as spec;
 use crate::built_in::is_built_in;
 use crate::left::Left;
 use crate::line::Line;
+use crate::line_machine::LineMachine;
 use crate::lists::with_last;
-use crate::row::Row;
+use crate::row::{Row, with_rule};
 use kp_base::{Items, NoMemory, Shared};
-use kp_types::{ChainAt, ChainName, Edit, Rule, TableName};
+use kp_types::{Batch, ChainAt, ChainName, Edit, Rule, TableName};
 use std::alloc::Global;
 
 /// What the lines of a section say.
@@ -46,21 +47,25 @@ pub(crate) struct BatchReader {
     pub phase: BatchPhase,
 }
 
-impl BatchReader {
-    /// Nothing is read.
-    pub fn new(alloc: Global) -> BatchReader
-        ensures { result ≡ spec.start }
-    {
-        BatchReader {
+impl LineMachine for BatchReader {
+    type Value = Batch;
+
+    ghost start = { spec.start };
+
+    ghost step = { spec.step };
+
+    ghost is_end = { spec.IsEnd };
+
+    ghost says = { λ reader batch. batch.edits ≡ reader.edits };
+
+    fn start(alloc: Global) -> Result<BatchReader, NoMemory> {
+        Ok(BatchReader {
             edits: Items::new(alloc),
             phase: BatchPhase::Between { last: None },
-        }
+        })
     }
 
-    /// What is read with one more line, or nothing where no text of a batch has the line here.
-    pub fn step(self, alloc: Global, line: Line) -> Result<Option<BatchReader>, NoMemory>
-        ensures { IfOk result (λ next. next ≡ spec.step self line) }
-    {
+    fn step(self, alloc: Global, line: Line) -> Result<Option<BatchReader>, NoMemory> {
         let BatchReader { edits, phase } = self;
         match phase {
             BatchPhase::Between { last } => Ok(opened(alloc, edits, last, line)),
@@ -70,6 +75,13 @@ impl BatchReader {
                 passed,
                 left,
             } => within(alloc, edits, section, part, passed, left, line),
+        }
+    }
+
+    fn end(self) -> Option<Batch> {
+        match self.phase {
+            BatchPhase::Between { .. } => Some(Batch { edits: self.edits }),
+            BatchPhase::Within { .. } => None,
         }
     }
 }
@@ -229,23 +241,6 @@ fn ruled(
         passed.push(row)?;
     }
     Ok(None)
-}
-
-/// A chain with one more rule.
-fn with_rule(row: Row, rule: Rule) -> Result<Row, NoMemory>
-    ensures { IfOk result (λ more. more ≡ spec.with_rule row rule) }
-{
-    let Row {
-        chain,
-        rules,
-        removed,
-    } = row;
-    let rules = with_last(rules, rule)?;
-    Ok(Row {
-        chain,
-        rules,
-        removed,
-    })
 }
 
 /// A remove: the first one is sought among all chains.

@@ -3,12 +3,13 @@
 #![tactic(auto)]
 
 mod batch_print;
-mod batch_read;
 mod batch_reader;
 mod built_in;
+mod fault;
 pub mod laws;
 mod left;
 mod line;
+mod line_machine;
 mod lists;
 mod pieces;
 mod places;
@@ -18,8 +19,8 @@ mod row;
 mod table_reader;
 
 pub use batch_print::batch_text;
-pub use batch_read::read_batch;
+pub use fault::TextFault;
 pub use kp_rules::Table;
 pub use kp_types::Batch;
 pub use print::{section_text, table_text};
-pub use read::{TextFault, read_table};
+pub use read::{read_batch, read_table};

@@ -7,6 +7,7 @@ ghost use Rattle.kp_restore.specs.TableSteps as spec;
 use crate::built_in::{built_in_at, may_follow};
 use crate::left::Left;
 use crate::line::Line;
+use crate::line_machine::LineMachine;
 use crate::lists::with_last;
 use kp_base::{Items, NoMemory};
 use kp_rules::Table;
@@ -42,11 +43,18 @@ pub(crate) struct TableReader {
     pub phase: Phase,
 }
 
-impl TableReader {
-    /// Nothing is read.
-    pub fn new(alloc: Global) -> Result<TableReader, NoMemory>
-        ensures { IfOk result (λ reader. reader ≡ spec.start) }
-    {
+impl LineMachine for TableReader {
+    type Value = Table;
+
+    ghost start = { spec.start };
+
+    ghost step = { spec.step };
+
+    ghost is_end = { spec.IsEnd };
+
+    ghost says = { λ reader table. table ≡ reader.table };
+
+    fn start(alloc: Global) -> Result<TableReader, NoMemory> {
         Ok(TableReader {
             table: Table::bare(alloc)?,
             phase: Phase::Opening {
@@ -55,10 +63,7 @@ impl TableReader {
         })
     }
 
-    /// What is read with one more line, or nothing where no text of a table has the line here.
-    pub fn step(self, alloc: Global, line: Line) -> Result<Option<TableReader>, NoMemory>
-        ensures { IfOk result (λ next. next ≡ spec.step self line) }
-    {
+    fn step(self, alloc: Global, line: Line) -> Result<Option<TableReader>, NoMemory> {
         let TableReader { table, phase } = self;
         match phase {
             Phase::Opening { section } => Ok(opened(alloc, table, section, line)),
@@ -69,6 +74,13 @@ impl TableReader {
                 rules,
             } => ruling(alloc, table, section, left, rules, line),
             Phase::Done => Ok(None),
+        }
+    }
+
+    fn end(self) -> Option<Table> {
+        match self.phase {
+            Phase::Done => Some(self.table),
+            _ => None,
         }
     }
 }
