@@ -2,6 +2,7 @@
 //! the difference of two numbers of times.
 #![tactic(auto)]
 
+mod draws;
 mod input;
 mod lines;
 mod storing;

@@ -1,6 +1,5 @@
 //! Objects that are read, put into a store, and asked where a packet goes.
-ghost use Rattle.std.specs.Prelude.{◌≡◌, ◌<◌, ◌^◌};
-
+use crate::draws::draw;
 use crate::input::events;
 use kp_decide::{Reason, decide};
 use kp_draws::DrawSource;
@@ -55,12 +54,7 @@ pub fn changed(alloc: Global, events: &[Event], times: u32) -> Option<u64> {
 pub fn decided(alloc: Global, objects: &Objects, packet: &Packet, times: u32) -> Option<u64> {
     let config = default_config(alloc).ok()?;
     let lists = RecentLists::new(alloc, 100).ok()?;
-    let draws = DrawSource::new(
-        |_number: u64, _k: u32| -> u32
-            ensures value { result ≡ 7 }
-            ensures low { result < 2 ^ 31 }
-        { 7 },
-    );
+    let draws = DrawSource::new(draw);
     let mut count: u64 = 0;
     for number in 0..times as u64 {
         let decision = decide(alloc, objects, &config, number, packet, &draws, &lists).ok()?;

@@ -1,6 +1,5 @@
 //! Packets that walk a table.
-ghost use Rattle.std.specs.Prelude.{◌≡◌, ◌<◌, ◌^◌};
-
+use crate::draws::draw;
 use kp_base::{Copied, Items};
 use kp_draws::DrawSource;
 use kp_recent::RecentLists;
@@ -17,12 +16,7 @@ pub fn walked(alloc: Global, table: &Table, packet: &Packet, times: u32) -> Opti
     }
     let mut lists = RecentLists::new(alloc, 100).ok()?;
     let node = Items::new(alloc);
-    let draws = DrawSource::new(
-        |_number: u64, _k: u32| -> u32
-            ensures value { result ≡ 7 }
-            ensures low { result < 2 ^ 31 }
-        { 7 },
-    );
+    let draws = DrawSource::new(draw);
     let mut count: u64 = 0;
     for number in 0..times as u64 {
         let verdict = verdict_of(table, &node, number, packet, &draws, &mut lists).ok()?;
