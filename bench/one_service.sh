@@ -1,7 +1,7 @@
 #!/bin/sh
-# Writes the lines of one Service, one slice, a sync and packets. A
-# packet's three draws are 11 times its number, so that most stop at the first statistic test, and
-# the last some thousand of 200,000 go through all of them.
+# Writes the lines of one Service, one slice, a sync and packets. A packet's three draws are 11 times
+# its number, so that most stop at the first statistic test, and the last some thousand of 200,000 go
+# through all of them.
 #   bench/one_service.sh ENDPOINTS PACKETS
 set -eu
 exec awk -v endpoints="$1" -v packets="$2" 'BEGIN {

@@ -31,16 +31,6 @@ each_on_files() { # $1: less, $2: its repeats, $3: more, $4: its repeats, then t
         'BEGIN { printf "%.9f\n", (whole - base) / times }'
 }
 
-# the same for a command that takes its number of repeats as its last word
-each_by_word() { # $1: few repeats, $2: many repeats, then the command
-    local few=$1 many=$2 base whole
-    shift 2
-    base=$(median_of_five /dev/null "$@" "$few") &&
-        whole=$(median_of_five /dev/null "$@" "$many") || return 1
-    awk -v base="$base" -v whole="$whole" -v times=$((many - few)) \
-        'BEGIN { printf "%.9f\n", (whole - base) / times }'
-}
-
 # so many a second, where each takes these seconds
 a_second() { # $1: the seconds
     awk -v each="$1" 'BEGIN { if (each > 0) printf "%d", 1 / each; else printf "too many to tell" }'
