@@ -101,9 +101,8 @@ impl Feed {
         }
     }
 
-    /// Takes the event at the front, which is the next of its feeder. There is none only where the
-    /// queue was empty at one moment of this call, and then what was taken is all that the feeders
-    /// which ended have fed.
+    /// Takes the event at the front, which is the next of its feeder. Where there is none, what was
+    /// taken is all that the feeders which ended have fed.
     pub fn take<R: Wait>(&self, rt: &R, pass: &mut TakePass) -> Option<Fed>
         requires { pass.old.queue ≡ self.now }
         ensures taken { IfSome result (λ f. pass.new ≡ calls.with_taken pass.old f) }

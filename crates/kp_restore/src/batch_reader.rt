@@ -2,13 +2,13 @@
 ghost use Rattle.std.specs.Prelude.{◌≡◌, ◌∷◌, ◌++◌, [], IfOk, OnOk, slice_get, length, ◌-◌};
 ghost use Rattle.kp_restore.specs.BatchSteps as spec;
 
-use crate::built_in::is_built_in;
 use crate::left::Left;
 use crate::line::Line;
 use crate::line_machine::LineMachine;
 use crate::lists::with_last;
 use crate::row::{Row, with_rule};
 use kp_base::{Items, NoMemory, Shared};
+use kp_rules::is_built_in;
 use kp_types::{Batch, ChainAt, ChainName, Edit, Rule, TableName};
 use std::alloc::Global;
 

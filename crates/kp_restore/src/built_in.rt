@@ -4,6 +4,7 @@ ghost use Rattle.kp_table_defs.specs.Ranks as ranks;
 ghost use Rattle.kp_types.specs.declared.chain.TableName.TheVariants.{Nat, Filter};
 ghost use Rattle.kp_restore.specs.TableSteps as spec;
 
+use kp_rules::is_built_in;
 use kp_types::{ChainName, TableName};
 
 /// The built-in chain of a table at a place, from 0, in the order of their lines.
@@ -39,18 +40,6 @@ fn filter_at(place: usize) -> Option<&'static str>
         1 => Some("FORWARD"),
         2 => Some("OUTPUT"),
         _ => None,
-    }
-}
-
-/// Whether a chain is built in.
-pub(crate) fn is_built_in(section: TableName, chain: &str) -> bool
-    ensures { result ≡ ranks.is_built_in section chain.now }
-{
-    match section {
-        TableName::Nat => {
-            chain == "PREROUTING" || chain == "INPUT" || chain == "OUTPUT" || chain == "POSTROUTING"
-        }
-        TableName::Filter => chain == "INPUT" || chain == "FORWARD" || chain == "OUTPUT",
     }
 }
 

@@ -5,9 +5,8 @@ ghost use Rattle.kp_types.specs.Chains.{is_chain_name};
 ghost use Rattle.kp_types.specs.declared.chain.TableName.TheVariants as table_name;
 ghost use Rattle.kp_restore.specs.Printed as spec;
 
-use crate::built_in::is_built_in;
 use kp_base::{Items, NoMemory};
-use kp_rules::Table;
+use kp_rules::{Table, is_built_in};
 use kp_types::{ChainAt, ChainName, TableName};
 use std::alloc::Global;
 

@@ -20,4 +20,5 @@ pub use chain::Chain;
 pub use changes::changed;
 pub use destination::Destination;
 pub use kp_types::{Batch, ChainAt, ChainName, ChainText, Edit, Match, Rule, TableName, Target};
+pub use ranks::is_built_in;
 pub use table::Table;

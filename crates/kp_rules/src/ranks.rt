@@ -96,8 +96,9 @@ fn rank_of(at: &ChainAt) -> Option<u8>
     }
 }
 
-/// Whether a table has a built-in chain of this name.
-fn is_built_in(table: TableName, name: &str) -> bool
+/// Whether a table has a built-in chain of this name (iptables(8)): PREROUTING, INPUT, OUTPUT and
+/// POSTROUTING in nat; INPUT, FORWARD and OUTPUT in filter.
+pub fn is_built_in(table: TableName, name: &str) -> bool
     ensures { result ≡ Ranks.is_built_in table name.now }
 {
     match table {
