@@ -1,3 +1,4 @@
+pub mod Inside
 pub mod PortSteps
 pub mod SeenOrder
 pub mod ServiceMade

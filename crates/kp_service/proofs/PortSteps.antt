@@ -1,7 +1,7 @@
 -- A list of ports that grows by one whose name and protocol are new.
-use Rattle.std.proofs.Common.{◌≡◌, ℕ, ◌&&◌, ◌||◌, Bool, true, false, not, cond, List, [], ◌∷◌, ◌++◌, map, Option, Some, None, refl, ap, sym, ◌∙◌}
+use Rattle.std.proofs.Common.{◌≡◌, ℕ, ◌||◌, Bool, true, false, not, cond, List, [], ◌∷◌, ◌++◌, map, Option, Some, None, refl, ap, sym, ◌∙◌}
 use Rattle.std.specs.List.{list_any}
-use Rattle.std.proofs.lemmas.Bool.{or_parts, or_from, not-true}
+use Rattle.std.proofs.lemmas.Bool.{and_parts, and_from, or_parts, or_from, not-true}
 use Rattle.std.proofs.lemmas.List.{append_assoc, map-append}
 use Rattle.std.proofs.lemmas.List.Folds.{list_any-append}
 use Rattle.kp_base.specs.declared.port.Proto.{Proto}
@@ -15,43 +15,26 @@ use Rattle.kp_row_defs.specs.Rows.{or_then, ports_fault, port_id, same_id}
 use Rattle.kp_event_defs.specs.ServiceText.{service_port}
 use Rattle.kp_service.specs.SeenIds.{id_of}
 
-or_false : (b : Bool) → (b || false) ≡ b
-or_false true = refl
-or_false false = refl
-
-or_comm : (a b : Bool) → (a || b) ≡ (b || a)
-or_comm true true = refl
-or_comm true false = refl
-or_comm false true = refl
-or_comm false false = refl
-
-not_and : (a b : Bool) → (not a && b) ≡ true → (a ≡ false) × (b ≡ true)
-not_and true b h = absurd (cc)
-not_and false b h = (refl, h)
-
-both : (a b : Bool) → a ≡ false → b ≡ true → (not a && b) ≡ true
-both a b ha hb = λ i. not (ha i) && hb i
-
--- the test of a list with one more port
-any_snoc : (test : ServicePort → Bool) (ps : List ServicePort) (p : ServicePort) → list_any test (ps ++ p ∷ []) ≡ (list_any test ps || test p)
-any_snoc test ps p = list_any-append test ps (p ∷ []) ∙ ap (λ b. list_any test ps || b) (or_false (test p))
+-- the test of what stands at the end comes first
+end_first : (a b : Bool) → (a || (b || false)) ≡ (b || a)
+end_first true true = refl
+end_first true false = refl
+end_first false true = refl
+end_first false false = refl
 
 -- a port that is new leaves the ports distinct
 distinct_snoc : (ps : List ServicePort) (p : ServicePort) → distinct_ports ps ≡ true → list_any (same_id (id_of p)) (map id_of ps) ≡ false → distinct_ports (ps ++ p ∷ []) ≡ true
 distinct_snoc [] p distinct new = refl
 distinct_snoc (q ∷ qs) p distinct new =
-    let d = not_and (list_any (is_port q.name q.proto) qs) (distinct_ports qs) distinct in
+    let d = and_parts (not (list_any (is_port q.name q.proto) qs)) (distinct_ports qs) distinct in
     let n = or_parts (same_id (id_of p) (id_of q)) (list_any (same_id (id_of p)) (map id_of qs)) new in
-    both (list_any (is_port q.name q.proto) (qs ++ p ∷ [])) (distinct_ports (qs ++ p ∷ []))
-    (any_snoc (is_port q.name q.proto) qs p ∙ or_from (list_any (is_port q.name q.proto) qs) (is_port q.name q.proto p) d.0 n.0)
-    (distinct_snoc qs p d.1 n.1)
+    and_from _ _ (ap not (list_any-append (is_port q.name q.proto) qs (p ∷ []) ∙ or_from _ _ (not-true _ d.0) (or_from _ _ n.0 refl))) (distinct_snoc qs p d.1 n.1)
 
 -- the set of names and protocols with one more
 any_id_snoc : (id : List ℕ × Proto) (ps : List ServicePort) (p : ServicePort) → list_any (same_id id) (map id_of (ps ++ p ∷ [])) ≡ (same_id id (id_of p) || list_any (same_id id) (map id_of ps))
 any_id_snoc id ps p =
     ap (list_any (same_id id)) (map-append id_of ps (p ∷ [])) ∙ list_any-append (same_id id) (map id_of ps) (id_of p ∷ [])
-    ∙ ap (λ b. list_any (same_id id) (map id_of ps) || b) (or_false (same_id id (id_of p)))
-    ∙ or_comm (list_any (same_id id) (map id_of ps)) (same_id id (id_of p))
+    ∙ end_first (list_any (same_id id) (map id_of ps)) (same_id id (id_of p))
 
 -- the fault of the ports that are left, where the first of them has none, and its name and protocol are new
 fault_step : (faults : Place → Option BadField) (items : List ServicePort) (p : Place) (left : List Place)

@@ -1,16 +1,14 @@
 -- Names and protocols of ports: their order is total, and it tells apart what the test tells apart.
-use Rattle.std.proofs.Common.{◌≡◌, ℕ, ◌&&◌, ◌||◌, Bool, true, false, not, cond, List, refl, sym, ◌∙◌}
+use Rattle.std.proofs.Common.{◌≡◌, ℕ, ◌||◌, Bool, true, false, not, cond, List, refl, sym, ◌∙◌}
 use Rattle.std.specs.declared.cmp.Ordering.{Ordering}
-use Rattle.std.specs.declared.cmp.Ordering.TheVariants.{Less, Equal, Greater}
-use Rattle.std.specs.Ordering.{nat_cmp, ordering_then, is_eq, eq_by_cmp}
-use Rattle.std.specs.Cmp.{IsTotalOrder, eq_by_cmp_equiv, unsigned_ties}
+use Rattle.std.specs.Ordering.{nat_cmp, ordering_then, eq_by_cmp}
+use Rattle.std.specs.Cmp.{IsTotalOrder, both_tied, eq_by_cmp_equiv, unsigned_ties}
 use Rattle.std.specs.Cmp.Lexicographic.{texts_ties, nat_list_cmp_total}
 use Rattle.std.specs.BTreeSet.{BTreeSet, contains}
 use Rattle.std.proofs.lemmas.Cmp.{on_total, then_total, nat_cmp_total}
 use Rattle.kp_base.specs.Keys.{text_cmp, proto_place}
 use Rattle.kp_base.specs.declared.port.Proto.{Proto}
-use Rattle.kp_base.specs.declared.port.Proto.TheVariants.{Sctp, Tcp, Udp}
-use Rattle.kp_base.specs.contracts.port.ProtoOrd.TheImpl as proto_ord
+use Rattle.kp_base.proofs.KeyOrder.{proto_matches}
 use Rattle.kp_row_defs.specs.Rows.{same_id}
 use Rattle.kp_service.specs.SeenIds.{id_cmp}
 use Rattle.kp_service.specs.declared.seen.PortId.{PortId}
@@ -20,26 +18,9 @@ use Rattle.kp_service.specs.contracts.seen.PortIdOrd.TheImpl as id_ord
 id_total : IsTotalOrder id_cmp
 id_total = then_total (on_total (λ k. k.name) nat_list_cmp_total) (on_total (λ k. proto_place k.proto) nat_cmp_total)
 
--- the derived order of protocols
-proto_matches : (a b : Proto) → proto_ord.ghosts.cmp a b ≡ nat_cmp (proto_place a) (proto_place b)
-proto_matches Sctp Sctp = refl
-proto_matches Sctp Tcp = refl
-proto_matches Sctp Udp = refl
-proto_matches Tcp Sctp = refl
-proto_matches Tcp Tcp = refl
-proto_matches Tcp Udp = refl
-proto_matches Udp Sctp = refl
-proto_matches Udp Tcp = refl
-proto_matches Udp Udp = refl
-
 -- the derived order
 id_matches : ◌≡◌ {A = PortId → PortId → Ordering} id_ord.ghosts.cmp id_cmp
 id_matches = λ i a b. ordering_then (text_cmp a.name b.name) (proto_matches a.proto b.proto i)
-
-is_eq-then : (a b : Ordering) → is_eq (ordering_then a b) ≡ (is_eq a && is_eq b)
-is_eq-then Less b = refl
-is_eq-then Equal b = refl
-is_eq-then Greater b = refl
 
 -- the member of the set for a name and a protocol
 abbrev id_at : List ℕ × Proto → PortId
@@ -48,8 +29,7 @@ id_at id = record { name = id.0; proto = id.1 }
 -- the test, and the order
 id_ties : (a b : List ℕ × Proto) → same_id a b ≡ eq_by_cmp id_cmp (id_at a) (id_at b)
 id_ties a b =
-    (λ i. texts_ties a.0 b.0 i && unsigned_ties (proto_place a.1) (proto_place b.1) i)
-    ∙ sym (is_eq-then (text_cmp a.0 b.0) (nat_cmp (proto_place a.1) (proto_place b.1)))
+    both_tied _ _ (text_cmp a.0 b.0) (nat_cmp (proto_place a.1) (proto_place b.1)) (texts_ties a.0 b.0) (unsigned_ties (proto_place a.1) (proto_place b.1))
 
 -- the order the other way round
 ties_id : (a b : List ℕ × Proto) → eq_by_cmp id_cmp (id_at b) (id_at a) ≡ same_id a b

@@ -7,6 +7,7 @@ mod choices;
 mod port;
 mod seen;
 mod service;
+mod spec;
 
 pub use kp_types::{ClusterAddress, Policy, Service, ServiceKind, ServicePort, TargetPort};
 pub use service::service_of;
