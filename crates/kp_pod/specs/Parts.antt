@@ -1,16 +1,16 @@
 -- The parts of a Pod that are read one after another.
-use Rattle.std.specs.Prelude.{◌≡◌, Bool, List, ◌++◌, codes, cond, Option, Some, None, is_some, find, Result, Ok, Err}
+use Rattle.std.specs.Prelude.{◌≡◌, Bool, List, ◌++◌, codes, Option, Some, None, is_some, find, Result, Ok, Err}
+use Rattle.std.specs.Bool.{then_some}
 use Rattle.std.specs.List.{flat_map}
 use Rattle.kp_json.specs.Places.{Place}
 use Rattle.kp_json.specs.declared.fault.BadField.{BadField}
 use Rattle.kp_json.specs.declared.fault.FieldFault.{FieldFault}
-use Rattle.kp_row_defs.specs.Fields.{text_in, items_in, is_text, address_in, pairs_in, key_from}
+use Rattle.kp_row_defs.specs.Fields.{text_in, items_in, address_in, pairs_in, key_from}
 use Rattle.kp_event_defs.specs.PodText.{container_ports, is_readiness, is_finished, holds}
 use Rattle.kp_row_defs.specs.Reads.{Refuses}
 use Rattle.kp_pod.specs.declared.pod.Metadata.{Metadata}
 use Rattle.kp_pod.specs.declared.spec.PodSpec.{PodSpec}
 use Rattle.kp_pod.specs.declared.status.PodStatus.{PodStatus}
-use Rattle.kp_pod.specs.declared.status.Condition.{Condition}
 
 -- the metadata
 abbrev pub metadata_from : Place → Metadata
@@ -35,14 +35,9 @@ status_from p = record {
   ready = holds (find is_readiness (items_in (codes "conditions") p));
 }
 
--- a condition
-abbrev pub condition_from : Place → Condition
-condition_from p = record { is_readiness = is_readiness p; holds = is_text (codes "True") (text_in (codes "status") p) }
-
--- the answer so far, or that of a condition about readiness
-abbrev pub first_answer : Option Bool → Condition → Option Bool
-first_answer (Some b) c = Some b
-first_answer None c = cond c.is_readiness (Some c.holds) None
+-- whether a condition holds, if it is about readiness
+abbrev pub readiness_of : Place → Option Bool
+readiness_of p = then_some (is_readiness p) (holds (Some p))
 
 -- what was read stands behind the old elements, or the fault where there is one
 abbrev pub ReadsInto : {X : Type 0} → Result (Unit {0}) FieldFault → List X → List X → Option BadField → List X → Type 0

@@ -6,7 +6,7 @@ ghost use Rattle.kp_row_defs.specs.Fields.{inner, items_in, text_in};
 ghost use Rattle.kp_row_defs.specs.Reads.{Reads};
 ghost use Rattle.kp_row_defs.specs.Rows.{each, list_fault, row_fault, rows_fault};
 ghost use Rattle.kp_event_defs.specs.PodText.{pod_status_row, pod_status_rows, condition_rows, is_readiness, holds, is_finished};
-ghost use Rattle.kp_pod.specs.Parts.{status_from, condition_from, first_answer};
+ghost use Rattle.kp_pod.specs.Parts.{status_from, readiness_of};
 
 use kp_base::Address;
 use kp_fields::{TextForm, address_field, is_text, text_field};
@@ -19,13 +19,6 @@ pub(crate) struct PodStatus {
     pub(crate) finished: bool,
     pub(crate) address: Option<Address>,
     pub(crate) ready: bool,
-}
-
-/// What is read of a condition.
-#[derive(Clone, Copy)]
-pub(crate) struct Condition {
-    is_readiness: bool,
-    holds: bool,
 }
 
 pub(crate) fn status_field<'a>(alloc: Global, spot: &'a Spot<'a>) -> Result<PodStatus, FieldFault>
@@ -59,10 +52,7 @@ fn status_here<'a>(alloc: Global, status: &'a Spot<'a>) -> Result<PodStatus, Fie
 fn is_finished(phase: Option<&str>) -> bool
     ensures { result ≡ is_finished (option_map (λ t. t.now) phase.entry) }
 {
-    match phase {
-        Some(phase) => phase == "Succeeded" || phase == "Failed",
-        None => false,
-    }
+    matches!(phase, Some("Succeeded" | "Failed"))
 }
 
 /// Whether the first condition of type Ready holds.
@@ -83,31 +73,17 @@ fn conditions_here<'a>(alloc: Global, list: &'a Spot<'a>) -> Result<bool, FieldF
 {
     let mut ready = None;
     for element in list.elements(alloc)? {
-        let condition = condition_of(alloc, &element)?;
-        ready = first_answer(ready, condition);
+        ready = ready.or(readiness_of(alloc, &element)?);
     }
     Ok(ready.unwrap_or(false))
 }
 
-/// The answer so far, or whether this condition holds if it is about readiness.
-fn first_answer(ready: Option<bool>, condition: Condition) -> Option<bool>
-    ensures { result ≡ first_answer ready condition }
-{
-    match ready {
-        Some(ready) => Some(ready),
-        None if condition.is_readiness => Some(condition.holds),
-        None => None,
-    }
-}
-
-fn condition_of<'a>(alloc: Global, spot: &'a Spot<'a>) -> Result<Condition, FieldFault>
-    ensures { Reads (λ c. c) result (rows_fault condition_rows (place_of spot.now))
-        (condition_from (place_of spot.now)) }
+/// Whether a condition holds, if it is about readiness.
+fn readiness_of<'a>(alloc: Global, spot: &'a Spot<'a>) -> Result<Option<bool>, FieldFault>
+    ensures { Reads (λ o. o) result (rows_fault condition_rows (place_of spot.now))
+        (readiness_of (place_of spot.now)) }
 {
     let kind = text_field(alloc, spot, "type", TextForm::Any)?;
     let status = text_field(alloc, spot, "status", TextForm::Any)?;
-    Ok(Condition {
-        is_readiness: is_text(kind, "Ready"),
-        holds: is_text(status, "True"),
-    })
+    Ok(is_text(kind, "Ready").then_some(is_text(status, "True")))
 }
