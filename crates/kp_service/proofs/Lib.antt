@@ -1,4 +1,3 @@
-pub mod Inside
 pub mod PortSteps
 pub mod SeenOrder
 pub mod ServiceMade

@@ -5,7 +5,7 @@ ghost use Rattle.kp_json.specs.Views.{place_of};
 ghost use Rattle.kp_event_defs.specs.ServiceText.{read_service};
 
 use crate::address::balancer_field;
-use crate::spec::spec_field;
+use crate::spec::spec_here;
 use kp_fields::key_field;
 use kp_json::{FieldFault, Spot};
 use kp_types::Service;
@@ -16,7 +16,8 @@ pub fn service_of<'a>(alloc: Global, spot: &'a Spot<'a>) -> Result<Service, Fiel
     ensures { Gives (λ s. s) result (read_service (place_of spot.now)) }
 {
     let key = key_field(alloc, spot)?;
-    let spec = spec_field(alloc, spot)?;
+    let spec = spot.needed(alloc, "spec")?;
+    let spec = spec_here(alloc, &spec)?;
     let balancer = balancer_field(alloc, spot)?;
     Ok(Service {
         key,

@@ -1,9 +1,8 @@
 //! The specification of a Service.
-ghost use Rattle.std.specs.Prelude.{◌≡◌, codes, true, IfOk};
+ghost use Rattle.std.specs.Prelude.{◌≡◌, true, IfOk};
 ghost use Rattle.kp_json.specs.Views.{place_of};
-ghost use Rattle.kp_row_defs.specs.Fields.{inner};
 ghost use Rattle.kp_row_defs.specs.Reads.{Reads};
-ghost use Rattle.kp_row_defs.specs.Rows.{inside, needed, row_fault, rows_fault};
+ghost use Rattle.kp_row_defs.specs.Rows.{rows_fault};
 ghost use Rattle.kp_event_defs.specs.ServiceText.{service_spec_rows};
 ghost use Rattle.kp_types.specs.Ports.{distinct_ports};
 ghost use Rattle.kp_service.specs.Parts.{spec_from};
@@ -34,17 +33,8 @@ pub(crate) struct ServiceSpec {
     pub(crate) same_zone: bool,
 }
 
-pub(crate) fn spec_field<'a>(alloc: Global, spot: &'a Spot<'a>) -> Result<ServiceSpec, FieldFault>
-    ensures spec { Reads (λ s. s) result
-        (row_fault (inside (codes "spec") needed service_spec_rows) (place_of spot.now))
-        (spec_from (inner (codes "spec") (place_of spot.now))) }
-    ensures distinct { IfOk result (λ s. distinct_ports s.ports ≡ true) }
-{
-    let spec = spot.needed(alloc, "spec")?;
-    spec_here(alloc, &spec)
-}
-
-fn spec_here<'a>(alloc: Global, spec: &'a Spot<'a>) -> Result<ServiceSpec, FieldFault>
+/// The specification here.
+pub(crate) fn spec_here<'a>(alloc: Global, spec: &'a Spot<'a>) -> Result<ServiceSpec, FieldFault>
     ensures spec { Reads (λ s. s) result (rows_fault service_spec_rows (place_of spec.now))
         (spec_from (place_of spec.now)) }
     ensures distinct { IfOk result (λ s. distinct_ports s.ports ≡ true) }
