@@ -26,10 +26,7 @@ pub fn address_text(text: &str) -> Result<Option<Address>, BadAddress>
     if is_other_family(text) {
         return Ok(None);
     }
-    match Address::parse(text.as_bytes()) {
-        Ok(address) => Ok(Some(address)),
-        Err(bad) => Err(bad),
-    }
+    Ok(Some(Address::parse(text.as_bytes())?))
 }
 
 /// The range that a text writes, or nothing where the text is passed over.
@@ -39,10 +36,7 @@ pub fn range_text(text: &str) -> Result<Option<Cidr>, BadCidr>
     if is_other_family(text) {
         return Ok(None);
     }
-    match Cidr::parse(text.as_bytes()) {
-        Ok(range) => Ok(Some(range)),
-        Err(bad) => Err(bad),
-    }
+    Ok(Some(Cidr::parse(text.as_bytes())?))
 }
 
 /// The address here. One of another family is passed over.

@@ -128,32 +128,21 @@ fn is_one_of(text: &str, choices: &[&str]) -> bool
 fn equals_any(text: &str, choices: &[&str]) -> bool
     ensures { result ≡ list_any (λ c. bytes_eq text.now c.now) choices.now }
 {
-    for choice in choices {
-        if text == *choice {
-            return true;
-        }
-    }
-    false
+    choices.iter().any(|choice| text == *choice)
 }
 
 /// Whether a text is there, and it is this one.
 pub fn is_text(text: Option<&str>, wanted: &str) -> bool
     ensures { result ≡ is_text wanted.now (option_map (λ t. t.now) text.entry) }
 {
-    match text {
-        Some(text) => text == wanted,
-        None => false,
-    }
+    matches!(text, Some(text) if text == wanted)
 }
 
 /// A copy of a text.
 pub fn copied_text(alloc: Global, text: &str) -> Result<Text, FieldFault>
     ensures { Reads (λ t. t) result None text.now }
 {
-    match Text::of(alloc, text) {
-        Ok(copy) => Ok(copy),
-        Err(_) => Err(FieldFault::NoMemory),
-    }
+    Text::of(alloc, text).map_err(|_| FieldFault::NoMemory)
 }
 
 /// A copy of a text, if there is one.
