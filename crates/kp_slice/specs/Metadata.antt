@@ -1,7 +1,10 @@
--- What is read of a slice's metadata.
-use Rattle.std.specs.Prelude.{codes}
+-- What is read of a slice's metadata, and the slice that has it.
+use Rattle.std.specs.Prelude.{codes, map}
 use Rattle.kp_json.specs.Places.{Place}
-use Rattle.kp_row_defs.specs.Fields.{inner, text_in, is_text, key_from}
+use Rattle.kp_row_defs.specs.Fields.{inner, items_in, text_in, is_text, key_from}
+use Rattle.kp_event_defs.specs.SliceText.{endpoint_from, slice_port}
+use Rattle.kp_types.specs.declared.slice.AddressType.{AddressType}
+use Rattle.kp_types.specs.declared.slice.Slice.{Slice}
 use Rattle.kp_slice.specs.declared.metadata.Metadata.{Metadata}
 use Rattle.kp_slice.specs.declared.metadata.Labels.{Labels}
 
@@ -23,3 +26,14 @@ metadata_from p = record {
 -- the metadata of an object
 abbrev pub metadata_at : Place → Metadata
 metadata_at p = metadata_from (inner (codes "metadata") p)
+
+-- the slice with this metadata and of this address type
+abbrev pub slice_with : Metadata → AddressType → Place → Slice
+slice_with metadata family p = record {
+  key = metadata.key;
+  service = metadata.service;
+  managed = metadata.managed;
+  family = family;
+  ports = map slice_port (items_in (codes "ports") p);
+  endpoints = map (endpoint_from family metadata.key.namespace) (items_in (codes "endpoints") p);
+}

@@ -5,11 +5,12 @@ ghost use Rattle.kp_json.specs.Places.{elements_of};
 ghost use Rattle.kp_json.specs.Views.{place_of};
 ghost use Rattle.kp_row_defs.specs.Fields.{items_in, texts_of};
 ghost use Rattle.kp_row_defs.specs.Reads.{Reads};
-ghost use Rattle.kp_row_defs.specs.Rows.{needed, choice, field_fault, list_fault, row_fault, rows_fault};
-ghost use Rattle.kp_event_defs.specs.SliceText.{address_types, address_type_of, address_type_in, endpoints_row, endpoint_from, ports_row, slice_port_rows, slice_port, slice_rows, slice_from, read_slice};
+ghost use Rattle.kp_row_defs.specs.Rows.{needed, choice, done, ◌▸◌, field_fault, list_fault, row_fault, rows_fault};
+ghost use Rattle.kp_event_defs.specs.SliceText.{address_types, address_type_of, address_type_in, endpoints_row, endpoint_from, ports_row, slice_port_rows, slice_port, read_slice};
+ghost use Rattle.kp_slice.specs.Metadata.{slice_with};
 
 use crate::endpoint::endpoints_here;
-use crate::metadata::metadata_field;
+use crate::metadata::{Metadata, metadata_field};
 use kp_base::{Items, Text};
 use kp_fields::{needed_choice, port_field, port_name_field, proto_field};
 use kp_json::{FieldFault, Spot};
@@ -26,16 +27,22 @@ const MAX_PORTS: u64 = 100;
 pub fn slice_of<'a>(alloc: Global, spot: &'a Spot<'a>) -> Result<Slice, FieldFault>
     ensures { Gives (λ s. s) result (read_slice (place_of spot.now)) }
 {
-    read(alloc, spot)
-}
-
-fn read<'a>(alloc: Global, spot: &'a Spot<'a>) -> Result<Slice, FieldFault>
-    ensures { Reads (λ s. s) result
-        (rows_fault (slice_rows (address_type_in (place_of spot.now))) (place_of spot.now))
-        (slice_from (place_of spot.now)) }
-{
     let metadata = metadata_field(alloc, spot)?;
     let family = address_type_field(alloc, spot)?;
+    slice_with(alloc, spot, metadata, family)
+}
+
+/// The slice with this metadata, whose addresses are of this type.
+fn slice_with<'a>(
+    alloc: Global,
+    spot: &'a Spot<'a>,
+    metadata: Metadata,
+    family: AddressType,
+) -> Result<Slice, FieldFault>
+    ensures { Reads (λ s. s) result
+        (rows_fault (endpoints_row family ▸ ports_row ▸ done) (place_of spot.now))
+        (slice_with metadata family (place_of spot.now)) }
+{
     let endpoints = endpoints_field(alloc, spot, family, &metadata.key.namespace)?;
     let ports = ports_field(alloc, spot)?;
     Ok(metadata.into_slice(family, endpoints, ports))
