@@ -63,11 +63,10 @@ pub(crate) fn ranges_field<'a>(
     match spec.field(alloc, "loadBalancerSourceRanges")? {
         None => Ok(None),
         Some(list) => {
-            let ranges = ranges_here(alloc, &list)?;
             if list.list_len(alloc)? == 0 {
                 return Ok(None);
             }
-            Ok(Some(ranges))
+            Ok(Some(ranges_here(alloc, &list)?))
         }
     }
 }

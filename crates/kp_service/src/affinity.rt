@@ -49,5 +49,5 @@ fn timeout_here<'a>(alloc: Global, client: &'a Spot<'a>) -> Result<u32, FieldFau
 pub(crate) fn affinity_of(is_on: bool, seconds: u32) -> Option<u32>
     ensures { result ≡ affinity_of is_on seconds }
 {
-    if is_on { Some(seconds) } else { None }
+    is_on.then_some(seconds)
 }

@@ -71,10 +71,7 @@ pub(crate) fn affinity_field<'a>(alloc: Global, spec: &'a Spot<'a>) -> Result<bo
 fn is_client_ip(text: Option<&str>) -> bool
     ensures { result ≡ chosen affinities false (option_map (λ t. t.now) text.entry) }
 {
-    match text {
-        Some("ClientIP") => true,
-        _ => false,
-    }
+    matches!(text, Some("ClientIP"))
 }
 
 /// Whether traffic stays in its zone where it can.
