@@ -1,48 +1,19 @@
 -- What stands in which bucket once a key is added to one or removed.
-use Rattle.std.proofs.Common.{◌≡◌, ℕ, zero, suc, ◌+◌, ◌<◌, ◌&&◌, ◌||◌, Bool, true, false, not, cond, List, [], ◌∷◌, ◌++◌, take, length, get_or, Option, Some, None, is_some, Result, Ok, Err, OnOk, OnErr, IfOk, refl, sym, ap, ◌∙◌}
+use Rattle.std.proofs.Common.{◌≡◌, ℕ, zero, suc, ◌+◌, ◌<◌, ◌&&◌, ◌||◌, Bool, true, false, not, cond, List, [], ◌∷◌, take, length, get_or, Option, Some, None, is_some, refl, sym, ap, ◌∙◌}
 use Rattle.std.specs.Map.{lookup}
 use Rattle.std.specs.Option.{unwrap_or}
 use Rattle.std.specs.Ordering.{eq_by_cmp}
 use Rattle.std.specs.Cmp.{IsEquivalence}
 use Rattle.std.specs.FinMap.{get, get-empty, get-insert, get-remove, insert, remove, empty, contains_key}
-use Rattle.std.proofs.lemmas.List.{take_more}
-use Rattle.std.proofs.lemmas.List.Folds.{list_any-append}
+use Rattle.std.proofs.lemmas.List.Folds.{list_any_more}
+use mathlib.Core.Bool.{and-false}
 use Rattle.kp_lemmas.proofs.Orders.{one_from_tie}
 use Rattle.kp_base.specs.Keys.{key_cmp}
 use Rattle.kp_base.specs.declared.key.ObjectKey.{ObjectKey}
 use Rattle.kp_base.proofs.KeyOrder.{key_total, key_exact}
 use Rattle.kp_store.specs.Indexes.{Keys, has, is_among, is_pair, is_tag_of, is_lost}
 
--- what follows from a call's clause at Ok, and at Err
-pub on_ok : {A E P Q : Type 0} (r : Result A E) → OnOk r P → (P → Q) → OnOk r Q
-on_ok (Ok a) p f = f p
-on_ok (Err e) p f = tt
-
-pub on_err : {A E P Q : Type 0} (r : Result A E) → OnErr r P → (P → Q) → OnErr r Q
-on_err (Ok a) p f = tt
-on_err (Err e) p f = f p
-
-pub if_ok : {A E : Type 0} (P Q : A → Type 0) (r : Result A E) → ((a : A) → P a → Q a) → IfOk r P → IfOk r Q
-if_ok P Q (Ok a) f p = f a p
-if_ok P Q (Err e) f p = tt
-
 -- ---- truth values
-
-pub or_none : (b : Bool) → b || false ≡ b
-or_none true = refl
-or_none false = refl
-
-pub and_none : (b : Bool) → b && false ≡ false
-and_none true = refl
-and_none false = refl
-
-one_more : (e b m old : Bool) → (e && b) || ((b && m) || old) ≡ (b && (m || e)) || old
-one_more true true true old = refl
-one_more true true false old = refl
-one_more true false m old = refl
-one_more false true true old = refl
-one_more false true false old = refl
-one_more false false m old = refl
 
 one_less : (e b c m n old : Bool) → (e ≡ true → c ≡ n) → not ((e && b) && not c) && (not (b && (m && not n)) && old) ≡ not (b && ((m || e) && not n)) && old
 one_less false b c true n old same = refl
@@ -152,7 +123,7 @@ module _ {T : Type 0} (same : T → T → Bool) (laws : IsEquivalence same) wher
       by : (b : Bool) → same tag t ≡ b → has same es t k ≡ not (is_pair same tag key t k) && has same es t k
       by true e =
           let nothing : has same es t k ≡ false = ap (λ o. contains_key (unwrap_or o empty) k) (lookup_tied tag t e es ∙ none) ∙ ap is_some (get-empty key_cmp k) in
-          nothing ∙ sym (and_none (not (is_pair same tag key t k))) ∙ ap (λ b. not (is_pair same tag key t k) && b) (sym nothing)
+          nothing ∙ sym (and-false (not (is_pair same tag key t k))) ∙ ap (λ b. not (is_pair same tag key t k) && b) (sym nothing)
       by false e = ap (λ b. not (b && eq_by_cmp key_cmp k key) && has same es t k) (sym (laws.symm t tag ∙ e))
 
   -- an empty bucket that is forgotten was of no use
@@ -182,15 +153,7 @@ module _ {T : Type 0} (same : T → T → Bool) (laws : IsEquivalence same) wher
 
   among_more : (tags : List T) (i : ℕ) (tag t : T) → i < length tags → tag ≡ get_or tags i tag → is_among same (take (i + 1) tags) t ≡ is_among same (take i tags) t || same t tag
   among_more tags i tag t lt is =
-      ap (λ us. is_among same us t) (take_more tags i tag lt ∙ ap (λ u. take i tags ++ u ∷ []) (sym is))
-      ∙ list_any-append (same t) (take i tags) (tag ∷ [])
-      ∙ ap (λ b. is_among same (take i tags) t || b) (or_none (same t tag))
-
-  -- one more tag was added
-  pub add_step : (tags : List T) (i : ℕ) (tag : T) → i < length tags → tag ≡ get_or tags i tag → (key : ObjectKey) (t : T) (k : ObjectKey) (old : Bool) → is_pair same tag key t k || (is_tag_of same (take i tags) key t k || old) ≡ is_tag_of same (take (i + 1) tags) key t k || old
-  add_step tags i tag lt is key t k old =
-      one_more (same t tag) (eq_by_cmp key_cmp k key) (is_among same (take i tags) t) old
-      ∙ ap (λ b. (eq_by_cmp key_cmp k key && b) || old) (sym (among_more tags i tag t lt is))
+      list_any_more (same t) tags i tag lt ∙ ap (λ u. is_among same (take i tags) t || same t u) (sym is)
 
   -- one more tag that is gone
   pub trim_step : (gone kept : List T) (i : ℕ) (tag : T) → i < length gone → tag ≡ get_or gone i tag → (key : ObjectKey) (t : T) (k : ObjectKey) (old : Bool) → not (is_pair same tag key t k && not (is_among same kept tag)) && (not (is_lost same (take i gone) kept key t k) && old) ≡ not (is_lost same (take (i + 1) gone) kept key t k) && old
@@ -207,11 +170,7 @@ module _ {T : Type 0} (same : T → T → Bool) (laws : IsEquivalence same) wher
   pub undone : (tags kept : List T) (i : ℕ) (key : ObjectKey) (t : T) (k : ObjectKey) (old : Bool) → (eq_by_cmp key_cmp k key ≡ true → old ≡ is_among same kept t) → not (is_lost same tags kept key t k) && (is_tag_of same (take i tags) key t k || old) ≡ old
   undone tags kept i key t k old at = back (eq_by_cmp key_cmp k key) (is_among same tags t) (is_among same kept t) (is_among same (take i tags) t) old at (among_some i tags t)
 
--- nothing is gone, and nothing is added
+-- nothing is gone
 pub trim_none : (b old : Bool) → old ≡ not (b && false) && old
 trim_none true old = refl
 trim_none false old = refl
-
-pub add_none : (b old : Bool) → old ≡ (b && false) || old
-add_none true old = refl
-add_none false old = refl

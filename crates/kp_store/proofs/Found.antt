@@ -1,5 +1,5 @@
 -- The objects of the keys in a bucket are those with its tag.
-use Rattle.std.proofs.Common.{◌≡◌, Bool, true, false, cond, List, [], ◌∷◌, map, filter, Option, Some, None, is_some, refl, sym, ap, subst, ◌∙◌, T, Bor}
+use Rattle.std.proofs.Common.{◌≡◌, Bool, true, false, cond, List, [], ◌∷◌, map, filter, Option, Some, None, is_some, refl, sym, ap, subst, ◌∙◌, T}
 use Rattle.std.specs.List.{filter_map, cons_option, AllByRecursion}
 use Rattle.std.specs.Ordering.{eq_by_cmp, is_lt}
 use Rattle.std.specs.FinMap as finite
@@ -13,11 +13,6 @@ use Rattle.kp_base.specs.Keys.{key_cmp}
 use Rattle.kp_base.specs.declared.key.ObjectKey.{ObjectKey}
 use Rattle.kp_base.proofs.KeyOrder.{key_total, key_exact}
 use Rattle.kp_store.specs.Indexes.{Keys, is_among, is_tagged}
-
--- what references show
-pub map_shown : {K X : Type 0} (f : K → Option X) (ks : List (Bor K)) → filter_map (λ k. f k.now) ks ≡ filter_map f (map (λ k. k.now) ks)
-map_shown f [] = refl
-map_shown f (k ∷ ks) = ap (cons_option (f k.now)) (map_shown f ks)
 
 -- options of nothing
 one_option : (a b : Option (Unit {0})) → is_some a ≡ is_some b → a ≡ b

@@ -1,6 +1,5 @@
 -- The keys of a bucket, of which some stand in a list.
-use Rattle.std.proofs.Common.{◌≡◌, ℕ, ◌==◌, ◌&&◌, ◌||◌, Bool, true, false, not, cond, List, [], ◌∷◌, ◌++◌, filter, length, is_some, refl, sym, ap, ◌∙◌, arith}
-use Rattle.std.proofs.lemmas.Bool.Decides.{nat_tests}
+use Rattle.std.proofs.Common.{◌≡◌, ◌&&◌, ◌||◌, Bool, true, false, not, cond, List, [], ◌∷◌, ◌++◌, filter, is_some, refl, sym, ap, ◌∙◌}
 use Rattle.std.specs.List.{list_any}
 use Rattle.std.specs.Ordering.{eq_by_cmp}
 use Rattle.std.specs.Cmp.{eq_by_cmp_equiv}
@@ -11,13 +10,10 @@ use Rattle.kp_base.specs.Keys.{key_cmp}
 use Rattle.kp_base.specs.declared.key.ObjectKey.{ObjectKey}
 use Rattle.kp_base.proofs.KeyOrder.{key_total, key_exact}
 use Rattle.kp_store.specs.Indexes.{Keys, with_keys}
-use Rattle.kp_store.proofs.Buckets.{in_inserted, in_removed, or_none}
+use Rattle.kp_store.proofs.Buckets.{in_inserted, in_removed}
+use mathlib.Core.Bool.{or-false, or_assoc}
 
 -- ---- truth values
-
-or_first : (a b c : Bool) → a || (b || c) ≡ (a || b) || c
-or_first true b c = refl
-or_first false b c = refl
 
 or_last : (a b c : Bool) → (a || (b || false)) || c ≡ b || (a || c)
 or_last true true c = refl
@@ -29,12 +25,6 @@ or_between : (a b c : Bool) → a || (b || c) ≡ b || (a || c)
 or_between true true c = refl
 or_between true false c = refl
 or_between false b c = refl
-
-or_turned : (a b c : Bool) → a || (b || c) ≡ (b || a) || c
-or_turned true true c = refl
-or_turned true false c = refl
-or_turned false true c = refl
-or_turned false false c = refl
 
 without_both : (e a c : Bool) → (not e && a) || (not e && c) ≡ not e && (a || c)
 without_both true a c = refl
@@ -52,27 +42,20 @@ in_keys [] m q = refl
 in_keys (k ∷ ks) m q =
     in_inserted (with_keys ks m) k q
     ∙ ap (λ b. is_key q k || b) (in_keys ks m q)
-    ∙ or_first (is_key q k) (list_any (is_key q) ks) (contains_key m q)
-
-is_zero : (n : ℕ) → (n == 0) ≡ true → n ≡ 0
-is_zero n h = grind (arith, nat_tests)
-
--- no key stands in an empty list with none beside it
-pub none_in : (ks : List ObjectKey) (m : Keys) → (length ks == 0) ≡ true → m ≡ empty → (q : ObjectKey) → contains_key (with_keys ks m) q ≡ false
-none_in [] m none is q = ap (λ m. contains_key m q) is ∙ ap is_some (get-empty key_cmp q)
-none_in (k ∷ ks) m none is q = let h : length (k ∷ ks) ≡ 0 = is_zero (length (k ∷ ks)) none in absurd (omega arith)
+    ∙ sym (or_assoc (is_key q k) (list_any (is_key q) ks) (contains_key m q))
 
 -- a key alone
 pub alone : (key q : ObjectKey) → contains_key (with_keys (key ∷ []) empty) q ≡ is_key q key
 alone key q =
     in_inserted empty key q
     ∙ ap (λ b. is_key q key || b) (ap is_some (get-empty key_cmp q))
-    ∙ or_none (is_key q key)
+    ∙ or-false (is_key q key)
 
 -- the keys of the list and those beside it, put beside others
 pub in_both : (ks : List ObjectKey) (m : Keys) (q : ObjectKey) (others : Bool) → contains_key m q || (list_any (is_key q) ks || others) ≡ contains_key (with_keys ks m) q || others
 in_both ks m q others =
-    or_turned (contains_key m q) (list_any (is_key q) ks) others
+    or_between (contains_key m q) (list_any (is_key q) ks) others
+    ∙ sym (or_assoc (list_any (is_key q) ks) (contains_key m q) others)
     ∙ ap (λ b. b || others) (sym (in_keys ks m q))
 
 -- one more in the list

@@ -1,5 +1,5 @@
 -- Keys that are put in order are those of the entries, and the objects found by them are all.
-use Rattle.std.proofs.Common.{◌≡◌, ◌||◌, Bool, true, false, List, [], ◌∷◌, map, filter, Option, Some, None, is_some, refl, ap, ◌∙◌, Bor}
+use Rattle.std.proofs.Common.{◌≡◌, true, false, List, [], ◌∷◌, map, filter, Option, Some, None, is_some, refl, ap, ◌∙◌}
 use Rattle.std.specs.List.{filter_map, list_any}
 use Rattle.std.specs.Ordering.{eq_by_cmp}
 use Rattle.std.specs.FinMap as finite
@@ -14,21 +14,6 @@ use Rattle.kp_store.proofs.Found.{passes, bucket_keys, found_passes}
 -- no key is there before the first
 pub none_before : (k : ObjectKey) → contains_key (empty {X = Unit {0}} {R = key_cmp}) k ≡ false
 none_before k = ap is_some (get-empty {X = Unit {0}} key_cmp k)
-
--- whether a key is among those that references show
-pub shown_any : (k : ObjectKey) (qs : List (Bor ObjectKey))
-    → (list_any (λ q. eq_by_cmp key_cmp k q.now) qs || false)
-    ≡ list_any (eq_by_cmp key_cmp k) (map (λ q. q.now) qs)
-shown_any k qs = or_false (list_any (λ q. eq_by_cmp key_cmp k q.now) qs) ∙ through qs
-  where
-    or_false : (b : Bool) → (b || false) ≡ b
-    or_false true = refl
-    or_false false = refl
-
-    through : (qs : List (Bor ObjectKey)) → list_any (λ q. eq_by_cmp key_cmp k q.now) qs
-        ≡ list_any (eq_by_cmp key_cmp k) (map (λ q. q.now) qs)
-    through [] = refl
-    through (q ∷ qs) = ap (λ b. eq_by_cmp key_cmp k q.now || b) (through qs)
 
 -- the keys of a map are those of its entries
 pub has_entries : {X : Type 0} (k : ObjectKey) (es : List (ObjectKey × X))

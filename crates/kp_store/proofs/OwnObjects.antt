@@ -45,41 +45,25 @@ module _ {X : Type 0} (key_of : X → ObjectKey) where
   pub of_same : (m new : FinMap key_cmp X) → new ≡ m → IsUnderOwnKeys key_of m → IsUnderOwnKeys key_of new
   of_same m new is own key x h = own key x (ap (λ n. get n key) (sym is) ∙ h)
 
--- ---- all objects
+  -- a map that has one more value under its own key, or stays where memory is out
+  pub of_put : {E : Type 0} (r : Result (Unit {0}) E) (m new : FinMap key_cmp X) (key : ObjectKey) (v : X) → OnOk r (new ≡ insert m key v) → OnErr r (new ≡ m) → key ≡ key_of v → IsUnderOwnKeys key_of m → IsUnderOwnKeys key_of new
+  of_put r m new key v put kept is own = either_way r put kept (λ e. of_inserted m new v (e ∙ ap (λ k. insert m k v) is) own) (λ e. of_same m new e own)
+
+  -- a map without a key, or one that stays where memory is out
+  pub of_taken : {E : Type 0} (r : Result (Unit {0}) E) (m new : FinMap key_cmp X) (key : ObjectKey) → OnOk r (new ≡ remove m key) → OnErr r (new ≡ m) → IsUnderOwnKeys key_of m → IsUnderOwnKeys key_of new
+  of_taken r m new key taken kept own = either_way r taken kept (λ e. of_removed m new key e own) (λ e. of_same m new e own)
+
+-- ---- all objects, of which those of one kind are others
 
 module _ (o : Objects) (own : AreUnderOwnKeys o) where
-  pub with_services : (new : FinMap key_cmp Service) (s : Service) → new ≡ insert o.services (s.key) s → AreUnderOwnKeys (record o { services = new })
-  with_services new s is = record { services = of_inserted (λ x. x.key) o.services new s is own.services; slices = own.slices; pods = own.pods; nodes = own.nodes }
+  pub with_services : (new : FinMap key_cmp Service) → IsUnderOwnKeys (λ s. s.key) new → AreUnderOwnKeys (record o { services = new })
+  with_services new at = record { services = at; slices = own.slices; pods = own.pods; nodes = own.nodes }
 
-  pub same_services : (new : FinMap key_cmp Service) → new ≡ o.services → AreUnderOwnKeys (record o { services = new })
-  same_services new is = record { services = of_same (λ x. x.key) o.services new is own.services; slices = own.slices; pods = own.pods; nodes = own.nodes }
+  pub with_slices : (new : FinMap key_cmp Slice) → IsUnderOwnKeys (λ s. s.key) new → AreUnderOwnKeys (record o { slices = new })
+  with_slices new at = record { services = own.services; slices = at; pods = own.pods; nodes = own.nodes }
 
-  pub without_service : (new : FinMap key_cmp Service) (k : ObjectKey) → new ≡ remove o.services k → AreUnderOwnKeys (record o { services = new })
-  without_service new k is = record { services = of_removed (λ x. x.key) o.services new k is own.services; slices = own.slices; pods = own.pods; nodes = own.nodes }
+  pub with_pods : (new : FinMap key_cmp Pod) → IsUnderOwnKeys (λ p. p.key) new → AreUnderOwnKeys (record o { pods = new })
+  with_pods new at = record { services = own.services; slices = own.slices; pods = at; nodes = own.nodes }
 
-  pub with_slices : (new : FinMap key_cmp Slice) (s : Slice) → new ≡ insert o.slices (s.key) s → AreUnderOwnKeys (record o { slices = new })
-  with_slices new s is = record { services = own.services; slices = of_inserted (λ x. x.key) o.slices new s is own.slices; pods = own.pods; nodes = own.nodes }
-
-  pub same_slices : (new : FinMap key_cmp Slice) → new ≡ o.slices → AreUnderOwnKeys (record o { slices = new })
-  same_slices new is = record { services = own.services; slices = of_same (λ x. x.key) o.slices new is own.slices; pods = own.pods; nodes = own.nodes }
-
-  pub without_slice : (new : FinMap key_cmp Slice) (k : ObjectKey) → new ≡ remove o.slices k → AreUnderOwnKeys (record o { slices = new })
-  without_slice new k is = record { services = own.services; slices = of_removed (λ x. x.key) o.slices new k is own.slices; pods = own.pods; nodes = own.nodes }
-
-  pub with_pods : (new : FinMap key_cmp Pod) (p : Pod) → new ≡ insert o.pods (p.key) p → AreUnderOwnKeys (record o { pods = new })
-  with_pods new p is = record { services = own.services; slices = own.slices; pods = of_inserted (λ x. x.key) o.pods new p is own.pods; nodes = own.nodes }
-
-  pub same_pods : (new : FinMap key_cmp Pod) → new ≡ o.pods → AreUnderOwnKeys (record o { pods = new })
-  same_pods new is = record { services = own.services; slices = own.slices; pods = of_same (λ x. x.key) o.pods new is own.pods; nodes = own.nodes }
-
-  pub without_pod : (new : FinMap key_cmp Pod) (k : ObjectKey) → new ≡ remove o.pods k → AreUnderOwnKeys (record o { pods = new })
-  without_pod new k is = record { services = own.services; slices = own.slices; pods = of_removed (λ x. x.key) o.pods new k is own.pods; nodes = own.nodes }
-
-  pub with_nodes : (new : FinMap key_cmp Node) (n : Node) → new ≡ insert o.nodes (node_key n.name) n → AreUnderOwnKeys (record o { nodes = new })
-  with_nodes new n is = record { services = own.services; slices = own.slices; pods = own.pods; nodes = of_inserted (λ x. node_key x.name) o.nodes new n is own.nodes }
-
-  pub same_nodes : (new : FinMap key_cmp Node) → new ≡ o.nodes → AreUnderOwnKeys (record o { nodes = new })
-  same_nodes new is = record { services = own.services; slices = own.slices; pods = own.pods; nodes = of_same (λ x. node_key x.name) o.nodes new is own.nodes }
-
-  pub without_node : (new : FinMap key_cmp Node) (k : ObjectKey) → new ≡ remove o.nodes k → AreUnderOwnKeys (record o { nodes = new })
-  without_node new k is = record { services = own.services; slices = own.slices; pods = own.pods; nodes = of_removed (λ x. node_key x.name) o.nodes new k is own.nodes }
+  pub with_nodes : (new : FinMap key_cmp Node) → IsUnderOwnKeys (λ n. node_key n.name) new → AreUnderOwnKeys (record o { nodes = new })
+  with_nodes new at = record { services = own.services; slices = own.slices; pods = own.pods; nodes = at }

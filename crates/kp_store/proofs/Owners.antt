@@ -9,12 +9,12 @@ use Rattle.kp_types.specs.declared.slice.Slice.{Slice}
 use Rattle.kp_object_defs.specs.Entries.{is_named, is_of_service}
 use Rattle.kp_store.specs.Indexes.{is_among}
 use Rattle.kp_store.specs.Tags.{owner_key, owners_of}
-use Rattle.kp_store.proofs.Buckets.{or_none, and_none}
+use mathlib.Core.Bool.{or-false, and-false}
 
 owned_by : (service : ObjectKey) (s : Slice) (o : Option (List ℕ)) → is_among key_eq.ghosts.eq (option_to_list (option_map (owner_key s) o)) service ≡ bytes_eq s.key.namespace service.namespace && is_named service.name o
-owned_by service s None = sym (and_none (bytes_eq s.key.namespace service.namespace))
+owned_by service s None = sym (and-false (bytes_eq s.key.namespace service.namespace))
 owned_by service s (Some name) =
-    or_none (key_eq.ghosts.eq service (owner_key s name))
+    or-false (key_eq.ghosts.eq service (owner_key s name))
     ∙ key_ties service (owner_key s name)
     ∙ (eq_by_cmp_equiv key_total).symm service (owner_key s name)
     ∙ sym (key_ties (owner_key s name) service)

@@ -1,12 +1,13 @@
 -- What a look-up is for is among what is found by tags.
-use Rattle.std.proofs.Common.{◌≡◌, ℕ, ◌==◌, ◌&&◌, ◌||◌, Bool, true, false, cond, not, List, [], ◌∷◌, ◌++◌, map, filter, flat_map, bytes_eq, Option, Some, None, option_map, slice_get, refl, sym, ap, ◌∙◌, arith, ◌⊎◌, inl, inr}
+use Rattle.std.proofs.Common.{◌≡◌, ℕ, ◌==◌, ◌&&◌, ◌||◌, Bool, true, false, cond, not, List, [], ◌∷◌, ◌++◌, map, filter, flat_map, bytes_eq, Option, Some, None, option_map, slice_get, refl, sym, ap, subst, ◌∙◌, Contains, inl, inr}
 use Rattle.std.specs.List.{list_any, list_all}
 use Rattle.std.specs.Option.{option_to_list}
 use Rattle.std.specs.Cmp.{IsEquivalence}
-use Rattle.std.proofs.lemmas.Bool.{and_parts, or_left, or_right}
-use Rattle.std.proofs.lemmas.Bool.Decides.{nat_tests}
-use Rattle.std.proofs.lemmas.List.Folds.{list_any-append}
+use Rattle.std.proofs.lemmas.Bool.{and_parts, eqb-true, or_cases, or_left}
+use Rattle.std.proofs.lemmas.List.Elements.{Contains-append_left, Contains-append_right}
+use Rattle.std.proofs.lemmas.Option.{same_Some}
 use Rattle.std.proofs.lemmas.Slice.Eq.{bytes_eq-Decides}
+use Rattle.kp_lemmas.proofs.Members.{any_from, first_in, in_flat_map, in_map, later_in}
 use Rattle.kp_base.specs.Net.{AddressParts, same_address}
 use Rattle.kp_base.specs.Keys.{same_proto}
 use Rattle.kp_base.specs.declared.key.Pair.{Pair}
@@ -35,14 +36,20 @@ filter_within {X} weak strong follows (x ∷ xs) = by (weak x) (strong x) refl r
     by false true is at rest = let h : false ≡ true = sym is ∙ follows x at in absurd (cc)
     by false false is at rest = rest
 
--- an element that passes makes one that passes
+-- an element that passes
+passing : {X : Type 0} (p : X → Bool) (xs : List X) → list_any p xs ≡ true → (x : X) × Contains xs x × (p x ≡ true)
+passing p [] h = absurd (cc)
+passing p (x ∷ xs) h =
+    elim (or_cases (p x) (list_any p xs) h) [
+      | inl a ↦ (x, first_in x xs, a)
+      | inr b ↦ let (y, in_xs, is) = passing p xs b in (y, later_in y x xs in_xs, is)
+    ]
+
+-- and it makes one that passes
 any_mapped : {X Y : Type 0} (p : X → Bool) (f : X → Y) (r : Y → Bool) → ((x : X) → p x ≡ true → r (f x) ≡ true) → (xs : List X) → list_any p xs ≡ true → list_any r (map f xs) ≡ true
-any_mapped p f r follows [] h = absurd (cc)
-any_mapped {X} p f r follows (x ∷ xs) h = by (p x) refl h (any_mapped p f r follows xs)
-  where
-    by : (b : Bool) → p x ≡ b → b || list_any p xs ≡ true → (list_any p xs ≡ true → list_any r (map f xs) ≡ true) → r (f x) || list_any r (map f xs) ≡ true
-    by true at g rest = or_left (r (f x)) (list_any r (map f xs)) (follows x at)
-    by false at g rest = or_right (r (f x)) (list_any r (map f xs)) (rest g)
+any_mapped p f r follows xs h =
+    let (x, in_xs, is) = passing p xs h in
+    any_from r (f x) (map f xs) (in_map f x xs in_xs) (follows x is)
 
 -- ---- selectors
 
@@ -70,10 +77,7 @@ module _ (same : Label → Label → Bool) (laws : IsEquivalence same) where
     where
       of_first : (terms : List Pair) → slice_get terms 0 ≡ Some first → list_all (has_label pod) terms ≡ true → has_label pod first ≡ true
       of_first [] is all = absurd (cc)
-      of_first (t ∷ ts) is all = ap (has_label pod) (sym (same_some t first is)) ∙ (and_parts (has_label pod t) (list_all (has_label pod) ts) all).0
-        where
-          same_some : (a b : Pair) → Some a ≡ Some b → a ≡ b
-          same_some a b e = cc
+      of_first (t ∷ ts) is all = ap (has_label pod) (sym (same_Some t first is)) ∙ (and_parts (has_label pod t) (list_all (has_label pod) ts) all).0
 
 -- without a first term nothing is selected
 pub none_selected : (s : Service) → slice_get s.selector 0 ≡ None → (pod : Pod) → selects s pod ≡ false
@@ -109,63 +113,7 @@ module _ (same : ServiceTag → ServiceTag → Bool) (laws : IsEquivalence same)
     abbrev node : ServiceTag
     node = NodePort number proto
 
-    -- one of the two tags is among tags
-    abbrev either : List ServiceTag → Bool
-    either tags = list_any (is_among same tags) (At target number proto ∷ NodePort number proto ∷ [])
-
-    either_here : (tags : List ServiceTag) → is_among same tags here ≡ true → either tags ≡ true
-    either_here tags h = or_left (is_among same tags here) (is_among same tags node || false) h
-
-    either_node : (tags : List ServiceTag) → is_among same tags node ≡ true → either tags ≡ true
-    either_node tags h = or_right (is_among same tags here) (is_among same tags node || false) (or_left (is_among same tags node) false h)
-
-    in_first : (t : ServiceTag) (us vs : List ServiceTag) → is_among same us t ≡ true → is_among same (us ++ vs) t ≡ true
-    in_first t us vs h = list_any-append (same t) us vs ∙ or_left (is_among same us t) (is_among same vs t) h
-
-    in_second : (t : ServiceTag) (us vs : List ServiceTag) → is_among same vs t ≡ true → is_among same (us ++ vs) t ≡ true
-    in_second t us vs h = list_any-append (same t) us vs ∙ or_right (is_among same us t) (is_among same vs t) h
-
-    cases : (a b : Bool) → a || b ≡ true → (a ≡ true) ⊎ (b ≡ true)
-    cases true b h = inl refl
-    cases false b h = inr h
-
-    either_first : (us vs : List ServiceTag) → either us ≡ true → either (us ++ vs) ≡ true
-    either_first us vs h =
-        elim (cases (is_among same us here) (is_among same us node || false) h) [
-          | inl a ↦ either_here (us ++ vs) (in_first here us vs a)
-          | inr b ↦
-              elim (cases (is_among same us node) false b) [
-                | inl n ↦ either_node (us ++ vs) (in_first node us vs n)
-                | inr e ↦ absurd (cc)
-              ]
-        ]
-
-    either_second : (us vs : List ServiceTag) → either vs ≡ true → either (us ++ vs) ≡ true
-    either_second us vs h =
-        elim (cases (is_among same vs here) (is_among same vs node || false) h) [
-          | inl a ↦ either_here (us ++ vs) (in_second here us vs a)
-          | inr b ↦
-              elim (cases (is_among same vs node) false b) [
-                | inl n ↦ either_node (us ++ vs) (in_second node us vs n)
-                | inr e ↦ absurd (cc)
-              ]
-        ]
-
-    one_number : (a b : ℕ) → (a == b) ≡ true → a ≡ b
-    one_number a b h = grind (arith, nat_tests)
-
     module _ (s : Service) (p : ServicePort) where
-      -- the tag of an address
-      tagged_at : p.proto ≡ proto → p.port ≡ number → (listed : List AddressParts) → has_address target listed ≡ true → is_among same (map (tag_at p) listed) here ≡ true
-      tagged_at protos numbers listed h =
-          any_mapped (λ a. same_address a target) (tag_at p) (same here)
-          (λ a equal. ap (same here) (λ i. At (same_address_exact a target equal i) (numbers i) (protos i)) ∙ laws.refl here) listed h
-
-      tagged_node : p.proto ≡ proto → (own : Option ℕ) → is_node_port number own ≡ true → is_among same (option_to_list (option_map (node_tag p) own)) node ≡ true
-      tagged_node protos None h = absurd (cc)
-      tagged_node protos (Some n) h =
-          or_left (same node (node_tag p n)) false (ap (same node) (λ i. NodePort (one_number n number h i) (protos i)) ∙ laws.refl node)
-
       abbrev at_cluster : List ServiceTag
       at_cluster = map (tag_at p) (cluster_addresses s.cluster)
 
@@ -178,37 +126,43 @@ module _ (same : ServiceTag → ServiceTag → Bool) (laws : IsEquivalence same)
       abbrev at_node : List ServiceTag
       at_node = option_to_list (option_map (node_tag p) p.node_port)
 
-      at_address : p.proto ≡ proto → p.port ≡ number → is_address_of target s ≡ true → is_among same (tags_of_port s p) here ≡ true
+      -- the tag of an address
+      tagged_at : p.proto ≡ proto → p.port ≡ number → (listed : List AddressParts) → has_address target listed ≡ true → Contains (map (tag_at p) listed) here
+      tagged_at protos numbers listed h =
+          let (a, in_listed, equal) = passing (λ a. same_address a target) listed h in
+          subst (Contains (map (tag_at p) listed)) (λ i. At (same_address_exact a target equal i) (numbers i) (protos i)) (in_map (tag_at p) a listed in_listed)
+
+      tagged_node : p.proto ≡ proto → (own : Option ℕ) → is_node_port number own ≡ true → Contains (option_to_list (option_map (node_tag p) own)) node
+      tagged_node protos None h = absurd (cc)
+      tagged_node protos (Some n) h = subst (Contains (node_tag p n ∷ [])) (λ i. NodePort (eqb-true n number h i) (protos i)) (first_in (node_tag p n) [])
+
+      at_address : p.proto ≡ proto → p.port ≡ number → is_address_of target s ≡ true → Contains (at_cluster ++ at_external ++ at_balancer) here
       at_address protos numbers h =
-          elim (cases (has_address target (cluster_addresses s.cluster)) (has_address target s.external || has_address target s.balancer) h) [
-            | inl c ↦ in_first here (at_cluster ++ at_external ++ at_balancer) at_node (in_first here (at_cluster ++ at_external) at_balancer (in_first here at_cluster at_external (tagged_at protos numbers (cluster_addresses s.cluster) c)))
+          elim (or_cases (has_address target (cluster_addresses s.cluster)) (has_address target s.external || has_address target s.balancer) h) [
+            | inl c ↦ Contains-append_left (at_cluster ++ at_external) at_balancer here (Contains-append_left at_cluster at_external here (tagged_at protos numbers (cluster_addresses s.cluster) c))
             | inr d ↦
-                in_first here (at_cluster ++ at_external ++ at_balancer) at_node
-                (elim (cases (has_address target s.external) (has_address target s.balancer) d) [
-                  | inl e ↦ in_first here (at_cluster ++ at_external) at_balancer (in_second here at_cluster at_external (tagged_at protos numbers s.external e))
-                  | inr b ↦ in_second here (at_cluster ++ at_external) at_balancer (tagged_at protos numbers s.balancer b)
-                ])
+                elim (or_cases (has_address target s.external) (has_address target s.balancer) d) [
+                  | inl e ↦ Contains-append_left (at_cluster ++ at_external) at_balancer here (Contains-append_right at_cluster at_external here (tagged_at protos numbers s.external e))
+                  | inr b ↦ Contains-append_right (at_cluster ++ at_external) at_balancer here (tagged_at protos numbers s.balancer b)
+                ]
           ]
 
-      port_tagged : port_answers proto target number s p ≡ true → either (tags_of_port s p) ≡ true
+      -- a port that answers has one of the two tags
+      port_tagged : port_answers proto target number s p ≡ true → (t : ServiceTag) × Contains (tags_of_port s p) t × Contains (here ∷ node ∷ []) t
       port_tagged h =
           let parts = and_parts (same_proto p.proto proto) (((p.port == number) && is_address_of target s) || is_node_port number p.node_port) h in
           let protos = same_proto_exact p.proto proto parts.0 in
-          elim (cases ((p.port == number) && is_address_of target s) (is_node_port number p.node_port) parts.1) [
+          elim (or_cases ((p.port == number) && is_address_of target s) (is_node_port number p.node_port) parts.1) [
             | inl a ↦
                 let both = and_parts (p.port == number) (is_address_of target s) a in
-                either_here (tags_of_port s p) (at_address protos (one_number p.port number both.0) both.1)
-            | inr n ↦ either_node (tags_of_port s p) (in_second node (at_cluster ++ at_external ++ at_balancer) at_node (tagged_node protos p.node_port n))
+                (here, Contains-append_left (at_cluster ++ at_external ++ at_balancer) at_node here (at_address protos (eqb-true p.port number both.0) both.1), first_in here (node ∷ []))
+            | inr n ↦ (node, Contains-append_right (at_cluster ++ at_external ++ at_balancer) at_node node (tagged_node protos p.node_port n), later_in node here (node ∷ []) (first_in node []))
           ]
-
-    ports_tagged : (s : Service) (ps : List ServicePort) → list_any (port_answers proto target number s) ps ≡ true → either (flat_map (tags_of_port s) ps) ≡ true
-    ports_tagged s [] h = absurd (cc)
-    ports_tagged s (p ∷ ps) h =
-        elim (cases (port_answers proto target number s p) (list_any (port_answers proto target number s) ps) h) [
-          | inl a ↦ either_first (tags_of_port s p) (flat_map (tags_of_port s) ps) (port_tagged s p a)
-          | inr b ↦ either_second (tags_of_port s p) (flat_map (tags_of_port s) ps) (ports_tagged s ps b)
-        ]
 
     -- a Service that answers has one of the two tags
     pub has_destination : (s : Service) → answers proto target number s ≡ true → list_any (is_among same (tags_of s)) (At target number proto ∷ NodePort number proto ∷ []) ≡ true
-    has_destination s h = either_second (selector_tags s) (flat_map (tags_of_port s) s.ports) (ports_tagged s s.ports h)
+    has_destination s h =
+        let (p, in_ports, is) = passing (port_answers proto target number s) s.ports h in
+        let (t, in_tags, in_both) = port_tagged s p is in
+        any_from (is_among same (tags_of s)) t (here ∷ node ∷ []) in_both
+        (any_from (same t) t (tags_of s) (Contains-append_right (selector_tags s) (flat_map (tags_of_port s) s.ports) t (in_flat_map (tags_of_port s) p t s.ports in_ports in_tags)) (laws.refl t))

@@ -1,40 +1,28 @@
 -- The keys of several buckets, and the objects with any of several tags.
-use Rattle.std.proofs.Common.{◌≡◌, ℕ, ◌+◌, ◌<◌, ◌||◌, Bool, true, false, List, [], ◌∷◌, ◌++◌, map, take, length, get_or, filter, Option, Some, None, cond, is_some, refl, sym, ap, ◌∙◌, Bor}
+use Rattle.std.proofs.Common.{◌≡◌, ℕ, ◌+◌, ◌<◌, ◌||◌, Bool, true, false, List, [], ◌∷◌, map, take, length, get_or, filter, Option, Some, None, cond, is_some, refl, sym, ap, ◌∙◌, Bor}
 use Rattle.std.specs.List.{list_any, filter_map}
 use Rattle.std.specs.Ordering.{eq_by_cmp}
 use Rattle.std.specs.FinMap as finite
 use Rattle.std.specs.FinMap.{FinMap, find, get, get-entries, contains_key, entries}
-use Rattle.std.proofs.lemmas.List.{take_more}
-use Rattle.std.proofs.lemmas.List.Folds.{list_any-append}
+use Rattle.std.proofs.lemmas.List.Folds.{list_any_more}
+use mathlib.Core.Bool.{or_assoc, or_comm}
 use Rattle.kp_base.specs.Keys.{key_cmp}
 use Rattle.kp_base.specs.declared.key.ObjectKey.{ObjectKey}
 use Rattle.kp_store.specs.Indexes.{Keys, is_among, is_tagged}
-use Rattle.kp_store.proofs.Buckets.{or_none}
 use Rattle.kp_store.proofs.Found.{passes, found_passes}
-
-or_turned : (a b : Bool) → a || b ≡ b || a
-or_turned true true = refl
-or_turned true false = refl
-or_turned false true = refl
-or_turned false false = refl
 
 -- a test of one more element
 any_more : {X : Type 0} (p : X → Bool) (xs : List X) (i : ℕ) (x : X) → i < length xs → x ≡ get_or xs i x → p x || list_any p (take i xs) ≡ list_any p (take (i + 1) xs)
 any_more p xs i x lt is =
-    or_turned (p x) (list_any p (take i xs))
-    ∙ ap (λ b. list_any p (take i xs) || b) (sym (or_none (p x)))
-    ∙ sym (list_any-append p (take i xs) (x ∷ []))
-    ∙ ap (list_any p) (sym (take_more xs i x lt ∙ ap (λ y. take i xs ++ y ∷ []) (sym is)))
+    or_comm (p x) (list_any p (take i xs))
+    ∙ ap (λ y. list_any p (take i xs) || p y) is
+    ∙ sym (list_any_more p xs i x lt)
 
 -- one more key was put
 pub put_more : (keys : List (Bor ObjectKey)) (i : ℕ) (q : Bor ObjectKey) (k : ObjectKey) (old : Bool) → i < length keys → q ≡ get_or keys i q → eq_by_cmp key_cmp k q.now || (list_any (λ (x : Bor ObjectKey). eq_by_cmp key_cmp k x.now) (take i keys) || old) ≡ list_any (λ (x : Bor ObjectKey). eq_by_cmp key_cmp k x.now) (take (i + 1) keys) || old
 put_more keys i q k old lt is =
-    or_first (eq_by_cmp key_cmp k q.now) (list_any (λ x. eq_by_cmp key_cmp k x.now) (take i keys)) old
+    sym (or_assoc (eq_by_cmp key_cmp k q.now) (list_any (λ x. eq_by_cmp key_cmp k x.now) (take i keys)) old)
     ∙ ap (λ b. b || old) (any_more (λ (x : Bor ObjectKey). eq_by_cmp key_cmp k x.now) keys i q lt is)
-  where
-    or_first : (a b c : Bool) → a || (b || c) ≡ (a || b) || c
-    or_first true b c = refl
-    or_first false b c = refl
 
 -- a key is among the keys of a map
 pub among_keys : {X : Type 0} (m : FinMap key_cmp X) (k : ObjectKey) → list_any (eq_by_cmp key_cmp k) (finite.keys m) ≡ contains_key m k

@@ -5,7 +5,7 @@ ghost use Rattle.std.specs.Ordering.{eq_by_cmp};
 ghost use Rattle.kp_base.specs.Keys.{key_cmp};
 ghost use Rattle.kp_base.specs.declared.key.ObjectKey.{ObjectKey};
 
-use crate::keyed::Keyed;
+use crate::key_set::KeySet;
 use kp_base::{Copied, NoMemory, ObjectKey};
 use std::alloc::Global;
 use std::marker::Model;
@@ -17,7 +17,7 @@ const FEW: usize = 8;
 /// in a list, where one is added without a look at the others, and further ones in a tree.
 pub struct Bucket {
     few: Vec<ObjectKey>,
-    many: Keyed<()>,
+    many: KeySet,
 }
 
 impl Drop for Bucket {
@@ -48,7 +48,7 @@ impl Bucket {
         few.push(key.copy(alloc)?)?;
         Ok(Bucket {
             few,
-            many: Keyed::new(alloc),
+            many: KeySet::new(alloc),
         })
     }
 
@@ -70,7 +70,7 @@ impl Bucket {
             self.few.push(key)?;
             Ok(())
         } else {
-            self.many.put(key, ())
+            self.many.put(key)
         }
     }
 
@@ -84,7 +84,7 @@ impl Bucket {
     }
 
     /// Puts the keys beside others.
-    pub fn put_into(&self, alloc: Global, keys: &mut Keyed<()>) -> Result<(), NoMemory>
+    pub fn put_into(&self, alloc: Global, keys: &mut KeySet) -> Result<(), NoMemory>
         ensures { OnOk result ((k : ObjectKey) → finite.contains_key keys.new k
             ≡ finite.contains_key self.now k || finite.contains_key keys.old k) }
     {

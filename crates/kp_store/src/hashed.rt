@@ -1,9 +1,11 @@
 //! Objects of one kind by their keys, found by the keys' hashes.
-ghost use Rattle.std.specs.Prelude.{◌≡◌, IfOk, OnOk, OnErr, option_copied};
+ghost use Rattle.std.specs.Prelude.{◌≡◌, ◌++◌, map, IfOk, OnOk, OnErr, option_copied};
+ghost use Rattle.std.specs.List.{filter_map};
+ghost use Rattle.std.specs.Option.{option_to_list};
 ghost use Rattle.kp_base.specs.declared.key.ObjectKey.{ObjectKey};
 ghost use Rattle.std.specs.FinMap as finite;
 
-use crate::keyed::Keyed;
+use crate::key_set::KeySet;
 use indexmap::IndexMap;
 use kp_base::{Kept, NoMemory, ObjectKey};
 use std::alloc::Global;
@@ -54,14 +56,27 @@ impl<X: Drop> Hashed<X> {
     }
 
     /// The keys, in their order.
-    pub fn in_order(&self, alloc: Global) -> Result<Keyed<()>, NoMemory>
+    pub fn in_order(&self, alloc: Global) -> Result<KeySet, NoMemory>
         ensures { IfOk result (λ ks. (k : ObjectKey) → finite.contains_key ks k
             ≡ finite.contains_key self.now k) }
     {
         let keys: Vec<&ObjectKey> = self.entries.keys().collect(alloc)?;
-        let mut order = Keyed::new(alloc);
+        let mut order = KeySet::new(alloc);
         order.put_all(alloc, keys.as_slice())?;
         Ok(order)
+    }
+
+    /// The objects of keys, where they are there, in order of the keys.
+    pub fn found(&self, alloc: Global, keys: &KeySet) -> Result<Vec<&X>, NoMemory>
+        ensures { IfOk result (λ xs. map (λ x. x.now) xs.items
+            ≡ filter_map (finite.get self.now) (finite.keys keys.now)) }
+    {
+        let keys = keys.keys(alloc)?;
+        let mut found = Vec::new(alloc);
+        for key in keys.as_slice() {
+            add_found(&mut found, self.get(*key))?;
+        }
+        Ok(found)
     }
 
     /// Puts an object in place of the one of its key. Where memory is out, all stays.
@@ -79,4 +94,15 @@ impl<X: Drop> Hashed<X> {
     {
         self.entries.swap_remove(key);
     }
+}
+
+/// Adds an object, if there is one.
+fn add_found<'a, X>(found: &mut Vec<&'a X>, object: Option<&'a X>) -> Result<(), NoMemory>
+    ensures { OnOk result (map (λ x. x.now) found.new.items
+        ≡ map (λ x. x.now) found.old.items ++ option_to_list (option_copied object.entry)) }
+{
+    if let Some(object) = object {
+        found.push(object)?;
+    }
+    Ok(())
 }

@@ -8,7 +8,7 @@ ghost use Rattle.kp_store.specs.Indexes.{has, is_among, is_pair, is_tag_of, is_l
 ghost use Rattle.kp_store.specs.Indexes.{AreFilled, AreFilledBut, IsPartly};
 
 use crate::bucket::Bucket;
-use crate::keyed::Keyed;
+use crate::key_set::KeySet;
 use indexmap::IndexMap;
 use kp_base::{Copied, NoMemory, ObjectKey};
 use std::alloc::Global;
@@ -52,21 +52,21 @@ impl<T: Eq + Hash + Drop> Index<T> {
     }
 
     /// The keys of a tag.
-    pub fn keys(&self, alloc: Global, tag: &T) -> Result<Keyed<()>, NoMemory>
+    pub fn keys(&self, alloc: Global, tag: &T) -> Result<KeySet, NoMemory>
         ensures { IfOk result (λ ks. (k : ObjectKey) → finite.contains_key ks k
             ≡ has T.eq self.now tag.now k) }
     {
-        let mut bucket = Keyed::new(alloc);
+        let mut bucket = KeySet::new(alloc);
         self.put_into(alloc, tag, &mut bucket)?;
         Ok(bucket)
     }
 
     /// The keys of any of some tags.
-    pub fn keys_of_any(&self, alloc: Global, tags: &[T]) -> Result<Keyed<()>, NoMemory>
+    pub fn keys_of_any(&self, alloc: Global, tags: &[T]) -> Result<KeySet, NoMemory>
         ensures { IfOk result (λ ks. (k : ObjectKey) → finite.contains_key ks k
             ≡ list_any (λ t. has T.eq self.now t k) tags.now) }
     {
-        let mut keys = Keyed::new(alloc);
+        let mut keys = KeySet::new(alloc);
         for tag in tags {
             self.put_into(alloc, tag, &mut keys)?;
         }
@@ -74,7 +74,7 @@ impl<T: Eq + Hash + Drop> Index<T> {
     }
 
     /// Puts the keys of a tag beside others.
-    fn put_into(&self, alloc: Global, tag: &T, keys: &mut Keyed<()>) -> Result<(), NoMemory>
+    fn put_into(&self, alloc: Global, tag: &T, keys: &mut KeySet) -> Result<(), NoMemory>
         ensures { OnOk result ((k : ObjectKey) → finite.contains_key keys.new k
             ≡ has T.eq self.now tag.now k || finite.contains_key keys.old k) }
     {

@@ -1,8 +1,7 @@
 //! Objects of one kind by their keys, with an index of what they are found by.
-ghost use Rattle.std.specs.Prelude.{◌≡◌, ◌++◌, List, map, IfOk, OnOk, OnErr, option_copied};
-ghost use Rattle.std.specs.List.{filter, filter_map, list_any};
+ghost use Rattle.std.specs.Prelude.{◌≡◌, List, map, IfOk, OnOk, OnErr, option_copied};
+ghost use Rattle.std.specs.List.{filter, list_any};
 ghost use Rattle.std.specs.FinMap as finite;
-ghost use Rattle.std.specs.Option.{option_to_list};
 ghost use Rattle.kp_store.specs.Indexes.{is_among, is_tagged};
 
 use crate::hashed::Hashed;
@@ -73,9 +72,7 @@ impl<X: Tagged<T>, T: Eq + Hash + Copied> Indexed<X, T> {
         ensures { IfOk result (λ xs. map (λ x. x.now) xs.items ≡ finite.values self.now) }
     {
         let order = self.objects.in_order(alloc)?;
-        let keys = order.keys(alloc)?;
-        let found = found_at(alloc, &self.objects, keys.as_slice())?;
-        Ok(found)
+        self.objects.found(alloc, &order)
     }
 
     /// The keys, in order.
@@ -84,7 +81,7 @@ impl<X: Tagged<T>, T: Eq + Hash + Copied> Indexed<X, T> {
     {
         let order = self.objects.in_order(alloc)?;
         let keys = order.keys(alloc)?;
-        Ok(copies(alloc, keys.as_slice())?)
+        copies(alloc, keys.as_slice())
     }
 
     /// The objects with a tag, in order of their keys.
@@ -93,9 +90,7 @@ impl<X: Tagged<T>, T: Eq + Hash + Copied> Indexed<X, T> {
             ≡ filter (λ x. is_among T.eq (X.tags x) tag.now) (finite.values self.now)) }
     {
         let bucket = self.index.keys(alloc, tag)?;
-        let keys = bucket.keys(alloc)?;
-        let found = found_at(alloc, &self.objects, keys.as_slice())?;
-        Ok(found)
+        self.objects.found(alloc, &bucket)
     }
 
     /// The objects with any of some tags, in order of their keys.
@@ -105,9 +100,7 @@ impl<X: Tagged<T>, T: Eq + Hash + Copied> Indexed<X, T> {
             (finite.values self.now)) }
     {
         let union = self.index.keys_of_any(alloc, tags)?;
-        let keys = union.keys(alloc)?;
-        let found = found_at(alloc, &self.objects, keys.as_slice())?;
-        Ok(found)
+        self.objects.found(alloc, &union)
     }
 
     /// Puts an object in place of the one of its key. Where memory is out, all stays.
@@ -158,31 +151,4 @@ fn tags_at<X: Tagged<T>, T: Eq + Hash + Copied>(
         Some(object) => object.tags(alloc),
         None => Ok(Items::new(alloc)),
     }
-}
-
-/// The objects of keys, where they are there.
-fn found_at<'a, X: Drop>(
-    alloc: Global,
-    objects: &'a Hashed<X>,
-    keys: &[&ObjectKey],
-) -> Result<Vec<&'a X>, NoMemory>
-    ensures { IfOk result (λ xs. map (λ x. x.now) xs.items
-        ≡ filter_map (λ k. finite.get objects.now k.now) keys.now) }
-{
-    let mut found = Vec::new(alloc);
-    for key in keys {
-        add_found(&mut found, objects.get(*key))?;
-    }
-    Ok(found)
-}
-
-/// Adds an object, if there is one.
-fn add_found<'a, X>(found: &mut Vec<&'a X>, object: Option<&'a X>) -> Result<(), NoMemory>
-    ensures { OnOk result (map (λ x. x.now) found.new.items
-        ≡ map (λ x. x.now) found.old.items ++ option_to_list (option_copied object.entry)) }
-{
-    if let Some(object) = object {
-        found.push(object)?;
-    }
-    Ok(())
 }

@@ -5,7 +5,7 @@ mod bucket;
 mod hashed;
 mod index;
 mod indexed;
-mod keyed;
+mod key_set;
 mod nodes;
 mod objects;
 mod selections;

@@ -10,15 +10,25 @@ use kp_types::{ClusterAddress, Pod, Service, ServicePort, Slice};
 use std::alloc::Global;
 
 /// A label in a namespace, which a pod has or a Service selects by.
-#[derive(PartialEq, Eq, Hash, Drop)]
+#[derive(PartialEq, Eq, Hash)]
 pub struct Label {
     pub namespace: Text,
     pub key: Text,
     pub value: Text,
 }
 
+impl Drop for Label {
+    fn drop(self) {
+        let Label {
+            namespace,
+            key,
+            value,
+        } = self;
+    }
+}
+
 /// What a Service is found by.
-#[derive(PartialEq, Eq, Hash, Drop)]
+#[derive(PartialEq, Eq, Hash)]
 pub enum ServiceTag {
     /// The first pair of its selector.
     Selector(Label),
@@ -26,6 +36,16 @@ pub enum ServiceTag {
     At(Address, PortNo, Proto),
     /// A node port.
     NodePort(PortNo, Proto),
+}
+
+impl Drop for ServiceTag {
+    fn drop(self) {
+        match self {
+            ServiceTag::Selector(_) => {}
+            ServiceTag::At(_, _, _) => {}
+            ServiceTag::NodePort(_, _) => {}
+        }
+    }
 }
 
 impl Copied for Label {

@@ -7,7 +7,8 @@ use Rattle.std.specs.FinMap as finite
 use Rattle.kp_base.specs.Keys.{key_cmp}
 use Rattle.kp_base.specs.declared.key.ObjectKey.{ObjectKey}
 use Rattle.kp_store.specs.Indexes.{Keys, has, is_pair}
-use Rattle.kp_store.proofs.Buckets.{added, or_none}
+use Rattle.kp_store.proofs.Buckets.{added}
+use mathlib.Core.Bool.{or-false}
 use Rattle.kp_store.proofs.Ordered.{none_before}
 use Rattle.kp_store.proofs.Filled.{filled_still, not_empty}
 use Rattle.kp_lemmas.proofs.Orders.{tie_of_itself}
@@ -21,7 +22,7 @@ returns-clause-ok g c = λ t k.
     let es = c.args.buckets.now.entries in
     let absent : (q : ObjectKey) → finite.contains_key (unwrap_or {T = Keys} (lookup (same c.in_ok-copy.field-0) es) finite.empty) q ≡ false = λ q. ap (λ x. finite.contains_key (unwrap_or {T = Keys} (lookup (same x) es) finite.empty) q) c.in_ok-copy.ensures
     ∙ ap (λ o. finite.contains_key (unwrap_or {T = Keys} o finite.empty) q) c.requires ∙ none_before q in
-    added same g.met.T.Eq.laws es c.insert.new.self.entries c.in_ok-copy.field-0 c.in_ok-bucket.bucket c.in_ok-insert.ensures.updates.0 key (λ q. c.in_ok-bucket.ensures q ∙ sym (ap (λ b. eq_by_cmp key_cmp q key || b) (absent q) ∙ or_none (eq_by_cmp key_cmp q key))) t k
+    added same g.met.T.Eq.laws es c.insert.new.self.entries c.in_ok-copy.field-0 c.in_ok-bucket.bucket c.in_ok-insert.ensures.updates.0 key (λ q. c.in_ok-bucket.ensures q ∙ sym (ap (λ b. eq_by_cmp key_cmp q key || b) (absent q) ∙ or-false (eq_by_cmp key_cmp q key))) t k
     ∙ ap (λ x. is_pair same x key t k || has same es t k) c.in_ok-copy.ensures
 
 pub returns-clause-filled : goal.returns-clause-filled

@@ -3,7 +3,6 @@ use Rattle.std.proofs.lemmas.Option.{none-some, same_Some}
 use Rattle.kp_store.proofs.Buckets.{forgotten}
 use Rattle.kp_store.proofs.Filled.{filled_again, filled_there}
 use Rattle.kp_store.proofs.Ordered.{none_before}
-use Rattle.kp_store.specs.Indexes.{has}
 use Rattle.std.specs.FinMap as finite
 use Rattle.kp_store.proofs.index.forget_empty.Goals as goal
 

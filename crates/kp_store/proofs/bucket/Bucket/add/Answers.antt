@@ -3,7 +3,7 @@ use Rattle.std.specs.Ordering.{eq_by_cmp}
 use Rattle.std.specs.FinMap as finite
 use Rattle.kp_base.specs.Keys.{key_cmp}
 use Rattle.kp_store.specs.Indexes.{with_keys}
-use Rattle.kp_store.proofs.Buckets.{on_ok}
+use Rattle.std.proofs.lemmas.Result.{on_ok_weaker}
 use Rattle.kp_store.proofs.KeyLists.{pushed, put_beside}
 use Rattle.kp_store.proofs.bucket.Bucket.add.Goals as goal
 
@@ -22,7 +22,7 @@ returns-else-len-lt-FEW-clause-ok c =
     let few = c.self.inside.few.items in
     let many = c.self.inside.many in
     let key = c.args.key.now in
-    on_ok c.put.result c.put.ensures.ok (λ is k.
+    on_ok_weaker c.put.result (λ is k.
     ap (λ m. finite.contains_key (with_keys few m) k) (is ∙ ap (λ x. finite.insert many x tt) c.in_ok-key.ensures)
     ∙ put_beside few many key k
-    ∙ ap (λ m. eq_by_cmp key_cmp k key || finite.contains_key m k) c.self.view_is)
+    ∙ ap (λ m. eq_by_cmp key_cmp k key || finite.contains_key m k) c.self.view_is) c.put.ensures.ok

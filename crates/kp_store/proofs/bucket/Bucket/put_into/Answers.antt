@@ -6,14 +6,14 @@ use Rattle.std.proofs.lemmas.Iterator.{YieldsList-from_slice}
 use Rattle.std.proofs.lemmas.Iterator.Consumers.{map_from_collect}
 use Rattle.kp_base.specs.Keys.{key_cmp}
 use Rattle.kp_base.specs.declared.key.ObjectKey.{ObjectKey}
-use Rattle.kp_store.proofs.Buckets.{on_ok}
+use Rattle.std.proofs.lemmas.Result.{on_ok_weaker}
 use Rattle.kp_store.proofs.KeyLists.{in_both}
 use Rattle.kp_store.proofs.Unions.{any_shown, among_keys}
 use Rattle.kp_store.proofs.bucket.Bucket.put_into.Goals as goal
 
 pub returns : goal.returns
 returns c =
-    on_ok c.put_all-2.result c.put_all-2.ensures (λ is k.
+    on_ok_weaker c.put_all-2.result (λ is k.
     let few = c.self.inside.few.items in
     let many = c.self.inside.many in
     let others = finite.contains_key c.args.keys.now k in
@@ -25,4 +25,4 @@ returns c =
     ∙ (λ i. beside i || c.in_ok-put_all.ensures k i)
     ∙ ap (λ b. finite.contains_key many k || (b || others)) listed
     ∙ in_both few many k others
-    ∙ ap (λ m. finite.contains_key m k || others) c.self.view_is)
+    ∙ ap (λ m. finite.contains_key m k || others) c.self.view_is) c.put_all-2.ensures

@@ -5,7 +5,9 @@ use Rattle.std.specs.FinMap as finite
 use Rattle.std.proofs.lemmas.Iterator.Consumers.{map_from_collect, YieldsList-from_rest}
 use Rattle.kp_base.specs.Keys.{key_cmp}
 use Rattle.kp_base.specs.declared.key.ObjectKey.{ObjectKey}
-use Rattle.kp_store.proofs.Ordered.{none_before, shown_any, has_entries}
+use Rattle.kp_store.proofs.Ordered.{none_before, has_entries}
+use Rattle.kp_store.proofs.Unions.{any_shown}
+use mathlib.Core.Bool.{or-false}
 use Rattle.kp_store.proofs.hashed.Hashed.in_order.Goals as goal
 
 pub returns : goal.returns
@@ -15,7 +17,8 @@ returns g c = λ k.
     c.in_ok-put_all.ensures k
     ∙ ap (λ b. list_any (λ q. eq_by_cmp key_cmp k q.now) c.as_slice.result.now || b)
     (ap (λ m. finite.contains_key m k) c.new-order.ensures ∙ none_before k)
-    ∙ shown_any k c.as_slice.result.now
+    ∙ or-false (list_any (λ q. eq_by_cmp key_cmp k q.now) c.as_slice.result.now)
+    ∙ any_shown k c.as_slice.result.now
     ∙ ap (λ ks. any (map (λ q. q.now) ks)) c.as_slice.ensures.value
     ∙ ap any (map_from_collect {E = ℕ} (Ok c.in_ok-keys.keys) c.in_ok-keys.ensures.ran (YieldsList-from_rest {shows = λ q. q.now} (map (λ e. e.0) es) c.keys.ensures.rest))
     ∙ sym (has_entries k es)

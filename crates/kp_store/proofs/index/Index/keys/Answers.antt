@@ -1,7 +1,7 @@
 use Rattle.std.proofs.Common.{◌||◌, ap, ◌∙◌}
 use Rattle.std.specs.FinMap as finite
 use Rattle.kp_store.specs.Indexes.{has}
-use Rattle.kp_store.proofs.Buckets.{or_none}
+use mathlib.Core.Bool.{or-false}
 use Rattle.kp_store.proofs.Ordered.{none_before}
 use Rattle.kp_store.proofs.index.Index.keys.Goals as goal
 
@@ -11,4 +11,4 @@ returns g c = λ k.
     c.in_ok-put_into.ensures k
     ∙ ap (λ m. here || finite.contains_key m k) c.new-bucket.ensures
     ∙ ap (λ b. here || b) (none_before k)
-    ∙ or_none here
+    ∙ or-false here

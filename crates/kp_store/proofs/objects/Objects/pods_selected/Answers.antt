@@ -1,4 +1,5 @@
 use Rattle.std.proofs.Common.{List, map, filter, rules, sym, ap, ◌∙◌, Bor}
+use Rattle.std.proofs.lemmas.Result.{IfOk-weaker}
 use Rattle.std.specs.FinMap as finite
 use Rattle.kp_lemmas.proofs.Members.{none_pass}
 use Rattle.kp_types.specs.declared.pod.Pod.{Pod}
@@ -8,7 +9,6 @@ use Rattle.kp_store.specs.Indexes.{is_among}
 use Rattle.kp_store.specs.Tags.{labels_of}
 use Rattle.kp_store.specs.contracts.tags.LabelPartialEq.TheImpl as label_eq
 use Rattle.kp_store.specs.contracts.tags.LabelEq.TheImpl.Laws as label_laws
-use Rattle.kp_store.proofs.Buckets.{if_ok}
 use Rattle.kp_store.proofs.Selected.{filter_within, has_first, none_selected}
 use Rattle.kp_store.proofs.objects.Objects.pods_selected.Goals as goal
 
@@ -17,7 +17,7 @@ returns-in_ok-found-in-Some c =
     let s = c.args.service.now in
     let pair = c.in-Some.pair.now in
     let pods = finite.values c.self.inside.pods in
-    if_ok _ _ c.pods_selected.result (λ ps is.
+    IfOk-weaker c.pods_selected.result _ _ (λ ps is.
     is
     ∙ ap (λ (xs : List (Bor Pod)). filter (selects s) (map (λ p. p.now) xs)) c.as_slice-in-Some.ensures.value
     ∙ ap (filter (selects s)) c.in_ok-found-in-Some.ensures

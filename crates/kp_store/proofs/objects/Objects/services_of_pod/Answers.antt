@@ -1,4 +1,5 @@
 use Rattle.std.proofs.Common.{List, map, filter, ap, ◌∙◌, Bor}
+use Rattle.std.proofs.lemmas.Result.{IfOk-weaker}
 use Rattle.std.specs.List.{list_any}
 use Rattle.std.specs.FinMap as finite
 use Rattle.kp_types.specs.declared.service.Service.{Service}
@@ -9,7 +10,6 @@ use Rattle.kp_store.specs.LookUps.{selecting, services_of_pod}
 use Rattle.kp_store.specs.Tags.{tags_of}
 use Rattle.kp_store.specs.contracts.tags.ServiceTagPartialEq.TheImpl as tag_eq
 use Rattle.kp_store.specs.contracts.tags.ServiceTagEq.TheImpl.Laws as tag_laws
-use Rattle.kp_store.proofs.Buckets.{if_ok}
 use Rattle.kp_store.proofs.Selected.{filter_within, has_label_of}
 use Rattle.kp_store.proofs.objects.Objects.services_of_pod.Goals as goal
 
@@ -18,7 +18,7 @@ returns-in_ok-found-in-Some c =
     let pod = c.in-Some.pod.now in
     let services = finite.values c.self.inside.services in
     let keys = λ (ss : List Service). map (λ (s : Service). s.key) (filter (λ s. selects s pod) ss) in
-    if_ok _ _ c.keys_selecting.result (λ ks is.
+    IfOk-weaker c.keys_selecting.result _ _ (λ ks is.
     is
     ∙ ap (λ (xs : List (Bor Service)). keys (map (λ s. s.now) xs)) c.as_slice-in-Some.ensures.value
     ∙ ap keys c.in_ok-found-in-Some.ensures

@@ -3,10 +3,10 @@ use Rattle.std.specs.FinMap as finite
 use Rattle.kp_base.specs.Keys.{key_cmp}
 use Rattle.std.proofs.lemmas.List.{nil_from_length}
 use Rattle.kp_store.proofs.Filled.{no_entries}
-use Rattle.kp_store.proofs.keyed.Keyed.is_empty.Goals as goal
+use Rattle.kp_store.proofs.key_set.KeySet.is_empty.Goals as goal
 
 pub returns : goal.returns
-returns g c =
+returns c =
     let es = c.self.inside.entries.entries in (
       (λ is. sym c.self.view_is ∙ ap (λ es. finite.from_entries {R = key_cmp} es) (nil_from_length es (c.is_empty.ensures.0 is))),
       (λ none. c.is_empty.ensures.1 (ap length (no_entries es (c.self.view_is ∙ none)))),

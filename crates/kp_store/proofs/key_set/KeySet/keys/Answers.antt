@@ -3,10 +3,10 @@ use Rattle.std.specs.FinMap as finite
 use Rattle.std.proofs.lemmas.Iterator.Consumers.{map_from_collect, YieldsList-from_rest}
 use Rattle.kp_base.proofs.KeyOrder.{key_total, key_exact}
 use Rattle.kp_store.proofs.SortedEntries.{entries_of}
-use Rattle.kp_store.proofs.keyed.Keyed.keys.Goals as goal
+use Rattle.kp_store.proofs.key_set.KeySet.keys.Goals as goal
 
 pub returns : goal.returns
-returns g c =
+returns c =
     let es = c.self.inside.entries.entries in
     map_from_collect {E = ℕ} (Ok c.in_ok-collect.field-0) c.in_ok-collect.ensures.ran (YieldsList-from_rest {shows = λ k. k.now} (map (λ e. e.0) es) c.keys.ensures.rest)
     ∙ ap (map (λ e. e.0)) (sym (entries_of key_total key_exact es c.keys.ensures.ordered))

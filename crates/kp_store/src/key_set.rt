@@ -1,5 +1,5 @@
-//! Objects of one kind by their keys.
-ghost use Rattle.std.specs.Prelude.{◌≡◌, ◌||◌, ◌↔◌, map, IfOk, OnOk, OnErr, IsTrue, option_copied};
+//! Keys of objects, in order.
+ghost use Rattle.std.specs.Prelude.{◌≡◌, ◌||◌, ◌↔◌, map, IfOk, OnOk, OnErr, IsTrue};
 ghost use Rattle.std.specs.List.{list_any};
 ghost use Rattle.std.specs.Ordering.{eq_by_cmp};
 ghost use Rattle.kp_base.specs.Keys.{key_cmp};
@@ -11,44 +11,39 @@ use std::alloc::Global;
 use std::collections::BTreeMap;
 use std::marker::Model;
 
-/// Objects of one kind, which contracts see as a finite map from their keys.
-pub struct Keyed<X> {
-    entries: BTreeMap<ObjectKey, X>,
+/// Keys, which contracts see as a finite map to nothing.
+pub struct KeySet {
+    entries: BTreeMap<ObjectKey, ()>,
 }
 
-impl<X: Drop> Drop for Keyed<X> {
+impl Drop for KeySet {
     fn drop(self) {
-        let Keyed { entries } = self;
+        let KeySet { entries } = self;
     }
 }
 
-impl<X> Model for Keyed<X> {
+impl Model for KeySet {
+    ghost use base.Stored.{coded_unit};
     ghost use Rattle.std.specs.FinMap as finite;
     ghost use Rattle.kp_base.specs.Keys.{key_cmp};
+    ghost use Rattle.kp_store.specs.Indexes.{Keys};
     ghost use Rattle.kp_store.specs.Stored.{keyed_code};
 
-    ghost Value = { finite.FinMap key_cmp X };
+    ghost Value = { Keys };
 
-    ghost coded = { keyed_code X.code };
+    ghost coded = { keyed_code coded_unit };
 
     ghost view = { λ k. finite.from_entries {R = key_cmp} k.entries.entries };
 }
 
-impl<X: Drop> Keyed<X> {
-    /// No objects.
-    pub fn new(alloc: Global) -> Keyed<X>
+impl KeySet {
+    /// No keys.
+    pub fn new(alloc: Global) -> KeySet
         ensures { result ≡ finite.empty }
     {
-        Keyed {
+        KeySet {
             entries: BTreeMap::new(alloc),
         }
-    }
-
-    /// The object of a key, if there is one.
-    pub fn get(&self, key: &ObjectKey) -> Option<&X>
-        ensures { option_copied result ≡ finite.get self.now key.now }
-    {
-        self.entries.get(key)
     }
 
     /// The keys, in order.
@@ -58,31 +53,22 @@ impl<X: Drop> Keyed<X> {
         Ok(self.entries.keys().collect(alloc)?)
     }
 
-    /// Whether there are no objects.
+    /// Whether there are no keys.
     pub fn is_empty(&self) -> bool
         ensures { IsTrue result ↔ (self.now ≡ finite.empty) }
     {
         self.entries.is_empty()
     }
 
-    /// Puts an object in place of the one of its key. Where memory is out, all stays.
-    pub fn put(&mut self, key: ObjectKey, object: X) -> Result<(), NoMemory>
-        ensures ok { OnOk result (self.new ≡ finite.insert self.old key object) }
+    /// Puts a key. Where memory is out, all stays.
+    pub fn put(&mut self, key: ObjectKey) -> Result<(), NoMemory>
+        ensures ok { OnOk result (self.new ≡ finite.insert self.old key tt) }
         ensures err { OnErr result (self.new ≡ self.old) }
     {
-        self.entries.insert(key, object)?;
+        self.entries.insert(key, ())?;
         Ok(())
     }
 
-    /// Takes out the object of a key, if there is one.
-    pub fn take(&mut self, key: &ObjectKey)
-        ensures { self.new ≡ finite.remove self.old key.now }
-    {
-        self.entries.remove(key);
-    }
-}
-
-impl Keyed<()> {
     /// Puts keys.
     pub fn put_all(&mut self, alloc: Global, keys: &[&ObjectKey]) -> Result<(), NoMemory>
         ensures { OnOk result ((k : ObjectKey) → finite.contains_key self.new k
@@ -90,8 +76,15 @@ impl Keyed<()> {
             || finite.contains_key self.old k) }
     {
         for key in keys {
-            self.put(key.copy(alloc)?, ())?;
+            self.put(key.copy(alloc)?)?;
         }
         Ok(())
+    }
+
+    /// Takes out a key, if it is there.
+    pub fn take(&mut self, key: &ObjectKey)
+        ensures { self.new ≡ finite.remove self.old key.now }
+    {
+        self.entries.remove(key);
     }
 }

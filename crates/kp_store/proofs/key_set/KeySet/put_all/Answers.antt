@@ -4,7 +4,7 @@ use Rattle.std.specs.FinMap as finite
 use Rattle.kp_base.specs.Keys.{key_cmp}
 use Rattle.kp_store.proofs.Buckets.{in_inserted}
 use Rattle.kp_store.proofs.Unions.{put_more}
-use Rattle.kp_store.proofs.keyed.Keyed+unit.put_all.Goals as goal
+use Rattle.kp_store.proofs.key_set.KeySet.put_all.Goals as goal
 
 pub loop-key-preserved : goal.loop-key-preserved
 loop-key-preserved c = λ k.

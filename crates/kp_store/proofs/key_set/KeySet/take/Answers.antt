@@ -2,9 +2,9 @@ use Rattle.std.proofs.Common.{ap, ◌∙◌}
 use Rattle.std.specs.FinMap as finite
 use Rattle.kp_base.proofs.KeyOrder.{key_total, key_exact, key_tree_ties}
 use Rattle.kp_base.proofs.Maps.{removed}
-use Rattle.kp_store.proofs.keyed.Keyed.take.Goals as goal
+use Rattle.kp_store.proofs.key_set.KeySet.take.Goals as goal
 
 pub returns : goal.returns
-returns g c =
+returns c =
     removed key_total key_tree_ties key_exact c.self.inside.entries.entries c.remove.new.self.entries c.args.key.now c.remove.ensures.updates.0
     ∙ ap (λ m. finite.remove m c.args.key.now) c.self.view_is
