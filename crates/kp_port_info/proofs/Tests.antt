@@ -1,5 +1,5 @@
 -- The tests of the derived orders are those of addresses and of ranges.
-use Rattle.std.proofs.Common.{◌≡◌, Bool, ◌==◌, ◌&&◌, List, refl, sym, ap, ◌∙◌}
+use Rattle.std.proofs.Common.{◌≡◌, ◌==◌, ◌&&◌, List, sym, ap, ◌∙◌}
 use Rattle.std.specs.Ordering.{eq_by_cmp}
 use Rattle.kp_base.specs.Net.{AddressParts, RangeParts, same_address}
 use Rattle.kp_base.specs.contracts.address.AddressOrd.TheImpl as address_ord

@@ -42,12 +42,11 @@ fn addresses_of_family(alloc: Global, addresses: &[Address]) -> Result<Vec<Addre
     ensures { IfOk result (λ found.
         found.items ≡ filter (λ a. same_family a.family V4) addresses.now) }
 {
-    let mut found = Vec::new(alloc);
-    for address in addresses {
-        if address.family() == Family::V4 {
-            found.push(*address)?;
-        }
-    }
+    let found: Vec<Address> = addresses
+        .iter()
+        .copied()
+        .filter(|address| address.family() == Family::V4)
+        .collect(alloc)?;
     Ok(found)
 }
 
@@ -76,11 +75,10 @@ fn ranges_of_family(alloc: Global, ranges: &[Cidr]) -> Result<Vec<Cidr>, NoMemor
     ensures { IfOk result (λ found.
         found.items ≡ filter (λ r. same_family r.base.family V4) ranges.now) }
 {
-    let mut found = Vec::new(alloc);
-    for range in ranges {
-        if range.base().family() == Family::V4 {
-            found.push(*range)?;
-        }
-    }
+    let found: Vec<Cidr> = ranges
+        .iter()
+        .copied()
+        .filter(|range| range.base().family() == Family::V4)
+        .collect(alloc)?;
     Ok(found)
 }

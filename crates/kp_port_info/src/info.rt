@@ -68,7 +68,11 @@ pub fn info_at(
 }
 
 /// The name of a port of a Service.
-fn port_key_of(alloc: Global, service: &Service, port: &ServicePort) -> Result<PortKey, NoMemory>
+pub fn port_key_of(
+    alloc: Global,
+    service: &Service,
+    port: &ServicePort,
+) -> Result<PortKey, NoMemory>
     ensures { IfOk result (λ key. key ≡ spec.port_key_of service.now port.now) }
 {
     Ok(PortKey {

@@ -6,5 +6,5 @@ mod destinations;
 mod info;
 mod once;
 
-pub use info::{cluster_address, info_at, port_info};
+pub use info::{cluster_address, info_at, port_info, port_key_of};
 pub use kp_types::PortInfo;
