@@ -1,5 +1,5 @@
 -- What a look-up is for is among what is found by tags.
-use Rattle.std.proofs.Common.{◌≡◌, ℕ, ◌==◌, ◌&&◌, ◌||◌, Bool, true, false, cond, not, List, [], ◌∷◌, ◌++◌, map, filter, flat_map, bytes_eq, Option, Some, None, option_map, slice_get, refl, sym, ap, subst, ◌∙◌, Contains, inl, inr}
+use Rattle.std.proofs.Common.{◌≡◌, ℕ, ◌==◌, ◌&&◌, ◌||◌, Bool, true, false, ◌≤◌, ◌-◌, zero, suc, length, arith, cond, not, List, [], ◌∷◌, ◌++◌, map, filter, flat_map, bytes_eq, Option, Some, None, option_map, slice_get, refl, sym, ap, subst, ◌∙◌, Contains, inl, inr}
 use Rattle.std.specs.List.{list_any, list_all}
 use Rattle.std.specs.Option.{option_to_list}
 use Rattle.std.specs.Cmp.{IsEquivalence}
@@ -67,25 +67,26 @@ selected_parts s pod h =
     (inner.0, (sym ((bytes_eq-Decides s.key.namespace pod.key.namespace).0 inner.1), outer.1))
 
 module _ (same : Label → Label → Bool) (laws : IsEquivalence same) where
-  -- a pod that a Service selects has the first term
-  pub has_first : (s : Service) (first : Pair) → slice_get s.selector 0 ≡ Some first → (pod : Pod) → selects s pod ≡ true → is_among same (labels_of pod) (label_in s.key.namespace first) ≡ true
-  has_first s first at pod h =
+  -- a pod that a Service selects has each term
+  pub has_term : (s : Service) (term : Pair) (i : ℕ) → slice_get s.selector i ≡ Some term → (pod : Pod) → selects s pod ≡ true → is_among same (labels_of pod) (label_in s.key.namespace term) ≡ true
+  has_term s term i at pod h =
       let parts = selected_parts s pod h in
-      any_mapped (λ l. bytes_eq l.key first.key && bytes_eq l.value first.value) (label_in pod.key.namespace) (same (label_in s.key.namespace first))
-      (λ l matches. ap (same (label_in s.key.namespace first)) (one_label s.key.namespace pod.key.namespace l first parts.1.0 matches) ∙ laws.refl (label_in s.key.namespace first))
-      pod.labels (of_first s.selector at parts.1.1)
+      any_mapped (λ l. bytes_eq l.key term.key && bytes_eq l.value term.value) (label_in pod.key.namespace) (same (label_in s.key.namespace term))
+      (λ l matches. ap (same (label_in s.key.namespace term)) (one_label s.key.namespace pod.key.namespace l term parts.1.0 matches) ∙ laws.refl (label_in s.key.namespace term))
+      pod.labels (of_nth s.selector i at parts.1.1)
     where
-      of_first : (terms : List Pair) → slice_get terms 0 ≡ Some first → list_all (has_label pod) terms ≡ true → has_label pod first ≡ true
-      of_first [] is all = absurd (cc)
-      of_first (t ∷ ts) is all = ap (has_label pod) (sym (same_Some t first is)) ∙ (and_parts (has_label pod t) (list_all (has_label pod) ts) all).0
+      of_nth : (terms : List Pair) (i : ℕ) → slice_get terms i ≡ Some term → list_all (has_label pod) terms ≡ true → has_label pod term ≡ true
+      of_nth [] i is all = absurd (cc)
+      of_nth (t ∷ ts) zero is all = ap (has_label pod) (sym (same_Some t term is)) ∙ (and_parts (has_label pod t) (list_all (has_label pod) ts) all).0
+      of_nth (t ∷ ts) (suc i) is all = of_nth ts i is (and_parts (has_label pod t) (list_all (has_label pod) ts) all).1
 
--- without a first term nothing is selected
-pub none_selected : (s : Service) → slice_get s.selector 0 ≡ None → (pod : Pod) → selects s pod ≡ false
-none_selected s at pod = by s.selector at
+-- without a term nothing is selected
+pub none_selected : (s : Service) (i : ℕ) → i ≤ length s.selector - 1 → length s.selector ≤ i → (pod : Pod) → selects s pod ≡ false
+none_selected s i within past pod = by s.selector within past
   where
-    by : (terms : List Pair) → slice_get terms 0 ≡ None → ((not (is_empty terms) && not (is_external_name s.kind)) && bytes_eq s.key.namespace pod.key.namespace) && list_all (has_label pod) s.selector ≡ false
-    by [] is = refl
-    by (t ∷ ts) is = absurd (cc)
+    by : (terms : List Pair) → i ≤ length terms - 1 → length terms ≤ i → ((not (is_empty terms) && not (is_external_name s.kind)) && bytes_eq s.key.namespace pod.key.namespace) && list_all (has_label pod) s.selector ≡ false
+    by [] less more = refl
+    by (t ∷ ts) less more = absurd (omega arith)
 
 module _ (same : ServiceTag → ServiceTag → Bool) (laws : IsEquivalence same) where
   -- a Service that selects a pod begins with one of its labels

@@ -59,6 +59,11 @@ impl Bucket {
         self.few.as_slice().is_empty() && self.many.is_empty()
     }
 
+    /// How many keys there are, or some more where one stands twice.
+    pub fn size(&self) -> usize {
+        self.few.len().saturating_add(self.many.len())
+    }
+
     /// Adds a key. Where memory is out, all stays.
     pub fn add(&mut self, alloc: Global, key: &ObjectKey) -> Result<(), NoMemory>
         ensures ok { OnOk result ((k : ObjectKey) → finite.contains_key self.new k

@@ -61,6 +61,14 @@ impl<T: Eq + Hash + Drop> Index<T> {
         Ok(bucket)
     }
 
+    /// How many keys a tag has, about: which tag is looked up decides the time alone.
+    pub fn size(&self, tag: &T) -> usize {
+        match self.buckets.get(tag) {
+            Some(bucket) => bucket.size(),
+            None => 0,
+        }
+    }
+
     /// The keys of any of some tags.
     pub fn keys_of_any(&self, alloc: Global, tags: &[T]) -> Result<KeySet, NoMemory>
         ensures { IfOk result (λ ks. (k : ObjectKey) → finite.contains_key ks k

@@ -84,6 +84,11 @@ impl<X: Tagged<T>, T: Eq + Hash + Copied> Indexed<X, T> {
         copies(alloc, keys.as_slice())
     }
 
+    /// How many objects have a tag, about.
+    pub fn size(&self, tag: &T) -> usize {
+        self.index.size(tag)
+    }
+
     /// The objects with a tag, in order of their keys.
     pub fn found(&self, alloc: Global, tag: &T) -> Result<Vec<&X>, NoMemory>
         ensures { IfOk result (λ xs. map (λ x. x.now) xs.items

@@ -60,6 +60,11 @@ impl KeySet {
         self.entries.is_empty()
     }
 
+    /// How many keys there are.
+    pub fn len(&self) -> usize {
+        self.entries.len()
+    }
+
     /// Puts a key. Where memory is out, all stays.
     pub fn put(&mut self, key: ObjectKey) -> Result<(), NoMemory>
         ensures ok { OnOk result (self.new ≡ finite.insert self.old key tt) }

@@ -1,5 +1,5 @@
 //! The objects of the cluster.
-ghost use Rattle.std.specs.Prelude.{◌≡◌, map, IfOk, OnOk, OnErr, option_copied};
+ghost use Rattle.std.specs.Prelude.{◌≡◌, ◌≤◌, ◌-◌, length, map, IfOk, OnOk, OnErr, option_copied};
 ghost use Rattle.std.specs.List.{filter};
 ghost use Rattle.std.specs.FinMap as finite;
 ghost use Rattle.kp_object_defs.specs.Desired.{selects};
@@ -201,13 +201,14 @@ impl Objects {
         }
     }
 
-    /// The pods that a Service selects, in order of their keys. Each has the first pair of the
-    /// selector among its labels.
+    /// The pods that a Service selects, in order of their keys: those that it selects of the pods
+    /// with the pair of its selector that the fewest have.
     pub fn pods_selected(&self, alloc: Global, service: &Service) -> Result<Vec<&Pod>, NoMemory>
         ensures { IfOk result (λ ps. map (λ p. p.now) ps.items
             ≡ filter (selects service.now) (finite.values self.now.pods)) }
     {
-        match service.selector.as_slice().first() {
+        let rarest = self.rarest_pair(alloc, service)?;
+        match service.selector.as_slice().get(rarest) {
             Some(pair) => {
                 let label = label_in(alloc, &service.key.namespace, pair)?;
                 let found = self.pods.found(alloc, &label)?;
@@ -215,6 +216,25 @@ impl Objects {
             }
             None => Ok(Vec::new(alloc)),
         }
+    }
+
+    /// The place of the pair of a selector that the fewest pods have: 0 where it has no pair.
+    fn rarest_pair(&self, alloc: Global, service: &Service) -> Result<usize, NoMemory>
+        ensures { IfOk result (λ i. i ≤ length service.now.selector - 1) }
+    {
+        let mut rarest = 0;
+        let mut fewest = usize::MAX;
+        let mut place = 0;
+        for pair in service.selector.as_slice() {
+            let label = label_in(alloc, &service.key.namespace, pair)?;
+            let size = self.pods.size(&label);
+            if size < fewest {
+                rarest = place;
+                fewest = size;
+            }
+            place += 1;
+        }
+        Ok(rarest)
     }
 
     /// The Services of which a port may answer at an address and number, whatever the family, or

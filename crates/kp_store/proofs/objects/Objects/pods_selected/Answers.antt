@@ -1,4 +1,6 @@
-use Rattle.std.proofs.Common.{List, map, filter, rules, sym, ap, ◌∙◌, Bor}
+use Rattle.std.proofs.Common.{◌≡◌, List, Some, map, filter, length, slice_get, rules, sym, ap, ◌∙◌, Bor}
+use Rattle.std.proofs.lemmas.Bool.{ltb-false, ltb-true}
+use Rattle.std.proofs.lemmas.Option.{slice_get-get_or}
 use Rattle.std.proofs.lemmas.Result.{IfOk-weaker}
 use Rattle.std.specs.FinMap as finite
 use Rattle.kp_lemmas.proofs.Members.{none_pass}
@@ -9,21 +11,28 @@ use Rattle.kp_store.specs.Indexes.{is_among}
 use Rattle.kp_store.specs.Tags.{labels_of}
 use Rattle.kp_store.specs.contracts.tags.LabelPartialEq.TheImpl as label_eq
 use Rattle.kp_store.specs.contracts.tags.LabelEq.TheImpl.Laws as label_laws
-use Rattle.kp_store.proofs.Selected.{filter_within, has_first, none_selected}
+use Rattle.kp_store.proofs.Selected.{filter_within, has_term, none_selected}
 use Rattle.kp_store.proofs.objects.Objects.pods_selected.Goals as goal
 
 pub returns-in_ok-found-in-Some : goal.returns-in_ok-found-in-Some
 returns-in_ok-found-in-Some c =
     let s = c.args.service.now in
+    let i = c.in_ok-rarest.rarest in
     let pair = c.in-Some.pair.now in
+    let pairs = c.as_slice.result.now in
     let pods = finite.values c.self.inside.pods in
+    let there : slice_get pairs i ≡ Some pair = slice_get-get_or pairs i pair (ltb-true i (length pairs) (sym c.in-Some.ensures.lookup.0)) ∙ ap Some (sym c.in-Some.ensures.lookup.1) in
     IfOk-weaker c.pods_selected.result _ _ (λ ps is.
     is
     ∙ ap (λ (xs : List (Bor Pod)). filter (selects s) (map (λ p. p.now) xs)) c.as_slice-in-Some.ensures.value
     ∙ ap (filter (selects s)) c.in_ok-found-in-Some.ensures
     ∙ ap (λ l. filter (selects s) (filter (λ p. is_among label_eq.ghosts.eq (labels_of p) l) pods)) c.in_ok-label-in-Some.ensures
-    ∙ filter_within _ (selects s) (has_first label_eq.ghosts.eq label_laws.laws-law s pair (search rules)) pods
+    ∙ filter_within _ (selects s) (has_term label_eq.ghosts.eq label_laws.laws-law s pair i (search rules)) pods
     ∙ ap (λ (o : Objects). filter (selects s) (finite.values o.pods)) c.self.view_is) c.pods_selected.ensures
 
 pub returns-in-None : goal.returns-in-None
-returns-in-None c = ap (map (λ p. p.now)) c.new.ensures.items ∙ sym (none_pass (selects c.args.service.now) (none_selected c.args.service.now (search rules)) (finite.values c.args.self.now.pods))
+returns-in-None c =
+    let i = c.in_ok-rarest.rarest in
+    let pairs = c.as_slice.result.now in
+    let past = ltb-false i (length pairs) (sym c.in-None.ensures.lookup.0) in
+    ap (map (λ p. p.now)) c.new.ensures.items ∙ sym (none_pass (selects c.args.service.now) (none_selected c.args.service.now i c.in_ok-rarest.ensures (search rules)) (finite.values c.args.self.now.pods))

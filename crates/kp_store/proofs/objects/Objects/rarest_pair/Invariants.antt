@@ -1,0 +1,6 @@
+-- The place of the rarest pair is one of those before, or 0.
+use Rattle.std.proofs.Common.{◌≡◌, ◌≤◌, ◌-◌, length}
+use Rattle.kp_store.proofs.objects.Objects.rarest_pair.Given as goal
+
+abbrev pub invariant-loop-pair : goal.invariant-loop-pair
+invariant-loop-pair l = (l.place ≡ l.pair-index) × (l.rarest ≤ length l.service.selector - 1)
