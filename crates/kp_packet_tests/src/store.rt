@@ -9,7 +9,8 @@ use std::alloc::Global;
 use std::process::Abort;
 use std::test::Fail;
 
-/// Objects of two namespaces, of which some come twice.
+/// Objects of three namespaces, of which some come twice. The second pair of a selector of two has
+/// fewer pods than the first.
 const APPLIED: &str = r#"{"kind":"List","items":[
  {"kind":"Service","metadata":{"namespace":"b","name":"web"},"spec":{"selector":{"app":"web"}}},
  {"kind":"Service","metadata":{"namespace":"a","name":"web"},"spec":{"selector":{"app":"web"}}},
@@ -26,6 +27,12 @@ const APPLIED: &str = r#"{"kind":"List","items":[
  {"kind":"Pod","metadata":{"namespace":"a","name":"two","labels":{"app":"web"}}},
  {"kind":"Pod","metadata":{"namespace":"a","name":"one","labels":{"app":"web"}}},
  {"kind":"Pod","metadata":{"namespace":"a","name":"other","labels":{"app":"db"}}},
+ {"kind":"Service","metadata":{"namespace":"c","name":"front"},
+ "spec":{"selector":{"app":"shop","tier":"front"}}},
+ {"kind":"Pod","metadata":{"namespace":"c","name":"back","labels":{"app":"shop"}}},
+ {"kind":"Pod","metadata":{"namespace":"c","name":"both","labels":{"app":"shop","tier":"front"}}},
+ {"kind":"Pod","metadata":{"namespace":"c","name":"lone","labels":{"tier":"front"}}},
+ {"kind":"Pod","metadata":{"namespace":"c","name":"more","labels":{"app":"shop"}}},
  {"kind":"Node","metadata":{"name":"n1","labels":{"topology.kubernetes.io/zone":"west"}}},
  {"kind":"Node","metadata":{"name":"n1","labels":{"topology.kubernetes.io/zone":"east"}}}]}"#;
 
@@ -153,18 +160,22 @@ fn check(rt: &impl Abort, alloc: Global, objects: &Objects, rows: &str) -> Resul
 }
 
 /// A call, the namespace and name that it asks for, and the names that it answers.
-const ANSWERS: &str = "services /: api web web
+const ANSWERS: &str = "services /: api web web front
 service a/web: web
 service a/gone:
 nodes /: n1
 services_of_pod a/one: api web
 services_of_pod a/other:
 services_of_pod b/one:
+services_of_pod c/both: front
+services_of_pod c/back:
+services_of_pod c/lone:
 slices_of a/web: web-1 web-2
 slices_of a/api:
 slices_of b/web: web-3
 pods_of a/web: one two
 pods_of a/gone:
+pods_of c/front: both
 zone_of /n1: east
 zone_of /n2:";
 
