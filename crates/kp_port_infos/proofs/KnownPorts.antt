@@ -42,10 +42,6 @@ module _ (family : Family) (config : FamilyConfig) (o : Objects) (s : Service) w
   abbrev pub with_ports : List ServicePort → List (ServiceSources × ServicePort)
   with_ports ps = map (λ p. (sources_of family config o s, p)) ps
 
-  -- its ports are the Service's
-  pub its_ports : ports_of (sources_of family config o s) ≡ with_ports s.ports
-  its_ports = ap (λ t. with_ports t.ports) (sources_service family config o s)
-
   by_address : (node : List ℕ) (place : Option (List ℕ)) (p : ServicePort) (address : Option AddressParts) → cluster_address_in family (sources_of family config o s).service ≡ address → known_in_part family node place p (option_map (λ _. sources_of family config o s) address) ≡ info_of family node place (sources_of family config o s, p)
   by_address node place p None at =
       let from : ServiceSources = sources_of family config o s in

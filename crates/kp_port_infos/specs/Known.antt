@@ -6,12 +6,10 @@ use Rattle.kp_base.specs.declared.address.Family.{Family}
 use Rattle.kp_base.specs.declared.key.PortKey.{PortKey}
 use Rattle.kp_types.specs.Setting.{FamilyConfig}
 use Rattle.kp_types.specs.declared.info.ServiceSources.{ServiceSources}
-use Rattle.kp_types.specs.declared.pod.Node.{Node}
-use Rattle.kp_types.specs.declared.pod.Pod.{Pod}
 use Rattle.kp_types.specs.declared.service.Service.{Service}
 use Rattle.kp_types.specs.declared.service.ServicePort.{ServicePort}
 use Rattle.kp_object_defs.specs.Entries.{sources_of}
-use Rattle.kp_object_defs.specs.Objects.{Objects, node_key}
+use Rattle.kp_object_defs.specs.Objects.{Objects}
 use Rattle.kp_object_defs.specs.Order.{by_key}
 use Rattle.kp_object_defs.specs.PortInfo.{PortInfo, cluster_address_in, info_of, name_of_port}
 

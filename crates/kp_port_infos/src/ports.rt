@@ -7,9 +7,9 @@ ghost use Rattle.kp_object_defs.specs.Entries.{entries_from};
 ghost use Rattle.kp_object_defs.specs.PortInfo as spec;
 ghost use Rattle.kp_port_infos.specs.Known.{known_in_part};
 
-use kp_base::{Config, Copied, NoMemory, PortKey, Text};
+use kp_base::{Config, NoMemory, PortKey, Text};
 use kp_category::{candidates, categorise};
-use kp_port_info::port_info;
+use kp_port_info::{port_info, port_key_of};
 use kp_types::{Lists, PortInfo, Service, ServicePort, ServiceSources};
 use std::alloc::Global;
 use std::collections::BTreeMap;
@@ -84,15 +84,4 @@ fn lists_of(
     let key = port_key_of(alloc, service, port)?;
     let entries = candidates(alloc, &key, &sources.wanted, &sources.slices, &config.node)?;
     categorise(alloc, service, port, &entries, zone)
-}
-
-/// The name of a port of a Service.
-fn port_key_of(alloc: Global, service: &Service, port: &ServicePort) -> Result<PortKey, NoMemory>
-    ensures { IfOk result (λ key. key ≡ spec.port_key_of service.now port.now) }
-{
-    Ok(PortKey {
-        object: service.key.copy(alloc)?,
-        port_name: port.name.copy(alloc)?,
-        proto: port.proto,
-    })
 }
