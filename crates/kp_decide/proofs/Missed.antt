@@ -1,9 +1,9 @@
 -- A port that a packet can't be for gives it no door and no line.
-use Rattle.std.proofs.Common.{◌≡◌, inl, inr, ℕ, ◌==◌, ◌&&◌, ◌||◌, Bool, true, false, true≢false, cond, not, List, [], ◌∷◌, ◌++◌, map, filter, Contains, Option, Some, None, option_map, is_some, refl, sym, ap, subst, ◌∙◌}
+use Rattle.std.proofs.Common.{◌≡◌, ℕ, ◌==◌, ◌&&◌, ◌||◌, Bool, true, false, true≢false, cond, not, List, [], ◌∷◌, ◌++◌, map, filter, Contains, Option, Some, None, option_map, is_some, refl, sym, ap, subst, ◌∙◌}
 use Rattle.std.specs.List.{find, list_any}
 use Rattle.std.proofs.lemmas.Bool.{and_from, and_parts, or_from, or_left, or_parts, or_right, false_from_ne_true}
 use Rattle.std.proofs.lemmas.Option.{same_Some}
-use Rattle.kp_lemmas.proofs.Members.{first_in, later_in, none_in, none_passes, in_cases, from_filter, any_from}
+use Rattle.kp_lemmas.proofs.Members.{none_in, none_passes, from_filter, any_from}
 use Rattle.kp_base.specs.Net.{AddressParts, same_address, same_family}
 use Rattle.kp_base.specs.declared.address.Family.{Family}
 use Rattle.kp_types.specs.Ports.{same_proto}

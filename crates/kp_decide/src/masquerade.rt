@@ -38,9 +38,9 @@ fn marked_at(config: &Config, door: &Door<'_>, source: &Address) -> bool
 {
     match door.kind {
         DoorKind::Cluster => marked_inside(config, source),
-        DoorKind::External => marked_outside(config, door.info.outer, source),
-        DoorKind::Balancer => marked_outside(config, door.info.outer, source),
-        DoorKind::Node => marked_outside(config, door.info.outer, source),
+        DoorKind::External | DoorKind::Balancer | DoorKind::Node => {
+            marked_outside(config, door.info.outer, source)
+        }
     }
 }
 

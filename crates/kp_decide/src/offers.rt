@@ -37,8 +37,7 @@ pub fn offer_of<'a>(config: &Config, packet: &Packet, door: &Door<'a>) -> Offer<
     let info = door.info;
     match door.kind {
         DoorKind::Cluster => offer_by_policy(info, info.internal),
-        DoorKind::External => outer_offer(config, info, &packet.source),
-        DoorKind::Node => outer_offer(config, info, &packet.source),
+        DoorKind::External | DoorKind::Node => outer_offer(config, info, &packet.source),
         DoorKind::Balancer => balancer_offer(config, info, &packet.source),
     }
 }
