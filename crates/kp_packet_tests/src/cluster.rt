@@ -4,7 +4,7 @@ ghost use Rattle.std.specs.Prelude.{◌≡◌, ◌<◌, ◌^◌};
 ghost use Rattle.kp_choice_defs.specs.Draws.{draw_of_list};
 ghost use Rattle.kp_text_defs.specs.ListedDraws.{listed};
 
-use crate::draws::draw_at;
+use crate::listed::draw_at;
 use crate::walks::push_walk;
 use kp_base::{Config, NoMemory, Steps};
 use kp_decide::decide;

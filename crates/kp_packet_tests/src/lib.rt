@@ -1,4 +1,6 @@
-//! Tests of the calls that packets cross: the store, tables, walks and decisions.
+//! Tests of the calls that packets cross: draws, session affinity, the store, tables, walks and
+//! decisions; and tests with threads: events that four feed and one takes, and published tables that
+//! two read beside the publisher.
 #![tactic(auto)]
 
 #[cfg(test)]
@@ -7,6 +9,16 @@ mod cluster;
 mod doors;
 #[cfg(test)]
 mod draws;
+#[cfg(test)]
+mod feeding;
+#[cfg(test)]
+mod listed;
+#[cfg(test)]
+mod pushing;
+#[cfg(test)]
+mod reading;
+#[cfg(test)]
+mod recent;
 #[cfg(test)]
 mod store;
 #[cfg(test)]

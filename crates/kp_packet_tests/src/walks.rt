@@ -3,7 +3,7 @@ ghost use Rattle.std.specs.Prelude.{◌≡◌, ◌<◌, ◌^◌};
 ghost use Rattle.kp_choice_defs.specs.Draws.{draw_of_list};
 ghost use Rattle.kp_text_defs.specs.ListedDraws.{listed};
 
-use crate::draws::draw_at;
+use crate::listed::draw_at;
 use kp_base::{Config, NoMemory};
 use kp_draws::DrawSource;
 use kp_recent::RecentLists;

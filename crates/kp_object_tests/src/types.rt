@@ -1,6 +1,7 @@
 //! Names of chains, and copies of their keys and of records. Copies of objects are tested where
 //! objects are read.
-use crate::keys::{is_copied, port_key};
+use crate::keys::port_key;
+use crate::words::is_copied;
 use arrayvec::ArrayVec;
 use kp_base::{Address, Cidr, Copied, Endpoint, Items, NoMemory, PortNo, Shared};
 use kp_types::{

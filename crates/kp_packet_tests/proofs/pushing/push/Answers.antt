@@ -1,8 +1,8 @@
 use Rattle.std.proofs.Common.{◌≡◌, ◌+◌, ◌<◌, ◌^◌, true, rules, arith}
 use Rattle.std.proofs.lemmas.Bool.Decides.{nat_tests}
 use Rattle.kp_table_defs.specs.Ranks.{is_ranked, has_built_in_chains}
-use Rattle.kp_thread_tests.proofs.Pushes.{stands_after}
-use Rattle.kp_thread_tests.proofs.pushing.push.Goals as goal
+use Rattle.kp_packet_tests.proofs.Pushes.{stands_after}
+use Rattle.kp_packet_tests.proofs.pushing.push.Goals as goal
 
 -- the table after the record is the publisher's newest one
 pub publish-requires-clause-stands : goal.publish-requires-clause-stands

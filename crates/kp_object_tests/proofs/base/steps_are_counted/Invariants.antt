@@ -1,4 +1,4 @@
-use Rattle.kp_ground_tests.proofs.base.steps_are_counted.Given as goal
+use Rattle.kp_object_tests.proofs.base.steps_are_counted.Given as goal
 
 -- the ledger is that of the blank
 abbrev pub ghosts-twice : goal.ghosts-twice

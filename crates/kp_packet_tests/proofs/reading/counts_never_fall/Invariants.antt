@@ -1,4 +1,4 @@
-use Rattle.kp_thread_tests.proofs.reading.counts_never_fall.Given as goal
+use Rattle.kp_packet_tests.proofs.reading.counts_never_fall.Given as goal
 
 -- the history that was just opened, and the table to start from
 abbrev pub ghosts-last_seen : goal.ghosts-last_seen
