@@ -1,8 +1,14 @@
 //! Tests of the calls that packets cross: draws, session affinity, the store, tables, walks and
-//! decisions; and tests with threads: events that four feed and one takes, and published tables that
-//! two read beside the publisher.
+//! decisions; of what is printed: worked examples of the printed lines, each call of kp_report,
+//! which gives exactly these lines, kp_gen, which gives the lines of a script, kp_rule_text and
+//! kp_restore, which read and print the texts of tables and batches; and tests with threads: events
+//! that four feed and one takes, and published tables that two read beside the publisher.
 #![tactic(auto)]
 
+#[cfg(test)]
+mod batches;
+#[cfg(test)]
+mod calls;
 #[cfg(test)]
 mod cluster;
 #[cfg(test)]
@@ -20,8 +26,19 @@ mod reading;
 #[cfg(test)]
 mod recent;
 #[cfg(test)]
+mod rules;
+#[cfg(test)]
+mod script;
+#[cfg(test)]
 mod store;
+#[cfg(test)]
+mod tables;
 #[cfg(test)]
 mod transcript;
 #[cfg(test)]
+mod walked;
+#[cfg(test)]
 mod walks;
+mod worked;
+
+pub use worked::{worked_answers, worked_live_lines, worked_refusals, worked_slices};

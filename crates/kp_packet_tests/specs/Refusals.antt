@@ -4,7 +4,7 @@ use Rattle.kp_json.specs.declared.fault.Why.{Why}
 use Rattle.kp_json.specs.declared.fault.Why.TheVariants.{Missing, WrongType, OutOfRange, BadName, BadAddress, BadCidr, DuplicatePort, TooMany}
 use Rattle.kp_text_defs.specs.declared.line_refusal.LineRefusal.TheVariants as refusal
 use Rattle.kp_text_defs.specs.Refusals.{refusal_text}
-use Rattle.kp_text_tests.specs.Setting.{clash, port_clash}
+use Rattle.kp_packet_tests.specs.Setting.{clash, port_clash}
 
 -- refusals of whole lines
 abbrev pub Lines : Type 0

@@ -6,7 +6,7 @@ use Rattle.kp_types.specs.declared.slice.AddressType.TheVariants.{Ipv4, Ipv6, Fq
 use Rattle.kp_types.specs.declared.slice.SliceEndpoint.{SliceEndpoint}
 use Rattle.kp_types.specs.declared.slice.Slice.{Slice}
 use Rattle.kp_text_defs.specs.Slices.{slices_text}
-use Rattle.kp_text_tests.specs.Setting.{object}
+use Rattle.kp_packet_tests.specs.Setting.{object}
 
 -- an endpoint of node n1 in zone a: whether it is ready, serves and terminates
 abbrev pub entry : ℕ → Bool → Bool → Bool → SliceEndpoint

@@ -1,7 +1,7 @@
 use Rattle.std.specs.Prelude.{refl}
 use Rattle.std.specs.Fmt.{digits}
 use Rattle.json.specs.Print.{escape_byte}
-use Rattle.kp_text_tests.proofs.worked.worked_refusals.Goals as goal
+use Rattle.kp_packet_tests.proofs.worked.worked_refusals.Goals as goal
 
 pub returns-clause-lines : goal.returns-clause-lines
 unfolding digits

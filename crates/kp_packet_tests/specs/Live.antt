@@ -4,7 +4,7 @@ use Rattle.kp_types.specs.declared.event.Kind.TheVariants as kind
 use Rattle.kp_types.specs.declared.event.Object.TheVariants as object
 use Rattle.kp_types.specs.declared.event.Event.TheVariants.{Apply, Delete}
 use Rattle.kp_text_defs.specs.Live.{event_text, record_text, live_sync_text, final_text, totals_text}
-use Rattle.kp_text_tests.specs.Setting as setting
+use Rattle.kp_packet_tests.specs.Setting as setting
 
 -- changes of each kind of object
 abbrev pub Events : Type 0

@@ -10,7 +10,7 @@ use Rattle.kp_types.specs.declared.decision.Reason.{Reason}
 use Rattle.kp_types.specs.declared.decision.Reason.TheVariants.{Door, NoEndpoints, NoLocal, Closed, NoDoor}
 use Rattle.kp_text_defs.specs.Answers.{explain_text, trail_text}
 use Rattle.kp_text_defs.specs.Printed.{packet_text, sync_text, usage_text}
-use Rattle.kp_text_tests.specs.Setting.{web, first}
+use Rattle.kp_packet_tests.specs.Setting.{web, first}
 
 -- each verdict
 abbrev pub Verdicts : Type 0

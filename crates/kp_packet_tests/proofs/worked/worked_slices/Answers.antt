@@ -1,6 +1,6 @@
 use Rattle.std.specs.Prelude.{refl}
 use Rattle.std.specs.Fmt.{digits}
-use Rattle.kp_text_tests.proofs.worked.worked_slices.Goals as goal
+use Rattle.kp_packet_tests.proofs.worked.worked_slices.Goals as goal
 
 pub returns-clause-lines : goal.returns-clause-lines
 unfolding digits

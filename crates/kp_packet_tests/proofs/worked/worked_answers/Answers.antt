@@ -1,6 +1,6 @@
 use Rattle.std.specs.Prelude.{refl}
 use Rattle.std.specs.Fmt.{digits}
-use Rattle.kp_text_tests.proofs.worked.worked_answers.Goals as goal
+use Rattle.kp_packet_tests.proofs.worked.worked_answers.Goals as goal
 
 pub returns-clause-verdicts : goal.returns-clause-verdicts
 unfolding digits

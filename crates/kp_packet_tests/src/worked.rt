@@ -1,8 +1,8 @@
 //! Lines that are known from their format.
-ghost use Rattle.kp_text_tests.specs.Answers as answers;
-ghost use Rattle.kp_text_tests.specs.Live as live;
-ghost use Rattle.kp_text_tests.specs.Refusals as refusals;
-ghost use Rattle.kp_text_tests.specs.Slices as slices;
+ghost use Rattle.kp_packet_tests.specs.Answers as answers;
+ghost use Rattle.kp_packet_tests.specs.Live as live;
+ghost use Rattle.kp_packet_tests.specs.Refusals as refusals;
+ghost use Rattle.kp_packet_tests.specs.Slices as slices;
 
 /// Answers, explained answers and trails.
 pub fn worked_answers()
