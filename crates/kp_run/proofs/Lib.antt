@@ -1,5 +1,2 @@
-pub mod ComeLemmas
-pub mod EndLemmas
 pub mod PlanLemmas
 pub mod Replays
-pub mod SumLemmas

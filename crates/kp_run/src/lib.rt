@@ -1,14 +1,8 @@
-//! The program as a library: a replay of lines over any source and sink.
+//! The program as a library: its words choose what is done over any source and sink.
 #![tactic(auto)]
 
-mod ending;
-mod generated;
-pub mod laws;
-mod lines;
 mod program;
-mod status;
 
-pub use kp_replay::Replay;
-pub use lines::replay_one;
+pub use kp_modes::laws;
+pub use kp_modes::{Replay, Status, replay_one};
 pub use program::run;
-pub use status::Status;

@@ -1,0 +1,3 @@
+pub mod ComeLemmas
+pub mod EndLemmas
+pub mod SumLemmas
