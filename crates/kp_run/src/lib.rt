@@ -3,6 +3,5 @@
 
 mod program;
 
-pub use kp_modes::laws;
-pub use kp_modes::{Replay, Status, replay_one};
+pub use kp_modes::{Replay, Status, laws, replay_one};
 pub use program::run;
