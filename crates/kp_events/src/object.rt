@@ -9,9 +9,7 @@ ghost use Rattle.kp_row_defs.specs.Rows.{row_fault};
 use kp_base::{Kept, ObjectKey};
 use kp_fields::{copied_text, key_field, name_field};
 use kp_json::{FieldFault, Spot};
-use kp_pod::{node_of, pod_of};
-use kp_service::service_of;
-use kp_slice::slice_of;
+use kp_objects::{node_of, pod_of, service_of, slice_of};
 use kp_types::{Kind, Object};
 use std::alloc::Global;
 

@@ -2,7 +2,7 @@
 use crate::words::{is_copied, is_key, is_text, tree_of, unfolded};
 use kp_base::{Address, Proto};
 use kp_json::{FieldFault, Spot};
-use kp_pod::{ContainerPort, Node, Pod, node_of, pod_of};
+use kp_objects::{ContainerPort, Node, Pod, node_of, pod_of};
 use std::alloc::Global;
 use std::test::Fail;
 

@@ -2,7 +2,7 @@
 use crate::words::{is_copied, is_key, tree_of, unfolded};
 use kp_base::{Address, Cidr, PortNo, Proto};
 use kp_json::{FieldFault, Spot};
-use kp_service::{
+use kp_objects::{
     ClusterAddress, Policy, Service, ServiceKind, ServicePort, TargetPort, service_of,
 };
 use std::alloc::Global;

@@ -2,7 +2,7 @@
 use crate::words::{is_key, is_text, tree_of, unfolded};
 use kp_base::{Address, Copied, ObjectKey, PortNo, Proto};
 use kp_json::{FieldFault, Spot, Why};
-use kp_slice::{AddressType, Slice, SliceEndpoint, SlicePort, slice_of};
+use kp_objects::{AddressType, Slice, SliceEndpoint, SlicePort, slice_of};
 use std::alloc::{AllocError, Global};
 use std::test::Fail;
 

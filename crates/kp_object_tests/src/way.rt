@@ -10,8 +10,7 @@ use kp_base::{
 use kp_category::{candidates, categorise};
 use kp_desired::{desired_endpoints, selects};
 use kp_packer::pack;
-use kp_pod::{Node, Pod};
-use kp_service::Service;
+use kp_objects::{Node, Pod, Service};
 use kp_types::{Candidate, Lists, Packed, Slice, Wanted};
 use std::alloc::Global;
 use std::test::Fail;

@@ -1,0 +1,5 @@
+pub mod Inside
+pub mod PortSteps
+pub mod SeenOrder
+pub mod ServiceMade
+pub mod SliceMade

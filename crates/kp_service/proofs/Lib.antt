@@ -1,3 +1,0 @@
-pub mod PortSteps
-pub mod SeenOrder
-pub mod ServiceMade
