@@ -12,15 +12,13 @@ use Rattle.kp_history_defs.specs.History.{objects_covered, chains_covered}
 use Rattle.kp_history_laws.specs.HistoryLaws.{ExactByEvents}
 use Rattle.kp_events.specs.JournalContents.{Contents, HasRoom}
 use Rattle.kp_events.specs.JournalContents as journal
+use Rattle.kp_history.proofs.Synced.{within}
+use Rattle.kp_history.specs.Invariant.{IsHistory}
+use Rattle.kp_history.specs.declared.history.History.{History}
 use Rattle.kp_plane.specs.Parts.{PlaneParts, HasExactHistory, setting_in, syncs_in, batch_after, with_events}
-use Rattle.kp_plane.specs.Invariant.{IsAtPlace, IsHistory, IsPlane, IsSlicesAt}
-use Rattle.kp_plane.specs.declared.history.History.{History}
+use Rattle.kp_plane.specs.Invariant.{IsAtPlace, IsPlane, IsSlicesAt}
 use Rattle.kp_plane.specs.declared.place.ObjectsAt.{ObjectsAt}
 use Rattle.kp_plane.specs.declared.slices_at.SlicesAt.{SlicesAt}
-
--- the counts of an exact history cover events that there are
-pub within : (p : PlaneParts) → HasExactHistory p → sum p.counts ≤ length p.events
-within p h = subst (λ counts. sum counts ≤ length p.events) h.counted h.exact.within
 
 module _ (p : PlaneParts) (more : List Event) where
   pub covered_same : HasExactHistory p → (n : ℕ) → objects_covered (p.events ++ more) p.counts n ≡ objects_covered p.events p.counts n

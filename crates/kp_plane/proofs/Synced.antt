@@ -1,12 +1,8 @@
--- What one more sync adds.
-use Rattle.std.proofs.Common.{◌≡◌, ◌≤◌, ◌+◌, ◌-◌, ℕ, suc, List, [], ◌∷◌, ◌++◌, take, length, sum, Option, Some, None, refl, sym, ap, subst, ◌∙◌, arith, le_refl, Bool, true, false, ◌<◌, nat_lt}
+-- What one more sync changes, and what it looks at.
+use Rattle.std.proofs.Common.{◌≡◌, ◌≤◌, ◌+◌, ℕ, List, [], ◌∷◌, ◌++◌, take, length, sum, refl, sym, ap, subst, ◌∙◌, arith, le_refl, Bool, true, false, ◌<◌, nat_lt}
 use Rattle.std.proofs.lemmas.Bool.Decides.{nat_tests}
-use Rattle.std.proofs.lemmas.List.{take_all, take-append-le, length-map, length_push, map_push}
-use Rattle.std.proofs.lemmas.List.Sums.{sum_by_push}
+use Rattle.std.proofs.lemmas.List.{take_all, take-append-le, length_push}
 use Rattle.kp_types.specs.declared.event.Event.{Event}
-use Rattle.kp_types.specs.declared.rule.Batch.{Batch}
-use Rattle.kp_types.specs.declared.rule.Edit.{Edit}
-use Rattle.kp_types.specs.declared.sync.SyncRecord.{SyncRecord}
 use Rattle.kp_object_defs.specs.Objects.{Objects, objects_after}
 use Rattle.kp_base.specs.declared.address.Family.TheVariants.{V4}
 use Rattle.kp_object_defs.specs.PortInfo.{port_infos}
@@ -19,91 +15,15 @@ use Rattle.kp_types.specs.declared.packet.Packet.{Packet}
 use Rattle.kp_choice_defs.specs.Recent.{RecentParts}
 use Rattle.kp_door_defs.specs.Decision.{decision_of}
 use Rattle.kp_decide.specs.Told.{told}
-use Rattle.kp_history_defs.specs.History.{chains_covered, objects_covered}
-use Rattle.kp_history_laws.specs.HistoryLaws.{all_covered, CoversRest, ExactByRecord}
-use Rattle.kp_plane.specs.Parts.{PlaneParts, HasExactHistory, most_steps, setting_in, syncs_in, uncovered_in, objects_in, explained_in, table_in, chains_in, last_edits, batch_after, next_edits, next_chains, chains_or, synced}
-use Rattle.kp_plane.specs.Invariant.{IsAtPlace, IsHistory, IsPlane, IsSlicesAt}
-use Rattle.kp_plane.specs.declared.history.History.{History}
+use Rattle.kp_history.specs.Parts.{PlaneParts, HasExactHistory, setting_in, uncovered_in, objects_in, table_in, chains_in, next_edits, next_chains, synced}
+use Rattle.kp_history.specs.Invariant.{IsHistory}
+use Rattle.kp_history.specs.declared.history.History.{History}
+use Rattle.kp_history.proofs.Synced.{all_counted, within}
+use Rattle.kp_plane.specs.Parts.{most_steps, explained_in}
+use Rattle.kp_plane.specs.Invariant.{IsAtPlace, IsPlane, IsSlicesAt}
 use Rattle.kp_plane.specs.declared.place.ObjectsAt.{ObjectsAt}
 use Rattle.kp_plane.specs.declared.slices_at.SlicesAt.{SlicesAt}
-use Rattle.kp_plane.proofs.Accepted.{within}
 use Rattle.kp_plane.proofs.Unchanged.{no_changes}
-
--- behind a sync there is a batch
-some_batch : (counts : List ℕ) (n : ℕ) (edits : List Edit) → batch_after (counts ++ n ∷ []) edits ≡ Some (record { edits = edits })
-some_batch [] n edits = refl
-some_batch (m ∷ counts) n edits = refl
-
-module _ (p : PlaneParts) (h : HasExactHistory p) where
-  -- the record of a sync of all events
-  abbrev next_record : SyncRecord
-  next_record = record { sync = suc (syncs_in p); events = uncovered_in p; batch = record { edits = next_edits p } }
-
-  pub all_counted : sum (synced p).counts ≡ length p.events
-  all_counted = let few = within p h in sum_by_push (λ (m : ℕ). m) p.counts (uncovered_in p) ∙ omega arith
-
-  pub objects_next : objects_in (synced p) ≡ objects_after p.events
-  objects_next =
-      let counts = (synced p).counts in
-      ap (λ c. objects_after (take (sum c) p.events)) (take_all (length counts) counts (le_refl (length counts)))
-      ∙ ap (λ (n : ℕ). objects_after (take n p.events)) all_counted
-      ∙ ap objects_after (take_all (length p.events) p.events (le_refl (length p.events)))
-
-  objects_before : objects_covered p.events (synced p).counts (syncs_in p) ≡ objects_in p
-  objects_before = ap (λ c. objects_after (take (sum c) p.events)) (take-append-le (syncs_in p) p.counts (uncovered_in p ∷ []) (le_refl (syncs_in p)))
-
-  -- the last edits are then those of this sync
-  pub last_is_next : last_edits (synced p) ≡ next_edits p
-  last_is_next =
-      let longer = length_push p.counts (uncovered_in p) in
-      let one : syncs_in (synced p) - 1 ≡ syncs_in p = omega arith in
-      ap (λ (n : ℕ). changes_between (chains_covered (setting_in p) p.events (synced p).counts n) (chains_in (synced p))) one
-      ∙ ap (λ o. changes_between (full_table (setting_in p) o).chains (chains_in (synced p))) objects_before
-      ∙ ap (λ o. changes_between (chains_in p) (full_table (setting_in p) o).chains) objects_next
-
-  as_many : length h.records ≡ syncs_in p
-  as_many = sym (length-map h.records (λ r. r.events)) ∙ ap length h.counted
-
-  same_covered : all_covered p.events h.records ≡ objects_in p
-  same_covered = ap (λ c. objects_covered p.events c (length h.records)) h.counted ∙ ap (objects_covered p.events p.counts) as_many
-
-  covers_rest : CoversRest p.events h.records next_record
-  covers_rest = let few = within p h in ap (λ c. sum c + uncovered_in p) h.counted ∙ omega arith
-
-  -- the history goes on
-  pub exact_next : ExactByRecord → clash_of (setting_in p) (objects_after p.events) ≡ None → HasExactHistory (synced p)
-  exact_next goes_on no_clash = record {
-    records = h.records ++ next_record ∷ [];
-    counted = map_push (λ q. q.events) h.records next_record ∙ ap (λ c. c ++ uncovered_in p ∷ []) h.counted;
-    exact = goes_on (setting_in p) p.events h.records next_record h.exact covers_rest (record {
-      is_numbered = ap (λ (n : ℕ). suc n) (sym as_many);
-      has_no_clash = no_clash;
-      is_changes = ap (λ o. changes_between (full_table (setting_in p) o).chains (full_table (setting_in p) (objects_after p.events)).chains) (sym same_covered);
-    });
-  }
-
--- a history after one more sync
-pub history_next : ExactByRecord → (p : PlaneParts) (before after : History) (covered : ℕ) (batch : Batch) (table : Option TableParts) → IsHistory p before → covered ≡ length p.events
-    → clash_of (setting_in p) (objects_after p.events) ≡ None → batch.edits ≡ next_edits p
-    → chains_or (chains_in p) table ≡ next_chains p
-    → after.counts.items ≡ before.counts.items ++ (covered - before.covered) ∷ []
-    → after.covered ≡ covered
-    → after.table ≡ (record { chains = chains_or before.table.chains table; syncs = length after.counts.items })
-    → after.last ≡ Some batch
-    → IsHistory (synced p) after
-history_next goes_on p before after covered batch table is all no_clash edits leads counts covers made last =
-    let counted : after.counts.items ≡ (synced p).counts = counts ∙ (λ i. is.counts i ++ (all i - is.covered i) ∷ []) in
-    let chains : chains_or before.table.chains table ≡ chains_in (synced p) =
-    ap (λ (t : TableParts). chains_or t.chains table) is.table ∙ leads
-    ∙ ap (λ o. (full_table (setting_in p) o).chains) (sym (objects_next p is.exact)) in
-    record {
-      counts = counted;
-      covered = covers ∙ all ∙ sym (all_counted p is.exact);
-      table = made ∙ (λ i. record { chains = chains i; syncs = length (counted i) });
-      last = last ∙ ap (λ es. Some (record { edits = es })) (edits ∙ sym (last_is_next p is.exact)) ∙ sym (some_batch p.counts (uncovered_in p) (last_edits (synced p)));
-      exact = exact_next p is.exact goes_on no_clash;
-      no_clash = ap (clash_of (setting_in p)) (objects_next p is.exact) ∙ no_clash;
-    }
 
 slices_next : (p : PlaneParts) (h : HasExactHistory p) (s : SlicesAt) → IsSlicesAt p.config p.events p.counts s → IsSlicesAt p.config p.events (synced p).counts s
 slices_next p h s is =

@@ -1,14 +1,14 @@
 -- What holds of a plane's fields, by the parts that contracts see.
-use Rattle.std.specs.Prelude.{◌≡◌, ◌≤◌, ◌<◌, ◌+◌, ◌-◌, ℕ, List, [], ◌∷◌, length, sum, take, drop, None}
+use Rattle.std.specs.Prelude.{◌≡◌, ◌≤◌, ◌<◌, ◌+◌, ◌-◌, ℕ, List, [], ◌∷◌, length, sum, take, drop}
 use Rattle.std.specs.List.{fold}
 use Rattle.kp_base.specs.declared.address.Family.TheVariants.{V4}
 use Rattle.kp_base.specs.declared.config.Config.{Config}
 use Rattle.kp_types.specs.declared.event.Event.{Event}
 use Rattle.kp_object_defs.specs.Objects.{objects_after}
 use Rattle.kp_object_defs.specs.SlicesNow.{slices_now, slices_step}
-use Rattle.kp_table_defs.specs.Rebuild.{clash_of}
-use Rattle.kp_plane.specs.Parts.{PlaneParts, HasExactHistory, setting_in, objects_in, table_in, last_batch_in}
-use Rattle.kp_plane.specs.declared.history.History.{History}
+use Rattle.kp_history.specs.Invariant.{IsHistory}
+use Rattle.kp_history.specs.declared.history.History.{History}
+use Rattle.kp_plane.specs.Parts.{PlaneParts}
 use Rattle.kp_plane.specs.declared.place.ObjectsAt.{ObjectsAt}
 use Rattle.kp_plane.specs.declared.slices_at.SlicesAt.{SlicesAt}
 
@@ -16,16 +16,6 @@ use Rattle.kp_plane.specs.declared.slices_at.SlicesAt.{SlicesAt}
 pub record IsAtPlace (events : List Event) (o : ObjectsAt) : Type 0 where
   pub within : o.at ≤ length events
   pub objects : o.objects ≡ objects_after (take o.at events)
-
--- what is held of the syncs: how many events they cover, their table, and the batch of the last;
--- what they cover has no clash
-pub record IsHistory (p : PlaneParts) (h : History) : Type 0 where
-  pub counts : h.counts.items ≡ p.counts
-  pub covered : h.covered ≡ sum p.counts
-  pub table : h.table ≡ table_in p
-  pub last : h.last ≡ last_batch_in p
-  pub exact : HasExactHistory p
-  pub no_clash : clash_of (setting_in p) (objects_in p) ≡ None
 
 -- Slices at a place of the journal are those of the events and of the syncs before it: it stands
 -- behind what these syncs cover, and at or before what one more covers.

@@ -2,7 +2,6 @@
 //! answered by the last sync.
 #![tactic(auto)]
 
-mod history;
 pub mod laws;
 mod note;
 mod place;

@@ -18,7 +18,6 @@ ghost use Rattle.kp_table_defs.specs.Rebuild.{clash_of};
 ghost use Rattle.kp_walk_laws.specs.Laws.{Agree};
 ghost use Rattle.kp_walker.specs.Answers.{answered};
 
-use crate::history::History;
 use crate::laws::walk_decides;
 use crate::note::SyncNote;
 use crate::place::ObjectsAt;
@@ -28,6 +27,7 @@ use kp_decide::decide;
 use kp_draws::DrawSource;
 use kp_events::{Journal, JournalFault};
 use kp_full_table::{TableFault, rebuild};
+use kp_history::History;
 use kp_recent::RecentLists;
 use kp_rules::{Table, changed};
 use kp_types::{Answer, Batch, Decision, Edit, Event, Packet, Slice, SyncRecord, Verdict};

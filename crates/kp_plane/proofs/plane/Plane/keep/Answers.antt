@@ -4,7 +4,8 @@ use Rattle.kp_store.proofs.OwnObjects.{either_way}
 use Rattle.kp_object_defs.specs.Objects.{objects_after}
 use Rattle.kp_table_defs.specs.Rebuild.{clash_of}
 use Rattle.kp_plane.specs.Parts.{PlaneParts, chains_in, chains_or, next_chains, setting_in, last_edits, next_edits, synced}
-use Rattle.kp_plane.proofs.Synced.{last_is_next, plane_next, plane_kept}
+use Rattle.kp_history.proofs.Synced.{last_is_next}
+use Rattle.kp_plane.proofs.Synced.{plane_next, plane_kept}
 use Rattle.kp_plane.proofs.plane.Plane.keep.Goals as goal
 
 pub invariant_of-self : goal.invariant_of-self

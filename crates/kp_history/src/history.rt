@@ -1,6 +1,6 @@
 //! The syncs so far.
 ghost use Rattle.std.specs.Prelude.{◌≡◌};
-ghost use Rattle.kp_plane.specs.Parts.{chains_or};
+ghost use Rattle.kp_history.specs.Parts.{chains_or};
 
 use kp_base::NoMemory;
 use kp_rules::Table;
@@ -10,11 +10,11 @@ use std::alloc::Global;
 
 /// How many events each sync covers more than the one before it, how many all of them cover, the
 /// table after them, and the batch of the last.
-pub(crate) struct History {
-    pub(crate) counts: Vec<u64>,
-    pub(crate) covered: u64,
-    pub(crate) table: Table,
-    pub(crate) last: Option<Batch>,
+pub struct History {
+    pub counts: Vec<u64>,
+    pub covered: u64,
+    pub table: Table,
+    pub last: Option<Batch>,
 }
 
 impl Drop for History {
@@ -34,12 +34,12 @@ impl History {
     ghost use Rattle.kp_types.specs.declared.event.Event.{Event};
     ghost use Rattle.kp_object_defs.specs.Objects.{objects_after};
     ghost use Rattle.kp_table_defs.specs.Rebuild.{clash_of};
-    ghost use Rattle.kp_plane.specs.Invariant.{IsHistory};
-    ghost use Rattle.kp_plane.specs.Parts.{PlaneParts, chains_in, chains_or, next_chains};
-    ghost use Rattle.kp_plane.specs.Parts.{next_edits, setting_in, synced};
+    ghost use Rattle.kp_history.specs.Invariant.{IsHistory};
+    ghost use Rattle.kp_history.specs.Parts.{PlaneParts, chains_in, chains_or, next_chains};
+    ghost use Rattle.kp_history.specs.Parts.{next_edits, setting_in, synced};
 
     /// Before the first sync.
-    pub(crate) fn new(alloc: Global) -> Result<History, NoMemory>
+    pub fn new(alloc: Global) -> Result<History, NoMemory>
         ensures { (config : Config) (events : List Event) → IfOk result
             (IsHistory (record { config = config; events = events; counts = [] })) }
     {
@@ -54,7 +54,7 @@ impl History {
 
     /// Keeps the batch of a sync, after which so many events are covered, and the table that it
     /// leads to, where that isn't the one that stands. Where memory is out, all stays.
-    pub(crate) fn record(
+    pub fn record(
         &mut self,
         covered: u64,
         batch: Batch,

@@ -1,8 +1,8 @@
 use Rattle.std.proofs.Common.{rules, ◌≡◌, ◌-◌, ◌++◌, ◌∷◌, [], length, Some, refl, ◌∙◌}
-use Rattle.kp_plane.specs.declared.history.History.{History}
-use Rattle.kp_plane.specs.Parts.{chains_or}
-use Rattle.kp_plane.proofs.Synced.{history_next}
-use Rattle.kp_plane.proofs.history.History.record.Goals as goal
+use Rattle.kp_history.specs.declared.history.History.{History}
+use Rattle.kp_history.specs.Parts.{chains_or}
+use Rattle.kp_history.proofs.Synced.{history_next}
+use Rattle.kp_history.proofs.history.History.record.Goals as goal
 
 pub returns-clause-ok : goal.returns-clause-ok
 returns-clause-ok c = λ p is all no_clash edits leads.

@@ -1,8 +1,8 @@
 use Rattle.std.proofs.Common.{[], refl, ◌∙◌}
 use Rattle.kp_base.specs.declared.address.Family.TheVariants.{V4}
 use Rattle.kp_choice_defs.specs.Settings.{setting_of}
-use Rattle.kp_plane.proofs.Start.{first_no_clash, first_table}
-use Rattle.kp_plane.proofs.history.History.new.Goals as goal
+use Rattle.kp_history.proofs.Start.{first_no_clash, first_table}
+use Rattle.kp_history.proofs.history.History.new.Goals as goal
 
 pub returns : goal.returns
 returns c = λ config events. record {

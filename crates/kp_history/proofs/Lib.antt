@@ -1,0 +1,2 @@
+mod Start
+pub mod Synced
