@@ -4,9 +4,9 @@ use Rattle.std.specs.List.{flat_map}
 use Rattle.kp_types.specs.Setting.{Setting}
 use Rattle.kp_object_defs.specs.PortInfo.{PortInfo}
 use Rattle.kp_table_defs.specs.Layout.{service_block, node_port_block, firewall_block, external_block, refusal_block, port_rows}
-use Rattle.kp_port_chains.specs.Rows.{rows_of_texts, rule_count}
-use Rattle.kp_top_chains.specs.Blocks.{blocks_of}
-use Rattle.kp_top_chains.specs.declared.blocks.Blocks.{Blocks}
+use Rattle.kp_chains.specs.Rows.{rows_of_texts, rule_count}
+use Rattle.kp_chains.specs.Blocks.{blocks_of}
+use Rattle.kp_chains.specs.declared.blocks.Blocks.{Blocks}
 use Rattle.kp_full_table.specs.declared.part.Part.{Part}
 
 -- the rules of ports in the shared chains

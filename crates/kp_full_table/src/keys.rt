@@ -7,7 +7,7 @@ ghost use Rattle.kp_object_defs.specs.Order.{distinct_in_order};
 ghost use Rattle.kp_table_defs.specs.Rebuild as spec;
 
 use kp_base::{Copied, Endpoint, Items, NoMemory, PortKey};
-use kp_port_chains::{all_endpoints, has_firewall, is_accessible};
+use kp_chains::{all_endpoints, has_firewall, is_accessible};
 use kp_types::{ChainKey, PortChain, PortInfo};
 use std::alloc::Global;
 use std::collections::BTreeSet;

@@ -9,8 +9,7 @@ ghost use Rattle.kp_full_table.specs.Parts as spec;
 ghost use Rattle.kp_full_table.specs.Parts.{IsPartOf, block_count, port_rule_count};
 
 use kp_base::{Config, Items, NoMemory, Steps};
-use kp_port_chains::{count_chains, count_rules, info_chains};
-use kp_top_chains::{Blocks, info_blocks};
+use kp_chains::{Blocks, count_chains, count_rules, info_blocks, info_chains};
 use kp_types::{ChainText, PortInfo};
 use std::alloc::Global;
 use std::sync::ledger::Ledger;

@@ -3,8 +3,8 @@ ghost use Rattle.std.specs.Prelude.{◌≡◌};
 ghost use Rattle.kp_history.specs.Parts.{chains_or};
 
 use kp_base::NoMemory;
+use kp_chains::fixed_chains;
 use kp_rules::Table;
-use kp_top_chains::fixed_chains;
 use kp_types::Batch;
 use std::alloc::Global;
 

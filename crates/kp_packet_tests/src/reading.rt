@@ -4,9 +4,9 @@ ghost use Rattle.kp_publish.specs.Entries.{StandsFor};
 
 use crate::pushing::{number_in, push};
 use kp_base::{Copied, NoMemory};
+use kp_chains::fixed_chains;
 use kp_publish::{Opened, Publication, Publisher, Reader, publication};
 use kp_rules::Table;
-use kp_top_chains::fixed_chains;
 use kp_walker::can_walk;
 use std::alloc::Global;
 use std::marker::Brand;

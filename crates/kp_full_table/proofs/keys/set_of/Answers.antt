@@ -4,7 +4,7 @@ use Rattle.kp_base.specs.Keys.{endpoint_cmp}
 use Rattle.kp_base.specs.contracts.key.EndpointOrd.TheImpl as endpoint_ord
 use Rattle.kp_object_defs.specs.Order.{distinct_in_order}
 use Rattle.kp_full_table.proofs.Ordered.{distinct_more}
-use Rattle.kp_top_chains.proofs.Popped.{popped-drop, popped-take}
+use Rattle.kp_chains.proofs.Popped.{popped-drop, popped-take}
 use Rattle.kp_full_table.proofs.keys.set_of.Goals as goal
 
 pub loop-endpoint-preserved : goal.loop-endpoint-preserved

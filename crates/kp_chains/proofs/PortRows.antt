@@ -1,0 +1,115 @@
+-- The rows of a port, from those by the endpoints' names.
+use Rattle.std.proofs.Common.{◌≡◌, Bool, true, false, cond, not, List, [], ◌∷◌, ◌++◌, map, ◌&&◌, Some, None, refl, sym, ap, ◌∙◌, append_assoc}
+use Rattle.std.specs.List.{filter}
+use Rattle.std.proofs.lemmas.Simd.{map-map}
+use Rattle.std.proofs.lemmas.List.{map-append}
+use Rattle.kp_base.specs.declared.address.Family.TheVariants.{V4}
+use Rattle.kp_base.specs.declared.config.Config.{Config}
+use Rattle.kp_base.specs.declared.key.Endpoint.{Endpoint}
+use Rattle.kp_types.specs.Setting.{Setting}
+use Rattle.kp_types.specs.declared.chain.ChainAt.{ChainAt}
+use Rattle.kp_types.specs.declared.chain.PortChain.{PortChain}
+use Rattle.kp_types.specs.declared.chain.PortChain.TheVariants.{Svc, Svl, Ext, Fw}
+use Rattle.kp_types.specs.declared.chain.TableName.TheVariants.{Nat}
+use Rattle.kp_types.specs.declared.rule.Rule.{Rule}
+use Rattle.kp_choice_defs.specs.Settings.{setting_of}
+use Rattle.kp_object_defs.specs.Desired.{is_empty}
+use Rattle.kp_object_defs.specs.Lists.{is_local_policy}
+use Rattle.kp_object_defs.specs.PortInfo.{PortInfo, is_accessible}
+use Rattle.kp_table_defs.specs.Layout as layout
+use Rattle.kp_table_defs.specs.Layout.{row, rows_if, has_endpoint, has_firewall}
+use Rattle.kp_chains.specs.Named.{named_by, seen_rules, list_rows, list_rules, not_among, endpoint_row}
+use Rattle.kp_chains.specs.declared.named.NamedEndpoint.{NamedEndpoint}
+use Rattle.kp_chains.proofs.ChoiceSteps.{choices_are}
+
+filtered : {A B : Type 0} (f : A → B) (test : B → Bool) (x : A) (xs : List A) (b : Bool) → test (f x) ≡ b
+    → filter test (map f xs) ≡ map f (filter (λ y. test (f y)) xs)
+    → cond b (f x ∷ filter test (map f xs)) (filter test (map f xs))
+    ≡ map f (cond b (x ∷ filter (λ y. test (f y)) xs) (filter (λ y. test (f y)) xs))
+filtered f test x xs true h rest = ap (λ ys. f x ∷ ys) rest
+filtered f test x xs false h rest = rest
+
+filter_named : {A B : Type 0} (f : A → B) (test : B → Bool) (xs : List A)
+    → filter test (map f xs) ≡ map f (filter (λ y. test (f y)) xs)
+filter_named f test [] = refl
+filter_named f test (x ∷ xs) = filtered f test x xs (test (f x)) refl (filter_named f test xs)
+
+module _ (config : Config) (i : PortInfo) where
+  abbrev setting : Setting
+  setting = setting_of V4 config
+
+  abbrev pub named : List Endpoint → List NamedEndpoint
+  named es = map (named_by (layout.endpoint_chain setting i)) es
+
+  seen_are : (affinity : _) (es : List Endpoint)
+      → seen_rules affinity (named es) ≡ layout.affinity_rules (layout.endpoint_chain setting i) affinity es
+  seen_are None es = refl
+  seen_are (Some seconds) es = map-map _ (named_by (layout.endpoint_chain setting i)) es
+
+  list_is : (is_internal : Bool) (es : List Endpoint)
+      → list_rules setting i is_internal (named es) ≡ layout.list_rules setting i is_internal es
+  list_is is_internal es =
+      (λ k. layout.rules_if is_internal (layout.mark_rules setting.config.masquerade_all setting.config.cluster i)
+      ++ seen_are i.affinity es k ++ choices_are (layout.endpoint_chain setting i) es k)
+
+  abbrev own_list : PortChain → Bool → List Endpoint → List (ChainAt × List Rule)
+  own_list kind is_internal es =
+      rows_if (not (is_empty es))
+      (row Nat (layout.port_chain setting i kind) (layout.list_rules setting i is_internal es) ∷ [])
+
+  rows_are : (kind : PortChain) (is_internal : Bool) (es : List Endpoint)
+      → list_rows setting i kind is_internal (named es) ≡ own_list kind is_internal es
+  rows_are kind is_internal [] = refl
+  rows_are kind is_internal (e ∷ es) =
+      ap (λ rules. row Nat (layout.port_chain setting i kind) rules ∷ []) (list_is is_internal (e ∷ es))
+
+  abbrev own_row : Endpoint → ChainAt × List Rule
+  own_row e = row Nat (layout.endpoint_chain setting i e) (layout.endpoint_rules setting i e)
+
+  endpoints_are : (es : List Endpoint) → map (endpoint_row i) (named es) ≡ map own_row es
+  endpoints_are es = map-map (endpoint_row i) (named_by (layout.endpoint_chain setting i)) es
+
+  others_are : (cs es : List Endpoint)
+      → not_among cs (named es) ≡ named (filter (λ e. not (has_endpoint cs e)) es)
+  others_are cs es =
+      filter_named (named_by (layout.endpoint_chain setting i)) (λ e. not (has_endpoint cs e.endpoint)) es
+
+  all_are : (cs es : List Endpoint)
+      → map (endpoint_row i) (named cs) ++ map (endpoint_row i) (not_among cs (named es))
+      ≡ map own_row (cs ++ filter (λ e. not (has_endpoint cs e)) es)
+  all_are cs es =
+      (λ k. endpoints_are cs k ++ (ap (map (endpoint_row i)) (others_are cs es) ∙ endpoints_are (filter (λ e. not (has_endpoint cs e)) es)) k)
+      ∙ sym (map-append own_row cs (filter (λ e. not (has_endpoint cs e)) es))
+
+  abbrev pub list_chains : List NamedEndpoint → List NamedEndpoint → List (ChainAt × List Rule)
+  list_chains cluster local =
+      list_rows setting i Svc (not (is_local_policy i.internal)) cluster
+      ++ list_rows setting i Svl (is_local_policy i.internal) local
+
+  abbrev pub external_chain : List (ChainAt × List Rule)
+  external_chain =
+      rows_if (is_accessible i && i.lists.has_any)
+      (row Nat (layout.port_chain setting i Ext) (layout.external_rules setting i i.outer) ∷ [])
+
+  abbrev pub firewall_chain : List (ChainAt × List Rule)
+  firewall_chain =
+      rows_if (has_firewall i)
+      (row Nat (layout.port_chain setting i Fw) (layout.firewall_chain_rules setting i i.ranges) ∷ [])
+
+  -- five groups of chains, one after another, are the port's
+  pub port_rows_are : (cluster local : List NamedEndpoint) (a b c d e : List (ChainAt × List Rule))
+      → cluster ≡ named i.lists.cluster → local ≡ named i.lists.local
+      → a ≡ list_chains cluster local → b ≡ a ++ external_chain → c ≡ b ++ firewall_chain
+      → d ≡ c ++ map (endpoint_row i) cluster
+      → e ≡ d ++ map (endpoint_row i) (not_among i.lists.cluster local)
+      → e ≡ layout.port_rows setting i
+  port_rows_are cluster local a b c d e named_cluster named_local first second third fourth fifth =
+      fifth
+      ∙ ap (λ r. r ++ map (endpoint_row i) (not_among i.lists.cluster local)) fourth
+      ∙ append_assoc c (map (endpoint_row i) cluster) (map (endpoint_row i) (not_among i.lists.cluster local))
+      ∙ (λ k. (third ∙ ap (λ r. r ++ firewall_chain) (second ∙ ap (λ r. r ++ external_chain) first)) k
+      ++ (map (endpoint_row i) (named_cluster k) ++ map (endpoint_row i) (not_among i.lists.cluster (named_local k))))
+      ∙ (λ k. list_chains (named_cluster k) (named_local k) ++ external_chain ++ firewall_chain ++ all_are i.lists.cluster i.lists.local k)
+      ∙ (λ k. rows_are Svc (not (is_local_policy i.internal)) i.lists.cluster k
+      ++ rows_are Svl (is_local_policy i.internal) i.lists.local k ++ external_chain ++ firewall_chain
+      ++ map own_row (layout.all_endpoints i))

@@ -1,0 +1,10 @@
+use Rattle.std.proofs.Common.{◌≡◌, take}
+use Rattle.kp_base.specs.declared.key.Endpoint.{Endpoint}
+use Rattle.kp_table_defs.specs.Layout.{has_endpoint}
+use Rattle.kp_chains.specs.Named.{has}
+use Rattle.kp_chains.proofs.endpoints.set_of.Given as goal
+
+-- the set has the endpoints so far
+abbrev pub invariant-loop-endpoint : goal.invariant-loop-endpoint
+invariant-loop-endpoint l =
+    (e : Endpoint) → has l.set e ≡ has_endpoint (take l.endpoint-index l.endpoints) e

@@ -1,0 +1,13 @@
+use Rattle.std.proofs.Common.{take}
+use Rattle.kp_chains.specs.Fixed.{nat_hooks}
+use Rattle.kp_chains.specs.Rows.{rows_of_texts}
+use Rattle.kp_chains.proofs.RowLemmas.{first_row, next_row}
+use Rattle.kp_chains.proofs.nat.hooks_of_nat.Goals as goal
+
+pub returns : goal.returns
+returns c =
+    let r = rows_of_texts c.args.rows.now.items in
+    next_row _ _ r (take 3 nat_hooks) _ _ _ _ c.in_ok-add_row-4.ensures c.in_ok-postrouting.ensures
+    (next_row _ _ r (take 2 nat_hooks) _ _ _ _ c.in_ok-add_row-3.ensures c.in_ok-output.ensures
+    (next_row _ _ r (take 1 nat_hooks) _ _ _ _ c.in_ok-add_row-2.ensures c.new-empty.ensures
+    (first_row _ _ _ _ _ _ c.in_ok-add_row.ensures c.in_ok-services.ensures)))

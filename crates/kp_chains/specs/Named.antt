@@ -1,0 +1,78 @@
+-- Rules of a port's endpoints, by the names of their chains.
+use Rattle.std.specs.Prelude.{ℕ, zero, suc, Bool, not, List, [], ◌∷◌, ◌++◌, map, length, Option, None, Some, false}
+use Rattle.std.specs.List.{filter}
+use Rattle.std.specs.BTreeSet.{BTreeSet, contains}
+use Rattle.kp_base.specs.contracts.key.EndpointOrd.TheImpl as endpoint_ord
+use Rattle.kp_base.specs.Net.{RangeParts, single_range}
+use Rattle.kp_base.specs.declared.key.Endpoint.{Endpoint}
+use Rattle.kp_types.specs.Rules.{rule_of}
+use Rattle.kp_types.specs.Setting.{Setting}
+use Rattle.kp_types.specs.declared.chain.PortChain.{PortChain}
+use Rattle.kp_types.specs.declared.chain.ChainAt.{ChainAt}
+use Rattle.kp_types.specs.declared.chain.TableName.TheVariants.{Nat}
+use Rattle.kp_types.specs.declared.rule.Match.TheVariants as match
+use Rattle.kp_types.specs.declared.rule.Target.TheVariants as target
+use Rattle.kp_types.specs.declared.rule.Rule.{Rule}
+use Rattle.kp_object_defs.specs.Desired.{is_empty}
+use Rattle.kp_object_defs.specs.PortInfo.{PortInfo}
+use Rattle.kp_table_defs.specs.Layout.{row, rows_if, rules_if, mark_rules, port_chain, has_endpoint, jump_to, chance, mark_masq, set_seen}
+use Rattle.kp_chains.specs.declared.named.NamedEndpoint.{NamedEndpoint}
+
+-- an endpoint with the name that a function gives its chain
+abbrev pub named_by : (Endpoint → List ℕ) → Endpoint → NamedEndpoint
+named_by name e = record { endpoint = e; chain = name e }
+
+-- the rule for an endpoint where so many are left
+abbrev pub choice_of : ℕ → NamedEndpoint → Rule
+choice_of zero e = jump_to e.chain
+choice_of (suc zero) e = jump_to e.chain
+choice_of (suc (suc n)) e = chance (suc (suc n)) (target.Jump e.chain)
+
+-- the rules that choose one of some endpoints
+abbrev pub choices : List NamedEndpoint → List Rule
+choices [] = []
+choices (e ∷ es) = choice_of (suc (length es)) e ∷ choices es
+
+-- the rule for a source that was sent to this endpoint so lately
+abbrev pub seen_rule : ℕ → NamedEndpoint → Rule
+seen_rule seconds e = rule_of (match.Seen e.chain seconds ∷ []) (target.Jump e.chain)
+
+-- these rules, under session affinity
+abbrev pub seen_rules : Option ℕ → List NamedEndpoint → List Rule
+seen_rules None es = []
+seen_rules (Some seconds) es = map (seen_rule seconds) es
+
+-- the chain that chooses among the endpoints of a policy; that of the internal policy marks
+abbrev pub list_rules : Setting → PortInfo → Bool → List NamedEndpoint → List Rule
+list_rules setting i is_internal es =
+    rules_if is_internal (mark_rules setting.config.masquerade_all setting.config.cluster i)
+    ++ seen_rules i.affinity es ++ choices es
+
+-- this chain, where there are endpoints
+abbrev pub list_rows :
+    Setting → PortInfo → PortChain → Bool → List NamedEndpoint → List (ChainAt × List Rule)
+list_rows setting i kind is_internal es =
+    rows_if (not (is_empty es))
+    (row Nat (port_chain setting i kind) (list_rules setting i is_internal es) ∷ [])
+
+-- the endpoints that aren't among others
+abbrev pub not_among : List Endpoint → List NamedEndpoint → List NamedEndpoint
+not_among others es = filter (λ e. not (has_endpoint others e.endpoint)) es
+
+-- the rules of an endpoint's chain
+abbrev pub endpoint_rules : PortInfo → NamedEndpoint → List Rule
+endpoint_rules i e =
+    rule_of (match.Src (single_range e.endpoint.address) false ∷ []) (target.Jump mark_masq)
+    ∷ rule_of (match.Proto i.key.proto ∷ set_seen e.chain i.affinity) (target.Dnat e.endpoint) ∷ []
+
+-- an endpoint's chain
+abbrev pub endpoint_row : PortInfo → NamedEndpoint → ChainAt × List Rule
+endpoint_row i e = row Nat e.chain (endpoint_rules i e)
+
+-- the rule that sends what comes from a range to a chain
+abbrev pub source_rule : List ℕ → RangeParts → Rule
+source_rule chain range = rule_of (match.Src range false ∷ []) (target.Jump chain)
+
+-- a set of endpoints has one, by the derived order
+abbrev pub has : BTreeSet Endpoint → Endpoint → Bool
+has set e = contains endpoint_ord.ghosts.cmp set e

@@ -1,0 +1,63 @@
+//! The fixed chains of filter.
+ghost use Rattle.std.specs.Prelude.{◌≡◌, ◌++◌, IfOk, OnOk};
+ghost use Rattle.kp_base.specs.declared.address.Family.TheVariants.{V4};
+ghost use Rattle.kp_table_defs.specs.Layout as layout;
+ghost use Rattle.kp_chains.specs.Rows.{rows_of_texts};
+ghost use Rattle.kp_chains.specs.Fixed as spec;
+
+use crate::rows::{add_row, one, two_jumps};
+use crate::rules::{jump, rule1};
+use kp_base::{Items, NoMemory};
+use kp_types::{ChainName, ChainText, Match, Rule, TableName, Target};
+use std::alloc::Global;
+
+/// Adds the fixed chains of filter, with these rules of the firewall, for what comes in from
+/// outside and for Services.
+pub fn filter_rows(
+    alloc: Global,
+    rows: &mut Vec<ChainText>,
+    firewall: Items<Rule>,
+    external: Items<Rule>,
+    services: Items<Rule>,
+) -> Result<(), NoMemory>
+    ensures { OnOk result (rows_of_texts rows.new.items ≡ rows_of_texts rows.old.items
+        ++ layout.filter_rows_with V4 firewall external services) }
+{
+    hooks_of_filter(alloc, rows)?;
+    let forward = accept_rules(alloc)?;
+    add_row(rows, TableName::Filter, "KUBE-FORWARD", forward)?;
+    add_row(rows, TableName::Filter, "KUBE-PROXY-FIREWALL", firewall)?;
+    add_row(rows, TableName::Filter, "KUBE-EXTERNAL-SERVICES", external)?;
+    add_row(rows, TableName::Filter, "KUBE-SERVICES", services)?;
+    Ok(())
+}
+
+fn hooks_of_filter(alloc: Global, rows: &mut Vec<ChainText>) -> Result<(), NoMemory>
+    ensures { OnOk result (rows_of_texts rows.new.items
+        ≡ rows_of_texts rows.old.items ++ spec.filter_hooks) }
+{
+    let input = two_jumps(alloc, "KUBE-PROXY-FIREWALL", "KUBE-EXTERNAL-SERVICES")?;
+    add_row(rows, TableName::Filter, "INPUT", input)?;
+    let forward = forward_rules(alloc)?;
+    add_row(rows, TableName::Filter, "FORWARD", forward)?;
+    let output = two_jumps(alloc, "KUBE-PROXY-FIREWALL", "KUBE-SERVICES")?;
+    add_row(rows, TableName::Filter, "OUTPUT", output)?;
+    Ok(())
+}
+
+fn forward_rules(alloc: Global) -> Result<Items<Rule>, NoMemory>
+    ensures { IfOk result (λ rs. rs ≡ spec.forward_rules) }
+{
+    let mut rules = Vec::new(alloc);
+    rules.push(jump(ChainName::new("KUBE-PROXY-FIREWALL")))?;
+    rules.push(jump(ChainName::new("KUBE-EXTERNAL-SERVICES")))?;
+    rules.push(jump(ChainName::new("KUBE-SERVICES")))?;
+    rules.push(jump(ChainName::new("KUBE-FORWARD")))?;
+    Ok(Items::from_vec(rules))
+}
+
+fn accept_rules(alloc: Global) -> Result<Items<Rule>, NoMemory>
+    ensures { IfOk result (λ rs. rs ≡ spec.accept_rules) }
+{
+    one(alloc, rule1(Match::Marked { not: false }, Target::Accept))
+}

@@ -1,0 +1,33 @@
+//! The chains of a table, laid out as kube-proxy's iptables mode lays them out (Kubernetes
+//! documents on virtual IPs): those of one Service port, its rules in the shared chains, and the
+//! shared chains with the rules of all ports between the fixed rules.
+#![tactic(auto)]
+
+mod blocks;
+mod chains;
+mod count;
+mod endpoints;
+mod external;
+mod filter;
+mod fixed;
+mod lists;
+mod named;
+mod nat;
+mod port;
+mod rows;
+mod rules;
+mod shared;
+mod table;
+
+pub use blocks::{Blocks, info_blocks};
+pub use chains::{has_firewall, info_chains, is_accessible};
+pub use count::{count_chains, count_rules};
+pub use endpoints::all_endpoints;
+pub use external::port_chain;
+pub use filter::filter_rows;
+pub use fixed::fixed_chains;
+pub use kp_types::{ChainText, PortInfo};
+pub use nat::nat_rows;
+pub use port::{counted_chains, port_chains};
+pub use shared::port_block;
+pub use table::table_of;

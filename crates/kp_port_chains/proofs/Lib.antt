@@ -1,4 +1,0 @@
-pub mod ChoiceSteps
-pub mod Counts
-pub mod OtherEndpoints
-pub mod PortRows

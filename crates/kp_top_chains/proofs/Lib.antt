@@ -1,2 +1,0 @@
-pub mod Popped
-pub mod RowLemmas

@@ -1,7 +1,0 @@
-use Rattle.kp_top_chains.proofs.RowLemmas.{first_row, next_row}
-use Rattle.kp_top_chains.proofs.nat.marks_of_nat.Goals as goal
-
-pub returns : goal.returns
-returns c =
-    next_row _ _ _ _ _ _ _ _ c.in_ok-add_row-2.ensures c.in_ok-rules.ensures
-    (first_row _ _ _ _ _ _ c.in_ok-add_row.ensures c.in_ok-mark.ensures)
