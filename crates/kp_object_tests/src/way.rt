@@ -9,8 +9,8 @@ use kp_base::{
 };
 use kp_category::{candidates, categorise};
 use kp_desired::{desired_endpoints, selects};
-use kp_packer::pack;
 use kp_objects::{Node, Pod, Service};
+use kp_packer::pack;
 use kp_types::{Candidate, Lists, Packed, Slice, Wanted};
 use std::alloc::Global;
 use std::test::Fail;
