@@ -11,7 +11,7 @@ use Rattle.kp_json.specs.Places.{Place, item_list, item_place, member_place}
 use Rattle.kp_row_defs.specs.Rows.{each_up_to, first_in, limited_fault, or_then, row_fault, rows_fault}
 use Rattle.kp_text_defs.proofs.Between.{between_same}
 use Rattle.kp_text_defs.specs.PacketText.{draw_from, draw_rows, listed_in}
-use Rattle.kp_plain_json.specs.Plain.{whole_items}
+use Rattle.kp_packet_lines.specs.Plain.{whole_items}
 use Rattle.kp_packet_lines.specs.Taken.{object_place}
 
 -- the places of listed numbers, from the number of the first on

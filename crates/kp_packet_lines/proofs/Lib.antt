@@ -1,2 +1,4 @@
 pub mod Drawn
 pub mod Lines
+pub mod Members
+pub mod Tokens

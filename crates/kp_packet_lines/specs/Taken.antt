@@ -3,8 +3,8 @@ use Rattle.std.specs.Prelude.{◌≡◌, [], Option, Some, None}
 use Rattle.serde_json.specs.Data.{Members, object}
 use Rattle.kp_json.specs.Places.{Place}
 use Rattle.kp_json.specs.declared.fault.BadField.{BadField}
-use Rattle.kp_plain_json.specs.Plain.{members_in}
-use Rattle.kp_plain_json.specs.declared.object.PlainObject.{PlainObject}
+use Rattle.kp_packet_lines.specs.Plain.{members_in}
+use Rattle.kp_packet_lines.specs.declared.object.PlainObject.{PlainObject}
 
 -- a line that is an object
 abbrev pub object_place : Members → Place

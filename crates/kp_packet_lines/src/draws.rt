@@ -5,8 +5,9 @@ ghost use Rattle.kp_text_defs.specs.ListedDraws.{AreLow, listed};
 ghost use Rattle.kp_text_defs.specs.PacketText.{draw_rows, draws_of, listed_in};
 ghost use Rattle.kp_packet_lines.specs.Taken.{Takes, place_of};
 
+use crate::numbers::LowNumbers;
+use crate::object::{Plain, PlainObject};
 use kp_base::Items;
-use kp_plain_json::{LowNumbers, Plain, PlainObject};
 use kp_text_defs::Draws;
 use std::alloc::Global;
 

@@ -5,11 +5,11 @@ ghost use Rattle.serde_json.specs.Find.{get_member};
 ghost use Rattle.kp_row_defs.specs.Fields.{chosen, flag_in, protocols, text_in, texts_of, whole_in};
 ghost use Rattle.kp_row_defs.specs.Rows.{choice, field_fault, needed, optional, own_address_text, truth_value, whole};
 ghost use Rattle.kp_text_defs.specs.PacketText.{origins, own_address_in};
-ghost use Rattle.kp_plain_json.specs.Plain.{members_in};
+ghost use Rattle.kp_packet_lines.specs.Plain.{members_in};
 ghost use Rattle.kp_packet_lines.specs.Taken.{Takes, place_of};
 
+use crate::object::{Plain, PlainObject};
 use kp_base::{Address, PortNo, Proto};
-use kp_plain_json::{Plain, PlainObject};
 use kp_types::Origin;
 
 /// A text that isn't empty, or nothing where no member has the name.

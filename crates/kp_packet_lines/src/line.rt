@@ -9,7 +9,9 @@ use crate::draws::{draws_of, listed_draws};
 use crate::fields::{
     address, moment, origin, proto, seed, source_port, target_port, text_field, trail,
 };
-use kp_plain_json::{PlainObject, Scratch, plain_object};
+use crate::object::PlainObject;
+use crate::reading::plain_object;
+use json::Scratch;
 use kp_text_defs::{Op, PacketLine, ScriptLine, Stream};
 use kp_types::Packet;
 use std::alloc::Global;

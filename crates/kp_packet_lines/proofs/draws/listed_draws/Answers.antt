@@ -1,8 +1,8 @@
 use Rattle.std.proofs.Common.{◌≡◌, ◌≤◌, codes, length, Some, option_map, sym, ap, ◌∙◌, arith}
 use Rattle.serde_json.specs.Data.{array}
 use Rattle.serde_json.specs.Find.{get_member}
-use Rattle.kp_plain_json.specs.Plain.{members_in, plain_data, whole_items}
-use Rattle.kp_plain_json.specs.declared.object.Plain.TheVariants.{Numbers}
+use Rattle.kp_packet_lines.specs.Plain.{members_in, plain_data, whole_items}
+use Rattle.kp_packet_lines.specs.declared.object.Plain.TheVariants.{Numbers}
 use Rattle.kp_packet_lines.proofs.Drawn.{all_drawn}
 use Rattle.kp_packet_lines.proofs.draws.listed_draws.Goals as goal
 

@@ -1,7 +1,7 @@
 use Rattle.std.proofs.Common.{◌≡◌, IsUtf8}
 use Rattle.serde_json.specs.Data.{object}
 use Rattle.kp_lemmas.proofs.Results.{of_ok}
-use Rattle.kp_plain_json.specs.Plain.{members_in}
+use Rattle.kp_packet_lines.specs.Plain.{members_in}
 use Rattle.kp_packet_lines.proofs.Lines.{all_read}
 use Rattle.kp_packet_lines.proofs.line.packet_line.Goals as goal
 
