@@ -23,11 +23,7 @@ use std::{env, io};
 /// Takes a layer, whose calls are made on what standard input has, and how often. Says on standard
 /// error what they counted.
 fn main(rt: HostRuntime) -> io::Result<ExitCode> {
-    let alloc = rt.alloc();
-    let words: Vec<String> = env::args(&rt)?.collect(alloc)?;
-    let mut source = RealSource::new(rt.reader());
-    let mut sink = RealSink::new(BufWriter::new(alloc, io::writer(&rt))?);
-    match counted_by(alloc, words.as_slice(), &mut source, &mut sink) {
+    match counted(&rt)? {
         Some(count) => {
             eprintln!(rt; "{count}")?;
             Ok(ExitCode::SUCCESS)
@@ -39,6 +35,15 @@ fn main(rt: HostRuntime) -> io::Result<ExitCode> {
             Ok(ExitCode::FAILURE)
         }
     }
+}
+
+/// What the calls counted over standard input and output.
+fn counted(rt: &HostRuntime) -> io::Result<Option<u64>> {
+    let alloc = rt.alloc();
+    let words: Vec<String> = env::args(rt)?.collect(alloc)?;
+    let mut source = RealSource::new(rt.reader());
+    let mut sink = RealSink::new(BufWriter::new(alloc, io::writer(rt))?);
+    Ok(counted_by(alloc, words.as_slice(), &mut source, &mut sink))
 }
 
 /// What the calls counted, by the program's words, of which the first is its name.
@@ -55,32 +60,38 @@ fn counted_by<S: Source, K: Sink>(
     let mut reader = LineReader::new(alloc).ok()?;
     match layer.as_str() {
         "lines" => answered(alloc, times, &mut reader, source, sink),
-        "decide" | "walk" | "next" => {
-            let packet = packet_in(alloc, &mut reader, source)?;
-            let block = block_in(alloc, &mut reader, source)?;
-            on_packet(alloc, layer.as_str(), &packet, block.as_slice(), times)
-        }
-        "apply" => {
-            let text = block_in(alloc, &mut reader, source)?;
-            let mut table = table_of(alloc, text.as_slice())?;
-            let batch = block_in(alloc, &mut reader, source)?;
-            applied(alloc, &mut table, batch.as_slice(), times)
-        }
-        _ => {
-            let lines = block_in(alloc, &mut reader, source)?;
-            on_objects(alloc, layer.as_str(), lines.as_slice(), times)
-        }
+        "decide" | "walk" | "next" => on_packet(alloc, layer, times, &mut reader, source),
+        "apply" => on_batch(alloc, times, &mut reader, source),
+        _ => on_objects(alloc, layer, times, &mut reader, source),
     }
 }
 
 /// The layers that a packet goes through: the objects of the block decide it, or it walks the table
 /// of the block.
-fn on_packet(alloc: Global, layer: &str, packet: &Packet, block: &[u8], times: u32) -> Option<u64> {
-    if layer == "decide" {
-        let events = events(alloc, block)?;
-        let objects = Objects::from_events(alloc, events.as_slice()).ok()?;
-        return decided(alloc, &objects, packet, times);
+fn on_packet<S: Source>(
+    alloc: Global,
+    layer: &str,
+    times: u32,
+    reader: &mut LineReader,
+    source: &mut S,
+) -> Option<u64> {
+    let packet = packet_in(alloc, reader, source)?;
+    let block = block_in(alloc, reader, source)?;
+    match layer {
+        "decide" => by_objects(alloc, &packet, block.as_slice(), times),
+        _ => by_table(alloc, layer, &packet, block.as_slice(), times),
     }
+}
+
+/// Decides a packet by the objects of a block.
+fn by_objects(alloc: Global, packet: &Packet, block: &[u8], times: u32) -> Option<u64> {
+    let events = events(alloc, block)?;
+    let objects = Objects::from_events(alloc, events.as_slice()).ok()?;
+    decided(alloc, &objects, packet, times)
+}
+
+/// The layers of a packet and the table of a block.
+fn by_table(alloc: Global, layer: &str, packet: &Packet, block: &[u8], times: u32) -> Option<u64> {
     let table = table_of(alloc, block)?;
     match layer {
         "walk" => walked(alloc, &table, packet, times),
@@ -88,11 +99,36 @@ fn on_packet(alloc: Global, layer: &str, packet: &Packet, block: &[u8], times: u
     }
 }
 
+/// The layer of batches: a table's text, and a batch for it.
+fn on_batch<S: Source>(
+    alloc: Global,
+    times: u32,
+    reader: &mut LineReader,
+    source: &mut S,
+) -> Option<u64> {
+    let text = block_in(alloc, reader, source)?;
+    let mut table = table_of(alloc, text.as_slice())?;
+    let batch = block_in(alloc, reader, source)?;
+    applied(alloc, &mut table, batch.as_slice(), times)
+}
+
 /// The layers of objects.
-fn on_objects(alloc: Global, layer: &str, lines: &[u8], times: u32) -> Option<u64> {
-    if layer == "read" {
-        return read(alloc, lines, times);
+fn on_objects<S: Source>(
+    alloc: Global,
+    layer: &str,
+    times: u32,
+    reader: &mut LineReader,
+    source: &mut S,
+) -> Option<u64> {
+    let lines = block_in(alloc, reader, source)?;
+    match layer {
+        "read" => read(alloc, lines.as_slice(), times),
+        _ => of_events(alloc, layer, lines.as_slice(), times),
     }
+}
+
+/// The layers of a store.
+fn of_events(alloc: Global, layer: &str, lines: &[u8], times: u32) -> Option<u64> {
     let events = events(alloc, lines)?;
     match layer {
         "store" => stored(alloc, events.as_slice(), times),
