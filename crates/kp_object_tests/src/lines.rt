@@ -57,11 +57,18 @@ pub(crate) fn read(alloc: Global, line: &str, first: bool) -> Result<ScriptLine,
     line_with(alloc, line.as_bytes(), first, &mut Scratch::new(alloc))
 }
 
-/// Whether the line of a row is read as it says behind the arrow, with a scratch and without.
+/// Whether a line is read as these words tell, with a scratch that earlier lines were read with and
+/// without one.
+fn is_read_as(alloc: Global, line: &str, first: bool, wanted: &str, scratch: &mut Scratch) -> bool {
+    let quick = line_with(alloc, line.as_bytes(), first, scratch);
+    let by_tree = line_of(alloc, line.as_bytes(), first);
+    is_answer(&quick, wanted) && is_answer(&by_tree, wanted)
+}
+
+/// Whether the line of a row is read as it says behind the arrow.
 fn is_row_read(alloc: Global, row: &str, first: bool) -> Result<bool, Fail> {
     let (line, wanted) = row.split_once(" => ").ok_or("an arrow")?;
-    let by_tree = line_of(alloc, line.as_bytes(), first);
-    Ok(is_answer(&by_tree, wanted) && is_answer(&read(alloc, line, first), wanted))
+    Ok(is_read_as(alloc, line, first, wanted, &mut Scratch::new(alloc)))
 }
 
 /// The form of lines, their streams and their commands, folded.
@@ -214,8 +221,7 @@ fn configurations_are_read(rt: HostRuntime) -> Result<(), Fail> {
     Ok(())
 }
 
-/// Whether a line of this command with a row's members is read as the row says behind the arrow,
-/// with a scratch that earlier lines were read with and without one.
+/// Whether a line of this command with a row's members is read as the row says behind the arrow.
 fn are_members_read(
     alloc: Global,
     op: &str,
@@ -225,9 +231,15 @@ fn are_members_read(
     let (members, wanted) = row.split_once(" => ").ok_or("an arrow")?;
     let line = format!(in alloc; "{{\"op\":\"{op}\",{members}}}")?;
     let wanted = if wanted == "packet" { op } else { wanted };
-    let quick = line_with(alloc, line.as_bytes(), false, scratch);
-    let by_tree = line_of(alloc, line.as_bytes(), false);
-    Ok(is_answer(&quick, wanted) && is_answer(&by_tree, wanted))
+    Ok(is_read_as(alloc, line.as_str(), false, wanted, scratch))
+}
+
+/// Whether a row's members are read so in both commands.
+fn are_both_read(alloc: Global, row: &str, scratch: &mut Scratch) -> Result<bool, Fail> {
+    Ok(
+        are_members_read(alloc, "packet", row, scratch)?
+            && are_members_read(alloc, "explain", row, scratch)?,
+    )
 }
 
 #[test]
@@ -235,14 +247,7 @@ fn packets_are_read(rt: HostRuntime) -> Result<(), Fail> {
     let mut scratch = Scratch::new(rt.alloc());
     let rows = unfolded(rt.alloc(), MEMBERS)?;
     for row in rows.lines() {
-        assert!(rt;
-            are_members_read(rt.alloc(), "packet", row, &mut scratch)?,
-            "{row}"
-        );
-        assert!(rt;
-            are_members_read(rt.alloc(), "explain", row, &mut scratch)?,
-            "{row}"
-        );
+        assert!(rt; are_both_read(rt.alloc(), row, &mut scratch)?, "{row}");
     }
     Ok(())
 }
@@ -258,19 +263,24 @@ fn many_draws(alloc: Global, count: usize) -> Result<String, Fail> {
     Ok(text)
 }
 
+/// The count that a refusal tells, 0 where there is none.
+fn count_told(answer: &Result<ScriptLine, ScriptFault>) -> u64 {
+    match answer {
+        Err(ScriptFault::Refused(LineRefusal::Bad(bad))) => bad.count,
+        _ => 0,
+    }
+}
+
+/// Whether a packet with so many draws is read as these words tell, with this count.
+fn are_draws_read(alloc: Global, draws: usize, wanted: &str, count: u64) -> Result<bool, Fail> {
+    let line = many_draws(alloc, draws)?;
+    let answer = read(alloc, line.as_str(), false);
+    Ok(is_answer(&answer, wanted) && count_told(&answer) == count)
+}
+
 #[test]
 fn a_packet_has_at_most_a_thousand_draws(rt: HostRuntime) -> Result<(), Fail> {
-    let alloc = rt.alloc();
-    let most = many_draws(alloc, 1000)?;
-    assert!(rt; is_answer(&read(alloc, most.as_str(), false), "packet"));
-    let more = many_draws(alloc, 1001)?;
-    let refused = read(alloc, more.as_str(), false);
-    match &refused {
-        Err(ScriptFault::Refused(LineRefusal::Bad(bad))) => {
-            assert!(rt; is_fault(bad, "TooMany draws"));
-            assert_eq!(rt; bad.count, 1001);
-        }
-        _ => assert!(rt; false, "1001 draws were taken"),
-    }
+    assert!(rt; are_draws_read(rt.alloc(), 1000, "packet", 0)?);
+    assert!(rt; are_draws_read(rt.alloc(), 1001, "TooMany draws", 1001)?);
     Ok(())
 }

@@ -25,16 +25,21 @@ KUBE-SVC-A 0 TCP 10.96.0.10 80 -";
 fn is_next(table: &Table, row: &str) -> Result<bool, Fail> {
     let (chain, row) = first_word(row)?;
     let (from, row) = first_word(row)?;
-    let (proto, row) = first_word(row)?;
-    let (target, row) = first_word(row)?;
-    let (port, next) = first_word(row)?;
     let at = ChainAt {
         table: TableName::Nat,
         chain: ChainName::of(chain.as_bytes()).ok_or("a chain")?,
     };
+    is_next_from(table, &at, number(from)?, row)
+}
+
+/// Whether a row's destination has the next rule at the place behind it.
+fn is_next_from(table: &Table, at: &ChainAt, from: u64, row: &str) -> Result<bool, Fail> {
+    let (proto, row) = first_word(row)?;
+    let (target, row) = first_word(row)?;
+    let (port, next) = first_word(row)?;
     let target = Address::parse(target.as_bytes()).ok().ok_or("an address")?;
     let port = PortNo::new(number(port)?).ok_or("a port")?;
-    let found = table.next_for(&at, number(from)?, &proto_of(proto), &target, &port);
+    let found = table.next_for(at, from, &proto_of(proto), &target, &port);
     Ok(found == next.parse::<u64>().ok())
 }
 
