@@ -3,5 +3,5 @@
 
 mod program;
 
-pub use kp_modes::{Replay, Status, laws, replay_one};
+pub use kp_modes::Status;
 pub use program::run;
