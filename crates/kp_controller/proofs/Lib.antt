@@ -2,3 +2,4 @@ mod Kept
 mod Narrowed
 mod OneMore
 mod Packed
+mod Stems

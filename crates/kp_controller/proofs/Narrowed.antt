@@ -1,13 +1,17 @@
 -- A Service's new slices get the names that they would get of all names of its namespace where only those are known
 -- that could clash.
-use Rattle.std.proofs.Common.{◌≡◌, ℕ, zero, suc, ◌+◌, ◌-◌, ◌^◌, ◌<◌, ◌≤◌, Bool, true, false, cond, not, ◌&&◌, ◌||◌, List, [], ◌∷◌, ◌++◌, map, length, filter, take, zip, Contains, bytes_eq, refl, sym, ap, subst, append_assoc, true≢false, ◌∙◌, arith}
-use Rattle.std.specs.Prelude.{nat_eq, codes}
-use Rattle.std.specs.Fmt.{decimal}
-use Rattle.std.specs.List.{flat_map, list_any, starts_with}
-use Rattle.std.specs.Cmp.Lexicographic.{pointwise}
+use Rattle.std.proofs.Common.{◌≡◌, ◌≢◌, ℕ, zero, suc, ◌+◌, ◌/◌, ◌%◌, ◌^◌, ◌<◌, ◌≤◌, ◌==◌, nat_lt, Bool, true, false, cond, not, ◌&&◌, ◌||◌, List, [], ◌∷◌, ◌++◌, map, length, get_or, filter, zip, Option, Some, None, option_to_list, bytes_eq, refl, sym, ap, subst, append_assoc, true≢false, ne_eqb, suc-le-suc, zero-lt-suc, ◌∙◌, arith}
+use mathlib.Core.Bool.{or-false}
+use Rattle.std.specs.Prelude.{codes}
+use Rattle.std.specs.Fmt.{decimal, digits, digits_onto, digit_glyph}
+use Rattle.std.specs.List.{flat_map, list_any}
+use Rattle.std.specs.Cmp.Lexicographic.{nat_list_eq_equiv}
 use Rattle.std.proofs.lemmas.Bool.{and_parts, and_from, or_left, or_right, false_from_ne_true}
+use Rattle.std.proofs.lemmas.List.{length-map}
+use Rattle.std.proofs.lemmas.List.Folds.{list_any-append}
+use Rattle.std.proofs.lemmas.List.Sums.{length-filter, count_by-le-length}
 use Rattle.std.proofs.lemmas.Slice.Eq.{bytes_eq-Decides}
-use Rattle.kp_lemmas.proofs.Members.{all_from, any_from, from_filter, in_filter, in_map}
+use Rattle.kp_lemmas.proofs.Members.{all_from, any_from, from_filter, in_map}
 use Rattle.kp_base.specs.declared.address.Family.{Family}
 use Rattle.kp_base.specs.declared.address.Family.TheVariants.{V4}
 use Rattle.kp_base.specs.declared.key.ObjectKey.{ObjectKey}
@@ -18,7 +22,7 @@ use Rattle.kp_object_defs.specs.Packing.{NewSlice, free_names, in_slice_order, i
 use Rattle.kp_object_defs.specs.PackingLaws.{are_taken, is_managed_for}
 use Rattle.kp_pack_laws.proofs.Names.{enough_free}
 use Rattle.kp_pack_laws.proofs.Packs.{all_made, made_few}
-use Rattle.kp_controller.specs.Clashing.{may_clash}
+use Rattle.kp_controller.specs.Clashing.{may_clash, near_names, stem, stem_behind}
 
 -- ---- names that are free
 
@@ -62,15 +66,68 @@ fewer_taken family service taken kept made fewer small same =
     sym (ap (λ names. map (new_slice family service) (zip names made)) all
     ∙ ap (map (new_slice family service)) (zip_front (free_names service kept n) more.0 made (enough_free service kept n small)))
 
+-- ---- names before their last hyphen
+
+-- a byte that is no hyphen, before a text without one
+no_stem_before : (b : ℕ) (bs : List ℕ) → b ≢ 45 → stem bs ≡ None → stem (b ∷ bs) ≡ None
+no_stem_before b bs other none = ap (stem_behind b) none ∙ ap (λ t. cond t (Some []) None) (ne_eqb b 45 other)
+
+-- no hyphen, no stem
+pub no_stem : (ys : List ℕ) → ((i : ℕ) → i < length ys → get_or ys i 0 ≢ 45) → stem ys ≡ None
+no_stem [] free = refl
+no_stem (y ∷ ys) free = no_stem_before y ys (free zero (zero-lt-suc _)) (no_stem ys (λ i l. free (suc i) (suc-le-suc l)))
+
+-- a text before its last hyphen is its stem
+last_hyphen : (xs ys : List ℕ) → stem ys ≡ None → stem (xs ++ 45 ∷ ys) ≡ Some xs
+last_hyphen [] ys none = ap (stem_behind 45) none
+last_hyphen (x ∷ xs) ys none = ap (stem_behind x) (last_hyphen xs ys none)
+
+-- what stands before a hyphen, behind which there is none
+pub stem_at : (xs ys : List ℕ) → ((i : ℕ) → i < length ys → get_or ys i 0 ≢ 45) → stem (xs ++ 45 ∷ ys) ≡ Some xs
+stem_at xs ys free = last_hyphen xs ys (no_stem ys free)
+
+-- digits are no hyphens, however many a number has
+digit_apart : (d : ℕ) → digit_glyph false d ≢ 45
+digit_apart d = elim (nat_lt d 10) as (λ b. cond b (48 + d) (87 + d) ≢ 45) [ true ↦ λ e. omega arith | false ↦ λ e. omega arith ]
+
+no_stem_digits : (k n : ℕ) (acc : List ℕ) → stem acc ≡ None → stem (digits_onto k 10 false n acc) ≡ None
+no_stem_digits zero n acc none = none
+no_stem_digits (suc k) n acc none =
+    let more = digit_glyph false (n % 10) ∷ acc in
+    let one : stem more ≡ None = no_stem_before (digit_glyph false (n % 10)) acc (digit_apart (n % 10)) none in
+    elim (n / 10 == 0) as (λ b. stem (cond b more (digits_onto k 10 false (n / 10) more)) ≡ None) [ true ↦ one | false ↦ no_stem_digits k (n / 10) more one ]
+
+no_stem_decimal : (n : ℕ) → stem (decimal n) ≡ None
+unfolding digits
+no_stem_decimal n = no_stem_digits 64 n [] refl
+
+-- so the name of a new slice has the Service's before its last hyphen
+slice_stem : (service : ObjectKey) (i : ℕ) → stem (slice_name service i) ≡ Some service.name
+slice_stem service i =
+    ap stem (append_assoc service.name (codes "-kp") (decimal i))
+    ∙ last_hyphen service.name (107 ∷ 112 ∷ decimal i) (ap (λ o. stem_behind 107 (stem_behind 112 o)) (no_stem_decimal i))
+
 -- ---- names that may clash
 
-take_front : {X : Type 0} (xs ys : List X) → take (length xs) (xs ++ ys) ≡ xs
-take_front [] [] = refl
-take_front [] (y ∷ ys) = refl
-take_front (x ∷ xs) ys = ap (λ rest. x ∷ rest) (take_front xs ys)
+-- what a stronger test finds, it finds among those that pass a weaker one
+filter_within : {X : Type 0} (p q : X → Bool) → ((x : X) → p x ≡ true → q x ≡ true) → (xs : List X) → filter p (filter q xs) ≡ filter p xs
+filter_within p q weaker [] = refl
+filter_within p q weaker (x ∷ xs) = by (q x) refl (filter_within p q weaker xs)
+  where
+    by : (b : Bool) → q x ≡ b → filter p (filter q xs) ≡ filter p xs → filter p (cond b (x ∷ filter q xs) (filter q xs)) ≡ cond (p x) (x ∷ filter p xs) (filter p xs)
+    by true is rest = ap (λ ys. cond (p x) (x ∷ ys) ys) rest
+    by false is rest = rest ∙ ap (λ b. cond b (x ∷ filter p xs) (filter p xs)) (sym (false_from_ne_true (p x) (λ e. true≢false (sym (weaker x e) ∙ is))))
 
-begins : (xs ys : List ℕ) → starts_with nat_eq (xs ++ ys) xs ≡ true
-begins xs ys = ap (pointwise nat_eq xs) (take_front xs ys) ∙ (bytes_eq-Decides xs xs).1 refl
+-- a condition beside a test of each element
+any_and : {X : Type 0} (b : Bool) (p : X → Bool) (xs : List X) → list_any (λ x. b && p x) xs ≡ (b && list_any p xs)
+any_and true p xs = refl
+any_and false p [] = refl
+any_and false p (x ∷ xs) = any_and false p xs
+
+-- the name in an option, if there is one
+named_in : (name : List ℕ) (o : Option (List ℕ)) → list_any (bytes_eq name) (option_to_list o) ≡ is_named name o
+named_in name None = refl
+named_in name (Some other) = or-false (bytes_eq name other) ∙ nat_list_eq_equiv.symm name other
 
 module _ (service : ObjectKey) where
   abbrev in_namespace : Slice → Bool
@@ -80,53 +137,64 @@ module _ (service : ObjectKey) where
   names p slices = map (λ s. s.key.name) (filter p slices)
 
   abbrev near : Slice → Bool
-  near s = starts_with nat_eq s.key.name service.name || is_managed_for V4 service s
+  near s = is_named service.name s.service || is_named service.name (stem s.key.name)
+
+  -- those that may clash are those of the namespace that are near
+  clash_parts : (s : Slice) → may_clash service s ≡ (in_namespace s && near s)
+  clash_parts s =
+      let is_near : list_any (bytes_eq service.name) (near_names s) ≡ near s =
+      list_any-append (bytes_eq service.name) (option_to_list s.service) (option_to_list (stem s.key.name))
+      ∙ (λ i. named_in service.name s.service i || named_in service.name (stem s.key.name) i) in
+      any_and (bytes_eq service.namespace s.key.namespace) (bytes_eq service.name) (near_names s)
+      ∙ (λ i. nat_list_eq_equiv.symm service.namespace s.key.namespace i && is_near i)
 
   -- a name that isn't near is no name of a new slice
   apart : (i : ℕ) (s : Slice) → near s ≡ false → bytes_eq (slice_name service i) s.key.name ≡ false
   apart i s far =
       false_from_ne_true _ (λ e.
-      let named : slice_name service i ≡ s.key.name = (bytes_eq-Decides (slice_name service i) s.key.name).0 e in
-      let first : starts_with nat_eq s.key.name service.name ≡ true =
-      ap (λ name. starts_with nat_eq name service.name) (sym named ∙ append_assoc service.name (codes "-kp") (decimal i)) ∙ begins service.name (codes "-kp" ++ decimal i) in
-      true≢false (sym (or_left (starts_with nat_eq s.key.name service.name) (is_managed_for V4 service s) first) ∙ far))
+      let is : stem s.key.name ≡ Some service.name = ap stem (sym ((bytes_eq-Decides (slice_name service i) s.key.name).0 e)) ∙ slice_stem service i in
+      let named : is_named service.name (stem s.key.name) ≡ true = ap (is_named service.name) is ∙ nat_list_eq_equiv.refl service.name in
+      true≢false (sym (or_right (is_named service.name s.service) (is_named service.name (stem s.key.name)) named) ∙ far))
 
   -- so all names of the namespace and those that may clash agree on these
   agree : (i : ℕ) (slices : List Slice) → list_any (bytes_eq (slice_name service i)) (names (may_clash service) slices) ≡ list_any (bytes_eq (slice_name service i)) (names in_namespace slices)
   agree i [] = refl
-  agree i (s ∷ slices) = by (in_namespace s) (near s) refl (agree i slices)
+  agree i (s ∷ slices) = ap with_first (clash_parts s) ∙ by (in_namespace s) (near s) refl (agree i slices)
     where
       test : List ℕ → Bool
       test = bytes_eq (slice_name service i)
 
+      with_first : Bool → Bool
+      with_first b = list_any test (map (λ s. s.key.name) (cond b (s ∷ filter (may_clash service) slices) (filter (may_clash service) slices)))
+
       by : (a b : Bool) → near s ≡ b → list_any test (names (may_clash service) slices) ≡ list_any test (names in_namespace slices)
-          → list_any test (map (λ s. s.key.name) (cond (a && b) (s ∷ filter (may_clash service) slices) (filter (may_clash service) slices)))
-          ≡ list_any test (map (λ s. s.key.name) (cond a (s ∷ filter in_namespace slices) (filter in_namespace slices)))
+          → with_first (a && b) ≡ list_any test (map (λ s. s.key.name) (cond a (s ∷ filter in_namespace slices) (filter in_namespace slices)))
       by false b is rest = rest
       by true true is rest = ap (λ t. test s.key.name || t) rest
       by true false is rest = rest ∙ ap (λ b. b || list_any test (names in_namespace slices)) (sym (apart i s is))
 
   fewer : (slices : List Slice) → length (names (may_clash service) slices) ≤ length (names in_namespace slices)
-  fewer [] = omega arith
-  fewer (s ∷ slices) = by (in_namespace s) (near s) (fewer slices)
-    where
-      by : (a b : Bool) → length (names (may_clash service) slices) ≤ length (names in_namespace slices)
-          → length (map (λ s. s.key.name) (cond (a && b) (s ∷ filter (may_clash service) slices) (filter (may_clash service) slices)))
-          ≤ length (map (λ s. s.key.name) (cond a (s ∷ filter in_namespace slices) (filter in_namespace slices)))
-      by false b rest = rest
-      by true true rest = omega (arith, rest)
-      by true false rest = omega (arith, rest)
+  fewer slices =
+      let all = filter in_namespace slices in
+      let within = filter_within (may_clash service) in_namespace (λ s clash. (and_parts (in_namespace s) (near s) (sym (clash_parts s) ∙ clash)).0) slices in
+      omega (arith, length-map (filter (may_clash service) slices) (λ s. s.key.name), length-map all (λ s. s.key.name), ap length within, length-filter (may_clash service) all, count_by-le-length (may_clash service) all)
+
+  -- those managed for the Service are among those that may clash
+  pub managed_near : (slices : List Slice) → filter (is_managed_for V4 service) (filter (may_clash service) slices) ≡ filter (is_managed_for V4 service) slices
+  managed_near =
+      filter_within (is_managed_for V4 service) (may_clash service) (λ s managed.
+      let own = and_parts (in_namespace s) (is_named service.name s.service) (and_parts (is_of_service service s) (s.managed && is_type_of V4 s.family) managed).0 in
+      clash_parts s ∙ and_from (in_namespace s) (near s) own.0 (or_left (is_named service.name s.service) (is_named service.name (stem s.key.name)) own.1))
 
   -- the Service's own names may clash
   pub own_taken : (slices : List Slice) → are_taken (map (λ s. s.key.name) (filter (may_clash service) slices)) (filter (is_managed_for V4 service) slices) ≡ true
   own_taken slices =
-      all_from (λ s. list_any (bytes_eq s.key.name) (names (may_clash service) slices)) (filter (is_managed_for V4 service) slices) (λ s there.
-      let own = from_filter (is_managed_for V4 service) s slices there in
-      let here = and_parts (in_namespace s) (is_named service.name s.service) (and_parts (is_of_service service s) (s.managed && is_type_of V4 s.family) own.1).0 in
-      let clash : may_clash service s ≡ true = and_from (in_namespace s) (near s) here.0 (or_right (starts_with nat_eq s.key.name service.name) (is_managed_for V4 service s) own.1) in
-      any_from (bytes_eq s.key.name) s.key.name (names (may_clash service) slices)
-      (in_map (λ s. s.key.name) s (filter (may_clash service) slices) (in_filter (may_clash service) s slices own.0 clash))
-      ((bytes_eq-Decides s.key.name s.key.name).1 refl))
+      let near_ones = filter (may_clash service) slices in
+      subst (λ own. are_taken (map (λ s. s.key.name) near_ones) own ≡ true) (managed_near slices)
+      (all_from (λ s. list_any (bytes_eq s.key.name) (map (λ s. s.key.name) near_ones)) (filter (is_managed_for V4 service) near_ones) (λ s there.
+      any_from (bytes_eq s.key.name) s.key.name (map (λ s. s.key.name) near_ones)
+      (in_map (λ s. s.key.name) s near_ones (from_filter (is_managed_for V4 service) s near_ones there).0)
+      (nat_list_eq_equiv.refl s.key.name)))
 
   -- packing sees no more names than may clash
   pub narrowed : (before : List Slice) (wanted : List Wanted) (most : ℕ) (slices : List Slice) → 1 ≤ most → length (map (λ s. s.key.name) (filter (may_clash service) slices)) < 2 ^ 64 → length wanted < 2 ^ 64

@@ -1,14 +1,28 @@
--- Which slices have a name that a new slice of a Service could get.
-use Rattle.std.specs.Prelude.{Bool, ◌&&◌, ◌||◌, bytes_eq, nat_eq}
-use Rattle.std.specs.List.{starts_with}
-use Rattle.kp_base.specs.declared.address.Family.TheVariants.{V4}
+-- Which slices are near a Service, so that packing it has to know their names. Equality alone
+-- tells, so that an index can find them.
+use Rattle.std.specs.Prelude.{ℕ, Bool, ◌&&◌, List, [], ◌∷◌, ◌++◌, cond, Option, Some, None, bytes_eq, nat_eq}
+use Rattle.std.specs.List.{list_any}
+use Rattle.std.specs.Option.{option_to_list}
 use Rattle.kp_base.specs.declared.key.ObjectKey.{ObjectKey}
 use Rattle.kp_types.specs.declared.slice.Slice.{Slice}
-use Rattle.kp_object_defs.specs.PackingLaws.{is_managed_for}
 
--- a slice of the Service's namespace whose name begins with the Service's name, or which is managed
--- for the Service
+-- a text before its last hyphen, with one byte more before it, or none before a first hyphen
+abbrev pub stem_behind : ℕ → Option (List ℕ) → Option (List ℕ)
+stem_behind b None = cond (nat_eq b 45) (Some []) None
+stem_behind b (Some front) = Some (b ∷ front)
+
+-- the text before its last hyphen
+abbrev pub stem : List ℕ → Option (List ℕ)
+stem [] = None
+stem (b ∷ bs) = stem_behind b (stem bs)
+
+-- the names of Services that a slice is near to: the one that its label gives, and the one that its
+-- name begins with
+abbrev pub near_names : Slice → List (List ℕ)
+near_names s = option_to_list s.service ++ option_to_list (stem s.key.name)
+
+-- the slice is of the Service's namespace, and one of these names is the Service's
 abbrev pub may_clash : ObjectKey → Slice → Bool
 may_clash service s =
-    bytes_eq s.key.namespace service.namespace
-    && (starts_with nat_eq s.key.name service.name || is_managed_for V4 service s)
+    list_any (λ name. bytes_eq service.namespace s.key.namespace && bytes_eq service.name name)
+    (near_names s)

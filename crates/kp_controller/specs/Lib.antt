@@ -1,3 +1,4 @@
 pub mod Clashing
+pub mod Near
 pub mod Replaced
 pub mod Stored

@@ -20,8 +20,7 @@ pub fn remove_leftovers(
     ensures { OnOk result (slices.new ≡ without_leftovers objects.now slices.old) }
 {
     let left_over = keys_left_over(alloc, objects, slices.all(alloc)?.as_slice())?;
-    take_all(left_over.as_slice(), slices);
-    Ok(())
+    take_all(alloc, left_over.as_slice(), slices)
 }
 
 /// The keys of the slices that are left over.

@@ -4,6 +4,7 @@
 
 mod leftovers;
 mod managed;
+mod near;
 mod replaced;
 mod slice_map;
 mod step;

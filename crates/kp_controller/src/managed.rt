@@ -1,13 +1,14 @@
 //! The slices that the controller manages for one Service.
-ghost use Rattle.std.specs.Prelude.{◌≡◌, map, nat_eq, IfOk, OnOk};
-ghost use Rattle.std.specs.List.{filter, starts_with};
+ghost use Rattle.std.specs.Prelude.{◌≡◌, map, IfOk, OnOk};
+ghost use Rattle.std.specs.List.{filter};
+ghost use Rattle.std.specs.FinMap as finite;
 ghost use Rattle.kp_base.specs.declared.address.Family.TheVariants.{V4};
 ghost use Rattle.kp_object_defs.specs.Entries as entries;
 ghost use Rattle.kp_object_defs.specs.OwnKeys.{AreUnderOwnKeys, IsUnderOwnKeys};
 ghost use Rattle.kp_object_defs.specs.PackingLaws as laws;
-ghost use Rattle.kp_controller.specs.Clashing as clashing;
 ghost use Rattle.kp_object_defs.specs.SlicesNow as now;
 ghost use Rattle.kp_object_defs.specs.SlicesNow.{after_packing};
+ghost use Rattle.kp_controller.specs.Clashing.{may_clash};
 
 use crate::replaced::{put_all, take_all};
 use crate::slice_map::SliceMap;
@@ -32,7 +33,7 @@ pub fn pack_service(
         ≡ after_packing config.now.max_per_slice objects.now service.now slices.old V4) }
 {
     let (managed, packed) = packed_now(alloc, config, objects, service, slices)?;
-    take_all(managed.as_slice(), slices);
+    take_all(alloc, managed.as_slice(), slices)?;
     put_all(alloc, packed, slices)
 }
 
@@ -45,15 +46,13 @@ fn packed_now(
     slices: &SliceMap,
 ) -> Result<(Items<ObjectKey>, Items<Slice>), NoMemory>
     requires own { AreUnderOwnKeys objects.now }
-    ensures own_keys { IsUnderOwnKeys (λ s. s.key) slices.now }
+    ensures own_keys { IfOk result (λ _. IsUnderOwnKeys (λ s. s.key) slices.now) }
     ensures managed { IfOk result (λ (managed, _). managed
         ≡ map (λ s. s.key) (now.managed_slices V4 service.now.key slices.now)) }
     ensures packed { IfOk result (λ (_, packed). packed ≡ (now.packed_now V4
         config.now.max_per_slice objects.now service.now slices.now).slices) }
 {
-    let all = slices.all(alloc)?;
-    let before = managed_among(alloc, &service.key, all.as_slice())?;
-    let near = names_near(alloc, &service.key, all.as_slice())?;
+    let (before, near) = managed_now(alloc, &service.key, slices)?;
     let wanted = wanted_of(alloc, objects, service)?;
     fits_memory(near.as_slice());
     fits_memory(wanted.as_slice());
@@ -62,6 +61,24 @@ fn packed_now(
     let most = config.max_per_slice;
     let packed = pack(alloc, &service.key, &before, &wanted, most, &near)?;
     Ok((keys_of(alloc, before.as_slice())?, packed.slices))
+}
+
+/// A Service's managed IPv4 slices, and the names that a new one of its slices may not have.
+fn managed_now(
+    alloc: Global,
+    service: &ObjectKey,
+    slices: &SliceMap,
+) -> Result<(Items<Slice>, Items<Text>), NoMemory>
+    ensures own_keys { IfOk result (λ _. IsUnderOwnKeys (λ s. s.key) slices.now) }
+    ensures managed { IfOk result (λ (managed, _). managed
+        ≡ now.managed_slices V4 service.now slices.now) }
+    ensures near { IfOk result (λ (_, near). near
+        ≡ map (λ s. s.key.name) (filter (may_clash service.now) (finite.values slices.now))) }
+{
+    let found = slices.near(alloc, service)?;
+    let managed = managed_among(alloc, service, found.as_slice())?;
+    let near = names_of(alloc, found.as_slice())?;
+    Ok((managed, near))
 }
 
 /// The slices among these that the controller manages for a Service in IPv4.
@@ -103,40 +120,15 @@ fn is_named(name: &Option<Text>, wanted: &Text) -> bool
     }
 }
 
-/// The names of the slices among these that a new slice of a Service could get, and those of its
-/// own.
-fn names_near<'a>(
-    alloc: Global,
-    service: &ObjectKey,
-    slices: &[&'a Slice],
-) -> Result<Items<Text>, NoMemory>
-    ensures { IfOk result (λ ns. ns ≡ map (λ s. s.key.name)
-        (filter (clashing.may_clash service.now) (map (λ s. s.now) slices.now))) }
+/// The names of slices.
+fn names_of<'a>(alloc: Global, slices: &[&'a Slice]) -> Result<Items<Text>, NoMemory>
+    ensures { IfOk result (λ ns. ns ≡ map (λ s. s.key.name) (map (λ s. s.now) slices.now)) }
 {
-    let mut names = Vec::new(alloc);
+    let mut names = Vec::with_capacity(alloc, slices.len())?;
     for slice in slices {
-        if may_clash(service, slice) {
-            names.push(slice.key.name.copy(alloc)?)?;
-        }
+        names.push(slice.key.name.copy(alloc)?)?;
     }
     Ok(Items::from_vec(names))
-}
-
-/// Whether a slice has a name that a new slice of a Service could get, or is the Service's own.
-fn may_clash(service: &ObjectKey, slice: &Slice) -> bool
-    ensures { result ≡ clashing.may_clash service.now slice.now }
-{
-    let near = begins_with(&slice.key.name, &service.name) || is_managed_for(service, slice);
-    near && slice.key.namespace == service.namespace
-}
-
-/// Whether a text begins with another.
-fn begins_with(text: &Text, front: &Text) -> bool
-    ensures { result ≡ starts_with nat_eq text.now front.now }
-{
-    text.as_str()
-        .as_bytes()
-        .starts_with(front.as_str().as_bytes())
 }
 
 /// The keys of slices.

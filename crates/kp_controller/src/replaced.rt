@@ -8,12 +8,13 @@ use kp_types::Slice;
 use std::alloc::Global;
 
 /// Takes out the slices of some keys.
-pub fn take_all(keys: &[ObjectKey], slices: &mut SliceMap)
-    ensures { slices.new ≡ without_keys keys.now slices.old }
+pub fn take_all(alloc: Global, keys: &[ObjectKey], slices: &mut SliceMap) -> Result<(), NoMemory>
+    ensures { OnOk result (slices.new ≡ without_keys keys.now slices.old) }
 {
     for key in keys {
-        slices.take(key);
+        slices.take(alloc, key)?;
     }
+    Ok(())
 }
 
 /// Puts in slices, of which the first of a key counts.

@@ -1,25 +1,24 @@
 //! Slices by their keys.
+use crate::near::Near;
 use kp_base::{Copied, Items, Kept, NoMemory, ObjectKey};
+use kp_store::Indexed;
 use kp_types::{Event, Kind, Object, Slice};
 use std::alloc::Global;
-use std::collections::BTreeMap;
 use std::marker::Model;
 
-/// Slices by namespace and name, each under its own key and shared with the event that brought it.
-/// Contracts see a finite map.
+/// Slices by namespace and name, each under its own key and shared with the event that brought it,
+/// and found by the Services that they are near to. Contracts see a finite map.
 pub struct SliceMap {
-    entries: BTreeMap<ObjectKey, Kept<Slice>>,
+    slices: Indexed<Slice, Near>,
 }
 
 impl Drop for SliceMap {
     fn drop(self) {
-        let SliceMap { entries } = self;
+        let SliceMap { slices } = self;
     }
 }
 
 impl Model for SliceMap {
-    ghost use Rattle.std.specs.FinMap as finite;
-    ghost use Rattle.kp_base.specs.Keys.{key_cmp};
     ghost use Rattle.kp_object_defs.specs.OwnKeys.{IsUnderOwnKeys};
     ghost use Rattle.kp_object_defs.specs.SlicesNow.{Slices};
     ghost use Rattle.kp_controller.specs.Stored.{slices_code};
@@ -28,25 +27,25 @@ impl Model for SliceMap {
 
     ghost coded = { slices_code };
 
-    ghost view = { λ m. finite.from_entries {R = key_cmp} m.entries.entries };
+    ghost view = { λ m. m.slices };
 
-    ghost invariant = { λ m. IsUnderOwnKeys (λ s. s.key)
-        (finite.from_entries {R = key_cmp} m.entries.entries) };
+    ghost invariant = { λ m. IsUnderOwnKeys (λ s. s.key) m.slices };
 }
 
 impl SliceMap {
     ghost use Rattle.std.specs.Prelude.{◌≡◌, map, IfOk, OnOk, OnErr};
     ghost use Rattle.std.specs.FinMap as finite;
-    ghost use Rattle.std.specs.List.{fold};
+    ghost use Rattle.std.specs.List.{filter, fold};
     ghost use Rattle.kp_object_defs.specs.OwnKeys.{IsUnderOwnKeys};
     ghost use Rattle.kp_object_defs.specs.SlicesNow.{slices_step};
+    ghost use Rattle.kp_controller.specs.Clashing.{may_clash};
 
     /// No slices.
     pub fn new(alloc: Global) -> SliceMap
         ensures { result ≡ finite.empty }
     {
         SliceMap {
-            entries: BTreeMap::new(alloc),
+            slices: Indexed::new(alloc),
         }
     }
 
@@ -55,12 +54,19 @@ impl SliceMap {
         ensures found { IfOk result (λ ss. map (λ s. s.now) ss.items ≡ finite.values self.now) }
         ensures own_keys { IsUnderOwnKeys (λ s. s.key) self.now }
     {
-        Ok(
-            self.entries
-                .values()
-                .map(|slice| slice.get())
-                .collect(alloc)?,
-        )
+        self.slices.values(alloc)
+    }
+
+    /// The slices that are near to a Service, in order of their keys.
+    pub(crate) fn near(&self, alloc: Global, service: &ObjectKey) -> Result<Vec<&Slice>, NoMemory>
+        ensures found { IfOk result (λ ss. map (λ s. s.now) ss.items
+            ≡ filter (may_clash service.now) (finite.values self.now)) }
+        ensures own_keys { IfOk result (λ _. IsUnderOwnKeys (λ s. s.key) self.now) }
+    {
+        let tag = Near {
+            service: service.copy(alloc)?,
+        };
+        self.slices.found(alloc, &tag)
     }
 
     /// Applies an event, which changes the slices at once where it is about one. Where memory is
@@ -74,10 +80,7 @@ impl SliceMap {
             Event::Delete {
                 kind: Kind::EndpointSlice,
                 key,
-            } => {
-                self.take(key);
-                Ok(())
-            }
+            } => self.take(alloc, key),
             _ => Ok(()),
         }
     }
@@ -110,14 +113,14 @@ impl SliceMap {
         ensures err { OnErr result (self.new ≡ self.old) }
     {
         let key = slice.get().key.copy(alloc)?;
-        self.entries.insert(key, slice)?;
-        Ok(())
+        self.slices.put(alloc, &key, slice)
     }
 
-    /// Takes out the slice of a key, if there is one.
-    pub(crate) fn take(&mut self, key: &ObjectKey)
-        ensures { self.new ≡ finite.remove self.old key.now }
+    /// Takes out the slice of a key, if there is one. Where memory is out, all stays.
+    pub(crate) fn take(&mut self, alloc: Global, key: &ObjectKey) -> Result<(), NoMemory>
+        ensures ok { OnOk result (self.new ≡ finite.remove self.old key.now) }
+        ensures err { OnErr result (self.new ≡ self.old) }
     {
-        self.entries.remove(key);
+        self.slices.take(alloc, key)
     }
 }

@@ -11,4 +11,5 @@ mod objects;
 mod selections;
 mod tags;
 
+pub use indexed::{Indexed, Tagged};
 pub use objects::Objects;

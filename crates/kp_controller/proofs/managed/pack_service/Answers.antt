@@ -12,7 +12,7 @@ returns c =
     let s = c.args.service.now in
     on_ok_weaker c.put_all.result (λ is.
     is
-    ∙ repacked s.key c.in_ok-managed.packed old c.take_all.new.slices c.packed_now.ensures.own_keys
-    (c.take_all.ensures ∙ ap (λ ks. without_keys ks old) (c.as_slice.ensures ∙ c.in_ok-managed.ensures.managed))
+    ∙ repacked s.key c.in_ok-managed.packed old c.take_all.new.slices c.in_ok-managed.ensures.own_keys
+    (c.in_ok-take_all.ensures ∙ ap (λ ks. without_keys ks old) (c.as_slice.ensures ∙ c.in_ok-managed.ensures.managed))
     ∙ ap (λ packed. with_managed V4 s.key packed old) c.in_ok-managed.ensures.packed)
     c.put_all.ensures
