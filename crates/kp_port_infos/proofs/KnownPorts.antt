@@ -1,8 +1,8 @@
 -- What is known of ports by their names, one more port or Service at a time.
-use Rattle.std.proofs.Common.{◌≡◌, ℕ, List, [], ◌∷◌, ◌++◌, map, Option, Some, None, option_map, filter_map, flat_map, refl, sym, ap, ◌∙◌, Bor}
+use Rattle.std.proofs.Common.{◌≡◌, ℕ, List, [], ◌∷◌, ◌++◌, map, Option, Some, None, option_map, filter_map, refl, sym, ap, ◌∙◌}
 use Rattle.std.specs.List.{cons_option}
 use Rattle.std.specs.FinMap.{put}
-use Rattle.std.proofs.lemmas.List.{map-append, append_assoc, append-nil}
+use Rattle.std.proofs.lemmas.List.{map-append, append_assoc}
 use Rattle.kp_base.specs.Keys.{port_key_cmp}
 use Rattle.kp_base.specs.Net.{AddressParts}
 use Rattle.kp_base.specs.declared.address.Family.{Family}
@@ -13,7 +13,7 @@ use Rattle.kp_types.specs.declared.service.ServicePort.{ServicePort}
 use Rattle.kp_object_defs.specs.Entries.{sources_of, entries_from}
 use Rattle.kp_object_defs.specs.Objects.{Objects, zone_of}
 use Rattle.kp_object_defs.specs.Order.{by_key}
-use Rattle.kp_object_defs.specs.PortInfo.{cluster_address_in, info_from, info_of, name_of_port, port_key_of, ports_of}
+use Rattle.kp_object_defs.specs.PortInfo.{cluster_address_in, info_from, info_of, name_of_port, port_key_of}
 use Rattle.kp_object_defs.proofs.InOrder.{insert-put, insert-through, by_key-push}
 use Rattle.kp_object_laws.proofs.PortByKey.{sources_service}
 use Rattle.kp_port_infos.specs.Known.{known_in_part, known_ports, sources_in}

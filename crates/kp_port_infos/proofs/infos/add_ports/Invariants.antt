@@ -15,7 +15,7 @@ invariant-loop-port g l = record {
       (before : List (ServiceSources × ServicePort))
       → l.initial.known.entries ≡ known_ports V4 l.config.node (zone_of l.objects l.config.node) before
       → l.known.entries
-          ≡ known_ports V4 l.config.node (zone_of l.objects l.config.node)
-          (before ++ with_ports V4 (config_for V4 l.config) l.objects l.service (take l.port-index l.service.ports));
+      ≡ known_ports V4 l.config.node (zone_of l.objects l.config.node)
+      (before ++ with_ports V4 (config_for V4 l.config) l.objects l.service (take l.port-index l.service.ports));
   asked : l.asked ≡ l.fn.asked + l.port-index;
 }

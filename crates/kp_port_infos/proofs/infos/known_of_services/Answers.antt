@@ -6,6 +6,10 @@ pub returns-in_err-add_service-clause-bound : goal.returns-in_err-add_service-cl
 returns-in_err-add_service-clause-bound g c =
     let services = c.args.services.now in
     let i = c.loop-service.service-index in
-    omega (arith, c.in_err-add_service.ensures.bound, c.loop-service.invariant.asked,
-    next_count services i c.service-item.result c.loop-service-test.true c.service-item.is,
-    some_count services (i + 1))
+    omega (
+      arith,
+      c.in_err-add_service.ensures.bound,
+      c.loop-service.invariant.asked,
+      next_count services i c.service-item.result c.loop-service-test.true c.service-item.is,
+      some_count services (i + 1),
+    )
