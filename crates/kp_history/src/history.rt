@@ -69,6 +69,7 @@ impl History {
             → OnErr result (IsHistory p self.new) }
     {
         kp_history_laws::exact_histories();
+        kp_history_laws::sync_records();
         self.counts.push(covered - self.covered)?;
         let syncs = self.counts.as_slice().len() as u64;
         take_over(&mut self.table, table, syncs);

@@ -25,7 +25,7 @@ use Rattle.kp_walker.specs.Sets.{ComesToSet}
 use Rattle.kp_history_defs.specs.History.{IsExactRecord}
 pub use Rattle.kp_history.specs.Parts.{PlaneParts, HasExactHistory, setting_in, syncs_in, uncovered_in}
 pub use Rattle.kp_history.specs.Parts.{objects_in, chains_in, table_in, last_edits, batch_after, last_batch_in}
-pub use Rattle.kp_history.specs.Parts.{synced, next_chains, next_edits, chains_or}
+pub use Rattle.kp_history.specs.Parts.{synced, next_chains, next_edits, chains_or, records_in}
 
 -- how they are told apart as values
 abbrev pub parts_code : Coded PlaneParts
