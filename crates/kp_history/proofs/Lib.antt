@@ -1,2 +1,3 @@
+mod LastCount
 mod Start
 pub mod Synced

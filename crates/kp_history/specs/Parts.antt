@@ -1,6 +1,7 @@
 -- What contracts see of a plane: the configuration, the accepted events, and how many of them each
 -- sync covers more than the one before it. Tables and batches are functions of these.
-use Rattle.std.specs.Prelude.{◌≡◌, ℕ, suc, ◌-◌, List, [], ◌∷◌, ◌++◌, length, sum, Option, Some, None}
+use Rattle.std.specs.Prelude.{◌≡◌, ℕ, suc, ◌-◌, List, [], ◌∷◌, ◌++◌, length, sum, Option, Some}
+use Rattle.std.specs.Prelude.{None}
 use Rattle.kp_base.specs.declared.address.Family.TheVariants.{V4}
 use Rattle.kp_base.specs.declared.config.Config.{Config}
 use Rattle.kp_types.specs.Setting.{Setting}

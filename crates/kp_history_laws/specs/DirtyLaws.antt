@@ -1,5 +1,6 @@
 -- What the list of dirty ports holds, of which something else is known than before.
-use Rattle.std.specs.Prelude.{◌≡◌, true, false, []}
+use Rattle.std.specs.Prelude.{◌≡◌, true, false, [], map}
+use Rattle.std.specs.FinMap.{find}
 use Rattle.kp_base.specs.Keys.{port_key_cmp}
 use Rattle.kp_base.specs.declared.key.PortKey.{PortKey}
 use Rattle.kp_types.specs.Setting.{Setting}
@@ -7,9 +8,17 @@ use Rattle.kp_object_defs.specs.Objects.{Objects}
 use Rattle.kp_object_defs.specs.Order.{rises}
 use Rattle.kp_object_defs.specs.OwnKeys.{AreUnderOwnKeys}
 use Rattle.kp_object_defs.specs.PortByKey.{info_at}
+use Rattle.kp_object_defs.specs.PortInfo.{port_infos}
 use Rattle.kp_history_defs.specs.DirtyPorts.{dirty_keys}
 use Rattle.kp_history_defs.specs.Inputs.{changed_ports}
 use Rattle.kp_history_laws.specs.EventLaws.{has_port}
+
+-- What is known of the ports of some objects is found by the ports' names.
+abbrev pub InfosByName : Type 0
+InfosByName =
+    (setting : Setting) (o : Objects) (key : PortKey) → AreUnderOwnKeys o
+    → find port_key_cmp key (map (λ i. (i.key, i)) (port_infos setting.family setting.config o))
+    ≡ info_at setting.family setting.config o key
 
 -- the same is known of a port of some objects as of that of others
 abbrev pub AreKnownAlike : Setting → Objects → Objects → PortKey → Type 0

@@ -44,6 +44,13 @@ pub fn dirty_ports()
     changed_ports();
 }
 
+/// What is known of the ports of some objects is found by the ports' names.
+pub fn infos_by_name()
+    ensures { dirty.InfosByName }
+{
+    kp_object_laws::ports_by_key();
+}
+
 /// The contributions of the ports of some objects are found by the ports' names.
 pub fn rules_by_name()
     ensures { kept.RulesByName }
