@@ -1,3 +1,2 @@
-mod LastCount
 mod Start
 pub mod Synced

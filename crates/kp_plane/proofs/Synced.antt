@@ -1,5 +1,5 @@
 -- What one more sync changes, and what it looks at.
-use Rattle.std.proofs.Common.{◌≡◌, ◌≤◌, ◌+◌, ℕ, List, [], ◌∷◌, ◌++◌, take, length, sum, refl, sym, ap, subst, ◌∙◌, arith, le_refl, Bool, true, false, ◌<◌, nat_lt}
+use Rattle.std.proofs.Common.{◌≡◌, ◌≤◌, ◌+◌, ℕ, suc, List, [], ◌∷◌, ◌++◌, take, length, sum, refl, sym, ap, subst, ◌∙◌, arith, le_refl, Bool, true, false, ◌<◌, nat_lt}
 use Rattle.std.proofs.lemmas.Bool.Decides.{nat_tests}
 use Rattle.std.proofs.lemmas.List.{take_all, take-append-le, length_push}
 use Rattle.kp_types.specs.declared.event.Event.{Event}
@@ -12,6 +12,7 @@ use Rattle.kp_types.specs.Setting.{config_for}
 use Rattle.kp_table_defs.specs.Edits.{SameRulesAreEqual, changes_between}
 use Rattle.kp_table_defs.specs.Rebuild.{TableParts, clash_of, full_table}
 use Rattle.kp_types.specs.declared.packet.Packet.{Packet}
+use Rattle.kp_types.specs.declared.sync.SyncRecord.{SyncRecord}
 use Rattle.kp_choice_defs.specs.Recent.{RecentParts}
 use Rattle.kp_door_defs.specs.Decision.{decision_of}
 use Rattle.kp_decide.specs.Told.{told}
@@ -19,7 +20,9 @@ use Rattle.kp_history.specs.Parts.{PlaneParts, HasExactHistory, setting_in, unco
 use Rattle.kp_history.specs.Invariant.{IsHistory}
 use Rattle.kp_history.specs.declared.history.History.{History}
 use Rattle.kp_history.proofs.Synced.{all_counted, within}
-use Rattle.kp_plane.specs.Parts.{most_steps, explained_in}
+use Rattle.kp_plane.specs.Notes.{last_note}
+use Rattle.kp_plane.specs.declared.note.SyncNote.{SyncNote}
+use Rattle.kp_plane.specs.Parts.{most_steps, explained_in, syncs_in, next_record}
 use Rattle.kp_plane.specs.Invariant.{IsAtPlace, IsPlane, IsSlicesAt}
 use Rattle.kp_plane.specs.declared.place.ObjectsAt.{ObjectsAt}
 use Rattle.kp_plane.specs.declared.slices_at.SlicesAt.{SlicesAt}
@@ -146,3 +149,19 @@ pub same_decision : (p q : PlaneParts) → p ≡ q → (o : Objects) → o ≡ o
     → told (decision_of (setting_in p) o packet drawn lists) ≡ explained_in q packet drawn lists
 same_decision p q same o is packet drawn lists =
     ap (λ o. told (decision_of (setting_in p) o packet drawn lists)) is ∙ ap (λ r. explained_in r packet drawn lists) same
+
+-- ---- What a sync tells
+
+-- a record with the note's counts and these edits is the one that is added
+pub record_added : (p q : PlaneParts) (note : SyncNote) (r : SyncRecord) → q ≡ synced p
+    → note ≡ last_note (uncovered_in p) q
+    → r.sync ≡ note.sync → r.events ≡ note.events → r.batch.edits ≡ next_edits p
+    → r ≡ next_record p
+record_added p q note r next noted numbered counted edits =
+    let longer = length_push p.counts (uncovered_in p) in
+    let one : syncs_in (synced p) ≡ suc (syncs_in p) = omega arith in
+    λ i. record {
+      sync = (numbered ∙ ap (λ n. n.sync) noted ∙ ap syncs_in next ∙ one) i;
+      events = (counted ∙ ap (λ n. n.events) noted) i;
+      batch = record { edits = edits i };
+    }

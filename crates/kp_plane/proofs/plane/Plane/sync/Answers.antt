@@ -1,7 +1,10 @@
-use Rattle.std.proofs.Common.{◌≡◌, None, sym, ap, subst, ◌∙◌}
+use Rattle.std.proofs.Common.{◌≡◌, [], ◌∷◌, ◌++◌, None, refl, sym, ap, subst, ◌∙◌}
 use Rattle.kp_object_defs.specs.Objects.{objects_after}
 use Rattle.kp_table_defs.specs.Rebuild.{clash_of}
+use Rattle.kp_types.specs.declared.sync.SyncRecord.{SyncRecord}
 use Rattle.kp_plane.specs.Parts.{chains_in, chains_or, next_chains, setting_in, next_edits}
+use Rattle.kp_plane.specs.Parts.{records_in, next_record}
+use Rattle.kp_plane.proofs.Synced.{record_added}
 use Rattle.kp_plane.proofs.plane.Plane.sync.Goals as goal
 
 pub keep-requires-clause-edits : goal.keep-requires-clause-edits
