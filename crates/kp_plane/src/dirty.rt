@@ -7,7 +7,8 @@ ghost use Rattle.kp_base.specs.Keys.{port_key_cmp};
 ghost use Rattle.kp_base.specs.declared.address.Family.TheVariants.{V4};
 ghost use Rattle.kp_base.specs.declared.key.PortKey.{PortKey as Key};
 ghost use Rattle.kp_types.specs.Setting.{config_for};
-ghost use Rattle.kp_object_defs.specs.Order.{distinct_in_order, in_order};
+ghost use Rattle.kp_object_defs.specs.Order as order;
+ghost use Rattle.kp_object_defs.specs.Order.{distinct_in_order};
 ghost use Rattle.kp_object_defs.specs.PortByKey.{info_at, port_keys_of};
 ghost use Rattle.kp_history_defs.specs.DirtyPorts as spec;
 ghost use Rattle.kp_plane.specs.Compared.{dirty_of, known_in};
@@ -52,12 +53,13 @@ pub(crate) fn dirty_among(
         (distinct_in_order port_key_cmp keys.items)) }
 {
     let mut ports = Vec::new(alloc);
-    for key in set_of(alloc, keys)? {
-        let old = before.get(&key);
-        if !same_known(old, after.get(&key)) {
+    let names = in_order(alloc, keys)?;
+    for key in names.as_slice() {
+        let old = before.get(key);
+        if !same_known(old, after.get(key)) {
             ports.push(DirtyPort {
+                key: key.copy(alloc)?,
                 before: copy_of(alloc, old)?,
-                key,
             })?;
         }
     }
@@ -91,7 +93,7 @@ fn by_name(
     mut infos: Vec<PortInfo>,
 ) -> Result<BTreeMap<PortKey, PortInfo>, NoMemory>
     ensures { IfOk result (λ known. known.entries
-        ≡ in_order port_key_cmp (map (λ i. (i.key, i)) infos.items)) }
+        ≡ order.in_order port_key_cmp (map (λ i. (i.key, i)) infos.items)) }
 {
     let mut known = BTreeMap::new(alloc);
     while let Some(info) = infos.pop() {
@@ -102,6 +104,13 @@ fn by_name(
 }
 
 /// Names once each, in order.
+fn in_order(alloc: Global, keys: Vec<PortKey>) -> Result<Vec<PortKey>, NoMemory>
+    ensures { IfOk result (λ ks. ks.items ≡ distinct_in_order port_key_cmp keys.items) }
+{
+    let set = set_of(alloc, keys)?;
+    Ok(set.into_iter().collect(alloc)?)
+}
+
 fn set_of(alloc: Global, mut keys: Vec<PortKey>) -> Result<BTreeSet<PortKey>, NoMemory>
     ensures { IfOk result (λ s. s.keys ≡ distinct_in_order port_key_cmp keys.items) }
 {

@@ -6,4 +6,4 @@ abbrev pub invariant-loop-service : goal.invariant-loop-service
 invariant-loop-service l =
     l.keys.items
     ≡ l.fn.keys.items
-    ++ flat_map port_keys_of (map (λ s. s.now) (take l.service-index l.service-items))
+    ++ flat_map port_keys_of (map (λ s. s.now) (take l.service-index l.services))

@@ -7,8 +7,8 @@ use Rattle.kp_object_defs.proofs.InOrder.{insert-put}
 use Rattle.kp_chains.proofs.Popped.{popped-drop, popped-take}
 use Rattle.kp_plane.proofs.dirty.by_name.Goals as goal
 
-pub loop-info-preserved : goal.loop-info-preserved
-loop-info-preserved c =
+pub loop-info-preserved-in_ok-insert : goal.loop-info-preserved-in_ok-insert
+loop-info-preserved-in_ok-insert c =
     let all = c.args.infos.items in
     let old = c.loop-info.infos.items in
     let new = c.pop.new.self.items in
