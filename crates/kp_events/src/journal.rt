@@ -1,5 +1,5 @@
 //! The journal of accepted events.
-ghost use Rattle.std.specs.Prelude.{◌≡◌, ◌≤◌, [], length, OnOk, OnErr, IfErr};
+ghost use Rattle.std.specs.Prelude.{◌≡◌, ◌≤◌, [], ◌∷◌, length, OnOk, OnErr, IfErr};
 
 use kp_base::Items;
 use kp_types::Event;
@@ -76,5 +76,32 @@ impl Journal {
             Ok(()) => Ok(()),
             Err(_) => Err((JournalFault::NoMemory, Items::from_vec(more))),
         }
+    }
+    /// Adds an event, or gives it back.
+    pub fn push_one(&mut self, event: Event) -> Result<(), (JournalFault, Event)>
+        ensures ok { OnOk result (self.new ≡ with_events self.old (event ∷ [])) }
+        ensures fits { OnOk result (HasRoom self.old 1) }
+
+        // On a refusal nothing is added, and the caller gets the event back.
+        ensures cause { IfErr result (λ (fault, _). Refuses self.old 1 fault) }
+        ensures back { IfErr result (λ (_, returned). returned ≡ event) }
+        ensures err { OnErr result (self.new ≡ self.old) }
+    {
+        let count = self.events.len() as u64;
+        if count == self.max {
+            return Err((JournalFault::JournalFull { count }, event));
+        }
+        match self.events.push(event) {
+            Ok(()) => Ok(()),
+            Err(refused) => Err((JournalFault::NoMemory, refused.value)),
+        }
+    }
+
+    /// The events, oldest first, of a journal that ends.
+    pub fn into_events(self) -> Items<Event>
+        ensures { result ≡ self.events }
+    {
+        let Journal { events, max } = self;
+        Items::from_vec(events)
     }
 }

@@ -1,16 +1,20 @@
 -- What one more sync adds.
-use Rattle.std.proofs.Common.{◌≡◌, ◌≤◌, ◌+◌, ◌-◌, ℕ, suc, List, [], ◌∷◌, ◌++◌, take, length, sum, Option, Some, None, refl, sym, ap, subst, ◌∙◌, arith, le_refl}
+use Rattle.std.proofs.Common.{◌≡◌, ◌≤◌, ◌+◌, ◌-◌, ℕ, suc, List, [], ◌∷◌, ◌++◌, take, length, sum, Option}
+use Rattle.std.proofs.Common.{Some, None, refl, sym, ap, subst, ◌∙◌, arith, le_refl, get_or}
 use Rattle.std.proofs.lemmas.List.{take_all, take-append-le, length-map, length_push, map_push}
 use Rattle.std.proofs.lemmas.List.Sums.{sum_by_push}
+use Rattle.std.proofs.Math.Seq.{get_or-append_seam}
 use Rattle.kp_types.specs.declared.rule.Batch.{Batch}
 use Rattle.kp_types.specs.declared.rule.Edit.{Edit}
-use Rattle.kp_types.specs.declared.sync.SyncRecord.{SyncRecord}
 use Rattle.kp_object_defs.specs.Objects.{objects_after}
 use Rattle.kp_table_defs.specs.Edits.{changes_between}
 use Rattle.kp_table_defs.specs.Rebuild.{TableParts, clash_of, full_table}
-use Rattle.kp_history_defs.specs.History.{chains_covered, objects_covered}
+use Rattle.kp_history_defs.specs.History.{IsExactHistory, chains_covered, objects_covered}
 use Rattle.kp_history_laws.specs.HistoryLaws.{all_covered, CoversRest, ExactByRecord}
-use Rattle.kp_history.specs.Parts.{PlaneParts, HasExactHistory, setting_in, syncs_in, uncovered_in, objects_in, chains_in, last_edits, batch_after, next_edits, next_chains, chains_or, synced}
+use Rattle.kp_history_laws.specs.HistoryLaws.{RecordsHaveCounts, RecordsGrow}
+use Rattle.kp_history.specs.Parts.{PlaneParts, HasExactHistory, setting_in, syncs_in, uncovered_in}
+use Rattle.kp_history.specs.Parts.{objects_in, chains_in, last_edits, batch_after, next_edits}
+use Rattle.kp_history.specs.Parts.{next_chains, chains_or, synced, records_in, next_record}
 use Rattle.kp_history.specs.Invariant.{IsHistory}
 use Rattle.kp_history.specs.declared.history.History.{History}
 
@@ -24,10 +28,6 @@ some_batch [] n edits = refl
 some_batch (m ∷ counts) n edits = refl
 
 module _ (p : PlaneParts) (h : HasExactHistory p) where
-  -- the record of a sync of all events
-  abbrev next_record : SyncRecord
-  next_record = record { sync = suc (syncs_in p); events = uncovered_in p; batch = record { edits = next_edits p } }
-
   pub all_counted : sum (synced p).counts ≡ length p.events
   all_counted = let few = within p h in sum_by_push (λ (m : ℕ). m) p.counts (uncovered_in p) ∙ omega arith
 
@@ -50,29 +50,50 @@ module _ (p : PlaneParts) (h : HasExactHistory p) where
       ∙ ap (λ o. changes_between (full_table (setting_in p) o).chains (chains_in (synced p))) objects_before
       ∙ ap (λ o. changes_between (chains_in p) (full_table (setting_in p) o).chains) objects_next
 
-  as_many : length h.records ≡ syncs_in p
-  as_many = sym (length-map h.records (λ r. r.events)) ∙ ap length h.counted
+  -- one more sync adds its record to those before it
+  pub records_next : RecordsGrow → records_in (synced p) ≡ records_in p ++ next_record p ∷ []
+  records_next grow =
+      let longer = length_push p.counts (uncovered_in p) in
+      let last : suc (syncs_in p) ≡ syncs_in (synced p) = omega arith in
+      let after = ap (objects_covered p.events (synced p).counts) last ∙ objects_next in
+      grow (setting_in p) p.events p.counts (uncovered_in p)
+      ∙ (λ i. records_in p ++ (record {
+        sync = suc (syncs_in p);
+        events = get_or-append_seam p.counts (uncovered_in p) [] 0 i;
+        batch = record {
+          edits = changes_between (full_table (setting_in p) (objects_before i)).chains
+              (full_table (setting_in p) (after i)).chains;
+        };
+      }) ∷ [])
 
-  same_covered : all_covered p.events h.records ≡ objects_in p
-  same_covered = ap (λ c. objects_covered p.events c (length h.records)) h.counted ∙ ap (objects_covered p.events p.counts) as_many
+  as_many : length (records_in p) ≡ syncs_in p
+  as_many = sym (length-map (records_in p) (λ r. r.events)) ∙ ap length h.counted
 
-  covers_rest : CoversRest p.events h.records next_record
-  covers_rest = let few = within p h in ap (λ c. sum c + uncovered_in p) h.counted ∙ omega arith
+  same_covered : all_covered p.events (records_in p) ≡ objects_in p
+  same_covered =
+      ap (λ c. objects_covered p.events c (length (records_in p))) h.counted
+      ∙ ap (objects_covered p.events p.counts) as_many
+
+  covers_rest : CoversRest p.events (records_in p) (next_record p)
+  covers_rest =
+      let few = within p h in ap (λ c. sum c + uncovered_in p) h.counted ∙ omega arith
 
   -- the history goes on
-  pub exact_next : ExactByRecord → clash_of (setting_in p) (objects_after p.events) ≡ None → HasExactHistory (synced p)
-  exact_next goes_on no_clash = record {
-    records = h.records ++ next_record ∷ [];
-    counted = map_push (λ q. q.events) h.records next_record ∙ ap (λ c. c ++ uncovered_in p ∷ []) h.counted;
-    exact = goes_on (setting_in p) p.events h.records next_record h.exact covers_rest (record {
-      is_numbered = ap (λ (n : ℕ). suc n) (sym as_many);
-      has_no_clash = no_clash;
-      is_changes = ap (λ o. changes_between (full_table (setting_in p) o).chains (full_table (setting_in p) (objects_after p.events)).chains) (sym same_covered);
-    });
+  pub exact_next : ExactByRecord → RecordsHaveCounts → RecordsGrow
+      → clash_of (setting_in p) (objects_after p.events) ≡ None → HasExactHistory (synced p)
+  exact_next goes_on counts grow no_clash = record {
+    counted = counts (setting_in p) p.events (synced p).counts;
+    exact = subst (IsExactHistory (setting_in p) p.events) (sym (records_next grow))
+        (goes_on (setting_in p) p.events (records_in p) (next_record p) h.exact covers_rest (record {
+          is_numbered = ap (λ (n : ℕ). suc n) (sym as_many);
+          has_no_clash = no_clash;
+          is_changes = ap (λ o. changes_between (full_table (setting_in p) o).chains (next_chains p))
+              (sym same_covered);
+        }));
   }
 
 -- a history after one more sync
-pub history_next : ExactByRecord → (p : PlaneParts) (before after : History) (covered : ℕ) (batch : Batch) (table : Option TableParts) → IsHistory p before → covered ≡ length p.events
+pub history_next : ExactByRecord → RecordsHaveCounts → RecordsGrow → (p : PlaneParts) (before after : History) (covered : ℕ) (batch : Batch) (table : Option TableParts) → IsHistory p before → covered ≡ length p.events
     → clash_of (setting_in p) (objects_after p.events) ≡ None → batch.edits ≡ next_edits p
     → chains_or (chains_in p) table ≡ next_chains p
     → after.counts.items ≡ before.counts.items ++ (covered - before.covered) ∷ []
@@ -80,7 +101,7 @@ pub history_next : ExactByRecord → (p : PlaneParts) (before after : History) (
     → after.table ≡ (record { chains = chains_or before.table.chains table; syncs = length after.counts.items })
     → after.last ≡ Some batch
     → IsHistory (synced p) after
-history_next goes_on p before after covered batch table is all no_clash edits leads counts covers made last =
+history_next goes_on counted_all grow p before after covered batch table is all no_clash edits leads counts covers made last =
     let counted : after.counts.items ≡ (synced p).counts = counts ∙ (λ i. is.counts i ++ (all i - is.covered i) ∷ []) in
     let chains : chains_or before.table.chains table ≡ chains_in (synced p) =
     ap (λ (t : TableParts). chains_or t.chains table) is.table ∙ leads
@@ -90,6 +111,6 @@ history_next goes_on p before after covered batch table is all no_clash edits le
       covered = covers ∙ all ∙ sym (all_counted p is.exact);
       table = made ∙ (λ i. record { chains = chains i; syncs = length (counted i) });
       last = last ∙ ap (λ es. Some (record { edits = es })) (edits ∙ sym (last_is_next p is.exact)) ∙ sym (some_batch p.counts (uncovered_in p) (last_edits (synced p)));
-      exact = exact_next p is.exact goes_on no_clash;
+      exact = exact_next p is.exact goes_on counted_all grow no_clash;
       no_clash = ap (clash_of (setting_in p)) (objects_next p is.exact) ∙ no_clash;
     }

@@ -1,6 +1,7 @@
 -- What contracts see of a plane: the configuration, the accepted events, and how many of them each
 -- sync covers more than the one before it. Tables and batches are functions of these.
-use Rattle.std.specs.Prelude.{◌≡◌, ℕ, ◌-◌, List, [], ◌∷◌, ◌++◌, length, sum, Option, Some, None}
+use Rattle.std.specs.Prelude.{◌≡◌, ℕ, suc, ◌-◌, List, [], ◌∷◌, ◌++◌, length, sum, Option, Some}
+use Rattle.std.specs.Prelude.{None}
 use Rattle.kp_base.specs.declared.address.Family.TheVariants.{V4}
 use Rattle.kp_base.specs.declared.config.Config.{Config}
 use Rattle.kp_types.specs.Setting.{Setting}
@@ -12,7 +13,8 @@ use Rattle.kp_choice_defs.specs.Settings.{setting_of}
 use Rattle.kp_object_defs.specs.Objects.{Objects, objects_after}
 use Rattle.kp_table_defs.specs.Edits.{changes_between}
 use Rattle.kp_table_defs.specs.Rebuild.{Chains, TableParts, full_table}
-use Rattle.kp_history_defs.specs.History.{IsExactHistory, chains_covered, counts_of, objects_covered}
+use Rattle.kp_history_defs.specs.History.{IsExactHistory, chains_covered, counts_of}
+use Rattle.kp_history_defs.specs.History.{objects_covered, sync_records}
 
 -- the parts
 pub record PlaneParts : Type 0 where
@@ -75,8 +77,19 @@ abbrev pub chains_or : Chains → Option TableParts → Chains
 chains_or chains None = chains
 chains_or chains (Some t) = t.chains
 
--- records with these counts are an exact history
+-- the records of the syncs
+abbrev pub records_in : PlaneParts → List SyncRecord
+records_in p = sync_records (setting_in p) p.events p.counts
+
+-- the record of one more sync
+abbrev pub next_record : PlaneParts → SyncRecord
+next_record p = record {
+  sync = suc (syncs_in p);
+  events = uncovered_in p;
+  batch = record { edits = next_edits p };
+}
+
+-- the records of the syncs are an exact history, and have the syncs' counts
 pub record HasExactHistory (p : PlaneParts) : Type 0 where
-  pub records : List SyncRecord
-  pub counted : counts_of records ≡ p.counts
-  pub exact : IsExactHistory (setting_in p) p.events records
+  pub counted : counts_of (records_in p) ≡ p.counts
+  pub exact : IsExactHistory (setting_in p) p.events (records_in p)

@@ -29,14 +29,15 @@ impl Drop for History {
 }
 
 impl History {
-    ghost use Rattle.std.specs.Prelude.{◌≡◌, ◌≤◌, List, [], length, None, IfOk, OnOk, OnErr};
+    ghost use Rattle.std.specs.Prelude.{◌≡◌, ◌≤◌, ◌-◌, List, [], length, sum, take, None};
+    ghost use Rattle.std.specs.Prelude.{IfOk, OnOk, OnErr};
     ghost use Rattle.kp_base.specs.declared.config.Config.{Config};
     ghost use Rattle.kp_types.specs.declared.event.Event.{Event};
     ghost use Rattle.kp_object_defs.specs.Objects.{objects_after};
     ghost use Rattle.kp_table_defs.specs.Rebuild.{clash_of};
     ghost use Rattle.kp_history.specs.Invariant.{IsHistory};
     ghost use Rattle.kp_history.specs.Parts.{PlaneParts, chains_in, chains_or, next_chains};
-    ghost use Rattle.kp_history.specs.Parts.{next_edits, setting_in, synced};
+    ghost use Rattle.kp_history.specs.Parts.{next_edits, setting_in, synced, syncs_in};
 
     /// Before the first sync.
     pub fn new(alloc: Global) -> Result<History, NoMemory>
@@ -69,12 +70,38 @@ impl History {
             → OnErr result (IsHistory p self.new) }
     {
         kp_history_laws::exact_histories();
+        kp_history_laws::sync_records();
         self.counts.push(covered - self.covered)?;
         let syncs = self.counts.as_slice().len() as u64;
         take_over(&mut self.table, table, syncs);
         self.covered = covered;
         self.last = Some(batch);
         Ok(())
+    }
+
+    /// How many events the syncs before the last cover.
+    pub fn covered_before(&self) -> u64
+        ensures { (p : PlaneParts) → IsHistory p self.now
+            → result ≡ sum (take (syncs_in p - 1) p.counts) }
+    {
+        match self.counts.as_slice().last() {
+            Some(last) => self.covered.saturating_sub(*last),
+            None => 0,
+        }
+    }
+
+    /// The counts and the table, of a history that ends.
+    pub fn into_parts(self) -> (Vec<u64>, Table)
+        ensures counts { result.0 ≡ self.counts }
+        ensures table { result.1 ≡ self.table }
+    {
+        let History {
+            counts,
+            covered,
+            table,
+            last,
+        } = self;
+        (counts, table)
     }
 }
 

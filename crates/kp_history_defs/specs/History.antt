@@ -1,8 +1,9 @@
 -- Sync records: how many events each covers, and the edits that it made. A history is exact where
 -- each record leads from the full table of the objects before it to that of the objects that it
 -- covers.
-use Rattle.std.specs.Prelude.{◌≡◌, ◌≤◌, ℕ, suc, List, map, sum, take, length, Some, None, slice_get}
-use Rattle.std.specs.List.{fold}
+use Rattle.std.specs.Prelude.{◌≡◌, ◌≤◌, ℕ, suc, List, map, sum, take, length, get_or, Some, None}
+use Rattle.std.specs.Prelude.{slice_get}
+use Rattle.std.specs.List.{fold, range_with_len}
 use Rattle.kp_base.specs.declared.address.Family.{Family}
 use Rattle.kp_base.specs.declared.config.Config.{Config}
 use Rattle.kp_types.specs.Setting.{Setting}
@@ -29,6 +30,23 @@ objects_covered events counts n = objects_after (covered events counts n)
 abbrev pub chains_covered : Setting → List Event → List ℕ → ℕ → Chains
 chains_covered setting events counts n =
     (full_table setting (objects_covered events counts n)).chains
+
+-- the record of the sync at place n, from 0, among syncs with these counts: the changes from the
+-- full table of what those before it cover to that of what is covered with it
+abbrev pub record_at : Setting → List Event → List ℕ → ℕ → SyncRecord
+record_at setting events counts n = record {
+  sync = suc n;
+  events = get_or counts n 0;
+  batch = record {
+    edits = changes_between (chains_covered setting events counts n)
+        (chains_covered setting events counts (suc n));
+  };
+}
+
+-- the records of syncs with these counts
+abbrev pub sync_records : Setting → List Event → List ℕ → List SyncRecord
+sync_records setting events counts =
+    map (record_at setting events counts) (range_with_len 0 (length counts))
 
 -- the slices now, where these records were made: the controller packed them at each
 abbrev pub slices_after : List Family → Config → List Event → List SyncRecord → Slices

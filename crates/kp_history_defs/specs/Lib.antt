@@ -1,4 +1,5 @@
 pub mod Affected
+pub mod DirtyPorts
 pub mod History
 pub mod Inputs
 pub mod KeptRules

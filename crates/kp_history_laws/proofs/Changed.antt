@@ -113,7 +113,7 @@ module _ {K X : Type 0} (R : K → K → Ordering) where
   rises_keys (e ∷ es) = λ i. below_keys e.0 es i && rises_keys es i
 
 -- so do those of them that pass a test
-rises_filter : {K : Type 0} (R : K → K → Ordering) (p : K → Bool) (ks : List K) → rises R ks ≡ true → rises R (filter p ks) ≡ true
+pub rises_filter : {K : Type 0} (R : K → K → Ordering) (p : K → Bool) (ks : List K) → rises R ks ≡ true → rises R (filter p ks) ≡ true
 rises_filter R p [] h = refl
 rises_filter R p (k ∷ ks) h =
     let parts = and_parts (list_all (λ l. is_lt (R k l)) ks) (rises R ks) h in
@@ -128,7 +128,7 @@ distinct_rise keys =
     let es : List (PortKey × PortKey) = in_order port_key_cmp (map (λ k. (k, k)) keys) in
     sym (rises_keys port_key_cmp es) ∙ sorted-in_order port_key_total (map (λ k. (k, k)) keys)
 
-either_rise : (before after : Objects) → rises port_key_cmp (ports_of_either before after) ≡ true
+pub either_rise : (before after : Objects) → rises port_key_cmp (ports_of_either before after) ≡ true
 either_rise before after =
     distinct_rise (flat_map port_keys_of (values _) ++ flat_map port_keys_of (values _))
 

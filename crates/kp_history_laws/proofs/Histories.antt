@@ -43,7 +43,7 @@ last_or (z ∷ zs) y (suc n) x h =
     ]
 
 -- the counts of records are as many as these
-length_counts : (records : List SyncRecord) → length (counts_of records) ≡ length records
+pub length_counts : (records : List SyncRecord) → length (counts_of records) ≡ length records
 length_counts records = length-map records (λ r. r.events)
 
 -- the counts of records with one more

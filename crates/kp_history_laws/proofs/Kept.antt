@@ -11,13 +11,14 @@ use Rattle.kp_types.specs.Setting.{Setting}
 use Rattle.kp_object_defs.specs.Objects.{Objects, objects_step}
 use Rattle.kp_object_defs.specs.OwnKeys.{AreUnderOwnKeys}
 use Rattle.kp_object_defs.specs.PortInfo.{PortInfo, port_infos}
-use Rattle.kp_object_defs.specs.PortByKey.{port_keys}
+use Rattle.kp_object_defs.specs.PortByKey.{port_keys, info_at}
 use Rattle.kp_object_laws.specs.ObjectLaws.{OwnKeysAfterEvent}
 use Rattle.kp_object_laws.specs.PortLaws.{InfoHasKey, InfosByKeys}
 use Rattle.kp_table_defs.specs.Parts.{PortRules, RulesByPort, rules_of_port, rules_of_objects}
 use Rattle.kp_history_defs.specs.Affected.{affected_ports}
 use Rattle.kp_history_defs.specs.Inputs.{changed_ports}
 use Rattle.kp_history_defs.specs.KeptRules.{rules_at, with_rules, with_rules_of}
+use Rattle.kp_history_laws.specs.DirtyLaws.{InfosByName}
 use Rattle.kp_history_laws.specs.EventLaws.{has_port, UnaffectedRules}
 use Rattle.kp_history_laws.specs.KeptLaws.{RulesByName, EnoughByRules, AffectedAreEnough, ChangedAreEnough}
 use Rattle.kp_history_laws.proofs.Affected.{same_rules}
@@ -54,10 +55,13 @@ module _ {X Y : Type 0} (g : PortKey → Option X) (name : X → PortKey) (named
   found q [] = refl
   found q (k ∷ ks) = found_by q k ks (found q ks) (g k) refl _ refl
 
--- a port that isn't among the ports of the objects contributes nothing
-no_rules : (setting : Setting) (o : Objects) (key : PortKey) → AreUnderOwnKeys o → has_port (port_keys o) key ≡ false → rules_at setting o key ≡ None
-no_rules setting o key own none =
-    ap (option_map (rules_of_port setting)) (info_by_inputs setting o key ∙ ap (option_and_then (info_by setting key)) (no_inputs setting o own key none))
+-- of a port that isn't among the ports of the objects nothing is known
+no_info : (setting : Setting) (o : Objects) (key : PortKey) → AreUnderOwnKeys o
+    → has_port (port_keys o) key ≡ false
+    → info_at setting.family setting.config o key ≡ None
+no_info setting o key own none =
+    info_by_inputs setting o key
+    ∙ ap (option_and_then (info_by setting key)) (no_inputs setting o own key none)
 
 module _ (has_key : InfoHasKey) (by_keys : InfosByKeys) where
   pub rules_by_name : RulesByName
@@ -69,7 +73,24 @@ module _ (has_key : InfoHasKey) (by_keys : InfosByKeys) where
     where
       by : (b : Bool) → has_port (port_keys o) key ≡ b → cond b (rules_at setting o key) None ≡ rules_at setting o key
       by true is = refl
-      by false is = sym (no_rules setting o key own is)
+      by false is = sym (ap (option_map (rules_of_port setting)) (no_info setting o key own is))
+
+  pub infos_by_name : InfosByName
+  infos_by_name setting o key own =
+      ap (λ infos. find port_key_cmp key (map (λ (i : PortInfo). (i.key, i)) infos))
+      (by_keys setting.family setting.config o own)
+      ∙ found _ (λ i. i.key) (λ k i at. has_key setting.family setting.config o k i own at) (λ i. i) key _
+      ∙ by _ refl
+    where
+      all : (found : Option PortInfo) → option_map (λ i. i) found ≡ found
+      all None = refl
+      all (Some i) = refl
+
+      by : (b : Bool) → has_port (port_keys o) key ≡ b
+          → cond b (option_map (λ i. i) (info_at setting.family setting.config o key)) None
+          ≡ info_at setting.family setting.config o key
+      by true is = all _
+      by false is = sym (no_info setting o key own is)
 
 -- ---- Contributions made anew
 

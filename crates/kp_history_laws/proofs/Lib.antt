@@ -1,9 +1,11 @@
 mod Affected
 mod Changed
+mod DirtyPorts
 mod EveryRun
 pub mod Histories
 mod Kept
 mod Ports
+pub mod Records
 mod Steps
 mod Synced
 mod Tables

@@ -1,10 +1,13 @@
--- Exact histories: how they grow, and that their tables are full tables.
-use Rattle.std.specs.Prelude.{◌≡◌, ◌≤◌, ◌+◌, ◌-◌, ◌^◌, ℕ, suc, List, [], ◌∷◌, ◌++◌, sum, take, length}
+-- Exact histories: how they grow, which records they are, and that their tables are full tables.
+use Rattle.std.specs.Prelude.{◌≡◌, ◌≤◌, ◌<◌, ◌+◌, ◌-◌, ◌^◌, ℕ, suc, List, [], ◌∷◌, ◌++◌, sum, take}
+use Rattle.std.specs.Prelude.{length, None}
 use Rattle.kp_types.specs.Setting.{Setting}
 use Rattle.kp_types.specs.declared.event.Event.{Event}
 use Rattle.kp_types.specs.declared.sync.SyncRecord.{SyncRecord}
 use Rattle.kp_object_defs.specs.Objects.{Objects, objects_after}
-use Rattle.kp_history_defs.specs.History.{IsExactHistory, IsExactRecord, counts_of, chains_covered, objects_covered, table_after}
+use Rattle.kp_table_defs.specs.Rebuild.{clash_of}
+use Rattle.kp_history_defs.specs.History.{IsExactHistory, IsExactRecord, counts_of, chains_covered}
+use Rattle.kp_history_defs.specs.History.{objects_covered, record_at, sync_records, table_after}
 
 -- the objects that all records cover
 abbrev pub all_covered : List Event → List SyncRecord → Objects
@@ -46,6 +49,42 @@ abbrev pub CoveredByRecord : Type 0
 CoveredByRecord =
     (events : List Event) (records : List SyncRecord) (r : SyncRecord)
     → CoversRest events records r → all_covered events (records ++ r ∷ []) ≡ objects_after events
+
+-- An exact history is one list: the records of its events and counts.
+abbrev pub ExactIsRecords : Type 0
+ExactIsRecords =
+    (setting : Setting) (events : List Event) (records : List SyncRecord)
+    → IsExactHistory setting events records
+    → records ≡ sync_records setting events (counts_of records)
+
+-- The records of syncs have the syncs' counts,
+abbrev pub RecordsHaveCounts : Type 0
+RecordsHaveCounts =
+    (setting : Setting) (events : List Event) (counts : List ℕ)
+    → counts_of (sync_records setting events counts) ≡ counts
+
+-- and are an exact history, where they cover events that there are and no sync has a clash.
+abbrev pub RecordsAreExact : Type 0
+RecordsAreExact =
+    (setting : Setting) (events : List Event) (counts : List ℕ) → sum counts ≤ length events
+    → ((n : ℕ) → n < length counts
+    → clash_of setting (objects_covered events counts (suc n)) ≡ None)
+    → IsExactHistory setting events (sync_records setting events counts)
+
+-- More events leave the records of those that are covered,
+abbrev pub RecordsStay : Type 0
+RecordsStay =
+    (setting : Setting) (events more : List Event) (counts : List ℕ)
+    → sum counts ≤ length events
+    → sync_records setting (events ++ more) counts ≡ sync_records setting events counts
+
+-- and one more sync adds its record at the end.
+abbrev pub RecordsGrow : Type 0
+RecordsGrow =
+    (setting : Setting) (events : List Event) (counts : List ℕ) (n : ℕ)
+    → sync_records setting events (counts ++ n ∷ [])
+    ≡ sync_records setting events counts
+    ++ record_at setting events (counts ++ n ∷ []) (length counts) ∷ []
 
 -- After the first n records of an exact history, the chains are those of the full table of what
 -- they cover.

@@ -1,3 +1,4 @@
+pub mod DirtyLaws
 pub mod EventLaws
 pub mod HistoryLaws
 pub mod KeptLaws

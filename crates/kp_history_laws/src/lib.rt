@@ -2,6 +2,7 @@
 //! nothing but name the laws that it rests on.
 #![tactic(auto)]
 
+ghost use Rattle.kp_history_laws.specs.DirtyLaws as dirty;
 ghost use Rattle.kp_history_laws.specs.EventLaws as events;
 ghost use Rattle.kp_history_laws.specs.HistoryLaws as histories;
 ghost use Rattle.kp_history_laws.specs.KeptLaws as kept;
@@ -31,6 +32,25 @@ pub fn changed_ports()
     unaffected_ports();
 }
 
+/// The dirty ports are those of which something else is known, and so they are among those whose
+/// inputs changed. They are in order.
+pub fn dirty_ports()
+    ensures dirty { dirty.DirtyInfos }
+    ensures clean { dirty.CleanInfos }
+    ensures changed { dirty.DirtyAreChanged }
+    ensures none { dirty.NoneDirty }
+    ensures in_order { dirty.DirtyInOrder }
+{
+    changed_ports();
+}
+
+/// What is known of the ports of some objects is found by the ports' names.
+pub fn infos_by_name()
+    ensures { dirty.InfosByName }
+{
+    kp_object_laws::ports_by_key();
+}
+
 /// The contributions of the ports of some objects are found by the ports' names.
 pub fn rules_by_name()
     ensures { kept.RulesByName }
@@ -58,6 +78,16 @@ pub fn exact_histories()
     ensures by_record { histories.ExactByRecord }
     ensures stays { histories.CoveredStays }
     ensures all { histories.CoveredByRecord }
+{}
+
+/// An exact history is the records of its events and counts, and nothing else. These records stay
+/// where more events come, and one more sync adds one record.
+pub fn sync_records()
+    ensures only { histories.ExactIsRecords }
+    ensures counts { histories.RecordsHaveCounts }
+    ensures exact { histories.RecordsAreExact }
+    ensures stay { histories.RecordsStay }
+    ensures grow { histories.RecordsGrow }
 {}
 
 /// The table after each of the first records of an exact history is the full table of what they

@@ -1,8 +1,9 @@
 //! Tests of the calls that packets cross: draws, session affinity, the store, tables, walks and
 //! decisions; of what is printed: worked examples of the printed lines, each call of kp_report,
 //! which gives exactly these lines, kp_gen, which gives the lines of a script, kp_rule_text and
-//! kp_restore, which read and print the texts of tables and batches; and tests with threads: events
-//! that four feed and one takes, and published tables that two read beside the publisher.
+//! kp_restore, which read and print the texts of tables and batches; tests with threads: events
+//! that four feed and one takes, and published tables that two read beside the publisher; and a
+//! plane that takes events one by one, syncs, tells its dirty ports and ends.
 #![tactic(auto)]
 
 #[cfg(test)]
@@ -19,6 +20,8 @@ mod draws;
 mod feeding;
 #[cfg(test)]
 mod listed;
+#[cfg(test)]
+mod planes;
 #[cfg(test)]
 mod pushing;
 #[cfg(test)]

@@ -8,14 +8,15 @@ use Rattle.kp_object_defs.specs.Objects.{objects_after}
 use Rattle.kp_object_defs.specs.SlicesNow.{slices_now}
 use Rattle.kp_table_defs.specs.Edits.{changes_between}
 use Rattle.kp_table_defs.specs.Rebuild.{clash_of, full_table}
-use Rattle.kp_history_defs.specs.History.{objects_covered, chains_covered}
-use Rattle.kp_history_laws.specs.HistoryLaws.{ExactByEvents}
+use Rattle.kp_history_defs.specs.History.{IsExactHistory, counts_of, objects_covered, chains_covered}
+use Rattle.kp_history_laws.specs.HistoryLaws.{ExactByEvents, RecordsStay}
 use Rattle.kp_events.specs.JournalContents.{Contents, HasRoom}
 use Rattle.kp_events.specs.JournalContents as journal
 use Rattle.kp_history.proofs.Synced.{within}
 use Rattle.kp_history.specs.Invariant.{IsHistory}
 use Rattle.kp_history.specs.declared.history.History.{History}
-use Rattle.kp_plane.specs.Parts.{PlaneParts, HasExactHistory, setting_in, syncs_in, batch_after, with_events}
+use Rattle.kp_plane.specs.Parts.{PlaneParts, HasExactHistory, setting_in, syncs_in, batch_after}
+use Rattle.kp_plane.specs.Parts.{with_events, records_in}
 use Rattle.kp_plane.specs.Invariant.{IsAtPlace, IsPlane, IsSlicesAt}
 use Rattle.kp_plane.specs.declared.place.ObjectsAt.{ObjectsAt}
 use Rattle.kp_plane.specs.declared.slices_at.SlicesAt.{SlicesAt}
@@ -27,19 +28,25 @@ module _ (p : PlaneParts) (more : List Event) where
       let all = within p h in
       ap objects_after (take-append-le (sum (take n p.counts)) p.events more (omega arith))
 
-  exact_same : ExactByEvents → HasExactHistory p → HasExactHistory (with_events p more)
-  exact_same stays h = record { records = h.records; counted = h.counted; exact = stays (setting_in p) p.events more h.records h.exact }
+  exact_same : ExactByEvents → RecordsStay → HasExactHistory p → HasExactHistory (with_events p more)
+  exact_same goes_on stay h =
+      let same = stay (setting_in p) p.events more p.counts (within p h) in
+      record {
+        counted = ap counts_of same ∙ h.counted;
+        exact = subst (IsExactHistory (setting_in p) (p.events ++ more)) (sym same)
+            (goes_on (setting_in p) p.events more (records_in p) h.exact);
+      }
 
   chains_same : HasExactHistory p → (n : ℕ) → chains_covered (setting_in p) (p.events ++ more) p.counts n ≡ chains_covered (setting_in p) p.events p.counts n
   chains_same h n = ap (λ o. (full_table (setting_in p) o).chains) (covered_same h n)
 
-  history_same : ExactByEvents → (h : History) → IsHistory p h → IsHistory (with_events p more) h
-  history_same stays h is = record {
+  history_same : ExactByEvents → RecordsStay → (h : History) → IsHistory p h → IsHistory (with_events p more) h
+  history_same goes_on stay h is = record {
     counts = is.counts;
     covered = is.covered;
     table = is.table ∙ (λ i. record { chains = sym (chains_same is.exact (syncs_in p)) i; syncs = syncs_in p });
     last = is.last ∙ (λ i. batch_after p.counts (changes_between (sym (chains_same is.exact (syncs_in p - 1)) i) (sym (chains_same is.exact (syncs_in p)) i)));
-    exact = exact_same stays is.exact;
+    exact = exact_same goes_on stay is.exact;
     no_clash = ap (clash_of (setting_in p)) (covered_same is.exact (syncs_in p)) ∙ is.no_clash;
   }
 
@@ -60,11 +67,11 @@ module _ (p : PlaneParts) (more : List Event) where
   }
 
   -- what holds of a plane's fields still does where more events are accepted
-  pub plane_same : ExactByEvents → (most : ℕ) (h : History) (latest explained : ObjectsAt) (slices : SlicesAt) → length (p.events ++ more) ≤ most → IsPlane p most h latest explained slices → IsPlane (with_events p more) most h latest explained slices
-  plane_same stays most h latest explained slices room is = record {
+  pub plane_same : ExactByEvents → RecordsStay → (most : ℕ) (h : History) (latest explained : ObjectsAt) (slices : SlicesAt) → length (p.events ++ more) ≤ most → IsPlane p most h latest explained slices → IsPlane (with_events p more) most h latest explained slices
+  plane_same goes_on stay most h latest explained slices room is = record {
     limit = is.limit;
     room = room;
-    history = history_same stays h is.history;
+    history = history_same goes_on stay h is.history;
     latest_at = place_same latest is.latest_at;
     explained_at = place_same explained is.explained_at;
     to = is.to;
@@ -72,13 +79,13 @@ module _ (p : PlaneParts) (more : List Event) where
   }
 
 -- a journal's answer keeps what holds of all fields
-pub accepted : ExactByEvents → {E : Type 0} (r : Result (Unit {0}) E) (p : PlaneParts) (more : List Event) (before after : Contents) (h : History) (latest explained : ObjectsAt) (slices : SlicesAt)
+pub accepted : ExactByEvents → RecordsStay → {E : Type 0} (r : Result (Unit {0}) E) (p : PlaneParts) (more : List Event) (before after : Contents) (h : History) (latest explained : ObjectsAt) (slices : SlicesAt)
     → OnOk r (after ≡ journal.with_events before more) → OnOk r (HasRoom before (length more)) → OnErr r (after ≡ before)
     → IsPlane (record p { events = before.events }) before.most h latest explained slices
     → IsPlane (record p { events = after.events }) after.most h latest explained slices
-accepted stays (Ok x) p more before after h latest explained slices ok fits err is =
+accepted goes_on stay (Ok x) p more before after h latest explained slices ok fits err is =
     let longer = length-append before.events more in
     subst (λ (j : Contents). IsPlane (record p { events = j.events }) j.most h latest explained slices) (sym ok)
-    (plane_same (record p { events = before.events }) more stays before.most h latest explained slices (omega (arith, longer, fits)) is)
-accepted stays (Err e) p more before after h latest explained slices ok fits err is =
+    (plane_same (record p { events = before.events }) more goes_on stay before.most h latest explained slices (omega (arith, longer, fits)) is)
+accepted goes_on stay (Err e) p more before after h latest explained slices ok fits err is =
     subst (λ (j : Contents). IsPlane (record p { events = j.events }) j.most h latest explained slices) (sym err) is

@@ -1,4 +1,5 @@
 mod Accepted
+mod Compared
 mod Places
 mod SlicesAtPlaces
 mod Start

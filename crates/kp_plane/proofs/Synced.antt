@@ -1,25 +1,39 @@
 -- What one more sync changes, and what it looks at.
-use Rattle.std.proofs.Common.{◌≡◌, ◌≤◌, ◌+◌, ℕ, List, [], ◌∷◌, ◌++◌, take, length, sum, refl, sym, ap, subst, ◌∙◌, arith, le_refl, Bool, true, false, ◌<◌, nat_lt}
+use Rattle.std.proofs.Common.{◌≡◌, ◌≤◌, ◌+◌, ℕ, suc, List, [], ◌∷◌, ◌++◌, take, length, sum, refl, sym, ap, subst, ◌∙◌, arith, le_refl, Bool, true, false, ◌<◌, nat_lt}
 use Rattle.std.proofs.lemmas.Bool.Decides.{nat_tests}
+use Rattle.std.proofs.Common.{◌-◌, flat_map}
+use Rattle.std.specs.BTreeMap.{BTreeMap}
+use Rattle.std.specs.FinMap.{values}
 use Rattle.std.proofs.lemmas.List.{take_all, take-append-le, length_push}
+use Rattle.std.proofs.lemmas.List.Sums.{sum_by-take-le}
+use Rattle.kp_base.specs.Keys.{port_key_cmp}
+use Rattle.kp_base.specs.declared.key.PortKey.{PortKey}
 use Rattle.kp_types.specs.declared.event.Event.{Event}
 use Rattle.kp_object_defs.specs.Objects.{Objects, objects_after}
 use Rattle.kp_base.specs.declared.address.Family.TheVariants.{V4}
-use Rattle.kp_object_defs.specs.PortInfo.{port_infos}
+use Rattle.kp_object_defs.specs.Order.{distinct_in_order}
+use Rattle.kp_object_defs.specs.PortByKey.{info_at, port_keys_of}
+use Rattle.kp_object_defs.specs.PortInfo.{PortInfo, port_infos}
 use Rattle.kp_object_defs.specs.SlicesNow.{slices_now}
 use Rattle.kp_full_table.specs.Parts.{all_rule_count}
 use Rattle.kp_types.specs.Setting.{config_for}
 use Rattle.kp_table_defs.specs.Edits.{SameRulesAreEqual, changes_between}
 use Rattle.kp_table_defs.specs.Rebuild.{TableParts, clash_of, full_table}
 use Rattle.kp_types.specs.declared.packet.Packet.{Packet}
+use Rattle.kp_types.specs.declared.sync.SyncRecord.{SyncRecord}
 use Rattle.kp_choice_defs.specs.Recent.{RecentParts}
 use Rattle.kp_door_defs.specs.Decision.{decision_of}
 use Rattle.kp_decide.specs.Told.{told}
+use Rattle.kp_history_defs.specs.DirtyPorts.{dirty_ports}
+use Rattle.kp_history_defs.specs.declared.dirty.DirtyPort.{DirtyPort}
 use Rattle.kp_history.specs.Parts.{PlaneParts, HasExactHistory, setting_in, uncovered_in, objects_in, table_in, chains_in, next_edits, next_chains, synced}
 use Rattle.kp_history.specs.Invariant.{IsHistory}
 use Rattle.kp_history.specs.declared.history.History.{History}
 use Rattle.kp_history.proofs.Synced.{all_counted, within}
-use Rattle.kp_plane.specs.Parts.{most_steps, explained_in}
+use Rattle.kp_plane.specs.Notes.{last_note}
+use Rattle.kp_plane.specs.declared.note.SyncNote.{SyncNote}
+use Rattle.kp_plane.specs.Compared.{dirty_of, known_in}
+use Rattle.kp_plane.specs.Parts.{most_steps, explained_in, syncs_in, next_record, dirty_in}
 use Rattle.kp_plane.specs.Invariant.{IsAtPlace, IsPlane, IsSlicesAt}
 use Rattle.kp_plane.specs.declared.place.ObjectsAt.{ObjectsAt}
 use Rattle.kp_plane.specs.declared.slices_at.SlicesAt.{SlicesAt}
@@ -146,3 +160,51 @@ pub same_decision : (p q : PlaneParts) → p ≡ q → (o : Objects) → o ≡ o
     → told (decision_of (setting_in p) o packet drawn lists) ≡ explained_in q packet drawn lists
 same_decision p q same o is packet drawn lists =
     ap (λ o. told (decision_of (setting_in p) o packet drawn lists)) is ∙ ap (λ r. explained_in r packet drawn lists) same
+
+-- ---- What a sync tells
+
+-- a record with the note's counts and these edits is the one that is added
+pub record_added : (p q : PlaneParts) (note : SyncNote) (r : SyncRecord) → q ≡ synced p
+    → note ≡ last_note (uncovered_in p) q
+    → r.sync ≡ note.sync → r.events ≡ note.events → r.batch.edits ≡ next_edits p
+    → r ≡ next_record p
+record_added p q note r next noted numbered counted edits =
+    let longer = length_push p.counts (uncovered_in p) in
+    let one : syncs_in (synced p) ≡ suc (syncs_in p) = omega arith in
+    λ i. record {
+      sync = (numbered ∙ ap (λ n. n.sync) noted ∙ ap syncs_in next ∙ one) i;
+      events = (counted ∙ ap (λ n. n.events) noted) i;
+      batch = record { edits = edits i };
+    }
+
+-- ---- Dirty ports
+
+module _ (p : PlaneParts) (h : History) (is : IsHistory p h) where
+  -- the events before the last sync are among those that it covers
+  pub before_within : (n : ℕ) → n ≡ sum (take (syncs_in p - 1) p.counts)
+      → (n ≤ h.covered) × (h.covered ≤ length p.events)
+  before_within n count =
+      let part = sum_by-take-le (λ (m : ℕ). m) p.counts (syncs_in p - 1) in
+      let few = within p is.exact in
+      let covered = is.covered in
+      (omega arith, omega arith)
+
+  -- what is known at the places before and behind the last sync tells the dirty ports
+  pub dirty_told : (from to : ObjectsAt) → IsAtPlace p.events from → IsAtPlace p.events to
+      → from.at ≡ sum (take (syncs_in p - 1) p.counts) → to.at ≡ h.covered
+      → (before after : BTreeMap PortKey PortInfo) (keys : List PortKey) (ports : List DirtyPort)
+      → ((key : PortKey)
+      → known_in before key ≡ info_at V4 (config_for V4 p.config) from.objects key)
+      → ((key : PortKey) → known_in after key ≡ info_at V4 (config_for V4 p.config) to.objects key)
+      → keys ≡ flat_map port_keys_of (values from.objects.services)
+      ++ flat_map port_keys_of (values to.objects.services)
+      → ports
+      ≡ dirty_of (known_in before) (known_in after) (distinct_in_order port_key_cmp keys)
+      → ports ≡ dirty_in p
+  dirty_told from to at_from at_to first last before after keys ports old new names told =
+      told
+      ∙ (λ i. dirty_of (λ key. old key i) (λ key. new key i)
+      (distinct_in_order port_key_cmp (names i)))
+      ∙ (λ i. dirty_ports (setting_in p)
+      ((at_from.objects ∙ ap (λ (n : ℕ). objects_after (take n p.events)) first) i)
+      (at_last p h to is at_to last i))

@@ -1,3 +1,4 @@
+pub mod Compared
 pub mod Invariant
 pub mod Notes
 pub mod Parts

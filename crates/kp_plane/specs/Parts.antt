@@ -1,6 +1,6 @@
 -- What contracts see of a plane: the parts that tables and batches are functions of, and what
 -- slices, decisions and walks are by them.
-use Rattle.std.specs.Prelude.{◌≡◌, ℕ, suc, List, [], ◌∷◌, ◌++◌, refl}
+use Rattle.std.specs.Prelude.{◌≡◌, ℕ, suc, ◌-◌, List, [], ◌∷◌, ◌++◌, refl}
 use Rattle.std.specs.Coded.{Coded, code_by, coded×, coded_ℕ, coded_list}
 use Rattle.std.specs.FinMap as finite
 use Rattle.kp_base.specs.declared.address.Family.TheVariants.{V4}
@@ -16,16 +16,19 @@ use Rattle.kp_types.specs.declared.packet.Packet.{Packet}
 use Rattle.kp_choice_defs.specs.Recent.{RecentParts}
 use Rattle.kp_door_defs.specs.Decision.{Decided, decision_of}
 use Rattle.kp_events.specs.JournalContents.{Contents}
-use Rattle.kp_object_defs.specs.Objects.{objects_after}
+use Rattle.kp_object_defs.specs.Objects.{Objects, objects_after}
 use Rattle.kp_object_defs.specs.PortInfo.{port_infos}
 use Rattle.kp_object_defs.specs.SlicesNow.{slices_now}
 use Rattle.kp_table_defs.specs.Walk.{Walked, walk_of}
 use Rattle.kp_full_table.specs.Parts.{all_rule_count}
 use Rattle.kp_walker.specs.Sets.{ComesToSet}
-use Rattle.kp_history_defs.specs.History.{IsExactRecord}
+use Rattle.kp_history_defs.specs.History.{IsExactRecord, objects_covered}
+use Rattle.kp_history_defs.specs.DirtyPorts.{dirty_ports}
+use Rattle.kp_history_defs.specs.declared.dirty.DirtyPort.{DirtyPort}
 pub use Rattle.kp_history.specs.Parts.{PlaneParts, HasExactHistory, setting_in, syncs_in, uncovered_in}
 pub use Rattle.kp_history.specs.Parts.{objects_in, chains_in, table_in, last_edits, batch_after, last_batch_in}
 pub use Rattle.kp_history.specs.Parts.{synced, next_chains, next_edits, chains_or}
+pub use Rattle.kp_history.specs.Parts.{records_in, next_record}
 
 -- how they are told apart as values
 abbrev pub parts_code : Coded PlaneParts
@@ -54,6 +57,14 @@ pub record IsNextRecord (p : PlaneParts) (r : SyncRecord) : Type 0 where
   pub events : r.events ≡ uncovered_in p
   pub exact : IsExactRecord (setting_in p) (objects_in p) (objects_after p.events)
       (suc (syncs_in p)) r
+
+-- the objects that the syncs before the last cover
+abbrev pub objects_before : PlaneParts → Objects
+objects_before p = objects_covered p.events p.counts (syncs_in p - 1)
+
+-- the ports of which something else is known after the last sync than before it
+abbrev pub dirty_in : PlaneParts → List DirtyPort
+dirty_in p = dirty_ports (setting_in p) (objects_before p) (objects_in p)
 
 -- the journal
 abbrev pub journal_in : PlaneParts → Contents

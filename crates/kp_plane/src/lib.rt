@@ -2,6 +2,7 @@
 //! answered by the last sync.
 #![tactic(auto)]
 
+mod dirty;
 pub mod laws;
 mod note;
 mod place;
@@ -10,6 +11,7 @@ mod slices_at;
 
 pub use kp_events::{Journal, JournalFault};
 pub use kp_full_table::TableFault;
+pub use kp_history_defs::DirtyPort;
 pub use kp_rules::Table;
 pub use kp_types::{Answer, Batch, Decision, SyncRecord};
 pub use note::SyncNote;

@@ -1,5 +1,6 @@
 //! The plane.
-ghost use Rattle.std.specs.Prelude.{◌≡◌, ◌+◌, ◌≤◌, ℕ, [], length, sum, count_by, not, true};
+ghost use Rattle.std.specs.Prelude.{◌≡◌, ◌+◌, ◌<◌, ◌≤◌, ℕ, [], ◌∷◌, ◌++◌, length, sum, count_by};
+ghost use Rattle.std.specs.Prelude.{not, true};
 ghost use Rattle.std.specs.Prelude.{None, IfOk, IfErr, OnOk, OnErr};
 ghost use Rattle.std.specs.Option.{option_copied};
 ghost use Rattle.kp_choice_defs.specs.Draws.{IsStated, AreDraws};
@@ -18,6 +19,7 @@ ghost use Rattle.kp_table_defs.specs.Rebuild.{clash_of};
 ghost use Rattle.kp_walk_laws.specs.Laws.{Agree};
 ghost use Rattle.kp_walker.specs.Answers.{answered};
 
+use crate::dirty::{dirty_among, known_at};
 use crate::laws::walk_decides;
 use crate::note::SyncNote;
 use crate::place::ObjectsAt;
@@ -28,13 +30,14 @@ use kp_draws::DrawSource;
 use kp_events::{Journal, JournalFault};
 use kp_full_table::{TableFault, rebuild};
 use kp_history::History;
+use kp_history_defs::DirtyPort;
 use kp_recent::RecentLists;
 use kp_rules::{Table, changed};
 use kp_types::{Answer, Batch, Decision, Edit, Event, Packet, Slice, SyncRecord, Verdict};
 use std::alloc::Global;
-use std::marker::Model;
+use std::marker::{Brand, Model};
 use std::mem::replace;
-use std::sync::ledger::Ledger;
+use std::sync::ledger::{Blank, Ledger};
 
 /// One order of events: those that were accepted, and the syncs that cover the first of them.
 pub struct Plane {
@@ -160,7 +163,24 @@ impl Plane {
         ensures err { OnErr result (self.new ≡ self.old) }
     {
         kp_history_laws::exact_histories();
+        kp_history_laws::sync_records();
         self.journal.push(events)
+    }
+
+    /// Accepts an event, or gives it back.
+    pub fn accept_one(&mut self, event: Event) -> Result<(), (JournalFault, Event)>
+        ensures ok { OnOk result (self.new ≡ parts.with_events self.old (event ∷ [])) }
+        ensures fits { OnOk result (HasRoom (parts.journal_in self.old) 1) }
+
+        // On a refusal nothing is accepted, and the caller gets the event back.
+        ensures cause { IfErr result (λ (fault, _).
+            Refuses (parts.journal_in self.old) 1 fault) }
+        ensures back { IfErr result (λ (_, returned). returned ≡ event) }
+        ensures err { OnErr result (self.new ≡ self.old) }
+    {
+        kp_history_laws::exact_histories();
+        kp_history_laws::sync_records();
+        self.journal.push_one(event)
     }
 
     /// Brings the table up to all events, and answers the record of that. It is refused exactly
@@ -172,6 +192,8 @@ impl Plane {
         steps: &mut Steps<L>,
     ) -> Result<SyncRecord, TableFault>
         ensures record { IfOk result (IsNextRecord self.old) }
+        ensures added { IfOk result (λ r. parts.records_in self.new
+            ≡ parts.records_in self.old ++ r ∷ []) }
         ensures ok { OnOk result (self.new ≡ parts.synced self.old) }
         ensures clash { IfErr result (TellsClash
             (clash_of (setting_in self.old) (objects_after self.old.events))) }
@@ -183,21 +205,17 @@ impl Plane {
     {
         let (batch, table) = self.next_batch(alloc, steps)?;
         let copy = batch.copy(alloc)?;
-        let events = self.uncovered();
-        self.keep(batch, table)?;
+        let note = self.keep(batch, table)?;
         Ok(SyncRecord {
-            sync: self.syncs(),
-            events,
+            sync: note.sync,
+            events: note.events,
             batch: copy,
         })
     }
 
-    /// Does what `sync` does, and answers its record's counts alone: no edit is copied.
-    pub fn sync_noted<L: Ledger>(
-        &mut self,
-        alloc: Global,
-        steps: &mut Steps<L>,
-    ) -> Result<SyncNote, TableFault>
+    /// Does what `sync` does, and answers its record's counts alone: no edit is copied, and its
+    /// steps are counted for nobody.
+    pub fn sync_noted(&mut self, alloc: Global) -> Result<SyncNote, TableFault>
         ensures note { IfOk result (λ n. n
             ≡ last_note (parts.uncovered_in self.old) self.new) }
         ensures no_clash { OnOk result (
@@ -206,21 +224,8 @@ impl Plane {
         ensures clash { IfErr result (TellsClash
             (clash_of (setting_in self.old) (objects_after self.old.events))) }
         ensures err { OnErr result (self.new ≡ self.old) }
-
-        // It takes a step for each rule of a port, and none where no event came since the last one.
-        ensures bound { steps.new ≤ steps.old + parts.most_steps self.old }
-        ensures unchanged { parts.uncovered_in self.old ≡ 0 → steps.new ≡ steps.old }
     {
-        let (batch, table) = self.next_batch(alloc, steps)?;
-        let (written, removed) = counts(batch.edits.as_slice());
-        let events = self.uncovered();
-        self.keep(batch, table)?;
-        Ok(SyncNote {
-            sync: self.syncs(),
-            events,
-            written,
-            removed,
-        })
+        self.sync_uncounted::<Brand>(alloc, Blank::new(1))
     }
 
     /// Walks a packet of this number through the table: its verdict and the recent lists are those
@@ -342,6 +347,40 @@ impl Plane {
         self.slices.slices.copies(alloc)
     }
 
+    /// The ports of which something else is known after the last sync than before it, in order of
+    /// their names, each with what was known of it. Before the first sync there is none.
+    pub fn dirty(&self, alloc: Global) -> Result<Items<DirtyPort>, NoMemory>
+        ensures { IfOk result (λ ports. ports ≡ parts.dirty_in self.now) }
+    {
+        let events = self.journal.events();
+        let mut place = ObjectsAt::start(alloc);
+        let mut keys = Vec::new(alloc);
+        place.advance(alloc, events, self.history.covered_before() as usize)?;
+        let before = known_at(alloc, &self.config, &place.objects, &mut keys)?;
+        place.advance(alloc, events, self.history.covered as usize)?;
+        let after = known_at(alloc, &self.config, &place.objects, &mut keys)?;
+        dirty_among(alloc, keys, &before, &after)
+    }
+
+    /// What a plane that ends holds: its events, how many of them each sync covers more than the
+    /// one before it, and its table.
+    pub fn into_parts(self) -> (Items<Event>, Items<u64>, Table)
+        ensures events { result.0 ≡ self.events }
+        ensures counts { result.1 ≡ self.counts }
+        ensures table { result.2 ≡ parts.table_in self }
+    {
+        let Plane {
+            config,
+            journal,
+            history,
+            latest,
+            explained,
+            slices,
+        } = self;
+        let (counts, table) = history.into_parts();
+        (journal.into_events(), Items::from_vec(counts), table)
+    }
+
     /// What walking the table rests on: its jumps go to chains of greater ranks, it has the
     /// built-in chains, and it sends each packet where the objects say.
     fn decides(&self)
@@ -399,18 +438,53 @@ impl Plane {
         Ok((batch, Some(table)))
     }
 
-    /// Keeps the batch of a sync of all events, and the table that it leads to.
-    fn keep(&mut self, batch: Batch, table: Option<Table>) -> Result<(), NoMemory>
+    /// A sync whose steps nobody counts.
+    fn sync_uncounted<L: Ledger>(
+        &mut self,
+        alloc: Global,
+        blank: Blank,
+    ) -> Result<SyncNote, TableFault>
+        requires name { blank.name ≡ L.name }
+        requires parts { blank.parts ≡ L.parts }
+        requires some { 0 < blank.parts }
+        ensures note { IfOk result (λ n. n
+            ≡ last_note (parts.uncovered_in self.old) self.new) }
+        ensures no_clash { OnOk result (
+            clash_of (setting_in self.old) (objects_after self.old.events) ≡ None) }
+        ensures ok { OnOk result (self.new ≡ parts.synced self.old) }
+        ensures clash { IfErr result (TellsClash
+            (clash_of (setting_in self.old) (objects_after self.old.events))) }
+        ensures err { OnErr result (self.new ≡ self.old) }
+    {
+        let mut steps = Steps::<L>::new(blank);
+        let (batch, table) = self.next_batch(alloc, &mut steps)?;
+        Ok(self.keep(batch, table)?)
+    }
+
+    /// Keeps the batch of a sync of all events, and the table that it leads to, and tells of it.
+    fn keep(&mut self, batch: Batch, table: Option<Table>) -> Result<SyncNote, NoMemory>
         requires edits { batch.edits ≡ parts.next_edits self.old }
         requires table { parts.chains_or (parts.chains_in self.old) table
             ≡ parts.next_chains self.old }
         requires no_clash { clash_of (setting_in self.old) (objects_after self.old.events) ≡ None }
-        ensures last { parts.last_edits (parts.synced self.old) ≡ parts.next_edits self.old }
+        ensures records { parts.records_in (parts.synced self.old)
+            ≡ parts.records_in self.old ++ parts.next_record self.old ∷ [] }
+        ensures note { IfOk result (λ n. n
+            ≡ last_note (parts.uncovered_in self.old) self.new) }
         ensures ok { OnOk result (self.new ≡ parts.synced self.old) }
         ensures err { OnErr result (self.new ≡ self.old) }
     {
+        kp_history_laws::sync_records();
+        let (written, removed) = counts(batch.edits.as_slice());
+        let events = self.uncovered();
         let covered = self.journal.events().len() as u64;
-        self.history.record(covered, batch, table)
+        self.history.record(covered, batch, table)?;
+        Ok(SyncNote {
+            sync: self.syncs(),
+            events,
+            written,
+            removed,
+        })
     }
 }
 

@@ -1,20 +1,15 @@
 //! Syncs of a replay.
-ghost use Rattle.std.specs.Prelude.{◌≡◌, ◌<◌, string_bytes, None, IfOk, OnOk, IfErr, OnErr};
+ghost use Rattle.std.specs.Prelude.{string_bytes, OnOk};
 ghost use Rattle.kp_object_defs.specs.Objects.{objects_after};
 ghost use Rattle.kp_table_defs.specs.Rebuild.{clash_of};
-ghost use Rattle.kp_full_table.specs.Faults.{TellsClash};
-ghost use Rattle.kp_plane.specs.Notes.{last_note};
-ghost use Rattle.kp_plane.specs.Parts as parts;
 ghost use Rattle.kp_run_defs.specs.ReplayText as spec;
 
 use crate::replay::Replay;
-use kp_base::{NoMemory, Steps};
-use kp_plane::{Plane, SyncNote, TableFault};
+use kp_base::NoMemory;
+use kp_plane::TableFault;
 use kp_report::push_sync;
 use kp_script::LineRefusal;
 use std::alloc::Global;
-use std::marker::Brand;
-use std::sync::ledger::{Blank, Ledger};
 
 impl Replay {
     ghost use Rattle.kp_replay.specs.Steps.{standing_of, Takes};
@@ -31,7 +26,7 @@ impl Replay {
             (objects_after (standing_of self.old).events)) (standing_of self.old))
             self.new (string_bytes text.old) (string_bytes text.new)) }
     {
-        match sync_uncounted::<Brand>(alloc, &mut self.plane, Blank::new(1)) {
+        match self.plane.sync_noted(alloc) {
             Ok(note) => push_sync(text, note.sync, note.events, note.written, note.removed),
             Err(TableFault::ChainClash(clash)) => {
                 self.refuse(alloc, number, &LineRefusal::ChainClash(clash), text)
@@ -39,25 +34,4 @@ impl Replay {
             Err(TableFault::NoMemory) => Err(NoMemory),
         }
     }
-}
-
-/// A sync whose steps nobody counts.
-pub(crate) fn sync_uncounted<L: Ledger>(
-    alloc: Global,
-    plane: &mut Plane,
-    blank: Blank,
-) -> Result<SyncNote, TableFault>
-    requires name { blank.name ≡ L.name }
-    requires parts { blank.parts ≡ L.parts }
-    requires some { 0 < blank.parts }
-    ensures note { IfOk result (λ n. n ≡ last_note (parts.uncovered_in plane.old) plane.new) }
-    ensures no_clash { OnOk result (
-        clash_of (parts.setting_in plane.old) (objects_after plane.old.events) ≡ None) }
-    ensures ok { OnOk result (plane.new ≡ parts.synced plane.old) }
-    ensures clash { IfErr result (TellsClash
-        (clash_of (parts.setting_in plane.old) (objects_after plane.old.events))) }
-    ensures err { OnErr result (plane.new ≡ plane.old) }
-{
-    let mut steps = Steps::<L>::new(blank);
-    plane.sync_noted(alloc, &mut steps)
 }

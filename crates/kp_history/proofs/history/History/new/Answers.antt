@@ -10,6 +10,6 @@ returns c = λ config events. record {
   covered = refl;
   table = c.in_ok-fixed_chains.ensures ∙ first_table config;
   last = refl;
-  exact = record { records = []; counted = refl; exact = c.exact_histories.ensures.at_first (setting_of V4 config) events };
+  exact = record { counted = refl; exact = c.exact_histories.ensures.at_first (setting_of V4 config) events };
   no_clash = first_no_clash (setting_of V4 config);
 }

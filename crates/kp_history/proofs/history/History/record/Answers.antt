@@ -10,4 +10,5 @@ returns-clause-ok c = λ p is all no_clash edits leads.
     let pushed : c.push.new.self.items ≡ c.args.self.now.counts.items ++ (c.args.covered - c.args.self.now.covered) ∷ [] = search rules in
     let made : c.take_over.new.table ≡ (record { chains = chains_or c.args.self.now.table.chains c.args.table; syncs = length c.push.new.self.items }) =
     c.take_over.ensures ∙ (λ i. record { chains = chains_or c.args.self.now.table.chains c.args.table; syncs = length (c.as_slice.ensures.value i) }) in
-    history_next c.exact_histories.ensures.by_record p c.args.self.now after c.args.covered c.args.batch c.args.table is all no_clash edits leads pushed refl made refl
+    history_next c.exact_histories.ensures.by_record c.sync_records.ensures.counts c.sync_records.ensures.grow
+    p c.args.self.now after c.args.covered c.args.batch c.args.table is all no_clash edits leads pushed refl made refl

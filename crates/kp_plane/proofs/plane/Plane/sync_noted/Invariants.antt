@@ -1,4 +1,4 @@
-use Rattle.kp_replay.proofs.replay.Replay.sync.Given as goal
+use Rattle.kp_plane.proofs.plane.Plane.sync_noted.Given as goal
 
 -- the ledger is that of the blank
 abbrev pub ghosts-sync_uncounted : goal.ghosts-sync_uncounted

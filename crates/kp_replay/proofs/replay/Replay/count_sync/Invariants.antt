@@ -1,5 +1,0 @@
-use Rattle.kp_replay.proofs.replay.Replay.count_sync.Given as goal
-
--- the ledger is that of the blank
-abbrev pub ghosts-sync_uncounted : goal.ghosts-sync_uncounted
-ghosts-sync_uncounted a = record { name = a.blank.name; parts = a.blank.parts }
