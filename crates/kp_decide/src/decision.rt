@@ -1,14 +1,20 @@
 //! The decision on a packet: the filter's refusal, or its translation, or neither.
-ghost use Rattle.std.specs.Prelude.{◌≡◌, ℕ, List, IfOk, None, Some};
+ghost use Rattle.std.specs.Prelude.{◌≡◌, ℕ, ◌<◌, List, map, IfOk, None, Some};
+ghost use Rattle.std.specs.List.{filter_map, flat_map};
+ghost use Rattle.kp_base.specs.Keys.{port_key_cmp};
 ghost use Rattle.kp_base.specs.declared.address.Family.TheVariants.{V4};
 ghost use Rattle.kp_choice_defs.specs.Draws.{IsStated, AreDraws};
 ghost use Rattle.kp_choice_defs.specs.Recent.{RecentParts};
 ghost use Rattle.kp_choice_defs.specs.Settings.{setting_of};
 ghost use Rattle.kp_types.specs.Setting.{config_for};
 ghost use Rattle.kp_types.specs.declared.packet.Packet.{Packet};
+ghost use Rattle.kp_object_defs.specs.Order.{distinct_in_order};
+ghost use Rattle.kp_object_defs.specs.OwnKeys.{AreUnderOwnKeys};
+ghost use Rattle.kp_object_defs.specs.PortByKey.{info_at, port_keys_of};
 ghost use Rattle.kp_object_defs.specs.PortInfo as known;
 ghost use Rattle.kp_types.specs.declared.info.PortInfo.{PortInfo};
 ghost use Rattle.kp_door_defs.specs.Decision as spec;
+ghost use Rattle.kp_port_infos.specs.Known.{AreStored};
 ghost use Rattle.kp_decide.specs.Enough.{AreEnough};
 ghost use Rattle.kp_decide.specs.Told.{told, translation_told, passed_by};
 
@@ -16,13 +22,15 @@ use crate::filter::filtered;
 use crate::lines::{Line, Refusal};
 use crate::masquerade::is_masqueraded;
 use crate::translation::{Translation, translation_of};
-use kp_base::{Config, Copied, Endpoint, NoMemory};
+use kp_base::{Config, Copied, Endpoint, NoMemory, Steps};
 use kp_draws::DrawSource;
 use kp_port_infos::infos_of_services;
 use kp_recent::RecentLists;
 use kp_store::Objects;
-use kp_types::{Decision, Packet, PortInfo, Reason, Verdict};
+use kp_types::{Decision, Packet, PortInfo, Reason, Service, Verdict};
 use std::alloc::Global;
+use std::marker::Brand;
+use std::sync::ledger::{Blank, Ledger};
 
 /// The decision on a packet by the objects alone, with its reason (Kubernetes documents on virtual
 /// IPs and service proxies). The number is the packet's for its draws. The recent lists stay as
@@ -60,7 +68,28 @@ fn infos_at(
         (known.port_infos V4 (config_for V4 config.now) objects.now)) }
 {
     let services = objects.services_at(alloc, packet.proto, &packet.target, packet.port)?;
-    infos_of_services(alloc, objects, config, services.as_slice())
+    infos_uncounted::<Brand>(alloc, objects, config, services.as_slice(), Blank::new(1))
+}
+
+/// What is known of the ports of some Services of the objects, whose steps nobody counts.
+fn infos_uncounted<A: Ledger>(
+    alloc: Global,
+    objects: &Objects,
+    config: &Config,
+    services: &[&Service],
+    blank: Blank,
+) -> Result<Vec<PortInfo>, NoMemory>
+    requires name { blank.name ≡ A.name }
+    requires parts { blank.parts ≡ A.parts }
+    requires some { 0 < blank.parts }
+    requires own_keys { AreUnderOwnKeys objects.now }
+    requires stored { AreStored objects.now (map (λ s. s.now) services.now) }
+    ensures { IfOk result (λ is. is.items
+        ≡ filter_map (info_at V4 (config_for V4 config.now) objects.now)
+        (distinct_in_order port_key_cmp (flat_map port_keys_of (map (λ s. s.now) services.now)))) }
+{
+    let mut asked = Steps::<A>::new(blank);
+    infos_of_services(alloc, objects, config, services, &mut asked)
 }
 
 /// The decision on a packet that is translated.

@@ -11,7 +11,7 @@ ghost use Rattle.kp_table_defs.specs.Layout as layout;
 ghost use Rattle.kp_table_defs.specs.Rebuild.{clash_of, full_chains, full_table, needed_keys};
 ghost use Rattle.kp_chains.specs.Rows.{rows_of_texts};
 ghost use Rattle.kp_full_table.specs.Faults.{TellsClash};
-ghost use Rattle.kp_full_table.specs.Parts.{IsPartOf, all_rule_count};
+ghost use Rattle.kp_full_table.specs.Parts.{IsPartOf, all_port_count, all_rule_count};
 
 use crate::fault::TableFault;
 use crate::keys::needed_keys;
@@ -29,12 +29,14 @@ use std::sync::ledger::Ledger;
 /// The full table of the objects in IPv4, laid out as kube-proxy's iptables mode lays it out
 /// (Kubernetes documents on virtual IPs), with a count of batches of 0. It is refused exactly where
 /// two different chains that are needed have one name; the clash is the one whose first chain comes
-/// first, and of those the one whose second chain does. A step is taken for each rule of a port.
-pub fn rebuild<L: Ledger>(
+/// first, and of those the one whose second chain does. A step is taken for each rule of a port,
+/// and one of the other count for each port that the objects are asked about.
+pub fn rebuild<L: Ledger, A: Ledger>(
     alloc: Global,
     objects: &Objects,
     config: &Config,
     steps: &mut Steps<L>,
+    asked: &mut Steps<A>,
 ) -> Result<Table, TableFault>
     ensures full { IfOk result (λ t. t ≡ full_table (setting_of V4 config.now) objects.now) }
     ensures no_clash { OnOk result (clash_of (setting_of V4 config.now) objects.now ≡ None) }
@@ -43,8 +45,10 @@ pub fn rebuild<L: Ledger>(
         (known.port_infos V4 (config_for V4 config.now) objects.now)) }
     ensures bound { steps.new ≤ steps.old + all_rule_count (setting_of V4 config.now)
         (known.port_infos V4 (config_for V4 config.now) objects.now) }
+    ensures asked { OnOk result (asked.new ≡ asked.old + all_port_count objects.now) }
+    ensures asked_bound { asked.new ≤ asked.old + all_port_count objects.now }
 {
-    let infos = port_infos(alloc, objects, config)?;
+    let infos = port_infos(alloc, objects, config, asked)?;
     table_of_infos(alloc, config, infos.as_slice(), steps)
 }
 

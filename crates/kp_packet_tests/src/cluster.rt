@@ -159,22 +159,27 @@ impl Cluster {
 
 /// The full table of objects.
 fn table_of(alloc: Global, objects: &Objects, config: &Config) -> Result<Table, TableFault> {
-    uncounted::<Brand>(alloc, Blank::new(1), objects, config)
+    uncounted::<Brand, Brand>(alloc, Blank::new(1), Blank::new(1), objects, config)
 }
 
 /// A rebuild whose steps nobody counts.
-fn uncounted<L: Ledger>(
+fn uncounted<L: Ledger, A: Ledger>(
     alloc: Global,
-    blank: Blank,
+    rules: Blank,
+    ports: Blank,
     objects: &Objects,
     config: &Config,
 ) -> Result<Table, TableFault>
-    requires name { blank.name ≡ L.name }
-    requires parts { blank.parts ≡ L.parts }
-    requires some { 0 < blank.parts }
+    requires rules_name { rules.name ≡ L.name }
+    requires rules_parts { rules.parts ≡ L.parts }
+    requires some_rules { 0 < rules.parts }
+    requires ports_name { ports.name ≡ A.name }
+    requires ports_parts { ports.parts ≡ A.parts }
+    requires some_ports { 0 < ports.parts }
 {
-    let mut steps = Steps::<L>::new(blank);
-    rebuild(alloc, objects, config, &mut steps)
+    let mut steps = Steps::<L>::new(rules);
+    let mut asked = Steps::<A>::new(ports);
+    rebuild(alloc, objects, config, &mut steps, &mut asked)
 }
 
 /// Adds the line of a sync with this batch.

@@ -30,13 +30,6 @@ known_push family node zone ports port =
     sym (insert-through port_key_cmp (λ k. k) (info_of family node zone) (λ a b. refl) named (name_of_port port) port)
     ∙ ap (map (λ e. (e.0, info_of family node zone e.1))) (insert-put {C = port_key_cmp} (λ a b. refl) named (name_of_port port) port ∙ sym (by_key-push port_key_cmp name_of_port ports port))
 
--- the ports of several Services and of one more
-pub more_ports : (from : Service → ServiceSources) (ss : List (Bor Service)) (s : Bor Service) → flat_map ports_of (map from (map (λ t. t.now) ss)) ++ ports_of (from s.now) ≡ flat_map ports_of (map from (map (λ t. t.now) (ss ++ s ∷ [])))
-more_ports from [] s = sym (append-nil (ports_of (from s.now)))
-more_ports from (t ∷ ss) s =
-    append_assoc (ports_of (from t.now)) (flat_map ports_of (map from (map (λ t. t.now) ss))) (ports_of (from s.now))
-    ∙ ap (λ rest. ports_of (from t.now) ++ rest) (more_ports from ss s)
-
 module _ (family : Family) (config : FamilyConfig) (o : Objects) (s : Service) where
   -- a Service with some of its ports
   abbrev pub with_ports : List ServicePort → List (ServiceSources × ServicePort)

@@ -1,6 +1,7 @@
 -- What is known of the ports of Services that the store has.
-use Rattle.std.specs.Prelude.{◌≡◌, ℕ, List, map, Contains, Option, Some, option_map, option_and_then}
-use Rattle.std.specs.FinMap.{get}
+use Rattle.std.specs.Prelude.{◌≡◌, ℕ, List, length, map, Contains, Option, Some, option_map, option_and_then}
+use Rattle.std.specs.List.{sum_by}
+use Rattle.std.specs.FinMap.{get, values}
 use Rattle.kp_base.specs.Keys.{port_key_cmp}
 use Rattle.kp_base.specs.declared.address.Family.{Family}
 use Rattle.kp_base.specs.declared.key.PortKey.{PortKey}
@@ -35,3 +36,15 @@ abbrev pub known_in_part :
     Family → List ℕ → Option (List ℕ) → ServicePort → Option ServiceSources → Option PortInfo
 known_in_part family node zone port sources =
     option_and_then (λ from. info_of family node zone (from, port)) sources
+
+-- how many ports a Service has
+abbrev pub ports_in : Service → ℕ
+ports_in s = length s.ports
+
+-- how many ports Services have together, which is how many names of ports there are
+abbrev pub port_count : List Service → ℕ
+port_count services = sum_by ports_in services
+
+-- how many ports all Services of the objects have together
+abbrev pub all_port_count : Objects → ℕ
+all_port_count o = port_count (values o.services)

@@ -1,5 +1,5 @@
 //! What the proxy knows of the ports of Services, in order of the ports' names.
-ghost use Rattle.std.specs.Prelude.{◌≡◌, ◌++◌, List, map, Some, IfOk, OnOk};
+ghost use Rattle.std.specs.Prelude.{◌≡◌, ◌+◌, ◌≤◌, ◌++◌, List, length, map, Some, IfOk, OnOk};
 ghost use Rattle.std.specs.FinMap.{get};
 ghost use Rattle.std.specs.List.{filter_map, flat_map};
 ghost use Rattle.kp_base.specs.Keys.{port_key_cmp};
@@ -14,37 +14,44 @@ ghost use Rattle.kp_object_defs.specs.OwnKeys.{AreUnderOwnKeys};
 ghost use Rattle.kp_object_defs.specs.PortByKey.{info_at, port_keys_of};
 ghost use Rattle.kp_object_defs.specs.PortInfo as spec;
 ghost use Rattle.kp_port_infos.specs.Known.{AreStored, known_ports, sources_in};
+ghost use Rattle.kp_port_infos.specs.Known.{all_port_count, port_count};
 
 use crate::ports::add_port;
 use crate::sources::sources_in_part;
-use kp_base::{Config, NoMemory, PortKey};
+use kp_base::{Config, NoMemory, PortKey, Steps};
 use kp_store::Objects;
 use kp_types::{PortInfo, Service, ServiceSources};
 use std::alloc::Global;
 use std::collections::BTreeMap;
+use std::sync::ledger::Ledger;
 
 /// What the proxy knows of all Service ports in IPv4, in order of their names (Kubernetes documents
-/// on Services). A Service without a cluster address takes no part.
-pub fn port_infos(
+/// on Services). A Service without a cluster address takes no part. A step is taken for each port
+/// that the objects are asked about.
+pub fn port_infos<A: Ledger>(
     alloc: Global,
     objects: &Objects,
     config: &Config,
+    asked: &mut Steps<A>,
 ) -> Result<Vec<PortInfo>, NoMemory>
-    ensures { IfOk result (λ is. is.items
+    ensures infos { IfOk result (λ is. is.items
         ≡ spec.port_infos V4 (config_for V4 config.now) objects.now) }
+    ensures steps { OnOk result (asked.new ≡ asked.old + all_port_count objects.now) }
+    ensures bound { asked.new ≤ asked.old + all_port_count objects.now }
 {
     let services = objects.all_services(alloc)?;
-    infos_of_services(alloc, objects, config, services.as_slice())
+    infos_of_services(alloc, objects, config, services.as_slice(), asked)
 }
 
 /// What the proxy knows of the ports of some Services of the objects in IPv4, in order of the
 /// ports' names: what is found by these names. What a Service's endpoints are taken from is asked
-/// of the objects once for all its ports.
-pub fn infos_of_services(
+/// of the objects once for all its ports. A step is taken for each of the ports.
+pub fn infos_of_services<A: Ledger>(
     alloc: Global,
     objects: &Objects,
     config: &Config,
     services: &[&Service],
+    asked: &mut Steps<A>,
 ) -> Result<Vec<PortInfo>, NoMemory>
     requires own_keys { AreUnderOwnKeys objects.now }
     requires stored { AreStored objects.now (map (λ s. s.now) services.now) }
@@ -55,69 +62,83 @@ pub fn infos_of_services(
     ensures by_name { IfOk result (λ is. is.items
         ≡ filter_map (info_at V4 (config_for V4 config.now) objects.now)
         (distinct_in_order port_key_cmp (flat_map port_keys_of (map (λ s. s.now) services.now)))) }
+    ensures steps { OnOk result (asked.new
+        ≡ asked.old + port_count (map (λ s. s.now) services.now)) }
+    ensures bound { asked.new ≤ asked.old + port_count (map (λ s. s.now) services.now) }
 {
-    let known = known_of_services(alloc, objects, config, services)?;
+    let known = known_of_services(alloc, objects, config, services, asked)?;
     Ok(known.into_values().filter_map(|info| info).collect(alloc)?)
 }
 
 /// What is known of the ports of Services, by the ports' names.
-fn known_of_services(
+fn known_of_services<A: Ledger>(
     alloc: Global,
     objects: &Objects,
     config: &Config,
     services: &[&Service],
+    asked: &mut Steps<A>,
 ) -> Result<BTreeMap<PortKey, Option<PortInfo>>, NoMemory>
-    ensures { IfOk result (λ known. known.entries
+    ensures known { IfOk result (λ known. known.entries
         ≡ known_ports V4 config.now.node (zone_of objects.now config.now.node)
         (flat_map spec.ports_of (map (sources_of V4 (config_for V4 config.now) objects.now)
         (map (λ s. s.now) services.now)))) }
+    ensures steps { OnOk result (asked.new
+        ≡ asked.old + port_count (map (λ s. s.now) services.now)) }
+    ensures bound { asked.new ≤ asked.old + port_count (map (λ s. s.now) services.now) }
 {
     let mut known = BTreeMap::new(alloc);
     for service in services {
-        add_service(alloc, &mut known, objects, config, *service)?;
+        add_service(alloc, &mut known, objects, config, *service, asked)?;
     }
     Ok(known)
 }
 
 /// Adds what is known of the ports of a Service.
-fn add_service(
+fn add_service<A: Ledger>(
     alloc: Global,
     known: &mut BTreeMap<PortKey, Option<PortInfo>>,
     objects: &Objects,
     config: &Config,
     service: &Service,
+    asked: &mut Steps<A>,
 ) -> Result<(), NoMemory>
-    ensures { (before : List (Sources × ServicePort)) → known.old.entries
+    ensures known { (before : List (Sources × ServicePort)) → known.old.entries
         ≡ known_ports V4 config.now.node (zone_of objects.now config.now.node) before →
         OnOk result (known.new.entries
         ≡ known_ports V4 config.now.node (zone_of objects.now config.now.node)
         (before ++ spec.ports_of
         (sources_of V4 (config_for V4 config.now) objects.now service.now))) }
+    ensures steps { OnOk result (asked.new ≡ asked.old + length service.now.ports) }
+    ensures bound { asked.new ≤ asked.old + length service.now.ports }
 {
     let sources = sources_in_part(alloc, objects, config, service)?;
-    add_ports(alloc, known, objects, config, service, &sources)
+    add_ports(alloc, known, objects, config, service, &sources, asked)
 }
 
 /// Adds what is known of the ports of a Service, by what its endpoints are taken from.
-fn add_ports(
+fn add_ports<A: Ledger>(
     alloc: Global,
     known: &mut BTreeMap<PortKey, Option<PortInfo>>,
     objects: &Objects,
     config: &Config,
     service: &Service,
     sources: &Option<ServiceSources>,
+    asked: &mut Steps<A>,
 ) -> Result<(), NoMemory>
     requires taken { sources.now
         ≡ sources_in V4 (config_for V4 config.now) objects.now service.now }
-    ensures { (before : List (Sources × ServicePort)) → known.old.entries
+    ensures known { (before : List (Sources × ServicePort)) → known.old.entries
         ≡ known_ports V4 config.now.node (zone_of objects.now config.now.node) before →
         OnOk result (known.new.entries
         ≡ known_ports V4 config.now.node (zone_of objects.now config.now.node)
         (before ++ spec.ports_of
         (sources_of V4 (config_for V4 config.now) objects.now service.now))) }
+    ensures steps { OnOk result (asked.new ≡ asked.old + length service.now.ports) }
+    ensures bound { asked.new ≤ asked.old + length service.now.ports }
 {
     let zone = objects.zone_of(&config.node);
     for port in service.ports.as_slice() {
+        asked.tick();
         add_port(alloc, known, config, zone, service, sources, port)?;
     }
     Ok(())

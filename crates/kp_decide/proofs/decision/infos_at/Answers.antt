@@ -13,8 +13,8 @@ use Rattle.kp_decide.specs.Enough.{AreEnough}
 use Rattle.kp_decide.proofs.Enough.{enough}
 use Rattle.kp_decide.proofs.decision.infos_at.Goals as goal
 
-pub infos_of_services-requires-clause-stored : goal.infos_of_services-requires-clause-stored
-infos_of_services-requires-clause-stored c =
+pub infos_uncounted-requires-clause-stored : goal.infos_uncounted-requires-clause-stored
+infos_uncounted-requires-clause-stored c =
     let o = c.args.objects.now in
     let packet = c.args.packet.now in
     let found = ap (map (λ s. s.now)) c.as_slice.ensures.value ∙ c.in_ok-services.ensures.found in
@@ -28,11 +28,11 @@ returns c =
     let all = port_infos V4 config o in
     let services = c.as_slice.result.now in
     let found = ap (map (λ s. s.now)) c.as_slice.ensures.value ∙ c.in_ok-services.ensures.found in
-    IfOk-weaker c.infos_of_services.result
+    IfOk-weaker c.infos_uncounted.result
     (λ is. is.items ≡ filter_map (info_at V4 config o) (distinct_in_order port_key_cmp (flat_map port_keys_of (map (λ s. s.now) services))))
     (λ is. AreEnough config packet is.items all)
     (λ is same.
     subst (λ infos. AreEnough config packet infos all)
     (sym (same ∙ ap (λ ss. filter_map (info_at V4 config o) (distinct_in_order port_key_cmp (flat_map port_keys_of ss))) found))
     (enough V4 config o c.services_at.ensures.own_keys packet))
-    c.infos_of_services.ensures.by_name
+    c.infos_uncounted.ensures

@@ -1,4 +1,4 @@
-use Rattle.std.proofs.Common.{◌≡◌, List, [], ◌∷◌, ◌++◌, ◌+◌, take, sym, ap, ◌∙◌}
+use Rattle.std.proofs.Common.{◌≡◌, List, [], ◌∷◌, ◌++◌, ◌+◌, take, sym, ap, ◌∙◌, arith}
 use Rattle.std.specs.FinMap.{put}
 use Rattle.std.proofs.lemmas.List.{take_more}
 use Rattle.kp_base.specs.Keys.{port_key_cmp}
@@ -12,7 +12,7 @@ use Rattle.kp_port_infos.proofs.KnownPorts.{next_port, with_ports}
 use Rattle.kp_port_infos.proofs.infos.add_ports.Goals as goal
 
 pub loop-port-preserved : goal.loop-port-preserved
-loop-port-preserved c before h =
+loop-port-preserved g c =
     let config = config_for V4 c.args.config.now in
     let o = c.args.objects.now in
     let s = c.args.service.now in
@@ -24,7 +24,11 @@ loop-port-preserved c before h =
     ∙ ap (λ q. take i items ++ q ∷ []) c.port-item.is
     ∙ sym (take_more items i p c.loop-port-test.true)
     ∙ ap (take (i + 1)) c.as_slice-port-items.ensures in
-    c.in_ok-add_port.ensures
-    ∙ (λ j. put port_key_cmp (port_key_of s p) (known_in_part V4 config.node (c.zone_of-zone.ensures j) p (c.requires.taken j)) (c.loop-port.invariant before h j))
-    ∙ next_port V4 config o s before (take i s.ports) p
-    ∙ ap (λ (ps : List ServicePort). known_ports V4 config.node (zone_of o config.node) (before ++ with_ports V4 config o s ps)) next
+    record {
+      known = λ before h.
+          c.in_ok-add_port.ensures
+          ∙ (λ j. put port_key_cmp (port_key_of s p) (known_in_part V4 config.node (c.zone_of-zone.ensures j) p (c.requires.taken j)) (c.loop-port.invariant.known before h j))
+          ∙ next_port V4 config o s before (take i s.ports) p
+          ∙ ap (λ (ps : List ServicePort). known_ports V4 config.node (zone_of o config.node) (before ++ with_ports V4 config o s ps)) next;
+      asked = omega (arith, c.loop-port.invariant.asked, c.tick.ensures);
+    }

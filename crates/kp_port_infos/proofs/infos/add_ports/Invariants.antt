@@ -1,5 +1,5 @@
--- The ports so far were added to those of before.
-use Rattle.std.proofs.Common.{◌≡◌, List, ◌++◌, take}
+-- The ports so far were added to those of before, each after a step.
+use Rattle.std.proofs.Common.{◌≡◌, ◌+◌, List, ◌++◌, take}
 use Rattle.kp_base.specs.declared.address.Family.TheVariants.{V4}
 use Rattle.kp_types.specs.Setting.{config_for}
 use Rattle.kp_types.specs.declared.info.ServiceSources.{ServiceSources}
@@ -10,9 +10,12 @@ use Rattle.kp_port_infos.proofs.KnownPorts.{with_ports}
 use Rattle.kp_port_infos.proofs.infos.add_ports.Given as goal
 
 abbrev pub invariant-loop-port : goal.invariant-loop-port
-invariant-loop-port l =
-    (before : List (ServiceSources × ServicePort)) →
-    l.initial.known.entries ≡ known_ports V4 l.config.node (zone_of l.objects l.config.node) before →
-    l.known.entries
-    ≡ known_ports V4 l.config.node (zone_of l.objects l.config.node)
-    (before ++ with_ports V4 (config_for V4 l.config) l.objects l.service (take l.port-index l.service.ports))
+invariant-loop-port g l = record {
+  known :
+      (before : List (ServiceSources × ServicePort))
+      → l.initial.known.entries ≡ known_ports V4 l.config.node (zone_of l.objects l.config.node) before
+      → l.known.entries
+          ≡ known_ports V4 l.config.node (zone_of l.objects l.config.node)
+          (before ++ with_ports V4 (config_for V4 l.config) l.objects l.service (take l.port-index l.service.ports));
+  asked : l.asked ≡ l.fn.asked + l.port-index;
+}

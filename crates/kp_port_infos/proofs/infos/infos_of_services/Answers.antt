@@ -14,17 +14,17 @@ use Rattle.kp_object_laws.proofs.PortByKey.{infos_by_names}
 use Rattle.kp_port_infos.proofs.infos.infos_of_services.Goals as goal
 
 pub returns-clause-exact : goal.returns-clause-exact
-returns-clause-exact c =
+returns-clause-exact g c =
     let config = config_for V4 c.args.config.now in
     let o = c.args.objects.now in
     let ports = flat_map ports_of (map (sources_of V4 config o) (map (λ s. s.now) c.args.services.now)) in
     let values = map (λ e. e.1) c.in_ok-known.known.entries in
     items_from_collect {E = ℕ} (Ok c.in_ok-collect.field-0) c.in_ok-collect.ensures.ran
     (YieldsList-from_filter_map _ (λ (i : Option PortInfo). i) (YieldsList-at c.filter_map.ensures.source (YieldsList-from_rest {shows = λ x. x} values c.into_values.ensures.rest)) c.filter_map.ensures.closure (λ x r q k. search rules))
-    ∙ ap (λ (es : List (PortKey × Option PortInfo)). filter_map (λ (i : Option PortInfo). i) (map (λ e. e.1) es)) c.in_ok-known.ensures
+    ∙ ap (λ (es : List (PortKey × Option PortInfo)). filter_map (λ (i : Option PortInfo). i) (map (λ e. e.1) es)) c.in_ok-known.ensures.known
     ∙ known_there (info_of V4 config.node (zone_of o config.node)) (by_key port_key_cmp name_of_port ports)
 
 pub returns-clause-by_name : goal.returns-clause-by_name
-returns-clause-by_name c =
-    returns-clause-exact c
+returns-clause-by_name g c =
+    returns-clause-exact g c
     ∙ infos_by_names V4 (config_for V4 c.args.config.now) c.args.objects.now (map (λ s. s.now) c.args.services.now) c.requires.stored
