@@ -41,22 +41,27 @@ events 6, syncs 4, counts 2 0 2 1
 ";
 
 /// A sync by counters of its own.
-fn synced<L: Ledger>(
+fn synced<L: Ledger, A: Ledger>(
     alloc: Global,
     plane: &mut Plane,
-    blank: Blank,
+    rules: Blank,
+    ports: Blank,
 ) -> Result<SyncRecord, TableFault>
-    requires name { blank.name ≡ L.name }
-    requires parts { blank.parts ≡ L.parts }
-    requires some { 0 < blank.parts }
+    requires rules_name { rules.name ≡ L.name }
+    requires rules_parts { rules.parts ≡ L.parts }
+    requires some_rules { 0 < rules.parts }
+    requires ports_name { ports.name ≡ A.name }
+    requires ports_parts { ports.parts ≡ A.parts }
+    requires some_ports { 0 < ports.parts }
 {
-    let mut steps = Steps::<L>::new(blank);
-    plane.sync(alloc, &mut steps)
+    let mut steps = Steps::<L>::new(rules);
+    let mut asked = Steps::<A>::new(ports);
+    plane.sync(alloc, &mut steps, &mut asked)
 }
 
 /// Adds what a sync records, and what the plane tells behind it.
 fn sync(alloc: Global, plane: &mut Plane, text: &mut String) -> Result<(), Fail> {
-    let record = synced::<Brand>(alloc, plane, Blank::new(1)).ok().ok_or("a sync")?;
+    let record = synced::<Brand, Brand>(alloc, plane, Blank::new(1), Blank::new(1)).ok().ok_or("a sync")?;
     push_record(text, &record)?;
     push_labelled(text, ", covers ", plane.covered())?;
     push_labelled(text, " of ", plane.journal().events().len() as u64)?;

@@ -20,7 +20,7 @@ use Rattle.kp_object_defs.specs.Objects.{Objects, objects_after}
 use Rattle.kp_object_defs.specs.PortInfo.{port_infos}
 use Rattle.kp_object_defs.specs.SlicesNow.{slices_now}
 use Rattle.kp_table_defs.specs.Walk.{Walked, walk_of}
-use Rattle.kp_full_table.specs.Parts.{all_rule_count}
+use Rattle.kp_full_table.specs.Parts.{all_port_count, all_rule_count}
 use Rattle.kp_walker.specs.Sets.{ComesToSet}
 use Rattle.kp_history_defs.specs.History.{IsExactRecord, objects_covered}
 use Rattle.kp_history_defs.specs.DirtyPorts.{dirty_ports}
@@ -50,6 +50,10 @@ with_events p more = record p { events = p.events ++ more }
 abbrev pub most_steps : PlaneParts → ℕ
 most_steps p =
     all_rule_count (setting_in p) (port_infos V4 (config_for V4 p.config) (objects_after p.events))
+
+-- the most ports that a sync of all events asks the objects about: all that there are
+abbrev pub most_asked : PlaneParts → ℕ
+most_asked p = all_port_count (objects_after p.events)
 
 -- The record of a sync: it covers all events, has the next number, and leads to the full table
 -- of all objects, which have no clash.

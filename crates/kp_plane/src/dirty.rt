@@ -13,7 +13,7 @@ ghost use Rattle.kp_object_defs.specs.PortByKey.{info_at, port_keys_of};
 ghost use Rattle.kp_history_defs.specs.DirtyPorts as spec;
 ghost use Rattle.kp_plane.specs.Compared.{dirty_of, known_in};
 
-use kp_base::{Config, Copied, Items, NoMemory, PortKey};
+use kp_base::{Config, Copied, Items, NoMemory, PortKey, Steps};
 use kp_history_defs::{DirtyPort, same_info};
 use kp_port_info::port_key_of;
 use kp_port_infos::port_infos;
@@ -21,14 +21,16 @@ use kp_store::Objects;
 use kp_types::{PortInfo, Service};
 use std::alloc::Global;
 use std::collections::{BTreeMap, BTreeSet};
+use std::sync::ledger::Ledger;
 
 /// What is known of the ports of objects, by their names. The names of all Services' ports are
 /// added to those that are given.
-pub(crate) fn known_at(
+pub(crate) fn known_at<A: Ledger>(
     alloc: Global,
     config: &Config,
     objects: &Objects,
     keys: &mut Vec<PortKey>,
+    asked: &mut Steps<A>,
 ) -> Result<BTreeMap<PortKey, PortInfo>, NoMemory>
     ensures known { IfOk result (λ known. (key : Key) → known_in known key
         ≡ info_at V4 (config_for V4 config.now) objects.now key) }
@@ -38,7 +40,7 @@ pub(crate) fn known_at(
     kp_history_laws::infos_by_name();
     let services = objects.all_services(alloc)?;
     add_names(alloc, keys, services.as_slice())?;
-    let infos = port_infos(alloc, objects, config)?;
+    let infos = port_infos(alloc, objects, config, asked)?;
     by_name(alloc, infos)
 }
 

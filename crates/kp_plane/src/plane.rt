@@ -186,10 +186,11 @@ impl Plane {
     /// Brings the table up to all events, and answers the record of that. It is refused exactly
     /// where two different chains that the objects need have one name. After a refusal all stays,
     /// and no event is lost.
-    pub fn sync<L: Ledger>(
+    pub fn sync<L: Ledger, A: Ledger>(
         &mut self,
         alloc: Global,
         steps: &mut Steps<L>,
+        asked: &mut Steps<A>,
     ) -> Result<SyncRecord, TableFault>
         ensures record { IfOk result (IsNextRecord self.old) }
         ensures added { IfOk result (λ r. parts.records_in self.new
@@ -199,11 +200,14 @@ impl Plane {
             (clash_of (setting_in self.old) (objects_after self.old.events))) }
         ensures err { OnErr result (self.new ≡ self.old) }
 
-        // It takes a step for each rule of a port, and none where no event came since the last one.
+        // It takes a step for each rule of a port, one of the other count for each port that the
+        // objects are asked about, and none where no event came since the last sync.
         ensures bound { steps.new ≤ steps.old + parts.most_steps self.old }
+        ensures asked { asked.new ≤ asked.old + parts.most_asked self.old }
         ensures unchanged { parts.uncovered_in self.old ≡ 0 → steps.new ≡ steps.old }
+        ensures unasked { parts.uncovered_in self.old ≡ 0 → asked.new ≡ asked.old }
     {
-        let (batch, table) = self.next_batch(alloc, steps)?;
+        let (batch, table) = self.next_batch(alloc, steps, asked)?;
         let copy = batch.copy(alloc)?;
         let note = self.keep(batch, table)?;
         Ok(SyncRecord {
@@ -225,7 +229,7 @@ impl Plane {
             (clash_of (setting_in self.old) (objects_after self.old.events))) }
         ensures err { OnErr result (self.new ≡ self.old) }
     {
-        self.sync_uncounted::<Brand>(alloc, Blank::new(1))
+        self.sync_uncounted::<Brand, Brand>(alloc, Blank::new(1), Blank::new(1))
     }
 
     /// Walks a packet of this number through the table: its verdict and the recent lists are those
@@ -352,13 +356,28 @@ impl Plane {
     pub fn dirty(&self, alloc: Global) -> Result<Items<DirtyPort>, NoMemory>
         ensures { IfOk result (λ ports. ports ≡ parts.dirty_in self.now) }
     {
+        self.dirty_uncounted::<Brand>(alloc, Blank::new(1))
+    }
+
+    /// The dirty ports, where nobody counts which ports the objects are asked about.
+    fn dirty_uncounted<A: Ledger>(
+        &self,
+        alloc: Global,
+        blank: Blank,
+    ) -> Result<Items<DirtyPort>, NoMemory>
+        requires name { blank.name ≡ A.name }
+        requires parts { blank.parts ≡ A.parts }
+        requires some { 0 < blank.parts }
+        ensures { IfOk result (λ ports. ports ≡ parts.dirty_in self.now) }
+    {
+        let mut asked = Steps::<A>::new(blank);
         let events = self.journal.events();
         let mut place = ObjectsAt::start(alloc);
         let mut keys = Vec::new(alloc);
         place.advance(alloc, events, self.history.covered_before() as usize)?;
-        let before = known_at(alloc, &self.config, &place.objects, &mut keys)?;
+        let before = known_at(alloc, &self.config, &place.objects, &mut keys, &mut asked)?;
         place.advance(alloc, events, self.history.covered as usize)?;
-        let after = known_at(alloc, &self.config, &place.objects, &mut keys)?;
+        let after = known_at(alloc, &self.config, &place.objects, &mut keys, &mut asked)?;
         dirty_among(alloc, keys, &before, &after)
     }
 
@@ -405,10 +424,11 @@ impl Plane {
 
     /// The batch that leads to the full table of all events' objects, and that table. Where no
     /// event came since the last sync the batch is empty, and nothing is looked at or made.
-    fn next_batch<L: Ledger>(
+    fn next_batch<L: Ledger, A: Ledger>(
         &mut self,
         alloc: Global,
         steps: &mut Steps<L>,
+        asked: &mut Steps<A>,
     ) -> Result<(Batch, Option<Table>), TableFault>
         ensures batch { IfOk result (λ (b, _). b.edits ≡ parts.next_edits self.old) }
         ensures table { IfOk result (λ (_, t).
@@ -418,7 +438,9 @@ impl Plane {
         ensures clash { IfErr result (TellsClash
             (clash_of (setting_in self.old) (objects_after self.old.events))) }
         ensures bound { steps.new ≤ steps.old + parts.most_steps self.old }
+        ensures asked { asked.new ≤ asked.old + parts.most_asked self.old }
         ensures unchanged { parts.uncovered_in self.old ≡ 0 → steps.new ≡ steps.old }
+        ensures unasked { parts.uncovered_in self.old ≡ 0 → asked.new ≡ asked.old }
         ensures stays { self.new ≡ self.old }
     {
         kp_rules::laws::same_rules_are_equal();
@@ -430,7 +452,7 @@ impl Plane {
             return Ok((batch, None));
         }
         self.latest.advance(alloc, events, events.len())?;
-        let table = match rebuild(alloc, &self.latest.objects, &self.config, steps) {
+        let table = match rebuild(alloc, &self.latest.objects, &self.config, steps, asked) {
             Ok(table) => table,
             Err(fault) => return Err(fault),
         };
@@ -439,14 +461,18 @@ impl Plane {
     }
 
     /// A sync whose steps nobody counts.
-    fn sync_uncounted<L: Ledger>(
+    fn sync_uncounted<L: Ledger, A: Ledger>(
         &mut self,
         alloc: Global,
-        blank: Blank,
+        rules: Blank,
+        ports: Blank,
     ) -> Result<SyncNote, TableFault>
-        requires name { blank.name ≡ L.name }
-        requires parts { blank.parts ≡ L.parts }
-        requires some { 0 < blank.parts }
+        requires rules_name { rules.name ≡ L.name }
+        requires rules_parts { rules.parts ≡ L.parts }
+        requires some_rules { 0 < rules.parts }
+        requires ports_name { ports.name ≡ A.name }
+        requires ports_parts { ports.parts ≡ A.parts }
+        requires some_ports { 0 < ports.parts }
         ensures note { IfOk result (λ n. n
             ≡ last_note (parts.uncovered_in self.old) self.new) }
         ensures no_clash { OnOk result (
@@ -456,8 +482,9 @@ impl Plane {
             (clash_of (setting_in self.old) (objects_after self.old.events))) }
         ensures err { OnErr result (self.new ≡ self.old) }
     {
-        let mut steps = Steps::<L>::new(blank);
-        let (batch, table) = self.next_batch(alloc, &mut steps)?;
+        let mut steps = Steps::<L>::new(rules);
+        let mut asked = Steps::<A>::new(ports);
+        let (batch, table) = self.next_batch(alloc, &mut steps, &mut asked)?;
         Ok(self.keep(batch, table)?)
     }
 

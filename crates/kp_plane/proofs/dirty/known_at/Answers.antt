@@ -9,7 +9,7 @@ use Rattle.kp_plane.proofs.Compared.{known_found}
 use Rattle.kp_plane.proofs.dirty.known_at.Goals as goal
 
 pub returns-clause-known : goal.returns-clause-known
-returns-clause-known c =
+returns-clause-known g c =
     IfOk-weaker c.by_name.result _ _
     (λ known are key.
     known_found known c.in_ok-infos.infos.items key are

@@ -1,7 +1,8 @@
 use Rattle.std.proofs.Common.{length, sym, ap, subst, ◌∙◌, arith}
 use Rattle.kp_object_defs.specs.Objects.{objects_after}
 use Rattle.kp_full_table.specs.Faults.{TellsClash}
-use Rattle.kp_plane.specs.Parts.{PlaneParts, objects_in, next_edits}
+use Rattle.kp_full_table.specs.Parts.{all_port_count}
+use Rattle.kp_plane.specs.Parts.{PlaneParts, most_asked, objects_in, next_edits}
 use Rattle.kp_plane.proofs.Synced.{at_end, made_chains, made_edits, no_edits, nothing_new, same_chains, same_clash, same_steps}
 use Rattle.kp_plane.proofs.plane.Plane.next_batch.Goals as goal
 
@@ -68,3 +69,27 @@ returns-in_err-batch-clause-bound g c =
     let p : PlaneParts = record { config = c.self.inside.config; events = c.self.inside.journal.events; counts = c.self.inside.history.counts.items } in
     let all = at_end c.events-events.result.now c.advance.new.self c.advance.ensures.place c.in_ok-advance.ensures.ok ∙ ap objects_after c.events-events.ensures in
     omega (arith, c.rebuild.ensures.bound, same_steps p c.args.self.now c.self.view_is c.advance.new.self.objects all)
+
+pub returns-clause-asked : goal.returns-clause-asked
+returns-clause-asked g c =
+    let all =
+    at_end c.events-events.result.now c.advance.new.self c.advance.ensures.place
+    c.in_ok-advance.ensures.ok ∙ ap objects_after c.events-events.ensures in
+    omega (arith, c.rebuild.ensures.asked_bound, ap all_port_count all,
+    ap most_asked c.self.view_is)
+
+pub returns-in-Err-clause-asked : goal.returns-in-Err-clause-asked
+returns-in-Err-clause-asked g c =
+    let all =
+    at_end c.events-events.result.now c.advance.new.self c.advance.ensures.place
+    c.in_ok-advance.ensures.ok ∙ ap objects_after c.events-events.ensures in
+    omega (arith, c.rebuild.ensures.asked_bound, ap all_port_count all,
+    ap most_asked c.self.view_is)
+
+pub returns-in_err-batch-clause-asked : goal.returns-in_err-batch-clause-asked
+returns-in_err-batch-clause-asked g c =
+    let all =
+    at_end c.events-events.result.now c.advance.new.self c.advance.ensures.place
+    c.in_ok-advance.ensures.ok ∙ ap objects_after c.events-events.ensures in
+    omega (arith, c.rebuild.ensures.asked_bound, ap all_port_count all,
+    ap most_asked c.self.view_is)

@@ -1,5 +1,8 @@
 use Rattle.kp_plane.proofs.plane.Plane.sync_noted.Given as goal
 
--- the ledger is that of the blank
-abbrev pub ghosts-sync_uncounted : goal.ghosts-sync_uncounted
-ghosts-sync_uncounted a = record { name = a.blank.name; parts = a.blank.parts }
+-- each ledger is that of its blank
+abbrev pub ghosts-sync_uncounted-L-Ledger : goal.ghosts-sync_uncounted-L-Ledger
+ghosts-sync_uncounted-L-Ledger a = record { name = a.rules.name; parts = a.rules.parts }
+
+abbrev pub ghosts-sync_uncounted-A-Ledger : goal.ghosts-sync_uncounted-A-Ledger
+ghosts-sync_uncounted-A-Ledger a = record { name = a.ports.name; parts = a.ports.parts }

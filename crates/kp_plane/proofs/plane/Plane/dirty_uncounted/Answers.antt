@@ -5,10 +5,10 @@ use Rattle.kp_object_defs.specs.PortByKey.{port_keys_of}
 use Rattle.kp_plane.specs.Invariant.{IsAtPlace}
 use Rattle.kp_plane.specs.Parts.{PlaneParts, dirty_in}
 use Rattle.kp_plane.proofs.Synced.{before_within, dirty_told}
-use Rattle.kp_plane.proofs.plane.Plane.dirty.Goals as goal
+use Rattle.kp_plane.proofs.plane.Plane.dirty_uncounted.Goals as goal
 
 pub advance-requires-clause-within : goal.advance-requires-clause-within
-advance-requires-clause-within c =
+advance-requires-clause-within g c =
     let p : PlaneParts =
     record {
       config = c.self.inside.config;
@@ -20,7 +20,7 @@ advance-requires-clause-within c =
     omega (arith, few.0, few.1, ap length c.events-events.ensures)
 
 pub advance-requires-2-clause-later : goal.advance-requires-2-clause-later
-advance-requires-2-clause-later c =
+advance-requires-2-clause-later g c =
     let p : PlaneParts =
     record {
       config = c.self.inside.config;
@@ -32,7 +32,7 @@ advance-requires-2-clause-later c =
     omega (arith, few.0, c.in_ok-advance.ensures.ok)
 
 pub returns : goal.returns
-returns c =
+returns g c =
     let p : PlaneParts =
     record {
       config = c.self.inside.config;
