@@ -5,7 +5,7 @@ use Rattle.std.specs.List.{flat_map}
 use Rattle.kp_types.specs.declared.verdict.Pass.{Pass}
 use Rattle.kp_types.specs.declared.verdict.Trail.{Trail}
 use Rattle.kp_text_defs.specs.Answers.{passes_text, pass_text, next_pass_text, trail_text}
-use Rattle.kp_run_defs.specs.ReplayText.{next_way_text, ways_text}
+use Rattle.kp_run_defs.specs.AnswerText.{next_way_text, ways_text}
 
 -- the names on a way
 abbrev way_of : Pass → List (List ℕ)

@@ -5,7 +5,7 @@ use Rattle.rand_chacha.specs.Block.{block_word}
 use Rattle.kp_text_defs.specs.ListedDraws.{AreLow, listed}
 use Rattle.kp_text_defs.specs.declared.draws.Draws.{Draws}
 use Rattle.kp_text_defs.specs.declared.draws.Draws.TheVariants as draws
-use Rattle.kp_run_defs.specs.ReplayText.{draws_at}
+use Rattle.kp_run_defs.specs.AnswerText.{draws_at}
 
 word_low : (n : ℕ) (key : List ℕ) (counter nonce k : ℕ) → block_word n key counter nonce k < 2 ^ 32
 unfolding block_word
