@@ -3,6 +3,7 @@
 #![tactic(auto)]
 
 mod draws;
+pub mod laws;
 mod snapshot;
 
 pub use draws::draw_at;
