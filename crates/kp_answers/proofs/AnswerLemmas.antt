@@ -1,5 +1,5 @@
 -- Texts of answers.
-use Rattle.std.proofs.Common.{◌≡◌, ℕ, List, [], ◌++◌, true, false, ap, sym, ◌∙◌, append_assoc, append-nil}
+use Rattle.std.proofs.Common.{◌≡◌, ℕ, List, ◌++◌, true, false, ap, sym, ◌∙◌, append_assoc, append-nil}
 use Rattle.kp_choice_defs.specs.Recent.{RecentParts}
 use Rattle.kp_run_defs.specs.AnswerText.{answer_text, trail_if}
 use Rattle.kp_table_defs.specs.Walk.{Walked}
