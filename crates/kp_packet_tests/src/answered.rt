@@ -1,5 +1,5 @@
-//! Lines that are answered from a table: by the draws of a list and of a seed, with their trails and
-//! without, and by what the recent lists remember.
+//! Lines that are answered from a table: by the draws of a list and of a seed, with their trails
+//! and without, and by what the recent lists remember.
 use crate::tables::{push_line, table_of};
 use crate::transcript::op_of;
 use kp_answers::{Snapshot, draw_at};

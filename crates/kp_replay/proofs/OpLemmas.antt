@@ -21,10 +21,12 @@ use Rattle.kp_replay.specs.declared.replay.Replay.{Replay}
 use Rattle.kp_replay.specs.Steps.{HasNoEvents, Takes, standing_of}
 
 -- an answered packet
-pub answered : (number : ℕ) (p : PacketLine) (r : Replay) (s : Snapshot) (lists : RecentParts) (before now : List ℕ)
+pub answered : (number : ℕ) (p : PacketLine) (r : Replay) (s : Snapshot) (lists : RecentParts)
+    (before now : List ℕ)
     → s.sync ≡ parts.syncs_in r.plane
     → walk_in s number p r.lists ≡ walked_in r.plane p.packet (draws_at number p.draws) r.lists
-    → Agree (walk_in s number p r.lists) (decided_in r.plane p.packet (draws_at number p.draws) r.lists)
+    → Agree (walk_in s number p r.lists)
+    (decided_in r.plane p.packet (draws_at number p.draws) r.lists)
     → lists ≡ (walk_in s number p r.lists).lists → now ≡ before ++ answer_in s number p r.lists
     → Takes (packet_line number p (standing_of r)) (record r { lists = lists }) before now
 answered number p r s lists before now syncs walk agree left text = record {

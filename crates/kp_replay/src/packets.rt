@@ -55,8 +55,8 @@ impl Replay {
     }
 }
 
-/// What packets are answered from: the table as the last sync left it, where each packet goes as the
-/// objects say.
+/// What packets are answered from: the table as the last sync left it, where each packet goes as
+/// the objects say.
 pub(crate) fn snapshot_of(plane: &Plane) -> Snapshot<'_>
     ensures sync { result.sync ≡ parts.syncs_in plane.now }
     ensures ranked { is_ranked result.table.now.chains ≡ true }

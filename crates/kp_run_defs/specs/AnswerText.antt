@@ -1,5 +1,6 @@
 -- What a line that sends a packet is answered (this project's choice): the draws of its packet, its
--- walk through the chains of a table, and the text. It names no plane: a text of threads cites it too.
+-- walk through the chains of a table, and the text. It names no plane: a text of threads may cite
+-- it too.
 use Rattle.std.specs.Prelude.{ℕ, Bool, true, false, List, [], ◌∷◌, ◌++◌, Option, codes, decimal}
 use Rattle.std.specs.List.{flat_map}
 use Rattle.kp_base.specs.Net.{AddressParts}
@@ -21,8 +22,8 @@ draws_at number (draws.List ds) = draw_of_list ds
 draws_at number (draws.Seed seed) = draw_of_seed seed number
 
 -- the walk of its packet through chains, on the node with these addresses
-abbrev pub walk_at : (ChainAt → Option (List Rule)) → List AddressParts → ℕ → PacketLine → RecentParts
-    → Walked
+abbrev pub walk_at : (ChainAt → Option (List Rule)) → List AddressParts → ℕ → PacketLine
+    → RecentParts → Walked
 walk_at chain_at node number line lists =
     walk_of chain_at node line.packet (draws_at number line.draws) lists
 
