@@ -136,11 +136,18 @@ impl Plane {
     }
 
     /// The table: the full one of the objects that the last sync covers, with a count of the
-    /// syncs. The syncs are an exact history.
+    /// syncs. The syncs are an exact history. It can be walked, and sends each packet where the
+    /// objects say.
     pub fn table(&self) -> &Table
         ensures table { result.now ≡ parts.table_in self.now }
         ensures exact { HasExactHistory self.now }
+        ensures ranked { is_ranked result.now.chains ≡ true }
+        ensures built_in { has_built_in_chains result.now.chains ≡ true }
+        ensures agree { (packet : Packet) (drawn : ℕ → ℕ) (lists : RecentParts)
+            → Agree (walked_in self.now packet drawn lists)
+            (decided_in self.now packet drawn lists) }
     {
+        self.decides();
         &self.history.table
     }
 

@@ -1,6 +1,4 @@
-pub mod DrawLemmas
 pub mod FirstLines
 pub mod OkLemmas
 pub mod OpLemmas
 pub mod SumLemmas
-pub mod TrailLemmas

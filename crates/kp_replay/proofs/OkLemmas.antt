@@ -1,5 +1,5 @@
 -- Facts behind an Ok.
-use Rattle.std.specs.Prelude.{Result, Ok, Err, OnOk, IfOk}
+use Rattle.std.specs.Prelude.{Result, Ok, Err, OnOk}
 
 -- what holds behind an Ok
 pub on_ok : {T E : Type 0} (P Q : Type 0) (result : Result T E) → OnOk result P → (P → Q) → OnOk result Q
@@ -10,8 +10,3 @@ on_ok P Q (Err e) h f = tt
 pub both_ok : {T E : Type 0} (P Q R : Type 0) (result : Result T E) → OnOk result P → OnOk result Q → (P → Q → R) → OnOk result R
 both_ok P Q R (Ok x) h k f = f h k
 both_ok P Q R (Err e) h k f = tt
-
--- what holds of what a result holds
-pub if_ok : {T E : Type 0} (P Q : T → Type 0) (result : Result T E) → IfOk result P → ((x : T) → P x → Q x) → IfOk result Q
-if_ok P Q (Ok x) h f = f x h
-if_ok P Q (Err e) h f = tt

@@ -5,7 +5,7 @@ ghost use Rattle.kp_table_defs.specs.Rebuild.{clash_of};
 ghost use Rattle.kp_run_defs.specs.GenText as sums;
 ghost use Rattle.kp_run_defs.specs.ReplayText as spec;
 
-use crate::packets::verdict_on;
+use crate::packets::snapshot_of;
 use crate::replay::{Replay, is_blank};
 use crate::totals::{add_packet, add_sync};
 use kp_base::NoMemory;
@@ -131,7 +131,7 @@ impl Replay {
         ensures totals { OnOk result (totals.new ≡ sums.with_packet
             (spec.decided number line.now (standing_of self.old)).verdict totals.old) }
     {
-        let verdict = verdict_on(&self.plane, number, line, &mut self.lists)?;
+        let verdict = snapshot_of(&self.plane).verdict_of(number, line, &mut self.lists)?;
         add_packet(totals, &verdict);
         Ok(())
     }

@@ -1,18 +1,24 @@
 //! Packets of a replay.
-ghost use Rattle.std.specs.Prelude.{◌≡◌, ◌<◌, ◌^◌, string_bytes, IfOk, OnOk};
+ghost use Rattle.std.specs.Prelude.{◌≡◌, ◌<◌, ◌^◌, ℕ, true, string_bytes, IfOk, OnOk};
+ghost use Rattle.kp_answers.specs.Walks.{walk_in};
+ghost use Rattle.kp_choice_defs.specs.Recent.{RecentParts};
+ghost use Rattle.kp_plane.specs.Parts as parts;
 ghost use Rattle.kp_plane.specs.Parts.{decided_in, explained_in, walked_in};
 ghost use Rattle.kp_run_defs.specs.ReplayText as spec;
+ghost use Rattle.kp_table_defs.specs.Ranks.{is_ranked, has_built_in_chains};
+ghost use Rattle.kp_text_defs.specs.declared.packet.PacketLine.{PacketLine};
 ghost use Rattle.kp_walk_laws.specs.Laws.{Agree};
-ghost use Rattle.kp_walker.specs.Answers.{answered};
 
 use crate::replay::Replay;
+use kp_answers::laws::draws_are_low;
+use kp_answers::{Snapshot, draw_at};
 use kp_base::NoMemory;
-use kp_draws::{DrawSource, draw_of_list, draw_of_seed};
+use kp_draws::DrawSource;
 use kp_plane::Plane;
 use kp_recent::RecentLists;
-use kp_report::{push_answer, push_explain, push_trail};
-use kp_script::{Draws, PacketLine};
-use kp_types::{Answer, Decision, Verdict};
+use kp_report::push_explain;
+use kp_script::PacketLine;
+use kp_types::Decision;
 use std::alloc::Global;
 
 impl Replay {
@@ -29,15 +35,7 @@ impl Replay {
         ensures { OnOk result (Takes (spec.packet_line number line.now (standing_of self.old))
             self.new (string_bytes text.old) (string_bytes text.new)) }
     {
-        let sync = self.plane.syncs();
-        if line.trail {
-            let answer = answer_to(&self.plane, number, line, &mut self.lists)?;
-            push_answer(text, number, sync, &answer.verdict)?;
-            push_trail(text, number, &answer.trail)
-        } else {
-            let verdict = verdict_on(&self.plane, number, line, &mut self.lists)?;
-            push_answer(text, number, sync, &verdict)
-        }
+        snapshot_of(&self.plane).answer(number, line, &mut self.lists, text)
     }
 
     /// Tells where the objects say that a packet goes, and why. Nothing is remembered.
@@ -57,46 +55,24 @@ impl Replay {
     }
 }
 
-/// What becomes of a line's packet, with its trail.
-fn answer_to(
-    plane: &Plane,
-    number: u64,
-    line: &PacketLine,
-    lists: &mut RecentLists,
-) -> Result<Answer, NoMemory>
-    ensures walk { IfOk result (λ answer. answered answer lists.new
-        ≡ walked_in plane.now line.now.packet (spec.draws_at number line.now.draws) lists.old) }
-    ensures decided { IfOk result (λ answer. Agree (answered answer lists.new)
-        (decided_in plane.now line.now.packet (spec.draws_at number line.now.draws) lists.old)) }
+/// What packets are answered from: the table as the last sync left it, where each packet goes as
+/// the objects say.
+pub(crate) fn snapshot_of(plane: &Plane) -> Snapshot<'_>
+    ensures sync { result.sync ≡ parts.syncs_in plane.now }
+    ensures ranked { is_ranked result.table.now.chains ≡ true }
+    ensures built_in { has_built_in_chains result.table.now.chains ≡ true }
+    ensures walked { (number : ℕ) (line : PacketLine) (lists : RecentParts)
+        → walk_in result number line lists
+        ≡ walked_in plane.now line.packet (spec.draws_at number line.draws) lists }
+    ensures decided { (number : ℕ) (line : PacketLine) (lists : RecentParts)
+        → Agree (walk_in result number line lists)
+        (decided_in plane.now line.packet (spec.draws_at number line.draws) lists) }
 {
-    let source = DrawSource::new(
-        |number: u64, k: u32| -> u32
-            ensures value { result ≡ spec.draws_at number line.entry.now.draws k }
-            ensures low { result < 2 ^ 31 }
-        { draw_at(line, number, k) },
-    );
-    plane.walk(number, &line.packet, &source, lists)
-}
-
-/// What becomes of a line's packet.
-pub(crate) fn verdict_on(
-    plane: &Plane,
-    number: u64,
-    line: &PacketLine,
-    lists: &mut RecentLists,
-) -> Result<Verdict, NoMemory>
-    ensures verdict { IfOk result (λ verdict. verdict ≡ (decided_in plane.now line.now.packet
-        (spec.draws_at number line.now.draws) lists.old).verdict) }
-    ensures lists { OnOk result (lists.new ≡ (decided_in plane.now line.now.packet
-        (spec.draws_at number line.now.draws) lists.old).lists) }
-{
-    let source = DrawSource::new(
-        |number: u64, k: u32| -> u32
-            ensures value { result ≡ spec.draws_at number line.entry.now.draws k }
-            ensures low { result < 2 ^ 31 }
-        { draw_at(line, number, k) },
-    );
-    plane.verdict_of(number, &line.packet, &source, lists)
+    Snapshot {
+        table: plane.table(),
+        node: &plane.config().addresses,
+        sync: plane.syncs(),
+    }
 }
 
 /// The decision on a line's packet, with its reason.
@@ -117,16 +93,6 @@ fn decision_on(
             ensures low { result < 2 ^ 31 }
         { draw_at(line, number, k) },
     );
+    draws_are_low();
     plane.explain(alloc, number, &line.packet, &source, lists)
-}
-
-/// The draw at a place for the packet of a line.
-fn draw_at(line: &PacketLine, number: u64, k: u32) -> u32
-    ensures value { result ≡ spec.draws_at number line.now.draws k }
-    ensures low { result < 2 ^ 31 }
-{
-    match &line.draws {
-        Draws::List(draws) => draw_of_list(draws.as_slice(), k),
-        Draws::Seed(seed) => draw_of_seed(*seed, number, k),
-    }
 }

@@ -3,8 +3,8 @@
 -- recent lists. Tables, batches and slices are functions of these. A sync prints how the full table changed; a
 -- packet is answered by the decision on the objects that the last sync covers, and its trail is the walk of
 -- their full table.
-use Rattle.std.specs.Prelude.{ℕ, suc, ◌+◌, ◌-◌, ◌==◌, ◌||◌, nat_lt, Bool, true, false, List, [], ◌∷◌, ◌++◌, length, sum, not, cond, count_by, decimal, codes, Option, Some, None, Result, Ok, Err}
-use Rattle.std.specs.List.{list_all, fold, flat_map}
+use Rattle.std.specs.Prelude.{ℕ, suc, ◌+◌, ◌-◌, ◌==◌, ◌||◌, nat_lt, Bool, true, false, List, [], ◌∷◌, ◌++◌, length, sum, not, cond, count_by, Option, Some, None, Result, Ok, Err}
+use Rattle.std.specs.List.{list_all, fold}
 use Rattle.std.specs.FinMap as finite
 use Rattle.kp_base.specs.declared.address.Family.TheVariants.{V4}
 use Rattle.kp_base.specs.declared.config.Config.{Config}
@@ -14,7 +14,6 @@ use Rattle.kp_types.specs.declared.chain.TableName.TheVariants as table
 use Rattle.kp_types.specs.declared.event.Event.{Event}
 use Rattle.kp_types.specs.declared.rule.Edit.{Edit}
 use Rattle.kp_types.specs.declared.slice.Slice.{Slice}
-use Rattle.kp_choice_defs.specs.Draws.{draw_of_list, draw_of_seed}
 use Rattle.kp_choice_defs.specs.Recent.{RecentParts}
 use Rattle.kp_choice_defs.specs.Settings.{setting_of}
 use Rattle.kp_object_defs.specs.Objects.{Objects, objects_after}
@@ -22,12 +21,10 @@ use Rattle.kp_object_defs.specs.SlicesNow.{slices_now}
 use Rattle.kp_door_defs.specs.Decision.{Decided, decision_of}
 use Rattle.kp_table_defs.specs.Edits.{changes_between, is_write}
 use Rattle.kp_table_defs.specs.Rebuild.{Chains, clash_of}
-use Rattle.kp_table_defs.specs.Walk.{Walked, walk_of}
+use Rattle.kp_table_defs.specs.Walk.{Walked}
 use Rattle.kp_history_defs.specs.History.{objects_covered, chains_covered}
 use Rattle.kp_restore_defs.specs.BatchText.{batch_text_of}
 use Rattle.kp_restore_defs.specs.TableText.{section_text_of}
-use Rattle.kp_text_defs.specs.declared.draws.Draws.{Draws}
-use Rattle.kp_text_defs.specs.declared.draws.Draws.TheVariants as draws
 use Rattle.kp_text_defs.specs.declared.line_refusal.LineRefusal.{LineRefusal}
 use Rattle.kp_text_defs.specs.declared.line_refusal.LineRefusal.TheVariants.{TooLongLine, JournalFull, ChainClash}
 use Rattle.kp_text_defs.specs.declared.packet.PacketLine.{PacketLine}
@@ -36,12 +33,13 @@ use Rattle.kp_text_defs.specs.declared.script.Op.TheVariants as op
 use Rattle.kp_text_defs.specs.declared.script.Shown.{Shown}
 use Rattle.kp_text_defs.specs.declared.script.Shown.TheVariants as shown
 use Rattle.kp_text_defs.specs.declared.script.ScriptLine.{ScriptLine}
-use Rattle.kp_text_defs.specs.Answers.{explain_text, chains_text}
+use Rattle.kp_text_defs.specs.Answers.{explain_text}
 use Rattle.kp_text_defs.specs.ConfigText.{default_config}
-use Rattle.kp_text_defs.specs.Printed.{packet_text, sync_text}
+use Rattle.kp_text_defs.specs.Printed.{sync_text}
 use Rattle.kp_text_defs.specs.Refusals.{refusal_text}
 use Rattle.kp_text_defs.specs.ScriptLines.{line_of}
 use Rattle.kp_text_defs.specs.Slices.{slices_text}
+pub use Rattle.kp_run_defs.specs.AnswerText.{draws_at, walk_at, answer_text}
 
 -- ---- The state
 
@@ -145,39 +143,18 @@ abbrev pub sync_line : ℕ → Option Clash → Standing → Line
 sync_line number (Some clash) s = refuse number (ChainClash clash) s
 sync_line number None s = record { text = synced_text (synced s) (uncovered_in s); next = synced s }
 
--- the draws of a packet at a line
-abbrev pub draws_at : ℕ → Draws → ℕ → ℕ
-draws_at number (draws.List ds) = draw_of_list ds
-draws_at number (draws.Seed seed) = draw_of_seed seed number
-
 -- the decision on a packet
 abbrev pub decided : ℕ → PacketLine → Standing → Decided
 decided number p s = decision_of (setting_in s) (objects_in s) p.packet (draws_at number p.draws) s.lists
 
 -- the walk of a packet
 abbrev pub walked : ℕ → PacketLine → Standing → Walked
-walked number p s =
-    walk_of (λ at. finite.get (chains_in s) at) s.config.addresses p.packet (draws_at number p.draws) s.lists
-
--- a way behind another one
-abbrev pub next_way_text : List (List ℕ) → List ℕ
-next_way_text way = codes ", " ++ chains_text way
-
--- the ways of a walk
-abbrev pub ways_text : List (List (List ℕ)) → List ℕ
-ways_text [] = codes "none"
-ways_text (way ∷ ways) = chains_text way ++ flat_map next_way_text ways
-
--- the trail of a packet, by its line, where it is asked for
-abbrev pub trail_if : Bool → ℕ → List (List (List ℕ)) → List ℕ
-trail_if true number ways = codes "trail " ++ decimal number ++ codes ": " ++ ways_text ways ++ codes "\n"
-trail_if false number ways = []
+walked number p s = walk_at (λ at. finite.get (chains_in s) at) s.config.addresses number p s.lists
 
 -- a packet prints its verdict and its trail, and may be remembered in recent lists
 abbrev pub packet_line : ℕ → PacketLine → Standing → Line
 packet_line number p s = record {
-  text = packet_text number (syncs_in s) (decided number p s).verdict
-      ++ trail_if p.trail number (walked number p s).trail;
+  text = answer_text number (syncs_in s) p (decided number p s).verdict (walked number p s).trail;
   next = record s { lists = (decided number p s).lists };
 }
 
