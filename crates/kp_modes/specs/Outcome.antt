@@ -152,6 +152,12 @@ EndsUsage LinesRefused old new = ⊥
 EndsUsage ReadFault old new = ⊥
 EndsUsage InputTooLong old new = ⊥
 
+-- how a run ends whose words ask for nothing that is served: by the usage line, or with no memory for the
+-- words, before anything was written
+abbrev pub EndsUnserved : Status → Output → Output → Type 0
+EndsUnserved NoMemory old new = new ≡ old
+EndsUnserved status old new = EndsUsage status old new
+
 -- ---- The generator
 
 -- the line was written and flushed, and nothing failed
@@ -184,10 +190,11 @@ asks_replay (Some (mode.Replay workers)) = true
 asks_replay (Some mode.Live) = false
 asks_replay (Some (mode.Gen seed services pods)) = false
 
--- how a run ends, by what the words ask for; `live` is not served yet
+-- How a run ends, by what the words ask for; `live` is not served yet. Where there is no memory for the
+-- words, nothing was read or written.
 abbrev pub Runs : Option Mode → Status → Outside → Outside → Type 0
-Runs None status old new = EndsUsage status old.output new.output
+Runs None status old new = EndsUnserved status old.output new.output
 Runs (Some (mode.Replay workers)) status old new = Ends status old new
-Runs (Some mode.Live) status old new = EndsUsage status old.output new.output
+Runs (Some mode.Live) status old new = EndsUnserved status old.output new.output
 Runs (Some (mode.Gen seed services pods)) status old new =
     EndsGen (record { seed = seed; services = services; pods = pods }) status old.output new.output
