@@ -6,10 +6,10 @@ use Rattle.kp_run_defs.specs.ReplayText.{replay_of}
 use Rattle.kp_io.specs.Lines.{lines_of}
 use Rattle.kp_words.specs.declared.mode.Mode.{Mode}
 use Rattle.kp_words.specs.declared.mode.Mode.TheVariants as mode
-use Rattle.kp_modes.specs.declared.status.Status.{Status}
-use Rattle.kp_modes.specs.declared.status.Status.TheVariants.{Done, NoMemory, Usage, LinesRefused, ReadFault, WriteFault, InputTooLong}
-use Rattle.kp_modes.specs.Outcome.{Outside, Output, Ends, EndsUnserved, EndsUsage, Runs, asks_replay, ends_of, source_of}
-use Rattle.kp_modes.proofs.EndLemmas.{none_written}
+use Rattle.kp_run.specs.declared.status.Status.{Status}
+use Rattle.kp_run.specs.declared.status.Status.TheVariants.{Done, NoMemory, Usage, LinesRefused, ReadFault, WriteFault, InputTooLong}
+use Rattle.kp_run.specs.Outcome.{Outside, Output, Ends, EndsUnserved, EndsUsage, Runs, asks_replay, ends_of, source_of}
+use Rattle.kp_run.proofs.EndLemmas.{none_written}
 
 pub no_usage : (m : Option Mode) (status : Status) (old new : Outside) → asks_replay m ≡ true → Runs m status old new → status ≡ Usage → ⊥
 no_usage None status old new asks runs usage = absurd (cc)

@@ -1,12 +1,15 @@
 //! The program's words.
 ghost use Rattle.std.specs.Prelude.{◌≡◌, map, string_bytes, false};
 ghost use Rattle.kp_words.specs.Words.{mode_of};
-ghost use Rattle.kp_modes.specs.Outcome as outcome;
+ghost use Rattle.kp_run.specs.Outcome as outcome;
 
+use crate::ending::usage;
+use crate::generated::generate;
+use crate::lines::replay_one;
+use crate::status::Status;
 use kp_base::NoMemory;
 use kp_gen::ScriptPlan;
 use kp_io::{Sink, Source};
-use kp_modes::{Status, generate, replay_one, usage};
 use kp_words::{Mode, read_words};
 use std::alloc::Global;
 
