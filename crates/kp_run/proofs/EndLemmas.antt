@@ -1,6 +1,7 @@
 -- How a run ends: what was written, and then a flush.
 use Rattle.std.proofs.Common.{◌≡◌, ◌≤◌, arith, ℕ, Bool, true, false, List, [], refl, sym, ◌∙◌, subst, append-nil, take, inl, inr}
 use Rattle.std.specs.Prelude.{Option, Some, None, IfSome}
+use Rattle.std.specs.Io.KnownBytes.{IsAtEnd}
 use Rattle.kp_io.specs.Told.{FromTold, Grows, IsFlushed}
 use Rattle.kp_io.specs.Faults.{Rose}
 use Rattle.kp_io.specs.Lines.{lines_of}
@@ -66,12 +67,12 @@ module _ (result : Status) (left end written now later : Option (List ℕ)) (was
   last = ends_of (source_of end read) (sink_of later flushed b)
 
   -- the input was read to its end
-  pub ends_whole : (refused : Bool) (told : Status) → told ≡ status_if refused → IfSome left (λ text. WritesAll refused text written now) → WritesFront left written now → (read ≡ r) × (a ≡ w) → Grows now later []
+  pub ends_whole : (refused : Bool) (told : Status) → told ≡ status_if refused → IfSome left (λ text. WritesAll refused text written now) → WritesFront left written now → (read ≡ r) × (a ≡ w) → IsAtEnd end → Grows now later []
       → IsStatusOr result told (IsFlushed flushed later × (b ≡ a)) (Rose a b) → Ends result first last
-  ends_whole refused told is all front sure kept (inl h) =
+  ends_whole refused told is all front sure at_end kept (inl h) =
       subst (λ s. Ends s first last) (sym (h.0 ∙ is))
-      (ends_as refused first last (all_on refused left written now later all kept, h.1.0, (sure.0, h.1.1 ∙ sure.1)))
-  ends_whole refused told is all front sure kept (inr h) =
+      (ends_as refused first last (all_on refused left written now later all kept, h.1.0, (sure.0, h.1.1 ∙ sure.1), at_end))
+  ends_whole refused told is all front sure at_end kept (inr h) =
       subst (λ s. Ends s first last) (sym h.0) (same_rose w a b sure.1 h.1, fronts_on left written now later front kept)
 
   -- a read failed

@@ -1,5 +1,6 @@
 -- What a replay has written, and how it ends.
 use Rattle.std.specs.Prelude.{◌≡◌, ◌<◌, ◌≤◌, ◌++◌, ℕ, Bool, true, false, List, length, take, Option, Some, None, IfSome, ◌⊎◌}
+use Rattle.std.specs.Io.KnownBytes.{IsAtEnd}
 use Rattle.kp_io.specs.Told.{FromTold, Grows, IsFlushed}
 use Rattle.kp_io.specs.Lines.{lines_of, ended_lines}
 use Rattle.kp_io.specs.Reader.{HandedOut}
@@ -102,11 +103,12 @@ IsOut now = IsFlushed now.flushed now.written
 abbrev pub IsSure : Outside → Outside → Type 0
 IsSure old new = (new.input.faults ≡ old.input.faults) × (new.output.faults ≡ old.output.faults)
 
--- the whole text was written and flushed, this is whether a line was refused, and nothing failed
+-- the whole text was written and flushed, this is whether a line was refused, nothing failed, and where the source
+-- tells what it has left, that is nothing
 abbrev pub EndsWhole : Bool → Outside → Outside → Type 0
 EndsWhole refused old new =
     IfSome old.input.left (λ text. WritesAll refused text old.output.written new.output.written) × IsOut new.output
-    × IsSure old new
+    × IsSure old new × IsAtEnd new.input.left
 
 -- a front of the whole text was written
 abbrev pub EndsFront : Outside → Outside → Type 0

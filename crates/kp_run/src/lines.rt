@@ -1,5 +1,6 @@
 //! A replay of lines.
 ghost use Rattle.std.specs.Prelude.{◌≡◌, ◌≤◌, Err, IfSome, IfOk, OnOk, OnErr};
+ghost use Rattle.std.specs.Io.KnownBytes.{IsAtEnd};
 ghost use Rattle.std.specs.Option.{option_copied};
 ghost use Rattle.kp_io.specs.Faults.{Rose};
 ghost use Rattle.kp_io.specs.Reader.{fresh_reader};
@@ -41,6 +42,7 @@ fn replay_all<S: Source, K: Sink>(alloc: Global, source: &mut S, sink: &mut K) -
     ensures later { K.faults sink.old ≤ K.faults sink.new }
     ensures sure { IfOk result (λ _refused. (S.faults source.new ≡ S.faults source.old)
         × (K.faults sink.new ≡ K.faults sink.old)) }
+    ensures ended { IfOk result (λ _refused. IsAtEnd (S.left source.new)) }
     ensures read_later { S.faults source.old ≤ S.faults source.new }
     ensures write { result ≡ Err Stop.Write → Rose (K.faults sink.old) (K.faults sink.new) }
     ensures read { result ≡ Err Stop.Read → Rose (S.faults source.old) (S.faults source.new) }
@@ -91,6 +93,7 @@ fn replay_lines<S: Source, K: Sink>(
     ensures later { K.faults sink.old ≤ K.faults sink.new }
     ensures sure { OnOk result ((S.faults source.new ≡ S.faults source.old)
         × (K.faults sink.new ≡ K.faults sink.old)) }
+    ensures ended { OnOk result (IsAtEnd (S.left source.new)) }
     ensures read_later { S.faults source.old ≤ S.faults source.new }
     ensures write { result ≡ Err Stop.Write → Rose (K.faults sink.old) (K.faults sink.new) }
     ensures read { result ≡ Err Stop.Read → Rose (S.faults source.old) (S.faults source.new) }

@@ -111,6 +111,13 @@ returns-in-Ok-End-clause-all g c =
     (λ was. c.in-Ok-End.ensures.ended was counts.3))
     limit
 
+pub returns-in-Ok-End-clause-ended : goal.returns-in-Ok-End-clause-ended
+returns-in-Ok-End-clause-ended g c =
+    let counts = rw c.in-Ok-End.field-0-is at c.in-Ok-End.ensures.counts in
+    by_end (IsAtEnd (g.S.Source.left c.next_line.new.source)) c.lines.reader.ended
+    (λ was. subst (λ source. IsAtEnd (g.S.Source.left source)) (sym (c.in-Ok-End.ensures.unasked (ended_unasked c.lines.reader was))) (c.lines.invariant.ended was))
+    (λ was. c.in-Ok-End.ensures.ended was counts.3)
+
 pub returns-in_err-replay_line-in-Err-TooLongLine-clause-front : goal.returns-in_err-replay_line-in-Err-TooLongLine-clause-front
 returns-in_err-replay_line-in-Err-TooLongLine-clause-front g c =
     let counts = rw c.in-Err-TooLongLine.field-0-is at c.in-Err-TooLongLine.ensures.counts in

@@ -7,7 +7,7 @@ pub returns-in-Ok : goal.returns-in-Ok
 returns-in-Ok g c =
     ends_whole c.flushed.result (g.S.Source.left c.args.source.now) (g.S.Source.left c.replay_all.new.source) (g.K.Sink.written c.args.sink.now) (g.K.Sink.written c.replay_all.new.sink) (g.K.Sink.written c.flushed.new.sink) (g.K.Sink.flushed c.args.sink.now) (g.K.Sink.flushed c.flushed.new.sink)
     (g.S.Source.faults c.args.source.now) (g.S.Source.faults c.replay_all.new.source) (g.K.Sink.faults c.args.sink.now) (g.K.Sink.faults c.replay_all.new.sink) (g.K.Sink.faults c.flushed.new.sink)
-    c.in-Ok.refused c.if_refused.result c.if_refused.ensures c.in-Ok.ensures.all c.in-Ok.ensures.front c.in-Ok.ensures.sure c.flushed.ensures.kept c.flushed.ensures.cases
+    c.in-Ok.refused c.if_refused.result c.if_refused.ensures c.in-Ok.ensures.all c.in-Ok.ensures.front c.in-Ok.ensures.sure c.in-Ok.ensures.ended c.flushed.ensures.kept c.flushed.ensures.cases
 
 pub returns-in-Err-Read : goal.returns-in-Err-Read
 returns-in-Err-Read g c =
