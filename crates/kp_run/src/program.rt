@@ -16,8 +16,8 @@ use std::alloc::Global;
 /// Runs the program on its words, of which the first is its name. For `replay` it reads the lines
 /// of the source to its end, and writes what they print to the sink; for `gen` it writes the one
 /// line of a generated script; where the words don't fit, or ask for what isn't served yet, it
-/// writes the usage line. It reads the source for `replay` alone, and neither reads nor writes where
-/// there was no memory for the words.
+/// writes the usage line. It reads the source for `replay` alone. Without memory for the words it
+/// neither reads nor writes.
 pub fn run<S: Source, K: Sink>(
     alloc: Global,
     words: &[String],
