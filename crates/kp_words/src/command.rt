@@ -8,8 +8,8 @@ ghost use Rattle.kp_words.specs.Words.{mode_of};
 use clap::{Arg, ArgAction, ArgMatches, Command, Error};
 use std::alloc::Global;
 
-/// Whether the words have a form that the command is given: plain ones alone, or one with the option
-/// behind it or before it.
+/// Whether the words have a form that the command is given: plain ones alone, or one with the
+/// option behind it or before it.
 pub(crate) fn has_form(words: &[String]) -> bool
     ensures { result ≡ command.has_form (map string_bytes words.now) }
 {
