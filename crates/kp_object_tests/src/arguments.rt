@@ -9,7 +9,7 @@ fn mode_of(alloc: Global, line: &str) -> Result<Option<Mode>, Fail> {
     for word in line.split(' ') {
         words.push(String::from_str(alloc, word)?)?;
     }
-    Ok(read_words(words.as_slice()))
+    Ok(read_words(alloc, words.as_slice())?)
 }
 
 /// The generator with these numbers.
@@ -93,6 +93,6 @@ fn words_that_do_not_fit(rt: HostRuntime) -> Result<(), Fail> {
     for line in OTHERS.lines() {
         assert!(rt; mode_of(rt.alloc(), line)?.is_none(), "{line}");
     }
-    assert!(rt; read_words(&[]).is_none());
+    assert!(rt; read_words(rt.alloc(), &[])?.is_none());
     Ok(())
 }

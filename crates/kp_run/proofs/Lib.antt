@@ -1,2 +1,5 @@
+pub mod ComeLemmas
+pub mod EndLemmas
 pub mod PlanLemmas
 pub mod Replays
+pub mod SumLemmas

@@ -2,9 +2,9 @@
 use Rattle.std.proofs.Common.{◌≡◌, true, Option, Some, None, subst}
 use Rattle.kp_words.specs.declared.mode.Mode.{Mode}
 use Rattle.kp_words.specs.declared.mode.Mode.TheVariants as mode
-use Rattle.kp_modes.specs.declared.status.Status.{Status}
-use Rattle.kp_modes.specs.declared.status.Status.TheVariants.{Usage}
-use Rattle.kp_modes.specs.Outcome.{Outside, Ends, Runs, asks_replay}
+use Rattle.kp_run.specs.declared.status.Status.{Status}
+use Rattle.kp_run.specs.declared.status.Status.TheVariants.{Usage}
+use Rattle.kp_run.specs.Outcome.{Outside, Ends, Runs, asks_replay}
 
 pub no_usage : (m : Option Mode) (status : Status) (old new : Outside) → asks_replay m ≡ true → Runs m status old new → status ≡ Usage → ⊥
 no_usage None status old new asks runs usage = absurd (cc)

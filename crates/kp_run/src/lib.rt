@@ -1,7 +1,16 @@
-//! The program as a library: its words choose what is done over any source and sink.
+//! The program as a library: its words choose what is done over any source and sink. It replays
+//! lines, counts a generated script, or writes the usage line.
 #![tactic(auto)]
 
+mod ending;
+mod generated;
+pub mod laws;
+mod lines;
 mod program;
+mod status;
 
-pub use kp_modes::Status;
+pub use ending::usage;
+pub use generated::generate;
+pub use lines::replay_one;
 pub use program::run;
+pub use status::Status;

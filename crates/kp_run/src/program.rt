@@ -1,18 +1,23 @@
 //! The program's words.
 ghost use Rattle.std.specs.Prelude.{◌≡◌, map, string_bytes, false};
 ghost use Rattle.kp_words.specs.Words.{mode_of};
-ghost use Rattle.kp_modes.specs.Outcome as outcome;
+ghost use Rattle.kp_run.specs.Outcome as outcome;
 
+use crate::ending::usage;
+use crate::generated::generate;
+use crate::lines::replay_one;
+use crate::status::Status;
+use kp_base::NoMemory;
 use kp_gen::ScriptPlan;
 use kp_io::{Sink, Source};
-use kp_modes::{Status, generate, replay_one, usage};
 use kp_words::{Mode, read_words};
 use std::alloc::Global;
 
 /// Runs the program on its words, of which the first is its name. For `replay` it reads the lines
 /// of the source to its end, and writes what they print to the sink; for `gen` it writes the one
 /// line of a generated script; where the words don't fit, or ask for what isn't served yet, it
-/// writes the usage line. It reads the source for `replay` alone.
+/// writes the usage line. It reads the source for `replay` alone. Without memory for the words it
+/// neither reads nor writes.
 pub fn run<S: Source, K: Sink>(
     alloc: Global,
     words: &[String],
@@ -27,15 +32,17 @@ pub fn run<S: Source, K: Sink>(
     ensures unread { outcome.asks_replay (mode_of (map string_bytes words.now)) ≡ false
         → source.new ≡ source.old }
 {
-    match read_words(words) {
+    match read_words(alloc, words) {
         // One worker answers all lines, whatever the number that is asked for.
-        Some(Mode::Replay { workers: _ }) => replay_one(alloc, source, sink),
-        Some(
-            Mode::Gen {
-                seed,
-                services,
-                pods,
-            },
+        Ok(Some(Mode::Replay { workers: _ })) => replay_one(alloc, source, sink),
+        Ok(
+            Some(
+                Mode::Gen {
+                    seed,
+                    services,
+                    pods,
+                },
+            ),
         ) => generate(
             alloc,
             ScriptPlan {
@@ -45,6 +52,7 @@ pub fn run<S: Source, K: Sink>(
             },
             sink,
         ),
-        Some(Mode::Live) | None => usage(sink),
+        Ok(Some(Mode::Live) | None) => usage(sink),
+        Err(NoMemory) => Status::NoMemory,
     }
 }

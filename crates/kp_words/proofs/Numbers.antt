@@ -1,12 +1,12 @@
 -- Numbers that a parse refuses.
-use Rattle.std.proofs.Common.{◌≡◌, ◌<◌, ◌^◌, ◌&&◌, ℕ, true, List, Option, Some, None, Result, Err, rules, arith, sym, subst, nat_le, inl, inr, length}
+use Rattle.std.proofs.Common.{◌≡◌, ◌<◌, ◌^◌, ◌&&◌, ℕ, true, List, Some, None, Result, Err, rules, arith, sym, subst, nat_le, inl, inr, length}
 use Rattle.std.specs.List.{list_all}
 use Rattle.std.specs.Result.{OkIff}
 use Rattle.std.specs.Str.Parse.{ParsesUnsigned, digits_value}
 use Rattle.std.proofs.lemmas.Bool.{cases_lt, cond-false}
 use Rattle.std.proofs.lemmas.Bool.Decides.{nat_tests}
 use Rattle.std.proofs.lemmas.Str.Parse.{IsNumeralModel, numerals_by_value, parse_digits}
-use Rattle.kp_words.specs.Words.{is_digit, is_number, within}
+use Rattle.kp_words.specs.Words.{is_digit, within}
 
 own : IsNumeralModel (λ ds. list_all is_digit ds ≡ true) (digits_value 10)
 own = numerals_by_value _ (search rules)

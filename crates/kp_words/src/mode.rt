@@ -1,8 +1,12 @@
 //! What the program does.
-ghost use Rattle.std.specs.Prelude.{◌≡◌, ◌∷◌, map, string_bytes};
+ghost use Rattle.std.specs.Prelude.{◌≡◌, IfOk, map, option_map, string_bytes};
 ghost use Rattle.kp_words.specs.Words as spec;
+ghost use Rattle.kp_words.specs.Command as command;
 
+use crate::command::{has_form, matches_of};
 use crate::number::number_of;
+use kp_base::NoMemory;
+use std::alloc::Global;
 
 /// What the program does, with the numbers of its words.
 #[derive(Clone, Copy, Debug, PartialEq, Eq)]
@@ -18,53 +22,29 @@ pub enum Mode {
 
 /// The mode that the words say, of which the first is the program's name, or none where they don't
 /// fit.
-pub fn read_words(words: &[String]) -> Option<Mode>
-    ensures { result ≡ spec.mode_of (map string_bytes words.now) }
+pub fn read_words(alloc: Global, words: &[String]) -> Result<Option<Mode>, NoMemory>
+    ensures { IfOk result (λ mode. mode ≡ spec.mode_of (map string_bytes words.now)) }
 {
-    let (_, rest) = words.split_first()?;
-    let (first, rest) = rest.split_first()?;
-    mode_from_one(first.as_str(), rest)
-}
-
-/// The mode of a word and of those behind it.
-fn mode_from_one(first: &str, words: &[String]) -> Option<Mode>
-    ensures { result ≡ spec.mode_of_rest (first.now ∷ map string_bytes words.now) }
-{
-    match words.split_first() {
-        Some((second, rest)) => mode_from_two(first, second.as_str(), rest),
-        None => named_mode(first),
+    if !has_form(words) {
+        return Ok(None);
+    }
+    match matches_of(alloc, words) {
+        Ok(matches) => Ok(mode_of_matches(matches.get_str("workers"), matches.get_strs("others"))),
+        // Words of such a form are refused for want of memory alone.
+        Err(_) => Err(NoMemory),
     }
 }
 
-/// The mode of two words and of those behind them.
-fn mode_from_two(first: &str, second: &str, words: &[String]) -> Option<Mode>
-    ensures { result ≡ spec.mode_of_rest (first.now ∷ second.now ∷ map string_bytes words.now) }
+/// The mode of the option's value and of the other words.
+fn mode_of_matches(workers: Option<&str>, others: Option<&[&str]>) -> Option<Mode>
+    ensures { result ≡ command.mode_of_matches (option_map (λ s. s.now) workers.entry)
+        (option_map (λ s. map (λ word. word.now) s.now) others.entry) }
 {
-    match words.split_first() {
-        Some((third, rest)) => mode_from_three(first, second, third.as_str(), rest),
-        None => mode_of_two(first, second),
-    }
-}
-
-/// The mode of three words and of those behind them.
-fn mode_from_three(first: &str, second: &str, third: &str, words: &[String]) -> Option<Mode>
-    ensures { result ≡ spec.mode_of_rest
-        (first.now ∷ second.now ∷ third.now ∷ map string_bytes words.now) }
-{
-    match words.split_first() {
-        Some((fourth, rest)) => mode_from_four(first, second, third, fourth.as_str(), rest),
-        None => mode_of_three(first, second, third),
-    }
-}
-
-/// The mode of four words and of those behind them.
-fn mode_from_four(name: &str, a: &str, b: &str, c: &str, words: &[String]) -> Option<Mode>
-    ensures { result ≡ spec.mode_of_rest
-        (name.now ∷ a.now ∷ b.now ∷ c.now ∷ map string_bytes words.now) }
-{
-    match words.split_first() {
-        Some(_) => None,
-        None => mode_of_four(name, a, b, c),
+    match (workers, others?) {
+        (None, [name]) => named_mode(name),
+        (Some(value), [name]) if *name == "replay" => replay_with(value),
+        (None, [name, a, b, c]) if *name == "gen" => gen_of(a, b, c),
+        _ => None,
     }
 }
 
@@ -76,52 +56,6 @@ fn named_mode(name: &str) -> Option<Mode>
         "replay" => Some(Mode::Replay { workers: 1 }),
         "live" => Some(Mode::Live),
         _ => None,
-    }
-}
-
-/// `replay` with the option in one word.
-fn mode_of_two(first: &str, second: &str) -> Option<Mode>
-    ensures { result ≡ spec.mode_of_two first.now second.now }
-{
-    if first == "replay" {
-        workers_word(second)
-    } else if second == "replay" {
-        workers_word(first)
-    } else {
-        None
-    }
-}
-
-/// `replay` with the option in two words.
-fn mode_of_three(first: &str, second: &str, third: &str) -> Option<Mode>
-    ensures { result ≡ spec.mode_of_three first.now second.now third.now }
-{
-    if first == "replay" && second == "--workers" {
-        replay_with(third)
-    } else if first == "--workers" && third == "replay" {
-        replay_with(second)
-    } else {
-        None
-    }
-}
-
-/// A mode with three numbers.
-fn mode_of_four(name: &str, a: &str, b: &str, c: &str) -> Option<Mode>
-    ensures { result ≡ spec.mode_of_four name.now a.now b.now c.now }
-{
-    match name {
-        "gen" => gen_of(a, b, c),
-        _ => None,
-    }
-}
-
-/// The option with its value in one word.
-fn workers_word(word: &str) -> Option<Mode>
-    ensures { result ≡ spec.workers_word word.now }
-{
-    match word.strip_prefix("--workers=") {
-        Some(value) => replay_with(value),
-        None => None,
     }
 }
 

@@ -4,9 +4,9 @@
 ghost use Rattle.std.specs.Prelude.{◌≡◌, map, string_bytes, true};
 ghost use Rattle.std.specs.Process.{exit_status};
 ghost use Rattle.kp_words.specs.Words.{mode_of};
-ghost use Rattle.kp_modes.specs.Codes.{code_of};
-ghost use Rattle.kp_modes.specs.Outcome.{asks_replay};
-ghost use Rattle.kp_modes.specs.declared.status.Status.TheVariants.{Usage};
+ghost use Rattle.kp_run.specs.Codes.{code_of};
+ghost use Rattle.kp_run.specs.Outcome.{asks_replay};
+ghost use Rattle.kp_run.specs.declared.status.Status.TheVariants.{Usage};
 
 use kp_io::{RealSink, RealSource};
 use kp_run::{Status, run};

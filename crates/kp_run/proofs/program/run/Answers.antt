@@ -5,5 +5,6 @@ use Rattle.kp_run.proofs.program.run.Goals as goal
 -- the numbers are within their bounds
 pub generate-requires : goal.generate-requires
 generate-requires g c =
-    let told = rw c.in-Some-Gen.field-0-is at c.in-Some-Gen.ensures in
+    let some = rw c.in-Ok-Some-Gen.field-0-is at c.in-Ok-Some-Gen.ensures in
+    let told = rw c.in-Ok-Some-Gen.field-0-0-is at some in
     subst Fits (sym told) (mode_fits (map string_bytes c.args.words.now))

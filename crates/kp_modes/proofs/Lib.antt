@@ -1,3 +1,0 @@
-pub mod ComeLemmas
-pub mod EndLemmas
-pub mod SumLemmas

@@ -1,0 +1,169 @@
+//! A generated script, and what came of it.
+ghost use Rattle.std.specs.Prelude.{◌≡◌, ◌≤◌, ◌+◌, ◌<◌, IfOk, OnOk};
+ghost use Rattle.std.specs.List.{fold};
+ghost use Rattle.kp_gen_defs.specs.Script as script;
+ghost use Rattle.kp_replay.specs.Steps.{IsReady};
+ghost use Rattle.kp_run_defs.specs.GenText as spec;
+ghost use Rattle.kp_text_defs.specs.Live.{totals_text};
+ghost use Rattle.kp_run.specs.Outcome as outcome;
+ghost use Rattle.kp_run.specs.Sums.{counted_in, sums_of};
+
+use crate::ending::{flushed, if_refused, write_text};
+use crate::status::Status;
+use kp_base::NoMemory;
+use kp_gen::{ScriptPart, ScriptPlan, lines_in, push_line, script_parts};
+use kp_io::Sink;
+use kp_replay::{Replay, no_totals};
+use kp_report::totals_text;
+use kp_text_defs::Totals;
+use std::alloc::Global;
+
+/// What a replay of a script came to: its sums, and whether a line was refused.
+#[derive(Drop)]
+pub(crate) struct Sums {
+    totals: Totals,
+    refused: bool,
+}
+
+/// A replay of a script that prints nothing, with its sums.
+#[derive(Drop)]
+pub(crate) struct Counting {
+    replay: Replay,
+    /// How many lines there were.
+    number: u64,
+    totals: Totals,
+    /// The line that is taken, and what is not printed of it.
+    line: String,
+    unprinted: String,
+}
+
+impl Counting {
+    /// Before the first line.
+    fn new(alloc: Global) -> Result<Counting, NoMemory>
+        ensures { IfOk result (λ c. counted_in c ≡ spec.count_start) }
+    {
+        Ok(Counting {
+            replay: Replay::new(alloc)?,
+            number: 0,
+            totals: no_totals(),
+            line: String::new(alloc),
+            unprinted: String::new(alloc),
+        })
+    }
+
+    /// Takes the line at a place of a part.
+    fn take(
+        &mut self,
+        alloc: Global,
+        plan: ScriptPlan,
+        part: ScriptPart,
+        place: u64,
+    ) -> Result<(), NoMemory>
+        requires plan { script.IsPlan plan }
+        requires within { place < script.lines_in plan part }
+        requires ready { IsReady (counted_in self.old).at }
+        requires few { (counted_in self.old).number < 1000000 }
+        ensures counted { OnOk result (counted_in self.new
+            ≡ spec.after_counted (counted_in self.old) (script.line_in plan part place)) }
+        ensures ready { OnOk result (IsReady (counted_in self.new).at) }
+    {
+        self.line.clear();
+        push_line(&mut self.line, plan, part, place)?;
+        self.unprinted.clear();
+        self.number += 1;
+        self.replay.count_line(
+            alloc,
+            self.number,
+            self.line.as_bytes(),
+            &mut self.unprinted,
+            &mut self.totals,
+        )
+    }
+
+    /// Takes the lines of a part.
+    fn take_part(
+        &mut self,
+        alloc: Global,
+        plan: ScriptPlan,
+        part: ScriptPart,
+    ) -> Result<(), NoMemory>
+        requires plan { script.IsPlan plan }
+        requires ready { IsReady (counted_in self.old).at }
+        requires few { (counted_in self.old).number ≤ 480000 }
+        ensures counted { OnOk result (counted_in self.new
+            ≡ fold spec.after_counted (counted_in self.old) (script.part_lines plan part)) }
+        ensures ready { OnOk result (IsReady (counted_in self.new).at) }
+        ensures few { OnOk result (
+            (counted_in self.new).number ≤ (counted_in self.old).number + 60000) }
+    {
+        for place in 0..lines_in(plan, part) {
+            self.take(alloc, plan, part, place)?;
+        }
+        Ok(())
+    }
+
+    /// Takes the lines of a script.
+    fn take_script(&mut self, alloc: Global, plan: ScriptPlan) -> Result<(), NoMemory>
+        requires plan { script.IsPlan plan }
+        requires start { counted_in self.old ≡ spec.count_start }
+        ensures { OnOk result (counted_in self.new ≡ spec.gen_of plan) }
+    {
+        for part in script_parts() {
+            self.take_part(alloc, plan, part)?;
+        }
+        Ok(())
+    }
+
+    /// Lets all go but what it came to.
+    fn end(self) -> Sums
+        ensures { result ≡ sums_of (counted_in self) }
+    {
+        Sums {
+            totals: self.totals,
+            refused: self.replay.end(),
+        }
+    }
+}
+
+/// What a replay of a script came to.
+fn sums_of_script(alloc: Global, plan: ScriptPlan) -> Result<Sums, NoMemory>
+    requires { script.IsPlan plan }
+    ensures { IfOk result (λ s. s ≡ sums_of (spec.gen_of plan)) }
+{
+    let mut counting = Counting::new(alloc)?;
+    let taken = counting.take_script(alloc, plan);
+    let sums = counting.end();
+    match taken {
+        Ok(()) => Ok(sums),
+        Err(NoMemory) => Err(NoMemory),
+    }
+}
+
+/// Replays a generated script, and writes the one line of what came of it.
+pub fn generate<K: Sink>(alloc: Global, plan: ScriptPlan, sink: &mut K) -> Status
+    requires { script.IsPlan plan }
+    ensures { outcome.EndsGen plan result
+        (outcome.sink_of (K.written sink.old) (K.flushed sink.old) (K.faults sink.old))
+        (outcome.sink_of (K.written sink.new) (K.flushed sink.new) (K.faults sink.new)) }
+{
+    match sums_of_script(alloc, plan) {
+        Ok(sums) => write_sums(alloc, &sums, sink),
+        Err(NoMemory) => Status::NoMemory,
+    }
+}
+
+/// Writes the line of sums.
+fn write_sums<K: Sink>(alloc: Global, sums: &Sums, sink: &mut K) -> Status
+    ensures { outcome.EndsLine sums.now.refused (totals_text sums.now.totals) result
+        (outcome.sink_of (K.written sink.old) (K.flushed sink.old) (K.faults sink.old))
+        (outcome.sink_of (K.written sink.new) (K.flushed sink.new) (K.faults sink.new)) }
+{
+    let text = match totals_text(alloc, &sums.totals) {
+        Ok(text) => text,
+        Err(NoMemory) => return Status::NoMemory,
+    };
+    match write_text(sink, text.as_str().as_bytes()) {
+        Ok(()) => flushed(sink, if_refused(sums.refused)),
+        Err(_) => Status::WriteFault,
+    }
+}

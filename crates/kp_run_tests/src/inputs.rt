@@ -1,0 +1,142 @@
+//! Worked inputs, with what each line prints behind it. A line that begins with a space goes on
+//! with the line before.
+use std::alloc::Global;
+use std::test::Fail;
+
+/// A worked input, up to some line, and what its replay prints.
+#[derive(Drop)]
+pub(crate) struct Case {
+    pub(crate) input: String,
+    pub(crate) printed: String,
+}
+
+/// The first lines of a worked input, so many, with what they print.
+pub(crate) fn case_of(alloc: Global, rows: &str, most: u64) -> Result<Case, Fail> {
+    let mut input = String::new(alloc);
+    let mut printed = String::new(alloc);
+    let mut number = 0u64;
+    for row in rows.replace(alloc, "\n ", "")?.lines() {
+        let text = match row.strip_prefix("=> ") {
+            Some(_) => &mut printed,
+            None => {
+                number = number.saturating_add(1);
+                &mut input
+            }
+        };
+        if number <= most {
+            text.push_str(row.strip_prefix("=> ").unwrap_or(row))?;
+            text.push('\n')?;
+        }
+    }
+    Ok(Case { input, printed })
+}
+
+/// Three endpoints of a Service, one for each draw.
+pub(crate) const ENDPOINTS: &str = r#"{"op":"config","node":"n1","nodeAddresses":["10.0.0.1"],
+ "clusterCIDR":"10.244.0.0/16"}
+{"apiVersion":"v1","kind":"Service","metadata":{"name":"web"},
+ "spec":{"clusterIP":"10.96.0.10","ports":[{"port":80,"targetPort":8080}]}}
+{"apiVersion":"discovery.k8s.io/v1","kind":"EndpointSlice",
+ "metadata":{"name":"web-x","labels":{"kubernetes.io/service-name":"web"}},"addressType":"IPv4",
+ "ports":[{"port":8080}],"endpoints":[{"addresses":["10.244.1.2"],"nodeName":"n1"},
+ {"addresses":["10.244.2.3"],"nodeName":"n2"},{"addresses":["10.244.3.4"],"nodeName":"n3"}]}
+{"op":"sync"}
+=> sync 1: events 2, written 5, removed 0
+{"op":"packet","src":"10.244.9.9","dst":"10.96.0.10","dport":80,"draws":[715827882]}
+=> packet 5 at 1: to 10.244.1.2:8080
+{"op":"packet","src":"10.244.9.9","dst":"10.96.0.10","dport":80,"draws":[715827883,1073741823]}
+=> packet 6 at 1: to 10.244.2.3:8080
+{"op":"packet","src":"10.244.9.9","dst":"10.96.0.10","dport":80,"draws":[715827883,1073741824]}
+=> packet 7 at 1: to 10.244.3.4:8080"#;
+
+/// A Service with no endpoint.
+pub(crate) const REJECTED: &str = r#"{"op":"config","node":"n1","nodeAddresses":["10.0.0.1"],
+ "clusterCIDR":"10.244.0.0/16"}
+{"apiVersion":"v1","kind":"Service","metadata":{"name":"web"},
+ "spec":{"clusterIP":"10.96.0.10","ports":[{"port":80,"targetPort":8080}]}}
+{"op":"sync"}
+=> sync 1: events 1, written 1, removed 0
+{"op":"packet","src":"10.244.9.9","dst":"10.96.0.10","dport":80}
+=> packet 4 at 1: rejected
+{"op":"packet","src":"10.0.0.1","dst":"10.96.0.10","dport":80,"from":"node"}
+=> packet 5 at 1: rejected
+{"op":"packet","src":"10.244.9.9","dst":"10.96.0.10","dport":80,"proto":"UDP"}
+=> packet 6 at 1: left alone"#;
+
+/// Endpoints that are terminating, until one is ready.
+pub(crate) const TERMINATING: &str = r#"{"op":"config","node":"n1","nodeAddresses":["10.0.0.1"],
+ "clusterCIDR":"10.244.0.0/16"}
+{"apiVersion":"v1","kind":"Service","metadata":{"name":"web"},
+ "spec":{"clusterIP":"10.96.0.10","ports":[{"port":80,"targetPort":8080}]}}
+{"apiVersion":"discovery.k8s.io/v1","kind":"EndpointSlice",
+ "metadata":{"name":"web-x","labels":{"kubernetes.io/service-name":"web"}},"addressType":"IPv4",
+ "ports":[{"port":8080}],"endpoints":[{"addresses":["10.244.1.2"],"nodeName":"n1",
+ "conditions":{"ready":false,"serving":true,"terminating":true}},{"addresses":["10.244.2.3"],
+ "nodeName":"n2","conditions":{"ready":false,"serving":true,"terminating":true}}]}
+{"op":"sync"}
+=> sync 1: events 2, written 4, removed 0
+{"op":"packet","src":"10.244.9.9","dst":"10.96.0.10","dport":80,"draws":[0]}
+=> packet 5 at 1: to 10.244.1.2:8080
+{"apiVersion":"discovery.k8s.io/v1","kind":"EndpointSlice",
+ "metadata":{"name":"web-x","labels":{"kubernetes.io/service-name":"web"}},"addressType":"IPv4",
+ "ports":[{"port":8080}],"endpoints":[{"addresses":["10.244.1.2"],"nodeName":"n1",
+ "conditions":{"ready":false,"serving":true,"terminating":true}},{"addresses":["10.244.2.3"],
+ "nodeName":"n2"}]}
+{"op":"sync"}
+=> sync 2: events 1, written 1, removed 1
+{"op":"packet","src":"10.244.9.9","dst":"10.96.0.10","dport":80,"draws":[0]}
+=> packet 8 at 2: to 10.244.2.3:8080"#;
+
+/// Recent sources, of which a list keeps two.
+pub(crate) const RECENT: &str = r#"{"op":"config","node":"n1","nodeAddresses":["10.0.0.1"],
+ "clusterCIDR":"10.244.0.0/16","recentSize":2}
+{"apiVersion":"v1","kind":"Service","metadata":{"name":"web"},
+ "spec":{"clusterIP":"10.96.0.10","ports":[{"port":80,"targetPort":8080}],
+ "sessionAffinity":"ClientIP"}}
+{"apiVersion":"discovery.k8s.io/v1","kind":"EndpointSlice",
+ "metadata":{"name":"web-x","labels":{"kubernetes.io/service-name":"web"}},"addressType":"IPv4",
+ "ports":[{"port":8080}],"endpoints":[{"addresses":["10.244.1.2"],"nodeName":"n1"},
+ {"addresses":["10.244.2.3"],"nodeName":"n2"}]}
+{"op":"sync"}
+=> sync 1: events 2, written 4, removed 0
+{"op":"packet","src":"10.244.9.1","dst":"10.96.0.10","dport":80,"draws":[0],"now":100}
+=> packet 5 at 1: to 10.244.1.2:8080
+{"op":"packet","src":"10.244.9.17","dst":"10.96.0.10","dport":80,"draws":[0],"now":100}
+=> packet 6 at 1: to 10.244.1.2:8080
+{"op":"packet","src":"10.244.9.33","dst":"10.96.0.10","dport":80,"draws":[0],"now":100}
+=> packet 7 at 1: to 10.244.1.2:8080
+{"op":"packet","src":"10.244.9.1","dst":"10.96.0.10","dport":80,"draws":[],"now":100}
+=> packet 8 at 1: to 10.244.2.3:8080
+{"op":"packet","src":"10.244.9.17","dst":"10.96.0.10","dport":80,"draws":[],"now":100}
+=> packet 9 at 1: to 10.244.1.2:8080"#;
+
+/// Session affinity within its timeout and behind it, explained.
+pub(crate) const AFFINITY: &str = r#"{"op":"config","node":"n1","nodeAddresses":["10.0.0.1"],
+ "clusterCIDR":"10.244.0.0/16"}
+{"apiVersion":"v1","kind":"Service","metadata":{"name":"web"},
+ "spec":{"clusterIP":"10.96.0.10","ports":[{"port":80,"targetPort":8080}],
+ "sessionAffinity":"ClientIP","sessionAffinityConfig":{"clientIP":{"timeoutSeconds":60}}}}
+{"apiVersion":"discovery.k8s.io/v1","kind":"EndpointSlice",
+ "metadata":{"name":"web-x","labels":{"kubernetes.io/service-name":"web"}},"addressType":"IPv4",
+ "ports":[{"port":8080}],"endpoints":[{"addresses":["10.244.1.2"],"nodeName":"n1"},
+ {"addresses":["10.244.2.3"],"nodeName":"n2"}]}
+{"op":"sync"}
+=> sync 1: events 2, written 4, removed 0
+{"op":"packet","src":"10.244.9.9","dst":"10.96.0.10","dport":80,"draws":[0],"now":100}
+=> packet 5 at 1: to 10.244.1.2:8080
+{"op":"explain","src":"10.244.9.9","dst":"10.96.0.10","dport":80,"draws":[],"now":160}
+=> explain 6 at 1: to 10.244.1.2:8080; door cluster default/web/TCP list cluster size 2 by affinity
+  place 1
+{"op":"packet","src":"10.244.9.9","dst":"10.96.0.10","dport":80,"draws":[],"now":160}
+=> packet 7 at 1: to 10.244.1.2:8080
+{"op":"explain","src":"10.244.9.9","dst":"10.96.0.10","dport":80,"draws":[],"now":221}
+=> explain 8 at 1: to 10.244.2.3:8080; door cluster default/web/TCP list cluster size 2 by draws
+  place 2"#;
+
+/// A line that is refused.
+pub(crate) const REFUSED: &str = r#"{"op":"config","node":"n1","nodeAddresses":["10.0.0.1"],
+ "clusterCIDR":"10.244.0.0/16"}
+{"op":"sync"}
+=> sync 1: events 0, written 0, removed 0
+{"op":"packet",
+=> line 3: refused: bad json"#;
