@@ -6,7 +6,7 @@ mod hashed;
 mod index;
 mod indexed;
 mod key_set;
-mod nodes;
+mod named;
 mod objects;
 mod selections;
 mod tags;

@@ -2,7 +2,7 @@ use Rattle.std.proofs.Common.{map, ap, ◌∙◌}
 use Rattle.std.specs.FinMap as finite
 use Rattle.std.proofs.lemmas.Result.{IfOk-weaker}
 use Rattle.kp_store.proofs.Ordered.{ordered_keys}
-use Rattle.kp_store.proofs.indexed.Indexed.keys.Goals as goal
+use Rattle.kp_store.proofs.hashed.Hashed.keys.Goals as goal
 
 pub returns : goal.returns
 returns g c =
@@ -10,5 +10,4 @@ returns g c =
     is
     ∙ ap (map (λ k. k.now)) c.as_slice.ensures.value
     ∙ c.in_ok-keys.ensures
-    ∙ ordered_keys c.self.inside.objects c.in_ok-order.order c.in_ok-order.ensures
-    ∙ ap finite.keys c.self.view_is) c.copies.ensures
+    ∙ ordered_keys c.args.self.now c.in_ok-order.order c.in_ok-order.ensures) c.copies.ensures
