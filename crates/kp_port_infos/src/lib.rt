@@ -8,4 +8,3 @@ mod sources;
 
 pub use infos::{infos_of_services, port_infos};
 pub use kp_types::PortInfo;
-pub use sources::wanted_of;

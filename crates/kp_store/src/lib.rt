@@ -10,6 +10,8 @@ mod named;
 mod objects;
 mod selections;
 mod tags;
+mod wanted;
 
 pub use indexed::{Indexed, Tagged};
 pub use objects::Objects;
+pub use wanted::wanted_of;
