@@ -2,7 +2,9 @@
 ghost use Rattle.std.specs.Prelude.{◌≡◌, ◌++◌, map, IfOk, OnOk, OnErr, option_copied};
 ghost use Rattle.std.specs.List.{filter_map};
 ghost use Rattle.std.specs.Option.{option_to_list};
+ghost use Rattle.kp_base.specs.Keys.{key_cmp};
 ghost use Rattle.kp_base.specs.declared.key.ObjectKey.{ObjectKey};
+ghost use Rattle.kp_store.specs.Named.{keyed};
 ghost use Rattle.std.specs.FinMap as finite;
 
 use crate::key_set::KeySet;
@@ -52,10 +54,7 @@ impl<K: Name, X: Drop> Hashed<K, X> {
     pub fn get(&self, name: &K) -> Option<&X>
         ensures { option_copied result ≡ finite.get self.now (K.key_of name.now) }
     {
-        match self.entries.get(name) {
-            None => None,
-            Some(object) => Some(object.get()),
-        }
+        named(&self.entries, name)
     }
 
     /// The object of a key, if there is one.
@@ -64,7 +63,7 @@ impl<K: Name, X: Drop> Hashed<K, X> {
     {
         match K::of(key) {
             None => None,
-            Some(name) => self.get(name),
+            Some(name) => named(&self.entries, name),
         }
     }
 
@@ -122,9 +121,24 @@ impl<K: Name, X: Drop> Hashed<K, X> {
     pub fn take(&mut self, key: &ObjectKey)
         ensures { self.new ≡ finite.remove self.old key.now }
     {
-        if let Some(name) = K::of(key) {
-            self.entries.swap_remove(name);
+        match K::of(key) {
+            Some(name) => {
+                self.entries.swap_remove(name);
+            }
+            None => return,
         }
+    }
+}
+
+/// The object of a name, if there is one.
+fn named<'a, K: Name, X: Drop>(entries: &'a IndexMap<K, Kept<X>>, name: &K) -> Option<&'a X>
+    ensures { option_copied result
+        ≡ finite.get (finite.from_entries {R = key_cmp} (keyed K.key_of entries.now.entries))
+        (K.key_of name.now) }
+{
+    match entries.get(name) {
+        None => None,
+        Some(object) => Some(object.get()),
     }
 }
 

@@ -6,16 +6,12 @@ use Rattle.kp_store.proofs.hashed.Hashed.at.Goals as goal
 pub returns-in-None : goal.returns-in-None
 returns-in-None g c =
     let same = g.K.PartialEq.eq in
-    let key_of = g.K.Name.key_of in
-    let name_of = g.K.Name.name_of in
-    let key = c.args.key.now in
     let es = c.self.inside.entries.entries in
-    ap (λ o. by_name same key_of name_of g.met.K.Name.own g.met.K.Name.one o es) c.in-None.ensures
-    ∙ sym (got same key_of name_of g.met.K.Name.own g.met.K.Name.one key es)
-    ∙ ap (λ m. finite.get m key) c.self.view_is
+    ap (λ o. by_name same o es) c.in-None.ensures
+    ∙ sym (got same g.K.Name.key_of g.K.Name.name_of g.met.K.Name.own g.met.K.Name.one c.args.key.now es)
+    ∙ ap (λ m. finite.get m c.args.key.now) c.self.view_is
 
 pub returns-in-Some : goal.returns-in-Some
 returns-in-Some g c =
-    c.get.ensures
-    ∙ ap (finite.get c.args.self.now)
-    (owner g.K.PartialEq.eq g.K.Name.key_of g.K.Name.name_of g.met.K.Name.own g.met.K.Name.one c.args.key.now c.in-Some.name.now (sym c.in-Some.ensures))
+    c.named.ensures
+    ∙ (λ i. finite.get (c.self.view_is i) (owner g.K.PartialEq.eq g.K.Name.key_of g.K.Name.name_of g.met.K.Name.own g.met.K.Name.one c.args.key.now c.in-Some.name.now (sym c.in-Some.ensures) i))

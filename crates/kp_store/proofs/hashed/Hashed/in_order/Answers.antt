@@ -16,11 +16,11 @@ returns g c = λ k.
     let key_of = g.K.Name.key_of in
     let names = c.as_slice.result.now in
     c.in_ok-put_all.ensures k
-    ∙ ap (λ b. list_any (λ (q : Bor g.K.Denot). eq_by_cmp key_cmp k (key_of q.now)) names || b)
+    ∙ ap (λ b. list_any (λ (q : Bor g.row.K.Denot). eq_by_cmp key_cmp k (key_of q.now)) names || b)
     (ap (λ m. finite.contains_key m k) c.new-order.ensures ∙ none_before k)
-    ∙ or-false (list_any (λ (q : Bor g.K.Denot). eq_by_cmp key_cmp k (key_of q.now)) names)
+    ∙ or-false (list_any (λ (q : Bor g.row.K.Denot). eq_by_cmp key_cmp k (key_of q.now)) names)
     ∙ keys_of_names key_of k names es
-    (ap (map (λ (q : Bor g.K.Denot). q.now)) c.as_slice.ensures.value
+    (ap (map (λ (q : Bor g.row.K.Denot). q.now)) c.as_slice.ensures.value
     ∙ map_from_collect {E = ℕ} (Ok c.in_ok-names.names) c.in_ok-names.ensures.ran (YieldsList-from_rest {shows = λ q. q.now} (map (λ e. e.0) es) c.keys.ensures.rest))
     ∙ sym (has_entries k _)
     ∙ ap (λ m. finite.contains_key m k) c.self.view_is

@@ -3,8 +3,8 @@ use Rattle.std.specs.FinMap as finite
 use Rattle.kp_store.proofs.NamedEntries.{owner, take_named, take_none}
 use Rattle.kp_store.proofs.hashed.Hashed.take.Goals as goal
 
-pub returns-in-Some : goal.returns-in-Some
-returns-in-Some g c =
+pub returns : goal.returns
+returns g c =
     let same = g.K.PartialEq.eq in
     let key_of = g.K.Name.key_of in
     let name_of = g.K.Name.name_of in

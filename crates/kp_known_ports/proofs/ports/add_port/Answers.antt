@@ -3,7 +3,7 @@ use Rattle.std.specs.FinMap.{put}
 use Rattle.kp_base.specs.Keys.{port_key_cmp}
 use Rattle.kp_base.proofs.KeyOrder.{port_key_matches}
 use Rattle.kp_object_defs.proofs.InOrder.{insert-put}
-use Rattle.kp_port_infos.proofs.ports.add_port.Goals as goal
+use Rattle.kp_known_ports.proofs.ports.add_port.Goals as goal
 
 pub returns : goal.returns
 returns c =

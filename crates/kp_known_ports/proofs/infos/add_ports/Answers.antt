@@ -7,9 +7,9 @@ use Rattle.kp_types.specs.Setting.{config_for}
 use Rattle.kp_types.specs.declared.service.ServicePort.{ServicePort}
 use Rattle.kp_object_defs.specs.Objects.{zone_of}
 use Rattle.kp_object_defs.specs.PortInfo.{port_key_of}
-use Rattle.kp_port_infos.specs.Known.{known_in_part, known_ports}
-use Rattle.kp_port_infos.proofs.KnownPorts.{next_port, with_ports}
-use Rattle.kp_port_infos.proofs.infos.add_ports.Goals as goal
+use Rattle.kp_known_ports.specs.Known.{known_in_part, known_ports}
+use Rattle.kp_known_ports.proofs.KnownPorts.{next_port, with_ports}
+use Rattle.kp_known_ports.proofs.infos.add_ports.Goals as goal
 
 pub loop-port-preserved : goal.loop-port-preserved
 loop-port-preserved g c =

@@ -3,7 +3,7 @@ use Rattle.std.proofs.Common.{◌≡◌, ℕ, ◌+◌, ◌<◌, ◌≤◌, List,
 use Rattle.std.proofs.lemmas.List.{map-append, take-map, take_more}
 use Rattle.std.proofs.lemmas.List.Sums.{sum_by_push, sum_by-take-le}
 use Rattle.kp_types.specs.declared.service.Service.{Service}
-use Rattle.kp_port_infos.specs.Known.{port_count, ports_in}
+use Rattle.kp_known_ports.specs.Known.{port_count, ports_in}
 
 -- the ports of the first Services
 abbrev pub first_count : List (Bor Service) → ℕ → ℕ

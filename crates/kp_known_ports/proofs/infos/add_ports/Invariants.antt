@@ -5,9 +5,9 @@ use Rattle.kp_types.specs.Setting.{config_for}
 use Rattle.kp_types.specs.declared.info.ServiceSources.{ServiceSources}
 use Rattle.kp_types.specs.declared.service.ServicePort.{ServicePort}
 use Rattle.kp_object_defs.specs.Objects.{zone_of}
-use Rattle.kp_port_infos.specs.Known.{known_ports}
-use Rattle.kp_port_infos.proofs.KnownPorts.{with_ports}
-use Rattle.kp_port_infos.proofs.infos.add_ports.Given as goal
+use Rattle.kp_known_ports.specs.Known.{known_ports}
+use Rattle.kp_known_ports.proofs.KnownPorts.{with_ports}
+use Rattle.kp_known_ports.proofs.infos.add_ports.Given as goal
 
 abbrev pub invariant-loop-port : goal.invariant-loop-port
 invariant-loop-port g l = record {

@@ -9,9 +9,9 @@ use Rattle.kp_object_defs.specs.Entries.{sources_of}
 use Rattle.kp_object_defs.specs.Objects.{zone_of}
 use Rattle.kp_object_defs.specs.Order.{by_key}
 use Rattle.kp_object_defs.specs.PortInfo.{PortInfo, info_of, name_of_port, ports_of}
-use Rattle.kp_port_infos.proofs.KnownPorts.{known_there}
+use Rattle.kp_known_ports.proofs.KnownPorts.{known_there}
 use Rattle.kp_object_laws.proofs.PortByKey.{infos_by_names}
-use Rattle.kp_port_infos.proofs.infos.infos_of_services.Goals as goal
+use Rattle.kp_known_ports.proofs.infos.infos_of_services.Goals as goal
 
 pub returns-clause-exact : goal.returns-clause-exact
 returns-clause-exact g c =

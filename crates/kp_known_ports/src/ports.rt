@@ -5,12 +5,13 @@ ghost use Rattle.kp_base.specs.Keys.{port_key_cmp};
 ghost use Rattle.kp_base.specs.declared.address.Family.TheVariants.{V4};
 ghost use Rattle.kp_object_defs.specs.Entries.{entries_from};
 ghost use Rattle.kp_object_defs.specs.PortInfo as spec;
-ghost use Rattle.kp_port_infos.specs.Known.{known_in_part};
+ghost use Rattle.kp_known_ports.specs.Known.{known_in_part};
 
+use crate::sources::Sources;
 use kp_base::{Config, NoMemory, PortKey, Text};
 use kp_category::{candidates, categorise};
 use kp_port_info::{port_info, port_key_of};
-use kp_types::{Lists, PortInfo, Service, ServicePort, ServiceSources};
+use kp_types::{Lists, PortInfo, Service, ServicePort};
 use std::alloc::Global;
 use std::collections::BTreeMap;
 
@@ -21,7 +22,7 @@ pub fn add_port(
     config: &Config,
     zone: Option<&Text>,
     service: &Service,
-    sources: &Option<ServiceSources>,
+    sources: &Option<Sources<'_>>,
     port: &ServicePort,
 ) -> Result<(), NoMemory>
     ensures { OnOk result (known.new.entries
@@ -40,7 +41,7 @@ fn info_in_part(
     alloc: Global,
     config: &Config,
     zone: Option<&Text>,
-    sources: &Option<ServiceSources>,
+    sources: &Option<Sources<'_>>,
     port: &ServicePort,
 ) -> Result<Option<PortInfo>, NoMemory>
     ensures { IfOk result (λ i. i
@@ -57,14 +58,14 @@ fn info_of(
     alloc: Global,
     config: &Config,
     zone: Option<&Text>,
-    sources: &ServiceSources,
+    sources: &Sources<'_>,
     port: &ServicePort,
 ) -> Result<Option<PortInfo>, NoMemory>
     ensures { IfOk result (λ i. i
         ≡ spec.info_of V4 config.now.node (option_copied zone.entry) (sources.now, port.now)) }
 {
     let lists = lists_of(alloc, config, zone, sources, port)?;
-    port_info(alloc, &sources.service, port, lists)
+    port_info(alloc, sources.service, port, lists)
 }
 
 /// The endpoints that a port may send to.
@@ -72,7 +73,7 @@ fn lists_of(
     alloc: Global,
     config: &Config,
     zone: Option<&Text>,
-    sources: &ServiceSources,
+    sources: &Sources<'_>,
     port: &ServicePort,
 ) -> Result<Lists, NoMemory>
     ensures { IfOk result (λ lists. lists
@@ -80,8 +81,8 @@ fn lists_of(
         (entries_from V4 config.now.node sources.now
         (spec.port_key_of sources.now.service port.now))) }
 {
-    let service = &sources.service;
-    let key = port_key_of(alloc, service, port)?;
-    let entries = candidates(alloc, &key, &sources.wanted, &sources.slices, &config.node)?;
-    categorise(alloc, service, port, &entries, zone)
+    let key = port_key_of(alloc, sources.service, port)?;
+    let slices = sources.slices.as_slice();
+    let entries = candidates(alloc, &key, &sources.wanted, slices, &config.node)?;
+    categorise(alloc, sources.service, port, &entries, zone)
 }

@@ -1,6 +1,6 @@
 use Rattle.std.proofs.Common.{◌+◌, arith}
-use Rattle.kp_port_infos.proofs.Counted.{next_count, some_count}
-use Rattle.kp_port_infos.proofs.infos.known_of_services.Goals as goal
+use Rattle.kp_known_ports.proofs.Counted.{next_count, some_count}
+use Rattle.kp_known_ports.proofs.infos.known_of_services.Goals as goal
 
 pub returns-in_err-add_service-clause-bound : goal.returns-in_err-add_service-clause-bound
 returns-in_err-add_service-clause-bound g c =

@@ -5,7 +5,7 @@ ghost use Rattle.std.specs.List.{filter_map, flat_map};
 ghost use Rattle.kp_base.specs.Keys.{port_key_cmp};
 ghost use Rattle.kp_base.specs.declared.address.Family.TheVariants.{V4};
 ghost use Rattle.kp_types.specs.Setting.{config_for};
-ghost use Rattle.kp_types.specs.declared.info.ServiceSources.{ServiceSources as Sources};
+ghost use Rattle.kp_types.specs.declared.info.ServiceSources.{ServiceSources};
 ghost use Rattle.kp_types.specs.declared.service.ServicePort.{ServicePort};
 ghost use Rattle.kp_object_defs.specs.Entries.{sources_of};
 ghost use Rattle.kp_object_defs.specs.Objects.{zone_of};
@@ -13,14 +13,14 @@ ghost use Rattle.kp_object_defs.specs.Order.{distinct_in_order};
 ghost use Rattle.kp_object_defs.specs.OwnKeys.{AreUnderOwnKeys};
 ghost use Rattle.kp_object_defs.specs.PortByKey.{info_at, port_keys_of};
 ghost use Rattle.kp_object_defs.specs.PortInfo as spec;
-ghost use Rattle.kp_port_infos.specs.Known.{AreStored, known_ports, sources_in};
-ghost use Rattle.kp_port_infos.specs.Known.{all_port_count, port_count};
+ghost use Rattle.kp_known_ports.specs.Known.{AreStored, known_ports, sources_in};
+ghost use Rattle.kp_known_ports.specs.Known.{all_port_count, port_count};
 
 use crate::ports::add_port;
-use crate::sources::sources_in_part;
+use crate::sources::{Sources, sources_in_part};
 use kp_base::{Config, NoMemory, PortKey, Steps};
 use kp_store::Objects;
-use kp_types::{PortInfo, Service, ServiceSources};
+use kp_types::{PortInfo, Service};
 use std::alloc::Global;
 use std::collections::BTreeMap;
 use std::sync::ledger::Ledger;
@@ -102,7 +102,7 @@ fn add_service<A: Ledger>(
     service: &Service,
     asked: &mut Steps<A>,
 ) -> Result<(), NoMemory>
-    ensures known { (before : List (Sources × ServicePort)) → known.old.entries
+    ensures known { (before : List (ServiceSources × ServicePort)) → known.old.entries
         ≡ known_ports V4 config.now.node (zone_of objects.now config.now.node) before →
         OnOk result (known.new.entries
         ≡ known_ports V4 config.now.node (zone_of objects.now config.now.node)
@@ -122,12 +122,12 @@ fn add_ports<A: Ledger>(
     objects: &Objects,
     config: &Config,
     service: &Service,
-    sources: &Option<ServiceSources>,
+    sources: &Option<Sources<'_>>,
     asked: &mut Steps<A>,
 ) -> Result<(), NoMemory>
     requires taken { sources.now
         ≡ sources_in V4 (config_for V4 config.now) objects.now service.now }
-    ensures known { (before : List (Sources × ServicePort)) → known.old.entries
+    ensures known { (before : List (ServiceSources × ServicePort)) → known.old.entries
         ≡ known_ports V4 config.now.node (zone_of objects.now config.now.node) before →
         OnOk result (known.new.entries
         ≡ known_ports V4 config.now.node (zone_of objects.now config.now.node)

@@ -16,7 +16,7 @@ use Rattle.kp_object_defs.specs.Order.{by_key}
 use Rattle.kp_object_defs.specs.PortInfo.{cluster_address_in, info_from, info_of, name_of_port, port_key_of}
 use Rattle.kp_object_defs.proofs.InOrder.{insert-put, insert-through, by_key-push}
 use Rattle.kp_object_laws.proofs.PortByKey.{sources_service}
-use Rattle.kp_port_infos.specs.Known.{known_in_part, known_ports, sources_in}
+use Rattle.kp_known_ports.specs.Known.{known_in_part, known_ports, sources_in}
 
 -- of the values of known ports, those that are there
 pub known_there : {K X Y : Type 0} (f : X → Option Y) (es : List (K × X)) → filter_map (λ o. o) (map (λ (e : K × Option Y). e.1) (map (λ (e : K × X). (e.0, f e.1)) es)) ≡ filter_map f (map (λ (e : K × X). e.1) es)

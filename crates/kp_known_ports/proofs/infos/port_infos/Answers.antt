@@ -1,7 +1,7 @@
 use Rattle.std.proofs.Common.{map, subst, sym, ap, ◌∙◌}
-use Rattle.kp_port_infos.specs.Known.{AreStored}
+use Rattle.kp_known_ports.specs.Known.{AreStored}
 use Rattle.kp_object_laws.proofs.PortByKey.{all_stored}
-use Rattle.kp_port_infos.proofs.infos.port_infos.Goals as goal
+use Rattle.kp_known_ports.proofs.infos.port_infos.Goals as goal
 
 pub infos_of_services-requires-clause-stored : goal.infos_of_services-requires-clause-stored
 infos_of_services-requires-clause-stored g c =

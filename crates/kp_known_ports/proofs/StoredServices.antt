@@ -6,7 +6,7 @@ use Rattle.kp_types.specs.declared.service.Service.{Service}
 use Rattle.kp_object_defs.specs.Objects.{Objects}
 use Rattle.kp_object_defs.specs.OwnKeys.{AreUnderOwnKeys}
 use Rattle.kp_object_laws.proofs.PortByKey.{all_stored}
-use Rattle.kp_port_infos.specs.Known.{AreStored}
+use Rattle.kp_known_ports.specs.Known.{AreStored}
 
 -- those of them that pass a test are stored
 pub some_stored : (o : Objects) → AreUnderOwnKeys o → (test : Service → Bool) → AreStored o (filter test (finite.values o.services))
