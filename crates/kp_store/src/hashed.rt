@@ -122,10 +122,8 @@ impl<K: Name, X: Drop> Hashed<K, X> {
         ensures { self.new ≡ finite.remove self.old key.now }
     {
         match K::of(key) {
-            Some(name) => {
-                self.entries.swap_remove(name);
-            }
-            None => return,
+            Some(name) => forget(&mut self.entries, name),
+            None => {}
         }
     }
 }
@@ -140,6 +138,15 @@ fn named<'a, K: Name, X: Drop>(entries: &'a IndexMap<K, Kept<X>>, name: &K) -> O
         None => None,
         Some(object) => Some(object.get()),
     }
+}
+
+/// Takes out the object of a name, if there is one.
+fn forget<K: Name, X: Drop>(entries: &mut IndexMap<K, Kept<X>>, name: &K)
+    ensures { finite.from_entries {R = key_cmp} (keyed K.key_of entries.new.entries)
+        ≡ finite.remove (finite.from_entries (keyed K.key_of entries.old.entries))
+        (K.key_of name.now) }
+{
+    entries.swap_remove(name);
 }
 
 /// Adds an object, if there is one.

@@ -1,16 +1,12 @@
 use Rattle.std.proofs.Common.{sym, ap, ◌∙◌}
 use Rattle.std.specs.FinMap as finite
-use Rattle.kp_store.proofs.NamedEntries.{owner, take_named, take_none}
+use Rattle.kp_store.proofs.NamedEntries.{owner, take_none}
 use Rattle.kp_store.proofs.hashed.Hashed.take.Goals as goal
 
-pub returns : goal.returns
-returns g c =
-    let same = g.K.PartialEq.eq in
-    let key_of = g.K.Name.key_of in
-    let name_of = g.K.Name.name_of in
-    let name = c.in-Some.name.now in
-    take_named same key_of name_of g.met.K.Name.own g.met.K.Name.one c.self.inside.entries.entries c.swap_remove.new.self.entries name c.swap_remove.ensures.updates.0
-    ∙ (λ i. finite.remove (c.self.view_is i) (owner same key_of name_of g.met.K.Name.own g.met.K.Name.one c.args.key.now name (sym c.in-Some.ensures) i))
+pub returns-in-Some : goal.returns-in-Some
+returns-in-Some g c =
+    c.forget.ensures
+    ∙ (λ i. finite.remove (c.self.view_is i) (owner g.K.PartialEq.eq g.K.Name.key_of g.K.Name.name_of g.met.K.Name.own g.met.K.Name.one c.args.key.now c.in-Some.name.now (sym c.in-Some.ensures) i))
 
 pub returns-in-None : goal.returns-in-None
 returns-in-None g c =
