@@ -1,5 +1,5 @@
 //! The endpoints of a Service port, each address and port once.
-ghost use Rattle.std.specs.Prelude.{◌≡◌, true, ◌++◌, IfOk, OnOk};
+ghost use Rattle.std.specs.Prelude.{◌≡◌, true, ◌++◌, map, IfOk, OnOk};
 ghost use Rattle.std.specs.List.{filter_map, list_all};
 ghost use Rattle.std.specs.Option.{option_to_list};
 ghost use Rattle.kp_base.specs.declared.address.Family.TheVariants.{V4};
@@ -23,15 +23,15 @@ pub fn candidates(
     alloc: Global,
     port: &PortKey,
     wanted: &Items<Wanted>,
-    slices: &Items<Slice>,
+    slices: &[&Slice],
     node: &Text,
 ) -> Result<Items<Candidate>, NoMemory>
-    ensures ok { IfOk result (λ cs.
-        cs ≡ spec.counted_once (candidates_from V4 node.now port.now wanted.now slices.now)) }
+    ensures ok { IfOk result (λ cs. cs ≡ spec.counted_once
+        (candidates_from V4 node.now port.now wanted.now (map (λ s. s.now) slices.now))) }
     ensures family { IfOk result (λ cs. list_all (is_of_family V4) cs ≡ true) }
     ensures in_order { IfOk result (λ cs. are_in_order cs ≡ true) }
 {
-    let found = all_candidates(alloc, port, wanted.as_slice(), slices.as_slice(), node)?;
+    let found = all_candidates(alloc, port, wanted.as_slice(), slices, node)?;
     counted_once(alloc, found)
 }
 
@@ -40,16 +40,16 @@ fn all_candidates(
     alloc: Global,
     port: &PortKey,
     wanted: &[Wanted],
-    slices: &[Slice],
+    slices: &[&Slice],
     node: &Text,
 ) -> Result<Vec<Candidate>, NoMemory>
-    ensures { IfOk result (λ cs.
-        cs.items ≡ candidates_from V4 node.now port.now wanted.now slices.now) }
+    ensures { IfOk result (λ cs. cs.items
+        ≡ candidates_from V4 node.now port.now wanted.now (map (λ s. s.now) slices.now)) }
 {
     let mut found = Vec::new(alloc);
     add_wanted(alloc, &mut found, port, wanted, node)?;
     for slice in slices {
-        add_slice(alloc, &mut found, port, slice, node)?;
+        add_slice(alloc, &mut found, port, *slice, node)?;
     }
     Ok(found)
 }

@@ -15,8 +15,7 @@ use crate::slice_map::SliceMap;
 use kp_base::{Config, Copied, Items, NoMemory, ObjectKey, Text, fits_memory};
 use kp_object_laws::{slices_now, wanted_endpoints};
 use kp_packer::pack;
-use kp_port_infos::wanted_of;
-use kp_store::Objects;
+use kp_store::{Objects, wanted_of};
 use kp_types::{AddressType, Service, Slice};
 use std::alloc::Global;
 

@@ -14,7 +14,7 @@ ghost use Rattle.kp_object_defs.specs.PortByKey.{info_at, port_keys_of};
 ghost use Rattle.kp_object_defs.specs.PortInfo as known;
 ghost use Rattle.kp_types.specs.declared.info.PortInfo.{PortInfo};
 ghost use Rattle.kp_door_defs.specs.Decision as spec;
-ghost use Rattle.kp_port_infos.specs.Known.{AreStored};
+ghost use Rattle.kp_known_ports.specs.Known.{AreStored};
 ghost use Rattle.kp_decide.specs.Enough.{AreEnough};
 ghost use Rattle.kp_decide.specs.Told.{told, translation_told, passed_by};
 
@@ -24,7 +24,7 @@ use crate::masquerade::is_masqueraded;
 use crate::translation::{Translation, translation_of};
 use kp_base::{Config, Copied, Endpoint, NoMemory, Steps};
 use kp_draws::DrawSource;
-use kp_port_infos::infos_of_services;
+use kp_known_ports::infos_of_services;
 use kp_recent::RecentLists;
 use kp_store::Objects;
 use kp_types::{Decision, Packet, PortInfo, Reason, Service, Verdict};

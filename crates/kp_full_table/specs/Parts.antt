@@ -7,7 +7,7 @@ use Rattle.kp_table_defs.specs.Layout.{service_block, node_port_block, firewall_
 use Rattle.kp_chains.specs.Rows.{rows_of_texts, rule_count}
 use Rattle.kp_chains.specs.Blocks.{blocks_of}
 use Rattle.kp_chains.specs.declared.blocks.Blocks.{Blocks}
-pub use Rattle.kp_port_infos.specs.Known.{all_port_count}
+pub use Rattle.kp_known_ports.specs.Known.{all_port_count}
 use Rattle.kp_full_table.specs.declared.part.Part.{Part}
 
 -- the rules of ports in the shared chains

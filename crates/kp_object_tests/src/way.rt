@@ -146,7 +146,7 @@ fn found_on(
     node: &str,
 ) -> Result<Items<Candidate>, NoMemory> {
     let node = Text::of(alloc, node)?;
-    candidates(alloc, port, wanted, &Items::new(alloc), &node)
+    candidates(alloc, port, wanted, &[], &node)
 }
 
 /// The candidates of the Service's port, on the node of this name.

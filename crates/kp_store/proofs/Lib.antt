@@ -3,7 +3,7 @@ pub mod Changed
 pub mod Filled
 pub mod Found
 pub mod KeyLists
-pub mod NodeNames
+pub mod NamedEntries
 pub mod OwnObjects
 pub mod Ordered
 pub mod Owners

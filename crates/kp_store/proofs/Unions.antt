@@ -19,10 +19,10 @@ any_more p xs i x lt is =
     ∙ sym (list_any_more p xs i x lt)
 
 -- one more key was put
-pub put_more : (keys : List (Bor ObjectKey)) (i : ℕ) (q : Bor ObjectKey) (k : ObjectKey) (old : Bool) → i < length keys → q ≡ get_or keys i q → eq_by_cmp key_cmp k q.now || (list_any (λ (x : Bor ObjectKey). eq_by_cmp key_cmp k x.now) (take i keys) || old) ≡ list_any (λ (x : Bor ObjectKey). eq_by_cmp key_cmp k x.now) (take (i + 1) keys) || old
-put_more keys i q k old lt is =
-    sym (or_assoc (eq_by_cmp key_cmp k q.now) (list_any (λ x. eq_by_cmp key_cmp k x.now) (take i keys)) old)
-    ∙ ap (λ b. b || old) (any_more (λ (x : Bor ObjectKey). eq_by_cmp key_cmp k x.now) keys i q lt is)
+pub put_more : {Q : Type 0} (key_of : Q → ObjectKey) (names : List Q) (i : ℕ) (q : Q) (k : ObjectKey) (old : Bool) → i < length names → q ≡ get_or names i q → eq_by_cmp key_cmp k (key_of q) || (list_any (λ x. eq_by_cmp key_cmp k (key_of x)) (take i names) || old) ≡ list_any (λ x. eq_by_cmp key_cmp k (key_of x)) (take (i + 1) names) || old
+put_more key_of names i q k old lt is =
+    sym (or_assoc (eq_by_cmp key_cmp k (key_of q)) (list_any (λ x. eq_by_cmp key_cmp k (key_of x)) (take i names)) old)
+    ∙ ap (λ b. b || old) (any_more (λ x. eq_by_cmp key_cmp k (key_of x)) names i q lt is)
 
 -- a key is among the keys of a map
 pub among_keys : {X : Type 0} (m : FinMap key_cmp X) (k : ObjectKey) → list_any (eq_by_cmp key_cmp k) (finite.keys m) ≡ contains_key m k
@@ -36,10 +36,10 @@ among_keys {X} m k = among (entries m) ∙ ap is_some (sym (get-entries m k))
     among [] = refl
     among (e ∷ es) = by (eq_by_cmp key_cmp k e.0) e.1 (find key_cmp k es) (list_any (eq_by_cmp key_cmp k) (map (λ e. e.0) es)) (among es)
 
--- what references show
-pub any_shown : (k : ObjectKey) (qs : List (Bor ObjectKey)) → list_any (λ (q : Bor ObjectKey). eq_by_cmp key_cmp k q.now) qs ≡ list_any (eq_by_cmp key_cmp k) (map (λ q. q.now) qs)
-any_shown k [] = refl
-any_shown k (q ∷ qs) = ap (λ b. eq_by_cmp key_cmp k q.now || b) (any_shown k qs)
+-- what names stand for
+pub any_shown : {Q : Type 0} (key_of : Q → ObjectKey) (k : ObjectKey) (qs : List Q) → list_any (λ q. eq_by_cmp key_cmp k (key_of q)) qs ≡ list_any (eq_by_cmp key_cmp k) (map key_of qs)
+any_shown key_of k [] = refl
+any_shown key_of k (q ∷ qs) = ap (λ b. eq_by_cmp key_cmp k (key_of q) || b) (any_shown key_of k qs)
 
 -- the keys of one more bucket
 pub union_more : {T : Type 0} (in_bucket : T → Bool) (tags : List T) (i : ℕ) (t : T) (new old : Bool) → i < length tags → t ≡ get_or tags i t → new ≡ in_bucket t || old → old ≡ list_any in_bucket (take i tags) → new ≡ list_any in_bucket (take (i + 1) tags)

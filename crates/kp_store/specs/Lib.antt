@@ -2,5 +2,6 @@ pub mod Destinations
 pub mod Indexes
 pub mod LookUps
 pub mod Named
+pub mod NodeNames
 pub mod Stored
 pub mod Tags

@@ -1,43 +1,48 @@
-//! Objects of one kind by their keys, found by the keys' hashes.
+//! Objects of one kind, found by the hashes of their keys, or of names that stand for these.
 ghost use Rattle.std.specs.Prelude.{◌≡◌, ◌++◌, map, IfOk, OnOk, OnErr, option_copied};
 ghost use Rattle.std.specs.List.{filter_map};
 ghost use Rattle.std.specs.Option.{option_to_list};
+ghost use Rattle.kp_base.specs.Keys.{key_cmp};
 ghost use Rattle.kp_base.specs.declared.key.ObjectKey.{ObjectKey};
+ghost use Rattle.kp_store.specs.Named.{keyed};
 ghost use Rattle.std.specs.FinMap as finite;
 
 use crate::key_set::KeySet;
+use crate::named::Name;
+use crate::selections::copies;
 use indexmap::IndexMap;
-use kp_base::{Kept, NoMemory, ObjectKey};
+use kp_base::{Items, Kept, NoMemory, ObjectKey};
 use std::alloc::Global;
 use std::marker::Model;
 
 /// Objects of one kind, which contracts see as a finite map from their keys. A look-up compares one
-/// key, however many there are; they have no order but one that is made when it is asked for.
-pub struct Hashed<X> {
-    entries: IndexMap<ObjectKey, Kept<X>>,
+/// name, however many there are; they have no order but one that is made when it is asked for.
+pub struct Hashed<K: Name, X> {
+    entries: IndexMap<K, Kept<X>>,
 }
 
-impl<X: Drop> Drop for Hashed<X> {
+impl<K: Name, X: Drop> Drop for Hashed<K, X> {
     fn drop(self) {
         let Hashed { entries } = self;
     }
 }
 
-impl<X> Model for Hashed<X> {
+impl<K: Name, X> Model for Hashed<K, X> {
     ghost use Rattle.std.specs.FinMap as finite;
     ghost use Rattle.kp_base.specs.Keys.{key_cmp};
+    ghost use Rattle.kp_store.specs.Named.{keyed};
     ghost use Rattle.kp_store.specs.Stored.{keyed_code};
 
     ghost Value = { finite.FinMap key_cmp X };
 
     ghost coded = { keyed_code X.code };
 
-    ghost view = { λ h. finite.from_entries {R = key_cmp} h.entries.entries };
+    ghost view = { λ h. finite.from_entries {R = key_cmp} (keyed K.key_of h.entries.entries) };
 }
 
-impl<X: Drop> Hashed<X> {
+impl<K: Name, X: Drop> Hashed<K, X> {
     /// No objects.
-    pub fn new(alloc: Global) -> Hashed<X>
+    pub fn new(alloc: Global) -> Hashed<K, X>
         ensures { result ≡ finite.empty }
     {
         Hashed {
@@ -45,24 +50,48 @@ impl<X: Drop> Hashed<X> {
         }
     }
 
+    /// The object of a name, if there is one.
+    pub fn get(&self, name: &K) -> Option<&X>
+        ensures { option_copied result ≡ finite.get self.now (K.key_of name.now) }
+    {
+        named(&self.entries, name)
+    }
+
     /// The object of a key, if there is one.
-    pub fn get(&self, key: &ObjectKey) -> Option<&X>
+    fn at(&self, key: &ObjectKey) -> Option<&X>
         ensures { option_copied result ≡ finite.get self.now key.now }
     {
-        match self.entries.get(key) {
+        match K::of(key) {
             None => None,
-            Some(object) => Some(object.get()),
+            Some(name) => named(&self.entries, name),
         }
     }
 
-    /// The keys, in their order.
-    pub fn in_order(&self, alloc: Global) -> Result<KeySet, NoMemory>
+    /// The objects, in order of their keys.
+    pub fn values(&self, alloc: Global) -> Result<Vec<&X>, NoMemory>
+        ensures { IfOk result (λ xs. map (λ x. x.now) xs.items ≡ finite.values self.now) }
+    {
+        let order = self.in_order(alloc)?;
+        self.found(alloc, &order)
+    }
+
+    /// The keys, in order.
+    pub fn keys(&self, alloc: Global) -> Result<Items<ObjectKey>, NoMemory>
+        ensures { IfOk result (λ ks. ks ≡ finite.keys self.now) }
+    {
+        let order = self.in_order(alloc)?;
+        let keys = order.keys(alloc)?;
+        copies(alloc, keys.as_slice())
+    }
+
+    /// The keys, as a set that has them in their order.
+    fn in_order(&self, alloc: Global) -> Result<KeySet, NoMemory>
         ensures { IfOk result (λ ks. (k : ObjectKey) → finite.contains_key ks k
             ≡ finite.contains_key self.now k) }
     {
-        let keys: Vec<&ObjectKey> = self.entries.keys().collect(alloc)?;
+        let names: Vec<&K> = self.entries.keys().collect(alloc)?;
         let mut order = KeySet::new(alloc);
-        order.put_all(alloc, keys.as_slice())?;
+        order.put_all(alloc, names.as_slice())?;
         Ok(order)
     }
 
@@ -74,17 +103,17 @@ impl<X: Drop> Hashed<X> {
         let keys = keys.keys(alloc)?;
         let mut found = Vec::new(alloc);
         for key in keys.as_slice() {
-            add_found(&mut found, self.get(*key))?;
+            add_found(&mut found, self.at(*key))?;
         }
         Ok(found)
     }
 
-    /// Puts an object in place of the one of its key. Where memory is out, all stays.
-    pub fn put(&mut self, key: ObjectKey, object: Kept<X>) -> Result<(), NoMemory>
-        ensures ok { OnOk result (self.new ≡ finite.insert self.old key object) }
+    /// Puts an object in place of the one of its name. Where memory is out, all stays.
+    pub fn put(&mut self, name: K, object: Kept<X>) -> Result<(), NoMemory>
+        ensures ok { OnOk result (self.new ≡ finite.insert self.old (K.key_of name) object) }
         ensures err { OnErr result (self.new ≡ self.old) }
     {
-        self.entries.insert(key, object)?;
+        self.entries.insert(name, object)?;
         Ok(())
     }
 
@@ -92,8 +121,32 @@ impl<X: Drop> Hashed<X> {
     pub fn take(&mut self, key: &ObjectKey)
         ensures { self.new ≡ finite.remove self.old key.now }
     {
-        self.entries.swap_remove(key);
+        match K::of(key) {
+            Some(name) => forget(&mut self.entries, name),
+            None => {}
+        }
     }
+}
+
+/// The object of a name, if there is one.
+fn named<'a, K: Name, X: Drop>(entries: &'a IndexMap<K, Kept<X>>, name: &K) -> Option<&'a X>
+    ensures { option_copied result
+        ≡ finite.get (finite.from_entries {R = key_cmp} (keyed K.key_of entries.now.entries))
+        (K.key_of name.now) }
+{
+    match entries.get(name) {
+        None => None,
+        Some(object) => Some(object.get()),
+    }
+}
+
+/// Takes out the object of a name, if there is one.
+fn forget<K: Name, X: Drop>(entries: &mut IndexMap<K, Kept<X>>, name: &K)
+    ensures { finite.from_entries {R = key_cmp} (keyed K.key_of entries.new.entries)
+        ≡ finite.remove (finite.from_entries (keyed K.key_of entries.old.entries))
+        (K.key_of name.now) }
+{
+    entries.swap_remove(name);
 }
 
 /// Adds an object, if there is one.

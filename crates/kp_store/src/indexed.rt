@@ -6,7 +6,6 @@ ghost use Rattle.kp_store.specs.Indexes.{is_among, is_tagged};
 
 use crate::hashed::Hashed;
 use crate::index::Index;
-use crate::selections::copies;
 use kp_base::{Copied, Items, Kept, NoMemory, ObjectKey};
 use std::alloc::Global;
 use std::hash::Hash;
@@ -24,7 +23,7 @@ pub trait Tagged<T: Eq>: Copied {
 /// Objects of one kind, which contracts see as a finite map from their keys. The index has in the
 /// bucket of each tag the keys of the objects with this tag.
 pub struct Indexed<X: Tagged<T>, T: Eq + Hash + Copied> {
-    objects: Hashed<X>,
+    objects: Hashed<ObjectKey, X>,
     index: Index<T>,
 }
 
@@ -71,17 +70,14 @@ impl<X: Tagged<T>, T: Eq + Hash + Copied> Indexed<X, T> {
     pub fn values(&self, alloc: Global) -> Result<Vec<&X>, NoMemory>
         ensures { IfOk result (λ xs. map (λ x. x.now) xs.items ≡ finite.values self.now) }
     {
-        let order = self.objects.in_order(alloc)?;
-        self.objects.found(alloc, &order)
+        self.objects.values(alloc)
     }
 
     /// The keys, in order.
     pub fn keys(&self, alloc: Global) -> Result<Items<ObjectKey>, NoMemory>
         ensures { IfOk result (λ ks. ks ≡ finite.keys self.now) }
     {
-        let order = self.objects.in_order(alloc)?;
-        let keys = order.keys(alloc)?;
-        copies(alloc, keys.as_slice())
+        self.objects.keys(alloc)
     }
 
     /// How many objects have a tag, about.
@@ -146,7 +142,7 @@ impl<X: Tagged<T>, T: Eq + Hash + Copied> Indexed<X, T> {
 /// The tags of the object of a key: none where there is no object.
 fn tags_at<X: Tagged<T>, T: Eq + Hash + Copied>(
     alloc: Global,
-    objects: &Hashed<X>,
+    objects: &Hashed<ObjectKey, X>,
     key: &ObjectKey,
 ) -> Result<Items<T>, NoMemory>
     ensures { IfOk result (λ ts. (t : T) → is_among T.eq ts t

@@ -6,7 +6,8 @@ ghost use Rattle.kp_base.specs.Keys.{key_cmp};
 ghost use Rattle.kp_base.specs.declared.key.ObjectKey.{ObjectKey};
 ghost use Rattle.std.specs.FinMap as finite;
 
-use kp_base::{Copied, NoMemory, ObjectKey};
+use crate::named::Name;
+use kp_base::{NoMemory, ObjectKey};
 use std::alloc::Global;
 use std::collections::BTreeMap;
 use std::marker::Model;
@@ -74,14 +75,14 @@ impl KeySet {
         Ok(())
     }
 
-    /// Puts keys.
-    pub fn put_all(&mut self, alloc: Global, keys: &[&ObjectKey]) -> Result<(), NoMemory>
+    /// Puts the keys of names.
+    pub fn put_all<K: Name>(&mut self, alloc: Global, names: &[&K]) -> Result<(), NoMemory>
         ensures { OnOk result ((k : ObjectKey) → finite.contains_key self.new k
-            ≡ list_any (λ q. eq_by_cmp key_cmp k q.now) keys.now
+            ≡ list_any (λ q. eq_by_cmp key_cmp k (K.key_of q.now)) names.now
             || finite.contains_key self.old k) }
     {
-        for key in keys {
-            self.put(key.copy(alloc)?)?;
+        for name in names {
+            self.put(name.key(alloc)?)?;
         }
         Ok(())
     }

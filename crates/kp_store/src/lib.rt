@@ -6,10 +6,12 @@ mod hashed;
 mod index;
 mod indexed;
 mod key_set;
-mod nodes;
+mod named;
 mod objects;
 mod selections;
 mod tags;
+mod wanted;
 
 pub use indexed::{Indexed, Tagged};
 pub use objects::Objects;
+pub use wanted::wanted_of;

@@ -11,8 +11,8 @@ ghost use Rattle.kp_object_defs.specs.OwnKeys.{AreUnderOwnKeys};
 ghost use Rattle.kp_store.specs.Destinations.{answers};
 ghost use Rattle.kp_store.specs.LookUps as find;
 
+use crate::hashed::Hashed;
 use crate::indexed::Indexed;
-use crate::nodes::Nodes;
 use crate::selections::{copies, keys_selecting, pods_selected, services_answering};
 use crate::tags::{Label, ServiceTag, label_in, selected_by};
 use kp_base::{Address, Copied, Items, NoMemory, ObjectKey, PortNo, Proto, Text};
@@ -25,7 +25,7 @@ pub struct Objects {
     services: Indexed<Service, ServiceTag>,
     slices: Indexed<Slice, ObjectKey>,
     pods: Indexed<Pod, Label>,
-    nodes: Nodes,
+    nodes: Hashed<Text, Node>,
 }
 
 impl Drop for Objects {
@@ -72,7 +72,7 @@ impl Objects {
             services: Indexed::new(alloc),
             slices: Indexed::new(alloc),
             pods: Indexed::new(alloc),
-            nodes: Nodes::new(alloc),
+            nodes: Hashed::new(alloc),
         }
     }
 
@@ -269,6 +269,9 @@ impl Objects {
     pub fn zone_of(&self, node: &Text) -> Option<&Text>
         ensures { option_copied result ≡ objects.zone_of self.now node.now }
     {
-        self.nodes.zone_of(node)
+        match self.nodes.get(node) {
+            Some(node) => node.zone.as_ref(),
+            None => None,
+        }
     }
 }

@@ -1,4 +1,4 @@
-use Rattle.std.proofs.Common.{◌≡◌, true, ap, ◌∙◌}
+use Rattle.std.proofs.Common.{◌≡◌, true, map, ap, ◌∙◌}
 use Rattle.std.specs.List.{list_all}
 use Rattle.std.proofs.lemmas.Result.{IfOk-weaker}
 use Rattle.kp_base.specs.declared.address.Family.TheVariants.{V4}
@@ -13,7 +13,7 @@ returns-clause-family c =
     IfOk-weaker c.counted_once.result (λ cs. cs ≡ counted_once c.in_ok-found.found.items) (λ cs. list_all (is_of_family V4) cs ≡ true)
     (λ cs same.
     ap (list_all (is_of_family V4)) (same ∙ ap counted_once c.in_ok-found.ensures)
-    ∙ entries_of_family V4 c.args.node.now c.args.port.now c.as_slice.result.now c.as_slice-2.result.now)
+    ∙ entries_of_family V4 c.args.node.now c.args.port.now c.as_slice.result.now (map (λ s. s.now) c.args.slices.now))
     c.counted_once.ensures
 
 pub returns-clause-in_order : goal.returns-clause-in_order

@@ -7,8 +7,8 @@ use Rattle.kp_object_defs.specs.Order.{distinct_in_order}
 use Rattle.kp_object_defs.specs.PortByKey.{info_at, port_keys_of}
 use Rattle.kp_object_defs.specs.PortInfo.{port_infos}
 use Rattle.kp_store.specs.Destinations.{answers}
-use Rattle.kp_port_infos.specs.Known.{AreStored}
-use Rattle.kp_port_infos.proofs.StoredServices.{some_stored}
+use Rattle.kp_known_ports.specs.Known.{AreStored}
+use Rattle.kp_known_ports.proofs.StoredServices.{some_stored}
 use Rattle.kp_decide.specs.Enough.{AreEnough}
 use Rattle.kp_decide.proofs.Enough.{enough}
 use Rattle.kp_decide.proofs.decision.infos_at.Goals as goal

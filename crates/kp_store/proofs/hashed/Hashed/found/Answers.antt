@@ -10,7 +10,7 @@ use Rattle.kp_store.proofs.hashed.Hashed.found.Goals as goal
 pub loop-key-preserved : goal.loop-key-preserved
 loop-key-preserved g c =
     c.in_ok-add_found.ensures
-    ∙ (λ i. c.loop-key.invariant i ++ option_to_list (c.get.ensures i))
+    ∙ (λ i. c.loop-key.invariant i ++ option_to_list (c.at.ensures i))
     ∙ filter_map_now_step (finite.get c.args.self.now) c.as_slice-key-items.result.now c.loop-key.key-index c.key-item.result c.loop-key-test.true c.key-item.is
 
 pub returns : goal.returns

@@ -7,6 +7,6 @@ use Rattle.kp_base.specs.Keys.{key_cmp}
 use Rattle.kp_base.specs.declared.key.ObjectKey.{ObjectKey}
 use Rattle.kp_store.proofs.key_set.KeySet.put_all.Given as goal
 
-abbrev pub invariant-loop-key : goal.invariant-loop-key
-invariant-loop-key l =
-    (k : ObjectKey) → finite.contains_key l.self k ≡ list_any (λ q. eq_by_cmp key_cmp k q.now) (take l.key-index l.keys) || finite.contains_key l.fn.self k
+abbrev pub invariant-loop-name : goal.invariant-loop-name
+invariant-loop-name g l =
+    (k : ObjectKey) → finite.contains_key l.self k ≡ list_any (λ q. eq_by_cmp key_cmp k (g.K.Name.key_of q.now)) (take l.name-index l.names) || finite.contains_key l.fn.self k
