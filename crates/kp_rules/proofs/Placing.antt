@@ -217,10 +217,14 @@ staged_last places m staged =
 
 -- ---- copies
 
--- places that are told alike are the same
-pub same_places : (ps qs : BTreeSet ChainAt) → IsOrdered order.ghosts.cmp ps → IsOrdered order.ghosts.cmp qs
-    → ((q : ChainAt) → has_place ps q ≡ has_place qs q) → ps.keys ≡ qs.keys
-same_places ps qs p q same = btree_set_from_contains order_total ps qs p q same order_exact
+-- a set that is told as a list in order is a copy of it
+pub copy_is : (copy places : BTreeSet ChainAt) (ps : List ChainAt) → IsOrdered order.ghosts.cmp copy
+    → IsOrdered order.ghosts.cmp places
+    → ((q : ChainAt) → has_place copy q ≡ list_any (eq_by_cmp order.ghosts.cmp q) ps) → ps ≡ places.keys
+    → copy.keys ≡ places.keys
+copy_is copy places ps c p same all =
+    btree_set_from_contains order_total copy places c p
+    (λ q. same q ∙ ap (list_any (eq_by_cmp order.ghosts.cmp q)) all) order_exact
 
 -- one place more is told
 more_told : (t h : Bool) → cond t true h ≡ h || (t || false)

@@ -39,6 +39,7 @@ pub fn remove_empty(places: &mut BTreeSet<ChainAt>, edits: &[Edit], chains: &Cha
 }
 
 /// The same places once more.
+#[tactic(auto, using(crate::proofs::Placing::copy_is))]
 pub fn copied(alloc: Global, places: &BTreeSet<ChainAt>) -> Result<BTreeSet<ChainAt>, NoMemory>
     ensures { IfOk result (λ copy. copy.keys ≡ places.now.keys) }
 {

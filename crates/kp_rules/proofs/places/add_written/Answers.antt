@@ -6,9 +6,15 @@ use Rattle.kp_types.specs.declared.chain.ChainAt.{ChainAt}
 use Rattle.kp_types.specs.contracts.chain.ChainAtOrd.TheImpl as order
 use Rattle.kp_table_defs.specs.Edits.{is_write}
 use Rattle.kp_rules.specs.Placed.{has_place, is_at, AreStaged}
-use Rattle.kp_rules.proofs.Placing.{staged_more, written_more, kept, there}
+use Rattle.kp_rules.proofs.Placing.{staged_first, staged_more, written_more, kept, there}
 use Rattle.kp_rules.proofs.places.add_written.Goals.{in-Write+in_ok-insert, in_default}
 use Rattle.kp_rules.proofs.places.add_written.Goals as goal
+
+pub loop-edit-init : goal.loop-edit-init
+loop-edit-init c = record {
+  staged = λ chains same. staged_first c.args.places.now chains c.args.edits.now same;
+  written = λ q h. absurd (false≢true h);
+}
 
 -- without memory the places stay
 pub returns-in_err-insert-clause-staged : goal.returns-in_err-insert-clause-staged

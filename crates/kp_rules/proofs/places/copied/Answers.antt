@@ -6,7 +6,7 @@ use Rattle.std.proofs.lemmas.List.{map-append}
 use Rattle.kp_types.specs.declared.chain.ChainAt.{ChainAt}
 use Rattle.kp_types.specs.contracts.chain.ChainAtOrd.TheImpl as order
 use Rattle.kp_rules.specs.Placed.{has_place}
-use Rattle.kp_rules.proofs.Placing.{same_places, told_more}
+use Rattle.kp_rules.proofs.Placing.{told_more}
 use Rattle.kp_rules.proofs.places.copied.Goals as goal
 
 -- one place more
@@ -20,10 +20,3 @@ loop-at-preserved c =
           c.loop-at.invariant.same q
           ∙ ap (list_any (eq_by_cmp order.ghosts.cmp q)) (sym (map-append now c.loop-at.yielded (c.in-Some.at ∷ [])));
     }
-
--- all places
-pub returns : goal.returns
-returns c =
-    let all : map (λ (p : Bor ChainAt). p.now) c.loop-at.yielded ≡ c.args.places.now.keys = search rules in
-    same_places c.loop-at.copy c.args.places.now c.loop-at.invariant.sorted c.into_iter-at-iterator.ensures.into_iter_gives.4
-    (λ q. c.loop-at.invariant.same q ∙ ap (list_any (eq_by_cmp order.ghosts.cmp q)) all)

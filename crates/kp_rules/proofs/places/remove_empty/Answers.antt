@@ -1,11 +1,12 @@
-use Rattle.std.proofs.Common.{◌≡◌, ◌∙◌, sym, ap, subst, true, false, cond, is_some, drop, ◌+◌, rules}
+use Rattle.std.proofs.Common.{◌≡◌, ◌∙◌, sym, ap, subst, true, false, cond, is_some, drop, length, arith, ◌+◌}
+use Rattle.std.proofs.Math.Seq.{drop-length}
 use Rattle.std.specs.BTreeSet.{IsOrdered}
 use Rattle.std.specs.FinMap.{contains_key}
 use Rattle.std.specs.Ordering.{eq_by_cmp}
 use Rattle.kp_types.specs.declared.chain.ChainAt.{ChainAt}
 use Rattle.kp_types.specs.contracts.chain.ChainAtOrd.TheImpl as order
 use Rattle.kp_rules.specs.Placed.{has_place, is_at, place_of, AreStaged}
-use Rattle.kp_rules.proofs.Placing.{copied_is, staged_left, staged_kept, staged_less}
+use Rattle.kp_rules.proofs.Placing.{copied_is, staged_last, staged_left, staged_kept, staged_less}
 use Rattle.kp_rules.proofs.places.remove_empty.Goals.{then-is_none, else-is_none}
 use Rattle.kp_rules.proofs.places.remove_empty.Goals as goal
 
@@ -28,3 +29,11 @@ loop-edit-preserved c =
       | else-is_none w ↦
           subst (λ s. AreStaged s m rest) (sym w.places-is) (staged_kept old m e rest staged (found ∙ w.if-is_none.ensures))
     ]
+
+-- no edit is left
+pub returns : goal.returns
+returns c =
+    let es = c.args.edits.now in
+    let m = c.args.chains.now.chains in
+    let past : c.loop-edit.edit-index ≡ length es = omega (arith, c.loop-edit.auto.edit-index-end, c.loop-edit-test.false) in
+    staged_last c.loop-edit.places m (subst (AreStaged c.loop-edit.places m) (ap (λ n. drop n es) past ∙ drop-length es) c.loop-edit.invariant)
