@@ -2,7 +2,8 @@
 //! decisions; of what is printed: worked examples of the printed lines, each call of kp_report,
 //! which gives exactly these lines, kp_gen, which gives the lines of a script, kp_rule_text and
 //! kp_restore, which read and print the texts of tables and batches; and tests with threads: events
-//! that four feed and one takes, and published tables that two read beside the publisher.
+//! that four feed and one takes, and published tables that two read beside the publisher, or that
+//! one reads who learns what the publisher tells.
 #![tactic(auto)]
 
 #[cfg(test)]
@@ -33,6 +34,8 @@ mod script;
 mod store;
 #[cfg(test)]
 mod tables;
+#[cfg(test)]
+mod telling;
 #[cfg(test)]
 mod transcript;
 #[cfg(test)]
