@@ -1,5 +1,4 @@
-use Rattle.std.proofs.Common.{◌≡◌, true, take}
-use Rattle.kp_types.specs.declared.chain.ChainAt.{ChainAt}
+use Rattle.std.proofs.Common.{take}
 use Rattle.kp_table_defs.specs.Rebuild.{Chains}
 use Rattle.kp_rules.specs.Placed.{ArePlaces, AreStaged, HaveWritten}
 use Rattle.kp_rules.proofs.places.add_written.Given as goal

@@ -1,4 +1,4 @@
-use Rattle.std.proofs.Common.{◌≡◌, ◌∷◌, [], ◌∙◌, ap, sym, true, cond, map, rules}
+use Rattle.std.proofs.Common.{◌∷◌, [], ◌∙◌, ap, sym, true, cond, map}
 use denote.Ref.{Bor}
 use Rattle.std.specs.List.{list_any}
 use Rattle.std.specs.Ordering.{eq_by_cmp}

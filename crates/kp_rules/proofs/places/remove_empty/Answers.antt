@@ -1,11 +1,10 @@
-use Rattle.std.proofs.Common.{◌≡◌, ◌∙◌, sym, ap, subst, true, false, cond, is_some, drop, length, arith, ◌+◌}
+use Rattle.std.proofs.Common.{◌≡◌, ◌∙◌, sym, ap, subst, false, cond, is_some, drop, length, arith, ◌+◌}
 use Rattle.std.proofs.Math.Seq.{drop-length}
 use Rattle.std.specs.BTreeSet.{IsOrdered}
 use Rattle.std.specs.FinMap.{contains_key}
 use Rattle.std.specs.Ordering.{eq_by_cmp}
-use Rattle.kp_types.specs.declared.chain.ChainAt.{ChainAt}
 use Rattle.kp_types.specs.contracts.chain.ChainAtOrd.TheImpl as order
-use Rattle.kp_rules.specs.Placed.{has_place, is_at, place_of, AreStaged}
+use Rattle.kp_rules.specs.Placed.{has_place, place_of, AreStaged}
 use Rattle.kp_rules.proofs.Placing.{copied_is, staged_last, staged_left, staged_kept, staged_less}
 use Rattle.kp_rules.proofs.places.remove_empty.Goals.{then-is_none, else-is_none}
 use Rattle.kp_rules.proofs.places.remove_empty.Goals as goal
