@@ -2,8 +2,9 @@
 //! decisions; of what is printed: worked examples of the printed lines, each call of kp_report,
 //! which gives exactly these lines, kp_gen, which gives the lines of a script, kp_rule_text and
 //! kp_restore, which read and print the texts of tables and batches; tests with threads: events
-//! that four feed and one takes, and published tables that two read beside the publisher; and a
-//! plane that takes events one by one, syncs, tells its dirty ports and ends.
+//! that four feed and one takes, and published tables that two read beside the publisher, or that
+//! one reads who learns what the publisher tells; and a plane that takes events one by one, syncs,
+//! tells its dirty ports and ends.
 #![tactic(auto)]
 
 #[cfg(test)]
@@ -38,6 +39,8 @@ mod script;
 mod store;
 #[cfg(test)]
 mod tables;
+#[cfg(test)]
+mod telling;
 #[cfg(test)]
 mod transcript;
 #[cfg(test)]

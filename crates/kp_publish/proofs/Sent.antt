@@ -1,5 +1,4 @@
--- A table may be lent to threads, and so a reader may be sent to one. What a type of its own tree holds is read no
--- further than the types that are named here, since a search through all of them breaks off.
+-- A reader may be sent to a thread: its place may, where what is published may be lent to threads.
 use denote.Builtin.{unit}
 use denote.Param.Send.{IsSend, IsSync, sendable, view_send, recorded_send, struct_send}
 use denote.RattleType.{RattleType}
@@ -8,22 +7,15 @@ use Rattle.std.proofs.Crossing.{crosses, frees}
 use Rattle.std.proofs.alloc.Global.TheSendSync as heap
 use Rattle.crossbeam_utils.specs.contracts.rule.Unruled as unruled
 use Rattle.left_right.proofs.reader.Reader.TheSendSync as place
-use Rattle.kp_types.proofs.chain.ChainAt.TheSendSync as at
-use Rattle.kp_rules.below.indexmap.proofs.map.IndexMap.TheSendSync as map
-use Rattle.kp_rules.proofs.chain.Chain.TheSendSync as chain
-use Rattle.kp_rules.proofs.places.Places.TheLaws.TheKnot as knot
-use Rattle.kp_rules.specs.contracts.table.Table as table
+use Rattle.kp_rules.proofs.table.Table.TheSendSync as table
 use Rattle.kp_publish.specs.declared.history.Publication.{Ghosts}
 use Rattle.kp_publish.specs.contracts.shown.Shown as shown
 use Rattle.kp_publish.specs.contracts.reader.Reader as reader
 use Rattle.kp_publish.specs.contracts.reader.Reader.TheInside as inside
 use Rattle.kp_publish.proofs.front.Front.TheSendSync as front
 
-pub table_sync : IsSync table.the_row
-table_sync = search (map.the_sync, at.the_sync, chain.the_sync, crosses, knot.crosses, sendable) depth 60 fits 20000
-
 pub shown_sync : (J : RattleType) (g : Ghosts J.Denot) → IsSync (shown.the_row J g)
-shown_sync J g = search (table_sync, front.the_sync, sendable) depth 60 fits 20000
+shown_sync J g = search (table.the_sync, front.the_sync, sendable) depth 60 fits 20000
 
 pub reader_send : (J : RattleType) (g : Ghosts J.Denot) → IsSend (reader.the_row J g)
 reader_send J g =

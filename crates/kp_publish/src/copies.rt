@@ -41,7 +41,11 @@ impl<J: Publication, T: Absorb<O, State = [Entry; 0]> + Drop, O: Drop> Model for
 
     ghost coded = { keeps_code };
 
-    ghost view = { λ c. record { published = c.published; newest = c.newest } };
+    ghost view = { λ c. record {
+      published = c.published;
+      newest = c.newest;
+      pair = c.writer.desk.place.table_id;
+    } };
 
     ghost invariant = { λ c. Fits c.published c.newest (T.state c.writer.desk.shown.value)
         (newest_of T.applied (T.state c.writer.desk.shown.value)
@@ -53,7 +57,7 @@ fn settle<J: Publication>(
     writer: &mut Writer<Shown<J>, Addition<J>, (), Unruled>,
     held: Option<Addition<J>>,
 ) -> Option<Addition<J>>
-    ensures shown { writer.new.desk.shown.value ≡ writer.old.desk.shown.value }
+    ensures desk { writer.new.desk ≡ writer.old.desk }
     ensures newest { newest_of after writer.new.desk.shown.value
         (drop writer.new.behind writer.new.log.items) result
         ≡ newest_of after writer.old.desk.shown.value
@@ -98,7 +102,11 @@ impl<J: Publication> Copies<J, Shown<J>, Addition<J>> {
     ) -> Copies<J, Shown<J>, Addition<J>>
         requires shown { writer.desk.shown.value ≡ front }
         requires pending { drop writer.behind writer.log.items ≡ [] }
-        ensures { result ≡ record { published = front; newest = front } }
+        ensures { result ≡ record {
+          published = front;
+          newest = front;
+          pair = writer.desk.place.table_id;
+        } }
     {
         Copies {
             head,
@@ -150,7 +158,7 @@ impl<J: Publication> Copies<J, Shown<J>, Addition<J>> {
         requires open { is_ended self.old.newest ≡ false }
         ensures newest { self.new.newest ≡ self.old.newest }
         ensures ok { OnOk result (self.new.published ≡ self.new.newest) }
-        ensures err { OnErr result (self.new ≡ self.old) }
+        ensures err { OnErr result (self.new.published ≡ self.old.published) }
     {
         let held = self.held.take();
         self.held = settle(&mut self.writer, held);

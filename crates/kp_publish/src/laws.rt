@@ -15,7 +15,8 @@ pub fn close<J: Publication, R: Wait>(publisher: &mut Publisher<J>, rt: &R) -> R
     requires open { is_ended publisher.old.newest ≡ false }
     ensures ok { OnOk result (publisher.new.newest ≡ publisher.old.newest ++ End ∷ []) }
     ensures published { OnOk result (publisher.new.published ≡ publisher.new.newest) }
-    ensures err { OnErr result (publisher.new ≡ publisher.old) }
+    ensures err { OnErr result (publisher.new.published ≡ publisher.old.published) }
+    ensures pending { OnErr result (publisher.new.newest ≡ publisher.old.newest) }
 {
     publisher.close(rt)
 }

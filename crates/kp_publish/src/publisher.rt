@@ -86,7 +86,8 @@ impl<J: Publication> Publisher<J> {
         requires open { is_ended self.old.newest ≡ false }
         ensures ok { OnOk result (self.new.newest ≡ self.old.newest ++ End ∷ []) }
         ensures published { OnOk result (self.new.published ≡ self.new.newest) }
-        ensures err { OnErr result (self.new ≡ self.old) }
+        ensures err { OnErr result (self.new.published ≡ self.old.published) }
+        ensures pending { OnErr result (self.new.newest ≡ self.old.newest) }
     {
         if self.copies.newest().count() == u64::MAX {
             return Err(NoMemory);

@@ -2,6 +2,7 @@
 ghost use Rattle.std.specs.Prelude.{◌≡◌, [], length};
 ghost use mathlib.Core.List.{IsPrefix};
 ghost use Rattle.kp_publish.specs.Entries.{records_of, GoesOnFrom, StandsFor};
+ghost use Rattle.kp_publish.specs.Knows.{nothing_of};
 
 use crate::front::Front;
 use crate::history::Publication;
@@ -12,7 +13,8 @@ use left_right::reader;
 use std::marker::Model;
 use std::sync::Wait;
 
-/// A reader outside. Contracts see what it saw last, and the longest of the fronts that it learned.
+/// A reader outside. Contracts see what it saw last, the longest of the fronts that it learned, and
+/// from which pair of copies it reads.
 #[derive(Drop)]
 pub struct Reader<J: Publication> {
     place: reader::Reader<Shown<J>, (), Unruled>,
@@ -27,7 +29,7 @@ impl<J: Publication> Model for Reader<J> {
 
     ghost coded = { knows_code };
 
-    ghost view = { λ r. record { seen = r.seen; told = r.told } };
+    ghost view = { λ r. record { seen = r.seen; told = r.told; pair = r.place.place.table_id } };
 }
 
 /// A reader inside, with the table that it sees. It is ended by `leave`.
@@ -45,7 +47,7 @@ impl<J: Publication> Model for View<J> {
 
     ghost coded = { knows_code };
 
-    ghost view = { λ v. record { seen = v.seen; told = v.told } };
+    ghost view = { λ v. record { seen = v.seen; told = v.told; pair = v.reading.place.table_id } };
 
     ghost invariant = { λ v. v.reading.part.value ≡ v.seen };
 }
@@ -54,7 +56,7 @@ impl<J: Publication> Reader<J> {
     /// A reader that has seen nothing.
     pub(crate) fn new(place: reader::Reader<Shown<J>, (), Unruled>, nothing: Front<J>) -> Reader<J>
         requires { nothing ≡ [] }
-        ensures { result ≡ record { seen = []; told = [] } }
+        ensures { result ≡ nothing_of place.place.table_id }
     {
         Reader {
             place,
@@ -97,6 +99,7 @@ impl<J: Publication> Reader<J> {
     /// Takes in a front. Whatever is seen from now on goes on from it too.
     pub fn learn(&mut self, front: Front<J>)
         ensures seen { self.new.seen ≡ self.old.seen }
+        ensures pair { self.new.pair ≡ self.old.pair }
         ensures told { IsPrefix self.old.told self.new.told }
         ensures front { IsPrefix front self.new.told }
     {
@@ -122,7 +125,8 @@ impl<J: Publication> View<J> {
 
     /// The reader again, which has seen what is seen here.
     pub fn leave(self) -> Reader<J>
-        ensures { result ≡ self }
+        ensures seen { result.seen ≡ self.seen }
+        ensures told { result.told ≡ self.told }
     {
         let View {
             reading,

@@ -4,7 +4,8 @@ use Rattle.std.specs.FinMap.{entries, get}
 use Rattle.std.specs.List.{slice_get, filter, filter_map, flat_map, cons_option, AllByRecursion}
 use Rattle.std.proofs.lemmas.Grind.{flat_map-append}
 use Rattle.std.proofs.lemmas.List.Concat.{flat_map_single}
-use Rattle.std.proofs.lemmas.List.{append-nil, take_more, take_all}
+use denote.Ref.{Bor}
+use Rattle.std.proofs.lemmas.List.{append-nil, map-append}
 use Rattle.std.proofs.lemmas.List.Elements.{filter-append}
 use Rattle.std.proofs.lemmas.Option.{none-some, slice_get_within, slice_get-get_or, get_or_from_slice_get}
 use Rattle.kp_types.specs.Places.{table_place}
@@ -149,19 +150,14 @@ section_added chains table bs os old s1 s2 s3 s4 s5 new p q a b c d e f = simp (
 -- ---- places
 
 -- one more place
-pub places_more : (table : TableName) (ks : List ChainAt) (i : ℕ) (at : ChainAt) → Some at ≡ slice_get ks i → filter (is_other table) (take (i + 1) ks) ≡ filter (is_other table) (take i ks) ++ filter (is_other table) (at ∷ [])
-places_more table ks i at found =
-    ap (filter (is_other table)) (take_more ks i at (slice_get_within ks i at (sym found)))
-    ∙ filter-append (is_other table) (take i ks) (get_or ks i at ∷ [])
-    ∙ ap (λ k. filter (is_other table) (take i ks) ++ filter (is_other table) (k ∷ [])) (get_or_from_slice_get ks i at at (sym found))
-
--- a place within the table is found
-pub places_same : (table : TableName) (ks : List ChainAt) (i : ℕ) → i < length ks → None ≡ slice_get ks i → filter (is_other table) (take (i + 1) ks) ≡ filter (is_other table) (take i ks)
-places_same table ks i inside none = absurd (none-some (get_or ks i (place table [])) (none ∙ slice_get-get_or ks i (place table []) inside))
-
--- no place is left
-pub places_end : (table : TableName) (ks : List ChainAt) (i : ℕ) → length ks ≤ i → filter (is_other table) (take i ks) ≡ filter (is_other table) ks
-places_end table ks i past = ap (filter (is_other table)) (take_all i ks past)
+pub places_more : (table : TableName) (ps : List (Bor ChainAt)) (at : Bor ChainAt) (made more : List ChainAt)
+    → made ≡ filter (is_other table) (map (λ p. p.now) ps) → more ≡ made ++ filter (is_other table) (at.now ∷ [])
+    → more ≡ filter (is_other table) (map (λ p. p.now) (ps ++ at ∷ []))
+places_more table ps at made more e m =
+    let now : Bor ChainAt → ChainAt = λ p. p.now in
+    m ∙ (ap (λ qs. qs ++ filter (is_other table) (at.now ∷ [])) e
+    ∙ (sym (filter-append (is_other table) (map now ps) (at.now ∷ []))
+    ∙ ap (filter (is_other table)) (sym (map-append now ps (at ∷ [])))))
 
 -- the places of the built-in chains, one after the other
 pub nat_added : (chains : Chains) (old s1 s2 s3 new : List ChainAt) → s1 ≡ old ++ if_there chains (place Nat (codes "PREROUTING")) → s2 ≡ s1 ++ if_there chains (place Nat (codes "INPUT")) → s3 ≡ s2 ++ if_there chains (place Nat (codes "OUTPUT"))

@@ -86,10 +86,8 @@ pub(crate) fn other_places(
     ensures { IfOk result (λ places. places ≡ spec.other_places table.now.chains which) }
 {
     let mut places = Vec::new(alloc);
-    for i in 0..table.count() {
-        if let Some(at) = table.place(i) {
-            add_if_other(at, which, &mut places)?;
-        }
+    for at in table.places() {
+        add_if_other(at, which, &mut places)?;
     }
     Ok(Items::from_vec(places))
 }

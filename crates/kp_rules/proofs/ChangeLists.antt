@@ -4,7 +4,9 @@ use Rattle.std.specs.FinMap.{entries, keys, get}
 use Rattle.std.specs.List.{filter_map, cons_option, AllByRecursion}
 use Rattle.std.specs.Option.{option_to_list}
 use Rattle.std.specs.Result.{OnOk}
+use denote.Ref.{Bor}
 use Rattle.std.proofs.lemmas.List.Elements.{filter_map-append}
+use Rattle.std.proofs.lemmas.List.{map-append}
 use Rattle.kp_types.specs.declared.chain.TableName.{TableName}
 use Rattle.kp_types.specs.declared.chain.ChainAt.{ChainAt}
 use Rattle.kp_types.specs.declared.rule.Rule.{Rule}
@@ -13,27 +15,30 @@ use Rattle.kp_types.proofs.ChainOrder.{chain_total}
 use Rattle.kp_table_defs.specs.Rebuild.{Chains}
 use Rattle.kp_table_defs.specs.Edits.{write_if_changed, remove_if_gone, chains_in, table_changes}
 use Rattle.kp_rules.specs.Changes.{is_in, write_at, remove_at, write_if_found}
-use Rattle.kp_lemmas.proofs.ListFacts.{all_weaker, option_before}
+use Rattle.kp_lemmas.proofs.ListFacts.{all_weaker, only_option}
 use Rattle.kp_lemmas.proofs.Entries.{entries_found}
 
 -- chains, as their entries
 abbrev pub Entries : Type 0
 Entries = List (ChainAt × List Rule)
 
--- ---- lists in parts
-
--- what was added for the places before one, for it, and for those behind it
-pub added_in_parts : {X Y : Type 0} (h : X → Option Y) (start first second all : List Y) (xs : List X) (x : X) (ys zs : List X)
-    → zs ≡ xs ++ x ∷ ys → first ≡ start ++ filter_map h xs → second ≡ first ++ option_to_list (h x) → all ≡ second ++ filter_map h ys → all ≡ start ++ filter_map h zs
-added_in_parts h start first second all xs x ys zs e f g l =
-    l ∙ ap (λ s. s ++ filter_map h ys) (g ∙ ap (λ s. s ++ option_to_list (h x)) f)
-    ∙ append_assoc (start ++ filter_map h xs) (option_to_list (h x)) (filter_map h ys)
-    ∙ append_assoc start (filter_map h xs) (option_to_list (h x) ++ filter_map h ys)
-    ∙ ap (λ s. start ++ s) (ap (λ s. filter_map h xs ++ s) (sym (option_before (h x) (filter_map h ys))) ∙ sym (filter_map-append h xs (x ∷ ys)) ∙ ap (filter_map h) (sym e))
+-- ---- answers
 
 pub on_ok : {X E : Type 0} (r : Result X E) (P Q : Type 0) → (P → Q) → OnOk r P → OnOk r Q
 on_ok (Ok x) P Q f h = f h
 on_ok (Err e) P Q f h = h
+
+-- ---- lists of places
+
+-- what was added for the places so far and for one more
+pub added_more : (h : ChainAt → Option Edit) (start made more : List Edit) (ps : List (Bor ChainAt)) (at : Bor ChainAt)
+    → made ≡ start ++ filter_map h (map (λ p. p.now) ps) → more ≡ made ++ option_to_list (h at.now)
+    → more ≡ start ++ filter_map h (map (λ p. p.now) (ps ++ at ∷ []))
+added_more h start made more ps at e m =
+    let before = map (λ (p : Bor ChainAt). p.now) ps in
+    m ∙ (ap (λ es. es ++ option_to_list (h at.now)) e ∙ (append_assoc start (filter_map h before) (option_to_list (h at.now))
+    ∙ ap (λ es. start ++ es) (ap (λ es. filter_map h before ++ es) (sym (only_option (h at.now)))
+    ∙ (sym (filter_map-append h before (at.now ∷ [])) ∙ ap (filter_map h) (sym (map-append (λ (p : Bor ChainAt). p.now) ps (at ∷ [])))))))
 
 -- ---- entries by their keys
 
@@ -64,11 +69,12 @@ removes before after table =
     by_keys (remove_if_gone after) (λ e. is_in table e.0) (remove_at after table) (entries before)
     (all_of (λ e. remove_at after table e.0 ≡ cond (is_in table e.0) (remove_if_gone after e) None) (λ e. refl) (entries before))
 
--- what was added for a table's places, before and after
-pub added_changes : (before after : Chains) (table : TableName) (ps qs : List ChainAt) (start between all : List Edit)
-    → ps ≡ keys after → qs ≡ keys before → between ≡ start ++ filter_map (write_at before after table) ps → all ≡ between ++ filter_map (remove_at after table) qs
+-- what was added for a table's places, after and before
+pub added_changes : (before after : Chains) (table : TableName) (start between all : List Edit)
+    → between ≡ start ++ filter_map (write_at before after table) (keys after)
+    → all ≡ between ++ filter_map (remove_at after table) (keys before)
     → all ≡ start ++ table_changes before after table
-added_changes before after table ps qs start between all p q w r =
-    r ∙ (λ i. w i ++ filter_map (remove_at after table) (q i))
-    ∙ append_assoc start (filter_map (write_at before after table) ps) (filter_map (remove_at after table) (keys before))
-    ∙ (λ i. start ++ ((ap (filter_map (write_at before after table)) p ∙ writes before after table) i ++ removes before after table i))
+added_changes before after table start between all w r =
+    r ∙ (ap (λ es. es ++ filter_map (remove_at after table) (keys before)) w
+    ∙ (append_assoc start (filter_map (write_at before after table) (keys after)) (filter_map (remove_at after table) (keys before))
+    ∙ (λ i. start ++ (writes before after table i ++ removes before after table i))))

@@ -5,7 +5,7 @@ pub mod MapPlaces
 mod NextPlaces
 mod OtherPlaces
 mod PlacesFound
-mod PlaceOrder
+mod Placing
 mod RankedPlaces
 mod RankedWalk
 mod ReadyLimits

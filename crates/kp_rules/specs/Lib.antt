@@ -2,11 +2,10 @@ pub mod Changes
 pub mod Destinations
 pub mod Index
 pub mod Limits
-pub mod Order
+pub mod Placed
 pub mod Ranked
 pub mod Ready
 pub mod Roomy
 pub mod Skipped
-pub mod Tree
 pub mod Walking
 pub mod Worked

@@ -1,5 +1,5 @@
-//! Chains by place: a hash table finds a chain, and a tree has the places in order.
-ghost use Rattle.std.specs.Prelude.{◌≡◌, ◌+◌, ◌<◌, ◌≤◌, slice_get, Some, IfOk, IfSome, OnOk};
+//! Chains by place, in a hash table.
+ghost use Rattle.std.specs.Prelude.{◌≡◌, ◌+◌, ◌<◌, ◌≤◌, Some, IfOk, IfSome, OnOk};
 ghost use Rattle.std.specs.FinMap as finite;
 ghost use Rattle.std.specs.Option.{option_copied};
 ghost use Rattle.kp_types.specs.Places.{chain_cmp};
@@ -8,7 +8,6 @@ ghost use Rattle.kp_types.specs.contracts.chain.ChainAtPartialEq.TheImpl as same
 use crate::chain::Chain;
 use crate::hooks::Hooks;
 use crate::new_chain::NewChain;
-use crate::places::Places;
 use crate::slots::Slots;
 use indexmap::IndexMap;
 use kp_base::{Copied, NoMemory};
@@ -20,7 +19,6 @@ use std::marker::Model;
 /// more memory.
 pub struct ChainMap {
     rules: IndexMap<ChainAt, Chain>,
-    places: Places,
     slots: Slots,
     hooks: Hooks,
 }
@@ -29,7 +27,6 @@ impl Drop for ChainMap {
     fn drop(self) {
         let ChainMap {
             rules,
-            places,
             slots,
             hooks,
         } = self;
@@ -37,7 +34,6 @@ impl Drop for ChainMap {
 }
 
 impl Model for ChainMap {
-    ghost use Rattle.std.specs.Prelude.{◌≡◌};
     ghost use Rattle.std.specs.FinMap as finite;
     ghost use Rattle.indexmap.specs.IndexMap.{spare};
     ghost use Rattle.kp_types.specs.Places.{chain_cmp};
@@ -51,9 +47,6 @@ impl Model for ChainMap {
       chains = finite.from_entries {R = chain_cmp} m.rules.entries;
       room = spare m.rules;
     } };
-
-    ghost invariant = { λ m. m.places
-        ≡ finite.keys (finite.from_entries {R = chain_cmp} m.rules.entries) };
 }
 
 impl ChainMap {
@@ -63,7 +56,6 @@ impl ChainMap {
     {
         ChainMap {
             rules: IndexMap::new(alloc),
-            places: Places::empty(),
             slots: Slots::new(alloc),
             hooks: Hooks::none(),
         }
@@ -125,20 +117,6 @@ impl ChainMap {
         self.get(&at)
     }
 
-    /// The places of the chains.
-    pub fn places(&self) -> &Places
-        ensures { result.now ≡ finite.keys self.now.chains }
-    {
-        &self.places
-    }
-
-    /// The place at an index, in order.
-    pub fn place(&self, i: u64) -> Option<&ChainAt>
-        ensures { option_copied result ≡ slice_get (finite.keys self.now.chains) i }
-    {
-        self.places.get(i)
-    }
-
     /// Makes room for this many new chains.
     pub fn reserve(&mut self, additional: usize) -> Result<(), NoMemory>
         ensures room { OnOk result (additional ≤ self.new.room) }
@@ -163,7 +141,8 @@ impl ChainMap {
         ensures room { self.old.room ≤ self.new.room + 1 }
     {
         let slot = self.slot_for(&chain.at);
-        self.put(chain.in_slot(slot));
+        let NewChain { at, rules } = chain;
+        let _ = self.rules.insert(at, rules.in_slot(slot));
     }
 
     /// The slot for a chain that is to be written: its own, where it stands already.
@@ -178,27 +157,12 @@ impl ChainMap {
         slot
     }
 
-    /// Writes a chain that has its slot.
-    fn put(&mut self, chain: NewChain)
-        requires { 0 < self.old.room }
-        ensures chains { self.new.chains ≡ finite.insert self.old.chains chain.at chain.rules }
-        ensures room { self.old.room ≤ self.new.room + 1 }
-    {
-        let NewChain { at, rules, one } = chain;
-        let known = self.rules.len();
-        let _ = self.rules.insert(at.same(), rules);
-        if self.rules.len() > known {
-            self.places.insert(&at, one);
-        }
-    }
-
     /// Removes a chain, if it is there.
     pub fn remove(&mut self, at: &ChainAt)
         ensures chains { self.new.chains ≡ finite.remove self.old.chains at.now }
         ensures room { self.old.room ≤ self.new.room }
     {
         if let Some((index, _, gone)) = self.rules.swap_remove_full(at) {
-            self.places.remove(at);
             self.leave_slot(gone.slot(), index);
         }
     }

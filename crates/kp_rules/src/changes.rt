@@ -7,7 +7,6 @@ ghost use Rattle.kp_table_defs.specs.Edits as Edits;
 ghost use Rattle.kp_table_defs.specs.Edits.{changes_between, table_changes};
 ghost use Rattle.kp_rules.specs.Changes as Changes;
 
-use crate::places::Places;
 use crate::table::Table;
 use kp_base::{Copied, Items, NoMemory, Shared};
 use kp_types::{Batch, ChainAt, Edit, Rule, TableName};
@@ -37,29 +36,27 @@ fn add_changes(
     ensures { OnOk result (edits.new.items
         ≡ edits.old.items ++ table_changes before.now.chains after.now.chains table) }
 {
-    add_writes(alloc, before, after, table, after.places(), edits)?;
-    add_removes(after, table, before.places(), edits)
+    add_writes(alloc, before, after, table, edits)?;
+    add_removes(before, after, table, edits)
 }
 
-/// Adds the writes of one table's chains at these places.
+/// Adds the writes of one table's chains.
 fn add_writes(
     alloc: Global,
     before: &Table,
     after: &Table,
     table: TableName,
-    places: &Places,
     edits: &mut Vec<Edit>,
 ) -> Result<(), NoMemory>
     ensures { OnOk result (edits.new.items
-        ≡ edits.old.items
-        ++ filter_map (Changes.write_at before.now.chains after.now.chains table) places.now) }
+        ≡ edits.old.items ++ filter_map
+        (Changes.write_at before.now.chains after.now.chains table)
+        (finite.keys after.now.chains)) }
 {
-    let Some((ahead, at, behind)) = places.parts() else {
-        return Ok(());
-    };
-    add_writes(alloc, before, after, table, ahead, edits)?;
-    add(write_at(alloc, before, after, table, at)?, edits)?;
-    add_writes(alloc, before, after, table, behind, edits)
+    for at in after.places() {
+        add(write_at(alloc, before, after, table, at)?, edits)?;
+    }
+    Ok(())
 }
 
 /// The write of one table's chain at this place, where it is new or its rules differ.
@@ -88,23 +85,21 @@ fn write_at(
     }))
 }
 
-/// Adds the removes of one table's chains at these places.
+/// Adds the removes of one table's chains.
 fn add_removes(
+    before: &Table,
     after: &Table,
     table: TableName,
-    places: &Places,
     edits: &mut Vec<Edit>,
 ) -> Result<(), NoMemory>
     ensures { OnOk result (edits.new.items
-        ≡ edits.old.items
-        ++ filter_map (Changes.remove_at after.now.chains table) places.now) }
+        ≡ edits.old.items ++ filter_map (Changes.remove_at after.now.chains table)
+        (finite.keys before.now.chains)) }
 {
-    let Some((ahead, at, behind)) = places.parts() else {
-        return Ok(());
-    };
-    add_removes(after, table, ahead, edits)?;
-    add(remove_at(after, table, at), edits)?;
-    add_removes(after, table, behind, edits)
+    for at in before.places() {
+        add(remove_at(after, table, at), edits)?;
+    }
+    Ok(())
 }
 
 /// The remove of one table's chain at this place, where it is gone.

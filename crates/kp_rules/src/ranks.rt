@@ -1,25 +1,21 @@
 //! Ranks of chains, and whether all jumps of a table go to chains of greater rank.
 ghost use Rattle.std.specs.Prelude.{◌≡◌, bytes_eq};
+ghost use Rattle.std.specs.FinMap as finite;
 ghost use Rattle.std.specs.List.{list_all, starts_with};
 ghost use Rattle.std.specs.Map.{lookup};
 ghost use Rattle.std.specs.Prelude.{nat_eq};
 ghost use Rattle.kp_table_defs.specs.Ranks as Ranks;
 ghost use Rattle.kp_rules.specs.Ranked as Ranked;
 
-use crate::places::Places;
 use crate::table::Table;
 use kp_types::{ChainAt, Rule, TableName, Target};
 
-/// Whether the chains at these places have ranks, and their jumps go to chains of greater rank.
-pub fn are_ranked(table: &Table, places: &Places) -> bool
-    ensures { result ≡ list_all (Ranked.is_ranked_at table.now.chains) places.now }
+/// Whether the chains of a table have ranks, and their jumps go to chains of greater rank.
+pub fn are_ranked(table: &Table) -> bool
+    ensures { result ≡ list_all (Ranked.is_ranked_at table.now.chains)
+        (finite.keys table.now.chains) }
 {
-    match places.parts() {
-        None => true,
-        Some((ahead, at, behind)) => {
-            are_ranked(table, ahead) && is_ranked_at(table, at) && are_ranked(table, behind)
-        }
-    }
+    table.places().iter().all(|at| is_ranked_at(table, at))
 }
 
 /// Whether the chain at a place is so, if there is one.

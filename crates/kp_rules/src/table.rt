@@ -10,18 +10,20 @@ use crate::chain::Chain;
 use crate::chain_map::ChainMap;
 use crate::destination::Destination;
 use crate::new_chain::NewChain;
-use crate::places::Places;
+use crate::places::{add_written, copied, remove_empty};
 use crate::ranks::are_ranked;
 use crate::ready::{link_written, make_all, ready_edits};
 use kp_base::{Address, Copied, Items, NoMemory, PortNo, Proto, Shared};
 use kp_types::{Batch, ChainAt, ChainName, Rule, TableName};
 use std::alloc::Global;
+use std::collections::BTreeSet;
 use std::marker::Model;
 
 /// The tables: a finite map from places to lists of rules, and how many batches were applied.
 pub struct Table {
     alloc: Global,
     chains: ChainMap,
+    places: BTreeSet<ChainAt>,
     syncs: u64,
 }
 
@@ -30,6 +32,7 @@ impl Drop for Table {
         let Table {
             alloc,
             chains,
+            places,
             syncs,
         } = self;
     }
@@ -38,12 +41,15 @@ impl Drop for Table {
 impl Model for Table {
     ghost use Rattle.kp_table_defs.specs.Rebuild.{TableParts};
     ghost use Rattle.kp_rules.specs.Roomy.{table_code};
+    ghost use Rattle.kp_rules.specs.Placed.{ArePlaces};
 
     ghost Value = { TableParts };
 
     ghost coded = { table_code };
 
     ghost view = { λ t. record { chains = t.chains.chains; syncs = t.syncs } };
+
+    ghost invariant = { λ t. ArePlaces t.places t.chains.chains };
 }
 
 impl Copied for Table {
@@ -51,6 +57,7 @@ impl Copied for Table {
         Ok(Table {
             alloc,
             chains: self.chains.copy(alloc)?,
+            places: copied(alloc, &self.places)?,
             syncs: self.syncs,
         })
     }
@@ -64,6 +71,7 @@ impl Table {
         Ok(Table {
             alloc,
             chains: ChainMap::new(alloc),
+            places: BTreeSet::new(alloc),
             syncs: 0,
         })
     }
@@ -138,15 +146,15 @@ impl Table {
     pub fn count(&self) -> u64
         ensures { result ≡ length (finite.keys self.now.chains) }
     {
-        self.chains.places().count()
+        self.places.len() as u64
     }
 
-    /// The place at an index, from 0, among those that have a chain: nat before filter, and then
-    /// by the bytes of the name.
+    /// The place at an index, from 0, among those that have a chain. It goes through those before
+    /// it: who wants all takes `places`.
     pub fn place(&self, i: u64) -> Option<&ChainAt>
         ensures { option_copied result ≡ slice_get (finite.keys self.now.chains) i }
     {
-        self.chains.place(i)
+        self.places.iter().nth(i as usize)
     }
 
     /// Whether each chain has a rank and each jump goes to a chain of its table that there is and
@@ -154,14 +162,14 @@ impl Table {
     pub fn is_ranked(&self) -> bool
         ensures { result ≡ Ranks.is_ranked self.now.chains }
     {
-        are_ranked(self, self.places())
+        are_ranked(self)
     }
 
-    /// The places that have a chain.
-    pub(crate) fn places(&self) -> &Places
-        ensures { result.now ≡ finite.keys self.now.chains }
+    /// The places that have a chain: nat before filter, and then by the bytes of the name.
+    pub fn places(&self) -> &BTreeSet<ChainAt>
+        ensures { result.now.keys ≡ finite.keys self.now.chains }
     {
-        self.chains.places()
+        &self.places
     }
 
     /// Writes a chain, in place of its old rules where there is one, and leaves the count. Until a
@@ -174,6 +182,7 @@ impl Table {
         let rules = Shared::of(self.alloc, rules)?;
         let chain = NewChain::new(self.alloc, at, rules)?;
         self.chains.reserve(1)?;
+        self.places.insert(chain.at.same())?;
         self.chains.write(chain);
         Ok(())
     }
@@ -198,10 +207,16 @@ impl Table {
         ensures ok { OnOk result (self.new ≡ table_after_batch self.old batch.now.edits) }
         ensures err { OnErr result (self.new ≡ self.old) }
     {
-        let edits = ready_edits(self.alloc, batch.edits.as_slice())?;
+        let edits = batch.edits.as_slice();
+        let ready = ready_edits(self.alloc, edits)?;
         self.chains.reserve(edits.len())?;
-        make_all(edits, &mut self.chains);
-        link_written(batch.edits.as_slice(), &mut self.chains);
+        if let Err(full) = add_written(&mut self.places, edits) {
+            remove_empty(&mut self.places, edits, &self.chains);
+            return Err(full);
+        }
+        make_all(ready, &mut self.chains);
+        remove_empty(&mut self.places, edits, &self.chains);
+        link_written(edits, &mut self.chains);
         self.syncs = self.syncs.saturating_add(1);
         Ok(())
     }

@@ -1,21 +1,8 @@
-use Rattle.std.proofs.Common.{sym, ap, ◌∙◌, subst}
+use Rattle.std.proofs.Common.{ap, ◌∙◌}
 use Rattle.std.specs.FinMap as finite
-use Rattle.std.specs.List.Sorted.{IsStrictlySortedBy}
 use Rattle.kp_base.proofs.Maps.{removed}
-use Rattle.kp_types.specs.Places.{chain_cmp}
 use Rattle.kp_types.proofs.ChainOrder.{chain_total, chain_exact, chain_ties}
-use Rattle.kp_rules.specs.Order.{without_place}
-use Rattle.kp_rules.proofs.MapPlaces.{keys-remove, keys-sorted}
 use Rattle.kp_rules.proofs.chain_map.ChainMap.remove.Goals as goal
-
-pub remove-requires : goal.remove-requires
-remove-requires c = subst (IsStrictlySortedBy chain_cmp) (sym c.self.invariant) (keys-sorted (finite.from_entries c.self.inside.rules.entries))
-
-pub invariant_of-self : goal.invariant_of-self
-invariant_of-self c =
-    let now = removed chain_total chain_ties chain_exact c.self.inside.rules.entries c.swap_remove_full.new.self.entries c.args.at.now c.swap_remove_full.ensures.updates.0 in
-    c.remove.ensures ∙ ap (without_place c.args.at.now) c.self.invariant
-    ∙ sym (ap finite.keys now ∙ keys-remove (finite.from_entries c.self.inside.rules.entries) c.args.at.now)
 
 pub returns-in-Some-clause-chains : goal.returns-in-Some-clause-chains
 returns-in-Some-clause-chains c =

@@ -5,12 +5,6 @@ use Rattle.kp_rules.specs.contracts.chain_map.ChainMap.{the_view}
 use Rattle.kp_rules.proofs.SameValues.{written_again}
 use Rattle.kp_rules.proofs.chain_map.ChainMap.set_jump.Goals as goal
 
-pub invariant_of-self-2 : goal.invariant_of-self-2
-invariant_of-self-2 c =
-    let es = c.self.inside.rules.entries in
-    let same = written_again c.set_jump.new.self es c.args.index (sym c.in-Some.ensures.value ∙ ap (λ v. Some v) (sym c.set_jump.ensures)) in
-    c.self.invariant ∙ ap (λ fs. finite.keys (finite.from_entries {R = chain_cmp} fs)) (sym same)
-
 pub returns : goal.returns
 returns c =
     let es = c.self.inside.rules.entries in
