@@ -1,6 +1,6 @@
--- Which chains a Service port needs, by their keys (kube-proxy's iptables mode; Kubernetes documents on
--- virtual IPs). Each condition under which a port has a chain stands here alone: the rows of the table and
--- the clashes of names both go by these keys.
+-- Which chains a Service port needs, by their keys (kube-proxy's iptables mode; Kubernetes documents
+-- on virtual IPs). Each condition under which a port has a chain stands here alone: the rows of the
+-- table and the clashes of names both go by these keys.
 use Rattle.std.specs.Prelude.{◌==◌, ◌&&◌, Bool, List, [], ◌∷◌, ◌++◌, map, not, is_some}
 use Rattle.std.specs.List.{filter, list_any}
 use Rattle.kp_base.specs.Net.{same_address}
@@ -27,6 +27,10 @@ needs Svl i = not (is_empty i.lists.local)
 needs Ext i = is_accessible i && i.lists.has_any
 needs Fw i = has_firewall i
 
+-- the kinds of chains that a port needs, in the order of its rows
+abbrev pub needed_kinds : PortInfo → List PortChain
+needed_kinds i = filter (λ kind. needs kind i) chain_kinds
+
 -- an endpoint is in a list
 abbrev pub has_endpoint : List Endpoint → Endpoint → Bool
 has_endpoint es e = list_any (λ f. same_address f.address e.address && (f.port == e.port)) es
@@ -35,8 +39,8 @@ has_endpoint es e = list_any (λ f. same_address f.address e.address && (f.port 
 abbrev pub all_endpoints : PortInfo → List Endpoint
 all_endpoints i = i.lists.cluster ++ filter (λ e. not (has_endpoint i.lists.cluster e)) i.lists.local
 
--- the keys of a port's own chains, in the order of its rows: of each kind that it needs, and of its endpoints
+-- the keys of a port's own chains, in the order of its rows: of each kind that it needs, and of its
+-- endpoints
 abbrev pub own_keys : PortInfo → List ChainKey
 own_keys i =
-    map (λ kind. key.Port kind i.key) (filter (λ kind. needs kind i) chain_kinds)
-    ++ map (key.Sep i.key) (all_endpoints i)
+    map (λ kind. key.Port kind i.key) (needed_kinds i) ++ map (key.Sep i.key) (all_endpoints i)

@@ -267,7 +267,8 @@ firewall_chain_rules setting i (Some ranges) = firewall_rules setting i ranges
 
 -- the rules of a port's chain of a kind
 abbrev pub rules_of_kind : Setting → PortInfo → PortChain → List Rule
-rules_of_kind setting i Svc = list_rules setting i (not (is_local_policy i.internal)) i.lists.cluster
+rules_of_kind setting i Svc =
+    list_rules setting i (not (is_local_policy i.internal)) i.lists.cluster
 rules_of_kind setting i Svl = list_rules setting i (is_local_policy i.internal) i.lists.local
 rules_of_kind setting i Ext = external_rules setting i i.outer
 rules_of_kind setting i Fw = firewall_chain_rules setting i i.ranges

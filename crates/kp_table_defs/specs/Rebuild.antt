@@ -46,8 +46,8 @@ is_of_kind kind (key.Sep port e) = false
 abbrev pub endpoint_keys : PortInfo → List ChainKey
 endpoint_keys i = map (key.Sep i.key) (distinct_in_order endpoint_cmp (all_endpoints i))
 
--- The keys of all chains that ports need, in the order that a clash is told in: the ports' own ones by kind
--- and port, and then the endpoints' by port and endpoint, each once.
+-- The keys of all chains that ports need, in the order that a clash is told in: those of ports by
+-- kind and port, and then those of endpoints by port and endpoint, each once.
 abbrev pub needed_keys : List PortInfo → List ChainKey
 needed_keys infos =
     flat_map (λ kind. filter (is_of_kind kind) (flat_map own_keys infos)) chain_kinds
