@@ -1,6 +1,6 @@
--- Which chains a Service port needs, by their keys (kube-proxy's iptables mode; Kubernetes documents
--- on virtual IPs). Each condition under which a port has a chain stands here alone: the rows of the
--- table and the clashes of names both go by these keys.
+-- Which chains a Service port needs, by their keys (kube-proxy's iptables mode; Kubernetes
+-- documents on virtual IPs). Each condition under which a port has a chain stands here alone: the
+-- rows of the table and the clashes of names both go by these keys.
 use Rattle.std.specs.Prelude.{◌==◌, ◌&&◌, Bool, List, [], ◌∷◌, ◌++◌, map, not, is_some}
 use Rattle.std.specs.List.{filter, list_any}
 use Rattle.kp_base.specs.Net.{same_address}
@@ -37,7 +37,8 @@ has_endpoint es e = list_any (λ f. same_address f.address e.address && (f.port 
 
 -- the endpoints of either list, once each
 abbrev pub all_endpoints : PortInfo → List Endpoint
-all_endpoints i = i.lists.cluster ++ filter (λ e. not (has_endpoint i.lists.cluster e)) i.lists.local
+all_endpoints i =
+    i.lists.cluster ++ filter (λ e. not (has_endpoint i.lists.cluster e)) i.lists.local
 
 -- the keys of a port's own chains, in the order of its rows: of each kind that it needs, and of its
 -- endpoints
