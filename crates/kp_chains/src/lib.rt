@@ -27,7 +27,7 @@ pub use endpoints::all_endpoints;
 pub use external::port_chain;
 pub use filter::filter_rows;
 pub use fixed::fixed_chains;
-pub use keys::{chain_kinds, has_firewall, is_accessible, needs, own_keys};
+pub use keys::{add_endpoint_keys, chain_kinds, own_keys};
 pub use kp_types::{ChainText, PortInfo};
 pub use nat::nat_rows;
 pub use port::{counted_chains, port_chains};

@@ -1,3 +1,4 @@
+pub mod ChangedPorts
 mod Deeper
 pub mod Entries
 mod Found

@@ -111,7 +111,7 @@ module _ (infos : List PortInfo) where
 pub no_clash_is_own_names : NoClashIsOwnNames
 no_clash_is_own_names name_of infos = (
   (λ apart k l ck cl. one_of_name name_of (needed_keys infos) apart k l (own_needed infos k ck)
-  (own_needed infos l cl)),
+      (own_needed infos l cl)),
   (λ own. no_clash name_of (needed_keys infos) (λ k l ck cl. own k l (needed_own infos k ck)
-  (needed_own infos l cl))),
+      (needed_own infos l cl))),
 )

@@ -1,5 +1,5 @@
 -- Laws of the full table: it is what each Service port contributes, joined in order between the fixed rules.
-use Rattle.std.specs.Prelude.{◌≡◌, ◌↔◌, ℕ, Bool, true, false, List, map, Option, None, Some}
+use Rattle.std.specs.Prelude.{◌≡◌, ◌↔◌, ℕ, Bool, true, false, List, map, Option, None, Some, is_some, ◌⊎◌}
 use Rattle.std.specs.FinMap.{find, is_sorted}
 use Rattle.std.specs.List.{Contains, flat_map}
 use Rattle.kp_base.specs.Keys.{port_key_cmp}
@@ -64,6 +64,23 @@ OwnChainsAreFound =
     → (i : PortInfo) → Contains infos i → (k : ChainKey) → Contains (own_keys i) k
     → find chain_cmp (place_of_key setting k) (flat_map (port_rows setting) infos)
     ≡ Some (rules_of_key setting i k)
+
+-- The chains of changed ports may stand beside those of ports that are kept: their names differ, and
+-- no chain of a kept port stands in the place of one.
+pub record StandApart (setting : Setting) (kept changed : List PortInfo) : Type 0 where
+  pub own : HaveOwnNames setting.name_of (flat_map own_keys changed)
+  pub free : (k : ChainKey) → Contains (flat_map own_keys changed) k
+      → is_some (find chain_cmp (place_of_key setting k) (flat_map (port_rows setting) kept)) ≡ false
+
+-- Where some ports changed, and the chains of the others don't clash, no two chains that are needed
+-- have one name exactly where the places of the changed ports' chains are free and differ.
+abbrev pub NoClashOfChangedPorts : Type 0
+NoClashOfChangedPorts =
+    (setting : Setting) (infos kept changed : List PortInfo)
+    → ((i : PortInfo) → Contains infos i ↔ (Contains kept i ⊎ Contains changed i))
+    → ((i j : PortInfo) → Contains kept i → Contains changed j → i.key ≡ j.key → ⊥)
+    → first_clash setting.name_of (needed_keys kept) ≡ None
+    → (first_clash setting.name_of (needed_keys infos) ≡ None) ↔ StandApart setting kept changed
 
 -- whether an outcome is one of a walk that wasn't stuck
 abbrev pub is_settled : Outcome → Bool

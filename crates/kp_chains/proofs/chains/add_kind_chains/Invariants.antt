@@ -10,4 +10,4 @@ abbrev pub invariant-loop-kind : goal.invariant-loop-kind
 invariant-loop-kind l =
     rows_of_texts l.rows.items ≡ rows_of_texts l.fn.rows.items
     ++ map (kind_row (setting_of V4 l.config) l.info l.cluster l.local)
-    (take l.kind-index l.kinds.items)
+    (take l.kind-index l.kind-items)
