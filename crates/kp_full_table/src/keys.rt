@@ -19,7 +19,7 @@ pub fn needed_keys(alloc: Global, infos: &[PortInfo]) -> Result<Items<ChainKey>,
 {
     let own = all_own_keys(alloc, infos)?;
     let mut keys = Vec::new(alloc);
-    add_by_kind(alloc, &mut keys, &own)?;
+    add_by_kind(alloc, &mut keys, &chain_kinds(), &own)?;
     add_in_order(alloc, &mut keys, infos)?;
     Ok(Items::from_vec(keys))
 }
@@ -35,13 +35,17 @@ fn all_own_keys(alloc: Global, infos: &[PortInfo]) -> Result<Vec<ChainKey>, NoMe
     Ok(own)
 }
 
-/// Adds those of keys that are for ports, by kind.
-fn add_by_kind(alloc: Global, keys: &mut Vec<ChainKey>, own: &[ChainKey]) -> Result<(), NoMemory>
+/// Adds those of keys that are of some kinds, by kind.
+fn add_by_kind(
+    alloc: Global,
+    keys: &mut Vec<ChainKey>,
+    kinds: &[PortChain],
+    own: &[ChainKey],
+) -> Result<(), NoMemory>
     ensures { OnOk result (keys.new.items ≡ keys.old.items
-        ++ flat_map (λ kind. filter (spec.is_of_kind kind) own.now) own_spec.chain_kinds) }
+        ++ flat_map (λ kind. filter (spec.is_of_kind kind) own.now) kinds.now) }
 {
-    let kinds = chain_kinds();
-    for kind in &kinds {
+    for kind in kinds {
         add_of_kind(alloc, keys, *kind, own)?;
     }
     Ok(())

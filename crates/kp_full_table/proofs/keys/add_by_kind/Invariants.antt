@@ -7,4 +7,4 @@ use Rattle.kp_full_table.proofs.keys.add_by_kind.Given as goal
 abbrev pub invariant-loop-kind : goal.invariant-loop-kind
 invariant-loop-kind l =
     l.keys.items ≡ l.fn.keys.items
-    ++ flat_map (λ kind. filter (is_of_kind kind) l.own) (take l.kind-index l.kind-items)
+    ++ flat_map (λ kind. filter (is_of_kind kind) l.own) (take l.kind-index l.kinds)
