@@ -12,7 +12,7 @@ use Rattle.kp_base.specs.declared.key.Endpoint.{Endpoint}
 use Rattle.kp_base.specs.contracts.key.EndpointOrd.TheImpl as endpoint_ord
 use Rattle.kp_base.proofs.KeyOrder.{endpoint_ties, endpoint_tree_ties}
 use Rattle.kp_base.proofs.SameParts.{address_same}
-use Rattle.kp_table_defs.specs.Layout.{has_endpoint}
+use Rattle.kp_table_defs.specs.Keys.{has_endpoint}
 use Rattle.kp_chains.specs.Named.{has}
 
 abbrev one_endpoint : Endpoint → Endpoint → Bool

@@ -1,5 +1,5 @@
 -- The rows of a port, from those by the endpoints' names.
-use Rattle.std.proofs.Common.{◌≡◌, Bool, true, false, cond, not, List, [], ◌∷◌, ◌++◌, map, ◌&&◌, Some, None, refl, sym, ap, ◌∙◌, append_assoc}
+use Rattle.std.proofs.Common.{◌≡◌, Bool, true, false, cond, not, List, [], ◌∷◌, ◌++◌, map, Some, None, refl, sym, ap, ◌∙◌, append_assoc}
 use Rattle.std.specs.List.{filter}
 use Rattle.std.proofs.lemmas.Simd.{map-map}
 use Rattle.std.proofs.lemmas.List.{map-append}
@@ -8,17 +8,19 @@ use Rattle.kp_base.specs.declared.config.Config.{Config}
 use Rattle.kp_base.specs.declared.key.Endpoint.{Endpoint}
 use Rattle.kp_types.specs.Setting.{Setting}
 use Rattle.kp_types.specs.declared.chain.ChainAt.{ChainAt}
+use Rattle.kp_types.specs.declared.chain.ChainKey.{ChainKey}
+use Rattle.kp_types.specs.declared.chain.ChainKey.TheVariants as key
 use Rattle.kp_types.specs.declared.chain.PortChain.{PortChain}
 use Rattle.kp_types.specs.declared.chain.PortChain.TheVariants.{Svc, Svl, Ext, Fw}
 use Rattle.kp_types.specs.declared.chain.TableName.TheVariants.{Nat}
 use Rattle.kp_types.specs.declared.rule.Rule.{Rule}
 use Rattle.kp_choice_defs.specs.Settings.{setting_of}
-use Rattle.kp_object_defs.specs.Desired.{is_empty}
 use Rattle.kp_object_defs.specs.Lists.{is_local_policy}
-use Rattle.kp_object_defs.specs.PortInfo.{PortInfo, is_accessible}
+use Rattle.kp_object_defs.specs.PortInfo.{PortInfo}
+use Rattle.kp_table_defs.specs.Keys.{all_endpoints, has_endpoint, needed_kinds}
 use Rattle.kp_table_defs.specs.Layout as layout
-use Rattle.kp_table_defs.specs.Layout.{row, rows_if, has_endpoint, has_firewall}
-use Rattle.kp_chains.specs.Named.{named_by, seen_rules, list_rows, list_rules, not_among, endpoint_row}
+use Rattle.kp_table_defs.specs.Layout.{row, port_chain, row_of_key}
+use Rattle.kp_chains.specs.Named.{named_by, seen_rules, list_rules, kind_row, not_among, endpoint_row}
 use Rattle.kp_chains.specs.declared.named.NamedEndpoint.{NamedEndpoint}
 use Rattle.kp_chains.proofs.ChoiceSteps.{choices_are}
 
@@ -52,16 +54,16 @@ module _ (config : Config) (i : PortInfo) where
       (λ k. layout.rules_if is_internal (layout.mark_rules setting.config.masquerade_all setting.config.cluster i)
       ++ seen_are i.affinity es k ++ choices_are (layout.endpoint_chain setting i) es k)
 
-  abbrev own_list : PortChain → Bool → List Endpoint → List (ChainAt × List Rule)
-  own_list kind is_internal es =
-      rows_if (not (is_empty es))
-      (row Nat (layout.port_chain setting i kind) (layout.list_rules setting i is_internal es) ∷ [])
-
-  rows_are : (kind : PortChain) (is_internal : Bool) (es : List Endpoint)
-      → list_rows setting i kind is_internal (named es) ≡ own_list kind is_internal es
-  rows_are kind is_internal [] = refl
-  rows_are kind is_internal (e ∷ es) =
-      ap (λ rules. row Nat (layout.port_chain setting i kind) rules ∷ []) (list_is is_internal (e ∷ es))
+  kind_is : (kind : PortChain)
+      → kind_row setting i (named i.lists.cluster) (named i.lists.local) kind
+      ≡ row_of_key setting i (key.Port kind i.key)
+  kind_is Svc =
+      ap (row Nat (port_chain setting i Svc))
+      (list_is (not (is_local_policy i.internal)) i.lists.cluster)
+  kind_is Svl =
+      ap (row Nat (port_chain setting i Svl)) (list_is (is_local_policy i.internal) i.lists.local)
+  kind_is Ext = refl
+  kind_is Fw = refl
 
   abbrev own_row : Endpoint → ChainAt × List Rule
   own_row e = row Nat (layout.endpoint_chain setting i e) (layout.endpoint_rules setting i e)
@@ -81,35 +83,26 @@ module _ (config : Config) (i : PortInfo) where
       (λ k. endpoints_are cs k ++ (ap (map (endpoint_row i)) (others_are cs es) ∙ endpoints_are (filter (λ e. not (has_endpoint cs e)) es)) k)
       ∙ sym (map-append own_row cs (filter (λ e. not (has_endpoint cs e)) es))
 
-  abbrev pub list_chains : List NamedEndpoint → List NamedEndpoint → List (ChainAt × List Rule)
-  list_chains cluster local =
-      list_rows setting i Svc (not (is_local_policy i.internal)) cluster
-      ++ list_rows setting i Svl (is_local_policy i.internal) local
-
-  abbrev pub external_chain : List (ChainAt × List Rule)
-  external_chain =
-      rows_if (is_accessible i && i.lists.has_any)
-      (row Nat (layout.port_chain setting i Ext) (layout.external_rules setting i i.outer) ∷ [])
-
-  abbrev pub firewall_chain : List (ChainAt × List Rule)
-  firewall_chain =
-      rows_if (has_firewall i)
-      (row Nat (layout.port_chain setting i Fw) (layout.firewall_chain_rules setting i i.ranges) ∷ [])
-
-  -- five groups of chains, one after another, are the port's
-  pub port_rows_are : (cluster local : List NamedEndpoint) (a b c d e : List (ChainAt × List Rule))
+  -- three groups of chains, one after another, are the port's
+  pub port_rows_are : (cluster local : List NamedEndpoint) (a b c : List (ChainAt × List Rule))
       → cluster ≡ named i.lists.cluster → local ≡ named i.lists.local
-      → a ≡ list_chains cluster local → b ≡ a ++ external_chain → c ≡ b ++ firewall_chain
-      → d ≡ c ++ map (endpoint_row i) cluster
-      → e ≡ d ++ map (endpoint_row i) (not_among i.lists.cluster local)
-      → e ≡ layout.port_rows setting i
-  port_rows_are cluster local a b c d e named_cluster named_local first second third fourth fifth =
-      fifth
-      ∙ ap (λ r. r ++ map (endpoint_row i) (not_among i.lists.cluster local)) fourth
-      ∙ append_assoc c (map (endpoint_row i) cluster) (map (endpoint_row i) (not_among i.lists.cluster local))
-      ∙ (λ k. (third ∙ ap (λ r. r ++ firewall_chain) (second ∙ ap (λ r. r ++ external_chain) first)) k
-      ++ (map (endpoint_row i) (named_cluster k) ++ map (endpoint_row i) (not_among i.lists.cluster (named_local k))))
-      ∙ (λ k. list_chains (named_cluster k) (named_local k) ++ external_chain ++ firewall_chain ++ all_are i.lists.cluster i.lists.local k)
-      ∙ (λ k. rows_are Svc (not (is_local_policy i.internal)) i.lists.cluster k
-      ++ rows_are Svl (is_local_policy i.internal) i.lists.local k ++ external_chain ++ firewall_chain
-      ++ map own_row (layout.all_endpoints i))
+      → a ≡ map (kind_row setting i cluster local) (needed_kinds i)
+      → b ≡ a ++ map (endpoint_row i) cluster
+      → c ≡ b ++ map (endpoint_row i) (not_among i.lists.cluster local)
+      → c ≡ layout.port_rows setting i
+  port_rows_are cluster local a b c named_cluster named_local first second third =
+      let kinds = needed_kinds i in
+      let all = all_endpoints i in
+      let of_kind : PortChain → ChainKey = λ kind. key.Port kind i.key in
+      third
+      ∙ ap (λ r. r ++ map (endpoint_row i) (not_among i.lists.cluster local)) second
+      ∙ append_assoc a (map (endpoint_row i) cluster)
+      (map (endpoint_row i) (not_among i.lists.cluster local))
+      ∙ (λ k. first k ++ (map (endpoint_row i) (named_cluster k)
+      ++ map (endpoint_row i) (not_among i.lists.cluster (named_local k))))
+      ∙ (λ k. map (kind_row setting i (named_cluster k) (named_local k)) kinds
+      ++ all_are i.lists.cluster i.lists.local k)
+      ∙ (λ k. map (λ kind. kind_is kind k) kinds ++ map own_row all)
+      ∙ (λ k. sym (map-map (row_of_key setting i) of_kind kinds) k
+      ++ sym (map-map (row_of_key setting i) (key.Sep i.key) all) k)
+      ∙ sym (map-append (row_of_key setting i) (map of_kind kinds) (map (key.Sep i.key) all))

@@ -8,14 +8,16 @@ use Rattle.kp_base.specs.declared.key.Endpoint.{Endpoint}
 use Rattle.kp_types.specs.Rules.{rule_of}
 use Rattle.kp_types.specs.Setting.{Setting}
 use Rattle.kp_types.specs.declared.chain.PortChain.{PortChain}
+use Rattle.kp_types.specs.declared.chain.PortChain.TheVariants.{Svc, Svl, Ext, Fw}
 use Rattle.kp_types.specs.declared.chain.ChainAt.{ChainAt}
 use Rattle.kp_types.specs.declared.chain.TableName.TheVariants.{Nat}
 use Rattle.kp_types.specs.declared.rule.Match.TheVariants as match
 use Rattle.kp_types.specs.declared.rule.Target.TheVariants as target
 use Rattle.kp_types.specs.declared.rule.Rule.{Rule}
-use Rattle.kp_object_defs.specs.Desired.{is_empty}
+use Rattle.kp_object_defs.specs.Lists.{is_local_policy}
 use Rattle.kp_object_defs.specs.PortInfo.{PortInfo}
-use Rattle.kp_table_defs.specs.Layout.{row, rows_if, rules_if, mark_rules, port_chain, has_endpoint, jump_to, chance, mark_masq, set_seen}
+use Rattle.kp_table_defs.specs.Keys.{has_endpoint}
+use Rattle.kp_table_defs.specs.Layout.{row, rules_if, mark_rules, port_chain, external_rules, firewall_chain_rules, jump_to, chance, mark_masq, set_seen}
 use Rattle.kp_chains.specs.declared.named.NamedEndpoint.{NamedEndpoint}
 
 -- an endpoint with the name that a function gives its chain
@@ -48,12 +50,20 @@ list_rules setting i is_internal es =
     rules_if is_internal (mark_rules setting.config.masquerade_all setting.config.cluster i)
     ++ seen_rules i.affinity es ++ choices es
 
--- this chain, where there are endpoints
-abbrev pub list_rows :
-    Setting → PortInfo → PortChain → Bool → List NamedEndpoint → List (ChainAt × List Rule)
-list_rows setting i kind is_internal es =
-    rows_if (not (is_empty es))
-    (row Nat (port_chain setting i kind) (list_rules setting i is_internal es) ∷ [])
+-- the rules of a port's chain of a kind, by its cluster and its local list
+abbrev pub kind_rules :
+    Setting → PortInfo → List NamedEndpoint → List NamedEndpoint → PortChain → List Rule
+kind_rules setting i cluster local Svc =
+    list_rules setting i (not (is_local_policy i.internal)) cluster
+kind_rules setting i cluster local Svl = list_rules setting i (is_local_policy i.internal) local
+kind_rules setting i cluster local Ext = external_rules setting i i.outer
+kind_rules setting i cluster local Fw = firewall_chain_rules setting i i.ranges
+
+-- this chain
+abbrev pub kind_row :
+    Setting → PortInfo → List NamedEndpoint → List NamedEndpoint → PortChain → ChainAt × List Rule
+kind_row setting i cluster local kind =
+    row Nat (port_chain setting i kind) (kind_rules setting i cluster local kind)
 
 -- the endpoints that aren't among others
 abbrev pub not_among : List Endpoint → List NamedEndpoint → List NamedEndpoint

@@ -11,8 +11,8 @@ ghost use Rattle.kp_types.specs.declared.rule.Target.TheVariants as target;
 ghost use Rattle.kp_table_defs.specs.Layout as layout;
 ghost use Rattle.kp_chains.specs.Blocks.{blocks_of};
 
-use crate::chains::has_firewall;
 use crate::external::port_chain;
+use crate::keys::has_firewall;
 use crate::rows::outside_loopback;
 use crate::rules::{add_rules_at, rule_at, rule1, rule3};
 use kp_base::{Address, Cidr, Config, Endpoint, Items, NoMemory, PortNo};

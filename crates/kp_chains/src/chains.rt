@@ -1,18 +1,16 @@
 //! The chains of one port.
-ghost use Rattle.std.specs.Prelude.{◌≡◌, ◌++◌, ◌∷◌, [], ◌&&◌, not, IfOk, OnOk};
+ghost use Rattle.std.specs.Prelude.{◌≡◌, ◌++◌, map, IfOk, OnOk};
 ghost use Rattle.kp_base.specs.declared.address.Family.TheVariants.{V4};
 ghost use Rattle.kp_choice_defs.specs.Settings.{setting_of};
 ghost use Rattle.kp_object_defs.specs.Lists as Lists;
-ghost use Rattle.kp_object_defs.specs.Lists.{is_local_policy};
-ghost use Rattle.kp_object_defs.specs.PortInfo as spec;
-ghost use Rattle.kp_types.specs.declared.chain.PortChain.TheVariants.{Svc, Svl, Ext, Fw};
-ghost use Rattle.kp_types.specs.declared.chain.TableName.TheVariants.{Nat};
+ghost use Rattle.kp_table_defs.specs.Keys as keys;
 ghost use Rattle.kp_table_defs.specs.Layout as layout;
-ghost use Rattle.kp_chains.specs.Named.{list_rows};
-ghost use Rattle.kp_chains.specs.Rows.{rows_of_texts};
+ghost use Rattle.kp_chains.specs.Named as spec;
+ghost use Rattle.kp_chains.specs.Rows.{row_of, rows_of_texts};
 
 use crate::endpoints::{add_endpoint_chains, add_other_chains};
-use crate::external::{external_rules, firewall_rules, port_chain};
+use crate::external::{external_rules, firewall_chain_rules, port_chain};
+use crate::keys::needed_kinds;
 use crate::lists::list_rules;
 use crate::named::{NamedEndpoint, named};
 use kp_base::{Config, Items, NoMemory};
@@ -33,17 +31,14 @@ pub fn info_chains(
     let cluster = named(alloc, config, info, info.lists.cluster.as_slice())?;
     let local = named(alloc, config, info, info.lists.local.as_slice())?;
     let mut rows = Vec::new(alloc);
-    add_list_chains(alloc, &mut rows, config, info, &cluster, &local)?;
-    add_external_chain(alloc, &mut rows, config, info)?;
-    add_firewall_chain(alloc, &mut rows, config, info)?;
+    add_kind_chains(alloc, &mut rows, config, info, &cluster, &local)?;
     add_endpoint_chains(alloc, &mut rows, info, &cluster)?;
     add_other_chains(alloc, &mut rows, info, &local)?;
     Ok(rows)
 }
 
-/// Adds the chains that choose among the endpoints of a list, where there are any. That of the
-/// internal traffic policy marks for masquerading.
-fn add_list_chains(
+/// Adds the chain of each kind that the port needs.
+fn add_kind_chains(
     alloc: Global,
     rows: &mut Vec<ChainText>,
     config: &Config,
@@ -52,22 +47,56 @@ fn add_list_chains(
     local: &[NamedEndpoint],
 ) -> Result<(), NoMemory>
     ensures { OnOk result (rows_of_texts rows.new.items ≡ rows_of_texts rows.old.items
-        ++ (list_rows (setting_of V4 config.now) info.now Svc
-        (not (is_local_policy info.now.internal)) cluster.now
-        ++ list_rows (setting_of V4 config.now) info.now Svl
-        (is_local_policy info.now.internal) local.now)) }
+        ++ map (spec.kind_row (setting_of V4 config.now) info.now cluster.now local.now)
+        (keys.needed_kinds info.now)) }
+{
+    let kinds = needed_kinds(alloc, info)?;
+    for kind in &kinds {
+        rows.push(kind_chain(alloc, config, info, *kind, cluster, local)?)?;
+    }
+    Ok(())
+}
+
+/// The port's chain of a kind.
+fn kind_chain(
+    alloc: Global,
+    config: &Config,
+    info: &PortInfo,
+    kind: PortChain,
+    cluster: &[NamedEndpoint],
+    local: &[NamedEndpoint],
+) -> Result<ChainText, NoMemory>
+    ensures { IfOk result (λ row. row_of row
+        ≡ spec.kind_row (setting_of V4 config.now) info.now cluster.now local.now kind) }
+{
+    Ok(ChainText {
+        at: ChainAt {
+            table: TableName::Nat,
+            chain: port_chain(config, info, kind),
+        },
+        rules: kind_rules(alloc, config, info, kind, cluster, local)?,
+    })
+}
+
+/// Its rules. Of the two lists' chains that of the internal traffic policy marks for masquerading.
+fn kind_rules(
+    alloc: Global,
+    config: &Config,
+    info: &PortInfo,
+    kind: PortChain,
+    cluster: &[NamedEndpoint],
+    local: &[NamedEndpoint],
+) -> Result<Items<Rule>, NoMemory>
+    ensures { IfOk result (λ rules. rules
+        ≡ spec.kind_rules (setting_of V4 config.now) info.now cluster.now local.now kind) }
 {
     let is_local = is_local_policy(info.internal);
-    add_list_chain(
-        alloc,
-        rows,
-        config,
-        info,
-        PortChain::Svc,
-        !is_local,
-        cluster,
-    )?;
-    add_list_chain(alloc, rows, config, info, PortChain::Svl, is_local, local)
+    match kind {
+        PortChain::Svc => list_rules(alloc, config, info, !is_local, cluster),
+        PortChain::Svl => list_rules(alloc, config, info, is_local, local),
+        PortChain::Ext => external_rules(alloc, config, info),
+        PortChain::Fw => firewall_chain_rules(alloc, config, info),
+    }
 }
 
 fn is_local_policy(policy: Policy) -> bool
@@ -77,105 +106,4 @@ fn is_local_policy(policy: Policy) -> bool
         Policy::Cluster => false,
         Policy::Local => true,
     }
-}
-
-/// Adds the chain that chooses among endpoints, where there are any.
-fn add_list_chain(
-    alloc: Global,
-    rows: &mut Vec<ChainText>,
-    config: &Config,
-    info: &PortInfo,
-    kind: PortChain,
-    is_internal: bool,
-    endpoints: &[NamedEndpoint],
-) -> Result<(), NoMemory>
-    ensures { OnOk result (rows_of_texts rows.new.items ≡ rows_of_texts rows.old.items
-        ++ list_rows (setting_of V4 config.now) info.now kind is_internal endpoints.now) }
-{
-    if endpoints.is_empty() {
-        return Ok(());
-    }
-    let rules = list_rules(alloc, config, info, is_internal, endpoints)?;
-    add_chain(rows, config, info, kind, rules)
-}
-
-/// Adds the chain of what comes in from outside, where it may and some endpoint serves.
-fn add_external_chain(
-    alloc: Global,
-    rows: &mut Vec<ChainText>,
-    config: &Config,
-    info: &PortInfo,
-) -> Result<(), NoMemory>
-    ensures { OnOk result (rows_of_texts rows.new.items ≡ rows_of_texts rows.old.items
-        ++ layout.rows_if (spec.is_accessible info.now && info.now.lists.has_any)
-        (layout.row Nat (layout.port_chain (setting_of V4 config.now) info.now Ext)
-        (layout.external_rules (setting_of V4 config.now) info.now info.now.outer) ∷ [])) }
-{
-    if !(is_accessible(info) && info.lists.has_any) {
-        return Ok(());
-    }
-    let rules = external_rules(alloc, config, info)?;
-    add_chain(rows, config, info, PortChain::Ext, rules)
-}
-
-/// Adds the chain of the source ranges, where there are ranges, a load-balancer address and an
-/// endpoint that serves.
-fn add_firewall_chain(
-    alloc: Global,
-    rows: &mut Vec<ChainText>,
-    config: &Config,
-    info: &PortInfo,
-) -> Result<(), NoMemory>
-    ensures { OnOk result (rows_of_texts rows.new.items ≡ rows_of_texts rows.old.items
-        ++ layout.rows_if (layout.has_firewall info.now)
-        (layout.row Nat (layout.port_chain (setting_of V4 config.now) info.now Fw)
-        (layout.firewall_chain_rules (setting_of V4 config.now) info.now info.now.ranges)
-        ∷ [])) }
-{
-    match &info.ranges {
-        Some(ranges) if has_firewall(info) => {
-            let rules = firewall_rules(alloc, config, info, ranges.as_slice())?;
-            add_chain(rows, config, info, PortChain::Fw, rules)
-        }
-        _ => Ok(()),
-    }
-}
-
-/// Whether the port may be reached from outside the cluster.
-pub fn is_accessible(info: &PortInfo) -> bool
-    ensures { result ≡ spec.is_accessible info.now }
-{
-    !info.external.as_slice().is_empty()
-        || !info.balancer.as_slice().is_empty()
-        || info.node_port.is_some()
-}
-
-/// Whether the port has source ranges, a load-balancer address and an endpoint that serves.
-pub fn has_firewall(info: &PortInfo) -> bool
-    ensures { result ≡ layout.has_firewall info.now }
-{
-    info.ranges.is_some() && !info.balancer.as_slice().is_empty() && info.lists.has_any
-}
-
-/// Adds a chain of the port with its rules.
-fn add_chain(
-    rows: &mut Vec<ChainText>,
-    config: &Config,
-    info: &PortInfo,
-    kind: PortChain,
-    rules: Items<Rule>,
-) -> Result<(), NoMemory>
-    ensures { OnOk result (rows_of_texts rows.new.items ≡ rows_of_texts rows.old.items
-        ++ layout.row Nat (layout.port_chain (setting_of V4 config.now) info.now kind) rules
-        ∷ []) }
-{
-    let chain = port_chain(config, info, kind);
-    rows.push(ChainText {
-        at: ChainAt {
-            table: TableName::Nat,
-            chain,
-        },
-        rules,
-    })?;
-    Ok(())
 }

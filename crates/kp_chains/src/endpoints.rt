@@ -1,6 +1,7 @@
 //! The chains of a port's endpoints.
 ghost use Rattle.std.specs.Prelude.{◌≡◌, ◌++◌, ◌∷◌, [], cond, false, map, not, IfOk, OnOk};
 ghost use Rattle.std.specs.List.{filter};
+ghost use Rattle.kp_table_defs.specs.Keys as keys;
 ghost use Rattle.kp_table_defs.specs.Layout as layout;
 ghost use Rattle.kp_chains.specs.Named as spec;
 ghost use Rattle.kp_chains.specs.Named.{endpoint_row, has};
@@ -75,7 +76,7 @@ fn add_unless_among(
 
 /// The endpoints of either list, once each.
 pub fn all_endpoints(alloc: Global, info: &PortInfo) -> Result<Vec<Endpoint>, NoMemory>
-    ensures { IfOk result (λ es. es.items ≡ layout.all_endpoints info.now) }
+    ensures { IfOk result (λ es. es.items ≡ keys.all_endpoints info.now) }
 {
     let cluster = info.lists.cluster.as_slice();
     let mut all = copied(alloc, cluster)?;
@@ -97,7 +98,7 @@ fn add_others(
     endpoints: &[Endpoint],
 ) -> Result<(), NoMemory>
     ensures { OnOk result (all.new.items ≡ all.old.items
-        ++ filter (λ e. not (layout.has_endpoint others.now e)) endpoints.now) }
+        ++ filter (λ e. not (keys.has_endpoint others.now e)) endpoints.now) }
 {
     if endpoints.is_empty() {
         return Ok(());
@@ -128,7 +129,7 @@ fn push_unless_among(
 /// The set of endpoints.
 fn set_of(alloc: Global, endpoints: &[Endpoint]) -> Result<BTreeSet<Endpoint>, NoMemory>
     ensures { IfOk result (λ s. (e : Endpoint) → has s e
-        ≡ layout.has_endpoint endpoints.now e) }
+        ≡ keys.has_endpoint endpoints.now e) }
 {
     let mut set = BTreeSet::new(alloc);
     for endpoint in endpoints {

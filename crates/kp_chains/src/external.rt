@@ -75,8 +75,23 @@ pub fn cluster_range(config: &Config) -> Option<Cidr>
     }
 }
 
+/// The rules of the firewall chain, where the port has source ranges.
+pub fn firewall_chain_rules(
+    alloc: Global,
+    config: &Config,
+    info: &PortInfo,
+) -> Result<Items<Rule>, NoMemory>
+    ensures { IfOk result (λ rules. rules
+        ≡ layout.firewall_chain_rules (setting_of V4 config.now) info.now info.now.ranges) }
+{
+    match &info.ranges {
+        Some(ranges) => firewall_rules(alloc, config, info, ranges.as_slice()),
+        None => Ok(Items::new(alloc)),
+    }
+}
+
 /// The rules of the firewall chain: each source range goes to the external chain.
-pub fn firewall_rules(
+fn firewall_rules(
     alloc: Global,
     config: &Config,
     info: &PortInfo,

@@ -1,37 +1,26 @@
 -- Where the full table has as many chains as it has rows, no two chains that are needed have one
 -- name.
-use Rattle.std.proofs.Common.{◌≡◌, inl, inr, ◌≤◌, ◌+◌, ℕ, suc, Bool, true, false, cond, List, [], ◌∷◌, ◌++◌, map, length, Contains, None, is_some, flat_map, filter, refl, sym, ap, ap₂, subst, ◌∙◌, arith}
+use Rattle.std.proofs.Common.{◌≡◌, inl, inr, ◌≤◌, ◌+◌, ℕ, suc, Bool, true, false, cond, List, [], ◌∷◌, ◌++◌, map, length, Contains, None, is_some, flat_map, refl, sym, ap, ap₂, subst, ◌∙◌, arith}
 use Rattle.std.specs.FinMap.{entries, from_entries, get-from_entries, keys, len, len-entries, len-insert, contains_key}
 use Rattle.std.specs.FinMap.Entries.{is_some-find}
 use Rattle.std.specs.Ordering.{eq_by_cmp}
 use Rattle.std.proofs.lemmas.List.{length-map, map-append}
-use Rattle.std.proofs.lemmas.List.Elements.{Contains-append_cases}
 use Rattle.std.proofs.lemmas.Simd.{map-map}
-use Rattle.kp_lemmas.proofs.Members.{none_in, in_cases, in_map, from_map, from_filter, in_flat_map, from_flat_map, any_from}
+use Rattle.kp_lemmas.proofs.Members.{none_in, in_cases, in_map, any_from}
 use Rattle.kp_lemmas.proofs.Orders.{tie_of_itself}
-use Rattle.kp_base.specs.Keys.{endpoint_cmp}
 use Rattle.kp_types.specs.Places.{chain_cmp}
 use Rattle.kp_types.specs.Setting.{Setting}
-use Rattle.kp_types.specs.declared.chain.TableName.TheVariants.{Nat}
 use Rattle.kp_types.specs.declared.chain.ChainAt.{ChainAt}
 use Rattle.kp_types.specs.declared.chain.ChainKey.{ChainKey}
-use Rattle.kp_types.specs.declared.chain.ChainKey.TheVariants as key
-use Rattle.kp_types.specs.declared.chain.PortChain.{PortChain}
-use Rattle.kp_types.specs.declared.chain.PortChain.TheVariants.{Svc, Svl, Ext, Fw}
-use Rattle.kp_types.specs.declared.rule.Rule.{Rule}
 use Rattle.kp_types.proofs.ChainOrder.{chain_total}
 use Rattle.kp_choice_defs.specs.Names.{first_clash}
-use Rattle.kp_object_defs.specs.Order.{distinct_in_order}
 use Rattle.kp_object_defs.specs.PortInfo.{PortInfo}
-use Rattle.kp_table_defs.specs.Layout.{all_endpoints, nat_rows, filter_rows, port_rows, rows_of}
-use Rattle.kp_table_defs.specs.Rebuild.{needs, port_keys, endpoint_keys, needed_keys, full_chains}
+use Rattle.kp_table_defs.specs.Keys.{own_keys}
+use Rattle.kp_table_defs.specs.Layout.{filter_rows, nat_rows, nat_table, place_of_key, port_rows, row_of_key, rows_of}
+use Rattle.kp_table_defs.specs.Rebuild.{full_chains, needed_keys}
+use Rattle.kp_table_laws.proofs.KeyRows.{Row}
+use Rattle.kp_table_laws.proofs.NeededKeys.{no_clash_is_own_names}
 use Rattle.kp_rules.proofs.MapPlaces.{length-keys-le}
-use Rattle.kp_walk_laws.proofs.NoClash.{no_clash}
-use Rattle.kp_walk_laws.proofs.PortLookups.{own_keys, own_kind, own_endpoint, needed_cases, port_rows_are, row_of}
-
--- a row is for a place
-abbrev Row : Type 0
-Row = ChainAt × List Rule
 
 -- the places of rows
 abbrev places : List Row → List ChainAt
@@ -106,71 +95,16 @@ one_of_place place (k ∷ ks) h a b ca cb same =
 
 -- ---- The rows of ports
 
-module _ (setting : Setting) where
-  -- the place of a key's chain
-  abbrev place_of : ChainKey → ChainAt
-  place_of k = record { table = Nat; chain = setting.name_of k }
-
-  -- the places of the ports' own chains are those of the ports' keys
-  port_places : (infos : List PortInfo) → places (flat_map (port_rows setting) infos)
-      ≡ map place_of (flat_map own_keys infos)
-  port_places [] = refl
-  port_places (i ∷ infos) =
-      map-append (λ (r : Row). r.0) (port_rows setting i) (flat_map (port_rows setting) infos)
-      ∙ ap₂ (λ ps qs. ps ++ qs)
-      (ap places (port_rows_are setting i)
-      ∙ map-map (λ (r : Row). r.0) (row_of setting i) (own_keys i))
-      (port_places infos)
-      ∙ sym (map-append place_of (own_keys i) (flat_map own_keys infos))
-
-module _ (infos : List PortInfo) where
-  -- the keys of all ports
-  abbrev made : List ChainKey
-  made = flat_map own_keys infos
-
-  of_kind : (kind : PortChain) (k : ChainKey) → Contains (port_keys kind infos) k → Contains made k
-  of_kind kind k c =
-      let (i, passes, is) = from_map (λ i. key.Port kind i.key) k (filter (needs kind) infos) c in
-      let (stands, need) = from_filter (needs kind) i infos passes in
-      subst (Contains made) is
-      (in_flat_map own_keys i (key.Port kind i.key) infos stands (own_kind i kind need))
-
-  -- the key of an endpoint's chain is among them
-  is_made : ChainKey → Type 0
-  is_made (key.Port kind port) = Unit {0}
-  is_made (key.Sep port e) = Contains made (key.Sep port e)
-
-  of_endpoint : (k : ChainKey) → Contains (needed_keys infos) k
-      → Contains (flat_map endpoint_keys infos) k → Contains made k
-  unfolding is_made
-  of_endpoint k c d =
-      let (i, ci, in_its) = from_flat_map endpoint_keys k infos d in
-      let (e, stands, is) = from_map (key.Sep i.key) k
-      (distinct_in_order endpoint_cmp (all_endpoints i)) in_its in
-      subst (Contains made) is (subst is_made (sym is) (needed_cases infos is_made
-      (λ kind j cj. tt)
-      (λ j f cj cf. in_flat_map own_keys j (key.Sep j.key f) infos cj (own_endpoint j f cf)) k c))
-
-  -- each key that is needed is one of them
-  needed_made : (k : ChainKey) → Contains (needed_keys infos) k → Contains made k
-  needed_made k c =
-      let a = port_keys Svc infos in
-      let b = port_keys Svl infos in
-      let x = port_keys Ext infos in
-      let y = port_keys Fw infos in
-      elim (Contains-append_cases (a ++ b ++ x ++ y) (flat_map endpoint_keys infos) k c) [
-        | inl four ↦ elim (Contains-append_cases (a ++ b ++ x) y k four) [
-          | inl three ↦ elim (Contains-append_cases (a ++ b) x k three) [
-            | inl two ↦ elim (Contains-append_cases a b k two) [
-              | inl one ↦ of_kind Svc k one
-              | inr one ↦ of_kind Svl k one
-            ]
-            | inr one ↦ of_kind Ext k one
-          ]
-          | inr one ↦ of_kind Fw k one
-        ]
-        | inr one ↦ of_endpoint k c one
-      ]
+-- the places of the ports' own chains are those of the ports' keys
+port_places : (setting : Setting) (infos : List PortInfo)
+    → places (flat_map (port_rows setting) infos)
+    ≡ map (place_of_key setting) (flat_map own_keys infos)
+port_places setting [] = refl
+port_places setting (i ∷ infos) =
+    map-append (λ (r : Row). r.0) (port_rows setting i) (flat_map (port_rows setting) infos)
+    ∙ ap₂ (λ ps qs. ps ++ qs) (map-map (λ (r : Row). r.0) (row_of_key setting i) (own_keys i))
+    (port_places setting infos)
+    ∙ sym (map-append (place_of_key setting) (own_keys i) (flat_map own_keys infos))
 
 -- where each row of the full table is a chain, no two needed chains have one name
 pub none_share : (setting : Setting) (infos : List PortInfo)
@@ -183,10 +117,9 @@ none_share setting infos h =
     let all : Apart (places rows) = apart_rows rows
     (h ∙ length-map (entries (from_entries {R = chain_cmp} rows)) (λ e. e.0)
     ∙ sym (len-entries (from_entries {R = chain_cmp} rows))) in
-    let once : Apart (map (place_of setting) (flat_map own_keys infos)) =
+    let once : Apart (map (place_of_key setting) (flat_map own_keys infos)) =
     subst Apart (port_places setting infos) (apart_behind (places fixed) (places own)
     (subst Apart (map-append (λ (r : Row). r.0) fixed own) all)) in
-    no_clash setting.name_of (needed_keys infos) (λ a b ca cb same.
-    one_of_place (place_of setting) (flat_map own_keys infos) once a b
-    (needed_made infos a ca) (needed_made infos b cb)
-    (ap (λ n. record { table = Nat; chain = n }) same))
+    (no_clash_is_own_names setting.name_of infos).1 (λ k l ck cl same.
+    one_of_place (place_of_key setting) (flat_map own_keys infos) once k l ck cl
+    (ap (λ n. record { table = nat_table setting.family; chain = n }) same))

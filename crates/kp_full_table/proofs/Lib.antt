@@ -1,4 +1,5 @@
 pub mod Apart
 pub mod Clashes
+pub mod KeySteps
 pub mod Ordered
 pub mod PartSteps

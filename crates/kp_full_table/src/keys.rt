@@ -1,13 +1,14 @@
 //! The chains that ports need, by what they are for.
-ghost use Rattle.std.specs.Prelude.{◌≡◌, ◌++◌, map, IfOk, OnOk};
-ghost use Rattle.std.specs.List.{flat_map};
+ghost use Rattle.std.specs.Prelude.{◌≡◌, ◌++◌, IfOk, OnOk};
+ghost use Rattle.std.specs.List.{filter, flat_map};
 ghost use Rattle.kp_base.specs.Keys.{endpoint_cmp};
-ghost use Rattle.kp_types.specs.declared.chain.ChainKey.TheVariants as key;
+ghost use Rattle.kp_choice_defs.specs.Names.{port_chain_place};
 ghost use Rattle.kp_object_defs.specs.Order.{distinct_in_order};
+ghost use Rattle.kp_table_defs.specs.Keys as own_spec;
 ghost use Rattle.kp_table_defs.specs.Rebuild as spec;
 
-use kp_base::{Copied, Endpoint, Items, NoMemory, PortKey};
-use kp_chains::{all_endpoints, has_firewall, is_accessible};
+use kp_base::{Copied, Endpoint, Items, NoMemory};
+use kp_chains::{add_endpoint_keys, all_endpoints, chain_kinds, own_keys};
 use kp_types::{ChainKey, PortChain, PortInfo};
 use std::alloc::Global;
 use std::collections::BTreeSet;
@@ -16,51 +17,88 @@ use std::collections::BTreeSet;
 pub fn needed_keys(alloc: Global, infos: &[PortInfo]) -> Result<Items<ChainKey>, NoMemory>
     ensures { IfOk result (λ keys. keys ≡ spec.needed_keys infos.now) }
 {
+    let own = all_own_keys(alloc, infos)?;
     let mut keys = Vec::new(alloc);
-    add_port_keys(alloc, &mut keys, PortChain::Svc, infos)?;
-    add_port_keys(alloc, &mut keys, PortChain::Svl, infos)?;
-    add_port_keys(alloc, &mut keys, PortChain::Ext, infos)?;
-    add_port_keys(alloc, &mut keys, PortChain::Fw, infos)?;
-    add_endpoint_keys(alloc, &mut keys, infos)?;
+    add_by_kind(alloc, &mut keys, &chain_kinds(), &own)?;
+    add_in_order(alloc, &mut keys, infos)?;
     Ok(Items::from_vec(keys))
 }
 
-/// Adds the keys of the chains of a kind that ports need.
-fn add_port_keys(
+/// The keys of all ports' own chains.
+fn all_own_keys(alloc: Global, infos: &[PortInfo]) -> Result<Vec<ChainKey>, NoMemory>
+    ensures { IfOk result (λ own. own.items ≡ flat_map own_spec.own_keys infos.now) }
+{
+    let mut own = Vec::new(alloc);
+    for info in infos {
+        own.append(&mut own_keys(alloc, info)?)?;
+    }
+    Ok(own)
+}
+
+/// Adds those of keys that are of some kinds, by kind.
+fn add_by_kind(
+    alloc: Global,
+    keys: &mut Vec<ChainKey>,
+    kinds: &[PortChain],
+    own: &[ChainKey],
+) -> Result<(), NoMemory>
+    ensures { OnOk result (keys.new.items ≡ keys.old.items
+        ++ flat_map (λ kind. filter (spec.is_of_kind kind) own.now) kinds.now) }
+{
+    for kind in kinds {
+        add_of_kind(alloc, keys, *kind, own)?;
+    }
+    Ok(())
+}
+
+/// Adds those of keys that are of a kind.
+fn add_of_kind(
     alloc: Global,
     keys: &mut Vec<ChainKey>,
     kind: PortChain,
-    infos: &[PortInfo],
+    own: &[ChainKey],
 ) -> Result<(), NoMemory>
-    ensures { OnOk result (keys.new.items ≡ keys.old.items ++ spec.port_keys kind infos.now) }
+    ensures { OnOk result (keys.new.items
+        ≡ keys.old.items ++ filter (spec.is_of_kind kind) own.now) }
 {
-    for info in infos {
-        if needs(kind, info) {
-            let port = info.key.copy(alloc)?;
-            keys.push(ChainKey::Port { kind, port })?;
+    for key in own {
+        if is_of_kind(kind, key) {
+            keys.push(key.copy(alloc)?)?;
         }
     }
     Ok(())
 }
 
-/// Whether a port needs its chain of a kind.
-fn needs(kind: PortChain, info: &PortInfo) -> bool
-    ensures { result ≡ spec.needs kind info.now }
+/// Whether a chain is a port's of a kind.
+fn is_of_kind(kind: PortChain, key: &ChainKey) -> bool
+    ensures { result ≡ spec.is_of_kind kind key.now }
 {
-    match kind {
-        PortChain::Svc => !info.lists.cluster.as_slice().is_empty(),
-        PortChain::Svl => !info.lists.local.as_slice().is_empty(),
-        PortChain::Ext => is_accessible(info) && info.lists.has_any,
-        PortChain::Fw => has_firewall(info),
+    match key {
+        ChainKey::Port {
+            kind: other,
+            port: _,
+        } => place(kind) == place(*other),
+        ChainKey::Sep {
+            port: _,
+            endpoint: _,
+        } => false,
     }
 }
 
-/// Adds the keys of the chains of ports' endpoints.
-fn add_endpoint_keys(
-    alloc: Global,
-    keys: &mut Vec<ChainKey>,
-    infos: &[PortInfo],
-) -> Result<(), NoMemory>
+/// The place of a kind among all.
+fn place(kind: PortChain) -> u8
+    ensures { result ≡ port_chain_place kind }
+{
+    match kind {
+        PortChain::Svc => 0,
+        PortChain::Svl => 1,
+        PortChain::Ext => 2,
+        PortChain::Fw => 3,
+    }
+}
+
+/// Adds the keys of the chains of all ports' endpoints, those of each port in order.
+fn add_in_order(alloc: Global, keys: &mut Vec<ChainKey>, infos: &[PortInfo]) -> Result<(), NoMemory>
     ensures { OnOk result (keys.new.items
         ≡ keys.old.items ++ flat_map spec.endpoint_keys infos.now) }
 {
@@ -75,25 +113,7 @@ fn add_keys_of(alloc: Global, keys: &mut Vec<ChainKey>, info: &PortInfo) -> Resu
     ensures { OnOk result (keys.new.items ≡ keys.old.items ++ spec.endpoint_keys info.now) }
 {
     let endpoints = in_order(alloc, all_endpoints(alloc, info)?)?;
-    add_keys(alloc, keys, &info.key, &endpoints)
-}
-
-/// Adds the keys of the chains of endpoints of a port.
-fn add_keys(
-    alloc: Global,
-    keys: &mut Vec<ChainKey>,
-    port: &PortKey,
-    endpoints: &[Endpoint],
-) -> Result<(), NoMemory>
-    ensures { OnOk result (keys.new.items
-        ≡ keys.old.items ++ map (key.Sep port.now) endpoints.now) }
-{
-    for endpoint in endpoints {
-        let port = port.copy(alloc)?;
-        let endpoint = *endpoint;
-        keys.push(ChainKey::Sep { port, endpoint })?;
-    }
-    Ok(())
+    add_endpoint_keys(alloc, keys, &info.key, &endpoints)
 }
 
 /// Endpoints once each, in order.

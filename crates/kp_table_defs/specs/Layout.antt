@@ -1,9 +1,9 @@
 -- The layout of the chains: which rules stand in which chain (kube-proxy's iptables mode; Kubernetes
 -- documents on virtual IPs). Names of chains come from a function of what a chain is for. The layout of the
 -- fixed chains is this project's choice.
-use Rattle.std.specs.Prelude.{ℕ, suc, ◌==◌, ◌&&◌, ◌||◌, Bool, true, false, List, [], ◌∷◌, ◌++◌, map, not, cond, codes, length, Option, Some, None, is_some}
-use Rattle.std.specs.List.{filter, flat_map, list_any}
-use Rattle.kp_base.specs.Net.{AddressParts, RangeParts, single_range, loopback_range, same_address}
+use Rattle.std.specs.Prelude.{ℕ, suc, Bool, true, false, List, [], ◌∷◌, ◌++◌, map, not, codes, length, Option, Some, None}
+use Rattle.std.specs.List.{flat_map}
+use Rattle.kp_base.specs.Net.{AddressParts, RangeParts, single_range, loopback_range}
 use Rattle.kp_base.specs.declared.address.Family.{Family}
 use Rattle.kp_base.specs.declared.address.Family.TheVariants.{V4, V6}
 use Rattle.kp_base.specs.declared.key.Endpoint.{Endpoint}
@@ -12,6 +12,7 @@ use Rattle.kp_types.specs.Rules.{rule_of}
 use Rattle.kp_types.specs.declared.chain.TableName.{TableName}
 use Rattle.kp_types.specs.declared.chain.TableName.TheVariants.{Nat, Filter}
 use Rattle.kp_types.specs.declared.chain.ChainAt.{ChainAt}
+use Rattle.kp_types.specs.declared.chain.ChainKey.{ChainKey}
 use Rattle.kp_types.specs.declared.chain.ChainKey.TheVariants as key
 use Rattle.kp_types.specs.declared.chain.PortChain.{PortChain}
 use Rattle.kp_types.specs.declared.chain.PortChain.TheVariants.{Svc, Svl, Ext, Fw}
@@ -25,7 +26,8 @@ use Rattle.kp_types.specs.declared.service.Policy.TheVariants.{Cluster, Local}
 use Rattle.kp_choice_defs.specs.Draws.{probability_of}
 use Rattle.kp_object_defs.specs.Desired.{is_empty}
 use Rattle.kp_object_defs.specs.Lists.{is_local_policy}
-use Rattle.kp_object_defs.specs.PortInfo.{PortInfo, is_accessible, internal_list, external_list}
+use Rattle.kp_object_defs.specs.PortInfo.{PortInfo, internal_list, external_list}
+use Rattle.kp_table_defs.specs.Keys.{has_firewall, own_keys}
 
 -- ---- Names
 
@@ -172,10 +174,6 @@ abbrev pub node_port_block : Setting → PortInfo → List Rule
 node_port_block setting i =
     rules_if i.lists.has_any (node_port_rules i (target.Jump (port_chain setting i Ext)) i.node_port)
 
--- the port has source ranges, a load-balancer address and endpoints
-abbrev pub has_firewall : PortInfo → Bool
-has_firewall i = is_some i.ranges && (not (is_empty i.balancer) && i.lists.has_any)
-
 -- in KUBE-PROXY-FIREWALL of filter
 abbrev pub firewall_block : PortInfo → List Rule
 firewall_block i = rules_if (has_firewall i) (map (rule_at i target.Drop) i.balancer)
@@ -262,39 +260,35 @@ filter_rows family infos =
     filter_rows_with family (flat_map firewall_block infos) (flat_map (external_block family) infos)
     (flat_map refusal_block infos)
 
--- rows that are written under a condition
-abbrev pub rows_if : Bool → List (ChainAt × List Rule) → List (ChainAt × List Rule)
-rows_if true rows = rows
-rows_if false rows = []
-
--- an endpoint is in a list
-abbrev pub has_endpoint : List Endpoint → Endpoint → Bool
-has_endpoint es e = list_any (λ f. same_address f.address e.address && (f.port == e.port)) es
-
--- the endpoints of either list, once each
-abbrev pub all_endpoints : PortInfo → List Endpoint
-all_endpoints i = i.lists.cluster ++ filter (λ e. not (has_endpoint i.lists.cluster e)) i.lists.local
-
 -- the rules of a port's firewall chain
 abbrev pub firewall_chain_rules : Setting → PortInfo → Option (List RangeParts) → List Rule
 firewall_chain_rules setting i None = []
 firewall_chain_rules setting i (Some ranges) = firewall_rules setting i ranges
 
+-- the rules of a port's chain of a kind
+abbrev pub rules_of_kind : Setting → PortInfo → PortChain → List Rule
+rules_of_kind setting i Svc =
+    list_rules setting i (not (is_local_policy i.internal)) i.lists.cluster
+rules_of_kind setting i Svl = list_rules setting i (is_local_policy i.internal) i.lists.local
+rules_of_kind setting i Ext = external_rules setting i i.outer
+rules_of_kind setting i Fw = firewall_chain_rules setting i i.ranges
+
+-- the rules of one of a port's chains
+abbrev pub rules_of_key : Setting → PortInfo → ChainKey → List Rule
+rules_of_key setting i (key.Port kind port) = rules_of_kind setting i kind
+rules_of_key setting i (key.Sep port e) = endpoint_rules setting i e
+
+-- where the chain of a key stands
+abbrev pub place_of_key : Setting → ChainKey → ChainAt
+place_of_key setting k = record { table = nat_table setting.family; chain = setting.name_of k }
+
+-- one of a port's chains, and its rules
+abbrev pub row_of_key : Setting → PortInfo → ChainKey → ChainAt × List Rule
+row_of_key setting i k = (place_of_key setting k, rules_of_key setting i k)
+
 -- the chains of one port
 abbrev pub port_rows : Setting → PortInfo → List (ChainAt × List Rule)
-port_rows setting i =
-    rows_if (not (is_empty i.lists.cluster))
-    (row (nat_table setting.family) (port_chain setting i Svc)
-    (list_rules setting i (not (is_local_policy i.internal)) i.lists.cluster) ∷ [])
-    ++ rows_if (not (is_empty i.lists.local))
-    (row (nat_table setting.family) (port_chain setting i Svl)
-    (list_rules setting i (is_local_policy i.internal) i.lists.local) ∷ [])
-    ++ rows_if (is_accessible i && i.lists.has_any)
-    (row (nat_table setting.family) (port_chain setting i Ext) (external_rules setting i i.outer) ∷ [])
-    ++ rows_if (has_firewall i)
-    (row (nat_table setting.family) (port_chain setting i Fw) (firewall_chain_rules setting i i.ranges) ∷ [])
-    ++ map (λ e. row (nat_table setting.family) (endpoint_chain setting i e) (endpoint_rules setting i e))
-    (all_endpoints i)
+port_rows setting i = map (row_of_key setting i) (own_keys i)
 
 -- all chains
 abbrev pub rows_of : Setting → List PortInfo → List (ChainAt × List Rule)

@@ -1,4 +1,5 @@
 pub mod Edits
+pub mod Keys
 pub mod Layout
 pub mod Matching
 pub mod Parts

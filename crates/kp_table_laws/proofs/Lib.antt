@@ -1,5 +1,10 @@
+pub mod ChangedPorts
 mod Deeper
+pub mod Entries
 mod Found
+pub mod KeyRows
+pub mod NeededKeys
+pub mod NoClash
 pub mod PortOrder
 pub mod PortRows
 pub mod Traversed

@@ -15,7 +15,6 @@ use Rattle.kp_base.specs.declared.key.Endpoint.{Endpoint}
 use Rattle.kp_types.specs.Chains.{is_chain_name}
 use Rattle.kp_types.specs.Rules.{rule_of}
 use Rattle.kp_types.specs.Setting.{Setting}
-use Rattle.kp_types.specs.declared.chain.ChainAt.{ChainAt}
 use Rattle.kp_types.specs.declared.chain.ChainKey.{ChainKey}
 use Rattle.kp_types.specs.declared.chain.ChainKey.TheVariants as key
 use Rattle.kp_types.specs.declared.chain.PortChain.{PortChain}
@@ -29,10 +28,13 @@ use Rattle.kp_types.specs.declared.service.Policy.{Policy}
 use Rattle.kp_types.specs.declared.service.Policy.TheVariants.{Cluster, Local}
 use Rattle.kp_choice_defs.specs.Draws.{half_even, probability_of}
 use Rattle.kp_object_defs.specs.Desired.{is_empty}
-use Rattle.kp_object_defs.specs.PortInfo.{PortInfo, is_accessible, internal_list, external_list}
-use Rattle.kp_table_defs.specs.Layout.{mark_masq, kube_node_ports, port_chain, endpoint_chain, chain_of_policy, jump_to, rule_at, choice_rules, affinity_rules, mark_rules, list_rules, set_seen, endpoint_rules, pod_rules, external_rules, balancer_chain, service_block, node_port_rules, node_port_block, has_firewall, firewall_block, refusal_target, own_addresses, node_port_refusal, external_block, refusal_block, nat_table, row, nat_rows_with, nat_rows, filter_rows_with, filter_rows, all_endpoints, has_endpoint, firewall_chain_rules, port_rows, rows_of}
+use Rattle.kp_object_defs.specs.PortInfo.{PortInfo, internal_list, external_list}
+use Rattle.kp_table_defs.specs.Keys.{all_endpoints, has_endpoint, has_firewall, own_keys}
+use Rattle.kp_table_defs.specs.Layout.{mark_masq, kube_node_ports, port_chain, endpoint_chain, chain_of_policy, jump_to, rule_at, choice_rules, affinity_rules, mark_rules, list_rules, set_seen, endpoint_rules, pod_rules, external_rules, balancer_chain, service_block, node_port_rules, node_port_block, firewall_block, refusal_target, own_addresses, node_port_refusal, external_block, refusal_block, nat_rows_with, nat_rows, filter_rows_with, filter_rows, firewall_chain_rules, port_rows, row_of_key, rows_of, rules_of_key, rules_of_kind}
 use Rattle.kp_restore_defs.specs.RuleText.{is_canonical_address, is_canonical_range, is_canonical_endpoint, is_canonical_match, is_canonical_target, is_canonical_rule, is_port_number}
-use Rattle.kp_walk_laws.proofs.Passing.{Pass, pass_none, pass_first, pass_one, pass_both, pass_map, pass_pieces, pass_if, pass_rows_if}
+use Rattle.kp_table_laws.proofs.KeyRows.{Row}
+use Rattle.kp_table_laws.proofs.NeededKeys.{key_cases}
+use Rattle.kp_walk_laws.proofs.Passing.{Pass, pass_none, pass_first, pass_one, pass_both, pass_map, pass_pieces, pass_if}
 use Rattle.kp_text_laws.specs.Bounds.{passes_if_some, is_timeout, IsBoundedInfo}
 
 -- ---- Matches
@@ -252,10 +254,6 @@ module _ (setting : Setting) (named : (k : ChainKey) → is_chain_name (setting.
 
 -- ---- Rows
 
--- a chain's row
-abbrev pub Row : Type 0
-Row = ChainAt × List Rule
-
 -- a row whose name and rules have texts of their own
 abbrev pub row_fits : Family → Row → Bool
 row_fits family r = is_chain_name r.0.chain && list_all (is_canonical_rule family) r.1
@@ -266,11 +264,6 @@ module _ (setting : Setting) (named : (k : ChainKey) → is_chain_name (setting.
   -- rows that do
   abbrev RowsFit : List Row → Type 0
   RowsFit rows = Pass (row_fits setting.family) rows
-
-  -- a chain of a port
-  row_ok : (k : ChainKey) (rules : List Rule) → Fit setting.family rules
-      → row_fits setting.family (row (nat_table setting.family) (setting.name_of k) rules) ≡ true
-  row_ok k rules h = and_from (is_chain_name (setting.name_of k)) _ (named k) h.all
 
   module _ (i : PortInfo) (bounded : IsBoundedInfo setting.family i) where
     -- each endpoint of a port is one
@@ -288,21 +281,19 @@ module _ (setting : Setting) (named : (k : ChainKey) → is_chain_name (setting.
         all_passing es h = all_filter (is_canonical_endpoint setting.family)
             (λ f. not (has_endpoint i.lists.cluster f)) es h
 
+    kind_fits : (kind : PortChain) → Fit setting.family (rules_of_kind setting i kind)
+    kind_fits Svc = list_fits setting named cluster i bounded _ i.lists.cluster
+    kind_fits Svl = list_fits setting named cluster i bounded _ i.lists.local
+    kind_fits Ext = external_fits setting named cluster i bounded i.outer
+    kind_fits Fw = firewall_fits setting named cluster i bounded i.ranges bounded.ranges
+
     -- the chains of a port
     port_fits : RowsFit (port_rows setting i)
     port_fits =
-        pass_both (pass_both (pass_both (pass_both
-        (pass_rows_if (not (is_empty i.lists.cluster)) (λ _. pass_one _ (row_ok (key.Port Svc i.key)
-        _ (list_fits setting named cluster i bounded _ i.lists.cluster))))
-        (pass_rows_if (not (is_empty i.lists.local)) (λ _. pass_one _ (row_ok (key.Port Svl i.key)
-        _ (list_fits setting named cluster i bounded _ i.lists.local)))))
-        (pass_rows_if (is_accessible i && i.lists.has_any) (λ _. pass_one _
-        (row_ok (key.Port Ext i.key) _
-        (external_fits setting named cluster i bounded i.outer)))))
-        (pass_rows_if (has_firewall i) (λ _. pass_one _ (row_ok (key.Port Fw i.key) _
-        (firewall_fits setting named cluster i bounded i.ranges bounded.ranges)))))
-        (pass_map _ (all_endpoints i) (λ e c. row_ok (key.Sep i.key e) _
-        (endpoint_fits setting named cluster i bounded e (endpoint_canonical e c))))
+        pass_map (row_of_key setting i) (own_keys i) (λ k c.
+        and_from (is_chain_name (setting.name_of k)) _ (named k)
+        (key_cases (λ l. Fit setting.family (rules_of_key setting i l)) i (λ kind _. kind_fits kind)
+        (λ e d. endpoint_fits setting named cluster i bounded e (endpoint_canonical e d)) k c).all)
 
   -- ---- The full table
 

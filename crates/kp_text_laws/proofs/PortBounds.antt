@@ -45,7 +45,7 @@ use Rattle.kp_object_laws.proofs.FirstPlaces.{from_places}
 use Rattle.kp_object_laws.proofs.Lists.{among_usable}
 use Rattle.kp_object_laws.proofs.PortByKey.{sources_service}
 use Rattle.kp_restore_defs.specs.RuleText.{is_canonical_address, is_canonical_range, is_canonical_endpoint, is_port_number}
-use Rattle.kp_walk_laws.proofs.Entries.{from_in_order}
+use Rattle.kp_table_laws.proofs.Entries.{from_in_order}
 use Rattle.kp_text_laws.specs.Bounds.{passes_if_some, is_bounded_address, is_bounded_range, is_bounded_cluster_address, is_bounded_container_port, is_bounded_entry, is_bounded_port, is_bounded_slice_port, is_bounded_target, HoldsOfEach, AreBounded, IsBoundedInfo, IsBoundedPod, IsBoundedService, IsBoundedSlice}
 use Rattle.kp_text_laws.specs.BoundLaws.{PortsAreBounded}
 

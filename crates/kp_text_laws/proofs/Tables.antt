@@ -28,13 +28,14 @@ use Rattle.kp_table_defs.specs.Rebuild.{Chains, TableParts, full_chains, full_ta
 use Rattle.kp_restore_defs.specs.RuleText.{is_canonical_range, is_canonical_rule}
 use Rattle.kp_restore_defs.specs.TableText.{is_canonical_chain, is_canonical_table, jumps_to_declared, TableTextsDiffer}
 use Rattle.kp_walk_laws.specs.Laws.{FullTableRanked, FullTableRankedObjects, HashedPrefixed, IsSound, KnownPorts}
-use Rattle.kp_walk_laws.proofs.Entries.{from_in_order}
+use Rattle.kp_table_laws.proofs.Entries.{from_in_order}
+use Rattle.kp_table_laws.proofs.KeyRows.{Row}
 use Rattle.kp_walk_laws.proofs.Lookups.{finds_filter, finds_nat, in_rows}
 use Rattle.kp_text_laws.specs.BoundLaws.{PortsAreBounded}
 use Rattle.kp_text_laws.specs.TableLaws.{FullTableCanonical, FullTableReadsBack, FullTablesHaveSameBuiltIn, IsReadableTable, ProductIsPrintable, RebuiltReadsBack}
 use Rattle.kp_text_laws.specs.Bounds.{is_bounded_range, passes_if_some}
 use Rattle.kp_text_laws.proofs.ChainNames.{hashed_names}
-use Rattle.kp_text_laws.proofs.CanonicalRules.{Row, row_fits, rows_fit}
+use Rattle.kp_text_laws.proofs.CanonicalRules.{row_fits, rows_fit}
 
 -- ---- Jumps of a ranked table
 

@@ -17,15 +17,14 @@ use Rattle.kp_types.specs.declared.decision.ListKind.TheVariants as list_kind
 use Rattle.kp_types.specs.declared.rule.Rule.{Rule}
 use Rattle.kp_types.specs.declared.walk.Ending.{Ending}
 use Rattle.kp_types.specs.declared.walk.Ending.TheVariants as ending
-use Rattle.kp_object_defs.specs.Lists.{is_local_policy}
 use Rattle.kp_object_defs.specs.PortInfo.{PortInfo}
 use Rattle.kp_door_defs.specs.Choice.{Chosen, chosen_endpoint}
 use Rattle.kp_door_defs.specs.Decision.{Translation, translation_at}
 use Rattle.kp_door_defs.specs.Doors.{Door, Offer, offer_of}
 use Rattle.kp_door_defs.specs.Marks.{is_marked, marked_at}
-use Rattle.kp_table_defs.specs.Layout.{all_endpoints, balancer_chain, chain_of_policy, endpoint_chain, endpoint_rules, external_rules, firewall_chain_rules, list_rules, port_chain}
+use Rattle.kp_table_defs.specs.Keys.{all_endpoints, needs}
+use Rattle.kp_table_defs.specs.Layout.{balancer_chain, chain_of_policy, endpoint_chain, endpoint_rules, port_chain, rules_of_kind}
 use Rattle.kp_table_defs.specs.Matching.{WalkState, Surroundings}
-use Rattle.kp_table_defs.specs.Rebuild.{needs}
 use Rattle.kp_table_defs.specs.Walk.{Outcome, returned_from}
 use Rattle.kp_table_defs.specs.Walk.Outcome.{Ended, Stuck}
 use Rattle.kp_walk_laws.proofs.ChoiceRules.{used_after}
@@ -49,19 +48,12 @@ is_outer door.External = true
 is_outer door.Balancer = true
 is_outer door.Node = true
 
--- the rules of a port's chain of a kind
-abbrev pub chain_rules : Setting → PortInfo → PortChain → List Rule
-chain_rules setting i Svc = list_rules setting i (not (is_local_policy i.internal)) i.lists.cluster
-chain_rules setting i Svl = list_rules setting i (is_local_policy i.internal) i.lists.local
-chain_rules setting i Ext = external_rules setting i i.outer
-chain_rules setting i Fw = firewall_chain_rules setting i i.ranges
-
 -- a look-up finds the chains that a port needs, each with its rules
 pub record FindsChains (setting : Setting) (at : ChainAt → Option (List Rule)) (i : PortInfo) :
     Type 0 where
   pub port : (kind : PortChain) → needs kind i ≡ true
       → at (record { table = Nat; chain = port_chain setting i kind })
-      ≡ Some (chain_rules setting i kind)
+      ≡ Some (rules_of_kind setting i kind)
   pub endpoint : (f : Endpoint) → Contains (all_endpoints i) f
       → at (record { table = Nat; chain = endpoint_chain setting i f })
       ≡ Some (endpoint_rules setting i f)

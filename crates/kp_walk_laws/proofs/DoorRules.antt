@@ -23,8 +23,8 @@ use Rattle.kp_object_defs.specs.PortInfo.{PortInfo, internal_list}
 use Rattle.kp_door_defs.specs.Decision.{Translation}
 use Rattle.kp_door_defs.specs.Doors.{Door, Offer, door_at, offer_by_policy, offer_if, offered, outer_offer, offer_of, fits, takes}
 use Rattle.kp_table_defs.specs.Matching.{WalkState, Surroundings}
+use Rattle.kp_table_defs.specs.Keys.{needs}
 use Rattle.kp_table_defs.specs.Layout.{port_chain, rule_at, chain_of_policy}
-use Rattle.kp_table_defs.specs.Rebuild.{needs}
 use Rattle.kp_table_defs.specs.Walk.{Outcome, target_if, chain_outcome}
 use Rattle.kp_table_defs.specs.Walk.Outcome.{Next, Stuck}
 use Rattle.kp_walk_laws.specs.Laws.{IsKnown}

@@ -22,9 +22,9 @@ use Rattle.kp_object_defs.specs.Lists.{has_any_endpoint}
 use Rattle.kp_object_defs.specs.Objects.{zone_of}
 use Rattle.kp_object_defs.specs.PortInfo.{PortInfo, port_infos, address_at, cluster_address_in, is_reachable_in, port_key_of, info_from, service_ports}
 use Rattle.kp_object_laws.proofs.Lists.{none_usable, cluster_empty}
+use Rattle.kp_table_laws.proofs.Entries.{one_sorted}
 use Rattle.kp_table_laws.proofs.PortOrder.{ports_are_in_order}
 use Rattle.kp_walk_laws.specs.Laws.{IsKnown, KnownPorts, PortKeysOnce}
-use Rattle.kp_walk_laws.proofs.Entries.{one_sorted}
 
 -- an address of a family is of it
 at_family : (family : Family) (field : ClusterAddress) (b : AddressParts)

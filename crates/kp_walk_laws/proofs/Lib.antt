@@ -17,8 +17,6 @@ pub mod FirstHook
 pub mod Postrouting
 pub mod Journeys
 pub mod Decides
-pub mod NoClash
-pub mod Entries
 pub mod Lookups
 pub mod PortLookups
 pub mod StandInNames

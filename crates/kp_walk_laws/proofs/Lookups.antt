@@ -26,14 +26,11 @@ use Rattle.kp_types.specs.declared.rule.Target.TheVariants as target
 use Rattle.kp_object_defs.specs.PortInfo.{PortInfo}
 use Rattle.kp_table_defs.specs.Layout.{row, jump_to, own_addresses, mark_masq, kube_postrouting, kube_node_ports, kube_services, kube_forward, kube_proxy_firewall, kube_external_services, service_block, node_port_block, firewall_block, external_block, refusal_block, nat_rows_with, filter_rows_with, port_rows, rows_of}
 use Rattle.kp_table_defs.specs.Rebuild.{full_chains}
+use Rattle.kp_table_laws.proofs.KeyRows.{Row}
 use Rattle.kp_walk_laws.proofs.FirstHook.{FindsNat}
 use Rattle.kp_walk_laws.proofs.FilterChains.{FindsFilter}
 
 -- ---- Rows
-
--- a row is for a place
-abbrev pub Row : Type 0
-Row = ChainAt × List Rule
 
 then_false : (a b : Ordering) → is_eq b ≡ false → is_eq (ordering_then a b) ≡ false
 then_false Less b h = refl
@@ -54,30 +51,6 @@ pass_over q (r ∷ rows) more h =
     let parts = or_parts _ _ h in
     ap (λ b. cond b (Some r.1) (find chain_cmp q (rows ++ more))) (other_place q r.0 parts.0)
     ∙ pass_over q rows more parts.1
-
--- a row behind the first, which is for another place
-behind_other : (q : ChainAt) (rules : List Rule) (r : Row) (rows : List Row)
-    → eq_by_cmp chain_cmp q r.0 ≡ false → Contains (r ∷ rows) (q, rules) → Contains rows (q, rules)
-behind_other q rules r rows other (zero, l, e) =
-    absurd (true≢false (sym (tie_of_itself chain_total q)
-    ∙ ap (λ (s : Row). eq_by_cmp chain_cmp q s.0) (sym e) ∙ other))
-behind_other q rules r rows other (suc k, l, e) = (k, le_of_suc-le-suc l, e)
-
-agreed_by : (q : ChainAt) (rules : List Rule) (r : Row) (found : Option (List Rule))
-    → (r.0 ≡ q → r.1 ≡ rules) → (b : Bool) → eq_by_cmp chain_cmp q r.0 ≡ b
-    → (b ≡ false → found ≡ Some rules) → cond b (Some r.1) found ≡ Some rules
-agreed_by q rules r found here true t later =
-    ap (λ rs. Some rs) (here (sym (chain_exact q r.0 (equal_from_test _ t))))
-agreed_by q rules r found here false t later = later refl
-
--- where all rows of a place have the same rules, a look-up finds these
-pub agreed : (q : ChainAt) (rules : List Rule) (rows : List Row) → Contains rows (q, rules)
-    → ((r : Row) → Contains rows r → r.0 ≡ q → r.1 ≡ rules) → find chain_cmp q rows ≡ Some rules
-agreed q rules [] (k, l, e) h = absurd (omega arith)
-agreed q rules (r ∷ rows) stands h =
-    agreed_by q rules r _ (h r (first_in r rows)) _ refl
-    (λ other. agreed q rules rows (behind_other q rules r rows other stands)
-    (λ s c. h s (later_in s r rows c)))
 
 -- ---- Fixed chains
 

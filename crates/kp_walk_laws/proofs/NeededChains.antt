@@ -6,8 +6,8 @@ use Rattle.kp_base.specs.Net.{AddressParts, RangeParts}
 use Rattle.kp_types.specs.declared.chain.PortChain.TheVariants.{Svc, Ext, Fw}
 use Rattle.kp_object_defs.specs.Desired.{is_empty}
 use Rattle.kp_object_defs.specs.PortInfo.{PortInfo, is_accessible}
+use Rattle.kp_table_defs.specs.Keys.{needs}
 use Rattle.kp_table_defs.specs.Layout.{balancer_chain}
-use Rattle.kp_table_defs.specs.Rebuild.{needs}
 use Rattle.kp_walk_laws.specs.Laws.{OffersAny}
 
 some_in : {X : Type 0} (x : X) (xs : List X) → Contains xs x → not (is_empty xs) ≡ true

@@ -22,9 +22,9 @@ use Rattle.kp_object_defs.specs.Lists.{is_local_policy, list_by_policy}
 use Rattle.kp_object_defs.specs.PortInfo.{PortInfo, internal_list}
 use Rattle.kp_door_defs.specs.Doors.{Offer, door_at, is_admitted, offer_by_policy, offer_if, offer_of, outer_offer}
 use Rattle.kp_door_defs.specs.Marks.{marked_inside, marked_outside}
+use Rattle.kp_table_defs.specs.Keys.{needs}
 use Rattle.kp_table_defs.specs.Layout.{mark_masq, balancer_chain, chain_of_policy, firewall_chain_rules, firewall_rules, port_chain}
 use Rattle.kp_table_defs.specs.Matching.{WalkState, Surroundings}
-use Rattle.kp_table_defs.specs.Rebuild.{needs}
 use Rattle.kp_table_defs.specs.Walk.{Outcome, and_then, found_outcome, returned_from, target_if, rules_outcome, chain_outcome}
 use Rattle.kp_table_defs.specs.Walk.Outcome.{Next}
 use Rattle.kp_walk_laws.specs.Laws.{OffersAny}

@@ -4,9 +4,8 @@ use Rattle.std.specs.List.{list_all}
 use Rattle.std.proofs.lemmas.Bool.{and_from}
 use Rattle.kp_lemmas.proofs.Members.{all_map, all_flat_map}
 use Rattle.kp_lemmas.proofs.ListFacts.{test_append}
-use Rattle.kp_types.specs.declared.chain.ChainAt.{ChainAt}
 use Rattle.kp_types.specs.declared.rule.Rule.{Rule}
-use Rattle.kp_table_defs.specs.Layout.{rules_if, rows_if}
+use Rattle.kp_table_defs.specs.Layout.{rules_if}
 
 -- all elements of a list pass a test
 pub record Pass {A : Type 0} (test : A → Bool) (xs : List A) : Type 0 where
@@ -44,9 +43,3 @@ pub pass_if : {test : Rule → Bool} (b : Bool) {rules : List Rule}
     → (b ≡ true → Pass test rules) → Pass test (rules_if b rules)
 pass_if true h = h refl
 pass_if false h = pass_none
-
--- and rows
-pub pass_rows_if : {test : ChainAt × List Rule → Bool} (b : Bool) {rows : List (ChainAt × List Rule)}
-    → (b ≡ true → Pass test rows) → Pass test (rows_if b rows)
-pass_rows_if true h = h refl
-pass_rows_if false h = pass_none

@@ -13,7 +13,9 @@ use Rattle.kp_types.specs.Places.{chain_cmp}
 use Rattle.kp_types.proofs.ChainOrder.{chain_total}
 use Rattle.kp_types.specs.Rules.{rule_of}
 use Rattle.kp_types.specs.declared.chain.ChainAt.{ChainAt}
-use Rattle.kp_types.specs.declared.chain.PortChain.TheVariants.{Svc}
+use Rattle.kp_types.specs.declared.chain.ChainKey.{ChainKey}
+use Rattle.kp_types.specs.declared.chain.ChainKey.TheVariants as key
+use Rattle.kp_types.specs.declared.chain.PortChain.TheVariants.{Svc, Svl, Ext, Fw}
 use Rattle.kp_types.specs.declared.rule.Rule.{Rule}
 use Rattle.kp_types.specs.declared.rule.Match.TheVariants as match
 use Rattle.kp_types.specs.declared.rule.Target.{Target}
@@ -21,12 +23,13 @@ use Rattle.kp_types.specs.declared.rule.Target.TheVariants as target
 use Rattle.kp_types.specs.declared.service.Policy.{Policy}
 use Rattle.kp_types.specs.declared.service.Policy.TheVariants.{Cluster, Local}
 use Rattle.kp_object_defs.specs.Desired.{is_empty}
-use Rattle.kp_object_defs.specs.PortInfo.{PortInfo, internal_list, external_list, is_accessible}
-use Rattle.kp_table_defs.specs.Layout.{rule_at, choice_rules, affinity_rules, mark_rules, list_rules, set_seen, endpoint_rules, external_rules, pod_rules, firewall_chain_rules, service_block, node_port_rules, node_port_block, firewall_block, has_firewall, node_port_refusal, external_block, refusal_block, port_chain, endpoint_chain, rows_if, all_endpoints, nat_rows, filter_rows, port_rows, rows_of, own_addresses, kube_node_ports}
+use Rattle.kp_object_defs.specs.PortInfo.{PortInfo, internal_list, external_list}
+use Rattle.kp_table_defs.specs.Keys.{has_firewall, own_keys}
+use Rattle.kp_table_defs.specs.Layout.{rule_at, choice_rules, affinity_rules, mark_rules, list_rules, set_seen, endpoint_rules, external_rules, pod_rules, firewall_chain_rules, service_block, node_port_rules, node_port_block, firewall_block, node_port_refusal, external_block, refusal_block, port_chain, endpoint_chain, nat_rows, filter_rows, port_rows, row_of_key, rows_of, rules_of_key, own_addresses, kube_node_ports}
 use Rattle.kp_table_defs.specs.Plain.{is_plain_match, is_plain}
+use Rattle.kp_table_laws.proofs.KeyRows.{Row}
 use Rattle.kp_walk_laws.specs.Laws.{FullTablePlain}
-use Rattle.kp_walk_laws.proofs.Lookups.{Row}
-use Rattle.kp_walk_laws.proofs.Passing.{Pass, pass_none, pass_first, pass_one, pass_both, pass_map, pass_pieces, pass_if, pass_rows_if}
+use Rattle.kp_walk_laws.proofs.Passing.{Pass, pass_none, pass_first, pass_one, pass_both, pass_map, pass_pieces, pass_if}
 
 -- all rules are plain
 abbrev pub ArePlain : List Rule → Type 0
@@ -122,19 +125,17 @@ is_plain_row r = list_all is_plain r.1
 abbrev pub ArePlainRows : List Row → Type 0
 ArePlainRows rows = Pass is_plain_row rows
 
--- a row under a condition
-one_plain : (b : Bool) (r : Row) → ArePlain r.1 → ArePlainRows (rows_if b (r ∷ []))
-one_plain b r h = pass_rows_if b (λ _. pass_one r h.all)
-
 module _ (setting : Setting) where
+  plain_key : (i : PortInfo) → i.affinity ≡ None → (k : ChainKey)
+      → ArePlain (rules_of_key setting i k)
+  plain_key i none (key.Port Svc port) = plain_list setting i none _ i.lists.cluster
+  plain_key i none (key.Port Svl port) = plain_list setting i none _ i.lists.local
+  plain_key i none (key.Port Ext port) = plain_external setting i i.outer
+  plain_key i none (key.Port Fw port) = plain_firewall setting i i.ranges
+  plain_key i none (key.Sep port e) = plain_endpoint setting i none e
+
   plain_port : (i : PortInfo) → i.affinity ≡ None → ArePlainRows (port_rows setting i)
-  plain_port i none =
-      pass_both (pass_both (pass_both (pass_both
-      (one_plain (not (is_empty i.lists.cluster)) _ (plain_list setting i none _ i.lists.cluster))
-      (one_plain (not (is_empty i.lists.local)) _ (plain_list setting i none _ i.lists.local)))
-      (one_plain (is_accessible i && i.lists.has_any) _ (plain_external setting i i.outer)))
-      (one_plain (has_firewall i) _ (plain_firewall setting i i.ranges)))
-      (pass_map _ (all_endpoints i) (λ f c. (plain_endpoint setting i none f).all))
+  plain_port i none = pass_map (row_of_key setting i) (own_keys i) (λ k c. (plain_key i none k).all)
 
   module _ (infos : List PortInfo) where
     plain_nat : ArePlainRows (nat_rows setting infos)

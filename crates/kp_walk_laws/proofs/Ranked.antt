@@ -30,20 +30,23 @@ use Rattle.kp_choice_defs.specs.Names.{hash_text, port_text, port_chain_prefix}
 use Rattle.kp_object_defs.specs.Desired.{is_empty}
 use Rattle.kp_object_defs.specs.Lists.{is_local_policy, list_by_policy}
 use Rattle.kp_object_defs.specs.PortInfo.{PortInfo, internal_list, external_list, port_infos}
-use Rattle.kp_table_defs.specs.Layout.{rule_at, jump_to, affinity_rules, balancer_chain, choice_rules, external_rules, firewall_chain_rules, node_port_rules, pod_rules, mark_rules, list_rules, endpoint_chain, port_chain, chain_of_policy, mark_masq, kube_services, kube_node_ports, kube_postrouting, kube_proxy_firewall, kube_external_services, kube_forward, service_block, node_port_block, has_firewall, firewall_block, node_port_refusal, external_block, refusal_block, refusal_target, own_addresses, nat_rows, filter_rows, port_rows, rows_of}
+use Rattle.kp_table_defs.specs.Keys.{has_firewall, needs, own_keys}
+use Rattle.kp_table_defs.specs.Layout.{rule_at, jump_to, affinity_rules, balancer_chain, choice_rules, external_rules, firewall_chain_rules, node_port_rules, pod_rules, mark_rules, list_rules, endpoint_chain, port_chain, chain_of_policy, mark_masq, kube_services, kube_node_ports, kube_postrouting, kube_proxy_firewall, kube_external_services, kube_forward, service_block, node_port_block, firewall_block, node_port_refusal, external_block, refusal_block, refusal_target, own_addresses, nat_rows, filter_rows, port_rows, place_of_key, row_of_key, rows_of, rules_of_key}
 use Rattle.kp_table_defs.specs.Ranks.{rank_of, is_above, goes_on, jumps_go_on, is_ranked_chain, is_ranked, built_in_chains, has_built_in}
-use Rattle.kp_table_defs.specs.Rebuild.{Chains, full_chains, needs}
+use Rattle.kp_table_defs.specs.Rebuild.{Chains, full_chains}
 use Rattle.kp_table_defs.specs.StandIn.{hex_text}
+use Rattle.kp_table_laws.proofs.Entries.{from_in_order}
+use Rattle.kp_table_laws.proofs.KeyRows.{Row, row_stands}
+use Rattle.kp_table_laws.proofs.NeededKeys.{key_cases, own_kind, own_endpoint}
 use Rattle.kp_walk_laws.specs.Laws.{OffersAny, IsPrefixed, StandInPrefixed, HashedPrefixed, FullTableRanked, FullTableRankedObjects}
 use Rattle.kp_object_defs.proofs.InOrder.{entries_in_order}
-use Rattle.kp_walk_laws.proofs.Entries.{from_in_order}
 use Rattle.kp_walk_laws.proofs.NeededChains.{balancer_needs, external_needs, needs_external, needs_list, node_port_needs}
 use Rattle.kp_walk_laws.proofs.KnownPorts.{known_ports_by}
-use Rattle.kp_walk_laws.proofs.Lookups.{Row, look_up, fixed_nat, fixed_filter, rows_written, in_rows, is_found, finds_nat, finds_filter}
+use Rattle.kp_walk_laws.proofs.Lookups.{look_up, fixed_nat, fixed_filter, rows_written, in_rows, is_found, finds_nat, finds_filter}
 use Rattle.kp_walk_laws.proofs.FirstHook.{FindsNat}
 use Rattle.kp_walk_laws.proofs.Passing.{Pass, pass_none, pass_first, pass_one, pass_both, pass_map, pass_pieces, pass_if}
 use Rattle.kp_walk_laws.proofs.FilterChains.{FindsFilter}
-use Rattle.kp_walk_laws.proofs.PortLookups.{own_keys, row_of, key_rules, row_stands, row_key, key_cases, own_kind, own_endpoint, in_either}
+use Rattle.kp_walk_laws.proofs.PortLookups.{in_either, nat_is}
 
 -- ---- Rules that go on
 
@@ -162,14 +165,15 @@ module _ (setting : Setting) (infos : List PortInfo) (prefixed : IsPrefixed sett
       → nat_lt rank (key_rank k) ≡ true
       → goes_on table Nat rank (target.Jump (setting.name_of k)) ≡ true
   goes i c k ck rank above =
-      let q : ChainAt = record { table = Nat; chain = setting.name_of k } in
-      let stands : Contains (rows_of setting infos) (row_of setting i k) =
+      let stands : Contains (rows_of setting infos) (row_of_key setting i k) =
       Contains-append_right (nat_rows setting infos ++ filter_rows setting.family infos)
-      (flat_map (port_rows setting) infos) (row_of setting i k)
-      (in_flat_map (port_rows setting) i (row_of setting i k) infos c
-      (row_stands setting i k ck)) in
+      (flat_map (port_rows setting) infos) (row_of_key setting i k)
+      (row_stands setting infos i c k ck) in
       jump_on table Nat rank (key_rank k) (setting.name_of k)
-      (is_found setting infos q (key_rules setting i k) stands) (made_rank k) above
+      (ap (λ t. is_some (look_up setting infos (record { table = t; chain = setting.name_of k })))
+      (sym (nat_is setting.family))
+      ∙ is_found setting infos (place_of_key setting k) (rules_of_key setting i k) stands)
+      (made_rank k) above
 
   marks : (rank : ℕ) → nat_lt rank 7 ≡ true → goes_on table Nat rank (target.Jump mark_masq) ≡ true
   marks rank h =
@@ -216,25 +220,26 @@ module _ (setting : Setting) (infos : List PortInfo) (prefixed : IsPrefixed sett
       pass_map _ ranges (λ r d. to_kind i c Ext (needs_external i need) 3 refl)
 
   -- a chain of a port is ranked where its rules go on from its rank
-  ranked_by : (i : PortInfo) (k : ChainKey) → GoOn table Nat (key_rank k) (key_rules setting i k)
-      → IsRankedRow (row_of setting i k)
+  ranked_by : (i : PortInfo) (k : ChainKey)
+      → GoOn table Nat (key_rank k) (rules_of_key setting i k) → IsRankedRow (row_of_key setting i k)
   ranked_by i k h =
-      ap (λ o. jumps_go_on table Nat o (key_rules setting i k)) (made_rank k) ∙ h.all
+      ap (λ t. is_ranked_chain table (record { table = t; chain = setting.name_of k },
+      rules_of_key setting i k)) (nat_is setting.family)
+      ∙ ap (λ o. jumps_go_on table Nat o (rules_of_key setting i k)) (made_rank k) ∙ h.all
 
   kind_ranked : (i : PortInfo) → Contains infos i → (kind : PortChain) → needs kind i ≡ true
-      → IsRankedRow (row_of setting i (key.Port kind i.key))
+      → IsRankedRow (row_of_key setting i (key.Port kind i.key))
   kind_ranked i c Svc need = ranked_by i _ (list_on i c Cluster (not (is_local_policy i.internal)))
   kind_ranked i c Svl need = ranked_by i _ (list_on i c Local (is_local_policy i.internal))
   kind_ranked i c Ext need = ranked_by i _ (external_ranked i c need i.outer)
   kind_ranked i c Fw need = ranked_by i _ (firewall_ranked i c need i.ranges)
 
-  port_ranked : (i : PortInfo) → Contains infos i → (r : Row) → Contains (port_rows setting i) r
-      → IsRankedRow r
-  port_ranked i c r d =
-      let (k, ck, is) = row_key setting i r d in
-      subst IsRankedRow is (key_cases (λ l. IsRankedRow (row_of setting i l)) i (kind_ranked i c)
-      (λ e in_e. ranked_by i (key.Sep i.key e) (pass_first _ (marks 6 refl) (pass_one _ refl)))
-      k ck)
+  port_ranked : (i : PortInfo) → Contains infos i
+      → Pass (is_ranked_chain table) (port_rows setting i)
+  port_ranked i c =
+      pass_map (row_of_key setting i) (own_keys i)
+      (key_cases (λ l. IsRankedRow (row_of_key setting i l)) i (kind_ranked i c)
+      (λ e in_e. ranked_by i (key.Sep i.key e) (pass_first _ (marks 6 refl) (pass_one _ refl))))
 
   to_list : (i : PortInfo) → Contains infos i → (p : Policy)
       → not (is_empty (list_by_policy p i.lists)) ≡ true
@@ -334,9 +339,7 @@ module _ (setting : Setting) (infos : List PortInfo) (prefixed : IsPrefixed sett
       ap (list_all (is_ranked_chain table)) (rows_written setting infos)
       ∙ (pass_both (pass_both (nat_ranked (finds_nat setting infos))
       (filter_ranked (finds_filter setting infos)))
-      (pass_pieces (port_rows setting) infos (λ i c. record {
-        all = all_from (is_ranked_chain table) (port_rows setting i) (port_ranked i c);
-      }))).all
+      (pass_pieces (port_rows setting) infos port_ranked)).all
 
   table_ranked : is_ranked table ≡ true
   table_ranked =

@@ -17,8 +17,8 @@ use Rattle.kp_object_defs.specs.Desired.{is_empty}
 use Rattle.kp_object_defs.specs.PortInfo.{PortInfo, internal_list}
 use Rattle.kp_door_defs.specs.Doors.{Door, door_at, offer_of, address_doors, node_door, fits}
 use Rattle.kp_table_defs.specs.Matching.{WalkState, Surroundings}
+use Rattle.kp_table_defs.specs.Keys.{needs}
 use Rattle.kp_table_defs.specs.Layout.{port_chain, rule_at, service_block, node_port_block, node_port_rules, rules_if}
-use Rattle.kp_table_defs.specs.Rebuild.{needs}
 use Rattle.kp_table_defs.specs.Walk.Outcome.{Next}
 use Rattle.kp_walk_laws.specs.Laws.{IsKnown}
 use Rattle.kp_walk_laws.proofs.Outcomes.{find_in_one, find_in_map, find_in_append, find_in_behind, none_found, none_appended, none_first}

@@ -13,10 +13,8 @@ use Rattle.kp_types.specs.declared.chain.PortChain.{PortChain}
 use Rattle.kp_types.specs.declared.chain.PortChain.TheVariants.{Svc, Svl, Ext, Fw}
 use Rattle.kp_choice_defs.specs.Names.{port_chain_prefix}
 use Rattle.kp_object_defs.specs.PortInfo.{PortInfo}
+use Rattle.kp_table_laws.proofs.NeededKeys.{keys_cases, no_clash_is_own_names}
 use Rattle.kp_walk_laws.specs.Laws.{IsSmall, StandInApart, StandInNames}
-use Rattle.kp_walk_laws.proofs.NoClash.{no_clash}
-use Rattle.kp_walk_laws.proofs.PortLookups.{needed_cases}
-use Rattle.kp_table_defs.specs.Rebuild.{needed_keys}
 use Rattle.kp_table_defs.specs.StandIn.{hex_digit, hex_text, stand_in_name}
 
 -- a digit tells its number
@@ -123,20 +121,20 @@ other_kind kind digits h = no_mark kind (sym (mark_there kind) ∙ ap (λ l. get
 
 pub stand_in_apart_by : StandInApart
 stand_in_apart_by infos few small =
-    no_clash stand_in_name (needed_keys infos)
-    (λ a b ca cb. needed_cases infos (λ k. stand_in_name k ≡ stand_in_name b → k ≡ b)
-    (λ kind i ci. needed_cases infos (λ k. port_chain_prefix kind ≡ stand_in_name k
+    (no_clash_is_own_names stand_in_name infos).1
+    (λ a b ca cb. keys_cases infos (λ k. stand_in_name k ≡ stand_in_name b → k ≡ b)
+    (λ i ci kind h. keys_cases infos (λ k. port_chain_prefix kind ≡ stand_in_name k
     → Port kind i.key ≡ k)
-    (λ other j cj same. ap₂ (λ x k. Port x k)
+    (λ j cj other g same. ap₂ (λ x k. Port x k)
     (sym (kind_there kind) ∙ ap kind_by same ∙ kind_there other)
     (ap (λ k. k.key) (only_one infos few i j ci cj)))
-    (λ j f cj cf same. absurd (other_kind kind
+    (λ j cj f cf same. absurd (other_kind kind
     (hex_text 8 f.address.number ++ hex_text 4 f.port) same)) b cb)
-    (λ i e ci ce. needed_cases infos (λ k. stand_in_name (Sep i.key e) ≡ stand_in_name k
+    (λ i ci e ce. keys_cases infos (λ k. stand_in_name (Sep i.key e) ≡ stand_in_name k
     → Sep i.key e ≡ k)
-    (λ other j cj same. absurd (other_kind other (hex_text 8 e.address.number ++ hex_text 4 e.port)
+    (λ j cj other g same. absurd (other_kind other (hex_text 8 e.address.number ++ hex_text 4 e.port)
     (sym same)))
-    (λ j f cj cf same. ap₂ (λ k g. Sep k g) (ap (λ k. k.key) (only_one infos few i j ci cj))
+    (λ j cj f cf same. ap₂ (λ k g. Sep k g) (ap (λ k. k.key) (only_one infos few i j ci cj))
     (endpoint_exact e f (small i e ci ce) (small j f cj cf) same)) b cb) a ca)
 
 all_hex : (width n : ℕ) → list_all is_chain_byte (hex_text width n) ≡ true

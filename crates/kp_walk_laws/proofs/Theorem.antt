@@ -12,7 +12,8 @@ use Rattle.kp_table_defs.specs.Matching.{WalkState, Surroundings}
 use Rattle.kp_table_defs.specs.Rebuild.{needed_keys}
 use Rattle.kp_table_defs.specs.Walk.{initial_state, surroundings_of}
 use Rattle.kp_types.specs.declared.packet.Packet.{Packet}
-use Rattle.kp_walk_laws.specs.Laws.{HaveOwnKeys, IsKnown, IsPrefixed, ProductDecides, WalkDecides, WalkDecidesObjects}
+use Rattle.kp_table_laws.specs.Laws.{HaveOwnKeys}
+use Rattle.kp_walk_laws.specs.Laws.{IsKnown, IsPrefixed, ProductDecides, WalkDecides, WalkDecidesObjects}
 use Rattle.kp_walk_laws.proofs.Arrivals.{FindsChains}
 use Rattle.kp_walk_laws.proofs.Decides.{walk_agrees}
 use Rattle.kp_walk_laws.proofs.KnownPorts.{known_ports_by, port_keys_once_by}

@@ -7,7 +7,8 @@ use Rattle.kp_base.specs.declared.address.Family.TheVariants.{V4}
 use Rattle.kp_object_defs.specs.Desired.{is_empty}
 use Rattle.kp_object_defs.specs.PortInfo.{PortInfo}
 use Rattle.kp_table_defs.specs.StandIn.{stand_in_setting}
-use Rattle.kp_walk_laws.specs.Laws.{HaveOwnKeys, IsKnown}
+use Rattle.kp_table_laws.specs.Laws.{HaveOwnKeys}
+use Rattle.kp_walk_laws.specs.Laws.{IsKnown}
 use Rattle.kp_walk_laws.specs.Rows.{EveryDoorDecided, TwoDecided, config, endpoint_at, every_door, port_of, port_with, prefixes, two_ports}
 use Rattle.kp_walk_laws.proofs.Ranked.{hashed_prefixed_by, stand_in_prefixed_by}
 use Rattle.kp_walk_laws.proofs.Theorem.{walk_decides_by}

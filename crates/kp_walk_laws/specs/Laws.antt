@@ -21,12 +21,13 @@ use Rattle.kp_object_defs.specs.Desired.{is_empty}
 use Rattle.kp_object_defs.specs.Objects.{Objects}
 use Rattle.kp_object_defs.specs.PortInfo.{PortInfo, is_accessible, port_infos}
 use Rattle.kp_door_defs.specs.Decision.{Decided, decision_from, decision_of}
-use Rattle.kp_table_defs.specs.Layout.{all_endpoints}
+use Rattle.kp_table_defs.specs.Keys.{all_endpoints}
 use Rattle.kp_table_defs.specs.Plain.{HasNoRecent}
 use Rattle.kp_table_defs.specs.Ranks.{has_built_in, is_ranked}
 use Rattle.kp_table_defs.specs.StandIn.{stand_in_name}
 use Rattle.kp_table_defs.specs.Rebuild.{Chains, clash_of, full_chains, full_table, needed_keys}
 use Rattle.kp_table_defs.specs.Walk.{Walked, walk_of}
+use Rattle.kp_table_laws.specs.Laws.{HaveOwnKeys}
 
 -- A port that may be reached from outside the cluster has endpoints in the list of the whole
 -- cluster where it has any.
@@ -39,10 +40,6 @@ pub record IsKnown (family : Family) (i : PortInfo) : Type 0 where
   pub address : i.address.family ≡ family
   pub none : i.lists.has_any ≡ false → (i.lists.cluster ≡ []) × (i.lists.local ≡ [])
   pub any : OffersAny i
-
--- each port of a list has a key of its own
-abbrev pub HaveOwnKeys : List PortInfo → Type 0
-HaveOwnKeys infos = (i j : PortInfo) → Contains infos i → Contains infos j → i.key ≡ j.key → i ≡ j
 
 -- the names of the chains of ports and endpoints begin as kube-proxy's do
 pub record IsPrefixed (name_of : Naming) : Type 0 where

@@ -1,5 +1,5 @@
 use Rattle.std.proofs.Common.{ap, ◌∙◌}
-use Rattle.kp_table_defs.specs.Layout.{has_endpoint}
+use Rattle.kp_table_defs.specs.Keys.{has_endpoint}
 use Rattle.kp_chains.specs.Named.{endpoint_row}
 use Rattle.kp_chains.proofs.OtherEndpoints.{next_mapped}
 use Rattle.kp_chains.proofs.endpoints.add_other_chains.Goals as goal

@@ -1,4 +1,4 @@
-use Rattle.kp_table_defs.specs.Layout.{has_endpoint}
+use Rattle.kp_table_defs.specs.Keys.{has_endpoint}
 use Rattle.kp_chains.proofs.OtherEndpoints.{next_kept}
 use Rattle.kp_chains.proofs.endpoints.add_others.Goals as goal
 

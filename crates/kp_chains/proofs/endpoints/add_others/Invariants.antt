@@ -1,6 +1,6 @@
 use Rattle.std.proofs.Common.{◌≡◌, ◌++◌, not, take}
 use Rattle.std.specs.List.{filter}
-use Rattle.kp_table_defs.specs.Layout.{has_endpoint}
+use Rattle.kp_table_defs.specs.Keys.{has_endpoint}
 use Rattle.kp_chains.proofs.endpoints.add_others.Given as goal
 
 -- those endpoints so far that aren't among the others were added

@@ -1,6 +1,6 @@
 use Rattle.std.proofs.Common.{◌≡◌, take}
 use Rattle.kp_base.specs.declared.key.Endpoint.{Endpoint}
-use Rattle.kp_table_defs.specs.Layout.{has_endpoint}
+use Rattle.kp_table_defs.specs.Keys.{has_endpoint}
 use Rattle.kp_chains.specs.Named.{has}
 use Rattle.kp_chains.proofs.endpoints.set_of.Given as goal
 

@@ -1,14 +1,20 @@
 -- Entries in the order of their keys: those of a list, and each key once.
-use Rattle.std.proofs.Common.{◌≡◌, ◌⊎◌, inl, inr, List, [], ◌∷◌, Contains, refl, sym, ap, subst, ◌∙◌, T}
+use Rattle.std.proofs.Common.{◌≡◌, ◌⊎◌, inl, inr, true, List, [], ◌∷◌, map, Contains, is_some, refl, sym, ap, subst, ◌∙◌, T}
 use Rattle.std.specs.declared.cmp.Ordering.{Ordering}
 use Rattle.std.specs.declared.cmp.Ordering.TheVariants.{Less, Equal, Greater}
-use Rattle.std.specs.Ordering.{is_lt}
-use Rattle.std.specs.Cmp.{IsTotalOrder, tied_itself}
+use Rattle.std.specs.List.{list_any}
+use Rattle.std.specs.Ordering.{eq_by_cmp, is_lt}
+use Rattle.std.specs.Cmp.{IsTotalOrder, eq_by_cmp_equiv, tied_itself}
 use Rattle.std.specs.FinMap.{IsAntisymmetric, put}
-use Rattle.std.specs.FinMap.Entries.{by_order, below_all, is_sorted}
+use Rattle.std.specs.FinMap.Entries.{by_order, below_all, is_some-find, is_sorted}
+use Rattle.std.proofs.lemmas.List.{map-id}
+use Rattle.std.proofs.lemmas.Map.Views.{Contains-from_any, list_any-from_Contains}
+use Rattle.std.proofs.lemmas.Simd.{map-map}
 use Rattle.kp_lemmas.proofs.Booleans.{both_facts}
 use Rattle.kp_lemmas.proofs.Members.{first_in, later_in, none_in, in_cases}
-use Rattle.kp_object_defs.specs.Order.{in_order}
+use Rattle.kp_lemmas.proofs.Orders.{one_from_tie}
+use Rattle.kp_object_defs.specs.Order.{distinct_in_order, in_order}
+use Rattle.kp_object_defs.proofs.InOrder.{find-in_order}
 
 module _ {K X : Type 0} (R : K → K → Ordering) (exact : IsAntisymmetric R) where
   put_row : (k : K) (v : X) (e : K × X) (es more : List (K × X)) (f : K × X)
@@ -77,3 +83,26 @@ module _ {K X : Type 0} {R : K → K → Ordering} (total : IsTotalOrder R) wher
           | inr d ↦ one_sorted es parts.1 e f c d same
         ]
       ]
+
+module _ {K : Type 0} {R : K → K → Ordering} (total : IsTotalOrder R) where
+  -- a key is found among the elements in order where it is found among the elements
+  pub found_distinct : (q : K) (ks : List K)
+      → list_any (eq_by_cmp R q) (distinct_in_order R ks) ≡ list_any (eq_by_cmp R q) ks
+  found_distinct q ks =
+      let pairs : List (K × K) = map (λ k. (k, k)) ks in
+      sym (is_some-find R q (in_order R pairs))
+      ∙ ap is_some (find-in_order total q pairs)
+      ∙ is_some-find R q pairs
+      ∙ ap (list_any (eq_by_cmp R q)) (map-map (λ (e : K × K). e.0) (λ k. (k, k)) ks ∙ map-id ks)
+
+  module _ (exact : IsAntisymmetric R) where
+    -- each element is among the elements in order
+    pub in_distinct : (ks : List K) (k : K) → Contains ks k → Contains (distinct_in_order R ks) k
+    in_distinct ks k c = Contains-from_any (one_from_tie exact) k (distinct_in_order R ks)
+        (found_distinct k ks ∙ list_any-from_Contains (eq_by_cmp_equiv total) k ks c)
+
+    -- and each of those is an element
+    pub from_distinct : (ks : List K) (k : K) → Contains (distinct_in_order R ks) k → Contains ks k
+    from_distinct ks k c = Contains-from_any (one_from_tie exact) k ks
+        (sym (found_distinct k ks)
+        ∙ list_any-from_Contains (eq_by_cmp_equiv total) k (distinct_in_order R ks) c)
