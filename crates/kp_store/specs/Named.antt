@@ -1,5 +1,5 @@
 -- Objects by names that stand for keys.
-use Rattle.std.specs.Prelude.{◌≡◌, ℕ, ◌==◌, Bool, false, cond, List, length, map, Option, Some, None}
+use Rattle.std.specs.Prelude.{ℕ, ◌==◌, Bool, false, cond, List, length, map, Option, Some, None}
 use Rattle.kp_base.specs.declared.key.ObjectKey.{ObjectKey}
 
 -- entries by the keys that their names stand for

@@ -1,10 +1,9 @@
-use Rattle.std.proofs.Common.{◌≡◌, ◌||◌, ℕ, Bool, List, [], ◌∷◌, map, Ok, refl, sym, ap, ◌∙◌, Bor}
+use Rattle.std.proofs.Common.{◌||◌, ℕ, map, Ok, sym, ap, ◌∙◌, Bor}
 use Rattle.std.specs.List.{list_any}
 use Rattle.std.specs.Ordering.{eq_by_cmp}
 use Rattle.std.specs.FinMap as finite
 use Rattle.std.proofs.lemmas.Iterator.Consumers.{map_from_collect, YieldsList-from_rest}
 use Rattle.kp_base.specs.Keys.{key_cmp}
-use Rattle.kp_base.specs.declared.key.ObjectKey.{ObjectKey}
 use Rattle.kp_store.proofs.Ordered.{none_before, has_entries}
 use Rattle.kp_store.proofs.NamedEntries.{keys_of_names}
 use mathlib.Core.Bool.{or-false}
