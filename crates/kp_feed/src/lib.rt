@@ -3,6 +3,7 @@
 #![tactic(auto)]
 
 mod feeder;
+pub mod laws;
 mod queue;
 mod rule;
 mod taker;

@@ -1,2 +1,1 @@
-pub mod Closures
 pub mod Pushes

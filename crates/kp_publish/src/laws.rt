@@ -1,10 +1,11 @@
-//! What ends a history of published tables.
+//! What ends a history of published tables, and what of it threads are given.
 ghost use Rattle.std.specs.Prelude.{◌≡◌, ◌++◌, ◌∷◌, [], false, OnOk, OnErr};
 ghost use Rattle.kp_publish.specs.Entries.{is_ended};
 ghost use Rattle.kp_publish.specs.declared.entry.Entry.TheVariants.{End};
 
 use crate::history::Publication;
 use crate::publisher::Publisher;
+use crate::reader::Reader;
 use kp_base::NoMemory;
 use std::sync::Wait;
 
@@ -20,3 +21,12 @@ pub fn close<J: Publication, R: Wait>(publisher: &mut Publisher<J>, rt: &R) -> R
 {
     publisher.close(rt)
 }
+
+/// A publisher and a reader may be sent to threads.
+pub fn both_ends_are_sent<J: Publication + Send + Sync>() {
+    is_sent::<Publisher<J>>();
+    is_sent::<Reader<J>>();
+}
+
+/// Takes a type whose values may be sent.
+fn is_sent<T: Send>() {}

@@ -1,13 +1,12 @@
 -- The text of a table's section, piece by piece.
-use Rattle.std.proofs.Common.{◌≡◌, ℕ, ◌+◌, ◌<◌, ◌≤◌, length, take, get_or, ◌==◌, ◌&&◌, Bool, true, false, cond, not, List, [], ◌∷◌, ◌++◌, map, codes, Option, Some, None, option_map, is_some, refl, sym, ap, ◌∙◌, append_assoc}
+use Rattle.std.proofs.Common.{◌≡◌, ℕ, ◌==◌, ◌&&◌, Bool, true, false, cond, not, List, [], ◌∷◌, ◌++◌, map, codes, Option, Some, None, option_map, is_some, refl, sym, ap, ◌∙◌, append_assoc}
 use Rattle.std.specs.FinMap.{entries, get}
-use Rattle.std.specs.List.{slice_get, filter, filter_map, flat_map, cons_option, AllByRecursion}
+use Rattle.std.specs.List.{filter, filter_map, flat_map, cons_option, AllByRecursion}
 use Rattle.std.proofs.lemmas.Grind.{flat_map-append}
 use Rattle.std.proofs.lemmas.List.Concat.{flat_map_single}
 use denote.Ref.{Bor}
 use Rattle.std.proofs.lemmas.List.{append-nil, map-append}
 use Rattle.std.proofs.lemmas.List.Elements.{filter-append}
-use Rattle.std.proofs.lemmas.Option.{none-some, slice_get_within, slice_get-get_or, get_or_from_slice_get}
 use Rattle.kp_types.specs.Places.{table_place}
 use Rattle.kp_types.specs.declared.chain.TableName.{TableName}
 use Rattle.kp_types.specs.declared.chain.TableName.TheVariants.{Nat, Filter}

@@ -1,8 +1,11 @@
 //! Laws of the definitions that tables rest on, for all tables. Each is a call that does nothing.
+//! The last says what threads may do with a table.
 ghost use Rattle.kp_table_defs.specs.Edits.{ChangesLeadOver, SameRulesAreEqual};
 ghost use Rattle.kp_table_defs.specs.RankedWalk.{RankedWalksEnd};
 ghost use Rattle.kp_rules.specs.Skipped.{SkippedRulesDoNothing};
 ghost use Rattle.kp_rules.specs.Worked.{ToTheService, ToAnother, BehindTheLast};
+
+use crate::table::Table;
 
 /// The changes from one table to another, made in the first, give the chains of the second.
 #[tactic(auto, using(crate::proofs::ChangesLead::changes_lead))]
@@ -34,3 +37,11 @@ pub fn next_rules_of_a_service()
     ensures another { ToAnother }
     ensures behind { BehindTheLast }
 {}
+
+/// A table may be sent to a thread, and threads may share it.
+pub fn tables_cross_threads() {
+    crosses::<Table>();
+}
+
+/// Takes a type whose values may be sent and shared.
+fn crosses<T: Send + Sync>() {}
