@@ -1,6 +1,6 @@
 -- The chain that stands under the name of a port's key has that key's rules, where no two chains that are
 -- needed have one name.
-use Rattle.std.proofs.Common.{◌≡◌, suc, zero, Bool, true, false, cond, List, [], ◌∷◌, map, Contains, Option, Some, None, flat_map, refl, sym, ap, ap₂, ◌∙◌, arith, true≢false, le_of_suc-le-suc}
+use Rattle.std.proofs.Common.{◌≡◌, suc, zero, Bool, true, false, cond, List, [], ◌∷◌, Contains, Option, Some, None, flat_map, refl, sym, ap, ap₂, ◌∙◌, arith, true≢false, le_of_suc-le-suc}
 use Rattle.std.specs.FinMap.{find}
 use Rattle.std.specs.Ordering.{eq_by_cmp}
 use Rattle.kp_lemmas.proofs.Members.{first_in, later_in, in_map, from_map, in_flat_map, from_flat_map}

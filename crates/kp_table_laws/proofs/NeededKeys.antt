@@ -1,9 +1,8 @@
 -- The keys of a port's own chains, and those that all ports need: the same ones in another order.
-use Rattle.std.proofs.Common.{◌≡◌, inl, inr, true, List, [], ◌∷◌, ◌++◌, map, Contains, flat_map, refl, subst, arith}
+use Rattle.std.proofs.Common.{◌≡◌, inl, inr, true, List, map, Contains, flat_map, refl, subst, arith}
 use Rattle.std.specs.List.{filter}
 use Rattle.std.proofs.lemmas.List.Elements.{Contains-append_left, Contains-append_right, Contains-append_cases}
 use Rattle.kp_lemmas.proofs.Members.{in_map, from_map, in_flat_map, from_flat_map, in_filter, from_filter}
-use Rattle.kp_base.specs.Keys.{endpoint_cmp}
 use Rattle.kp_base.proofs.KeyOrder.{endpoint_exact, endpoint_total}
 use Rattle.kp_base.specs.declared.key.Endpoint.{Endpoint}
 use Rattle.kp_base.specs.declared.key.PortKey.{PortKey}

@@ -1,6 +1,6 @@
 -- How a packet arrives at an endpoint that a door chooses: on the way through the chains of the
 -- door's port, and in which state.
-use Rattle.std.proofs.Common.{◌≡◌, ℕ, Bool, true, false, not, List, [], ◌∷◌, ◌++◌, ◌||◌, map, length, Contains, Option, Some, None, option_map, refl, sym, ap, subst}
+use Rattle.std.proofs.Common.{◌≡◌, ℕ, Bool, true, false, List, [], ◌∷◌, ◌++◌, ◌||◌, map, length, Contains, Option, Some, None, option_map, refl, sym, ap, subst}
 use Rattle.kp_base.specs.Net.{RangeParts, same_address}
 use Rattle.kp_base.specs.declared.key.Endpoint.{Endpoint}
 use Rattle.kp_types.specs.Setting.{FamilyConfig, Setting}

@@ -10,7 +10,6 @@ use Rattle.kp_types.specs.declared.packet.Origin.TheVariants.{Wire, Node}
 use Rattle.kp_types.specs.declared.rule.Rule.{Rule}
 use Rattle.kp_types.specs.declared.verdict.Verdict.{Verdict}
 use Rattle.kp_types.specs.declared.verdict.Verdict.TheVariants.{To}
-use Rattle.kp_types.specs.declared.walk.Ending.TheVariants as ending
 use Rattle.kp_choice_defs.specs.Recent.{RecentParts}
 use Rattle.kp_choice_defs.specs.Settings.{pick_by_draws}
 use Rattle.kp_object_defs.specs.PortInfo.{PortInfo}

@@ -1,5 +1,5 @@
 -- The ports of some objects have keys of their own, and what is known of them hangs together.
-use Rattle.std.proofs.Common.{◌≡◌, Bool, true, false, not, cond, ℕ, List, ◌∷◌, map, Option, Some, None, sym, ap, subst, ◌∙◌, T}
+use Rattle.std.proofs.Common.{◌≡◌, Bool, true, false, not, cond, ℕ, List, map, Option, Some, None, sym, ap, subst, ◌∙◌, T}
 use Rattle.std.proofs.lemmas.Bool.{or_right}
 use Rattle.std.specs.FinMap.{values}
 use Rattle.std.proofs.Math.Bool.{not-not}

@@ -1,5 +1,5 @@
 -- What a look-up finds in the full table.
-use Rattle.std.proofs.Common.{◌≡◌, suc, zero, Bool, true, false, cond, List, [], ◌∷◌, ◌++◌, Contains, Option, Some, bytes_eq, codes, flat_map, is_some, map, refl, sym, ap, ap₂, ◌∙◌, arith, true≢false, le_of_suc-le-suc}
+use Rattle.std.proofs.Common.{◌≡◌, true, false, cond, List, [], ◌∷◌, ◌++◌, Contains, Option, Some, bytes_eq, codes, flat_map, is_some, map, refl, sym, ap, ap₂, ◌∙◌}
 use Rattle.std.specs.declared.cmp.Ordering.{Ordering}
 use Rattle.std.specs.declared.cmp.Ordering.TheVariants.{Less, Equal, Greater}
 use Rattle.std.specs.Ordering.{eq_by_cmp, is_eq, ordering_then}
@@ -10,13 +10,12 @@ use Rattle.std.specs.FinMap.Entries.{is_some-find}
 use Rattle.std.specs.List.{list_any}
 use Rattle.std.proofs.lemmas.Bool.{or_parts}
 use Rattle.std.proofs.lemmas.Map.Views.{list_any-from_Contains}
-use Rattle.kp_lemmas.proofs.Orders.{equal_from_test, tie_of_itself}
-use Rattle.kp_lemmas.proofs.Members.{first_in, later_in, in_map}
+use Rattle.kp_lemmas.proofs.Members.{in_map}
 use Rattle.kp_base.specs.declared.address.Family.{Family}
 use Rattle.kp_base.specs.declared.address.Family.TheVariants.{V4, V6}
 use Rattle.kp_types.specs.Setting.{Setting}
 use Rattle.kp_types.specs.Places.{chain_cmp}
-use Rattle.kp_types.proofs.ChainOrder.{chain_total, chain_exact}
+use Rattle.kp_types.proofs.ChainOrder.{chain_total}
 use Rattle.kp_types.specs.declared.chain.TableName.TheVariants.{Nat, Filter}
 use Rattle.kp_types.specs.declared.chain.ChainAt.{ChainAt}
 use Rattle.kp_types.specs.Rules.{rule_of}

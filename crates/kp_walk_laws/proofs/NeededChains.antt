@@ -1,5 +1,5 @@
 -- Which chains a port needs: those that its doors from outside lead to, and those behind them.
-use Rattle.std.proofs.Common.{◌≡◌, true, not, ◌&&◌, ◌||◌, List, [], ◌∷◌, Contains, Option, Some, None, is_some, refl, sym, ap, ◌∙◌}
+use Rattle.std.proofs.Common.{◌≡◌, true, not, ◌&&◌, List, [], ◌∷◌, Contains, Option, Some, None, is_some, refl, sym, ap, ◌∙◌}
 use Rattle.std.proofs.lemmas.Bool.{and_from, and_parts, or_left, or_right}
 use Rattle.kp_lemmas.proofs.Members.{none_in}
 use Rattle.kp_base.specs.Net.{AddressParts, RangeParts}

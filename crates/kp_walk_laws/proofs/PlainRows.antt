@@ -1,5 +1,5 @@
 -- Without session affinity no row of the full table has a recent match.
-use Rattle.std.proofs.Common.{◌≡◌, ℕ, Bool, true, false, not, cond, ◌&&◌, List, [], ◌∷◌, ◌++◌, map, Contains, Option, Some, None, refl, sym, ap, ◌∙◌}
+use Rattle.std.proofs.Common.{◌≡◌, ℕ, Bool, true, false, not, cond, ◌&&◌, List, [], ◌∷◌, map, Contains, Option, Some, None, refl, sym, ap, ◌∙◌}
 use Rattle.std.specs.FinMap.{find, get-from_entries}
 use Rattle.std.specs.Ordering.{eq_by_cmp}
 use Rattle.std.specs.List.{list_all}
@@ -17,7 +17,6 @@ use Rattle.kp_types.specs.declared.chain.ChainKey.{ChainKey}
 use Rattle.kp_types.specs.declared.chain.ChainKey.TheVariants as key
 use Rattle.kp_types.specs.declared.chain.PortChain.TheVariants.{Svc, Svl, Ext, Fw}
 use Rattle.kp_types.specs.declared.rule.Rule.{Rule}
-use Rattle.kp_types.specs.declared.rule.Match.TheVariants as match
 use Rattle.kp_types.specs.declared.rule.Target.{Target}
 use Rattle.kp_types.specs.declared.rule.Target.TheVariants as target
 use Rattle.kp_types.specs.declared.service.Policy.{Policy}

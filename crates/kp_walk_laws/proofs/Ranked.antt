@@ -4,7 +4,7 @@ use Rattle.std.specs.FinMap.{entries, get}
 use Rattle.std.specs.List.{list_all}
 use Rattle.std.proofs.lemmas.Bool.{and_from}
 use Rattle.std.proofs.lemmas.List.Elements.{Contains-append_right}
-use Rattle.kp_lemmas.proofs.Members.{first_in, later_in, in_flat_map, all_from, from_all}
+use Rattle.kp_lemmas.proofs.Members.{first_in, later_in, all_from, from_all}
 use Rattle.kp_base.specs.Net.{AddressParts, RangeParts}
 use Rattle.kp_base.specs.declared.key.Endpoint.{Endpoint}
 use Rattle.kp_base.specs.declared.address.Family.{Family}
@@ -14,12 +14,10 @@ use Rattle.kp_types.proofs.ChainOrder.{chain_total, chain_exact}
 use Rattle.kp_types.specs.Rules.{rule_of}
 use Rattle.kp_types.specs.declared.chain.TableName.{TableName}
 use Rattle.kp_types.specs.declared.chain.TableName.TheVariants.{Nat, Filter}
-use Rattle.kp_types.specs.declared.chain.ChainAt.{ChainAt}
 use Rattle.kp_types.specs.declared.chain.ChainKey.{ChainKey}
 use Rattle.kp_types.specs.declared.chain.ChainKey.TheVariants as key
 use Rattle.kp_types.specs.declared.chain.PortChain.{PortChain}
 use Rattle.kp_types.specs.declared.chain.PortChain.TheVariants.{Svc, Svl, Ext, Fw}
-use Rattle.kp_types.specs.declared.rule.Match.TheVariants as match
 use Rattle.kp_types.specs.declared.rule.Rule.{Rule}
 use Rattle.kp_types.specs.declared.rule.Target.{Target}
 use Rattle.kp_types.specs.declared.rule.Target.TheVariants as target
@@ -223,8 +221,10 @@ module _ (setting : Setting) (infos : List PortInfo) (prefixed : IsPrefixed sett
   ranked_by : (i : PortInfo) (k : ChainKey)
       → GoOn table Nat (key_rank k) (rules_of_key setting i k) → IsRankedRow (row_of_key setting i k)
   ranked_by i k h =
-      ap (λ t. is_ranked_chain table (record { table = t; chain = setting.name_of k },
-      rules_of_key setting i k)) (nat_is setting.family)
+      ap (λ t. is_ranked_chain table (
+        record { table = t; chain = setting.name_of k },
+        rules_of_key setting i k,
+      )) (nat_is setting.family)
       ∙ ap (λ o. jumps_go_on table Nat o (rules_of_key setting i k)) (made_rank k) ∙ h.all
 
   kind_ranked : (i : PortInfo) → Contains infos i → (kind : PortChain) → needs kind i ≡ true

@@ -10,7 +10,6 @@ use Rattle.kp_types.specs.declared.chain.ChainAt.{ChainAt}
 use Rattle.kp_types.specs.declared.chain.PortChain.TheVariants.{Ext}
 use Rattle.kp_types.specs.declared.decision.DoorKind.{DoorKind}
 use Rattle.kp_types.specs.declared.decision.DoorKind.TheVariants as door
-use Rattle.kp_types.specs.declared.rule.Match.TheVariants as match
 use Rattle.kp_types.specs.declared.rule.Rule.{Rule}
 use Rattle.kp_types.specs.declared.rule.Target.TheVariants as target
 use Rattle.kp_object_defs.specs.Desired.{is_empty}

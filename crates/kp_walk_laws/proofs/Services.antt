@@ -1,6 +1,6 @@
 -- What KUBE-SERVICES and KUBE-NODEPORTS of nat do: they send a packet as the first door does that
 -- takes it.
-use Rattle.std.proofs.Common.{◌≡◌, ℕ, suc, Bool, true, false, not, ◌&&◌, List, [], ◌∷◌, ◌++◌, Contains, Option, Some, None, option_map, map, flat_map, refl, ap, ◌∙◌}
+use Rattle.std.proofs.Common.{◌≡◌, ℕ, suc, Bool, true, false, not, List, [], ◌∷◌, ◌++◌, Contains, Option, Some, None, option_map, map, flat_map, refl, ap, ◌∙◌}
 use Rattle.std.specs.List.{find}
 use Rattle.kp_base.specs.Net.{range_contains, loopback_range, is_local_address}
 use Rattle.kp_types.specs.Setting.{Setting}
