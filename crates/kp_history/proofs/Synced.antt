@@ -1,7 +1,7 @@
 -- What one more sync adds.
 use Rattle.std.proofs.Common.{◌≡◌, ◌≤◌, ◌+◌, ◌-◌, ℕ, suc, List, [], ◌∷◌, ◌++◌, take, length, sum, Option}
-use Rattle.std.proofs.Common.{Some, None, refl, sym, ap, subst, ◌∙◌, arith, le_refl, get_or}
-use Rattle.std.proofs.lemmas.List.{take_all, take-append-le, length-map, length_push, map_push}
+use Rattle.std.proofs.Common.{Some, None, refl, sym, ap, subst, ◌∙◌, arith, le_refl}
+use Rattle.std.proofs.lemmas.List.{take_all, take-append-le, length-map, length_push}
 use Rattle.std.proofs.lemmas.List.Sums.{sum_by_push}
 use Rattle.std.proofs.Math.Seq.{get_or-append_seam}
 use Rattle.kp_types.specs.declared.rule.Batch.{Batch}

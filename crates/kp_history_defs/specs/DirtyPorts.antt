@@ -1,6 +1,6 @@
 -- The ports of which something else is known than before, told by what is known of each port and
 -- not by what that is made of: these are at most the ports whose inputs changed.
-use Rattle.std.specs.Prelude.{◌==◌, ◌&&◌, Bool, List, map, not, Option}
+use Rattle.std.specs.Prelude.{◌==◌, ◌&&◌, Bool, List, map, not}
 use Rattle.std.specs.List.{filter}
 use Rattle.std.specs.Option.{option_eq}
 use Rattle.std.specs.Cmp.Lexicographic.{pointwise}

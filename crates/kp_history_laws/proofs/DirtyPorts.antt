@@ -1,7 +1,7 @@
 -- The list of dirty ports.
 use Rattle.std.proofs.Common.{◌≡◌, Bool, true, false, true≢false, not, ◌&&◌, option_and_then}
 use Rattle.std.proofs.Common.{Option, Some, None, refl, sym, ap, ◌∙◌}
-use Rattle.std.specs.Cmp.{IsEquivalence, nat_eq_equiv}
+use Rattle.std.specs.Cmp.{nat_eq_equiv}
 use Rattle.std.specs.Cmp.Lexicographic.{lists_equiv, options_equiv}
 use Rattle.std.specs.Option.{option_eq}
 use Rattle.std.specs.contracts.prelude.BoolEq.TheImpl.Laws as bool_laws
@@ -16,7 +16,6 @@ use Rattle.kp_base.specs.Keys.{port_key_cmp}
 use Rattle.kp_base.specs.contracts.address.AddressEq.TheImpl.Laws as address_laws
 use Rattle.kp_base.specs.contracts.key.EndpointEq.TheImpl.Laws as endpoint_laws
 use Rattle.kp_base.specs.contracts.key.PortKeyEq.TheImpl.Laws as key_laws
-use Rattle.kp_base.specs.contracts.key.PortKeyPartialEq.TheImpl as key_eq
 use Rattle.kp_base.specs.contracts.range.CidrEq.TheImpl.Laws as range_laws
 use Rattle.kp_base.specs.declared.key.PortKey.{PortKey}
 use Rattle.kp_base.proofs.KeyOrder.{port_key_exact, port_key_ties}

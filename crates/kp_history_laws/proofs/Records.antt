@@ -1,5 +1,5 @@
 -- The records of syncs, as a function of events and counts.
-use Rattle.std.proofs.Common.{◌≡◌, ℕ, suc, ◌+◌, ◌≤◌, ◌<◌, List, [], ◌∷◌, ◌++◌, map, take, length}
+use Rattle.std.proofs.Common.{◌≡◌, ℕ, suc, ◌≤◌, ◌<◌, List, [], ◌∷◌, ◌++◌, map, take, length}
 use Rattle.std.proofs.Common.{sum, Some, refl, sym, ap, subst, ◌∙◌, arith, get_or}
 use Rattle.std.specs.List.{range_with_len, slice_get}
 use Rattle.std.proofs.lemmas.List.{get_or_append_left, get_or-map, length_push, take-append-le}
@@ -13,7 +13,7 @@ use Rattle.kp_types.specs.declared.sync.SyncRecord.{SyncRecord}
 use Rattle.kp_object_defs.specs.Objects.{objects_after}
 use Rattle.kp_table_defs.specs.Edits.{changes_between}
 use Rattle.kp_table_defs.specs.Rebuild.{full_table}
-use Rattle.kp_history_defs.specs.History.{IsExactHistory, IsExactRecord, counts_of, chains_covered}
+use Rattle.kp_history_defs.specs.History.{IsExactRecord, counts_of, chains_covered}
 use Rattle.kp_history_defs.specs.History.{objects_covered, record_at, sync_records}
 use Rattle.kp_history_laws.specs.HistoryLaws.{ExactIsRecords, RecordsHaveCounts, RecordsAreExact}
 use Rattle.kp_history_laws.specs.HistoryLaws.{RecordsStay, RecordsGrow}

@@ -90,10 +90,7 @@ fn copy_of(alloc: Global, info: Option<&PortInfo>) -> Result<Option<PortInfo>, N
 }
 
 /// What is known of ports, by their names.
-fn by_name(
-    alloc: Global,
-    mut infos: Vec<PortInfo>,
-) -> Result<BTreeMap<PortKey, PortInfo>, NoMemory>
+fn by_name(alloc: Global, mut infos: Vec<PortInfo>) -> Result<BTreeMap<PortKey, PortInfo>, NoMemory>
     ensures { IfOk result (λ known. known.entries
         ≡ order.in_order port_key_cmp (map (λ i. (i.key, i)) infos.items)) }
 {
@@ -124,11 +121,7 @@ fn set_of(alloc: Global, mut keys: Vec<PortKey>) -> Result<BTreeSet<PortKey>, No
 }
 
 /// Adds the names of the ports of Services.
-fn add_names(
-    alloc: Global,
-    keys: &mut Vec<PortKey>,
-    services: &[&Service],
-) -> Result<(), NoMemory>
+fn add_names(alloc: Global, keys: &mut Vec<PortKey>, services: &[&Service]) -> Result<(), NoMemory>
     ensures { OnOk result (keys.new.items
         ≡ keys.old.items ++ flat_map port_keys_of (map (λ s. s.now) services.now)) }
 {
@@ -139,11 +132,7 @@ fn add_names(
 }
 
 /// Adds the names of the ports of a Service.
-fn add_names_of(
-    alloc: Global,
-    keys: &mut Vec<PortKey>,
-    service: &Service,
-) -> Result<(), NoMemory>
+fn add_names_of(alloc: Global, keys: &mut Vec<PortKey>, service: &Service) -> Result<(), NoMemory>
     ensures { OnOk result (keys.new.items ≡ keys.old.items ++ port_keys_of service.now) }
 {
     for port in service.ports.as_slice() {

@@ -1,4 +1,4 @@
-use Rattle.std.proofs.Common.{ap, sym, ◌∙◌, drop, length, map}
+use Rattle.std.proofs.Common.{ap, sym, ◌∙◌, map}
 use Rattle.std.specs.FinMap.{put}
 use Rattle.kp_base.specs.Keys.{port_key_cmp}
 use Rattle.kp_base.proofs.KeyOrder.{port_key_matches}

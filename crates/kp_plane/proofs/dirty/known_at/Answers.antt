@@ -1,4 +1,4 @@
-use Rattle.std.proofs.Common.{◌≡◌, map, ap, ◌∙◌}
+use Rattle.std.proofs.Common.{map, ap, ◌∙◌}
 use Rattle.std.specs.FinMap.{find}
 use Rattle.std.proofs.lemmas.Result.{IfOk-weaker}
 use Rattle.kp_base.specs.Keys.{port_key_cmp}
@@ -13,6 +13,6 @@ returns-clause-known g c =
     IfOk-weaker c.by_name.result _ _
     (λ known are key.
     known_found known c.in_ok-infos.infos.items key are
-    ∙ ap (λ infos. find port_key_cmp key (map (λ (i : PortInfo). (i.key, i)) infos)) c.in_ok-infos.ensures
+    ∙ ap (λ infos. find port_key_cmp key (map (λ (i : PortInfo). (i.key, i)) infos)) c.in_ok-infos.ensures.infos
     ∙ c.infos_by_name.ensures (setting_of V4 c.args.config.now) c.args.objects.now key c.all_services.ensures.own_keys)
     c.by_name.ensures

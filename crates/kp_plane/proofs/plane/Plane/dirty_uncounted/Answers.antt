@@ -1,4 +1,4 @@
-use Rattle.std.proofs.Common.{◌≡◌, length, ap, subst, ◌∙◌, ◌++◌, arith, flat_map}
+use Rattle.std.proofs.Common.{length, ap, subst, ◌∙◌, ◌++◌, arith, flat_map}
 use Rattle.std.specs.FinMap.{values}
 use Rattle.std.proofs.lemmas.Result.{IfOk-weaker}
 use Rattle.kp_object_defs.specs.PortByKey.{port_keys_of}

@@ -75,21 +75,33 @@ returns-clause-asked g c =
     let all =
     at_end c.events-events.result.now c.advance.new.self c.advance.ensures.place
     c.in_ok-advance.ensures.ok ∙ ap objects_after c.events-events.ensures in
-    omega (arith, c.rebuild.ensures.asked_bound, ap all_port_count all,
-    ap most_asked c.self.view_is)
+    omega (
+      arith,
+      c.rebuild.ensures.asked_bound,
+      ap all_port_count all,
+      ap most_asked c.self.view_is,
+    )
 
 pub returns-in-Err-clause-asked : goal.returns-in-Err-clause-asked
 returns-in-Err-clause-asked g c =
     let all =
     at_end c.events-events.result.now c.advance.new.self c.advance.ensures.place
     c.in_ok-advance.ensures.ok ∙ ap objects_after c.events-events.ensures in
-    omega (arith, c.rebuild.ensures.asked_bound, ap all_port_count all,
-    ap most_asked c.self.view_is)
+    omega (
+      arith,
+      c.rebuild.ensures.asked_bound,
+      ap all_port_count all,
+      ap most_asked c.self.view_is,
+    )
 
 pub returns-in_err-batch-clause-asked : goal.returns-in_err-batch-clause-asked
 returns-in_err-batch-clause-asked g c =
     let all =
     at_end c.events-events.result.now c.advance.new.self c.advance.ensures.place
     c.in_ok-advance.ensures.ok ∙ ap objects_after c.events-events.ensures in
-    omega (arith, c.rebuild.ensures.asked_bound, ap all_port_count all,
-    ap most_asked c.self.view_is)
+    omega (
+      arith,
+      c.rebuild.ensures.asked_bound,
+      ap all_port_count all,
+      ap most_asked c.self.view_is,
+    )
