@@ -61,7 +61,9 @@ fn synced<L: Ledger, A: Ledger>(
 
 /// Adds what a sync records, and what the plane tells behind it.
 fn sync(alloc: Global, plane: &mut Plane, text: &mut String) -> Result<(), Fail> {
-    let record = synced::<Brand, Brand>(alloc, plane, Blank::new(1), Blank::new(1)).ok().ok_or("a sync")?;
+    let record = synced::<Brand, Brand>(alloc, plane, Blank::new(1), Blank::new(1))
+        .ok()
+        .ok_or("a sync")?;
     push_record(text, &record)?;
     push_labelled(text, ", covers ", plane.covered())?;
     push_labelled(text, " of ", plane.journal().events().len() as u64)?;
@@ -89,7 +91,11 @@ fn push_before(text: &mut String, before: &Option<PortInfo>) -> Result<(), NoMem
     match before {
         Some(info) => {
             push_labelled(text, " port ", u64::from(info.number.get()))?;
-            push_labelled(text, ", endpoints ", info.lists.cluster.as_slice().len() as u64)
+            push_labelled(
+                text,
+                ", endpoints ",
+                info.lists.cluster.as_slice().len() as u64,
+            )
         }
         None => push(text, " new"),
     }

@@ -15,8 +15,8 @@ ghost use Rattle.kp_plane.specs.Compared.{dirty_of, known_in};
 
 use kp_base::{Config, Copied, Items, NoMemory, PortKey, Steps};
 use kp_history_defs::{DirtyPort, same_info};
-use kp_port_info::port_key_of;
 use kp_known_ports::port_infos;
+use kp_port_info::port_key_of;
 use kp_store::Objects;
 use kp_types::{PortInfo, Service};
 use std::alloc::Global;
