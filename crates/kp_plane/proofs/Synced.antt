@@ -120,7 +120,7 @@ nothing_new p h is same =
 pub leads_nowhere : SameRulesAreEqual → (p q : PlaneParts) → p ≡ q → (h : History) → IsHistory p h
     → length p.events ≡ h.covered → {edits : List Edit} → edits ≡ []
     → LeadsToNext q (record { edits = edits }) None
-leads_nowhere rules p q same h is none empty =
+leads_nowhere rules p q same h is none {edits} empty =
     let all = nothing_new p h is none in
     subst (λ r. LeadsToNext r (record { edits = edits }) None) same (record {
       no_clash = ap (clash_of (setting_in p)) (sym all) ∙ is.no_clash;
