@@ -399,7 +399,14 @@ impl Plane {
         }
         self.latest.advance(alloc, events, events.len())?;
         let objects = &self.latest.objects;
-        next_table(alloc, objects, &self.config, &self.history.table, steps, asked)
+        next_table(
+            alloc,
+            objects,
+            &self.config,
+            &self.history.table,
+            steps,
+            asked,
+        )
     }
 
     /// A sync whose steps nobody counts.
