@@ -15,7 +15,7 @@ use Rattle.kp_history_laws.specs.HistoryLaws.{RecordsHaveCounts, RecordsGrow}
 use Rattle.kp_history.specs.Parts.{PlaneParts, HasExactHistory, setting_in, syncs_in, uncovered_in}
 use Rattle.kp_history.specs.Parts.{objects_in, chains_in, last_edits, batch_after, next_edits}
 use Rattle.kp_history.specs.Parts.{next_chains, chains_or, synced, records_in, next_record}
-use Rattle.kp_history.specs.Invariant.{IsHistory}
+use Rattle.kp_history.specs.Invariant.{IsHistory, LeadsToNext}
 use Rattle.kp_history.specs.declared.history.History.{History}
 
 -- the counts of an exact history cover events that there are
@@ -93,24 +93,28 @@ module _ (p : PlaneParts) (h : HasExactHistory p) where
   }
 
 -- a history after one more sync
-pub history_next : ExactByRecord → RecordsHaveCounts → RecordsGrow → (p : PlaneParts) (before after : History) (covered : ℕ) (batch : Batch) (table : Option TableParts) → IsHistory p before → covered ≡ length p.events
-    → clash_of (setting_in p) (objects_after p.events) ≡ None → batch.edits ≡ next_edits p
-    → chains_or (chains_in p) table ≡ next_chains p
+pub history_next : ExactByRecord → RecordsHaveCounts → RecordsGrow
+    → (p : PlaneParts) (before after : History) (covered : ℕ) (batch : Batch) (table : Option TableParts)
+    → IsHistory p before → covered ≡ length p.events → LeadsToNext p batch table
     → after.counts.items ≡ before.counts.items ++ (covered - before.covered) ∷ []
     → after.covered ≡ covered
-    → after.table ≡ (record { chains = chains_or before.table.chains table; syncs = length after.counts.items })
+    → after.table
+    ≡ (record { chains = chains_or before.table.chains table; syncs = length after.counts.items })
     → after.last ≡ Some batch
     → IsHistory (synced p) after
-history_next goes_on counted_all grow p before after covered batch table is all no_clash edits leads counts covers made last =
-    let counted : after.counts.items ≡ (synced p).counts = counts ∙ (λ i. is.counts i ++ (all i - is.covered i) ∷ []) in
+history_next goes_on counted_all grow p before after covered batch table is all made counts covers kept last =
+    let counted : after.counts.items ≡ (synced p).counts =
+    counts ∙ (λ i. is.counts i ++ (all i - is.covered i) ∷ []) in
     let chains : chains_or before.table.chains table ≡ chains_in (synced p) =
-    ap (λ (t : TableParts). chains_or t.chains table) is.table ∙ leads
+    ap (λ (t : TableParts). chains_or t.chains table) is.table ∙ made.chains
     ∙ ap (λ o. (full_table (setting_in p) o).chains) (sym (objects_next p is.exact)) in
     record {
       counts = counted;
       covered = covers ∙ all ∙ sym (all_counted p is.exact);
-      table = made ∙ (λ i. record { chains = chains i; syncs = length (counted i) });
-      last = last ∙ ap (λ es. Some (record { edits = es })) (edits ∙ sym (last_is_next p is.exact)) ∙ sym (some_batch p.counts (uncovered_in p) (last_edits (synced p)));
-      exact = exact_next p is.exact goes_on counted_all grow no_clash;
-      no_clash = ap (clash_of (setting_in p)) (objects_next p is.exact) ∙ no_clash;
+      table = kept ∙ (λ i. record { chains = chains i; syncs = length (counted i) });
+      last = last
+          ∙ ap (λ es. Some (record { edits = es })) (made.edits ∙ sym (last_is_next p is.exact))
+          ∙ sym (some_batch p.counts (uncovered_in p) (last_edits (synced p)));
+      exact = exact_next p is.exact goes_on counted_all grow made.no_clash;
+      no_clash = ap (clash_of (setting_in p)) (objects_next p is.exact) ∙ made.no_clash;
     }

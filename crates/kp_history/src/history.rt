@@ -33,11 +33,8 @@ impl History {
     ghost use Rattle.std.specs.Prelude.{IfOk, OnOk, OnErr};
     ghost use Rattle.kp_base.specs.declared.config.Config.{Config};
     ghost use Rattle.kp_types.specs.declared.event.Event.{Event};
-    ghost use Rattle.kp_object_defs.specs.Objects.{objects_after};
-    ghost use Rattle.kp_table_defs.specs.Rebuild.{clash_of};
-    ghost use Rattle.kp_history.specs.Invariant.{IsHistory};
-    ghost use Rattle.kp_history.specs.Parts.{PlaneParts, chains_in, chains_or, next_chains};
-    ghost use Rattle.kp_history.specs.Parts.{next_edits, setting_in, synced, syncs_in};
+    ghost use Rattle.kp_history.specs.Invariant.{IsHistory, LeadsToNext};
+    ghost use Rattle.kp_history.specs.Parts.{PlaneParts, synced, syncs_in};
 
     /// Before the first sync.
     pub fn new(alloc: Global) -> Result<History, NoMemory>
@@ -63,9 +60,7 @@ impl History {
     ) -> Result<(), NoMemory>
         requires { self.old.covered ≤ covered }
         ensures ok { (p : PlaneParts) → IsHistory p self.old → covered ≡ length p.events
-            → clash_of (setting_in p) (objects_after p.events) ≡ None
-            → batch.edits ≡ next_edits p → chains_or (chains_in p) table ≡ next_chains p
-            → OnOk result (IsHistory (synced p) self.new) }
+            → LeadsToNext p batch table → OnOk result (IsHistory (synced p) self.new) }
         ensures err { (p : PlaneParts) → IsHistory p self.old
             → OnErr result (IsHistory p self.new) }
     {

@@ -1,5 +1,6 @@
 mod Accepted
 mod Compared
+mod Counts
 mod Places
 mod SlicesAtPlaces
 mod Start

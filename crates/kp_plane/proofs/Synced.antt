@@ -1,40 +1,36 @@
 -- What one more sync changes, and what it looks at.
-use Rattle.std.proofs.Common.{◌≡◌, ◌≤◌, ◌+◌, ℕ, suc, List, [], ◌∷◌, ◌++◌, take, length, sum, refl, sym, ap, subst, ◌∙◌, arith, le_refl, Bool, true, false, ◌<◌, nat_lt}
+use Rattle.std.proofs.Common.{◌≡◌, ◌≤◌, ◌<◌, ◌+◌, ◌-◌, nat_lt, ℕ, suc, List, [], ◌∷◌, ◌++◌}
+use Rattle.std.proofs.Common.{take, length, sum, Bool, true, false, Option, None}
+use Rattle.std.proofs.Common.{refl, sym, ap, subst, ◌∙◌, arith, le_refl}
 use Rattle.std.proofs.lemmas.Bool.Decides.{nat_tests}
-use Rattle.std.proofs.Common.{◌-◌, flat_map}
-use Rattle.std.specs.BTreeMap.{BTreeMap}
-use Rattle.std.specs.FinMap.{values}
 use Rattle.std.proofs.lemmas.List.{take_all, take-append-le, length_push}
 use Rattle.std.proofs.lemmas.List.Sums.{sum_by-take-le}
-use Rattle.kp_base.specs.Keys.{port_key_cmp}
-use Rattle.kp_base.specs.declared.key.PortKey.{PortKey}
-use Rattle.kp_types.specs.declared.event.Event.{Event}
-use Rattle.kp_object_defs.specs.Objects.{Objects, objects_after}
 use Rattle.kp_base.specs.declared.address.Family.TheVariants.{V4}
-use Rattle.kp_object_defs.specs.Order.{distinct_in_order}
-use Rattle.kp_object_defs.specs.PortByKey.{info_at, port_keys_of}
-use Rattle.kp_object_defs.specs.PortInfo.{PortInfo, port_infos}
-use Rattle.kp_object_defs.specs.SlicesNow.{slices_now}
-use Rattle.kp_full_table.specs.Parts.{all_rule_count}
 use Rattle.kp_types.specs.Setting.{config_for}
-use Rattle.kp_table_defs.specs.Edits.{SameRulesAreEqual, changes_between}
-use Rattle.kp_table_defs.specs.Rebuild.{TableParts, clash_of, full_table}
+use Rattle.kp_types.specs.declared.event.Event.{Event}
 use Rattle.kp_types.specs.declared.packet.Packet.{Packet}
+use Rattle.kp_types.specs.declared.rule.Batch.{Batch}
+use Rattle.kp_types.specs.declared.rule.Edit.{Edit}
 use Rattle.kp_types.specs.declared.sync.SyncRecord.{SyncRecord}
 use Rattle.kp_choice_defs.specs.Recent.{RecentParts}
+use Rattle.kp_object_defs.specs.Objects.{Objects, objects_after}
+use Rattle.kp_object_defs.specs.PortInfo.{port_infos}
+use Rattle.kp_object_defs.specs.SlicesNow.{slices_now}
 use Rattle.kp_door_defs.specs.Decision.{decision_of}
+use Rattle.kp_table_defs.specs.Edits.{SameRulesAreEqual, changes_between}
+use Rattle.kp_table_defs.specs.Rebuild.{TableParts, clash_of, full_table}
+use Rattle.kp_full_table.specs.Parts.{all_rule_count}
 use Rattle.kp_decide.specs.Told.{told}
 use Rattle.kp_history_defs.specs.DirtyPorts.{dirty_ports}
-use Rattle.kp_history_defs.specs.declared.dirty.DirtyPort.{DirtyPort}
-use Rattle.kp_history.specs.Parts.{PlaneParts, HasExactHistory, setting_in, uncovered_in, objects_in, table_in, chains_in, next_edits, next_chains, synced}
-use Rattle.kp_history.specs.Invariant.{IsHistory}
+use Rattle.kp_history.specs.Parts.{PlaneParts, HasExactHistory, setting_in, uncovered_in}
+use Rattle.kp_history.specs.Parts.{objects_in, table_in, chains_in, next_edits, synced}
+use Rattle.kp_history.specs.Invariant.{IsHistory, LeadsToNext, LeadsToTable}
 use Rattle.kp_history.specs.declared.history.History.{History}
 use Rattle.kp_history.proofs.Synced.{all_counted, within}
-use Rattle.kp_plane.specs.Notes.{last_note}
-use Rattle.kp_plane.specs.declared.note.SyncNote.{SyncNote}
-use Rattle.kp_plane.specs.Compared.{dirty_of, known_in}
-use Rattle.kp_plane.specs.Parts.{most_steps, explained_in, syncs_in, next_record, dirty_in}
 use Rattle.kp_plane.specs.Invariant.{IsAtPlace, IsPlane, IsSlicesAt}
+use Rattle.kp_plane.specs.Notes.{last_note}
+use Rattle.kp_plane.specs.Parts.{most_steps, explained_in, syncs_in, next_record, dirty_in}
+use Rattle.kp_plane.specs.declared.note.SyncNote.{SyncNote}
 use Rattle.kp_plane.specs.declared.place.ObjectsAt.{ObjectsAt}
 use Rattle.kp_plane.specs.declared.slices_at.SlicesAt.{SlicesAt}
 use Rattle.kp_plane.proofs.Unchanged.{no_changes}
@@ -99,9 +95,12 @@ plane_kept p most h next latest explained slices is same =
 -- ---- What a sync looks at
 
 -- the objects at the journal's end
-pub at_end : (events : List Event) (o : ObjectsAt) → IsAtPlace events o → o.at ≡ length events → o.objects ≡ objects_after events
-at_end events o is all =
-    is.objects ∙ ap (λ (n : ℕ). objects_after (take n events)) all ∙ ap objects_after (take_all (length events) events (le_refl (length events)))
+pub at_end : (events all : List Event) (o : ObjectsAt) → IsAtPlace events o → o.at ≡ length events
+    → events ≡ all → o.objects ≡ objects_after all
+at_end events all o is at same =
+    is.objects
+    ∙ ap (λ (n : ℕ). objects_after (take n events)) at
+    ∙ ap objects_after (take_all (length events) events (le_refl (length events)) ∙ same)
 
 -- the objects that the last sync covers
 pub at_last : (p : PlaneParts) (h : History) (o : ObjectsAt) → IsHistory p h → IsAtPlace p.events o → o.at ≡ h.covered → o.objects ≡ objects_in p
@@ -117,16 +116,27 @@ nothing_new p h is same =
     ∙ ap (λ (n : ℕ). objects_after (take n p.events)) (sym (same ∙ is.covered))
     ∙ ap objects_after (take_all (length p.events) p.events (le_refl (length p.events)))
 
--- so the table stays
-pub no_edits : SameRulesAreEqual → (p : PlaneParts) (h : History) → IsHistory p h → length p.events ≡ h.covered → next_edits p ≡ []
-no_edits same p h is none =
-    ap (λ o. changes_between (chains_in p) (full_table (setting_in p) o).chains) (sym (nothing_new p h is none))
-    ∙ no_changes same (chains_in p)
+-- so nothing leads on
+pub leads_nowhere : SameRulesAreEqual → (p q : PlaneParts) → p ≡ q → (h : History) → IsHistory p h
+    → length p.events ≡ h.covered → {edits : List Edit} → edits ≡ []
+    → LeadsToNext q (record { edits = edits }) None
+leads_nowhere rules p q same h is none {edits} empty =
+    let all = nothing_new p h is none in
+    subst (λ r. LeadsToNext r (record { edits = edits }) None) same (record {
+      no_clash = ap (clash_of (setting_in p)) (sym all) ∙ is.no_clash;
+      edits = empty ∙ sym (no_changes rules (chains_in p))
+          ∙ ap (λ o. changes_between (chains_in p) (full_table (setting_in p) o).chains) all;
+      chains = ap (λ o. (full_table (setting_in p) o).chains) all;
+    })
 
--- and so do its chains
-pub same_chains : (p q : PlaneParts) → p ≡ q → (h : History) → IsHistory p h → length p.events ≡ h.covered → chains_in q ≡ next_chains q
-same_chains p q same h is none =
-    subst (λ r. chains_in r ≡ next_chains r) same (ap (λ o. (full_table (setting_in p) o).chains) (nothing_new p h is none))
+-- what leads from the table to that of all events' objects leads on
+pub leads_on : (p q : PlaneParts) → p ≡ q → (t : TableParts) (o : Objects) → t ≡ table_in p
+    → o ≡ objects_after p.events → (batch : Batch) (table : Option TableParts)
+    → LeadsToTable (setting_in p) o t.chains batch table → LeadsToNext q batch table
+leads_on p q same t o is all batch table leads =
+    subst (λ r. LeadsToNext r batch table) same
+    (subst (λ (u : TableParts). LeadsToTable (setting_in p) (objects_after p.events) u.chains batch table) is
+    (subst (λ o. LeadsToTable (setting_in p) o t.chains batch table) all leads))
 
 -- a clash of all objects, by equal parts
 pub same_clash : (p q : PlaneParts) → p ≡ q → (o : Objects) → o ≡ objects_after p.events → clash_of (setting_in p) o ≡ clash_of (setting_in q) (objects_after q.events)
@@ -136,24 +146,21 @@ same_clash p q same o is = ap (clash_of (setting_in p)) is ∙ ap (λ r. clash_o
 pub same_steps : (p q : PlaneParts) → p ≡ q → (o : Objects) → o ≡ objects_after p.events → all_rule_count (setting_in p) (port_infos V4 (config_for V4 p.config) o) ≡ most_steps q
 same_steps p q same o is = ap (λ o. all_rule_count (setting_in p) (port_infos V4 (config_for V4 p.config) o)) is ∙ ap most_steps same
 
--- where no event is left, the last sync covers all
-pub none_left : (p q : PlaneParts) → p ≡ q → (h : History) → IsHistory p h → uncovered_in q ≡ 0 → length p.events ≡ h.covered
-none_left p q same h is none =
+-- where the last sync covers all, no event is left
+pub all_covered : (p q : PlaneParts) → p ≡ q → (h : History) → IsHistory p h
+    → length p.events ≡ h.covered → uncovered_in q ≡ 0
+all_covered p q same h is all =
+    let covered = is.covered in
+    let none : uncovered_in p ≡ 0 = omega arith in
+    sym (ap uncovered_in same) ∙ none
+
+-- and else one is
+pub some_left : (p q : PlaneParts) → p ≡ q → (h : History) → IsHistory p h → {n : ℕ}
+    → (n ≡ h.covered → ⊥) → n ≡ length p.events → 0 < uncovered_in q
+some_left p q same h is more all =
+    let covered = is.covered in
     let few = within p is.exact in
-    let left : uncovered_in p ≡ 0 = ap uncovered_in same ∙ none in
-    omega (arith, few, left, is.covered)
-
--- the edits that lead to their full table
-pub made_edits : (p q : PlaneParts) → p ≡ q → (t u : TableParts) (o : Objects) → t ≡ table_in p → u ≡ full_table (setting_in p) o → o ≡ objects_after p.events → changes_between t.chains u.chains ≡ next_edits q
-made_edits p q same t u o old full is =
-    (λ i. changes_between (old i).chains (full i).chains)
-    ∙ ap (λ o. changes_between (chains_in p) (full_table (setting_in p) o).chains) is
-    ∙ ap next_edits same
-
--- and the chains of that table
-pub made_chains : (p q : PlaneParts) → p ≡ q → (u : TableParts) (o : Objects) → u ≡ full_table (setting_in p) o → o ≡ objects_after p.events → u.chains ≡ next_chains q
-made_chains p q same u o full is =
-    ap (λ (t : TableParts). t.chains) full ∙ ap (λ o. (full_table (setting_in p) o).chains) is ∙ ap next_chains same
+    subst (λ r. 0 < uncovered_in r) same (omega (arith, more, all, covered, few))
 
 -- the decision on the objects that the last sync covers
 pub same_decision : (p q : PlaneParts) → p ≡ q → (o : Objects) → o ≡ objects_in p → (packet : Packet) (drawn : ℕ → ℕ) (lists : RecentParts)
@@ -189,22 +196,13 @@ module _ (p : PlaneParts) (h : History) (is : IsHistory p h) where
       let covered = is.covered in
       (omega arith, omega arith)
 
-  -- what is known at the places before and behind the last sync tells the dirty ports
-  pub dirty_told : (from to : ObjectsAt) → IsAtPlace p.events from → IsAtPlace p.events to
-      → from.at ≡ sum (take (syncs_in p - 1) p.counts) → to.at ≡ h.covered
-      → (before after : BTreeMap PortKey PortInfo) (keys : List PortKey) (ports : List DirtyPort)
-      → ((key : PortKey)
-      → known_in before key ≡ info_at V4 (config_for V4 p.config) from.objects key)
-      → ((key : PortKey) → known_in after key ≡ info_at V4 (config_for V4 p.config) to.objects key)
-      → keys ≡ flat_map port_keys_of (values from.objects.services)
-      ++ flat_map port_keys_of (values to.objects.services)
-      → ports
-      ≡ dirty_of (known_in before) (known_in after) (distinct_in_order port_key_cmp keys)
-      → ports ≡ dirty_in p
-  dirty_told from to at_from at_to first last before after keys ports old new names told =
-      told
-      ∙ (λ i. dirty_of (λ key. old key i) (λ key. new key i)
-      (distinct_in_order port_key_cmp (names i)))
-      ∙ (λ i. dirty_ports (setting_in p)
-      ((at_from.objects ∙ ap (λ (n : ℕ). objects_after (take n p.events)) first) i)
-      (at_last p h to is at_to last i))
+  -- the ports that are dirty between these places are those of the last sync
+  pub dirty_covered : (from : ℕ) → from ≡ sum (take (syncs_in p - 1) p.counts)
+      → dirty_ports (setting_in p) (objects_after (take from p.events))
+      (objects_after (take h.covered p.events))
+      ≡ dirty_in p
+  dirty_covered from before = λ i.
+      dirty_ports (setting_in p) (objects_after (take (before i) p.events))
+      ((ap (λ (n : ℕ). objects_after (take n p.events)) is.covered
+      ∙ ap (λ c. objects_after (take (sum c) p.events))
+      (sym (take_all (length p.counts) p.counts (le_refl (length p.counts))))) i)

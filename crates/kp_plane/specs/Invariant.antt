@@ -6,11 +6,20 @@ use Rattle.kp_base.specs.declared.config.Config.{Config}
 use Rattle.kp_types.specs.declared.event.Event.{Event}
 use Rattle.kp_object_defs.specs.Objects.{objects_after}
 use Rattle.kp_object_defs.specs.SlicesNow.{slices_now, slices_step}
+use Rattle.kp_events.specs.JournalContents.{Contents}
 use Rattle.kp_history.specs.Invariant.{IsHistory}
 use Rattle.kp_history.specs.declared.history.History.{History}
 use Rattle.kp_plane.specs.Parts.{PlaneParts}
 use Rattle.kp_plane.specs.declared.place.ObjectsAt.{ObjectsAt}
 use Rattle.kp_plane.specs.declared.slices_at.SlicesAt.{SlicesAt}
+
+-- what contracts see of a plane's fields
+abbrev pub parts_of : Config → Contents → History → PlaneParts
+parts_of config journal history = record {
+  config = config;
+  events = journal.events;
+  counts = history.counts.items;
+}
 
 -- objects at a place of the journal are those of the events before it
 pub record IsAtPlace (events : List Event) (o : ObjectsAt) : Type 0 where

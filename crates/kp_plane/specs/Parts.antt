@@ -21,7 +21,6 @@ use Rattle.kp_object_defs.specs.PortInfo.{port_infos}
 use Rattle.kp_object_defs.specs.SlicesNow.{slices_now}
 use Rattle.kp_table_defs.specs.Walk.{Walked, walk_of}
 use Rattle.kp_full_table.specs.Parts.{all_port_count, all_rule_count}
-use Rattle.kp_walker.specs.Sets.{ComesToSet}
 use Rattle.kp_history_defs.specs.History.{IsExactRecord, objects_covered}
 use Rattle.kp_history_defs.specs.DirtyPorts.{dirty_ports}
 use Rattle.kp_history_defs.specs.declared.dirty.DirtyPort.{DirtyPort}
@@ -88,9 +87,3 @@ explained_in p packet draws lists =
 abbrev pub walked_in : PlaneParts → Packet → (ℕ → ℕ) → RecentParts → Walked
 walked_in p packet draws lists =
     walk_of (λ at. finite.get (chains_in p) at) p.config.addresses packet draws lists
-
--- the walk of a packet comes to a set of its source in a list that lacks it, and the recent lists
--- are these by then
-abbrev pub ComesToSetIn : PlaneParts → Packet → (ℕ → ℕ) → RecentParts → RecentParts → Type 0
-ComesToSetIn p packet draws lists left =
-    ComesToSet (λ at. finite.get (chains_in p) at) p.config.addresses packet draws lists left

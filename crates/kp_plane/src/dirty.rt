@@ -1,31 +1,58 @@
 //! The ports of which something else is known after a sync than before it.
-ghost use Rattle.std.specs.Prelude.{◌≡◌, ◌++◌, map, IfOk, OnOk};
-ghost use Rattle.std.specs.FinMap.{values};
+ghost use Rattle.std.specs.Prelude.{◌≡◌, ◌≤◌, ◌++◌, length, map, take, IfOk, OnOk};
+ghost use Rattle.std.specs.FinMap.{put, values};
 ghost use Rattle.std.specs.List.{flat_map};
 ghost use Rattle.std.specs.Option.{option_eq, option_copied};
 ghost use Rattle.kp_base.specs.Keys.{port_key_cmp};
 ghost use Rattle.kp_base.specs.declared.address.Family.TheVariants.{V4};
 ghost use Rattle.kp_base.specs.declared.key.PortKey.{PortKey as Key};
 ghost use Rattle.kp_types.specs.Setting.{config_for};
+ghost use Rattle.kp_choice_defs.specs.Settings.{setting_of};
+ghost use Rattle.kp_object_defs.specs.Objects.{objects_after};
 ghost use Rattle.kp_object_defs.specs.Order as order;
 ghost use Rattle.kp_object_defs.specs.Order.{distinct_in_order};
 ghost use Rattle.kp_object_defs.specs.PortByKey.{info_at, port_keys_of};
 ghost use Rattle.kp_history_defs.specs.DirtyPorts as spec;
 ghost use Rattle.kp_plane.specs.Compared.{dirty_of, known_in};
 
+use crate::place::ObjectsAt;
 use kp_base::{Config, Copied, Items, NoMemory, PortKey, Steps};
 use kp_history_defs::{DirtyPort, same_info};
 use kp_known_ports::port_infos;
 use kp_port_info::port_key_of;
 use kp_store::Objects;
-use kp_types::{PortInfo, Service};
+use kp_types::{Event, PortInfo, Service};
 use std::alloc::Global;
 use std::collections::{BTreeMap, BTreeSet};
 use std::sync::ledger::Ledger;
 
+/// The ports of which something else is known after the events up to a later place than after
+/// those up to an earlier one, in order of their names, each with what was known of it.
+pub(crate) fn dirty_between<A: Ledger>(
+    alloc: Global,
+    config: &Config,
+    events: &[Event],
+    from: usize,
+    to: usize,
+    asked: &mut Steps<A>,
+) -> Result<Items<DirtyPort>, NoMemory>
+    requires later { from ≤ to }
+    requires within { to ≤ length events.now }
+    ensures { IfOk result (λ ports. ports ≡ spec.dirty_ports (setting_of V4 config.now)
+        (objects_after (take from events.now)) (objects_after (take to events.now))) }
+{
+    let mut place = ObjectsAt::start(alloc);
+    let mut keys = Vec::new(alloc);
+    place.advance(alloc, events, from)?;
+    let before = known_at(alloc, config, &place.objects, &mut keys, asked)?;
+    place.advance(alloc, events, to)?;
+    let after = known_at(alloc, config, &place.objects, &mut keys, asked)?;
+    dirty_among(alloc, keys, &before, &after)
+}
+
 /// What is known of the ports of objects, by their names. The names of all Services' ports are
 /// added to those that are given.
-pub(crate) fn known_at<A: Ledger>(
+fn known_at<A: Ledger>(
     alloc: Global,
     config: &Config,
     objects: &Objects,
@@ -45,7 +72,7 @@ pub(crate) fn known_at<A: Ledger>(
 }
 
 /// Of ports of these names those of which something else is known after than before, in order.
-pub(crate) fn dirty_among(
+fn dirty_among(
     alloc: Global,
     keys: Vec<PortKey>,
     before: &BTreeMap<PortKey, PortInfo>,
@@ -96,10 +123,22 @@ fn by_name(alloc: Global, mut infos: Vec<PortInfo>) -> Result<BTreeMap<PortKey, 
 {
     let mut known = BTreeMap::new(alloc);
     while let Some(info) = infos.pop() {
-        let key = info.key.copy(alloc)?;
-        known.insert(key, info)?;
+        add_info(alloc, &mut known, info)?;
     }
     Ok(known)
+}
+
+/// Puts what is known of a port under the port's name.
+fn add_info(
+    alloc: Global,
+    known: &mut BTreeMap<PortKey, PortInfo>,
+    info: PortInfo,
+) -> Result<(), NoMemory>
+    ensures { OnOk result (known.new.entries ≡ put port_key_cmp info.key info known.old.entries) }
+{
+    let key = info.key.copy(alloc)?;
+    known.insert(key, info)?;
+    Ok(())
 }
 
 /// Names once each, in order.

@@ -4,6 +4,7 @@
 
 mod dirty;
 pub mod laws;
+mod next;
 mod note;
 mod place;
 mod plane;
@@ -13,6 +14,6 @@ pub use kp_events::{Journal, JournalFault};
 pub use kp_full_table::TableFault;
 pub use kp_history_defs::DirtyPort;
 pub use kp_rules::Table;
-pub use kp_types::{Answer, Batch, Decision, SyncRecord};
+pub use kp_types::{Batch, Decision, SyncRecord};
 pub use note::SyncNote;
 pub use plane::Plane;

@@ -7,8 +7,10 @@ ghost use Rattle.kp_choice_defs.specs.Draws.{IsStated, AreDraws};
 ghost use Rattle.kp_choice_defs.specs.Recent.{RecentParts};
 ghost use Rattle.kp_events.specs.JournalContents.{HasRoom, Refuses};
 ghost use Rattle.kp_full_table.specs.Faults.{TellsClash};
+ghost use Rattle.kp_history.specs.Invariant.{LeadsToNext};
 ghost use Rattle.kp_object_defs.specs.Objects.{objects_after};
 ghost use Rattle.kp_types.specs.declared.packet.Packet.{Packet};
+ghost use Rattle.kp_plane.specs.Counts.{IsCounted};
 ghost use Rattle.kp_plane.specs.Notes.{last_note};
 ghost use Rattle.kp_plane.specs.Parts as parts;
 ghost use Rattle.kp_plane.specs.Parts.{HasExactHistory, IsNextRecord, setting_in};
@@ -17,10 +19,10 @@ ghost use Rattle.kp_table_defs.specs.Edits.{is_write};
 ghost use Rattle.kp_table_defs.specs.Ranks.{is_ranked, has_built_in_chains};
 ghost use Rattle.kp_table_defs.specs.Rebuild.{clash_of};
 ghost use Rattle.kp_walk_laws.specs.Laws.{Agree};
-ghost use Rattle.kp_walker.specs.Answers.{answered};
 
-use crate::dirty::{dirty_among, known_at};
+use crate::dirty::dirty_between;
 use crate::laws::walk_decides;
+use crate::next::next_table;
 use crate::note::SyncNote;
 use crate::place::ObjectsAt;
 use crate::slices_at::SlicesAt;
@@ -28,12 +30,12 @@ use kp_base::{Config, Copied, Items, NoMemory, Steps};
 use kp_decide::decide;
 use kp_draws::DrawSource;
 use kp_events::{Journal, JournalFault};
-use kp_full_table::{TableFault, rebuild};
+use kp_full_table::TableFault;
 use kp_history::History;
 use kp_history_defs::DirtyPort;
 use kp_recent::RecentLists;
-use kp_rules::{Table, changed};
-use kp_types::{Answer, Batch, Decision, Edit, Event, Packet, Slice, SyncRecord, Verdict};
+use kp_rules::Table;
+use kp_types::{Batch, Decision, Edit, Event, Packet, Slice, SyncRecord};
 use std::alloc::Global;
 use std::marker::{Brand, Model};
 use std::mem::replace;
@@ -67,26 +69,17 @@ impl Drop for Plane {
 }
 
 impl Model for Plane {
-    ghost use Rattle.kp_plane.specs.Invariant.{IsPlane};
+    ghost use Rattle.kp_plane.specs.Invariant.{IsPlane, parts_of};
     ghost use Rattle.kp_plane.specs.Parts.{PlaneParts, parts_code};
 
     ghost Value = { PlaneParts };
 
     ghost coded = { parts_code };
 
-    ghost view = { λ s. record {
-      config = s.config;
-      events = s.journal.events;
-      counts = s.history.counts.items;
-    } };
+    ghost view = { λ s. parts_of s.config s.journal s.history };
 
-    ghost invariant = { λ s. IsPlane
-        (record {
-          config = s.config;
-          events = s.journal.events;
-          counts = s.history.counts.items;
-        })
-        s.journal.most s.history s.latest s.explained s.slices };
+    ghost invariant = { λ s. IsPlane (parts_of s.config s.journal s.history) s.journal.most
+        s.history s.latest s.explained s.slices };
 }
 
 impl Plane {
@@ -208,12 +201,18 @@ impl Plane {
         ensures err { OnErr result (self.new ≡ self.old) }
 
         // It takes a step for each rule of a port, one of the other count for each port that the
-        // objects are asked about, and none where no event came since the last sync.
+        // objects are asked about, and none where no event came since the last sync. Where it is
+        // refused it may have taken some of them.
         ensures bound { steps.new ≤ steps.old + parts.most_steps self.old }
         ensures asked { asked.new ≤ asked.old + parts.most_asked self.old }
         ensures unchanged { parts.uncovered_in self.old ≡ 0 → steps.new ≡ steps.old }
         ensures unasked { parts.uncovered_in self.old ≡ 0 → asked.new ≡ asked.old }
+        ensures counted { OnOk result (0 < parts.uncovered_in self.old
+            → steps.new ≡ steps.old + parts.most_steps self.old) }
+        ensures all_asked { OnOk result (0 < parts.uncovered_in self.old
+            → asked.new ≡ asked.old + parts.most_asked self.old) }
     {
+        self.records_grow();
         let (batch, table) = self.next_batch(alloc, steps, asked)?;
         let copy = batch.copy(alloc)?;
         let note = self.keep(batch, table)?;
@@ -237,67 +236,6 @@ impl Plane {
         ensures err { OnErr result (self.new ≡ self.old) }
     {
         self.sync_uncounted::<Brand, Brand>(alloc, Blank::new(1), Blank::new(1))
-    }
-
-    /// Walks a packet of this number through the table: its verdict and the recent lists are those
-    /// of the decision on the objects that the last sync covers. Only a set of a source that its
-    /// recent list lacks takes memory, and where it gets none the lists stay as they are by then.
-    pub fn walk<F: Fn(u64, u32) -> u32>(
-        &self,
-        number: u64,
-        packet: &Packet,
-        draws: &DrawSource<F>,
-        lists: &mut RecentLists,
-    ) -> Result<Answer, NoMemory>
-        requires stated { IsStated (F.pre draws.now) (F.post draws.now) }
-        ensures walk { IfOk result (λ answer. (drawn : ℕ → ℕ)
-            → AreDraws (F.post draws.now) number drawn
-            → answered answer lists.new
-            ≡ walked_in self.now packet.entry.now drawn lists.old) }
-        ensures decided { IfOk result (λ answer. (drawn : ℕ → ℕ)
-            → AreDraws (F.post draws.now) number drawn
-            → Agree (answered answer lists.new)
-            (decided_in self.now packet.entry.now drawn lists.old)) }
-        ensures refused { OnErr result ((drawn : ℕ → ℕ) → AreDraws (F.post draws.now) number drawn
-            → parts.ComesToSetIn self.now packet.entry.now drawn lists.old lists.new) }
-    {
-        self.decides();
-        kp_walker::walk(
-            &self.history.table,
-            &self.config.addresses,
-            number,
-            packet,
-            draws,
-            lists,
-        )
-    }
-
-    /// What becomes of a packet: the same walk, of which no trail is kept.
-    pub fn verdict_of<F: Fn(u64, u32) -> u32>(
-        &self,
-        number: u64,
-        packet: &Packet,
-        draws: &DrawSource<F>,
-        lists: &mut RecentLists,
-    ) -> Result<Verdict, NoMemory>
-        requires stated { IsStated (F.pre draws.now) (F.post draws.now) }
-        ensures verdict { IfOk result (λ verdict. (drawn : ℕ → ℕ)
-            → AreDraws (F.post draws.now) number drawn
-            → verdict ≡ (decided_in self.now packet.entry.now drawn lists.old).verdict) }
-        ensures lists { OnOk result ((drawn : ℕ → ℕ) → AreDraws (F.post draws.now) number drawn
-            → lists.new ≡ (decided_in self.now packet.entry.now drawn lists.old).lists) }
-        ensures refused { OnErr result ((drawn : ℕ → ℕ) → AreDraws (F.post draws.now) number drawn
-            → parts.ComesToSetIn self.now packet.entry.now drawn lists.old lists.new) }
-    {
-        self.decides();
-        kp_walker::verdict_of(
-            &self.history.table,
-            &self.config.addresses,
-            number,
-            packet,
-            draws,
-            lists,
-        )
     }
 
     /// The decision on a packet by the objects that the last sync covers, with its reason. The
@@ -377,15 +315,11 @@ impl Plane {
         requires some { 0 < blank.parts }
         ensures { IfOk result (λ ports. ports ≡ parts.dirty_in self.now) }
     {
+        let from = self.history.covered_before() as usize;
+        let to = self.history.covered as usize;
         let mut asked = Steps::<A>::new(blank);
         let events = self.journal.events();
-        let mut place = ObjectsAt::start(alloc);
-        let mut keys = Vec::new(alloc);
-        place.advance(alloc, events, self.history.covered_before() as usize)?;
-        let before = known_at(alloc, &self.config, &place.objects, &mut keys, &mut asked)?;
-        place.advance(alloc, events, self.history.covered as usize)?;
-        let after = known_at(alloc, &self.config, &place.objects, &mut keys, &mut asked)?;
-        dirty_among(alloc, keys, &before, &after)
+        dirty_between(alloc, &self.config, events, from, to, &mut asked)
     }
 
     /// What a plane that ends holds: its events, how many of them each sync covers more than the
@@ -429,6 +363,15 @@ impl Plane {
         self.journal.events().len() as u64 - self.history.covered
     }
 
+    /// The records of the syncs so far, and then that of one more.
+    fn records_grow(&self)
+        ensures { parts.records_in (parts.synced self.now)
+            ≡ parts.records_in self.now ++ parts.next_record self.now ∷ [] }
+    {
+        let _ = &self.history;
+        kp_history_laws::sync_records();
+    }
+
     /// The batch that leads to the full table of all events' objects, and that table. Where no
     /// event came since the last sync the batch is empty, and nothing is looked at or made.
     fn next_batch<L: Ledger, A: Ledger>(
@@ -437,17 +380,13 @@ impl Plane {
         steps: &mut Steps<L>,
         asked: &mut Steps<A>,
     ) -> Result<(Batch, Option<Table>), TableFault>
-        ensures batch { IfOk result (λ (b, _). b.edits ≡ parts.next_edits self.old) }
-        ensures table { IfOk result (λ (_, t).
-            parts.chains_or (parts.chains_in self.old) t ≡ parts.next_chains self.old) }
-        ensures no_clash { OnOk result (
-            clash_of (setting_in self.old) (objects_after self.old.events) ≡ None) }
+        ensures next { IfOk result (λ (b, t). LeadsToNext self.old b t) }
         ensures clash { IfErr result (TellsClash
             (clash_of (setting_in self.old) (objects_after self.old.events))) }
-        ensures bound { steps.new ≤ steps.old + parts.most_steps self.old }
-        ensures asked { asked.new ≤ asked.old + parts.most_asked self.old }
-        ensures unchanged { parts.uncovered_in self.old ≡ 0 → steps.new ≡ steps.old }
-        ensures unasked { parts.uncovered_in self.old ≡ 0 → asked.new ≡ asked.old }
+        ensures steps { IsCounted (parts.uncovered_in self.old) (parts.most_steps self.old)
+            steps.old steps.new result }
+        ensures asked { IsCounted (parts.uncovered_in self.old) (parts.most_asked self.old)
+            asked.old asked.new result }
         ensures stays { self.new ≡ self.old }
     {
         kp_rules::laws::same_rules_are_equal();
@@ -459,12 +398,15 @@ impl Plane {
             return Ok((batch, None));
         }
         self.latest.advance(alloc, events, events.len())?;
-        let table = match rebuild(alloc, &self.latest.objects, &self.config, steps, asked) {
-            Ok(table) => table,
-            Err(fault) => return Err(fault),
-        };
-        let batch = changed(alloc, &self.history.table, &table)?;
-        Ok((batch, Some(table)))
+        let objects = &self.latest.objects;
+        next_table(
+            alloc,
+            objects,
+            &self.config,
+            &self.history.table,
+            steps,
+            asked,
+        )
     }
 
     /// A sync whose steps nobody counts.
@@ -497,18 +439,12 @@ impl Plane {
 
     /// Keeps the batch of a sync of all events, and the table that it leads to, and tells of it.
     fn keep(&mut self, batch: Batch, table: Option<Table>) -> Result<SyncNote, NoMemory>
-        requires edits { batch.edits ≡ parts.next_edits self.old }
-        requires table { parts.chains_or (parts.chains_in self.old) table
-            ≡ parts.next_chains self.old }
-        requires no_clash { clash_of (setting_in self.old) (objects_after self.old.events) ≡ None }
-        ensures records { parts.records_in (parts.synced self.old)
-            ≡ parts.records_in self.old ++ parts.next_record self.old ∷ [] }
+        requires { LeadsToNext self.old batch table }
         ensures note { IfOk result (λ n. n
             ≡ last_note (parts.uncovered_in self.old) self.new) }
         ensures ok { OnOk result (self.new ≡ parts.synced self.old) }
         ensures err { OnErr result (self.new ≡ self.old) }
     {
-        kp_history_laws::sync_records();
         let (written, removed) = counts(batch.edits.as_slice());
         let events = self.uncovered();
         let covered = self.journal.events().len() as u64;
