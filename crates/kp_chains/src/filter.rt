@@ -1,5 +1,5 @@
 //! The fixed chains of filter.
-ghost use Rattle.std.specs.Prelude.{◌≡◌, ◌++◌, IfOk, OnOk};
+ghost use Rattle.std.specs.Prelude.{◌≡◌, ◌++◌, IfOk, OnOk, OnErr};
 ghost use Rattle.kp_base.specs.declared.address.Family.TheVariants.{V4};
 ghost use Rattle.kp_table_defs.specs.Layout as layout;
 ghost use Rattle.kp_chains.specs.Rows.{rows_of_texts};
@@ -12,7 +12,7 @@ use kp_types::{ChainName, ChainText, Match, Rule, TableName, Target};
 use std::alloc::Global;
 
 /// Adds the fixed chains of filter, with these rules of the firewall, for what comes in from
-/// outside and for Services.
+/// outside and for Services. Without memory the rows stay.
 pub fn filter_rows(
     alloc: Global,
     rows: &mut Vec<ChainText>,
@@ -20,16 +20,42 @@ pub fn filter_rows(
     external: Items<Rule>,
     services: Items<Rule>,
 ) -> Result<(), NoMemory>
-    ensures { OnOk result (rows_of_texts rows.new.items ≡ rows_of_texts rows.old.items
+    ensures rows { OnOk result (rows_of_texts rows.new.items ≡ rows_of_texts rows.old.items
         ++ layout.filter_rows_with V4 firewall external services) }
+    ensures kept { OnErr result (rows.new.items ≡ rows.old.items) }
 {
-    hooks_of_filter(alloc, rows)?;
+    let mut fixed = fixed_of_filter(alloc, firewall, external, services)?;
+    Ok(rows.append(&mut fixed)?)
+}
+
+/// The fixed chains of filter.
+fn fixed_of_filter(
+    alloc: Global,
+    firewall: Items<Rule>,
+    external: Items<Rule>,
+    services: Items<Rule>,
+) -> Result<Vec<ChainText>, NoMemory>
+    ensures { IfOk result (λ rows. rows_of_texts rows.items
+        ≡ layout.filter_rows_with V4 firewall external services) }
+{
+    let mut rows = Vec::new(alloc);
+    hooks_of_filter(alloc, &mut rows)?;
     let forward = accept_rules(alloc)?;
-    add_row(rows, TableName::Filter, "KUBE-FORWARD", forward)?;
-    add_row(rows, TableName::Filter, "KUBE-PROXY-FIREWALL", firewall)?;
-    add_row(rows, TableName::Filter, "KUBE-EXTERNAL-SERVICES", external)?;
-    add_row(rows, TableName::Filter, "KUBE-SERVICES", services)?;
-    Ok(())
+    add_row(&mut rows, TableName::Filter, "KUBE-FORWARD", forward)?;
+    add_row(
+        &mut rows,
+        TableName::Filter,
+        "KUBE-PROXY-FIREWALL",
+        firewall,
+    )?;
+    add_row(
+        &mut rows,
+        TableName::Filter,
+        "KUBE-EXTERNAL-SERVICES",
+        external,
+    )?;
+    add_row(&mut rows, TableName::Filter, "KUBE-SERVICES", services)?;
+    Ok(rows)
 }
 
 fn hooks_of_filter(alloc: Global, rows: &mut Vec<ChainText>) -> Result<(), NoMemory>

@@ -1,5 +1,5 @@
 //! Which chains a port needs, by their keys.
-ghost use Rattle.std.specs.Prelude.{◌≡◌, ◌++◌, map, IfOk, OnOk};
+ghost use Rattle.std.specs.Prelude.{◌≡◌, ◌++◌, map, IfOk, OnOk, OnErr};
 ghost use Rattle.kp_object_defs.specs.PortInfo as spec;
 ghost use Rattle.kp_types.specs.declared.chain.ChainKey.TheVariants as key;
 ghost use Rattle.kp_table_defs.specs.Keys as keys;
@@ -91,20 +91,34 @@ fn add_kind_keys(
     Ok(())
 }
 
-/// Adds the keys of the chains of endpoints of a port.
+/// Adds the keys of the chains of endpoints of a port. Without memory the keys stay.
 pub fn add_endpoint_keys(
     alloc: Global,
     own: &mut Vec<ChainKey>,
     port: &PortKey,
     endpoints: &[Endpoint],
 ) -> Result<(), NoMemory>
-    ensures { OnOk result (own.new.items
+    ensures keys { OnOk result (own.new.items
         ≡ own.old.items ++ map (key.Sep port.now) endpoints.now) }
+    ensures kept { OnErr result (own.new.items ≡ own.old.items) }
 {
+    let mut keys = endpoint_keys(alloc, port, endpoints)?;
+    Ok(own.append(&mut keys)?)
+}
+
+/// The keys of the chains of endpoints of a port.
+fn endpoint_keys(
+    alloc: Global,
+    port: &PortKey,
+    endpoints: &[Endpoint],
+) -> Result<Vec<ChainKey>, NoMemory>
+    ensures { IfOk result (λ keys. keys.items ≡ map (key.Sep port.now) endpoints.now) }
+{
+    let mut keys = Vec::new(alloc);
     for endpoint in endpoints {
         let endpoint = *endpoint;
         let port = port.copy(alloc)?;
-        own.push(ChainKey::Sep { port, endpoint })?;
+        keys.push(ChainKey::Sep { port, endpoint })?;
     }
-    Ok(())
+    Ok(keys)
 }

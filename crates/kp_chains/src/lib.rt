@@ -30,6 +30,6 @@ pub use fixed::fixed_chains;
 pub use keys::{add_endpoint_keys, chain_kinds, own_keys};
 pub use kp_types::{ChainText, PortInfo};
 pub use nat::nat_rows;
-pub use port::{counted_chains, port_chains};
+pub use port::port_chains;
 pub use shared::port_block;
 pub use table::table_of;

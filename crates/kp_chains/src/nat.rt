@@ -1,5 +1,5 @@
 //! The fixed chains of nat.
-ghost use Rattle.std.specs.Prelude.{◌≡◌, ◌++◌, ◌∷◌, [], IfOk, OnOk};
+ghost use Rattle.std.specs.Prelude.{◌≡◌, ◌++◌, ◌∷◌, [], IfOk, OnOk, OnErr};
 ghost use Rattle.kp_base.specs.declared.address.Family.TheVariants.{V4};
 ghost use Rattle.kp_types.specs.Rules.{rule_of};
 ghost use Rattle.kp_types.specs.declared.rule.Target.TheVariants.{Jump, SetMark};
@@ -13,22 +13,38 @@ use kp_base::{Items, NoMemory};
 use kp_types::{ChainName, ChainText, Match, Rule, TableName, Target};
 use std::alloc::Global;
 
-/// Adds the fixed chains of nat, with these rules for node ports and for Services.
+/// Adds the fixed chains of nat, with these rules for node ports and for Services. Without memory
+/// the rows stay.
 pub fn nat_rows(
     alloc: Global,
     rows: &mut Vec<ChainText>,
     node_ports: Items<Rule>,
     services: Items<Rule>,
 ) -> Result<(), NoMemory>
-    ensures { OnOk result (rows_of_texts rows.new.items ≡ rows_of_texts rows.old.items
+    ensures rows { OnOk result (rows_of_texts rows.new.items ≡ rows_of_texts rows.old.items
         ++ layout.nat_rows_with V4 node_ports services) }
+    ensures kept { OnErr result (rows.new.items ≡ rows.old.items) }
 {
-    hooks_of_nat(alloc, rows)?;
-    marks_of_nat(alloc, rows)?;
-    add_row(rows, TableName::Nat, "KUBE-NODEPORTS", node_ports)?;
+    let mut fixed = fixed_of_nat(alloc, node_ports, services)?;
+    Ok(rows.append(&mut fixed)?)
+}
+
+/// The fixed chains of nat.
+fn fixed_of_nat(
+    alloc: Global,
+    node_ports: Items<Rule>,
+    services: Items<Rule>,
+) -> Result<Vec<ChainText>, NoMemory>
+    ensures { IfOk result (λ rows. rows_of_texts rows.items
+        ≡ layout.nat_rows_with V4 node_ports services) }
+{
+    let mut rows = Vec::new(alloc);
+    hooks_of_nat(alloc, &mut rows)?;
+    marks_of_nat(alloc, &mut rows)?;
+    add_row(&mut rows, TableName::Nat, "KUBE-NODEPORTS", node_ports)?;
     let services = with_own_addresses(services.into_vec())?;
-    add_row(rows, TableName::Nat, "KUBE-SERVICES", services)?;
-    Ok(())
+    add_row(&mut rows, TableName::Nat, "KUBE-SERVICES", services)?;
+    Ok(rows)
 }
 
 fn hooks_of_nat(alloc: Global, rows: &mut Vec<ChainText>) -> Result<(), NoMemory>

@@ -39,7 +39,7 @@ pub fn port_chains<L: Ledger>(
 }
 
 /// The chains of one port. A step is taken for each of their rules; without memory none is.
-pub fn counted_chains<L: Ledger>(
+fn counted_chains<L: Ledger>(
     alloc: Global,
     config: &Config,
     info: &PortInfo,
