@@ -1,5 +1,6 @@
 -- Newest values as published ones with what was updated since.
-use Rattle.std.proofs.Common.{◌≡◌, Bool, true, false, cond, not, List, [], ◌∷◌, ◌++◌, map, filter, Option, Some, None, refl, sym, ap, ◌∙◌}
+use Rattle.std.proofs.Common.{◌≡◌, Bool, true, false, cond, not, List, [], ◌∷◌, ◌++◌, map, filter}
+use Rattle.std.proofs.Common.{Option, Some, None, refl, sym, ap, ◌∙◌}
 use Rattle.std.specs.declared.cmp.Ordering.{Ordering}
 use Rattle.std.specs.BTreeMap.{is_at}
 use Rattle.std.specs.Ordering.{eq_by_cmp, is_eq}
@@ -55,7 +56,8 @@ module _ {K V : Type 0} {R : K → K → Ordering} (total : IsTotalOrder R) wher
     -- one update more, as a sorted map takes it
     pub updated_more : IsAntisymmetric R → (m : FinMap R V) (es fs : List (K × Option V)) (k : K)
         (v : Option V)
-        → ((q : K) → lookup (is_at (C q)) fs ≡ cond (eq_by_cmp C k q) (Some v) (lookup (is_at (C q)) es))
+        → ((q : K) → lookup (is_at (C q)) fs ≡ cond (eq_by_cmp C k q) (Some v) (lookup (is_at
+        (C q)) es))
         → updated R m fs ≡ with_value R (updated R m es) k v
     updated_more exact m es fs k v h =
         same_map total exact (updated R m fs) (with_value R (updated R m es) k v) (λ q.
@@ -75,16 +77,20 @@ published_behind R m [] e = refl
 published_behind R m (f ∷ es) e = ap (λ n. with_value R n f.0 f.1) (published_behind R m es e)
 
 -- whether one element more passes a test
-pub passing_more : {A B C : Type 0} (show : A → B) (key : B → C) (test : B → Bool) (xs : List A) (x : A)
+pub passing_more : {A B C : Type 0} (show : A → B) (key : B → C) (test : B
+    → Bool) (xs : List A) (x : A)
     → (b : Bool) → test (show x) ≡ b
     → map key (filter test (map show (xs ++ x ∷ [])))
     ≡ map key (filter test (map show xs)) ++ cond b (key (show x) ∷ []) []
 passing_more show key test [] x b is =
     ap (λ t. map key (cond t (show x ∷ []) [])) is
-    ∙ elim b as (λ b. map key (cond b (show x ∷ []) []) ≡ cond b (key (show x) ∷ []) []) [ true ↦ refl | false ↦ refl ]
+    ∙ elim b as (λ b. map key (cond b (show x ∷ []) []) ≡ cond b (key (show x) ∷ []) [])
+    [ true ↦ refl | false ↦ refl ]
 passing_more show key test (y ∷ xs) x b is =
     let rest = passing_more show key test xs x b is in
-    elim (test (show y)) as (λ t. map key (cond t (show y ∷ filter test (map show (xs ++ x ∷ []))) (filter test (map show (xs ++ x ∷ [])))) ≡ map key (cond t (show y ∷ filter test (map show xs)) (filter test (map show xs))) ++ cond b (key (show x) ∷ []) []) [
+    elim (test (show y)) as (λ t. map key (cond t (show y ∷ filter test (map show (xs ++ x ∷
+    []))) (filter test (map show (xs ++ x ∷ [])))) ≡ map key (cond t (show y ∷ filter test
+    (map show xs)) (filter test (map show xs))) ++ cond b (key (show x) ∷ []) []) [
       | true ↦ ap (λ ks. key (show y) ∷ ks) rest
       | false ↦ rest
     ]

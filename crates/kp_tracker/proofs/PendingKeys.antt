@@ -1,5 +1,6 @@
 -- The keys of updates that give another value are those whose newest value differs, in order.
-use Rattle.std.proofs.Common.{◌≡◌, ◌||◌, Bool, true, false, cond, not, List, [], ◌∷◌, map, filter, Option, Some, None, refl, sym, ap, subst, ◌∙◌}
+use Rattle.std.proofs.Common.{◌≡◌, ◌||◌, Bool, true, false, cond, not, List, [], ◌∷◌, map, filter}
+use Rattle.std.proofs.Common.{Option, Some, None, refl, sym, ap, subst, ◌∙◌}
 use Rattle.std.specs.Prelude.{◌↔◌}
 use Rattle.std.specs.declared.cmp.Ordering.{Ordering}
 use Rattle.std.specs.declared.cmp.Ordering.TheVariants.{Less}
@@ -25,7 +26,8 @@ module _ {K X : Type 0} (test : K × X → Bool) where
       → AllByRecursion P (passing es)
   below_passing P [] h = tt
   below_passing P (e ∷ es) h =
-      elim (test e) as (λ b. AllByRecursion P (map (λ e. e.0) (cond b (e ∷ filter test es) (filter test es)))) [
+      elim (test e) as (λ b. AllByRecursion P (map (λ e. e.0) (cond b (e ∷ filter test es)
+      (filter test es)))) [
         | true ↦ (h.0, below_passing P es h.1)
         | false ↦ below_passing P es h.1
       ]
@@ -49,7 +51,8 @@ module _ {K X : Type 0} (R : K → K → Ordering) (test : K × X → Bool) wher
   unfolding IsStrictlySortedBy
   passing_in_order [] h = tt
   passing_in_order (e ∷ es) h =
-      elim (test e) as (λ b. IsStrictlySortedBy R (map (λ e. e.0) (cond b (e ∷ filter test es) (filter test es)))) [
+      elim (test e) as (λ b. IsStrictlySortedBy R (map (λ e. e.0) (cond b (e ∷ filter test es)
+      (filter test es)))) [
         | true ↦ (below_passing test (λ l. R e.0 l ≡ Less) es h.0, passing_in_order es h.1)
         | false ↦ passing_in_order es h.1
       ]
@@ -117,6 +120,8 @@ module _ {V : Type 0} (same : V → V → Bool) (tells : (a b : V) → (same a b
             ap (list_any (eq_by_cmp R k)) is
             ∙ found_passing R (is_other R same t.entries) exact k t.updates rising
             ∙ changed_then R t k (find R k t.updates)
-            ∙ ap (λ o. not (option_eq same (get (published R t) k) o)) (sym (got_updated total (published R t) t.updates k));
-        in_order = subst (IsStrictlySortedBy R) (sym is) (passing_in_order R (is_other R same t.entries) t.updates rising);
+            ∙ ap (λ o. not (option_eq same (get (published R t) k) o)) (sym (got_updated total
+            (published R t) t.updates k));
+        in_order = subst (IsStrictlySortedBy R) (sym is) (passing_in_order R
+            (is_other R same t.entries) t.updates rising);
       }

@@ -127,9 +127,9 @@ module _ (before after : Chains) (places : List ChainAt)
       → is_some (get m at) ≡ false
   not_there m at h = contains_key-keys m at ∙ h
 
-  none_of : (o : Option (List Rule)) → is_some o ≡ false → o ≡ None
+  none_of : {X : Type 0} (o : Option X) → is_some o ≡ false → o ≡ None
   none_of None h = refl
-  none_of (Some rules) h = absurd (cc)
+  none_of (Some x) h = absurd (cc)
 
   no_write : (o : Option (List Rule)) (at : ChainAt) → get before at ≡ o
       → write_if_found before at o ≡ None

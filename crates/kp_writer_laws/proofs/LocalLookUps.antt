@@ -55,7 +55,7 @@ look_ups_are_local setting infos at matters none = found_among setting at matter
 
 module _ (at : ChainAt) where
   -- rows for the same places, so that a look-up finds a row of both or of neither
-  abbrev Alike : List Row → List Row → Type 0
+  abbrev Alike : List (ChainAt × List Rule) → List (ChainAt × List Rule) → Type 0
   Alike [] ws = Unit {0}
   Alike (f ∷ fs) [] = ⊥
   Alike (f ∷ fs) (w ∷ ws) = (w.0 ≡ f.0) × Alike fs ws
