@@ -1,0 +1,2 @@
+mod BlockValues
+pub mod JoinedChains
