@@ -30,7 +30,7 @@ unfolding IsStrictlySortedBy
 rises [] h = tt
 rises (k ∷ ks) h = (
   all_weaker (λ l. order.ghosts.cmp k l ≡ Less) (λ l. port_key_cmp k l
-  ≡ Less) (λ l is. sym (port_key_matches k l) ∙ is) ks h.0,
+      ≡ Less) (λ l is. sym (port_key_matches k l) ∙ is) ks h.0,
   rises ks h.1,
 )
 

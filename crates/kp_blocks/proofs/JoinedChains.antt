@@ -1,8 +1,8 @@
 -- The fixed chains of the full table, the shared ones among them, are joined from all ports'
 -- blocks.
-use Rattle.std.proofs.Common.{◌≡◌, ◌&&◌, Bool, true, false, cond, codes, List, [], ◌∷◌, ◌++◌, map}
-use Rattle.std.proofs.Common.{flat_map, Option, Some, None, is_some, refl, sym, ap, subst, ◌∙◌}
-use Rattle.std.proofs.Common.{append-nil, append_assoc}
+use Rattle.std.proofs.Common.{◌≡◌, ◌&&◌, Bool, true, false, cond, List, [], ◌∷◌, ◌++◌, map}
+use Rattle.std.proofs.Common.{flat_map, Option, Some, is_some, refl, sym, ap, ◌∙◌}
+use Rattle.std.proofs.Common.{append-nil}
 use Rattle.std.specs.Ordering.{eq_by_cmp, is_lt}
 use Rattle.std.specs.FinMap.{entries, entries_sorted, find, from_entries, get, get-entries}
 use Rattle.std.specs.FinMap.{get-from_entries, is_sorted, values}
@@ -20,7 +20,6 @@ use Rattle.kp_types.specs.Rules.{rule_of}
 use Rattle.kp_types.specs.Setting.{Setting}
 use Rattle.kp_types.specs.declared.rule.Target.TheVariants as target
 use Rattle.kp_types.specs.declared.chain.ChainAt.{ChainAt}
-use Rattle.kp_types.specs.declared.chain.TableName.TheVariants.{Nat, Filter}
 use Rattle.kp_types.specs.declared.rule.Rule.{Rule}
 use Rattle.kp_types.specs.declared.rule.ChainText.{ChainText}
 use Rattle.kp_types.proofs.ChainOrder.{chain_total, chain_exact}
@@ -28,7 +27,7 @@ use Rattle.kp_object_defs.specs.PortInfo.{PortInfo}
 use Rattle.kp_table_defs.specs.Layout as layout
 use Rattle.kp_table_laws.specs.Laws.{AreInOrder}
 use Rattle.kp_blocks.specs.Joined.{JoinedChainsAreTheTables, block_rules, blocks_by_port}
-use Rattle.kp_blocks.specs.Joined.{fixed_chains, joined_rules, port_block, rules_if_found}
+use Rattle.kp_blocks.specs.Joined.{fixed_chains, port_block, rules_if_found}
 use Rattle.kp_blocks.specs.Joined.{with_rules}
 
 abbrev Row : Type 0
@@ -103,19 +102,25 @@ module _ (setting : Setting) (infos : List PortInfo) where
     -- a row without rules of ports
     plain : (r : Row) → ((i : PortInfo) → block_rules r.0 (port_block setting i) ≡ [])
         → with_rules r.1 [] ≡ r.1 → RowFits at mine r r
-    plain r none whole = (refl, λ is.
-        sym (ap (with_rules r.1)
-        (ap (λ q. flat_map (block_rules q) blocks) is
-        ∙ rules_of r.0 nothing none infos ∙ no_rules infos) ∙ whole))
+    plain r none whole = (
+      refl,
+      λ is.
+          sym (ap (with_rules r.1)
+          (ap (λ q. flat_map (block_rules q) blocks) is
+          ∙ rules_of r.0 nothing none infos ∙ no_rules infos) ∙ whole),
+    )
 
     -- a row with rules of ports
     shared : (place : ChainAt) (fixed rules : List Rule) (g : PortInfo → List Rule)
         → ((i : PortInfo) → block_rules place (port_block setting i) ≡ g i ++ [])
         → with_rules fixed (flat_map g infos) ≡ rules
         → RowFits at mine (place, fixed) (place, rules)
-    shared place fixed rules g each whole = (refl, λ is.
-        sym (ap (with_rules fixed)
-        (ap (λ q. flat_map (block_rules q) blocks) is ∙ rules_of place g each infos) ∙ whole))
+    shared place fixed rules g each whole = (
+      refl,
+      λ is.
+          sym (ap (with_rules fixed)
+          (ap (λ q. flat_map (block_rules q) blocks) is ∙ rules_of place g each infos) ∙ whole),
+    )
 
 -- ---- The rows of the table
 
@@ -140,40 +145,98 @@ module _ (setting : Setting) (infos : List PortInfo) (at : ChainAt) where
 
   all_fit : (family : Family)
       → Fit at (mine (s family) infos at) (fixed family) (rows_in (s family) infos)
-  all_fit V4 =
-      (plain (s V4) infos at _ (λ i. refl) refl,
-      (plain (s V4) infos at _ (λ i. refl) refl,
-      (plain (s V4) infos at _ (λ i. refl) refl,
-      (plain (s V4) infos at _ (λ i. refl) refl,
-      (plain (s V4) infos at _ (λ i. refl) refl,
-      (plain (s V4) infos at _ (λ i. refl) refl,
-      (shared (s V4) infos at _ [] _ (layout.node_port_block (s V4)) (λ i. refl) (append-nil _),
-      (shared (s V4) infos at _ (jump V4 ∷ []) _ (layout.service_block (s V4)) (λ i. refl) refl,
-      (plain (s V4) infos at _ (λ i. refl) refl,
-      (plain (s V4) infos at _ (λ i. refl) refl,
-      (plain (s V4) infos at _ (λ i. refl) refl,
-      (plain (s V4) infos at _ (λ i. refl) refl,
-      (shared (s V4) infos at _ [] _ (layout.firewall_block) (λ i. refl) (append-nil _),
-      (shared (s V4) infos at _ [] _ (layout.external_block V4) (λ i. refl) (append-nil _),
-      (shared (s V4) infos at _ [] _ (layout.refusal_block) (λ i. refl) (append-nil _),
-      tt)))))))))))))))
-  all_fit V6 =
-      (plain (s V6) infos at _ (λ i. refl) refl,
-      (plain (s V6) infos at _ (λ i. refl) refl,
-      (plain (s V6) infos at _ (λ i. refl) refl,
-      (plain (s V6) infos at _ (λ i. refl) refl,
-      (plain (s V6) infos at _ (λ i. refl) refl,
-      (plain (s V6) infos at _ (λ i. refl) refl,
-      (shared (s V6) infos at _ [] _ (layout.node_port_block (s V6)) (λ i. refl) (append-nil _),
-      (shared (s V6) infos at _ (jump V6 ∷ []) _ (layout.service_block (s V6)) (λ i. refl) refl,
-      (plain (s V6) infos at _ (λ i. refl) refl,
-      (plain (s V6) infos at _ (λ i. refl) refl,
-      (plain (s V6) infos at _ (λ i. refl) refl,
-      (plain (s V6) infos at _ (λ i. refl) refl,
-      (shared (s V6) infos at _ [] _ (layout.firewall_block) (λ i. refl) (append-nil _),
-      (shared (s V6) infos at _ [] _ (layout.external_block V6) (λ i. refl) (append-nil _),
-      (shared (s V6) infos at _ [] _ (layout.refusal_block) (λ i. refl) (append-nil _),
-      tt)))))))))))))))
+  all_fit V4 = (
+    plain (s V4) infos at _ (λ i. refl) refl,
+    (
+      plain (s V4) infos at _ (λ i. refl) refl,
+      (
+        plain (s V4) infos at _ (λ i. refl) refl,
+        (
+          plain (s V4) infos at _ (λ i. refl) refl,
+          (
+            plain (s V4) infos at _ (λ i. refl) refl,
+            (
+              plain (s V4) infos at _ (λ i. refl) refl,
+              (
+                shared (s V4) infos at _ [] _ (layout.node_port_block (s V4)) (λ i. refl) (append-nil _),
+                (
+                  shared (s V4) infos at _ (jump V4 ∷ []) _ (layout.service_block (s V4)) (λ i. refl) refl,
+                  (
+                    plain (s V4) infos at _ (λ i. refl) refl,
+                    (
+                      plain (s V4) infos at _ (λ i. refl) refl,
+                      (
+                        plain (s V4) infos at _ (λ i. refl) refl,
+                        (
+                          plain (s V4) infos at _ (λ i. refl) refl,
+                          (
+                            shared (s V4) infos at _ [] _ (layout.firewall_block) (λ i. refl) (append-nil _),
+                            (
+                              shared (s V4) infos at _ [] _ (layout.external_block V4) (λ i. refl) (append-nil _),
+                              (
+                                shared (s V4) infos at _ [] _ (layout.refusal_block) (λ i. refl) (append-nil _),
+                                tt,
+                              ),
+                            ),
+                          ),
+                        ),
+                      ),
+                    ),
+                  ),
+                ),
+              ),
+            ),
+          ),
+        ),
+      ),
+    ),
+  )
+  all_fit V6 = (
+    plain (s V6) infos at _ (λ i. refl) refl,
+    (
+      plain (s V6) infos at _ (λ i. refl) refl,
+      (
+        plain (s V6) infos at _ (λ i. refl) refl,
+        (
+          plain (s V6) infos at _ (λ i. refl) refl,
+          (
+            plain (s V6) infos at _ (λ i. refl) refl,
+            (
+              plain (s V6) infos at _ (λ i. refl) refl,
+              (
+                shared (s V6) infos at _ [] _ (layout.node_port_block (s V6)) (λ i. refl) (append-nil _),
+                (
+                  shared (s V6) infos at _ (jump V6 ∷ []) _ (layout.service_block (s V6)) (λ i. refl) refl,
+                  (
+                    plain (s V6) infos at _ (λ i. refl) refl,
+                    (
+                      plain (s V6) infos at _ (λ i. refl) refl,
+                      (
+                        plain (s V6) infos at _ (λ i. refl) refl,
+                        (
+                          plain (s V6) infos at _ (λ i. refl) refl,
+                          (
+                            shared (s V6) infos at _ [] _ (layout.firewall_block) (λ i. refl) (append-nil _),
+                            (
+                              shared (s V6) infos at _ [] _ (layout.external_block V6) (λ i. refl) (append-nil _),
+                              (
+                                shared (s V6) infos at _ [] _ (layout.refusal_block) (λ i. refl) (append-nil _),
+                                tt,
+                              ),
+                            ),
+                          ),
+                        ),
+                      ),
+                    ),
+                  ),
+                ),
+              ),
+            ),
+          ),
+        ),
+      ),
+    ),
+  )
 
 -- ---- Blocks in order of ports
 

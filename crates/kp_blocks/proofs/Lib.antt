@@ -1,2 +1,3 @@
 mod BlockValues
 pub mod JoinedChains
+mod PutBehind

@@ -1,8 +1,9 @@
 //! Blocks of rules by port, and shared chains joined from them.
-ghost use Rattle.std.specs.Prelude.{◌≡◌, ◌++◌, IfOk, OnOk, OnErr};
+ghost use Rattle.std.specs.Prelude.{◌≡◌, ◌++◌, map, IfOk, OnOk, OnErr};
 ghost use Rattle.std.specs.BTreeMap.{IsOrdered, values};
 ghost use Rattle.std.specs.FinMap as finite;
 ghost use Rattle.std.specs.List.{flat_map};
+ghost use Rattle.std.specs.Map.Iter.{deref_pair};
 ghost use Rattle.kp_base.specs.contracts.key.PortKeyOrd.TheImpl as order;
 ghost use Rattle.kp_base.specs.declared.address.Family.TheVariants.{V4};
 ghost use Rattle.kp_blocks.specs.Joined as spec;
@@ -137,4 +138,27 @@ fn add_rules(rules: &mut Vec<Rule>, more: &[Rule]) -> Result<(), NoMemory>
         rules.push(rule.same())?;
     }
     Ok(())
+}
+
+/// A copy has the same blocks.
+impl Copied for Blocks {
+    fn copy(&self, alloc: Global) -> Result<Blocks, NoMemory> {
+        blocks_of(alloc, self.ports.iter().collect(alloc)?)
+    }
+}
+
+/// The blocks of ports. Of two of one port the first counts, so it is put last.
+#[tactic(auto, using(crate::proofs::PutBehind::put_into_none))]
+fn blocks_of(
+    alloc: Global,
+    mut ports: Vec<(&PortKey, &Items<ChainText>)>,
+) -> Result<Blocks, NoMemory>
+    ensures { IfOk result (λ blocks. blocks ≡ finite.from_entries
+        (map deref_pair ports.entry.items)) }
+{
+    let mut blocks = Blocks::new(alloc);
+    while let Some((port, block)) = ports.pop() {
+        blocks.put(alloc, port, block.copy(alloc)?)?;
+    }
+    Ok(blocks)
 }
