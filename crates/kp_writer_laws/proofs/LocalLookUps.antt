@@ -1,17 +1,15 @@
 -- Ports without a chain at a place don't matter to a look-up there.
-use Rattle.std.proofs.Common.{◌≡◌, Bool, true, false, cond, codes, List, [], ◌∷◌, ◌++◌, Contains}
-use Rattle.std.proofs.Common.{filter, flat_map, Option, Some, None, refl, sym, ap, ◌∙◌}
+use Rattle.std.proofs.Common.{◌≡◌, Bool, true, false, cond, List, [], ◌∷◌, Contains}
+use Rattle.std.proofs.Common.{filter, flat_map, Some, None, refl, sym, ap, ◌∙◌}
 use Rattle.std.specs.Ordering.{eq_by_cmp}
 use Rattle.std.specs.FinMap.{find, get-from_entries}
 use Rattle.kp_lemmas.proofs.Members.{first_in, later_in}
-use Rattle.kp_base.specs.declared.address.Family.{Family}
 use Rattle.kp_types.specs.Places.{chain_cmp}
 use Rattle.kp_types.specs.Setting.{Setting}
 use Rattle.kp_types.specs.declared.chain.ChainAt.{ChainAt}
 use Rattle.kp_types.specs.declared.rule.Rule.{Rule}
 use Rattle.kp_types.proofs.ChainOrder.{chain_total}
 use Rattle.kp_object_defs.specs.PortInfo.{PortInfo}
-use Rattle.kp_table_defs.specs.Layout.{filter_rows, filter_rows_with, nat_rows, nat_rows_with}
 use Rattle.kp_table_defs.specs.Layout.{port_rows, rows_of}
 use Rattle.kp_object_defs.proofs.InOrder.{find-append, first_some}
 use Rattle.kp_writer_laws.specs.LocalLaws.{LookUpsAreLocal, TablesAgreeElsewhere, fixed_rows}
