@@ -1,0 +1,3 @@
+mod BlockValues
+pub mod JoinedChains
+mod PutBehind

@@ -1,0 +1,121 @@
+-- Blocks of rules by port, and the chains that are joined from them between the fixed rules.
+use Rattle.std.specs.Prelude.{◌≡◌, ℕ, ◌-◌, Bool, true, false, cond, bytes_eq, List, [], ◌∷◌, ◌++◌}
+use Rattle.std.specs.Prelude.{map, take, drop, length, slice_get, Option, Some, None, is_some}
+use Rattle.std.specs.Coded.{Coded, coded_list}
+use Rattle.std.specs.List.{flat_map}
+use Rattle.std.specs.FinMap as finite
+use Rattle.kp_base.specs.Keys.{port_key_cmp}
+use Rattle.kp_base.specs.contracts.key.PortKey as key_row
+use Rattle.kp_base.specs.declared.address.Family.{Family}
+use Rattle.kp_types.specs.Setting.{Setting}
+use Rattle.kp_types.specs.contracts.chain.ChainAtPartialEq.TheImpl as same
+use Rattle.kp_types.specs.contracts.rule.ChainText as text_row
+use Rattle.kp_types.specs.declared.chain.ChainAt.{ChainAt}
+use Rattle.kp_types.specs.declared.rule.ChainText.{ChainText}
+use Rattle.kp_types.specs.declared.rule.Rule.{Rule}
+use Rattle.kp_types.specs.declared.rule.Target.{Target}
+use Rattle.kp_types.specs.declared.rule.Target.TheVariants as target
+use Rattle.kp_object_defs.specs.PortInfo.{PortInfo}
+use Rattle.kp_table_defs.specs.Layout as layout
+use Rattle.kp_table_defs.specs.Rebuild.{Chains, full_chains}
+use Rattle.kp_table_laws.specs.Laws.{AreInOrder}
+
+-- the blocks of ports: the rules of each in the shared chains
+abbrev pub BlocksByPort : Type 0
+BlocksByPort = finite.FinMap port_key_cmp (List ChainText)
+
+-- they are stored as finite maps are
+abbrev pub blocks_code : Coded BlocksByPort
+blocks_code = finite.code key_row.the_row.coded (coded_list text_row.the_row.coded)
+
+-- the chains of a table of no ports
+abbrev pub fixed_chains : Family → Chains
+fixed_chains family =
+    finite.from_entries (layout.nat_rows_with family [] [] ++ layout.filter_rows_with family [] []
+    [])
+
+-- a chain's rules, where there is one
+abbrev pub rules_if_found : Option (List Rule) → List Rule
+rules_if_found None = []
+rules_if_found (Some rules) = rules
+
+-- the fixed rules of a chain
+abbrev pub fixed_rules : Family → ChainAt → List Rule
+fixed_rules family at = rules_if_found (finite.get (fixed_chains family) at)
+
+-- whether a target is KUBE-NODEPORTS
+abbrev pub is_node_ports : Target → Bool
+is_node_ports (target.Jump chain) = bytes_eq chain layout.kube_node_ports
+is_node_ports target.Return = false
+is_node_ports target.Accept = false
+is_node_ports target.Drop = false
+is_node_ports target.Reject = false
+is_node_ports target.SetMark = false
+is_node_ports target.FlipMark = false
+is_node_ports (target.Dnat e) = false
+is_node_ports target.Masquerade = false
+
+-- whether a rule jumps there
+abbrev pub goes_to_node_ports : Rule → Bool
+goes_to_node_ports r = is_node_ports r.target
+
+-- the same of a rule that was found
+abbrev pub is_jump_found : Option Rule → Bool
+is_jump_found None = false
+is_jump_found (Some r) = goes_to_node_ports r
+
+-- how many of a chain's fixed rules stand before those of ports
+abbrev pub place_of_ports : List Rule → ℕ
+place_of_ports rules =
+    cond (is_jump_found (slice_get rules (length rules - 1))) (length rules - 1) (length rules)
+
+-- fixed rules with those of ports among them
+abbrev pub with_rules : List Rule → List Rule → List Rule
+with_rules fixed rules =
+    take (place_of_ports fixed) fixed ++ rules ++ drop (place_of_ports fixed) fixed
+
+-- a chain's rules, where it stands at a place
+abbrev pub rules_at : ChainAt → ChainText → List Rule
+rules_at at c = cond (same.ghosts.eq c.at at) c.rules []
+
+-- a block's rules in a chain
+abbrev pub block_rules : ChainAt → List ChainText → List Rule
+block_rules at block = flat_map (rules_at at) block
+
+-- A chain that is joined from the blocks: its fixed rules but the last jump to KUBE-NODEPORTS, the
+-- blocks' rules in order of ports, and that jump, where the chain has it.
+abbrev pub joined_rules : Family → BlocksByPort → ChainAt → List Rule
+joined_rules family blocks at =
+    with_rules (fixed_rules family at) (flat_map (block_rules at) (finite.values blocks))
+
+-- a chain with its rules, as the program makes it
+abbrev pub text_of : ChainAt × List Rule → ChainText
+text_of row = record { at = row.0; rules = row.1 }
+
+-- a port's rules in each shared chain
+abbrev pub port_block : Setting → PortInfo → List ChainText
+port_block setting i =
+    map text_of (
+    layout.row (layout.nat_table setting.family) layout.kube_services
+    (layout.service_block setting i)
+    ∷ layout.row (layout.nat_table setting.family) layout.kube_node_ports
+    (layout.node_port_block setting i)
+    ∷ layout.row (layout.filter_table setting.family) layout.kube_proxy_firewall
+    (layout.firewall_block i)
+    ∷ layout.row (layout.filter_table setting.family) layout.kube_external_services
+    (layout.external_block setting.family i)
+    ∷ layout.row (layout.filter_table setting.family) layout.kube_services (layout.refusal_block i)
+    ∷ [])
+
+-- the blocks of ports, by their names
+abbrev pub blocks_by_port : Setting → List PortInfo → BlocksByPort
+blocks_by_port setting infos = finite.from_entries (map (λ i. (i.key, port_block setting i)) infos)
+
+-- The fixed chains of the full table, the shared ones among them, are joined from all ports'
+-- blocks.
+abbrev pub JoinedChainsAreTheTables : Type 0
+JoinedChainsAreTheTables =
+    (setting : Setting) (infos : List PortInfo) (at : ChainAt) → AreInOrder infos
+    → is_some (finite.get (fixed_chains setting.family) at) ≡ true
+    → finite.get (full_chains setting infos) at
+    ≡ Some (joined_rules setting.family (blocks_by_port setting infos) at)

@@ -1,0 +1,2 @@
+pub mod LocalChanges
+pub mod LocalLookUps
