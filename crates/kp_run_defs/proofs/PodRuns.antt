@@ -1,5 +1,5 @@
 -- Runs whose events are about pods alone: there is no Service, so there is no clash.
-use Rattle.std.proofs.Common.{◌≡◌, ◌≤◌, ◌+◌, ℕ, zero, suc, List, [], ◌∷◌, map, take, Option, None, refl, sym, ap, subst, ◌∙◌}
+use Rattle.std.proofs.Common.{◌≡◌, ℕ, zero, suc, List, [], ◌∷◌, map, take, Option, None, refl, ap, ◌∙◌}
 use Rattle.std.specs.List.{fold}
 use Rattle.std.specs.FinMap as finite
 use Rattle.kp_base.specs.Keys.{key_cmp}
@@ -27,7 +27,8 @@ none_in : {B : Type 0} (f : Service → B)
 none_in f = ap (λ es. map f (map (λ e. e.1) es)) (entries_in_order key_total [])
 
 -- without a Service there is no clash
-pub no_clash : (setting : Setting) (o : Objects) → o.services ≡ finite.empty → clash_of setting o ≡ None
+pub no_clash : (setting : Setting) (o : Objects) → o.services ≡ finite.empty
+    → clash_of setting o ≡ None
 no_clash setting o h =
     ap (λ services. clash_of setting (record o { services = services })) h
     ∙ ap (clash_with setting o) (none_in _)

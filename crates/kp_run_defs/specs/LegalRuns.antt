@@ -3,7 +3,7 @@
 -- syncs or sends a packet shows. A run is legal where the journal is what the streams feed, each
 -- record has a table, and no line shows what its stream couldn't have seen. How streams, syncs and
 -- packets came about in threads is no part of it.
-use Rattle.std.specs.Prelude.{◌≡◌, ◌≤◌, ◌+◌, ◌==◌, ◌&&◌, ◌⊎◌, nat_lt, nat_le, ℕ, suc, max, Bool, true, false, List, [], ◌∷◌, length, take, sum, count_by, Option, Some, None, is_some}
+use Rattle.std.specs.Prelude.{◌≡◌, ◌≤◌, ◌+◌, ◌&&◌, nat_lt, nat_le, ℕ, suc, max, Bool, true, false, List, length, take, sum, count_by, Option, Some, None, is_some}
 use Rattle.std.specs.List.{AllByRecursion, filter, fold, list_all}
 use Rattle.kp_types.specs.Setting.{Setting}
 use Rattle.kp_types.specs.declared.chain.Clash.{Clash}
@@ -58,7 +58,8 @@ chains_at run n = chains_covered (setting_in run) (events_in run) run.counts n
 -- the events of a stream in the journal are all that it feeds, in order, numbered from 1
 abbrev pub HasWholeStream : LiveRun → ℕ → Type 0
 HasWholeStream run stream =
-    filter (is_of_stream stream) run.journal ≡ numbered stream 0 (events_of_stream run.reading stream)
+    filter (is_of_stream stream) run.journal
+    ≡ numbered stream 0 (events_of_stream run.reading stream)
 
 -- an event is of a stream that there is
 abbrev pub is_of_some_stream : LiveRun → Fed → Bool
@@ -180,8 +181,8 @@ pub record IsLegalRun (run : LiveRun) : Type 0 where
 
 -- ---- The last table
 
--- Where a legal run ends without a clash, its last table is the full table of the objects after every
--- event of the journal, which has all events of each stream.
+-- Where a legal run ends without a clash, its last table is the full table of the objects after
+-- every event of the journal, which has all events of each stream.
 abbrev pub LastTableIsFull : Type 0
 LastTableIsFull =
     (run : LiveRun) → IsLegalRun run → is_some (final_clash run) ≡ false

@@ -1,7 +1,7 @@
--- What a live run reads (this project's choice): all lines of the input, before anything is run. Each
--- is refused, passed over, or becomes work of its stream. Of the lines that read, those that ask for
--- what isn't for live are refused, then those of one stream too many, then those whose events the
--- journal has no room for. A refused line belongs to no stream.
+-- What a live run reads (this project's choice): all lines of the input, before anything is run.
+-- Each is refused, passed over, or becomes work of its stream. Of the lines that read, those that
+-- ask for what isn't for live are refused, then those of one stream too many, then those whose
+-- events the journal has no room for. A refused line belongs to no stream.
 use Rattle.std.specs.Prelude.{ℕ, suc, ◌+◌, ◌==◌, ◌&&◌, nat_lt, Bool, true, false, List, [], ◌∷◌, ◌++◌, length, not, cond, codes, bytes_eq, position, unwrap_or, is_none, Option, Some, None, Result, Ok, Err}
 use Rattle.std.specs.List.{filter, flat_map, fold, range_with_len}
 use Rattle.kp_base.specs.declared.address.Family.TheVariants.{V4}
@@ -11,7 +11,6 @@ use Rattle.kp_types.specs.declared.event.Event.{Event}
 use Rattle.kp_choice_defs.specs.Settings.{setting_of}
 use Rattle.kp_text_defs.specs.declared.line_refusal.LineRefusal.{LineRefusal}
 use Rattle.kp_text_defs.specs.declared.line_refusal.LineRefusal.TheVariants.{TooLongLine, JournalFull, NotLive, StreamsFull}
-use Rattle.kp_text_defs.specs.declared.packet.PacketLine.{PacketLine}
 use Rattle.kp_text_defs.specs.declared.script.Op.{Op}
 use Rattle.kp_text_defs.specs.declared.script.Op.TheVariants as op
 use Rattle.kp_text_defs.specs.declared.script.ScriptLine.{ScriptLine}
@@ -136,11 +135,13 @@ after_script r line = add_script line (next_line r)
 -- one more line that isn't too long; a blank one is counted and passed over
 abbrev pub after_short : Reading → List ℕ → Reading
 after_short r bytes =
-    cond (is_blank bytes) (record r { number = suc r.number }) (after_script r (line_of bytes r.fresh))
+    cond (is_blank bytes) (record r { number = suc r.number })
+    (after_script r (line_of bytes r.fresh))
 
 -- one more line
 abbrev pub after_live_line : Reading → List ℕ → Reading
-after_live_line r bytes = cond (is_too_long bytes) (after_script r (Err TooLongLine)) (after_short r bytes)
+after_live_line r bytes =
+    cond (is_too_long bytes) (after_script r (Err TooLongLine)) (after_short r bytes)
 
 -- the lines of an input, as they are read
 abbrev pub reading_of : List (List ℕ) → Reading

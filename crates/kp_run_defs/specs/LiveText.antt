@@ -1,11 +1,10 @@
--- The text of a live run (this project's choice): the lines refused while reading, the journal, the
--- records, what each sync and each packet is answered in the order of their lines, how the run ended,
--- and the table of the last record. A packet is answered by the decision on the objects that the
--- record covers which its line shows, with the recent lists of its stream.
-use Rattle.std.specs.Prelude.{ℕ, suc, ◌-◌, Bool, true, false, not, ◌||◌, ◌&&◌, nat_lt, List, [], ◌∷◌, ◌++◌, length, get_or, count_by, Option, Some, None, is_some}
+-- The text of a live run (this project's choice): the lines refused while reading, the journal,
+-- the records, what each sync and each packet is answered in the order of their lines, how the run
+-- ended, and the table of the last record. A packet is answered by the decision on the objects that
+-- the record covers which its line shows, with the recent lists of its stream.
+use Rattle.std.specs.Prelude.{ℕ, suc, Bool, not, ◌||◌, ◌&&◌, nat_lt, List, [], ◌∷◌, ◌++◌, length, get_or, count_by, is_some}
 use Rattle.std.specs.List.{list_any, flat_map, fold, range_with_len}
 use Rattle.std.specs.FinMap as finite
-use Rattle.kp_types.specs.declared.chain.Clash.{Clash}
 use Rattle.kp_types.specs.declared.rule.Edit.{Edit}
 use Rattle.kp_choice_defs.specs.Recent.{RecentParts}
 use Rattle.kp_door_defs.specs.Decision.{Decided, decision_of}
@@ -21,7 +20,6 @@ use Rattle.kp_text_defs.specs.Live.{event_text, record_text, live_sync_text, fin
 use Rattle.kp_text_defs.specs.Refusals.{refusal_text}
 use Rattle.kp_run_defs.specs.AnswerText.{draws_at, walk_at, answer_text}
 use Rattle.kp_run_defs.specs.ReplayText.{no_sources}
-use Rattle.kp_run_defs.specs.LiveLines.{Reading}
 use Rattle.kp_run_defs.specs.declared.live.StreamLine.{StreamLine}
 use Rattle.kp_run_defs.specs.declared.live.Work.{Work}
 use Rattle.kp_run_defs.specs.declared.live.Work.TheVariants.{Feeds, Syncs, Sends}
@@ -38,7 +36,8 @@ refused_text line = refusal_text line.number line.why
 abbrev pub journal_text : List (List ℕ) → ℕ → List Fed → List ℕ
 journal_text streams place [] = []
 journal_text streams place (f ∷ fed) =
-    event_text place (get_or streams f.feeder []) f.number f.event ++ journal_text streams (suc place) fed
+    event_text place (get_or streams f.feeder []) f.number f.event
+    ++ journal_text streams (suc place) fed
 
 -- the edits of the record at place n, from 0
 abbrev pub edits_at : LiveRun → ℕ → List Edit
@@ -68,8 +67,8 @@ decided_at run record_number number p lists =
 -- its walk through the table of the record
 abbrev pub walked_at : LiveRun → ℕ → ℕ → PacketLine → RecentParts → Walked
 walked_at run record_number number p lists =
-    walk_at (λ at. finite.get (chains_at run record_number) at) run.reading.config.addresses number p
-    lists
+    walk_at (λ at. finite.get (chains_at run record_number) at) run.reading.config.addresses
+    number p lists
 
 -- what a packet is answered
 abbrev pub packet_answer : LiveRun → ℕ → ℕ → PacketLine → RecentParts → List ℕ

@@ -1,6 +1,6 @@
--- Worked examples of live runs: how lines are read, one run that is legal, and for each condition of
--- a legal run one that breaks it alone. The lines are given as they were read.
-use Rattle.std.specs.Prelude.{◌≡◌, ◌<◌, ◌-◌, ◌^◌, ℕ, true, false, List, [], ◌∷◌, map, get_or, codes, Some, None, Result, Ok, Err}
+-- Worked examples of live runs: how lines are read, one run that is legal, and for each condition
+-- of a legal run some that break it. The lines are given as they were read.
+use Rattle.std.specs.Prelude.{◌≡◌, ◌<◌, ◌-◌, ◌^◌, ℕ, false, List, [], ◌∷◌, map, get_or, codes, Result, Ok, Err}
 use Rattle.std.proofs.lemmas.List.Elements.{All-nil}
 use Rattle.std.specs.List.{range_with_len}
 use Rattle.kp_base.specs.Net.{v4_address}
@@ -67,13 +67,14 @@ refused number why = record { number = number; why = why }
 -- what isn't for live is refused, is of no stream, and a single stream runs
 abbrev pub NotForLive : Type 0
 NotForLive =
-    let r = reading_of_scripts (by (codes "a") (op.Show Nat) ∷ by (codes "b") (op.Explain sent) ∷ []) in
+    let r = reading_of_scripts
+        (by (codes "a") (op.Show Nat) ∷ by (codes "b") (op.Explain sent) ∷ []) in
     (r.refused
     ≡ refused 1 (NotLive (codes "show")) ∷ refused 2 (NotLive (codes "explain")) ∷ [])
     × (running_streams r ≡ codes "main" ∷ [])
 
--- streams stand in the order of their first lines that are accepted; a configuration makes none, and
--- a line without an event makes one
+-- streams stand in the order of their first lines that are accepted; a configuration makes none,
+-- and a line without an event makes one
 abbrev pub StreamsInOrder : Type 0
 StreamsInOrder =
     (reading_of_scripts

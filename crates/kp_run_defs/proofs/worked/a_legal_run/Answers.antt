@@ -1,4 +1,4 @@
-use Rattle.std.proofs.Common.{◌≡◌, ◌≤◌, ◌+◌, [], ◌∷◌, codes, sum, take, refl, sym, subst, lit≤}
+use Rattle.std.proofs.Common.{◌≤◌, ◌+◌, [], ◌∷◌, codes, sum, take, refl, sym, subst, lit≤}
 use Rattle.kp_run_defs.specs.LiveLines.{setting_read}
 use Rattle.kp_run_defs.specs.LegalRuns.{last_syncs}
 use Rattle.kp_run_defs.specs.WorkedLive.{run_of, two_streams, mixed, whole_counts, fitting}
