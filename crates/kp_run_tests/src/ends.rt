@@ -48,7 +48,14 @@ fn planned_run<R: Threads + Wait + Sync + AllocGlobal>(
     let mut source = MemorySource::new(bytes, 1, failing(alloc, calls.0)?);
     let mut sink = MemorySink::new(alloc, 64, 4096, failing(alloc, calls.1)?)?;
     let words = words_of(alloc, line)?;
-    let status = run(rt, alloc, words.as_slice(), &mut source, &mut sink, &OpenGate);
+    let status = run(
+        rt,
+        alloc,
+        words.as_slice(),
+        &mut source,
+        &mut sink,
+        &OpenGate,
+    );
     let written = Vec::from_slice(alloc, sink.written())?;
     Ok(Ended { status, written })
 }
@@ -65,7 +72,14 @@ fn sure_run<R: Threads + Wait + Sync + AllocGlobal>(
     let mut source = SureSource::new(bytes, piece);
     let mut sink = SureSink::new(alloc, piece, 4096)?;
     let words = words_of(alloc, "kproxy replay --workers=4")?;
-    let status = run(rt, alloc, words.as_slice(), &mut source, &mut sink, &OpenGate);
+    let status = run(
+        rt,
+        alloc,
+        words.as_slice(),
+        &mut source,
+        &mut sink,
+        &OpenGate,
+    );
     let written = Vec::from_slice(alloc, sink.written())?;
     Ok(Ended { status, written })
 }

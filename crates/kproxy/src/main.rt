@@ -52,14 +52,7 @@ fn run_into<W: Write + Drop>(rt: &HostRuntime, words: &[String], writer: W) -> S
 {
     let mut source = RealSource::new(rt.reader());
     let mut sink = RealSink::new(writer);
-    run(
-        rt,
-        rt.alloc(),
-        words,
-        &mut source,
-        &mut sink,
-        &OpenGate,
-    )
+    run(rt, rt.alloc(), words, &mut source, &mut sink, &OpenGate)
 }
 
 /// The program's words, or none where one of them isn't UTF-8: neither fits.
