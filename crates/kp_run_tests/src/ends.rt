@@ -1,5 +1,6 @@
 //! Runs over ends in memory, with their statuses and what was written.
 use crate::inputs::{AFFINITY, Case, ENDPOINTS, RECENT, REFUSED, REJECTED, TERMINATING, case_of};
+use crate::lines::words_of;
 use kp_base::Items;
 use kp_io::{MemorySink, MemorySource, SureSink, SureSource};
 use kp_run::{Status, run};
@@ -12,15 +13,6 @@ use std::test::Fail;
 struct Ended {
     status: Status,
     written: Vec<u8>,
-}
-
-/// Words that stand apart by one space each.
-fn words_of(alloc: Global, line: &str) -> Result<Vec<String>, Fail> {
-    let mut words = Vec::new(alloc);
-    for word in line.split(' ') {
-        words.push(String::from_str(alloc, word)?)?;
-    }
-    Ok(words)
 }
 
 /// The number of one call that fails, or none for 0.
