@@ -21,6 +21,8 @@ mod feeding;
 #[cfg(test)]
 mod listed;
 #[cfg(test)]
+mod ports;
+#[cfg(test)]
 mod pushing;
 #[cfg(test)]
 mod reading;
