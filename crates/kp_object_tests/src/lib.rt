@@ -1,12 +1,9 @@
-//! Tests of what all else stands on (kp_base, kp_types, kp_io, kp_json, kp_words and kp_names, with
-//! worked examples of their definitions); of kp_objects, kp_events and kp_script: texts of objects
-//! and lines of scripts; and of kp_desired, kp_packer and kp_category: one way from a Service and a
-//! pod to a list. What these three answer in other cases is worked out in the crate of worked
-//! examples.
+//! Tests of what all else stands on (kp_base, kp_types, kp_io, kp_json and kp_names, with worked
+//! examples of their definitions); of kp_objects, kp_events and kp_script: texts of objects and
+//! lines of scripts; and of kp_desired, kp_packer and kp_category: one way from a Service and a pod
+//! to a list. What these three answer in other cases is worked out in the crate of worked examples.
 #![tactic(auto)]
 
-#[cfg(test)]
-mod arguments;
 #[cfg(test)]
 mod base;
 #[cfg(test)]

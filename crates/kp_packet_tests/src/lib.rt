@@ -3,12 +3,9 @@
 //! which gives exactly these lines, kp_gen, which gives the lines of a script, kp_rule_text and
 //! kp_restore, which read and print the texts of tables and batches; tests with threads: events
 //! that four feed and one takes, and published tables that two read beside the publisher, or that
-//! one reads who learns what the publisher tells; and a plane that takes events one by one, syncs,
-//! tells its dirty ports and ends.
+//! one reads who learns what the publisher tells.
 #![tactic(auto)]
 
-#[cfg(test)]
-mod answered;
 #[cfg(test)]
 mod batches;
 #[cfg(test)]
@@ -24,7 +21,7 @@ mod feeding;
 #[cfg(test)]
 mod listed;
 #[cfg(test)]
-mod planes;
+mod ports;
 #[cfg(test)]
 mod pushing;
 #[cfg(test)]

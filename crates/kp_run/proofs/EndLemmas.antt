@@ -1,5 +1,5 @@
 -- How a run ends: what was written, and then a flush.
-use Rattle.std.proofs.Common.{◌≡◌, ◌≤◌, arith, ℕ, Bool, true, false, List, [], refl, sym, ◌∙◌, subst, append-nil, take, inl, inr}
+use Rattle.std.proofs.Common.{◌≡◌, ℕ, Bool, true, false, List, [], refl, sym, ◌∙◌, subst, append-nil, take, inl, inr}
 use Rattle.std.specs.Prelude.{Option, Some, None, IfSome}
 use Rattle.std.specs.Io.KnownBytes.{IsAtEnd}
 use Rattle.kp_io.specs.Told.{FromTold, Grows, IsFlushed}
@@ -14,10 +14,7 @@ use Rattle.kp_run.specs.declared.status.Status.TheVariants.{Usage, ReadFault, In
 use Rattle.kp_run.specs.Outcome.{Output, Outside, GrowsFront, WritesAll, WritesEnded, WritesFront, WritesRead, IsTooLong, Ends, EndsWhole, EndsUsage, EndsLine, EndsPrinted, IsStatusOr, status_if, ends_of, source_of, sink_of}
 use Rattle.kp_run.proofs.ComeLemmas.{front_is}
 
--- a count that rose behind an earlier moment rose since then
-later_rose : (w a b : ℕ) → w ≤ a → Rose a b → Rose w b
-later_rose w a b le rose = omega (arith, le, rose)
-
+-- a count that rose after it had stayed rose since the beginning
 same_rose : (w a b : ℕ) → a ≡ w → Rose a b → Rose w b
 same_rose w a b same rose = subst (λ n. Rose n b) same rose
 
@@ -76,22 +73,35 @@ module _ (result : Status) (left end written now later : Option (List ℕ)) (was
       subst (λ s. Ends s first last) (sym h.0) (same_rose w a b sure.1 h.1, fronts_on left written now later front kept)
 
   -- a read failed
-  pub ends_failed : Rose r read → WritesFront left written now → WritesRead left end written now → w ≤ a → Grows now later []
-      → IsStatusOr result ReadFault (IsFlushed flushed later × (b ≡ a)) (Rose a b) → Ends result first last
-  ends_failed rose front given le kept (inl h) =
+  pub ends_failed : Rose r read → WritesFront left written now → WritesRead left end written now
+      → a ≡ w → Grows now later []
+      → IsStatusOr result ReadFault (IsFlushed flushed later × (b ≡ a)) (Rose a b)
+      → Ends result first last
+  ends_failed rose front given same kept (inl h) =
+      subst (λ s. Ends s first last) (sym h.0) (
+        rose,
+        fronts_on left written now later front kept,
+        (read_on INPUT_LIMIT left end written now later given kept, h.1.0, h.1.1 ∙ same),
+      )
+  ends_failed rose front given same kept (inr h) =
       subst (λ s. Ends s first last) (sym h.0)
-      (rose, fronts_on left written now later front kept, (read_on INPUT_LIMIT left end written now later given kept, h.1.0))
-  ends_failed rose front given le kept (inr h) =
-      subst (λ s. Ends s first last) (sym h.0) (later_rose w a b le h.1, fronts_on left written now later front kept)
+      (same_rose w a b same h.1, fronts_on left written now later front kept)
 
   -- the input was too long
-  pub ends_long : IsTooLong left → WritesFront left written now → WritesRead left end written now → w ≤ a → Grows now later []
-      → IsStatusOr result InputTooLong (IsFlushed flushed later × (b ≡ a)) (Rose a b) → Ends result first last
-  ends_long long front given le kept (inl h) =
+  pub ends_long : IsTooLong left → WritesFront left written now → WritesRead left end written now
+      → (read ≡ r) × (a ≡ w) → Grows now later []
+      → IsStatusOr result InputTooLong (IsFlushed flushed later × (b ≡ a)) (Rose a b)
+      → Ends result first last
+  ends_long long front given sure kept (inl h) =
+      subst (λ s. Ends s first last) (sym h.0) (
+        long,
+        sure.0,
+        fronts_on left written now later front kept,
+        (read_on INPUT_LIMIT left end written now later given kept, h.1.0, h.1.1 ∙ sure.1),
+      )
+  ends_long long front given sure kept (inr h) =
       subst (λ s. Ends s first last) (sym h.0)
-      (long, fronts_on left written now later front kept, (read_on INPUT_LIMIT left end written now later given kept, h.1.0))
-  ends_long long front given le kept (inr h) =
-      subst (λ s. Ends s first last) (sym h.0) (later_rose w a b le h.1, fronts_on left written now later front kept)
+      (same_rose w a b sure.1 h.1, fronts_on left written now later front kept)
 
 -- ---- One line
 
@@ -107,12 +117,17 @@ module _ (result : Status) (written now later : Option (List ℕ)) (was flushed 
   at_last = sink_of later flushed b
 
   -- the usage line was written
-  pub usage_ends : Grows written now usage_text → w ≤ a → Grows now later [] → IsStatusOr result Usage (IsFlushed flushed later × (b ≡ a)) (Rose a b) → EndsUsage result at_first at_last
-  usage_ends grown le kept (inl h) =
-      subst (λ s. EndsUsage s at_first at_last) (sym h.0) (grows_on written now later usage_text grown kept, h.1.0)
-  usage_ends grown le kept (inr h) =
+  pub usage_ends : Grows written now usage_text → a ≡ w → Grows now later []
+      → IsStatusOr result Usage (IsFlushed flushed later × (b ≡ a)) (Rose a b)
+      → EndsUsage result at_first at_last
+  usage_ends grown same kept (inl h) =
       subst (λ s. EndsUsage s at_first at_last) (sym h.0)
-      (later_rose w a b le h.1, whole_front usage_text written later (grows_on written now later usage_text grown kept))
+      (grows_on written now later usage_text grown kept, h.1.0, h.1.1 ∙ same)
+  usage_ends grown same kept (inr h) =
+      subst (λ s. EndsUsage s at_first at_last) (sym h.0) (
+        same_rose w a b same h.1,
+        whole_front usage_text written later (grows_on written now later usage_text grown kept),
+      )
 
   -- the one line of a run was written
   pub line_ends : (refused : Bool) (told : Status) (line : List ℕ) → told ≡ status_if refused → Grows written now line → a ≡ w → Grows now later []

@@ -56,17 +56,21 @@ EndsLiveFront old new =
     IfSome old.input.left (λ text. EndsUnwritten old new
     ⊎ WritesLiveFront text old.output.written new.output.written)
 
+-- nothing was written, what there is is flushed, and no write has failed
+abbrev pub EndsUnread : Outside → Outside → Type 0
+EndsUnread old new =
+    EndsUnwritten old new × IsOut new.output × (new.output.faults ≡ old.output.faults)
+
 -- What holds of each status of a live run: where it read its input to its end and wrote all, the
 -- whole text of a legal run was written and flushed, and whether a line was refused is told. Where
 -- memory was wanted or a write failed, nothing or a front of such a text was written. Where reading
--- stopped it, nothing was run or written.
+-- stopped it, nothing was run or written, and no write has failed.
 abbrev pub EndsLive : Status → Outside → Outside → Type 0
 EndsLive Done old new = EndsLiveWhole false old new
 EndsLive LinesRefused old new = EndsLiveWhole true old new
 EndsLive NoMemory old new = EndsLiveFront old new × IsSure old new
 EndsLive Usage old new = ⊥
-EndsLive ReadFault old new =
-    Rose old.input.faults new.input.faults × EndsUnwritten old new × IsOut new.output
+EndsLive ReadFault old new = Rose old.input.faults new.input.faults × EndsUnread old new
 EndsLive WriteFault old new = Rose old.output.faults new.output.faults × EndsLiveFront old new
 EndsLive InputTooLong old new =
-    IsTooLong old.input.left × EndsUnwritten old new × IsOut new.output
+    IsTooLong old.input.left × (new.input.faults ≡ old.input.faults) × EndsUnread old new

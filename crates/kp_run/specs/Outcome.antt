@@ -114,16 +114,18 @@ EndsWhole refused old new =
 abbrev pub EndsFront : Outside → Outside → Type 0
 EndsFront old new = WritesFront old.input.left old.output.written new.output.written
 
--- exactly the text of the lines was written that ended in what was read, and it is flushed
+-- exactly the text of the lines was written that ended in what was read, it is flushed, and no write has failed
 abbrev pub EndsRead : Outside → Outside → Type 0
 EndsRead old new =
-    WritesRead old.input.left new.input.left old.output.written new.output.written × IsOut new.output
+    WritesRead old.input.left new.input.left old.output.written new.output.written
+    × IsOut new.output × (new.output.faults ≡ old.output.faults)
 
 -- What holds of each status: where the run read its input to its end and wrote all, the whole text was written
 -- and flushed, whether a line was refused is told, and no read or write has failed; else a front of that text was
 -- written, and where reading stopped the run, it is the text of the lines that were read to their end, flushed. A
--- fault of a read or a write is told only where the count of faults rose, an input that is too long only where it
--- is, and want of memory, which is free else, only where no read or write has failed.
+-- fault of a read is told only where the count of its faults rose and no write has failed, one of a write only where
+-- the count of its faults rose, an input that is too long only where it is and nothing has failed, and want of
+-- memory, which is free else, only where nothing has failed.
 abbrev pub Ends : Status → Outside → Outside → Type 0
 Ends Done old new = EndsWhole false old new
 Ends LinesRefused old new = EndsWhole true old new
@@ -132,7 +134,9 @@ Ends Usage old new = ⊥
 Ends ReadFault old new =
     Rose old.input.faults new.input.faults × EndsFront old new × EndsRead old new
 Ends WriteFault old new = Rose old.output.faults new.output.faults × EndsFront old new
-Ends InputTooLong old new = IsTooLong old.input.left × EndsFront old new × EndsRead old new
+Ends InputTooLong old new =
+    IsTooLong old.input.left × (new.input.faults ≡ old.input.faults) × EndsFront old new
+    × EndsRead old new
 
 -- the status of an input that was read to its end
 abbrev pub status_if : Bool → Status
@@ -143,9 +147,13 @@ status_if false = Done
 abbrev pub IsStatusOr : Status → Status → Type 0 → Type 0 → Type 0
 IsStatusOr result given P Q = ((result ≡ given) × P) ⊎ ((result ≡ WriteFault) × Q)
 
--- how a run ends that writes the usage line: it was written and flushed, or a write failed behind a front of it
+-- a line was written and flushed, and nothing failed
+abbrev pub EndsPrinted : List ℕ → Output → Output → Type 0
+EndsPrinted line old new = Grows old.written new.written line × IsOut new × (new.faults ≡ old.faults)
+
+-- how a run ends that writes the usage line: it was written and flushed, or a write failed after a front of it
 abbrev pub EndsUsage : Status → Output → Output → Type 0
-EndsUsage Usage old new = Grows old.written new.written usage_text × IsOut new
+EndsUsage Usage old new = EndsPrinted usage_text old new
 EndsUsage WriteFault old new =
     Rose old.faults new.faults × GrowsFront old.written new.written usage_text
 EndsUsage Done old new = ⊥
@@ -161,10 +169,6 @@ EndsUnserved NoMemory old new = new ≡ old
 EndsUnserved status old new = EndsUsage status old new
 
 -- ---- The generator
-
--- the line was written and flushed, and nothing failed
-abbrev pub EndsPrinted : List ℕ → Output → Output → Type 0
-EndsPrinted line old new = Grows old.written new.written line × IsOut new × (new.faults ≡ old.faults)
 
 -- how a run ends that writes one line: it was written and flushed, and whether a line of the script was refused is
 -- told, or a write failed, or memory was wanted and no write failed, behind a front of it

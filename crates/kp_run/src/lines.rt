@@ -48,7 +48,10 @@ fn replay_all<S: Source, K: Sink>(alloc: Global, source: &mut S, sink: &mut K) -
     ensures read { result ≡ Err Stop.Read → Rose (S.faults source.old) (S.faults source.new) }
     ensures memory { result ≡ Err Stop.NoMemory → (S.faults source.new ≡ S.faults source.old)
         × (K.faults sink.new ≡ K.faults sink.old) }
+    ensures read_sure { result ≡ Err Stop.Read → K.faults sink.new ≡ K.faults sink.old }
     ensures long { result ≡ Err Stop.InputTooLong → outcome.IsTooLong (S.left source.old) }
+    ensures long_sure { result ≡ Err Stop.InputTooLong
+        → (S.faults source.new ≡ S.faults source.old) × (K.faults sink.new ≡ K.faults sink.old) }
     ensures ended_read { result ≡ Err Stop.Read → outcome.WritesRead
         (S.left source.old) (S.left source.new) (K.written sink.old) (K.written sink.new) }
     ensures ended_long { result ≡ Err Stop.InputTooLong → outcome.WritesRead
@@ -99,7 +102,10 @@ fn replay_lines<S: Source, K: Sink>(
     ensures read { result ≡ Err Stop.Read → Rose (S.faults source.old) (S.faults source.new) }
     ensures memory { result ≡ Err Stop.NoMemory → (S.faults source.new ≡ S.faults source.old)
         × (K.faults sink.new ≡ K.faults sink.old) }
+    ensures read_sure { result ≡ Err Stop.Read → K.faults sink.new ≡ K.faults sink.old }
     ensures long { result ≡ Err Stop.InputTooLong → outcome.IsTooLong (S.left source.old) }
+    ensures long_sure { result ≡ Err Stop.InputTooLong
+        → (S.faults source.new ≡ S.faults source.old) × (K.faults sink.new ≡ K.faults sink.old) }
     ensures ended_read { result ≡ Err Stop.Read → outcome.WritesRead
         (S.left source.old) (S.left source.new) (K.written sink.old) (K.written sink.new) }
     ensures ended_long { result ≡ Err Stop.InputTooLong → outcome.WritesRead

@@ -1,5 +1,6 @@
 //! Runs over ends in memory, with their statuses and what was written.
 use crate::inputs::{AFFINITY, Case, ENDPOINTS, RECENT, REFUSED, REJECTED, TERMINATING, case_of};
+use crate::lines::words_of;
 use kp_base::Items;
 use kp_gate::OpenGate;
 use kp_io::{MemorySink, MemorySource, SureSink, SureSource};
@@ -15,15 +16,6 @@ use std::thread::Threads;
 struct Ended {
     status: Status,
     written: Vec<u8>,
-}
-
-/// Words that stand apart by one space each.
-fn words_of(alloc: Global, line: &str) -> Result<Vec<String>, Fail> {
-    let mut words = Vec::new(alloc);
-    for word in line.split(' ') {
-        words.push(String::from_str(alloc, word)?)?;
-    }
-    Ok(words)
 }
 
 /// The number of one call that fails, or none for 0.
@@ -154,5 +146,26 @@ fn a_failed_write_ends_behind_a_front(rt: HostRuntime) -> Result<(), Fail> {
     }
     let whole = planned_run(&rt, "kproxy replay", &case.input, (0, 6))?;
     assert!(rt; is_end(&whole, Status::Done, &case.printed));
+    Ok(())
+}
+
+/// The line that is written where the words don't fit.
+const USAGE: &str =
+    "usage: kproxy replay [--workers N] | kproxy live | kproxy gen SEED SERVICES PODS\n";
+
+/// A flush that fails is told, after a failed read and after the usage line too.
+#[test]
+fn a_failed_flush_is_told_after_any_end(rt: HostRuntime) -> Result<(), Fail> {
+    let whole = case_of(rt.alloc(), ENDPOINTS, 100)?;
+    // the line of the sync is one write, so the flush is the second call
+    let front = case_of(rt.alloc(), ENDPOINTS, 4)?;
+    let read = front.input.len() as u64 + 1;
+    let unread = planned_run(&rt, "kproxy replay", &whole.input, (read, 2))?;
+    assert!(rt; is_end(&unread, Status::WriteFault, &front.printed));
+    // the usage line is two writes, of 64 bytes and of 17
+    let usage = planned_run(&rt, "kproxy help", "", (0, 3))?;
+    assert!(rt; is_end(&usage, Status::WriteFault, USAGE));
+    let whole = planned_run(&rt, "kproxy help", "", (0, 4))?;
+    assert!(rt; is_end(&whole, Status::Usage, USAGE));
     Ok(())
 }

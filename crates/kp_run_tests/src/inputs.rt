@@ -1,5 +1,6 @@
 //! Worked inputs, with what each line prints behind it. A line that begins with a space goes on
 //! with the line before.
+use crate::lines::{push_line, unfolded};
 use std::alloc::Global;
 use std::test::Fail;
 
@@ -15,7 +16,7 @@ pub(crate) fn case_of(alloc: Global, rows: &str, most: u64) -> Result<Case, Fail
     let mut input = String::new(alloc);
     let mut printed = String::new(alloc);
     let mut number = 0u64;
-    for row in rows.replace(alloc, "\n ", "")?.lines() {
+    for row in unfolded(alloc, rows)?.lines() {
         let text = match row.strip_prefix("=> ") {
             Some(_) => &mut printed,
             None => {
@@ -24,8 +25,7 @@ pub(crate) fn case_of(alloc: Global, rows: &str, most: u64) -> Result<Case, Fail
             }
         };
         if number <= most {
-            text.push_str(row.strip_prefix("=> ").unwrap_or(row))?;
-            text.push('\n')?;
+            push_line(text, row.strip_prefix("=> ").unwrap_or(row))?;
         }
     }
     Ok(Case { input, printed })

@@ -10,7 +10,7 @@ returns-in-Ok g c =
     usage_ends c.flushed.result (g.K.Sink.written c.args.sink.now) (g.K.Sink.written c.write_text.new.sink) (g.K.Sink.written c.flushed.new.sink) (g.K.Sink.flushed c.args.sink.now) (g.K.Sink.flushed c.flushed.new.sink)
     (g.K.Sink.faults c.args.sink.now) (g.K.Sink.faults c.write_text.new.sink) (g.K.Sink.faults c.flushed.new.sink)
     (subst (Grows (g.K.Sink.written c.args.sink.now) (g.K.Sink.written c.write_text.new.sink)) (c.as_bytes.ensures.value ∙ c.usage_text.ensures) c.in-Ok.ensures.whole)
-    c.in-Ok.ensures.later c.flushed.ensures.kept c.flushed.ensures.cases
+    c.in-Ok.ensures.sure c.flushed.ensures.kept c.flushed.ensures.cases
 
 pub returns-in-Err : goal.returns-in-Err
 returns-in-Err g c = (

@@ -13,10 +13,10 @@ pub returns-in-Err-Read : goal.returns-in-Err-Read
 returns-in-Err-Read g c =
     ends_failed c.flushed-in-Err-Read.result (g.S.Source.left c.args.source.now) (g.S.Source.left c.replay_all.new.source) (g.K.Sink.written c.args.sink.now) (g.K.Sink.written c.replay_all.new.sink) (g.K.Sink.written c.flushed-in-Err-Read.new.sink) (g.K.Sink.flushed c.args.sink.now) (g.K.Sink.flushed c.flushed-in-Err-Read.new.sink)
     (g.S.Source.faults c.args.source.now) (g.S.Source.faults c.replay_all.new.source) (g.K.Sink.faults c.args.sink.now) (g.K.Sink.faults c.replay_all.new.sink) (g.K.Sink.faults c.flushed-in-Err-Read.new.sink)
-    (c.in-Err-Read.ensures.read (ap Err c.in-Err-Read.field-0-is)) c.in-Err-Read.ensures.front (c.in-Err-Read.ensures.ended_read (ap Err c.in-Err-Read.field-0-is)) c.in-Err-Read.ensures.later c.flushed-in-Err-Read.ensures.kept c.flushed-in-Err-Read.ensures.cases
+    (c.in-Err-Read.ensures.read (ap Err c.in-Err-Read.field-0-is)) c.in-Err-Read.ensures.front (c.in-Err-Read.ensures.ended_read (ap Err c.in-Err-Read.field-0-is)) (c.in-Err-Read.ensures.read_sure (ap Err c.in-Err-Read.field-0-is)) c.flushed-in-Err-Read.ensures.kept c.flushed-in-Err-Read.ensures.cases
 
 pub returns-in-Err-InputTooLong : goal.returns-in-Err-InputTooLong
 returns-in-Err-InputTooLong g c =
     ends_long c.flushed-in-Err-InputTooLong.result (g.S.Source.left c.args.source.now) (g.S.Source.left c.replay_all.new.source) (g.K.Sink.written c.args.sink.now) (g.K.Sink.written c.replay_all.new.sink) (g.K.Sink.written c.flushed-in-Err-InputTooLong.new.sink) (g.K.Sink.flushed c.args.sink.now) (g.K.Sink.flushed c.flushed-in-Err-InputTooLong.new.sink)
     (g.S.Source.faults c.args.source.now) (g.S.Source.faults c.replay_all.new.source) (g.K.Sink.faults c.args.sink.now) (g.K.Sink.faults c.replay_all.new.sink) (g.K.Sink.faults c.flushed-in-Err-InputTooLong.new.sink)
-    (c.in-Err-InputTooLong.ensures.long (ap Err c.in-Err-InputTooLong.field-0-is)) c.in-Err-InputTooLong.ensures.front (c.in-Err-InputTooLong.ensures.ended_long (ap Err c.in-Err-InputTooLong.field-0-is)) c.in-Err-InputTooLong.ensures.later c.flushed-in-Err-InputTooLong.ensures.kept c.flushed-in-Err-InputTooLong.ensures.cases
+    (c.in-Err-InputTooLong.ensures.long (ap Err c.in-Err-InputTooLong.field-0-is)) c.in-Err-InputTooLong.ensures.front (c.in-Err-InputTooLong.ensures.ended_long (ap Err c.in-Err-InputTooLong.field-0-is)) (c.in-Err-InputTooLong.ensures.long_sure (ap Err c.in-Err-InputTooLong.field-0-is)) c.flushed-in-Err-InputTooLong.ensures.kept c.flushed-in-Err-InputTooLong.ensures.cases

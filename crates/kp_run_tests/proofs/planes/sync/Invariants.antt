@@ -1,4 +1,4 @@
-use Rattle.kp_packet_tests.proofs.planes.sync.Given as goal
+use Rattle.kp_run_tests.proofs.planes.sync.Given as goal
 
 -- each ledger is that of its blank
 abbrev pub ghosts-synced-L-Ledger : goal.ghosts-synced-L-Ledger

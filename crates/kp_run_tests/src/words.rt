@@ -1,15 +1,12 @@
 //! Words of the command line that fit, and words that don't.
+use crate::lines::words_of;
 use kp_words::{Mode, read_words};
 use std::alloc::Global;
 use std::test::Fail;
 
-/// What the words of a line say, which stand apart by one space each.
+/// What the words of a line say.
 fn mode_of(alloc: Global, line: &str) -> Result<Option<Mode>, Fail> {
-    let mut words = Vec::new(alloc);
-    for word in line.split(' ') {
-        words.push(String::from_str(alloc, word)?)?;
-    }
-    Ok(read_words(alloc, words.as_slice())?)
+    Ok(read_words(alloc, words_of(alloc, line)?.as_slice())?)
 }
 
 /// The generator with these numbers.

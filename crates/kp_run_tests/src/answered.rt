@@ -1,12 +1,11 @@
 //! Lines that are answered from a table: by the draws of a list and of a seed, with their trails
 //! and without, and by what the recent lists remember.
-use crate::tables::{push_line, table_of};
-use crate::transcript::op_of;
+use crate::lines::{op_of, push_line};
 use kp_answers::{Snapshot, draw_at};
 use kp_base::{Address, Items, NoMemory};
 use kp_recent::RecentLists;
 use kp_report::push_answer;
-use kp_restore::Table;
+use kp_restore::{Table, TextFault, read_table};
 use kp_script::{Op, PacketLine};
 use kp_walker::can_walk;
 use std::alloc::Global;
@@ -133,9 +132,14 @@ fn push_wanted(asked: Asked, row: &str, wanted: &mut String) -> Result<(), NoMem
     }
 }
 
+/// The table of the rules. A call with a long contract is behind a function that has none.
+fn table(alloc: Global) -> Result<Table, TextFault> {
+    read_table(alloc, RULES.as_bytes())
+}
+
 /// Whether all lines are answered as they should be.
 fn are_answered(alloc: Global, asked: Asked) -> Result<bool, Fail> {
-    let table = table_of(alloc, RULES)?;
+    let table = table(alloc).ok().ok_or("a table")?;
     let mut printed = String::new(alloc);
     let mut wanted = String::new(alloc);
     follow(alloc, &table, asked, &mut printed, &mut wanted)?;
