@@ -1,4 +1,5 @@
 pub mod Codes
 pub mod Given
+pub mod LiveOutcome
 pub mod Outcome
 pub mod Sums

@@ -8,21 +8,27 @@ use crate::generated::generate;
 use crate::lines::replay_one;
 use crate::status::Status;
 use kp_base::NoMemory;
+use kp_gate::Gate;
 use kp_gen::ScriptPlan;
 use kp_io::{Sink, Source};
 use kp_words::{Mode, read_words};
 use std::alloc::Global;
+use std::sync::Wait;
+use std::thread::Threads;
 
 /// Runs the program on its words, of which the first is its name. For `replay` it reads the lines
 /// of the source to its end, and writes what they print to the sink; for `gen` it writes the one
 /// line of a generated script; where the words don't fit, or ask for what isn't served yet, it
 /// writes the usage line. It reads the source for `replay` alone. Without memory for the words it
-/// neither reads nor writes.
-pub fn run<S: Source, K: Sink>(
+/// neither reads nor writes. By its runtime it may wait and start threads, as `live` will; calls of
+/// its streams will pass the gate. A replay with one worker is `replay_one`, which does neither.
+pub fn run<S: Source, K: Sink, R: Threads + Wait + Sync, G: Gate<R> + Sync>(
+    _rt: &R,
     alloc: Global,
     words: &[String],
     source: &mut S,
     sink: &mut K,
+    _gate: &G,
 ) -> Status
     ensures ends { outcome.Runs (mode_of (map string_bytes words.now)) result
         (outcome.ends_of (outcome.source_of (S.left source.old) (S.faults source.old))

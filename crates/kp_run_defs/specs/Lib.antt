@@ -1,3 +1,7 @@
 pub mod AnswerText
 pub mod GenText
+pub mod LegalRuns
+pub mod LiveLines
+pub mod LiveText
 pub mod ReplayText
+pub mod WorkedLive

@@ -2,11 +2,14 @@
 use crate::inputs::{AFFINITY, Case, ENDPOINTS, RECENT, REFUSED, REJECTED, TERMINATING, case_of};
 use crate::lines::words_of;
 use kp_base::Items;
+use kp_gate::OpenGate;
 use kp_io::{MemorySink, MemorySource, SureSink, SureSource};
 use kp_run::{Status, run};
 use std::alloc::Global;
 use std::process::Abort;
+use std::sync::Wait;
 use std::test::Fail;
+use std::thread::Threads;
 
 /// How a run ended, and the bytes that it wrote.
 #[derive(Drop)]
@@ -26,24 +29,49 @@ fn failing(alloc: Global, call: u64) -> Result<Items<u64>, Fail> {
 
 /// A run whose reads give one byte each and whose writes take at most so many, and of which one
 /// read and one write fail.
-fn planned_run(alloc: Global, line: &str, input: &str, calls: (u64, u64)) -> Result<Ended, Fail> {
+fn planned_run<R: Threads + Wait + Sync + AllocGlobal>(
+    rt: &R,
+    line: &str,
+    input: &str,
+    calls: (u64, u64),
+) -> Result<Ended, Fail> {
+    let alloc = rt.alloc();
     let bytes = Items::from_vec(Vec::from_slice(alloc, input.as_bytes())?);
     let mut source = MemorySource::new(bytes, 1, failing(alloc, calls.0)?);
     let mut sink = MemorySink::new(alloc, 64, 4096, failing(alloc, calls.1)?)?;
     let words = words_of(alloc, line)?;
-    let status = run(alloc, words.as_slice(), &mut source, &mut sink);
+    let status = run(
+        rt,
+        alloc,
+        words.as_slice(),
+        &mut source,
+        &mut sink,
+        &OpenGate,
+    );
     let written = Vec::from_slice(alloc, sink.written())?;
     Ok(Ended { status, written })
 }
 
 /// A replay over ends that never fail, in pieces of so many bytes.
-fn sure_run(alloc: Global, input: &str, piece: u64) -> Result<Ended, Fail> {
+fn sure_run<R: Threads + Wait + Sync + AllocGlobal>(
+    rt: &R,
+    input: &str,
+    piece: u64,
+) -> Result<Ended, Fail> {
+    let alloc = rt.alloc();
     let piece = piece.max(1);
     let bytes = Items::from_vec(Vec::from_slice(alloc, input.as_bytes())?);
     let mut source = SureSource::new(bytes, piece);
     let mut sink = SureSink::new(alloc, piece, 4096)?;
     let words = words_of(alloc, "kproxy replay --workers=4")?;
-    let status = run(alloc, words.as_slice(), &mut source, &mut sink);
+    let status = run(
+        rt,
+        alloc,
+        words.as_slice(),
+        &mut source,
+        &mut sink,
+        &OpenGate,
+    );
     let written = Vec::from_slice(alloc, sink.written())?;
     Ok(Ended { status, written })
 }
@@ -54,11 +82,15 @@ fn is_end(run: &Ended, status: Status, text: &str) -> bool {
 }
 
 /// A replay of a worked input prints its text, whatever the pieces.
-fn check_whole(rt: &(impl Abort + AllocGlobal), rows: &str, status: Status) -> Result<(), Fail> {
+fn check_whole<R: Abort + Threads + Wait + Sync + AllocGlobal>(
+    rt: &R,
+    rows: &str,
+    status: Status,
+) -> Result<(), Fail> {
     let alloc = rt.alloc();
     let case = case_of(alloc, rows, 100)?;
     for piece in [1u64, 7, 4096] {
-        let whole = sure_run(alloc, &case.input, piece)?;
+        let whole = sure_run(rt, &case.input, piece)?;
         assert!(rt; is_end(&whole, status, &case.printed), "{piece}: {rows}");
     }
     Ok(())
@@ -70,15 +102,19 @@ fn a_replay_prints_its_text_in_any_pieces(rt: HostRuntime) -> Result<(), Fail> {
         check_whole(&rt, rows, Status::Done)?;
     }
     check_whole(&rt, REFUSED, Status::LinesRefused)?;
-    let usage = planned_run(rt.alloc(), "kproxy live", "", (0, 0))?;
+    let usage = planned_run(&rt, "kproxy live", "", (0, 0))?;
     assert!(rt; usage.status == Status::Usage);
     Ok(())
 }
 
 /// The call that reads the byte behind a text fails: exactly the text of its lines is written.
-fn check_read(rt: &(impl Abort + AllocGlobal), whole: &Case, front: &Case) -> Result<(), Fail> {
+fn check_read<R: Abort + Threads + Wait + Sync + AllocGlobal>(
+    rt: &R,
+    whole: &Case,
+    front: &Case,
+) -> Result<(), Fail> {
     let call = front.input.len() as u64 + 1;
-    let stopped = planned_run(rt.alloc(), "kproxy replay", &whole.input, (call, 0))?;
+    let stopped = planned_run(rt, "kproxy replay", &whole.input, (call, 0))?;
     assert!(rt;
         is_end(&stopped, Status::ReadFault, &front.printed),
         "{call}"
@@ -101,14 +137,14 @@ fn a_failed_write_ends_behind_a_front(rt: HostRuntime) -> Result<(), Fail> {
     let case = case_of(rt.alloc(), TERMINATING, 100)?;
     // four writes, and the flush
     for call in 1..6u64 {
-        let stopped = planned_run(rt.alloc(), "kproxy replay", &case.input, (0, call))?;
+        let stopped = planned_run(&rt, "kproxy replay", &case.input, (0, call))?;
         assert!(rt; stopped.status == Status::WriteFault, "{call}");
         assert!(rt;
             case.printed.as_bytes().starts_with(&stopped.written),
             "{call}"
         );
     }
-    let whole = planned_run(rt.alloc(), "kproxy replay", &case.input, (0, 6))?;
+    let whole = planned_run(&rt, "kproxy replay", &case.input, (0, 6))?;
     assert!(rt; is_end(&whole, Status::Done, &case.printed));
     Ok(())
 }
@@ -124,12 +160,12 @@ fn a_failed_flush_is_told_after_any_end(rt: HostRuntime) -> Result<(), Fail> {
     // the line of the sync is one write, so the flush is the second call
     let front = case_of(rt.alloc(), ENDPOINTS, 4)?;
     let read = front.input.len() as u64 + 1;
-    let unread = planned_run(rt.alloc(), "kproxy replay", &whole.input, (read, 2))?;
+    let unread = planned_run(&rt, "kproxy replay", &whole.input, (read, 2))?;
     assert!(rt; is_end(&unread, Status::WriteFault, &front.printed));
     // the usage line is two writes, of 64 bytes and of 17
-    let usage = planned_run(rt.alloc(), "kproxy help", "", (0, 3))?;
+    let usage = planned_run(&rt, "kproxy help", "", (0, 3))?;
     assert!(rt; is_end(&usage, Status::WriteFault, USAGE));
-    let whole = planned_run(rt.alloc(), "kproxy help", "", (0, 4))?;
+    let whole = planned_run(&rt, "kproxy help", "", (0, 4))?;
     assert!(rt; is_end(&whole, Status::Usage, USAGE));
     Ok(())
 }

@@ -1,13 +1,15 @@
 //! Tests of `run` over ends in memory: worked inputs in any pieces, and reads and writes that fail
 //! at a chosen call; and of what `run` alone reaches of the other crates: the words that fit, a plane
-//! that takes events one by one, syncs, tells its dirty ports and ends, and lines that are answered
-//! from a table.
+//! that takes events one by one, syncs, tells its dirty ports and ends, lines that are answered from
+//! a table, and gates: what holds keep, in threads, and for how long.
 #![tactic(auto)]
 
 #[cfg(test)]
 mod answered;
 #[cfg(test)]
 mod ends;
+#[cfg(test)]
+mod gates;
 #[cfg(test)]
 mod inputs;
 #[cfg(test)]

@@ -8,6 +8,7 @@ ghost use Rattle.kp_run.specs.Codes.{code_of};
 ghost use Rattle.kp_run.specs.Outcome.{asks_replay};
 ghost use Rattle.kp_run.specs.declared.status.Status.TheVariants.{Usage};
 
+use kp_gate::OpenGate;
 use kp_io::{RealSink, RealSource};
 use kp_run::{Status, run};
 use std::io::{BufWriter, ErrorKind, IsTerminal, LineWriter, Write};
@@ -51,7 +52,7 @@ fn run_into<W: Write + Drop>(rt: &HostRuntime, words: &[String], writer: W) -> S
 {
     let mut source = RealSource::new(rt.reader());
     let mut sink = RealSink::new(writer);
-    run(rt.alloc(), words, &mut source, &mut sink)
+    run(rt, rt.alloc(), words, &mut source, &mut sink, &OpenGate)
 }
 
 /// The program's words, or none where one of them isn't UTF-8: neither fits.

@@ -1,0 +1,2 @@
+pub mod LastTables
+pub mod PodRuns

@@ -1,0 +1,190 @@
+-- Live runs, as far as they can be read off their text (this project's choice): what was read, the
+-- journal, how many events each record covers more than the one before it, and what each line that
+-- syncs or sends a packet shows. A run is legal where the journal is what the streams feed, each
+-- record has a table, and no line shows what its stream couldn't have seen. How streams, syncs and
+-- packets came about in threads is no part of it.
+use Rattle.std.specs.Prelude.{◌≡◌, ◌≤◌, ◌+◌, ◌&&◌, nat_lt, nat_le, ℕ, suc, max, Bool, true, false, List, length, take, sum, count_by, Option, Some, None, is_some}
+use Rattle.std.specs.List.{AllByRecursion, filter, fold, list_all}
+use Rattle.kp_types.specs.Setting.{Setting}
+use Rattle.kp_types.specs.declared.chain.Clash.{Clash}
+use Rattle.kp_types.specs.declared.event.Event.{Event}
+use Rattle.kp_object_defs.specs.Objects.{objects_after}
+use Rattle.kp_table_defs.specs.Rebuild.{Chains, clash_of, full_table}
+use Rattle.kp_history_defs.specs.History.{chains_covered, objects_covered}
+use Rattle.kp_history_defs.specs.Runs.{events_of, is_of_stream, numbered}
+use Rattle.kp_history_defs.specs.declared.fed.Fed.{Fed}
+use Rattle.kp_run_defs.specs.LiveLines.{Reading, setting_read, lines_of_stream, events_of_stream, places_of}
+use Rattle.kp_run_defs.specs.declared.live.StreamLine.{StreamLine}
+use Rattle.kp_run_defs.specs.declared.live.Work.{Work}
+use Rattle.kp_run_defs.specs.declared.live.Work.TheVariants.{Feeds, Syncs, Sends}
+
+-- ---- Runs
+
+-- what a line that syncs or sends a packet shows: the number of a record, or two chains of one name
+pub data Mark : Type 0 where
+  Shows : ℕ → Mark
+  Refuses : Clash → Mark
+
+-- A run: what was read; the journal, each event with its stream and its number in it; how many
+-- events each record covers more than the one before it; and what lines show, by their numbers.
+pub record LiveRun : Type 0 where
+  pub reading : Reading
+  pub journal : List Fed
+  pub counts : List ℕ
+  pub marks : ℕ → Mark
+
+-- the setting of a run
+abbrev pub setting_in : LiveRun → Setting
+setting_in run = setting_read run.reading
+
+-- the events of its journal
+abbrev pub events_in : LiveRun → List Event
+events_in run = events_of run.journal
+
+-- how many records there are
+abbrev pub records_in : LiveRun → ℕ
+records_in run = length run.counts
+
+-- the clash of the objects after all its events
+abbrev pub final_clash : LiveRun → Option Clash
+final_clash run = clash_of (setting_in run) (objects_after (events_in run))
+
+-- the chains of the table of a record
+abbrev pub chains_at : LiveRun → ℕ → Chains
+chains_at run n = chains_covered (setting_in run) (events_in run) run.counts n
+
+-- ---- The journal and the records
+
+-- the events of a stream in the journal are all that it feeds, in order, numbered from 1
+abbrev pub HasWholeStream : LiveRun → ℕ → Type 0
+HasWholeStream run stream =
+    filter (is_of_stream stream) run.journal
+    ≡ numbered stream 0 (events_of_stream run.reading stream)
+
+-- an event is of a stream that there is
+abbrev pub is_of_some_stream : LiveRun → Fed → Bool
+is_of_some_stream run f = nat_lt f.feeder (length run.reading.streams)
+
+-- the journal has the events of the streams, all of them, and no others
+pub record IsWholeJournal (run : LiveRun) : Type 0 where
+  pub owned : list_all (is_of_some_stream run) run.journal ≡ true
+  pub each : AllByRecursion (HasWholeStream run) (places_of run.reading)
+
+-- the objects of a record have no clash
+abbrev pub HasTable : LiveRun → ℕ → Type 0
+HasTable run n =
+    clash_of (setting_in run) (objects_covered (events_in run) run.counts n) ≡ None
+
+-- The records cover events that there are. They cover all of them, or the objects after all events
+-- have a clash.
+pub record CoverJournal (run : LiveRun) : Type 0 where
+  pub within : sum run.counts ≤ length run.journal
+  pub all : is_some (final_clash run) ≡ false → sum run.counts ≡ length run.journal
+
+-- ---- What lines show
+
+-- a line that syncs
+abbrev pub is_sync : Work → Bool
+is_sync (Feeds events) = false
+is_sync Syncs = true
+is_sync (Sends p) = false
+
+-- the number of a record, for a sync that is accepted
+abbrev pub is_shown : Mark → Bool
+is_shown (Shows n) = true
+is_shown (Refuses clash) = false
+
+-- a line is a sync that is accepted
+abbrev pub is_accepted_sync : LiveRun → StreamLine → Bool
+is_accepted_sync run line = is_sync line.work && is_shown (run.marks line.number)
+
+-- What a stream has seen: how many of its syncs were accepted, the greatest number that its lines
+-- showed, and whether each line could show what it does.
+pub record Seen : Type 0 where
+  pub syncs : ℕ
+  pub most : ℕ
+  pub fits : Bool
+
+-- before its first line
+abbrev pub nothing_seen : Seen
+nothing_seen = record { syncs = 0; most = 0; fits = true }
+
+-- An accepted sync shows a record that exists, of a number that is at least the count of the
+-- stream's accepted syncs.
+abbrev pub seen_sync : ℕ → Mark → Seen → Seen
+seen_sync records (Shows n) s = record {
+  syncs = suc s.syncs;
+  most = max s.most n;
+  fits = s.fits && (nat_le (suc s.syncs) n && nat_le n records);
+}
+seen_sync records (Refuses clash) s = s
+
+-- A packet shows a record that exists, or 0, of a number that is at least all that its stream's
+-- lines showed before.
+abbrev pub seen_packet : ℕ → Mark → Seen → Seen
+seen_packet records (Shows n) s = record s {
+  most = max s.most n;
+  fits = s.fits && (nat_le s.most n && nat_le n records);
+}
+seen_packet records (Refuses clash) s = record s { fits = false }
+
+-- what a stream's work shows
+abbrev pub seen_work : ℕ → Mark → Work → Seen → Seen
+seen_work records mark (Feeds events) s = s
+seen_work records mark Syncs s = seen_sync records mark s
+seen_work records mark (Sends p) s = seen_packet records mark s
+
+-- one more line of the stream
+abbrev pub seen_line : LiveRun → Seen → StreamLine → Seen
+seen_line run s line = seen_work (records_in run) (run.marks line.number) line.work s
+
+-- what a stream has seen at its end
+abbrev pub seen_by : LiveRun → ℕ → Seen
+seen_by run stream = fold (seen_line run) nothing_seen (lines_of_stream run.reading stream)
+
+-- two chains that have one name among the objects after some first events
+abbrev pub IsClash : LiveRun → Clash → Type 0
+IsClash run clash =
+    (n : ℕ) × (clash_of (setting_in run) (objects_after (take n (events_in run))) ≡ Some clash)
+
+-- a line may be refused only by a clash
+abbrev pub IsRefusal : LiveRun → Mark → Type 0
+IsRefusal run (Shows n) = Unit {0}
+IsRefusal run (Refuses clash) = IsClash run clash
+
+-- each line of the list that syncs and is refused names a clash
+abbrev pub HasRefusal : LiveRun → StreamLine → Type 0
+HasRefusal run line = is_sync line.work ≡ true → IsRefusal run (run.marks line.number)
+
+-- how many syncs are accepted by their lines
+abbrev pub accepted_syncs : LiveRun → ℕ
+accepted_syncs run = count_by (is_accepted_sync run) run.reading.lines
+
+-- how many records the sync behind the last line adds
+abbrev pub last_syncs : Option Clash → ℕ
+last_syncs None = 1
+last_syncs (Some clash) = 0
+
+-- ---- Legal runs
+
+-- A run that the rules allow: the journal is what each stream feeds; each record has a table, and
+-- the records cover the journal, or it ends in a clash; each stream's lines show what it may have
+-- seen; each refused sync names a clash of the objects after some first events; and each accepted
+-- sync, also the one that ends the run, has a record of its own.
+pub record IsLegalRun (run : LiveRun) : Type 0 where
+  pub journal : IsWholeJournal run
+  pub tables : (n : ℕ) → n ≤ records_in run → HasTable run n
+  pub covered : CoverJournal run
+  pub seen : list_all (λ stream. (seen_by run stream).fits) (places_of run.reading) ≡ true
+  pub refusals : AllByRecursion (HasRefusal run) run.reading.lines
+  pub enough : accepted_syncs run + last_syncs (final_clash run) ≤ records_in run
+
+-- ---- The last table
+
+-- Where a legal run ends without a clash, its last table is the full table of the objects after
+-- every event of the journal, which has all events of each stream.
+abbrev pub LastTableIsFull : Type 0
+LastTableIsFull =
+    (run : LiveRun) → IsLegalRun run → is_some (final_clash run) ≡ false
+    → chains_at run (records_in run)
+    ≡ (full_table (setting_in run) (objects_after (events_in run))).chains
