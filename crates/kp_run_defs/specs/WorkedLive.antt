@@ -68,7 +68,7 @@ refused number why = record { number = number; why = why }
 abbrev pub NotForLive : Type 0
 NotForLive =
     let r = reading_of_scripts
-        (by (codes "a") (op.Show Nat) ∷ by (codes "b") (op.Explain sent) ∷ []) in
+    (by (codes "a") (op.Show Nat) ∷ by (codes "b") (op.Explain sent) ∷ []) in
     (r.refused
     ≡ refused 1 (NotLive (codes "show")) ∷ refused 2 (NotLive (codes "explain")) ∷ [])
     × (running_streams r ≡ codes "main" ∷ [])

@@ -85,9 +85,46 @@ module _ (at : ChainAt) where
   module _ (setting : Setting) (infos : List PortInfo)
       (none : find chain_cmp at (fixed_rows setting.family) ≡ None) where
     alike : Alike (fixed_rows setting.family) (rows_of setting infos)
-    alike =
-        (refl, (refl, (refl, (refl, (refl, (refl, (refl, (refl, (refl, (refl, (refl, (refl, (refl,
-        (refl, (refl, tt)))))))))))))))
+    alike = (
+      refl,
+      (
+        refl,
+        (
+          refl,
+          (
+            refl,
+            (
+              refl,
+              (
+                refl,
+                (
+                  refl,
+                  (
+                    refl,
+                    (
+                      refl,
+                      (
+                        refl,
+                        (
+                          refl,
+                          (
+                            refl,
+                            (
+                              refl,
+                              (refl, (refl, tt)),
+                            ),
+                          ),
+                        ),
+                      ),
+                    ),
+                  ),
+                ),
+              ),
+            ),
+          ),
+        ),
+      ),
+    )
 
     -- a place that isn't a fixed chain's is looked for among the ports' own chains
     pub found_own : find chain_cmp at (rows_of setting infos)

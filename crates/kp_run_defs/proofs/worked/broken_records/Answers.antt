@@ -11,13 +11,13 @@ returns-clause-too_much c legal = let h : 4 ≤ 3 = legal.covered.within in omeg
 pub returns-clause-too_little : goal.returns-clause-too_little
 returns-clause-too_little c legal =
     let none = no_clash_at_end (setting_read (reading_of_scripts two_streams))
-        (codes "x" ∷ codes "z" ∷ codes "y" ∷ []) in
+    (codes "x" ∷ codes "z" ∷ codes "y" ∷ []) in
     let h : ◌≡◌ {A = ℕ} 2 3 = legal.covered.all (ap is_some none) in omega (arith, h)
 
 pub returns-clause-no_last : goal.returns-clause-no_last
 returns-clause-no_last c legal =
     let none = no_clash_at_end (setting_read (reading_of_scripts two_streams))
-        (codes "x" ∷ codes "z" ∷ codes "y" ∷ []) in
+    (codes "x" ∷ codes "z" ∷ codes "y" ∷ []) in
     let h : 3 ≤ 2 = subst (λ clash. 2 + last_syncs clash ≤ 2) none legal.enough in omega (arith, h)
 
 pub returns-clause-one_for_two : goal.returns-clause-one_for_two
