@@ -1,5 +1,5 @@
 -- What a reader of a live run's lines shows.
-use Rattle.std.specs.Prelude.{ℕ, suc, List, Option, Some, None, Err}
+use Rattle.std.specs.Prelude.{ℕ, List, Option, Some, None, Err}
 use Rattle.std.specs.List.{fold}
 use Rattle.kp_text_defs.specs.declared.line_refusal.LineRefusal.TheVariants.{TooLongLine}
 use Rattle.kp_run_defs.specs.LiveLines.{Reading, nothing_read, after_script, after_short}

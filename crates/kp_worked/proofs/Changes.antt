@@ -14,7 +14,7 @@ use Rattle.kp_types.specs.declared.rule.Rule.{Rule}
 use Rattle.kp_table_defs.specs.Edits.{changes_between, is_found_with}
 use Rattle.kp_table_defs.specs.Layout.{rows_of}
 use Rattle.kp_object_defs.proofs.InOrder.{entries_in_order}
-use Rattle.kp_worked.specs.Counts.{Counts, counted, counts_between, are}
+use Rattle.kp_worked.specs.Counts.{counted, counts_between, are}
 use Rattle.kp_worked.specs.Setting.{setting}
 
 -- chains with their places, in any order

@@ -32,7 +32,7 @@ use Rattle.kp_run_defs.specs.declared.live.Work.{Work}
 use Rattle.kp_run_defs.specs.declared.live.Work.TheVariants.{Feeds, Syncs, Sends}
 use Rattle.kp_run_defs.specs.AnswerText.{draws_at, answer_text}
 use Rattle.kp_run_defs.specs.LegalRuns.{Mark, Shows, Refuses, LiveRun, setting_in, events_in, records_in, final_clash, chains_at}
-use Rattle.kp_run_defs.specs.LiveText.{Answered, decided_at, walked_at, with_packet_at, with_packet, with_work, with_answer, sync_answer, answers_of, nothing_answered, refused_text, journal_text, record_line, record_text_at, records_text, live_lines_text, live_text}
+use Rattle.kp_run_defs.specs.LiveText.{Answered, walked_at, with_packet_at, with_packet, with_work, with_answer, sync_answer, answers_of, nothing_answered, refused_text, journal_text, record_line, record_text_at, live_lines_text, live_text}
 use Rattle.kp_worked.proofs.Changes.{Rows, found, changes_listed, changes_are}
 use Rattle.kp_worked.proofs.Events.{infos_after, infos_after_are}
 

@@ -1,7 +1,7 @@
 -- Worked examples of live runs (this project's choice), from their lines to the text that they
 -- print: of each one run that the rules allow, and one that they don't, since the objects of its
 -- record have a clash. The lines are given as they were read, and all are of the stream main.
-use Rattle.std.specs.Prelude.{◌≡◌, ◌<◌, ◌^◌, ℕ, false, List, [], ◌∷◌, ◌++◌, codes, Some, Result, Ok}
+use Rattle.std.specs.Prelude.{◌≡◌, ◌<◌, ◌^◌, ℕ, false, List, [], ◌∷◌, ◌++◌, codes, Ok}
 use Rattle.std.proofs.Common.{lit≤}
 use Rattle.std.proofs.lemmas.List.Elements.{All-nil}
 use Rattle.kp_base.specs.declared.config.Config.{Config}
@@ -20,7 +20,6 @@ use Rattle.kp_text_defs.specs.declared.stream.Stream.TheVariants.{Main}
 use Rattle.kp_run_defs.specs.declared.live.StreamLine.{StreamLine}
 use Rattle.kp_run_defs.specs.declared.live.Work.{Work}
 use Rattle.kp_run_defs.specs.declared.live.Work.TheVariants.{Feeds, Syncs, Sends}
-use Rattle.kp_run_defs.specs.LiveLines.{reading_of_scripts}
 use Rattle.kp_run_defs.specs.LegalRuns.{Shows, LiveRun, IsLegalRun}
 use Rattle.kp_run_defs.specs.LiveText.{live_text}
 use Rattle.kp_run_defs.specs.WorkedLive.{Read, run_of, fed, refused, IsBroken}

@@ -1,4 +1,4 @@
-use Rattle.std.proofs.Common.{◌≤◌, ◌+◌, ℕ, zero, suc, [], ◌∷◌, ◌++◌, codes, refl, sym, subst, lit≤, arith, ◌∙◌}
+use Rattle.std.proofs.Common.{◌≤◌, ◌+◌, ℕ, zero, suc, [], ◌∷◌, ◌++◌, codes, refl, sym, subst, lit≤, arith}
 use Rattle.std.specs.Fmt.{digits}
 use Rattle.kp_run_defs.specs.LegalRuns.{HasTable, last_syncs}
 use Rattle.kp_worked_runs.specs.Printed.{nat_of_one, filter_with}
