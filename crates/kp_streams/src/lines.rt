@@ -63,6 +63,34 @@ impl StreamLines {
         })
     }
 
+    /// The configuration.
+    pub fn config(&self) -> &Config
+        ensures { result.now ≡ (reading_in self.now).config }
+    {
+        &self.config
+    }
+
+    /// The names of the streams, in the order of their first lines.
+    pub fn streams(&self) -> &[Text]
+        ensures { result.now ≡ (reading_in self.now).streams }
+    {
+        self.streams.as_slice()
+    }
+
+    /// The lines of all streams, in the order of the input.
+    pub fn lines(&self) -> &[StreamLine]
+        ensures { result.now ≡ (reading_in self.now).lines }
+    {
+        self.lines.as_slice()
+    }
+
+    /// The lines that were refused, in the order of the input.
+    pub fn refused(&self) -> &[RefusedLine]
+        ensures { result.now ≡ (reading_in self.now).refused }
+    {
+        self.refused.as_slice()
+    }
+
     /// Reads one more line, of which nothing is given where it is too long. Without memory what was
     /// read is of no more use.
     pub fn take_line(&mut self, alloc: Global, given: Option<&[u8]>) -> Result<(), NoMemory>
