@@ -1,5 +1,5 @@
 -- How far the reading of an input has come, from one line to the next.
-use Rattle.std.proofs.Common.{◌≡◌, ◌+◌, ◌<◌, ◌≤◌, ◌++◌, ℕ, suc, Bool, true, false, cond, List, [], ◌∷◌, length, map, Option, Some, None, IfSome, Result, Ok, Err, refl, ap, sym, subst, ◌∙◌, add-one, length-append, arith}
+use Rattle.std.proofs.Common.{◌≡◌, ◌+◌, ◌≤◌, ◌++◌, ℕ, suc, Bool, true, false, cond, List, [], ◌∷◌, length, map, Option, Some, None, IfSome, Result, Ok, Err, refl, ap, sym, subst, ◌∙◌, add-one, length-append, arith}
 use Rattle.std.specs.Prelude.{nat_lt}
 use Rattle.std.specs.Io.KnownBytes.{IsAtEnd}
 use Rattle.std.specs.List.{fold}
@@ -21,7 +21,7 @@ use Rattle.kp_run_defs.specs.declared.live.Work.TheVariants.{Feeds, Syncs, Sends
 use Rattle.kp_run_defs.specs.LiveLines.{Reading, nothing_read, is_past_streams, events_fed, refuse_line, accept_line, accept_within, add_work, add_op, next_line, after_script, after_short, after_live_line, reading_of}
 use Rattle.kp_run_defs.specs.ReplayText.{is_blank}
 use Rattle.kp_streams.specs.Streams.{after_given, reading_given}
-use Rattle.kp_streams.specs.WholeInput.{HasRead, ReadsWhole, IsTooLong}
+use Rattle.kp_streams.specs.WholeInput.{HasRead, ReadsWhole}
 
 -- ---- Lines and lines as they are given
 
@@ -144,27 +144,3 @@ read_all r old taken input left end after read none takes ended short =
     whole INPUT_LIMIT taken r input end read.given refl read.stands
     (handed_all read.given input (to_come old left) after read.handed none)
     (taken_more old.taken taken input left end read.taken takes) ended short
-
--- an input that lost bytes in two steps, more than a limit in all, is longer than that
-longer : (limit was taken : ℕ) (input left end : Option (List ℕ))
-    → FromTold (LosesTaken 0 was) input left → FromTold (LosesTaken was taken) left end
-    → limit < taken → IfSome input (λ text. limit < length text)
-longer limit was taken None left end before takes h = tt
-longer limit was taken (Some xs) None end before takes h = absurd before
-longer limit was taken (Some xs) (Some ys) None before takes h = absurd takes
-longer limit was taken (Some xs) (Some ys) (Some zs) before takes h =
-    omega (
-      arith,
-      ap length before.front ∙ length-append before.bytes ys,
-      before.size,
-      ap length takes.front ∙ length-append takes.bytes zs,
-      takes.size,
-      h,
-    )
-
--- where more than the limit was taken, the input is too long
-pub read_too_long : (r : Reading) (old : ReaderState) (taken : ℕ)
-    (input left end : Option (List ℕ)) → HasRead r old input left
-    → FromTold (LosesTaken old.taken taken) left end → INPUT_LIMIT < taken → IsTooLong input
-read_too_long r old taken input left end read takes h =
-    longer INPUT_LIMIT old.taken taken input left end read.taken takes h
