@@ -1,5 +1,5 @@
 -- The changes between two tables that are given as lists of chains, by look-ups in the lists.
-use Rattle.std.proofs.Common.{◌≡◌, ℕ, cond, List, ◌++◌, filter, filter_map, Option, Some, None, is_some, ◌==◌, ◌∙◌}
+use Rattle.std.proofs.Common.{◌≡◌, ℕ, cond, List, ◌++◌, filter, filter_map, Option, Some, None, is_some, ◌==◌, ap, ◌∙◌}
 use Rattle.std.specs.FinMap.{find, from_entries, get, get-from_entries}
 use Rattle.kp_object_defs.specs.Order.{in_order}
 use Rattle.kp_object_defs.specs.PortInfo.{PortInfo}
@@ -14,14 +14,15 @@ use Rattle.kp_types.specs.declared.rule.Rule.{Rule}
 use Rattle.kp_table_defs.specs.Edits.{changes_between, is_found_with}
 use Rattle.kp_table_defs.specs.Layout.{rows_of}
 use Rattle.kp_object_defs.proofs.InOrder.{entries_in_order}
-use Rattle.kp_worked.specs.Counts.{Counts, counted, counts_between, are}
+use Rattle.kp_worked.specs.Counts.{counted, counts_between, are}
 use Rattle.kp_worked.specs.Setting.{setting}
 
-abbrev Rows : Type 0
+-- chains with their places, in any order
+abbrev pub Rows : Type 0
 Rows = List (ChainAt × List Rule)
 
 -- the look-up in it
-found : (rows : Rows) → ◌≡◌ {A = ChainAt → Option (List Rule)} (get (from_entries {R = chain_cmp} rows)) (λ q. find chain_cmp q rows)
+pub found : (rows : Rows) → ◌≡◌ {A = ChainAt → Option (List Rule)} (get (from_entries {R = chain_cmp} rows)) (λ q. find chain_cmp q rows)
 found rows = λ i q. get-from_entries chain_total rows q i
 
 -- the changes of one table, by two look-ups and the chains in order
@@ -34,16 +35,23 @@ abbrev changes_by : (ChainAt → Option (List Rule)) → (ChainAt → Option (Li
 changes_by before_at after_at before after =
     table_by before_at after_at before after Nat ++ table_by before_at after_at before after Filter
 
--- the counts of the changes between two lists of chains
-abbrev pub counts_by : Rows → Rows → Counts
-counts_by before after =
-    counted (changes_by (λ q. find chain_cmp q before) (λ q. find chain_cmp q after) (in_order chain_cmp before) (in_order chain_cmp after))
+-- the changes from one list of chains to another
+abbrev pub changes_listed : Rows → Rows → List Edit
+changes_listed before after =
+    changes_by (λ q. find chain_cmp q before) (λ q. find chain_cmp q after)
+    (in_order chain_cmp before) (in_order chain_cmp after)
 
-by_lists : (before after : Rows) → counted (changes_between (from_entries before) (from_entries after)) ≡ counts_by before after
-by_lists before after = λ i. counted (changes_by (found before i) (found after i) (entries_in_order chain_total before i) (entries_in_order chain_total after i))
+-- they are those of the tables
+pub changes_are : (before after : Rows)
+    → changes_between (from_entries before) (from_entries after) ≡ changes_listed before after
+changes_are before after =
+    λ i. changes_by (found before i) (found after i) (entries_in_order chain_total before i)
+    (entries_in_order chain_total after i)
 
--- the counts between the full tables of ports
+-- the counts of the changes between the full tables of ports
 pub counts_are : (before after : List PortInfo) {written removed : ℕ}
-    → counts_by (rows_of setting before) (rows_of setting after) ≡ are written removed
+    → counted (changes_listed (rows_of setting before) (rows_of setting after))
+    ≡ are written removed
     → counts_between before after ≡ are written removed
-counts_are before after h = by_lists (rows_of setting before) (rows_of setting after) ∙ h
+counts_are before after h =
+    ap counted (changes_are (rows_of setting before) (rows_of setting after)) ∙ h

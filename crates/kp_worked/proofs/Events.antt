@@ -23,6 +23,8 @@ use Rattle.kp_object_defs.specs.Order.{in_order, values_of}
 use Rattle.kp_object_defs.specs.PortInfo.{PortInfo, infos_from, port_infos}
 use Rattle.kp_object_defs.proofs.InOrder.{entries_in_order}
 use Rattle.kp_worked.proofs.MapLists.{without, removed_are}
+use Rattle.kp_types.specs.Setting.{FamilyConfig}
+use Rattle.kp_types.specs.declared.info.ServiceSources.{ServiceSources}
 use Rattle.kp_types.specs.declared.verdict.Verdict.{Verdict}
 use Rattle.kp_worked.specs.Events.{verdict_after}
 use Rattle.kp_worked.specs.Decisions.{decided}
@@ -74,41 +76,68 @@ steps_are l [] = refl
 steps_are l (e ∷ es) = ap (λ o. fold objects_step o es) (step_is l e) ∙ steps_are (step l e) es
 
 -- the objects after events
-abbrev listed_after : List Event → Listed
-listed_after events = fold step (record { services = []; slices = []; pods = []; nodes = [] }) events
+abbrev pub listed_after : List Event → Listed
+listed_after events =
+    fold step (record { services = []; slices = []; pods = []; nodes = [] }) events
 
 -- ---- Ports
 
--- what is known of the ports, by the objects in order and the nodes that look-ups find
-abbrev infos_by : List Service → List Slice → List Pod → (ObjectKey → Option Node) → List PortInfo
-infos_by services slices pods node =
-    infos_from V4 setting.config.node
-    (option_and_then (λ n. n.zone) (node (node_key setting.config.node)))
-    (map (λ s. cond (is_reconciled setting.config s)
-    (record { service = s; wanted = desired_from V4 (λ name. option_and_then (λ n. n.zone) (node (node_key name))) s pods; slices = unmanaged (filter (is_of_service s.key) slices) })
-    (record { service = s; wanted = []; slices = filter (is_of_service s.key) slices })) services)
+-- the zone of a node that a look-up finds
+abbrev zone_by : (ObjectKey → Option Node) → List ℕ → Option (List ℕ)
+zone_by node name = option_and_then (λ n. n.zone) (node (node_key name))
+
+-- what a Service is made of, by the objects in order and the nodes that look-ups find
+abbrev sources_by : FamilyConfig → List Slice → List Pod → (ObjectKey → Option Node) → Service
+    → ServiceSources
+sources_by config slices pods node s =
+    cond (is_reconciled config s)
+    (record {
+      service = s;
+      wanted = desired_from V4 (zone_by node) s pods;
+      slices = unmanaged (filter (is_of_service s.key) slices);
+    })
+    (record { service = s; wanted = []; slices = filter (is_of_service s.key) slices })
+
+-- what is known of the ports
+abbrev infos_by : FamilyConfig → List Service → List Slice → List Pod → (ObjectKey → Option Node)
+    → List PortInfo
+infos_by config services slices pods node =
+    infos_from V4 config.node (zone_by node config.node)
+    (map (sources_by config slices pods node) services)
 
 abbrev pub in_key_order : {X : Type 0} → List (ObjectKey × X) → List X
 in_key_order es = values_of (in_order key_cmp es)
 
-pub values_are : {X : Type 0} (es : List (ObjectKey × X)) → finite.values (finite.from_entries {R = key_cmp} es) ≡ in_key_order es
+pub values_are : {X : Type 0} (es : List (ObjectKey × X))
+    → finite.values (finite.from_entries {R = key_cmp} es) ≡ in_key_order es
 values_are es = ap (map (λ e. e.1)) (entries_in_order key_total es)
 
-pub found_are : {X : Type 0} (es : List (ObjectKey × X)) → ◌≡◌ {A = ObjectKey → Option X} (finite.get (finite.from_entries {R = key_cmp} es)) (λ q. finite.find key_cmp q es)
+pub found_are : {X : Type 0} (es : List (ObjectKey × X))
+    → ◌≡◌ {A = ObjectKey → Option X} (finite.get (finite.from_entries {R = key_cmp} es))
+    (λ q. finite.find key_cmp q es)
 found_are es = λ i q. finite.get-from_entries key_total es q i
 
-infos_are : (l : Listed) → port_infos V4 setting.config (as_objects l) ≡ infos_by (in_key_order l.services) (in_key_order l.slices) (in_key_order l.pods) (λ q. finite.find key_cmp q l.nodes)
-infos_are l = λ i. infos_by (values_are l.services i) (values_are l.slices i) (values_are l.pods i) (found_are l.nodes i)
+-- the same by objects that are given as lists
+abbrev infos_listed : FamilyConfig → Listed → List PortInfo
+infos_listed config l =
+    infos_by config (in_key_order l.services) (in_key_order l.slices) (in_key_order l.pods)
+    (λ q. finite.find key_cmp q l.nodes)
 
--- what is known of the ports after events
-abbrev infos_after : List Event → List PortInfo
-infos_after events =
-    let l = listed_after events in
-    infos_by (in_key_order l.services) (in_key_order l.slices) (in_key_order l.pods) (λ q. finite.find key_cmp q l.nodes)
+infos_are : (config : FamilyConfig) (l : Listed)
+    → port_infos V4 config (as_objects l) ≡ infos_listed config l
+infos_are config l =
+    λ i. infos_by config (values_are l.services i) (values_are l.slices i) (values_are l.pods i)
+    (found_are l.nodes i)
 
-infos_after_are : (events : List Event) → port_infos V4 setting.config (objects_after events) ≡ infos_after events
-infos_after_are events = ap (port_infos V4 setting.config) (steps_are _ events) ∙ infos_are (listed_after events)
+-- what is known of the ports after events, under a configuration
+abbrev pub infos_after : FamilyConfig → List Event → List PortInfo
+infos_after config events = infos_listed config (listed_after events)
+
+pub infos_after_are : (config : FamilyConfig) (events : List Event)
+    → port_infos V4 config (objects_after events) ≡ infos_after config events
+infos_after_are config events =
+    ap (port_infos V4 config) (steps_are _ events) ∙ infos_are config (listed_after events)
 
 -- a verdict after events
-pub verdict_is : (events : List Event) (draws : List ℕ) {v : Verdict} → (decided (infos_after events) (to_web other_pod) draws).verdict ≡ v → verdict_after events draws ≡ v
-verdict_is events draws h = ap (λ ports. (decided ports (to_web other_pod) draws).verdict) (infos_after_are events) ∙ h
+pub verdict_is : (events : List Event) (draws : List ℕ) {v : Verdict} → (decided (infos_after setting.config events) (to_web other_pod) draws).verdict ≡ v → verdict_after events draws ≡ v
+verdict_is events draws h = ap (λ ports. (decided ports (to_web other_pod) draws).verdict) (infos_after_are setting.config events) ∙ h

@@ -1,0 +1,36 @@
+use Rattle.std.proofs.Common.{◌≤◌, ◌+◌, ℕ, zero, suc, [], ◌∷◌, ◌++◌, codes, refl, sym, subst, lit≤, arith}
+use Rattle.std.specs.Fmt.{digits}
+use Rattle.kp_run_defs.specs.LegalRuns.{HasTable, last_syncs}
+use Rattle.kp_worked_runs.specs.Printed.{nat_of_one, filter_with}
+use Rattle.kp_worked_runs.specs.Runs.{synced}
+use Rattle.kp_worked_runs.proofs.ByLists.{clash_is, final_is, prints}
+use Rattle.kp_worked_runs.proofs.worked_sync.Goals as goal
+
+-- its records have tables
+tables : (n : ℕ) → n ≤ 2 → HasTable synced n
+tables zero h = clash_is synced 0
+tables (suc zero) h = clash_is synced 1
+tables (suc (suc zero)) h = clash_is synced 2
+tables (suc (suc (suc n))) h = absurd (omega (arith, h))
+
+pub returns-clause-legal : goal.returns-clause-legal
+returns-clause-legal c = record {
+  journal = record { owned = refl; each = (refl, tt) };
+  tables = tables;
+  covered = record { within = lit≤ tt; all = λ h. refl };
+  seen = refl;
+  refusals = (λ h. tt, (λ h. tt, (λ h. tt, (λ h. tt, tt))));
+  enough = subst (λ clash. 1 + last_syncs clash ≤ 2) (sym (final_is synced)) (lit≤ tt);
+}
+
+pub returns-clause-prints : goal.returns-clause-prints
+unfolding digits
+returns-clause-prints c =
+    prints synced
+    (codes "event 1: main 1 apply Service default/web"
+    ∷ codes "event 2: main 2 apply EndpointSlice default/web-x"
+    ∷ codes "record 1: events 2, written 3, removed 0"
+    ∷ codes "record 2: events 0, written 0, removed 0"
+    ∷ codes "sync 4: record 1" ∷ codes "packet 5 at 1: to 10.244.1.2:8080"
+    ∷ codes "final: record 2" ∷ [])
+    (nat_of_one (codes "10.244.1.2") ++ filter_with []) refl refl
