@@ -16,7 +16,9 @@ def trimmed:
         without(.status.containerStatuses) | without(.status.initContainerStatuses)
         | . as $whole
         | try (.spec |= (with_only("nodeName", "containers")
-            | if has("containers") then .containers |= map(with_only("name", "ports")) else . end))
+            | if (.containers | type) == "array" then
+                .containers |= map(if type == "object" then with_only("name", "ports") else . end)
+              else . end))
           catch $whole
       elif .kind == "Node" then
         without(.status.images)
