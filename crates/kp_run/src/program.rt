@@ -19,8 +19,8 @@ use std::thread::Threads;
 /// Runs the program on its words, of which the first is its name. For `replay` it reads the lines
 /// of the source to its end, and writes what they print to the sink; for `gen` it writes the one
 /// line of a generated script; where the words don't fit, or ask for what isn't served yet, it
-/// writes the usage line. It reads the source for `replay` alone. Without memory for the words it
-/// neither reads nor writes. By its runtime it may wait and start threads, as `live` will; calls of
+/// writes the usage line. It reads the source for `replay` alone. Without memory for words that ask
+/// for neither it writes nothing. By its runtime it may wait and start threads, as `live` will; calls of
 /// its streams will pass the gate. A replay with one worker is `replay_one`, which does neither.
 pub fn run<S: Source, K: Sink, R: Threads + Wait + Sync, G: Gate<R> + Sync>(
     _rt: &R,
