@@ -45,7 +45,8 @@ def is_setting_of_proxy:
 def proxy_setting:
     def unquoted: capture("^(?:\"(?<a>[^\"]*)\"|'(?<b>[^']*)'|(?<c>[^#]*?))\\s*(?:#.*)?$")
         | .a // .b // .c;
-    reduce (split("\n")[] | capture("^(?<indent>\\s*)(?<name>\\w+):\\s*(?<value>.*?)\\s*$")) as $it ({};
+    reduce (split("\n")[]
+        | capture("^(?<indent>\\s*)(?<name>\\w+):\\s*(?<value>.*?)\\s*$")) as $it ({};
         ($it.value | unquoted? // "") as $value
         | if $it.indent == "" then .section = $it.name | .[$it.name] = $value
           elif .section == "iptables" and $it.name == "masqueradeAll" then .masqueradeAll = $value
@@ -56,8 +57,7 @@ def note:
     if is_setting_of_proxy then
         ["proxy", ((.data["config.conf"] | proxy_setting)? // {})]
     elif is_read | not then
-        ["other", (if type == "object" then (.kind // "none" | tostring), (.apiVersion // "none" | tostring)
-            else empty end)]
+        ["other", (select(type == "object") | .kind, .apiVersion | . // "none" | tostring)]
     elif .kind == "Node" then
         ["node", (.metadata.name? // null),
             [(.status.addresses[] | select(.type == "InternalIP") | .address | strings)?]]
@@ -83,7 +83,8 @@ def is_range: test("^(" + v4 + "/(3[0-2]|[12]?[0-9])|" + v6 + "/[0-9]{1,3})$");
 
 # the arguments as they are used: addresses, range, masquerade_all, controller; or a fault
 def given($addresses; $range; $masquerade_all; $controller):
-    {addresses: ($addresses | split(" ") | map(select(. != ""))), $range, $masquerade_all, $controller}
+    {addresses: ($addresses | split(" ") | map(select(. != "")))}
+    + {$range, $masquerade_all, $controller}
     | .fault = ([(.addresses[] | select(is_address | not) | "\(.) is no address"),
         ($range | select(. != "") | split(",")[] | select(is_range | not)
             | "\(.) is no range of addresses")] | first);
@@ -102,18 +103,21 @@ def ranges: (. // "") | split(",") | map(gsub("\\s"; "") | select(is_range))
     | {v4: map(select(contains(":") | not)) | first, v6: map(select(contains(":"))) | first};
 
 def said_of_addresses($node; $given):
-    (.[] | select(is_address | not) | "the InternalIP \(tojson) of \($node) is no address: left out"),
+    (.[] | select(is_address | not)
+        | "the InternalIP \(tojson) of \($node) is no address: left out"),
     (map(select(is_address)) + $given.addresses
         | "nodeAddresses: \(if . == [] then "none" else some_of end)"
             + (if $given.addresses == [] then
-                "; those of bridges and the like aren't in the API: --address adds them" else "" end));
+                "; those of bridges and the like aren't in the API: --address adds them"
+                else "" end));
 
 # $proxy: kube-proxy's setting or null; $range: the one that the line has, or null
 def said_of_range($proxy; $range; $given):
     (if $range != null then empty
      elif $proxy == null then
-        "kube-proxy's ConfigMap didn't come: without --cluster-cidr no source counts as a Pod's"
-     else "kube-proxy has no IPv4 clusterCIDR: without --cluster-cidr no source counts as a Pod's" end),
+        "kube-proxy's ConfigMap didn't come"
+     else "kube-proxy has no IPv4 clusterCIDR" end
+        | "\(.): without --cluster-cidr no source counts as a Pod's"),
     (($given.range, $proxy.clusterCIDR?) | ranges.v6 | select(. != null)
         | "the range \(.) is left out: the tables are of IPv4"),
     ($proxy.clusterCIDR? | ranges.v4 | select(. != null and . != $range)
@@ -121,9 +125,9 @@ def said_of_range($proxy; $range; $given):
 
 def said_of_mode($proxy):
     ($proxy.mode? | select(IN(null, "", "iptables") | not)
-        | "kube-proxy runs in mode \(.): the answers are those of mode iptables"),
+        | "kube-proxy runs in mode \(shown): the answers are those of mode iptables"),
     ($proxy.detectLocalMode? | select(IN(null, "", "ClusterCIDR") | not)
-        | "kube-proxy detects local traffic by \(.): the answers do by clusterCIDR");
+        | "kube-proxy detects local traffic by \(shown): the answers do by clusterCIDR");
 
 # $sliced: the Services that have slices, as members of an object
 def said_of_services($sliced; $controller):
@@ -132,7 +136,8 @@ def said_of_services($sliced; $controller):
             | .name | select(in($sliced) | not))
         | select(. != []) | "Services without an EndpointSlice: \(some_of)"),
     (map(select(.clusterIP | strings | contains(":")) | .name)
-        | select(. != []) | "Services whose clusterIP is of IPv6, which are passed over: \(some_of)");
+        | select(. != [])
+        | "Services whose clusterIP is of IPv6, which are passed over: \(some_of)");
 
 def said_of_others:
     group_by(.[1:])[]
@@ -161,8 +166,9 @@ def setting($node; $given):
             ($nodes[$node] | said_of_addresses($node; $given)),
             said_of_range($proxy; $range; $given),
             said_of_mode($proxy),
-            (if $sliced == {} then "no EndpointSlices came: endpoints come from Pods" else empty end),
-            (notes_of("service") | map({name: .[1]} + .[2]) | said_of_services($sliced; $controller)),
+            ($sliced | select(. == {}) | "no EndpointSlices came: endpoints come from Pods"),
+            (notes_of("service") | map({name: .[1]} + .[2])
+                | said_of_services($sliced; $controller)),
             (notes_of("other") | said_of_others)]}
       end;
 

@@ -13,11 +13,13 @@ use kp_io::{RealSink, RealSource};
 use kp_run::{Status, run};
 use std::io::{BufWriter, ErrorKind, IsTerminal, LineWriter, Write};
 use std::process::ExitCode;
+use std::sync::Wait;
+use std::thread::Threads;
 use std::{env, io};
 
 fn main(rt: HostRuntime) -> ExitCode {
     // Before the run begins nothing fails but for want of memory.
-    let status = run_here(&rt).unwrap_or(Status::NoMemory);
+    let status = run_here(&rt, &rt).unwrap_or(Status::NoMemory);
     if let Some(why) = complaint(status) {
         // Where standard error takes nothing, the status alone tells it.
         let _ = eprintln!(rt; "kproxy: {why}");
@@ -33,26 +35,39 @@ fn exit_of(status: Status) -> ExitCode
 }
 
 /// Runs the program over standard input and output. On a terminal each line comes at once, and
-/// elsewhere in pieces, which cost less.
-fn run_here(rt: &HostRuntime) -> io::Result<Status> {
+/// elsewhere in pieces, which cost less. The runtime comes twice, since only where it is handed in
+/// by itself may threads be started by it.
+fn run_here<R: Threads + Wait + Sync>(rt: &HostRuntime, threads: &R) -> io::Result<Status> {
     let alloc = rt.alloc();
     let words = words_of(rt)?;
     if rt.stdout().is_terminal() {
         let writer = LineWriter::new(alloc, io::writer(rt))?;
-        Ok(run_into(rt, words.as_slice(), writer))
+        Ok(run_into(rt, threads, words.as_slice(), writer))
     } else {
         let writer = BufWriter::new(alloc, io::writer(rt))?;
-        Ok(run_into(rt, words.as_slice(), writer))
+        Ok(run_into(rt, threads, words.as_slice(), writer))
     }
 }
 
 /// Runs the program on its words over standard input and a writer.
-fn run_into<W: Write + Drop>(rt: &HostRuntime, words: &[String], writer: W) -> Status
+fn run_into<W: Write + Drop, R: Threads + Wait + Sync>(
+    rt: &HostRuntime,
+    threads: &R,
+    words: &[String],
+    writer: W,
+) -> Status
     ensures { asks_replay (mode_of (map string_bytes words.now)) ≡ true → result ≡ Usage → ⊥ }
 {
     let mut source = RealSource::new(rt.reader());
     let mut sink = RealSink::new(writer);
-    run(rt, rt.alloc(), words, &mut source, &mut sink, &OpenGate)
+    run(
+        threads,
+        rt.alloc(),
+        words,
+        &mut source,
+        &mut sink,
+        &OpenGate,
+    )
 }
 
 /// The program's words, or none where one of them isn't UTF-8: neither fits.
