@@ -9,10 +9,11 @@ use Rattle.kp_text_defs.specs.declared.script.Op.{Op}
 use Rattle.kp_text_defs.specs.declared.script.Op.TheVariants as op
 use Rattle.kp_text_defs.specs.declared.script.Shown.TheVariants.{Nat}
 use Rattle.kp_text_defs.specs.ScriptLines.{line_of}
+use Rattle.kp_run_defs.specs.LiveLines.{Reading, reading_of}
 use Rattle.kp_run_defs.specs.WorkedLive.{Read}
 use Rattle.kp_worked.specs.Setting.{config, first, second}
 use Rattle.kp_worked.specs.Events.{apply_web}
-use Rattle.kp_worked_runs.specs.Runs.{main, plain, apply_slice, feeds, sent}
+use Rattle.kp_worked_runs.specs.Runs.{main, plain, apply_slice, feeds, sent, showing}
 
 -- the configuration, with more members
 abbrev pub config_with : List ℕ → List ℕ
@@ -121,3 +122,16 @@ ConfigReads = op_in config_in (line_of (config_with []) true) ≡ Some (told_by 
 -- of the same with names of chains of their prefixes alone
 abbrev pub PlainReads : Type 0
 PlainReads = op_in config_in (line_of plain_text true) ≡ Some (told_by plain)
+
+-- ---- A whole input
+
+-- what is shown and the Service, behind a configuration
+abbrev pub typed : Reading
+typed = reading_of (config_with [] ∷ show_text ∷ web_text ∷ [])
+
+-- it reads as its worked run does
+abbrev pub InputReads : Type 0
+InputReads =
+    (typed.lines ≡ showing.reading.lines) × (typed.refused ≡ showing.reading.refused)
+    × (typed.streams ≡ showing.reading.streams)
+    × (told_by typed.config ≡ told_by showing.reading.config)

@@ -48,4 +48,5 @@ pub fn worked_lines()
     ensures sent { inputs.SentReads }
     ensures config { inputs.ConfigReads }
     ensures plain { inputs.PlainReads }
+    ensures input { inputs.InputReads }
 {}

@@ -47,3 +47,8 @@ pub returns-clause-plain : goal.returns-clause-plain
 unfolding is_utf8 chars items members value lex punctuate word after_number content
     number_of scan lib.Utf8.encode
 returns-clause-plain c = refl
+
+pub returns-clause-input : goal.returns-clause-input
+unfolding is_utf8 chars items members value lex punctuate word after_number content
+    number_of scan lib.Utf8.encode
+returns-clause-input c = (refl, refl, refl, refl)
