@@ -9,11 +9,12 @@ use Rattle.kp_text_defs.specs.declared.script.Op.{Op}
 use Rattle.kp_text_defs.specs.declared.script.Op.TheVariants as op
 use Rattle.kp_text_defs.specs.declared.script.Shown.TheVariants.{Nat}
 use Rattle.kp_text_defs.specs.ScriptLines.{line_of}
-use Rattle.kp_run_defs.specs.LiveLines.{Reading, reading_of}
+use Rattle.kp_run_defs.specs.LiveLines.{reading_of}
+use Rattle.kp_run_defs.specs.LegalRuns.{LiveRun}
 use Rattle.kp_run_defs.specs.WorkedLive.{Read}
 use Rattle.kp_worked.specs.Setting.{config, first, second}
 use Rattle.kp_worked.specs.Events.{apply_web}
-use Rattle.kp_worked_runs.specs.Runs.{main, plain, apply_slice, feeds, sent, showing}
+use Rattle.kp_worked_runs.specs.Runs.{main, plain, apply_slice, feeds, sent, showing, refused_at_end}
 
 -- the configuration, with more members
 abbrev pub config_with : List ℕ → List ℕ
@@ -123,15 +124,21 @@ ConfigReads = op_in config_in (line_of (config_with []) true) ≡ Some (told_by 
 abbrev pub PlainReads : Type 0
 PlainReads = op_in config_in (line_of plain_text true) ≡ Some (told_by plain)
 
--- ---- A whole input
+-- ---- Whole inputs
+
+-- lines as they are typed read as a worked run does
+abbrev pub ReadsAs : LiveRun → List (List ℕ) → Type 0
+ReadsAs run typed =
+    let r = reading_of typed in
+    (r.lines ≡ run.reading.lines) × (r.refused ≡ run.reading.refused)
+    × (r.streams ≡ run.reading.streams) × (told_by r.config ≡ told_by run.reading.config)
 
 -- what is shown and the Service, behind a configuration
-abbrev pub typed : Reading
-typed = reading_of (config_with [] ∷ show_text ∷ web_text ∷ [])
+abbrev pub ShowingTyped : Type 0
+ShowingTyped = ReadsAs showing (config_with [] ∷ show_text ∷ web_text ∷ [])
 
--- it reads as its worked run does
-abbrev pub InputReads : Type 0
-InputReads =
-    (typed.lines ≡ showing.reading.lines) × (typed.refused ≡ showing.reading.refused)
-    × (typed.streams ≡ showing.reading.streams)
-    × (told_by typed.config ≡ told_by showing.reading.config)
+-- the Service and its slice of two endpoints
+abbrev pub RefusedTyped : Type 0
+RefusedTyped =
+    ReadsAs refused_at_end
+    (plain_text ∷ web_text ∷ slice_text (first_text ++ codes "," ++ second_text) ∷ [])

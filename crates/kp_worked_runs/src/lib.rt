@@ -48,5 +48,6 @@ pub fn worked_lines()
     ensures sent { inputs.SentReads }
     ensures config { inputs.ConfigReads }
     ensures plain { inputs.PlainReads }
-    ensures input { inputs.InputReads }
+    ensures not_for_live { inputs.ShowingTyped }
+    ensures clash_at_end { inputs.RefusedTyped }
 {}

@@ -48,7 +48,12 @@ unfolding is_utf8 chars items members value lex punctuate word after_number cont
     number_of scan lib.Utf8.encode
 returns-clause-plain c = refl
 
-pub returns-clause-input : goal.returns-clause-input
+pub returns-clause-not_for_live : goal.returns-clause-not_for_live
 unfolding is_utf8 chars items members value lex punctuate word after_number content
     number_of scan lib.Utf8.encode
-returns-clause-input c = (refl, refl, refl, refl)
+returns-clause-not_for_live c = (refl, refl, refl, refl)
+
+pub returns-clause-clash_at_end : goal.returns-clause-clash_at_end
+unfolding is_utf8 chars items members value lex punctuate word after_number content
+    number_of scan lib.Utf8.encode
+returns-clause-clash_at_end c = (refl, refl, refl, refl)
