@@ -34,13 +34,15 @@ show_text = codes "{\"op\":\"show\",\"what\":\"nat\"}"
 abbrev pub web_text : List ℕ
 web_text =
     codes "{\"apiVersion\":\"v1\",\"kind\":\"Service\",\"metadata\":{\"name\":\"web\"},"
-    ++ codes "\"spec\":{\"clusterIP\":\"10.96.0.10\",\"ports\":[{\"port\":80,\"targetPort\":8080}]}}"
+    ++ codes "\"spec\":{\"clusterIP\":\"10.96.0.10\","
+    ++ codes "\"ports\":[{\"port\":80,\"targetPort\":8080}]}}"
 
 -- its slice, with these endpoints
 abbrev pub slice_text : List ℕ → List ℕ
 slice_text endpoints =
     codes "{\"apiVersion\":\"discovery.k8s.io/v1\",\"kind\":\"EndpointSlice\","
-    ++ codes "\"metadata\":{\"name\":\"web-x\",\"labels\":{\"kubernetes.io/service-name\":\"web\"}},"
+    ++ codes "\"metadata\":{\"name\":\"web-x\","
+    ++ codes "\"labels\":{\"kubernetes.io/service-name\":\"web\"}},"
     ++ codes "\"addressType\":\"IPv4\",\"ports\":[{\"port\":8080}],\"endpoints\":[" ++ endpoints
     ++ codes "]}"
 
@@ -59,7 +61,8 @@ sync_text = codes "{\"op\":\"sync\"}"
 -- a packet of a pod to the Service
 abbrev pub sent_text : List ℕ
 sent_text =
-    codes "{\"op\":\"packet\",\"src\":\"10.244.9.9\",\"dst\":\"10.96.0.10\",\"dport\":80,\"draws\":[]}"
+    codes "{\"op\":\"packet\",\"src\":\"10.244.9.9\",\"dst\":\"10.96.0.10\","
+    ++ codes "\"dport\":80,\"draws\":[]}"
 
 -- the line of a sync
 abbrev pub SyncReads : Type 0
