@@ -31,7 +31,8 @@ by_size : (r : Reading) (bytes : List ℕ) (b : Bool)
 by_size r bytes true = refl
 by_size r bytes false = refl
 
-line_given : (r : Reading) (bytes : List ℕ) → after_live_line r bytes ≡ after_given r (given_of bytes)
+line_given : (r : Reading) (bytes : List ℕ)
+    → after_live_line r bytes ≡ after_given r (given_of bytes)
 line_given r bytes = by_size r bytes (nat_lt LINE_LIMIT (length bytes))
 
 lines_given : (r : Reading) (lines : List (List ℕ))

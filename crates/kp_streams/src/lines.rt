@@ -1,11 +1,13 @@
 //! Lines that are read one by one, and the streams that they belong to.
-ghost use Rattle.std.specs.Prelude.{◌≡◌, ◌+◌, ◌-◌, ◌<◌, ◌^◌, cond, false, length, nat_lt, IfOk, None, OnOk, Some};
+ghost use Rattle.std.specs.Prelude.{◌≡◌, ◌+◌, ◌-◌, ◌<◌, ◌^◌, cond, false, length, nat_lt};
+ghost use Rattle.std.specs.Prelude.{IfOk, None, OnOk, Some};
 ghost use Rattle.std.specs.Option.{option_copied};
 ghost use Rattle.kp_run_defs.specs.LiveLines as spec;
 ghost use Rattle.kp_run_defs.specs.ReplayText as replay;
 ghost use Rattle.kp_streams.specs.Streams.{after_given, reading_in};
 ghost use Rattle.kp_text_defs.specs.ScriptLines as script;
-ghost use Rattle.kp_text_defs.specs.declared.line_refusal.LineRefusal.TheVariants.{NotLive, TooLongLine};
+ghost use Rattle.kp_text_defs.specs.declared.line_refusal.LineRefusal.TheVariants.{NotLive};
+ghost use Rattle.kp_text_defs.specs.declared.line_refusal.LineRefusal.TheVariants.{TooLongLine};
 ghost use Rattle.kp_text_defs.specs.StreamNames.{stream_name};
 
 use crate::names::StreamNames;

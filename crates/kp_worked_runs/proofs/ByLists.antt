@@ -43,7 +43,8 @@ abbrev section_by : (ChainAt → Option (List Rule)) → Rows → TableName → 
 section_by chain_at rows table =
     section_of table
     (filter_map
-    (λ name. option_map (λ rules. (name, rules)) (chain_at (record { table = table; chain = name })))
+    (λ name.
+    option_map (λ rules. (name, rules)) (chain_at (record { table = table; chain = name })))
     (built_in_chains table))
     (map (λ e. (e.0.chain, e.1))
     (filter (λ e. not (is_built_in table e.0.chain))
@@ -173,7 +174,8 @@ module _ (run : LiveRun) where
 
   lines_are : live_lines_text run ≡ lines_listed
   lines_are =
-      λ i. flat_map refused_text run.reading.refused ++ journal_text run.reading.streams 1 run.journal
+      λ i. flat_map refused_text run.reading.refused
+      ++ journal_text run.reading.streams 1 run.journal
       ++ flat_map (λ n. record_is n i) (range_with_len 0 (records_in run)) ++ (answers_are i).text
       ++ final_text (records_in run) (final_is i)
 

@@ -2,6 +2,7 @@
 //! a function that does nothing.
 #![tactic(auto)]
 
+ghost use Rattle.kp_worked_runs.specs.Inputs as inputs;
 ghost use Rattle.kp_worked_runs.specs.Runs as runs;
 
 /// The run of the empty input.
@@ -35,4 +36,18 @@ pub fn worked_clash_at_end()
     ensures legal { runs.RefusedIsLegal }
     ensures prints { runs.RefusedPrints }
     ensures broken { runs.RecordHasClash }
+{}
+
+/// The lines of the runs, as they are typed.
+pub fn worked_lines()
+    ensures sync { inputs.SyncReads }
+    ensures show { inputs.ShowReads }
+    ensures web { inputs.WebReads }
+    ensures slice { inputs.SliceReads }
+    ensures other_slice { inputs.OtherSliceReads }
+    ensures sent { inputs.SentReads }
+    ensures config { inputs.ConfigReads }
+    ensures plain { inputs.PlainReads }
+    ensures not_for_live { inputs.ShowingTyped }
+    ensures clash_at_end { inputs.RefusedTyped }
 {}
