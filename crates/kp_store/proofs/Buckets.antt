@@ -7,7 +7,7 @@ use Rattle.std.specs.Cmp.{IsEquivalence}
 use Rattle.std.specs.FinMap.{get, get-empty, get-insert, get-remove, insert, remove, empty, contains_key}
 use Rattle.std.proofs.lemmas.List.Folds.{list_any_more}
 use mathlib.Core.Bool.{and-false}
-use Rattle.kp_lemmas.proofs.Orders.{one_from_tie}
+use Rattle.kp_lemmas.proofs.Orders.{one_from_tie, tie_of_itself}
 use Rattle.kp_base.specs.Keys.{key_cmp}
 use Rattle.kp_base.specs.declared.key.ObjectKey.{ObjectKey}
 use Rattle.kp_base.proofs.KeyOrder.{key_total, key_exact}
@@ -25,6 +25,14 @@ one_less true true true true true old same = refl
 one_less true true true false true old same = refl
 one_less true true false true false old same = refl
 one_less true true false false false old same = refl
+
+one_more_tag : (s e m old : Bool) → (s && e) || ((e && m) || old) ≡ (e && (m || s)) || old
+one_more_tag true true true old = refl
+one_more_tag true true false old = refl
+one_more_tag true false m old = refl
+one_more_tag false true true old = refl
+one_more_tag false true false old = refl
+one_more_tag false false m old = refl
 
 pub back : (b m n some old : Bool) → (b ≡ true → old ≡ n) → (some ≡ true → m ≡ true) → not (b && (m && not n)) && ((b && some) || old) ≡ old
 back false m n some old same all = refl
@@ -154,6 +162,17 @@ module _ {T : Type 0} (same : T → T → Bool) (laws : IsEquivalence same) wher
   among_more : (tags : List T) (i : ℕ) (tag t : T) → i < length tags → tag ≡ get_or tags i tag → is_among same (take (i + 1) tags) t ≡ is_among same (take i tags) t || same t tag
   among_more tags i tag t lt is =
       list_any_more (same t) tags i tag lt ∙ ap (λ u. is_among same (take i tags) t || same t u) (sym is)
+
+  -- one more tag that a key is added for
+  pub add_step : (tags : List T) (i : ℕ) (tag : T) → i < length tags → tag ≡ get_or tags i tag → (key : ObjectKey) (t : T) (k : ObjectKey) (old : Bool) → is_pair same tag key t k || (is_tag_of same (take i tags) key t k || old) ≡ is_tag_of same (take (i + 1) tags) key t k || old
+  add_step tags i tag lt is key t k old =
+      one_more_tag (same t tag) (eq_by_cmp key_cmp k key) (is_among same (take i tags) t) old
+      ∙ ap (λ b. (eq_by_cmp key_cmp k key && b) || old) (sym (among_more tags i tag t lt is))
+
+  -- where a key stands in the buckets of the tags that are kept, and was added for some
+  pub there_now : (tags kept : List T) (tag : T) (key : ObjectKey) (now was : Bool) → now ≡ is_tag_of same tags key tag key || was → was ≡ is_among same kept tag → now ≡ is_among same tags tag || is_among same kept tag
+  there_now tags kept tag key now was is before =
+      is ∙ (λ i. (tie_of_itself key_total key i && is_among same tags tag) || before i)
 
   -- one more tag that is gone
   pub trim_step : (gone kept : List T) (i : ℕ) (tag : T) → i < length gone → tag ≡ get_or gone i tag → (key : ObjectKey) (t : T) (k : ObjectKey) (old : Bool) → not (is_pair same tag key t k && not (is_among same kept tag)) && (not (is_lost same (take i gone) kept key t k) && old) ≡ not (is_lost same (take (i + 1) gone) kept key t k) && old

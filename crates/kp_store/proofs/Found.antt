@@ -1,10 +1,11 @@
 -- The objects of the keys in a bucket are those with its tag.
-use Rattle.std.proofs.Common.{◌≡◌, Bool, true, false, cond, List, [], ◌∷◌, map, filter, Option, Some, None, is_some, refl, sym, ap, subst, ◌∙◌, T}
+use Rattle.std.proofs.Common.{◌≡◌, Bool, true, false, cond, List, [], ◌∷◌, length, map, filter, Option, Some, None, is_some, refl, sym, ap, subst, ◌∙◌, T}
 use Rattle.std.specs.List.{filter_map, cons_option, AllByRecursion}
 use Rattle.std.specs.Ordering.{eq_by_cmp, is_lt}
 use Rattle.std.specs.FinMap as finite
-use Rattle.std.specs.FinMap.{FinMap, find, is_sorted, entries, entries_sorted, get, get-entries, contains_key}
+use Rattle.std.specs.FinMap.{FinMap, find, is_sorted, entries, entries_sorted, get, get-entries, contains_key, len, len-entries}
 use Rattle.std.specs.FinMap.Entries.{below_all, same_entries}
+use Rattle.std.proofs.lemmas.List.{length-map}
 use Rattle.kp_lemmas.proofs.Booleans.{both_facts, fact_of_both, true_from_fact}
 use Rattle.kp_lemmas.proofs.Orders.{less_is_other, one_from_tie}
 use Rattle.kp_lemmas.proofs.ListFacts.{all_filter}
@@ -105,9 +106,23 @@ module _ {X : Type 0} (p : X → Bool) where
       ∙ got_all m (passing (entries m)) (all_filter (λ e. get m e.0 ≡ Some e.1) (λ e. p e.1) (entries m) (entries_found key_total m))
       ∙ values_passing (entries m)
 
+  -- and so many keys as values pass
+  pub count_passes : (m : FinMap key_cmp X) (keys : Keys) → ((k : ObjectKey) → contains_key keys k ≡ passes (get m k)) → len keys ≡ length (filter p (finite.values m))
+  count_passes m keys has =
+      len-entries keys
+      ∙ sym (length-map (entries keys) (λ e. e.0))
+      ∙ ap length (bucket_keys m keys has)
+      ∙ length-map (passing (entries m)) (λ e. e.0)
+      ∙ sym (length-map (passing (entries m)) (λ e. e.1))
+      ∙ ap length (values_passing (entries m))
+
+agrees : {T X : Type 0} (same : T → T → Bool) (tags : X → List T) (tag : T) (o : Option X) → is_tagged same tags tag o ≡ passes (λ x. is_among same (tags x) tag) o
+agrees same tags tag None = refl
+agrees same tags tag (Some x) = refl
+
 pub found_all : {T X : Type 0} (same : T → T → Bool) (tags : X → List T) (tag : T) (m : FinMap key_cmp X) (keys : Keys) → ((k : ObjectKey) → contains_key keys k ≡ is_tagged same tags tag (get m k)) → filter_map (get m) (finite.keys keys) ≡ filter (λ x. is_among same (tags x) tag) (finite.values m)
-found_all {X} same tags tag m keys has = found_passes (λ x. is_among same (tags x) tag) m keys (λ k. has k ∙ agrees (get m k))
-  where
-    agrees : (o : Option X) → is_tagged same tags tag o ≡ passes (λ x. is_among same (tags x) tag) o
-    agrees None = refl
-    agrees (Some x) = refl
+found_all {X} same tags tag m keys has = found_passes (λ x. is_among same (tags x) tag) m keys (λ k. has k ∙ agrees same tags tag (get m k))
+
+-- a bucket has as many keys as objects have its tag
+pub count_all : {T X : Type 0} (same : T → T → Bool) (tags : X → List T) (tag : T) (m : FinMap key_cmp X) (keys : Keys) → ((k : ObjectKey) → contains_key keys k ≡ is_tagged same tags tag (get m k)) → len keys ≡ length (filter (λ x. is_among same (tags x) tag) (finite.values m))
+count_all same tags tag m keys has = count_passes (λ x. is_among same (tags x) tag) m keys (λ k. has k ∙ agrees same tags tag (get m k))

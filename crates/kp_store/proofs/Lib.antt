@@ -4,9 +4,11 @@ pub mod Filled
 pub mod Found
 pub mod KeyLists
 pub mod NamedEntries
+pub mod Once
 pub mod OwnObjects
 pub mod Ordered
 pub mod Owners
+pub mod Rarest
 pub mod Selected
 pub mod SortedEntries
 pub mod Unions

@@ -5,6 +5,7 @@ use Rattle.std.specs.Option.{option_to_list}
 use Rattle.std.specs.Cmp.{IsEquivalence}
 use Rattle.std.proofs.lemmas.Bool.{and_parts, eqb-true, or_cases, or_left}
 use Rattle.std.proofs.lemmas.List.Elements.{Contains-append_left, Contains-append_right}
+use Rattle.std.proofs.lemmas.List.Folds.{list_any-append}
 use Rattle.std.proofs.lemmas.Option.{same_Some}
 use Rattle.std.proofs.lemmas.Slice.Eq.{bytes_eq-Decides}
 use Rattle.kp_lemmas.proofs.Members.{any_from, first_in, in_flat_map, in_map, later_in}
@@ -19,8 +20,9 @@ use Rattle.kp_types.specs.declared.service.ServicePort.{ServicePort}
 use Rattle.kp_object_defs.specs.Desired.{has_label, has_selector, is_empty, is_external_name, selects}
 use Rattle.kp_store.specs.Destinations.{answers, cluster_addresses, has_address, is_address_of, is_node_port, port_answers}
 use Rattle.kp_store.specs.Indexes.{is_among}
-use Rattle.kp_store.specs.Tags.{label_in, labels_of, node_tag, selected_by, selector_of, selector_tags, tag_at, tags_of, tags_of_port}
-use Rattle.kp_store.specs.declared.tags.Label.{Label}
+use Rattle.kp_store.specs.Tags.{label_in, label_tag, node_tag, selected_by, selector_of, selector_tags, tag_at, tags_of, tags_of_pod, tags_of_port}
+use Rattle.kp_store.specs.declared.tags.PodTag.{PodTag}
+use Rattle.kp_store.specs.declared.tags.PodTag.TheVariants.{Labelled, On}
 use Rattle.kp_store.specs.declared.tags.ServiceTag.{ServiceTag}
 use Rattle.kp_store.specs.declared.tags.ServiceTag.TheVariants.{Selector, At, NodePort}
 
@@ -66,14 +68,19 @@ selected_parts s pod h =
     let inner = and_parts (has_selector s) (bytes_eq s.key.namespace pod.key.namespace) outer.0 in
     (inner.0, (sym ((bytes_eq-Decides s.key.namespace pod.key.namespace).0 inner.1), outer.1))
 
-module _ (same : Label → Label → Bool) (laws : IsEquivalence same) where
+module _ (same : PodTag → PodTag → Bool) (laws : IsEquivalence same) where
   -- a pod that a Service selects has each term
-  pub has_term : (s : Service) (term : Pair) (i : ℕ) → slice_get s.selector i ≡ Some term → (pod : Pod) → selects s pod ≡ true → is_among same (labels_of pod) (label_in s.key.namespace term) ≡ true
+  pub has_term : (s : Service) (term : Pair) (i : ℕ) → slice_get s.selector i ≡ Some term → (pod : Pod) → selects s pod ≡ true → is_among same (tags_of_pod pod) (label_tag s.key.namespace term) ≡ true
   has_term s term i at pod h =
       let parts = selected_parts s pod h in
-      any_mapped (λ l. bytes_eq l.key term.key && bytes_eq l.value term.value) (label_in pod.key.namespace) (same (label_in s.key.namespace term))
-      (λ l matches. ap (same (label_in s.key.namespace term)) (one_label s.key.namespace pod.key.namespace l term parts.1.0 matches) ∙ laws.refl (label_in s.key.namespace term))
-      pod.labels (of_nth s.selector i at parts.1.1)
+      let tag = label_tag s.key.namespace term in
+      let labels = map (label_tag pod.key.namespace) pod.labels in
+      let node = option_to_list (option_map On pod.node) in
+      list_any-append (same tag) labels node
+      ∙ or_left (list_any (same tag) labels) (list_any (same tag) node)
+      (any_mapped (λ l. bytes_eq l.key term.key && bytes_eq l.value term.value) (label_tag pod.key.namespace) (same tag)
+      (λ l matches. ap (λ l. same tag (Labelled l)) (one_label s.key.namespace pod.key.namespace l term parts.1.0 matches) ∙ laws.refl tag)
+      pod.labels (of_nth s.selector i at parts.1.1))
     where
       of_nth : (terms : List Pair) (i : ℕ) → slice_get terms i ≡ Some term → list_all (has_label pod) terms ≡ true → has_label pod term ≡ true
       of_nth [] i is all = absurd (cc)

@@ -1,5 +1,5 @@
 -- Keys of objects by what the objects are found by, their tags: a bucket for each tag.
-use Rattle.std.specs.Prelude.{◌≡◌, ℕ, ◌&&◌, ◌||◌, not, Bool, false, List, [], ◌∷◌, take, Option, Some, None}
+use Rattle.std.specs.Prelude.{◌≡◌, ℕ, ◌&&◌, ◌||◌, not, Bool, true, false, List, [], ◌∷◌, take, Option, Some, None}
 use Rattle.std.specs.List.{list_any}
 use Rattle.std.specs.Option.{unwrap_or}
 use Rattle.std.specs.Ordering.{eq_by_cmp}
@@ -16,6 +16,11 @@ Keys = finite.FinMap key_cmp (Unit {0})
 abbrev pub with_keys : List ObjectKey → Keys → Keys
 with_keys [] keys = keys
 with_keys (k ∷ ks) keys = finite.insert (with_keys ks keys) k tt
+
+-- no key stands twice, neither in the list nor there and beside it
+abbrev pub are_once : List ObjectKey → Keys → Bool
+are_once [] keys = true
+are_once (k ∷ ks) keys = not (finite.contains_key (with_keys ks keys) k) && are_once ks keys
 
 -- same is the test of tags
 module _ {T : Type 0} (same : T → T → Bool) where

@@ -3,5 +3,6 @@ pub mod Indexes
 pub mod LookUps
 pub mod Named
 pub mod NodeNames
+pub mod Rarest
 pub mod Stored
 pub mod Tags

@@ -1,5 +1,5 @@
 -- What the look-ups of the store find: filters of the objects, in the order of their keys.
-use Rattle.std.specs.Prelude.{List, [], map, Option, Some, None}
+use Rattle.std.specs.Prelude.{ℕ, Bool, List, [], map, Option, Some, None}
 use Rattle.std.specs.List.{filter}
 use Rattle.std.specs.FinMap as finite
 use Rattle.kp_base.specs.declared.key.ObjectKey.{ObjectKey}
@@ -7,16 +7,25 @@ use Rattle.kp_types.specs.declared.service.Service.{Service}
 use Rattle.kp_types.specs.declared.pod.Pod.{Pod}
 use Rattle.kp_object_defs.specs.Objects.{Objects}
 use Rattle.kp_object_defs.specs.Desired.{selects}
+use Rattle.kp_object_defs.specs.Entries.{is_on_node}
+
+-- the keys of the Services that select a pod, which needn't be among the objects
+abbrev pub services_selecting : Objects → Pod → List ObjectKey
+services_selecting o pod =
+    map (λ s. s.key) (filter (λ s. selects s pod) (finite.values o.services))
 
 -- the keys of the Services that select a pod, if there is one
 abbrev pub selecting : Objects → Option Pod → List ObjectKey
 selecting o None = []
-selecting o (Some pod) =
-    map (λ s. s.key) (filter (λ s. selects s pod) (finite.values o.services))
+selecting o (Some pod) = services_selecting o pod
 
 -- the keys of the Services that select the pod of this key
 abbrev pub services_of_pod : Objects → ObjectKey → List ObjectKey
 services_of_pod o pod = selecting o (finite.get o.pods pod)
+
+-- a pod is on the node of this name
+abbrev pub is_on : List ℕ → Pod → Bool
+is_on node pod = is_on_node node pod.node
 
 -- the pods that a Service selects, if there is one
 abbrev pub selected : Objects → Option Service → List Pod

@@ -11,6 +11,8 @@ use Rattle.kp_types.specs.declared.service.ServicePort.{ServicePort}
 use Rattle.kp_types.specs.declared.slice.Slice.{Slice}
 use Rattle.kp_store.specs.Destinations.{cluster_addresses}
 use Rattle.kp_store.specs.declared.tags.Label.{Label}
+use Rattle.kp_store.specs.declared.tags.PodTag.{PodTag}
+use Rattle.kp_store.specs.declared.tags.PodTag.TheVariants.{Labelled, On}
 use Rattle.kp_store.specs.declared.tags.ServiceTag.{ServiceTag}
 use Rattle.kp_store.specs.declared.tags.ServiceTag.TheVariants.{Selector, At, NodePort}
 
@@ -26,9 +28,14 @@ owners_of s = option_to_list (option_map (owner_key s) s.service)
 abbrev pub label_in : List ℕ → Pair → Label
 label_in namespace pair = record { namespace = namespace; key = pair.key; value = pair.value }
 
--- a pod's labels, in its namespace
-abbrev pub labels_of : Pod → List Label
-labels_of pod = map (label_in pod.key.namespace) pod.labels
+-- the tag of a pod with a pair among its labels
+abbrev pub label_tag : List ℕ → Pair → PodTag
+label_tag namespace pair = Labelled (label_in namespace pair)
+
+-- the tags of a pod: its labels, in its namespace, and its node
+abbrev pub tags_of_pod : Pod → List PodTag
+tags_of_pod pod =
+    map (label_tag pod.key.namespace) pod.labels ++ option_to_list (option_map On pod.node)
 
 -- the tag of a selector that begins with a pair
 abbrev pub selector_of : List ℕ → Pair → ServiceTag

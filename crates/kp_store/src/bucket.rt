@@ -1,5 +1,5 @@
 //! The keys of the objects with one tag.
-ghost use Rattle.std.specs.Prelude.{◌≡◌, ◌&&◌, ◌||◌, ◌↔◌, not, IfOk, OnOk, OnErr, IsTrue};
+ghost use Rattle.std.specs.Prelude.{◌≡◌, ◌&&◌, ◌||◌, ◌↔◌, not, false, IfOk, OnOk, OnErr, IsTrue};
 ghost use Rattle.std.specs.FinMap as finite;
 ghost use Rattle.std.specs.Ordering.{eq_by_cmp};
 ghost use Rattle.kp_base.specs.Keys.{key_cmp};
@@ -13,8 +13,9 @@ use std::marker::Model;
 /// How many keys a bucket keeps in its list.
 const FEW: usize = 8;
 
-/// Keys, which contracts see as a map to nothing. Most tags have few objects: the first keys stand
-/// in a list, where one is added without a look at the others, and further ones in a tree.
+/// Keys, each once, which contracts see as a map to nothing. Most tags have few objects: the first
+/// keys stand in a list, where one is added without a look at the others, and further ones in a
+/// tree.
 pub struct Bucket {
     few: Vec<ObjectKey>,
     many: KeySet,
@@ -28,7 +29,9 @@ impl Drop for Bucket {
 
 impl Model for Bucket {
     ghost use base.Stored.{coded_unit};
-    ghost use Rattle.kp_store.specs.Indexes.{Keys, with_keys};
+    ghost use Rattle.std.specs.Prelude.{◌≡◌, ◌≤◌, length, true};
+    ghost use Rattle.kp_store.specs.Indexes.{Keys, are_once, with_keys};
+    ghost use Rattle.kp_store.specs.declared.bucket.TheConstants.{FEW};
     ghost use Rattle.kp_store.specs.Stored.{keyed_code};
 
     ghost Value = { Keys };
@@ -36,6 +39,8 @@ impl Model for Bucket {
     ghost coded = { keyed_code coded_unit };
 
     ghost view = { λ b. with_keys b.few.items b.many };
+
+    ghost invariant = { λ b. (length b.few.items ≤ FEW) × (are_once b.few.items b.many ≡ true) };
 }
 
 impl Bucket {
@@ -59,13 +64,16 @@ impl Bucket {
         self.few.as_slice().is_empty() && self.many.is_empty()
     }
 
-    /// How many keys there are, or some more where one stands twice.
-    pub fn size(&self) -> usize {
-        self.few.len().saturating_add(self.many.len())
+    /// How many keys there are.
+    pub fn size(&self) -> usize
+        ensures { result ≡ finite.len self.now }
+    {
+        self.few.len() + self.many.len()
     }
 
-    /// Adds a key. Where memory is out, all stays.
+    /// Adds a key that isn't there. Where memory is out, all stays.
     pub fn add(&mut self, alloc: Global, key: &ObjectKey) -> Result<(), NoMemory>
+        requires absent { finite.contains_key self.old key.now ≡ false }
         ensures ok { OnOk result ((k : ObjectKey) → finite.contains_key self.new k
             ≡ eq_by_cmp key_cmp k key.now || finite.contains_key self.old k) }
         ensures err { OnErr result (self.new ≡ self.old) }

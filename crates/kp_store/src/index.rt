@@ -1,10 +1,10 @@
 //! Keys of objects by what the objects are found by.
-ghost use Rattle.std.specs.Prelude.{◌≡◌, ◌&&◌, ◌||◌, not, true, [], None, IfOk, OnOk, OnErr};
+ghost use Rattle.std.specs.Prelude.{◌≡◌, ◌&&◌, ◌||◌, not, false, [], None, IfOk, OnOk, OnErr};
 ghost use Rattle.std.specs.FinMap as finite;
 ghost use Rattle.std.specs.List.{list_any};
 ghost use Rattle.std.specs.Map.{lookup};
 ghost use Rattle.kp_base.specs.declared.key.ObjectKey.{ObjectKey};
-ghost use Rattle.kp_store.specs.Indexes.{has, is_among, is_pair, is_tag_of, is_lost};
+ghost use Rattle.kp_store.specs.Indexes.{bucket, has, is_among, is_pair, is_tag_of, is_lost};
 ghost use Rattle.kp_store.specs.Indexes.{AreFilled, AreFilledBut, IsPartly};
 
 use crate::bucket::Bucket;
@@ -61,8 +61,10 @@ impl<T: Eq + Hash + Drop> Index<T> {
         Ok(bucket)
     }
 
-    /// How many keys a tag has, about: which tag is looked up decides the time alone.
-    pub fn size(&self, tag: &T) -> usize {
+    /// How many keys a tag has.
+    pub fn size(&self, tag: &T) -> usize
+        ensures { result ≡ finite.len (bucket T.eq self.now tag.now) }
+    {
         match self.buckets.get(tag) {
             Some(bucket) => bucket.size(),
             None => 0,
@@ -115,8 +117,9 @@ impl<T: Eq + Hash + Drop> Index<T> {
 }
 
 impl<T: Eq + Hash + Copied> Index<T> {
-    /// Adds a key to the bucket of a tag. Where memory is out, all stays.
+    /// Adds a key to the bucket of a tag, where it isn't. Where memory is out, all stays.
     fn add(&mut self, alloc: Global, tag: &T, key: &ObjectKey) -> Result<(), NoMemory>
+        requires absent { has T.eq self.old tag.now key.now ≡ false }
         ensures ok { OnOk result ((t : T) (k : ObjectKey) → has T.eq self.new t k
             ≡ is_pair T.eq tag.now key.now t k || has T.eq self.old t k) }
         ensures err { OnErr result ((t : T) (k : ObjectKey) → has T.eq self.new t k
@@ -128,22 +131,24 @@ impl<T: Eq + Hash + Copied> Index<T> {
         }
     }
 
-    /// Adds a key to the bucket of a tag, unless it stands there because the tag is kept. Where
-    /// memory is out, all stays.
+    /// Adds a key to the bucket of a tag, unless it stands there: the tag is kept, or it is among
+    /// those that the key was added for. Where memory is out, all stays.
     fn add_unless(
         &mut self,
         alloc: Global,
         tag: &T,
+        added: &[T],
         kept: &[T],
         key: &ObjectKey,
     ) -> Result<(), NoMemory>
-        requires { (t : T) → is_among T.eq kept.now t ≡ true → has T.eq self.old t key.now ≡ true }
+        requires there { has T.eq self.old tag.now key.now
+            ≡ is_among T.eq added.now tag.now || is_among T.eq kept.now tag.now }
         ensures ok { OnOk result ((t : T) (k : ObjectKey) → has T.eq self.new t k
             ≡ is_pair T.eq tag.now key.now t k || has T.eq self.old t k) }
         ensures err { OnErr result ((t : T) (k : ObjectKey) → has T.eq self.new t k
             ≡ has T.eq self.old t k) }
     {
-        if is_one_of(tag, kept) {
+        if is_in_either(tag, added, kept) {
             Ok(())
         } else {
             self.add(alloc, tag, key)
@@ -159,13 +164,16 @@ impl<T: Eq + Hash + Copied> Index<T> {
         kept: &[T],
         key: &ObjectKey,
     ) -> Result<(), NoMemory>
-        requires { (t : T) → is_among T.eq kept.now t ≡ true → has T.eq self.old t key.now ≡ true }
+        requires { (t : T) → has T.eq self.old t key.now ≡ is_among T.eq kept.now t }
         ensures ok { OnOk result ((t : T) (k : ObjectKey) → has T.eq self.new t k
             ≡ is_tag_of T.eq tags.now key.now t k || has T.eq self.old t k) }
         ensures err { OnErr result (IsPartly T.eq tags.now key.now self.old self.new) }
     {
+        let mut place = 0;
         for tag in tags {
-            self.add_unless(alloc, tag, kept, key)?;
+            let (added, _) = tags.split_at(place);
+            self.add_unless(alloc, tag, added, kept, key)?;
+            place += 1;
         }
         Ok(())
     }
@@ -200,6 +208,13 @@ fn is_one_of<T: Eq>(tag: &T, tags: &[T]) -> bool
     ensures { result ≡ is_among T.eq tags.now tag.now }
 {
     tags.iter().any(|other| *tag == *other)
+}
+
+/// Whether a tag is among tags, or among others.
+fn is_in_either<T: Eq>(tag: &T, tags: &[T], others: &[T]) -> bool
+    ensures { result ≡ is_among T.eq tags.now tag.now || is_among T.eq others.now tag.now }
+{
+    is_one_of(tag, tags) || is_one_of(tag, others)
 }
 
 /// Adds a bucket of one key, where there is none of its tag.

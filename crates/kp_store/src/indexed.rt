@@ -1,5 +1,5 @@
 //! Objects of one kind by their keys, with an index of what they are found by.
-ghost use Rattle.std.specs.Prelude.{◌≡◌, List, map, IfOk, OnOk, OnErr, option_copied};
+ghost use Rattle.std.specs.Prelude.{◌≡◌, List, length, map, IfOk, OnOk, OnErr, option_copied};
 ghost use Rattle.std.specs.List.{filter, list_any};
 ghost use Rattle.std.specs.FinMap as finite;
 ghost use Rattle.kp_store.specs.Indexes.{is_among, is_tagged};
@@ -80,8 +80,11 @@ impl<X: Tagged<T>, T: Eq + Hash + Copied> Indexed<X, T> {
         self.objects.keys(alloc)
     }
 
-    /// How many objects have a tag, about.
-    pub fn size(&self, tag: &T) -> usize {
+    /// How many objects have a tag.
+    pub fn size(&self, tag: &T) -> usize
+        ensures { result ≡ length
+            (filter (λ x. is_among T.eq (X.tags x) tag.now) (finite.values self.now)) }
+    {
         self.index.size(tag)
     }
 

@@ -1,5 +1,5 @@
 //! Keys of objects, in order.
-ghost use Rattle.std.specs.Prelude.{◌≡◌, ◌||◌, ◌↔◌, map, IfOk, OnOk, OnErr, IsTrue};
+ghost use Rattle.std.specs.Prelude.{◌≡◌, ◌<◌, ◌^◌, ◌||◌, ◌↔◌, map, IfOk, OnOk, OnErr, IsTrue};
 ghost use Rattle.std.specs.List.{list_any};
 ghost use Rattle.std.specs.Ordering.{eq_by_cmp};
 ghost use Rattle.kp_base.specs.Keys.{key_cmp};
@@ -62,7 +62,10 @@ impl KeySet {
     }
 
     /// How many keys there are.
-    pub fn len(&self) -> usize {
+    pub fn len(&self) -> usize
+        ensures len { result ≡ finite.len self.now }
+        ensures small { result < 2 ^ 63 }
+    {
         self.entries.len()
     }
 

@@ -10,11 +10,12 @@ ghost use Rattle.kp_object_defs.specs.Objects.{with_object, without_object};
 ghost use Rattle.kp_object_defs.specs.OwnKeys.{AreUnderOwnKeys};
 ghost use Rattle.kp_store.specs.Destinations.{answers};
 ghost use Rattle.kp_store.specs.LookUps as find;
+ghost use Rattle.kp_store.specs.Rarest.{IsRarest};
 
 use crate::hashed::Hashed;
 use crate::indexed::Indexed;
 use crate::selections::{copies, keys_selecting, pods_selected, services_answering};
-use crate::tags::{Label, ServiceTag, label_in, selected_by};
+use crate::tags::{PodTag, ServiceTag, label_tag, selected_by};
 use kp_base::{Address, Copied, Items, NoMemory, ObjectKey, PortNo, Proto, Text};
 use kp_types::{Event, Kind, Node, Object, Pod, Service, Slice};
 use std::alloc::Global;
@@ -24,7 +25,7 @@ use std::marker::Model;
 pub struct Objects {
     services: Indexed<Service, ServiceTag>,
     slices: Indexed<Slice, ObjectKey>,
-    pods: Indexed<Pod, Label>,
+    pods: Indexed<Pod, PodTag>,
     nodes: Hashed<Text, Node>,
 }
 
@@ -166,13 +167,27 @@ impl Objects {
         ensures { IfOk result (λ ks. ks ≡ find.services_of_pod self.now pod.now) }
     {
         match self.pods.get(pod) {
-            Some(pod) => {
-                let tags = selected_by(alloc, pod)?;
-                let found = self.services.found_any(alloc, tags.as_slice())?;
-                keys_selecting(alloc, found.as_slice(), pod)
-            }
+            Some(pod) => self.services_selecting(alloc, pod),
             None => Ok(Items::new(alloc)),
         }
+    }
+
+    /// The keys of the Services that select a pod, which may be one that an event brings, in order.
+    pub fn services_selecting(&self, alloc: Global, pod: &Pod) -> Result<Items<ObjectKey>, NoMemory>
+        ensures { IfOk result (λ ks. ks ≡ find.services_selecting self.now pod.now) }
+    {
+        let tags = selected_by(alloc, pod)?;
+        let found = self.services.found_any(alloc, tags.as_slice())?;
+        keys_selecting(alloc, found.as_slice(), pod)
+    }
+
+    /// The pods of a node, in order of their keys.
+    pub fn pods_on(&self, alloc: Global, node: &Text) -> Result<Vec<&Pod>, NoMemory>
+        ensures { IfOk result (λ ps. map (λ p. p.now) ps.items
+            ≡ filter (find.is_on node.now) (finite.values self.now.pods)) }
+    {
+        let tag = PodTag::On(node.copy(alloc)?);
+        self.pods.found(alloc, &tag)
     }
 
     /// Copies of the slices of a Service, in order of their keys.
@@ -210,7 +225,7 @@ impl Objects {
         let rarest = self.rarest_pair(alloc, service)?;
         match service.selector.as_slice().get(rarest) {
             Some(pair) => {
-                let label = label_in(alloc, &service.key.namespace, pair)?;
+                let label = label_tag(alloc, &service.key.namespace, pair)?;
                 let found = self.pods.found(alloc, &label)?;
                 pods_selected(alloc, found.as_slice(), service)
             }
@@ -220,15 +235,16 @@ impl Objects {
 
     /// The place of the pair of a selector that the fewest pods have: 0 where it has no pair.
     fn rarest_pair(&self, alloc: Global, service: &Service) -> Result<usize, NoMemory>
-        ensures { IfOk result (λ i. i ≤ length service.now.selector - 1) }
+        ensures within { IfOk result (λ i. i ≤ length service.now.selector - 1) }
+        ensures fewest { IfOk result (λ i. IsRarest self.now.pods service.now i) }
     {
         let mut rarest = 0;
-        let mut fewest = usize::MAX;
+        let mut fewest = 0;
         let mut place = 0;
         for pair in service.selector.as_slice() {
-            let label = label_in(alloc, &service.key.namespace, pair)?;
+            let label = label_tag(alloc, &service.key.namespace, pair)?;
             let size = self.pods.size(&label);
-            if size < fewest {
+            if place == 0 || size < fewest {
                 rarest = place;
                 fewest = size;
             }

@@ -3,6 +3,7 @@ ghost use Rattle.std.specs.Prelude.{◌≡◌, ◌++◌, map, IfOk, OnOk, option
 ghost use Rattle.std.specs.Option.{option_to_list};
 ghost use Rattle.kp_store.specs.Destinations.{cluster_addresses};
 ghost use Rattle.kp_store.specs.Tags as spec;
+ghost use Rattle.kp_store.specs.declared.tags.PodTag.TheVariants.{On};
 
 use crate::indexed::Tagged;
 use kp_base::{Address, Copied, Items, NoMemory, ObjectKey, Pair, PortNo, Proto, Text};
@@ -24,6 +25,24 @@ impl Drop for Label {
             key,
             value,
         } = self;
+    }
+}
+
+/// What a pod is found by.
+#[derive(PartialEq, Eq, Hash)]
+pub enum PodTag {
+    /// One of its labels.
+    Labelled(Label),
+    /// The name of its node.
+    On(Text),
+}
+
+impl Drop for PodTag {
+    fn drop(self) {
+        match self {
+            PodTag::Labelled(_) => {}
+            PodTag::On(_) => {}
+        }
     }
 }
 
@@ -55,6 +74,15 @@ impl Copied for Label {
             key: self.key.copy(alloc)?,
             value: self.value.copy(alloc)?,
         })
+    }
+}
+
+impl Copied for PodTag {
+    fn copy(&self, alloc: Global) -> Result<PodTag, NoMemory> {
+        match self {
+            PodTag::Labelled(label) => Ok(PodTag::Labelled(label.copy(alloc)?)),
+            PodTag::On(node) => Ok(PodTag::On(node.copy(alloc)?)),
+        }
     }
 }
 
@@ -90,18 +118,20 @@ impl Tagged<ObjectKey> for Slice {
     }
 }
 
-/// A pod is found by each of its labels.
-impl Tagged<Label> for Pod {
-    ghost use Rattle.kp_store.specs.Tags.{labels_of};
+/// A pod is found by each of its labels, and by its node.
+impl Tagged<PodTag> for Pod {
+    ghost use Rattle.kp_store.specs.Tags.{tags_of_pod};
 
-    ghost tags = { labels_of };
+    ghost tags = { tags_of_pod };
 
-    fn tags(&self, alloc: Global) -> Result<Items<Label>, NoMemory> {
-        let mut labels = Vec::with_capacity(alloc, self.labels.as_slice().len())?;
+    fn tags(&self, alloc: Global) -> Result<Items<PodTag>, NoMemory> {
+        let count = self.labels.as_slice().len().saturating_add(1);
+        let mut tags = Vec::with_capacity(alloc, count)?;
         for pair in self.labels.as_slice() {
-            labels.push(label_in(alloc, &self.key.namespace, pair)?)?;
+            tags.push(label_tag(alloc, &self.key.namespace, pair)?)?;
         }
-        Ok(Items::from_vec(labels))
+        add_tag_of_node(alloc, &mut tags, self)?;
+        Ok(Items::from_vec(tags))
     }
 }
 
@@ -123,7 +153,7 @@ impl Tagged<ServiceTag> for Service {
 }
 
 /// A label in a namespace.
-pub fn label_in(alloc: Global, namespace: &Text, pair: &Pair) -> Result<Label, NoMemory>
+fn label_in(alloc: Global, namespace: &Text, pair: &Pair) -> Result<Label, NoMemory>
     ensures { IfOk result (λ l. l ≡ spec.label_in namespace.now pair.now) }
 {
     Ok(Label {
@@ -131,6 +161,24 @@ pub fn label_in(alloc: Global, namespace: &Text, pair: &Pair) -> Result<Label, N
         key: pair.key.copy(alloc)?,
         value: pair.value.copy(alloc)?,
     })
+}
+
+/// The tag of a pod with a pair among its labels.
+pub fn label_tag(alloc: Global, namespace: &Text, pair: &Pair) -> Result<PodTag, NoMemory>
+    ensures { IfOk result (λ t. t ≡ spec.label_tag namespace.now pair.now) }
+{
+    Ok(PodTag::Labelled(label_in(alloc, namespace, pair)?))
+}
+
+/// Adds the tag of a pod's node, if it has one.
+fn add_tag_of_node(alloc: Global, tags: &mut Vec<PodTag>, pod: &Pod) -> Result<(), NoMemory>
+    ensures { OnOk result (tags.new.items
+        ≡ tags.old.items ++ option_to_list (option_map On pod.now.node)) }
+{
+    if let Some(node) = &pod.node {
+        tags.push(PodTag::On(node.copy(alloc)?))?;
+    }
+    Ok(())
 }
 
 /// The tag of a Service whose selector begins with a pair.

@@ -8,9 +8,9 @@ use Rattle.kp_types.specs.declared.pod.Pod.{Pod}
 use Rattle.kp_object_defs.specs.Desired.{selects}
 use Rattle.kp_object_defs.specs.Objects.{Objects}
 use Rattle.kp_store.specs.Indexes.{is_among}
-use Rattle.kp_store.specs.Tags.{labels_of}
-use Rattle.kp_store.specs.contracts.tags.LabelPartialEq.TheImpl as label_eq
-use Rattle.kp_store.specs.contracts.tags.LabelEq.TheImpl.Laws as label_laws
+use Rattle.kp_store.specs.Tags.{tags_of_pod}
+use Rattle.kp_store.specs.contracts.tags.PodTagPartialEq.TheImpl as tag_eq
+use Rattle.kp_store.specs.contracts.tags.PodTagEq.TheImpl.Laws as tag_laws
 use Rattle.kp_store.proofs.Selected.{filter_within, has_term, none_selected}
 use Rattle.kp_store.proofs.objects.Objects.pods_selected.Goals as goal
 
@@ -26,8 +26,8 @@ returns-in_ok-found-in-Some c =
     is
     ∙ ap (λ (xs : List (Bor Pod)). filter (selects s) (map (λ p. p.now) xs)) c.as_slice-in-Some.ensures.value
     ∙ ap (filter (selects s)) c.in_ok-found-in-Some.ensures
-    ∙ ap (λ l. filter (selects s) (filter (λ p. is_among label_eq.ghosts.eq (labels_of p) l) pods)) c.in_ok-label-in-Some.ensures
-    ∙ filter_within _ (selects s) (has_term label_eq.ghosts.eq label_laws.laws-law s pair i (search rules)) pods
+    ∙ ap (λ l. filter (selects s) (filter (λ p. is_among tag_eq.ghosts.eq (tags_of_pod p) l) pods)) c.in_ok-label-in-Some.ensures
+    ∙ filter_within _ (selects s) (has_term tag_eq.ghosts.eq tag_laws.laws-law s pair i (search rules)) pods
     ∙ ap (λ (o : Objects). filter (selects s) (finite.values o.pods)) c.self.view_is) c.pods_selected.ensures
 
 pub returns-in-None : goal.returns-in-None
@@ -35,4 +35,4 @@ returns-in-None c =
     let i = c.in_ok-rarest.rarest in
     let pairs = c.as_slice.result.now in
     let past = ltb-false i (length pairs) (sym c.in-None.ensures.lookup.0) in
-    ap (map (λ p. p.now)) c.new.ensures.items ∙ sym (none_pass (selects c.args.service.now) (none_selected c.args.service.now i c.in_ok-rarest.ensures (search rules)) (finite.values c.args.self.now.pods))
+    ap (map (λ p. p.now)) c.new.ensures.items ∙ sym (none_pass (selects c.args.service.now) (none_selected c.args.service.now i c.in_ok-rarest.ensures.within (search rules)) (finite.values c.args.self.now.pods))

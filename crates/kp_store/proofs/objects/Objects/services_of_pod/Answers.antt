@@ -1,28 +1,14 @@
-use Rattle.std.proofs.Common.{List, map, filter, ap, ◌∙◌, Bor}
+use Rattle.std.proofs.Common.{ap, ◌∙◌}
 use Rattle.std.proofs.lemmas.Result.{IfOk-weaker}
-use Rattle.std.specs.List.{list_any}
 use Rattle.std.specs.FinMap as finite
-use Rattle.kp_types.specs.declared.service.Service.{Service}
-use Rattle.kp_object_defs.specs.Desired.{selects}
 use Rattle.kp_object_defs.specs.Objects.{Objects}
-use Rattle.kp_store.specs.Indexes.{is_among}
-use Rattle.kp_store.specs.LookUps.{selecting, services_of_pod}
-use Rattle.kp_store.specs.Tags.{tags_of}
-use Rattle.kp_store.specs.contracts.tags.ServiceTagPartialEq.TheImpl as tag_eq
-use Rattle.kp_store.specs.contracts.tags.ServiceTagEq.TheImpl.Laws as tag_laws
-use Rattle.kp_store.proofs.Selected.{filter_within, has_label_of}
+use Rattle.kp_store.specs.LookUps.{selecting}
 use Rattle.kp_store.proofs.objects.Objects.services_of_pod.Goals as goal
 
-pub returns-in_ok-found-in-Some : goal.returns-in_ok-found-in-Some
-returns-in_ok-found-in-Some c =
-    let pod = c.in-Some.pod.now in
-    let services = finite.values c.self.inside.services in
-    let keys = λ (ss : List Service). map (λ (s : Service). s.key) (filter (λ s. selects s pod) ss) in
-    IfOk-weaker c.keys_selecting.result _ _ (λ ks is.
+pub returns-in-Some : goal.returns-in-Some
+returns-in-Some c =
+    let now = c.args.self.now in
+    IfOk-weaker c.services_selecting.result _ _ (λ ks is.
     is
-    ∙ ap (λ (xs : List (Bor Service)). keys (map (λ s. s.now) xs)) c.as_slice-in-Some.ensures.value
-    ∙ ap keys c.in_ok-found-in-Some.ensures
-    ∙ ap (λ ts. keys (filter (λ s. list_any (is_among tag_eq.ghosts.eq (tags_of s)) ts) services)) (c.as_slice.ensures.value ∙ c.in_ok-tags-in-Some.ensures)
-    ∙ ap (map (λ (s : Service). s.key)) (filter_within _ (λ s. selects s pod) (has_label_of tag_eq.ghosts.eq tag_laws.laws-law pod) services)
-    ∙ ap (selecting (record { services = c.self.inside.services; slices = c.self.inside.slices; pods = c.self.inside.pods; nodes = c.self.inside.nodes })) c.in-Some.ensures
-    ∙ ap (λ (o : Objects). services_of_pod o c.args.pod.now) c.self.view_is) c.keys_selecting.ensures
+    ∙ ap (selecting now) c.in-Some.ensures
+    ∙ ap (λ (o : Objects). selecting now (finite.get o.pods c.args.pod.now)) c.self.view_is) c.services_selecting.ensures

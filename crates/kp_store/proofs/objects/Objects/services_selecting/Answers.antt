@@ -1,0 +1,27 @@
+use Rattle.std.proofs.Common.{List, map, filter, ap, ◌∙◌, Bor}
+use Rattle.std.proofs.lemmas.Result.{IfOk-weaker}
+use Rattle.std.specs.List.{list_any}
+use Rattle.std.specs.FinMap as finite
+use Rattle.kp_types.specs.declared.service.Service.{Service}
+use Rattle.kp_object_defs.specs.Desired.{selects}
+use Rattle.kp_object_defs.specs.Objects.{Objects}
+use Rattle.kp_store.specs.Indexes.{is_among}
+use Rattle.kp_store.specs.LookUps.{services_selecting}
+use Rattle.kp_store.specs.Tags.{tags_of}
+use Rattle.kp_store.specs.contracts.tags.ServiceTagPartialEq.TheImpl as tag_eq
+use Rattle.kp_store.specs.contracts.tags.ServiceTagEq.TheImpl.Laws as tag_laws
+use Rattle.kp_store.proofs.Selected.{filter_within, has_label_of}
+use Rattle.kp_store.proofs.objects.Objects.services_selecting.Goals as goal
+
+pub returns : goal.returns
+returns c =
+    let pod = c.args.pod.now in
+    let services = finite.values c.self.inside.services in
+    let keys = λ (ss : List Service). map (λ (s : Service). s.key) (filter (λ s. selects s pod) ss) in
+    IfOk-weaker c.keys_selecting.result _ _ (λ ks is.
+    is
+    ∙ ap (λ (xs : List (Bor Service)). keys (map (λ s. s.now) xs)) c.as_slice-2.ensures.value
+    ∙ ap keys c.in_ok-found.ensures
+    ∙ ap (λ ts. keys (filter (λ s. list_any (is_among tag_eq.ghosts.eq (tags_of s)) ts) services)) (c.as_slice.ensures.value ∙ c.in_ok-tags.ensures)
+    ∙ ap (map (λ (s : Service). s.key)) (filter_within _ (λ s. selects s pod) (has_label_of tag_eq.ghosts.eq tag_laws.laws-law pod) services)
+    ∙ ap (λ (o : Objects). services_selecting o pod) c.self.view_is) c.keys_selecting.ensures
