@@ -11,5 +11,6 @@ loop-block-preserved c =
     c.in_ok-add_block.ensures
     ∙ ap (λ b. c.loop-block.rules.items ++ rules b) c.as_slice.ensures
     ∙ ap (λ rs. rs ++ rules c.in-Some.block.now) c.loop-block.invariant
-    ∙ append_assoc start (flat_map rules (map (λ b. b.now) c.loop-block.yielded)) (rules c.in-Some.block.now)
+    ∙ append_assoc start (flat_map rules (map (λ b. b.now) c.loop-block.yielded))
+    (rules c.in-Some.block.now)
     ∙ ap (λ rs. start ++ rs) (joined_more rules c.loop-block.yielded c.in-Some.block)
