@@ -3,6 +3,7 @@ use Rattle.std.specs.Prelude.{◌≡◌, List, Option, Some, refl}
 use Rattle.std.specs.Coded.{Coded, code_by, coded×}
 use Rattle.std.specs.List.{filter}
 use Rattle.std.specs.FinMap as finite
+use Rattle.std.specs.Option.{option_map}
 use Rattle.kp_base.specs.Keys.{port_key_cmp}
 use Rattle.kp_base.specs.contracts.config.Config as config_row
 use Rattle.kp_base.specs.contracts.key.PortKey as key_row
@@ -19,6 +20,7 @@ use Rattle.kp_object_defs.specs.PortInfo.{PortInfo}
 use Rattle.kp_table_defs.specs.Edits.{changes_between}
 use Rattle.kp_table_defs.specs.Rebuild.{Chains, full_chains, needed_keys}
 use Rattle.kp_history_defs.specs.DirtyPorts.{same_info}
+use Rattle.kp_blocks.specs.Joined.{BlocksByPort, port_block}
 use Rattle.kp_tracker.specs.Tracked as tracked
 use Rattle.kp_tracker.specs.Tracked.{Tracked, tracked_code}
 
@@ -30,7 +32,8 @@ pub record WriterParts : Type 0 where
 -- it is stored as these two are
 abbrev pub writer_code : Coded WriterParts
 writer_code =
-    code_by _ (coded× config_row.the_row.coded (tracked_code key_row.the_row.coded info_row.the_row.coded))
+    code_by _ (coded× config_row.the_row.coded
+    (tracked_code key_row.the_row.coded info_row.the_row.coded))
     (λ w. (w.config, w.ports)) (λ p. record { config = p.0; ports = p.1 }) (λ _. refl)
 
 -- what tables and names are told
@@ -70,3 +73,15 @@ dirty_of w ports =
 abbrev pub AreUnderOwnKeys : Ports → Type 0
 AreUnderOwnKeys ports =
     (key : PortKey) (i : PortInfo) → finite.get ports key ≡ Some i → i.key ≡ key
+
+-- blocks are those of ports
+abbrev pub AreBlocksOf : Setting → Ports → BlocksByPort → Type 0
+AreBlocksOf setting ports blocks =
+    (key : PortKey)
+    → finite.get blocks key ≡ option_map (port_block setting) (finite.get ports key)
+
+-- what a writer keeps: ports under their own keys, and the blocks of the newest
+pub record IsKept (w : WriterParts) (blocks : BlocksByPort) : Type 0 where
+  pub written : AreUnderOwnKeys (written_ports w)
+  pub newest : AreUnderOwnKeys (newest_ports w)
+  pub blocks : AreBlocksOf (setting_in w) (newest_ports w) blocks

@@ -2,7 +2,10 @@
 //! is known of it now, with the shared chains joined from blocks that are kept by port.
 #![tactic(auto)]
 
+mod block;
+mod kept;
 mod known;
+mod next;
 mod writer;
 
 pub use kp_full_table::TableFault;

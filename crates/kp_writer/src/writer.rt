@@ -12,8 +12,11 @@ use kp_rules::Table;
 use kp_tracker::Tracker;
 use kp_types::{Batch, PortInfo};
 use std::alloc::Global;
+use std::marker::Model;
 use std::sync::ledger::Ledger;
 
+use crate::block::block_of;
+use crate::kept;
 use crate::known::Known;
 
 /// What was written of each port, and what is known of it now. Contracts see both, and the
@@ -24,12 +27,42 @@ pub struct Writer {
     blocks: Blocks,
 }
 
+impl Drop for Writer {
+    fn drop(self) {
+        let Writer {
+            config,
+            ports,
+            blocks,
+        } = self;
+    }
+}
+
+/// The blocks are those of the newest ports.
+impl Model for Writer {
+    ghost use Rattle.kp_writer.specs.Written.{IsKept, WriterParts, writer_code};
+
+    ghost Value = { WriterParts };
+
+    ghost coded = { writer_code };
+
+    ghost view = { λ w. record { config = w.config; ports = w.ports } };
+
+    ghost invariant = { λ w. IsKept (record { config = w.config; ports = w.ports }) w.blocks };
+}
+
 impl Writer {
     /// Nothing was written, and no port is known.
     pub fn new(alloc: Global, config: &Config) -> Result<Writer, NoMemory>
         ensures config { IfOk result (λ w. w.config ≡ config.now) }
         ensures written { IfOk result (λ w. spec.written_ports w ≡ finite.empty) }
-        ensures newest { IfOk result (λ w. spec.newest_ports w ≡ finite.empty) };
+        ensures newest { IfOk result (λ w. spec.newest_ports w ≡ finite.empty) }
+    {
+        Ok(Writer {
+            config: config.copy(alloc)?,
+            ports: Tracker::new(alloc),
+            blocks: Blocks::new(alloc),
+        })
+    }
 
     /// Takes over what is known of a port. Where memory is out, all stays.
     pub fn put(&mut self, alloc: Global, info: PortInfo) -> Result<(), NoMemory>
@@ -37,7 +70,11 @@ impl Writer {
         ensures written { spec.written_ports self.new ≡ spec.written_ports self.old }
         ensures newest { OnOk result (spec.newest_ports self.new
             ≡ finite.insert (spec.newest_ports self.old) info.key info) }
-        ensures err { OnErr result (spec.newest_ports self.new ≡ spec.newest_ports self.old) };
+        ensures err { OnErr result (spec.newest_ports self.new ≡ spec.newest_ports self.old) }
+    {
+        let block = block_of(alloc, &self.config, &info)?;
+        kept::put(alloc, &mut self.ports, &mut self.blocks, info, block)
+    }
 
     /// Takes over that a port is gone. Where memory is out, all stays.
     pub fn drop_port(&mut self, alloc: Global, port: &PortKey) -> Result<(), NoMemory>
@@ -45,7 +82,10 @@ impl Writer {
         ensures written { spec.written_ports self.new ≡ spec.written_ports self.old }
         ensures newest { OnOk result (spec.newest_ports self.new
             ≡ finite.remove (spec.newest_ports self.old) port.now) }
-        ensures err { OnErr result (spec.newest_ports self.new ≡ spec.newest_ports self.old) };
+        ensures err { OnErr result (spec.newest_ports self.new ≡ spec.newest_ports self.old) }
+    {
+        kept::drop_port(alloc, &mut self.ports, &mut self.blocks, port)
+    }
 
     /// The edits that lead from the full table of what was written, which is given, to that of what
     /// is known now: exactly the changes between the two. It is refused exactly where two different
@@ -76,5 +116,8 @@ impl Writer {
     pub fn keep(&mut self)
         ensures config { self.new.config ≡ self.old.config }
         ensures written { spec.written_ports self.new ≡ spec.newest_ports self.old }
-        ensures newest { spec.newest_ports self.new ≡ spec.newest_ports self.old };
+        ensures newest { spec.newest_ports self.new ≡ spec.newest_ports self.old }
+    {
+        self.ports.settle();
+    }
 }

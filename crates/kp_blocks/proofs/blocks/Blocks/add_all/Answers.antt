@@ -10,7 +10,7 @@ use Rattle.kp_blocks.proofs.blocks.Blocks.add_all.Goals as goal
 pub returns : goal.returns
 returns c =
     let added : List (List ChainText) → List Rule = λ bs. c.args.rules.now.items ++ flat_map
-        (block_rules c.args.at.now) bs in
+    (block_rules c.args.at.now) bs in
     on_ok_weaker c.add_blocks.result (λ is.
     is
     ∙ ap added (block_values c.self.inside.ports.entries c.add_blocks.ensures.in_order)
