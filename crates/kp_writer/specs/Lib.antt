@@ -1,2 +1,4 @@
 pub mod Next
+pub mod Own
+pub mod Shared
 pub mod Written

@@ -3,9 +3,12 @@
 #![tactic(auto)]
 
 mod block;
+mod join;
 mod kept;
 mod known;
 mod next;
+mod own;
+mod shared;
 mod writer;
 
 pub use kp_full_table::TableFault;

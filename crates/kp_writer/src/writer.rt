@@ -1,19 +1,14 @@
 //! What was written of ports, and the edits to what is known of them now.
-ghost use Rattle.std.specs.Prelude.{◌≡◌, ◌+◌, ◌≤◌, None, IfOk, IfErr, OnOk, OnErr};
+ghost use Rattle.std.specs.Prelude.{◌≡◌, IfOk, OnOk, OnErr};
 ghost use Rattle.std.specs.FinMap as finite;
-ghost use Rattle.kp_full_table.specs.Faults.{TellsClash};
-ghost use Rattle.kp_full_table.specs.Parts.{all_rule_count};
 ghost use Rattle.kp_writer.specs.Written as spec;
 
-use kp_base::{Config, Copied, NoMemory, PortKey, Steps};
+use kp_base::{Config, Copied, NoMemory, PortKey};
 use kp_blocks::Blocks;
-use kp_full_table::TableFault;
-use kp_rules::Table;
 use kp_tracker::Tracker;
-use kp_types::{Batch, PortInfo};
+use kp_types::PortInfo;
 use std::alloc::Global;
 use std::marker::Model;
-use std::sync::ledger::Ledger;
 
 use crate::block::block_of;
 use crate::kept;
@@ -86,31 +81,6 @@ impl Writer {
     {
         kept::drop_port(alloc, &mut self.ports, &mut self.blocks, port)
     }
-
-    /// The edits that lead from the full table of what was written, which is given, to that of what
-    /// is known now: exactly the changes between the two. It is refused exactly where two different
-    /// chains that are needed have one name, and tells the least such pair, or where memory is out.
-    /// Whatever it answers, what was written and what is known stays, and it takes at most a step
-    /// for each rule of the dirty ports before, and one for each after.
-    pub fn edits<L: Ledger>(
-        &mut self,
-        alloc: Global,
-        table: &Table,
-        steps: &mut Steps<L>,
-    ) -> Result<Batch, TableFault>
-        requires table { table.now.chains ≡ spec.chains_of self.old (spec.written_ports self.old) }
-        requires apart { spec.clash_of self.old (spec.written_ports self.old) ≡ None }
-        ensures batch { IfOk result (λ b. b.edits ≡ spec.next_edits self.old) }
-        ensures no_clash { OnOk result (
-            spec.clash_of self.old (spec.newest_ports self.old) ≡ None) }
-        ensures clash { IfErr result (TellsClash
-            (spec.clash_of self.old (spec.newest_ports self.old))) }
-        ensures stays { self.new ≡ self.old }
-        ensures steps { steps.new ≤ steps.old
-            + (all_rule_count (spec.setting_in self.old)
-            (spec.dirty_of self.old (spec.written_ports self.old))
-            + all_rule_count (spec.setting_in self.old)
-            (spec.dirty_of self.old (spec.newest_ports self.old))) };
 
     /// Takes over that the newest ports are written. It takes no memory.
     pub fn keep(&mut self)
