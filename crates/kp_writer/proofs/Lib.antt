@@ -1,3 +1,5 @@
-mod Alike
+mod DirtyLists
 mod KeptPorts
 mod LocalEdits
+mod NextPlaces
+mod Present

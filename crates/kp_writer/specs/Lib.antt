@@ -1,3 +1,4 @@
+pub mod Alike
 pub mod Next
 pub mod Own
 pub mod Shared

@@ -1,6 +1,6 @@
 -- What stands after a sync at the places that it may change, and the edits there.
 use Rattle.std.specs.Prelude.{◌&&◌, Bool, cond, List, ◌++◌, Option, Some, None, is_some, not, refl}
-use Rattle.std.specs.Coded.{Coded, code_by, coded×, coded_list, coded_option, coded_Bool}
+use Rattle.std.specs.Coded.{Coded, code_by, coded×, coded_list, coded_option, coded_bool}
 use Rattle.std.specs.List.{filter_map}
 use Rattle.std.specs.FinMap as finite
 use Rattle.kp_types.specs.Places.{chain_cmp}
@@ -28,7 +28,7 @@ pub record NextParts : Type 0 where
 abbrev pub next_code : Coded NextParts
 next_code =
     code_by (Next × Bool) (coded× (finite.code place_row.the_row.coded
-    (coded_option (coded_list rule_row.the_row.coded))) coded_Bool)
+    (coded_option (coded_list rule_row.the_row.coded))) coded_bool)
     (λ n. (n.places, n.free)) (λ p. record { places = p.0; free = p.1 }) (λ _. refl)
 
 -- no chain stands at a place

@@ -81,7 +81,7 @@ AreBlocksOf setting ports blocks =
     → finite.get blocks key ≡ option_map (port_block setting) (finite.get ports key)
 
 -- what a writer keeps: ports under their own keys, and the blocks of the newest
-pub record IsKept (w : WriterParts) (blocks : BlocksByPort) : Type 0 where
+pub record IsKept (w : WriterParts) (kept : BlocksByPort) : Type 0 where
   pub written : AreUnderOwnKeys (written_ports w)
   pub newest : AreUnderOwnKeys (newest_ports w)
-  pub blocks : AreBlocksOf (setting_in w) (newest_ports w) blocks
+  pub blocks : AreBlocksOf (setting_in w) (newest_ports w) kept

@@ -47,7 +47,7 @@ impl Known {
 /// Two are alike where the same is known of both.
 impl Told for Known {
     ghost use Rattle.kp_history_defs.specs.DirtyPorts.{same_info as is_same};
-    ghost use Rattle.kp_writer.proofs.Alike.{info_tells};
+    ghost use Rattle.kp_writer.specs.Alike.{info_tells};
 
     ghost same = { is_same };
 
