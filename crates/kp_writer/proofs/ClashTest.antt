@@ -2,7 +2,7 @@
 -- one name.
 use Rattle.std.specs.Prelude.{◌↔◌}
 use Rattle.std.proofs.Common.{◌≡◌, ◌⊎◌, inl, inr, Bool, true, false, cond, not, List, ◌++◌}
-use Rattle.std.proofs.Common.{map, filter, flat_map, Contains, Option, Some, None, is_some, refl}
+use Rattle.std.proofs.Common.{map, filter, flat_map, [], ◌∷◌, Contains, Option, Some, None, is_some, refl}
 use Rattle.std.proofs.Common.{sym, ap, subst, ◌∙◌}
 use Rattle.std.specs.List.{fold, list_any}
 use Rattle.std.specs.Ordering.{eq_by_cmp}
@@ -10,6 +10,7 @@ use Rattle.std.specs.FinMap.{empty, find, get, get-empty, get-from_entries}
 use Rattle.std.specs.FinMap.Entries.{is_some-find}
 use Rattle.std.proofs.lemmas.Map.Views.{Contains-from_any}
 use Rattle.std.proofs.lemmas.List.{map-append}
+use Rattle.std.proofs.lemmas.Simd.{map-map}
 use Rattle.std.proofs.lemmas.List.Elements.{Contains-append_right}
 use Rattle.kp_lemmas.proofs.Members.{any_from, from_filter, from_flat_map, from_map, in_filter}
 use Rattle.kp_lemmas.proofs.Members.{in_flat_map, in_map}
@@ -29,10 +30,10 @@ use Rattle.kp_table_laws.specs.Laws.{HaveOwnNames, StandApart}
 use Rattle.kp_table_laws.proofs.ChangedPorts.{no_clash_of_changed_ports}
 use Rattle.kp_table_laws.proofs.KeyRows.{row_key, row_stands}
 use Rattle.kp_table_laws.proofs.NeededKeys.{no_clash_is_own_names}
-use Rattle.kp_full_table.proofs.Apart.{Apart, one_of_place, port_places}
 use Rattle.kp_writer.specs.Next.{NextParts, is_free_by}
 use Rattle.kp_writer.specs.Own.{left, places_of, written}
-use Rattle.kp_writer.proofs.NextPlaces.{Free, Row, found_left, free_written}
+use Rattle.kp_writer.proofs.NextPlaces.{AreApart, Free, Row, found_left, free_written}
+use Rattle.kp_writer.proofs.NextPlaces.{one_of_value}
 
 module _ (kept : PortInfo → Bool) where
   -- the ports that differ
@@ -76,12 +77,24 @@ module _ (setting : Setting) where
       → place_of_key setting k ≡ place_of_key setting l
   one_place k l same = ap (λ n. record { table = nat_table setting.family; chain = n }) same
 
-  -- the rows of places that were written apart have names of their own
-  own_names : (is : List PortInfo) → Apart (map (λ r. r.0) (flat_map (port_rows setting) is))
+  -- the chains of ports stand at the places of their keys
+  places_of_rows : (is : List PortInfo)
+      → map (λ (r : Row). r.0) (flat_map (port_rows setting) is)
+      ≡ map (place_of_key setting) (flat_map own_keys is)
+  places_of_rows [] = refl
+  places_of_rows (i ∷ is) =
+      map-append (λ (r : Row). r.0) (port_rows setting i) (flat_map (port_rows setting) is)
+      ∙ (λ n. map-map (λ (r : Row). r.0) (row_of_key setting i) (own_keys i) n
+      ++ places_of_rows is n)
+      ∙ sym (map-append (place_of_key setting) (own_keys i) (flat_map own_keys is))
+
+  -- where they stand apart, their keys have names of their own
+  own_names : (is : List PortInfo)
+      → AreApart (map (λ (r : Row). r.0) (flat_map (port_rows setting) is))
       → HaveOwnNames setting.name_of (flat_map own_keys is)
   own_names is apart k l ck cl same =
-      one_of_place (place_of_key setting) (flat_map own_keys is)
-      (subst Apart (port_places setting is) apart) k l ck cl (one_place k l same)
+      one_of_value (place_of_key setting) (flat_map own_keys is)
+      (subst AreApart (places_of_rows is) apart) k l ck cl (one_place k l same)
 
   -- the chains of ports
   abbrev pub rows : List PortInfo → List Row

@@ -5,18 +5,40 @@ use Rattle.std.specs.List.{fold, list_any}
 use Rattle.std.specs.Ordering.{eq_by_cmp}
 use Rattle.std.specs.FinMap.{get, get-insert, insert}
 use Rattle.std.proofs.lemmas.Bool.{and_parts}
-use Rattle.kp_lemmas.proofs.Members.{first_in, from_map, in_cases, later_in, none_in}
+use Rattle.kp_lemmas.proofs.Members.{first_in, from_map, in_cases, in_map, later_in}
+use Rattle.kp_lemmas.proofs.Members.{none_in}
 use Rattle.kp_lemmas.proofs.Orders.{one_from_tie, tie_of_itself}
 use Rattle.kp_types.specs.Places.{chain_cmp}
 use Rattle.kp_types.specs.declared.chain.ChainAt.{ChainAt}
 use Rattle.kp_types.specs.declared.rule.Rule.{Rule}
 use Rattle.kp_types.proofs.ChainOrder.{chain_total, chain_exact}
 use Rattle.kp_table_defs.specs.Rebuild.{Chains}
-use Rattle.kp_full_table.proofs.Apart.{Apart}
 use Rattle.kp_writer.specs.Next.{NextParts, is_free_by, leave, write}
 
 abbrev pub Row : Type 0
 Row = ChainAt × List Rule
+
+-- no element stands again behind itself
+pub AreApart : {A : Type 0} → List A → Type 0
+AreApart [] = Unit {0}
+AreApart (x ∷ xs) = ((y : _) → Contains xs y → x ≡ y → ⊥) × AreApart xs
+
+-- of elements whose values stand apart no two have one value
+pub one_of_value : {A B : Type 0} (f : A → B) (xs : List A) → AreApart (map f xs) → (x y : A)
+    → Contains xs x → Contains xs y → f x ≡ f y → x ≡ y
+unfolding AreApart
+one_of_value f [] h x y cx cy same = absurd (none_in x cx)
+one_of_value f (z ∷ xs) h x y cx cy same =
+    elim (in_cases x z xs cx) [
+      | inl e ↦ elim (in_cases y z xs cy) [
+        | inl d ↦ sym e ∙ d
+        | inr d ↦ absurd (h.0 (f y) (in_map f y xs d) (ap f e ∙ same))
+      ]
+      | inr c ↦ elim (in_cases y z xs cy) [
+        | inl d ↦ absurd (h.0 (f x) (in_map f x xs c) (ap f d ∙ sym same))
+        | inr d ↦ one_of_value f xs h.1 x y c d same
+      ]
+    ]
 
 -- ---- Chains that are left
 
@@ -76,7 +98,7 @@ module _ (before : Chains) where
   Free n rows =
       (n.free ≡ true)
       × ((r : Row) → Contains rows r → is_free_by before r.0 (get n.places r.0) ≡ true)
-      × Apart (map (λ r. r.0) rows)
+      × AreApart (map (λ r. r.0) rows)
 
   -- a place that was written isn't free
   taken : (n : NextParts) (r s : Row) → r.0 ≡ s.0
@@ -101,7 +123,7 @@ module _ (before : Chains) where
 
   pub free_written : (n : NextParts) (rows : List Row)
       → (fold (write before) n rows).free ≡ true → Free n rows
-  unfolding Apart
+  unfolding AreApart
   free_written n [] free = (free, ((λ r c. absurd (none_in r c)), tt))
   free_written n (r ∷ rows) free =
       let (start, (each, apart)) = free_written (write before n r) rows free in

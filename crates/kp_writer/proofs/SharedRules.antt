@@ -1,7 +1,7 @@
 -- Ports whose rules in a chain are the same, port by port, have the same rules there together.
-use Rattle.std.proofs.Common.{◌≡◌, List, [], ◌∷◌, ◌++◌, map, flat_map, Option, Some, None, concat}
+use Rattle.std.proofs.Common.{◌≡◌, List, [], ◌∷◌, ◌++◌, map, flat_map, Option, Some, None}
 use Rattle.std.proofs.Common.{refl, sym, ap, ◌∙◌}
-use Rattle.std.specs.List.{AllByRecursion, cons_option, filter_map}
+use Rattle.std.specs.List.{AllByRecursion, concat, cons_option, filter_map}
 use Rattle.std.specs.FinMap.{entries, get, keys, values}
 use Rattle.kp_lemmas.proofs.Entries.{entries_found}
 use Rattle.kp_base.specs.Keys.{port_key_cmp}
