@@ -64,7 +64,7 @@ blocks_left s m bs port are k =
 -- ---- What is kept
 
 -- blocks of ports under a configuration
-Under : Config → Ports → BlocksByPort → Type 0
+abbrev Under : Config → Ports → BlocksByPort → Type 0
 Under config ports blocks = AreBlocksOf (setting_of V4 config) ports blocks
 
 moved : (c d : Config) (m n : Ports) (bs cs : BlocksByPort) → d ≡ c → n ≡ m → cs ≡ bs

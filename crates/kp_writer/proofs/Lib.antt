@@ -1,5 +1,5 @@
-mod DirtyLists
+mod EitherWay
 mod KeptPorts
 mod LocalEdits
-mod NextPlaces
+mod MorePlaces
 mod Present
