@@ -1,5 +1,14 @@
+mod ClashTest
+mod DirtyLists
 mod EitherWay
 mod KeptPorts
 mod LocalEdits
 mod MorePlaces
+mod NextPlaces
+mod OwnKeys
 mod Present
+mod RuleCounts
+mod SharedPlaces
+mod SharedRules
+mod SyncPlaces
+mod Totals

@@ -23,8 +23,18 @@ pub fn block_of(
     let blocks = info_blocks(alloc, config, info)?;
     let mut block = Vec::new(alloc);
     add(&mut block, TableName::Nat, "KUBE-SERVICES", blocks.services)?;
-    add(&mut block, TableName::Nat, "KUBE-NODEPORTS", blocks.node_ports)?;
-    add_filter(&mut block, blocks.firewall, blocks.external, blocks.refusals)?;
+    add(
+        &mut block,
+        TableName::Nat,
+        "KUBE-NODEPORTS",
+        blocks.node_ports,
+    )?;
+    add_filter(
+        &mut block,
+        blocks.firewall,
+        blocks.external,
+        blocks.refusals,
+    )?;
     Ok(Items::from_vec(block))
 }
 

@@ -21,10 +21,38 @@ pub fn join_touched(
 {
     let (nat, filter) = (TableName::Nat, TableName::Filter);
     join_if(alloc, blocks, next, touched.services, nat, "KUBE-SERVICES")?;
-    join_if(alloc, blocks, next, touched.node_ports, nat, "KUBE-NODEPORTS")?;
-    join_if(alloc, blocks, next, touched.firewall, filter, "KUBE-PROXY-FIREWALL")?;
-    join_if(alloc, blocks, next, touched.external, filter, "KUBE-EXTERNAL-SERVICES")?;
-    join_if(alloc, blocks, next, touched.refusals, filter, "KUBE-SERVICES")
+    join_if(
+        alloc,
+        blocks,
+        next,
+        touched.node_ports,
+        nat,
+        "KUBE-NODEPORTS",
+    )?;
+    join_if(
+        alloc,
+        blocks,
+        next,
+        touched.firewall,
+        filter,
+        "KUBE-PROXY-FIREWALL",
+    )?;
+    join_if(
+        alloc,
+        blocks,
+        next,
+        touched.external,
+        filter,
+        "KUBE-EXTERNAL-SERVICES",
+    )?;
+    join_if(
+        alloc,
+        blocks,
+        next,
+        touched.refusals,
+        filter,
+        "KUBE-SERVICES",
+    )
 }
 
 /// A shared chain is joined where it is touched.

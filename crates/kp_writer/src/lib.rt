@@ -11,6 +11,6 @@ mod own;
 mod shared;
 mod writer;
 
-pub use kp_full_table::TableFault;
 pub use known::Known;
+pub use kp_full_table::TableFault;
 pub use writer::Writer;

@@ -1,5 +1,5 @@
 //! What stands after a sync at the places that it may change.
-ghost use Rattle.std.specs.Prelude.{◌≡◌, ◌++◌, true, IfOk, OnOk};
+ghost use Rattle.std.specs.Prelude.{◌≡◌, ◌++◌, ◌&&◌, true, IfOk, OnOk};
 ghost use Rattle.std.specs.BTreeMap.{IsOrdered};
 ghost use Rattle.std.specs.FinMap as finite;
 ghost use Rattle.std.specs.List.{filter_map};
@@ -76,9 +76,9 @@ impl NextChains {
         ensures { OnOk result (self.new ≡ spec.write before.now.chains self.old (row_of row)) }
     {
         let ChainText { at, rules } = row;
-        let free = is_free(before, &at, self.places.get(&at));
+        let free = stays_free(self.free, before, &at, self.places.get(&at));
         self.places.insert(at, Some(Shared::of(alloc, rules)?))?;
-        self.free = self.free && free;
+        self.free = free;
         Ok(())
     }
 
@@ -98,6 +98,14 @@ impl NextChains {
     {
         edits_at(alloc, table, &self.places)
     }
+}
+
+/// Whether all places so far are free, and this one too.
+fn stays_free(free: bool, before: &Table, at: &ChainAt, next: Option<&Option<Shared<Rule>>>) -> bool
+    ensures { result
+        ≡ (free && spec.is_free_by before.now.chains at.now (option_copied next.entry)) }
+{
+    free && is_free(before, at, next)
 }
 
 /// Whether a place is free, by what stands there after: a chain that goes leaves it free.
@@ -152,8 +160,9 @@ fn add_writes(
     table: TableName,
     edits: &mut Vec<Edit>,
 ) -> Result<(), NoMemory>
-    ensures { OnOk result (edits.new.items ≡ edits.old.items
+    ensures edits { OnOk result (edits.new.items ≡ edits.old.items
         ++ filter_map (spec.write_of before.now.chains table) places.now.entries) }
+    ensures in_order { IsOrdered order.ghosts.cmp places.now }
 {
     for (at, chain) in places.iter() {
         add(write_of(alloc, before, table, at, chain)?, edits)?;

@@ -37,11 +37,15 @@ pub fn touched_by<L: Ledger>(
     steps: &mut Steps<L>,
 ) -> Result<Touched, NoMemory>
     ensures touched { IfOk result (λ t. t ≡ spec.touched_by (setting_of V4 config.now)
-        (map (λ k. (finite.get (tracked.published port_key_cmp ports.now) k.now,
-        finite.get (tracked.newest port_key_cmp ports.now) k.now)) keys.now)) }
+        (map (λ k. (
+          finite.get (tracked.published port_key_cmp ports.now) k.now,
+          finite.get (tracked.newest port_key_cmp ports.now) k.now,
+        )) keys.now)) }
     ensures steps { steps.new ≤ steps.old + spec.change_count (setting_of V4 config.now)
-        (map (λ k. (finite.get (tracked.published port_key_cmp ports.now) k.now,
-        finite.get (tracked.newest port_key_cmp ports.now) k.now)) keys.now) }
+        (map (λ k. (
+          finite.get (tracked.published port_key_cmp ports.now) k.now,
+          finite.get (tracked.newest port_key_cmp ports.now) k.now,
+        )) keys.now) }
 {
     let mut touched = untouched();
     for key in keys {

@@ -3,16 +3,15 @@ ghost use Rattle.std.specs.Prelude.{◌≡◌, IfOk, OnOk, OnErr};
 ghost use Rattle.std.specs.FinMap as finite;
 ghost use Rattle.kp_writer.specs.Written as spec;
 
+use crate::block::block_of;
+use crate::kept;
+use crate::known::Known;
 use kp_base::{Config, Copied, NoMemory, PortKey};
 use kp_blocks::Blocks;
 use kp_tracker::Tracker;
 use kp_types::PortInfo;
 use std::alloc::Global;
 use std::marker::Model;
-
-use crate::block::block_of;
-use crate::kept;
-use crate::known::Known;
 
 /// What was written of each port, and what is known of it now. Contracts see both, and the
 /// configuration; the blocks of the shared chains are a function of these.

@@ -10,4 +10,4 @@ use Rattle.kp_writer.proofs.own.leave_port.Given as goal
 abbrev pub invariant-loop-key : goal.invariant-loop-key
 invariant-loop-key l =
     l.next
-    ≡ fold leave l.fn.next (map (place_of_key (setting_of V4 l.config)) (take l.key-index l.keys-items))
+    ≡ fold leave l.fn.next (map (place_of_key (setting_of V4 l.config)) (take l.key-index l.key-items))

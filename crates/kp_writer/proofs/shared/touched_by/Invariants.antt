@@ -12,11 +12,17 @@ abbrev pub invariant-loop-key : goal.invariant-loop-key
 invariant-loop-key g l = record {
   touched :
       l.touched
-      ≡ spec.touched_by (setting_of V4 l.config) (map (λ k. (get (published port_key_cmp l.ports)
-      k.now, get (newest port_key_cmp l.ports) k.now)) (take l.key-index l.keys));
+      ≡ spec.touched_by (setting_of V4 l.config) (map (λ k. (
+        get (published port_key_cmp l.ports)
+            k.now,
+        get (newest port_key_cmp l.ports) k.now,
+      )) (take l.key-index l.keys));
   steps :
       l.steps
-      ≤ l.fn.steps + spec.change_count (setting_of V4 l.config) (map (λ k. (get (published
-      port_key_cmp l.ports) k.now, get (newest port_key_cmp l.ports) k.now))
+      ≤ l.fn.steps + spec.change_count (setting_of V4 l.config) (map (λ k. (
+        get (published
+            port_key_cmp l.ports) k.now,
+        get (newest port_key_cmp l.ports) k.now,
+      ))
       (take l.key-index l.keys));
 }
