@@ -10,5 +10,7 @@ mod Present
 mod RuleCounts
 mod SharedPlaces
 mod SharedRules
+mod SyncFixed
 mod SyncPlaces
+mod SyncTables
 mod Totals

@@ -37,7 +37,7 @@ module _ (setting : Setting) (flag : Touched → Bool) (rules : Blocks → List 
       not_false true n = refl
       not_false false n = sym n
 
-  untouched_by : (t : Touched) (cs : List Change) → flag (fold (touch_by setting) t cs) ≡ false
+  pub untouched_by : (t : Touched) (cs : List Change) → flag (fold (touch_by setting) t cs) ≡ false
       → (flag t ≡ false) × ((c : Change) → Contains cs c → rules (blocks_if setting c.0) ≡ rules
       (blocks_if setting c.1))
   untouched_by t [] h = (h, (λ c in_none. absurd (none_in c in_none)))
@@ -96,6 +96,15 @@ module _ (blocks : BlocksByPort) where
 abbrev fixed_rows : List (ChainAt × List Rule)
 fixed_rows = layout.nat_rows_with V4 [] [] ++ layout.filter_rows_with V4 [] [] []
 
+-- the shared chains, the last first, with whether each is touched
+abbrev pub shared_flags : Touched → List (ChainAt × Bool)
+shared_flags t =
+    (record { table = Filter; chain = layout.kube_services }, t.refusals)
+    ∷ (record { table = Filter; chain = layout.kube_external_services }, t.external)
+    ∷ (record { table = Filter; chain = layout.kube_proxy_firewall }, t.firewall)
+    ∷ (record { table = Nat; chain = layout.kube_node_ports }, t.node_ports)
+    ∷ (record { table = Nat; chain = layout.kube_services }, t.services) ∷ []
+
 module _ (blocks : BlocksByPort) (start : NextParts) where
   -- a shared chain that was joined, or what stood before, where the place isn't one of those that
   -- were joined so far, or that wasn't touched
@@ -121,15 +130,6 @@ module _ (blocks : BlocksByPort) (start : NextParts) where
   fixed_by : (at : ChainAt) → is_some (find chain_cmp at fixed_rows) ≡ true
       → is_some (get (fixed_chains V4) at) ≡ true
   fixed_by at h = ap is_some (get-from_entries chain_total fixed_rows at) ∙ h
-
-  -- the shared chains, the last first, with whether each is touched
-  abbrev pub shared_flags : Touched → List (ChainAt × Bool)
-  shared_flags t =
-      (record { table = Filter; chain = layout.kube_services }, t.refusals)
-      ∷ (record { table = Filter; chain = layout.kube_external_services }, t.external)
-      ∷ (record { table = Filter; chain = layout.kube_proxy_firewall }, t.firewall)
-      ∷ (record { table = Nat; chain = layout.kube_node_ports }, t.node_ports)
-      ∷ (record { table = Nat; chain = layout.kube_services }, t.services) ∷ []
 
   pub found_shared : (t : Touched) (q : ChainAt)
       → Joins (with_shared blocks t start) (shared_flags t) q

@@ -1,6 +1,6 @@
 -- What stands after a sync at places that aren't fixed chains' is what the full table of the newest
 -- ports has there, and at the others of these places the tables agree.
-use Rattle.std.proofs.Common.{◌≡◌, ◌⊎◌, inl, inr, Bool, true, false, cond, not, List, [], ◌++◌}
+use Rattle.std.proofs.Common.{◌≡◌, ◌⊎◌, inl, inr, Bool, true, false, cond, not, List, [], ◌∷◌, ◌++◌}
 use Rattle.std.proofs.Common.{map, filter, flat_map, Contains, Option, Some, None, is_some, refl}
 use Rattle.std.proofs.Common.{sym, ap, subst, unwrap_or, ◌∙◌}
 use Rattle.std.specs.List.{list_any}
@@ -8,6 +8,7 @@ use Rattle.std.specs.Ordering.{eq_by_cmp}
 use Rattle.std.specs.FinMap.{empty, find, get, get-empty, get-from_entries}
 use Rattle.std.specs.FinMap.Entries.{is_some-find}
 use Rattle.std.proofs.lemmas.Map.Views.{Contains-from_any}
+use Rattle.std.proofs.lemmas.List.{map-append}
 use Rattle.std.proofs.lemmas.Simd.{map-map}
 use Rattle.kp_lemmas.proofs.Members.{any_from, from_filter, from_flat_map, in_filter, in_flat_map}
 use Rattle.kp_lemmas.proofs.Members.{in_map}
@@ -185,8 +186,12 @@ module _ (config : Config) where
           true_false : true ≡ false → ⊥
           true_false t = absurd (cc)
 
+      -- nothing stands anywhere
+      abbrev nothing : NextParts
+      nothing = record { places = empty; free = true }
+
       not_old : (q : ChainAt) (b : Bool) → list_any (eq_by_cmp chain_cmp q) olds ≡ b
-          → cond b (Some None) (get (empty {R = chain_cmp}) q) ≡ None → b ≡ false
+          → cond b (Some None) (get nothing.places q) ≡ None → b ≡ false
       not_old q true is found = absurd (cc)
       not_old q false is found = refl
 
@@ -198,8 +203,18 @@ module _ (config : Config) where
           ∙ (λ n. map-map (λ (r : Row). r.0) (row_of_key s i) (own_keys i) n
           ++ places_of_rows is n)
 
+      some_none : (rules : List Rule) → Some (Some rules) ≡ None → ⊥
+      some_none rules h = absurd (cc)
+
       differs_by : (i : PortInfo) → kept i ≡ false → differs kept i ≡ true
       differs_by i h = ap not h
+
+      -- a place that isn't listed isn't that of a chain that went
+      not_there : (q : ChainAt) → get next.places q ≡ get start.places q
+          → get next.places q ≡ None → list_any (eq_by_cmp chain_cmp q) olds ≡ false
+      not_there q is unlisted =
+          not_old q (list_any (eq_by_cmp chain_cmp q) olds) refl
+          (sym (is ∙ found_left (record { places = empty; free = true }) olds q) ∙ unlisted)
 
       -- at the other places that aren't fixed chains' both tables agree
       pub elsewhere : (q : ChainAt) → get next.places q ≡ None
@@ -207,13 +222,13 @@ module _ (config : Config) where
           → get (full_chains s before) q ≡ get (full_chains s after) q
       elsewhere q unlisted fixed =
           elim (found_written (full_chains s before) start (rows s changed) q) [
-            | inl h ↦ absurd (some_none (sym h.3 ∙ unlisted))
+            | inl h ↦ absurd (some_none h.0.1 (sym h.3 ∙ unlisted))
             | inr h ↦
                 tables_agree_elsewhere s before after q kept same
                 (λ i ci dirty. chain_of q i (is_some (own_chain s q i)) refl
                 (filter (differs kept) before)
                 (in_filter (differs kept) i before ci (differs_by i dirty))
-                (list_any (eq_by_cmp chain_cmp q) olds |> not_there q h.1 unlisted))
+                (not_there q h.1 unlisted))
                 (λ i ci dirty. chain_of q i (is_some (own_chain s q i)) refl changed
                 (in_filter (differs kept) i after ci (differs_by i dirty))
                 (ap (list_any (eq_by_cmp chain_cmp q)) (sym (places_of_rows changed)) ∙ h.0))
