@@ -11,6 +11,7 @@ mod RuleCounts
 mod SharedPlaces
 mod SharedRules
 mod SyncFixed
+mod SyncLaw
 mod SyncPlaces
 mod SyncTables
 mod Totals
