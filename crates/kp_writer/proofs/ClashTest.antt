@@ -2,9 +2,9 @@
 -- one name.
 use Rattle.std.specs.Prelude.{◌↔◌}
 use Rattle.std.proofs.Common.{◌≡◌, ◌⊎◌, inl, inr, Bool, true, false, cond, not, List, ◌++◌}
-use Rattle.std.proofs.Common.{map, filter, flat_map, [], ◌∷◌, Contains, Option, Some, None, is_some, refl}
+use Rattle.std.proofs.Common.{map, filter, flat_map, [], ◌∷◌, Contains, Some, None, is_some, refl}
 use Rattle.std.proofs.Common.{sym, ap, subst, ◌∙◌}
-use Rattle.std.specs.List.{fold, list_any}
+use Rattle.std.specs.List.{list_any}
 use Rattle.std.specs.Ordering.{eq_by_cmp}
 use Rattle.std.specs.FinMap.{empty, find, get, get-empty, get-from_entries}
 use Rattle.std.specs.FinMap.Entries.{is_some-find}
@@ -32,7 +32,7 @@ use Rattle.kp_table_laws.proofs.KeyRows.{row_key, row_stands}
 use Rattle.kp_table_laws.proofs.NeededKeys.{no_clash_is_own_names}
 use Rattle.kp_writer.specs.Next.{NextParts, is_free_by}
 use Rattle.kp_writer.specs.Own.{left, places_of, written}
-use Rattle.kp_writer.proofs.NextPlaces.{AreApart, Free, Row, found_left, free_written}
+use Rattle.kp_writer.proofs.NextPlaces.{AreApart, Row, found_left, free_written}
 use Rattle.kp_writer.proofs.NextPlaces.{one_of_value}
 
 module _ (kept : PortInfo → Bool) where

@@ -1,5 +1,5 @@
 -- The ports that differ, by the keys that are pending, and the ports that stay.
-use Rattle.std.proofs.Common.{◌≡◌, Bool, true, false, cond, not, List, [], ◌∷◌, map, filter}
+use Rattle.std.proofs.Common.{◌≡◌, Bool, true, false, cond, List, [], ◌∷◌, map, filter}
 use Rattle.std.proofs.Common.{Option, Some, None, is_some, Contains, refl, sym, ap, ◌∙◌, T}
 use Rattle.std.specs.declared.cmp.Ordering.{Ordering}
 use Rattle.std.specs.declared.cmp.Ordering.TheVariants.{Less}
@@ -11,7 +11,6 @@ use Rattle.std.specs.FinMap.{values}
 use Rattle.std.specs.FinMap.Entries.{below_all}
 use Rattle.kp_lemmas.proofs.Booleans.{both_facts}
 use Rattle.kp_lemmas.proofs.Entries.{entries_found}
-use Rattle.kp_lemmas.proofs.ListFacts.{all_weaker}
 use Rattle.kp_lemmas.proofs.Members.{any_from, first_in, later_in}
 use Rattle.kp_lemmas.proofs.Orders.{less_from_fact, tie_of_itself}
 use Rattle.kp_base.specs.Keys.{port_key_cmp}

@@ -1,6 +1,6 @@
 -- What stands at a place once the shared chains are joined.
-use Rattle.std.proofs.Common.{◌≡◌, ◌&&◌, ◌||◌, ◌⊎◌, inl, inr, Bool, true, false, cond, not, List}
-use Rattle.std.proofs.Common.{[], ◌∷◌, Contains, Option, Some, None, is_some, refl, sym, ap}
+use Rattle.std.proofs.Common.{◌≡◌, ◌||◌, ◌⊎◌, inl, inr, Bool, true, false, cond, not, List}
+use Rattle.std.proofs.Common.{[], ◌∷◌, Contains, Some, is_some, refl, sym, ap}
 use Rattle.std.proofs.Common.{◌++◌, drop, true≢false, ◌∙◌}
 use Rattle.std.specs.List.{AllByRecursion, fold}
 use Rattle.std.specs.Ordering.{eq_by_cmp}

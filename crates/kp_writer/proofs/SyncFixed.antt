@@ -1,5 +1,5 @@
 -- Where no changed port's rules in a fixed chain differ, both full tables have the same chain there.
-use Rattle.std.proofs.Common.{◌≡◌, ◌||◌, Bool, true, false, cond, List, [], ◌++◌}
+use Rattle.std.proofs.Common.{◌≡◌, Bool, true, false, cond, List, [], ◌++◌}
 use Rattle.std.proofs.Common.{Contains, Option, Some, None, append-nil, refl, sym, ap, ◌∙◌}
 use Rattle.std.specs.List.{AllByRecursion}
 use Rattle.std.specs.Ordering.{eq_by_cmp}

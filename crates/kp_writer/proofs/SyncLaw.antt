@@ -1,7 +1,7 @@
 -- The edits of a sync are the changes between the full tables of the ports as they were written and
 -- of the newest.
 use Rattle.std.proofs.Common.{◌≡◌, inl, inr, Bool, true, false, List, map, filter, Contains, Option}
-use Rattle.std.proofs.Common.{Some, None, is_some, not, unwrap_or, refl, sym, ap, ◌∙◌}
+use Rattle.std.proofs.Common.{Some, None, is_some, unwrap_or, refl, sym, ap, ◌∙◌}
 use Rattle.std.specs.List.{list_any}
 use Rattle.std.specs.Ordering.{eq_by_cmp}
 use Rattle.std.specs.FinMap.{entries, find, get, get-from_entries, values}
@@ -28,7 +28,7 @@ use Rattle.kp_writer_laws.proofs.LocalChanges.{changes_are_local}
 use Rattle.kp_blocks.specs.Joined.{BlocksByPort, fixed_chains, joined_rules}
 use Rattle.kp_blocks.proofs.JoinedChains.{joined_chains_are_the_tables}
 use Rattle.kp_writer.specs.Next.{NextParts, Place, edits_at}
-use Rattle.kp_writer.specs.Own.{left, written}
+use Rattle.kp_writer.specs.Own.{written}
 use Rattle.kp_writer.specs.Shared.{touched_by, with_shared}
 use Rattle.kp_writer.specs.Written.{AreBlocksOf, AreUnderOwnKeys, Ports}
 use Rattle.kp_writer.proofs.ClashTest.{differs, gone}

@@ -1,6 +1,6 @@
 -- What stands after a sync at places that aren't fixed chains' is what the full table of the newest
 -- ports has there, and at the others of these places the tables agree.
-use Rattle.std.proofs.Common.{◌≡◌, ◌⊎◌, inl, inr, Bool, true, false, cond, not, List, [], ◌∷◌, ◌++◌}
+use Rattle.std.proofs.Common.{◌≡◌, inl, inr, Bool, true, false, cond, not, List, [], ◌∷◌, ◌++◌}
 use Rattle.std.proofs.Common.{map, filter, flat_map, Contains, Option, Some, None, is_some, refl}
 use Rattle.std.proofs.Common.{sym, ap, subst, unwrap_or, ◌∙◌}
 use Rattle.std.specs.List.{list_any}
@@ -28,8 +28,8 @@ use Rattle.kp_choice_defs.specs.Names.{first_clash}
 use Rattle.kp_choice_defs.specs.Settings.{setting_of}
 use Rattle.kp_object_defs.specs.PortInfo.{PortInfo}
 use Rattle.kp_table_defs.specs.Keys.{own_keys}
-use Rattle.kp_table_defs.specs.Layout.{place_of_key, port_rows, row_of_key, rows_of, rules_of_key}
-use Rattle.kp_table_defs.specs.Rebuild.{Chains, full_chains, needed_keys}
+use Rattle.kp_table_defs.specs.Layout.{place_of_key, port_rows, row_of_key, rows_of}
+use Rattle.kp_table_defs.specs.Rebuild.{full_chains, needed_keys}
 use Rattle.kp_table_laws.specs.Laws.{HaveOwnKeys}
 use Rattle.kp_table_laws.proofs.KeyRows.{own_chains_are_found, row_key, row_stands}
 use Rattle.kp_table_laws.proofs.NeededKeys.{key_port, no_clash_is_own_names, port_of}
@@ -37,10 +37,10 @@ use Rattle.kp_walk_laws.specs.Laws.{IsPrefixed}
 use Rattle.kp_writer_laws.specs.LocalLaws.{fixed_rows, own_chain}
 use Rattle.kp_writer_laws.proofs.LocalLookUps.{found_own, tables_agree_elsewhere}
 use Rattle.kp_writer.specs.Next.{NextParts}
-use Rattle.kp_writer.specs.Own.{left, places_of, written}
+use Rattle.kp_writer.specs.Own.{places_of, written}
 use Rattle.kp_writer.proofs.ClashTest.{differs, fewer, gone, key_at, old_key, old_places}
-use Rattle.kp_writer.proofs.ClashTest.{one_place, rows, split}
-use Rattle.kp_writer.proofs.NextPlaces.{Row, Stands, found_left, found_written}
+use Rattle.kp_writer.proofs.ClashTest.{rows, split}
+use Rattle.kp_writer.proofs.NextPlaces.{Row, found_left, found_written}
 
 module _ (config : Config) where
   abbrev s : Setting

@@ -1,6 +1,6 @@
 -- The changes between the full tables of the ports as they were written and of the newest, from what
 -- stands after at the places that may change.
-use Rattle.std.proofs.Common.{◌≡◌, Bool, true, false, List, [], ◌∷◌, ◌++◌, map, flat_map, Contains}
+use Rattle.std.proofs.Common.{◌≡◌, Bool, true, false, List, [], ◌∷◌, ◌++◌, map, flat_map}
 use Rattle.std.proofs.Common.{Option, Some, is_some, refl, sym, ap, ◌∙◌}
 use Rattle.std.specs.List.{AllByRecursion, list_any}
 use Rattle.std.specs.Ordering.{eq_by_cmp}
@@ -20,7 +20,7 @@ use Rattle.kp_types.specs.Setting.{Setting}
 use Rattle.kp_choice_defs.specs.Settings.{setting_of}
 use Rattle.kp_object_defs.specs.PortInfo.{PortInfo}
 use Rattle.kp_table_defs.specs.Rebuild.{full_chains}
-use Rattle.kp_blocks.specs.Joined.{block_rules, blocks_by_port, fixed_chains, fixed_rules}
+use Rattle.kp_blocks.specs.Joined.{block_rules, fixed_chains, fixed_rules}
 use Rattle.kp_blocks.specs.Joined.{port_block, with_rules}
 use Rattle.kp_blocks.proofs.JoinedChains.{blocks_in_order, joined_chains_are_the_tables}
 use Rattle.kp_writer.specs.Shared.{Change, touched_by}

@@ -1,6 +1,6 @@
 -- One element more among those that were counted, and among those that were folded.
 use Rattle.std.proofs.Common.{◌≡◌, ℕ, ◌+◌, ◌<◌, ◌≤◌, arith, List, [], ◌∷◌, ◌++◌, map, take, drop}
-use Rattle.std.proofs.Common.{flat_map, length, get_or, append-nil, refl, sym, ap, ◌∙◌}
+use Rattle.std.proofs.Common.{flat_map, length, get_or, append-nil, sym, ap, ◌∙◌}
 use Rattle.std.specs.List.{fold}
 use Rattle.std.proofs.lemmas.List.{map-append, take_more, take-append-drop}
 use Rattle.std.proofs.lemmas.List.Concat.{flat_map-append}
