@@ -73,10 +73,6 @@ module _ (setting : Setting) where
       (no_clash_is_own_names setting.name_of (filter test is)).1 (λ k l ck cl same.
       own k l (fewer test is k ck) (fewer test is l cl) same)
 
-  pub one_place : (k l : ChainKey) → setting.name_of k ≡ setting.name_of l
-      → place_of_key setting k ≡ place_of_key setting l
-  one_place k l same = ap (λ n. record { table = nat_table setting.family; chain = n }) same
-
   -- the chains of ports stand at the places of their keys
   places_of_rows : (is : List PortInfo)
       → map (λ (r : Row). r.0) (flat_map (port_rows setting) is)
@@ -94,7 +90,8 @@ module _ (setting : Setting) where
       → HaveOwnNames setting.name_of (flat_map own_keys is)
   own_names is apart k l ck cl same =
       one_of_value (place_of_key setting) (flat_map own_keys is)
-      (subst AreApart (places_of_rows is) apart) k l ck cl (one_place k l same)
+      (subst AreApart (places_of_rows is) apart) k l ck cl
+      (ap (λ n. record { table = nat_table setting.family; chain = n }) same)
 
   -- the chains of ports
   abbrev pub rows : List PortInfo → List Row
