@@ -258,7 +258,7 @@ module _ (setting : Setting) where
   sorted_blocks (i ∷ is) = λ k. below_blocks i.key is k && sorted_blocks is k
 
   -- entries in order are those of their map
-  blocks_in_order : (infos : List PortInfo) → AreInOrder infos
+  pub blocks_in_order : (infos : List PortInfo) → AreInOrder infos
       → values (blocks_by_port setting infos) ≡ map (port_block setting) infos
   blocks_in_order infos ordered =
       let es = block_entries infos in

@@ -1,3 +1,4 @@
 mod BlockValues
 pub mod JoinedChains
+mod PutBack
 mod PutBehind

@@ -20,9 +20,13 @@ use Rattle.kp_table_defs.specs.Layout as layout
 use Rattle.kp_table_defs.specs.Rebuild.{Chains, full_chains}
 use Rattle.kp_table_laws.specs.Laws.{AreInOrder}
 
--- the blocks of ports: the rules of each in the shared chains
+-- a port's rules in the shared chains
+abbrev pub Block : Type 0
+Block = List ChainText
+
+-- the blocks of ports
 abbrev pub BlocksByPort : Type 0
-BlocksByPort = finite.FinMap port_key_cmp (List ChainText)
+BlocksByPort = finite.FinMap port_key_cmp Block
 
 -- they are stored as finite maps are
 abbrev pub blocks_code : Coded BlocksByPort

@@ -1,9 +1,10 @@
 //! Blocks of rules by port, and shared chains joined from them.
-ghost use Rattle.std.specs.Prelude.{◌≡◌, ◌++◌, map, IfOk, OnOk, OnErr};
+ghost use Rattle.std.specs.Prelude.{◌≡◌, ◌++◌, true, is_some, map, IfOk, OnOk, OnErr};
 ghost use Rattle.std.specs.BTreeMap.{IsOrdered, values};
 ghost use Rattle.std.specs.FinMap as finite;
 ghost use Rattle.std.specs.List.{flat_map};
 ghost use Rattle.std.specs.Map.Iter.{deref_pair};
+ghost use Rattle.kp_base.specs.Keys.{port_key_cmp};
 ghost use Rattle.kp_base.specs.contracts.key.PortKeyOrd.TheImpl as order;
 ghost use Rattle.kp_base.specs.declared.address.Family.TheVariants.{V4};
 ghost use Rattle.kp_blocks.specs.Joined as spec;
@@ -62,6 +63,33 @@ impl Blocks {
         Ok(())
     }
 
+    /// Keeps a port's block, and hands out the one that it had. Where memory is out, all stays.
+    pub fn swap(
+        &mut self,
+        port: PortKey,
+        block: Items<ChainText>,
+    ) -> Result<Option<Items<ChainText>>, NoMemory>
+        ensures ok { OnOk result (self.new ≡ finite.insert self.old port block) }
+        ensures had { IfOk result (λ had. had ≡ finite.get self.old port) }
+        ensures err { OnErr result (self.new ≡ self.old) }
+    {
+        Ok(self.ports.insert(port, block)?)
+    }
+
+    /// Takes a swap back: the port has again what it had. It takes no memory.
+    pub fn put_back(&mut self, port: PortKey, had: Option<Items<ChainText>>)
+        requires { is_some (finite.get self.old port) ≡ true }
+        ensures { (m : spec.BlocksByPort) (block : spec.Block)
+            → self.old ≡ finite.insert m port block → had ≡ finite.get m port → self.new ≡ m }
+    {
+        match had {
+            None => {
+                self.ports.remove(&port);
+            }
+            Some(block) => put_present(&mut self.ports, port, block),
+        }
+    }
+
     /// Lets a port's block go, if it has one. It takes no memory.
     pub fn drop_port(&mut self, port: &PortKey)
         ensures { self.new ≡ finite.remove self.old port.now }
@@ -90,6 +118,20 @@ impl Blocks {
     {
         add_blocks(rules, at, &self.ports)
     }
+}
+
+/// Puts the block of a port that has one already. It takes no memory.
+fn put_present(
+    ports: &mut BTreeMap<PortKey, Items<ChainText>>,
+    port: PortKey,
+    block: Items<ChainText>,
+)
+    requires { is_some (finite.get (finite.from_entries {R = port_key_cmp} ports.old.entries) port)
+        ≡ true }
+    ensures { finite.from_entries {R = port_key_cmp} ports.new.entries
+        ≡ finite.insert (finite.from_entries ports.old.entries) port block }
+{
+    let _ = ports.insert(port, block);
 }
 
 /// Adds the rules of blocks in a chain. They stand in order of their ports.

@@ -110,7 +110,7 @@ destinations_itself p =
     ((lists_equiv address_laws.laws-law).refl p.balancer)
     ((options_equiv nat_eq_equiv).refl p.node_port)))))
 
-info_itself : (p : PortInfo) → same_info p p ≡ true
+pub info_itself : (p : PortInfo) → same_info p p ≡ true
 info_itself p =
     and_from _ _ (destinations_itself p) (and_from _ _ (policies_itself p) (lists_itself p.lists))
 

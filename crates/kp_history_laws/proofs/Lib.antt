@@ -1,6 +1,6 @@
 mod Affected
 mod Changed
-mod DirtyPorts
+pub mod DirtyPorts
 mod EveryRun
 pub mod Histories
 mod Kept
