@@ -71,7 +71,7 @@ fn runs_out<R>(rt: &R, gate: &HoldGate, calls: &str) -> bool {
             b'+' => arrives = true,
             b'-' => arrives = false,
             b'0' if arrives => {
-                first += 1;
+                first = first.saturating_add(1);
                 gate.arrive(rt, 0, first);
             }
             b'0' => gate.leave(rt, 0, first),
