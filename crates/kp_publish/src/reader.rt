@@ -1,5 +1,5 @@
 //! Readers, and what they see.
-ghost use Rattle.std.specs.Prelude.{◌≡◌, [], length};
+ghost use Rattle.std.specs.Prelude.{◌≡◌, ◌⊎◌, [], length};
 ghost use mathlib.Core.List.{IsPrefix};
 ghost use Rattle.kp_publish.specs.Entries.{records_of, GoesOnFrom, StandsFor};
 ghost use Rattle.kp_publish.specs.Knows.{nothing_of};
@@ -102,6 +102,7 @@ impl<J: Publication> Reader<J> {
         ensures pair { self.new.pair ≡ self.old.pair }
         ensures told { IsPrefix self.old.told self.new.told }
         ensures front { IsPrefix front self.new.told }
+        ensures one { (self.new.told ≡ self.old.told) ⊎ (self.new.told ≡ front) }
     {
         self.told = self.told.longer(&front);
     }
