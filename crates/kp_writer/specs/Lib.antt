@@ -1,5 +1,0 @@
-pub mod Alike
-pub mod Next
-pub mod Own
-pub mod Shared
-pub mod Written
