@@ -257,7 +257,7 @@ def check_records(script, run, clashes):
         demand(clashes[length] is None, f"coverage: the objects of record {record} clash")
     wanted = clashes[-1] if covered[-1] < len(run.journal) else None
     demand(covered[-1] == len(run.journal) or wanted, "coverage: events at the end have no record")
-    demand(run.final == wanted, f"coverage: the final sync has {run.final}, and not {wanted}")
+    demand(run.final == wanted, f"coverage: the final sync has {run.final!r}, and not {wanted!r}")
 
     syncs = [step.line for step in script.steps("sync")]
     made = [run.shown[line] for line in syncs if line in run.shown]
@@ -738,7 +738,7 @@ EDITS = [
     ("trail", r": .*", ": INPUT", "text"),
     ("final", r"record \d+|refused.*", "record MORE", "text|coverage"),
     ("final", r"record \d+|and of .*", "refused: X", "coverage"),
-    ("rule", r" -j .*", " -j ACCEPT", "text"),
+    ("rule", r" -j .*", " -j RETURN", "text"),
     ("end", r"$", "\nCOMMIT", "text"),
 ]
 # the part whose first line comes to stand before the first line of another part
