@@ -444,7 +444,7 @@ def check_runs(program, count, first):
 # ---- random scripts
 
 # lines of a stream at most: threads meet where they have more to do than to start
-MOST_LINES = 120
+MOST_LINES = 60
 TRIED_LINES = 12
 SERVICES = ["web", "api", "db"]
 ZONES = ["a", "b", "c"]
@@ -869,7 +869,7 @@ def fault_of(program, script, text, status):
 def try_runs(program, count, first):
     """The judge itself: worked texts and made runs are legal, each broken text is told by its
     condition, and what a wrong machine writes is told once at least, since it may be legal too.
-    Of ten scripts or more, each fault has a place in one at least."""
+    Of twenty scripts or more, each fault has a place in one at least."""
     faults, met = try_worked(program), set()
     for seed in range(first, first + count):
         rng = random.Random(f"run {seed}")
@@ -893,7 +893,7 @@ def try_runs(program, count, first):
         program.said.clear()
     wanted = {*MACHINES, *ORDERS, *(f"a {part} before each {other}" for part, other in MOVES)}
     wanted |= {f"a lost {part}" for part in PARTS}
-    faults += [f"{name}: not met" for name in sorted(wanted - met) if count >= 10]
+    faults += [f"{name}: not met" for name in sorted(wanted - met) if count >= 20]
     for fault in faults:
         print(f"checks: live: {fault}")
     return bool(faults)
