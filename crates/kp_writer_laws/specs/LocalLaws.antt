@@ -58,12 +58,17 @@ info_of infos key = find port_key_cmp key (map (λ i. (i.key, i)) infos)
 abbrev pub is_one_of : List PortKey → PortKey → Bool
 is_one_of keys key = list_any (eq_by_cmp port_key_cmp key) keys
 
+-- of each name but some the same is known before and after
+abbrev pub AreKnownAlikeBut : List PortKey → List PortInfo → List PortInfo → Type 0
+AreKnownAlikeBut keys before after =
+    (key : PortKey) → is_one_of keys key ≡ false → info_of after key ≡ info_of before key
+
 -- Ports in order are the same but for those of some names, where of each other name the same is
 -- known before and after.
 abbrev pub OtherPortsStay : Type 0
 OtherPortsStay =
     (before after : List PortInfo) (keys : List PortKey) → AreInOrder before → AreInOrder after
-    → ((key : PortKey) → is_one_of keys key ≡ false → info_of after key ≡ info_of before key)
+    → AreKnownAlikeBut keys before after
     → filter (λ i. not (is_one_of keys i.key)) before
     ≡ filter (λ i. not (is_one_of keys i.key)) after
 
@@ -83,7 +88,7 @@ abbrev pub NoClashIsLocal : Type 0
 NoClashIsLocal =
     (setting : Setting) (before after : List PortInfo) (keys : List PortKey)
     → AreInOrder before → AreInOrder after
-    → ((key : PortKey) → is_one_of keys key ≡ false → info_of after key ≡ info_of before key)
+    → AreKnownAlikeBut keys before after
     → HaveNoClash setting before
     → HaveNoClash setting after
     ↔ StandApart setting (filter (λ i. not (is_one_of keys i.key)) after)
