@@ -1,6 +1,6 @@
 -- Runs with syncs that are refused: the Service's slice has two endpoints, whose chains have one
 -- name. The lines are given as they were read.
-use Rattle.std.specs.Prelude.{◌≡◌, Bool, true, false, List, [], ◌∷◌, ◌++◌, codes}
+use Rattle.std.specs.Prelude.{◌≡◌, true, false, List, [], ◌∷◌, ◌++◌, codes}
 use Rattle.kp_types.specs.declared.chain.ChainKey.TheVariants.{Sep}
 use Rattle.kp_types.specs.declared.chain.Clash.{Clash}
 use Rattle.kp_types.specs.declared.event.Event.{Event}
@@ -8,7 +8,7 @@ use Rattle.kp_history_defs.specs.declared.fed.Fed.{Fed}
 use Rattle.kp_text_defs.specs.declared.script.Op.TheVariants as op
 use Rattle.kp_run_defs.specs.LegalRuns.{IsLegalRun, LiveRun, Mark, Refuses, Shows}
 use Rattle.kp_run_defs.specs.LiveText.{is_refused_run}
-use Rattle.kp_run_defs.specs.WorkedLive.{IsBroken, Read, fed, run_of}
+use Rattle.kp_run_defs.specs.WorkedLive.{IsBroken, fed, run_of}
 use Rattle.kp_worked.specs.Setting.{ep1, ep2, first, second, web_port}
 use Rattle.kp_worked.specs.Events.{apply_web}
 use Rattle.kp_worked_runs.specs.Printed.{filter_with, nat_of_one}

@@ -4,7 +4,7 @@ use Rattle.std.specs.Prelude.{List, [], ◌∷◌, codes}
 use Rattle.kp_history_defs.specs.declared.fed.Fed.{Fed}
 use Rattle.kp_text_defs.specs.declared.script.Op.TheVariants as op
 use Rattle.kp_run_defs.specs.LegalRuns.{IsLegalRun, LiveRun, Mark, Shows}
-use Rattle.kp_run_defs.specs.WorkedLive.{IsBroken, Read, by, fed, fitting, gone, mixed, run_of}
+use Rattle.kp_run_defs.specs.WorkedLive.{IsBroken, Read, by, fed, fitting, gone, run_of}
 use Rattle.kp_run_defs.specs.WorkedLive.{sent, two_streams, whole_counts}
 
 -- ---- The journal of the legal run of two streams

@@ -1,12 +1,9 @@
-use Rattle.std.proofs.Common.{◌≡◌, ◌≤◌, ◌+◌, ℕ, zero, suc, true, false, [], ◌∷◌, ◌++◌, codes, take, Some, None, Option, is_some, refl, ap, sym, subst, lit≤, arith, ◌∙◌}
+use Rattle.std.proofs.Common.{◌≡◌, ◌≤◌, ◌+◌, ℕ, zero, suc, true, false, [], ◌∷◌, ◌++◌, codes, is_some, refl, ap, sym, subst, lit≤, arith, ◌∙◌}
 use Rattle.std.specs.Fmt.{digits}
-use Rattle.kp_types.specs.declared.chain.ChainKey.{ChainKey}
-use Rattle.kp_types.specs.declared.chain.ChainKey.TheVariants.{Port, Sep}
-use Rattle.kp_types.specs.declared.chain.Clash.{Clash}
 use Rattle.kp_run_defs.specs.LegalRuns.{HasTable, Refuses, last_syncs}
 use Rattle.kp_run_defs.specs.WorkedLive.{run_of}
 use Rattle.kp_worked.specs.Setting.{first}
-use Rattle.kp_worked_runs.specs.Clashes.{clash, passing, refused_before, sync_shows, turned}
+use Rattle.kp_worked_runs.specs.Clashes.{clash, passing, refused_before, sync_shows}
 use Rattle.kp_worked_runs.specs.Printed.{nat_of_one, filter_with}
 use Rattle.kp_worked_runs.specs.Runs.{apply_slice, clashing, feeds}
 use Rattle.kp_worked_runs.proofs.ByLists.{clash_after, clash_is, final_is, prints}
