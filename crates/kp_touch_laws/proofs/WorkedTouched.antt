@@ -1,5 +1,5 @@
 -- Which of two Services events touch, by the entries of the objects.
-use Rattle.std.proofs.Common.{◌≡◌, ℕ, ◌&&◌, ◌||◌, Bool, true, false, not, bytes_eq, List, [], ◌∷◌}
+use Rattle.std.proofs.Common.{◌≡◌, ℕ, ◌&&◌, ◌||◌, not, bytes_eq, List, [], ◌∷◌}
 use Rattle.std.proofs.Common.{filter, map, Some, option_and_then, codes, refl, ap, ◌∙◌}
 use Rattle.std.specs.List.{list_any}
 use Rattle.std.specs.Option.{option_eq}

@@ -11,7 +11,6 @@ use Rattle.kp_types.specs.declared.event.Object.TheVariants as object
 use Rattle.kp_types.specs.declared.pod.Node.{Node}
 use Rattle.kp_types.specs.declared.pod.Pod.{Pod}
 use Rattle.kp_types.specs.declared.service.Service.{Service}
-use Rattle.kp_types.specs.declared.slice.Slice.{Slice}
 use Rattle.kp_object_defs.specs.Objects.{Objects, node_key}
 use Rattle.kp_touch_defs.specs.Touches.{touches}
 use Rattle.kp_worked.specs.Setting.{default_key, first, slice_of}
