@@ -1,4 +1,6 @@
 mod BlockValues
+pub mod ChangedBlocks
 pub mod JoinedChains
 mod PutBack
 mod PutBehind
+mod WorkedChains

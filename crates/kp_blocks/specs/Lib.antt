@@ -1,1 +1,3 @@
+pub mod BlockLaws
 pub mod Joined
+pub mod Worked

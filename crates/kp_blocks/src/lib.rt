@@ -3,8 +3,12 @@
 #![tactic(auto)]
 
 mod blocks;
+mod changes;
 mod fixed;
 mod laws;
+mod worked;
 
 pub use blocks::Blocks;
+pub use changes::{enough_by_blocks, joined_chains_stay};
 pub use laws::joined_chains_are_the_tables;
+pub use worked::worked_joined_chains;

@@ -1,2 +1,5 @@
+mod Few
+mod Known
 pub mod Untouched
+mod WorkedTouched
 pub mod Zones

@@ -7,6 +7,7 @@ use Rattle.std.proofs.lemmas.Bool.{or_parts}
 use Rattle.kp_lemmas.proofs.Orders.{one_from_tie}
 use Rattle.kp_base.specs.Keys.{key_cmp}
 use Rattle.kp_base.specs.declared.key.ObjectKey.{ObjectKey}
+use Rattle.kp_base.specs.declared.key.PortKey.{PortKey}
 use Rattle.kp_base.proofs.KeyOrder.{key_total, key_exact, key_ties}
 use Rattle.kp_types.specs.Setting.{Setting}
 use Rattle.kp_types.specs.declared.pod.Node.{Node}
@@ -29,17 +30,18 @@ use Rattle.kp_history_laws.specs.EventLaws.{UnaffectedService, has_port}
 use Rattle.kp_history_laws.specs.DirtyLaws.{CleanInfos, DirtyAreChanged}
 use Rattle.kp_history_laws.specs.PortLaws.{ChangedInputs}
 use Rattle.kp_touch_defs.specs.Touches.{is_selected, lost_node_touches, names_service, pod_touches, selects_pod}
-use Rattle.kp_touch_laws.specs.TouchLaws.{UntouchedInputs, UntouchedInfos, UntouchedRules, UntouchedByAll}
+use Rattle.kp_touch_laws.specs.TouchLaws.{LeaveByAll, LeavesUntouched, UntouchedInputs}
+use Rattle.kp_touch_laws.specs.TouchLaws.{UntouchedInfos, UntouchedRules}
 use Rattle.kp_touch_laws.proofs.Zones.{no_zone, node_stays}
 
 -- ---- What doesn't touch a Service doesn't affect it
 
-named_alike : (service : ObjectKey) (o : Option Slice)
+pub named_alike : (service : ObjectKey) (o : Option Slice)
     → is_slice_of service o ≡ names_service o service
 named_alike service None = refl
 named_alike service (Some s) = refl
 
-selected_alike : (o : Objects) (service : ObjectKey) (s : Service) → get o.services service ≡ Some s
+pub selected_alike : (o : Objects) (service : ObjectKey) (s : Service) → get o.services service ≡ Some s
     → (pod : Option Pod) → selects_some s pod ≡ is_selected o pod service
 selected_alike o service s at None = refl
 selected_alike o service s at (Some p) = ap (λ found. selects_pod found p) (sym at)
@@ -72,14 +74,14 @@ abbrev node_of : Objects → List ℕ → Option Node
 node_of o m = get o.nodes (node_key m)
 
 -- what a name finds after one node changed
-put_at : (o : Objects) (n : Node) (m : List ℕ)
+pub put_at : (o : Objects) (n : Node) (m : List ℕ)
     → node_of (objects_step o (Apply (object.Node n))) m
     ≡ cond (bytes_eq m n.name) (Some n) (node_of o m)
 put_at o n m =
     get-insert key_total o.nodes (node_key n.name) n (node_key m)
     ∙ ap (λ b. cond b (Some n) (node_of o m)) (sym (key_ties (node_key m) (node_key n.name)))
 
-taken_at : (o : Objects) (key : ObjectKey) (name : List ℕ) → node_key name ≡ key → (m : List ℕ)
+pub taken_at : (o : Objects) (key : ObjectKey) (name : List ℕ) → node_key name ≡ key → (m : List ℕ)
     → node_of (objects_step o (Delete kind.Node key)) m
     ≡ cond (bytes_eq m name) None (node_of o m)
 taken_at o key name is m =
@@ -161,10 +163,13 @@ module _ (unaffected : UnaffectedService) where
     untouched_rules setting o event key own h =
         ap (option_map (rules_of_port setting)) (untouched_infos setting o event key own h)
 
-  module _ (own_after : OwnKeysAfterEvent) where
-    pub untouched_by_all : UntouchedByAll
-    untouched_by_all setting o [] key own h = refl
-    untouched_by_all setting o (e ∷ es) key own h =
-        let parts = or_parts _ _ h in
-        untouched_by_all setting (objects_step o e) es key (own_after o e own) parts.1
-        ∙ untouched_inputs setting o e key own parts.0
+-- ---- Events one after the other
+
+module _ {X : Type 0} (of : Setting → Objects → PortKey → X) (own_after : OwnKeysAfterEvent)
+    (leaves : LeavesUntouched of) where
+  pub leave_by_all : LeaveByAll of
+  leave_by_all setting o [] key own h = refl
+  leave_by_all setting o (e ∷ es) key own h =
+      let parts = or_parts _ _ h in
+      leave_by_all setting (objects_step o e) es key (own_after o e own) parts.1
+      ∙ leaves setting o e key own parts.0

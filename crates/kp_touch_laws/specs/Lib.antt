@@ -1,1 +1,4 @@
+pub mod FewTouched
+pub mod KnownObjects
 pub mod TouchLaws
+pub mod WorkedTouches

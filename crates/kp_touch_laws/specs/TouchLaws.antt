@@ -1,5 +1,5 @@
 -- An event leaves what the ports of a Service are made of, where it doesn't touch the Service.
-use Rattle.std.specs.Prelude.{◌≡◌, ◌||◌, Bool, false, List, [], ◌∷◌}
+use Rattle.std.specs.Prelude.{◌≡◌, ◌||◌, Bool, false, List, [], ◌∷◌, Option}
 use Rattle.std.specs.List.{fold}
 use Rattle.kp_base.specs.declared.key.ObjectKey.{ObjectKey}
 use Rattle.kp_base.specs.declared.key.PortKey.{PortKey}
@@ -8,6 +8,7 @@ use Rattle.kp_types.specs.declared.event.Event.{Event}
 use Rattle.kp_object_defs.specs.Objects.{Objects, objects_step}
 use Rattle.kp_object_defs.specs.OwnKeys.{AreUnderOwnKeys}
 use Rattle.kp_object_defs.specs.PortByKey.{info_at}
+use Rattle.kp_object_defs.specs.PortInfo.{PortInfo}
 use Rattle.kp_history_defs.specs.Inputs.{inputs_of}
 use Rattle.kp_history_defs.specs.KeptRules.{rules_at}
 use Rattle.kp_touch_defs.specs.Touches.{touches}
@@ -23,36 +24,45 @@ touches_one setting o [] service = false
 touches_one setting o (e ∷ es) service =
     touches_in setting o e service || touches_one setting (objects_step o e) es service
 
--- what holds of the ports of each Service that an event doesn't touch
-abbrev pub HoldsOfUntouched : (Setting → Objects → Event → PortKey → Type 0) → Type 0
-HoldsOfUntouched P =
+-- what an event leaves of the ports of each Service that it doesn't touch
+abbrev pub LeavesUntouched : {X : Type 0} → (Setting → Objects → PortKey → X) → Type 0
+LeavesUntouched {X} of =
     (setting : Setting) (o : Objects) (event : Event) (key : PortKey)
     → AreUnderOwnKeys o → touches_in setting o event key.object ≡ false
-    → P setting o event key
+    → of setting (objects_step o event) key ≡ of setting o key
+
+-- and what events leave, one after the other, where none of them touches the Service
+abbrev pub LeaveByAll : {X : Type 0} → (Setting → Objects → PortKey → X) → Type 0
+LeaveByAll {X} of =
+    (setting : Setting) (o : Objects) (events : List Event) (key : PortKey)
+    → AreUnderOwnKeys o → touches_one setting o events key.object ≡ false
+    → of setting (fold objects_step o events) key ≡ of setting o key
 
 -- The event leaves the inputs of the ports: their Service, their endpoints with their hints, and
 -- the zone of the proxy's own node.
 abbrev pub UntouchedInputs : Type 0
-UntouchedInputs =
-    HoldsOfUntouched (λ setting o event key.
-    inputs_of setting (objects_step o event) key ≡ inputs_of setting o key)
+UntouchedInputs = LeavesUntouched inputs_of
 
--- So it leaves what is known of them.
+-- So do events,
+abbrev pub InputsByAll : Type 0
+InputsByAll = LeaveByAll inputs_of
+
+-- what is known of a port
+abbrev pub known_at : Setting → Objects → PortKey → Option PortInfo
+known_at setting o key = info_at setting.family setting.config o key
+
+-- so an event leaves what is known of them,
 abbrev pub UntouchedInfos : Type 0
-UntouchedInfos =
-    HoldsOfUntouched (λ setting o event key.
-    info_at setting.family setting.config (objects_step o event) key
-    ≡ info_at setting.family setting.config o key)
+UntouchedInfos = LeavesUntouched known_at
 
--- And it leaves their contributions to the table.
+-- so do events,
+abbrev pub InfosByAll : Type 0
+InfosByAll = LeaveByAll known_at
+
+-- and an event leaves their contributions to the table,
 abbrev pub UntouchedRules : Type 0
-UntouchedRules =
-    HoldsOfUntouched (λ setting o event key.
-    rules_at setting (objects_step o event) key ≡ rules_at setting o key)
+UntouchedRules = LeavesUntouched rules_at
 
--- Events leave the inputs of the ports of a Service that none of them touches.
-abbrev pub UntouchedByAll : Type 0
-UntouchedByAll =
-    (setting : Setting) (o : Objects) (events : List Event) (key : PortKey)
-    → AreUnderOwnKeys o → touches_one setting o events key.object ≡ false
-    → inputs_of setting (fold objects_step o events) key ≡ inputs_of setting o key
+-- as events do.
+abbrev pub RulesByAll : Type 0
+RulesByAll = LeaveByAll rules_at

@@ -1,3 +1,4 @@
 pub mod Newest
 pub mod PendingKeys
 mod Answered
+mod WorkedPending

@@ -1,1 +1,2 @@
 pub mod Tracked
+pub mod Worked

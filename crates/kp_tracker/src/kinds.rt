@@ -5,7 +5,9 @@ ghost use Rattle.std.specs.Ordering.{eq_by_cmp};
 ghost use Rattle.std.specs.Cmp.{IsTotalOrder};
 ghost use Rattle.std.specs.FinMap.{IsAntisymmetric};
 
-use kp_base::{ObjectKey, PortKey};
+use kp_base::PortKey;
+use kp_history_defs::same_info;
+use kp_types::PortInfo;
 use std::hash::Hash;
 
 /// A key by which values are tracked.
@@ -54,4 +56,18 @@ pub trait Told: Drop {
     /// Whether the value is another.
     fn is_same(&self, other: &Self) -> bool
         ensures { result ≡ same self.now other.now };
+}
+
+/// What is known of ports.
+impl Told for PortInfo {
+    ghost use Rattle.kp_history_defs.specs.DirtyPorts.{same_info};
+    ghost use Rattle.kp_info_laws.proofs.Infos.{infos_are_told};
+
+    ghost same = { same_info };
+
+    ghost tells = { infos_are_told };
+
+    fn is_same(&self, other: &PortInfo) -> bool {
+        same_info(self, other)
+    }
 }

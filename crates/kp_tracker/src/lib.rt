@@ -5,6 +5,8 @@
 
 mod kinds;
 mod tracker;
+mod worked;
 
 pub use kinds::{Key, Told};
 pub use tracker::Tracker;
+pub use worked::worked_pending;

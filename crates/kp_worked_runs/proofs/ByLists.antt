@@ -1,6 +1,6 @@
 -- What a live run prints, where the maps of objects and of chains are given as lists: in this form
 -- it can be worked out.
-use Rattle.std.proofs.Common.{◌≡◌, ℕ, suc, List, [], ◌∷◌, ◌++◌, map, filter, filter_map, not, option_map, get_or, Option, ◌==◌, refl, sym, ap, ◌∙◌}
+use Rattle.std.proofs.Common.{◌≡◌, ℕ, suc, List, [], ◌∷◌, ◌++◌, take, map, filter, filter_map, not, option_map, get_or, Option, ◌==◌, refl, sym, ap, ◌∙◌}
 use Rattle.std.specs.List.{flat_map, fold, range_with_len}
 use Rattle.std.specs.FinMap.{find, from_entries}
 use Rattle.std.proofs.lemmas.Grind.{flat_map-append}
@@ -14,6 +14,7 @@ use Rattle.kp_types.specs.declared.chain.TableName.TheVariants.{Nat, Filter}
 use Rattle.kp_types.specs.declared.rule.Rule.{Rule}
 use Rattle.kp_choice_defs.specs.Names.{first_clash}
 use Rattle.kp_choice_defs.specs.Recent.{RecentParts}
+use Rattle.kp_object_defs.specs.Objects.{objects_after}
 use Rattle.kp_object_defs.specs.Order.{in_order}
 use Rattle.kp_object_defs.specs.PortInfo.{PortInfo, port_infos}
 use Rattle.kp_object_defs.proofs.InOrder.{entries_in_order}
@@ -87,6 +88,13 @@ module _ (run : LiveRun) where
       → clash_of (setting_in run) (objects_covered (events_in run) run.counts n)
       ≡ clash_in (infos_at n)
   clash_is n = ap clash_in (infos_are n)
+
+  -- the same after some first events
+  pub clash_after : (n : ℕ)
+      → clash_of (setting_in run) (objects_after (take n (events_in run)))
+      ≡ clash_in (infos_after (setting_in run).config (take n (events_in run)))
+  clash_after n =
+      ap clash_in (infos_after_are (setting_in run).config (take n (events_in run)))
 
   -- what is known of the ports at the end
   abbrev pub last_infos : List PortInfo

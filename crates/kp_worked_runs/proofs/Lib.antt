@@ -1,1 +1,2 @@
 pub mod ByLists
+mod ClashAfter

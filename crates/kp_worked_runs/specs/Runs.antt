@@ -1,6 +1,7 @@
 -- Worked examples of live runs (this project's choice), from their lines to the text that they
 -- print: of each one run that the rules allow, and one that they don't, since the objects of its
--- record have a clash. The lines are given as they were read, and all are of the stream main.
+-- record have a clash. The lines are given as they were read. All are of the stream main but those
+-- of the last run.
 use Rattle.std.specs.Prelude.{◌≡◌, ◌<◌, ◌^◌, ℕ, false, List, [], ◌∷◌, ◌++◌, codes, Ok}
 use Rattle.std.proofs.Common.{lit≤}
 use Rattle.std.proofs.lemmas.List.Elements.{All-nil}
@@ -22,7 +23,7 @@ use Rattle.kp_run_defs.specs.declared.live.Work.{Work}
 use Rattle.kp_run_defs.specs.declared.live.Work.TheVariants.{Feeds, Syncs, Sends}
 use Rattle.kp_run_defs.specs.LegalRuns.{Shows, LiveRun, IsLegalRun}
 use Rattle.kp_run_defs.specs.LiveText.{live_text}
-use Rattle.kp_run_defs.specs.WorkedLive.{Read, run_of, fed, refused, IsBroken}
+use Rattle.kp_run_defs.specs.WorkedLive.{Read, by, run_of, fed, refused, IsBroken}
 use Rattle.kp_worked.specs.Setting.{config, default_key, first, second, slice_of, other_pod, to_web}
 use Rattle.kp_worked.specs.Events.{apply_web}
 use Rattle.kp_worked_runs.specs.Printed.{nat_of_none, nat_of_one, filter_with}
@@ -211,3 +212,32 @@ RecordHasClash =
     IsBroken
     (run_of clashing (fed 0 1 apply_web ∷ fed 0 2 (apply_slice (first ∷ second ∷ [])) ∷ [])
     (2 ∷ []) [])
+
+-- ---- All parts of the text
+
+-- what is shown is refused; the stream a feeds the Service and syncs, and b its slice and a packet
+abbrev pub whole : LiveRun
+whole =
+    run_of
+    (main (op.Config plain) ∷ main (op.Show Nat) ∷ by (codes "a") (op.Events (apply_web ∷ []))
+    ∷ by (codes "b") (op.Events (apply_slice (first ∷ []) ∷ [])) ∷ by (codes "a") op.Sync
+    ∷ by (codes "b") (op.Packet sent) ∷ [])
+    (fed 1 1 (apply_slice (first ∷ [])) ∷ fed 0 1 apply_web ∷ []) (2 ∷ 0 ∷ [])
+    (Shows 0 ∷ Shows 0 ∷ Shows 0 ∷ Shows 0 ∷ Shows 1 ∷ Shows 1 ∷ [])
+
+-- it is legal
+abbrev pub WholeIsLegal : Type 0
+WholeIsLegal = IsLegalRun whole
+
+-- it prints refused lines, events, records, answers, how it ended, and the table, in this order
+abbrev pub WholePrints : Type 0
+WholePrints =
+    Prints whole
+    ((codes "line 2: refused: op \"show\" is not for live"
+    ∷ codes "event 1: b 1 apply EndpointSlice default/web-x"
+    ∷ codes "event 2: a 1 apply Service default/web"
+    ∷ codes "record 1: events 2, written 3, removed 0"
+    ∷ codes "record 2: events 0, written 0, removed 0"
+    ∷ codes "sync 5: record 1" ∷ codes "packet 6 at 1: to 10.244.1.2:8080"
+    ∷ codes "final: record 2" ∷ [])
+    ++ nat_of_one (codes "10.244.1.2") ++ filter_with [])

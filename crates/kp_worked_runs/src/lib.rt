@@ -2,7 +2,10 @@
 //! a function that does nothing.
 #![tactic(auto)]
 
+ghost use Rattle.kp_worked_runs.specs.Clashes as clashes;
+ghost use Rattle.kp_worked_runs.specs.Faults as faults;
 ghost use Rattle.kp_worked_runs.specs.Inputs as inputs;
+ghost use Rattle.kp_worked_runs.specs.Readings as readings;
 ghost use Rattle.kp_worked_runs.specs.Runs as runs;
 
 /// The run of the empty input.
@@ -36,6 +39,61 @@ pub fn worked_clash_at_end()
     ensures legal { runs.RefusedIsLegal }
     ensures prints { runs.RefusedPrints }
     ensures broken { runs.RecordHasClash }
+{}
+
+/// Runs with a sync that is refused: at the end, and before the clash has passed. No sync is refused
+/// by the two chains the other way round, and no record has the clash.
+pub fn worked_refused_syncs()
+    ensures at_end { clashes.RefusedAtEnd }
+    ensures turned { clashes.TurnedIsBroken }
+    ensures before { clashes.RefusedBefore }
+    ensures prints { clashes.RefusedBeforePrints }
+    ensures broken { clashes.FirstRecordHasClash }
+{}
+
+/// A run of two streams whose text has each part but a refused sync.
+pub fn worked_whole_text()
+    ensures legal { runs.WholeIsLegal }
+    ensures prints { runs.WholePrints }
+{}
+
+/// Runs whose only fault is a number, an event, or a packet that shows less than one before it; and
+/// what syncs may show.
+pub fn worked_single_faults()
+    ensures number { faults.WrongNumber }
+    ensures event { faults.WrongEvent }
+    ensures legal { faults.SyncsMayShow }
+    ensures packet { faults.PacketForgets }
+{}
+
+/// 64 streams are taken and no more.
+pub fn worked_most_streams()
+    ensures taken { readings.LastIsTaken }
+    ensures full { readings.SixtyFour }
+    ensures too_many { readings.OneMore }
+    ensures not_live { readings.NotLiveFirst }
+{}
+
+/// A journal of two events: a line without room counts none of its events.
+pub fn worked_small_journal()
+    ensures reads { readings.SmallReads }
+    ensures at_once { readings.SmallAtOnce }
+{}
+
+/// The numbers of blank lines, of those that are too long, and of those after them.
+pub fn worked_line_numbers()
+    ensures blank { readings.BlankBefore }
+    ensures between { readings.BlankBetween }
+    ensures too_long { readings.TooLong }
+    ensures longest { readings.Longest }
+{}
+
+/// Whether a run refused anything: a line, a sync, the sync at its end, or nothing.
+pub fn worked_statuses()
+    ensures line { clashes.LineIsRefused }
+    ensures sync { clashes.SyncIsRefused }
+    ensures at_end { clashes.EndIsRefused }
+    ensures none { clashes.NothingIsRefused }
 {}
 
 /// The lines of the runs, as they are typed.

@@ -1,2 +1,5 @@
+pub mod KeyLists
 pub mod LocalChanges
 pub mod LocalLookUps
+pub mod NoClashes
+pub mod OtherPorts

@@ -1,11 +1,13 @@
 -- Laws of look-ups and changes that some ports and some places decide.
-use Rattle.std.specs.Prelude.{◌≡◌, Bool, false, cond, List, [], ◌++◌, Option, None, is_some}
+use Rattle.std.specs.Prelude.{◌≡◌, ◌↔◌, Bool, false, cond, not, List, [], ◌++◌, map, Option, None, is_some}
 use Rattle.std.specs.FinMap as finite
 use Rattle.std.specs.FinMap.{find}
 use Rattle.std.specs.List.{Contains, filter, filter_map, flat_map, list_any}
 use Rattle.std.specs.List.Sorted.{IsStrictlySortedBy}
 use Rattle.std.specs.Ordering.{eq_by_cmp}
+use Rattle.kp_base.specs.Keys.{port_key_cmp}
 use Rattle.kp_base.specs.declared.address.Family.{Family}
+use Rattle.kp_base.specs.declared.key.PortKey.{PortKey}
 use Rattle.kp_types.specs.Places.{chain_cmp}
 use Rattle.kp_types.specs.Setting.{Setting}
 use Rattle.kp_types.specs.declared.chain.ChainAt.{ChainAt}
@@ -13,10 +15,12 @@ use Rattle.kp_types.specs.declared.chain.TableName.{TableName}
 use Rattle.kp_types.specs.declared.chain.TableName.TheVariants.{Nat, Filter}
 use Rattle.kp_types.specs.declared.rule.Edit.{Edit}
 use Rattle.kp_types.specs.declared.rule.Rule.{Rule}
+use Rattle.kp_choice_defs.specs.Names.{first_clash}
 use Rattle.kp_object_defs.specs.PortInfo.{PortInfo}
 use Rattle.kp_table_defs.specs.Edits.{changes_between}
 use Rattle.kp_table_defs.specs.Layout.{filter_rows_with, nat_rows_with, port_rows}
-use Rattle.kp_table_defs.specs.Rebuild.{Chains, full_chains}
+use Rattle.kp_table_defs.specs.Rebuild.{Chains, full_chains, needed_keys}
+use Rattle.kp_table_laws.specs.Laws.{AreInOrder, StandApart}
 use Rattle.kp_rules.specs.Changes.{remove_at, write_at}
 
 -- a port's chain at a place, if it has one
@@ -45,6 +49,50 @@ TablesAgreeElsewhere =
     → ((i : PortInfo) → Contains after i → kept i ≡ false → own_chain setting at i ≡ None)
     → find chain_cmp at (fixed_rows setting.family) ≡ None
     → finite.get (full_chains setting before) at ≡ finite.get (full_chains setting after) at
+
+-- what is known of the port of a name, if there is one
+abbrev pub info_of : List PortInfo → PortKey → Option PortInfo
+info_of infos key = find port_key_cmp key (map (λ i. (i.key, i)) infos)
+
+-- whether a name is one of some
+abbrev pub is_one_of : List PortKey → PortKey → Bool
+is_one_of keys key = list_any (eq_by_cmp port_key_cmp key) keys
+
+-- of each name but some the same is known before and after
+abbrev pub AreKnownAlikeBut : List PortKey → List PortInfo → List PortInfo → Type 0
+AreKnownAlikeBut keys before after =
+    (key : PortKey) → is_one_of keys key ≡ false → info_of after key ≡ info_of before key
+
+-- Ports in order are the same but for those of some names, where of each other name the same is
+-- known before and after.
+abbrev pub OtherPortsStay : Type 0
+OtherPortsStay =
+    (before after : List PortInfo) (keys : List PortKey) → AreInOrder before → AreInOrder after
+    → AreKnownAlikeBut keys before after
+    → filter (λ i. not (is_one_of keys i.key)) before
+    ≡ filter (λ i. not (is_one_of keys i.key)) after
+
+-- no two chains that ports need have one name
+abbrev pub HaveNoClash : Setting → List PortInfo → Type 0
+HaveNoClash setting infos = first_clash setting.name_of (needed_keys infos) ≡ None
+
+-- Of ports without a clash some have none.
+abbrev pub SomeHaveNoClash : Type 0
+SomeHaveNoClash =
+    (setting : Setting) (infos : List PortInfo) (kept : PortInfo → Bool)
+    → HaveNoClash setting infos → HaveNoClash setting (filter kept infos)
+
+-- Where the ports before had no clash, and of each name but some the same is known, the ports after
+-- have none exactly where the places of the chains of those of these names are free and differ.
+abbrev pub NoClashIsLocal : Type 0
+NoClashIsLocal =
+    (setting : Setting) (before after : List PortInfo) (keys : List PortKey)
+    → AreInOrder before → AreInOrder after
+    → AreKnownAlikeBut keys before after
+    → HaveNoClash setting before
+    → HaveNoClash setting after
+    ↔ StandApart setting (filter (λ i. not (is_one_of keys i.key)) after)
+    (filter (λ i. is_one_of keys i.key) after)
 
 -- a remove of a chain that stood before, where it is gone
 abbrev pub remove_between : Chains → Chains → TableName → ChainAt → Option Edit

@@ -1,4 +1,8 @@
-use Rattle.kp_touch_laws.proofs.Untouched.{untouched_inputs, untouched_infos, untouched_rules, untouched_by_all}
+use Rattle.kp_history_defs.specs.Inputs.{inputs_of}
+use Rattle.kp_history_defs.specs.KeptRules.{rules_at}
+use Rattle.kp_touch_laws.specs.TouchLaws.{known_at}
+use Rattle.kp_touch_laws.proofs.Untouched.{leave_by_all, untouched_inputs, untouched_infos}
+use Rattle.kp_touch_laws.proofs.Untouched.{untouched_rules}
 use Rattle.kp_touch_laws.proofs.untouched_ports.Goals as goal
 
 pub returns-clause-inputs : goal.returns-clause-inputs
@@ -14,6 +18,19 @@ returns-clause-rules c =
     untouched_rules c.unaffected_ports.ensures.service c.own_keys.ensures.after_event
     c.changed_ports.ensures.changed c.dirty_ports.ensures.changed c.dirty_ports.ensures.clean
 
-pub returns-clause-by_all : goal.returns-clause-by_all
-returns-clause-by_all c =
-    untouched_by_all c.unaffected_ports.ensures.service c.own_keys.ensures.after_event
+pub returns-clause-inputs_by_all : goal.returns-clause-inputs_by_all
+returns-clause-inputs_by_all c =
+    leave_by_all inputs_of c.own_keys.ensures.after_event
+    (untouched_inputs c.unaffected_ports.ensures.service)
+
+pub returns-clause-infos_by_all : goal.returns-clause-infos_by_all
+returns-clause-infos_by_all c =
+    leave_by_all known_at c.own_keys.ensures.after_event
+    (untouched_infos c.unaffected_ports.ensures.service c.own_keys.ensures.after_event
+    c.changed_ports.ensures.changed c.dirty_ports.ensures.changed c.dirty_ports.ensures.clean)
+
+pub returns-clause-rules_by_all : goal.returns-clause-rules_by_all
+returns-clause-rules_by_all c =
+    leave_by_all rules_at c.own_keys.ensures.after_event
+    (untouched_rules c.unaffected_ports.ensures.service c.own_keys.ensures.after_event
+    c.changed_ports.ensures.changed c.dirty_ports.ensures.changed c.dirty_ports.ensures.clean)

@@ -1,4 +1,4 @@
-use Rattle.std.proofs.Common.{is_some, sym, ap, ◌∙◌}
+use Rattle.std.proofs.Common.{sym, ap, ◌∙◌}
 use Rattle.std.specs.FinMap as finite
 use Rattle.kp_base.proofs.KeyOrder.{port_key_total, port_key_exact, port_key_tree_ties}
 use Rattle.kp_base.proofs.Maps.{removed}

@@ -1,0 +1,9 @@
+//! Joined chains, worked out.
+ghost use Rattle.kp_blocks.specs.Worked as worked;
+
+/// The joined chains of two ports' blocks: between fixed rules, by themselves, and of no port.
+pub fn worked_joined_chains()
+    ensures jump { worked.JoinedBeforeJump }
+    ensures one { worked.JoinedOfOne }
+    ensures none { worked.JoinedOfNone }
+{}
