@@ -1,5 +1,5 @@
 -- What one sync under the lock does, by its answer.
-use Rattle.std.specs.Prelude.{◌≡◌, ◌≤◌, ◌+◌, ◌-◌, ◌⊎◌, ℕ, List, [], ◌∷◌, ◌++◌, Option, Some, None, length, sum}
+use Rattle.std.specs.Prelude.{◌≡◌, ◌≤◌, ◌<◌, ◌+◌, ◌⊎◌, ℕ, List, [], ◌∷◌, ◌++◌, Option, Some, None, length}
 use mathlib.Core.List.{IsPrefix}
 use Rattle.kp_base.specs.declared.address.Family.TheVariants.{V4}
 use Rattle.kp_base.specs.declared.config.Config.{Config}
@@ -71,6 +71,11 @@ CountsFault (ChainClash clash) before after =
     (after.accepted ≡ before.accepted) × (after.refused ≡ before.refused + 1)
 CountsFault NoMemory before after =
     (after.accepted ≡ before.accepted) × (after.refused ≡ before.refused)
+
+-- a refused sync that was kept is not counted yet
+abbrev pub IsUncounted : TableFault → HubState → Type 0
+IsUncounted (ChainClash clash) h = h.refused < length h.refusals
+IsUncounted NoMemory h = Unit {0}
 
 -- The pass of an accepted sync: the front that it learned last has just so many records; it counts
 -- the sync, and has counted no more than there are records.

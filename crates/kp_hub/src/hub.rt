@@ -1,9 +1,14 @@
 //! The hub.
-ghost use Rattle.std.specs.Prelude.{◌≡◌, ◌+◌, ◌-◌, ◌<◌, ◌≤◌, ◌^◌, ◌++◌, [], suc, length, replicate};
+ghost use Rattle.std.specs.Prelude.{◌≡◌, ◌-◌, ◌<◌, ◌≤◌, ◌^◌, ◌++◌, [], ℕ, List, suc, length};
+ghost use Rattle.std.specs.Prelude.{filter, map, replicate, sum};
 ghost use Rattle.std.specs.Prelude.{IfOk, IfErr, OnOk, OnErr, string_bytes};
 ghost use Rattle.std.specs.List.{AllByRecursion};
 ghost use Rattle.kp_feed.specs.Calls as calls;
+ghost use Rattle.kp_feed.specs.Feeding.{Delivers};
+ghost use Rattle.kp_history_defs.specs.declared.fed.Fed.{Fed};
+ghost use Rattle.kp_history_defs.specs.Runs.{is_of_stream};
 ghost use Rattle.kp_publish.specs.Entries.{records_of};
+ghost use Rattle.kp_hub.specs.Finishing.{IsEnd, uncounted};
 ghost use Rattle.kp_hub.specs.Known.{new_worker};
 ghost use Rattle.kp_hub.specs.Reading.{answer_after, HasWalked, OnTheWay, Reads, walk_after};
 ghost use Rattle.kp_hub.specs.State.{first_table};
@@ -44,6 +49,7 @@ impl<J: Sharing, A: Ledger, C: Ledger> Hub<J, A, C> {
         requires config { opening.config ≡ J.config }
         requires book { opening.book ≡ J.book }
         requires queue { opening.queue ≡ J.queue }
+        requires streams { opening.streams ≡ J.streams }
         requires start { J.start ≡ first_table J.config }
         requires accepted { opening.accepted ≡ (A.name, A.parts) }
         requires refused { opening.refused ≡ (C.name, C.parts) }
@@ -161,7 +167,9 @@ impl<J: Sharing, A: Ledger, C: Ledger> Hub<J, A, C> {
         Ok(synced.sync)
     }
 
-    /// Ends the hub: syncs until all that these passes fed is covered, or the journal is full.
+    /// Ends the hub: ends these streams, and syncs until all that they fed is covered or the journal
+    /// is full. The passes of workers stay passes of its history, and count no more syncs. Where
+    /// memory is out it is given up.
     pub fn finish<R: Wait>(
         self,
         rt: &R,
@@ -170,6 +178,23 @@ impl<J: Sharing, A: Ledger, C: Ledger> Hub<J, A, C> {
         workers: &mut [WorkerPass<J, A, C>],
     ) -> Result<Finished<J>, NoMemory>
         requires passes { AllByRecursion (λ p. p.queue ≡ J.queue) passes }
+        ensures end { IfOk result (λ done. IsEnd J.config done.journal done.notes done.refusals
+            done.clash done.table) }
+
+        // The journal has each stream's events in their order, and all of them where it isn't full.
+        ensures order { IfOk result (λ done. (left : List Fed)
+            × AllByRecursion (λ p. Delivers (done.journal ++ left) p.feeder p.fed) passes) }
+        ensures whole { IfOk result (λ done. length done.journal < J.config.max_events
+            → AllByRecursion (λ p. Delivers done.journal p.feeder p.fed) passes) }
+        ensures made { IfOk result (λ done. (p : ℕ) → J.streams ≤ p
+            → filter (is_of_stream p) done.journal ≡ []) }
+
+        // No worker was told of syncs that it doesn't hand out.
+        ensures accepted { IfOk result (λ done. sum (map (λ w. w.accepted) workers.old)
+            ≤ length done.notes) }
+        ensures refused { IfOk result (λ done. sum (map (λ w. w.refused) workers.old)
+            ≤ length done.refusals) }
+        ensures workers { workers.new ≡ map uncounted workers.old }
     {
         let Hub { feed, held } = self;
         let mut held = held.into_inner();

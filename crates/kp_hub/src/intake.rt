@@ -111,6 +111,7 @@ impl<J: Sharing> Intake<J> {
     fn is_full(&self) -> bool
         ensures full { IsTrue result → IsFull J.config self.now }
         ensures room { result ≡ false → length self.now.journal < J.config.max_events }
+        ensures none_waits { IsTrue result → self.now.waits ≡ None }
     {
         self.plane.journal().events().len() as u64 >= self.plane.config().max_events
     }

@@ -23,6 +23,3 @@ pub use notes::{Origin, RecordNote, Refusal, Stop, Synced};
 pub use opening::Opening;
 pub use pass::WorkerPass;
 pub use sharing::Sharing;
-
-#[cfg(test)]
-mod tests;

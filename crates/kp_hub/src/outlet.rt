@@ -60,13 +60,13 @@ pub(crate) fn publish_all<J: Publication, R: Wait>(
 ) -> Result<(), NoMemory>
     requires open { is_ended publisher.old.newest ≡ false }
     requires ready { AreReady J.start (records_of publisher.old.newest ++ waiting.old.items) }
-    requires some { 0 < length waiting.old.items }
     ensures open { is_ended publisher.new.newest ≡ false }
     ensures records { records_of publisher.new.newest ++ waiting.new.items
         ≡ records_of publisher.old.newest ++ waiting.old.items }
     ensures pair { publisher.new.pair ≡ publisher.old.pair }
     ensures all { OnOk result (waiting.new.items ≡ []) }
-    ensures published { OnOk result (publisher.new.published ≡ publisher.new.newest) }
+    ensures published { OnOk result (0 < length waiting.old.items
+        → publisher.new.published ≡ publisher.new.newest) }
 {
     for turn in 0..waiting.len() {
         publish_first(rt, publisher, waiting)?;

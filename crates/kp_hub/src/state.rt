@@ -1,13 +1,17 @@
 //! What the hub's lock keeps.
 ghost use Rattle.std.specs.Prelude.{◌≡◌, ◌+◌, ◌<◌, ◌≤◌, ◌++◌, ◌∷◌, [], length};
-ghost use Rattle.std.specs.Prelude.{Some, None, false, IfOk, IfErr, OnOk, OnErr};
+ghost use Rattle.std.specs.Prelude.{Some, None, false, IfOk, IfErr, OnOk, OnErr, List, map, sum};
+ghost use Rattle.std.specs.List.{AllByRecursion};
+ghost use Rattle.kp_feed.specs.Feeding.{AreWhole};
+ghost use Rattle.kp_history_defs.specs.declared.fed.Fed.{Fed};
 ghost use Rattle.kp_publish.specs.Entries.{records_of};
 ghost use Rattle.kp_publish.specs.Pending.{Keeps};
-ghost use Rattle.kp_hub.specs.Growing.{IsSameBut, StopsAt, TakesMore};
+ghost use Rattle.kp_hub.specs.Finishing.{CoversAll, IsEnd, KeepsBooks, uncounted, with_ended};
+ghost use Rattle.kp_hub.specs.Growing.{IsDone, IsSameBut, StopsAt, TakesMore};
 ghost use Rattle.kp_hub.specs.State.{first_table};
 ghost use Rattle.kp_hub.specs.Syncs.{Accepts, CountsAccepted, CountsFault, Fails, IsDenied, IsTold};
-ghost use Rattle.kp_hub.specs.Syncs.{clash_after, with_refusal};
-ghost use Rattle.kp_hub.specs.Taken.{records_at};
+ghost use Rattle.kp_hub.specs.Syncs.{IsUncounted, clash_after, with_refusal};
+ghost use Rattle.kp_hub.specs.Taken.{all_taken, records_at};
 
 use crate::finished::Finished;
 use crate::intake::Intake;
@@ -163,8 +167,8 @@ impl<J: Sharing, A: Ledger, C: Ledger> Held<J, A, C> {
         ensures done { OnOk result (IsDone J.config self.new.taken) }
         ensures clash { IfOk result (λ clash. clash
             ≡ clash_after J.config self.new.taken.journal) }
-        ensures covers { IfOk result (λ clash. clash ≡ None
-            → CoversAll self.new.taken) }
+        ensures covers { IfOk result (λ clash. clash ≡ None → CoversAll self.new.taken) }
+        ensures books { KeepsBooks self.old self.new }
     {
         for _ in rt.forever() {
             let clash = self.sync_last(rt, alloc, feed)?;
@@ -176,7 +180,12 @@ impl<J: Sharing, A: Ledger, C: Ledger> Held<J, A, C> {
     }
 
     /// Counts what passes that end had counted.
-    pub(crate) fn take_counts(&mut self, workers: &mut [WorkerPass<J, A, C>]) {
+    pub(crate) fn take_counts(&mut self, workers: &mut [WorkerPass<J, A, C>])
+        ensures accepted { sum (map (λ w. w.accepted) workers.old) ≤ self.new.accepted }
+        ensures refused { sum (map (λ w. w.refused) workers.old) ≤ self.new.refused }
+        ensures workers { workers.new ≡ map uncounted workers.old }
+        ensures stays { self.new ≡ self.old }
+    {
         for worker in workers {
             worker.give_counts(&mut self.all_accepted, &mut self.all_refused);
         }
@@ -187,57 +196,89 @@ impl<J: Sharing, A: Ledger, C: Ledger> Held<J, A, C> {
     /// Syncs all that is left, closes the publisher and hands out what there is. Where memory is
     /// out it is given up.
     pub(crate) fn finish<R: Wait>(
-        mut self,
+        self,
         rt: &R,
         alloc: Global,
         feed: Feed,
     ) -> Result<Finished<J>, NoMemory>
         requires queue { feed ≡ J.queue }
+        ensures end { IfOk result (λ done. IsEnd J.config done.journal done.notes done.refusals
+            done.clash done.table) }
+        ensures whole { IfOk result (λ done. length done.journal < J.config.max_events
+            → AreWhole done.journal self.taken.ended J.streams) }
+        ensures order { IfOk result (λ done. (left : List Fed)
+            × AreWhole (done.journal ++ left) self.taken.ended J.streams) }
+        ensures accepted { IfOk result (λ done. self.accepted ≤ length done.notes) }
+        ensures refused { IfOk result (λ done. self.refused ≤ length done.refusals) }
     {
-        match self.sync_and_close(rt, alloc, &feed) {
-            Ok(clash) => self.into_finished(rt, alloc, feed, clash),
-            Err(_) => self.give_up(rt, alloc, feed),
+        let mut held = self;
+        match held.sync_and_publish(rt, alloc, &feed) {
+            Ok(clash) => held.into_finished(rt, alloc, feed, clash),
+            Err(_) => {
+                held.give_up(rt, alloc, feed);
+                Err(NoMemory)
+            }
         }
     }
 
-    /// Syncs all that is left, publishes what waits and closes the publisher.
-    fn sync_and_close<R: Wait>(
+    /// Syncs all that is left, and has the publisher take in the records that wait.
+    fn sync_and_publish<R: Wait>(
         &mut self,
         rt: &R,
         alloc: Global,
         feed: &Feed,
-    ) -> Result<Option<Clash>, NoMemory> {
+    ) -> Result<Option<Clash>, NoMemory>
+        requires queue { feed.now ≡ J.queue }
+        ensures more { TakesMore self.old.taken self.new.taken }
+        ensures done { OnOk result (IsDone J.config self.new.taken) }
+        ensures clash { IfOk result (λ clash. clash
+            ≡ clash_after J.config self.new.taken.journal) }
+        ensures covers { IfOk result (λ clash. clash ≡ None → CoversAll self.new.taken) }
+        ensures records { OnOk result (records_of self.new.outlet.newest
+            ≡ records_at J.config self.new.taken) }
+        ensures books { KeepsBooks self.old self.new }
+    {
         let clash = self.sync_all(rt, alloc, feed)?;
         self.intake.are_ready();
-        if !self.waiting.is_empty() {
-            publish_all(rt, &mut self.publisher, &mut self.waiting)?;
-        }
-        close(&mut self.publisher, rt)?;
+        publish_all(rt, &mut self.publisher, &mut self.waiting)?;
         Ok(clash)
     }
 
-    /// Hands out what there is, once the publisher is closed.
+    /// Closes the publisher, which has taken in all records, and hands out what there is.
     fn into_finished<R: Wait>(
         self,
         rt: &R,
         alloc: Global,
         feed: Feed,
         clash: Option<Clash>,
-    ) -> Result<Finished<J>, NoMemory> {
+    ) -> Result<Finished<J>, NoMemory>
+        requires queue { feed ≡ J.queue }
+        requires records { records_of self.outlet.newest ≡ records_at J.config self.taken }
+        requires clash { clash ≡ clash_after J.config self.taken.journal }
+        requires covers { clash ≡ None → CoversAll self.taken }
+        ensures end { IfOk result (λ done. IsEnd J.config done.journal done.notes done.refusals
+            done.clash done.table) }
+        ensures journal { IfOk result (λ done. done.journal ≡ self.taken.journal) }
+        ensures left { (left : List Fed)
+            × AreWhole (all_taken self.taken ++ left) self.taken.ended J.streams }
+        ensures accepted { IfOk result (λ done. self.accepted ≤ length done.notes) }
+        ensures refused { IfOk result (λ done. self.refused ≤ length done.refusals) }
+    {
         let Held {
             intake,
-            publisher,
-            waiting: _,
+            mut publisher,
+            waiting: _waiting,
             refusals,
-            accepted: _,
-            refused: _,
-            all_accepted: _,
-            all_refused: _,
+            accepted: _accepted,
+            refused: _refused,
+            all_accepted: _all_accepted,
+            all_refused: _all_refused,
         } = self;
+        let closed = close(&mut publisher, rt);
         let (taker, parts) = intake.into_parts(alloc);
         feed.finish(rt, Items::new(alloc), taker);
-        match parts {
-            Ok((journal, notes, table)) => Ok(Finished {
+        match (closed, parts) {
+            (Ok(()), Ok((journal, notes, table))) => Ok(Finished {
                 journal,
                 notes,
                 refusals: Items::from_vec(refusals),
@@ -245,7 +286,7 @@ impl<J: Sharing, A: Ledger, C: Ledger> Held<J, A, C> {
                 table,
                 publisher,
             }),
-            Err(_) => {
+            _ => {
                 publisher.into_table(rt);
                 Err(NoMemory)
             }
@@ -253,21 +294,22 @@ impl<J: Sharing, A: Ledger, C: Ledger> Held<J, A, C> {
     }
 
     /// Ends the publisher and the queue.
-    fn give_up<R: Wait>(self, rt: &R, alloc: Global, feed: Feed) -> Result<Finished<J>, NoMemory> {
+    fn give_up<R: Wait>(self, rt: &R, alloc: Global, feed: Feed)
+        requires queue { feed ≡ J.queue }
+    {
         let Held {
             intake,
             publisher,
-            waiting: _,
-            refusals: _,
-            accepted: _,
-            refused: _,
-            all_accepted: _,
-            all_refused: _,
+            waiting: _waiting,
+            refusals: _refusals,
+            accepted: _accepted,
+            refused: _refused,
+            all_accepted: _all_accepted,
+            all_refused: _all_refused,
         } = self;
         let (taker, _) = intake.into_parts(alloc);
         publisher.into_table(rt);
         feed.finish(rt, Items::new(alloc), taker);
-        Err(NoMemory)
     }
 
     /// A sync that no pass is told of.
@@ -281,8 +323,8 @@ impl<J: Sharing, A: Ledger, C: Ledger> Held<J, A, C> {
         ensures more { TakesMore self.old.taken self.new.taken }
         ensures clash { IfOk result (λ clash. clash
             ≡ clash_after J.config self.new.taken.journal) }
-        ensures covers { IfOk result (λ clash. clash ≡ None
-            → CoversAll self.new.taken) }
+        ensures covers { IfOk result (λ clash. clash ≡ None → CoversAll self.new.taken) }
+        ensures books { KeepsBooks self.old self.new }
     {
         self.take_all(rt, feed)?;
         match self.record(rt, alloc) {
@@ -311,6 +353,8 @@ impl<J: Sharing, A: Ledger, C: Ledger> Held<J, A, C> {
         ensures taken { IsSameBut self.old.taken self.new.taken }
         ensures accepted { self.new.accepted ≡ self.old.accepted }
         ensures refused { self.new.refused ≡ self.old.refused }
+        ensures untold { OnOk result (self.new.accepted < length self.new.taken.counts) }
+        ensures uncounted { IfErr result (λ fault. IsUncounted fault self.new) }
     {
         // The room for the record, should it have to wait, is taken before it is made.
         if self.waiting.reserve(1).is_err() {

@@ -22,6 +22,8 @@ mod draws;
 #[cfg(test)]
 mod feeding;
 #[cfg(test)]
+mod hubs;
+#[cfg(test)]
 mod listed;
 #[cfg(test)]
 mod planes;
