@@ -25,11 +25,12 @@ pub records_ready : ExactTables → FullTableRankedObjects → HashedPrefixed �
 records_ready tables ranked prefixed p exact n r is =
     let rs = records_in p in
     let within : n < length rs = slice_get_within rs n r is in
-    let covered = counts_of rs in
-    ((exact.exact.each n r is).is_numbered,
-    ready_from (table_from (first_table p.config) (take (suc n) rs)) (chains_covered (setting_in p) p.events covered (suc n))
-    (tables (setting_in p) p.events rs (suc n) exact.exact (omega (arith, within)))
-    (ranked (setting_in p) (objects_covered p.events covered (suc n)) (prefixed p.config.name_length)))
+    let covered = counts_of rs in (
+      (exact.exact.each n r is).is_numbered,
+      ready_from (table_from (first_table p.config) (take (suc n) rs)) (chains_covered (setting_in p) p.events covered (suc n))
+          (tables (setting_in p) p.events rs (suc n) exact.exact (omega (arith, within)))
+          (ranked (setting_in p) (objects_covered p.events covered (suc n)) (prefixed p.config.name_length)),
+    )
 
 -- the first record behind others is at their number
 pub get_behind : {A : Type 0} (xs : List A) (y : A) (ys : List A) → slice_get (xs ++ y ∷ ys) (length xs) ≡ Some y

@@ -124,12 +124,14 @@ module _ (config : Config) (streams : ℕ) (start : TableParts) (h : HubState) (
     feeders = is.feeders;
     publishes = record { is_open = is.publishes.is_open; records = is.publishes.records };
     keeps = record {
-      refusals = all_append (IsRefusal config h.taken.journal) h.refusals (record { events = length h.taken.journal; clash = clash } ∷ []) is.keeps.refusals
-          (record {
-            within = omega arith;
-            clash = ap (λ es. clash_of (setting_of V4 config) (objects_after es))
-                (ap (λ n. take n (events_of h.taken.journal)) (sym (events_length h.taken.journal)) ∙ take-length (events_of h.taken.journal)) ∙ found;
-          }, tt);
+      refusals = all_append (IsRefusal config h.taken.journal) h.refusals (record { events = length h.taken.journal; clash = clash } ∷ []) is.keeps.refusals (
+        record {
+          within = omega arith;
+          clash = ap (λ es. clash_of (setting_of V4 config) (objects_after es))
+              (ap (λ n. take n (events_of h.taken.journal)) (sym (events_length h.taken.journal)) ∙ take-length (events_of h.taken.journal)) ∙ found;
+        },
+        tt,
+      );
       accepted = is.keeps.accepted;
       refused =
           let few = is.keeps.refused in

@@ -70,10 +70,24 @@ impl<J: Sharing, A: Ledger, C: Ledger> Hub<J, A, C> {
         } = opening;
         let (accepted, mut all_accepted) = accepted.open::<A>();
         let (refused, mut all_refused) = refused.open::<C>();
-        match outlet_of(rt, alloc, history, &plane, streams, &mut all_accepted, &mut all_refused) {
+        match outlet_of(
+            rt,
+            alloc,
+            history,
+            &plane,
+            streams,
+            &mut all_accepted,
+            &mut all_refused,
+        ) {
             Ok((publisher, workers)) => {
                 let intake = Intake::new(alloc, plane, taker);
-                let held = Held::new(alloc, intake, publisher, (accepted, all_accepted), (refused, all_refused));
+                let held = Held::new(
+                    alloc,
+                    intake,
+                    publisher,
+                    (accepted, all_accepted),
+                    (refused, all_refused),
+                );
                 let hub = Hub {
                     feed,
                     held: Mutex::new(held),

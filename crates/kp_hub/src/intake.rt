@@ -222,7 +222,10 @@ impl<J: Sharing> Intake<J> {
     pub(crate) fn into_parts(
         self,
         alloc: Global,
-    ) -> (TakePass, Result<(Items<Fed>, Items<RecordNote>, Table), NoMemory>)
+    ) -> (
+        TakePass,
+        Result<(Items<Fed>, Items<RecordNote>, Table), NoMemory>,
+    )
         ensures taker { result.0 ≡ taker_of J.queue self }
         ensures journal { IfOk result.1 (λ (journal, _, _). journal ≡ self.journal) }
         ensures notes { IfOk result.1

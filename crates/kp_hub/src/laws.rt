@@ -8,10 +8,9 @@ use crate::finished::Finished;
 use crate::hub::Hub;
 use crate::pass::WorkerPass;
 use crate::sharing::Sharing;
+pub use crate::state::Held;
 use std::sync::Wait;
 use std::sync::ledger::Ledger;
-
-pub use crate::state::Held;
 
 /// A pass of a hub that ended learns all of its records, and reads once. Whatever it had seen or
 /// learned before begins these records.
@@ -34,8 +33,11 @@ pub fn same_hub<J: Sharing, A: Ledger, C: Ledger, R: Wait>(
 }
 
 /// Threads may share a hub, and a worker's pass may be sent to one.
-pub fn hubs_cross_threads<J: Sharing + Send + Sync, A: Ledger + Send + Sync, C: Ledger + Send + Sync>()
-{
+pub fn hubs_cross_threads<
+    J: Sharing + Send + Sync,
+    A: Ledger + Send + Sync,
+    C: Ledger + Send + Sync,
+>() {
     is_shared::<Hub<J, A, C>>();
     is_sent::<WorkerPass<J, A, C>>();
 }

@@ -36,11 +36,7 @@ pub(crate) fn next<R: Wait>(
 }
 
 /// Accepts an event, and keeps who fed it. Where memory is out it comes back, and all stays.
-pub(crate) fn accept(
-    plane: &mut Plane,
-    origins: &mut Vec<Origin>,
-    fed: Fed,
-) -> Result<(), Fed>
+pub(crate) fn accept(plane: &mut Plane, origins: &mut Vec<Origin>, fed: Fed) -> Result<(), Fed>
     requires { length origins.old.items ≡ length plane.old.events }
     ensures plane { OnOk result (plane.new ≡ with_events plane.old (fed.event ∷ [])) }
     ensures journal { OnOk result (fed_of origins.new.items plane.new.events

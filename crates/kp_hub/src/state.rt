@@ -19,6 +19,7 @@ use crate::notes::{Refusal, Stop, Synced};
 use crate::outlet::{publish_all, put};
 use crate::pass::WorkerPass;
 use crate::sharing::Sharing;
+use crate::workers::gather;
 use kp_base::{Copied, Items, NoMemory};
 use kp_feed::{Feed, FeedPass};
 use kp_full_table::TableFault;
@@ -186,9 +187,7 @@ impl<J: Sharing, A: Ledger, C: Ledger> Held<J, A, C> {
         ensures workers { workers.new ≡ map uncounted workers.old }
         ensures stays { self.new ≡ self.old }
     {
-        for worker in workers {
-            worker.give_counts(&mut self.all_accepted, &mut self.all_refused);
-        }
+        gather(workers, &mut self.all_accepted, &mut self.all_refused);
         self.accepted.audit(&mut self.all_accepted);
         self.refused.audit(&mut self.all_refused);
     }

@@ -1,6 +1,7 @@
 //! The publisher of a hub, and the passes of its workers.
-ghost use Rattle.std.specs.Prelude.{◌≡◌, ◌+◌, ◌<◌, ◌≤◌, [], length, map, replicate, IfOk};
+ghost use Rattle.std.specs.Prelude.{◌≡◌, ◌+◌, ◌<◌, ◌≤◌, [], length, map, replicate, sum, IfOk};
 ghost use Rattle.std.specs.List.{AllByRecursion};
+ghost use Rattle.kp_hub.specs.Finishing.{uncounted};
 ghost use Rattle.kp_hub.specs.Known.{new_worker};
 ghost use Rattle.kp_hub.specs.State.{first_table};
 
@@ -78,4 +79,23 @@ fn workers_of<J: Sharing, A: Ledger, C: Ledger>(
         }
     }
     Ok(passes)
+}
+
+/// Gives to these shares what passes have counted.
+pub(crate) fn gather<J: Sharing, A: Ledger, C: Ledger>(
+    workers: &mut [WorkerPass<J, A, C>],
+    accepted: &mut Share<A>,
+    refused: &mut Share<C>,
+)
+    requires parts { (0 < accepted.old.parts) × (0 < refused.old.parts) }
+    ensures accepted { accepted.new.amount
+        ≡ accepted.old.amount + sum (map (λ w. w.accepted) workers.old) }
+    ensures refused { refused.new.amount
+        ≡ refused.old.amount + sum (map (λ w. w.refused) workers.old) }
+    ensures parts { (0 < accepted.new.parts) × (0 < refused.new.parts) }
+    ensures workers { workers.new ≡ map uncounted workers.old }
+{
+    for worker in workers.iter_mut() {
+        worker.give_counts(accepted, refused);
+    }
 }
