@@ -1,5 +1,7 @@
-pub mod Journals
+pub mod Counting
 pub mod Growth
 pub mod Intakes
+pub mod Journals
+pub mod Publishing
 pub mod Readiness
 pub mod States

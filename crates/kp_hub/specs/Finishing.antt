@@ -15,7 +15,6 @@ use Rattle.kp_publish.specs.declared.entry.Entry.{Entry}
 use Rattle.kp_publish.specs.Entries.{records_of}
 use Rattle.kp_hub.specs.declared.notes.RecordNote.{RecordNote}
 use Rattle.kp_hub.specs.declared.notes.Refusal.{Refusal}
-use Rattle.kp_hub.specs.Known.{Worker}
 use Rattle.kp_hub.specs.State.{HubState, IsRefusal}
 use Rattle.kp_hub.specs.Syncs.{clash_after}
 use Rattle.kp_hub.specs.Taken.{Taken, note_of}
@@ -61,7 +60,3 @@ Begins seen records = IsPrefix (records_of seen) records
 pub record KeepsBooks (before after : HubState) : Type 0 where
   pub accepted : after.accepted ≡ before.accepted
   pub refused : after.refused ≡ before.refused
-
--- a pass that counts nothing any more
-abbrev pub uncounted : Worker → Worker
-uncounted w = record w { accepted = 0; refused = 0 }

@@ -55,3 +55,7 @@ IsOutside (Some reader) learned = IsPrefix learned reader.told
 -- a pass that has seen nothing and synced nothing
 abbrev pub new_worker : Worker
 new_worker = record { seen = []; told = []; learned = []; accepted = 0; refused = 0 }
+
+-- a pass that counts nothing any more
+abbrev pub uncounted : Worker → Worker
+uncounted w = record w { accepted = 0; refused = 0 }

@@ -287,12 +287,12 @@ fn joined(alloc: Global, origins: &[Origin], events: Items<Event>) -> Result<Ite
 }
 
 /// The note of a record.
-fn noted(record: &SyncRecord) -> RecordNote
-    ensures { result ≡ note_of record.now }
+fn noted(made: &SyncRecord) -> RecordNote
+    ensures { result ≡ note_of made.now }
 {
-    let (written, removed) = counts(record.batch.edits.as_slice());
+    let (written, removed) = counts(made.batch.edits.as_slice());
     RecordNote {
-        events: record.events,
+        events: made.events,
         written,
         removed,
     }

@@ -1,6 +1,6 @@
 //! Records that wait, and their publishing.
-ghost use Rattle.std.specs.Prelude.{◌≡◌, ◌+◌, ◌<◌, ◌≤◌, ◌++◌, ◌∷◌, [], false, length, OnOk, IfErr};
-ghost use Rattle.std.specs.Prelude.{deque_len, deque_capacity};
+ghost use Rattle.std.specs.Prelude.{◌≡◌, ◌+◌, ◌<◌, ◌≤◌, ◌++◌, ◌∷◌, [], false, length, OnOk, OnErr, IfErr};
+ghost use Rattle.std.specs.VecDeque.{deque_len, deque_capacity};
 ghost use mathlib.Core.List.{IsPrefix};
 ghost use Rattle.kp_publish.specs.Entries.{is_ended, records_of};
 ghost use Rattle.kp_hub.specs.Ready.{AreReady};
@@ -11,11 +11,11 @@ use std::collections::VecDeque;
 use std::sync::Wait;
 
 /// Puts a record behind those that wait. There is room for it.
-pub(crate) fn put(waiting: &mut VecDeque<SyncRecord>, record: SyncRecord)
+pub(crate) fn put(waiting: &mut VecDeque<SyncRecord>, next: SyncRecord)
     requires { deque_len waiting.old < deque_capacity waiting.old }
-    ensures { waiting.new.items ≡ waiting.old.items ++ record ∷ [] }
+    ensures { waiting.new.items ≡ waiting.old.items ++ next ∷ [] }
 {
-    if waiting.push_back(record).is_err() {
+    if waiting.push_back(next).is_err() {
         unreachable!()
     }
 }
@@ -33,7 +33,6 @@ fn publish_first<J: Publication, R: Wait>(
     ensures open { is_ended publisher.new.newest ≡ false }
     ensures records { records_of publisher.new.newest ++ waiting.new.items
         ≡ records_of publisher.old.newest ++ waiting.old.items }
-    ensures pair { publisher.new.pair ≡ publisher.old.pair }
     ensures one { OnOk result (length waiting.new.items + 1 ≡ length waiting.old.items) }
     ensures published { OnOk result (publisher.new.published ≡ publisher.new.newest) }
     ensures kept { OnErr result (publisher.new.published ≡ publisher.old.published) }
@@ -63,7 +62,6 @@ pub(crate) fn publish_all<J: Publication, R: Wait>(
     ensures open { is_ended publisher.new.newest ≡ false }
     ensures records { records_of publisher.new.newest ++ waiting.new.items
         ≡ records_of publisher.old.newest ++ waiting.old.items }
-    ensures pair { publisher.new.pair ≡ publisher.old.pair }
     ensures all { OnOk result (waiting.new.items ≡ []) }
     ensures published { OnOk result (0 < length waiting.old.items
         → publisher.new.published ≡ publisher.new.newest) }

@@ -6,8 +6,9 @@ ghost use Rattle.kp_feed.specs.Feeding.{AreWhole};
 ghost use Rattle.kp_history_defs.specs.declared.fed.Fed.{Fed};
 ghost use Rattle.kp_publish.specs.Entries.{records_of};
 ghost use Rattle.kp_publish.specs.Pending.{Keeps};
-ghost use Rattle.kp_hub.specs.Finishing.{CoversAll, IsEnd, KeepsBooks, uncounted, with_ended};
+ghost use Rattle.kp_hub.specs.Finishing.{CoversAll, IsEnd, KeepsBooks, with_ended};
 ghost use Rattle.kp_hub.specs.Growing.{IsDone, IsSameBut, StopsAt, TakesMore};
+ghost use Rattle.kp_hub.specs.Known.{uncounted};
 ghost use Rattle.kp_hub.specs.State.{first_table};
 ghost use Rattle.kp_hub.specs.Syncs.{Accepts, CountsAccepted, CountsFault, Fails, IsDenied, IsTold};
 ghost use Rattle.kp_hub.specs.Syncs.{IsUncounted, clash_after, with_refusal};
@@ -47,6 +48,7 @@ pub struct Held<J: Sharing, A: Ledger, C: Ledger> {
 }
 
 impl<J: Sharing, A: Ledger, C: Ledger> Model for Held<J, A, C> {
+    ghost use Rattle.std.specs.Prelude.{◌<◌};
     ghost use Rattle.kp_hub.specs.State.{HubState, IsHubState, state_code};
 
     ghost Value = { HubState };

@@ -1,8 +1,7 @@
 //! The publisher of a hub, and the passes of its workers.
 ghost use Rattle.std.specs.Prelude.{◌≡◌, ◌+◌, ◌<◌, ◌≤◌, [], length, map, replicate, sum, IfOk};
 ghost use Rattle.std.specs.List.{AllByRecursion};
-ghost use Rattle.kp_hub.specs.Finishing.{uncounted};
-ghost use Rattle.kp_hub.specs.Known.{new_worker};
+ghost use Rattle.kp_hub.specs.Known.{new_worker, uncounted};
 ghost use Rattle.kp_hub.specs.State.{first_table};
 
 use crate::pass::WorkerPass;
@@ -64,21 +63,37 @@ fn workers_of<J: Sharing, A: Ledger, C: Ledger>(
 {
     let mut passes = Items::new(alloc);
     for reader in readers.into_vec() {
-        let own_accepted = accepted.split_off(1, 0);
-        let own_refused = refused.split_off(1, 0);
-        let own_node = node.copy(alloc)?;
-        let pass = WorkerPass::new(
-            reader,
-            publisher.tell(),
-            own_node,
-            own_accepted,
-            own_refused,
-        );
+        let pass = worker_of(alloc, publisher, reader, node, accepted, refused)?;
         if passes.push(pass).is_err() {
             return Err(NoMemory);
         }
     }
     Ok(passes)
+}
+
+/// A pass, with a part of each ledger.
+fn worker_of<J: Sharing, A: Ledger, C: Ledger>(
+    alloc: Global,
+    publisher: &Publisher<J>,
+    reader: Reader<J>,
+    node: &Items<Address>,
+    accepted: &mut Share<A>,
+    refused: &mut Share<C>,
+) -> Result<WorkerPass<J, A, C>, NoMemory>
+    requires new { (reader.seen ≡ []) × (reader.told ≡ []) }
+    requires published { publisher.now.published ≡ [] }
+    requires node { node.now ≡ J.config.addresses }
+    requires accepted { (0 < accepted.old.parts) × (accepted.old.amount ≡ 0) }
+    requires refused { (0 < refused.old.parts) × (refused.old.amount ≡ 0) }
+    ensures new { IfOk result (λ pass. pass ≡ new_worker) }
+    ensures accepted { accepted.new.parts + 1 ≡ accepted.old.parts }
+    ensures refused { refused.new.parts + 1 ≡ refused.old.parts }
+    ensures none { (accepted.new.amount ≡ 0) × (refused.new.amount ≡ 0) }
+{
+    let accepted = accepted.split_off(1, 0);
+    let refused = refused.split_off(1, 0);
+    let node = node.copy(alloc)?;
+    Ok(WorkerPass::new(reader, publisher.tell(), node, accepted, refused))
 }
 
 /// Gives to these shares what passes have counted.

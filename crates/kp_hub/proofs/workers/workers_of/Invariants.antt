@@ -6,7 +6,7 @@ use Rattle.kp_hub.specs.Known.{new_worker}
 use Rattle.kp_hub.proofs.workers.workers_of.Given as goal
 
 abbrev pub invariant-loop-reader : goal.invariant-loop-reader
-invariant-loop-reader l = record {
+invariant-loop-reader g l = record {
   made : l.passes ≡ replicate (length l.passes) new_worker;
   all : length l.passes + length (into_iter_items l.reader-iterator) ≡ length (into_iter_items l.initial.reader-iterator);
   left : into_iter_len l.reader-iterator ≡ length (into_iter_items l.reader-iterator);
