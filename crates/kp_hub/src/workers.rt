@@ -62,10 +62,12 @@ fn workers_of<J: Sharing, A: Ledger, C: Ledger>(
     ensures { IfOk result (λ passes. passes ≡ replicate (length readers) new_worker) }
 {
     let mut passes = Items::new(alloc);
-    for reader in readers.into_vec() {
+    let mut readers = readers.into_vec();
+    while let Some(reader) = readers.pop() {
         let pass = worker_of(alloc, publisher, reader, node, accepted, refused)?;
-        if passes.push(pass).is_err() {
-            return Err(NoMemory);
+        match passes.push(pass) {
+            Ok(()) => {}
+            Err(_) => return Err(NoMemory),
         }
     }
     Ok(passes)

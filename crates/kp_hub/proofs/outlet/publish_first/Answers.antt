@@ -2,7 +2,7 @@ use Rattle.std.proofs.Common.{List, ◌++◌, subst}
 use Rattle.kp_types.specs.declared.sync.SyncRecord.{SyncRecord}
 use Rattle.kp_publish.specs.Entries.{records_of}
 use Rattle.kp_hub.specs.Ready.{AreReady}
-use Rattle.kp_hub.proofs.Publishing.{open_still, records_still}
+use Rattle.kp_hub.proofs.Publishing.{kept_pending, open_still, records_still}
 use Rattle.kp_hub.proofs.Readiness.{ready_next}
 use Rattle.kp_hub.proofs.outlet.publish_first.Goals as goal
 
@@ -29,9 +29,11 @@ returns-in-Ok-clause-records g c =
 
 pub returns-in-Err-NoMemoryPending-clause-open : goal.returns-in-Err-NoMemoryPending-clause-open
 returns-in-Err-NoMemoryPending-clause-open g c =
-    open_still c.args.publisher.now.newest c.push_and_publish.new.self.newest c.in-Some.next c.requires.«open» c.in-Err-NoMemoryPending.ensures.record
+    open_still c.args.publisher.now.newest c.push_and_publish.new.self.newest c.in-Some.next c.requires.«open»
+    (kept_pending c.in-Err-NoMemoryPending.field-0 c.in-Some.next c.args.publisher.now c.push_and_publish.new.self c.in-Err-NoMemoryPending.field-0-is c.in-Err-NoMemoryPending.ensures.record)
 
 pub returns-in-Err-NoMemoryPending-clause-records : goal.returns-in-Err-NoMemoryPending-clause-records
 returns-in-Err-NoMemoryPending-clause-records g c =
-    records_still c.args.publisher.now.newest c.push_and_publish.new.self.newest c.in-Some.next c.requires.«open» c.in-Err-NoMemoryPending.ensures.record
+    records_still c.args.publisher.now.newest c.push_and_publish.new.self.newest c.in-Some.next c.requires.«open»
+    (kept_pending c.in-Err-NoMemoryPending.field-0 c.in-Some.next c.args.publisher.now c.push_and_publish.new.self c.in-Err-NoMemoryPending.field-0-is c.in-Err-NoMemoryPending.ensures.record)
     c.pop_front.new.self.items c.args.waiting.now.items c.in-Some.ensures.items

@@ -1,4 +1,4 @@
-use Rattle.std.proofs.Common.{◌≡◌, ap, sym, ◌∙◌, ◌++◌, map, drop, take, slice_set, slice_index_or}
+use Rattle.std.proofs.Common.{◌≡◌, arith, ap, sym, ◌∙◌, ◌++◌, map, drop, take, slice_set, slice_index_or}
 use Rattle.kp_hub.specs.Known.{Worker, uncounted}
 use Rattle.kp_hub.proofs.Counting.{counted_next, still_there, changed_next}
 use Rattle.kp_hub.proofs.workers.gather.Goals as goal
@@ -16,12 +16,12 @@ loop-worker-preserved g c =
           let more = counted_next (λ (w : Worker). w.accepted) ws i d lt in
           let one = ap (λ (w : Worker). w.accepted) held in
           let so_far = c.loop-worker.invariant.accepted in
-          let now = c.give_counts.ensures.accepted in omega (more, one, so_far, now);
+          let now = c.give_counts.ensures.accepted in omega (arith, more, one, so_far, now);
       refused =
           let more = counted_next (λ (w : Worker). w.refused) ws i d lt in
           let one = ap (λ (w : Worker). w.refused) held in
           let so_far = c.loop-worker.invariant.refused in
-          let now = c.give_counts.ensures.refused in omega (more, one, so_far, now);
+          let now = c.give_counts.ensures.refused in omega (arith, more, one, so_far, now);
       workers =
           (λ j. slice_set (c.loop-worker.invariant.workers j) i (c.give_counts.ensures.stays j))
           ∙ (ap (λ w. slice_set (map uncounted (take i ws) ++ drop i ws) i (uncounted w)) held ∙ changed_next uncounted ws i d lt);
