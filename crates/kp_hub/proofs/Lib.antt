@@ -4,4 +4,5 @@ pub mod Intakes
 pub mod Journals
 pub mod Publishing
 pub mod Readiness
+pub mod Readings
 pub mod States

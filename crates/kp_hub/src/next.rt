@@ -36,6 +36,7 @@ pub(crate) fn next<R: Wait>(
 }
 
 /// Accepts an event, and keeps who fed it. Where memory is out it comes back, and all stays.
+#[tactic(auto, using(crate::proofs::Journals::fed_snoc))]
 pub(crate) fn accept(plane: &mut Plane, origins: &mut Vec<Origin>, fed: Fed) -> Result<(), Fed>
     requires { length origins.old.items ≡ length plane.old.events }
     ensures plane { OnOk result (plane.new ≡ with_events plane.old (fed.event ∷ [])) }
