@@ -1,5 +1,5 @@
 -- What a snapshot of a table that stands for records answers, is what the table after them does.
-use Rattle.std.proofs.Common.{◌≡◌, ℕ, List, length, sym, subst, refl}
+use Rattle.std.proofs.Common.{◌≡◌, ℕ, List, Option, Some, length, ap, sym, subst, refl, ◌∙◌}
 use Rattle.std.specs.FinMap.{get}
 use mathlib.Core.List.{IsPrefix}
 use Rattle.kp_base.specs.declared.config.Config.{Config}
@@ -12,8 +12,9 @@ use Rattle.kp_answers.specs.declared.snapshot.Snapshot.{Snapshot}
 use Rattle.kp_answers.specs.Walks.{walk_in, answer_in, IsOnWay}
 use Rattle.kp_publish.specs.declared.entry.Entry.{Entry}
 use Rattle.kp_publish.specs.Entries.{GoesOnFrom, StandsFor, records_of, table_of}
+use Rattle.kp_publish.specs.Knows.{Knows}
 use Rattle.kp_publish.proofs.Beginnings.{goes_on_through}
-use Rattle.kp_hub.specs.Known.{Worker}
+use Rattle.kp_hub.specs.Known.{IsOutside, Worker, worker_of}
 use Rattle.kp_hub.specs.Reading.{OnTheWay, Reads, answer_after, walk_after}
 
 module _ (start : TableParts) (config : Config) (s : Snapshot) (seen : List Entry)
@@ -41,3 +42,20 @@ reads_all before seen saw told learned = record {
   learned = goes_on_through seen before.told before.learned learned told;
   stays = refl;
 }
+
+-- a pass whose reader was inside, and is outside again
+pub reads_through : (before : Worker) (r : Option Knows) (reader view left : Knows) (learned : List Entry) (a b : ℕ)
+    → worker_of r learned a b ≡ before → r ≡ Some reader → IsOutside r learned
+    → GoesOnFrom view.seen reader.seen → GoesOnFrom view.seen reader.told → view.told ≡ reader.told
+    → left.seen ≡ view.seen → left.told ≡ view.told
+    → Reads before (record { seen = left.seen; told = left.told; learned = learned; accepted = a; refused = b })
+reads_through before r reader view left learned a b is some out saw told kept same again =
+    let here : Worker = worker_of (Some reader) learned a b in
+    let now : Worker = record { seen = left.seen; told = left.told; learned = learned; accepted = a; refused = b } in
+    let was : here ≡ before = ap (λ o. worker_of o learned a b) (sym some) ∙ is in
+    let after : record here { seen = left.seen } ≡ now =
+    λ i. record { seen = left.seen; told = sym (again ∙ kept) i; learned = learned; accepted = a; refused = b } in
+    subst (λ (w : Worker). Reads w now) was
+    (subst (Reads here) after
+    (reads_all here left.seen (subst (λ (s : List Entry). GoesOnFrom s reader.seen) (sym same) saw)
+    (subst (λ (s : List Entry). GoesOnFrom s reader.told) (sym same) told) (subst (λ o. IsOutside o learned) some out)))

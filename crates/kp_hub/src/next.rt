@@ -24,6 +24,7 @@ pub(crate) fn next<R: Wait>(
     ensures next { IfSome result (λ f. (journal : List Fed)
         → taker.old.taken ≡ journal ++ option_to_list waits.old
         → taker.new ≡ record taker.old { taken = journal ++ f ∷ [] }) }
+    ensures grows { IsPrefix taker.old.taken taker.new.taken }
     ensures none { IfNone result (taker.new ≡ taker.old) }
     ensures waited { IfNone result (waits.old ≡ None) }
     ensures whole { IfNone result (AreWhole taker.old.taken taker.old.ended taker.old.feeders) }
@@ -36,7 +37,6 @@ pub(crate) fn next<R: Wait>(
 }
 
 /// Accepts an event, and keeps who fed it. Where memory is out it comes back, and all stays.
-#[tactic(auto, using(crate::proofs::Journals::fed_snoc))]
 pub(crate) fn accept(plane: &mut Plane, origins: &mut Vec<Origin>, fed: Fed) -> Result<(), Fed>
     requires { length origins.old.items ≡ length plane.old.events }
     ensures plane { OnOk result (plane.new ≡ with_events plane.old (fed.event ∷ [])) }
