@@ -27,3 +27,23 @@ takes_through t u v p q = record {
   feeders = q.feeders ∙ p.feeders;
   ended = q.ended ∙ p.ended;
 }
+
+-- as many or more were taken, and the journal stays
+pub takes_waiting : (t u : Taken) → u.journal ≡ t.journal → IsPrefix (all_taken t) (all_taken u) → u.feeders ≡ t.feeders → u.ended ≡ t.ended
+    → TakesMore t u
+takes_waiting t u same taken feeders ended = record {
+  journal = prefix_same t.journal u.journal (sym same);
+  taken = taken;
+  feeders = feeders;
+  ended = ended;
+}
+
+-- one more is in the journal
+pub takes_next : (t u : Taken) (f : Fed) → u.journal ≡ t.journal ++ f ∷ [] → IsPrefix (all_taken t) (all_taken u) → u.feeders ≡ t.feeders
+    → u.ended ≡ t.ended → TakesMore t u
+takes_next t u f more taken feeders ended = record {
+  journal = (f ∷ [], sym more);
+  taken = taken;
+  feeders = feeders;
+  ended = ended;
+}

@@ -1,5 +1,5 @@
 -- What a snapshot of a table that stands for records answers, is what the table after them does.
-use Rattle.std.proofs.Common.{◌≡◌, ℕ, List, Option, Some, length, ap, sym, subst, refl, ◌∙◌}
+use Rattle.std.proofs.Common.{◌≡◌, ℕ, List, Option, Some, Result, Ok, Err, OnErr, inl, inr, ⊎_elim, length, ap, sym, subst, refl, ◌∙◌}
 use Rattle.std.specs.FinMap.{get}
 use mathlib.Core.List.{IsPrefix}
 use Rattle.kp_base.specs.declared.config.Config.{Config}
@@ -9,13 +9,13 @@ use Rattle.kp_table_defs.specs.Rebuild.{TableParts}
 use Rattle.kp_text_defs.specs.declared.packet.PacketLine.{PacketLine}
 use Rattle.kp_walker.specs.Sets.{ComesToSet}
 use Rattle.kp_answers.specs.declared.snapshot.Snapshot.{Snapshot}
-use Rattle.kp_answers.specs.Walks.{walk_in, answer_in, IsOnWay}
+use Rattle.kp_answers.specs.Walks.{walk_in, answer_in, IsOnWay, IsPartly}
 use Rattle.kp_publish.specs.declared.entry.Entry.{Entry}
 use Rattle.kp_publish.specs.Entries.{GoesOnFrom, StandsFor, records_of, table_of}
 use Rattle.kp_publish.specs.Knows.{Knows}
 use Rattle.kp_publish.proofs.Beginnings.{goes_on_through}
 use Rattle.kp_hub.specs.Known.{IsOutside, Worker, worker_of}
-use Rattle.kp_hub.specs.Reading.{OnTheWay, Reads, answer_after, walk_after}
+use Rattle.kp_hub.specs.Reading.{HasWalked, OnTheWay, Reads, answer_after, walk_after}
 
 module _ (start : TableParts) (config : Config) (s : Snapshot) (seen : List Entry)
     (stands : StandsFor start s.table.now seen) (node : s.node.now ≡ config.addresses) where
@@ -32,6 +32,17 @@ module _ (start : TableParts) (config : Config) (s : Snapshot) (seen : List Entr
   way_is number line before left h =
       subst (λ a. ComesToSet (get (table_of start seen).chains) a line.packet (draws_at number line.draws) before left) node
       (subst (λ (t : TableParts). ComesToSet (get t.chains) s.node.now line.packet (draws_at number line.draws) before left) stands.folded h)
+
+  pub partly_is : (number : ℕ) (line : PacketLine) (before left : RecentParts)
+      → IsPartly s number line before left → HasWalked start config seen number line before left
+  partly_is number line before left h =
+      ⊎_elim (λ (x : IsOnWay s number line before left). inl (way_is number line before left x))
+      (λ (x : left ≡ (walk_in s number line before).lists). inr (x ∙ ap (λ w. w.lists) (walk_is number line before))) h
+
+-- what holds where there is a fault
+pub on_err : {X E P : Type 0} (r : Result X E) → P → OnErr r P
+on_err (Ok x) p = tt
+on_err (Err e) p = p
 
 -- a pass that read
 pub reads_all : (before : Worker) (seen : List Entry) → GoesOnFrom seen before.seen → GoesOnFrom seen before.told → IsPrefix before.learned before.told

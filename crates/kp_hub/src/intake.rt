@@ -212,10 +212,13 @@ impl<J: Sharing> Intake<J> {
         if self.is_full() {
             return true;
         }
-        if self.waits.is_none() {
-            self.waits = feed.take(rt, &mut self.taker);
+        match next(rt, feed, &mut self.taker, &mut self.waits) {
+            Some(fed) => {
+                self.waits = Some(fed);
+                false
+            }
+            None => true,
         }
-        self.waits.is_none()
     }
 
     /// The journal with who fed each event, the notes, the plane's table, and the taker.
