@@ -1,5 +1,5 @@
 -- What a snapshot of a table that stands for records answers, is what the table after them does.
-use Rattle.std.proofs.Common.{◌≡◌, ℕ, List, Option, Some, Result, Ok, Err, OnErr, inl, inr, ⊎_elim, length, ap, sym, subst, refl, ◌∙◌}
+use Rattle.std.proofs.Common.{◌≡◌, ℕ, List, Option, Some, inl, inr, ⊎_elim, length, ap, sym, subst, refl, ◌∙◌}
 use Rattle.std.specs.FinMap.{get}
 use mathlib.Core.List.{IsPrefix}
 use Rattle.kp_base.specs.declared.config.Config.{Config}
@@ -38,11 +38,6 @@ module _ (start : TableParts) (config : Config) (s : Snapshot) (seen : List Entr
   partly_is number line before left h =
       ⊎_elim (λ (x : IsOnWay s number line before left). inl (way_is number line before left x))
       (λ (x : left ≡ (walk_in s number line before).lists). inr (x ∙ ap (λ w. w.lists) (walk_is number line before))) h
-
--- what holds where there is a fault
-pub on_err : {X E P : Type 0} (r : Result X E) → P → OnErr r P
-on_err (Ok x) p = tt
-on_err (Err e) p = p
 
 -- a pass that read
 pub reads_all : (before : Worker) (seen : List Entry) → GoesOnFrom seen before.seen → GoesOnFrom seen before.told → IsPrefix before.learned before.told

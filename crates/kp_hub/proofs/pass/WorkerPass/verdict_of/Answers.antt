@@ -1,7 +1,8 @@
 use Rattle.std.proofs.Common.{List, ◌++◌, ap, sym, subst, length, string_bytes, ◌∙◌}
+use Rattle.kp_walker.proofs.SetSteps.{on_err}
 use Rattle.kp_publish.specs.declared.entry.Entry.{Entry}
 use Rattle.kp_publish.specs.Entries.{StandsFor, records_of}
-use Rattle.kp_hub.proofs.Readings.{reads_through, on_err, walk_is, way_is}
+use Rattle.kp_hub.proofs.Readings.{reads_through, walk_is, way_is}
 use Rattle.kp_hub.proofs.pass.WorkerPass.verdict_of.Goals as goal
 
 pub returns-in_err-verdict-clause-reads : goal.returns-in_err-verdict-clause-reads
@@ -20,19 +21,19 @@ pub returns-in_err-verdict-clause-refused : goal.returns-in_err-verdict-clause-r
 returns-in_err-verdict-clause-refused g c =
     on_err c.from_residual.result (way_is g.J.Publication.start g.J.Sharing.config c.snapshot.result c.leave.result.seen
     (subst (λ (s : List Entry). StandsFor g.J.Publication.start c.snapshot.result.table.now s) (sym c.leave.ensures.seen) c.snapshot.ensures.table)
-    (c.snapshot.ensures.node ∙ c.self.invariant.1.0)
+    (c.snapshot.ensures.node ∙ c.self.invariant.1)
     c.args.number c.args.line.now c.args.lists.now c.verdict_of-verdict.new.lists c.in_err-verdict.ensures.refused)
 
 pub returns-clause-lists : goal.returns-clause-lists
 returns-clause-lists g c =
     c.in_ok-verdict.ensures.lists ∙ ap (λ w. w.lists) (walk_is g.J.Publication.start g.J.Sharing.config c.snapshot.result c.leave.result.seen
     (subst (λ (s : List Entry). StandsFor g.J.Publication.start c.snapshot.result.table.now s) (sym c.leave.ensures.seen) c.snapshot.ensures.table)
-    (c.snapshot.ensures.node ∙ c.self.invariant.1.0)
+    (c.snapshot.ensures.node ∙ c.self.invariant.1)
     c.args.number c.args.line.now c.args.lists.now)
 
 pub returns-clause-verdict : goal.returns-clause-verdict
 returns-clause-verdict g c =
     c.in_ok-verdict.ensures.verdict ∙ ap (λ w. w.verdict) (walk_is g.J.Publication.start g.J.Sharing.config c.snapshot.result c.leave.result.seen
     (subst (λ (s : List Entry). StandsFor g.J.Publication.start c.snapshot.result.table.now s) (sym c.leave.ensures.seen) c.snapshot.ensures.table)
-    (c.snapshot.ensures.node ∙ c.self.invariant.1.0)
+    (c.snapshot.ensures.node ∙ c.self.invariant.1)
     c.args.number c.args.line.now c.args.lists.now)
