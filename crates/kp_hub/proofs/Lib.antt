@@ -1,4 +1,5 @@
 pub mod Counting
+pub mod Endings
 pub mod Growth
 pub mod Intakes
 pub mod Journals
@@ -6,3 +7,4 @@ pub mod Publishing
 pub mod Readiness
 pub mod Readings
 pub mod States
+pub mod Syncing

@@ -15,15 +15,17 @@ use Rattle.kp_types.specs.declared.sync.SyncRecord.{SyncRecord}
 use Rattle.kp_object_defs.specs.Objects.{objects_after}
 use Rattle.kp_table_defs.specs.Rebuild.{TableParts, clash_of}
 use Rattle.kp_history_defs.specs.declared.fed.Fed.{Fed}
-use Rattle.kp_history_defs.specs.History.{record_at}
+use Rattle.kp_history_defs.specs.History.{record_at, sync_records}
 use Rattle.kp_history_defs.specs.Runs.{events_of}
 use Rattle.kp_publish.specs.Entries.{records_of, is_ended}
 use Rattle.kp_publish.specs.Pending.{Keeps}
-use Rattle.kp_plane.specs.Parts.{setting_in}
+use Rattle.kp_feed.specs.Passes.{Feeder}
+use Rattle.kp_plane.specs.Parts.{setting_in, uncovered_in}
 use Rattle.kp_hub.specs.declared.notes.Refusal.{Refusal}
 use Rattle.kp_hub.specs.Taken.{Taken, plane_of, records_at, with_sync}
 use Rattle.kp_hub.specs.Growing.{TakesMore}
-use Rattle.kp_hub.specs.State.{HubState, IsHubState, IsRefusal, PublishesRecords, objects_at}
+use Rattle.kp_hub.specs.Finishing.{with_ended}
+use Rattle.kp_hub.specs.State.{HubState, IsHubState, IsRefusal, PublishesRecords, first_table, objects_at}
 use Rattle.kp_hub.specs.Syncs.{clash_after, with_refusal}
 use Rattle.kp_hub.proofs.Intakes.{events_length}
 
@@ -44,6 +46,26 @@ refusal_stays config journal more p r is =
       within = omega (arith, longer, here);
       clash = ap (λ es. clash_of (setting_of V4 config) (objects_after es)) first ∙ is.clash;
     }
+
+-- nothing was taken or published yet
+pub state_new : (config : Config) (streams : ℕ) (start : TableParts) (h : HubState)
+    (waiting : List SyncRecord) → start ≡ first_table config → h.taken.feeders ≡ streams
+    → h.taken.counts ≡ [] → h.outlet.newest ≡ [] → waiting ≡ [] → h.refusals ≡ [] → h.accepted ≡ 0
+    → h.refused ≡ 0 → IsHubState config streams start h waiting
+state_new config streams start h waiting first feeders counts newest none refusals accepted refused = record {
+  start_is = first;
+  feeders = feeders;
+  publishes = record {
+    is_open = ap is_ended newest;
+    records = (λ i. records_of (newest i) ++ none i)
+        ∙ sym (ap (λ cs. sync_records (setting_of V4 config) (events_of h.taken.journal) cs) counts);
+  };
+  keeps = record {
+    refusals = subst (AllByRecursion (IsRefusal config h.taken.journal)) (sym refusals) tt;
+    accepted = omega (arith, accepted);
+    refused = omega (arith, refused);
+  };
+}
 
 module _ (config : Config) (streams : ℕ) (start : TableParts) (h : HubState) (waiting : List SyncRecord)
     (is : IsHubState config streams start h waiting) where
@@ -82,6 +104,37 @@ module _ (config : Config) (streams : ℕ) (start : TableParts) (h : HubState) (
     };
   }
 
+  -- which no pass was told of
+  pub untold : h.accepted < length (with_sync config h.taken).counts
+  untold =
+      let few = is.keeps.accepted in
+      let more = length-append h.taken.counts (uncovered_in (plane_of config h.taken) ∷ []) in
+      omega (arith, few, more)
+
+  -- feeders end
+  pub state_ends : (passes : List Feeder)
+      → IsHubState config streams start (record h { taken = with_ended h.taken passes }) waiting
+  state_ends passes = record {
+    start_is = is.start_is;
+    feeders = is.feeders;
+    publishes = record { is_open = is.publishes.is_open; records = is.publishes.records };
+    keeps = record {
+      refusals = is.keeps.refusals;
+      accepted = is.keeps.accepted;
+      refused = is.keeps.refused;
+    };
+  }
+
+  -- more syncs were told to passes
+  pub state_tells : (accepted refused : ℕ) → accepted ≤ length h.taken.counts → refused ≤ length h.refusals
+      → IsHubState config streams start (record h { accepted = accepted; refused = refused }) waiting
+  state_tells accepted refused few fewer = record {
+    start_is = is.start_is;
+    feeders = is.feeders;
+    publishes = record { is_open = is.publishes.is_open; records = is.publishes.records };
+    keeps = record { refusals = is.keeps.refusals; accepted = few; refused = fewer };
+  }
+
   -- records are published
   pub state_publishes : (outlet : Keeps) (left : List SyncRecord) → is_ended outlet.newest ≡ false
       → records_of outlet.newest ++ left ≡ records_of h.outlet.newest ++ waiting
@@ -115,6 +168,13 @@ module _ (config : Config) (streams : ℕ) (start : TableParts) (h : HubState) (
       sym (length-append (records_of h.outlet.newest) waiting) ∙ (ap length is.publishes.records ∙ records_length config h.taken) in
       let some : length waiting ≡ length before + 1 = ap length last ∙ length-append before (r ∷ []) in
       omega (arith, all, some)
+
+  -- it is not counted yet
+  pub refusal_uncounted : (clash : Clash) → h.refused < length (with_refusal h clash).refusals
+  refusal_uncounted clash =
+      let few = is.keeps.refused in
+      let more = length-append h.refusals (record { events = length h.taken.journal; clash = clash } ∷ []) in
+      omega (arith, few, more)
 
   -- a refusal of the whole journal is kept
   pub state_refuses : (clash : Clash) → clash_after config h.taken.journal ≡ Some clash

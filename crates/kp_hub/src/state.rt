@@ -3,6 +3,7 @@ ghost use Rattle.std.specs.Prelude.{◌≡◌, ◌+◌, ◌<◌, ◌≤◌, ◌+
 ghost use Rattle.std.specs.Prelude.{Some, None, false, IfOk, IfErr, OnOk, OnErr, List, map, sum};
 ghost use Rattle.std.specs.List.{AllByRecursion};
 ghost use Rattle.kp_feed.specs.Feeding.{AreWhole};
+ghost use Rattle.kp_full_table.specs.Faults.{TellsClash};
 ghost use Rattle.kp_history_defs.specs.declared.fed.Fed.{Fed};
 ghost use Rattle.kp_publish.specs.Entries.{records_of};
 ghost use Rattle.kp_publish.specs.Pending.{Keeps};
@@ -12,7 +13,7 @@ ghost use Rattle.kp_hub.specs.Known.{uncounted};
 ghost use Rattle.kp_hub.specs.State.{first_table};
 ghost use Rattle.kp_hub.specs.Syncs.{Accepts, CountsAccepted, CountsFault, Fails, IsDenied, IsTold};
 ghost use Rattle.kp_hub.specs.Syncs.{IsUncounted, clash_after, with_refusal};
-ghost use Rattle.kp_hub.specs.Taken.{all_taken, records_at};
+ghost use Rattle.kp_hub.specs.Taken.{records_at, with_sync};
 
 use crate::finished::Finished;
 use crate::intake::Intake;
@@ -254,14 +255,16 @@ impl<J: Sharing, A: Ledger, C: Ledger> Held<J, A, C> {
         clash: Option<Clash>,
     ) -> Result<Finished<J>, NoMemory>
         requires queue { feed ≡ J.queue }
+        requires done { IsDone J.config self.taken }
         requires records { records_of self.outlet.newest ≡ records_at J.config self.taken }
         requires clash { clash ≡ clash_after J.config self.taken.journal }
         requires covers { clash ≡ None → CoversAll self.taken }
         ensures end { IfOk result (λ done. IsEnd J.config done.journal done.notes done.refusals
             done.clash done.table) }
-        ensures journal { IfOk result (λ done. done.journal ≡ self.taken.journal) }
-        ensures left { (left : List Fed)
-            × AreWhole (all_taken self.taken ++ left) self.taken.ended J.streams }
+        ensures whole { IfOk result (λ done. length done.journal < J.config.max_events
+            → AreWhole done.journal self.taken.ended J.streams) }
+        ensures order { IfOk result (λ done. (left : List Fed)
+            × AreWhole (done.journal ++ left) self.taken.ended J.streams) }
         ensures accepted { IfOk result (λ done. self.accepted ≤ length done.notes) }
         ensures refused { IfOk result (λ done. self.refused ≤ length done.refusals) }
     {
@@ -357,21 +360,35 @@ impl<J: Sharing, A: Ledger, C: Ledger> Held<J, A, C> {
         ensures untold { OnOk result (self.new.accepted < length self.new.taken.counts) }
         ensures uncounted { IfErr result (λ fault. IsUncounted fault self.new) }
     {
-        // The room for the record, should it have to wait, is taken before it is made.
-        if self.waiting.reserve(1).is_err() {
-            return Err(TableFault::NoMemory);
-        }
-        match self.intake.record(alloc) {
-            Ok(record) => {
-                put(&mut self.waiting, record);
-                Ok(self.publish(rt)?)
-            }
+        match self.make(alloc) {
+            Ok(()) => Ok(self.publish(rt)?),
             Err(TableFault::ChainClash(clash)) => {
                 self.refuse(alloc, &clash)?;
                 Err(TableFault::ChainClash(clash))
             }
             Err(TableFault::NoMemory) => Err(TableFault::NoMemory),
         }
+    }
+
+    /// Makes a record of the whole journal, which waits. Where that is refused all stays.
+    fn make(&mut self, alloc: Global) -> Result<(), TableFault>
+        ensures ok { OnOk result (self.new ≡ record self.old {
+          taken = with_sync J.config self.old.taken;
+        }) }
+        ensures no_clash { OnOk result (clash_after J.config self.old.taken.journal ≡ None) }
+        ensures waits { OnOk result (length (records_of self.new.outlet.newest)
+            < length self.new.taken.counts) }
+        ensures untold { OnOk result (self.new.accepted < length self.new.taken.counts) }
+        ensures clash { IfErr result (TellsClash (clash_after J.config self.old.taken.journal)) }
+        ensures err { OnErr result (self.new ≡ self.old) }
+    {
+        // The room for the record, should it have to wait, is taken before it is made.
+        if self.waiting.reserve(1).is_err() {
+            return Err(TableFault::NoMemory);
+        }
+        let record = self.intake.record(alloc)?;
+        put(&mut self.waiting, record);
+        Ok(())
     }
 
     /// Publishes all records that wait, of which there is one, and answers how many there are.
@@ -392,6 +409,7 @@ impl<J: Sharing, A: Ledger, C: Ledger> Held<J, A, C> {
     fn refuse(&mut self, alloc: Global, clash: &Clash) -> Result<(), NoMemory>
         requires { clash_after J.config self.old.taken.journal ≡ Some clash.now }
         ensures ok { OnOk result (self.new ≡ with_refusal self.old clash.now) }
+        ensures uncounted { OnOk result (self.new.refused < length self.new.refusals) }
         ensures err { OnErr result (self.new ≡ self.old) }
     {
         let refusal = Refusal {
