@@ -39,7 +39,7 @@ module _ (config : Config) (t : Taken) (journal : List Fed) (notes : List Record
       ∙ (map-map (λ (n : RecordNote). n.events) note_of (records_at config t) ∙ exact.counted)
 
   plane_is : plane_told config journal notes ≡ plane_of config t
-  plane_is i = record { config = config; events = events_of (journal_is i); counts = counts_are i }
+  plane_is = λ i. record { config = config; events = events_of (journal_is i); counts = counts_are i }
 
   pub records_are : records_at config t ≡ records_told config journal notes
   records_are = sym (ap records_in plane_is)

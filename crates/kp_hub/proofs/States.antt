@@ -158,8 +158,17 @@ module _ (config : Config) (streams : ℕ) (start : TableParts) (h : HubState) (
       omega (arith, fewer, all)
 
   -- and where none waits all are
-  pub all_published : waiting ≡ [] → records_of h.outlet.newest ≡ records_at config h.taken
-  all_published none = sym (append-nil (records_of h.outlet.newest)) ∙ (ap (λ w. records_of h.outlet.newest ++ w) (sym none) ∙ is.publishes.records)
+  pub newest_all : (outlet : Keeps) (left : List SyncRecord)
+      → records_of outlet.newest ++ left ≡ records_of h.outlet.newest ++ waiting → left ≡ []
+      → records_of outlet.newest ≡ records_at config h.taken
+  newest_all outlet left same none =
+      sym (append-nil (records_of outlet.newest))
+      ∙ (ap (λ w. records_of outlet.newest ++ w) (sym none) ∙ (same ∙ is.publishes.records))
+
+  pub published_all : (outlet : Keeps) (left : List SyncRecord)
+      → records_of outlet.newest ++ left ≡ records_of h.outlet.newest ++ waiting → left ≡ []
+      → outlet.published ≡ outlet.newest → records_of outlet.published ≡ records_at config h.taken
+  published_all outlet left same none all = ap records_of all ∙ newest_all outlet left same none
 
   -- where one more waits fewer are
   pub fewer_published : (r : SyncRecord) (before : List SyncRecord) → waiting ≡ before ++ r ∷ [] → length (records_of h.outlet.newest) < length h.taken.counts
@@ -169,6 +178,16 @@ module _ (config : Config) (streams : ℕ) (start : TableParts) (h : HubState) (
       let some : length waiting ≡ length before + 1 = ap length last ∙ length-append before (r ∷ []) in
       omega (arith, all, some)
 
+  whole_refusal : (clash : Clash) → clash_after config h.taken.journal ≡ Some clash
+      → IsRefusal config h.taken.journal (record { events = length h.taken.journal; clash = clash })
+  whole_refusal clash found = record {
+    within = omega arith;
+    clash = ap (λ es. clash_of (setting_of V4 config) (objects_after es))
+        (ap (λ n. take n (events_of h.taken.journal)) (sym (events_length h.taken.journal))
+        ∙ take-length (events_of h.taken.journal))
+        ∙ found;
+  }
+
   -- it is not counted yet
   pub refusal_uncounted : (clash : Clash) → h.refused < length (with_refusal h clash).refusals
   refusal_uncounted clash =
@@ -177,24 +196,20 @@ module _ (config : Config) (streams : ℕ) (start : TableParts) (h : HubState) (
       omega (arith, few, more)
 
   -- a refusal of the whole journal is kept
-  pub state_refuses : (clash : Clash) → clash_after config h.taken.journal ≡ Some clash
-      → IsHubState config streams start (with_refusal h clash) waiting
-  state_refuses clash found = record {
+  pub state_refuses : (clash : Clash) (refusals : List Refusal) → clash_after config h.taken.journal ≡ Some clash
+      → refusals ≡ (with_refusal h clash).refusals
+      → IsHubState config streams start (record h { refusals = refusals }) waiting
+  state_refuses clash refusals found more = record {
     start_is = is.start_is;
     feeders = is.feeders;
     publishes = record { is_open = is.publishes.is_open; records = is.publishes.records };
     keeps = record {
-      refusals = all_append (IsRefusal config h.taken.journal) h.refusals (record { events = length h.taken.journal; clash = clash } ∷ []) is.keeps.refusals (
-        record {
-          within = omega arith;
-          clash = ap (λ es. clash_of (setting_of V4 config) (objects_after es))
-              (ap (λ n. take n (events_of h.taken.journal)) (sym (events_length h.taken.journal)) ∙ take-length (events_of h.taken.journal)) ∙ found;
-        },
-        tt,
-      );
+      refusals = subst (AllByRecursion (IsRefusal config h.taken.journal)) (sym more)
+          (all_append (IsRefusal config h.taken.journal) h.refusals (record { events = length h.taken.journal; clash = clash } ∷ [])
+          is.keeps.refusals (whole_refusal clash found, tt));
       accepted = is.keeps.accepted;
       refused =
-          let few = is.keeps.refused in
-          let more = length-append h.refusals (record { events = length h.taken.journal; clash = clash } ∷ []) in omega (arith, few, more);
+          let few = refusal_uncounted clash in
+          let longer = ap length more in omega (arith, few, longer);
     };
   }
