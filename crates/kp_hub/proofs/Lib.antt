@@ -1,6 +1,6 @@
 pub mod Counting
-pub mod Endings
 pub mod Growth
+pub mod HandedOut
 pub mod Intakes
 pub mod Journals
 pub mod Publishing

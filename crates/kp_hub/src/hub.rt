@@ -1,5 +1,5 @@
 //! The hub.
-ghost use Rattle.std.specs.Prelude.{◌≡◌, ◌-◌, ◌<◌, ◌≤◌, ◌^◌, ◌++◌, [], ℕ, List, suc, length};
+ghost use Rattle.std.specs.Prelude.{◌≡◌, ◌-◌, ◌+◌, ◌<◌, ◌≤◌, ◌^◌, ◌++◌, [], ℕ, List, suc, length};
 ghost use Rattle.std.specs.Prelude.{filter, map, replicate, sum};
 ghost use Rattle.std.specs.Prelude.{IfOk, IfErr, OnOk, OnErr, string_bytes};
 ghost use Rattle.std.specs.List.{AllByRecursion};
@@ -8,6 +8,7 @@ ghost use Rattle.kp_feed.specs.Feeding.{Delivers};
 ghost use Rattle.kp_history_defs.specs.declared.fed.Fed.{Fed};
 ghost use Rattle.kp_history_defs.specs.Runs.{is_of_stream};
 ghost use Rattle.kp_publish.specs.Entries.{records_of};
+ghost use Rattle.kp_run_defs.specs.LegalRuns.{last_syncs};
 ghost use Rattle.kp_hub.specs.Finishing.{IsEnd};
 ghost use Rattle.kp_hub.specs.Known.{new_worker, uncounted};
 ghost use Rattle.kp_hub.specs.Reading.{answer_after, HasWalked, OnTheWay, Reads, walk_after};
@@ -203,9 +204,9 @@ impl<J: Sharing, A: Ledger, C: Ledger> Hub<J, A, C> {
         ensures made { IfOk result (λ done. (p : ℕ) → J.streams ≤ p
             → filter (is_of_stream p) done.journal ≡ []) }
 
-        // No worker was told of syncs that it doesn't hand out.
+        // No worker was told of syncs that it doesn't hand out, nor of the last one.
         ensures accepted { IfOk result (λ done. sum (map (λ w. w.accepted) workers.old)
-            ≤ length done.notes) }
+            + last_syncs done.clash ≤ length done.notes) }
         ensures refused { IfOk result (λ done. sum (map (λ w. w.refused) workers.old)
             ≤ length done.refusals) }
         ensures workers { workers.new ≡ map uncounted workers.old }

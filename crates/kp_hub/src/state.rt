@@ -1,13 +1,14 @@
 //! What the hub's lock keeps.
 ghost use Rattle.std.specs.Prelude.{◌≡◌, ◌+◌, ◌<◌, ◌≤◌, ◌++◌, ◌∷◌, [], length};
-ghost use Rattle.std.specs.Prelude.{Some, None, false, IfOk, IfErr, OnOk, OnErr, List, map, sum};
+ghost use Rattle.std.specs.Prelude.{Some, None, IfOk, IsTrue, IfErr, OnOk, OnErr, List, map, sum};
 ghost use Rattle.std.specs.List.{AllByRecursion};
 ghost use Rattle.kp_feed.specs.Feeding.{AreWhole};
 ghost use Rattle.kp_full_table.specs.Faults.{TellsClash};
 ghost use Rattle.kp_history_defs.specs.declared.fed.Fed.{Fed};
 ghost use Rattle.kp_publish.specs.Entries.{records_of};
 ghost use Rattle.kp_publish.specs.Pending.{Keeps};
-ghost use Rattle.kp_hub.specs.Finishing.{CoversAll, IsEnd, KeepsBooks, with_ended};
+ghost use Rattle.kp_run_defs.specs.LegalRuns.{last_syncs};
+ghost use Rattle.kp_hub.specs.Finishing.{CoversAll, IsEnd, IsUntold, KeepsBooks, with_ended};
 ghost use Rattle.kp_hub.specs.Growing.{IsDone, IsSameBut, StopsAt, TakesMore};
 ghost use Rattle.kp_hub.specs.Known.{uncounted};
 ghost use Rattle.kp_hub.specs.State.{first_table};
@@ -172,11 +173,12 @@ impl<J: Sharing, A: Ledger, C: Ledger> Held<J, A, C> {
         ensures clash { IfOk result (λ clash. clash
             ≡ clash_after J.config self.new.taken.journal) }
         ensures covers { IfOk result (λ clash. clash ≡ None → CoversAll self.new.taken) }
+        ensures untold { IfOk result (IsUntold self.new) }
         ensures books { KeepsBooks self.old self.new }
     {
         for _ in rt.forever() {
             let clash = self.sync_last(rt, alloc, feed)?;
-            if self.intake.is_done(rt, feed) {
+            if self.is_done(rt, feed) {
                 return Ok(clash);
             }
         }
@@ -210,7 +212,8 @@ impl<J: Sharing, A: Ledger, C: Ledger> Held<J, A, C> {
             → AreWhole done.journal self.taken.ended J.streams) }
         ensures order { IfOk result (λ done. (left : List Fed)
             × AreWhole (done.journal ++ left) self.taken.ended J.streams) }
-        ensures accepted { IfOk result (λ done. self.accepted ≤ length done.notes) }
+        ensures accepted { IfOk result
+            (λ done. self.accepted + last_syncs done.clash ≤ length done.notes) }
         ensures refused { IfOk result (λ done. self.refused ≤ length done.refusals) }
     {
         let mut held = self;
@@ -236,6 +239,7 @@ impl<J: Sharing, A: Ledger, C: Ledger> Held<J, A, C> {
         ensures clash { IfOk result (λ clash. clash
             ≡ clash_after J.config self.new.taken.journal) }
         ensures covers { IfOk result (λ clash. clash ≡ None → CoversAll self.new.taken) }
+        ensures untold { IfOk result (IsUntold self.new) }
         ensures records { OnOk result (records_of self.new.outlet.newest
             ≡ records_at J.config self.new.taken) }
         ensures books { KeepsBooks self.old self.new }
@@ -259,13 +263,15 @@ impl<J: Sharing, A: Ledger, C: Ledger> Held<J, A, C> {
         requires records { records_of self.outlet.newest ≡ records_at J.config self.taken }
         requires clash { clash ≡ clash_after J.config self.taken.journal }
         requires covers { clash ≡ None → CoversAll self.taken }
+        requires untold { IsUntold self clash }
         ensures end { IfOk result (λ done. IsEnd J.config done.journal done.notes done.refusals
             done.clash done.table) }
         ensures whole { IfOk result (λ done. length done.journal < J.config.max_events
             → AreWhole done.journal self.taken.ended J.streams) }
         ensures order { IfOk result (λ done. (left : List Fed)
             × AreWhole (done.journal ++ left) self.taken.ended J.streams) }
-        ensures accepted { IfOk result (λ done. self.accepted ≤ length done.notes) }
+        ensures accepted { IfOk result
+            (λ done. self.accepted + last_syncs done.clash ≤ length done.notes) }
         ensures refused { IfOk result (λ done. self.refused ≤ length done.refusals) }
     {
         let Held {
@@ -328,14 +334,28 @@ impl<J: Sharing, A: Ledger, C: Ledger> Held<J, A, C> {
         ensures clash { IfOk result (λ clash. clash
             ≡ clash_after J.config self.new.taken.journal) }
         ensures covers { IfOk result (λ clash. clash ≡ None → CoversAll self.new.taken) }
+        ensures untold { IfOk result (IsUntold self.new) }
         ensures books { KeepsBooks self.old self.new }
     {
+        self.counts_few();
         self.take_all(rt, feed)?;
         match self.record(rt, alloc) {
             Ok(_) => Ok(None),
             Err(TableFault::ChainClash(clash)) => Ok(Some(clash)),
             Err(TableFault::NoMemory) => Err(NoMemory),
         }
+    }
+
+    /// Whether nothing is left to be taken. Else the queue's front waits.
+    fn is_done<R: Wait>(&mut self, rt: &R, feed: &Feed) -> bool
+        requires queue { feed.now ≡ J.queue }
+        ensures more { TakesMore self.old.taken self.new.taken }
+        ensures taken { self.new.taken
+            ≡ record self.old.taken { waits = self.new.taken.waits } }
+        ensures stays { self.new ≡ record self.old { taken = self.new.taken } }
+        ensures done { IsTrue result → IsDone J.config self.new.taken }
+    {
+        self.intake.is_done(rt, feed)
     }
 
     /// Takes events until one of the stops.
@@ -348,6 +368,13 @@ impl<J: Sharing, A: Ledger, C: Ledger> Held<J, A, C> {
         ensures none_waits { OnOk result (self.new.taken.waits ≡ None) }
     {
         self.intake.take_all(rt, feed)
+    }
+
+    /// No more syncs were told to passes than there are.
+    fn counts_few(&self)
+        ensures { self.now.accepted ≤ length self.now.taken.counts }
+    {
+        let _ = &self.intake;
     }
 
     /// Makes a record of the whole journal and publishes it, or keeps why that is refused.
