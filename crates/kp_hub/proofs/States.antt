@@ -84,10 +84,10 @@ module _ (config : Config) (streams : ℕ) (start : TableParts) (h : HubState) (
     };
   }
 
-  -- a record is made, and waits
-  pub state_records : (r : SyncRecord) → records_at config (with_sync config h.taken) ≡ records_at config h.taken ++ r ∷ []
+  made : (r : SyncRecord)
+      → records_at config (with_sync config h.taken) ≡ records_at config h.taken ++ r ∷ []
       → IsHubState config streams start (record h { taken = with_sync config h.taken }) (waiting ++ r ∷ [])
-  state_records r grows = record {
+  made r grows = record {
     start_is = is.start_is;
     feeders = is.feeders;
     publishes = record {
@@ -99,10 +99,19 @@ module _ (config : Config) (streams : ℕ) (start : TableParts) (h : HubState) (
       refusals = is.keeps.refusals;
       accepted =
           let few = is.keeps.accepted in
-          let more = length-append h.taken.counts _ in omega (arith, few, more);
+          let more = length-append h.taken.counts (uncovered_in (plane_of config h.taken) ∷ []) in
+          omega (arith, few, more);
       refused = is.keeps.refused;
     };
   }
+
+  -- a record is made, and waits
+  pub state_records : (r : SyncRecord) (t : Taken) (waits : List SyncRecord) → t ≡ with_sync config h.taken
+      → records_at config t ≡ records_at config h.taken ++ r ∷ [] → waits ≡ waiting ++ r ∷ []
+      → IsHubState config streams start (record h { taken = t }) waits
+  state_records r t waits makes grows more =
+      subst (λ (p : Taken × List SyncRecord). IsHubState config streams start (record h { taken = p.0 }) p.1)
+      (λ i. (sym makes i, sym more i)) (made r (sym (ap (records_at config) makes) ∙ grows))
 
   -- which no pass was told of
   pub untold : h.accepted < length (with_sync config h.taken).counts

@@ -41,6 +41,16 @@ state_code =
       refused = p.1.1.1.1;
     }) (λ _. refl)
 
+-- it is what the parts of the lock show
+abbrev pub state_in : Taken → Keeps → List Refusal → ℕ → ℕ → HubState
+state_in taken outlet refusals accepted refused = record {
+  taken = taken;
+  outlet = outlet;
+  refusals = refusals;
+  accepted = accepted;
+  refused = refused;
+}
+
 -- the table of no objects
 abbrev pub first_table : Config → TableParts
 first_table config = full_table (setting_of V4 config) no_objects

@@ -51,29 +51,18 @@ pub struct Held<J: Sharing, A: Ledger, C: Ledger> {
 
 impl<J: Sharing, A: Ledger, C: Ledger> Model for Held<J, A, C> {
     ghost use Rattle.std.specs.Prelude.{◌<◌};
-    ghost use Rattle.kp_hub.specs.State.{HubState, IsHubState, state_code};
+    ghost use Rattle.kp_hub.specs.State.{HubState, IsHubState, state_code, state_in};
 
     ghost Value = { HubState };
 
     ghost coded = { state_code };
 
-    ghost view = { λ s. record {
-      taken = s.intake;
-      outlet = s.publisher;
-      refusals = s.refusals.items;
-      accepted = s.accepted.total;
-      refused = s.refused.total;
-    } };
+    ghost view = { λ s. state_in s.intake s.publisher s.refusals.items s.accepted.total
+        s.refused.total };
 
     ghost invariant = { λ s. (0 < s.all_accepted.parts) × (0 < s.all_refused.parts)
         × IsHubState J.config J.streams J.start
-        (record {
-          taken = s.intake;
-          outlet = s.publisher;
-          refusals = s.refusals.items;
-          accepted = s.accepted.total;
-          refused = s.refused.total;
-        })
+        (state_in s.intake s.publisher s.refusals.items s.accepted.total s.refused.total)
         s.waiting.items };
 }
 
