@@ -97,9 +97,9 @@ module _ (config : Config) (queue : QueueId) (t : Taken) (plane : PlaneParts) (t
         room = subst (λ (l : List Fed). length l < config.max_events) (sym same) room;
       }
 
-  -- a sync covers events of the journal
-  pub synced_within : sum (with_sync config t).counts ≤ length t.journal
-  synced_within =
+  -- a sync covers the whole journal
+  pub synced_covers : sum (with_sync config t).counts ≡ length t.journal
+  synced_covers =
       let more : ℕ = uncovered_in (plane_of config t) in
       let all : sum (with_sync config t).counts ≡ sum t.counts + more =
       fold-append (λ (n m : ℕ). n + m) 0 t.counts (more ∷ []) in
@@ -146,6 +146,6 @@ module _ (config : Config) (queue : QueueId) (t : Taken) (plane : PlaneParts) (t
         }));
         notes_are = noted ∙ (ap (λ ns. ns ++ note_of r ∷ []) (is.notes_are ∙ ap (λ p. map note_of (records_in p)) (sym is.plane_is))
             ∙ (sym (map-append note_of (records_in plane) (r ∷ [])) ∙ ap (map note_of) (sym grows ∙ ap records_in whole)));
-        covers = subst (λ (x : List ℕ × List Fed). sum x.0 ≤ length x.1) (λ i. (sym counts i, sym same i)) synced_within;
+        covers = subst (λ (x : List ℕ × List Fed). sum x.0 ≤ length x.1) (λ i. (sym counts i, sym same i)) (omega (arith, synced_covers));
         room = subst (λ (l : List Fed). IfSome t.waits (λ f. length l < config.max_events)) (sym same) is.room;
       }

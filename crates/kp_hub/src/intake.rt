@@ -11,6 +11,7 @@ ghost use Rattle.kp_object_defs.specs.Objects.{objects_after};
 ghost use Rattle.kp_table_defs.specs.Rebuild.{clash_of};
 ghost use Rattle.kp_history_defs.specs.Runs.{events_of};
 ghost use Rattle.kp_plane.specs.Parts as parts;
+ghost use Rattle.kp_hub.specs.Finishing.{CoversAll};
 ghost use Rattle.kp_hub.specs.Growing.{IsDone, IsFull, StopsAt, TakesMore};
 ghost use Rattle.kp_hub.specs.Ready.{AreReady};
 ghost use Rattle.kp_hub.specs.State.{first_table};
@@ -161,6 +162,7 @@ impl<J: Sharing> Intake<J> {
         ensures ok { OnOk result (self.new ≡ with_sync J.config self.old) }
         ensures record { IfOk result (λ r. records_at J.config self.new
             ≡ records_at J.config self.old ++ r ∷ []) }
+        ensures covers { OnOk result (CoversAll self.new) }
         ensures no_clash { OnOk result (clash_of (setting_of V4 J.config)
             (objects_after (events_of self.old.journal)) ≡ None) }
         ensures clash { IfErr result (TellsClash (clash_of (setting_of V4 J.config)

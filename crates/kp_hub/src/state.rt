@@ -373,6 +373,7 @@ impl<J: Sharing, A: Ledger, C: Ledger> Held<J, A, C> {
         ensures taken { IsSameBut self.old.taken self.new.taken }
         ensures accepted { self.new.accepted ≡ self.old.accepted }
         ensures refused { self.new.refused ≡ self.old.refused }
+        ensures covers { OnOk result (CoversAll self.new.taken) }
         ensures untold { OnOk result (self.new.accepted < length self.new.taken.counts) }
         ensures uncounted { IfErr result (λ fault. IsUncounted fault self.new) }
     {
@@ -394,6 +395,7 @@ impl<J: Sharing, A: Ledger, C: Ledger> Held<J, A, C> {
         ensures no_clash { OnOk result (clash_after J.config self.old.taken.journal ≡ None) }
         ensures waits { OnOk result (length (records_of self.new.outlet.newest)
             < length self.new.taken.counts) }
+        ensures covers { OnOk result (CoversAll self.new.taken) }
         ensures untold { OnOk result (self.new.accepted < length self.new.taken.counts) }
         ensures clash { IfErr result (TellsClash (clash_after J.config self.old.taken.journal)) }
         ensures err { OnErr result (self.new ≡ self.old) }
