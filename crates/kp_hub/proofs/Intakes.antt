@@ -1,6 +1,6 @@
 -- What holds of a plane, a taker and the notes still does where an event is taken, and where a sync
 -- is made.
-use Rattle.std.proofs.Common.{◌≡◌, ℕ, ◌+◌, ◌-◌, ◌≤◌, ◌<◌, List, [], ◌∷◌, ◌++◌, Option, Some, None, IfSome, length, map, sum, refl, ap, sym, subst, ◌∙◌, arith, length-append, append_assoc}
+use Rattle.std.proofs.Common.{◌≡◌, ℕ, suc, ◌+◌, ◌-◌, ◌≤◌, ◌<◌, List, [], ◌∷◌, ◌++◌, Option, Some, None, IfSome, length, map, sum, refl, ap, sym, subst, ◌∙◌, arith, length-append, append_assoc}
 use Rattle.std.proofs.lemmas.List.{append-nil, map-append}
 use Rattle.std.proofs.lemmas.List.Sums.{fold-append}
 use Rattle.std.specs.Option.{option_to_list}
@@ -28,7 +28,7 @@ use Rattle.kp_hub.specs.Taken.{Taken, IsTaken, all_taken, note_of, plane_of, rec
 -- as many events as journal entries
 pub events_length : (fs : List Fed) → length (events_of fs) ≡ length fs
 events_length [] = refl
-events_length (f ∷ fs) = ap (λ n. 1 + n) (events_length fs)
+events_length (f ∷ fs) = ap suc (events_length fs)
 
 module _ (config : Config) (queue : QueueId) (t : Taken) (plane : PlaneParts) (taker : Taker) (notes : List RecordNote)
     (is : IsTaken config queue t plane taker notes) where
