@@ -1,7 +1,9 @@
 pub mod Counting
+pub mod Endings
 pub mod Growth
 pub mod Intakes
 pub mod Journals
+pub mod NewPasses
 pub mod Publishing
 pub mod Readiness
 pub mod Readings

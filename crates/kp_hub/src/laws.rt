@@ -28,6 +28,7 @@ pub fn same_hub<J: Sharing, A: Ledger, C: Ledger, R: Wait>(
     ensures all { records_of pass.new.seen
         ≡ records_told J.config done.now.journal done.now.notes }
 {
+    pass.knows_its_front();
     pass.learn(done.tell());
     pass.look(rt);
 }

@@ -15,6 +15,11 @@ use std::sync::ledger::{Ledger, Share};
 
 /// A publisher of the tables of a plane that has no sync yet, and a pass for each worker, with one
 /// part of each ledger.
+#[tactic(auto, using(
+    crate::proofs::NewPasses::first_table_is,
+    crate::proofs::NewPasses::new_readers,
+    crate::proofs::NewPasses::as_many_readers
+))]
 pub(crate) fn outlet_of<J: Sharing, A: Ledger, C: Ledger, R: Wait>(
     rt: &R,
     alloc: Global,
@@ -62,12 +67,10 @@ fn workers_of<J: Sharing, A: Ledger, C: Ledger>(
     ensures { IfOk result (λ passes. passes ≡ replicate (length readers) new_worker) }
 {
     let mut passes = Items::new(alloc);
-    let mut readers = readers.into_vec();
-    while let Some(reader) = readers.pop() {
+    for reader in readers.into_vec() {
         let pass = worker_of(alloc, publisher, reader, node, accepted, refused)?;
-        match passes.push(pass) {
-            Ok(()) => {}
-            Err(_) => return Err(NoMemory),
+        if passes.push(pass).is_err() {
+            return Err(NoMemory);
         }
     }
     Ok(passes)

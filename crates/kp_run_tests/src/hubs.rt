@@ -2,7 +2,7 @@
 ghost use Rattle.std.specs.Prelude.{◌≡◌};
 ghost use Rattle.kp_hub.specs.State.{first_table};
 
-use crate::transcript::{op_of, unfolded};
+use crate::lines::{op_of, unfolded};
 use kp_base::{Items, NoMemory};
 use kp_hub::{FeedPass, Finished, Hub, Opening, Sharing, WorkerPass, laws};
 use kp_print::{push, push_labelled};
@@ -17,14 +17,24 @@ use std::test::Fail;
 
 /// A packet before the first sync and after it, a sync of no event, and an event that only the end
 /// covers.
-const SCRIPT: &str = r#"{"op":"config",@node}
-{@web,"spec":{@port}}
-{@slice,"endpoints":[{@n1}]}
-{"op":"packet","src":"10.244.9.9","dst":"10.96.0.10","dport":80,"draws":[]}
+const SCRIPT: &str = r#"{"op":"config","node":"n1","nodeAddresses":["10.0.0.1"],
+ "clusterCIDR":"10.244.0.0/16"}
+{"apiVersion":"v1","kind":"Service","metadata":{"name":"web"},
+ "spec":{"clusterIP":"10.96.0.10","ports":[{"port":80,"targetPort":8080}]}}
+{@slice,"endpoints":[{"addresses":["10.244.1.2"],"nodeName":"n1"}]}
+@packet
 {"op":"sync"}
-{"op":"packet","src":"10.244.9.9","dst":"10.96.0.10","dport":80,"draws":[]}
+@packet
 {"op":"sync"}
 {"type":"DELETED","object":{@slice}}"#;
+
+/// What `@slice` stands for: the slice but for its endpoints.
+const SLICE: &str = r#""apiVersion":"discovery.k8s.io/v1","kind":"EndpointSlice",
+ "metadata":{"name":"web-x","labels":{"kubernetes.io/service-name":"web"}},"addressType":"IPv4",
+ "ports":[{"port":8080}]"#;
+
+/// What `@packet` stands for: a packet of a pod to the Service. It comes once more after the end.
+const PACKET: &str = r#"{"op":"packet","src":"10.244.9.9","dst":"10.96.0.10","dport":80}"#;
 
 /// What the lines are answered, and what the hub hands out at its end. The first sync writes
 /// KUBE-SERVICES, the Service's chain and the endpoint's. The last removes two chains, and takes
@@ -42,9 +52,6 @@ record: events 1, written 2, removed 2
 events 3, syncs 3
 packet 9 at 3: rejected
 ";
-
-/// A packet after the end.
-const PACKET: &str = r#"{"op":"packet","src":"10.244.9.9","dst":"10.96.0.10","dport":80,"draws":[]}"#;
 
 /// Feeds an event, and tells its number.
 fn feed<J: Sharing, A: Ledger, C: Ledger, R: Wait>(
@@ -229,11 +236,19 @@ fn opening_of(alloc: Global, line: &str) -> Result<Opening, Fail> {
     }
 }
 
+/// The script with what its signs stand for.
+fn whole_script(alloc: Global) -> Result<String, Fail> {
+    let script = SCRIPT
+        .replace(alloc, "@slice", SLICE)?
+        .replace(alloc, "@packet", PACKET)?;
+    unfolded(alloc, script.as_str())
+}
+
 #[test]
 fn a_hub_answers_by_its_syncs(rt: HostRuntime) -> Result<(), Fail> {
     let mut text = String::new(rt.alloc());
-    let script = unfolded(rt.alloc(), SCRIPT)?;
-    let (first, lines) = script.split_once('\n').ok_or("a line")?;
+    let script = whole_script(rt.alloc())?;
+    let (first, lines) = script.as_str().split_once('\n').ok_or("a line")?;
     let opening = opening_of(rt.alloc(), first)?;
     told::<Brand, Brand, Brand, _>(&rt, rt.alloc(), opening, lines, &mut text)?;
     assert_eq!(rt; text.as_str(), TOLD);
