@@ -1,6 +1,7 @@
 pub mod Counting
 pub mod Endings
 pub mod Growth
+pub mod HubRuns
 pub mod Intakes
 pub mod Journals
 pub mod NewPasses
