@@ -182,19 +182,33 @@ fn push_packet<J: Sharing, A: Ledger, C: Ledger, R: Wait>(
 }
 
 /// Tells what a hub hands out at its end, and what a packet is answered then.
-fn tell<J: Sharing, A: Ledger, C: Ledger, R: Wait>(
+fn push_end<J: Sharing, A: Ledger, C: Ledger, R: Wait>(
     rt: &R,
     alloc: Global,
-    done: Finished<J>,
+    done: &Finished<J>,
     worker: &mut WorkerPass<J, A, C>,
     text: &mut String,
 ) -> Result<(), Fail> {
-    laws::same_hub(rt, worker, &done);
-    let told = push_done(text, &done);
-    let answered = push_packet(rt, alloc, worker, text);
+    laws::same_hub(rt, worker, done);
+    push_done(text, done)?;
+    push_packet(rt, alloc, worker, text)
+}
+
+/// Tells how a hub ended, and ends what it hands out.
+fn tell<J: Sharing, A: Ledger, C: Ledger, R: Wait>(
+    rt: &R,
+    alloc: Global,
+    done: Result<Finished<J>, NoMemory>,
+    worker: Option<&mut WorkerPass<J, A, C>>,
+    text: &mut String,
+) -> Result<(), Fail> {
+    let done = done?;
+    let told = match worker {
+        Some(worker) => push_end(rt, alloc, &done, worker, text),
+        None => Err(Fail::from("a worker")),
+    };
     done.end(rt);
-    told?;
-    answered
+    told
 }
 
 /// What the lines of a script are answered, and what the hub hands out at its end.
@@ -220,12 +234,16 @@ fn told<J: Sharing, A: Ledger, C: Ledger, R: Wait>(
         (Some(feeder), Some(worker)) => take_all(rt, alloc, &hub, feeder, worker, lines, text),
         _ => Err(Fail::from("a stream")),
     };
-    let done = hub.finish(rt, alloc, Items::from_vec(feeders), workers.as_mut_slice())?;
-    match workers.first_mut() {
-        Some(worker) => tell(rt, alloc, done, worker, text)?,
-        None => done.end(rt),
+    let done = hub.finish(rt, alloc, Items::from_vec(feeders), workers.as_mut_slice());
+    match taken {
+        Ok(()) => tell(rt, alloc, done, workers.first_mut(), text),
+        Err(fail) => {
+            if let Ok(done) = done {
+                done.end(rt);
+            }
+            Err(fail)
+        }
     }
-    taken
 }
 
 /// The parts of a hub with one stream, under the configuration of a line.
