@@ -1,6 +1,6 @@
--- The passes so far and new ones for the readers that are left are all; and there are parts for
--- those.
-use Rattle.std.proofs.Common.{◌≡◌, ◌++◌, ◌≤◌, [], length, replicate}
+-- The passes so far, and new ones for the readers that are left, are all; and there are more parts
+-- than those.
+use Rattle.std.proofs.Common.{◌≡◌, ◌++◌, ◌<◌, [], length, replicate}
 use Rattle.std.specs.List.{AllByRecursion}
 use Rattle.std.specs.Vec.Iter.{into_iter_items, into_iter_len}
 use Rattle.kp_hub.specs.Known.{new_worker}
