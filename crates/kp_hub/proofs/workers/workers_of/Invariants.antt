@@ -11,8 +11,8 @@ invariant-loop-reader g l = record {
   made : l.passes ++ replicate (length (into_iter_items l.reader-iterator)) new_worker ≡ replicate (length l.fn.readers) new_worker;
   left : into_iter_len l.reader-iterator ≡ length (into_iter_items l.reader-iterator);
   new : AllByRecursion (λ r. (r.seen ≡ []) × (r.told ≡ [])) (into_iter_items l.reader-iterator);
-  accepted : length (into_iter_items l.reader-iterator) ≤ l.accepted.parts;
-  refused : length (into_iter_items l.reader-iterator) ≤ l.refused.parts;
+  accepted : length (into_iter_items l.reader-iterator) < l.accepted.parts;
+  refused : length (into_iter_items l.reader-iterator) < l.refused.parts;
   none_accepted : l.accepted.amount ≡ 0;
   none_refused : l.refused.amount ≡ 0;
 }
