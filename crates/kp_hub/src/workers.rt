@@ -52,6 +52,7 @@ pub(crate) fn outlet_of<J: Sharing, A: Ledger, C: Ledger, R: Wait>(
 }
 
 /// A pass for each reader.
+#[tactic(auto, using(crate::proofs::Counting::made_next, crate::proofs::Counting::made_all))]
 fn workers_of<J: Sharing, A: Ledger, C: Ledger>(
     alloc: Global,
     publisher: &Publisher<J>,
