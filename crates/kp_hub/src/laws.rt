@@ -1,8 +1,9 @@
-//! What a hub's lock keeps, what of a hub threads are given, and that all passes of a hub saw one
-//! history.
+//! What a hub's lock keeps, what of a hub threads are given, that all passes of a hub saw one
+//! history, and that what it does is steps of interleaved runs.
 ghost use Rattle.std.specs.Prelude.{◌≡◌};
 ghost use Rattle.kp_publish.specs.Entries.{records_of};
 ghost use Rattle.kp_hub.specs.Finishing.{Begins, records_told};
+ghost use Rattle.kp_hub.specs.Interleaved.{RefusalsAreSteps, SyncsAreSteps, WalksAreReads};
 
 use crate::finished::Finished;
 use crate::hub::Hub;
@@ -28,8 +29,21 @@ pub fn same_hub<J: Sharing, A: Ledger, C: Ledger, R: Wait>(
     ensures all { records_of pass.new.seen
         ≡ records_told J.config done.now.journal done.now.notes }
 {
+    pass.knows_its_front();
     pass.learn(done.tell());
     pass.look(rt);
+}
+
+/// A sync under the lock and a walk are steps of an interleaved run. So what holds in every
+/// interleaving, as `kp_history_laws::interleavings` says, holds of what they publish and answer.
+pub fn interleavings()
+    ensures accepted { SyncsAreSteps }
+    ensures refused { RefusalsAreSteps }
+    ensures walks { WalksAreReads }
+{
+    kp_history_laws::interleavings();
+    kp_history_laws::sync_records();
+    kp_history_laws::joined_runs();
 }
 
 /// Threads may share a hub, and a worker's pass may be sent to one.

@@ -72,4 +72,20 @@ impl Opening {
             streams,
         })
     }
+
+    /// Ends the parts of a hub that was not made.
+    #[tactic(auto, using(crate::proofs::NewPasses::of_queue))]
+    pub fn end<R: Wait>(self, rt: &R) {
+        let Opening {
+            plane: _plane,
+            history: _history,
+            feed,
+            feeders,
+            taker,
+            accepted: _accepted,
+            refused: _refused,
+            streams: _,
+        } = self;
+        feed.finish(rt, feeders, taker);
+    }
 }

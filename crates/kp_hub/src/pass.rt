@@ -136,6 +136,12 @@ impl<J: Sharing, A: Ledger, C: Ledger> WorkerPass<J, A, C> {
         self.reader = Some(reader.enter(rt).leave());
     }
 
+    /// The front that it learned last begins the longest that it learned.
+    #[tactic(auto, using(crate::proofs::Endings::learned_in_told))]
+    pub(crate) fn knows_its_front(&self)
+        ensures { IsPrefix self.now.learned self.now.told }
+    {}
+
     /// Gives its counts to these shares.
     pub(crate) fn give_counts(&mut self, accepted: &mut Share<A>, refused: &mut Share<C>)
         requires { (0 < accepted.old.parts) × (0 < refused.old.parts) }
