@@ -1,6 +1,6 @@
 -- What a hub that ended hands out.
 use Rattle.std.proofs.Common.{◌≡◌, ℕ, ◌≤◌, ◌<◌, inl, inr, true, List, [], ◌∷◌, ◌++◌, Option, None, filter, length, map, sum, refl, ap, sym, subst, ◌∙◌, append_assoc, arith}
-use Rattle.std.proofs.lemmas.List.{length-map}
+use Rattle.std.proofs.lemmas.List.{append-nil, length-map}
 use Rattle.std.proofs.lemmas.List.Elements.{filter-append}
 use Rattle.std.proofs.lemmas.Simd.{map-map}
 use Rattle.std.specs.List.{AllByRecursion}
@@ -13,7 +13,8 @@ use Rattle.kp_history_defs.specs.Runs.{events_of, is_of_stream}
 use Rattle.kp_feed.specs.declared.rule.Ended.{Ended}
 use Rattle.kp_feed.specs.Calls.{ended_of}
 use Rattle.kp_feed.specs.Feeding.{AreWhole, Delivers}
-use Rattle.kp_feed.specs.Passes.{Feeder}
+use Rattle.kp_feed.specs.Passes.{Feeder, QueueId}
+use Rattle.kp_feed.specs.Taking.{Taker}
 use Rattle.kp_plane.specs.Parts.{HasExactHistory, records_in, table_in}
 use Rattle.kp_publish.specs.declared.entry.Entry.{Entry}
 use Rattle.kp_publish.specs.declared.entry.Entry.TheVariants.{End}
@@ -25,7 +26,7 @@ use Rattle.kp_hub.specs.Finishing.{CoversAll, IsEnd, plane_told, records_told}
 use Rattle.kp_hub.specs.Growing.{IsDone}
 use Rattle.kp_hub.specs.State.{IsRefusal}
 use Rattle.kp_hub.specs.Syncs.{clash_after}
-use Rattle.kp_hub.specs.Taken.{Taken, all_taken, note_of, plane_of, records_at}
+use Rattle.kp_hub.specs.Taken.{Taken, all_taken, note_of, plane_of, records_at, taker_of}
 use Rattle.kp_hub.proofs.States.{records_length}
 
 -- ---- What is handed out
@@ -89,6 +90,17 @@ whole_later t journal left streams same feeders whole =
     subst (λ (p : List Fed × ℕ). AreWhole p.0 t.ended p.1)
     (λ i. ((append_assoc t.journal (option_to_list t.waits) left
         ∙ ap (λ (j : List Fed). j ++ (option_to_list t.waits ++ left)) (sym same)) i, feeders i)) whole
+
+-- as the last look at the queue tells
+pub left_whole : (queue : QueueId) (t : Taken) (taker : Taker) (passes : List Feeder) (journal left : List Fed) (streams : ℕ)
+    → taker ≡ taker_of queue t → passes ≡ [] → journal ≡ t.journal → t.feeders ≡ streams
+    → AreWhole (taker.taken ++ left) (taker.ended ++ map ended_of passes) taker.feeders
+    → AreWhole (journal ++ (option_to_list t.waits ++ left)) t.ended streams
+left_whole queue t taker passes journal left streams took none same feeders whole =
+    whole_later t journal left streams same feeders
+    (subst (λ (e : List Ended). AreWhole (all_taken t ++ left) e t.feeders) (append-nil t.ended)
+    (subst (λ (p : Taker × List Feeder). AreWhole (p.0.taken ++ left) (p.0.ended ++ map ended_of p.1) p.0.feeders)
+    (λ i. (took i, none i)) whole))
 
 module _ (events : List Fed) where
   delivered : (passes : List Feeder)

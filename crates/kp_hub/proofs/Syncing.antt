@@ -124,23 +124,14 @@ module _ (config : Config) (before first after : HubState)
 -- ---- A pass is told of it
 
 module _ (config : Config) (before after last : HubState) where
-  pub accepts_told : (n : ℕ) → last ≡ record after { accepted = last.accepted }
+  pub accepts_told : (n k : ℕ) → last ≡ record after { accepted = k }
       → Accepts config n before after → Accepts config n before last
-  accepts_told n told is = subst (λ (h : HubState). Accepts config n before h) (sym told) (record {
+  accepts_told n k told is = subst (λ (h : HubState). Accepts config n before h) (sym told) (record {
     no_clash = is.no_clash;
     counts = is.counts;
     number = is.number;
     published = is.published;
     records = is.records;
-    refusals = is.refusals;
-  })
-
-  pub refuses_told : (clash : Clash) → last ≡ record after { refused = last.refused }
-      → Refuses config clash before after → Refuses config clash before last
-  refuses_told clash told is = subst (λ (h : HubState). Refuses config clash before h) (sym told) (record {
-    is_clash = is.is_clash;
-    counts = is.counts;
-    outlet = is.outlet;
     refusals = is.refusals;
   })
 
@@ -151,7 +142,7 @@ pub told : (config : Config) (t : Taken) (outlet : Keeps) (before learned after 
     → learned.accepted ≡ before.accepted → learned.refused ≡ before.refused
     → after ≡ record learned { accepted = learned.accepted + 1 } → after.accepted ≤ book → book ≤ length t.counts
     → IsTold (length t.counts) before after
-told config t outlet before learned after book records front told begins seen accepted refused one bound few =
+told config t outlet before learned after book records front longer begins seen accepted refused one bound few =
     let front_is : after.learned ≡ outlet.published = ap (λ (w : Worker). w.learned) one ∙ front in
     let told_is : after.told ≡ learned.told = ap (λ (w : Worker). w.told) one in
     record {
@@ -159,7 +150,7 @@ told config t outlet before learned after book records front told begins seen ac
           ∙ (ap length records ∙ records_length config t);
       learned = subst (λ (p : List Entry × List Entry). IsPrefix p.0 p.1)
           (λ i. (sym front_is i, sym told_is i)) begins;
-      told = subst (λ (l : List Entry). IsPrefix before.told l) (sym told_is) told;
+      told = subst (λ (l : List Entry). IsPrefix before.told l) (sym told_is) longer;
       seen = ap (λ (w : Worker). w.seen) one ∙ seen;
       accepted = ap (λ (w : Worker). w.accepted) one ∙ ap (λ n. n + 1) accepted;
       few = omega (arith, bound, few);

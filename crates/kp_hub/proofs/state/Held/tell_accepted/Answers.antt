@@ -1,6 +1,9 @@
-use Rattle.std.proofs.Common.{◌≡◌, ◌<◌, length, ap, sym, subst, ◌∙◌, arith}
+use Rattle.std.proofs.Common.{◌≡◌, ◌<◌, List, length, ap, sym, subst, ◌∙◌, arith}
+use mathlib.Core.List.{IsPrefix}
+use Rattle.kp_publish.specs.declared.entry.Entry.{Entry}
 use Rattle.kp_publish.specs.Entries.{records_of}
 use Rattle.kp_hub.specs.State.{HubState, state_in}
+use Rattle.kp_hub.specs.Syncs.{IsTold}
 use Rattle.kp_hub.specs.Taken.{records_at}
 use Rattle.kp_hub.proofs.States.{state_tells}
 use Rattle.kp_hub.proofs.Syncing.{told}
@@ -12,9 +15,9 @@ invariant_of-self g c =
     let fewer : s.accepted.total < length s.intake.counts =
     subst (λ (h : HubState). h.accepted < length h.taken.counts) (sym c.self.view_is) c.requires.fewer in
     let more = c.count_accepted.ensures.total in
-    (c.self.invariant.0, (c.self.invariant.1.0, state_tells g.J.Sharing.config g.J.Sharing.streams g.J.Publication.start
-    (state_in s.intake s.publisher s.refusals.items s.accepted.total s.refused.total) s.waiting.items c.self.invariant.1.1
-    c.count_accepted.new.book.total s.refused.total (omega (arith, fewer, more)) c.self.invariant.1.1.keeps.refused))
+    (c.self.invariant.0, c.self.invariant.1, state_tells g.J.Sharing.config g.J.Sharing.streams g.J.Publication.start
+    (state_in s.intake s.publisher s.refusals.items s.accepted.total s.refused.total) s.waiting.items c.self.invariant.2
+    c.count_accepted.new.book.total s.refused.total (omega (arith, fewer, more)) c.self.invariant.2.keeps.refused)
 
 pub returns-clause-told : goal.returns-clause-told
 returns-clause-told g c =
