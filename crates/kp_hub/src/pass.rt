@@ -137,10 +137,11 @@ impl<J: Sharing, A: Ledger, C: Ledger> WorkerPass<J, A, C> {
     }
 
     /// The front that it learned last begins the longest that it learned.
-    #[tactic(auto, using(crate::proofs::Endings::learned_in_told))]
     pub(crate) fn knows_its_front(&self)
         ensures { IsPrefix self.now.learned self.now.told }
-    {}
+    {
+        let _reader = &self.reader;
+    }
 
     /// Gives its counts to these shares.
     pub(crate) fn give_counts(&mut self, accepted: &mut Share<A>, refused: &mut Share<C>)

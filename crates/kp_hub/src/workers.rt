@@ -52,7 +52,7 @@ pub(crate) fn outlet_of<J: Sharing, A: Ledger, C: Ledger, R: Wait>(
 }
 
 /// A pass for each reader.
-#[tactic(auto, using(crate::proofs::Counting::made_next, crate::proofs::Counting::made_all))]
+#[tactic(auto, using(crate::proofs::Counting::made_all))]
 fn workers_of<J: Sharing, A: Ledger, C: Ledger>(
     alloc: Global,
     publisher: &Publisher<J>,
@@ -72,8 +72,9 @@ fn workers_of<J: Sharing, A: Ledger, C: Ledger>(
     let mut passes = Items::new(alloc);
     for reader in readers.into_vec() {
         let pass = worker_of(alloc, publisher, reader, node, accepted, refused)?;
-        if passes.push(pass).is_err() {
-            return Err(NoMemory);
+        match passes.push(pass) {
+            Ok(()) => {}
+            Err(_) => return Err(NoMemory),
         }
     }
     Ok(passes)
