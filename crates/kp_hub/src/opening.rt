@@ -74,7 +74,6 @@ impl Opening {
     }
 
     /// Ends the parts of a hub that was not made.
-    #[tactic(auto, using(crate::proofs::NewPasses::of_queue))]
     pub fn end<R: Wait>(self, rt: &R) {
         let Opening {
             plane: _plane,
