@@ -94,8 +94,7 @@ module _ (exact : HistoryIsExact) (shown : PublishedAreRecords) (only : ExactIsR
       let stood = more.published in
       let whole : IsRun setting (steps ++ (replicate (length after.taken.journal - length before.taken.journal) Take ++ Sync ∷ Publish ∷ [])) v =
       joined setting steps (Sync ∷ Publish ∷ []) s fs (waits ++ queued.0) (length after.taken.journal - length before.taken.journal)
-      (added before.taken.journal fs after.taken.journal grows.journal.1) run more v
-      (
+      (added before.taken.journal fs after.taken.journal grows.journal.1) run more v (
         u,
         record { allowed = ap (λ js. clash_of setting (objects_after (events_of js))) here ∙ is.no_clash; leads = refl },
         (v, record { allowed = omega (arith, few, one, same, stood); leads = refl }, refl),
@@ -107,8 +106,7 @@ module _ (exact : HistoryIsExact) (shown : PublishedAreRecords) (only : ExactIsR
       ∙ ((λ i. counted i ++ (length (here i) - sum (counted i)) ∷ [])
       ∙ (ap (λ (n : ℕ). before.taken.counts ++ (n - sum before.taken.counts) ∷ []) (sym (events_length after.taken.journal)) ∙ sym is.counts)) in
       let records : v.records ≡ records_at config after.taken =
-      only setting (events_of v.journal) v.records (exact setting _ v whole) ∙ (λ i. sync_records setting (events_of (here i)) (counts i)) in
-      (
+      only setting (events_of v.journal) v.records (exact setting _ v whole) ∙ (λ i. sync_records setting (events_of (here i)) (counts i)) in (
         v,
         whole,
         record {
@@ -132,16 +130,14 @@ module _ (exact : HistoryIsExact) (shown : PublishedAreRecords) (only : ExactIsR
       let covers : sum before.taken.counts ≤ length (events_of before.taken.journal) =
       subst (λ (x : List ℕ × List Fed). sum x.0 ≤ length (events_of x.1)) (λ i. (counted i, at.journal i)) (exact setting steps s run).within in
       let events : events_of before.taken.journal ++ events_of fs ≡ events_of after.taken.journal =
-      sym (map-append (λ (f : Fed). f.event) before.taken.journal fs) ∙ ap events_of grows.journal.1 in
-      (
+      sym (map-append (λ (f : Fed). f.event) before.taken.journal fs) ∙ ap events_of grows.journal.1 in (
         more.to,
         joined setting steps (Refuse ∷ []) s fs (waits ++ queued.0) (length after.taken.journal - length before.taken.journal)
-        (added before.taken.journal fs after.taken.journal grows.journal.1) run more more.to
-        (
-          more.to,
-          record { allowed = ap (λ js. is_some (clash_of setting (objects_after (events_of js)))) here ∙ ap is_some is.is_clash; leads = refl },
-          refl,
-        ),
+            (added before.taken.journal fs after.taken.journal grows.journal.1) run more more.to (
+              more.to,
+              record { allowed = ap (λ js. is_some (clash_of setting (objects_after (events_of js)))) here ∙ ap is_some is.is_clash; leads = refl },
+              refl,
+            ),
         record {
           journal = here;
           waits = (queued.0, sym more.queue);

@@ -15,11 +15,7 @@ use std::sync::ledger::{Ledger, Share};
 
 /// A publisher of the tables of a plane that has no sync yet, and a pass for each worker, with one
 /// part of each ledger. Parts are left.
-#[tactic(auto, using(
-    crate::proofs::NewPasses::first_table_is,
-    crate::proofs::NewPasses::new_readers,
-    crate::proofs::NewPasses::as_many_readers
-))]
+#[tactic(auto, using(crate::proofs::NewPasses::first_table_is, crate::proofs::NewPasses::new_readers, crate::proofs::NewPasses::as_many_readers))]
 pub(crate) fn outlet_of<J: Sharing, A: Ledger, C: Ledger, R: Wait>(
     rt: &R,
     alloc: Global,
