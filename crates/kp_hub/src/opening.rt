@@ -44,7 +44,8 @@ impl Model for Opening {
       refused = (o.refused.name, o.refused.parts);
     } };
 
-    ghost invariant = { λ o. (o.plane ≡ record { config = o.plane.config; events = []; counts = [] })
+    ghost invariant = { λ o.
+        (o.plane ≡ record { config = o.plane.config; events = []; counts = [] })
         × (o.feeders ≡ calls.new_feeders o.feed o.streams)
         × (o.taker ≡ calls.new_taker o.feed o.streams)
         × (0 < o.streams) × (o.streams ≤ 64)
