@@ -1,5 +1,5 @@
 -- What a hub does is steps of an interleaved run.
-use Rattle.std.proofs.Common.{◌≡◌, ℕ, suc, ◌+◌, ◌-◌, ◌≤◌, ◌<◌, true, false, is_some, List, [], ◌∷◌, ◌++◌, length, map, replicate, sum, refl, ap, sym, subst, ◌∙◌, arith, length-append, append_assoc}
+use Rattle.std.proofs.Common.{◌≡◌, ℕ, suc, ◌+◌, ◌-◌, ◌≤◌, ◌<◌, true, false, is_some, List, Option, [], ◌∷◌, ◌++◌, length, map, None, replicate, sum, refl, ap, sym, subst, ◌∙◌, arith, length-append, append_assoc}
 use Rattle.std.proofs.lemmas.List.{append-nil, append_cancel_left, map-append}
 use Rattle.std.specs.FinMap.{get}
 use Rattle.std.specs.Option.{option_to_list}
@@ -15,13 +15,13 @@ use Rattle.kp_table_defs.specs.Rebuild.{clash_of}
 use Rattle.kp_table_defs.specs.Walk.{walk_of}
 use Rattle.kp_history_defs.specs.declared.fed.Fed.{Fed}
 use Rattle.kp_history_defs.specs.History.{counts_of, sync_records, table_after}
-use Rattle.kp_history_defs.specs.Runs.{RunState, Step, Take, Sync, Refuse, Publish, IsRun, IsRunFrom, IsStep, after_sync, after_take, events_of, initial, next_record}
+use Rattle.kp_history_defs.specs.Runs.{RunState, Step, Take, Sync, Refuse, Publish, IsRun, IsRunFrom, IsStep, after_feed, after_sync, after_take, events_of, initial, next_record}
 use Rattle.kp_history_laws.specs.HistoryLaws.{ExactIsRecords, RecordsHaveCounts, RecordsStay}
 use Rattle.kp_history_laws.specs.RunLaws.{HistoryIsExact, PublishedAreRecords, RunsJoin}
 use Rattle.kp_run_defs.specs.AnswerText.{draws_at}
 use Rattle.kp_publish.specs.Entries.{records_of}
 use Rattle.kp_hub.proofs.Intakes.{events_length}
-use Rattle.kp_hub.specs.Interleaved.{StandsAt, SyncsAreSteps, RefusalsAreSteps, WalksAreReads}
+use Rattle.kp_hub.specs.Interleaved.{StandsAt, NewHubsStandAtTheStart, FeedsAreSteps, SyncsAreSteps, RefusalsAreSteps, WalksAreReads}
 use Rattle.kp_hub.specs.Taken.{records_at}
 
 -- what is left of a queue of which events were taken
@@ -94,8 +94,7 @@ module _ (exact : HistoryIsExact) (shown : PublishedAreRecords) (only : ExactIsR
       let stood = more.published in
       let whole : IsRun setting (steps ++ (replicate (length after.taken.journal - length before.taken.journal) Take ++ Sync ∷ Publish ∷ [])) v =
       joined setting steps (Sync ∷ Publish ∷ []) s fs (waits ++ queued.0) (length after.taken.journal - length before.taken.journal)
-      (added before.taken.journal fs after.taken.journal grows.journal.1) run more v
-      (
+      (added before.taken.journal fs after.taken.journal grows.journal.1) run more v (
         u,
         record { allowed = ap (λ js. clash_of setting (objects_after (events_of js))) here ∙ is.no_clash; leads = refl },
         (v, record { allowed = omega (arith, few, one, same, stood); leads = refl }, refl),
@@ -107,8 +106,7 @@ module _ (exact : HistoryIsExact) (shown : PublishedAreRecords) (only : ExactIsR
       ∙ ((λ i. counted i ++ (length (here i) - sum (counted i)) ∷ [])
       ∙ (ap (λ (n : ℕ). before.taken.counts ++ (n - sum before.taken.counts) ∷ []) (sym (events_length after.taken.journal)) ∙ sym is.counts)) in
       let records : v.records ≡ records_at config after.taken =
-      only setting (events_of v.journal) v.records (exact setting _ v whole) ∙ (λ i. sync_records setting (events_of (here i)) (counts i)) in
-      (
+      only setting (events_of v.journal) v.records (exact setting _ v whole) ∙ (λ i. sync_records setting (events_of (here i)) (counts i)) in (
         v,
         whole,
         record {
@@ -132,16 +130,14 @@ module _ (exact : HistoryIsExact) (shown : PublishedAreRecords) (only : ExactIsR
       let covers : sum before.taken.counts ≤ length (events_of before.taken.journal) =
       subst (λ (x : List ℕ × List Fed). sum x.0 ≤ length (events_of x.1)) (λ i. (counted i, at.journal i)) (exact setting steps s run).within in
       let events : events_of before.taken.journal ++ events_of fs ≡ events_of after.taken.journal =
-      sym (map-append (λ (f : Fed). f.event) before.taken.journal fs) ∙ ap events_of grows.journal.1 in
-      (
+      sym (map-append (λ (f : Fed). f.event) before.taken.journal fs) ∙ ap events_of grows.journal.1 in (
         more.to,
         joined setting steps (Refuse ∷ []) s fs (waits ++ queued.0) (length after.taken.journal - length before.taken.journal)
-        (added before.taken.journal fs after.taken.journal grows.journal.1) run more more.to
-        (
-          more.to,
-          record { allowed = ap (λ js. is_some (clash_of setting (objects_after (events_of js)))) here ∙ ap is_some is.is_clash; leads = refl },
-          refl,
-        ),
+            (added before.taken.journal fs after.taken.journal grows.journal.1) run more more.to (
+              more.to,
+              record { allowed = ap (λ js. is_some (clash_of setting (objects_after (events_of js)))) here ∙ ap is_some is.is_clash; leads = refl },
+              refl,
+            ),
         record {
           journal = here;
           waits = (queued.0, sym more.queue);
@@ -155,3 +151,22 @@ module _ (exact : HistoryIsExact) (shown : PublishedAreRecords) (only : ExactIsR
 pub walks_are_reads : WalksAreReads
 walks_are_reads config s seen number line lists same =
     ap (λ rs. walk_of (λ at. get (table_after (setting_of V4 config) rs).chains at) config.addresses line.packet (draws_at number line.draws) lists) (sym same)
+
+pub new_hubs_stand_at_the_start : NewHubsStandAtTheStart
+new_hubs_stand_at_the_start config h journal none counts published = record {
+  journal = sym journal;
+  waits = subst (λ (w : Option Fed). IsPrefix (option_to_list w) []) (sym none) ([], refl);
+  records = ap (λ cs. sync_records (setting_of V4 config) (events_of h.taken.journal) cs) (sym counts);
+  published = ap length (sym published);
+}
+
+pub feeds_are_steps : FeedsAreSteps
+feeds_are_steps config s h stream event at =
+    let f : Fed = record { feeder = stream; number = suc (length (s.fed stream)); event = event } in
+    let waits : List Fed = option_to_list h.taken.waits in
+    record {
+      journal = at.journal;
+      waits = (at.waits.0 ++ f ∷ [], sym (append_assoc waits at.waits.0 (f ∷ [])) ∙ ap (λ fs. fs ++ f ∷ []) at.waits.1);
+      records = at.records;
+      published = at.published;
+    }

@@ -2,14 +2,13 @@
 use Rattle.std.proofs.Common.{◌≡◌, ℕ, zero, suc, [], ◌∷◌, List, length, replicate, refl, ap, sym, subst, ◌∙◌}
 use Rattle.std.proofs.lemmas.List.{length-replicate}
 use Rattle.std.specs.List.{AllByRecursion}
-use Rattle.atomic_table.specs.Seated.{TableId}
 use Rattle.kp_base.specs.declared.config.Config.{Config}
 use Rattle.kp_lemmas.proofs.ListFacts.{all_weaker}
 use Rattle.kp_feed.specs.Passes.{Feeder, QueueId}
 use Rattle.kp_feed.specs.Calls.{IsNew, new_feeders}
 use Rattle.kp_feed.proofs.Newcomers.{all_new}
 use Rattle.kp_plane.specs.Parts.{PlaneParts, table_in}
-use Rattle.kp_publish.specs.Knows.{Knows, nothing_of}
+use Rattle.kp_publish.specs.Knows.{Knows}
 use Rattle.kp_hub.specs.State.{first_table}
 
 -- the table before the first sync
@@ -18,17 +17,17 @@ pub first_table_is : (config : Config) (p : PlaneParts) → p ≡ record { confi
 first_table_is config p none = ap table_in none
 
 -- readers that were just made have seen and learned nothing
-all_nothing : (n : ℕ) (pair : TableId) → AllByRecursion (λ (r : Knows). (r.seen ≡ []) × (r.told ≡ [])) (replicate n (nothing_of pair))
-all_nothing zero pair = tt
-all_nothing (suc n) pair = ((refl, refl), all_nothing n pair)
+all_nothing : (n : ℕ) (r : Knows) → r.seen ≡ [] → r.told ≡ [] → AllByRecursion (λ (x : Knows). (x.seen ≡ []) × (x.told ≡ [])) (replicate n r)
+all_nothing zero r seen told = tt
+all_nothing (suc n) r seen told = ((seen, told), all_nothing n r seen told)
 
-pub new_readers : (n : ℕ) (pair : TableId) (readers : List Knows) → readers ≡ replicate n (nothing_of pair)
-    → AllByRecursion (λ (r : Knows). (r.seen ≡ []) × (r.told ≡ [])) readers
-new_readers n pair readers are =
-    subst (AllByRecursion (λ (r : Knows). (r.seen ≡ []) × (r.told ≡ []))) (sym are) (all_nothing n pair)
+pub new_readers : (n : ℕ) (r : Knows) (readers : List Knows) → readers ≡ replicate n r → r.seen ≡ [] → r.told ≡ []
+    → AllByRecursion (λ (x : Knows). (x.seen ≡ []) × (x.told ≡ [])) readers
+new_readers n r readers are seen told =
+    subst (AllByRecursion (λ (x : Knows). (x.seen ≡ []) × (x.told ≡ []))) (sym are) (all_nothing n r seen told)
 
-pub as_many_readers : (n : ℕ) (pair : TableId) (readers : List Knows) → readers ≡ replicate n (nothing_of pair) → length readers ≡ n
-as_many_readers n pair readers are = ap length are ∙ length-replicate n (nothing_of pair)
+pub as_many_readers : (n : ℕ) (r : Knows) (readers : List Knows) → readers ≡ replicate n r → length readers ≡ n
+as_many_readers n r readers are = ap length are ∙ length-replicate n r
 
 -- feeders that were just made are of their queue
 pub of_queue : (queue : QueueId) (n : ℕ) (passes : List Feeder) → passes ≡ new_feeders queue n

@@ -1,5 +1,5 @@
 -- How what a hub does is steps of an interleaved run.
-use Rattle.std.specs.Prelude.{◌≡◌, ◌-◌, ℕ, List, [], ◌∷◌, ◌++◌, length, replicate}
+use Rattle.std.specs.Prelude.{◌≡◌, ◌-◌, ℕ, List, [], ◌∷◌, ◌++◌, None, length, replicate}
 use Rattle.std.specs.Option.{option_to_list}
 use mathlib.Core.List.{IsPrefix}
 use Rattle.kp_base.specs.declared.address.Family.TheVariants.{V4}
@@ -7,8 +7,9 @@ use Rattle.kp_base.specs.declared.config.Config.{Config}
 use Rattle.kp_choice_defs.specs.Recent.{RecentParts}
 use Rattle.kp_choice_defs.specs.Settings.{setting_of}
 use Rattle.kp_types.specs.declared.chain.Clash.{Clash}
+use Rattle.kp_types.specs.declared.event.Event.{Event}
 use Rattle.kp_history_defs.specs.Runs.{RunState, Step, Take, Sync, Refuse, Publish, IsRun}
-use Rattle.kp_history_defs.specs.Runs.{answer_of, published_records}
+use Rattle.kp_history_defs.specs.Runs.{after_feed, answer_of, initial, published_records}
 use Rattle.kp_publish.specs.declared.entry.Entry.{Entry}
 use Rattle.kp_publish.specs.Entries.{records_of}
 use Rattle.kp_run_defs.specs.AnswerText.{draws_at}
@@ -39,6 +40,18 @@ steps_of before after last =
 abbrev pub LeadsOn : Config → List Step → List Step → HubState → Type 0
 LeadsOn config steps more after =
     (t : RunState) × IsRun (setting_of V4 config) (steps ++ more) t × StandsAt config t after
+
+-- A hub that took nothing and made no record stands where a run begins.
+abbrev pub NewHubsStandAtTheStart : Type 0
+NewHubsStandAtTheStart =
+    (config : Config) (h : HubState) → h.taken.journal ≡ [] → h.taken.waits ≡ None
+    → h.taken.counts ≡ [] → records_of h.outlet.published ≡ [] → StandsAt config initial h
+
+-- Where a stream feeds an event, the hub stands where it stood.
+abbrev pub FeedsAreSteps : Type 0
+FeedsAreSteps =
+    (config : Config) (s : RunState) (h : HubState) (stream : ℕ) (event : Event)
+    → StandsAt config s h → StandsAt config (after_feed stream event s) h
 
 -- An accepted sync takes events, makes a record and publishes.
 abbrev pub SyncsAreSteps : Type 0

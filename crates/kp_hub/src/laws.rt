@@ -3,6 +3,7 @@
 ghost use Rattle.std.specs.Prelude.{◌≡◌};
 ghost use Rattle.kp_publish.specs.Entries.{records_of};
 ghost use Rattle.kp_hub.specs.Finishing.{Begins, records_told};
+ghost use Rattle.kp_hub.specs.Interleaved.{FeedsAreSteps, NewHubsStandAtTheStart};
 ghost use Rattle.kp_hub.specs.Interleaved.{RefusalsAreSteps, SyncsAreSteps, WalksAreReads};
 
 use crate::finished::Finished;
@@ -34,9 +35,13 @@ pub fn same_hub<J: Sharing, A: Ledger, C: Ledger, R: Wait>(
     pass.look(rt);
 }
 
-/// A sync under the lock and a walk are steps of an interleaved run. So what holds in every
-/// interleaving, as `kp_history_laws::interleavings` says, holds of what they publish and answer.
+/// What a hub does is steps of an interleaved run, so that what holds in every interleaving, as
+/// `kp_history_laws::interleavings` says, holds of it. A run goes on from where the hub stands: by
+/// each event that is fed, by an accepted sync and by a refused one, where its queue had what they
+/// take. A walk is answered as a worker reads where the records that the pass sees are published.
 pub fn interleavings()
+    ensures first { NewHubsStandAtTheStart }
+    ensures feeds { FeedsAreSteps }
     ensures accepted { SyncsAreSteps }
     ensures refused { RefusalsAreSteps }
     ensures walks { WalksAreReads }

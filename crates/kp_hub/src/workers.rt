@@ -15,11 +15,7 @@ use std::sync::ledger::{Ledger, Share};
 
 /// A publisher of the tables of a plane that has no sync yet, and a pass for each worker, with one
 /// part of each ledger. Parts are left.
-#[tactic(auto, using(
-    crate::proofs::NewPasses::first_table_is,
-    crate::proofs::NewPasses::new_readers,
-    crate::proofs::NewPasses::as_many_readers
-))]
+#[tactic(auto, using(crate::proofs::NewPasses::first_table_is, crate::proofs::NewPasses::new_readers, crate::proofs::NewPasses::as_many_readers))]
 pub(crate) fn outlet_of<J: Sharing, A: Ledger, C: Ledger, R: Wait>(
     rt: &R,
     alloc: Global,
@@ -52,7 +48,7 @@ pub(crate) fn outlet_of<J: Sharing, A: Ledger, C: Ledger, R: Wait>(
 }
 
 /// A pass for each reader.
-#[tactic(auto, using(crate::proofs::Counting::made_next, crate::proofs::Counting::made_all))]
+#[tactic(auto, using(crate::proofs::Counting::made_all))]
 fn workers_of<J: Sharing, A: Ledger, C: Ledger>(
     alloc: Global,
     publisher: &Publisher<J>,
@@ -72,8 +68,9 @@ fn workers_of<J: Sharing, A: Ledger, C: Ledger>(
     let mut passes = Items::new(alloc);
     for reader in readers.into_vec() {
         let pass = worker_of(alloc, publisher, reader, node, accepted, refused)?;
-        if passes.push(pass).is_err() {
-            return Err(NoMemory);
+        match passes.push(pass) {
+            Ok(()) => {}
+            Err(_) => return Err(NoMemory),
         }
     }
     Ok(passes)

@@ -188,7 +188,9 @@ fn take_all<J: Sharing, A: Ledger, C: Ledger, R: Wait>(
     let mut number: u64 = 1;
     for line in lines.lines() {
         number = number.saturating_add(1);
-        take(rt, alloc, hub, feeder, worker, &mut lists, number, line, text)?;
+        take(
+            rt, alloc, hub, feeder, worker, &mut lists, number, line, text,
+        )?;
     }
     Ok(())
 }

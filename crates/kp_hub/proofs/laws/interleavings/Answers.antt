@@ -1,5 +1,11 @@
-use Rattle.kp_hub.proofs.HubRuns.{syncs_are_steps, refusals_are_steps, walks_are_reads}
+use Rattle.kp_hub.proofs.HubRuns.{new_hubs_stand_at_the_start, feeds_are_steps, syncs_are_steps, refusals_are_steps, walks_are_reads}
 use Rattle.kp_hub.proofs.laws.interleavings.Goals as goal
+
+pub returns-clause-first : goal.returns-clause-first
+returns-clause-first c = new_hubs_stand_at_the_start
+
+pub returns-clause-feeds : goal.returns-clause-feeds
+returns-clause-feeds c = feeds_are_steps
 
 pub returns-clause-accepted : goal.returns-clause-accepted
 returns-clause-accepted c =

@@ -21,20 +21,20 @@ pub returns-in_err-answered-clause-refused : goal.returns-in_err-answered-clause
 returns-in_err-answered-clause-refused g c =
     on_err c.from_residual.result (partly_is g.J.Publication.start g.J.Sharing.config c.snapshot.result c.leave.result.seen
     (subst (λ (s : List Entry). StandsFor g.J.Publication.start c.snapshot.result.table.now s) (sym c.leave.ensures.seen) c.snapshot.ensures.table)
-    (c.snapshot.ensures.node ∙ c.self.invariant.1.0)
+    (c.snapshot.ensures.node ∙ c.self.invariant.1)
     c.args.number c.args.line.now c.args.lists.now c.answer-answered.new.lists c.in_err-answered.ensures.refused)
 
 pub returns-clause-lists : goal.returns-clause-lists
 returns-clause-lists g c =
     c.in_ok-answered.ensures.lists ∙ ap (λ w. w.lists) (walk_is g.J.Publication.start g.J.Sharing.config c.snapshot.result c.leave.result.seen
     (subst (λ (s : List Entry). StandsFor g.J.Publication.start c.snapshot.result.table.now s) (sym c.leave.ensures.seen) c.snapshot.ensures.table)
-    (c.snapshot.ensures.node ∙ c.self.invariant.1.0)
+    (c.snapshot.ensures.node ∙ c.self.invariant.1)
     c.args.number c.args.line.now c.args.lists.now)
 
 pub returns-clause-text : goal.returns-clause-text
 returns-clause-text g c =
     c.in_ok-answered.ensures.text ∙ ap (λ (t : List ℕ). string_bytes c.args.text.now ++ t) (answer_is g.J.Publication.start g.J.Sharing.config c.snapshot.result c.leave.result.seen
     (subst (λ (s : List Entry). StandsFor g.J.Publication.start c.snapshot.result.table.now s) (sym c.leave.ensures.seen) c.snapshot.ensures.table)
-    (c.snapshot.ensures.node ∙ c.self.invariant.1.0)
+    (c.snapshot.ensures.node ∙ c.self.invariant.1)
     (c.snapshot.ensures.sync ∙ ap (λ (s : List Entry). length (records_of s)) (sym c.leave.ensures.seen))
     c.args.number c.args.line.now c.args.lists.now)

@@ -21,19 +21,19 @@ pub returns-in_err-verdict-clause-refused : goal.returns-in_err-verdict-clause-r
 returns-in_err-verdict-clause-refused g c =
     on_err c.from_residual.result (way_is g.J.Publication.start g.J.Sharing.config c.snapshot.result c.leave.result.seen
     (subst (λ (s : List Entry). StandsFor g.J.Publication.start c.snapshot.result.table.now s) (sym c.leave.ensures.seen) c.snapshot.ensures.table)
-    (c.snapshot.ensures.node ∙ c.self.invariant.1.0)
+    (c.snapshot.ensures.node ∙ c.self.invariant.1)
     c.args.number c.args.line.now c.args.lists.now c.verdict_of-verdict.new.lists c.in_err-verdict.ensures.refused)
 
 pub returns-clause-lists : goal.returns-clause-lists
 returns-clause-lists g c =
     c.in_ok-verdict.ensures.lists ∙ ap (λ w. w.lists) (walk_is g.J.Publication.start g.J.Sharing.config c.snapshot.result c.leave.result.seen
     (subst (λ (s : List Entry). StandsFor g.J.Publication.start c.snapshot.result.table.now s) (sym c.leave.ensures.seen) c.snapshot.ensures.table)
-    (c.snapshot.ensures.node ∙ c.self.invariant.1.0)
+    (c.snapshot.ensures.node ∙ c.self.invariant.1)
     c.args.number c.args.line.now c.args.lists.now)
 
 pub returns-clause-verdict : goal.returns-clause-verdict
 returns-clause-verdict g c =
     c.in_ok-verdict.ensures.verdict ∙ ap (λ w. w.verdict) (walk_is g.J.Publication.start g.J.Sharing.config c.snapshot.result c.leave.result.seen
     (subst (λ (s : List Entry). StandsFor g.J.Publication.start c.snapshot.result.table.now s) (sym c.leave.ensures.seen) c.snapshot.ensures.table)
-    (c.snapshot.ensures.node ∙ c.self.invariant.1.0)
+    (c.snapshot.ensures.node ∙ c.self.invariant.1)
     c.args.number c.args.line.now c.args.lists.now)
