@@ -30,7 +30,7 @@ use kp_recent::RecentLists;
 use kp_types::{Event, Verdict};
 use std::alloc::Global;
 use std::sync::ledger::Ledger;
-use std::sync::{Mutex, Wait};
+use std::sync::{Mutex, MutexGuard, Wait};
 
 /// What threads share. Events are fed beside each other, one sync is made at a time, and tables
 /// are read without it. It is ended by `finish`.
@@ -178,8 +178,9 @@ impl<J: Sharing, A: Ledger, C: Ledger> Hub<J, A, C> {
         ensures denied { IfErr result (λ fault. IsDenied fault pass.old pass.new) }
     {
         let mut held = self.held.lock(rt);
-        let synced = held.sync(rt, alloc, &self.feed, pass)?;
-        Ok(synced.sync)
+        let synced = held.sync(rt, alloc, &self.feed, pass);
+        MutexGuard::unlock(held);
+        Ok(synced?.sync)
     }
 
     /// Ends the hub: ends these streams, and syncs until all that they fed is covered or the journal

@@ -1,4 +1,4 @@
-use Rattle.std.proofs.Common.{◌≡◌, List, [], ◌∷◌, ◌++◌, None, map, sym, subst, ◌∙◌, rules}
+use Rattle.std.proofs.Common.{◌≡◌, List, [], ◌∷◌, ◌++◌, None, length, map, ap, sym, subst, ◌∙◌, arith, rules}
 use Rattle.std.specs.List.{AllByRecursion}
 use Rattle.std.specs.Option.{option_to_list}
 use Rattle.kp_feed.specs.Feeding.{AreWhole}
@@ -6,10 +6,11 @@ use Rattle.kp_plane.specs.Parts.{table_in}
 use Rattle.kp_publish.specs.declared.entry.Entry.TheVariants.{End}
 use Rattle.kp_publish.specs.Entries.{records_of}
 use Rattle.kp_hub.specs.Finishing.{CoversAll}
+use Rattle.kp_hub.specs.Growing.{IsDone}
 use Rattle.kp_hub.specs.State.{HubState, IsRefusal}
 use Rattle.kp_hub.specs.Syncs.{clash_after}
 use Rattle.kp_hub.specs.Taken.{note_of, plane_of, records_at}
-use Rattle.kp_hub.proofs.HandedOut.{closed_ended, closed_records, ends, left_whole, records_are}
+use Rattle.kp_hub.proofs.HandedOut.{closed_ended, closed_records, ends, left_whole, notes_length, records_are, whole_journal}
 use Rattle.kp_hub.proofs.state.Held.into_finished.Goals as goal
 
 pub invariant_of-result : goal.invariant_of-result
@@ -48,3 +49,20 @@ returns-in-Ok-Ok-clause-order g c =
     c.self.view_is
     (left_whole g.J.Sharing.queue s.intake c.into_parts-taker.result.0 c.new.result c.in-Ok-Ok.journal c.finish.ensures.0 g.J.Sharing.streams
     c.into_parts-taker.ensures.taker c.new.ensures journal c.self.invariant.2.feeders c.finish.ensures.2))
+
+pub returns-in-Ok-Ok-clause-whole : goal.returns-in-Ok-Ok-clause-whole
+returns-in-Ok-Ok-clause-whole g c =
+    let s = c.self.inside in
+    let journal : c.in-Ok-Ok.journal ≡ s.intake.journal = search rules in
+    λ room. subst (λ (h : HubState). AreWhole c.in-Ok-Ok.journal h.taken.ended g.J.Sharing.streams) c.self.view_is
+    (whole_journal g.J.Sharing.config s.intake c.in-Ok-Ok.journal g.J.Sharing.streams
+    (subst (λ (h : HubState). IsDone g.J.Sharing.config h.taken) (sym c.self.view_is) c.requires.done) journal c.self.invariant.2.feeders room)
+
+pub returns-in-Ok-Ok-clause-accepted : goal.returns-in-Ok-Ok-clause-accepted
+returns-in-Ok-Ok-clause-accepted g c =
+    let s = c.self.inside in
+    let journal : c.in-Ok-Ok.journal ≡ s.intake.journal = search rules in
+    let notes : c.in-Ok-Ok.notes ≡ map note_of (records_at g.J.Sharing.config s.intake) = search rules in
+    let all = notes_length g.J.Sharing.config s.intake c.in-Ok-Ok.journal c.in-Ok-Ok.notes c.into_parts-taker.ensures.exact journal notes in
+    let same : length s.intake.counts ≡ length c.args.self.taken.counts = ap (λ (h : HubState). length h.taken.counts) c.self.view_is in
+    let few = c.requires.untold in omega (arith, all, same, few)

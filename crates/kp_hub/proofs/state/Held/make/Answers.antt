@@ -13,8 +13,8 @@ invariant_of-self-in_err-record g c =
     (state_in p.0 s.publisher s.refusals.items s.accepted.total s.refused.total) p.1)
     (λ i. (sym c.in_err-record.ensures.err i, sym c.reserve.ensures.items i)) c.self.invariant.2)
 
-pub invariant_of-self : goal.invariant_of-self
-invariant_of-self g c =
+pub invariant_of-self-2 : goal.invariant_of-self-2
+invariant_of-self-2 g c =
     let s = c.self.inside in
     (c.self.invariant.0, c.self.invariant.1, state_records g.J.Sharing.config g.J.Sharing.streams g.J.Publication.start
     (state_in s.intake s.publisher s.refusals.items s.accepted.total s.refused.total) s.waiting.items c.self.invariant.2
