@@ -88,8 +88,11 @@ pub whole_later : (t : Taken) (journal left : List Fed) (streams : ℕ) → jour
     → AreWhole (journal ++ (option_to_list t.waits ++ left)) t.ended streams
 whole_later t journal left streams same feeders whole =
     subst (λ (p : List Fed × ℕ). AreWhole p.0 t.ended p.1)
-    (λ i. ((append_assoc t.journal (option_to_list t.waits) left
-        ∙ ap (λ (j : List Fed). j ++ (option_to_list t.waits ++ left)) (sym same)) i, feeders i)) whole
+    (λ i. (
+      (append_assoc t.journal (option_to_list t.waits) left
+          ∙ ap (λ (j : List Fed). j ++ (option_to_list t.waits ++ left)) (sym same)) i,
+      feeders i,
+    )) whole
 
 -- as the last look at the queue tells
 pub left_whole : (queue : QueueId) (t : Taken) (taker : Taker) (passes : List Feeder) (journal left : List Fed) (streams : ℕ)

@@ -62,7 +62,7 @@ pub record KeepsBooks (before after : HubState) : Type 0 where
   pub accepted : after.accepted ≡ before.accepted
   pub refused : after.refused ≡ before.refused
 
--- Passes together were told of no more syncs than there are, and not of the last one, which this
--- clash refused or which was accepted.
+-- there are as many syncs as passes together were told of, and one more where no clash refused the
+-- last
 abbrev pub IsUntold : HubState → Option Clash → Type 0
 IsUntold h clash = h.accepted + last_syncs clash ≤ length h.taken.counts

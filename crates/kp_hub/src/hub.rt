@@ -13,7 +13,7 @@ ghost use Rattle.kp_hub.specs.Finishing.{IsEnd};
 ghost use Rattle.kp_hub.specs.Known.{new_worker, uncounted};
 ghost use Rattle.kp_hub.specs.Reading.{answer_after, HasWalked, OnTheWay, Reads, walk_after};
 ghost use Rattle.kp_hub.specs.State.{first_table};
-ghost use Rattle.kp_hub.specs.Syncs.{IsDenied, IsTold};
+ghost use Rattle.kp_hub.specs.Syncs.{IsClashOfSome, IsDenied, IsTold};
 
 use crate::finished::Finished;
 use crate::intake::Intake;
@@ -102,9 +102,9 @@ impl<J: Sharing, A: Ledger, C: Ledger> Hub<J, A, C> {
         }
     }
 
-    /// What becomes of the packet of the line of this number, by the table that was published last,
-    /// and the number of that table's sync. That goes on from all that the pass saw before or
-    /// learned of. It takes no lock.
+    /// What becomes of the packet of the line of this number, by a published table, and the number of
+    /// that table's sync. The table goes on from all that the pass saw before or learned of. It takes
+    /// no lock.
     pub fn verdict_of<R: Wait>(
         rt: &R,
         pass: &mut WorkerPass<J, A, C>,
@@ -124,9 +124,9 @@ impl<J: Sharing, A: Ledger, C: Ledger> Hub<J, A, C> {
         pass.verdict_of(rt, number, line, lists)
     }
 
-    /// Adds what the line of this number is answered by the table that was published last, with its
-    /// trail where the line asks for it, and gives the number of that table's sync. It takes no
-    /// lock.
+    /// Adds what the line of this number is answered by a published table, with its trail where the
+    /// line asks for it, and gives the number of that table's sync. The table goes on from all that
+    /// the pass saw before or learned of. It takes no lock.
     pub fn walk<R: Wait>(
         rt: &R,
         pass: &mut WorkerPass<J, A, C>,
@@ -176,6 +176,7 @@ impl<J: Sharing, A: Ledger, C: Ledger> Hub<J, A, C> {
     ) -> Result<u64, TableFault>
         ensures told { IfOk result (λ sync. IsTold sync pass.old pass.new) }
         ensures denied { IfErr result (λ fault. IsDenied fault pass.old pass.new) }
+        ensures clash { IfErr result (IsClashOfSome J.config) }
     {
         let mut held = self.held.lock(rt);
         let synced = held.sync(rt, alloc, &self.feed, pass);
@@ -205,7 +206,7 @@ impl<J: Sharing, A: Ledger, C: Ledger> Hub<J, A, C> {
         ensures made { IfOk result (λ done. (p : ℕ) → J.streams ≤ p
             → filter (is_of_stream p) done.journal ≡ []) }
 
-        // No worker was told of syncs that it doesn't hand out, nor of the last one.
+        // There are as many syncs as workers were told of, and one more that isn't refused last.
         ensures accepted { IfOk result (λ done. sum (map (λ w. w.accepted) workers.old)
             + last_syncs done.clash ≤ length done.notes) }
         ensures refused { IfOk result (λ done. sum (map (λ w. w.refused) workers.old)

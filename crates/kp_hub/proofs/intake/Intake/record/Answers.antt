@@ -17,7 +17,7 @@ pub invariant_of-self-in_err-record : goal.invariant_of-self-in_err-record
 invariant_of-self-in_err-record g c =
     let s = c.self.inside in
     subst (λ (p : PlaneParts × List RecordNote). (length s.origins.items ≡ length p.0.events)
-        × IsTaken g.J.Sharing.config g.J.Sharing.queue (taken_in s.origins.items s.waits p.0 s.taker) p.0 s.taker p.1)
+    × IsTaken g.J.Sharing.config g.J.Sharing.queue (taken_in s.origins.items s.waits p.0 s.taker) p.0 s.taker p.1)
     (λ i. (sym c.in_err-record.ensures.err i, sym c.reserve.ensures.items i)) c.self.invariant
 
 pub returns-in_err-record-clause-clash : goal.returns-in_err-record-clause-clash
@@ -26,7 +26,7 @@ returns-in_err-record-clause-clash g c =
     let config = g.J.Sharing.config in
     let is : c.from_residual.result ≡ Err c.in_err-record.field-0.0 = search rules in
     subst (λ (r : Result SyncRecord TableFault). IfErr r
-        (TellsClash (clash_of (setting_of V4 config) (objects_after (events_of c.args.self.now.journal))))) (sym is)
+    (TellsClash (clash_of (setting_of V4 config) (objects_after (events_of c.args.self.now.journal))))) (sym is)
     (subst (λ (t : Taken). TellsClash (clash_of (setting_of V4 config) (objects_after (events_of t.journal))) c.in_err-record.field-0.0)
     c.self.view_is
     (tells_clash config g.J.Sharing.queue (taken_in s.origins.items s.waits s.plane s.taker) s.plane s.taker s.notes.items c.self.invariant.1
@@ -35,12 +35,13 @@ returns-in_err-record-clause-clash g c =
 pub invariant_of-self-2 : goal.invariant_of-self-2
 invariant_of-self-2 g c =
     let s = c.self.inside in
-    let leads = c.in_ok-record.ensures.ok in
-    (c.self.invariant.0 ∙ sym (ap (λ (p : PlaneParts). length p.events) leads),
-    taken_synced g.J.Sharing.config g.J.Sharing.queue (taken_in s.origins.items s.waits s.plane s.taker) s.plane s.taker s.notes.items
-    c.self.invariant.1 c.in_ok-record.record c.sync_for_nobody.new.plane (fed_of s.origins.items c.sync_for_nobody.new.plane.events)
-    s.taker c.push_reserved.new.self.items (λ i. fed_of s.origins.items (leads i).events) refl leads c.in_ok-record.ensures.added
-    (c.push_reserved.ensures.items ∙ (λ i. c.reserve.ensures.items i ++ c.noted.ensures i ∷ [])))
+    let leads = c.in_ok-record.ensures.ok in (
+      c.self.invariant.0 ∙ sym (ap (λ (p : PlaneParts). length p.events) leads),
+      taken_synced g.J.Sharing.config g.J.Sharing.queue (taken_in s.origins.items s.waits s.plane s.taker) s.plane s.taker s.notes.items
+          c.self.invariant.1 c.in_ok-record.record c.sync_for_nobody.new.plane (fed_of s.origins.items c.sync_for_nobody.new.plane.events)
+          s.taker c.push_reserved.new.self.items (λ i. fed_of s.origins.items (leads i).events) refl leads c.in_ok-record.ensures.added
+          (c.push_reserved.ensures.items ∙ (λ i. c.reserve.ensures.items i ++ c.noted.ensures i ∷ [])),
+    )
 
 pub returns-clause-record : goal.returns-clause-record
 returns-clause-record g c =
@@ -48,9 +49,9 @@ returns-clause-record g c =
     let leads = c.in_ok-record.ensures.ok in
     let t : Taken = taken_in s.origins.items s.waits s.plane s.taker in
     let now = taken_synced g.J.Sharing.config g.J.Sharing.queue t s.plane s.taker s.notes.items
-        c.self.invariant.1 c.in_ok-record.record c.sync_for_nobody.new.plane (fed_of s.origins.items c.sync_for_nobody.new.plane.events)
-        s.taker c.push_reserved.new.self.items (λ i. fed_of s.origins.items (leads i).events) refl leads c.in_ok-record.ensures.added
-        (c.push_reserved.ensures.items ∙ (λ i. c.reserve.ensures.items i ++ c.noted.ensures i ∷ [])) in
+    c.self.invariant.1 c.in_ok-record.record c.sync_for_nobody.new.plane (fed_of s.origins.items c.sync_for_nobody.new.plane.events)
+    s.taker c.push_reserved.new.self.items (λ i. fed_of s.origins.items (leads i).events) refl leads c.in_ok-record.ensures.added
+    (c.push_reserved.ensures.items ∙ (λ i. c.reserve.ensures.items i ++ c.noted.ensures i ∷ [])) in
     records_synced g.J.Sharing.config g.J.Sharing.queue t s.plane s.taker s.notes.items c.self.invariant.1
     c.in_ok-record.record c.sync_for_nobody.new.plane (taken_in s.origins.items s.waits c.sync_for_nobody.new.plane s.taker)
     now.plane_is c.in_ok-record.ensures.added

@@ -19,8 +19,8 @@ returns-in-Ok-clause-more g c =
     let t : Taken = taken_in s.origins.items s.waits s.plane s.taker in
     let took = c.in-Some.ensures.next t.journal (ap (λ (k : Taker). k.taken) is.taker_is) in
     let now = taken_next g.J.Sharing.config g.J.Sharing.queue t s.plane s.taker s.notes.items is
-        c.sync_records.ensures.stay c.in-Some.fed (fed_of c.accept.new.origins.items c.accept.new.plane.events)
-        c.accept.new.plane c.next.new.taker c.in-Ok.ensures.journal c.in-Ok.ensures.plane took in
+    c.sync_records.ensures.stay c.in-Some.fed (fed_of c.accept.new.origins.items c.accept.new.plane.events)
+    c.accept.new.plane c.next.new.taker c.in-Ok.ensures.journal c.in-Ok.ensures.plane took in
     subst (λ (p : Taken × Taken). TakesMore p.0 p.1)
     (λ i. (c.self.view_is i, taken_in c.accept.new.origins.items (sym c.in-Some.ensures.waits i) c.accept.new.plane c.next.new.taker))
     (takes_from g.J.Sharing.config g.J.Sharing.queue t s.plane s.taker s.notes.items is
@@ -43,12 +43,13 @@ invariant_of-self-in-Err g c =
     let s = c.self.inside in
     let is = c.self.invariant.1 in
     let t : Taken = taken_in s.origins.items s.waits s.plane s.taker in
-    let took = c.in-Some.ensures.next t.journal (ap (λ (k : Taker). k.taken) is.taker_is) in
-    (c.in-Err.ensures.as_many,
-    taken_waits g.J.Sharing.config g.J.Sharing.queue t s.plane s.taker s.notes.items is c.in-Err.back c.accept.new.plane c.next.new.taker
-    (fed_of c.accept.new.origins.items c.accept.new.plane.events) (λ i. fed_of (c.in-Err.ensures.kept i) (c.in-Err.ensures.stays i).events)
-    (subst (λ (u : Taken). length u.journal < g.J.Sharing.config.max_events) (sym c.self.view_is) c.requires.room)
-    c.in-Err.ensures.stays (took ∙ (λ i. record s.taker { taken = t.journal ++ sym c.in-Err.ensures.back i ∷ [] })))
+    let took = c.in-Some.ensures.next t.journal (ap (λ (k : Taker). k.taken) is.taker_is) in (
+      c.in-Err.ensures.as_many,
+      taken_waits g.J.Sharing.config g.J.Sharing.queue t s.plane s.taker s.notes.items is c.in-Err.back c.accept.new.plane c.next.new.taker
+          (fed_of c.accept.new.origins.items c.accept.new.plane.events) (λ i. fed_of (c.in-Err.ensures.kept i) (c.in-Err.ensures.stays i).events)
+          (subst (λ (u : Taken). length u.journal < g.J.Sharing.config.max_events) (sym c.self.view_is) c.requires.room)
+          c.in-Err.ensures.stays (took ∙ (λ i. record s.taker { taken = t.journal ++ sym c.in-Err.ensures.back i ∷ [] })),
+    )
 
 pub returns-in-Err-clause-more : goal.returns-in-Err-clause-more
 returns-in-Err-clause-more g c =
@@ -59,9 +60,9 @@ returns-in-Err-clause-more g c =
     let journal : fed_of c.accept.new.origins.items c.accept.new.plane.events ≡ t.journal =
     λ i. fed_of (c.in-Err.ensures.kept i) (c.in-Err.ensures.stays i).events in
     let now = taken_waits g.J.Sharing.config g.J.Sharing.queue t s.plane s.taker s.notes.items is c.in-Err.back c.accept.new.plane c.next.new.taker
-        (fed_of c.accept.new.origins.items c.accept.new.plane.events) journal
-        (subst (λ (u : Taken). length u.journal < g.J.Sharing.config.max_events) (sym c.self.view_is) c.requires.room)
-        c.in-Err.ensures.stays (took ∙ (λ i. record s.taker { taken = t.journal ++ sym c.in-Err.ensures.back i ∷ [] })) in
+    (fed_of c.accept.new.origins.items c.accept.new.plane.events) journal
+    (subst (λ (u : Taken). length u.journal < g.J.Sharing.config.max_events) (sym c.self.view_is) c.requires.room)
+    c.in-Err.ensures.stays (took ∙ (λ i. record s.taker { taken = t.journal ++ sym c.in-Err.ensures.back i ∷ [] })) in
     subst (λ (u : Taken). TakesMore u (taken_in c.accept.new.origins.items (Some c.in-Err.back) c.accept.new.plane c.next.new.taker))
     c.self.view_is
     (takes_from g.J.Sharing.config g.J.Sharing.queue t s.plane s.taker s.notes.items is

@@ -13,7 +13,7 @@ returns-in-Ok-clause-order g c =
 pub returns-in-Ok-clause-whole : goal.returns-in-Ok-clause-whole
 returns-in-Ok-clause-whole g c =
     subst (λ (e : List Ended). IfOk c.into_finished.result
-        (λ done. length done.journal < g.J.Sharing.config.max_events → AreWhole done.journal e g.J.Sharing.streams))
+    (λ done. length done.journal < g.J.Sharing.config.max_events → AreWhole done.journal e g.J.Sharing.streams))
     c.sync_and_publish.ensures.more.ended c.into_finished.ensures.whole
 
 pub returns-in-Ok-clause-accepted : goal.returns-in-Ok-clause-accepted

@@ -43,12 +43,13 @@ returns-in-Ok-Ok-clause-end g c =
 pub returns-in-Ok-Ok-clause-order : goal.returns-in-Ok-Ok-clause-order
 returns-in-Ok-Ok-clause-order g c =
     let s = c.self.inside in
-    let journal : c.in-Ok-Ok.journal ≡ s.intake.journal = search rules in
-    (option_to_list s.intake.waits ++ c.finish.ensures.0,
-    subst (λ (h : HubState). AreWhole (c.in-Ok-Ok.journal ++ (option_to_list s.intake.waits ++ c.finish.ensures.0)) h.taken.ended g.J.Sharing.streams)
-    c.self.view_is
-    (left_whole g.J.Sharing.queue s.intake c.into_parts-taker.result.0 c.new.result c.in-Ok-Ok.journal c.finish.ensures.0 g.J.Sharing.streams
-    c.into_parts-taker.ensures.taker c.new.ensures journal c.self.invariant.2.feeders c.finish.ensures.2))
+    let journal : c.in-Ok-Ok.journal ≡ s.intake.journal = search rules in (
+      option_to_list s.intake.waits ++ c.finish.ensures.0,
+      subst (λ (h : HubState). AreWhole (c.in-Ok-Ok.journal ++ (option_to_list s.intake.waits ++ c.finish.ensures.0)) h.taken.ended g.J.Sharing.streams)
+          c.self.view_is
+          (left_whole g.J.Sharing.queue s.intake c.into_parts-taker.result.0 c.new.result c.in-Ok-Ok.journal c.finish.ensures.0 g.J.Sharing.streams
+          c.into_parts-taker.ensures.taker c.new.ensures journal c.self.invariant.2.feeders c.finish.ensures.2),
+    )
 
 pub returns-in-Ok-Ok-clause-whole : goal.returns-in-Ok-Ok-clause-whole
 returns-in-Ok-Ok-clause-whole g c =

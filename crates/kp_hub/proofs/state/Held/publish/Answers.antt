@@ -14,17 +14,20 @@ publish_all-requires-clause-ready g c =
 
 pub invariant_of-self : goal.invariant_of-self
 invariant_of-self g c =
-    let s = c.self.inside in
-    (c.self.invariant.0, c.self.invariant.1, state_publishes g.J.Sharing.config g.J.Sharing.streams g.J.Publication.start
-    (state_in s.intake s.publisher s.refusals.items s.accepted.total s.refused.total) s.waiting.items c.self.invariant.2
-    c.publish_all.new.publisher c.publish_all.new.waiting.items c.publish_all.ensures.«open» c.publish_all.ensures.records)
+    let s = c.self.inside in (
+      c.self.invariant.0,
+      c.self.invariant.1,
+      state_publishes g.J.Sharing.config g.J.Sharing.streams g.J.Publication.start
+          (state_in s.intake s.publisher s.refusals.items s.accepted.total s.refused.total) s.waiting.items c.self.invariant.2
+          c.publish_all.new.publisher c.publish_all.new.waiting.items c.publish_all.ensures.«open» c.publish_all.ensures.records,
+    )
 
 pub returns-clause-number : goal.returns-clause-number
 returns-clause-number g c =
     let s = c.self.inside in
     let some = some_wait g.J.Sharing.config g.J.Sharing.streams g.J.Publication.start
     (state_in s.intake s.publisher s.refusals.items s.accepted.total s.refused.total) s.waiting.items c.self.invariant.2
-        (subst (λ (h : HubState). length (records_of h.outlet.newest) < length h.taken.counts) (sym c.self.view_is) c.requires) in
+    (subst (λ (h : HubState). length (records_of h.outlet.newest) < length h.taken.counts) (sym c.self.view_is) c.requires) in
     c.count.ensures
     ∙ (ap length (published_all g.J.Sharing.config g.J.Sharing.streams g.J.Publication.start
     (state_in s.intake s.publisher s.refusals.items s.accepted.total s.refused.total) s.waiting.items c.self.invariant.2
@@ -37,7 +40,7 @@ returns-clause-records g c =
     let s = c.self.inside in
     let some = some_wait g.J.Sharing.config g.J.Sharing.streams g.J.Publication.start
     (state_in s.intake s.publisher s.refusals.items s.accepted.total s.refused.total) s.waiting.items c.self.invariant.2
-        (subst (λ (h : HubState). length (records_of h.outlet.newest) < length h.taken.counts) (sym c.self.view_is) c.requires) in
+    (subst (λ (h : HubState). length (records_of h.outlet.newest) < length h.taken.counts) (sym c.self.view_is) c.requires) in
     published_all g.J.Sharing.config g.J.Sharing.streams g.J.Publication.start
     (state_in s.intake s.publisher s.refusals.items s.accepted.total s.refused.total) s.waiting.items c.self.invariant.2
     c.publish_all.new.publisher c.publish_all.new.waiting.items c.publish_all.ensures.records

@@ -14,10 +14,13 @@ invariant_of-self g c =
     let s = c.self.inside in
     let fewer : s.accepted.total < length s.intake.counts =
     subst (λ (h : HubState). h.accepted < length h.taken.counts) (sym c.self.view_is) c.requires.fewer in
-    let more = c.count_accepted.ensures.total in
-    (c.self.invariant.0, c.self.invariant.1, state_tells g.J.Sharing.config g.J.Sharing.streams g.J.Publication.start
-    (state_in s.intake s.publisher s.refusals.items s.accepted.total s.refused.total) s.waiting.items c.self.invariant.2
-    c.count_accepted.new.book.total s.refused.total (omega (arith, fewer, more)) c.self.invariant.2.keeps.refused)
+    let more = c.count_accepted.ensures.total in (
+      c.self.invariant.0,
+      c.self.invariant.1,
+      state_tells g.J.Sharing.config g.J.Sharing.streams g.J.Publication.start
+          (state_in s.intake s.publisher s.refusals.items s.accepted.total s.refused.total) s.waiting.items c.self.invariant.2
+          c.count_accepted.new.book.total s.refused.total (omega (arith, fewer, more)) c.self.invariant.2.keeps.refused,
+    )
 
 pub returns-clause-told : goal.returns-clause-told
 returns-clause-told g c =
