@@ -11,6 +11,8 @@ mod ends;
 #[cfg(test)]
 mod gates;
 #[cfg(test)]
+mod hubs;
+#[cfg(test)]
 mod inputs;
 #[cfg(test)]
 mod lines;
