@@ -11,7 +11,7 @@ use Rattle.kp_full_table.specs.declared.fault.TableFault.{TableFault}
 use Rattle.kp_full_table.specs.declared.fault.TableFault.TheVariants.{ChainClash, NoMemory}
 use Rattle.kp_hub.specs.Known.{Worker}
 use Rattle.kp_hub.specs.State.{HubState}
-use Rattle.kp_hub.specs.Syncs.{Accepts, Fails, GivesUp, IsTold, Refuses, clash_after, counts_with_sync, with_refusal}
+use Rattle.kp_hub.specs.Syncs.{Accepts, Fails, GivesUp, IsClashOfSome, IsTold, Refuses, clash_after, counts_with_sync, with_refusal}
 use Rattle.kp_hub.specs.Taken.{Taken, records_at, with_sync}
 use Rattle.kp_hub.proofs.States.{records_length}
 
@@ -73,6 +73,12 @@ gives_up_same config before after same = record {
   counts = inl (ap (λ (h : HubState). h.taken.counts) same);
   refusals = ap (λ (h : HubState). h.refusals) same;
 }
+
+-- which of the two it was, its fault tells
+pub tells_some : (config : Config) (before after : HubState) (fault : TableFault)
+    → Fails config fault before after → IsClashOfSome config fault
+tells_some config before after (ChainClash clash) fails = (after.taken.journal, fails.is_clash)
+tells_some config before after NoMemory fails = tt
 
 -- ---- Events are taken first
 

@@ -13,7 +13,7 @@ ghost use Rattle.kp_hub.specs.Growing.{IsDone, IsSameBut, StopsAt, TakesMore};
 ghost use Rattle.kp_hub.specs.Known.{uncounted};
 ghost use Rattle.kp_hub.specs.State.{first_table};
 ghost use Rattle.kp_hub.specs.Syncs.{Accepts, CountsAccepted, CountsFault, Fails, IsDenied, IsTold};
-ghost use Rattle.kp_hub.specs.Syncs.{IsClashOfSome, IsUncounted, clash_after, with_refusal};
+ghost use Rattle.kp_hub.specs.Syncs.{IsUncounted, clash_after, with_refusal};
 ghost use Rattle.kp_hub.specs.Taken.{records_at, with_sync};
 
 use crate::finished::Finished;
@@ -122,7 +122,6 @@ impl<J: Sharing, A: Ledger, C: Ledger> Held<J, A, C> {
         ensures err { IfErr result (λ fault. Fails J.config fault self.old self.new) }
         ensures counts { IfErr result (λ fault. CountsFault fault self.old self.new) }
         ensures denied { IfErr result (λ fault. IsDenied fault pass.old pass.new) }
-        ensures clash { IfErr result (IsClashOfSome J.config) }
     {
         let stop = self.take_all(rt, feed)?;
         match self.record(rt, alloc) {
@@ -371,7 +370,6 @@ impl<J: Sharing, A: Ledger, C: Ledger> Held<J, A, C> {
     fn record<R: Wait>(&mut self, rt: &R, alloc: Global) -> Result<u64, TableFault>
         ensures ok { IfOk result (λ n. Accepts J.config n self.old self.new) }
         ensures err { IfErr result (λ fault. Fails J.config fault self.old self.new) }
-        ensures some { IfErr result (IsClashOfSome J.config) }
         ensures taken { IsSameBut self.old.taken self.new.taken }
         ensures accepted { self.new.accepted ≡ self.old.accepted }
         ensures refused { self.new.refused ≡ self.old.refused }

@@ -1,5 +1,6 @@
 //! A hub with one worker, which feeds, syncs and reads by the lines of a script, and ends.
 ghost use Rattle.std.specs.Prelude.{◌≡◌};
+ghost use Rattle.std.specs.List.{AllByRecursion};
 ghost use Rattle.kp_hub.specs.State.{first_table};
 
 use crate::lines::{op_of, unfolded};
@@ -195,6 +196,43 @@ fn take_all<J: Sharing, A: Ledger, C: Ledger, R: Wait>(
     Ok(())
 }
 
+/// The passes to end: this one, or none where memory is out.
+fn one_of<J: Sharing>(alloc: Global, feeder: FeedPass) -> Items<FeedPass>
+    requires { feeder.queue ≡ J.queue }
+    ensures { AllByRecursion (λ p. p.queue ≡ J.queue) result }
+{
+    let mut passes = Items::new(alloc);
+    match passes.push(feeder) {
+        Ok(()) => {}
+        Err(_) => {}
+    }
+    passes
+}
+
+/// Has the first pass take all lines, and gives the passes to end.
+fn take_by_first<J: Sharing, A: Ledger, C: Ledger, R: Wait>(
+    rt: &R,
+    alloc: Global,
+    hub: &Hub<J, A, C>,
+    feeders: Items<FeedPass>,
+    worker: Option<&mut WorkerPass<J, A, C>>,
+    lines: &str,
+    text: &mut String,
+) -> (Items<FeedPass>, Result<(), Fail>)
+    requires { AllByRecursion (λ p. p.queue ≡ J.queue) feeders }
+    ensures { AllByRecursion (λ p. p.queue ≡ J.queue) result.0 }
+{
+    let Some(worker) = worker else {
+        return (feeders, Err(Fail::from("a worker")));
+    };
+    for feeder in feeders.into_vec() {
+        let mut feeder = feeder;
+        let taken = take_all(rt, alloc, hub, &mut feeder, worker, lines, text);
+        return (one_of::<J>(alloc, feeder), taken);
+    }
+    (Items::new(alloc), Err(Fail::from("a stream")))
+}
+
 /// Tells what a hub hands out at its end.
 fn push_done<J: Sharing>(text: &mut String, done: &Finished<J>) -> Result<(), NoMemory> {
     for note in done.notes.as_slice() {
@@ -271,13 +309,10 @@ fn told<J: Sharing, A: Ledger, C: Ledger, R: Wait>(
     requires refused { opening.refused ≡ (C.name, C.parts) }
 {
     let (hub, feeders, workers) = Hub::<J, A, C>::new(rt, alloc, opening)?;
-    let mut feeders = feeders.into_vec();
     let mut workers = workers.into_vec();
-    let taken = match (feeders.first_mut(), workers.first_mut()) {
-        (Some(feeder), Some(worker)) => take_all(rt, alloc, &hub, feeder, worker, lines, text),
-        _ => Err(Fail::from("a stream")),
-    };
-    let done = hub.finish(rt, alloc, Items::from_vec(feeders), workers.as_mut_slice());
+    let (feeders, taken) =
+        take_by_first(rt, alloc, &hub, feeders, workers.first_mut(), lines, text);
+    let done = hub.finish(rt, alloc, feeders, workers.as_mut_slice());
     match taken {
         Ok(()) => tell(rt, alloc, done, workers.first_mut(), text),
         Err(fail) => {

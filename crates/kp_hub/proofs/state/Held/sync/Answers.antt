@@ -1,5 +1,4 @@
-use Rattle.std.proofs.Common.{◌+◌, subst}
-use Rattle.kp_hub.specs.Syncs.{IsClashOfSome}
+use Rattle.std.proofs.Common.{◌+◌}
 use Rattle.kp_hub.proofs.Syncing.{accepts_taken, accepts_told}
 use Rattle.kp_hub.proofs.state.Held.sync.Goals as goal
 
@@ -9,7 +8,3 @@ returns-in-Ok-clause-ok g c =
     (c.record.new.self.accepted + 1) c.tell_accepted.ensures.counts
     (accepts_taken g.J.Sharing.config c.args.self.now c.take_all.new.self c.record.new.self c.take_all.ensures.stays
     c.take_all.ensures.counts c.in-Ok.sync c.in-Ok.ensures.ok)
-
-pub returns-in-Err-ChainClash-clause-clash : goal.returns-in-Err-ChainClash-clause-clash
-returns-in-Err-ChainClash-clause-clash g c =
-    subst (IsClashOfSome g.J.Sharing.config) c.in-Err-ChainClash.field-0-is c.in-Err-ChainClash.ensures.some
