@@ -1,8 +1,7 @@
 -- What more was taken.
-use Rattle.std.proofs.Common.{◌≡◌, ℕ, ◌+◌, ◌≤◌, ◌<◌, List, [], ◌∷◌, ◌++◌, length, sum, refl, ap, sym, subst, ◌∙◌, arith, append_assoc, length-append}
+use Rattle.std.proofs.Common.{◌≡◌, List, [], ◌++◌, ap, sym, subst, ◌∙◌, append_assoc}
 use Rattle.std.proofs.lemmas.List.{append-nil}
 use mathlib.Core.List.{IsPrefix}
-use Rattle.kp_history_defs.specs.declared.fed.Fed.{Fed}
 use Rattle.kp_hub.specs.Taken.{Taken, all_taken}
 use Rattle.kp_base.specs.declared.config.Config.{Config}
 use Rattle.kp_hub.specs.declared.notes.Stop.{Stop}

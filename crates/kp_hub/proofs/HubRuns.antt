@@ -1,11 +1,10 @@
 -- What a hub does is steps of an interleaved run.
-use Rattle.std.proofs.Common.{◌≡◌, ℕ, suc, ◌+◌, ◌-◌, ◌≤◌, ◌<◌, true, false, is_some, List, Option, [], ◌∷◌, ◌++◌, length, map, None, replicate, sum, refl, ap, sym, subst, ◌∙◌, arith, length-append, append_assoc}
+use Rattle.std.proofs.Common.{◌≡◌, ℕ, suc, ◌+◌, ◌-◌, ◌≤◌, is_some, List, Option, [], ◌∷◌, ◌++◌, length, replicate, sum, refl, ap, sym, subst, ◌∙◌, arith, length-append, append_assoc}
 use Rattle.std.proofs.lemmas.List.{append-nil, append_cancel_left, map-append}
 use Rattle.std.specs.FinMap.{get}
 use Rattle.std.specs.Option.{option_to_list}
 use mathlib.Core.List.{IsPrefix}
 use Rattle.kp_base.specs.declared.address.Family.TheVariants.{V4}
-use Rattle.kp_base.specs.declared.config.Config.{Config}
 use Rattle.kp_choice_defs.specs.Settings.{setting_of}
 use Rattle.kp_lemmas.specs.Lists.{is_empty}
 use Rattle.kp_types.specs.Setting.{Setting}
@@ -15,13 +14,13 @@ use Rattle.kp_table_defs.specs.Rebuild.{clash_of}
 use Rattle.kp_table_defs.specs.Walk.{walk_of}
 use Rattle.kp_history_defs.specs.declared.fed.Fed.{Fed}
 use Rattle.kp_history_defs.specs.History.{counts_of, sync_records, table_after}
-use Rattle.kp_history_defs.specs.Runs.{RunState, Step, Take, Sync, Refuse, Publish, IsRun, IsRunFrom, IsStep, after_feed, after_sync, after_take, events_of, initial, next_record}
+use Rattle.kp_history_defs.specs.Runs.{RunState, Step, Take, Sync, Refuse, Publish, IsRun, IsRunFrom, after_sync, after_take, events_of, initial, next_record}
 use Rattle.kp_history_laws.specs.HistoryLaws.{ExactIsRecords, RecordsHaveCounts, RecordsStay}
 use Rattle.kp_history_laws.specs.RunLaws.{HistoryIsExact, PublishedAreRecords, RunsJoin}
 use Rattle.kp_run_defs.specs.AnswerText.{draws_at}
 use Rattle.kp_publish.specs.Entries.{records_of}
 use Rattle.kp_hub.proofs.Intakes.{events_length}
-use Rattle.kp_hub.specs.Interleaved.{StandsAt, NewHubsStandAtTheStart, FeedsAreSteps, SyncsAreSteps, RefusalsAreSteps, WalksAreReads}
+use Rattle.kp_hub.specs.Interleaved.{NewHubsStandAtTheStart, FeedsAreSteps, SyncsAreSteps, RefusalsAreSteps, WalksAreReads}
 use Rattle.kp_hub.specs.Taken.{records_at}
 
 -- what is left of a queue of which events were taken

@@ -1,13 +1,12 @@
 -- What holds of a plane, a taker and the notes still does where an event is taken, and where a sync
 -- is made.
-use Rattle.std.proofs.Common.{◌≡◌, ℕ, suc, ◌+◌, ◌-◌, ◌≤◌, ◌<◌, List, [], ◌∷◌, ◌++◌, Option, Some, None, IfSome, length, map, sum, refl, ap, sym, subst, ◌∙◌, arith, length-append, append_assoc}
+use Rattle.std.proofs.Common.{◌≡◌, ℕ, suc, ◌+◌, ◌≤◌, ◌<◌, List, [], ◌∷◌, ◌++◌, Option, Some, None, IfSome, length, map, sum, refl, ap, sym, subst, ◌∙◌, arith, length-append}
 use Rattle.std.proofs.lemmas.List.{append-nil, map-append}
 use Rattle.std.proofs.lemmas.List.Sums.{fold-append}
 use Rattle.std.specs.Option.{option_to_list}
 use mathlib.Core.List.{IsPrefix}
 use Rattle.kp_base.specs.declared.address.Family.TheVariants.{V4}
 use Rattle.kp_base.specs.declared.config.Config.{Config}
-use Rattle.kp_types.specs.declared.event.Event.{Event}
 use Rattle.kp_types.specs.declared.sync.SyncRecord.{SyncRecord}
 use Rattle.kp_choice_defs.specs.Settings.{setting_of}
 use Rattle.kp_object_defs.specs.Objects.{objects_after}
@@ -23,7 +22,7 @@ use Rattle.kp_feed.specs.Taking.{Taker}
 use Rattle.kp_plane.specs.Parts.{IsNextRecord, PlaneParts, setting_in, records_in, synced, uncovered_in, with_events}
 use Rattle.kp_hub.specs.declared.notes.RecordNote.{RecordNote}
 use Rattle.kp_hub.specs.Growing.{TakesMore}
-use Rattle.kp_hub.specs.Taken.{Taken, IsTaken, all_taken, note_of, plane_of, records_at, taker_of, with_sync}
+use Rattle.kp_hub.specs.Taken.{Taken, IsTaken, note_of, plane_of, records_at, with_sync}
 
 -- as many events as journal entries
 pub events_length : (fs : List Fed) → length (events_of fs) ≡ length fs

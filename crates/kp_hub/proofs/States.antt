@@ -1,5 +1,5 @@
 -- What holds of what the lock keeps still does behind each step.
-use Rattle.std.proofs.Common.{◌≡◌, ℕ, ◌+◌, ◌≤◌, ◌<◌, ◌⊎◌, false, List, [], ◌∷◌, ◌++◌, Option, Some, None, length, map, sum, take, refl, ap, sym, subst, ◌∙◌, arith, length-append, append_assoc}
+use Rattle.std.proofs.Common.{◌≡◌, ℕ, ◌+◌, ◌≤◌, ◌<◌, false, List, [], ◌∷◌, ◌++◌, Some, length, take, ap, sym, subst, ◌∙◌, arith, length-append, append_assoc}
 use Rattle.std.proofs.lemmas.List.{append-nil, map-append, take-append-le}
 use Rattle.std.proofs.lemmas.List.FromFn.{length-map-range_with_len}
 use Rattle.std.proofs.Math.Seq.{take-length}
@@ -10,7 +10,6 @@ use Rattle.kp_base.specs.declared.address.Family.TheVariants.{V4}
 use Rattle.kp_base.specs.declared.config.Config.{Config}
 use Rattle.kp_choice_defs.specs.Settings.{setting_of}
 use Rattle.kp_types.specs.declared.chain.Clash.{Clash}
-use Rattle.kp_types.specs.declared.event.Event.{Event}
 use Rattle.kp_types.specs.declared.sync.SyncRecord.{SyncRecord}
 use Rattle.kp_object_defs.specs.Objects.{objects_after}
 use Rattle.kp_table_defs.specs.Rebuild.{TableParts, clash_of}
@@ -25,7 +24,7 @@ use Rattle.kp_hub.specs.declared.notes.Refusal.{Refusal}
 use Rattle.kp_hub.specs.Taken.{Taken, plane_of, records_at, with_sync}
 use Rattle.kp_hub.specs.Growing.{TakesMore}
 use Rattle.kp_hub.specs.Finishing.{with_ended}
-use Rattle.kp_hub.specs.State.{HubState, IsHubState, IsRefusal, PublishesRecords, first_table, objects_at}
+use Rattle.kp_hub.specs.State.{HubState, IsHubState, IsRefusal, first_table}
 use Rattle.kp_hub.specs.Syncs.{clash_after, with_refusal}
 use Rattle.kp_hub.proofs.Intakes.{events_length}
 

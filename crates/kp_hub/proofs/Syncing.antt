@@ -3,7 +3,6 @@ use Rattle.std.proofs.Common.{◌≡◌, ℕ, ◌+◌, ◌≤◌, ◌⊎◌, inl
 use mathlib.Core.List.{IsPrefix}
 use Rattle.kp_base.specs.declared.config.Config.{Config}
 use Rattle.kp_types.specs.declared.chain.Clash.{Clash}
-use Rattle.kp_types.specs.declared.sync.SyncRecord.{SyncRecord}
 use Rattle.kp_publish.specs.Entries.{records_of}
 use Rattle.kp_publish.specs.Pending.{Keeps}
 use Rattle.kp_publish.specs.declared.entry.Entry.{Entry}

@@ -1,6 +1,4 @@
-use Rattle.std.proofs.Common.{◌≡◌, List, subst}
-use Rattle.kp_types.specs.declared.sync.SyncRecord.{SyncRecord}
-use Rattle.kp_publish.specs.declared.entry.Entry.{Entry}
+use Rattle.std.proofs.Common.{subst}
 use Rattle.kp_publish.specs.Entries.{GoesOnFrom}
 use Rattle.kp_publish.proofs.Beginnings.{goes_on_through}
 use Rattle.kp_hub.specs.Finishing.{records_told}

@@ -1,9 +1,7 @@
-use Rattle.std.proofs.Common.{◌≡◌, ◌≤◌, ◌+◌, List, ◌++◌, map, sum, ap, subst, ◌∙◌, arith}
+use Rattle.std.proofs.Common.{List, ◌++◌, ap, subst, arith}
 use Rattle.std.proofs.lemmas.Result.{IfOk-weaker}
-use Rattle.kp_feed.specs.Calls.{ended_of}
 use Rattle.kp_feed.specs.declared.rule.Ended.{Ended}
 use Rattle.kp_feed.specs.Feeding.{AreWhole}
-use Rattle.kp_hub.specs.Known.{Worker}
 use Rattle.kp_hub.specs.State.{HubState}
 use Rattle.kp_hub.proofs.HandedOut.{all_delivered, none_made}
 use Rattle.kp_hub.proofs.hub.Hub.finish.Goals as goal

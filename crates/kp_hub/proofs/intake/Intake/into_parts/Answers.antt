@@ -1,4 +1,4 @@
-use Rattle.std.proofs.Common.{◌≡◌, map, ap, ◌∙◌}
+use Rattle.std.proofs.Common.{map, ap, ◌∙◌}
 use Rattle.kp_plane.specs.Parts.{table_in}
 use Rattle.kp_hub.specs.Taken.{Taken, note_of, plane_of, records_at}
 use Rattle.kp_hub.proofs.intake.Intake.into_parts.Goals as goal

@@ -1,5 +1,4 @@
-use Rattle.std.proofs.Common.{◌≡◌, ◌<◌, List, [], ◌∷◌, ◌++◌, Some, None, length, ap, sym, subst, ◌∙◌}
-use Rattle.kp_history_defs.specs.declared.fed.Fed.{Fed}
+use Rattle.std.proofs.Common.{◌≡◌, ◌<◌, [], ◌∷◌, ◌++◌, Some, None, length, ap, sym, subst, ◌∙◌}
 use Rattle.kp_history_defs.specs.Runs.{events_of}
 use Rattle.kp_feed.specs.Taking.{Taker}
 use Rattle.kp_plane.specs.Parts.{PlaneParts, records_in}

@@ -1,4 +1,4 @@
-use Rattle.std.proofs.Common.{ap, sym, subst}
+use Rattle.std.proofs.Common.{sym, subst}
 use Rattle.kp_hub.specs.State.{IsHubState, state_in}
 use Rattle.kp_hub.specs.Taken.{Taken}
 use Rattle.kp_hub.proofs.States.{state_ends}

@@ -1,5 +1,5 @@
-use Rattle.std.proofs.Common.{ap, subst}
-use Rattle.kp_hub.specs.State.{HubState, state_in}
+use Rattle.std.proofs.Common.{ap}
+use Rattle.kp_hub.specs.State.{state_in}
 use Rattle.kp_hub.specs.Taken.{Taken, records_at}
 use Rattle.kp_hub.proofs.States.{state_takes}
 use Rattle.kp_hub.proofs.state.Held.is_done.Goals as goal

@@ -1,8 +1,8 @@
-use Rattle.std.proofs.Common.{◌≡◌, List, ◌∷◌, [], ◌++◌, ap, sym, subst, ◌∙◌}
+use Rattle.std.proofs.Common.{List, ◌∷◌, [], ◌++◌, ap, sym, subst, ◌∙◌}
 use Rattle.kp_types.specs.declared.sync.SyncRecord.{SyncRecord}
-use Rattle.kp_hub.specs.State.{HubState, IsHubState, state_in}
+use Rattle.kp_hub.specs.State.{IsHubState, state_in}
 use Rattle.kp_hub.specs.Taken.{Taken}
-use Rattle.kp_hub.proofs.States.{fewer_published, state_records, untold}
+use Rattle.kp_hub.proofs.States.{fewer_published, state_records}
 use Rattle.kp_hub.proofs.state.Held.make.Goals as goal
 
 pub invariant_of-self-in_err-record : goal.invariant_of-self-in_err-record

@@ -1,4 +1,4 @@
-use Rattle.std.proofs.Common.{◌≡◌, ◌<◌, length, ap, sym, subst, ◌∙◌}
+use Rattle.std.proofs.Common.{◌<◌, length, ap, sym, subst, ◌∙◌}
 use Rattle.kp_publish.specs.Entries.{records_of}
 use Rattle.kp_hub.specs.Ready.{AreReady}
 use Rattle.kp_hub.specs.State.{HubState, state_in}

@@ -1,6 +1,4 @@
-use Rattle.std.proofs.Common.{subst}
-use Rattle.kp_hub.specs.Growing.{TakesMore}
-use Rattle.kp_hub.specs.State.{HubState, state_in}
+use Rattle.kp_hub.specs.State.{state_in}
 use Rattle.kp_hub.proofs.States.{state_takes}
 use Rattle.kp_hub.proofs.state.Held.take_all.Goals as goal
 

@@ -1,4 +1,4 @@
-use Rattle.std.proofs.Common.{◌≡◌, ◌<◌, length, ap, sym, subst, ◌∙◌, arith}
+use Rattle.std.proofs.Common.{◌<◌, length, sym, subst, arith}
 use Rattle.kp_hub.specs.State.{HubState, state_in}
 use Rattle.kp_hub.proofs.States.{state_tells}
 use Rattle.kp_hub.proofs.state.Held.tell_refused.Goals as goal
