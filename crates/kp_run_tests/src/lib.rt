@@ -11,8 +11,6 @@ mod ends;
 #[cfg(test)]
 mod gates;
 #[cfg(test)]
-mod hubs;
-#[cfg(test)]
 mod inputs;
 #[cfg(test)]
 mod lines;
