@@ -1,0 +1,154 @@
+//! The mode.
+ghost use Rattle.std.specs.Prelude.{◌≡◌};
+ghost use Rattle.kp_hub.specs.State.{first_table};
+
+use crate::answers::Answers;
+use crate::fault::LiveFault;
+use crate::parts::{print_answers, print_end, print_head};
+use crate::streams::{Ended, cut_lines, run_all, streams_of, take_apart};
+use kp_base::{Copied, Items, NoMemory};
+use kp_gate::Gate;
+use kp_hub::{Finished, Hub, Opening, Sharing, WorkerPass, laws};
+use kp_io::{Sink, Source};
+use kp_feed::FeedPass;
+use kp_streams::{StreamLines, read_input};
+use std::alloc::Global;
+use std::marker::Brand;
+use std::sync::Wait;
+use std::sync::ledger::Ledger;
+use std::thread::Threads;
+
+/// Reads the lines of a source to its end, runs its streams beside each other, each in a thread of
+/// its own, and writes the text of the run. Answers whether a line or the sync that ends the run was
+/// refused. Each call of the hub passes the gate. Nothing is written before all streams have ended
+/// and the hub has.
+pub fn live<S: Source, K: Sink, R: Threads + Wait + Sync, G: Gate<R> + Sync>(
+    rt: &R,
+    alloc: Global,
+    source: &mut S,
+    sink: &mut K,
+    gate: &G,
+) -> Result<bool, LiveFault> {
+    let lines = read_input(alloc, source)?;
+    let opening = opening_of(alloc, &lines)?;
+    run_opened::<Brand, Brand, Brand, K, R, G>(rt, alloc, opening, &lines, sink, gate)
+}
+
+/// The parts of a hub for the streams of these lines. Where there is none, one stream runs.
+fn opening_of(alloc: Global, lines: &StreamLines) -> Result<Opening, NoMemory> {
+    let streams = match lines.streams().len() as u32 {
+        0 => 1,
+        streams => streams,
+    };
+    Opening::new(alloc, lines.config().copy(alloc)?, streams)
+}
+
+/// Runs the streams of these lines over a hub of these parts, and writes the text of the run.
+fn run_opened<
+    J: Sharing + Send + Sync,
+    A: Ledger + Send + Sync,
+    C: Ledger + Send + Sync,
+    K: Sink,
+    R: Threads + Wait + Sync,
+    G: Gate<R> + Sync,
+>(
+    rt: &R,
+    alloc: Global,
+    opening: Opening,
+    lines: &StreamLines,
+    sink: &mut K,
+    gate: &G,
+) -> Result<bool, LiveFault>
+    requires config { opening.config ≡ J.config }
+    requires book { opening.book ≡ J.book }
+    requires queue { opening.queue ≡ J.queue }
+    requires streams { opening.streams ≡ J.streams }
+    requires start { J.start ≡ first_table J.config }
+    requires accepted { opening.accepted ≡ (A.name, A.parts) }
+    requires refused { opening.refused ≡ (C.name, C.parts) }
+{
+    let (hub, feeders, workers) = Hub::<J, A, C>::new(rt, alloc, opening)?;
+    match ended_streams(rt, alloc, &hub, gate, lines, feeders, workers) {
+        Ok(ended) => end_and_print(rt, alloc, hub, ended, lines, sink),
+        Err(_) => {
+            give_up(rt, alloc, hub);
+            Err(LiveFault::NoMemory)
+        }
+    }
+}
+
+/// Makes the streams of these lines, runs them, and takes them apart.
+fn ended_streams<
+    J: Sharing + Send + Sync,
+    A: Ledger + Send + Sync,
+    C: Ledger + Send + Sync,
+    R: Threads + Wait + Sync,
+    G: Gate<R> + Sync,
+>(
+    rt: &R,
+    alloc: Global,
+    hub: &Hub<J, A, C>,
+    gate: &G,
+    lines: &StreamLines,
+    feeders: Items<FeedPass>,
+    workers: Items<WorkerPass<J, A, C>>,
+) -> Result<Ended<J, A, C>, NoMemory> {
+    let mut streams = streams_of(alloc, lines.config(), feeders, workers)?;
+    cut_lines(lines.lines(), streams.as_mut_slice())?;
+    run_all(rt, alloc, hub, gate, streams.as_mut_slice());
+    take_apart(alloc, streams)
+}
+
+/// Ends the hub, and writes the text of the run.
+fn end_and_print<J: Sharing, A: Ledger, C: Ledger, K: Sink, R: Wait>(
+    rt: &R,
+    alloc: Global,
+    hub: Hub<J, A, C>,
+    ended: Ended<J, A, C>,
+    lines: &StreamLines,
+    sink: &mut K,
+) -> Result<bool, LiveFault> {
+    let Ended {
+        feeders,
+        mut workers,
+        answers,
+    } = ended;
+    let done = hub.finish(rt, alloc, feeders, workers.as_mut_slice())?;
+    meet(rt, workers.as_mut_slice(), &done);
+    let printed = print(alloc, lines, answers.as_slice(), &done, sink);
+    done.end(rt);
+    printed
+}
+
+/// Writes the text of a run whose streams were answered so, and answers whether a line or the sync
+/// that ends the run was refused.
+fn print<J: Sharing, K: Sink>(
+    alloc: Global,
+    lines: &StreamLines,
+    answers: &[Answers],
+    done: &Finished<J>,
+    sink: &mut K,
+) -> Result<bool, LiveFault> {
+    print_head(alloc, lines, done, sink)?;
+    let denied = print_answers(alloc, lines.lines(), answers, done.refusals.as_slice(), sink)?;
+    print_end(alloc, done, sink)?;
+    Ok(!lines.refused().is_empty() || denied || done.clash.is_some())
+}
+
+/// All passes of a hub that ended learn that what they saw begins its records.
+fn meet<J: Sharing, A: Ledger, C: Ledger, R: Wait>(
+    rt: &R,
+    workers: &mut [WorkerPass<J, A, C>],
+    done: &Finished<J>,
+) {
+    for worker in workers {
+        laws::same_hub(rt, worker, done);
+    }
+}
+
+/// Ends a hub of a run that has no memory.
+fn give_up<J: Sharing, A: Ledger, C: Ledger, R: Wait>(rt: &R, alloc: Global, hub: Hub<J, A, C>) {
+    if let Ok(done) = hub.finish(rt, alloc, Items::new(alloc), &mut []) {
+        done.end(rt);
+    }
+}
