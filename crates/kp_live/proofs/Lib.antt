@@ -1,0 +1,4 @@
+pub mod Keeping
+pub mod Merging
+pub mod Steps
+pub mod Telling
