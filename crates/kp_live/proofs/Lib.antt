@@ -1,4 +1,6 @@
 pub mod Keeping
 pub mod Merging
+pub mod Readings
 pub mod Steps
 pub mod Telling
+pub mod Totals
