@@ -1,9 +1,9 @@
 -- What a run prints of its lines, by what each stream was answered; and the run that it is, by what
 -- its hub handed out.
-use Rattle.std.specs.Prelude.{◌≡◌, ◌&&◌, ◌||◌, ℕ, suc, nat_lt, Bool, true, false, cond, List, [], ◌∷◌, ◌++◌, map, length, Option, Some, is_some, slice_get, bytes_eq}
+use Rattle.std.specs.Prelude.{◌≡◌, ◌≤◌, ◌&&◌, ◌||◌, ℕ, suc, nat_lt, Bool, true, false, cond, List, [], ◌∷◌, ◌++◌, map, length, Option, Some, is_some, IfSome, slice_get, bytes_eq}
 use Rattle.std.specs.List.{flat_map, fold, list_any}
 use Rattle.kp_types.specs.declared.chain.Clash.{Clash}
-use Rattle.kp_types.specs.contracts.chain.ChainKeyPartialEq.TheImpl as same_key
+use Rattle.kp_choice_defs.specs.Names.{same_chain_key}
 use Rattle.kp_text_defs.specs.declared.line_refusal.LineRefusal.TheVariants.{ChainClash}
 use Rattle.kp_text_defs.specs.Live.{record_text, final_text}
 use Rattle.kp_text_defs.specs.Refusals.{refusal_text}
@@ -22,8 +22,9 @@ use Rattle.kp_hub.specs.declared.notes.RecordNote.{RecordNote}
 use Rattle.kp_hub.specs.declared.notes.Refusal.{Refusal}
 use Rattle.kp_live.specs.Stands.{Stand}
 use Rattle.kp_live.specs.Streams.{StandsBehind}
-use Rattle.kp_live.specs.Told.{Told, Says, Denies}
+use Rattle.kp_live.specs.Told.{Told, Says, Denies, Holds, HoldsOn}
 use Rattle.kp_live.specs.declared.answers.Answers.{Answers}
+use Rattle.kp_live.specs.declared.answers.ToldOn.{ToldOn}
 
 -- ---- What lines print
 
@@ -31,17 +32,17 @@ use Rattle.kp_live.specs.declared.answers.Answers.{Answers}
 abbrev pub same_clash : Clash → Clash → Bool
 same_clash a b =
     bytes_eq a.name b.name
-    && (same_key.ghosts.eq a.first b.first && same_key.ghosts.eq a.second b.second)
+    && (same_chain_key a.first b.first && same_chain_key a.second b.second)
 
 -- the first refusal's clash, if there is one
-abbrev pub first_clash : Clash → List Refusal → Clash
-first_clash clash [] = clash
-first_clash clash (r ∷ refusals) = r.clash
+abbrev pub clash_of_first : Clash → List Refusal → Clash
+clash_of_first clash [] = clash
+clash_of_first clash (r ∷ refusals) = r.clash
 
 -- What a refused sync prints: its clash, where a refusal that was kept has it, else the first one's.
 abbrev pub kept_clash : List Refusal → Clash → Clash
 kept_clash refusals clash =
-    cond (list_any (λ r. same_clash r.clash clash) refusals) clash (first_clash clash refusals)
+    cond (list_any (λ r. same_clash r.clash clash) refusals) clash (clash_of_first clash refusals)
 
 -- what a line prints
 abbrev pub told_text : List Refusal → ℕ → Told → List ℕ
@@ -87,6 +88,16 @@ after_line refusals t line = with_line refusals line line.work t
 -- what lines print, by the answers of each stream
 abbrev pub telling : List Refusal → (ℕ → List Told) → List StreamLine → Telling
 telling refusals told lines = fold (after_line refusals) (nothing_printed told) lines
+
+-- these are the answers of each stream, by its place; beyond them there are none
+pub record AreOf (told : ℕ → List Told) (answers : List Answers) : Type 0 where
+  pub each : (i : ℕ) → IfSome (slice_get answers i) (λ a. Holds a (told i))
+  pub none : (i : ℕ) → length answers ≤ i → told i ≡ []
+
+-- and these are left of them
+pub record AreLeft (told : ℕ → List Told) (left : List ToldOn) : Type 0 where
+  pub each : (i : ℕ) → IfSome (slice_get left i) (λ t. HoldsOn t (told i))
+  pub none : (i : ℕ) → length left ≤ i → told i ≡ []
 
 -- the line of a record, by its place from 0 and its note
 abbrev pub note_text : ℕ → RecordNote → List ℕ

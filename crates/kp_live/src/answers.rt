@@ -134,7 +134,7 @@ pub(crate) struct ToldOn<'a> {
     text: &'a [u8],
     pieces: &'a [Piece],
     clashes: &'a [Clash],
-    /// Behind which refusal of the run the clash of the next one is looked for first.
+    /// Behind which refusal of the run that of the next one is looked for first.
     pub(crate) found: usize,
 }
 

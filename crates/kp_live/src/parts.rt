@@ -1,18 +1,21 @@
 //! The parts of the text of a live run, in order.
-ghost use Rattle.std.specs.Prelude.{◌≡◌, ◌<◌, ◌≤◌, ◌++◌, ◌∷◌, [], ℕ, List, length, string_bytes};
-ghost use Rattle.std.specs.Prelude.{IfOk, IfSome, OnOk, get_or, option_map, Ok, slice_get};
+ghost use Rattle.std.specs.Prelude.{◌≡◌, ◌++◌, ◌∷◌, ◌||◌, [], ℕ, List, false, length, get_or};
+ghost use Rattle.std.specs.Prelude.{IfOk, Ok, option_map};
 ghost use Rattle.std.specs.List.{flat_map};
 ghost use Rattle.kp_run_defs.specs.LiveText as spec;
-ghost use Rattle.kp_live.specs.Runs as runs;
 ghost use Rattle.kp_streams.specs.Streams.{reading_in};
+ghost use Rattle.kp_text_defs.specs.declared.line_refusal.LineRefusal.TheVariants.{ChainClash};
 ghost use Rattle.kp_text_defs.specs.Live.{final_text};
-ghost use Rattle.kp_live.specs.Told.{Told, Holds, HoldsOn};
+ghost use Rattle.kp_text_defs.specs.Refusals.{refusal_text};
+ghost use Rattle.kp_live.specs.Runs as runs;
+ghost use Rattle.kp_live.specs.Runs.{Telling};
+ghost use Rattle.kp_live.specs.Told.{Told, HoldsOn};
 ghost use Rattle.kp_live.specs.Written.{Prints};
 
 use crate::answers::{Answer, Answers, ToldOn};
 use crate::fault::LiveFault;
 use crate::output::write;
-use crate::refusals::place_of;
+use crate::refusals::kept_clash;
 use kp_base::{Copied, NoMemory, Text};
 use kp_hub::{Fed, Finished, RecordNote, Refusal, Sharing};
 use kp_io::Sink;
@@ -114,19 +117,26 @@ pub(crate) fn print_answers<K: Sink>(
     answers: &[Answers],
     refusals: &[Refusal],
     sink: &mut K,
-) -> Result<bool, LiveFault> {
+) -> Result<bool, LiveFault>
+    ensures printed { (told : ℕ → List Told) → runs.AreOf told answers.now
+        → Prints result (runs.telling refusals.now told lines.now).text
+        (K.written sink.old) (K.written sink.new) (K.faults sink.old) (K.faults sink.new) }
+    ensures denied { (told : ℕ → List Told) → runs.AreOf told answers.now
+        → IfOk result (λ denied. denied ≡ (runs.telling refusals.now told lines.now).denied) }
+{
     let mut told = told_from(alloc, answers)?;
     let mut denied = false;
     for line in lines {
-        if let Some(own) = told.get_mut(line.stream as usize) {
-            denied |= print_line(alloc, line, own, refusals, sink)?;
-        }
+        denied |= print_line(alloc, line, told.as_mut_slice(), refusals, sink)?;
     }
     Ok(denied)
 }
 
 /// The answers of each stream, to be told from the first on.
-fn told_from(alloc: Global, answers: &[Answers]) -> Result<Vec<ToldOn<'_>>, NoMemory> {
+fn told_from(alloc: Global, answers: &[Answers]) -> Result<Vec<ToldOn<'_>>, NoMemory>
+    ensures { IfOk result (λ left. (told : ℕ → List Told) → runs.AreOf told answers.now
+        → runs.AreLeft told left.items) }
+{
     let mut told = Vec::new(alloc);
     for own in answers {
         told.push(own.unfold())?;
@@ -134,19 +144,30 @@ fn told_from(alloc: Global, answers: &[Answers]) -> Result<Vec<ToldOn<'_>>, NoMe
     Ok(told)
 }
 
-/// Writes what a line was answered that syncs or sends a packet, and answers whether it was a sync
-/// that was refused.
+/// Writes what a line was answered, where it syncs or sends a packet, and answers whether it was a
+/// sync that was refused.
 fn print_line<K: Sink>(
     alloc: Global,
     line: &StreamLine,
-    told: &mut ToldOn<'_>,
+    told: &mut [ToldOn<'_>],
     refusals: &[Refusal],
     sink: &mut K,
-) -> Result<bool, LiveFault> {
+) -> Result<bool, LiveFault>
+    ensures { (t : Telling) → runs.AreLeft t.left told.old
+        → (next : Telling) × (next ≡ runs.after_line refusals.now t line.now)
+        × IfOk result (λ denied. runs.AreLeft next.left told.new
+        × ((t.denied || denied) ≡ next.denied))
+        × ((bytes : List ℕ) × (next.text ≡ t.text ++ bytes)
+        × Prints result bytes (K.written sink.old) (K.written sink.new)
+        (K.faults sink.old) (K.faults sink.new)) }
+{
+    let Some(own) = told.get_mut(line.stream as usize) else {
+        return Ok(false);
+    };
     match &line.work {
         Work::Feeds(_) => Ok(false),
-        Work::Syncs => print_next(alloc, line.number, told, refusals, sink),
-        Work::Sends(_) => print_next(alloc, line.number, told, refusals, sink),
+        Work::Syncs => print_next(alloc, line.number, own, refusals, sink),
+        Work::Sends(_) => print_next(alloc, line.number, own, refusals, sink),
     }
 }
 
@@ -158,34 +179,39 @@ fn print_next<K: Sink>(
     told: &mut ToldOn<'_>,
     refusals: &[Refusal],
     sink: &mut K,
-) -> Result<bool, LiveFault> {
+) -> Result<bool, LiveFault>
+    ensures next { (t : Told) (rest : List Told) → HoldsOn told.old (t ∷ rest)
+        → HoldsOn told.new rest × IfOk result (λ denied. denied ≡ runs.is_denial t)
+        × Prints result (runs.told_text refusals.now number t)
+        (K.written sink.old) (K.written sink.new) (K.faults sink.old) (K.faults sink.new) }
+    ensures none { HoldsOn told.old []
+        → HoldsOn told.new [] × (result ≡ Ok false) × (sink.new ≡ sink.old) }
+{
     match told.next() {
         Some(Answer::Text(bytes)) => {
             write(sink, bytes)?;
             Ok(false)
         }
         Some(Answer::Refusal(clash)) => {
-            let place = place_of(refusals, clash, told.found);
-            told.found = place.saturating_add(1);
-            print_denied(alloc, number, refusals, place, sink)?;
+            let clash = kept_clash(refusals, clash, &mut told.found);
+            print_denied(alloc, number, clash, sink)?;
             Ok(true)
         }
         None => Ok(false),
     }
 }
 
-/// Writes that the sync of the line of this number was refused, by the kept refusal at a place.
+/// Writes that the sync of the line of this number was refused.
 fn print_denied<K: Sink>(
     alloc: Global,
     number: u64,
-    refusals: &[Refusal],
-    place: usize,
+    clash: &Clash,
     sink: &mut K,
-) -> Result<(), LiveFault> {
-    let Some(refusal) = refusals.get(place) else {
-        return Ok(());
-    };
-    let why = LineRefusal::ChainClash(refusal.clash.copy(alloc)?);
+) -> Result<(), LiveFault>
+    ensures { Prints result (refusal_text number (ChainClash clash.now))
+        (K.written sink.old) (K.written sink.new) (K.faults sink.old) (K.faults sink.new) }
+{
+    let why = LineRefusal::ChainClash(clash.copy(alloc)?);
     let mut text = String::new(alloc);
     push_refusal(alloc, &mut text, number, &why)?;
     write(sink, text.as_bytes())

@@ -1,39 +1,48 @@
 //! The refusals that a hub kept.
-ghost use Rattle.std.specs.Prelude.{◌≡◌, ◌<◌, ◌≤◌, ℕ, true, false, length, drop, get_or};
-ghost use Rattle.std.specs.Prelude.{IfOk, IfNone, IfSome, Some, slice_get};
+ghost use Rattle.std.specs.Prelude.{◌≡◌};
 ghost use Rattle.std.specs.List.{list_any};
 ghost use Rattle.kp_live.specs.Runs as spec;
 
 use kp_hub::Refusal;
 use kp_types::Clash;
 
-/// The place of a refusal with this clash, which is looked for from a place on first; where none has
-/// it, the first place.
-pub(crate) fn place_of(refusals: &[Refusal], clash: &Clash, from: usize) -> usize
-    requires { 0 < length refusals.now }
-    ensures { IfSome (slice_get refusals.now result)
-        (λ r. r.clash ≡ spec.kept_clash refusals.now clash.now) }
+/// The clash for which a sync was refused, where a refusal that was kept has it; else that of the
+/// first one. It is looked for behind the place that was found last, since the refusals of a stream
+/// stand in its order, and then among all.
+pub(crate) fn kept_clash<'a>(
+    refusals: &'a [Refusal],
+    clash: &'a Clash,
+    found: &mut usize,
+) -> &'a Clash
+    ensures { result.now ≡ spec.kept_clash refusals.now clash.now }
 {
-    match place_from(refusals, clash, from) {
-        Some(place) => place,
-        None => place_from(refusals, clash, 0).unwrap_or(0),
+    if is_kept(refusals, clash, found) {
+        return clash;
+    }
+    match refusals.first() {
+        Some(first) => &first.clash,
+        None => clash,
     }
 }
 
-/// The first place of a refusal with this clash, from a place on.
-fn place_from(refusals: &[Refusal], clash: &Clash, from: usize) -> Option<usize>
-    ensures some { IfSome result (λ place. IfSome (slice_get refusals.now place)
-        (λ r. spec.same_clash r.clash clash.now ≡ true)) }
-    ensures within { IfSome result (λ place. place < length refusals.now) }
-    ensures none { IfNone result
-        (list_any (λ r. spec.same_clash r.clash clash.now) (drop from refusals.now) ≡ false) }
+/// Whether a refusal has this clash.
+fn is_kept(refusals: &[Refusal], clash: &Clash, found: &mut usize) -> bool
+    ensures { result ≡ list_any (λ r. spec.same_clash r.clash clash.now) refusals.now }
 {
-    for place in from..refusals.len() {
-        if same_clash(&refusals[place].clash, clash) {
-            return Some(place);
+    let from = (*found).min(refusals.len());
+    let (_, rest) = refusals.split_at(from);
+    match rest
+        .iter()
+        .position(|refusal: &Refusal| same_clash(&refusal.clash, clash))
+    {
+        Some(place) => {
+            *found = from.saturating_add(place).saturating_add(1);
+            true
         }
+        None => refusals
+            .iter()
+            .any(|refusal: &Refusal| same_clash(&refusal.clash, clash)),
     }
-    None
 }
 
 /// Whether two clashes are of the same chains.
