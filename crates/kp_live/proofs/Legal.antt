@@ -1,11 +1,9 @@
 -- What streams were answered, and what their hub handed out, is a run that the rules allow.
 use Rattle.std.proofs.Common.{◌≡◌, ◌<◌, ◌≤◌, ◌+◌, ◌==◌, ◌&&◌, ◌||◌, ◌⊎◌, inl, inr, ℕ, zero, suc, Bool, true, false, cond, not, nat_lt, List, [], ◌∷◌, ◌++◌, map, length, refl, ap, sym, subst, ◌∙◌, arith, nat_tests}
-use Rattle.std.specs.Prelude.{Option, Some, None, is_some, count_by, slice_get, get_or, sum}
+use Rattle.std.specs.Prelude.{count_by, nat_le}
 use Rattle.std.specs.List.{AllByRecursion, filter, fold, list_all, list_any, range_with_len, sum_by}
 use Rattle.std.proofs.lemmas.Bool.{eqb-true, eq-eqb, lt-leb, leb-true, le-leb}
 use Rattle.std.proofs.lemmas.List.Sums.{sum_by-cons}
-use Rattle.std.proofs.lemmas.Option.{slice_get_cases}
-use mathlib.Core.List.{IsPrefix}
 use Rattle.kp_types.specs.declared.chain.Clash.{Clash}
 use Rattle.kp_types.specs.declared.sync.SyncRecord.{SyncRecord}
 use Rattle.kp_table_defs.specs.Rebuild.{TableParts}
@@ -19,7 +17,7 @@ use Rattle.kp_hub.specs.declared.notes.Refusal.{Refusal}
 use Rattle.kp_live.specs.Streams.{Shown, is_accepted, is_denied, seen_from, see_shown}
 use Rattle.kp_live.proofs.Merging.{line_of, is_shown_of}
 use Rattle.kp_live.proofs.Readings.{AreRising, all_map}
-use Rattle.kp_live.proofs.Telling.{settled}
+use Rattle.kp_live.proofs.Telling.{HasRecord, settled}
 
 -- ---- Lists
 
@@ -59,6 +57,38 @@ all_filter P i [] each = tt
 all_filter P i (s ∷ all) each =
     filter_by P (i == s.0.stream) s (filter (is_shown_of i) all) each.0
     (all_filter P i all each.1)
+
+-- ---- What lines could show
+
+first_true : (a b : Bool) → (a && b) ≡ true → a ≡ true
+first_true true b is = refl
+first_true false b is = absurd (cc is)
+
+second_true : (a b : Bool) → (a && b) ≡ true → b ≡ true
+second_true true b is = is
+second_true false b is = absurd (cc is)
+
+step_has : (r : ℕ) (m : Mark) (work : Work) (s : Seen) → (seen_work r m work s).fits ≡ true
+    → (s.fits ≡ true) × HasRecord r m work
+step_has r m (Feeds events) s is = (is, tt)
+step_has r (Shows n) Syncs s is =
+    (first_true s.fits (nat_le (suc s.syncs) n && nat_le n r) is, tt)
+step_has r (Refuses clash) Syncs s is = (is, tt)
+step_has r (Shows n) (Sends p) s is =
+    (first_true s.fits (nat_le s.most n && nat_le n r) is,
+    leb-true n r (second_true (nat_le s.most n) (nat_le n r)
+    (second_true s.fits (nat_le s.most n && nat_le n r) is)))
+step_has r (Refuses clash) (Sends p) s is = absurd (cc is)
+
+-- each line could show what it does
+pub fits_has : (r : ℕ) (shown : List Shown) (s : Seen)
+    → (fold (see_shown r) s shown).fits ≡ true
+    → (s.fits ≡ true) × AllByRecursion (λ (x : Shown). HasRecord r x.1 x.0.work) shown
+fits_has r [] s is = (is, tt)
+fits_has r (x ∷ shown) s is =
+    let rest = fits_has r shown (see_shown r s x) is in
+    let one = step_has r x.1 x.0.work s rest.0 in
+    (one.0, (one.1, rest.1))
 
 -- ---- What a line shows, by its number
 

@@ -1,3 +1,5 @@
+pub mod Ending
+pub mod Journals
 pub mod Keeping
 pub mod Legal
 pub mod Merging

@@ -19,14 +19,29 @@ use Rattle.kp_run_defs.specs.declared.live.Work.{Work}
 use Rattle.kp_run_defs.specs.declared.live.Work.TheVariants.{Feeds, Syncs, Sends}
 use Rattle.kp_hub.specs.declared.notes.Refusal.{Refusal}
 use Rattle.kp_live.specs.Told.{Told, Says, Denies}
-use Rattle.kp_live.specs.Streams.{Shown, Answering, after_shown, with_shown, walk_from}
-use Rattle.kp_live.specs.Runs.{Telling, after_line, with_line, with_next, told_text, kept_clash}
+use Rattle.kp_live.specs.Streams.{Shown, Answering, after_shown, is_denied, with_shown, walk_from}
+use Rattle.kp_live.specs.Runs.{Telling, after_line, is_denial, with_line, with_next, told_text, kept_clash}
 use Rattle.kp_live.proofs.Merging.{line_of, is_shown_of}
 
 -- what a refused sync prints is what its line shows
 abbrev pub settled : List Refusal → Mark → Mark
 settled refusals (Shows n) = Shows n
 settled refusals (Refuses clash) = Refuses (kept_clash refusals clash)
+
+-- a packet shows one of so many records
+abbrev pub HasRecord : ℕ → Mark → Work → Type 0
+HasRecord records mark (Feeds events) = Unit {0}
+HasRecord records mark Syncs = Unit {0}
+HasRecord records (Shows n) (Sends p) = n ≤ records
+HasRecord records (Refuses clash) (Sends p) = ⊥
+
+or_assoc : (a b c : Bool) → ((a || b) || c) ≡ (a || (b || c))
+or_assoc true b c = refl
+or_assoc false b c = refl
+
+or_false : (a : Bool) → (a || false) ≡ a
+or_false true = refl
+or_false false = refl
 
 module _ (start : TableParts) (config : Config) (records : List SyncRecord) where
   -- ---- One after the other
@@ -98,13 +113,6 @@ module _ (start : TableParts) (config : Config) (records : List SyncRecord) wher
         → (walk_from start config records n number p lists).lists
         ≡ (decided_at run n number p lists).lists
 
-  -- a packet shows a record that there is
-  abbrev pub HasRecord : Mark → Work → Type 0
-  HasRecord mark (Feeds events) = Unit {0}
-  HasRecord mark Syncs = Unit {0}
-  HasRecord (Shows n) (Sends p) = n ≤ length records
-  HasRecord (Refuses clash) (Sends p) = ⊥
-
   module _ (run : LiveRun) (refusals : List Refusal) where
     -- what is left of each stream is what its lines are still told, from its recent lists on
     abbrev pub LeftAre : (ℕ → List Told) → (ℕ → RecentParts) → List Shown → Type 0
@@ -113,12 +121,13 @@ module _ (start : TableParts) (config : Config) (records : List SyncRecord) wher
 
     -- what holds of each line of the run
     abbrev pub IsOfRun : Shown → Type 0
-    IsOfRun s = HasRecord s.1 s.0.work × (run.marks s.0.number ≡ settled refusals s.1)
+    IsOfRun s = HasRecord (length records) s.1 s.0.work × (run.marks s.0.number ≡ settled refusals s.1)
 
-    -- the telling and the answers stand alike
-    pub record Alike (t : Telling) (a : Answered) (all : List Shown) : Type 0 where
+    -- the telling and the answers stand alike, and in the end this says whether a sync was refused
+    pub record Alike (whole : Bool) (t : Telling) (a : Answered) (all : List Shown) : Type 0 where
       pub text : t.text ≡ a.text
       pub left : LeftAre t.left a.lists all
+      pub denied : (t.denied || list_any is_denied all) ≡ whole
 
     -- what is left behind a line of another stream
     left_other : (lists : RecentParts) (i : ℕ) (s : Shown) (all : List Shown)
@@ -172,6 +181,11 @@ module _ (start : TableParts) (config : Config) (records : List SyncRecord) wher
 
     -- ---- One line
 
+    denied_on : (before next shown rest whole : Bool) → next ≡ shown
+        → (before || (shown || rest)) ≡ whole → ((before || next) || rest) ≡ whole
+    denied_on before next shown rest whole is all =
+        or_assoc before next rest ∙ ap (λ x. before || (x || rest)) is ∙ all
+
     fed_left : (lists : RecentParts) (s : Shown) (all : List Shown) (events : List Event)
         → s.0.work ≡ Feeds events → (i : ℕ) (b : Bool) → (i == s.0.stream) ≡ b
         → told_from lists (filter (is_shown_of i) (s ∷ all))
@@ -182,10 +196,13 @@ module _ (start : TableParts) (config : Config) (records : List SyncRecord) wher
         ++ told_from (next_lists s.0.number s.1 x lists) (filter (is_shown_of i) all)) w
     fed_left lists s all events w i false is = left_other lists i s all is
 
-    fed_alike : (s : Shown) (all : List Shown) (t : Telling) (a : Answered) (events : List Event)
-        → s.0.work ≡ Feeds events → Alike t a (s ∷ all) → Alike t a all
-    fed_alike s all t a events w alike = record {
+    fed_alike : (whole : Bool) (s : Shown) (all : List Shown) (t : Telling) (a : Answered) (events : List Event)
+        → s.0.work ≡ Feeds events → Alike whole t a (s ∷ all) → Alike whole t a all
+    fed_alike whole s all t a events w alike = record {
       text = alike.text;
+      denied =
+          ap (λ x. t.denied || (is_sync x && not (is_shown s.1) || list_any is_denied all)) (sym w)
+          ∙ alike.denied;
       left = λ i.
           alike.left i ∙ fed_left (a.lists i) s all events w i (i == s.0.stream) refl;
     }
@@ -198,38 +215,41 @@ module _ (start : TableParts) (config : Config) (records : List SyncRecord) wher
     takes_next s t next rest is = ap (λ l. with_next refusals s.0 l t) is
 
     -- the lists stay and a text is printed
-    text_alike : (s : Shown) (all : List Shown) (t : Telling) (a : Answered) (next : Told)
+    text_alike : (whole : Bool) (s : Shown) (all : List Shown) (t : Telling) (a : Answered) (next : Told)
         (text : List ℕ) → next_told s.0.number s.1 s.0.work (a.lists s.0.stream) ≡ next ∷ []
         → next_lists s.0.number s.1 s.0.work (a.lists s.0.stream) ≡ a.lists s.0.stream
-        → told_text refusals s.0.number next ≡ text → Alike t a (s ∷ all)
-        → Alike (with_next refusals s.0 (t.left s.0.stream) t)
+        → told_text refusals s.0.number next ≡ text → is_denial next ≡ is_denied s
+        → Alike whole t a (s ∷ all)
+        → Alike whole (with_next refusals s.0 (t.left s.0.stream) t)
         (record a { text = a.text ++ text }) all
-    text_alike s all t a next text is stays says alike =
+    text_alike whole s all t a next text is stays says denies alike =
         let new = a.lists s.0.stream in
         let rest = told_from new (filter (is_shown_of s.0.stream) all) in
         let there = next_left t.left a.lists s all next new is stays alike.left in
-        let now : Alike (with_next refusals s.0 (next ∷ rest) t)
+        let now : Alike whole (with_next refusals s.0 (next ∷ rest) t)
         (record a { text = a.text ++ text }) all = record {
           text = λ k. alike.text k ++ says k;
+          denied = denied_on t.denied (is_denial next) (is_denied s) (list_any is_denied all) whole
+              denies alike.denied;
           left = λ i.
               rest_left t.left a.lists s all new alike.left i (i == s.0.stream) refl
               ∙ ap (λ l. told_from l (filter (is_shown_of i) all))
               (same_lists a.lists s.0.stream i (i == s.0.stream) refl);
         } in
-        subst (λ x. Alike x (record a { text = a.text ++ text }) all)
+        subst (λ x. Alike whole x (record a { text = a.text ++ text }) all)
         (sym (takes_next s t next rest there)) now
 
     -- a packet's line
-    sent_alike : (s : Shown) (all : List Shown) (t : Telling) (a : Answered) (n : ℕ)
+    sent_alike : (whole : Bool) (s : Shown) (all : List Shown) (t : Telling) (a : Answered) (n : ℕ)
         (p : PacketLine) → Walks run → n ≤ length records → s.0.work ≡ Sends p → s.1 ≡ Shows n
-        → Alike t a (s ∷ all)
-        → Alike (with_next refusals s.0 (t.left s.0.stream) t)
+        → Alike whole t a (s ∷ all)
+        → Alike whole (with_next refusals s.0 (t.left s.0.stream) t)
         (record {
           text = a.text ++ packet_answer run n s.0.number p (a.lists s.0.stream);
           lists = at_number a.lists s.0.stream
               (decided_at run n s.0.number p (a.lists s.0.stream)).lists;
         }) all
-    sent_alike s all t a n p walks le w m alike =
+    sent_alike whole s all t a n p walks le w m alike =
         let lists = a.lists s.0.stream in
         let walk = walk_from start config records n s.0.number p lists in
         let decided = decided_at run n s.0.number p lists in
@@ -249,42 +269,48 @@ module _ (start : TableParts) (config : Config) (records : List SyncRecord) wher
         ≡ packet_answer run n s.0.number p lists =
         λ k. answer_text s.0.number n p (walks.verdict n s.0.number p lists le k)
         (walks.trail n s.0.number p lists le k) in
-        let now : Alike (with_next refusals s.0 (next ∷ rest) t) after all = record {
+        let now : Alike whole (with_next refusals s.0 (next ∷ rest) t) after all = record {
           text = λ k. alike.text k ++ says k;
+          denied = denied_on t.denied false (is_denied s) (list_any is_denied all) whole
+              (sym (ap (λ x. is_sync x && not (is_shown s.1)) w)) alike.denied;
           left = λ i. rest_left t.left a.lists s all new alike.left i (i == s.0.stream) refl;
         } in
-        subst (λ x. Alike x after all) (sym (takes_next s t next rest there)) now
+        subst (λ x. Alike whole x after all) (sym (takes_next s t next rest there)) now
 
-    line_alike : (s : Shown) (all : List Shown) (t : Telling) (a : Answered) → Walks run
-        → (m : Mark) → s.1 ≡ m → (w : Work) → s.0.work ≡ w → HasRecord m w
-        → run.marks s.0.number ≡ settled refusals m → Alike t a (s ∷ all)
-        → Alike (with_line refusals s.0 w t) (with_work run s.0 w a) all
-    line_alike s all t a walks m mark (Feeds events) work has shows alike =
-        fed_alike s all t a events work alike
-    line_alike s all t a walks (Shows n) mark Syncs work has shows alike =
-        text_alike s all t a (Says (live_sync_text s.0.number n))
+    line_alike : (whole : Bool) (s : Shown) (all : List Shown) (t : Telling) (a : Answered) → Walks run
+        → (m : Mark) → s.1 ≡ m → (w : Work) → s.0.work ≡ w → HasRecord (length records) m w
+        → run.marks s.0.number ≡ settled refusals m → Alike whole t a (s ∷ all)
+        → Alike whole (with_line refusals s.0 w t) (with_work run s.0 w a) all
+    line_alike whole s all t a walks m mark (Feeds events) work has shows alike =
+        fed_alike whole s all t a events work alike
+    line_alike whole s all t a walks (Shows n) mark Syncs work has shows alike =
+        text_alike whole s all t a (Says (live_sync_text s.0.number n))
         (sync_answer s.0.number (run.marks s.0.number))
         (λ k. next_told s.0.number (mark k) (work k) (a.lists s.0.stream))
         (λ k. next_lists s.0.number (mark k) (work k) (a.lists s.0.stream))
-        (sym (ap (sync_answer s.0.number) shows)) alike
-    line_alike s all t a walks (Refuses clash) mark Syncs work has shows alike =
-        text_alike s all t a (Denies clash) (sync_answer s.0.number (run.marks s.0.number))
+        (sym (ap (sync_answer s.0.number) shows)) (sym (λ k. is_sync (work k) && not (is_shown (mark k))))
+        alike
+    line_alike whole s all t a walks (Refuses clash) mark Syncs work has shows alike =
+        text_alike whole s all t a (Denies clash) (sync_answer s.0.number (run.marks s.0.number))
         (λ k. next_told s.0.number (mark k) (work k) (a.lists s.0.stream))
         (λ k. next_lists s.0.number (mark k) (work k) (a.lists s.0.stream))
-        (sym (ap (sync_answer s.0.number) shows)) alike
-    line_alike s all t a walks (Shows n) mark (Sends p) work has shows alike =
-        subst (λ x. Alike (with_next refusals s.0 (t.left s.0.stream) t)
+        (sym (ap (sync_answer s.0.number) shows)) (sym (λ k. is_sync (work k) && not (is_shown (mark k))))
+        alike
+    line_alike whole s all t a walks (Shows n) mark (Sends p) work has shows alike =
+        subst (λ x. Alike whole (with_next refusals s.0 (t.left s.0.stream) t)
         (with_packet run x s.0 p a) all) (sym shows)
-        (sent_alike s all t a n p walks has work mark alike)
-    line_alike s all t a walks (Refuses clash) mark (Sends p) work has shows alike = absurd has
+        (sent_alike whole s all t a n p walks has work mark alike)
+    line_alike whole s all t a walks (Refuses clash) mark (Sends p) work has shows alike = absurd has
 
     -- ---- All lines
 
-    pub all_alike : (all : List Shown) (t : Telling) (a : Answered) → Walks run
-        → AllByRecursion IsOfRun all → Alike t a all
-        → (fold (after_line refusals) t (map line_of all)).text
-        ≡ (fold (after_answer run) a (map line_of all)).text
-    all_alike [] t a walks are alike = alike.text
-    all_alike (s ∷ all) t a walks are alike =
-        all_alike all (after_line refusals t s.0) (after_answer run a s.0) walks are.1
-        (line_alike s all t a walks s.1 refl s.0.work refl are.0.0 are.0.1 alike)
+    pub all_alike : (whole : Bool) (all : List Shown) (t : Telling) (a : Answered) → Walks run
+        → AllByRecursion IsOfRun all → Alike whole t a all
+        → ((fold (after_line refusals) t (map line_of all)).text
+        ≡ (fold (after_answer run) a (map line_of all)).text)
+        × ((fold (after_line refusals) t (map line_of all)).denied ≡ whole)
+    all_alike whole [] t a walks are alike =
+        (alike.text, sym (or_false t.denied) ∙ alike.denied)
+    all_alike whole (s ∷ all) t a walks are alike =
+        all_alike whole all (after_line refusals t s.0) (after_answer run a s.0) walks are.1
+        (line_alike whole s all t a walks s.1 refl s.0.work refl are.0.0 are.0.1 alike)

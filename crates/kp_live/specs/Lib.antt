@@ -4,3 +4,4 @@ pub mod Stands
 pub mod Streams
 pub mod Runs
 pub mod Written
+pub mod Handed

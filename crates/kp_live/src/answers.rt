@@ -5,7 +5,7 @@ ghost use Rattle.kp_hub.specs.Reading.{Reads, answer_after, walk_after};
 ghost use Rattle.kp_text_defs.specs.Live.{live_sync_text};
 ghost use Rattle.kp_live.specs.Told.{Told, Says, Denies, HasText, Holds, HoldsOn, IsAnswer};
 
-use kp_answers::PacketLine;
+use kp_script::PacketLine;
 use kp_base::NoMemory;
 use kp_hub::{Hub, Sharing, WorkerPass};
 use kp_recent::RecentLists;

@@ -10,7 +10,7 @@ use kp_base::{Config, Copied, NoMemory};
 use kp_feed::FeedPass;
 use kp_gate::Gate;
 use kp_hub::{Hub, Sharing, TableFault, WorkerPass};
-use kp_answers::PacketLine;
+use kp_script::PacketLine;
 use kp_recent::RecentLists;
 use kp_streams::{StreamLine, Work};
 use kp_types::Event;
