@@ -1,22 +1,26 @@
 -- What a hub hands out of streams that have ended is a legal run.
-use Rattle.std.proofs.Common.{◌≡◌, ◌<◌, ◌≤◌, ◌+◌, ◌==◌, ◌||◌, ◌⊎◌, inl, inr, ℕ, zero, suc, Bool, true, false, cond, nat_lt, List, [], ◌∷◌, ◌++◌, map, length, refl, ap, sym, subst, ◌∙◌, arith, nat_tests, append_assoc, length-map}
-use Rattle.std.specs.Prelude.{Option, Some, None, IfSome, is_some, count_by, slice_get, get_or, sum, option_map}
-use Rattle.std.specs.List.{AllByRecursion, filter, fold, list_all, list_any, range_with_len, sum_by}
+use Rattle.std.proofs.Common.{◌≡◌, ◌<◌, ◌≤◌, ◌+◌, ◌==◌, ◌&&◌, ◌||◌, ◌⊎◌, not, inl, inr, ℕ, zero, suc, Bool, true, false, cond, nat_lt, List, [], ◌∷◌, ◌++◌, map, length, refl, ap, sym, subst, ◌∙◌, arith, nat_tests, append_assoc, length-map}
+use Rattle.std.specs.Prelude.{Option, Some, None, IfSome, is_some, count_by, slice_get, get_or, sum, option_map, codes, bytes_eq}
+use Rattle.std.specs.List.{AllByRecursion, filter, flat_map, fold, list_all, list_any, range_with_len, sum_by}
 use Rattle.std.proofs.lemmas.Bool.{eqb-true, eq-eqb, lt-leb, leb-true, le-leb}
+use Rattle.std.proofs.lemmas.Slice.Eq.{bytes_eq-Decides}
 use Rattle.std.proofs.lemmas.Option.{get_or_from_slice_get, slice_get_cases, slice_get-get_or, slice_get-map}
 use Rattle.kp_types.specs.declared.chain.Clash.{Clash}
 use Rattle.kp_types.specs.declared.sync.SyncRecord.{SyncRecord}
+use Rattle.kp_choice_defs.specs.Names.{same_chain_key}
 use Rattle.kp_choice_defs.proofs.ChainKeys.{one_chain_key}
 use Rattle.kp_table_defs.specs.Rebuild.{TableParts}
 use Rattle.kp_history_defs.specs.declared.fed.Fed.{Fed}
 use Rattle.kp_history_defs.specs.Runs.{is_of_stream, numbered}
 use Rattle.kp_history_laws.specs.HistoryLaws.{ExactTables}
 use Rattle.kp_walk_laws.specs.Laws.{ProductDecides}
+use Rattle.kp_restore_defs.specs.TableText.{table_text_of}
+use Rattle.kp_text_defs.specs.Live.{final_text}
 use Rattle.kp_feed.specs.Feeding.{Delivers}
 use Rattle.kp_feed.specs.Passes.{Feeder, QueueId}
 use Rattle.kp_run_defs.specs.LegalRuns as legal
-use Rattle.kp_run_defs.specs.LegalRuns.{LiveRun, Mark, Shows, Refuses, IsLegalRun, IsWholeJournal, HasWholeStream, final_clash, is_accepted_sync, is_of_some_stream, last_syncs, records_in}
-use Rattle.kp_run_defs.specs.LiveLines.{Reading, events_of_stream, is_line_of, lines_of_stream, places_of, running_streams}
+use Rattle.kp_run_defs.specs.LegalRuns.{LiveRun, Mark, Shows, Refuses, IsLegalRun, IsWholeJournal, HasWholeStream, final_clash, is_accepted_sync, is_of_some_stream, is_shown, is_sync, last_syncs, nothing_seen, records_in}
+use Rattle.kp_run_defs.specs.LiveLines.{Reading, events_fed, events_of_stream, is_line_of, lines_of_stream, places_of, running_streams}
 use Rattle.kp_run_defs.specs.LiveText as text
 use Rattle.kp_run_defs.specs.declared.live.StreamLine.{StreamLine}
 use Rattle.kp_run_defs.specs.declared.live.Work.{Work}
@@ -34,11 +38,11 @@ use Rattle.kp_live.specs.Streams.{Shown, GoesOnFromAll, answering, is_accepted, 
 use Rattle.kp_live.specs.Told.{Told, Holds}
 use Rattle.kp_live.specs.declared.answers.Answers.{Answers}
 use Rattle.kp_live.proofs.Journals.{all_delivered, all_below}
-use Rattle.kp_live.proofs.Legal.{all_by_stream, all_filter, any_refused, count_accepted, mark_at, marks_found, seen_fits, ShowsIt}
+use Rattle.kp_live.proofs.Legal.{all_both, all_by_stream, all_filter, all_of_map, count_cons, first_true, fits_has, second_true, any_refused, count_accepted, mark_at, marks_found, seen_fits, ShowsIt}
 use Rattle.kp_live.proofs.Merging.{line_of, is_shown_of, merge, Merges}
-use Rattle.kp_live.proofs.Readings.{IsRead}
+use Rattle.kp_live.proofs.Readings.{AreRising, IsRead, all_map}
 use Rattle.kp_live.proofs.Records.{run_of, have_tables, cover_journal, records_count, walks_decide, notes_print}
-use Rattle.kp_live.proofs.Telling.{HasRecord, Walks, all_alike, settled, told_from, told_is}
+use Rattle.kp_live.proofs.Telling.{HasRecord, IsOfRun, Walks, all_alike, settled, told_from, told_is}
 use Rattle.kp_live.proofs.Totals.{total, total_same, list_total, sum_by_key}
 
 -- a fact of each element, at a place
@@ -199,3 +203,390 @@ module _ (reading : Reading) (start : TableParts) (queue : QueueId) (stands : Li
       (λ f. Delivers events f.feeder f.fed) lt all in
       subst (λ es. Delivers events i es) one.1.1.1
       (subst (λ p. Delivers events p one.0.fed) one.1.1.0 one.1.0)
+
+-- ---- The run
+
+-- as many streams run as there are, and at least one
+few_by : (reading : Reading) (n : ℕ) (b : Bool) → nat_lt 0 (length reading.streams) ≡ b
+    → n ≡ length (cond b reading.streams (codes "main" ∷ []))
+    → (length reading.streams ≤ n) × (0 < n)
+    × (length reading.streams ≡ 0 → n ≡ 1)
+few_by reading n true is count =
+    let some : 0 < length reading.streams = grind (arith, nat_tests, is) in
+    (omega (arith, count), (omega (arith, count, some), λ none. absurd (omega (arith, none, some))))
+few_by reading n false is count =
+    let none : length reading.streams ≤ 0 = grind (arith, nat_tests, is) in
+    (omega (arith, none), (omega (arith, count), λ zero. count))
+
+-- parts of a text
+joined : (a b c d e t : List ℕ)
+    → (a ++ (b ++ (c ++ (d ++ e)))) ++ t ≡ (a ++ (b ++ c)) ++ (d ++ (e ++ t))
+joined a b c d e t =
+    append_assoc a (b ++ (c ++ (d ++ e))) t
+    ∙ ap (λ l. a ++ l)
+    (append_assoc b (c ++ (d ++ e)) t
+    ∙ ap (λ l. b ++ l) (append_assoc c (d ++ e) t ∙ ap (λ l. c ++ l) (append_assoc d e t))
+    ∙ sym (append_assoc b c (d ++ (e ++ t))))
+    ∙ sym (append_assoc a (b ++ c) (d ++ (e ++ t)))
+
+-- the clash that a refused sync prints is one that a refusal has
+same_is : (a b : Clash) → same_clash a b ≡ true → a ≡ b
+same_is a b is =
+    let names = first_true (bytes_eq a.name b.name)
+    (same_chain_key a.first b.first && same_chain_key a.second b.second) is in
+    let keys = second_true (bytes_eq a.name b.name)
+    (same_chain_key a.first b.first && same_chain_key a.second b.second) is in
+    let first = one_chain_key a.first b.first
+    (first_true (same_chain_key a.first b.first) (same_chain_key a.second b.second) keys) in
+    let second = one_chain_key a.second b.second
+    (second_true (same_chain_key a.first b.first) (same_chain_key a.second b.second) keys) in
+    λ i. record {
+      name = (bytes_eq-Decides a.name b.name).0 names i;
+      first = first i;
+      second = second i;
+    }
+
+kept_or : (P : Clash → Type 0) (r : Refusal) (clash : Clash) (rest : Bool) → P r.clash
+    → (rest ≡ true → P clash) → (b : Bool) → same_clash r.clash clash ≡ b → (b || rest) ≡ true
+    → P clash
+kept_or P r clash rest first later true same is = subst P (same_is r.clash clash same) first
+kept_or P r clash rest first later false same is = later is
+
+kept_by : (P : Clash → Type 0) (refusals : List Refusal) (clash : Clash)
+    → AllByRecursion (λ (r : Refusal). P r.clash) refusals
+    → list_any (λ (r : Refusal). same_clash r.clash clash) refusals ≡ true → P clash
+kept_by P [] clash all is = absurd (cc is)
+kept_by P (r ∷ refusals) clash all is =
+    kept_or P r clash (list_any (λ (q : Refusal). same_clash q.clash clash) refusals) all.0
+    (kept_by P refusals clash all.1) (same_clash r.clash clash) refl is
+
+first_kept : (P : Clash → Type 0) (refusals : List Refusal) (clash : Clash)
+    → AllByRecursion (λ (r : Refusal). P r.clash) refusals → 0 < length refusals
+    → P (clash_of_first clash refusals)
+first_kept P [] clash all some = absurd (omega (arith, some))
+first_kept P (r ∷ refusals) clash all some = all.0
+
+kept_cond : (P : Clash → Type 0) (refusals : List Refusal) (clash : Clash)
+    → AllByRecursion (λ (r : Refusal). P r.clash) refusals → 0 < length refusals → (b : Bool)
+    → list_any (λ (r : Refusal). same_clash r.clash clash) refusals ≡ b
+    → P (cond b clash (clash_of_first clash refusals))
+kept_cond P refusals clash all some true is = kept_by P refusals clash all is
+kept_cond P refusals clash all some false is = first_kept P refusals clash all some
+
+-- a refused sync prints a clash that was kept, where there is one
+kept_is : (P : Clash → Type 0) (refusals : List Refusal) (clash : Clash)
+    → AllByRecursion (λ (r : Refusal). P r.clash) refusals → 0 < length refusals
+    → P (kept_clash refusals clash)
+kept_is P refusals clash all some =
+    kept_cond P refusals clash all some
+    (list_any (λ (r : Refusal). same_clash r.clash clash) refusals) refl
+
+not_denied : (b : Bool) (n : ℕ) → cond b 1 0 + n ≡ 0 → b ≡ false
+not_denied true n is = absurd (omega (arith, is))
+not_denied false n is = refl
+
+-- where no refusal counts, no line shows one
+none_shown_denied : (all : List Shown) → count_by is_denied all ≡ 0
+    → AllByRecursion (λ (s : Shown). is_denied s ≡ false) all
+none_shown_denied [] none = tt
+none_shown_denied (s ∷ all) none =
+    let count = count_cons is_denied s all in
+    (not_denied (is_denied s) (count_by is_denied all) (sym count ∙ none),
+    none_shown_denied all (omega (arith, count, none)))
+
+-- its refusal, by its mark
+refusal_by : (run : LiveRun) (refusals : List Refusal)
+    → AllByRecursion (λ (r : Refusal). legal.IsClash run r.clash) refusals → (m : Mark)
+    → (is_shown m ≡ false → 0 < length refusals) → legal.IsRefusal run (settled refusals m)
+refusal_by run refusals all (Shows n) some = tt
+refusal_by run refusals all (Refuses clash) some =
+    kept_is (legal.IsClash run) refusals clash all (some refl)
+
+-- a list of events of no stream
+no_events : (fed : List Fed) → AllByRecursion (λ (f : Fed). f.feeder < 1) fed
+    → filter (is_of_stream 0) fed ≡ [] → fed ≡ []
+no_events [] all none = refl
+no_events (f ∷ fed) all none =
+    let zero : 0 ≡ f.feeder = omega (arith, all.0) in
+    let own : f ∷ filter (is_of_stream 0) fed ≡ [] =
+    ap (λ b. cond b (f ∷ filter (is_of_stream 0) fed) (filter (is_of_stream 0) fed))
+    (sym (eq-eqb 0 f.feeder zero)) ∙ none in
+    absurd (cc own)
+
+owned_by : (m : ℕ) (fed : List Fed) → AllByRecursion (λ (f : Fed). f.feeder < m) fed
+    → list_all (λ (f : Fed). nat_lt f.feeder m) fed ≡ true
+owned_by m [] all = refl
+owned_by m (f ∷ fed) all =
+    let one : nat_lt f.feeder m ≡ true = grind (arith, nat_tests, all.0) in
+    ap (λ b. b && list_all (λ (g : Fed). nat_lt g.feeder m) fed) one ∙ owned_by m fed all.1
+
+module _ (reading : Reading) (read : IsRead reading) (start : TableParts)
+    (start_is : start ≡ first_table reading.config) (queue : QueueId) (stands : List Stand)
+    (each : (place : ℕ) (s : Stand) → slice_get stands place ≡ Some s
+    → StandsAtEnd start reading queue place s) (d : Stand)
+    (streams : length stands ≡ length (running_streams reading)) (journal : List Fed)
+    (notes : List RecordNote) (refusals : List Refusal) (clash : Option Clash) (table : TableParts)
+    (out : HandsOut reading (length stands) (map (λ (s : Stand). s.feeder) stands)
+    (map (λ (s : Stand). s.worker) stands) journal notes refusals clash table)
+    (tables : ExactTables) (decides : ProductDecides) where
+  counts_n : (length reading.streams ≤ length stands) × (0 < length stands)
+      × (length reading.streams ≡ 0 → length stands ≡ 1)
+  counts_n = few_by reading (length stands) (nat_lt 0 (length reading.streams)) refl streams
+
+  abbrev records : List SyncRecord
+  records = records_told reading.config journal notes
+
+  met : AllByRecursion (λ (s : Stand). GoesOnFromAll records s.worker) stands
+  met = all_of_map (GoesOnFromAll records) (λ (s : Stand). s.worker) stands out.met
+
+  abbrev at : ℕ → List Shown
+  at = shown_at reading start queue stands each
+
+  merged : Merges at reading.lines
+  merged = merge reading.lines at (lines_at reading start queue stands each read counts_n.0)
+
+  abbrev marks : ℕ → Mark
+  marks number = settled refusals (mark_at merged.all number)
+
+  abbrev run : LiveRun
+  run = run_of reading journal notes marks
+
+  same_count : records_in run ≡ length records
+  same_count =
+      length-map (λ (x : RecordNote). x.events) notes
+      ∙ sym (records_count reading journal notes out.end.exact)
+
+  shows : AllByRecursion (ShowsIt run refusals) merged.all
+  shows =
+      all_map (λ (s : Shown). mark_at merged.all s.0.number ≡ s.1) (ShowsIt run refusals)
+      (λ s is. ap (settled refusals) is) merged.all
+      (marks_found merged.all (subst AreRising (sym merged.lines_are) read.rising))
+
+  shows_at : (i : ℕ) → AllByRecursion (ShowsIt run refusals) (at i)
+  shows_at i =
+      subst (AllByRecursion (ShowsIt run refusals)) (merged.each i)
+      (all_filter (ShowsIt run refusals) i merged.all shows)
+
+  -- ---- Seen
+
+  fits : (i : ℕ) → (seen_from (length records) (at i)).fits ≡ true
+  fits = fits_at reading start queue stands each records met
+
+  seen : (i : ℕ) → (legal.seen_by run i).fits ≡ true
+  seen i =
+      seen_fits run refusals i (at i) (lines_at reading start queue stands each read counts_n.0 i)
+      (shows_at i) (ap (λ r. (seen_from r (at i)).fits) same_count ∙ fits i)
+
+  all_seen : (a k : ℕ)
+      → list_all (λ i. (legal.seen_by run i).fits) (range_with_len a k) ≡ true
+  all_seen a zero = refl
+  all_seen a (suc k) =
+      ap (λ b. b && list_all (λ i. (legal.seen_by run i).fits) (range_with_len (suc a) k)) (seen a)
+      ∙ all_seen (suc a) k
+
+  has : AllByRecursion (λ (s : Shown). HasRecord (length records) s.1 s.0.work) merged.all
+  has =
+      all_by_stream (λ (s : Shown). HasRecord (length records) s.1 s.0.work) merged.all
+      (λ i. subst (AllByRecursion (λ (s : Shown). HasRecord (length records) s.1 s.0.work))
+      (sym (merged.each i)) (fits_has (length records) (at i) nothing_seen (fits i)).1)
+
+  -- ---- Sums
+
+  wider : (all : List Shown)
+      → AllByRecursion (λ (l : StreamLine). l.stream < length reading.streams) (map line_of all)
+      → AllByRecursion (λ (s : Shown). s.0.stream < length stands) all
+  wider [] all = tt
+  wider (s ∷ rest) all = (omega (arith, all.0, counts_n.0), wider rest all.1)
+
+  places : AllByRecursion (λ (s : Shown). s.0.stream < length stands) merged.all
+  places =
+      wider merged.all
+      (subst (AllByRecursion (λ (l : StreamLine). l.stream < length reading.streams))
+      (sym merged.lines_are) read.places)
+
+  -- how many lines pass, by streams
+  counted : (p : Shown → Bool) (g : Stand → ℕ)
+      → ((i : ℕ) → i < length stands → count_by p (at i) ≡ g (get_or stands i d))
+      → count_by p merged.all ≡ sum (map g stands)
+  counted p g h =
+      sum_by_key (λ (s : Shown). s.0.stream) (λ s. cond (p s) 1 0) (length stands) merged.all places
+      ∙ total_same (λ i. count_by p (filter (is_shown_of i) merged.all))
+      (λ i. g (get_or stands i d)) (length stands)
+      (λ i lt. ap (count_by p) (merged.each i) ∙ h i lt)
+      ∙ list_total g d stands
+
+  map_map : (g : Worker → ℕ) (xs : List Stand)
+      → map g (map (λ (s : Stand). s.worker) xs) ≡ map (λ (s : Stand). g s.worker) xs
+  map_map g [] = refl
+  map_map g (x ∷ xs) = ap (λ l. g x.worker ∷ l) (map_map g xs)
+
+  all_accepted : count_by is_accepted merged.all
+      ≡ sum (map (λ (w : Worker). w.accepted) (map (λ (s : Stand). s.worker) stands))
+  all_accepted =
+      counted is_accepted (λ s. s.worker.accepted) (accepted_at reading start queue stands each d)
+      ∙ ap sum (sym (map_map (λ w. w.accepted) stands))
+
+  all_denied : count_by is_denied merged.all
+      ≡ sum (map (λ (w : Worker). w.refused) (map (λ (s : Stand). s.worker) stands))
+  all_denied =
+      counted is_denied (λ s. s.worker.refused) (refused_at reading start queue stands each d)
+      ∙ ap sum (sym (map_map (λ w. w.refused) stands))
+
+  clash_is : clash ≡ final_clash run
+  clash_is = out.end.clash_is
+
+  enough : legal.accepted_syncs run + last_syncs (final_clash run) ≤ records_in run
+  enough =
+      let count = ap (count_by (is_accepted_sync run)) (sym merged.lines_are)
+      ∙ count_accepted run refusals merged.all shows ∙ all_accepted in
+      let last = ap last_syncs clash_is in
+      omega (arith, count, last, out.accepted, length-map (λ (x : RecordNote). x.events) notes)
+
+  -- ---- Refusals
+
+  clashes : AllByRecursion (λ (r : Refusal). legal.IsClash run r.clash) refusals
+  clashes =
+      all_map (IsRefusal reading.config journal) (λ (r : Refusal). legal.IsClash run r.clash)
+      (λ r refused. (r.events, refused.clash)) refusals out.end.refused
+
+  kept_one : (b : Bool) → nat_lt 0 (length refusals) ≡ b → (s : Shown)
+      → (b ≡ false → is_denied s ≡ false) → is_sync s.0.work ≡ true → is_shown s.1 ≡ false
+      → 0 < length refusals
+  kept_one true is s none sync shown = grind (arith, nat_tests, is)
+  kept_one false is s none sync shown =
+      let denied : is_denied s ≡ true =
+      ap (λ b. b && not (is_shown s.1)) sync ∙ ap not shown in
+      absurd (cc (none refl, denied))
+
+  none_denied : nat_lt 0 (length refusals) ≡ false
+      → AllByRecursion (λ (s : Shown). is_denied s ≡ false) merged.all
+  none_denied is =
+      let zero : length refusals ≤ 0 = grind (arith, nat_tests, is) in
+      none_shown_denied merged.all (omega (arith, zero, all_denied, out.refused))
+
+  one_refusal : (s : Shown) → ShowsIt run refusals s
+      → (nat_lt 0 (length refusals) ≡ false → is_denied s ≡ false)
+      → legal.HasRefusal run s.0
+  one_refusal s shown none sync =
+      subst (legal.IsRefusal run) (sym shown)
+      (refusal_by run refusals clashes s.1
+      (λ unshown. kept_one (nat_lt 0 (length refusals)) refl s none sync unshown))
+
+  all_refusals_by : (all : List Shown) → AllByRecursion (ShowsIt run refusals) all
+      → (nat_lt 0 (length refusals) ≡ false
+      → AllByRecursion (λ (s : Shown). is_denied s ≡ false) all)
+      → AllByRecursion (legal.HasRefusal run) (map line_of all)
+  all_refusals_by [] shown none = tt
+  all_refusals_by (s ∷ all) shown none =
+      (one_refusal s shown.0 (λ is. (none is).0),
+      all_refusals_by all shown.1 (λ is. (none is).1))
+
+  all_refusals : AllByRecursion (legal.HasRefusal run) reading.lines
+  all_refusals =
+      subst (AllByRecursion (legal.HasRefusal run)) merged.lines_are
+      (all_refusals_by merged.all shows none_denied)
+
+  -- ---- The journal
+
+  delivered : (i : ℕ) → i < length stands → Delivers journal i (events_of_stream reading i)
+  delivered =
+      all_delivered reading read (length stands) counts_n.0 journal out.order.0 out.made
+      (λ i lt. delivered_at reading start queue stands each i (journal ++ out.order.0) lt
+      out.order.1)
+      (λ i room lt. delivered_at reading start queue stands each i journal lt (out.whole room))
+
+  whole_streams : (a k : ℕ) → a + k ≤ length stands
+      → AllByRecursion (HasWholeStream run) (range_with_len a k)
+  whole_streams a zero le = tt
+  whole_streams a (suc k) le =
+      (delivered a (omega (arith, le)), whole_streams (suc a) k (omega (arith, le)))
+
+  -- where no line belongs to a stream, nothing was fed
+  unfed : length reading.streams ≡ 0 → journal ≡ []
+  unfed zero =
+      let one = counts_n.1.1 zero in
+      let lines = none_of (length reading.streams) 0 reading.lines read.places (omega (arith, zero)) in
+      no_events journal
+      (subst (λ k. AllByRecursion (λ (f : Fed). f.feeder < k) journal) one
+      (all_below (length stands) journal out.made))
+      (delivered 0 counts_n.1.0
+      ∙ ap (λ ls. numbered 0 0 (flat_map (λ (l : StreamLine). events_fed l.work) ls)) (sym lines))
+
+  owned : (b : Bool) → nat_lt 0 (length reading.streams) ≡ b
+      → list_all (λ (f : Fed). nat_lt f.feeder (length reading.streams)) journal ≡ true
+  owned true is =
+      let same : length stands ≡ length reading.streams =
+      streams ∙ ap (λ b. length (cond b reading.streams (codes "main" ∷ []))) is in
+      owned_by (length reading.streams) journal
+      (subst (λ k. AllByRecursion (λ (f : Fed). f.feeder < k) journal) same
+      (all_below (length stands) journal out.made))
+  owned false is =
+      let zero : length reading.streams ≡ 0 = grind (arith, nat_tests, is) in
+      ap (list_all (λ (f : Fed). nat_lt f.feeder (length reading.streams))) (unfed zero)
+
+  -- ---- All of it
+
+  is_legal : IsLegalRun run
+  is_legal = record {
+    journal = record {
+      owned = owned (nat_lt 0 (length reading.streams)) refl;
+      each = whole_streams 0 (length reading.streams) (omega (arith, counts_n.0));
+    };
+    tables = have_tables reading journal notes out.end.exact marks;
+    covered =
+        cover_journal reading journal notes out.end.exact marks clash clash_is out.end.covers;
+    seen = all_seen 0 (length reading.streams);
+    refusals = all_refusals;
+    enough = enough;
+  }
+
+  abbrev told : ℕ → List Told
+  told = told_at reading start queue stands each
+
+  answered : ((telling refusals told reading.lines).text ≡ (text.answers_of run).text)
+      × ((telling refusals told reading.lines).denied
+      ≡ list_any (text.is_refused_sync run) reading.lines)
+  answered =
+      let both =
+      all_alike start reading.config records run refusals (list_any is_denied merged.all) merged.all
+      (nothing_printed told) (text.nothing_answered run)
+      (walks_decide reading journal notes out.end.exact tables decides start start_is marks)
+      (all_both (λ (s : Shown). HasRecord (length records) s.1 s.0.work) (ShowsIt run refusals)
+      (IsOfRun start reading.config records run refusals) (λ s h m. (h, m)) merged.all has shows)
+      (record {
+        text = refl;
+        left = λ i.
+            told_shown reading start queue stands each records met i
+            ∙ ap (told_from start reading.config records (no_sources reading.config.recent_size))
+            (sym (merged.each i));
+        denied = refl;
+      }) in
+      let lines = merged.lines_are in
+      (ap (λ ls. (telling refusals told ls).text) (sym lines) ∙ both.0
+      ∙ ap (λ ls. (fold (text.after_answer run) (text.nothing_answered run) ls).text) lines,
+      ap (λ ls. (telling refusals told ls).denied) (sym lines) ∙ both.1
+      ∙ sym (any_refused run refusals merged.all shows)
+      ∙ ap (list_any (text.is_refused_sync run)) lines)
+
+  pub ends_legal : IsRunOf reading (map (λ (s : Stand). s.answers) stands) journal notes refusals
+      clash table
+  ends_legal = record {
+    told = told;
+    answers_are = answers_at reading start queue stands each;
+    run = run;
+    runs = record { reads = refl; legal = is_legal };
+    text =
+        joined (flat_map text.refused_text reading.refused)
+        (text.journal_text reading.streams 1 journal) (text.records_text run)
+        (text.answers_of run).text (final_text (records_in run) (final_clash run))
+        (table_text_of (legal.chains_at run (records_in run)))
+        ∙ (λ i. (flat_map text.refused_text reading.refused
+        ++ (text.journal_text reading.streams 1 journal
+        ++ sym (notes_print reading journal notes out.end.exact marks out.end.notes_are) i))
+        ++ (sym answered.0 i
+        ++ (final_text (length-map (λ (x : RecordNote). x.events) notes i) (sym clash_is i)
+        ++ table_text_of (sym (ap (λ t. t.chains) out.end.table_is) i))));
+    refused =
+        λ i. nat_lt 0 (length reading.refused)
+            || (sym answered.1 i || is_some (sym clash_is i));
+  }

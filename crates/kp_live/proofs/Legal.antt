@@ -26,7 +26,7 @@ pub all_of_map : {A B : Type 0} (P : B → Type 0) (f : A → B) (xs : List A)
 all_of_map P f [] all = tt
 all_of_map P f (x ∷ xs) all = (all.0, all_of_map P f xs all.1)
 
-all_both : {A : Type 0} (P Q S : A → Type 0) → ((x : A) → P x → Q x → S x) → (xs : List A)
+pub all_both : {A : Type 0} (P Q S : A → Type 0) → ((x : A) → P x → Q x → S x) → (xs : List A)
     → AllByRecursion P xs → AllByRecursion Q xs → AllByRecursion S xs
 all_both P Q S h [] p q = tt
 all_both P Q S h (x ∷ xs) p q = (h x p.0 q.0, all_both P Q S h xs p.1 q.1)
@@ -60,11 +60,11 @@ all_filter P i (s ∷ all) each =
 
 -- ---- What lines could show
 
-first_true : (a b : Bool) → (a && b) ≡ true → a ≡ true
+pub first_true : (a b : Bool) → (a && b) ≡ true → a ≡ true
 first_true true b is = refl
 first_true false b is = absurd (cc is)
 
-second_true : (a b : Bool) → (a && b) ≡ true → b ≡ true
+pub second_true : (a b : Bool) → (a && b) ≡ true → b ≡ true
 second_true true b is = is
 second_true false b is = absurd (cc is)
 
