@@ -1,8 +1,10 @@
 -- What a hub hands out of streams that have ended is a legal run.
-use Rattle.std.proofs.Common.{◌≡◌, ◌<◌, ◌≤◌, ◌+◌, ◌==◌, ◌&&◌, ◌||◌, ◌⊎◌, not, inl, inr, ℕ, zero, suc, Bool, true, false, cond, nat_lt, List, [], ◌∷◌, ◌++◌, map, length, refl, ap, sym, subst, ◌∙◌, arith, nat_tests, append_assoc, length-map}
+use Rattle.std.proofs.Common.{◌≡◌, ◌<◌, ◌≤◌, ◌+◌, ◌==◌, ◌&&◌, ◌||◌, ◌⊎◌, not, inl, inr, ℕ, zero, suc, Bool, true, false, cond, nat_lt, List, [], ◌∷◌, ◌++◌, map, length, refl, ap, sym, subst, ◌∙◌, arith, append_assoc}
 use Rattle.std.specs.Prelude.{Option, Some, None, IfSome, is_some, count_by, slice_get, get_or, sum, option_map, codes, bytes_eq}
 use Rattle.std.specs.List.{AllByRecursion, filter, flat_map, fold, list_all, list_any, range_with_len, sum_by}
 use Rattle.std.proofs.lemmas.Bool.{eqb-true, eq-eqb, lt-leb, leb-true, le-leb}
+use Rattle.std.proofs.lemmas.Bool.Decides.{nat_tests}
+use Rattle.std.proofs.lemmas.List.{length-map}
 use Rattle.std.proofs.lemmas.Slice.Eq.{bytes_eq-Decides}
 use Rattle.std.proofs.lemmas.Option.{get_or_from_slice_get, slice_get_cases, slice_get-get_or, slice_get-map}
 use Rattle.kp_types.specs.declared.chain.Clash.{Clash}
@@ -32,7 +34,7 @@ use Rattle.kp_hub.specs.State.{IsRefusal, first_table}
 use Rattle.kp_hub.specs.declared.notes.RecordNote.{RecordNote}
 use Rattle.kp_hub.specs.declared.notes.Refusal.{Refusal}
 use Rattle.kp_live.specs.Handed.{HandsOut, IsRunOf}
-use Rattle.kp_live.specs.Runs.{AreOf, HaveEnded, StandsAtEnd, kept_clash, same_clash, clash_of_first, telling, nothing_printed}
+use Rattle.kp_live.specs.Runs.{AreOf, HaveEnded, end_text, head_text, notes_text, StandsAtEnd, kept_clash, same_clash, clash_of_first, telling, nothing_printed}
 use Rattle.kp_live.specs.Stands.{Stand}
 use Rattle.kp_live.specs.Streams.{Shown, GoesOnFromAll, answering, is_accepted, is_denied, nothing_told, seen_from}
 use Rattle.kp_live.specs.Told.{Told, Holds}
@@ -72,18 +74,18 @@ module _ (reading : Reading) (start : TableParts) (queue : QueueId) (stands : Li
     (each : (place : ℕ) (s : Stand) → slice_get stands place ≡ Some s
     → StandsAtEnd start reading queue place s) where
   -- whether a stream is at a place
-  abbrev IsThere : ℕ → Type 0
+  abbrev pub IsThere : ℕ → Type 0
   IsThere i =
       ((s : Stand) × (i < length stands) × (slice_get stands i ≡ Some s) × (get_or stands i s ≡ s))
       ⊎ ((length stands ≤ i) × (slice_get stands i ≡ None))
 
   -- what its lines show, what they were told, and what holds of both
-  shown_by : (i : ℕ) → IsThere i → List Shown
-  shown_by i (inl one) = (each i one.0 one.1.1.0).behind.ran.shown
+  abbrev pub shown_by : (i : ℕ) → IsThere i → List Shown
+  shown_by i (inl one) = (each i one.0 one.2).behind.ran.shown
   shown_by i (inr past) = []
 
-  told_by : (i : ℕ) → IsThere i → List Told
-  told_by i (inl one) = (each i one.0 one.1.1.0).behind.told
+  abbrev pub told_by : (i : ℕ) → IsThere i → List Told
+  told_by i (inl one) = (each i one.0 one.2).behind.told
   told_by i (inr past) = []
 
   abbrev pub shown_at : ℕ → List Shown
@@ -95,7 +97,7 @@ module _ (reading : Reading) (start : TableParts) (queue : QueueId) (stands : Li
   lines_by : (read : IsRead reading) → length reading.streams ≤ length stands → (i : ℕ)
       (there : IsThere i)
       → map line_of (shown_by i there) ≡ filter (is_line_of i) reading.lines
-  lines_by read few i (inl one) = (each i one.0 one.1.1.0).behind.ran.lines_are
+  lines_by read few i (inl one) = (each i one.0 one.2).behind.ran.lines_are
   lines_by read few i (inr past) =
       none_of (length reading.streams) i reading.lines read.places (omega (arith, few, past.0))
 
@@ -108,13 +110,13 @@ module _ (reading : Reading) (start : TableParts) (queue : QueueId) (stands : Li
       (λ a. Holds a (told_by i there))
   holds_by i (inl one) =
       subst (λ o. IfSome (option_map (λ (s : Stand). s.answers) o)
-      (λ a. Holds a (each i one.0 one.1.1.0).behind.told)) (sym one.1.1.0)
-      (each i one.0 one.1.1.0).behind.holds
+      (λ a. Holds a (each i one.0 one.2).behind.told)) (sym one.2)
+      (each i one.0 one.2).behind.holds
   holds_by i (inr past) =
       subst (λ o. IfSome (option_map (λ (s : Stand). s.answers) o) (λ a. Holds a [])) (sym past.1) tt
 
   past_by : (i : ℕ) (there : IsThere i) → length stands ≤ i → told_by i there ≡ []
-  past_by i (inl one) le = absurd (omega (arith, le, one.1.0))
+  past_by i (inl one) le = absurd (omega (arith, le, one.1))
   past_by i (inr past) le = refl
 
   pub answers_at : AreOf told_at (map (λ (s : Stand). s.answers) stands)
@@ -125,7 +127,7 @@ module _ (reading : Reading) (start : TableParts) (queue : QueueId) (stands : Li
         (holds_by i (slice_get_cases stands i).1);
     none = λ i le.
         past_by i (slice_get_cases stands i).1
-        (omega (arith, le, length-map (λ (s : Stand). s.answers) stands));
+        (omega (arith, le, length-map stands (λ (s : Stand). s.answers)));
   }
 
   module _ (records : List SyncRecord)
@@ -136,9 +138,9 @@ module _ (reading : Reading) (start : TableParts) (queue : QueueId) (stands : Li
         ≡ told_from start reading.config records (no_sources reading.config.recent_size)
         (shown_by i there)
     told_shown_by i (inl one) =
-        let ran = (each i one.0 one.1.1.0).behind.ran in
+        let ran = (each i one.0 one.2).behind.ran in
         let on = all_at (λ (s : Stand). GoesOnFromAll records s.worker) stands i one.0 met
-        one.1.1.0 in
+        one.2 in
         ap (λ a. a.told) (ran.fits records on).answers
         ∙ told_is start reading.config records ran.shown (nothing_told reading.config)
     told_shown_by i (inr past) = refl
@@ -151,8 +153,8 @@ module _ (reading : Reading) (start : TableParts) (queue : QueueId) (stands : Li
     fits_by : (i : ℕ) (there : IsThere i)
         → (seen_from (length records) (shown_by i there)).fits ≡ true
     fits_by i (inl one) =
-        ((each i one.0 one.1.1.0).behind.ran.fits records
-        (all_at (λ (s : Stand). GoesOnFromAll records s.worker) stands i one.0 met one.1.1.0)).fits
+        ((each i one.0 one.2).behind.ran.fits records
+        (all_at (λ (s : Stand). GoesOnFromAll records s.worker) stands i one.0 met one.2)).fits
     fits_by i (inr past) = refl
 
     pub fits_at : (i : ℕ) → (seen_from (length records) (shown_at i)).fits ≡ true
@@ -162,15 +164,15 @@ module _ (reading : Reading) (start : TableParts) (queue : QueueId) (stands : Li
   accepted_by : (d : Stand) (i : ℕ) (there : IsThere i) → i < length stands
       → count_by is_accepted (shown_by i there) ≡ (get_or stands i d).worker.accepted
   accepted_by d i (inl one) lt =
-      (each i one.0 one.1.1.0).behind.ran.accepted
-      ∙ ap (λ s. s.worker.accepted) (sym (get_or_from_slice_get stands i one.0 d one.1.1.0))
+      (each i one.0 one.2).behind.ran.accepted
+      ∙ ap (λ s. s.worker.accepted) (sym (get_or_from_slice_get stands i one.0 d one.2))
   accepted_by d i (inr past) lt = absurd (omega (arith, past.0, lt))
 
   refused_by : (d : Stand) (i : ℕ) (there : IsThere i) → i < length stands
       → count_by is_denied (shown_by i there) ≡ (get_or stands i d).worker.refused
   refused_by d i (inl one) lt =
-      (each i one.0 one.1.1.0).behind.ran.refused
-      ∙ ap (λ s. s.worker.refused) (sym (get_or_from_slice_get stands i one.0 d one.1.1.0))
+      (each i one.0 one.2).behind.ran.refused
+      ∙ ap (λ s. s.worker.refused) (sym (get_or_from_slice_get stands i one.0 d one.2))
   refused_by d i (inr past) lt = absurd (omega (arith, past.0, lt))
 
   pub accepted_at : (d : Stand) (i : ℕ) → i < length stands
@@ -186,12 +188,12 @@ module _ (reading : Reading) (start : TableParts) (queue : QueueId) (stands : Li
       → AllByRecursion P (map (λ (s : Stand). s.feeder) stands)
       → (f : Feeder) × P f × (f.feeder ≡ i) × (f.fed ≡ events_of_stream reading i)
   fed_by_place i (inl one) P lt all =
-      let at = each i one.0 one.1.1.0 in
+      let at = each i one.0 one.2 in
       (one.0.feeder,
-      (all_at P (map (λ (s : Stand). s.feeder) stands) i one.0.feeder all
+      all_at P (map (λ (s : Stand). s.feeder) stands) i one.0.feeder all
       (slice_get-map (λ (s : Stand). s.feeder) stands i
-      ∙ ap (option_map (λ (s : Stand). s.feeder)) one.1.1.0),
-      (at.feeder_is, at.behind.fed)))
+      ∙ ap (option_map (λ (s : Stand). s.feeder)) one.2),
+      at.feeder_is, at.behind.fed)
   fed_by_place i (inr past) P lt all = absurd (omega (arith, past.0, lt))
 
   pub delivered_at : (i : ℕ) (events : List Fed) → i < length stands
@@ -201,8 +203,8 @@ module _ (reading : Reading) (start : TableParts) (queue : QueueId) (stands : Li
   delivered_at i events lt all =
       let one = fed_by_place i (slice_get_cases stands i).1
       (λ f. Delivers events f.feeder f.fed) lt all in
-      subst (λ es. Delivers events i es) one.1.1.1
-      (subst (λ p. Delivers events p one.0.fed) one.1.1.0 one.1.0)
+      subst (λ es. Delivers events i es) one.3
+      (subst (λ p. Delivers events p one.0.fed) one.2 one.1)
 
 -- ---- The run
 
@@ -213,10 +215,10 @@ few_by : (reading : Reading) (n : ℕ) (b : Bool) → nat_lt 0 (length reading.s
     × (length reading.streams ≡ 0 → n ≡ 1)
 few_by reading n true is count =
     let some : 0 < length reading.streams = grind (arith, nat_tests, is) in
-    (omega (arith, count), (omega (arith, count, some), λ none. absurd (omega (arith, none, some))))
+    (omega (arith, count), omega (arith, count, some), λ none. absurd (omega (arith, none, some)))
 few_by reading n false is count =
     let none : length reading.streams ≤ 0 = grind (arith, nat_tests, is) in
-    (omega (arith, none), (omega (arith, count), λ zero. count))
+    (omega (arith, none), omega (arith, count), λ is_none. count)
 
 -- parts of a text
 joined : (a b c d e t : List ℕ)
@@ -228,6 +230,25 @@ joined a b c d e t =
     ∙ ap (λ l. b ++ l) (append_assoc c (d ++ e) t ∙ ap (λ l. c ++ l) (append_assoc d e t))
     ∙ sym (append_assoc b c (d ++ (e ++ t))))
     ∙ sym (append_assoc a (b ++ c) (d ++ (e ++ t)))
+
+-- the text of a run, by its parts
+prints_run : (run : LiveRun) (journal : List Fed) (notes : List RecordNote)
+    (refusals : List Refusal) (clash : Option Clash) (table : TableParts) (told : ℕ → List Told)
+    → run.journal ≡ journal → text.records_text run ≡ notes_text 0 notes
+    → (text.answers_of run).text ≡ (telling refusals told run.reading.lines).text
+    → records_in run ≡ length notes → final_clash run ≡ clash
+    → legal.chains_at run (records_in run) ≡ table.chains
+    → text.live_text run
+    ≡ head_text run.reading journal notes ++ (telling refusals told run.reading.lines).text
+    ++ end_text (length notes) clash table
+prints_run run journal notes refusals clash table told fed noted answered count refused chains =
+    joined (flat_map text.refused_text run.reading.refused)
+    (text.journal_text run.reading.streams 1 run.journal) (text.records_text run)
+    (text.answers_of run).text (final_text (records_in run) (final_clash run))
+    (table_text_of (legal.chains_at run (records_in run)))
+    ∙ (λ i. (flat_map text.refused_text run.reading.refused
+    ++ (text.journal_text run.reading.streams 1 (fed i) ++ noted i))
+    ++ (answered i ++ (final_text (count i) (refused i) ++ table_text_of (chains i))))
 
 -- the clash that a refused sync prints is one that a refusal has
 same_is : (a b : Clash) → same_clash a b ≡ true → a ≡ b
@@ -353,7 +374,7 @@ module _ (reading : Reading) (read : IsRead reading) (start : TableParts)
 
   same_count : records_in run ≡ length records
   same_count =
-      length-map (λ (x : RecordNote). x.events) notes
+      length-map notes (λ (x : RecordNote). x.events)
       ∙ sym (records_count reading journal notes out.end.exact)
 
   shows : AllByRecursion (ShowsIt run refusals) merged.all
@@ -381,8 +402,8 @@ module _ (reading : Reading) (read : IsRead reading) (start : TableParts)
       → list_all (λ i. (legal.seen_by run i).fits) (range_with_len a k) ≡ true
   all_seen a zero = refl
   all_seen a (suc k) =
-      ap (λ b. b && list_all (λ i. (legal.seen_by run i).fits) (range_with_len (suc a) k)) (seen a)
-      ∙ all_seen (suc a) k
+      ap (λ b. b && list_all (λ i. (legal.seen_by run i).fits) (range_with_len (a + 1) k)) (seen a)
+      ∙ all_seen (a + 1) k
 
   has : AllByRecursion (λ (s : Shown). HasRecord (length records) s.1 s.0.work) merged.all
   has =
@@ -440,7 +461,7 @@ module _ (reading : Reading) (read : IsRead reading) (start : TableParts)
       let count = ap (count_by (is_accepted_sync run)) (sym merged.lines_are)
       ∙ count_accepted run refusals merged.all shows ∙ all_accepted in
       let last = ap last_syncs clash_is in
-      omega (arith, count, last, out.accepted, length-map (λ (x : RecordNote). x.events) notes)
+      omega (arith, count, last, out.accepted, length-map notes (λ (x : RecordNote). x.events))
 
   -- ---- Refusals
 
@@ -499,17 +520,17 @@ module _ (reading : Reading) (read : IsRead reading) (start : TableParts)
       → AllByRecursion (HasWholeStream run) (range_with_len a k)
   whole_streams a zero le = tt
   whole_streams a (suc k) le =
-      (delivered a (omega (arith, le)), whole_streams (suc a) k (omega (arith, le)))
+      (delivered a (omega (arith, le)), whole_streams (a + 1) k (omega (arith, le)))
 
   -- where no line belongs to a stream, nothing was fed
   unfed : length reading.streams ≡ 0 → journal ≡ []
-  unfed zero =
-      let one = counts_n.1.1 zero in
-      let lines = none_of (length reading.streams) 0 reading.lines read.places (omega (arith, zero)) in
+  unfed nothing =
+      let one = counts_n.2 nothing in
+      let lines = none_of (length reading.streams) 0 reading.lines read.places (omega (arith, nothing)) in
       no_events journal
       (subst (λ k. AllByRecursion (λ (f : Fed). f.feeder < k) journal) one
       (all_below (length stands) journal out.made))
-      (delivered 0 counts_n.1.0
+      (delivered 0 counts_n.1
       ∙ ap (λ ls. numbered 0 0 (flat_map (λ (l : StreamLine). events_fed l.work) ls)) (sym lines))
 
   owned : (b : Bool) → nat_lt 0 (length reading.streams) ≡ b
@@ -576,16 +597,10 @@ module _ (reading : Reading) (read : IsRead reading) (start : TableParts)
     run = run;
     runs = record { reads = refl; legal = is_legal };
     text =
-        joined (flat_map text.refused_text reading.refused)
-        (text.journal_text reading.streams 1 journal) (text.records_text run)
-        (text.answers_of run).text (final_text (records_in run) (final_clash run))
-        (table_text_of (legal.chains_at run (records_in run)))
-        ∙ (λ i. (flat_map text.refused_text reading.refused
-        ++ (text.journal_text reading.streams 1 journal
-        ++ sym (notes_print reading journal notes out.end.exact marks out.end.notes_are) i))
-        ++ (sym answered.0 i
-        ++ (final_text (length-map (λ (x : RecordNote). x.events) notes i) (sym clash_is i)
-        ++ table_text_of (sym (ap (λ t. t.chains) out.end.table_is) i))));
+        prints_run run journal notes refusals clash table told refl
+        (sym (notes_print reading journal notes out.end.exact marks out.end.notes_are))
+        (sym answered.0) (length-map notes (λ (x : RecordNote). x.events)) (sym clash_is)
+        (sym (ap (λ t. t.chains) out.end.table_is));
     refused =
         λ i. nat_lt 0 (length reading.refused)
             || (sym answered.1 i || is_some (sym clash_is i));

@@ -3,6 +3,7 @@ pub mod Journals
 pub mod Keeping
 pub mod Legal
 pub mod Merging
+pub mod Printing
 pub mod Readings
 pub mod Records
 pub mod Steps

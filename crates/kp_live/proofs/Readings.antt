@@ -1,8 +1,9 @@
 -- What holds of the lines that were read: they are numbered in their order, each is of a stream that
 -- there is, and no more events were accepted than the journal may hold.
-use Rattle.std.proofs.Common.{◌≡◌, ◌<◌, ◌≤◌, ◌+◌, ◌&&◌, ℕ, suc, Bool, true, false, cond, not, nat_lt, List, [], ◌∷◌, ◌++◌, length, refl, ap, sym, subst, ◌∙◌, arith, length-append, nat_tests}
+use Rattle.std.proofs.Common.{◌≡◌, ◌<◌, ◌≤◌, ◌+◌, ◌&&◌, ℕ, suc, Bool, true, false, cond, not, nat_lt, List, [], ◌∷◌, ◌++◌, length, refl, ap, sym, subst, ◌∙◌, arith, length-append}
 use Rattle.std.specs.Prelude.{Option, Some, None, is_none, position, bytes_eq, codes, Result, Ok, Err}
 use Rattle.std.specs.List.{AllByRecursion, fold, sum_by}
+use Rattle.std.proofs.lemmas.Bool.Decides.{nat_tests}
 use Rattle.std.proofs.lemmas.List.Quantifiers.{position-Some}
 use Rattle.std.proofs.lemmas.List.Sums.{sum_by-append}
 use Rattle.kp_types.specs.declared.event.Event.{Event}
@@ -121,6 +122,16 @@ with_work_line r names stream work = record r {
   lines = r.lines ++ work_line r stream work ∷ [];
 }
 
+more_events : (r : Reading) (names : List (List ℕ)) (stream : ℕ) (work : Work)
+    → r.accepted ≡ sum_by fed_by r.lines
+    → r.accepted + length (events_fed work)
+    ≡ sum_by fed_by (r.lines ++ work_line r stream work ∷ [])
+more_events r names stream work old =
+    let more : sum_by fed_by (r.lines ++ work_line r stream work ∷ [])
+    ≡ sum_by fed_by r.lines + (0 + length (events_fed work)) =
+    sum_by-append fed_by r.lines (work_line r stream work ∷ []) in
+    omega (arith, old, more)
+
 accepted_is : (r : Reading) (names : List (List ℕ)) (stream : ℕ) (work : Work) → IsNext r
     → length r.streams ≤ length names → length names ≤ stream_limit → stream < length names
     → r.accepted + length (events_fed work) ≤ r.config.max_events
@@ -138,9 +149,7 @@ accepted_is r names stream work next more few there room =
           (λ (l : StreamLine). l.stream < length names) (λ l lt. omega (arith, lt, more)) r.lines
           next.places) there;
       few = few;
-      accepted =
-          ap (λ n. n + length (events_fed work)) next.accepted
-          ∙ sym (sum_by-append fed_by r.lines (line ∷ []));
+      accepted = more_events r names stream work next.accepted;
       room = room;
       first = λ fresh. absurd (cc (fresh, next.later));
     }

@@ -1,8 +1,9 @@
 -- The records that a hub handed out, and what is answered from them.
-use Rattle.std.proofs.Common.{◌≡◌, ◌<◌, ◌≤◌, ℕ, zero, suc, false, List, [], ◌∷◌, ◌++◌, map, length, take, get_or, refl, ap, sym, subst, ◌∙◌, arith, length-map}
+use Rattle.std.proofs.Common.{◌≡◌, ◌<◌, ◌≤◌, ◌+◌, ℕ, zero, suc, false, List, [], ◌∷◌, ◌++◌, map, length, take, get_or, refl, ap, sym, subst, ◌∙◌, arith}
 use Rattle.std.specs.Prelude.{Option, Some, None, is_some, sum, count_by, slice_get, not}
 use Rattle.std.specs.List.{flat_map, range_with_len}
 use Rattle.std.specs.FinMap.{get}
+use Rattle.std.proofs.lemmas.List.{length-map}
 use Rattle.std.proofs.lemmas.List.FromFn.{length-map-range_with_len}
 use Rattle.std.proofs.lemmas.Option.{slice_get-get_or}
 use Rattle.kp_base.specs.declared.address.Family.TheVariants.{V4}
@@ -20,7 +21,10 @@ use Rattle.kp_history_defs.specs.declared.fed.Fed.{Fed}
 use Rattle.kp_history_defs.specs.History.{chains_covered, counts_of, objects_covered, record_at, table_after, table_from}
 use Rattle.kp_history_defs.specs.Runs.{events_of}
 use Rattle.kp_history.specs.Parts.{HasExactHistory, PlaneParts}
-use Rattle.kp_history.proofs.Start.{first_no_clash}
+use Rattle.kp_choice_defs.specs.Names.{first_clash}
+use Rattle.kp_object_defs.specs.PortInfo.{PortInfo}
+use Rattle.kp_table_defs.specs.Rebuild.{needed_keys}
+use Rattle.kp_history_laws.proofs.Histories.{no_infos}
 use Rattle.kp_history_laws.specs.HistoryLaws.{ExactTables}
 use Rattle.kp_walk_laws.specs.Laws.{Agree, ProductDecides}
 use Rattle.kp_text_defs.specs.Live.{record_text}
@@ -41,6 +45,19 @@ use Rattle.kp_live.proofs.Telling.{Walks}
 not_some : {A : Type 0} (o : Option A) → is_some o ≡ false → o ≡ None
 not_some None is = refl
 not_some (Some x) is = absurd (cc is)
+
+map_twice : {A B C : Type 0} (g : B → C) (f : A → B) (xs : List A)
+    → map g (map f xs) ≡ map (λ x. g (f x)) xs
+map_twice g f [] = refl
+map_twice g f (x ∷ xs) = ap (λ l. g (f x) ∷ l) (map_twice g f xs)
+
+-- notes of records in a row
+noted_by : (note : ℕ → RecordNote) (text : ℕ → List ℕ) → ((n : ℕ) → note_text n (note n) ≡ text n)
+    → (from n : ℕ)
+    → notes_text from (map note (range_with_len from n)) ≡ flat_map text (range_with_len from n)
+noted_by note text is from zero = refl
+noted_by note text is from (suc n) =
+    λ i. is from i ++ noted_by note text is (from + 1) n i
 
 -- the run of what a hub handed out, where lines show this
 abbrev pub run_of : Reading → List Fed → List RecordNote → (ℕ → Mark) → LiveRun
@@ -69,7 +86,7 @@ module _ (reading : Reading) (journal : List Fed) (notes : List RecordNote)
   pub records_count : length records ≡ length notes
   records_count =
       length-map-range_with_len (record_at setting events counts) 0 (length counts)
-      ∙ length-map (λ (n : RecordNote). n.events) notes
+      ∙ length-map notes (λ (n : RecordNote). n.events)
 
   -- ---- Tables
 
@@ -83,20 +100,22 @@ module _ (reading : Reading) (journal : List Fed) (notes : List RecordNote)
 
   no_clash_at : (n : ℕ) → n ≤ length notes
       → clash_of setting (objects_covered events counts n) ≡ None
-  no_clash_at zero le = first_no_clash setting
+  no_clash_at zero le =
+      ap (λ (infos : List PortInfo). first_clash setting.name_of (needed_keys infos))
+      (no_infos setting)
   no_clash_at (suc n) le = later_table n (omega (arith, le))
 
   pub have_tables : (marks : ℕ → Mark) (n : ℕ) → n ≤ records_in (run_of reading journal notes marks)
       → HasTable (run_of reading journal notes marks) n
   have_tables marks n le =
-      no_clash_at n (omega (arith, le, length-map (λ (x : RecordNote). x.events) notes))
+      no_clash_at n (omega (arith, le, length-map notes (λ (x : RecordNote). x.events)))
 
   pub cover_journal : (marks : ℕ → Mark) (clash : Option Clash)
       → clash ≡ final_clash (run_of reading journal notes marks)
       → (clash ≡ None → sum counts ≡ length journal)
       → CoverJournal (run_of reading journal notes marks)
   cover_journal marks clash is covers =
-      let long = length-map (λ (f : Fed). f.event) journal in record {
+      let long = length-map journal (λ (f : Fed). f.event) in record {
         within =
             omega (arith, ap sum (sym exact.counted), exact.exact.within, long);
         all = λ none. covers (is ∙ not_some (final_clash (run_of reading journal notes marks)) none);
@@ -136,15 +155,10 @@ module _ (reading : Reading) (journal : List Fed) (notes : List RecordNote)
 
   -- ---- The records' text
 
-  noted_text : (marks : ℕ → Mark) (from n : ℕ)
-      → notes_text from (map note_of (map (record_at setting events counts) (range_with_len from n)))
-      ≡ flat_map (record_text_at (run_of reading journal notes marks)) (range_with_len from n)
-  noted_text marks from zero = refl
-  noted_text marks from (suc n) =
-      ap (λ l. record_text_at (run_of reading journal notes marks) from ++ l)
-      (noted_text marks (suc from) n)
-
   pub notes_print : (marks : ℕ → Mark) → notes ≡ map note_of records
       → notes_text 0 notes ≡ records_text (run_of reading journal notes marks)
   notes_print marks are =
-      ap (notes_text 0) are ∙ noted_text marks 0 (length counts)
+      ap (notes_text 0)
+      (are ∙ map_twice note_of (record_at setting events counts) (range_with_len 0 (length counts)))
+      ∙ noted_by (λ n. note_of (record_at setting events counts n))
+      (record_text_at (run_of reading journal notes marks)) (λ n. refl) 0 (length counts)

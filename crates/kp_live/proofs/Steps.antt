@@ -1,6 +1,6 @@
 -- One more line of a stream.
-use Rattle.std.proofs.Common.{◌≡◌, ◌≤◌, ◌+◌, ℕ, suc, max, Bool, true, false, cond, List, [], ◌∷◌, ◌++◌, map, length, take, not, ◌&&◌, refl, ap, sym, subst, ◌∙◌, arith, append_assoc, append-nil}
-use Rattle.std.specs.Prelude.{nat_le, count_by, inl, inr, ⊎_elim}
+use Rattle.std.proofs.Common.{◌≡◌, ◌≤◌, ◌+◌, ℕ, suc, max, Bool, true, false, cond, List, [], ◌∷◌, ◌++◌, map, length, take, not, ◌&&◌, refl, ap, sym, subst, ◌∙◌, arith, append_assoc, append-nil, inl, inr}
+use Rattle.std.specs.Prelude.{nat_le, count_by}
 use Rattle.std.specs.List.{fold, flat_map}
 use Rattle.std.specs.FinMap.{get}
 use Rattle.std.proofs.Math.Seq.{take-append_seam}
@@ -59,7 +59,10 @@ all_fit fits least n most f low high =
 -- how many pass, with one more
 count_more : {A : Type 0} (p : A → Bool) (xs : List A) (x : A)
     → count_by p (xs ++ x ∷ []) ≡ count_by p xs + cond (p x) 1 0
-count_more p xs x = sum_by-append (λ y. cond (p y) 1 0) xs (x ∷ [])
+count_more p xs x =
+    let more : count_by p (xs ++ x ∷ []) ≡ count_by p xs + (0 + cond (p x) 1 0) =
+    sum_by-append (λ y. cond (p y) 1 0) xs (x ∷ []) in
+    omega (arith, more)
 
 module _ (start : TableParts) (config : Config) where
   -- ---- Any line
@@ -331,13 +334,13 @@ module _ (start : TableParts) (config : Config) where
       (record { told = told ++ next ∷ []; lists = lists }) v
   synced_run line is lines told lists next w v (inl one) run =
       subst (λ t. HasRun start config (lines ++ line ∷ [])
-      (record { told = told ++ t ∷ []; lists = lists }) v) (sym one.1.1)
-      (accepted_run line is one.0 lines (record { told = told; lists = lists }) w v one.1.0 run)
+      (record { told = told ++ t ∷ []; lists = lists }) v) (sym one.2)
+      (accepted_run line is one.0 lines (record { told = told; lists = lists }) w v one.1 run)
   synced_run line is lines told lists next w v (inr one) run =
       subst (λ t. HasRun start config (lines ++ line ∷ [])
-      (record { told = told ++ t ∷ []; lists = lists }) v) (sym one.1.1)
+      (record { told = told ++ t ∷ []; lists = lists }) v) (sym one.2)
       (subst (HasRun start config (lines ++ line ∷ [])
-      (record { told = told ++ Denies one.0 ∷ []; lists = lists })) (sym one.1.0)
+      (record { told = told ++ Denies one.0 ∷ []; lists = lists })) (sym one.1)
       (denied_run line is one.0 lines (record { told = told; lists = lists }) w run))
 
   -- behind a line that syncs
@@ -349,11 +352,11 @@ module _ (start : TableParts) (config : Config) where
   behind_synced line is lines s t feeder lists step stands =
       let one = step stands.told stands.holds in record {
         told = stands.told ++ one.0 ∷ [];
-        holds = one.1.1;
+        holds = one.2;
         ran =
             subst (λ l. HasRun start config (lines ++ line ∷ [])
             (record { told = stands.told ++ one.0 ∷ []; lists = l }) t.worker) (sym lists)
-            (synced_run line is lines stands.told s.lists one.0 s.worker t.worker one.1.0
+            (synced_run line is lines stands.told s.lists one.0 s.worker t.worker one.1
             stands.ran);
         fed = fed_more lines line s.feeder.fed [] t.feeder.fed stands.fed (ap events_fed is)
             (ap (λ f. f.fed) feeder ∙ sym (append-nil s.feeder.fed));
@@ -369,9 +372,9 @@ module _ (start : TableParts) (config : Config) where
   behind_sent line p is lines s t feeder step stands =
       let one = step stands.told stands.holds in record {
         told = stands.told ++ one.0 ∷ [];
-        holds = one.1.1;
+        holds = one.2;
         ran =
-            sent_run line p is lines stands.told s.lists t.lists one.0 s.worker t.worker one.1.0
+            sent_run line p is lines stands.told s.lists t.lists one.0 s.worker t.worker one.1
             stands.ran;
         fed = fed_more lines line s.feeder.fed [] t.feeder.fed stands.fed (ap events_fed is)
             (ap (λ f. f.fed) feeder ∙ sym (append-nil s.feeder.fed));

@@ -1,6 +1,6 @@
 -- What a run prints of its lines, by what each stream was answered; and the run that it is, by what
 -- its hub handed out.
-use Rattle.std.specs.Prelude.{◌≡◌, ◌≤◌, ◌&&◌, ◌||◌, ℕ, suc, nat_lt, Bool, true, false, cond, List, [], ◌∷◌, ◌++◌, map, length, Option, Some, is_some, IfSome, slice_get, bytes_eq}
+use Rattle.std.specs.Prelude.{◌≡◌, ◌≤◌, ◌+◌, ◌&&◌, ◌||◌, ℕ, suc, nat_lt, Bool, true, false, cond, List, [], ◌∷◌, ◌++◌, map, length, Option, Some, is_some, IfSome, slice_get, bytes_eq}
 use Rattle.std.specs.List.{flat_map, fold, list_any}
 use Rattle.kp_types.specs.declared.chain.Clash.{Clash}
 use Rattle.kp_choice_defs.specs.Names.{same_chain_key}
@@ -106,7 +106,7 @@ note_text n note = record_text (suc n) note.events note.written note.removed
 -- the lines of records, the first of which has this place
 abbrev pub notes_text : ℕ → List RecordNote → List ℕ
 notes_text n [] = []
-notes_text n (note ∷ notes) = note_text n note ++ notes_text (suc n) notes
+notes_text n (note ∷ notes) = note_text n note ++ notes_text (n + 1) notes
 
 -- What a run prints before what lines were answered: the lines that were refused while they were
 -- read, the journal and the records.

@@ -1,5 +1,5 @@
 -- What lines of a stream are answered, and how that is kept until it is printed.
-use Rattle.std.specs.Prelude.{◌≡◌, ⊥, ℕ, List, [], ◌∷◌, ◌++◌, map, length, Option, Some, None, string_bytes}
+use Rattle.std.specs.Prelude.{◌≡◌, ℕ, List, [], ◌∷◌, ◌++◌, map, length, Option, Some, None, string_bytes}
 use Rattle.std.specs.List.{flat_map}
 use Rattle.kp_types.specs.declared.chain.Clash.{Clash}
 use Rattle.kp_live.specs.declared.answers.Answer.{Answer}
