@@ -220,17 +220,6 @@ few_by reading n false is count =
     let none : length reading.streams ≤ 0 = grind (arith, nat_tests, is) in
     (omega (arith, none), omega (arith, count), λ is_none. count)
 
--- parts of a text
-joined : (a b c d e t : List ℕ)
-    → (a ++ (b ++ (c ++ (d ++ e)))) ++ t ≡ (a ++ (b ++ c)) ++ (d ++ (e ++ t))
-joined a b c d e t =
-    append_assoc a (b ++ (c ++ (d ++ e))) t
-    ∙ ap (λ l. a ++ l)
-    (append_assoc b (c ++ (d ++ e)) t
-    ∙ ap (λ l. b ++ l) (append_assoc c (d ++ e) t ∙ ap (λ l. c ++ l) (append_assoc d e t))
-    ∙ sym (append_assoc b c (d ++ (e ++ t))))
-    ∙ sym (append_assoc a (b ++ c) (d ++ (e ++ t)))
-
 -- the text of a run, by its parts
 prints_run : (run : LiveRun) (journal : List Fed) (notes : List RecordNote)
     (refusals : List Refusal) (clash : Option Clash) (table : TableParts) (told : ℕ → List Told)
@@ -242,13 +231,13 @@ prints_run : (run : LiveRun) (journal : List Fed) (notes : List RecordNote)
     ≡ head_text run.reading journal notes ++ (telling refusals told run.reading.lines).text
     ++ end_text (length notes) clash table
 prints_run run journal notes refusals clash table told fed noted answered count refused chains =
-    joined (flat_map text.refused_text run.reading.refused)
-    (text.journal_text run.reading.streams 1 run.journal) (text.records_text run)
-    (text.answers_of run).text (final_text (records_in run) (final_clash run))
+    append_assoc (flat_map text.refused_text run.reading.refused
+    ++ text.journal_text run.reading.streams 1 run.journal ++ text.records_text run
+    ++ (text.answers_of run).text) (final_text (records_in run) (final_clash run))
     (table_text_of (legal.chains_at run (records_in run)))
-    ∙ (λ i. (flat_map text.refused_text run.reading.refused
-    ++ (text.journal_text run.reading.streams 1 (fed i) ++ noted i))
-    ++ (answered i ++ (final_text (count i) (refused i) ++ table_text_of (chains i))))
+    ∙ (λ i. flat_map text.refused_text run.reading.refused
+    ++ text.journal_text run.reading.streams 1 (fed i) ++ noted i ++ answered i
+    ++ (final_text (count i) (refused i) ++ table_text_of (chains i)))
 
 -- the clash that a refused sync prints is one that a refusal has
 same_is : (a b : Clash) → same_clash a b ≡ true → a ≡ b

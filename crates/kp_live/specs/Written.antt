@@ -1,6 +1,5 @@
 -- What a live run has written.
-use Rattle.std.specs.Prelude.{◌≡◌, ◌≤◌, ◌⊎◌, ⊤, ℕ, Bool, List, [], length, take, Option, IfSome, Result, IfOk, OnErr, IsErrOf, Ok}
-use Rattle.std.specs.Prelude.{OnOk}
+use Rattle.std.specs.Prelude.{◌≡◌, ◌≤◌, ◌⊎◌, ℕ, Bool, List, [], length, take, Option, Result, IfOk, OnOk, OnErr, IsErrOf}
 use Rattle.kp_io.specs.Faults.{Rose}
 use Rattle.kp_io.specs.Lines.{lines_of}
 use Rattle.kp_io.specs.Told.{Grows}
@@ -47,3 +46,26 @@ abbrev pub WritesFront : Reading → Option (List ℕ) → Option (List ℕ) →
 WritesFront reading written now =
     Grows written now []
     ⊎ ((run : LiveRun) × RunsReading reading run × GrowsFront written now (live_text run))
+
+-- How a run of what was read ends, where that is some input: its whole text was written, or nothing
+-- or a front of it. A fault of writing is told only where the count of them rose; without one it
+-- stays. Else only memory was wanted.
+pub record EndsRun (result : Result Bool LiveFault) (reading : Reading)
+    (written now : Option (List ℕ)) (before after : ℕ) : Type 0 where
+  pub whole : IfOk result (λ refused. (input : List (List ℕ)) → reading ≡ reading_of input
+      → WritesRun refused reading written now)
+  pub front : OnErr result ((input : List (List ℕ)) → reading ≡ reading_of input
+      → WritesFront reading written now)
+  pub later : before ≤ after
+  pub sure : OnOk result (after ≡ before)
+  pub failed : IsErrOf result WriteFault → Rose before after
+  pub wanted : IsErrOf result NoMemory → after ≡ before
+  pub other : (fault : LiveFault) → IsErrOf result fault
+      → (fault ≡ WriteFault) ⊎ (fault ≡ NoMemory)
+
+-- the text of a legal run of the input was written, where that is told, which is no longer than may
+-- be read
+pub record WritesInput (refused : Bool) (text : List ℕ) (written now : Option (List ℕ))
+    : Type 0 where
+  pub writes : WritesRun refused (reading_of (lines_of text)) written now
+  pub short : length text ≤ INPUT_LIMIT

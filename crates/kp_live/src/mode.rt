@@ -1,6 +1,22 @@
 //! The mode.
-ghost use Rattle.std.specs.Prelude.{◌≡◌};
+ghost use Rattle.std.specs.Prelude.{◌≡◌, ◌≤◌, ◌⊎◌, ◌++◌, [], ℕ, List, Err, IfOk, IfSome, OnOk};
+ghost use Rattle.std.specs.Prelude.{OnErr, length, replicate};
+ghost use Rattle.std.specs.Io.KnownBytes.{IsAtEnd};
+ghost use Rattle.std.specs.List.{AllByRecursion};
+ghost use Rattle.kp_feed.specs.Calls.{new_feeders};
+ghost use Rattle.kp_hub.specs.Finishing.{records_told};
+ghost use Rattle.kp_hub.specs.Known.{new_worker};
 ghost use Rattle.kp_hub.specs.State.{first_table};
+ghost use Rattle.kp_io.specs.Faults.{Rose};
+ghost use Rattle.kp_io.specs.Lines.{lines_of};
+ghost use Rattle.kp_run_defs.specs.LiveLines.{reading_of, running_streams};
+ghost use Rattle.kp_streams.specs.Streams.{reading_in};
+ghost use Rattle.kp_streams.specs.WholeInput.{IsTooLong};
+ghost use Rattle.kp_live.specs.declared.fault.LiveFault.TheVariants as fault;
+ghost use Rattle.kp_live.specs.Runs as runs;
+ghost use Rattle.kp_live.specs.Streams.{GoesOnFromAll};
+ghost use Rattle.kp_live.specs.Told.{Told};
+ghost use Rattle.kp_live.specs.Written.{EndsRun, Prints, WritesFront, WritesInput};
 
 use crate::answers::Answers;
 use crate::fault::LiveFault;
@@ -28,14 +44,37 @@ pub fn live<S: Source, K: Sink, R: Threads + Wait + Sync, G: Gate<R> + Sync>(
     source: &mut S,
     sink: &mut K,
     gate: &G,
-) -> Result<bool, LiveFault> {
+) -> Result<bool, LiveFault>
+    ensures whole { IfOk result (λ refused. IfSome (S.left source.old)
+        (λ text. WritesInput refused text (K.written sink.old) (K.written sink.new))) }
+    ensures front { OnErr result (IfSome (S.left source.old)
+        (λ text. WritesFront (reading_of (lines_of text)) (K.written sink.old)
+        (K.written sink.new))) }
+    ensures ended { OnOk result (IsAtEnd (S.left source.new)) }
+    ensures read { result ≡ Err fault.ReadFault → Rose (S.faults source.old) (S.faults source.new) }
+    ensures long { result ≡ Err fault.InputTooLong → IsTooLong (S.left source.old) }
+    ensures unwritten { (result ≡ Err fault.ReadFault) ⊎ (result ≡ Err fault.InputTooLong)
+        → sink.new ≡ sink.old }
+    ensures later { K.faults sink.old ≤ K.faults sink.new }
+    ensures failed { result ≡ Err fault.WriteFault
+        → Rose (K.faults sink.old) (K.faults sink.new) }
+    ensures sure { OnOk result (K.faults sink.new ≡ K.faults sink.old) }
+    ensures wanted { result ≡ Err fault.NoMemory → K.faults sink.new ≡ K.faults sink.old }
+    ensures source_sure { OnOk result (S.faults source.new ≡ S.faults source.old) }
+    ensures source_kept { OnErr result ((result ≡ Err fault.ReadFault)
+        ⊎ (S.faults source.new ≡ S.faults source.old)) }
+{
     let lines = read_input(alloc, source)?;
     let opening = opening_of(alloc, &lines)?;
     run_opened::<Brand, Brand, Brand, K, R, G>(rt, alloc, opening, &lines, sink, gate)
 }
 
 /// The parts of a hub for the streams of these lines. Where there is none, one stream runs.
-fn opening_of(alloc: Global, lines: &StreamLines) -> Result<Opening, NoMemory> {
+fn opening_of(alloc: Global, lines: &StreamLines) -> Result<Opening, NoMemory>
+    ensures config { IfOk result (λ o. o.config ≡ (reading_in lines.now).config) }
+    ensures streams { IfOk result
+        (λ o. o.streams ≡ length (running_streams (reading_in lines.now))) }
+{
     let streams = match lines.streams().len() as u32 {
         0 => 1,
         streams => streams,
@@ -66,6 +105,10 @@ fn run_opened<
     requires start { J.start ≡ first_table J.config }
     requires accepted { opening.accepted ≡ (A.name, A.parts) }
     requires refused { opening.refused ≡ (C.name, C.parts) }
+    requires read_config { opening.config ≡ (reading_in lines.now).config }
+    requires read_streams { opening.streams ≡ length (running_streams (reading_in lines.now)) }
+    ensures { EndsRun result (reading_in lines.now) (K.written sink.old) (K.written sink.new)
+        (K.faults sink.old) (K.faults sink.new) }
 {
     let (hub, feeders, workers) = Hub::<J, A, C>::new(rt, alloc, opening)?;
     match ended_streams(rt, alloc, &hub, gate, lines, feeders, workers) {
@@ -92,7 +135,13 @@ fn ended_streams<
     lines: &StreamLines,
     feeders: Items<FeedPass>,
     workers: Items<WorkerPass<J, A, C>>,
-) -> Result<Ended<J, A, C>, NoMemory> {
+) -> Result<Ended<J, A, C>, NoMemory>
+    requires config { (reading_in lines.now).config ≡ J.config }
+    requires feeders { feeders ≡ new_feeders J.queue J.streams }
+    requires workers { workers ≡ replicate J.streams new_worker }
+    ensures { IfOk result (λ e. runs.HaveEnded J.start (reading_in lines.now) J.queue J.streams
+        e.feeders e.workers.items e.answers.items) }
+{
     let mut streams = streams_of(alloc, lines.config(), feeders, workers)?;
     cut_lines(lines.lines(), streams.as_mut_slice())?;
     run_all(rt, alloc, hub, gate, streams.as_mut_slice());
@@ -107,7 +156,17 @@ fn end_and_print<J: Sharing, A: Ledger, C: Ledger, K: Sink, R: Wait>(
     ended: Ended<J, A, C>,
     lines: &StreamLines,
     sink: &mut K,
-) -> Result<bool, LiveFault> {
+) -> Result<bool, LiveFault>
+    requires config { (reading_in lines.now).config ≡ J.config }
+    requires start { J.start ≡ first_table J.config }
+    requires streams { J.streams ≡ length (running_streams (reading_in lines.now)) }
+    requires ended { runs.HaveEnded J.start (reading_in lines.now) J.queue J.streams
+        ended.feeders ended.workers.items ended.answers.items }
+    ensures { EndsRun result (reading_in lines.now) (K.written sink.old) (K.written sink.new)
+        (K.faults sink.old) (K.faults sink.new) }
+{
+    kp_history_laws::exact_tables();
+    kp_walk_laws::product_decides();
     let Ended {
         feeders,
         mut workers,
@@ -128,11 +187,21 @@ fn print<J: Sharing, K: Sink>(
     answers: &[Answers],
     done: &Finished<J>,
     sink: &mut K,
-) -> Result<bool, LiveFault> {
+) -> Result<bool, LiveFault>
+    ensures printed { (told : ℕ → List Told) → runs.AreOf told answers.now
+        → Prints result (runs.head_text (reading_in lines.now) done.now.journal done.now.notes
+        ++ (runs.telling done.now.refusals told (reading_in lines.now).lines).text
+        ++ runs.end_text (length done.now.notes) done.now.clash done.now.table)
+        (K.written sink.old) (K.written sink.new) (K.faults sink.old) (K.faults sink.new) }
+    ensures refused { (told : ℕ → List Told) → runs.AreOf told answers.now
+        → IfOk result (λ refused. refused ≡ runs.prints_refusal (reading_in lines.now)
+        (runs.telling done.now.refusals told (reading_in lines.now).lines).denied
+        done.now.clash) }
+{
     print_head(alloc, lines, done, sink)?;
     let denied = print_answers(alloc, lines.lines(), answers, done.refusals.as_slice(), sink)?;
     print_end(alloc, done, sink)?;
-    Ok(!lines.refused().is_empty() || denied || done.clash.is_some())
+    Ok(!lines.refused().is_empty() || (denied || done.clash.is_some()))
 }
 
 /// All passes of a hub that ended learn that what they saw begins its records.
@@ -140,7 +209,10 @@ fn meet<J: Sharing, A: Ledger, C: Ledger, R: Wait>(
     rt: &R,
     workers: &mut [WorkerPass<J, A, C>],
     done: &Finished<J>,
-) {
+)
+    ensures { AllByRecursion
+        (GoesOnFromAll (records_told J.config done.now.journal done.now.notes)) workers.old }
+{
     for worker in workers {
         laws::same_hub(rt, worker, done);
     }
