@@ -1,5 +1,5 @@
 -- What a live run has written.
-use Rattle.std.specs.Prelude.{◌≡◌, ◌≤◌, ◌⊎◌, ℕ, Bool, List, [], length, take, Option, Result, IfOk, OnOk, OnErr, IsErrOf}
+use Rattle.std.specs.Prelude.{◌≡◌, ◌≤◌, ◌⊎◌, ℕ, Bool, List, [], length, take, Option, Result, Ok, Err, IfOk, OnOk, OnErr, IsErrOf}
 use Rattle.kp_io.specs.Faults.{Rose}
 use Rattle.kp_io.specs.Lines.{lines_of}
 use Rattle.kp_io.specs.Told.{Grows}
@@ -26,6 +26,11 @@ pub record Prints {T : Type 0} (result : Result T LiveFault) (text : List ℕ)
   pub wanted : IsErrOf result NoMemory → after ≡ before
   pub other : (fault : LiveFault) → IsErrOf result fault
       → (fault ≡ WriteFault) ⊎ (fault ≡ NoMemory)
+
+-- a flag for what was written
+abbrev pub said_of : Result (Unit {0}) LiveFault → Bool → Result Bool LiveFault
+said_of (Ok u) b = Ok b
+said_of (Err fault) b = Err fault
 
 -- a run of this reading that the rules allow
 pub record RunsReading (reading : Reading) (run : LiveRun) : Type 0 where

@@ -110,7 +110,10 @@ fn run_opened<
     ensures { EndsRun result (reading_in lines.now) (K.written sink.old) (K.written sink.new)
         (K.faults sink.old) (K.faults sink.new) }
 {
-    let (hub, feeders, workers) = Hub::<J, A, C>::new(rt, alloc, opening)?;
+    let (hub, feeders, workers) = match Hub::<J, A, C>::new(rt, alloc, opening) {
+        Ok(parts) => parts,
+        Err(NoMemory) => return Err(LiveFault::NoMemory),
+    };
     match ended_streams(rt, alloc, &hub, gate, lines, feeders, workers) {
         Ok(ended) => end_and_print(rt, alloc, hub, ended, lines, sink),
         Err(_) => {
@@ -172,7 +175,10 @@ fn end_and_print<J: Sharing, A: Ledger, C: Ledger, K: Sink, R: Wait>(
         mut workers,
         answers,
     } = ended;
-    let done = hub.finish(rt, alloc, feeders, workers.as_mut_slice())?;
+    let done = match hub.finish(rt, alloc, feeders, workers.as_mut_slice()) {
+        Ok(done) => done,
+        Err(NoMemory) => return Err(LiveFault::NoMemory),
+    };
     meet(rt, workers.as_mut_slice(), &done);
     let printed = print(alloc, lines, answers.as_slice(), &done, sink);
     done.end(rt);
@@ -198,10 +204,18 @@ fn print<J: Sharing, K: Sink>(
         (runs.telling done.now.refusals told (reading_in lines.now).lines).denied
         done.now.clash) }
 {
-    print_head(alloc, lines, done, sink)?;
-    let denied = print_answers(alloc, lines.lines(), answers, done.refusals.as_slice(), sink)?;
-    print_end(alloc, done, sink)?;
-    Ok(!lines.refused().is_empty() || (denied || done.clash.is_some()))
+    match print_head(alloc, lines, done, sink) {
+        Ok(()) => {}
+        Err(fault) => return Err(fault),
+    }
+    let refusals = done.refusals.as_slice();
+    match print_answers(alloc, lines.lines(), answers, refusals, sink) {
+        Ok(denied) => match print_end(alloc, done, sink) {
+            Ok(()) => Ok(!lines.refused().is_empty() || (denied || done.clash.is_some())),
+            Err(fault) => Err(fault),
+        },
+        Err(fault) => Err(fault),
+    }
 }
 
 /// All passes of a hub that ended learn that what they saw begins its records.
@@ -220,7 +234,8 @@ fn meet<J: Sharing, A: Ledger, C: Ledger, R: Wait>(
 
 /// Ends a hub of a run that has no memory.
 fn give_up<J: Sharing, A: Ledger, C: Ledger, R: Wait>(rt: &R, alloc: Global, hub: Hub<J, A, C>) {
-    if let Ok(done) = hub.finish(rt, alloc, Items::new(alloc), &mut []) {
+    let mut none = Vec::new(alloc);
+    if let Ok(done) = hub.finish(rt, alloc, Items::new(alloc), none.as_mut_slice()) {
         done.end(rt);
     }
 }

@@ -5,22 +5,23 @@ ghost use Rattle.std.specs.List.{flat_map};
 ghost use Rattle.kp_run_defs.specs.LiveText as spec;
 ghost use Rattle.kp_streams.specs.Streams.{reading_in};
 ghost use Rattle.kp_text_defs.specs.declared.line_refusal.LineRefusal.TheVariants.{ChainClash};
-ghost use Rattle.kp_text_defs.specs.Live.{final_text};
+ghost use Rattle.kp_restore_defs.specs.TableText.{table_text_of};
+ghost use Rattle.kp_text_defs.specs.Live.{event_text, final_text, record_text};
 ghost use Rattle.kp_text_defs.specs.Refusals.{refusal_text};
 ghost use Rattle.kp_live.specs.Runs as runs;
 ghost use Rattle.kp_live.specs.Runs.{Telling};
 ghost use Rattle.kp_live.specs.Told.{Told, HoldsOn};
-ghost use Rattle.kp_live.specs.Written.{Prints};
+ghost use Rattle.kp_live.specs.Written.{Prints, said_of};
 
 use crate::answers::{Answer, Answers, ToldOn};
 use crate::fault::LiveFault;
-use crate::output::write;
+use crate::output::{write, write_made};
 use crate::refusals::kept_clash;
 use kp_base::{Copied, NoMemory, Text};
 use kp_hub::{Fed, Finished, RecordNote, Refusal, Sharing};
 use kp_io::Sink;
 use kp_report::{push_event, push_final, push_record, push_refusal};
-use kp_restore::table_text;
+use kp_restore::{Table, table_text};
 use kp_script::LineRefusal;
 use kp_streams::{RefusedLine, StreamLine, StreamLines, Work};
 use kp_types::Clash;
@@ -39,8 +40,14 @@ pub(crate) fn print_head<J: Sharing, K: Sink>(
         (K.written sink.old) (K.written sink.new) (K.faults sink.old) (K.faults sink.new) }
 {
     let mut text = String::new(alloc);
-    print_refused(alloc, lines.refused(), &mut text, sink)?;
-    print_journal(lines.streams(), done.journal.as_slice(), &mut text, sink)?;
+    match print_refused(alloc, lines.refused(), &mut text, sink) {
+        Ok(()) => {}
+        Err(fault) => return Err(fault),
+    }
+    match print_journal(lines.streams(), done.journal.as_slice(), &mut text, sink) {
+        Ok(()) => {}
+        Err(fault) => return Err(fault),
+    }
     print_records(done.notes.as_slice(), &mut text, sink)
 }
 
@@ -55,11 +62,28 @@ fn print_refused<K: Sink>(
         (K.written sink.old) (K.written sink.new) (K.faults sink.old) (K.faults sink.new) }
 {
     for line in refused {
-        text.clear();
-        push_refusal(alloc, text, line.number, &line.why)?;
-        write(sink, text.as_bytes())?;
+        match print_refusal(alloc, line.number, &line.why, text, sink) {
+            Ok(()) => {}
+            Err(fault) => return Err(fault),
+        }
     }
     Ok(())
+}
+
+/// Writes why the line of this number is refused.
+fn print_refusal<K: Sink>(
+    alloc: Global,
+    number: u64,
+    why: &LineRefusal,
+    text: &mut String,
+    sink: &mut K,
+) -> Result<(), LiveFault>
+    ensures { Prints result (refusal_text number why.now)
+        (K.written sink.old) (K.written sink.new) (K.faults sink.old) (K.faults sink.new) }
+{
+    text.clear();
+    let made = push_refusal(alloc, text, number, why);
+    write_made(made, text.as_bytes(), sink)
 }
 
 /// Writes the events of the journal, each with its stream.
@@ -73,13 +97,29 @@ fn print_journal<K: Sink>(
         (K.written sink.old) (K.written sink.new) (K.faults sink.old) (K.faults sink.new) }
 {
     for at in 0..journal.len() {
-        let fed = &journal[at];
-        text.clear();
-        let stream = name_of(streams, fed.feeder);
-        push_event(text, at as u64 + 1, stream, fed.number, &fed.event)?;
-        write(sink, text.as_bytes())?;
+        match print_event(streams, at as u64 + 1, &journal[at], text, sink) {
+            Ok(()) => {}
+            Err(fault) => return Err(fault),
+        }
     }
     Ok(())
+}
+
+/// Writes the event of the journal at a place, from 1.
+fn print_event<K: Sink>(
+    streams: &[Text],
+    place: u64,
+    fed: &Fed,
+    text: &mut String,
+    sink: &mut K,
+) -> Result<(), LiveFault>
+    ensures { Prints result (event_text place (get_or streams.now fed.now.feeder []) fed.now.number
+        fed.now.event) (K.written sink.old) (K.written sink.new) (K.faults sink.old)
+        (K.faults sink.new) }
+{
+    text.clear();
+    let made = push_event(text, place, name_of(streams, fed.feeder), fed.number, &fed.event);
+    write_made(made, text.as_bytes(), sink)
 }
 
 /// The name of the stream at a place.
@@ -102,12 +142,27 @@ fn print_records<K: Sink>(
         (K.written sink.old) (K.written sink.new) (K.faults sink.old) (K.faults sink.new) }
 {
     for at in 0..notes.len() {
-        let note = notes[at];
-        text.clear();
-        push_record(text, at as u64 + 1, note.events, note.written, note.removed)?;
-        write(sink, text.as_bytes())?;
+        match print_record(at as u64 + 1, notes[at], text, sink) {
+            Ok(()) => {}
+            Err(fault) => return Err(fault),
+        }
     }
     Ok(())
+}
+
+/// Writes the record of this number.
+fn print_record<K: Sink>(
+    number: u64,
+    note: RecordNote,
+    text: &mut String,
+    sink: &mut K,
+) -> Result<(), LiveFault>
+    ensures { Prints result (record_text number note.events note.written note.removed)
+        (K.written sink.old) (K.written sink.new) (K.faults sink.old) (K.faults sink.new) }
+{
+    text.clear();
+    let made = push_record(text, number, note.events, note.written, note.removed);
+    write_made(made, text.as_bytes(), sink)
 }
 
 /// Writes what lines were answered, in their order, and answers whether a sync was refused.
@@ -124,10 +179,34 @@ pub(crate) fn print_answers<K: Sink>(
     ensures denied { (told : ℕ → List Told) → runs.AreOf told answers.now
         → IfOk result (λ denied. denied ≡ (runs.telling refusals.now told lines.now).denied) }
 {
-    let mut told = told_from(alloc, answers)?;
+    match told_from(alloc, answers) {
+        Ok(told) => print_lines(alloc, lines, told, refusals, sink),
+        Err(NoMemory) => Err(LiveFault::NoMemory),
+    }
+}
+
+/// Writes what lines were answered, of which these are the answers of each stream, and answers
+/// whether a sync was refused.
+fn print_lines<K: Sink>(
+    alloc: Global,
+    lines: &[StreamLine],
+    told: Vec<ToldOn<'_>>,
+    refusals: &[Refusal],
+    sink: &mut K,
+) -> Result<bool, LiveFault>
+    ensures printed { (all : ℕ → List Told) → runs.AreLeft all told.entry.items
+        → Prints result (runs.telling refusals.now all lines.now).text
+        (K.written sink.old) (K.written sink.new) (K.faults sink.old) (K.faults sink.new) }
+    ensures denied { (all : ℕ → List Told) → runs.AreLeft all told.entry.items
+        → IfOk result (λ denied. denied ≡ (runs.telling refusals.now all lines.now).denied) }
+{
+    let mut told = told;
     let mut denied = false;
     for line in lines {
-        denied |= print_line(alloc, line, told.as_mut_slice(), refusals, sink)?;
+        match print_line(alloc, line, told.as_mut_slice(), refusals, sink) {
+            Ok(more) => denied = denied || more,
+            Err(fault) => return Err(fault),
+        }
     }
     Ok(denied)
 }
@@ -188,16 +267,22 @@ fn print_next<K: Sink>(
         → HoldsOn told.new [] × (result ≡ Ok false) × (sink.new ≡ sink.old) }
 {
     match told.next() {
-        Some(Answer::Text(bytes)) => {
-            write(sink, bytes)?;
-            Ok(false)
-        }
+        Some(Answer::Text(bytes)) => said(write(sink, bytes), false),
         Some(Answer::Refusal(clash)) => {
             let clash = kept_clash(refusals, clash, &mut told.found);
-            print_denied(alloc, number, clash, sink)?;
-            Ok(true)
+            said(print_denied(alloc, number, clash, sink), true)
         }
         None => Ok(false),
+    }
+}
+
+/// Whether what was written is a refusal.
+fn said(written: Result<(), LiveFault>, refusal: bool) -> Result<bool, LiveFault>
+    ensures { result ≡ said_of written refusal }
+{
+    match written {
+        Ok(()) => Ok(refusal),
+        Err(fault) => Err(fault),
     }
 }
 
@@ -211,10 +296,26 @@ fn print_denied<K: Sink>(
     ensures { Prints result (refusal_text number (ChainClash clash.now))
         (K.written sink.old) (K.written sink.new) (K.faults sink.old) (K.faults sink.new) }
 {
-    let why = LineRefusal::ChainClash(clash.copy(alloc)?);
     let mut text = String::new(alloc);
-    push_refusal(alloc, &mut text, number, &why)?;
-    write(sink, text.as_bytes())
+    match clash.copy(alloc) {
+        Ok(clash) => print_clash(alloc, number, clash, &mut text, sink),
+        Err(NoMemory) => Err(LiveFault::NoMemory),
+    }
+}
+
+/// Writes that a line is refused for this clash.
+fn print_clash<K: Sink>(
+    alloc: Global,
+    number: u64,
+    clash: Clash,
+    text: &mut String,
+    sink: &mut K,
+) -> Result<(), LiveFault>
+    ensures { Prints result (refusal_text number (ChainClash clash))
+        (K.written sink.old) (K.written sink.new) (K.faults sink.old) (K.faults sink.new) }
+{
+    let why = LineRefusal::ChainClash(clash);
+    print_refusal(alloc, number, &why, text, sink)
 }
 
 /// Writes how the run ended, and its last table.
@@ -227,9 +328,10 @@ pub(crate) fn print_end<J: Sharing, K: Sink>(
         (runs.end_text (length done.now.notes) done.now.clash done.now.table)
         (K.written sink.old) (K.written sink.new) (K.faults sink.old) (K.faults sink.new) }
 {
-    print_final(alloc, done.notes.as_slice().len() as u64, done.clash.as_ref(), sink)?;
-    let table = table_text(alloc, &done.table)?;
-    write(sink, table.as_str().as_bytes())
+    match print_final(alloc, done.notes.as_slice().len() as u64, done.clash.as_ref(), sink) {
+        Ok(()) => print_table(alloc, &done.table, sink),
+        Err(fault) => Err(fault),
+    }
 }
 
 /// Writes how the run ended.
@@ -243,6 +345,17 @@ fn print_final<K: Sink>(
         (K.written sink.old) (K.written sink.new) (K.faults sink.old) (K.faults sink.new) }
 {
     let mut text = String::new(alloc);
-    push_final(&mut text, records, clash)?;
-    write(sink, text.as_bytes())
+    let made = push_final(&mut text, records, clash);
+    write_made(made, text.as_bytes(), sink)
+}
+
+/// Writes a table.
+fn print_table<K: Sink>(alloc: Global, table: &Table, sink: &mut K) -> Result<(), LiveFault>
+    ensures { Prints result (table_text_of table.now.chains)
+        (K.written sink.old) (K.written sink.new) (K.faults sink.old) (K.faults sink.new) }
+{
+    match table_text(alloc, table) {
+        Ok(text) => write(sink, text.as_str().as_bytes()),
+        Err(NoMemory) => Err(LiveFault::NoMemory),
+    }
 }

@@ -1,10 +1,11 @@
 //! The refusals that a hub kept.
 ghost use Rattle.std.specs.Prelude.{◌≡◌};
 ghost use Rattle.std.specs.List.{list_any};
+ghost use Rattle.kp_choice_defs.specs.Names.{same_chain_key};
 ghost use Rattle.kp_live.specs.Runs as spec;
 
 use kp_hub::Refusal;
-use kp_types::Clash;
+use kp_types::{ChainKey, Clash};
 
 /// The clash for which a sync was refused, where a refusal that was kept has it; else that of the
 /// first one. It is looked for behind the place that was found last, since the refusals of a stream
@@ -49,5 +50,12 @@ fn is_kept(refusals: &[Refusal], clash: &Clash, found: &mut usize) -> bool
 fn same_clash(a: &Clash, b: &Clash) -> bool
     ensures { result ≡ spec.same_clash a.now b.now }
 {
-    a.name == b.name && a.first == b.first && a.second == b.second
+    a.name == b.name && (same_key(&a.first, &b.first) && same_key(&a.second, &b.second))
+}
+
+/// Whether two keys are the same.
+fn same_key(a: &ChainKey, b: &ChainKey) -> bool
+    ensures { result ≡ same_chain_key a.now b.now }
+{
+    a == b
 }

@@ -113,12 +113,12 @@ pub(crate) fn take_apart<J: Sharing, A: Ledger, C: Ledger>(
     alloc: Global,
     streams: Vec<Stream<'_, J, A, C>>,
 ) -> Result<Ended<J, A, C>, NoMemory>
-    ensures feeders { IfOk result (λ e. e.feeders ≡ map (λ s. s.standing.feeder) streams.items) }
+    ensures feeders { IfOk result (λ e. e.feeders ≡ map (λ s. s.standing.feeder) streams.entry.items) }
     ensures workers { IfOk result
-        (λ e. e.workers.items ≡ map (λ s. s.standing.worker) streams.items) }
+        (λ e. e.workers.items ≡ map (λ s. s.standing.worker) streams.entry.items) }
     ensures answers { IfOk result
-        (λ e. e.answers.items ≡ map (λ s. s.standing.answers) streams.items) }
-    ensures whole { OnOk result (AllByRecursion (λ s. s.failed ≡ false) streams.items) }
+        (λ e. e.answers.items ≡ map (λ s. s.standing.answers) streams.entry.items) }
+    ensures whole { OnOk result (AllByRecursion (λ s. s.failed ≡ false) streams.entry.items) }
 {
     let mut feeders = Items::new(alloc);
     let mut workers = Vec::new(alloc);

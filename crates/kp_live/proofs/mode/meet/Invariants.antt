@@ -1,0 +1,11 @@
+use Rattle.std.proofs.Common.{take}
+use Rattle.std.specs.List.{AllByRecursion}
+use Rattle.kp_hub.specs.Finishing.{records_told}
+use Rattle.kp_live.specs.Streams.{GoesOnFromAll}
+use Rattle.kp_live.proofs.mode.meet.Goals as goal
+
+-- the first workers have met
+abbrev pub invariant-loop-worker : goal.invariant-loop-worker
+invariant-loop-worker g l =
+    AllByRecursion (GoesOnFromAll (records_told g.J.Sharing.config l.done.journal l.done.notes))
+    (take l.worker-index l.fn.workers)
