@@ -1,9 +1,11 @@
 -- Pieces that are written one behind another.
-use Rattle.std.proofs.Common.{◌≡◌, ◌<◌, ◌≤◌, ◌+◌, ◌⊎◌, inl, inr, ℕ, Bool, true, false, List, [], ◌∷◌, ◌++◌, length, take, refl, ap, sym, subst, ◌∙◌, arith, append-nil}
-use Rattle.std.specs.Prelude.{Option, Result, Ok, Err, IsErrOf, nat_le}
+use Rattle.std.proofs.Common.{◌≡◌, ◌<◌, ◌≤◌, ◌+◌, ◌⊎◌, inl, inr, ℕ, Bool, true, false, List, [], ◌∷◌, ◌++◌, length, take, drop, get_or, refl, ap, sym, subst, ◌∙◌, arith, add-one}
+use Rattle.std.specs.Prelude.{Option, Result, Ok, Err, IsErrOf, OnOk, OnErr, nat_le}
+use Rattle.std.specs.List.{flat_map}
 use Rattle.std.proofs.lemmas.Bool.{leb-true, leb-false}
-use Rattle.std.proofs.Math.Seq.{take-append-add, take-append_seam, take-length}
-use Rattle.std.proofs.lemmas.List.{take-append-le, take_all}
+use Rattle.std.proofs.Math.Seq.{take-append-add, take-append_seam, take-suc}
+use Rattle.std.proofs.lemmas.Grind.{flat_map-append}
+use Rattle.std.proofs.lemmas.List.{flat_map_more, take-append-drop, take-append-le, take_all}
 use Rattle.kp_io.specs.Faults.{Rose}
 use Rattle.kp_io.specs.Told.{Grows}
 use Rattle.kp_io.proofs.Told.{Grows-nil, Grows-trans}
@@ -99,3 +101,54 @@ prints_stopped {T = T} {U = U} e a b w0 w1 f0 f1 first = record {
     same_fault : {fault : LiveFault} → ◌≡◌ {A = Result U LiveFault} (Err e) (Err fault)
         → ◌≡◌ {A = Result T LiveFault} (Err e) (Err fault)
     same_fault is = ap Err (cc is)
+
+-- a text that was made, or that there was no memory for
+pub made_prints : {T U E : Type 0} (made : Result U E) (result : Result T LiveFault)
+    (bytes whole : List ℕ) (w0 w1 : Option (List ℕ)) (f0 f1 : ℕ) → OnOk made (bytes ≡ whole)
+    → OnOk made (Prints result bytes w0 w1 f0 f1)
+    → OnErr made ((text : List ℕ) → Prints result text w0 w1 f0 f1)
+    → Prints result whole w0 w1 f0 f1
+made_prints (Ok x) result bytes whole w0 w1 f0 f1 is ok err =
+    subst (λ b. Prints result b w0 w1 f0 f1) is ok
+made_prints (Err e) result bytes whole w0 w1 f0 f1 is ok err = err whole
+
+-- the text of one more element, and of those behind it
+pub next_text : {X : Type 0} (f : X → List ℕ) (xs : List X) (i : ℕ) (d : X) → i < length xs
+    → flat_map f (take (i + 1) xs) ≡ flat_map f (take i xs) ++ f (get_or xs i d)
+next_text f xs i d lt =
+    ap (λ n. flat_map f (take n xs)) (add-one i)
+    ∙ ap (flat_map f) (take-suc xs i d lt)
+    ∙ sym (flat_map_more f [] (take i xs) (get_or xs i d))
+
+pub rest_text : {X : Type 0} (f : X → List ℕ) (xs : List X) (i : ℕ) (d : X) → i < length xs
+    → flat_map f xs
+    ≡ flat_map f (take i xs) ++ f (get_or xs i d) ++ flat_map f (drop (i + 1) xs)
+rest_text f xs i d lt =
+    ap (flat_map f) (sym (take-append-drop (i + 1) xs))
+    ∙ flat_map-append f (take (i + 1) xs) (drop (i + 1) xs)
+    ∙ ap (λ l. l ++ flat_map f (drop (i + 1) xs)) (next_text f xs i d lt)
+
+-- one more element was written
+pub prints_next : {X : Type 0} (f : X → List ℕ) (xs : List X) (i : ℕ) (x : X) (u v : Unit {0})
+    (w0 w1 w2 : Option (List ℕ)) (f0 f1 f2 : ℕ) → i < length xs → x ≡ get_or xs i x
+    → Prints {T = Unit {0}} (Ok u) (flat_map f (take i xs)) w0 w1 f0 f1
+    → Prints {T = Unit {0}} (Ok v) (f x) w1 w2 f1 f2
+    → Prints {T = Unit {0}} (Ok v) (flat_map f (take (i + 1) xs)) w0 w2 f0 f2
+prints_next f xs i x u v w0 w1 w2 f0 f1 f2 lt is before one =
+    subst (λ l. Prints {T = Unit {0}} (Ok v) l w0 w2 f0 f2)
+    (sym (next_text f xs i x lt ∙ ap (λ y. flat_map f (take i xs) ++ f y) (sym is)))
+    (prints_then u (Ok v) (flat_map f (take i xs)) (f x) w0 w1 w2 f0 f1 f2 before one)
+
+-- an element wasn't written whole
+pub prints_broken : {X T U : Type 0} (f : X → List ℕ) (xs : List X) (i : ℕ) (x : X) (u : Unit {0})
+    (e : LiveFault) (w0 w1 w2 : Option (List ℕ)) (f0 f1 f2 : ℕ) → i < length xs
+    → x ≡ get_or xs i x → Prints {T = Unit {0}} (Ok u) (flat_map f (take i xs)) w0 w1 f0 f1
+    → Prints {T = T} (Err e) (f x) w1 w2 f1 f2
+    → Prints {T = U} (Err e) (flat_map f xs) w0 w2 f0 f2
+prints_broken {T = T} {U = U} f xs i x u e w0 w1 w2 f0 f1 f2 lt is before one =
+    subst (λ l. Prints {T = U} (Err e) l w0 w2 f0 f2)
+    (sym (rest_text f xs i x lt
+    ∙ ap (λ y. flat_map f (take i xs) ++ f y ++ flat_map f (drop (i + 1) xs)) (sym is)))
+    (prints_stopped {T = T} {U = U} e (flat_map f (take i xs) ++ f x)
+    (flat_map f (drop (i + 1) xs)) w0 w2 f0 f2
+    (prints_then u (Err {T = T} e) (flat_map f (take i xs)) (f x) w0 w1 w2 f0 f1 f2 before one))

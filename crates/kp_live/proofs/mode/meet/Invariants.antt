@@ -2,7 +2,7 @@ use Rattle.std.proofs.Common.{take}
 use Rattle.std.specs.List.{AllByRecursion}
 use Rattle.kp_hub.specs.Finishing.{records_told}
 use Rattle.kp_live.specs.Streams.{GoesOnFromAll}
-use Rattle.kp_live.proofs.mode.meet.Goals as goal
+use Rattle.kp_live.proofs.mode.meet.Given as goal
 
 -- the first workers have met
 abbrev pub invariant-loop-worker : goal.invariant-loop-worker

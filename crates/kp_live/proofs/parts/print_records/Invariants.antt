@@ -2,7 +2,7 @@ use Rattle.std.proofs.Common.{take}
 use Rattle.std.specs.Prelude.{Ok}
 use Rattle.kp_live.specs.Runs.{notes_text}
 use Rattle.kp_live.specs.Written.{Prints}
-use Rattle.kp_live.proofs.parts.print_records.Goals as goal
+use Rattle.kp_live.proofs.parts.print_records.Given as goal
 
 -- the first records were written
 abbrev pub invariant-loop-at : goal.invariant-loop-at

@@ -3,7 +3,7 @@ use Rattle.std.specs.Prelude.{Ok}
 use Rattle.std.specs.List.{flat_map}
 use Rattle.kp_run_defs.specs.LiveText.{refused_text}
 use Rattle.kp_live.specs.Written.{Prints}
-use Rattle.kp_live.proofs.parts.print_refused.Goals as goal
+use Rattle.kp_live.proofs.parts.print_refused.Given as goal
 
 -- the first lines were written
 abbrev pub invariant-loop-line : goal.invariant-loop-line

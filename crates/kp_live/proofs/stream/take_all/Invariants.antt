@@ -1,6 +1,6 @@
 use Rattle.std.proofs.Common.{◌≡◌, map, take}
 use Rattle.kp_live.specs.Streams.{RunsOn}
-use Rattle.kp_live.proofs.stream.take_all.Goals as goal
+use Rattle.kp_live.proofs.stream.take_all.Given as goal
 
 -- the first lines were taken
 abbrev pub invariant-loop-line : goal.invariant-loop-line

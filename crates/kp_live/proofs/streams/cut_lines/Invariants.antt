@@ -2,7 +2,7 @@ use Rattle.std.proofs.Common.{◌≡◌, ℕ, map, take}
 use Rattle.std.specs.Prelude.{IfSome, slice_get}
 use Rattle.std.specs.List.{filter}
 use Rattle.kp_run_defs.specs.LiveLines.{is_line_of}
-use Rattle.kp_live.proofs.streams.cut_lines.Goals as goal
+use Rattle.kp_live.proofs.streams.cut_lines.Given as goal
 
 -- each stream has those of the first lines that are its own
 abbrev pub invariant-loop-line : goal.invariant-loop-line

@@ -2,7 +2,7 @@ use Rattle.std.proofs.Common.{◌≡◌, ◌+◌, ◌++◌, map, length, replica
 use Rattle.std.specs.List.{AllByRecursion}
 use Rattle.kp_hub.specs.Known.{new_worker}
 use Rattle.kp_live.specs.Streams.{IsAtStart}
-use Rattle.kp_live.proofs.streams.streams_of.Goals as goal
+use Rattle.kp_live.proofs.streams.streams_of.Given as goal
 
 -- each feeder so far has a stream, and as many workers are left as feeders
 abbrev pub invariant-loop-feeder : goal.invariant-loop-feeder

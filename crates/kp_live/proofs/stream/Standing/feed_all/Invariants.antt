@@ -1,5 +1,5 @@
 use Rattle.std.proofs.Common.{◌≡◌, ◌++◌, take}
-use Rattle.kp_live.proofs.stream.Standing.feed_all.Goals as goal
+use Rattle.kp_live.proofs.stream.Standing.feed_all.Given as goal
 
 -- the first events were fed, and nothing else changed
 abbrev pub invariant-loop-event : goal.invariant-loop-event
