@@ -1,16 +1,21 @@
 -- Pieces that are written one behind another.
-use Rattle.std.proofs.Common.{◌≡◌, ◌<◌, ◌≤◌, ◌+◌, ◌⊎◌, inl, inr, ℕ, Bool, true, false, List, [], ◌∷◌, ◌++◌, length, take, drop, get_or, refl, ap, sym, subst, ◌∙◌, arith, add-one}
-use Rattle.std.specs.Prelude.{Option, Result, Ok, Err, IsErrOf, OnOk, OnErr, nat_le}
+use Rattle.std.proofs.Common.{◌≡◌, ◌<◌, ◌≤◌, ◌+◌, ◌⊎◌, inl, inr, ℕ, zero, suc, Bool, true, false, List, [], ◌∷◌, ◌++◌, length, take, drop, get_or, refl, ap, sym, subst, ◌∙◌, arith, add-one, add-zero, append_assoc, append-nil}
+use Rattle.std.specs.Prelude.{Option, Result, Ok, Err, IfSome, IsErrOf, OnOk, OnErr, nat_le, slice_get}
 use Rattle.std.specs.List.{flat_map}
 use Rattle.std.proofs.lemmas.Bool.{leb-true, leb-false}
 use Rattle.std.proofs.Math.Seq.{take-append-add, take-append_seam, take-suc}
 use Rattle.std.proofs.lemmas.Grind.{flat_map-append}
-use Rattle.std.proofs.lemmas.List.{flat_map_more, take-append-drop, take-append-le, take_all}
+use Rattle.std.proofs.lemmas.List.{flat_map_more, length-take-le, take-append-drop, take-append-le, take_all}
 use Rattle.kp_io.specs.Faults.{Rose}
 use Rattle.kp_io.specs.Told.{Grows}
 use Rattle.kp_io.proofs.Told.{Grows-nil, Grows-trans}
 use Rattle.kp_live.specs.declared.fault.LiveFault.{LiveFault}
 use Rattle.kp_live.specs.declared.fault.LiveFault.TheVariants.{NoMemory, WriteFault}
+use Rattle.kp_history_defs.specs.declared.fed.Fed.{Fed}
+use Rattle.kp_text_defs.specs.Live.{event_text, record_text}
+use Rattle.kp_run_defs.specs.LiveText.{journal_text}
+use Rattle.kp_hub.specs.declared.notes.RecordNote.{RecordNote}
+use Rattle.kp_live.specs.Runs.{note_text, notes_text}
 use Rattle.kp_live.specs.Written.{GrowsFront, Prints}
 
 -- a front of the first part is one of the whole
@@ -112,43 +117,149 @@ made_prints (Ok x) result bytes whole w0 w1 f0 f1 is ok err =
     subst (λ b. Prints result b w0 w1 f0 f1) is ok
 made_prints (Err e) result bytes whole w0 w1 f0 f1 is ok err = err whole
 
--- the text of one more element, and of those behind it
-pub next_text : {X : Type 0} (f : X → List ℕ) (xs : List X) (i : ℕ) (d : X) → i < length xs
-    → flat_map f (take (i + 1) xs) ≡ flat_map f (take i xs) ++ f (get_or xs i d)
-next_text f xs i d lt =
-    ap (λ n. flat_map f (take n xs)) (add-one i)
-    ∙ ap (flat_map f) (take-suc xs i d lt)
-    ∙ sym (flat_map_more f [] (take i xs) (get_or xs i d))
+-- one more piece was written
+pub prints_next : (before piece after : List ℕ) (u v : Unit {0}) (w0 w1 w2 : Option (List ℕ))
+    (f0 f1 f2 : ℕ) → after ≡ before ++ piece
+    → Prints {T = Unit {0}} (Ok u) before w0 w1 f0 f1
+    → Prints {T = Unit {0}} (Ok v) piece w1 w2 f1 f2
+    → Prints {T = Unit {0}} (Ok v) after w0 w2 f0 f2
+prints_next before piece after u v w0 w1 w2 f0 f1 f2 is first one =
+    subst (λ l. Prints {T = Unit {0}} (Ok v) l w0 w2 f0 f2) (sym is)
+    (prints_then u (Ok v) before piece w0 w1 w2 f0 f1 f2 first one)
 
-pub rest_text : {X : Type 0} (f : X → List ℕ) (xs : List X) (i : ℕ) (d : X) → i < length xs
-    → flat_map f xs
-    ≡ flat_map f (take i xs) ++ f (get_or xs i d) ++ flat_map f (drop (i + 1) xs)
-rest_text f xs i d lt =
+-- a piece wasn't written whole
+pub prints_broken : (before piece rest whole : List ℕ) (u : Unit {0}) (e : LiveFault)
+    (w0 w1 w2 : Option (List ℕ)) (f0 f1 f2 : ℕ) → whole ≡ before ++ piece ++ rest
+    → Prints {T = Unit {0}} (Ok u) before w0 w1 f0 f1
+    → Prints {T = Unit {0}} (Err e) piece w1 w2 f1 f2
+    → Prints {T = Unit {0}} (Err e) whole w0 w2 f0 f2
+prints_broken before piece rest whole u e w0 w1 w2 f0 f1 f2 is first one =
+    subst (λ l. Prints {T = Unit {0}} (Err e) l w0 w2 f0 f2) (sym is)
+    (prints_stopped {T = Unit {0}} {U = Unit {0}} e (before ++ piece) rest w0 w2 f0 f2
+    (prints_then {U = Unit {0}} u (Err e) before piece w0 w1 w2 f0 f1 f2 first one))
+
+-- of three parts the first was not written whole
+pub prints_first : (a b c whole : List ℕ) (e : LiveFault) (w0 w1 : Option (List ℕ)) (f0 f1 : ℕ)
+    → whole ≡ a ++ b ++ c → Prints {T = Unit {0}} (Err e) a w0 w1 f0 f1
+    → Prints {T = Unit {0}} (Err e) whole w0 w1 f0 f1
+prints_first a b c whole e w0 w1 f0 f1 is first =
+    subst (λ l. Prints {T = Unit {0}} (Err e) l w0 w1 f0 f1) (sym (is ∙ append_assoc a b c))
+    (prints_stopped {T = Unit {0}} {U = Unit {0}} e a (b ++ c) w0 w1 f0 f1 first)
+
+-- all three were
+pub prints_three : {T : Type 0} (a b c whole : List ℕ) (u v : Unit {0}) (q : Result T LiveFault)
+    (w0 w1 w2 w3 : Option (List ℕ)) (f0 f1 f2 f3 : ℕ) → whole ≡ a ++ b ++ c
+    → Prints {T = Unit {0}} (Ok u) a w0 w1 f0 f1 → Prints {T = Unit {0}} (Ok v) b w1 w2 f1 f2
+    → Prints q c w2 w3 f2 f3 → Prints q whole w0 w3 f0 f3
+prints_three a b c whole u v q w0 w1 w2 w3 f0 f1 f2 f3 is first second third =
+    subst (λ l. Prints q l w0 w3 f0 f3) (sym is)
+    (prints_then v q (a ++ b) c w0 w2 w3 f0 f2 f3
+    (prints_then u (Ok v) a b w0 w1 w2 f0 f1 f2 first second) third)
+
+-- ---- Texts of lists
+
+pub next_text : {X : Type 0} (f : X → List ℕ) (xs : List X) (i : ℕ) (x : X) → i < length xs
+    → x ≡ get_or xs i x → flat_map f (take (i + 1) xs) ≡ flat_map f (take i xs) ++ f x
+next_text f xs i x lt is =
+    ap (λ n. flat_map f (take n xs)) (add-one i)
+    ∙ ap (flat_map f) (take-suc xs i x lt)
+    ∙ sym (flat_map_more f [] (take i xs) (get_or xs i x))
+    ∙ ap (λ y. flat_map f (take i xs) ++ f y) (sym is)
+
+pub rest_text : {X : Type 0} (f : X → List ℕ) (xs : List X) (i : ℕ) (x : X) → i < length xs
+    → x ≡ get_or xs i x
+    → flat_map f xs ≡ flat_map f (take i xs) ++ f x ++ flat_map f (drop (i + 1) xs)
+rest_text f xs i x lt is =
     ap (flat_map f) (sym (take-append-drop (i + 1) xs))
     ∙ flat_map-append f (take (i + 1) xs) (drop (i + 1) xs)
-    ∙ ap (λ l. l ++ flat_map f (drop (i + 1) xs)) (next_text f xs i d lt)
+    ∙ ap (λ l. l ++ flat_map f (drop (i + 1) xs)) (next_text f xs i x lt is)
 
--- one more element was written
-pub prints_next : {X : Type 0} (f : X → List ℕ) (xs : List X) (i : ℕ) (x : X) (u v : Unit {0})
-    (w0 w1 w2 : Option (List ℕ)) (f0 f1 f2 : ℕ) → i < length xs → x ≡ get_or xs i x
-    → Prints {T = Unit {0}} (Ok u) (flat_map f (take i xs)) w0 w1 f0 f1
-    → Prints {T = Unit {0}} (Ok v) (f x) w1 w2 f1 f2
-    → Prints {T = Unit {0}} (Ok v) (flat_map f (take (i + 1) xs)) w0 w2 f0 f2
-prints_next f xs i x u v w0 w1 w2 f0 f1 f2 lt is before one =
-    subst (λ l. Prints {T = Unit {0}} (Ok v) l w0 w2 f0 f2)
-    (sym (next_text f xs i x lt ∙ ap (λ y. flat_map f (take i xs) ++ f y) (sym is)))
-    (prints_then u (Ok v) (flat_map f (take i xs)) (f x) w0 w1 w2 f0 f1 f2 before one)
+-- the journal, from a place on
+journal_append : (streams : List (List ℕ)) (n : ℕ) (xs ys : List Fed)
+    → journal_text streams n (xs ++ ys)
+    ≡ journal_text streams n xs ++ journal_text streams (n + length xs) ys
+journal_append streams n [] ys =
+    ap (λ k. journal_text streams k ys) (sym (add-zero n))
+journal_append streams n (x ∷ xs) ys =
+    ap (λ l. event_text n (get_or streams x.feeder []) x.number x.event ++ l)
+    (journal_append streams (suc n) xs ys
+    ∙ ap (λ k. journal_text streams (suc n) xs ++ journal_text streams k ys)
+    (omega arith))
+    ∙ sym (append_assoc (event_text n (get_or streams x.feeder []) x.number x.event)
+    (journal_text streams (suc n) xs) (journal_text streams (n + suc (length xs)) ys))
 
--- an element wasn't written whole
-pub prints_broken : {X T U : Type 0} (f : X → List ℕ) (xs : List X) (i : ℕ) (x : X) (u : Unit {0})
-    (e : LiveFault) (w0 w1 w2 : Option (List ℕ)) (f0 f1 f2 : ℕ) → i < length xs
-    → x ≡ get_or xs i x → Prints {T = Unit {0}} (Ok u) (flat_map f (take i xs)) w0 w1 f0 f1
-    → Prints {T = T} (Err e) (f x) w1 w2 f1 f2
-    → Prints {T = U} (Err e) (flat_map f xs) w0 w2 f0 f2
-prints_broken {T = T} {U = U} f xs i x u e w0 w1 w2 f0 f1 f2 lt is before one =
-    subst (λ l. Prints {T = U} (Err e) l w0 w2 f0 f2)
-    (sym (rest_text f xs i x lt
-    ∙ ap (λ y. flat_map f (take i xs) ++ f y ++ flat_map f (drop (i + 1) xs)) (sym is)))
-    (prints_stopped {T = T} {U = U} e (flat_map f (take i xs) ++ f x)
-    (flat_map f (drop (i + 1) xs)) w0 w2 f0 f2
-    (prints_then u (Err {T = T} e) (flat_map f (take i xs)) (f x) w0 w1 w2 f0 f1 f2 before one))
+pub next_event : (streams : List (List ℕ)) (xs : List Fed) (i : ℕ) (x : Fed) → i < length xs
+    → x ≡ get_or xs i x
+    → journal_text streams 1 (take (i + 1) xs)
+    ≡ journal_text streams 1 (take i xs)
+    ++ event_text (i + 1) (get_or streams x.feeder []) x.number x.event
+next_event streams xs i x lt is =
+    let there : 1 + length (take i xs) ≡ i + 1 =
+    omega (arith, length-take-le i xs (omega (arith, lt))) in
+    ap (λ n. journal_text streams 1 (take n xs)) (add-one i)
+    ∙ ap (journal_text streams 1) (take-suc xs i x lt)
+    ∙ journal_append streams 1 (take i xs) (get_or xs i x ∷ [])
+    ∙ (λ k. journal_text streams 1 (take i xs) ++ journal_text streams (there k) (sym is k ∷ []))
+    ∙ ap (λ l. journal_text streams 1 (take i xs) ++ l)
+    (append-nil (event_text (i + 1) (get_or streams x.feeder []) x.number x.event))
+
+pub rest_events : (streams : List (List ℕ)) (xs : List Fed) (i : ℕ) (x : Fed) → i < length xs
+    → x ≡ get_or xs i x
+    → journal_text streams 1 xs
+    ≡ journal_text streams 1 (take i xs)
+    ++ event_text (i + 1) (get_or streams x.feeder []) x.number x.event
+    ++ journal_text streams (1 + length (take (i + 1) xs)) (drop (i + 1) xs)
+rest_events streams xs i x lt is =
+    ap (journal_text streams 1) (sym (take-append-drop (i + 1) xs))
+    ∙ journal_append streams 1 (take (i + 1) xs) (drop (i + 1) xs)
+    ∙ ap (λ l. l ++ journal_text streams (1 + length (take (i + 1) xs)) (drop (i + 1) xs))
+    (next_event streams xs i x lt is)
+
+-- the records, from a place on
+notes_append : (n : ℕ) (xs ys : List RecordNote)
+    → notes_text n (xs ++ ys) ≡ notes_text n xs ++ notes_text (n + length xs) ys
+notes_append n [] ys = ap (λ k. notes_text k ys) (sym (add-zero n))
+notes_append n (x ∷ xs) ys =
+    ap (λ l. note_text n x ++ l)
+    (notes_append (n + 1) xs ys
+    ∙ ap (λ k. notes_text (n + 1) xs ++ notes_text k ys) (omega arith))
+    ∙ sym (append_assoc (note_text n x) (notes_text (n + 1) xs)
+    (notes_text (n + suc (length xs)) ys))
+
+pub next_note : (xs : List RecordNote) (i : ℕ) (x : RecordNote) → i < length xs
+    → x ≡ get_or xs i x
+    → notes_text 0 (take (i + 1) xs)
+    ≡ notes_text 0 (take i xs) ++ record_text (i + 1) x.events x.written x.removed
+next_note xs i x lt is =
+    let there : 0 + length (take i xs) ≡ i =
+    omega (arith, length-take-le i xs (omega (arith, lt))) in
+    ap (λ n. notes_text 0 (take n xs)) (add-one i)
+    ∙ ap (notes_text 0) (take-suc xs i x lt)
+    ∙ notes_append 0 (take i xs) (get_or xs i x ∷ [])
+    ∙ (λ k. notes_text 0 (take i xs) ++ notes_text (there k) (sym is k ∷ []))
+    ∙ ap (λ l. notes_text 0 (take i xs) ++ l) (append-nil (note_text i x))
+    ∙ ap (λ n. notes_text 0 (take i xs) ++ record_text n x.events x.written x.removed)
+    (sym (add-one i))
+
+pub rest_notes : (xs : List RecordNote) (i : ℕ) (x : RecordNote) → i < length xs
+    → x ≡ get_or xs i x
+    → notes_text 0 xs
+    ≡ notes_text 0 (take i xs) ++ record_text (i + 1) x.events x.written x.removed
+    ++ notes_text (0 + length (take (i + 1) xs)) (drop (i + 1) xs)
+rest_notes xs i x lt is =
+    ap (notes_text 0) (sym (take-append-drop (i + 1) xs))
+    ∙ notes_append 0 (take (i + 1) xs) (drop (i + 1) xs)
+    ∙ ap (λ l. l ++ notes_text (0 + length (take (i + 1) xs)) (drop (i + 1) xs))
+    (next_note xs i x lt is)
+
+-- ---- Lists by their places
+
+-- one more element at the end
+pub pushed_each : {X : Type 0} (P : ℕ → X → Type 0) (xs : List X) (x : X)
+    → ((i : ℕ) → IfSome (slice_get xs i) (P i)) → P (length xs) x
+    → (i : ℕ) → IfSome (slice_get (xs ++ x ∷ []) i) (P i)
+pushed_each P [] x each new zero = new
+pushed_each P [] x each new (suc i) = tt
+pushed_each P (y ∷ xs) x each new zero = each zero
+pushed_each P (y ∷ xs) x each new (suc i) =
+    pushed_each (λ k. P (suc k)) xs x (λ k. each (suc k)) new i

@@ -1,6 +1,6 @@
 //! The parts of the text of a live run, in order.
 ghost use Rattle.std.specs.Prelude.{◌≡◌, ◌++◌, ◌∷◌, ◌||◌, [], ℕ, List, false, length, get_or};
-ghost use Rattle.std.specs.Prelude.{IfOk, Ok, option_map};
+ghost use Rattle.std.specs.Prelude.{IfOk, Ok};
 ghost use Rattle.std.specs.List.{flat_map};
 ghost use Rattle.kp_run_defs.specs.LiveText as spec;
 ghost use Rattle.kp_streams.specs.Streams.{reading_in};
@@ -17,7 +17,7 @@ use crate::answers::{Answer, Answers, ToldOn};
 use crate::fault::LiveFault;
 use crate::output::{write, write_made};
 use crate::refusals::kept_clash;
-use kp_base::{Copied, NoMemory, Text};
+use kp_base::{Copied, Items, NoMemory, Text};
 use kp_hub::{Fed, Finished, RecordNote, Refusal, Sharing};
 use kp_io::Sink;
 use kp_report::{push_event, push_final, push_record, push_refusal};
@@ -142,7 +142,7 @@ fn print_records<K: Sink>(
         (K.written sink.old) (K.written sink.new) (K.faults sink.old) (K.faults sink.new) }
 {
     for at in 0..notes.len() {
-        match print_record(at as u64 + 1, notes[at], text, sink) {
+        match print_record(at as u64 + 1, &notes[at], text, sink) {
             Ok(()) => {}
             Err(fault) => return Err(fault),
         }
@@ -153,11 +153,11 @@ fn print_records<K: Sink>(
 /// Writes the record of this number.
 fn print_record<K: Sink>(
     number: u64,
-    note: RecordNote,
+    note: &RecordNote,
     text: &mut String,
     sink: &mut K,
 ) -> Result<(), LiveFault>
-    ensures { Prints result (record_text number note.events note.written note.removed)
+    ensures { Prints result (record_text number note.now.events note.now.written note.now.removed)
         (K.written sink.old) (K.written sink.new) (K.faults sink.old) (K.faults sink.new) }
 {
     text.clear();
@@ -232,13 +232,13 @@ fn print_line<K: Sink>(
     refusals: &[Refusal],
     sink: &mut K,
 ) -> Result<bool, LiveFault>
-    ensures { (t : Telling) → runs.AreLeft t.left told.old
-        → (next : Telling) × (next ≡ runs.after_line refusals.now t line.now)
-        × IfOk result (λ denied. runs.AreLeft next.left told.new
-        × ((t.denied || denied) ≡ next.denied))
-        × ((bytes : List ℕ) × (next.text ≡ t.text ++ bytes)
-        × Prints result bytes (K.written sink.old) (K.written sink.new)
-        (K.faults sink.old) (K.faults sink.new)) }
+    ensures left { (t : Telling) → runs.AreLeft t.left told.old
+        → IfOk result (λ denied. runs.AreLeft (runs.after_line refusals.now t line.now).left
+        told.new × ((t.denied || denied) ≡ (runs.after_line refusals.now t line.now).denied)) }
+    ensures printed { (t : Telling) → runs.AreLeft t.left told.old → (bytes : List ℕ)
+        × ((runs.after_line refusals.now t line.now).text ≡ t.text ++ bytes)
+        × Prints result bytes (K.written sink.old) (K.written sink.new) (K.faults sink.old)
+        (K.faults sink.new) }
 {
     let Some(own) = told.get_mut(line.stream as usize) else {
         return Ok(false);
@@ -328,7 +328,7 @@ pub(crate) fn print_end<J: Sharing, K: Sink>(
         (runs.end_text (length done.now.notes) done.now.clash done.now.table)
         (K.written sink.old) (K.written sink.new) (K.faults sink.old) (K.faults sink.new) }
 {
-    match print_final(alloc, done.notes.as_slice().len() as u64, done.clash.as_ref(), sink) {
+    match print_final(alloc, &done.notes, &done.clash, sink) {
         Ok(()) => print_table(alloc, &done.table, sink),
         Err(fault) => Err(fault),
     }
@@ -337,15 +337,16 @@ pub(crate) fn print_end<J: Sharing, K: Sink>(
 /// Writes how the run ended.
 fn print_final<K: Sink>(
     alloc: Global,
-    records: u64,
-    clash: Option<&Clash>,
+    notes: &Items<RecordNote>,
+    clash: &Option<Clash>,
     sink: &mut K,
 ) -> Result<(), LiveFault>
-    ensures { Prints result (final_text records (option_map (λ c. c.now) clash.entry))
+    ensures { Prints result (final_text (length notes.now) clash.now)
         (K.written sink.old) (K.written sink.new) (K.faults sink.old) (K.faults sink.new) }
 {
     let mut text = String::new(alloc);
-    let made = push_final(&mut text, records, clash);
+    let records = notes.as_slice().len() as u64;
+    let made = push_final(&mut text, records, clash.as_ref());
     write_made(made, text.as_bytes(), sink)
 }
 

@@ -1,4 +1,4 @@
-use Rattle.std.proofs.Common.{◌≡◌, ◌+◌, ◌++◌, map, length, replicate, []}
+use Rattle.std.proofs.Common.{◌≡◌, ◌-◌, map, length, replicate, []}
 use Rattle.std.specs.List.{AllByRecursion}
 use Rattle.kp_hub.specs.Known.{new_worker}
 use Rattle.kp_live.specs.Streams.{IsAtStart}
