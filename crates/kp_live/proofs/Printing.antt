@@ -16,7 +16,7 @@ use Rattle.kp_text_defs.specs.Live.{event_text, record_text}
 use Rattle.kp_run_defs.specs.LiveText.{journal_text}
 use Rattle.kp_hub.specs.declared.notes.RecordNote.{RecordNote}
 use Rattle.kp_live.specs.Runs.{note_text, notes_text}
-use Rattle.kp_live.specs.Written.{GrowsFront, Prints}
+use Rattle.kp_live.specs.Written.{GrowsFront, Prints, said_of}
 
 -- a front of the first part is one of the whole
 front_by : (a b : List ℕ) (written now : Option (List ℕ)) (n : ℕ) → Grows written now (take n a)
@@ -128,33 +128,55 @@ prints_next before piece after u v w0 w1 w2 f0 f1 f2 is first one =
     (prints_then u (Ok v) before piece w0 w1 w2 f0 f1 f2 first one)
 
 -- a piece wasn't written whole
-pub prints_broken : (before piece rest whole : List ℕ) (u : Unit {0}) (e : LiveFault)
+pub prints_broken : {A B C : Type 0} (before piece rest whole : List ℕ) (u : A) (e : LiveFault)
     (w0 w1 w2 : Option (List ℕ)) (f0 f1 f2 : ℕ) → whole ≡ before ++ piece ++ rest
-    → Prints {T = Unit {0}} (Ok u) before w0 w1 f0 f1
-    → Prints {T = Unit {0}} (Err e) piece w1 w2 f1 f2
-    → Prints {T = Unit {0}} (Err e) whole w0 w2 f0 f2
-prints_broken before piece rest whole u e w0 w1 w2 f0 f1 f2 is first one =
-    subst (λ l. Prints {T = Unit {0}} (Err e) l w0 w2 f0 f2) (sym is)
-    (prints_stopped {T = Unit {0}} {U = Unit {0}} e (before ++ piece) rest w0 w2 f0 f2
-    (prints_then {U = Unit {0}} u (Err e) before piece w0 w1 w2 f0 f1 f2 first one))
+    → Prints {T = A} (Ok u) before w0 w1 f0 f1 → Prints {T = B} (Err e) piece w1 w2 f1 f2
+    → Prints {T = C} (Err e) whole w0 w2 f0 f2
+prints_broken {B = B} {C = C} before piece rest whole u e w0 w1 w2 f0 f1 f2 is first one =
+    subst (λ l. Prints {T = C} (Err e) l w0 w2 f0 f2) (sym is)
+    (prints_stopped {T = B} {U = C} e (before ++ piece) rest w0 w2 f0 f2
+    (prints_then {U = B} u (Err e) before piece w0 w1 w2 f0 f1 f2 first one))
 
 -- of three parts the first was not written whole
-pub prints_first : (a b c whole : List ℕ) (e : LiveFault) (w0 w1 : Option (List ℕ)) (f0 f1 : ℕ)
-    → whole ≡ a ++ b ++ c → Prints {T = Unit {0}} (Err e) a w0 w1 f0 f1
-    → Prints {T = Unit {0}} (Err e) whole w0 w1 f0 f1
-prints_first a b c whole e w0 w1 f0 f1 is first =
-    subst (λ l. Prints {T = Unit {0}} (Err e) l w0 w1 f0 f1) (sym (is ∙ append_assoc a b c))
-    (prints_stopped {T = Unit {0}} {U = Unit {0}} e a (b ++ c) w0 w1 f0 f1 first)
+pub prints_first : {A C : Type 0} (a b c whole : List ℕ) (e : LiveFault) (w0 w1 : Option (List ℕ))
+    (f0 f1 : ℕ) → whole ≡ a ++ b ++ c → Prints {T = A} (Err e) a w0 w1 f0 f1
+    → Prints {T = C} (Err e) whole w0 w1 f0 f1
+prints_first {A = A} {C = C} a b c whole e w0 w1 f0 f1 is first =
+    subst (λ l. Prints {T = C} (Err e) l w0 w1 f0 f1) (sym (is ∙ append_assoc a b c))
+    (prints_stopped {T = A} {U = C} e a (b ++ c) w0 w1 f0 f1 first)
 
 -- all three were
-pub prints_three : {T : Type 0} (a b c whole : List ℕ) (u v : Unit {0}) (q : Result T LiveFault)
-    (w0 w1 w2 w3 : Option (List ℕ)) (f0 f1 f2 f3 : ℕ) → whole ≡ a ++ b ++ c
-    → Prints {T = Unit {0}} (Ok u) a w0 w1 f0 f1 → Prints {T = Unit {0}} (Ok v) b w1 w2 f1 f2
-    → Prints q c w2 w3 f2 f3 → Prints q whole w0 w3 f0 f3
+pub prints_three : {A B T : Type 0} (a b c whole : List ℕ) (u : A) (v : B)
+    (q : Result T LiveFault) (w0 w1 w2 w3 : Option (List ℕ)) (f0 f1 f2 f3 : ℕ)
+    → whole ≡ a ++ b ++ c → Prints {T = A} (Ok u) a w0 w1 f0 f1
+    → Prints {T = B} (Ok v) b w1 w2 f1 f2 → Prints q c w2 w3 f2 f3 → Prints q whole w0 w3 f0 f3
 prints_three a b c whole u v q w0 w1 w2 w3 f0 f1 f2 f3 is first second third =
     subst (λ l. Prints q l w0 w3 f0 f3) (sym is)
     (prints_then v q (a ++ b) c w0 w2 w3 f0 f2 f3
     (prints_then u (Ok v) a b w0 w1 w2 f0 f1 f2 first second) third)
+
+-- a flag beside what was written
+pub prints_said : (r : Result (Unit {0}) LiveFault) (b : Bool) (text : List ℕ)
+    (w0 w1 : Option (List ℕ)) (f0 f1 : ℕ) → Prints r text w0 w1 f0 f1
+    → Prints (said_of r b) text w0 w1 f0 f1
+prints_said (Ok u) b text w0 w1 f0 f1 all = record {
+  whole = all.whole;
+  front = tt;
+  later = all.later;
+  sure = all.sure;
+  failed = λ is. absurd (cc is);
+  wanted = λ is. absurd (cc is);
+  other = λ fault is. absurd (cc is);
+}
+prints_said (Err e) b text w0 w1 f0 f1 all = record {
+  whole = tt;
+  front = all.front;
+  later = all.later;
+  sure = tt;
+  failed = λ is. all.failed (ap Err (cc is));
+  wanted = λ is. all.wanted (ap Err (cc is));
+  other = λ fault is. all.other fault (ap Err (cc is));
+}
 
 -- ---- Texts of lists
 

@@ -15,12 +15,10 @@ ghost use Rattle.kp_streams.specs.WholeInput.{IsTooLong};
 ghost use Rattle.kp_live.specs.declared.fault.LiveFault.TheVariants as fault;
 ghost use Rattle.kp_live.specs.Runs as runs;
 ghost use Rattle.kp_live.specs.Streams.{GoesOnFromAll};
-ghost use Rattle.kp_live.specs.Told.{Told};
-ghost use Rattle.kp_live.specs.Written.{EndsRun, Prints, WritesFront, WritesInput};
+ghost use Rattle.kp_live.specs.Written.{EndsRun, WritesFront, WritesInput};
 
-use crate::answers::Answers;
 use crate::fault::LiveFault;
-use crate::parts::{print_answers, print_end, print_head};
+use crate::parts::print;
 use crate::streams::{Ended, cut_lines, run_all, streams_of, take_apart};
 use kp_base::{Copied, Items, NoMemory};
 use kp_gate::Gate;
@@ -183,39 +181,6 @@ fn end_and_print<J: Sharing, A: Ledger, C: Ledger, K: Sink, R: Wait>(
     let printed = print(alloc, lines, answers.as_slice(), &done, sink);
     done.end(rt);
     printed
-}
-
-/// Writes the text of a run whose streams were answered so, and answers whether a line or the sync
-/// that ends the run was refused.
-fn print<J: Sharing, K: Sink>(
-    alloc: Global,
-    lines: &StreamLines,
-    answers: &[Answers],
-    done: &Finished<J>,
-    sink: &mut K,
-) -> Result<bool, LiveFault>
-    ensures printed { (told : ℕ → List Told) → runs.AreOf told answers.now
-        → Prints result (runs.head_text (reading_in lines.now) done.now.journal done.now.notes
-        ++ (runs.telling done.now.refusals told (reading_in lines.now).lines).text
-        ++ runs.end_text (length done.now.notes) done.now.clash done.now.table)
-        (K.written sink.old) (K.written sink.new) (K.faults sink.old) (K.faults sink.new) }
-    ensures refused { (told : ℕ → List Told) → runs.AreOf told answers.now
-        → IfOk result (λ refused. refused ≡ runs.prints_refusal (reading_in lines.now)
-        (runs.telling done.now.refusals told (reading_in lines.now).lines).denied
-        done.now.clash) }
-{
-    match print_head(alloc, lines, done, sink) {
-        Ok(()) => {}
-        Err(fault) => return Err(fault),
-    }
-    let refusals = done.refusals.as_slice();
-    match print_answers(alloc, lines.lines(), answers, refusals, sink) {
-        Ok(denied) => match print_end(alloc, done, sink) {
-            Ok(()) => Ok(!lines.refused().is_empty() || (denied || done.clash.is_some())),
-            Err(fault) => Err(fault),
-        },
-        Err(fault) => Err(fault),
-    }
 }
 
 /// All passes of a hub that ended learn that what they saw begins its records.

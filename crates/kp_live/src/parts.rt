@@ -27,9 +27,45 @@ use kp_streams::{RefusedLine, StreamLine, StreamLines, Work};
 use kp_types::Clash;
 use std::alloc::Global;
 
+/// Writes the text of a run whose streams were answered so, and answers whether a line or the sync
+/// that ends the run was refused.
+pub(crate) fn print<J: Sharing, K: Sink>(
+    alloc: Global,
+    lines: &StreamLines,
+    answers: &[Answers],
+    done: &Finished<J>,
+    sink: &mut K,
+) -> Result<bool, LiveFault>
+    ensures printed { (told : ℕ → List Told) → runs.AreOf told answers.now
+        → Prints result (runs.head_text (reading_in lines.now) done.now.journal done.now.notes
+        ++ (runs.telling done.now.refusals told (reading_in lines.now).lines).text
+        ++ runs.end_text (length done.now.notes) done.now.clash done.now.table)
+        (K.written sink.old) (K.written sink.new) (K.faults sink.old) (K.faults sink.new) }
+    ensures refused { (told : ℕ → List Told) → runs.AreOf told answers.now
+        → IfOk result (λ refused. refused ≡ runs.prints_refusal (reading_in lines.now)
+        (runs.telling done.now.refusals told (reading_in lines.now).lines).denied
+        done.now.clash) }
+{
+    match print_head(alloc, lines, done, sink) {
+        Ok(()) => {}
+        Err(fault) => return Err(fault),
+    }
+    match print_answers(alloc, lines.lines(), answers, done.refusals.as_slice(), sink) {
+        Ok(denied) => said(print_end(alloc, done, sink), has_refusal(lines, denied, &done.clash)),
+        Err(fault) => Err(fault),
+    }
+}
+
+/// Whether something that is written is a refusal.
+fn has_refusal(lines: &StreamLines, denied: bool, clash: &Option<Clash>) -> bool
+    ensures { result ≡ runs.prints_refusal (reading_in lines.now) denied clash.now }
+{
+    !lines.refused().is_empty() || (denied || clash.is_some())
+}
+
 /// Writes what stands before the answers: the lines that were refused while they were read, the
 /// journal and the records.
-pub(crate) fn print_head<J: Sharing, K: Sink>(
+fn print_head<J: Sharing, K: Sink>(
     alloc: Global,
     lines: &StreamLines,
     done: &Finished<J>,
@@ -166,7 +202,7 @@ fn print_record<K: Sink>(
 }
 
 /// Writes what lines were answered, in their order, and answers whether a sync was refused.
-pub(crate) fn print_answers<K: Sink>(
+fn print_answers<K: Sink>(
     alloc: Global,
     lines: &[StreamLine],
     answers: &[Answers],
@@ -319,7 +355,7 @@ fn print_clash<K: Sink>(
 }
 
 /// Writes how the run ended, and its last table.
-pub(crate) fn print_end<J: Sharing, K: Sink>(
+fn print_end<J: Sharing, K: Sink>(
     alloc: Global,
     done: &Finished<J>,
     sink: &mut K,

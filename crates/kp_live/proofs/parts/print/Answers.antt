@@ -1,0 +1,17 @@
+use Rattle.std.proofs.Common.{◌++◌, length, sym}
+use Rattle.kp_streams.specs.Streams.{reading_in}
+use Rattle.kp_live.specs.Runs.{end_text, head_text, telling}
+use Rattle.kp_live.proofs.Printing.{prints_broken, prints_first, prints_said, prints_three}
+use Rattle.kp_live.proofs.parts.print.Goals as goal
+
+-- the head wasn't written whole
+pub returns-in-Err-clause-printed : goal.returns-in-Err-clause-printed
+returns-in-Err-clause-printed g c =
+    let r = reading_in c.args.lines.now in
+    let done = c.args.done.now in
+    λ told of. prints_first (head_text r done.journal done.notes)
+        (telling done.refusals told r.lines).text
+        (end_text (length done.notes) done.clash done.table)
+        (head_text r done.journal done.notes ++ (telling done.refusals told r.lines).text
+        ++ end_text (length done.notes) done.clash done.table) c.in-Err.fault _ _ _ _ refl
+        c.in-Err.ensures
