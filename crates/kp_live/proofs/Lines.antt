@@ -4,6 +4,7 @@ use Rattle.std.specs.Prelude.{Option, Some, Result, Ok, Err, IfOk, IfSome, slice
 use Rattle.std.specs.List.{fold}
 use Rattle.std.proofs.Math.Seq.{take-suc}
 use Rattle.std.proofs.lemmas.List.{take-append-drop}
+use Rattle.std.proofs.lemmas.Option.{slice_get-get_or}
 use Rattle.std.proofs.lemmas.List.Sums.{fold-append}
 use Rattle.kp_history_defs.specs.Runs.{at_number}
 use Rattle.kp_run_defs.specs.declared.live.StreamLine.{StreamLine}
@@ -126,6 +127,61 @@ printed_some refusals t line told new result w0 w1 f0 f1 one rest lt are holds d
           ap (λ x. t.denied || x) is)) result denied;
       printed = (told_text refusals line.number one, refl, printed);
     }
+
+-- what is left of one stream
+left_at : (left : ℕ → List Told) (told : List ToldOn) (i : ℕ) (d : ToldOn) → i < length told
+    → AreLeft left told → HoldsOn (get_or told i d) (left i)
+left_at left told i d lt are =
+    subst (λ o. IfSome o (λ t. HoldsOn t (left i))) (slice_get-get_or told i d lt) (are.each i)
+
+-- the next answer is written, if there is one
+pub record PrintsNext (refusals : List Refusal) (number : ℕ) (old new : ToldOn)
+    (result : Result Bool LiveFault) (w0 w1 : Option (List ℕ)) (f0 f1 : ℕ) : Type 0 where
+  pub next : (one : Told) (rest : List Told) → HoldsOn old (one ∷ rest)
+      → HoldsOn new rest × IfOk result (λ d. d ≡ is_denial one)
+      × Prints result (told_text refusals number one) w0 w1 f0 f1
+  pub none : HoldsOn old []
+      → HoldsOn new [] × (result ≡ Ok false) × (w1 ≡ w0) × (f1 ≡ f0)
+
+kept_nothing : (result : Result Bool LiveFault) (w0 w1 : Option (List ℕ)) (f0 f1 : ℕ)
+    → result ≡ Ok false → w1 ≡ w0 → f1 ≡ f0 → Prints result [] w0 w1 f0 f1
+kept_nothing result w0 w1 f0 f1 is ws fs =
+    subst (λ r. Prints r [] w0 w1 f0 f1) (sym is)
+    (subst (λ w. Prints (Ok false) [] w0 w f0 f1) (sym ws)
+    (subst (λ f. Prints (Ok false) [] w0 w0 f0 f) (sym fs) (prints_nothing false w0 f0)))
+
+printed_by : (refusals : List Refusal) (t : Telling) (line : StreamLine) (told : List ToldOn)
+    (old new : ToldOn) (result : Result Bool LiveFault) (w0 w1 : Option (List ℕ)) (f0 f1 : ℕ)
+    (l : List Told) → line.stream < length told → AreLeft t.left told → t.left line.stream ≡ l
+    → HoldsOn old l → PrintsNext refusals line.number old new result w0 w1 f0 f1
+    → Printed refusals t (with_next refusals line l t) (set told line.stream new) result w0 w1 f0 f1
+printed_by refusals t line told old new result w0 w1 f0 f1 [] lt are is holds by =
+    let n = by.none holds in record {
+      left =
+          subst (λ r. IfOk r (λ d. AreLeft t.left (set told line.stream new)
+          × ((t.denied || d) ≡ t.denied))) (sym n.1)
+          (left_same t.left told line.stream new are (subst (HoldsOn new) (sym is) n.0),
+          or_false t.denied);
+      printed =
+          ([], sym (append-nil t.text), kept_nothing result w0 w1 f0 f1 n.1 n.2 n.3);
+    }
+printed_by refusals t line told old new result w0 w1 f0 f1 (one ∷ rest) lt are is holds by =
+    let n = by.next one rest holds in
+    printed_some refusals t line told new result w0 w1 f0 f1 one rest lt are n.0 n.1 n.2
+
+-- a line that is answered
+pub printed_line : (refusals : List Refusal) (t : Telling) (line : StreamLine)
+    (told : List ToldOn) (d new : ToldOn) (result : Result Bool LiveFault)
+    (w0 w1 : Option (List ℕ)) (f0 f1 : ℕ) → is_answered line.work ≡ true
+    → line.stream < length told
+    → PrintsNext refusals line.number (get_or told line.stream d) new result w0 w1 f0 f1
+    → AreLeft t.left told
+    → Printed refusals t (after_line refusals t line) (set told line.stream new) result w0 w1 f0 f1
+printed_line refusals t line told d new result w0 w1 f0 f1 answered lt by are =
+    subst (λ n. Printed refusals t n (set told line.stream new) result w0 w1 f0 f1)
+    (sym (printed_next refusals t line line.work answered))
+    (printed_by refusals t line told (get_or told line.stream d) new result w0 w1 f0 f1
+    (t.left line.stream) lt are refl (left_at t.left told line.stream d lt are) by)
 
 -- ---- All lines
 

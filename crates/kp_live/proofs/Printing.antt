@@ -195,6 +195,12 @@ prints_said (Err e) b text w0 w1 f0 f1 all = record {
   other = λ fault is. all.other fault (ap Err (cc is));
 }
 
+pub prints_flag : (q : Result Bool LiveFault) (r : Result (Unit {0}) LiveFault) (b : Bool)
+    (text : List ℕ) (w0 w1 : Option (List ℕ)) (f0 f1 : ℕ) → q ≡ said_of r b
+    → Prints r text w0 w1 f0 f1 → Prints q text w0 w1 f0 f1
+prints_flag q r b text w0 w1 f0 f1 is all =
+    subst (λ x. Prints x text w0 w1 f0 f1) (sym is) (prints_said r b text w0 w1 f0 f1 all)
+
 -- ---- Texts of lists
 
 pub next_text : {X : Type 0} (f : X → List ℕ) (xs : List X) (i : ℕ) (x : X) → i < length xs

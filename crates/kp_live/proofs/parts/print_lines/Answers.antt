@@ -19,7 +19,7 @@ loop-line-preserved g c = λ all are.
     let printed = c.in-Ok.ensures.printed now inv.left in record {
       left = subst (λ (n : Telling). AreLeft n.left c.print_line.new.told) (sym next) left.0;
       denied =
-          c.either.ensures ∙ ap (λ d. d || c.in-Ok.more) inv.denied ∙ left.1
+          c.either-denied.ensures ∙ ap (λ d. d || c.in-Ok.more) inv.denied ∙ left.1
           ∙ ap (λ (n : Telling). n.denied) (sym next);
       printed =
           prints_as (Ok tt) (now.text ++ printed.0)
