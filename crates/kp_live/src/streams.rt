@@ -40,15 +40,32 @@ pub(crate) fn streams_of<'a, J: Sharing, A: Ledger, C: Ledger>(
         let Some(worker) = workers.pop() else {
             unreachable!()
         };
-        let place = streams.len() as u32;
-        let standing = Standing::new(alloc, config, place, feeder, worker)?;
-        streams.push(Stream {
-            lines: Vec::new(alloc),
-            standing,
-            failed: false,
-        })?;
+        streams.push(stream_of(alloc, config, streams.len(), feeder, worker)?)?;
     }
     Ok(streams)
+}
+
+/// The stream at this place, without lines.
+fn stream_of<'a, J: Sharing, A: Ledger, C: Ledger>(
+    alloc: Global,
+    config: &Config,
+    place: usize,
+    feeder: FeedPass,
+    worker: WorkerPass<J, A, C>,
+) -> Result<Stream<'a, J, A, C>, NoMemory>
+    requires { worker ≡ new_worker }
+    ensures feeder { IfOk result (λ s. s.standing.feeder ≡ feeder) }
+    ensures new { IfOk result (λ s. IsAtStart config.now s.standing) }
+    ensures lines { IfOk result (λ s. s.lines.items ≡ []) }
+{
+    let Ok(place) = u32::try_from(place) else {
+        return Err(NoMemory);
+    };
+    Ok(Stream {
+        lines: Vec::new(alloc),
+        standing: Standing::new(alloc, config, place, feeder, worker)?,
+        failed: false,
+    })
 }
 
 /// Gives each stream its lines, in order.
