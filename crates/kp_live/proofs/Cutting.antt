@@ -4,7 +4,7 @@ use Rattle.std.specs.Prelude.{IfSome, slice_get}
 use Rattle.std.specs.List.{filter}
 use Rattle.std.proofs.Math.ListN.{set}
 use Rattle.std.proofs.lemmas.Bool.{ne_eqb, eq-eqb}
-use Rattle.std.proofs.lemmas.List.{append_nil}
+use Rattle.std.proofs.lemmas.List.{append-nil}
 use Rattle.std.proofs.lemmas.List.Elements.{filter_more}
 use Rattle.std.proofs.lemmas.Option.{slice_get-get_or}
 use Rattle.kp_run_defs.specs.LiveLines.{is_line_of}
@@ -50,7 +50,7 @@ other_more : (lines : List StreamLine) (n i : ℕ) (d : StreamLine) → n < leng
     → nat_eq i (get_or lines n d).stream ≡ false
     → filter (is_line_of i) (take n lines) ≡ filter (is_line_of i) (take (n + 1) lines)
 other_more lines n i d lt ne =
-    sym (line_more lines n i d false lt ne ∙ append_nil (filter (is_line_of i) (take n lines)))
+    sym (line_more lines n i d false lt ne ∙ append-nil (filter (is_line_of i) (take n lines)))
 
 module _ {S : Type 0} (f : S → List StreamLine) (xs : List S) (lines : List StreamLine) (n : ℕ)
     (d : StreamLine) (lt : n < length lines)
