@@ -1,7 +1,7 @@
 -- Lines that are given to their streams one after the other.
-use Rattle.std.proofs.Common.{◌≡◌, ◌<◌, ◌≤◌, ◌+◌, ℕ, zero, suc, Bool, true, false, cond, List, ◌∷◌, [], ◌++◌, take, get_or, length, ap, sym, subst, refl, tt, ◌∙◌, arith, nat_eq}
+use Rattle.std.proofs.Common.{◌≡◌, ◌<◌, ◌≤◌, ◌+◌, ℕ, zero, suc, Bool, true, false, cond, List, ◌∷◌, [], ◌++◌, map, take, get_or, length, ap, sym, subst, append_assoc, refl, tt, ◌∙◌, arith, nat_eq}
 use Rattle.std.specs.Prelude.{IfSome, slice_get}
-use Rattle.std.specs.List.{filter}
+use Rattle.std.specs.List.{AllByRecursion, filter}
 use Rattle.std.proofs.Math.ListN.{set}
 use Rattle.std.proofs.lemmas.Bool.{ne_eqb, eq-eqb}
 use Rattle.std.proofs.lemmas.List.{append-nil}
@@ -9,6 +9,21 @@ use Rattle.std.proofs.lemmas.List.Elements.{filter_more}
 use Rattle.std.proofs.lemmas.Option.{slice_get-get_or}
 use Rattle.kp_run_defs.specs.LiveLines.{is_line_of}
 use Rattle.kp_run_defs.specs.declared.live.StreamLine.{StreamLine}
+
+-- one more of a list is taken to the others
+pub moves : {S B : Type 0} (left after : List S) (x : S) (f : S → B) (done more all : List B)
+    → done ++ map f left ≡ all → left ≡ x ∷ after → more ≡ done ++ f x ∷ []
+    → more ++ map f after ≡ all
+moves left after x f done more all before is grown =
+    ap (λ l. l ++ map f after) grown ∙ append_assoc {l₁ = done} {l₂ = f x ∷ []} {l₃ = map f after}
+    ∙ sym (ap (λ l. done ++ map f l) is) ∙ before
+
+-- what holds of all behind a list that grew
+pub whole_moves : {S : Type 0} (R : S → Type 0) (left after : List S) (x : S) (all : List S)
+    → (AllByRecursion R left → AllByRecursion R all) → left ≡ x ∷ after → R x
+    → AllByRecursion R after → AllByRecursion R all
+whole_moves R left after x all before is r rest =
+    before (subst (AllByRecursion R) (sym is) (r, rest))
 
 -- each element as before
 pub each_as : {S : Type 0} (P Q : ℕ → S → Type 0) (xs : List S)
