@@ -1,3 +1,4 @@
+pub mod Cutting
 pub mod Ending
 pub mod Journals
 pub mod Keeping

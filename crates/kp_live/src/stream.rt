@@ -231,6 +231,16 @@ pub(crate) struct Stream<'a, J: Sharing, A: Ledger, C: Ledger> {
 }
 
 impl<'a, J: Sharing, A: Ledger, C: Ledger> Stream<'a, J, A, C> {
+    /// One more line.
+    pub(crate) fn add(&mut self, line: &'a StreamLine) -> Result<(), NoMemory>
+        ensures standing { self.new.standing ≡ self.old.standing }
+        ensures lines { OnOk result (map (λ l. l.now) self.new.lines.items
+            ≡ map (λ l. l.now) self.old.lines.items ++ line.now ∷ []) }
+    {
+        self.lines.push(line)?;
+        Ok(())
+    }
+
     /// Does what its lines ask for, one after the other, until memory runs out.
     pub(crate) fn run<R: Wait, G: Gate<R>>(
         &mut self,

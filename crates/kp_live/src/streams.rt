@@ -1,5 +1,5 @@
 //! All streams at once.
-ghost use Rattle.std.specs.Prelude.{◌≡◌, [], ℕ, false, map, replicate, length, All, slice_get};
+ghost use Rattle.std.specs.Prelude.{◌≡◌, ◌++◌, ◌∷◌, [], ℕ, false, map, replicate, length, All, slice_get};
 ghost use Rattle.std.specs.Prelude.{IfOk, IfSome, OnOk};
 ghost use Rattle.std.specs.List.{AllByRecursion, filter};
 ghost use Rattle.kp_hub.specs.Known.{new_worker};
@@ -40,15 +40,32 @@ pub(crate) fn streams_of<'a, J: Sharing, A: Ledger, C: Ledger>(
         let Some(worker) = workers.pop() else {
             unreachable!()
         };
-        let place = streams.len() as u32;
-        let standing = Standing::new(alloc, config, place, feeder, worker)?;
-        streams.push(Stream {
-            lines: Vec::new(alloc),
-            standing,
-            failed: false,
-        })?;
+        streams.push(stream_of(alloc, config, streams.len(), feeder, worker)?)?;
     }
     Ok(streams)
+}
+
+/// The stream at this place, without lines.
+fn stream_of<'a, J: Sharing, A: Ledger, C: Ledger>(
+    alloc: Global,
+    config: &Config,
+    place: usize,
+    feeder: FeedPass,
+    worker: WorkerPass<J, A, C>,
+) -> Result<Stream<'a, J, A, C>, NoMemory>
+    requires { worker ≡ new_worker }
+    ensures feeder { IfOk result (λ s. s.standing.feeder ≡ feeder) }
+    ensures new { IfOk result (λ s. IsAtStart config.now s.standing) }
+    ensures lines { IfOk result (λ s. s.lines.items ≡ []) }
+{
+    let Ok(place) = u32::try_from(place) else {
+        return Err(NoMemory);
+    };
+    Ok(Stream {
+        lines: Vec::new(alloc),
+        standing: Standing::new(alloc, config, place, feeder, worker)?,
+        failed: false,
+    })
 }
 
 /// Gives each stream its lines, in order.
@@ -62,9 +79,11 @@ pub(crate) fn cut_lines<'a, J: Sharing, A: Ledger, C: Ledger>(
         (λ s. map (λ l. l.now) s.lines.items ≡ filter (is_line_of i) lines.now)) }
 {
     for line in lines {
-        if let Some(stream) = streams.get_mut(line.stream as usize) {
-            stream.lines.push(line)?;
+        let place = line.stream as usize;
+        if place >= streams.len() {
+            continue;
         }
+        streams[place].add(line)?;
     }
     Ok(())
 }
@@ -120,23 +139,39 @@ pub(crate) fn take_apart<J: Sharing, A: Ledger, C: Ledger>(
         (λ e. e.answers.items ≡ map (λ s. s.standing.answers) streams.entry.items) }
     ensures whole { OnOk result (AllByRecursion (λ s. s.failed ≡ false) streams.entry.items) }
 {
-    let mut feeders = Items::new(alloc);
-    let mut workers = Vec::new(alloc);
-    let mut answers = Vec::new(alloc);
+    let mut ended = Ended {
+        feeders: Items::new(alloc),
+        workers: Vec::new(alloc),
+        answers: Vec::new(alloc),
+    };
     for stream in streams {
-        if stream.failed {
-            return Err(NoMemory);
-        }
-        let (feeder, worker, told) = stream.standing.into_parts();
-        if feeders.push(feeder).is_err() {
-            return Err(NoMemory);
-        }
-        workers.push(worker)?;
-        answers.push(told)?;
+        add_parts(&mut ended, stream)?;
     }
-    Ok(Ended {
-        feeders,
-        workers,
-        answers,
-    })
+    Ok(ended)
+}
+
+/// Adds the parts of a stream, unless memory ran out for it.
+fn add_parts<J: Sharing, A: Ledger, C: Ledger>(
+    ended: &mut Ended<J, A, C>,
+    stream: Stream<'_, J, A, C>,
+) -> Result<(), NoMemory>
+    ensures feeders { OnOk result (ended.new.feeders
+        ≡ ended.old.feeders ++ stream.entry.standing.feeder ∷ []) }
+    ensures workers { OnOk result (ended.new.workers.items
+        ≡ ended.old.workers.items ++ stream.entry.standing.worker ∷ []) }
+    ensures answers { OnOk result (ended.new.answers.items
+        ≡ ended.old.answers.items ++ stream.entry.standing.answers ∷ []) }
+    ensures whole { OnOk result (stream.entry.failed ≡ false) }
+{
+    if stream.failed {
+        return Err(NoMemory);
+    }
+    let (feeder, worker, told) = stream.standing.into_parts();
+    match ended.feeders.push(feeder) {
+        Ok(()) => {}
+        Err(_) => return Err(NoMemory),
+    }
+    ended.workers.push(worker)?;
+    ended.answers.push(told)?;
+    Ok(())
 }
