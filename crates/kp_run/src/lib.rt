@@ -8,6 +8,7 @@ pub mod laws;
 mod lines;
 mod program;
 mod status;
+mod streams;
 
 pub use ending::usage;
 pub use generated::generate;

@@ -6,6 +6,7 @@ ghost use Rattle.kp_run.specs.Outcome as outcome;
 use crate::ending::usage;
 use crate::generated::generate;
 use crate::lines::replay_one;
+use crate::streams::run_live;
 use crate::status::Status;
 use kp_base::NoMemory;
 use kp_gate::Gate;
@@ -23,12 +24,12 @@ use std::thread::Threads;
 /// for neither it writes nothing. By its runtime it may wait and start threads, as `live` will; calls of
 /// its streams will pass the gate. A replay with one worker is `replay_one`, which does neither.
 pub fn run<S: Source, K: Sink, R: Threads + Wait + Sync, G: Gate<R> + Sync>(
-    _rt: &R,
+    rt: &R,
     alloc: Global,
     words: &[String],
     source: &mut S,
     sink: &mut K,
-    _gate: &G,
+    gate: &G,
 ) -> Status
     ensures ends { outcome.Runs (mode_of (map string_bytes words.now)) result
         (outcome.ends_of (outcome.source_of (S.left source.old) (S.faults source.old))
@@ -58,7 +59,8 @@ pub fn run<S: Source, K: Sink, R: Threads + Wait + Sync, G: Gate<R> + Sync>(
             },
             sink,
         ),
-        Ok(Some(Mode::Live) | None) => usage(sink),
+        Ok(Some(Mode::Live)) => run_live(rt, alloc, source, sink, gate),
+        Ok(None) => usage(sink),
         Err(NoMemory) => Status::NoMemory,
     }
 }

@@ -1,5 +1,5 @@
 //! Lines that are read one by one, and the streams that they belong to.
-ghost use Rattle.std.specs.Prelude.{◌≡◌, ◌+◌, ◌-◌, ◌<◌, ◌^◌, cond, false, length, nat_lt};
+ghost use Rattle.std.specs.Prelude.{◌≡◌, ◌+◌, ◌-◌, ◌<◌, ◌≤◌, ◌^◌, cond, false, length, nat_lt};
 ghost use Rattle.std.specs.Prelude.{IfOk, None, OnOk, Some};
 ghost use Rattle.std.specs.Option.{option_copied};
 ghost use Rattle.kp_run_defs.specs.LiveLines as spec;
@@ -74,7 +74,8 @@ impl StreamLines {
 
     /// The names of the streams, in the order of their first lines.
     pub fn streams(&self) -> &[Text]
-        ensures { result.now ≡ (reading_in self.now).streams }
+        ensures names { result.now ≡ (reading_in self.now).streams }
+        ensures few { length result.now ≤ spec.stream_limit }
     {
         self.streams.as_slice()
     }

@@ -1,5 +1,5 @@
 //! The names of streams.
-ghost use Rattle.std.specs.Prelude.{◌≡◌, ◌<◌, ◌++◌, [], ◌∷◌, length, not, nat_lt, IfOk, OnOk};
+ghost use Rattle.std.specs.Prelude.{◌≡◌, ◌<◌, ◌≤◌, ◌++◌, [], ◌∷◌, length, not, nat_lt, IfOk, OnOk};
 ghost use Rattle.kp_run_defs.specs.LiveLines.{stream_at, stream_limit};
 
 use kp_base::{Items, NoMemory, Text};
@@ -38,7 +38,8 @@ impl StreamNames {
 
     /// The names.
     pub(crate) fn as_slice(&self) -> &[Text]
-        ensures { result.now ≡ self.now }
+        ensures names { result.now ≡ self.now }
+        ensures few { length result.now ≤ stream_limit }
     {
         self.names.as_slice()
     }

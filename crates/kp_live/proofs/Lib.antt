@@ -1,0 +1,14 @@
+pub mod Cutting
+pub mod Ending
+pub mod Journals
+pub mod Keeping
+pub mod Legal
+pub mod Lines
+pub mod Meeting
+pub mod Merging
+pub mod Printing
+pub mod Readings
+pub mod Records
+pub mod Steps
+pub mod Telling
+pub mod Totals

@@ -1,0 +1,76 @@
+-- What a live run has written.
+use Rattle.std.specs.Prelude.{◌≡◌, ◌≤◌, ◌⊎◌, ℕ, Bool, List, [], length, take, Option, Result, Ok, Err, IfOk, OnOk, OnErr, IsErrOf}
+use Rattle.kp_io.specs.Faults.{Rose}
+use Rattle.kp_io.specs.Lines.{lines_of}
+use Rattle.kp_io.specs.Told.{Grows}
+use Rattle.kp_io.specs.declared.next_line.TheConstants.{INPUT_LIMIT}
+use Rattle.kp_run_defs.specs.LiveLines.{Reading, reading_of}
+use Rattle.kp_run_defs.specs.LegalRuns.{LiveRun, IsLegalRun}
+use Rattle.kp_run_defs.specs.LiveText.{live_text, is_refused_run}
+use Rattle.kp_live.specs.declared.fault.LiveFault.{LiveFault}
+use Rattle.kp_live.specs.declared.fault.LiveFault.TheVariants.{NoMemory, WriteFault}
+
+-- a front of a text was written
+abbrev pub GrowsFront : Option (List ℕ) → Option (List ℕ) → List ℕ → Type 0
+GrowsFront written now text = (n : ℕ) × Grows written now (take n text)
+
+-- A text was written whole, or a front of it, by a call that only wants memory or fails to write.
+-- A fault of writing is told only where the count of them rose; without one it stays.
+pub record Prints {T : Type 0} (result : Result T LiveFault) (text : List ℕ)
+    (written now : Option (List ℕ)) (before after : ℕ) : Type 0 where
+  pub whole : OnOk result (Grows written now text)
+  pub front : OnErr result (GrowsFront written now text)
+  pub later : before ≤ after
+  pub sure : OnOk result (after ≡ before)
+  pub failed : IsErrOf result WriteFault → Rose before after
+  pub wanted : IsErrOf result NoMemory → after ≡ before
+  pub other : (fault : LiveFault) → IsErrOf result fault
+      → (fault ≡ WriteFault) ⊎ (fault ≡ NoMemory)
+
+-- a flag for what was written
+abbrev pub said_of : Result (Unit {0}) LiveFault → Bool → Result Bool LiveFault
+said_of (Ok u) b = Ok b
+said_of (Err fault) b = Err fault
+
+-- a run of this reading that the rules allow
+pub record RunsReading (reading : Reading) (run : LiveRun) : Type 0 where
+  pub reads : run.reading ≡ reading
+  pub legal : IsLegalRun run
+
+-- The whole text of a legal run of a reading was written, and this is whether a line or the sync
+-- that ends it was refused.
+pub record WritesRun (refused : Bool) (reading : Reading) (written now : Option (List ℕ))
+    : Type 0 where
+  pub run : LiveRun
+  pub runs : RunsReading reading run
+  pub grown : Grows written now (live_text run)
+  pub told : refused ≡ is_refused_run run
+
+-- nothing was written, or a front of the text of a legal run of a reading
+abbrev pub WritesFront : Reading → Option (List ℕ) → Option (List ℕ) → Type 0
+WritesFront reading written now =
+    Grows written now []
+    ⊎ ((run : LiveRun) × RunsReading reading run × GrowsFront written now (live_text run))
+
+-- How a run of what was read ends, where that is some input: its whole text was written, or nothing
+-- or a front of it. A fault of writing is told only where the count of them rose; without one it
+-- stays. Else only memory was wanted.
+pub record EndsRun (result : Result Bool LiveFault) (reading : Reading)
+    (written now : Option (List ℕ)) (before after : ℕ) : Type 0 where
+  pub whole : IfOk result (λ refused. (input : List (List ℕ)) → reading ≡ reading_of input
+      → WritesRun refused reading written now)
+  pub front : OnErr result ((input : List (List ℕ)) → reading ≡ reading_of input
+      → WritesFront reading written now)
+  pub later : before ≤ after
+  pub sure : OnOk result (after ≡ before)
+  pub failed : IsErrOf result WriteFault → Rose before after
+  pub wanted : IsErrOf result NoMemory → after ≡ before
+  pub other : (fault : LiveFault) → IsErrOf result fault
+      → (fault ≡ WriteFault) ⊎ (fault ≡ NoMemory)
+
+-- the text of a legal run of the input was written, where that is told, which is no longer than may
+-- be read
+pub record WritesInput (refused : Bool) (text : List ℕ) (written now : Option (List ℕ))
+    : Type 0 where
+  pub writes : WritesRun refused (reading_of (lines_of text)) written now
+  pub short : length text ≤ INPUT_LIMIT
