@@ -15,8 +15,8 @@ use Rattle.kp_run.proofs.EndLemmas.{same_rose, grows_on, whole_front}
 
 -- of two things, one of which is not so, the other is
 pub other_of : {A B : Type 0} → A ⊎ B → (A → ⊥) → B
-other_of (inl a) no = absurd (no a)
-other_of (inr b) no = b
+other_of (inl a) not_a = absurd (not_a a)
+other_of (inr b) not_a = b
 
 -- ---- A flush writes nothing
 
@@ -85,7 +85,7 @@ module _ (result : Status) (left end written now later : Option (List ℕ)) (was
       subst (λ s. EndsLive s first last) (sym h.0) (
         same_rose w a b sure.1 h.1,
         whole_is_front refused left written later
-        (whole_on refused left written now later all kept),
+            (whole_on refused left written now later all kept),
       )
 
   -- a read failed

@@ -21,7 +21,7 @@ returns-in-Err-NoMemory g c = (
   c.in-Err-NoMemory.ensures.front,
   (
     other_of c.in-Err-NoMemory.ensures.source_kept
-    (λ e. let is = c.in-Err-NoMemory.field-0-is in absurd (cc)),
+        (λ e. let is = c.in-Err-NoMemory.field-0-is in absurd (cc)),
     c.in-Err-NoMemory.ensures.wanted (ap Err c.in-Err-NoMemory.field-0-is),
   ),
 )
@@ -50,10 +50,9 @@ returns-in-Err-InputTooLong g c =
     (g.K.Sink.flushed c.flushed-in-Err-InputTooLong.new.sink) (g.S.Source.faults c.args.source.now)
     (g.S.Source.faults c.live.new.source) (g.K.Sink.faults c.args.sink.now)
     (g.K.Sink.faults c.live.new.sink) (g.K.Sink.faults c.flushed-in-Err-InputTooLong.new.sink)
-    (c.in-Err-InputTooLong.ensures.long (ap Err c.in-Err-InputTooLong.field-0-is))
-    (
+    (c.in-Err-InputTooLong.ensures.long (ap Err c.in-Err-InputTooLong.field-0-is)) (
       other_of c.in-Err-InputTooLong.ensures.source_kept
-      (λ e. let is = c.in-Err-InputTooLong.field-0-is in absurd (cc)),
+          (λ e. let is = c.in-Err-InputTooLong.field-0-is in absurd (cc)),
       ap g.K.Sink.faults same,
     )
     (subst (λ k. Grows (g.K.Sink.written k) (g.K.Sink.written c.flushed-in-Err-InputTooLong.new.sink) []) same
