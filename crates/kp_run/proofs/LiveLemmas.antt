@@ -10,7 +10,8 @@ use Rattle.kp_run_defs.specs.LiveText.{live_text}
 use Rattle.kp_live.specs.Written as live
 use Rattle.kp_run.specs.declared.status.Status.{Status}
 use Rattle.kp_run.specs.declared.status.Status.TheVariants.{ReadFault, InputTooLong}
-use Rattle.kp_run.specs.Outcome.{Outside, IsTooLong, EndsLive, EndsLiveWhole, IsStatusOr, status_if, ends_of, source_of, sink_of}
+use Rattle.kp_run.specs.Outcome.{Outside, IsTooLong, EndsLive, EndsLiveWhole, IsStatusOr, status_if}
+use Rattle.kp_run.specs.Outcome.{ends_of, source_of, sink_of}
 use Rattle.kp_run.proofs.EndLemmas.{same_rose, grows_on, whole_front}
 
 -- of two things, one of which is not so, the other is

@@ -6,7 +6,8 @@ use Rattle.kp_run.proofs.streams.run_live.Goals as goal
 
 pub returns-in-Ok : goal.returns-in-Ok
 returns-in-Ok g c =
-    live_whole c.flushed.result (g.S.Source.left c.args.source.now) (g.S.Source.left c.live.new.source)
+    live_whole c.flushed.result (g.S.Source.left c.args.source.now)
+    (g.S.Source.left c.live.new.source)
     (g.K.Sink.written c.args.sink.now) (g.K.Sink.written c.live.new.sink)
     (g.K.Sink.written c.flushed.new.sink) (g.K.Sink.flushed c.args.sink.now)
     (g.K.Sink.flushed c.flushed.new.sink) (g.S.Source.faults c.args.source.now)
@@ -28,33 +29,34 @@ returns-in-Err-NoMemory g c = (
 
 pub returns-in-Err-ReadFault : goal.returns-in-Err-ReadFault
 returns-in-Err-ReadFault g c =
-    let same = c.in-Err-ReadFault.ensures.unwritten (inl (ap Err c.in-Err-ReadFault.field-0-is)) in
-    live_failed c.flushed-in-Err-ReadFault.result (g.S.Source.left c.args.source.now) (g.S.Source.left c.live.new.source)
+    let is = ap Err c.in-Err-ReadFault.field-0-is in
+    let same = c.in-Err-ReadFault.ensures.unwritten (inl is) in
+    live_failed c.flushed-in-Err-ReadFault.result (g.S.Source.left c.args.source.now)
+    (g.S.Source.left c.live.new.source)
     (g.K.Sink.written c.args.sink.now) (g.K.Sink.written c.live.new.sink)
     (g.K.Sink.written c.flushed-in-Err-ReadFault.new.sink) (g.K.Sink.flushed c.args.sink.now)
     (g.K.Sink.flushed c.flushed-in-Err-ReadFault.new.sink) (g.S.Source.faults c.args.source.now)
     (g.S.Source.faults c.live.new.source) (g.K.Sink.faults c.args.sink.now)
     (g.K.Sink.faults c.live.new.sink) (g.K.Sink.faults c.flushed-in-Err-ReadFault.new.sink)
-    (c.in-Err-ReadFault.ensures.read (ap Err c.in-Err-ReadFault.field-0-is))
-    (ap g.K.Sink.faults same)
-    (subst (λ k. Grows (g.K.Sink.written k) (g.K.Sink.written c.flushed-in-Err-ReadFault.new.sink) []) same
-    c.flushed-in-Err-ReadFault.ensures.kept)
+    (c.in-Err-ReadFault.ensures.read is) (ap g.K.Sink.faults same)
+    (subst (λ k. Grows (g.K.Sink.written k) _ []) same c.flushed-in-Err-ReadFault.ensures.kept)
     c.flushed-in-Err-ReadFault.ensures.cases
 
 pub returns-in-Err-InputTooLong : goal.returns-in-Err-InputTooLong
 returns-in-Err-InputTooLong g c =
-    let same = c.in-Err-InputTooLong.ensures.unwritten (inr (ap Err c.in-Err-InputTooLong.field-0-is)) in
-    live_long c.flushed-in-Err-InputTooLong.result (g.S.Source.left c.args.source.now) (g.S.Source.left c.live.new.source)
+    let is = ap Err c.in-Err-InputTooLong.field-0-is in
+    let same = c.in-Err-InputTooLong.ensures.unwritten (inr is) in
+    live_long c.flushed-in-Err-InputTooLong.result (g.S.Source.left c.args.source.now)
+    (g.S.Source.left c.live.new.source)
     (g.K.Sink.written c.args.sink.now) (g.K.Sink.written c.live.new.sink)
     (g.K.Sink.written c.flushed-in-Err-InputTooLong.new.sink) (g.K.Sink.flushed c.args.sink.now)
     (g.K.Sink.flushed c.flushed-in-Err-InputTooLong.new.sink) (g.S.Source.faults c.args.source.now)
     (g.S.Source.faults c.live.new.source) (g.K.Sink.faults c.args.sink.now)
     (g.K.Sink.faults c.live.new.sink) (g.K.Sink.faults c.flushed-in-Err-InputTooLong.new.sink)
-    (c.in-Err-InputTooLong.ensures.long (ap Err c.in-Err-InputTooLong.field-0-is)) (
+    (c.in-Err-InputTooLong.ensures.long is) (
       other_of c.in-Err-InputTooLong.ensures.source_kept
           (λ e. let is = c.in-Err-InputTooLong.field-0-is in absurd (cc)),
       ap g.K.Sink.faults same,
     )
-    (subst (λ k. Grows (g.K.Sink.written k) (g.K.Sink.written c.flushed-in-Err-InputTooLong.new.sink) []) same
-    c.flushed-in-Err-InputTooLong.ensures.kept)
+    (subst (λ k. Grows (g.K.Sink.written k) _ []) same c.flushed-in-Err-InputTooLong.ensures.kept)
     c.flushed-in-Err-InputTooLong.ensures.cases
