@@ -31,25 +31,27 @@ pub returns-in-Err-ReadFault : goal.returns-in-Err-ReadFault
 returns-in-Err-ReadFault g c =
     let is = ap Err c.in-Err-ReadFault.field-0-is in
     let same = c.in-Err-ReadFault.ensures.unwritten (inl is) in
+    let later = g.K.Sink.written c.flushed-in-Err-ReadFault.new.sink in
     live_failed c.flushed-in-Err-ReadFault.result (g.S.Source.left c.args.source.now)
     (g.S.Source.left c.live.new.source)
     (g.K.Sink.written c.args.sink.now) (g.K.Sink.written c.live.new.sink)
-    (g.K.Sink.written c.flushed-in-Err-ReadFault.new.sink) (g.K.Sink.flushed c.args.sink.now)
+    later (g.K.Sink.flushed c.args.sink.now)
     (g.K.Sink.flushed c.flushed-in-Err-ReadFault.new.sink) (g.S.Source.faults c.args.source.now)
     (g.S.Source.faults c.live.new.source) (g.K.Sink.faults c.args.sink.now)
     (g.K.Sink.faults c.live.new.sink) (g.K.Sink.faults c.flushed-in-Err-ReadFault.new.sink)
     (c.in-Err-ReadFault.ensures.read is) (ap g.K.Sink.faults same)
-    (subst (λ k. Grows (g.K.Sink.written k) _ []) same c.flushed-in-Err-ReadFault.ensures.kept)
+    (subst (λ k. Grows (g.K.Sink.written k) later []) same c.flushed-in-Err-ReadFault.ensures.kept)
     c.flushed-in-Err-ReadFault.ensures.cases
 
 pub returns-in-Err-InputTooLong : goal.returns-in-Err-InputTooLong
 returns-in-Err-InputTooLong g c =
     let is = ap Err c.in-Err-InputTooLong.field-0-is in
     let same = c.in-Err-InputTooLong.ensures.unwritten (inr is) in
+    let later = g.K.Sink.written c.flushed-in-Err-InputTooLong.new.sink in
     live_long c.flushed-in-Err-InputTooLong.result (g.S.Source.left c.args.source.now)
     (g.S.Source.left c.live.new.source)
     (g.K.Sink.written c.args.sink.now) (g.K.Sink.written c.live.new.sink)
-    (g.K.Sink.written c.flushed-in-Err-InputTooLong.new.sink) (g.K.Sink.flushed c.args.sink.now)
+    later (g.K.Sink.flushed c.args.sink.now)
     (g.K.Sink.flushed c.flushed-in-Err-InputTooLong.new.sink) (g.S.Source.faults c.args.source.now)
     (g.S.Source.faults c.live.new.source) (g.K.Sink.faults c.args.sink.now)
     (g.K.Sink.faults c.live.new.sink) (g.K.Sink.faults c.flushed-in-Err-InputTooLong.new.sink)
@@ -58,5 +60,5 @@ returns-in-Err-InputTooLong g c =
           (λ e. let is = c.in-Err-InputTooLong.field-0-is in absurd (cc)),
       ap g.K.Sink.faults same,
     )
-    (subst (λ k. Grows (g.K.Sink.written k) _ []) same c.flushed-in-Err-InputTooLong.ensures.kept)
+    (subst (λ k. Grows (g.K.Sink.written k) later []) same c.flushed-in-Err-InputTooLong.ensures.kept)
     c.flushed-in-Err-InputTooLong.ensures.cases
