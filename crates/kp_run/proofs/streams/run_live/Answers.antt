@@ -60,5 +60,6 @@ returns-in-Err-InputTooLong g c =
           (λ e. let is = c.in-Err-InputTooLong.field-0-is in absurd (cc)),
       ap g.K.Sink.faults same,
     )
-    (subst (λ k. Grows (g.K.Sink.written k) later []) same c.flushed-in-Err-InputTooLong.ensures.kept)
+    (subst (λ k. Grows (g.K.Sink.written k) later [])
+    same c.flushed-in-Err-InputTooLong.ensures.kept)
     c.flushed-in-Err-InputTooLong.ensures.cases
