@@ -245,8 +245,8 @@ reads_source (Some (mode.Replay workers)) = true
 reads_source (Some mode.Live) = true
 reads_source (Some (mode.Gen seed services pods)) = false
 
--- How a run ends, by what the words ask for. Where there is no memory for the words, nothing was
--- read or written.
+-- How a run ends, by what the words ask for. Where they fit, want of memory for them is that of the
+-- run itself.
 abbrev pub Runs : Option Mode → Status → Outside → Outside → Type 0
 Runs None status old new = EndsUnserved status old.output new.output
 Runs (Some (mode.Replay workers)) status old new = Ends status old new

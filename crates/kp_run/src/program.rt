@@ -21,7 +21,7 @@ use std::thread::Threads;
 /// of the source to its end, and writes what they print to the sink; for `live` it reads them, runs
 /// their streams beside each other, and writes the text of that run; for `gen` it writes the one
 /// line of a generated script; where the words don't fit, it writes the usage line. It reads the
-/// source for `replay` and `live` alone. Without memory for the words it reads and writes nothing.
+/// source for `replay` and `live` alone. Without memory for words that don't fit it writes nothing.
 /// For `live` alone it waits and starts threads by its runtime, and calls of the streams pass the
 /// gate.
 pub fn run<S: Source, K: Sink, R: Threads + Wait + Sync, G: Gate<R> + Sync>(
