@@ -1,5 +1,4 @@
 //! A live run of lines.
-ghost use Rattle.kp_run.specs.LiveOutcome as live;
 ghost use Rattle.kp_run.specs.Outcome as outcome;
 
 use crate::ending::{flushed, if_refused};
@@ -12,7 +11,7 @@ use std::sync::Wait;
 use std::thread::Threads;
 
 /// Reads the lines of a source to its end, runs their streams beside each other, and writes the
-/// text of the run.
+/// text of the run. A fault of reading, or too long an input, is told before any stream runs.
 pub(crate) fn run_live<S: Source, K: Sink, R: Threads + Wait + Sync, G: Gate<R> + Sync>(
     rt: &R,
     alloc: Global,
@@ -20,7 +19,7 @@ pub(crate) fn run_live<S: Source, K: Sink, R: Threads + Wait + Sync, G: Gate<R> 
     sink: &mut K,
     gate: &G,
 ) -> Status
-    ensures { live.EndsLive result
+    ensures { outcome.EndsLive result
         (outcome.ends_of (outcome.source_of (S.left source.old) (S.faults source.old))
         (outcome.sink_of (K.written sink.old) (K.flushed sink.old) (K.faults sink.old)))
         (outcome.ends_of (outcome.source_of (S.left source.new) (S.faults source.new))
