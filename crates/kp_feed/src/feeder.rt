@@ -1,4 +1,6 @@
 //! The pass of one feeder.
+ghost use Rattle.std.specs.Prelude.{◌≡◌, length};
+
 use crate::rule::Known;
 use crossbeam_queue::SegPass;
 use kp_history_defs::Fed;
@@ -29,4 +31,13 @@ impl Model for FeedPass {
     ghost invariant = { λ p. (p.seat.me.hand ≡ None) × (p.seat.me.spare ≡ None)
         × (p.seat.me.view.client.feeds ≡ true) × (p.seat.me.view.client.feeder ≡ p.feeder)
         × (p.count ≡ length p.seat.me.view.client.fed) };
+}
+
+impl FeedPass {
+    /// How many events it has fed.
+    pub fn count(&self) -> u64
+        ensures { result ≡ length self.now.fed }
+    {
+        self.count
+    }
 }

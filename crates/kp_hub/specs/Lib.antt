@@ -1,0 +1,10 @@
+pub mod Taken
+pub mod Known
+pub mod Openings
+pub mod State
+pub mod Finishing
+pub mod Growing
+pub mod Reading
+pub mod Ready
+pub mod Syncs
+pub mod Interleaved
