@@ -1,5 +1,5 @@
 -- Streams that are made, given their lines and taken apart one after the other.
-use Rattle.std.proofs.Common.{◌≡◌, ◌<◌, ◌≤◌, ◌+◌, ℕ, zero, suc, ⊥, Bool, true, false, cond, List, ◌∷◌, [], ◌++◌, map, take, drop, get_or, length, replicate, ap, sym, subst, append_assoc, absurd, refl, ◌∙◌, arith}
+use Rattle.std.proofs.Common.{◌≡◌, ◌<◌, ◌≤◌, ◌+◌, ℕ, zero, suc, Bool, true, false, cond, List, ◌∷◌, [], ◌++◌, map, take, drop, get_or, length, replicate, ap, sym, subst, append_assoc, refl, ◌∙◌, arith}
 use Rattle.std.specs.Prelude.{IfSome, slice_get}
 use Rattle.std.specs.List.{AllByRecursion, filter}
 use Rattle.std.proofs.Math.ListN.{set}
