@@ -1,4 +1,5 @@
 use Rattle.std.proofs.Common.{◌≡◌, [], arith, ap, sym, subst, length, replicate, ◌∙◌}
+use Rattle.std.proofs.lemmas.Grind.{common_steps}
 use Rattle.std.specs.List.{AllByRecursion}
 use Rattle.std.specs.Vec.Iter.{into_iter_items}
 use Rattle.kp_hub.specs.Known.{new_worker}
