@@ -3,6 +3,7 @@ pub mod Ending
 pub mod Journals
 pub mod Keeping
 pub mod Legal
+pub mod Lines
 pub mod Meeting
 pub mod Merging
 pub mod Printing

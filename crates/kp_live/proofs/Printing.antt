@@ -117,6 +117,23 @@ made_prints (Ok x) result bytes whole w0 w1 f0 f1 is ok err =
     subst (λ b. Prints result b w0 w1 f0 f1) is ok
 made_prints (Err e) result bytes whole w0 w1 f0 f1 is ok err = err whole
 
+-- the same text, and any answer beside it
+pub prints_as : {T : Type 0} (r : Result T LiveFault) (a b : List ℕ) (w0 w1 : Option (List ℕ))
+    (f0 f1 : ℕ) → a ≡ b → Prints r a w0 w1 f0 f1 → Prints r b w0 w1 f0 f1
+prints_as r a b w0 w1 f0 f1 is all = subst (λ l. Prints r l w0 w1 f0 f1) is all
+
+pub prints_any : {A B : Type 0} (x : A) (y : B) (text : List ℕ) (w0 w1 : Option (List ℕ))
+    (f0 f1 : ℕ) → Prints {T = A} (Ok x) text w0 w1 f0 f1 → Prints {T = B} (Ok y) text w0 w1 f0 f1
+prints_any x y text w0 w1 f0 f1 all = record {
+  whole = all.whole;
+  front = tt;
+  later = all.later;
+  sure = all.sure;
+  failed = λ is. absurd (cc is);
+  wanted = λ is. absurd (cc is);
+  other = λ fault is. absurd (cc is);
+}
+
 -- one more piece was written
 pub prints_next : (before piece after : List ℕ) (u v : Unit {0}) (w0 w1 w2 : Option (List ℕ))
     (f0 f1 f2 : ℕ) → after ≡ before ++ piece
@@ -177,6 +194,12 @@ prints_said (Err e) b text w0 w1 f0 f1 all = record {
   wanted = λ is. all.wanted (ap Err (cc is));
   other = λ fault is. all.other fault (ap Err (cc is));
 }
+
+pub prints_flag : (q : Result Bool LiveFault) (r : Result (Unit {0}) LiveFault) (b : Bool)
+    (text : List ℕ) (w0 w1 : Option (List ℕ)) (f0 f1 : ℕ) → q ≡ said_of r b
+    → Prints r text w0 w1 f0 f1 → Prints q text w0 w1 f0 f1
+prints_flag q r b text w0 w1 f0 f1 is all =
+    subst (λ x. Prints x text w0 w1 f0 f1) (sym is) (prints_said r b text w0 w1 f0 f1 all)
 
 -- ---- Texts of lists
 
@@ -248,31 +271,32 @@ notes_append n (x ∷ xs) ys =
     ∙ sym (append_assoc (note_text n x) (notes_text (n + 1) xs)
     (notes_text (n + suc (length xs)) ys))
 
-pub next_note : (xs : List RecordNote) (i : ℕ) (x : RecordNote) → i < length xs
-    → x ≡ get_or xs i x
+pub next_note : (xs : List RecordNote) (i : ℕ) (d : RecordNote) → i < length xs
     → notes_text 0 (take (i + 1) xs)
-    ≡ notes_text 0 (take i xs) ++ record_text (i + 1) x.events x.written x.removed
-next_note xs i x lt is =
+    ≡ notes_text 0 (take i xs)
+    ++ record_text (i + 1) (get_or xs i d).events (get_or xs i d).written (get_or xs i d).removed
+next_note xs i d lt =
     let there : 0 + length (take i xs) ≡ i =
     omega (arith, length-take-le i xs (omega (arith, lt))) in
+    let x = get_or xs i d in
     ap (λ n. notes_text 0 (take n xs)) (add-one i)
-    ∙ ap (notes_text 0) (take-suc xs i x lt)
-    ∙ notes_append 0 (take i xs) (get_or xs i x ∷ [])
-    ∙ (λ k. notes_text 0 (take i xs) ++ notes_text (there k) (sym is k ∷ []))
+    ∙ ap (notes_text 0) (take-suc xs i d lt)
+    ∙ notes_append 0 (take i xs) (x ∷ [])
+    ∙ (λ k. notes_text 0 (take i xs) ++ notes_text (there k) (x ∷ []))
     ∙ ap (λ l. notes_text 0 (take i xs) ++ l) (append-nil (note_text i x))
     ∙ ap (λ n. notes_text 0 (take i xs) ++ record_text n x.events x.written x.removed)
     (sym (add-one i))
 
-pub rest_notes : (xs : List RecordNote) (i : ℕ) (x : RecordNote) → i < length xs
-    → x ≡ get_or xs i x
+pub rest_notes : (xs : List RecordNote) (i : ℕ) (d : RecordNote) → i < length xs
     → notes_text 0 xs
-    ≡ notes_text 0 (take i xs) ++ record_text (i + 1) x.events x.written x.removed
+    ≡ notes_text 0 (take i xs)
+    ++ record_text (i + 1) (get_or xs i d).events (get_or xs i d).written (get_or xs i d).removed
     ++ notes_text (0 + length (take (i + 1) xs)) (drop (i + 1) xs)
-rest_notes xs i x lt is =
+rest_notes xs i d lt =
     ap (notes_text 0) (sym (take-append-drop (i + 1) xs))
     ∙ notes_append 0 (take (i + 1) xs) (drop (i + 1) xs)
     ∙ ap (λ l. l ++ notes_text (0 + length (take (i + 1) xs)) (drop (i + 1) xs))
-    (next_note xs i x lt is)
+    (next_note xs i d lt)
 
 -- ---- Lists by their places
 

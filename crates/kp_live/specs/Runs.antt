@@ -81,6 +81,12 @@ with_line refusals line (Feeds events) t = t
 with_line refusals line Syncs t = with_next refusals line (t.left line.stream) t
 with_line refusals line (Sends p) t = with_next refusals line (t.left line.stream) t
 
+-- a line is answered that syncs or sends a packet
+abbrev pub is_answered : Work → Bool
+is_answered (Feeds events) = false
+is_answered Syncs = true
+is_answered (Sends p) = true
+
 -- one more line
 abbrev pub after_line : List Refusal → Telling → StreamLine → Telling
 after_line refusals t line = with_line refusals line line.work t

@@ -216,7 +216,10 @@ fn print_answers<K: Sink>(
         → IfOk result (λ denied. denied ≡ (runs.telling refusals.now told lines.now).denied) }
 {
     match told_from(alloc, answers) {
-        Ok(told) => print_lines(alloc, lines, told, refusals, sink),
+        Ok(told) => {
+            let mut told = told;
+            print_lines(alloc, lines, told.as_mut_slice(), refusals, sink)
+        }
         Err(NoMemory) => Err(LiveFault::NoMemory),
     }
 }
@@ -226,25 +229,31 @@ fn print_answers<K: Sink>(
 fn print_lines<K: Sink>(
     alloc: Global,
     lines: &[StreamLine],
-    told: Vec<ToldOn<'_>>,
+    told: &mut [ToldOn<'_>],
     refusals: &[Refusal],
     sink: &mut K,
 ) -> Result<bool, LiveFault>
-    ensures printed { (all : ℕ → List Told) → runs.AreLeft all told.entry.items
+    ensures printed { (all : ℕ → List Told) → runs.AreLeft all told.old
         → Prints result (runs.telling refusals.now all lines.now).text
         (K.written sink.old) (K.written sink.new) (K.faults sink.old) (K.faults sink.new) }
-    ensures denied { (all : ℕ → List Told) → runs.AreLeft all told.entry.items
+    ensures denied { (all : ℕ → List Told) → runs.AreLeft all told.old
         → IfOk result (λ denied. denied ≡ (runs.telling refusals.now all lines.now).denied) }
 {
-    let mut told = told;
     let mut denied = false;
     for line in lines {
-        match print_line(alloc, line, told.as_mut_slice(), refusals, sink) {
-            Ok(more) => denied = denied || more,
+        match print_line(alloc, line, told, refusals, sink) {
+            Ok(more) => denied = either(denied, more),
             Err(fault) => return Err(fault),
         }
     }
     Ok(denied)
+}
+
+/// Whether one of the two is so.
+fn either(a: bool, b: bool) -> bool
+    ensures { result ≡ (a || b) }
+{
+    a || b
 }
 
 /// The answers of each stream, to be told from the first on.
@@ -276,13 +285,20 @@ fn print_line<K: Sink>(
         × Prints result bytes (K.written sink.old) (K.written sink.new) (K.faults sink.old)
         (K.faults sink.new) }
 {
-    let Some(own) = told.get_mut(line.stream as usize) else {
+    let place = line.stream as usize;
+    if !is_answered(&line.work) || place >= told.len() {
         return Ok(false);
-    };
-    match &line.work {
-        Work::Feeds(_) => Ok(false),
-        Work::Syncs => print_next(alloc, line.number, own, refusals, sink),
-        Work::Sends(_) => print_next(alloc, line.number, own, refusals, sink),
+    }
+    print_next(alloc, line.number, &mut told[place], refusals, sink)
+}
+
+/// Whether a line is answered: it syncs or sends a packet.
+fn is_answered(work: &Work) -> bool
+    ensures { result ≡ runs.is_answered work.now }
+{
+    match work {
+        Work::Feeds(_) => false,
+        Work::Syncs | Work::Sends(_) => true,
     }
 }
 
