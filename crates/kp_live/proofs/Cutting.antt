@@ -98,8 +98,8 @@ pub own_more : {S : Type 0} (xs : List S) (f : S → List StreamLine) (lines : L
     (λ s. f s ≡ filter (is_line_of i) (take (n + 1) lines))
 own_more {S} xs f lines n line lt is all y d in_range grown =
     let had : f (get_or xs line.stream d) ≡ filter (is_line_of line.stream) (take n lines) =
-      subst (λ o. IfSome o (λ s. f s ≡ filter (is_line_of line.stream) (take n lines)))
-      (slice_get-get_or xs line.stream d in_range) (all line.stream) in
+    subst (λ o. IfSome o (λ s. f s ≡ filter (is_line_of line.stream) (take n lines)))
+    (slice_get-get_or xs line.stream d in_range) (all line.stream) in
     each_set (λ i s. f s ≡ filter (is_line_of i) (take n lines))
     (λ i s. f s ≡ filter (is_line_of i) (take (n + 1) lines)) xs line.stream y all
     (λ i s ne p. p ∙ other_more lines n i line lt is ne)
