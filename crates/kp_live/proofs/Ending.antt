@@ -209,7 +209,7 @@ module _ (reading : Reading) (start : TableParts) (queue : QueueId) (stands : Li
 -- ---- The run
 
 -- as many streams run as there are, and at least one
-few_by : (reading : Reading) (n : ℕ) (b : Bool) → nat_lt 0 (length reading.streams) ≡ b
+pub few_by : (reading : Reading) (n : ℕ) (b : Bool) → nat_lt 0 (length reading.streams) ≡ b
     → n ≡ length (cond b reading.streams (codes "main" ∷ []))
     → (length reading.streams ≤ n) × (0 < n)
     × (length reading.streams ≡ 0 → n ≡ 1)

@@ -1,3 +1,4 @@
+pub mod Closing
 pub mod Cutting
 pub mod Ending
 pub mod Journals
@@ -11,4 +12,5 @@ pub mod Readings
 pub mod Records
 pub mod Steps
 pub mod Telling
+pub mod Together
 pub mod Totals

@@ -95,13 +95,7 @@ pub(crate) fn run_all<
     C: Ledger + Send + Sync,
     R: Threads + Wait + Sync,
     G: Gate<R> + Sync,
->(
-    rt: &R,
-    alloc: Global,
-    hub: &Hub<J, A, C>,
-    gate: &G,
-    streams: &mut [Stream<'_, J, A, C>],
-)
+>(rt: &R, alloc: Global, hub: &Hub<J, A, C>, gate: &G, streams: &mut [Stream<'_, J, A, C>])
     requires queue { All (λ s. s.standing.feeder.queue ≡ J.queue) streams.old }
     ensures { (i : ℕ) → IfSome (slice_get streams.old i) (λ s. IfSome (slice_get streams.new i)
         (λ t. t.failed ≡ false → RunsOn J.start J.config (map (λ l. l.now) s.lines.items)

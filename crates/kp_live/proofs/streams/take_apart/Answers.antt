@@ -1,6 +1,5 @@
-use Rattle.std.proofs.Common.{◌≡◌, false, arith, ap, length, ◌∙◌}
-use Rattle.std.proofs.lemmas.Grind.{common_steps}
-use Rattle.std.specs.Vec.Iter.{into_iter_items, into_iter_len}
+use Rattle.std.proofs.Common.{◌≡◌, false, arith, ap, length}
+use Rattle.std.specs.Vec.Iter.{into_iter_items}
 use Rattle.kp_live.proofs.Cutting.{moves, whole_moves}
 use Rattle.kp_live.proofs.streams.take_apart.Goals as goal
 
