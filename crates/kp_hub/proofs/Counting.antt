@@ -1,16 +1,22 @@
 -- Passes of workers, one after the other.
-use Rattle.std.proofs.Common.{◌≡◌, ℕ, zero, suc, ◌+◌, ◌<◌, List, [], ◌∷◌, ◌++◌, length, map, sum, take, drop, replicate, slice_set, slice_index_or, refl, ap, sym, ◌∙◌, arith, length-append}
+use Rattle.std.proofs.Common.{◌≡◌, ℕ, zero, suc, ◌+◌, ◌<◌, List, [], ◌∷◌, ◌++◌, length, map, sum, take, drop, replicate, slice_set, slice_index_or, refl, ap, sym, ◌∙◌, arith, append_assoc}
 use Rattle.std.proofs.Math.Seq.{take-suc}
-use Rattle.std.proofs.lemmas.List.{map-append}
+use Rattle.std.proofs.lemmas.List.{append-nil, map-append}
 use Rattle.std.proofs.lemmas.List.Sums.{fold-append}
-use Rattle.kp_publish.proofs.Readers.{replicate_snoc}
 
--- one more that is like the others
-pub made_snoc : {W : Type 0} (new : W) (ws now : List W) (w : W) → ws ≡ replicate (length ws) new → w ≡ new → now ≡ ws ++ w ∷ []
-    → now ≡ replicate (length now) new
-made_snoc new ws now w like same more =
-    let longer : length ws + 1 ≡ length now = sym (ap length more ∙ length-append ws (w ∷ [])) in
-    more ∙ ((λ i. like i ++ same i ∷ []) ∙ (replicate_snoc (length ws) new ∙ ap (λ n. replicate n new) longer))
+module _ {W R : Type 0} (new : W) where
+  -- one more is made, for one less that is left
+  pub made_next : (ws now : List W) (w : W) (left rest : List R) (r : R) (n : ℕ) → ws ++ replicate (length left) new ≡ replicate n new
+      → left ≡ r ∷ rest → w ≡ new → now ≡ ws ++ w ∷ [] → now ++ replicate (length rest) new ≡ replicate n new
+  made_next ws now w left rest r n all one like more =
+      ap (λ (l : List W). l ++ replicate (length rest) new) more
+      ∙ (append_assoc ws (w ∷ []) (replicate (length rest) new)
+      ∙ ((λ i. ws ++ like i ∷ replicate (length rest) new)
+      ∙ (ap (λ (l : List R). ws ++ replicate (length l) new) (sym one) ∙ all)))
+
+  -- and none is left
+  pub made_all : (ws : List W) (left : List R) (n : ℕ) → ws ++ replicate (length left) new ≡ replicate n new → left ≡ [] → ws ≡ replicate n new
+  made_all ws left n all none = sym (append-nil ws) ∙ (ap (λ (l : List R). ws ++ replicate (length l) new) (sym none) ∙ all)
 
 next_is : (i : ℕ) → i + 1 ≡ suc i
 next_is i = omega arith

@@ -1,10 +1,12 @@
 -- What more was taken.
-use Rattle.std.proofs.Common.{◌≡◌, ℕ, ◌+◌, ◌≤◌, ◌<◌, List, [], ◌∷◌, ◌++◌, length, sum, refl, ap, sym, subst, ◌∙◌, arith, append_assoc, length-append}
+use Rattle.std.proofs.Common.{◌≡◌, List, [], ◌++◌, ap, sym, subst, ◌∙◌, append_assoc}
 use Rattle.std.proofs.lemmas.List.{append-nil}
 use mathlib.Core.List.{IsPrefix}
-use Rattle.kp_history_defs.specs.declared.fed.Fed.{Fed}
 use Rattle.kp_hub.specs.Taken.{Taken, all_taken}
-use Rattle.kp_hub.specs.Growing.{TakesMore}
+use Rattle.kp_base.specs.declared.config.Config.{Config}
+use Rattle.kp_hub.specs.declared.notes.Stop.{Stop}
+use Rattle.kp_hub.specs.declared.notes.Stop.TheVariants.{QueueEmpty, Budget, JournalFull}
+use Rattle.kp_hub.specs.Growing.{IsSameBut, StopsAt, TakesMore}
 
 pub prefix_same : {A : Type 0} (xs ys : List A) → xs ≡ ys → IsPrefix xs ys
 prefix_same xs ys same = subst (λ l. IsPrefix xs l) same ([], append-nil xs)
@@ -28,22 +30,20 @@ takes_through t u v p q = record {
   ended = q.ended ∙ p.ended;
 }
 
--- as many or more were taken, and the journal stays
-pub takes_waiting : (t u : Taken) → u.journal ≡ t.journal → IsPrefix (all_taken t) (all_taken u) → u.feeders ≡ t.feeders → u.ended ≡ t.ended
-    → TakesMore t u
-takes_waiting t u same taken feeders ended = record {
-  journal = prefix_same t.journal u.journal (sym same);
-  taken = taken;
-  feeders = feeders;
-  ended = ended;
-}
+-- the syncs may differ
+pub takes_same : (t u v : Taken) → TakesMore t u → IsSameBut u v → TakesMore t v
+takes_same t u v more same = subst (λ (x : Taken). TakesMore t x) (sym same) (record {
+  journal = more.journal;
+  taken = more.taken;
+  feeders = more.feeders;
+  ended = more.ended;
+})
 
--- one more is in the journal
-pub takes_next : (t u : Taken) (f : Fed) → u.journal ≡ t.journal ++ f ∷ [] → IsPrefix (all_taken t) (all_taken u) → u.feeders ≡ t.feeders
-    → u.ended ≡ t.ended → TakesMore t u
-takes_next t u f more taken feeders ended = record {
-  journal = (f ∷ [], sym more);
-  taken = taken;
-  feeders = feeders;
-  ended = ended;
-}
+pub stops_same : (config : Config) (stop : Stop) (t u v : Taken) → StopsAt config stop t u
+    → IsSameBut u v → StopsAt config stop t v
+stops_same config JournalFull t u v stops same =
+    subst (λ (x : Taken). StopsAt config JournalFull t x) (sym same) stops
+stops_same config Budget t u v stops same =
+    subst (λ (x : Taken). StopsAt config Budget t x) (sym same) stops
+stops_same config QueueEmpty t u v stops same =
+    subst (λ (x : Taken). StopsAt config QueueEmpty t x) (sym same) stops

@@ -1,25 +1,33 @@
 -- What holds of a plane, a taker and the notes still does where an event is taken, and where a sync
 -- is made.
-use Rattle.std.proofs.Common.{◌≡◌, ℕ, ◌+◌, ◌-◌, ◌≤◌, ◌<◌, List, [], ◌∷◌, ◌++◌, Option, Some, None, IfSome, length, map, sum, refl, ap, sym, subst, ◌∙◌, arith, length-append, append_assoc}
+use Rattle.std.proofs.Common.{◌≡◌, ℕ, suc, ◌+◌, ◌≤◌, ◌<◌, List, [], ◌∷◌, ◌++◌, Option, Some, None, IfSome, length, map, sum, refl, ap, sym, subst, ◌∙◌, arith, length-append}
 use Rattle.std.proofs.lemmas.List.{append-nil, map-append}
+use Rattle.std.proofs.lemmas.List.Sums.{fold-append}
 use Rattle.std.specs.Option.{option_to_list}
+use mathlib.Core.List.{IsPrefix}
+use Rattle.kp_base.specs.declared.address.Family.TheVariants.{V4}
 use Rattle.kp_base.specs.declared.config.Config.{Config}
-use Rattle.kp_types.specs.declared.event.Event.{Event}
 use Rattle.kp_types.specs.declared.sync.SyncRecord.{SyncRecord}
+use Rattle.kp_choice_defs.specs.Settings.{setting_of}
+use Rattle.kp_object_defs.specs.Objects.{objects_after}
+use Rattle.kp_table_defs.specs.Rebuild.{clash_of}
+use Rattle.kp_full_table.specs.declared.fault.TableFault.{TableFault}
+use Rattle.kp_full_table.specs.Faults.{TellsClash}
 use Rattle.kp_history_defs.specs.declared.fed.Fed.{Fed}
 use Rattle.kp_history_defs.specs.Runs.{events_of}
 use Rattle.kp_history_laws.specs.HistoryLaws.{RecordsStay}
 use Rattle.kp_feed.specs.declared.rule.Ended.{Ended}
 use Rattle.kp_feed.specs.Passes.{QueueId}
 use Rattle.kp_feed.specs.Taking.{Taker}
-use Rattle.kp_plane.specs.Parts.{PlaneParts, setting_in, records_in, synced, with_events}
+use Rattle.kp_plane.specs.Parts.{IsNextRecord, PlaneParts, setting_in, records_in, synced, uncovered_in, with_events}
 use Rattle.kp_hub.specs.declared.notes.RecordNote.{RecordNote}
-use Rattle.kp_hub.specs.Taken.{Taken, IsTaken, all_taken, note_of, plane_of, records_at, taker_of, with_sync}
+use Rattle.kp_hub.specs.Growing.{TakesMore}
+use Rattle.kp_hub.specs.Taken.{Taken, IsTaken, note_of, plane_of, records_at, with_sync}
 
 -- as many events as journal entries
 pub events_length : (fs : List Fed) → length (events_of fs) ≡ length fs
 events_length [] = refl
-events_length (f ∷ fs) = ap (λ n. 1 + n) (events_length fs)
+events_length (f ∷ fs) = ap suc (events_length fs)
 
 module _ (config : Config) (queue : QueueId) (t : Taken) (plane : PlaneParts) (taker : Taker) (notes : List RecordNote)
     (is : IsTaken config queue t plane taker notes) where
@@ -31,6 +39,19 @@ module _ (config : Config) (queue : QueueId) (t : Taken) (plane : PlaneParts) (t
       let events : events_of journal ≡ events_of t.journal ++ f.event ∷ [] = ap events_of grown ∙ map-append (λ (x : Fed). x.event) t.journal (f ∷ []) in
       (λ i. records_in (record { config = config; events = events i; counts = same i }))
       ∙ stay (setting_in (plane_of config t)) (events_of t.journal) (f.event ∷ []) t.counts (omega (arith, is.covers, events_length t.journal))
+
+  -- more was taken, where the taker has taken more
+  pub takes_from : (u : Taken) (plane' : PlaneParts) (taker' : Taker) (notes' : List RecordNote)
+      → IsTaken config queue u plane' taker' notes' → IsPrefix t.journal u.journal
+      → IsPrefix taker.taken taker'.taken → u.feeders ≡ t.feeders → u.ended ≡ t.ended → TakesMore t u
+  takes_from u plane' taker' notes' now journal taken feeders ended = record {
+    journal = journal;
+    taken = subst (λ (p : List Fed × List Fed). IsPrefix p.0 p.1)
+        (λ i. (ap (λ (k : Taker). k.taken) is.taker_is i, ap (λ (k : Taker). k.taken) now.taker_is i))
+        taken;
+    feeders = feeders;
+    ended = ended;
+  }
 
   -- an event is accepted
   pub taken_next : RecordsStay → (f : Fed) (journal : List Fed) (plane' : PlaneParts) (taker' : Taker) → journal ≡ t.journal ++ f ∷ []
@@ -75,12 +96,41 @@ module _ (config : Config) (queue : QueueId) (t : Taken) (plane : PlaneParts) (t
         room = subst (λ (l : List Fed). length l < config.max_events) (sym same) room;
       }
 
+  -- a sync covers the whole journal
+  pub synced_covers : sum (with_sync config t).counts ≡ length t.journal
+  synced_covers =
+      let more : ℕ = uncovered_in (plane_of config t) in
+      let all : sum (with_sync config t).counts ≡ sum t.counts + more =
+      fold-append (λ (n m : ℕ). n + m) 0 t.counts (more ∷ []) in
+      let few = is.covers in
+      let as_many = events_length t.journal in omega (arith, all, few, as_many)
+
+  -- there is one record more
+  pub records_synced : (r : SyncRecord) (plane' : PlaneParts) (u : Taken) → plane' ≡ plane_of config u
+      → records_in plane' ≡ records_in plane ++ r ∷ [] → records_at config u ≡ records_at config t ++ r ∷ []
+  records_synced r plane' u now grows =
+      ap records_in (sym now) ∙ (grows ∙ ap (λ (p : PlaneParts). records_in p ++ r ∷ []) is.plane_is)
+
+  -- whose objects have no clash
+  pub no_clash : (r : SyncRecord) → IsNextRecord plane r
+      → clash_of (setting_of V4 config) (objects_after (events_of t.journal)) ≡ None
+  no_clash r next =
+      subst (λ (p : PlaneParts). clash_of (setting_in p) (objects_after p.events) ≡ None) is.plane_is
+      next.exact.has_no_clash
+
+  -- or there is a fault
+  pub tells_clash : (fault : TableFault)
+      → TellsClash (clash_of (setting_in plane) (objects_after plane.events)) fault
+      → TellsClash (clash_of (setting_of V4 config) (objects_after (events_of t.journal))) fault
+  tells_clash fault tells =
+      subst (λ (p : PlaneParts). TellsClash (clash_of (setting_in p) (objects_after p.events)) fault)
+      is.plane_is tells
+
   -- a sync is made
   pub taken_synced : (r : SyncRecord) (plane' : PlaneParts) (journal : List Fed) (taker' : Taker) (notes' : List RecordNote)
       → journal ≡ t.journal → taker' ≡ taker → plane' ≡ synced plane → records_in plane' ≡ records_in plane ++ r ∷ [] → notes' ≡ notes ++ note_of r ∷ []
-      → sum (with_sync config t).counts ≤ length t.journal
       → IsTaken config queue (record { journal = journal; waits = t.waits; counts = plane'.counts; feeders = taker'.feeders; ended = taker'.ended }) plane' taker' notes'
-  taken_synced r plane' journal taker' notes' same kept leads grows noted within =
+  taken_synced r plane' journal taker' notes' same kept leads grows noted =
       let led : plane' ≡ plane_of config (with_sync config t) = leads ∙ ap synced is.plane_is in
       let counts : plane'.counts ≡ (with_sync config t).counts = ap (λ p. p.counts) led in
       let whole : plane' ≡ record { config = config; events = events_of journal; counts = plane'.counts } =
@@ -95,6 +145,6 @@ module _ (config : Config) (queue : QueueId) (t : Taken) (plane : PlaneParts) (t
         }));
         notes_are = noted ∙ (ap (λ ns. ns ++ note_of r ∷ []) (is.notes_are ∙ ap (λ p. map note_of (records_in p)) (sym is.plane_is))
             ∙ (sym (map-append note_of (records_in plane) (r ∷ [])) ∙ ap (map note_of) (sym grows ∙ ap records_in whole)));
-        covers = subst (λ (x : List ℕ × List Fed). sum x.0 ≤ length x.1) (λ i. (sym counts i, sym same i)) within;
+        covers = subst (λ (x : List ℕ × List Fed). sum x.0 ≤ length x.1) (λ i. (sym counts i, sym same i)) (omega (arith, synced_covers));
         room = subst (λ (l : List Fed). IfSome t.waits (λ f. length l < config.max_events)) (sym same) is.room;
       }

@@ -1,5 +1,5 @@
 -- Journals with who fed their events.
-use Rattle.std.proofs.Common.{◌≡◌, ℕ, zero, suc, ◌<◌, drop, slice_index_or, List, [], ◌∷◌, ◌++◌, length, map, refl, ap, arith}
+use Rattle.std.proofs.Common.{◌≡◌, ℕ, zero, suc, ◌<◌, drop, slice_index_or, List, [], ◌∷◌, ◌++◌, length, refl, ap, arith}
 use Rattle.kp_types.specs.declared.event.Event.{Event}
 use Rattle.kp_history_defs.specs.declared.fed.Fed.{Fed}
 use Rattle.kp_history_defs.specs.Runs.{events_of}

@@ -1,8 +1,13 @@
 pub mod Counting
+pub mod Endings
 pub mod Growth
+pub mod HandedOut
+pub mod HubRuns
 pub mod Intakes
 pub mod Journals
+pub mod NewPasses
 pub mod Publishing
 pub mod Readiness
 pub mod Readings
 pub mod States
+pub mod Syncing

@@ -1,5 +1,5 @@
 -- What a hub that ended hands out.
-use Rattle.std.specs.Prelude.{◌≡◌, ◌≤◌, ℕ, List, [], ◌++◌, Option, None, map, length, sum}
+use Rattle.std.specs.Prelude.{◌≡◌, ◌≤◌, ◌+◌, List, ◌++◌, Option, None, map, length, sum}
 use Rattle.std.specs.List.{AllByRecursion}
 use mathlib.Core.List.{IsPrefix}
 use Rattle.kp_base.specs.declared.config.Config.{Config}
@@ -13,6 +13,7 @@ use Rattle.kp_feed.specs.Passes.{Feeder}
 use Rattle.kp_plane.specs.Parts.{PlaneParts, HasExactHistory, records_in, table_in}
 use Rattle.kp_publish.specs.declared.entry.Entry.{Entry}
 use Rattle.kp_publish.specs.Entries.{records_of}
+use Rattle.kp_run_defs.specs.LegalRuns.{last_syncs}
 use Rattle.kp_hub.specs.declared.notes.RecordNote.{RecordNote}
 use Rattle.kp_hub.specs.declared.notes.Refusal.{Refusal}
 use Rattle.kp_hub.specs.State.{HubState, IsRefusal}
@@ -60,3 +61,8 @@ Begins seen records = IsPrefix (records_of seen) records
 pub record KeepsBooks (before after : HubState) : Type 0 where
   pub accepted : after.accepted ≡ before.accepted
   pub refused : after.refused ≡ before.refused
+
+-- there are as many syncs as passes together were told of, and one more where no clash refused the
+-- last
+abbrev pub IsUntold : HubState → Option Clash → Type 0
+IsUntold h clash = h.accepted + last_syncs clash ≤ length h.taken.counts

@@ -7,3 +7,4 @@ pub mod Growing
 pub mod Reading
 pub mod Ready
 pub mod Syncs
+pub mod Interleaved

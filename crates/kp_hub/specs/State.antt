@@ -5,7 +5,6 @@ use Rattle.std.specs.List.{AllByRecursion}
 use Rattle.kp_base.specs.declared.address.Family.TheVariants.{V4}
 use Rattle.kp_base.specs.declared.config.Config.{Config}
 use Rattle.kp_choice_defs.specs.Settings.{setting_of}
-use Rattle.kp_types.specs.declared.chain.Clash.{Clash}
 use Rattle.kp_types.specs.declared.sync.SyncRecord.{SyncRecord}
 use Rattle.kp_object_defs.specs.Objects.{Objects, no_objects, objects_after}
 use Rattle.kp_table_defs.specs.Rebuild.{TableParts, clash_of, full_table}
@@ -40,6 +39,16 @@ state_code =
       accepted = p.1.1.1.0;
       refused = p.1.1.1.1;
     }) (λ _. refl)
+
+-- it is what the parts of the lock show
+abbrev pub state_in : Taken → Keeps → List Refusal → ℕ → ℕ → HubState
+state_in taken outlet refusals accepted refused = record {
+  taken = taken;
+  outlet = outlet;
+  refusals = refusals;
+  accepted = accepted;
+  refused = refused;
+}
 
 -- the table of no objects
 abbrev pub first_table : Config → TableParts

@@ -61,6 +61,12 @@ abbrev pub Fails : Config → TableFault → HubState → HubState → Type 0
 Fails config (ChainClash clash) before after = Refuses config clash before after
 Fails config NoMemory before after = GivesUp config before after
 
+-- a fault tells the clash of the objects after some events
+abbrev pub IsClashOfSome : Config → TableFault → Type 0
+IsClashOfSome config (ChainClash clash) =
+    (journal : List Fed) × (clash_after config journal ≡ Some clash)
+IsClashOfSome config NoMemory = Unit {0}
+
 -- what the books then count
 abbrev pub CountsAccepted : HubState → HubState → Type 0
 CountsAccepted before after =

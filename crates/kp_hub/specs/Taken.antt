@@ -50,6 +50,16 @@ fed_of (o ∷ origins) [] = []
 fed_of (o ∷ origins) (e ∷ events) =
     record { feeder = o.feeder; number = o.number; event = e } ∷ fed_of origins events
 
+-- what was taken, by who fed the events of a plane, the event that waits, and the taker
+abbrev pub taken_in : List Origin → Option Fed → PlaneParts → Taker → Taken
+taken_in origins waits plane taker = record {
+  journal = fed_of origins plane.events;
+  waits = waits;
+  counts = plane.counts;
+  feeders = taker.feeders;
+  ended = taker.ended;
+}
+
 -- all that was taken, in order
 abbrev pub all_taken : Taken → List Fed
 all_taken t = t.journal ++ option_to_list t.waits

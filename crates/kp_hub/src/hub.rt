@@ -1,5 +1,5 @@
 //! The hub.
-ghost use Rattle.std.specs.Prelude.{◌≡◌, ◌-◌, ◌<◌, ◌≤◌, ◌^◌, ◌++◌, [], ℕ, List, suc, length};
+ghost use Rattle.std.specs.Prelude.{◌≡◌, ◌-◌, ◌+◌, ◌<◌, ◌≤◌, ◌^◌, ◌++◌, [], ℕ, List, suc, length};
 ghost use Rattle.std.specs.Prelude.{filter, map, replicate, sum};
 ghost use Rattle.std.specs.Prelude.{IfOk, IfErr, OnOk, OnErr, string_bytes};
 ghost use Rattle.std.specs.List.{AllByRecursion};
@@ -8,11 +8,12 @@ ghost use Rattle.kp_feed.specs.Feeding.{Delivers};
 ghost use Rattle.kp_history_defs.specs.declared.fed.Fed.{Fed};
 ghost use Rattle.kp_history_defs.specs.Runs.{is_of_stream};
 ghost use Rattle.kp_publish.specs.Entries.{records_of};
+ghost use Rattle.kp_run_defs.specs.LegalRuns.{last_syncs};
 ghost use Rattle.kp_hub.specs.Finishing.{IsEnd};
 ghost use Rattle.kp_hub.specs.Known.{new_worker, uncounted};
 ghost use Rattle.kp_hub.specs.Reading.{answer_after, HasWalked, OnTheWay, Reads, walk_after};
 ghost use Rattle.kp_hub.specs.State.{first_table};
-ghost use Rattle.kp_hub.specs.Syncs.{IsDenied, IsTold};
+ghost use Rattle.kp_hub.specs.Syncs.{IsClashOfSome, IsDenied, IsTold};
 
 use crate::finished::Finished;
 use crate::intake::Intake;
@@ -29,7 +30,7 @@ use kp_recent::RecentLists;
 use kp_types::{Event, Verdict};
 use std::alloc::Global;
 use std::sync::ledger::Ledger;
-use std::sync::{Mutex, Wait};
+use std::sync::{Mutex, MutexGuard, Wait};
 
 /// What threads share. Events are fed beside each other, one sync is made at a time, and tables
 /// are read without it. It is ended by `finish`.
@@ -101,9 +102,9 @@ impl<J: Sharing, A: Ledger, C: Ledger> Hub<J, A, C> {
         }
     }
 
-    /// What becomes of the packet of the line of this number, by the table that was published last,
-    /// and the number of that table's sync. That goes on from all that the pass saw before or
-    /// learned of. It takes no lock.
+    /// What becomes of the packet of the line of this number, by a published table, and the number of
+    /// that table's sync. The table goes on from all that the pass saw before or learned of. It takes
+    /// no lock.
     pub fn verdict_of<R: Wait>(
         rt: &R,
         pass: &mut WorkerPass<J, A, C>,
@@ -123,9 +124,9 @@ impl<J: Sharing, A: Ledger, C: Ledger> Hub<J, A, C> {
         pass.verdict_of(rt, number, line, lists)
     }
 
-    /// Adds what the line of this number is answered by the table that was published last, with its
-    /// trail where the line asks for it, and gives the number of that table's sync. It takes no
-    /// lock.
+    /// Adds what the line of this number is answered by a published table, with its trail where the
+    /// line asks for it, and gives the number of that table's sync. The table goes on from all that
+    /// the pass saw before or learned of. It takes no lock.
     pub fn walk<R: Wait>(
         rt: &R,
         pass: &mut WorkerPass<J, A, C>,
@@ -175,10 +176,12 @@ impl<J: Sharing, A: Ledger, C: Ledger> Hub<J, A, C> {
     ) -> Result<u64, TableFault>
         ensures told { IfOk result (λ sync. IsTold sync pass.old pass.new) }
         ensures denied { IfErr result (λ fault. IsDenied fault pass.old pass.new) }
+        ensures clash { IfErr result (IsClashOfSome J.config) }
     {
         let mut held = self.held.lock(rt);
-        let synced = held.sync(rt, alloc, &self.feed, pass)?;
-        Ok(synced.sync)
+        let synced = held.sync(rt, alloc, &self.feed, pass);
+        MutexGuard::unlock(held);
+        Ok(synced?.sync)
     }
 
     /// Ends the hub: ends these streams, and syncs until all that they fed is covered or the journal
@@ -203,9 +206,9 @@ impl<J: Sharing, A: Ledger, C: Ledger> Hub<J, A, C> {
         ensures made { IfOk result (λ done. (p : ℕ) → J.streams ≤ p
             → filter (is_of_stream p) done.journal ≡ []) }
 
-        // No worker was told of syncs that it doesn't hand out.
+        // There are as many syncs as workers were told of, and one more that isn't refused last.
         ensures accepted { IfOk result (λ done. sum (map (λ w. w.accepted) workers.old)
-            ≤ length done.notes) }
+            + last_syncs done.clash ≤ length done.notes) }
         ensures refused { IfOk result (λ done. sum (map (λ w. w.refused) workers.old)
             ≤ length done.refusals) }
         ensures workers { workers.new ≡ map uncounted workers.old }

@@ -11,6 +11,7 @@ ghost use Rattle.kp_object_defs.specs.Objects.{objects_after};
 ghost use Rattle.kp_table_defs.specs.Rebuild.{clash_of};
 ghost use Rattle.kp_history_defs.specs.Runs.{events_of};
 ghost use Rattle.kp_plane.specs.Parts as parts;
+ghost use Rattle.kp_hub.specs.Finishing.{CoversAll};
 ghost use Rattle.kp_hub.specs.Growing.{IsDone, IsFull, StopsAt, TakesMore};
 ghost use Rattle.kp_hub.specs.Ready.{AreReady};
 ghost use Rattle.kp_hub.specs.State.{first_table};
@@ -57,29 +58,16 @@ impl<J: Sharing> Drop for Intake<J> {
 
 impl<J: Sharing> Model for Intake<J> {
     ghost use Rattle.std.specs.Prelude.{◌≡◌, length};
-    ghost use Rattle.kp_hub.specs.Taken.{IsTaken, Taken, fed_of, taken_code};
+    ghost use Rattle.kp_hub.specs.Taken.{IsTaken, Taken, taken_code, taken_in};
 
     ghost Value = { Taken };
 
     ghost coded = { taken_code };
 
-    ghost view = { λ s. record {
-      journal = fed_of s.origins.items s.plane.events;
-      waits = s.waits;
-      counts = s.plane.counts;
-      feeders = s.taker.feeders;
-      ended = s.taker.ended;
-    } };
+    ghost view = { λ s. taken_in s.origins.items s.waits s.plane s.taker };
 
     ghost invariant = { λ s. (length s.origins.items ≡ length s.plane.events)
-        × IsTaken J.config J.queue
-        (record {
-          journal = fed_of s.origins.items s.plane.events;
-          waits = s.waits;
-          counts = s.plane.counts;
-          feeders = s.taker.feeders;
-          ended = s.taker.ended;
-        })
+        × IsTaken J.config J.queue (taken_in s.origins.items s.waits s.plane s.taker)
         s.plane s.taker s.notes.items };
 }
 
@@ -174,6 +162,7 @@ impl<J: Sharing> Intake<J> {
         ensures ok { OnOk result (self.new ≡ with_sync J.config self.old) }
         ensures record { IfOk result (λ r. records_at J.config self.new
             ≡ records_at J.config self.old ++ r ∷ []) }
+        ensures covers { OnOk result (CoversAll self.new) }
         ensures no_clash { OnOk result (clash_of (setting_of V4 J.config)
             (objects_after (events_of self.old.journal)) ≡ None) }
         ensures clash { IfErr result (TellsClash (clash_of (setting_of V4 J.config)
@@ -183,9 +172,7 @@ impl<J: Sharing> Intake<J> {
         if self.notes.reserve(1).is_err() {
             return Err(TableFault::NoMemory);
         }
-        let rules = Blank::new(1);
-        let ports = Blank::new(1);
-        let record = sync_uncounted::<Brand, Brand>(alloc, &mut self.plane, rules, ports)?;
+        let record = sync_for_nobody(alloc, &mut self.plane)?;
         self.notes.push_reserved(noted(&record));
         Ok(record)
     }
@@ -235,6 +222,7 @@ impl<J: Sharing> Intake<J> {
             (λ (_, notes, _). notes ≡ map note_of (records_at J.config self)) }
         ensures table { IfOk result.1
             (λ (_, _, table). table ≡ parts.table_in (plane_of J.config self)) }
+        ensures exact { parts.HasExactHistory (plane_of J.config self) }
     {
         let Intake {
             plane,
@@ -244,6 +232,7 @@ impl<J: Sharing> Intake<J> {
             notes,
             of: _,
         } = self;
+        let _ = plane.table();
         let (events, _counts, table) = plane.into_parts();
         match joined(alloc, origins.as_slice(), events) {
             Ok(journal) => (taker, Ok((journal, Items::from_vec(notes), table))),
@@ -302,7 +291,20 @@ fn noted(made: &SyncRecord) -> RecordNote
 }
 
 /// A sync whose steps nobody counts.
-fn sync_uncounted<L: Ledger, A: Ledger>(
+fn sync_for_nobody(alloc: Global, plane: &mut Plane) -> Result<SyncRecord, TableFault>
+    ensures record { IfOk result (parts.IsNextRecord plane.old) }
+    ensures added { IfOk result (λ r. parts.records_in plane.new
+        ≡ parts.records_in plane.old ++ r ∷ []) }
+    ensures ok { OnOk result (plane.new ≡ parts.synced plane.old) }
+    ensures clash { IfErr result (TellsClash (clash_of (parts.setting_in plane.old)
+        (objects_after plane.old.events))) }
+    ensures err { OnErr result (plane.new ≡ plane.old) }
+{
+    sync_counted::<Brand, Brand>(alloc, plane, Blank::new(1), Blank::new(1))
+}
+
+/// A sync whose steps these ledgers count, which are new.
+fn sync_counted<L: Ledger, A: Ledger>(
     alloc: Global,
     plane: &mut Plane,
     rules: Blank,

@@ -44,7 +44,8 @@ impl Model for Opening {
       refused = (o.refused.name, o.refused.parts);
     } };
 
-    ghost invariant = { λ o. (o.plane ≡ record { config = o.plane.config; events = []; counts = [] })
+    ghost invariant = { λ o.
+        (o.plane ≡ record { config = o.plane.config; events = []; counts = [] })
         × (o.feeders ≡ calls.new_feeders o.feed o.streams)
         × (o.taker ≡ calls.new_taker o.feed o.streams)
         × (0 < o.streams) × (o.streams ≤ 64)
@@ -71,5 +72,20 @@ impl Opening {
             refused: Blank::new(PARTS),
             streams,
         })
+    }
+
+    /// Ends the parts of a hub that was not made.
+    pub fn end<R: Wait>(self, rt: &R) {
+        let Opening {
+            plane: _plane,
+            history: _history,
+            feed,
+            feeders,
+            taker,
+            accepted: _accepted,
+            refused: _refused,
+            streams: _,
+        } = self;
+        feed.finish(rt, feeders, taker);
     }
 }

@@ -68,8 +68,8 @@ impl<J: Sharing, A: Ledger, C: Ledger> WorkerPass<J, A, C> {
         }
     }
 
-    /// What becomes of the packet of the line of this number, by the table that was published last,
-    /// and the number of that table's sync.
+    /// What becomes of the packet of the line of this number, by a published table, and the number
+    /// of that table's sync.
     pub(crate) fn verdict_of<R: Wait>(
         &mut self,
         rt: &R,
@@ -96,8 +96,8 @@ impl<J: Sharing, A: Ledger, C: Ledger> WorkerPass<J, A, C> {
         Ok((sync, verdict?))
     }
 
-    /// Adds what the line of this number is answered by the table that was published last, and
-    /// gives the number of that table's sync.
+    /// Adds what the line of this number is answered by a published table, and gives the number of
+    /// that table's sync.
     pub(crate) fn answer<R: Wait>(
         &mut self,
         rt: &R,
@@ -126,7 +126,7 @@ impl<J: Sharing, A: Ledger, C: Ledger> WorkerPass<J, A, C> {
         Ok(sync)
     }
 
-    /// Reads the table that was published last.
+    /// Reads a published table.
     pub(crate) fn look<R: Wait>(&mut self, rt: &R)
         ensures { Reads self.old self.new }
     {
@@ -134,6 +134,13 @@ impl<J: Sharing, A: Ledger, C: Ledger> WorkerPass<J, A, C> {
             unreachable!()
         };
         self.reader = Some(reader.enter(rt).leave());
+    }
+
+    /// The front that it learned last begins the longest that it learned.
+    pub(crate) fn knows_its_front(&self)
+        ensures { IsPrefix self.now.learned self.now.told }
+    {
+        let _reader = &self.reader;
     }
 
     /// Gives its counts to these shares.

@@ -1,18 +1,20 @@
 //! What the hub's lock keeps.
 ghost use Rattle.std.specs.Prelude.{◌≡◌, ◌+◌, ◌<◌, ◌≤◌, ◌++◌, ◌∷◌, [], length};
-ghost use Rattle.std.specs.Prelude.{Some, None, false, IfOk, IfErr, OnOk, OnErr, List, map, sum};
+ghost use Rattle.std.specs.Prelude.{Some, None, IfOk, IsTrue, IfErr, OnOk, OnErr, List, map, sum};
 ghost use Rattle.std.specs.List.{AllByRecursion};
 ghost use Rattle.kp_feed.specs.Feeding.{AreWhole};
+ghost use Rattle.kp_full_table.specs.Faults.{TellsClash};
 ghost use Rattle.kp_history_defs.specs.declared.fed.Fed.{Fed};
 ghost use Rattle.kp_publish.specs.Entries.{records_of};
 ghost use Rattle.kp_publish.specs.Pending.{Keeps};
-ghost use Rattle.kp_hub.specs.Finishing.{CoversAll, IsEnd, KeepsBooks, with_ended};
+ghost use Rattle.kp_run_defs.specs.LegalRuns.{last_syncs};
+ghost use Rattle.kp_hub.specs.Finishing.{CoversAll, IsEnd, IsUntold, KeepsBooks, with_ended};
 ghost use Rattle.kp_hub.specs.Growing.{IsDone, IsSameBut, StopsAt, TakesMore};
 ghost use Rattle.kp_hub.specs.Known.{uncounted};
 ghost use Rattle.kp_hub.specs.State.{first_table};
 ghost use Rattle.kp_hub.specs.Syncs.{Accepts, CountsAccepted, CountsFault, Fails, IsDenied, IsTold};
 ghost use Rattle.kp_hub.specs.Syncs.{IsUncounted, clash_after, with_refusal};
-ghost use Rattle.kp_hub.specs.Taken.{all_taken, records_at};
+ghost use Rattle.kp_hub.specs.Taken.{records_at, with_sync};
 
 use crate::finished::Finished;
 use crate::intake::Intake;
@@ -49,29 +51,18 @@ pub struct Held<J: Sharing, A: Ledger, C: Ledger> {
 
 impl<J: Sharing, A: Ledger, C: Ledger> Model for Held<J, A, C> {
     ghost use Rattle.std.specs.Prelude.{◌<◌};
-    ghost use Rattle.kp_hub.specs.State.{HubState, IsHubState, state_code};
+    ghost use Rattle.kp_hub.specs.State.{HubState, IsHubState, state_code, state_in};
 
     ghost Value = { HubState };
 
     ghost coded = { state_code };
 
-    ghost view = { λ s. record {
-      taken = s.intake;
-      outlet = s.publisher;
-      refusals = s.refusals.items;
-      accepted = s.accepted.total;
-      refused = s.refused.total;
-    } };
+    ghost view = { λ s. state_in s.intake s.publisher s.refusals.items s.accepted.total
+        s.refused.total };
 
     ghost invariant = { λ s. (0 < s.all_accepted.parts) × (0 < s.all_refused.parts)
         × IsHubState J.config J.streams J.start
-        (record {
-          taken = s.intake;
-          outlet = s.publisher;
-          refusals = s.refusals.items;
-          accepted = s.accepted.total;
-          refused = s.refused.total;
-        })
+        (state_in s.intake s.publisher s.refusals.items s.accepted.total s.refused.total)
         s.waiting.items };
 }
 
@@ -171,11 +162,12 @@ impl<J: Sharing, A: Ledger, C: Ledger> Held<J, A, C> {
         ensures clash { IfOk result (λ clash. clash
             ≡ clash_after J.config self.new.taken.journal) }
         ensures covers { IfOk result (λ clash. clash ≡ None → CoversAll self.new.taken) }
+        ensures untold { IfOk result (IsUntold self.new) }
         ensures books { KeepsBooks self.old self.new }
     {
         for _ in rt.forever() {
             let clash = self.sync_last(rt, alloc, feed)?;
-            if self.intake.is_done(rt, feed) {
+            if self.is_done(rt, feed) {
                 return Ok(clash);
             }
         }
@@ -209,7 +201,8 @@ impl<J: Sharing, A: Ledger, C: Ledger> Held<J, A, C> {
             → AreWhole done.journal self.taken.ended J.streams) }
         ensures order { IfOk result (λ done. (left : List Fed)
             × AreWhole (done.journal ++ left) self.taken.ended J.streams) }
-        ensures accepted { IfOk result (λ done. self.accepted ≤ length done.notes) }
+        ensures accepted { IfOk result
+            (λ done. self.accepted + last_syncs done.clash ≤ length done.notes) }
         ensures refused { IfOk result (λ done. self.refused ≤ length done.refusals) }
     {
         let mut held = self;
@@ -235,6 +228,7 @@ impl<J: Sharing, A: Ledger, C: Ledger> Held<J, A, C> {
         ensures clash { IfOk result (λ clash. clash
             ≡ clash_after J.config self.new.taken.journal) }
         ensures covers { IfOk result (λ clash. clash ≡ None → CoversAll self.new.taken) }
+        ensures untold { IfOk result (IsUntold self.new) }
         ensures records { OnOk result (records_of self.new.outlet.newest
             ≡ records_at J.config self.new.taken) }
         ensures books { KeepsBooks self.old self.new }
@@ -254,15 +248,19 @@ impl<J: Sharing, A: Ledger, C: Ledger> Held<J, A, C> {
         clash: Option<Clash>,
     ) -> Result<Finished<J>, NoMemory>
         requires queue { feed ≡ J.queue }
+        requires done { IsDone J.config self.taken }
         requires records { records_of self.outlet.newest ≡ records_at J.config self.taken }
         requires clash { clash ≡ clash_after J.config self.taken.journal }
         requires covers { clash ≡ None → CoversAll self.taken }
+        requires untold { IsUntold self clash }
         ensures end { IfOk result (λ done. IsEnd J.config done.journal done.notes done.refusals
             done.clash done.table) }
-        ensures journal { IfOk result (λ done. done.journal ≡ self.taken.journal) }
-        ensures left { (left : List Fed)
-            × AreWhole (all_taken self.taken ++ left) self.taken.ended J.streams }
-        ensures accepted { IfOk result (λ done. self.accepted ≤ length done.notes) }
+        ensures whole { IfOk result (λ done. length done.journal < J.config.max_events
+            → AreWhole done.journal self.taken.ended J.streams) }
+        ensures order { IfOk result (λ done. (left : List Fed)
+            × AreWhole (done.journal ++ left) self.taken.ended J.streams) }
+        ensures accepted { IfOk result
+            (λ done. self.accepted + last_syncs done.clash ≤ length done.notes) }
         ensures refused { IfOk result (λ done. self.refused ≤ length done.refusals) }
     {
         let Held {
@@ -325,14 +323,28 @@ impl<J: Sharing, A: Ledger, C: Ledger> Held<J, A, C> {
         ensures clash { IfOk result (λ clash. clash
             ≡ clash_after J.config self.new.taken.journal) }
         ensures covers { IfOk result (λ clash. clash ≡ None → CoversAll self.new.taken) }
+        ensures untold { IfOk result (IsUntold self.new) }
         ensures books { KeepsBooks self.old self.new }
     {
+        self.counts_few();
         self.take_all(rt, feed)?;
         match self.record(rt, alloc) {
             Ok(_) => Ok(None),
             Err(TableFault::ChainClash(clash)) => Ok(Some(clash)),
             Err(TableFault::NoMemory) => Err(NoMemory),
         }
+    }
+
+    /// Whether nothing is left to be taken. Else the queue's front waits.
+    fn is_done<R: Wait>(&mut self, rt: &R, feed: &Feed) -> bool
+        requires queue { feed.now ≡ J.queue }
+        ensures more { TakesMore self.old.taken self.new.taken }
+        ensures taken { self.new.taken
+            ≡ record self.old.taken { waits = self.new.taken.waits } }
+        ensures stays { self.new ≡ record self.old { taken = self.new.taken } }
+        ensures done { IsTrue result → IsDone J.config self.new.taken }
+    {
+        self.intake.is_done(rt, feed)
     }
 
     /// Takes events until one of the stops.
@@ -347,6 +359,13 @@ impl<J: Sharing, A: Ledger, C: Ledger> Held<J, A, C> {
         self.intake.take_all(rt, feed)
     }
 
+    /// No more syncs were told to passes than there are.
+    fn counts_few(&self)
+        ensures { self.now.accepted ≤ length self.now.taken.counts }
+    {
+        let _ = &self.intake;
+    }
+
     /// Makes a record of the whole journal and publishes it, or keeps why that is refused.
     fn record<R: Wait>(&mut self, rt: &R, alloc: Global) -> Result<u64, TableFault>
         ensures ok { IfOk result (λ n. Accepts J.config n self.old self.new) }
@@ -354,24 +373,40 @@ impl<J: Sharing, A: Ledger, C: Ledger> Held<J, A, C> {
         ensures taken { IsSameBut self.old.taken self.new.taken }
         ensures accepted { self.new.accepted ≡ self.old.accepted }
         ensures refused { self.new.refused ≡ self.old.refused }
+        ensures covers { OnOk result (CoversAll self.new.taken) }
         ensures untold { OnOk result (self.new.accepted < length self.new.taken.counts) }
         ensures uncounted { IfErr result (λ fault. IsUncounted fault self.new) }
     {
-        // The room for the record, should it have to wait, is taken before it is made.
-        if self.waiting.reserve(1).is_err() {
-            return Err(TableFault::NoMemory);
-        }
-        match self.intake.record(alloc) {
-            Ok(record) => {
-                put(&mut self.waiting, record);
-                Ok(self.publish(rt)?)
-            }
+        match self.make(alloc) {
+            Ok(()) => Ok(self.publish(rt)?),
             Err(TableFault::ChainClash(clash)) => {
                 self.refuse(alloc, &clash)?;
                 Err(TableFault::ChainClash(clash))
             }
             Err(TableFault::NoMemory) => Err(TableFault::NoMemory),
         }
+    }
+
+    /// Makes a record of the whole journal, which waits. Where that is refused all stays.
+    fn make(&mut self, alloc: Global) -> Result<(), TableFault>
+        ensures ok { OnOk result (self.new ≡ record self.old {
+          taken = with_sync J.config self.old.taken;
+        }) }
+        ensures no_clash { OnOk result (clash_after J.config self.old.taken.journal ≡ None) }
+        ensures waits { OnOk result (length (records_of self.new.outlet.newest)
+            < length self.new.taken.counts) }
+        ensures covers { OnOk result (CoversAll self.new.taken) }
+        ensures untold { OnOk result (self.new.accepted < length self.new.taken.counts) }
+        ensures clash { IfErr result (TellsClash (clash_after J.config self.old.taken.journal)) }
+        ensures err { OnErr result (self.new ≡ self.old) }
+    {
+        // The room for the record, should it have to wait, is taken before it is made.
+        if self.waiting.reserve(1).is_err() {
+            return Err(TableFault::NoMemory);
+        }
+        let record = self.intake.record(alloc)?;
+        put(&mut self.waiting, record);
+        Ok(())
     }
 
     /// Publishes all records that wait, of which there is one, and answers how many there are.
@@ -392,6 +427,7 @@ impl<J: Sharing, A: Ledger, C: Ledger> Held<J, A, C> {
     fn refuse(&mut self, alloc: Global, clash: &Clash) -> Result<(), NoMemory>
         requires { clash_after J.config self.old.taken.journal ≡ Some clash.now }
         ensures ok { OnOk result (self.new ≡ with_refusal self.old clash.now) }
+        ensures uncounted { OnOk result (self.new.refused < length self.new.refusals) }
         ensures err { OnErr result (self.new ≡ self.old) }
     {
         let refusal = Refusal {

@@ -1,5 +1,5 @@
 //! The publisher of a hub, and the passes of its workers.
-ghost use Rattle.std.specs.Prelude.{◌≡◌, ◌+◌, ◌<◌, ◌≤◌, [], length, map, replicate, sum, IfOk};
+ghost use Rattle.std.specs.Prelude.{◌≡◌, ◌+◌, ◌<◌, [], length, map, replicate, sum, IfOk, OnOk};
 ghost use Rattle.std.specs.List.{AllByRecursion};
 ghost use Rattle.kp_hub.specs.Known.{new_worker, uncounted};
 ghost use Rattle.kp_hub.specs.State.{first_table};
@@ -14,7 +14,8 @@ use std::sync::Wait;
 use std::sync::ledger::{Ledger, Share};
 
 /// A publisher of the tables of a plane that has no sync yet, and a pass for each worker, with one
-/// part of each ledger.
+/// part of each ledger. Parts are left.
+#[tactic(auto, using(crate::proofs::NewPasses::first_table_is, crate::proofs::NewPasses::new_readers, crate::proofs::NewPasses::as_many_readers))]
 pub(crate) fn outlet_of<J: Sharing, A: Ledger, C: Ledger, R: Wait>(
     rt: &R,
     alloc: Global,
@@ -28,11 +29,12 @@ pub(crate) fn outlet_of<J: Sharing, A: Ledger, C: Ledger, R: Wait>(
     requires plane { plane.now ≡ record { config = J.config; events = []; counts = [] } }
     requires start { J.start ≡ first_table J.config }
     requires some { 0 < workers }
-    requires accepted { (workers ≤ accepted.old.parts) × (accepted.old.amount ≡ 0) }
-    requires refused { (workers ≤ refused.old.parts) × (refused.old.amount ≡ 0) }
+    requires accepted { (workers < accepted.old.parts) × (accepted.old.amount ≡ 0) }
+    requires refused { (workers < refused.old.parts) × (refused.old.amount ≡ 0) }
     ensures published { IfOk result (λ (publisher, _). publisher.published ≡ []) }
     ensures newest { IfOk result (λ (publisher, _). publisher.newest ≡ []) }
     ensures workers { IfOk result (λ (_, passes). passes ≡ replicate workers new_worker) }
+    ensures parts { OnOk result ((0 < accepted.new.parts) × (0 < refused.new.parts)) }
 {
     let (publisher, readers) = publication::<J, R>(rt, alloc, history, plane.table(), workers)?;
     let node = &plane.config().addresses;
@@ -46,6 +48,7 @@ pub(crate) fn outlet_of<J: Sharing, A: Ledger, C: Ledger, R: Wait>(
 }
 
 /// A pass for each reader.
+#[tactic(auto, using(crate::proofs::Counting::made_all))]
 fn workers_of<J: Sharing, A: Ledger, C: Ledger>(
     alloc: Global,
     publisher: &Publisher<J>,
@@ -57,13 +60,13 @@ fn workers_of<J: Sharing, A: Ledger, C: Ledger>(
     requires new { AllByRecursion (λ r. (r.seen ≡ []) × (r.told ≡ [])) readers }
     requires published { publisher.now.published ≡ [] }
     requires node { node.now ≡ J.config.addresses }
-    requires accepted { (length readers ≤ accepted.old.parts) × (accepted.old.amount ≡ 0) }
-    requires refused { (length readers ≤ refused.old.parts) × (refused.old.amount ≡ 0) }
-    ensures { IfOk result (λ passes. passes ≡ replicate (length readers) new_worker) }
+    requires accepted { (length readers < accepted.old.parts) × (accepted.old.amount ≡ 0) }
+    requires refused { (length readers < refused.old.parts) × (refused.old.amount ≡ 0) }
+    ensures passes { IfOk result (λ passes. passes ≡ replicate (length readers) new_worker) }
+    ensures parts { OnOk result ((0 < accepted.new.parts) × (0 < refused.new.parts)) }
 {
     let mut passes = Items::new(alloc);
-    let mut readers = readers.into_vec();
-    while let Some(reader) = readers.pop() {
+    for reader in readers.into_vec() {
         let pass = worker_of(alloc, publisher, reader, node, accepted, refused)?;
         match passes.push(pass) {
             Ok(()) => {}

@@ -1,30 +1,61 @@
 //! A hub with one worker, which feeds, syncs and reads by the lines of a script, and ends.
 ghost use Rattle.std.specs.Prelude.{◌≡◌};
+ghost use Rattle.std.specs.List.{AllByRecursion};
 ghost use Rattle.kp_hub.specs.State.{first_table};
 
-use crate::transcript::{op_of, unfolded};
+use crate::lines::{op_of, unfolded};
 use kp_base::{Items, NoMemory};
-use kp_hub::{FeedPass, Finished, Hub, Opening, Sharing, WorkerPass, laws};
+use kp_hub::{FeedPass, Finished, Hub, Opening, Sharing, TableFault, WorkerPass, laws};
 use kp_print::{push, push_labelled};
 use kp_recent::RecentLists;
 use kp_script::Op;
 use kp_types::Event;
-use std::alloc::Global;
+use std::alloc::{AllocGlobal, Global};
 use std::marker::Brand;
+use std::process::Abort;
 use std::sync::Wait;
 use std::sync::ledger::Ledger;
 use std::test::Fail;
 
 /// A packet before the first sync and after it, a sync of no event, and an event that only the end
 /// covers.
-const SCRIPT: &str = r#"{"op":"config",@node}
-{@web,"spec":{@port}}
-{@slice,"endpoints":[{@n1}]}
-{"op":"packet","src":"10.244.9.9","dst":"10.96.0.10","dport":80,"draws":[]}
+const SYNCS: &str = r#"{"op":"config",@node}
+@service
+{@slice,"endpoints":[@one]}
+@packet
 {"op":"sync"}
-{"op":"packet","src":"10.244.9.9","dst":"10.96.0.10","dport":80,"draws":[]}
+@packet
 {"op":"sync"}
 {"type":"DELETED","object":{@slice}}"#;
+
+/// A sync that is refused, since the chains of two endpoints have one name, and one after the
+/// second endpoint went.
+const CLASHES: &str = r#"{"op":"config",@node,"nameLength":0}
+@service
+{@slice,"endpoints":[@one,{"addresses":["10.244.2.3"],"nodeName":"n2"}]}
+{"op":"sync"}
+@packet
+{@slice,"endpoints":[@one]}
+{"op":"sync"}
+@packet"#;
+
+/// What `@node` stands for: the node of a configuration.
+const NODE: &str = r#""node":"n1","nodeAddresses":["10.0.0.1"],"clusterCIDR":"10.244.0.0/16""#;
+
+/// What `@service` stands for.
+const SERVICE: &str = r#"{"apiVersion":"v1","kind":"Service","metadata":{"name":"web"},
+ "spec":{"clusterIP":"10.96.0.10","ports":[{"port":80,"targetPort":8080}]}}"#;
+
+/// What `@slice` stands for: the slice but for its endpoints.
+const SLICE: &str = r#""apiVersion":"discovery.k8s.io/v1","kind":"EndpointSlice",
+ "metadata":{"name":"web-x","labels":{"kubernetes.io/service-name":"web"}},"addressType":"IPv4",
+ "ports":[{"port":8080}]"#;
+
+/// What `@one` stands for: its first endpoint.
+const ONE: &str = r#"{"addresses":["10.244.1.2"],"nodeName":"n1"}"#;
+
+/// What `@packet` stands for: a packet of a pod to the Service. It comes once more after the end.
+const PACKET: &str = r#"{"op":"packet","src":"10.244.9.9","dst":"10.96.0.10","dport":80}"#;
 
 /// What the lines are answered, and what the hub hands out at its end. The first sync writes
 /// KUBE-SERVICES, the Service's chain and the endpoint's. The last removes two chains, and takes
@@ -39,12 +70,23 @@ fed 3
 record: events 2, written 3, removed 0
 record: events 0, written 0, removed 0
 record: events 1, written 2, removed 2
-events 3, syncs 3
+events 3, syncs 3, refusals 0
 packet 9 at 3: rejected
 ";
 
-/// A packet after the end.
-const PACKET: &str = r#"{"op":"packet","src":"10.244.9.9","dst":"10.96.0.10","dport":80,"draws":[]}"#;
+/// The same of a sync that is refused. The next covers its events too.
+const REFUSED: &str = "fed 1
+fed 2
+refused
+packet 5 at 0: left alone
+fed 3
+sync 1
+packet 8 at 1: to 10.244.1.2:8080
+record: events 3, written 3, removed 0
+record: events 0, written 0, removed 0
+events 3, syncs 2, refusals 1
+packet 9 at 2: to 10.244.1.2:8080
+";
 
 /// Feeds an event, and tells its number.
 fn feed<J: Sharing, A: Ledger, C: Ledger, R: Wait>(
@@ -83,7 +125,7 @@ fn feed_all<J: Sharing, A: Ledger, C: Ledger, R: Wait>(
     Ok(())
 }
 
-/// Syncs, and tells the record's number.
+/// Syncs, once more where memory was out, and tells the record's number.
 fn sync<J: Sharing, A: Ledger, C: Ledger, R: Wait>(
     rt: &R,
     alloc: Global,
@@ -91,11 +133,17 @@ fn sync<J: Sharing, A: Ledger, C: Ledger, R: Wait>(
     worker: &mut WorkerPass<J, A, C>,
     text: &mut String,
 ) -> Result<(), Fail> {
-    let Ok(number) = hub.sync(rt, alloc, worker) else {
-        return Err(Fail::from("a sync"));
-    };
-    push_labelled(text, "sync ", number)?;
-    Ok(push(text, "\n")?)
+    for turn in 0..2 {
+        match hub.sync(rt, alloc, worker) {
+            Ok(number) => {
+                push_labelled(text, "sync ", number)?;
+                return Ok(push(text, "\n")?);
+            }
+            Err(TableFault::ChainClash(_)) => return Ok(push(text, "refused\n")?),
+            Err(TableFault::NoMemory) => {}
+        }
+    }
+    Err(Fail::from("a sync"))
 }
 
 /// Takes the line of this number, and tells what it is answered.
@@ -141,9 +189,48 @@ fn take_all<J: Sharing, A: Ledger, C: Ledger, R: Wait>(
     let mut number: u64 = 1;
     for line in lines.lines() {
         number = number.saturating_add(1);
-        take(rt, alloc, hub, feeder, worker, &mut lists, number, line, text)?;
+        take(
+            rt, alloc, hub, feeder, worker, &mut lists, number, line, text,
+        )?;
     }
     Ok(())
+}
+
+/// The passes to end: this one, or none where memory is out.
+fn one_of<J: Sharing>(alloc: Global, feeder: FeedPass) -> Items<FeedPass>
+    requires { feeder.queue ≡ J.queue }
+    ensures { AllByRecursion (λ p. p.queue ≡ J.queue) result }
+{
+    let mut passes = Items::new(alloc);
+    match passes.push(feeder) {
+        Ok(()) => {}
+        Err(_) => {}
+    }
+    passes
+}
+
+/// Has the first pass take all lines, and gives the passes to end.
+fn take_by_first<J: Sharing, A: Ledger, C: Ledger, R: Wait>(
+    rt: &R,
+    alloc: Global,
+    hub: &Hub<J, A, C>,
+    feeders: Items<FeedPass>,
+    worker: Option<&mut WorkerPass<J, A, C>>,
+    lines: &str,
+    text: &mut String,
+) -> (Items<FeedPass>, Result<(), Fail>)
+    requires { AllByRecursion (λ p. p.queue ≡ J.queue) feeders }
+    ensures { AllByRecursion (λ p. p.queue ≡ J.queue) result.0 }
+{
+    let Some(worker) = worker else {
+        return (feeders, Err(Fail::from("a worker")));
+    };
+    for feeder in feeders.into_vec() {
+        let mut feeder = feeder;
+        let taken = take_all(rt, alloc, hub, &mut feeder, worker, lines, text);
+        return (one_of::<J>(alloc, feeder), taken);
+    }
+    (Items::new(alloc), Err(Fail::from("a stream")))
 }
 
 /// Tells what a hub hands out at its end.
@@ -156,6 +243,7 @@ fn push_done<J: Sharing>(text: &mut String, done: &Finished<J>) -> Result<(), No
     }
     push_labelled(text, "events ", done.journal.as_slice().len() as u64)?;
     push_labelled(text, ", syncs ", done.table.syncs())?;
+    push_labelled(text, ", refusals ", done.refusals.as_slice().len() as u64)?;
     push(text, "\n")
 }
 
@@ -175,19 +263,33 @@ fn push_packet<J: Sharing, A: Ledger, C: Ledger, R: Wait>(
 }
 
 /// Tells what a hub hands out at its end, and what a packet is answered then.
-fn tell<J: Sharing, A: Ledger, C: Ledger, R: Wait>(
+fn push_end<J: Sharing, A: Ledger, C: Ledger, R: Wait>(
     rt: &R,
     alloc: Global,
-    done: Finished<J>,
+    done: &Finished<J>,
     worker: &mut WorkerPass<J, A, C>,
     text: &mut String,
 ) -> Result<(), Fail> {
-    laws::same_hub(rt, worker, &done);
-    let told = push_done(text, &done);
-    let answered = push_packet(rt, alloc, worker, text);
+    laws::same_hub(rt, worker, done);
+    push_done(text, done)?;
+    push_packet(rt, alloc, worker, text)
+}
+
+/// Tells how a hub ended, and ends what it hands out.
+fn tell<J: Sharing, A: Ledger, C: Ledger, R: Wait>(
+    rt: &R,
+    alloc: Global,
+    done: Result<Finished<J>, NoMemory>,
+    worker: Option<&mut WorkerPass<J, A, C>>,
+    text: &mut String,
+) -> Result<(), Fail> {
+    let done = done?;
+    let told = match worker {
+        Some(worker) => push_end(rt, alloc, &done, worker, text),
+        None => Err(Fail::from("a worker")),
+    };
     done.end(rt);
-    told?;
-    answered
+    told
 }
 
 /// What the lines of a script are answered, and what the hub hands out at its end.
@@ -207,18 +309,19 @@ fn told<J: Sharing, A: Ledger, C: Ledger, R: Wait>(
     requires refused { opening.refused ≡ (C.name, C.parts) }
 {
     let (hub, feeders, workers) = Hub::<J, A, C>::new(rt, alloc, opening)?;
-    let mut feeders = feeders.into_vec();
     let mut workers = workers.into_vec();
-    let taken = match (feeders.first_mut(), workers.first_mut()) {
-        (Some(feeder), Some(worker)) => take_all(rt, alloc, &hub, feeder, worker, lines, text),
-        _ => Err(Fail::from("a stream")),
-    };
-    let done = hub.finish(rt, alloc, Items::from_vec(feeders), workers.as_mut_slice())?;
-    match workers.first_mut() {
-        Some(worker) => tell(rt, alloc, done, worker, text)?,
-        None => done.end(rt),
+    let (feeders, taken) =
+        take_by_first(rt, alloc, &hub, feeders, workers.first_mut(), lines, text);
+    let done = hub.finish(rt, alloc, feeders, workers.as_mut_slice());
+    match taken {
+        Ok(()) => tell(rt, alloc, done, workers.first_mut(), text),
+        Err(fail) => {
+            if let Ok(done) = done {
+                done.end(rt);
+            }
+            Err(fail)
+        }
     }
-    taken
 }
 
 /// The parts of a hub with one stream, under the configuration of a line.
@@ -229,13 +332,35 @@ fn opening_of(alloc: Global, line: &str) -> Result<Opening, Fail> {
     }
 }
 
+/// A script with what its signs stand for.
+fn whole_script(alloc: Global, script: &str) -> Result<String, Fail> {
+    let signs = [
+        ("@node", NODE),
+        ("@service", SERVICE),
+        ("@slice", SLICE),
+        ("@one", ONE),
+        ("@packet", PACKET),
+    ];
+    let mut whole = String::from_str(alloc, script)?;
+    for (sign, members) in signs {
+        whole = whole.as_str().replace(alloc, sign, members)?;
+    }
+    unfolded(alloc, whole.as_str())
+}
+
+/// Checks what a hub tells of the lines of a script.
+fn check<R: Abort + Wait + AllocGlobal>(rt: &R, script: &str, wanted: &str) -> Result<(), Fail> {
+    let mut text = String::new(rt.alloc());
+    let script = whole_script(rt.alloc(), script)?;
+    let (first, lines) = script.as_str().split_once('\n').ok_or("a line")?;
+    let opening = opening_of(rt.alloc(), first)?;
+    told::<Brand, Brand, Brand, _>(rt, rt.alloc(), opening, lines, &mut text)?;
+    assert_eq!(rt; text.as_str(), wanted);
+    Ok(())
+}
+
 #[test]
 fn a_hub_answers_by_its_syncs(rt: HostRuntime) -> Result<(), Fail> {
-    let mut text = String::new(rt.alloc());
-    let script = unfolded(rt.alloc(), SCRIPT)?;
-    let (first, lines) = script.split_once('\n').ok_or("a line")?;
-    let opening = opening_of(rt.alloc(), first)?;
-    told::<Brand, Brand, Brand, _>(&rt, rt.alloc(), opening, lines, &mut text)?;
-    assert_eq!(rt; text.as_str(), TOLD);
-    Ok(())
+    check(&rt, SYNCS, TOLD)?;
+    check(&rt, CLASHES, REFUSED)
 }

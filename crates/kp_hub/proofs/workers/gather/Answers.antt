@@ -1,4 +1,4 @@
-use Rattle.std.proofs.Common.{◌≡◌, arith, ap, sym, ◌∙◌, ◌++◌, map, drop, take, slice_set, slice_index_or}
+use Rattle.std.proofs.Common.{◌≡◌, arith, ap, ◌∙◌, ◌++◌, map, drop, take, slice_set, slice_index_or}
 use Rattle.kp_hub.specs.Known.{Worker, uncounted}
 use Rattle.kp_hub.proofs.Counting.{counted_next, still_there, changed_next}
 use Rattle.kp_hub.proofs.workers.gather.Goals as goal

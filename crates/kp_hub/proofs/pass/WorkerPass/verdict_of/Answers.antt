@@ -1,7 +1,7 @@
-use Rattle.std.proofs.Common.{List, ◌++◌, ap, sym, subst, length, string_bytes, ◌∙◌}
+use Rattle.std.proofs.Common.{List, ap, sym, subst, ◌∙◌}
 use Rattle.kp_walker.proofs.SetSteps.{on_err}
 use Rattle.kp_publish.specs.declared.entry.Entry.{Entry}
-use Rattle.kp_publish.specs.Entries.{StandsFor, records_of}
+use Rattle.kp_publish.specs.Entries.{StandsFor}
 use Rattle.kp_hub.proofs.Readings.{reads_through, walk_is, way_is}
 use Rattle.kp_hub.proofs.pass.WorkerPass.verdict_of.Goals as goal
 
