@@ -1,6 +1,6 @@
 -- A hub has ended, and the text of the run was written.
 use Rattle.std.proofs.Common.{◌≡◌, ◌<◌, ◌≤◌, ◌+◌, inr, ℕ, Bool, List, [], ◌∷◌, ◌++◌, map, sum, length, refl, ap, sym, subst, ◌∙◌, arith}
-use Rattle.std.specs.Prelude.{Option, Result, Ok, Err, IfOk, IsErrOf, OnOk, OnErr, nat_lt}
+use Rattle.std.specs.Prelude.{Option, Some, None, Result, Ok, Err, IfOk, IfSome, OnErr, nat_lt}
 use Rattle.std.specs.List.{AllByRecursion, filter}
 use Rattle.kp_base.specs.declared.config.Config.{Config}
 use Rattle.kp_types.specs.declared.chain.Clash.{Clash}
@@ -11,7 +11,9 @@ use Rattle.kp_history_laws.specs.HistoryLaws.{ExactTables}
 use Rattle.kp_walk_laws.specs.Laws.{ProductDecides}
 use Rattle.kp_feed.specs.Feeding.{Delivers}
 use Rattle.kp_feed.specs.Passes.{Feeder, QueueId}
+use Rattle.kp_io.specs.Lines.{lines_of}
 use Rattle.kp_io.specs.Told.{Grows}
+use Rattle.kp_streams.specs.WholeInput.{ReadsWhole}
 use Rattle.kp_hub.specs.Finishing.{IsEnd, records_told}
 use Rattle.kp_hub.specs.Known.{Worker, uncounted}
 use Rattle.kp_hub.specs.State.{first_table}
@@ -167,3 +169,15 @@ module _ (reading : Reading) (start : TableParts) (queue : QueueId) (n : ℕ)
           wanted = p.wanted;
           other = p.other;
         }
+
+-- what was written of a run that failed, where its input is told
+pub front_told : (result : Result Bool LiveFault) (left : Option (List ℕ)) (reading : Reading)
+    (w0 w1 : Option (List ℕ))
+    → OnErr result ((input : List (List ℕ)) → reading ≡ reading_of input
+    → WritesFront reading w0 w1)
+    → IfSome left (ReadsWhole reading)
+    → OnErr result (IfSome left (λ text. WritesFront (reading_of (lines_of text)) w0 w1))
+front_told (Ok refused) left reading w0 w1 front read = tt
+front_told (Err fault) None reading w0 w1 front read = tt
+front_told (Err fault) (Some text) reading w0 w1 front read =
+    subst (λ r. WritesFront r w0 w1) read.reads (front (lines_of text) read.reads)

@@ -1,7 +1,8 @@
 -- Streams that ran beside each other have ended.
-use Rattle.std.proofs.Common.{◌≡◌, ◌<◌, ◌≤◌, ◌+◌, ◌⊎◌, inl, inr, ℕ, zero, suc, Bool, true, false, List, [], ◌∷◌, ◌++◌, map, length, get_or, All, refl, ap, sym, subst, ◌∙◌, arith}
-use Rattle.std.specs.Prelude.{Option, Some, None, IfSome, option_map, replicate, slice_get}
+use Rattle.std.proofs.Common.{◌≡◌, ◌<◌, ◌≤◌, ◌+◌, ◌⊎◌, inl, inr, ℕ, zero, suc, Bool, true, false, List, [], ◌∷◌, ◌++◌, map, length, take, drop, get_or, All, refl, ap, sym, subst, ◌∙◌, arith}
+use Rattle.std.specs.Prelude.{Option, Some, None, IfOk, IfSome, OnOk, Result, Ok, Err, option_map, slice_get}
 use Rattle.std.specs.List.{AllByRecursion, filter}
+use Rattle.std.proofs.Math.Seq.{take-append_seam}
 use Rattle.std.proofs.lemmas.List.{length-append, length-map}
 use Rattle.std.proofs.lemmas.List.Elements.{All-from_recursion}
 use Rattle.std.proofs.lemmas.Option.{none-some, same_Some, slice_get-get_or, slice_get-map, slice_get_cases}
@@ -36,6 +37,24 @@ map_twice : {A B C : Type 0} (g : B → C) (f : A → B) (xs : List A)
     → map g (map f xs) ≡ map (λ x. g (f x)) xs
 map_twice g f [] = refl
 map_twice g f (x ∷ xs) = ap (λ l. g (f x) ∷ l) (map_twice g f xs)
+
+-- what several clauses say of a result
+pub all_ok : {E F : Type 0} (r : Result E F) (A B C G : E → Type 0) (W : Type 0)
+    → ((e : E) → A e → B e → C e → W → G e) → IfOk r A → IfOk r B → IfOk r C → OnOk r W → IfOk r G
+all_ok (Ok e) A B C G W h a b c w = h e a b c w
+all_ok (Err f) A B C G W h a b c w = tt
+
+-- a list that was lent and written back, of the same length
+pub written_back : {A : Type 0} (new old lent : List A) (len : ℕ) → length lent ≡ len
+    → length new ≡ length lent → take len (new ++ drop (length new) old) ≡ new
+written_back new old lent len is kept =
+    ap (λ n. take n (new ++ drop (length new) old)) (sym (kept ∙ is))
+    ∙ take-append_seam new (drop (length new) old)
+
+pub same_lengths : {A B : Type 0} (f : A → B) (xs ys : List A) → map f xs ≡ map f ys
+    → length xs ≡ length ys
+same_lengths f xs ys is =
+    sym (length-map xs f) ∙ ap (λ l. length l) is ∙ length-map ys f
 
 some_is : {A : Type 0} (P : A → Type 0) (o : Option A) (x : A) → o ≡ Some x → IfSome o P → P x
 some_is P o x is all = subst (λ o. IfSome o P) is all

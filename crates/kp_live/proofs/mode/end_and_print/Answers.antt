@@ -1,8 +1,11 @@
-use Rattle.std.proofs.Common.{ap, sym, subst, ◌∙◌}
+use Rattle.std.proofs.Common.{ap, sym, subst, ◌∙◌, length}
+use Rattle.std.proofs.lemmas.List.{length-map}
+use Rattle.kp_hub.specs.Known.{uncounted}
 use Rattle.kp_hub.specs.State.{first_table}
 use Rattle.kp_streams.specs.Streams.{reading_in}
 use Rattle.kp_live.specs.Runs.{AreOf}
 use Rattle.kp_live.proofs.Closing.{ended_queues, ends_run, handed}
+use Rattle.kp_live.proofs.Together.{written_back}
 use Rattle.kp_live.proofs.mode.end_and_print.Goals as goal
 
 -- the feeders are of the hub's queue
@@ -27,9 +30,13 @@ returns g c =
     c.requires.ended
     (handed r g.J.Sharing.config g.J.Sharing.streams ended.feeders ended.workers.items
     c.as_mut_slice.result.now c.as_mut_slice-2.result.now done.journal done.notes done.refusals
-    done.clash done.table c.requires.config c.as_mut_slice.ensures.value ? by.end
-    by.order by.whole by.made by.accepted by.refused c.meet.ensures)
-    c.exact_tables.ensures c.product_decides.ensures _ _ _ _ c.print-printed.result
+    done.clash done.table c.requires.config c.as_mut_slice.ensures.value
+    (c.as_mut_slice-2.ensures.value
+    ∙ written_back c.finish.new.workers ended.workers.items c.as_mut_slice.result.now
+    ended.workers.len c.as_mut_slice.ensures.len
+    (ap (λ l. length l) by.workers ∙ length-map c.as_mut_slice.result.now uncounted)
+    ∙ by.workers) by.end by.order by.whole by.made by.accepted by.refused c.meet.ensures)
+    c.exact_tables.ensures.full c.product_decides.ensures _ _ _ _ c.print-printed.result
     (λ told of. c.print-printed.ensures.printed told
     (subst (AreOf told) (sym c.as_slice.ensures.value) of))
     (λ told of. c.print-printed.ensures.refused told
