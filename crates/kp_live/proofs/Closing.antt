@@ -146,8 +146,11 @@ module _ (reading : Reading) (start : TableParts) (queue : QueueId) (n : ℕ)
     front_by (Ok refused) printed = tt
     front_by (Err fault) printed = λ input is.
         let r = legal input is in
-        inr (r.run, r.runs,
-        subst (GrowsFront w0 w1) (sym r.text) (printed r.told r.answers_are).front)
+        inr (
+          r.run,
+          r.runs,
+          subst (GrowsFront w0 w1) (sym r.text) (printed r.told r.answers_are).front,
+        )
 
     pub ends_run : (result : Result Bool LiveFault)
         → ((told : ℕ → List Told) → AreOf told answers

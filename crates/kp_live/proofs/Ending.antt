@@ -188,12 +188,14 @@ module _ (reading : Reading) (start : TableParts) (queue : QueueId) (stands : Li
       → AllByRecursion P (map (λ (s : Stand). s.feeder) stands)
       → (f : Feeder) × P f × (f.feeder ≡ i) × (f.fed ≡ events_of_stream reading i)
   fed_by_place i (inl one) P lt all =
-      let at = each i one.0 one.2 in
-      (one.0.feeder,
-      all_at P (map (λ (s : Stand). s.feeder) stands) i one.0.feeder all
-      (slice_get-map (λ (s : Stand). s.feeder) stands i
-      ∙ ap (option_map (λ (s : Stand). s.feeder)) one.2),
-      at.feeder_is, at.behind.fed)
+      let at = each i one.0 one.2 in (
+        one.0.feeder,
+        all_at P (map (λ (s : Stand). s.feeder) stands) i one.0.feeder all
+            (slice_get-map (λ (s : Stand). s.feeder) stands i
+            ∙ ap (option_map (λ (s : Stand). s.feeder)) one.2),
+        at.feeder_is,
+        at.behind.fed,
+      )
   fed_by_place i (inr past) P lt all = absurd (omega (arith, past.0, lt))
 
   pub delivered_at : (i : ℕ) (events : List Fed) → i < length stands
@@ -300,9 +302,10 @@ none_shown_denied : (all : List Shown) → count_by is_denied all ≡ 0
     → AllByRecursion (λ (s : Shown). is_denied s ≡ false) all
 none_shown_denied [] none = tt
 none_shown_denied (s ∷ all) none =
-    let count = count_cons is_denied s all in
-    (not_denied (is_denied s) (count_by is_denied all) (sym count ∙ none),
-    none_shown_denied all (omega (arith, count, none)))
+    let count = count_cons is_denied s all in (
+      not_denied (is_denied s) (count_by is_denied all) (sym count ∙ none),
+      none_shown_denied all (omega (arith, count, none)),
+    )
 
 -- its refusal, by its mark
 refusal_by : (run : LiveRun) (refusals : List Refusal)
@@ -487,9 +490,10 @@ module _ (reading : Reading) (read : IsRead reading) (start : TableParts)
       → AllByRecursion (λ (s : Shown). is_denied s ≡ false) all)
       → AllByRecursion (legal.HasRefusal run) (map line_of all)
   all_refusals_by [] shown none = tt
-  all_refusals_by (s ∷ all) shown none =
-      (one_refusal s shown.0 (λ is. (none is).0),
-      all_refusals_by all shown.1 (λ is. (none is).1))
+  all_refusals_by (s ∷ all) shown none = (
+    one_refusal s shown.0 (λ is. (none is).0),
+    all_refusals_by all shown.1 (λ is. (none is).1),
+  )
 
   all_refusals : AllByRecursion (legal.HasRefusal run) reading.lines
   all_refusals =
@@ -571,12 +575,13 @@ module _ (reading : Reading) (read : IsRead reading) (start : TableParts)
             (sym (merged.each i));
         denied = refl;
       }) in
-      let lines = merged.lines_are in
-      (ap (λ ls. (telling refusals told ls).text) (sym lines) ∙ both.0
-      ∙ ap (λ ls. (fold (text.after_answer run) (text.nothing_answered run) ls).text) lines,
-      ap (λ ls. (telling refusals told ls).denied) (sym lines) ∙ both.1
-      ∙ sym (any_refused run refusals merged.all shows)
-      ∙ ap (list_any (text.is_refused_sync run)) lines)
+      let lines = merged.lines_are in (
+        ap (λ ls. (telling refusals told ls).text) (sym lines) ∙ both.0
+            ∙ ap (λ ls. (fold (text.after_answer run) (text.nothing_answered run) ls).text) lines,
+        ap (λ ls. (telling refusals told ls).denied) (sym lines) ∙ both.1
+            ∙ sym (any_refused run refusals merged.all shows)
+            ∙ ap (list_any (text.is_refused_sync run)) lines,
+      )
 
   pub ends_legal : IsRunOf reading (map (λ (s : Stand). s.answers) stands) journal notes refusals
       clash table
@@ -592,5 +597,5 @@ module _ (reading : Reading) (read : IsRead reading) (start : TableParts)
         (sym (ap (λ t. t.chains) out.end.table_is));
     refused =
         λ i. nat_lt 0 (length reading.refused)
-            || (sym answered.1 i || is_some (sym clash_is i));
+        || (sym answered.1 i || is_some (sym clash_is i));
   }

@@ -48,10 +48,11 @@ pub all_below : (n : ℕ) (fed : List Fed)
     → ((p : ℕ) → n ≤ p → filter (is_of_stream p) fed ≡ [])
     → AllByRecursion (λ (f : Fed). f.feeder < n) fed
 all_below n [] none = tt
-all_below n (f ∷ fed) none =
-    (below n f fed none (nat_lt f.feeder n) refl,
-    all_below n fed
-    (λ p le. first_none (p == f.feeder) f (filter (is_of_stream p) fed) (none p le)))
+all_below n (f ∷ fed) none = (
+  below n f fed none (nat_lt f.feeder n) refl,
+  all_below n fed
+      (λ p le. first_none (p == f.feeder) f (filter (is_of_stream p) fed) (none p le)),
+)
 
 -- ---- Full journals
 

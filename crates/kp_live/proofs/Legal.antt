@@ -74,10 +74,11 @@ step_has r m (Feeds events) s is = (is, tt)
 step_has r (Shows n) Syncs s is =
     (first_true s.fits (nat_le (suc s.syncs) n && nat_le n r) is, tt)
 step_has r (Refuses clash) Syncs s is = (is, tt)
-step_has r (Shows n) (Sends p) s is =
-    (first_true s.fits (nat_le s.most n && nat_le n r) is,
-    leb-true n r (second_true (nat_le s.most n) (nat_le n r)
-    (second_true s.fits (nat_le s.most n && nat_le n r) is)))
+step_has r (Shows n) (Sends p) s is = (
+  first_true s.fits (nat_le s.most n && nat_le n r) is,
+  leb-true n r (second_true (nat_le s.most n) (nat_le n r)
+      (second_true s.fits (nat_le s.most n && nat_le n r) is)),
+)
 step_has r (Refuses clash) (Sends p) s is = absurd (cc is)
 
 -- each line could show what it does
@@ -103,15 +104,16 @@ not_equal a b false is lt = refl
 pub marks_found : (all : List Shown) → AreRising (map line_of all)
     → AllByRecursion (λ (s : Shown). mark_at all s.0.number ≡ s.1) all
 marks_found [] rising = tt
-marks_found (s ∷ all) rising =
-    (ap (λ b. cond b s.1 (mark_at all s.0.number)) (eq-eqb s.0.number s.0.number refl),
-    all_both (λ (x : Shown). s.0.number < x.0.number) (λ (x : Shown). mark_at all x.0.number ≡ x.1)
-    (λ (x : Shown). mark_at (s ∷ all) x.0.number ≡ x.1)
-    (λ x lt found.
-    ap (λ b. cond b s.1 (mark_at all x.0.number))
-    (not_equal s.0.number x.0.number (s.0.number == x.0.number) refl lt) ∙ found)
-    all (all_of_map (λ (l : StreamLine). s.0.number < l.number) line_of all rising.0)
-    (marks_found all rising.1))
+marks_found (s ∷ all) rising = (
+  ap (λ b. cond b s.1 (mark_at all s.0.number)) (eq-eqb s.0.number s.0.number refl),
+  all_both (λ (x : Shown). s.0.number < x.0.number) (λ (x : Shown). mark_at all x.0.number ≡ x.1)
+      (λ (x : Shown). mark_at (s ∷ all) x.0.number ≡ x.1)
+      (λ x lt found.
+      ap (λ b. cond b s.1 (mark_at all x.0.number))
+      (not_equal s.0.number x.0.number (s.0.number == x.0.number) refl lt) ∙ found)
+      all (all_of_map (λ (l : StreamLine). s.0.number < l.number) line_of all rising.0)
+      (marks_found all rising.1),
+)
 
 -- how many pass
 pub count_cons : {A : Type 0} (p : A → Bool) (x : A) (xs : List A)

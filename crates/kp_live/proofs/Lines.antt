@@ -96,9 +96,10 @@ pub printed_none : (refusals : List Refusal) (t next : Telling) (told : List Tol
     (w : Option (List ℕ)) (f : ℕ) → next ≡ t → AreLeft t.left told
     → Printed refusals t next told (Ok false) w w f f
 printed_none refusals t next told w f is are = record {
-  left =
-      (subst (λ (n : Telling). AreLeft n.left told) (sym is) are,
-      or_false t.denied ∙ ap (λ (n : Telling). n.denied) (sym is));
+  left = (
+    subst (λ (n : Telling). AreLeft n.left told) (sym is) are,
+    or_false t.denied ∙ ap (λ (n : Telling). n.denied) (sym is),
+  );
   printed =
       ([], ap (λ (n : Telling). n.text) is ∙ sym (append-nil t.text), prints_nothing false w f);
 }
@@ -123,8 +124,10 @@ printed_some refusals t line told new result w0 w1 f0 f1 one rest lt are holds d
           ok_map (λ d. d ≡ is_denial one)
           (λ d. AreLeft (at_number t.left line.stream rest) (set told line.stream new)
           × ((t.denied || d) ≡ (t.denied || is_denial one)))
-          (λ d is. (left_set t.left told line.stream new rest lt are holds,
-          ap (λ x. t.denied || x) is)) result denied;
+          (λ d is. (
+            left_set t.left told line.stream new rest lt are holds,
+            ap (λ x. t.denied || x) is,
+          )) result denied;
       printed = (told_text refusals line.number one, refl, printed);
     }
 
@@ -159,9 +162,10 @@ printed_by refusals t line told old new result w0 w1 f0 f1 [] lt are is holds by
     let n = by.none holds in record {
       left =
           subst (λ r. IfOk r (λ d. AreLeft t.left (set told line.stream new)
-          × ((t.denied || d) ≡ t.denied))) (sym n.1)
-          (left_same t.left told line.stream new are (subst (HoldsOn new) (sym is) n.0),
-          or_false t.denied);
+          × ((t.denied || d) ≡ t.denied))) (sym n.1) (
+            left_same t.left told line.stream new are (subst (HoldsOn new) (sym is) n.0),
+            or_false t.denied,
+          );
       printed =
           ([], sym (append-nil t.text), kept_nothing result w0 w1 f0 f1 n.1 n.2 n.3);
     }
@@ -220,9 +224,10 @@ unfolding Grows_by
 text_grows refusals [] t = ([], sym (append-nil t.text))
 text_grows refusals (line ∷ lines) t =
     let one = line_grows refusals line line.work t in
-    let rest = text_grows refusals lines (after_line refusals t line) in
-    (one.0 ++ rest.0,
-    rest.1 ∙ ap (λ l. l ++ rest.0) one.1 ∙ append_assoc t.text one.0 rest.0)
+    let rest = text_grows refusals lines (after_line refusals t line) in (
+      one.0 ++ rest.0,
+      rest.1 ∙ ap (λ l. l ++ rest.0) one.1 ∙ append_assoc t.text one.0 rest.0,
+    )
 
 -- the text of all lines, behind one of them
 pub telling_rest : (refusals : List Refusal) (told : ℕ → List Told) (lines : List StreamLine)
@@ -232,10 +237,11 @@ pub telling_rest : (refusals : List Refusal) (told : ℕ → List Told) (lines :
     ≡ (after_line refusals (telling refusals told (take i lines)) line).text ++ more)
 telling_rest refusals told lines i line lt is =
     let now = telling refusals told (take (i + 1) lines) in
-    let rest = text_grows refusals (drop (i + 1) lines) now in
-    (rest.0,
-    ap (λ l. (telling refusals told l).text) (sym (take-append-drop (i + 1) lines))
-    ∙ ap (λ (n : Telling). n.text) (fold-append (after_line refusals) (nothing_printed told)
-    (take (i + 1) lines) (drop (i + 1) lines))
-    ∙ rest.1
-    ∙ ap (λ (n : Telling). n.text ++ rest.0) (telling_next refusals told lines i line lt is))
+    let rest = text_grows refusals (drop (i + 1) lines) now in (
+      rest.0,
+      ap (λ l. (telling refusals told l).text) (sym (take-append-drop (i + 1) lines))
+          ∙ ap (λ (n : Telling). n.text) (fold-append (after_line refusals) (nothing_printed told)
+          (take (i + 1) lines) (drop (i + 1) lines))
+          ∙ rest.1
+          ∙ ap (λ (n : Telling). n.text ++ rest.0) (telling_next refusals told lines i line lt is),
+    )

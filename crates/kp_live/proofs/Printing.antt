@@ -23,10 +23,11 @@ front_by : (a b : List ℕ) (written now : Option (List ℕ)) (n : ℕ) → Grow
     → (t : Bool) → nat_le n (length a) ≡ t → GrowsFront written now (a ++ b)
 front_by a b written now n grown true is =
     (n, subst (Grows written now) (sym (take-append-le n a b (leb-true n (length a) is))) grown)
-front_by a b written now n grown false is =
-    (length a,
-    subst (Grows written now) (sym (take-append_seam a b))
-    (subst (Grows written now) (take_all n a (omega (arith, leb-false n (length a) is))) grown))
+front_by a b written now n grown false is = (
+  length a,
+  subst (Grows written now) (sym (take-append_seam a b))
+      (subst (Grows written now) (take_all n a (omega (arith, leb-false n (length a) is))) grown),
+)
 
 pub front_of : (a b : List ℕ) (written now : Option (List ℕ)) → GrowsFront written now a
     → GrowsFront written now (a ++ b)
@@ -36,10 +37,11 @@ front_of a b written now front =
 -- the first part, and a front of the second
 pub front_behind : (a b : List ℕ) (before middle now : Option (List ℕ)) → Grows before middle a
     → GrowsFront middle now b → GrowsFront before now (a ++ b)
-front_behind a b before middle now first second =
-    (length a + second.0,
-    subst (Grows before now) (sym (take-append-add a b second.0))
-    (Grows-trans before middle now a (take second.0 b) first second.1))
+front_behind a b before middle now first second = (
+  length a + second.0,
+  subst (Grows before now) (sym (take-append-add a b second.0))
+      (Grows-trans before middle now a (take second.0 b) first second.1),
+)
 
 -- nothing was written, and nothing had to be
 pub prints_nothing : {T : Type 0} (x : T) (written : Option (List ℕ)) (faults : ℕ)

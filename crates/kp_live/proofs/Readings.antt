@@ -44,9 +44,10 @@ rising_more : (lines : List StreamLine) (line : StreamLine) → AreRising lines
     → AllByRecursion (λ (l : StreamLine). l.number < line.number) lines
     → AreRising (lines ++ line ∷ [])
 rising_more [] line rising low = (tt, tt)
-rising_more (l ∷ lines) line rising low =
-    (all_more (λ (next : StreamLine). l.number < next.number) lines line rising.0 low.0,
-    rising_more lines line rising.1 low.1)
+rising_more (l ∷ lines) line rising low = (
+  all_more (λ (next : StreamLine). l.number < next.number) lines line rising.0 low.0,
+  rising_more lines line rising.1 low.1,
+)
 
 -- how many events lines feed
 abbrev pub fed_by : StreamLine → ℕ

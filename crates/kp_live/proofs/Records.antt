@@ -130,20 +130,20 @@ module _ (reading : Reading) (journal : List Fed) (notes : List RecordNote)
       let chains_are : (n : ℕ) → n ≤ length records
       → (table_from start (take n records)).chains ≡ chains_covered setting events counts n =
       λ n le. ap (λ t. (table_from t (take n records)).chains) is
-          ∙ tables setting events records n exact.exact le
-          ∙ ap (λ cs. chains_covered setting events cs n) exact.counted in
+      ∙ tables setting events records n exact.exact le
+      ∙ ap (λ cs. chains_covered setting events cs n) exact.counted in
       let walks : (n number : ℕ) (p : PacketLine) (lists : RecentParts) → n ≤ length records
       → walk_from start reading.config records n number p lists
       ≡ walked_at (run_of reading journal notes marks) n number p lists =
       λ n number p lists le.
-          ap (λ (c : Chains). walk_at (get c) reading.config.addresses number p lists)
-          (chains_are n le) in
+      ap (λ (c : Chains). walk_at (get c) reading.config.addresses number p lists)
+      (chains_are n le) in
       let agree : (n number : ℕ) (p : PacketLine) (lists : RecentParts) → n ≤ length records
       → Agree (walked_at (run_of reading journal notes marks) n number p lists)
       (decided_at (run_of reading journal notes marks) n number p lists) =
       λ n number p lists le.
-          decides V4 reading.config (objects_covered events counts n) p.packet
-          (draws_at number p.draws) lists (no_clash_at n (omega (arith, le, records_count))) in
+      decides V4 reading.config (objects_covered events counts n) p.packet
+      (draws_at number p.draws) lists (no_clash_at n (omega (arith, le, records_count))) in
       record {
         verdict = λ n number p lists le.
             ap (λ w. w.verdict) (walks n number p lists le)

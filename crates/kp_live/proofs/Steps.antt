@@ -120,10 +120,11 @@ module _ (start : TableParts) (config : Config) where
 
   told_on : (records : List SyncRecord) (w v : Worker) (n : ℕ) → IsTold n w v
       → GoesOnFromAll records v → GoesOnFromAll records w
-  told_on records w v n told on =
-      (subst (λ l. IsPrefix (records_of l) records) told.seen on.0,
-      begins_through (records_of w.told) (records_of v.told) records
-      (begins_records w.told v.told told.told) on.1)
+  told_on records w v n told on = (
+    subst (λ l. IsPrefix (records_of l) records) told.seen on.0,
+    begins_through (records_of w.told) (records_of v.told) records
+        (begins_records w.told v.told told.told) on.1,
+  )
 
   accepted_fits : (records : List SyncRecord) (shown : List Shown) (line : StreamLine)
       → line.work ≡ Syncs → (n : ℕ) (now : Answering) (w v : Worker) → IsTold n w v
@@ -179,9 +180,10 @@ module _ (start : TableParts) (config : Config) where
   -- what a pass that has read knew before
   read_on : (records : List SyncRecord) (w v : Worker) → Reads w v → GoesOnFromAll records v
       → GoesOnFromAll records w
-  read_on records w v reads on =
-      (begins_through (records_of w.seen) (records_of v.seen) records reads.seen.begins on.0,
-      begins_through (records_of w.told) (records_of v.seen) records reads.told.begins on.0)
+  read_on records w v reads on = (
+    begins_through (records_of w.seen) (records_of v.seen) records reads.seen.begins on.0,
+    begins_through (records_of w.told) (records_of v.seen) records reads.told.begins on.0,
+  )
 
   sent_fits : (records : List SyncRecord) (shown : List Shown) (line : StreamLine)
       (p : PacketLine) → line.work ≡ Sends p → (told : List Told) (lists left : RecentParts)

@@ -127,9 +127,10 @@ module _ {X : Type 0} (standing : X → Stand) (lines : X → List StreamLine) (
   counts : (length ss ≡ n) × (length cs ≡ n)
   counts =
       let ends = ap (λ (l : List Feeder). length l) feeders ∙ length_new queue n in
-      let kepts = ap (λ (l : List Feeder). length l) feeders_kept ∙ length_new queue n in
-      (sym (length-map ss (λ x. (standing x).feeder)) ∙ ends,
-      sym (length-map cs (λ x. (standing x).feeder)) ∙ kepts)
+      let kepts = ap (λ (l : List Feeder). length l) feeders_kept ∙ length_new queue n in (
+        sym (length-map ss (λ x. (standing x).feeder)) ∙ ends,
+        sym (length-map cs (λ x. (standing x).feeder)) ∙ kepts,
+      )
 
   module _ (failed : X → Bool) (fs : List X)
       (new : AllByRecursion (λ x. IsAtStart reading.config (standing x)) ss)

@@ -5,11 +5,11 @@ ghost use Rattle.kp_hub.specs.Reading.{Reads, answer_after, walk_after};
 ghost use Rattle.kp_text_defs.specs.Live.{live_sync_text};
 ghost use Rattle.kp_live.specs.Told.{Told, Says, Denies, HasText, Holds, HoldsOn, IsAnswer};
 
-use kp_script::PacketLine;
 use kp_base::NoMemory;
 use kp_hub::{Hub, Sharing, WorkerPass};
 use kp_recent::RecentLists;
 use kp_report::push_live_sync;
+use kp_script::PacketLine;
 use kp_types::Clash;
 use std::alloc::Global;
 use std::sync::Wait;

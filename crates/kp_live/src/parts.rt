@@ -50,8 +50,17 @@ pub(crate) fn print<J: Sharing, K: Sink>(
         Ok(()) => {}
         Err(fault) => return Err(fault),
     }
-    match print_answers(alloc, lines.lines(), answers, done.refusals.as_slice(), sink) {
-        Ok(denied) => said(print_end(alloc, done, sink), has_refusal(lines, denied, &done.clash)),
+    match print_answers(
+        alloc,
+        lines.lines(),
+        answers,
+        done.refusals.as_slice(),
+        sink,
+    ) {
+        Ok(denied) => said(
+            print_end(alloc, done, sink),
+            has_refusal(lines, denied, &done.clash),
+        ),
         Err(fault) => Err(fault),
     }
 }
@@ -154,7 +163,13 @@ fn print_event<K: Sink>(
         (K.faults sink.new) }
 {
     text.clear();
-    let made = push_event(text, place, name_of(streams, fed.feeder), fed.number, &fed.event);
+    let made = push_event(
+        text,
+        place,
+        name_of(streams, fed.feeder),
+        fed.number,
+        &fed.event,
+    );
     write_made(made, text.as_bytes(), sink)
 }
 

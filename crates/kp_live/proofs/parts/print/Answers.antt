@@ -10,11 +10,11 @@ returns-in-Err-clause-printed g c =
     let r = reading_in c.args.lines.now in
     let done = c.args.done.now in
     λ told of. prints_first (head_text r done.journal done.notes)
-        (telling done.refusals told r.lines).text
-        (end_text (length done.notes) done.clash done.table)
-        (head_text r done.journal done.notes ++ (telling done.refusals told r.lines).text
-        ++ end_text (length done.notes) done.clash done.table) c.in-Err.fault _ _ _ _ refl
-        c.in-Err.ensures
+    (telling done.refusals told r.lines).text
+    (end_text (length done.notes) done.clash done.table)
+    (head_text r done.journal done.notes ++ (telling done.refusals told r.lines).text
+    ++ end_text (length done.notes) done.clash done.table) c.in-Err.fault _ _ _ _ refl
+    c.in-Err.ensures
 
 -- the answers weren't
 pub returns-in-Err-print_answers-clause-printed : goal.returns-in-Err-print_answers-clause-printed
@@ -22,15 +22,15 @@ returns-in-Err-print_answers-clause-printed g c =
     let r = reading_in c.args.lines.now in
     let done = c.args.done.now in
     λ told of. prints_broken (head_text r done.journal done.notes)
-        (telling c.as_slice.result.now told c.lines.result.now).text
-        (end_text (length done.notes) done.clash done.table)
-        (head_text r done.journal done.notes ++ (telling done.refusals told r.lines).text
-        ++ end_text (length done.notes) done.clash done.table) c.in-Ok.field-0
-        c.in-Err-print_answers.fault _ _ _ _ _ _
-        (λ k. head_text r done.journal done.notes
-        ++ (telling (sym c.as_slice.ensures k) told (sym c.lines.ensures k)).text
-        ++ end_text (length done.notes) done.clash done.table)
-        c.in-Ok.ensures (c.in-Err-print_answers.ensures.printed told of)
+    (telling c.as_slice.result.now told c.lines.result.now).text
+    (end_text (length done.notes) done.clash done.table)
+    (head_text r done.journal done.notes ++ (telling done.refusals told r.lines).text
+    ++ end_text (length done.notes) done.clash done.table) c.in-Ok.field-0
+    c.in-Err-print_answers.fault _ _ _ _ _ _
+    (λ k. head_text r done.journal done.notes
+    ++ (telling (sym c.as_slice.ensures k) told (sym c.lines.ensures k)).text
+    ++ end_text (length done.notes) done.clash done.table)
+    c.in-Ok.ensures (c.in-Err-print_answers.ensures.printed told of)
 
 -- all of it was, or the end wasn't
 pub returns-in-Ok-print_answers-clause-printed : goal.returns-in-Ok-print_answers-clause-printed
@@ -38,15 +38,15 @@ returns-in-Ok-print_answers-clause-printed g c =
     let r = reading_in c.args.lines.now in
     let done = c.args.done.now in
     λ told of. prints_flag _ c.print_end.result c.has_refusal.result
-        (head_text r done.journal done.notes ++ (telling done.refusals told r.lines).text
-        ++ end_text (length done.notes) done.clash done.table) _ _ _ _ c.said.ensures
-        (prints_three (head_text r done.journal done.notes)
-        (telling c.as_slice.result.now told c.lines.result.now).text
-        (end_text (length done.notes) done.clash done.table)
-        (head_text r done.journal done.notes ++ (telling done.refusals told r.lines).text
-        ++ end_text (length done.notes) done.clash done.table) c.in-Ok.field-0
-        c.in-Ok-print_answers.denied c.print_end.result _ _ _ _ _ _ _ _
-        (λ k. head_text r done.journal done.notes
-        ++ (telling (sym c.as_slice.ensures k) told (sym c.lines.ensures k)).text
-        ++ end_text (length done.notes) done.clash done.table)
-        c.in-Ok.ensures (c.in-Ok-print_answers.ensures.printed told of) c.print_end.ensures)
+    (head_text r done.journal done.notes ++ (telling done.refusals told r.lines).text
+    ++ end_text (length done.notes) done.clash done.table) _ _ _ _ c.said.ensures
+    (prints_three (head_text r done.journal done.notes)
+    (telling c.as_slice.result.now told c.lines.result.now).text
+    (end_text (length done.notes) done.clash done.table)
+    (head_text r done.journal done.notes ++ (telling done.refusals told r.lines).text
+    ++ end_text (length done.notes) done.clash done.table) c.in-Ok.field-0
+    c.in-Ok-print_answers.denied c.print_end.result _ _ _ _ _ _ _ _
+    (λ k. head_text r done.journal done.notes
+    ++ (telling (sym c.as_slice.ensures k) told (sym c.lines.ensures k)).text
+    ++ end_text (length done.notes) done.clash done.table)
+    c.in-Ok.ensures (c.in-Ok-print_answers.ensures.printed told of) c.print_end.ensures)
