@@ -15,12 +15,12 @@ use Rattle.kp_run.specs.Outcome.{Output, Outside, GrowsFront, WritesAll, WritesE
 use Rattle.kp_run.proofs.ComeLemmas.{front_is}
 
 -- a count that rose after it had stayed rose since the beginning
-same_rose : (w a b : ℕ) → a ≡ w → Rose a b → Rose w b
+pub same_rose : (w a b : ℕ) → a ≡ w → Rose a b → Rose w b
 same_rose w a b same rose = subst (λ n. Rose n b) same rose
 
 -- ---- A flush writes nothing
 
-grows_on : (written now later : Option (List ℕ)) (text : List ℕ) → Grows written now text → Grows now later [] → Grows written later text
+pub grows_on : (written now later : Option (List ℕ)) (text : List ℕ) → Grows written now text → Grows now later [] → Grows written later text
 grows_on written now later text grown kept =
     subst (Grows written later) (append-nil text) (Grows-trans written now later text [] grown kept)
 
@@ -28,7 +28,7 @@ grows_on written now later text grown kept =
 pub none_written : (text : List ℕ) (written : Option (List ℕ)) → GrowsFront written written text
 none_written text written = (0, Grows-nil written)
 
-whole_front : (text : List ℕ) (written now : Option (List ℕ)) → Grows written now text → GrowsFront written now text
+pub whole_front : (text : List ℕ) (written now : Option (List ℕ)) → Grows written now text → GrowsFront written now text
 whole_front text written now grown = front_is text text [] written now (sym (append-nil text)) grown
 
 fronts_on : (left written now later : Option (List ℕ)) → WritesFront left written now → Grows now later [] → WritesFront left written later

@@ -1,5 +1,5 @@
--- What a replay has written, and how it ends.
-use Rattle.std.specs.Prelude.{◌≡◌, ◌<◌, ◌≤◌, ◌++◌, ℕ, Bool, true, false, List, length, take, Option, Some, None, IfSome, ◌⊎◌}
+-- What a run has written, and how it ends.
+use Rattle.std.specs.Prelude.{◌≡◌, ◌<◌, ◌≤◌, ◌++◌, ℕ, Bool, true, false, List, [], length, take, Option, Some, None, IfSome, ◌⊎◌}
 use Rattle.std.specs.Io.KnownBytes.{IsAtEnd}
 use Rattle.kp_io.specs.Told.{FromTold, Grows, IsFlushed}
 use Rattle.kp_io.specs.Lines.{lines_of, ended_lines}
@@ -11,7 +11,9 @@ use Rattle.kp_words.specs.declared.mode.Mode.TheVariants as mode
 use Rattle.kp_text_defs.specs.Printed.{usage_text}
 use Rattle.kp_gen_defs.specs.declared.plan.ScriptPlan.{ScriptPlan}
 use Rattle.kp_run_defs.specs.GenText.{gen_of, gen_text}
+use Rattle.kp_run_defs.specs.LiveLines.{reading_of}
 use Rattle.kp_run_defs.specs.ReplayText.{Standing, Line, replay_of}
+use Rattle.kp_live.specs.Written as live
 use Rattle.kp_run.specs.declared.status.Status.{Status}
 use Rattle.kp_run.specs.declared.status.Status.TheVariants.{Done, NoMemory, Usage, LinesRefused, ReadFault, WriteFault, InputTooLong}
 use Rattle.kp_replay.specs.Steps.{IsReady}
@@ -187,20 +189,67 @@ EndsLine refused line InputTooLong old new = ⊥
 abbrev pub EndsGen : ScriptPlan → Status → Output → Output → Type 0
 EndsGen plan status old new = EndsLine (gen_of plan).at.refused (gen_text plan) status old new
 
+-- ---- A live run
+
+-- nothing was written
+abbrev pub EndsUnwritten : Outside → Outside → Type 0
+EndsUnwritten old new = Grows old.output.written new.output.written []
+
+-- the whole text of a legal run was written and flushed, this is whether a line or the sync that
+-- ends the run was refused, nothing failed, and where the source tells what it has left, that is
+-- nothing
+abbrev pub EndsLiveWhole : Bool → Outside → Outside → Type 0
+EndsLiveWhole refused old new =
+    IfSome old.input.left
+    (λ text. live.WritesInput refused text old.output.written new.output.written)
+    × IsOut new.output × IsSure old new × IsAtEnd new.input.left
+
+-- where the input is told, nothing was written, or a front of the text of a legal run of it
+abbrev pub EndsLiveFront : Outside → Outside → Type 0
+EndsLiveFront old new =
+    IfSome old.input.left (λ text.
+    live.WritesFront (reading_of (lines_of text)) old.output.written new.output.written)
+
+-- nothing was written, what there is is flushed, and no write has failed
+abbrev pub EndsUnread : Outside → Outside → Type 0
+EndsUnread old new =
+    EndsUnwritten old new × IsOut new.output × (new.output.faults ≡ old.output.faults)
+
+-- What holds of each status of a live run: where it read its input to its end and wrote all, the
+-- whole text of a legal run was written and flushed, and whether a line was refused is told. Where
+-- memory was wanted or a write failed, nothing or a front of such a text was written. Where reading
+-- stopped it, nothing was run or written, and no write has failed.
+abbrev pub EndsLive : Status → Outside → Outside → Type 0
+EndsLive Done old new = EndsLiveWhole false old new
+EndsLive LinesRefused old new = EndsLiveWhole true old new
+EndsLive NoMemory old new = EndsLiveFront old new × IsSure old new
+EndsLive Usage old new = ⊥
+EndsLive ReadFault old new = Rose old.input.faults new.input.faults × EndsUnread old new
+EndsLive WriteFault old new = Rose old.output.faults new.output.faults × EndsLiveFront old new
+EndsLive InputTooLong old new =
+    IsTooLong old.input.left × (new.input.faults ≡ old.input.faults) × EndsUnread old new
+
 -- ---- By words
 
--- the words ask for a replay, which alone reads the source
+-- the words ask for a replay
 abbrev pub asks_replay : Option Mode → Bool
 asks_replay None = false
 asks_replay (Some (mode.Replay workers)) = true
 asks_replay (Some mode.Live) = false
 asks_replay (Some (mode.Gen seed services pods)) = false
 
--- How a run ends, by what the words ask for; `live` is not served yet. Where there is no memory for the
--- words, nothing was read or written.
+-- the words ask for a run that reads the source
+abbrev pub reads_source : Option Mode → Bool
+reads_source None = false
+reads_source (Some (mode.Replay workers)) = true
+reads_source (Some mode.Live) = true
+reads_source (Some (mode.Gen seed services pods)) = false
+
+-- How a run ends, by what the words ask for. Where they fit, want of memory for them is that of the
+-- run itself.
 abbrev pub Runs : Option Mode → Status → Outside → Outside → Type 0
 Runs None status old new = EndsUnserved status old.output new.output
 Runs (Some (mode.Replay workers)) status old new = Ends status old new
-Runs (Some mode.Live) status old new = EndsUnserved status old.output new.output
+Runs (Some mode.Live) status old new = EndsLive status old new
 Runs (Some (mode.Gen seed services pods)) status old new =
     EndsGen (record { seed = seed; services = services; pods = pods }) status old.output new.output

@@ -1,5 +1,5 @@
 //! The program as a library: its words choose what is done over any source and sink. It replays
-//! lines, counts a generated script, or writes the usage line.
+//! lines, runs their streams beside each other, counts a generated script, or writes the usage line.
 #![tactic(auto)]
 
 mod ending;
@@ -8,6 +8,7 @@ pub mod laws;
 mod lines;
 mod program;
 mod status;
+mod streams;
 
 pub use ending::usage;
 pub use generated::generate;

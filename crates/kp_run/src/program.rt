@@ -7,6 +7,7 @@ use crate::ending::usage;
 use crate::generated::generate;
 use crate::lines::replay_one;
 use crate::status::Status;
+use crate::streams::run_live;
 use kp_base::NoMemory;
 use kp_gate::Gate;
 use kp_gen::ScriptPlan;
@@ -17,25 +18,26 @@ use std::sync::Wait;
 use std::thread::Threads;
 
 /// Runs the program on its words, of which the first is its name. For `replay` it reads the lines
-/// of the source to its end, and writes what they print to the sink; for `gen` it writes the one
-/// line of a generated script; where the words don't fit, or ask for what isn't served yet, it
-/// writes the usage line. It reads the source for `replay` alone. Without memory for words that ask
-/// for neither it writes nothing. By its runtime it may wait and start threads, as `live` will; calls of
-/// its streams will pass the gate. A replay with one worker is `replay_one`, which does neither.
+/// of the source to its end, and writes what they print to the sink; for `live` it reads them, runs
+/// their streams beside each other, and writes the text of that run; for `gen` it writes the one
+/// line of a generated script; where the words don't fit, it writes the usage line. It reads the
+/// source for `replay` and `live` alone. Without memory for words that don't fit it writes nothing.
+/// For `live` alone it waits and starts threads by its runtime, and calls of the streams pass the
+/// gate.
 pub fn run<S: Source, K: Sink, R: Threads + Wait + Sync, G: Gate<R> + Sync>(
-    _rt: &R,
+    rt: &R,
     alloc: Global,
     words: &[String],
     source: &mut S,
     sink: &mut K,
-    _gate: &G,
+    gate: &G,
 ) -> Status
     ensures ends { outcome.Runs (mode_of (map string_bytes words.now)) result
         (outcome.ends_of (outcome.source_of (S.left source.old) (S.faults source.old))
         (outcome.sink_of (K.written sink.old) (K.flushed sink.old) (K.faults sink.old)))
         (outcome.ends_of (outcome.source_of (S.left source.new) (S.faults source.new))
         (outcome.sink_of (K.written sink.new) (K.flushed sink.new) (K.faults sink.new))) }
-    ensures unread { outcome.asks_replay (mode_of (map string_bytes words.now)) ≡ false
+    ensures unread { outcome.reads_source (mode_of (map string_bytes words.now)) ≡ false
         → source.new ≡ source.old }
 {
     match read_words(alloc, words) {
@@ -58,7 +60,8 @@ pub fn run<S: Source, K: Sink, R: Threads + Wait + Sync, G: Gate<R> + Sync>(
             },
             sink,
         ),
-        Ok(Some(Mode::Live) | None) => usage(sink),
+        Ok(Some(Mode::Live)) => run_live(rt, alloc, source, sink, gate),
+        Ok(None) => usage(sink),
         Err(NoMemory) => Status::NoMemory,
     }
 }

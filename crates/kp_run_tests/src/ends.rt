@@ -102,7 +102,7 @@ fn a_replay_prints_its_text_in_any_pieces(rt: HostRuntime) -> Result<(), Fail> {
         check_whole(&rt, rows, Status::Done)?;
     }
     check_whole(&rt, REFUSED, Status::LinesRefused)?;
-    let usage = planned_run(&rt, "kproxy live", "", (0, 0))?;
+    let usage = planned_run(&rt, "kproxy lives", "", (0, 0))?;
     assert!(rt; usage.status == Status::Usage);
     Ok(())
 }
