@@ -7,6 +7,7 @@ use Rattle.std.proofs.lemmas.Bool.Decides.{nat_tests}
 use Rattle.std.proofs.lemmas.List.{length-map}
 use Rattle.std.proofs.lemmas.Slice.Eq.{bytes_eq-Decides}
 use Rattle.std.proofs.lemmas.Option.{get_or_from_slice_get, slice_get_cases, slice_get-get_or, slice_get-map}
+use Rattle.kp_lemmas.proofs.ListFacts.{all_weaker}
 use Rattle.kp_types.specs.declared.chain.Clash.{Clash}
 use Rattle.kp_types.specs.declared.sync.SyncRecord.{SyncRecord}
 use Rattle.kp_choice_defs.specs.Names.{same_chain_key}
@@ -42,7 +43,7 @@ use Rattle.kp_live.specs.declared.answers.Answers.{Answers}
 use Rattle.kp_live.proofs.Journals.{all_delivered, all_below}
 use Rattle.kp_live.proofs.Legal.{all_both, all_by_stream, all_filter, all_of_map, count_cons, first_true, fits_has, second_true, any_refused, count_accepted, mark_at, marks_found, seen_fits, ShowsIt}
 use Rattle.kp_live.proofs.Merging.{line_of, is_shown_of, merge, Merges}
-use Rattle.kp_live.proofs.Readings.{AreRising, IsRead, all_map}
+use Rattle.kp_live.proofs.Readings.{AreRising, IsRead}
 use Rattle.kp_live.proofs.Records.{run_of, have_tables, cover_journal, records_count, walks_decide, notes_print}
 use Rattle.kp_live.proofs.Telling.{HasRecord, IsOfRun, Walks, all_alike, settled, told_from, told_is}
 use Rattle.kp_live.proofs.Totals.{total, total_same, list_total, sum_by_key}
@@ -371,7 +372,7 @@ module _ (reading : Reading) (read : IsRead reading) (start : TableParts)
 
   shows : AllByRecursion (ShowsIt run refusals) merged.all
   shows =
-      all_map (λ (s : Shown). mark_at merged.all s.0.number ≡ s.1) (ShowsIt run refusals)
+      all_weaker (λ (s : Shown). mark_at merged.all s.0.number ≡ s.1) (ShowsIt run refusals)
       (λ s is. ap (settled refusals) is) merged.all
       (marks_found merged.all (subst AreRising (sym merged.lines_are) read.rising))
 
@@ -459,7 +460,7 @@ module _ (reading : Reading) (read : IsRead reading) (start : TableParts)
 
   clashes : AllByRecursion (λ (r : Refusal). legal.IsClash run r.clash) refusals
   clashes =
-      all_map (IsRefusal reading.config journal) (λ (r : Refusal). legal.IsClash run r.clash)
+      all_weaker (IsRefusal reading.config journal) (λ (r : Refusal). legal.IsClash run r.clash)
       (λ r refused. (r.events, refused.clash)) refusals out.end.refused
 
   kept_one : (b : Bool) → nat_lt 0 (length refusals) ≡ b → (s : Shown)

@@ -16,7 +16,7 @@ use Rattle.kp_run_defs.specs.declared.live.Work.TheVariants.{Feeds, Syncs, Sends
 use Rattle.kp_hub.specs.declared.notes.Refusal.{Refusal}
 use Rattle.kp_live.specs.Streams.{Shown, is_accepted, is_denied, seen_from, see_shown}
 use Rattle.kp_live.proofs.Merging.{line_of, is_shown_of}
-use Rattle.kp_live.proofs.Readings.{AreRising, all_map}
+use Rattle.kp_live.proofs.Readings.{AreRising}
 use Rattle.kp_live.proofs.Telling.{HasRecord, settled}
 
 -- ---- Lists

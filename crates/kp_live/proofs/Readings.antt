@@ -6,6 +6,7 @@ use Rattle.std.specs.List.{AllByRecursion, fold, sum_by}
 use Rattle.std.proofs.lemmas.Bool.Decides.{nat_tests}
 use Rattle.std.proofs.lemmas.List.Quantifiers.{position-Some}
 use Rattle.std.proofs.lemmas.List.Sums.{sum_by-append}
+use Rattle.kp_lemmas.proofs.ListFacts.{all_weaker}
 use Rattle.kp_types.specs.declared.event.Event.{Event}
 use Rattle.kp_text_defs.specs.ScriptLines.{line_of}
 use Rattle.kp_text_defs.specs.StreamNames.{stream_name}
@@ -28,11 +29,6 @@ pub all_more : {A : Type 0} (P : A → Type 0) (xs : List A) (x : A) → AllByRe
     → AllByRecursion P (xs ++ x ∷ [])
 all_more P [] x all p = (p, tt)
 all_more P (y ∷ xs) x all p = (all.0, all_more P xs x all.1 p)
-
-pub all_map : {A : Type 0} (P Q : A → Type 0) → ((x : A) → P x → Q x) → (xs : List A)
-    → AllByRecursion P xs → AllByRecursion Q xs
-all_map P Q h [] all = tt
-all_map P Q h (x ∷ xs) all = (h x all.0, all_map P Q h xs all.1)
 
 -- the numbers of lines rise
 abbrev pub AreRising : List StreamLine → Type 0
@@ -88,7 +84,7 @@ nothing_is_read = record {
 next_is : (r : Reading) → IsRead r → IsNext (next_line r)
 next_is r read = record {
   rising = read.rising;
-  numbers = all_map (λ (l : StreamLine). l.number ≤ r.number) (λ (l : StreamLine). l.number < suc r.number)
+  numbers = all_weaker (λ (l : StreamLine). l.number ≤ r.number) (λ (l : StreamLine). l.number < suc r.number)
       (λ l le. omega (arith, le)) r.lines read.numbers;
   places = read.places;
   few = read.few;
@@ -100,7 +96,7 @@ next_is r read = record {
 refused_is : (why : LineRefusal) (r : Reading) → IsNext r → IsRead (refuse_line why r)
 refused_is why r next = record {
   rising = next.rising;
-  numbers = all_map (λ (l : StreamLine). l.number < r.number) (λ (l : StreamLine). l.number ≤ r.number)
+  numbers = all_weaker (λ (l : StreamLine). l.number < r.number) (λ (l : StreamLine). l.number ≤ r.number)
       (λ l lt. omega (arith, lt)) r.lines next.numbers;
   places = next.places;
   few = next.few;
@@ -142,11 +138,11 @@ accepted_is r names stream work next more few there room =
       rising = rising_more r.lines line next.rising next.numbers;
       numbers =
           all_more (λ (l : StreamLine). l.number ≤ r.number) r.lines line
-          (all_map (λ (l : StreamLine). l.number < r.number) (λ (l : StreamLine). l.number ≤ r.number)
+          (all_weaker (λ (l : StreamLine). l.number < r.number) (λ (l : StreamLine). l.number ≤ r.number)
           (λ l lt. omega (arith, lt)) r.lines next.numbers) (omega arith);
       places =
           all_more (λ (l : StreamLine). l.stream < length names) r.lines line
-          (all_map (λ (l : StreamLine). l.stream < length r.streams)
+          (all_weaker (λ (l : StreamLine). l.stream < length r.streams)
           (λ (l : StreamLine). l.stream < length names) (λ l lt. omega (arith, lt, more)) r.lines
           next.places) there;
       few = few;
@@ -200,7 +196,7 @@ MayBe r (op.Show what) = Unit {0}
 op_is : (name : List ℕ) (o : Op) (r : Reading) → IsNext r → MayBe r o → IsRead (add_op name o r)
 op_is name (op.Config config) r next none = record {
   rising = next.rising;
-  numbers = all_map (λ (l : StreamLine). l.number < r.number) (λ (l : StreamLine). l.number ≤ r.number)
+  numbers = all_weaker (λ (l : StreamLine). l.number < r.number) (λ (l : StreamLine). l.number ≤ r.number)
       (λ l lt. omega (arith, lt)) r.lines next.numbers;
   places = next.places;
   few = next.few;
@@ -253,7 +249,7 @@ script_is r bytes read (Ok line) is =
 blank_is : (r : Reading) → IsRead r → IsRead (record r { number = suc r.number })
 blank_is r read = record {
   rising = read.rising;
-  numbers = all_map (λ (l : StreamLine). l.number ≤ r.number) (λ (l : StreamLine). l.number ≤ suc r.number)
+  numbers = all_weaker (λ (l : StreamLine). l.number ≤ r.number) (λ (l : StreamLine). l.number ≤ suc r.number)
       (λ l le. omega (arith, le)) r.lines read.numbers;
   places = read.places;
   few = read.few;

@@ -46,7 +46,7 @@ not_some : {A : Type 0} (o : Option A) → is_some o ≡ false → o ≡ None
 not_some None is = refl
 not_some (Some x) is = absurd (cc is)
 
-map_twice : {A B C : Type 0} (g : B → C) (f : A → B) (xs : List A)
+pub map_twice : {A B C : Type 0} (g : B → C) (f : A → B) (xs : List A)
     → map g (map f xs) ≡ map (λ x. g (f x)) xs
 map_twice g f [] = refl
 map_twice g f (x ∷ xs) = ap (λ l. g (f x) ∷ l) (map_twice g f xs)

@@ -20,6 +20,7 @@ use Rattle.kp_live.specs.declared.answers.Answers.{Answers}
 use Rattle.kp_live.proofs.Ending.{all_at}
 use Rattle.kp_live.proofs.Legal.{all_of_map}
 use Rattle.kp_live.proofs.Printing.{pushed_each}
+use Rattle.kp_live.proofs.Records.{map_twice}
 
 -- ---- Lists by their places
 
@@ -32,11 +33,6 @@ pub all_to_map : {A B : Type 0} (P : B → Type 0) (f : A → B) (xs : List A)
     → AllByRecursion (λ x. P (f x)) xs → AllByRecursion P (map f xs)
 all_to_map P f [] all = tt
 all_to_map P f (x ∷ xs) all = (all.0, all_to_map P f xs all.1)
-
-map_twice : {A B C : Type 0} (g : B → C) (f : A → B) (xs : List A)
-    → map g (map f xs) ≡ map (λ x. g (f x)) xs
-map_twice g f [] = refl
-map_twice g f (x ∷ xs) = ap (λ l. g (f x) ∷ l) (map_twice g f xs)
 
 -- what several clauses say of a result
 pub all_ok : {E F : Type 0} (r : Result E F) (A B C G : E → Type 0) (W : Type 0)
