@@ -9,6 +9,8 @@ pub mod OwnObjects
 pub mod Ordered
 pub mod Owners
 pub mod Rarest
+pub mod SameObjects
 pub mod Selected
 pub mod SortedEntries
+pub mod Unchanged
 pub mod Unions
