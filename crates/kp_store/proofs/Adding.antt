@@ -1,0 +1,57 @@
+-- Services that are added to those that were touched.
+use Rattle.std.proofs.Common.{◌≡◌, ◌||◌, Bool, true, false, List, refl, sym, ap, ◌∙◌}
+use mathlib.Core.Bool.{or-false}
+use Rattle.std.proofs.Math.Bool.{or-true}
+use Rattle.std.specs.List.{list_any}
+use Rattle.std.specs.Ordering.{eq_by_cmp}
+use Rattle.std.specs.FinMap.{contains_key, empty, insert}
+use Rattle.kp_base.specs.Keys.{key_cmp}
+use Rattle.kp_base.specs.declared.key.ObjectKey.{ObjectKey}
+use Rattle.kp_touch_defs.specs.Touches.{is_key}
+use Rattle.kp_store.specs.Indexes.{Keys}
+use Rattle.kp_store.specs.Touched.{AddsTo, StaysIn, is_touched}
+use Rattle.kp_store.specs.declared.touched.Touched.{Touched}
+use Rattle.kp_store.proofs.Buckets.{in_inserted}
+
+swapped : (a b c : Bool) → a || (b || c) ≡ b || (a || c)
+swapped true true c = refl
+swapped true false c = refl
+swapped false b c = refl
+
+in_turn : (a b c : Bool) → b || (a || c) ≡ (a || b) || c
+in_turn true true c = refl
+in_turn true false c = refl
+in_turn false b c = refl
+
+-- one key more
+pub one_more : (t : Touched) (new : Keys) (key : ObjectKey) → new ≡ insert t.keys key tt
+    → AddsTo (is_key key) t (record t { keys = new })
+one_more t new key is k =
+    ap (λ m. t.all || contains_key m k) is
+    ∙ ap (λ b. t.all || b) (in_inserted t.keys key k)
+    ∙ swapped t.all (eq_by_cmp key_cmp k key) (contains_key t.keys k)
+
+module _ (before after : Touched) (p : ObjectKey → Bool) (adds : AddsTo p before after) where
+  -- what was touched still is
+  pub still : StaysIn before after
+  still k there = adds k ∙ ap (λ b. p k || b) there ∙ or-true (p k)
+
+  -- where nothing was, these are all
+  pub these_alone : ((k : ObjectKey) → is_touched before k ≡ false) → (k : ObjectKey)
+      → is_touched after k ≡ p k
+  these_alone none k = adds k ∙ ap (λ b. p k || b) (none k) ∙ or-false (p k)
+
+  -- another way to say which
+  pub as_well : (q : ObjectKey → Bool) → ((k : ObjectKey) → p k ≡ q k) → AddsTo q before after
+  as_well q same k = adds k ∙ ap (λ b. b || is_touched before k) (same k)
+
+  -- others after them
+  pub and_then : (last : Touched) (q : ObjectKey → Bool) → AddsTo q after last
+      → AddsTo (λ k. p k || q k) before last
+  and_then last q more k =
+      more k ∙ ap (λ b. q k || b) (adds k) ∙ in_turn (p k) (q k) (is_touched before k)
+
+-- none are added
+pub none_added : (t : Touched) (p : ObjectKey → Bool) → ((k : ObjectKey) → p k ≡ false)
+    → AddsTo p t t
+none_added t p none k = ap (λ b. b || is_touched t k) (sym (none k))
