@@ -1,17 +1,18 @@
 -- Services that are added to those that were touched.
-use Rattle.std.proofs.Common.{◌≡◌, ◌||◌, Bool, true, false, List, refl, sym, ap, ◌∙◌}
+use Rattle.std.proofs.Common.{◌≡◌, ◌||◌, Bool, true, false, refl, sym, ap, ◌∙◌}
 use mathlib.Core.Bool.{or-false}
 use Rattle.std.proofs.Math.Bool.{or-true}
-use Rattle.std.specs.List.{list_any}
 use Rattle.std.specs.Ordering.{eq_by_cmp}
-use Rattle.std.specs.FinMap.{contains_key, empty, insert}
+use Rattle.std.specs.FinMap.{contains_key, insert}
 use Rattle.kp_base.specs.Keys.{key_cmp}
 use Rattle.kp_base.specs.declared.key.ObjectKey.{ObjectKey}
 use Rattle.kp_touch_defs.specs.Touches.{is_key}
 use Rattle.kp_store.specs.Indexes.{Keys}
 use Rattle.kp_store.specs.Touched.{AddsTo, StaysIn, is_touched}
 use Rattle.kp_store.specs.declared.touched.Touched.{Touched}
-use Rattle.kp_store.proofs.Buckets.{in_inserted}
+use Rattle.kp_store.proofs.Buckets.{in_inserted, or_later}
+
+-- ---- truth values
 
 swapped : (a b c : Bool) → a || (b || c) ≡ b || (a || c)
 swapped true true c = refl
@@ -23,13 +24,36 @@ in_turn true true c = refl
 in_turn true false c = refl
 in_turn false b c = refl
 
--- one key more
-pub one_more : (t : Touched) (new : Keys) (key : ObjectKey) → new ≡ insert t.keys key tt
-    → AddsTo (is_key key) t (record t { keys = new })
-one_more t new key is k =
-    ap (λ m. t.all || contains_key m k) is
-    ∙ ap (λ b. t.all || b) (in_inserted t.keys key k)
-    ∙ swapped t.all (eq_by_cmp key_cmp k key) (contains_key t.keys k)
+paired : (a b c d : Bool) → (a || b) || (c || d) ≡ (b || c) || (a || d)
+paired true true c d = refl
+paired true false true d = refl
+paired true false false d = refl
+paired false true c d = refl
+paired false false c d = refl
+
+-- ---- Services
+
+module _ (t : Touched) (new : Keys) where
+  -- one key more
+  pub one_more : (key : ObjectKey) → new ≡ insert t.keys key tt
+      → AddsTo (is_key key) t (record t { keys = new })
+  one_more key is k =
+      ap (λ m. t.all || contains_key m k) is
+      ∙ ap (λ b. t.all || b) (in_inserted t.keys key k)
+      ∙ swapped t.all (eq_by_cmp key_cmp k key) (contains_key t.keys k)
+
+  -- other keys and what was touched
+  pub joined : (others : Touched)
+      → ((k : ObjectKey) → contains_key new k ≡ contains_key others.keys k || contains_key t.keys k)
+      → AddsTo (is_touched others) t (record { all = t.all || others.all; keys = new })
+  joined others is k =
+      ap (λ b. (t.all || others.all) || b) (is k)
+      ∙ paired t.all others.all (contains_key others.keys k) (contains_key t.keys k)
+
+  -- keys of which none is lost
+  pub none_lost : ((k : ObjectKey) → contains_key t.keys k ≡ true → contains_key new k ≡ true)
+      → StaysIn t (record t { keys = new })
+  none_lost kept k = or_later t.all (contains_key t.keys k) (contains_key new k) (kept k)
 
 module _ (before after : Touched) (p : ObjectKey → Bool) (adds : AddsTo p before after) where
   -- what was touched still is

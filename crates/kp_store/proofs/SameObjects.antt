@@ -1,5 +1,5 @@
 -- The tests of pods, nodes and slices are true at equal ones alone, and at all equal slices.
-use Rattle.std.proofs.Common.{◌≡◌, ℕ, ◌&&◌, Bool, true, false, List, Option, Some, None, bytes_eq, refl, sym, ap, ◌∙◌}
+use Rattle.std.proofs.Common.{◌≡◌, ◌↔◌, ℕ, ◌&&◌, Bool, true, false, List, Option, Some, None, bytes_eq, refl, sym, ap, ◌∙◌}
 use Rattle.std.specs.Option.{option_eq}
 use Rattle.std.specs.Cmp.Lexicographic.{pointwise, nat_list_eq_equiv}
 use Rattle.std.proofs.lemmas.Bool.{false≢true, and_from, and_parts}
@@ -25,6 +25,12 @@ use Rattle.kp_object_defs.specs.Packing.{same_entry, same_flag, same_object, sam
 use Rattle.kp_pack_laws.proofs.Ports.{ports_exact}
 use Rattle.kp_pack_laws.proofs.Settled.{entries_same}
 use Rattle.kp_store.specs.SameSlice.{same_head, same_slice}
+
+-- a test that is true at equal values alone, and at all of these, tells whether they are one
+pub tells_same : {X : Type 0} (test : X → X → Bool) → IsExact test → ((x : X) → test x x ≡ true)
+    → (a b : X) (r : Bool) → r ≡ test a b → (r ≡ true) ↔ (a ≡ b)
+tells_same test exact itself a b r is =
+    ((λ h. exact a b (sym is ∙ h)), (λ same. is ∙ ap (test a) (sym same) ∙ itself a))
 
 -- ---- Pods and nodes
 

@@ -1,7 +1,6 @@
 -- An apply of what is stored leaves the objects, and so does a delete of what isn't there. No other
 -- event does.
 use Rattle.std.proofs.Common.{◌≡◌, ◌↔◌, Bool, true, false, not, cond, Option, Some, None, is_some, refl, sym, ap, ◌∙◌}
-use Rattle.std.proofs.lemmas.Bool.{both_ways}
 use Rattle.std.specs.Ordering.{eq_by_cmp}
 use Rattle.std.specs.FinMap.{FinMap, contains_key, get, get-insert, get-remove, insert, remove, same_map}
 use Rattle.kp_lemmas.proofs.Orders.{one_from_tie, tie_of_itself}
@@ -16,6 +15,10 @@ use Rattle.kp_object_defs.specs.Objects.{Objects, node_key, with_object, without
 use Rattle.kp_store.specs.Unchanged.{IsStored, is_there}
 
 -- ---- one map
+
+nothing : {X : Type 0} (o : Option X) → is_some o ≡ false → o ≡ None
+nothing None none = refl
+nothing (Some x) none = absurd (cc)
 
 module _ {X : Type 0} (m : FinMap key_cmp X) (key : ObjectKey) where
   put_at : (x : X) → get m key ≡ Some x → (q : ObjectKey) (b : Bool) → eq_by_cmp key_cmp q key ≡ b
@@ -32,10 +35,6 @@ module _ {X : Type 0} (m : FinMap key_cmp X) (key : ObjectKey) where
     ∙ get-insert key_total m key x key
     ∙ ap (λ b. cond b (Some x) (get m key)) (tie_of_itself key_total key)),
   )
-
-  nothing : (o : Option X) → is_some o ≡ false → o ≡ None
-  nothing None none = refl
-  nothing (Some x) none = absurd (cc)
 
   taken_at : get m key ≡ None → (q : ObjectKey) (b : Bool) → eq_by_cmp key_cmp q key ≡ b
       → cond b None (get m q) ≡ get m q
@@ -90,14 +89,13 @@ absent_stay o kind.Node key =
 
 -- ---- tests
 
--- a test fails where something isn't so
-pub tells_not : {P Q : Type 0} (b : Bool) → (b ≡ true) ↔ P → P ↔ Q → (not b ≡ true) ↔ ¬ Q
-tells_not true is same =
-    ((λ h. absurd (cc)), (λ no. absurd (no (same.0 (is.0 refl)))))
-tells_not false is same =
-    ((λ h q. both_ways false refl (is.1 (same.1 q))), (λ no. refl))
+-- a test that fails where another holds, which holds where something is so
+pub fails_where : {P Q : Type 0} (b : Bool) → (b ≡ true) ↔ P → P ↔ Q → (not b ≡ false) ↔ Q
+fails_where true is same = ((λ h. same.0 (is.0 refl)), (λ q. refl))
+fails_where false is same = ((λ h. absurd (cc)), (λ q. ap not (is.1 (same.1 q))))
 
--- and holds where its failure isn't so
-pub tells_other : {Q : Type 0} (b : Bool) → (b ≡ false) ↔ Q → (b ≡ true) ↔ ¬ Q
-tells_other true same = ((λ h q. both_ways true (same.1 q) refl), (λ no. refl))
-tells_other false same = ((λ h. absurd (cc)), (λ no. absurd (no (same.0 refl))))
+-- a test of what was found is one of what there is
+pub of_found : {X : Type 0} {b : Bool} {o p : Option X} {x y : X} → o ≡ p → x ≡ y
+    → (b ≡ true) ↔ (o ≡ Some x) → (b ≡ true) ↔ (p ≡ Some y)
+of_found found same is =
+    ((λ h. sym found ∙ is.0 h ∙ ap Some same), (λ e. is.1 (found ∙ e ∙ ap Some (sym same))))

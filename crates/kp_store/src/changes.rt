@@ -1,7 +1,6 @@
 //! Whether an event changes the objects.
-ghost use Rattle.std.specs.Prelude.{◌≡◌, ◌&&◌, ◌↔◌, Some, IsTrue, bytes_eq, option_copied};
+ghost use Rattle.std.specs.Prelude.{◌≡◌, ◌&&◌, ◌↔◌, Some, IsFalse, IsTrue, bytes_eq, option_copied};
 ghost use Rattle.std.specs.Cmp.Lexicographic.{pointwise};
-ghost use Rattle.std.specs.Option.{option_eq};
 ghost use Rattle.kp_object_defs.specs.Objects.{objects_step};
 ghost use Rattle.kp_object_defs.specs.Packing as packing;
 ghost use Rattle.kp_object_defs.specs.Packing.{same_flag, same_object, same_option};
@@ -16,7 +15,7 @@ impl Objects {
     /// Whether an event changes any object: not where it brings an object that is equal to the
     /// stored one, and not where it deletes one that isn't there. One object is compared.
     pub fn changes(&self, event: &Event) -> bool
-        ensures { IsTrue result ↔ ¬ (objects_step self.now event.now ≡ self.now) }
+        ensures { IsFalse result ↔ (objects_step self.now event.now ≡ self.now) }
     {
         match event {
             Event::Apply(object) => !is_stored(self, object),
@@ -30,10 +29,22 @@ fn is_stored(objects: &Objects, object: &Object) -> bool
     ensures { IsTrue result ↔ unchanged.IsStored objects.now object.now }
 {
     match object {
-        Object::Service(s) => is_one(objects.service(&s.get().key), s.get()),
-        Object::EndpointSlice(s) => is_one(objects.slice(&s.get().key), s.get()),
-        Object::Pod(p) => is_one(objects.pod(&p.get().key), p.get()),
-        Object::Node(n) => is_one(objects.node(&n.get().name), n.get()),
+        Object::Service(kept) => {
+            let service = kept.get();
+            is_one(objects.service(&service.key), service)
+        }
+        Object::EndpointSlice(kept) => {
+            let slice = kept.get();
+            is_one(objects.slice(&slice.key), slice)
+        }
+        Object::Pod(kept) => {
+            let pod = kept.get();
+            is_one(objects.pod(&pod.key), pod)
+        }
+        Object::Node(kept) => {
+            let node = kept.get();
+            is_one(objects.node(&node.name), node)
+        }
     }
 }
 

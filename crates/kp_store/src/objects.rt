@@ -194,8 +194,10 @@ impl Objects {
     }
 
     /// The keys of the Services that select a pod, which may be one that an event brings, in order.
+    /// Each object stands under its own key.
     pub fn services_selecting(&self, alloc: Global, pod: &Pod) -> Result<Items<ObjectKey>, NoMemory>
-        ensures { IfOk result (λ ks. ks ≡ find.services_selecting self.now pod.now) }
+        ensures found { IfOk result (λ ks. ks ≡ find.services_selecting self.now pod.now) }
+        ensures own_keys { AreUnderOwnKeys self.now }
     {
         let tags = selected_by(alloc, pod)?;
         let found = self.services.found_any(alloc, tags.as_slice())?;

@@ -51,7 +51,8 @@ impl Touched {
         self.keys.put(key)
     }
 
-    /// Adds the Services of keys.
+    /// Adds the Services of keys. Where memory is out, some may be added, and all that were touched
+    /// still are.
     pub fn add_each(&mut self, alloc: Global, keys: &[ObjectKey]) -> Result<(), NoMemory>
         ensures ok { OnOk result (AddsTo (λ k. list_any (eq_by_cmp key_cmp k) keys.now)
             self.old self.new) }
@@ -63,16 +64,14 @@ impl Touched {
         Ok(())
     }
 
-    /// Adds those that others are. Where memory is out, all that were touched still are.
+    /// Adds others. Where memory is out, some may be added, and all that were touched still are.
     pub fn join(&mut self, alloc: Global, others: &Touched) -> Result<(), NoMemory>
         ensures ok { OnOk result (AddsTo (is_touched others.now) self.old self.new) }
         ensures err { OnErr result (StaysIn self.old self.new) }
     {
         let keys = others.keys.keys(alloc)?;
         self.keys.put_all(alloc, keys.as_slice())?;
-        if others.all {
-            self.all = true;
-        }
+        self.all = self.all || others.all;
         Ok(())
     }
 }

@@ -1,5 +1,5 @@
 //! Which Services an event touches.
-ghost use Rattle.std.specs.Prelude.{◌≡◌, ◌&&◌, ◌↔◌, bytes_eq, OnOk, OnErr, IfOk, IsTrue, option_copied};
+ghost use Rattle.std.specs.Prelude.{◌≡◌, ◌&&◌, ◌↔◌, bytes_eq, OnOk, OnErr, IfOk, IsFalse, option_copied};
 ghost use Rattle.std.specs.Option.{option_eq};
 ghost use Rattle.kp_base.specs.declared.key.ObjectKey.{ObjectKey};
 ghost use Rattle.kp_object_defs.specs.Objects.{objects_step};
@@ -9,8 +9,8 @@ ghost use Rattle.kp_touch_defs.specs.Touches as spec;
 use crate::indexed::Tagged;
 use crate::objects::Objects;
 use crate::touched::Touched;
-use kp_base::{Config, Copied, Items, NoMemory, ObjectKey, Text};
-use kp_types::{Event, Kind, Object, Pod, Slice};
+use kp_base::{Config, Copied, NoMemory, ObjectKey, Text};
+use kp_types::{Event, Kind, Node, Object, Pod, Slice};
 use std::alloc::Global;
 
 impl Objects {
@@ -25,21 +25,22 @@ impl Objects {
         touched: &mut Touched,
     ) -> Result<bool, NoMemory>
         ensures changed { IfOk result (λ changed.
-            IsTrue changed ↔ ¬ (objects_step self.old event.now ≡ self.old)) }
+            IsFalse changed ↔ (objects_step self.old event.now ≡ self.old)) }
         ensures ok { OnOk result (self.new ≡ objects_step self.old event.now) }
-        ensures touched { IfOk result (λ changed. AddsTo
+        ensures adds { IfOk result (λ changed. AddsTo
             (λ k. changed && spec.touches config.now.node config.now.controller self.old event.now k)
             touched.old touched.new) }
         ensures err { OnErr result (self.new ≡ self.old) }
         ensures stay { OnErr result (StaysIn touched.old touched.new) }
     {
-        if !self.changes(event) {
-            return Ok(false);
+        if self.changes(event) {
+            let new = touched_by(alloc, config, self, event)?;
+            touched.join(alloc, &new)?;
+            self.apply(alloc, event)?;
+            Ok(true)
+        } else {
+            Ok(false)
         }
-        let new = touched_by(alloc, config, self, event)?;
-        touched.join(alloc, &new)?;
-        self.apply(alloc, event)?;
-        Ok(true)
     }
 }
 
@@ -54,13 +55,26 @@ fn touched_by(
         ≡ spec.touches config.now.node config.now.controller objects.now event.now k) }
 {
     let mut touched = Touched::new(alloc);
-    match event {
-        Event::Apply(object) => add_applied(alloc, config, objects, object, &mut touched)?,
-        Event::Delete { kind, key } => {
-            add_deleted(alloc, config, objects, *kind, key, &mut touched)?;
-        }
-    }
+    add_by_event(alloc, config, objects, event, &mut touched)?;
     Ok(touched)
+}
+
+/// Adds the Services that an event touches.
+fn add_by_event(
+    alloc: Global,
+    config: &Config,
+    objects: &Objects,
+    event: &Event,
+    touched: &mut Touched,
+) -> Result<(), NoMemory>
+    ensures { OnOk result (AddsTo
+        (spec.touches config.now.node config.now.controller objects.now event.now)
+        touched.old touched.new) }
+{
+    match event {
+        Event::Apply(object) => add_applied(alloc, config, objects, object, touched),
+        Event::Delete { kind, key } => add_deleted(alloc, config, objects, *kind, key, touched),
+    }
 }
 
 /// Adds the Services that an apply touches.
@@ -76,18 +90,18 @@ fn add_applied(
         touched.old touched.new) }
 {
     match object {
-        Object::Service(s) => touched.add(s.get().key.copy(alloc)?),
-        Object::EndpointSlice(s) => {
-            let before = objects.slice(&s.get().key);
-            add_named(alloc, before, Some(s.get()), touched)
+        Object::Service(kept) => touched.add(kept.get().key.copy(alloc)?),
+        Object::EndpointSlice(kept) => {
+            let slice = kept.get();
+            add_named(alloc, objects.slice(&slice.key), Some(slice), touched)
         }
-        Object::Pod(p) => {
-            let before = objects.pod(&p.get().key);
-            add_selecting(alloc, config, objects, before, Some(p.get()), touched)
+        Object::Pod(kept) => {
+            let pod = kept.get();
+            add_selecting(alloc, config, objects, objects.pod(&pod.key), Some(pod), touched)
         }
-        Object::Node(n) => {
-            let zone = n.get().zone.as_ref();
-            add_by_zone(alloc, config, objects, &n.get().name, zone, touched)
+        Object::Node(kept) => {
+            let node = kept.get();
+            add_by_zone(alloc, config, objects, &node.name, node.zone.as_ref(), touched)
         }
     }
 }
@@ -109,10 +123,7 @@ fn add_deleted(
         Kind::Service => touched.add(key.copy(alloc)?),
         Kind::EndpointSlice => add_named(alloc, objects.slice(key), None, touched),
         Kind::Pod => add_selecting(alloc, config, objects, objects.pod(key), None, touched),
-        Kind::Node => match objects.node_at(key) {
-            Some(node) => add_by_zone(alloc, config, objects, &node.name, None, touched),
-            None => Ok(()),
-        },
+        Kind::Node => add_lost_node(alloc, config, objects, objects.node_at(key), touched),
     }
 }
 
@@ -142,7 +153,7 @@ fn add_named_by(
 {
     match slice {
         Some(slice) => {
-            let owners: Items<ObjectKey> = slice.tags(alloc)?;
+            let owners = slice.tags(alloc)?;
             touched.add_each(alloc, owners.as_slice())
         }
         None => Ok(()),
@@ -184,6 +195,23 @@ fn add_selecting_one(
             let keys = objects.services_selecting(alloc, pod)?;
             touched.add_each(alloc, keys.as_slice())
         }
+        None => Ok(()),
+    }
+}
+
+/// Adds the Services that a node touches that goes, if there is one.
+fn add_lost_node(
+    alloc: Global,
+    config: &Config,
+    objects: &Objects,
+    node: Option<&Node>,
+    touched: &mut Touched,
+) -> Result<(), NoMemory>
+    ensures { OnOk result (AddsTo (spec.lost_node_touches config.now.node config.now.controller
+        objects.now (option_copied node.entry)) touched.old touched.new) }
+{
+    match node {
+        Some(node) => add_by_zone(alloc, config, objects, &node.name, None, touched),
         None => Ok(()),
     }
 }
