@@ -1,6 +1,8 @@
 -- An apply of what is stored leaves the objects, and so does a delete of what isn't there. No other
 -- event does.
 use Rattle.std.proofs.Common.{◌≡◌, ◌↔◌, Bool, true, false, not, cond, Option, Some, None, is_some, refl, sym, ap, ◌∙◌}
+use Rattle.std.proofs.lemmas.Bool.{false≢true}
+use Rattle.std.proofs.lemmas.Option.{none-some, same_Some}
 use Rattle.std.specs.Ordering.{eq_by_cmp}
 use Rattle.std.specs.FinMap.{FinMap, contains_key, get, get-insert, get-remove, insert, remove, same_map}
 use Rattle.kp_lemmas.proofs.Orders.{one_from_tie, tie_of_itself}
@@ -93,6 +95,15 @@ absent_stay o kind.Node key =
 pub fails_where : {P Q : Type 0} (b : Bool) → (b ≡ true) ↔ P → P ↔ Q → (not b ≡ false) ↔ Q
 fails_where true is same = ((λ h. same.0 (is.0 refl)), (λ q. refl))
 fails_where false is same = ((λ h. absurd (cc)), (λ q. ap not (is.1 (same.1 q))))
+
+-- a test of values is one of what there is of them
+pub of_some : {X : Type 0} {b : Bool} {x y : X} → (b ≡ true) ↔ (x ≡ y)
+    → (b ≡ true) ↔ (Some x ≡ Some y)
+of_some is = ((λ h. ap Some (is.0 h)), (λ e. is.1 (same_Some _ _ e)))
+
+-- what isn't there is no value
+pub of_none : {X : Type 0} (x : X) → (false ≡ true) ↔ (None ≡ Some x)
+of_none x = ((λ h. absurd (false≢true h)), (λ e. absurd (none-some x e)))
 
 -- a test of what was found is one of what there is
 pub of_found : {X : Type 0} {b : Bool} {o p : Option X} {x y : X} → o ≡ p → x ≡ y

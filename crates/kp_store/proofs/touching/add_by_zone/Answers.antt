@@ -1,4 +1,4 @@
-use Rattle.std.proofs.Common.{◌≡◌, ◌&&◌, not, bytes_eq, OnOk, sym, ap, subst, ◌∙◌}
+use Rattle.std.proofs.Common.{◌≡◌, ◌&&◌, not, bytes_eq, OnOk, option_copied, sym, ap, subst, ◌∙◌}
 use Rattle.std.specs.Option.{option_eq}
 use Rattle.kp_object_defs.specs.Objects.{zone_of}
 use Rattle.kp_touch_defs.specs.Touches.{zone_touches}
@@ -11,7 +11,7 @@ returns-then-is_same_zone c =
     let config = c.args.config.now in
     let o = c.args.objects.now in
     let name = c.args.name.now in
-    let zone = option_copied c.args.zone.entry in
+    let zone = option_copied c.args.zone in
     let touches = zone_touches config.node config.controller o name in
     none_added c.args.touched.now (λ k. not (option_eq bytes_eq (zone_of o name) zone) && touches k)
     (λ k. ap (λ b. not b && touches k)
@@ -23,7 +23,7 @@ returns-else-is_same_zone c =
     let config = c.args.config.now in
     let o = c.args.objects.now in
     let name = c.args.name.now in
-    let zone = option_copied c.args.zone.entry in
+    let zone = option_copied c.args.zone in
     let touches = zone_touches config.node config.controller o name in
     subst
     (λ b. OnOk c.add_of_node.result (AddsTo (λ k. not b && touches k) c.args.touched.now c.add_of_node.new.touched))

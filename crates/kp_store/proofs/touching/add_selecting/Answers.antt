@@ -1,6 +1,5 @@
-use Rattle.std.proofs.Common.{◌&&◌, ◌||◌, OnOk, sym, ap, subst}
+use Rattle.std.proofs.Common.{◌&&◌, ◌||◌, OnOk, option_copied, sym, ap, subst}
 use Rattle.std.proofs.lemmas.Result.{on_ok_weaker}
-use Rattle.kp_base.specs.declared.key.ObjectKey.{ObjectKey}
 use Rattle.kp_touch_defs.specs.Touches.{is_selected}
 use Rattle.kp_store.specs.Touched.{AddsTo}
 use Rattle.kp_store.proofs.Adding.{and_then, none_added}
@@ -9,8 +8,8 @@ use Rattle.kp_store.proofs.touching.add_selecting.Goals as goal
 pub returns-then-config-controller : goal.returns-then-config-controller
 returns-then-config-controller c =
     let o = c.args.objects.now in
-    let before = is_selected o (option_copied c.args.before.entry) in
-    let after = is_selected o (option_copied c.args.after.entry) in
+    let before = is_selected o (option_copied c.args.before) in
+    let after = is_selected o (option_copied c.args.after) in
     let old = c.args.touched.now in
     let new = c.add_selecting_one-2.new.touched in
     subst
@@ -23,7 +22,7 @@ returns-then-config-controller c =
 pub returns-else-config-controller : goal.returns-else-config-controller
 returns-else-config-controller c =
     let o = c.args.objects.now in
-    let before = is_selected o (option_copied c.args.before.entry) in
-    let after = is_selected o (option_copied c.args.after.entry) in
+    let before = is_selected o (option_copied c.args.before) in
+    let after = is_selected o (option_copied c.args.after) in
     none_added c.args.touched.now (λ k. c.args.config.now.controller && (before k || after k))
     (λ k. ap (λ b. b && (before k || after k)) c.if-config-controller.false)

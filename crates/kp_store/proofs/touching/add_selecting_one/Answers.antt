@@ -1,4 +1,4 @@
-use Rattle.std.proofs.Common.{◌≡◌, Option, Some, None, refl, ap, ◌∙◌}
+use Rattle.std.proofs.Common.{◌≡◌, Option, Some, None, OnOk, option_copied, refl, sym, ap, subst, ◌∙◌, Bor}
 use Rattle.std.proofs.lemmas.Result.{on_ok_weaker}
 use Rattle.std.specs.FinMap as finite
 use Rattle.std.specs.List.{list_any}
@@ -8,27 +8,35 @@ use Rattle.kp_types.specs.declared.pod.Pod.{Pod}
 use Rattle.kp_types.specs.declared.service.Service.{Service}
 use Rattle.kp_object_defs.specs.Desired.{selects}
 use Rattle.kp_touch_defs.specs.Touches.{is_selected, selects_pod}
+use Rattle.kp_store.specs.Touched.{AddsTo}
 use Rattle.kp_store.proofs.Adding.{as_well}
 use Rattle.kp_store.proofs.Found.{passes, passing_keys}
 use Rattle.kp_store.proofs.touching.add_selecting_one.Goals as goal
 
--- a Service, if there is one, passes the test where it selects the pod
-selecting : (pod : Pod) (o : Option Service) → passes (λ s. selects s pod) o ≡ selects_pod o pod
+-- a Service, if there is one, passes where it selects the pod
+selecting : (pod : Pod) (s : Option Service) → passes (λ s. selects s pod) s ≡ selects_pod s pod
 selecting pod None = refl
 selecting pod (Some s) = refl
 
 pub returns-in-Some : goal.returns-in-Some
 returns-in-Some c =
     let o = c.args.objects.now in
+    let old = c.args.touched.now in
+    let new = c.add_each.new.self in
     let pod = c.in-Some.pod.now in
-    on_ok_weaker c.add_each.result (λ adds.
-    as_well c.args.touched.now c.add_each.new.self
-    (λ k. list_any (eq_by_cmp key_cmp k) c.as_slice.result.now) adds
-    (is_selected o (Some pod)) (λ k.
+    let listed = c.as_slice.result.now in
+    subst
+    (λ (p : Option (Bor Pod)). OnOk c.add_each.result (AddsTo (is_selected o (option_copied p)) old new))
+    (sym c.in-Some.is)
+    (on_ok_weaker c.add_each.result (λ adds.
+    as_well old new (λ k. list_any (eq_by_cmp key_cmp k) listed) adds (is_selected o (Some pod)) (λ k.
     ap (list_any (eq_by_cmp key_cmp k)) (c.as_slice.ensures ∙ c.in_ok-keys.ensures.found)
     ∙ passing_keys (λ (s : Service). s.key) (λ s. selects s pod) o.services
     c.in_ok-keys.ensures.own_keys.services k
-    ∙ selecting pod (finite.get o.services k))) c.add_each.ensures.ok
+    ∙ selecting pod (finite.get o.services k))) c.add_each.ensures.ok)
 
 pub returns-in-None : goal.returns-in-None
-returns-in-None c = λ k. refl
+returns-in-None c =
+    let old = c.args.touched.now in
+    subst (λ (p : Option (Bor Pod)). AddsTo (is_selected c.args.objects.now (option_copied p)) old old)
+    (sym c.in-None.is) (λ k. refl)

@@ -3,7 +3,7 @@ use Rattle.kp_object_defs.specs.Objects.{objects_step}
 use Rattle.kp_touch_defs.specs.Touches.{touches}
 use Rattle.kp_store.specs.Touched.{is_touched}
 use Rattle.kp_store.proofs.Adding.{as_well, still}
-use Rattle.kp_store.proofs.touching.Objects.apply_touching.Goals as goal
+use Rattle.kp_store.proofs.objects.Objects.apply_touching.Goals as goal
 
 pub returns-then-changes-clause-changed : goal.returns-then-changes-clause-changed
 returns-then-changes-clause-changed c =
