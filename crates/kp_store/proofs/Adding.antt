@@ -1,5 +1,5 @@
 -- Services that are added to those that were touched.
-use Rattle.std.proofs.Common.{◌≡◌, ◌||◌, Bool, true, false, refl, sym, ap, ◌∙◌}
+use Rattle.std.proofs.Common.{◌≡◌, ◌||◌, Bool, true, false, Result, Ok, Err, OnErr, refl, sym, ap, ◌∙◌}
 use mathlib.Core.Bool.{or-false}
 use Rattle.std.proofs.Math.Bool.{or-true}
 use Rattle.std.specs.Ordering.{eq_by_cmp}
@@ -51,14 +51,17 @@ module _ (t : Touched) (new : Keys) where
       ∙ paired t.all others.all (contains_key others.keys k) (contains_key t.keys k)
 
   -- keys of which none is lost
-  pub none_lost : ((k : ObjectKey) → contains_key t.keys k ≡ true → contains_key new k ≡ true)
-      → StaysIn t (record t { keys = new })
-  none_lost kept k = or_later t.all (contains_key t.keys k) (contains_key new k) (kept k)
+  pub none_lost : {T E : Type 0} (r : Result T E)
+      → ((k : ObjectKey) → contains_key t.keys k ≡ true → contains_key new k ≡ true)
+      → OnErr r (StaysIn t (record t { keys = new }))
+  none_lost (Ok x) kept = tt
+  none_lost (Err e) kept = λ k. or_later t.all (contains_key t.keys k) (contains_key new k) (kept k)
 
 module _ (before after : Touched) (p : ObjectKey → Bool) (adds : AddsTo p before after) where
   -- what was touched still is
-  pub still : StaysIn before after
-  still k there = adds k ∙ ap (λ b. p k || b) there ∙ or-true (p k)
+  pub still : {T E : Type 0} (r : Result T E) → OnErr r (StaysIn before after)
+  still (Ok x) = tt
+  still (Err e) = λ k there. adds k ∙ ap (λ b. p k || b) there ∙ or-true (p k)
 
   -- where nothing was, these are all
   pub these_alone : ((k : ObjectKey) → is_touched before k ≡ false) → (k : ObjectKey)

@@ -199,8 +199,9 @@ impl Objects {
         ensures found { IfOk result (λ ks. ks ≡ find.services_selecting self.now pod.now) }
         ensures own_keys { AreUnderOwnKeys self.now }
     {
+        let services = &self.services;
         let tags = selected_by(alloc, pod)?;
-        let found = self.services.found_any(alloc, tags.as_slice())?;
+        let found = services.found_any(alloc, tags.as_slice())?;
         keys_selecting(alloc, found.as_slice(), pod)
     }
 

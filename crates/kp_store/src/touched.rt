@@ -71,7 +71,7 @@ impl Touched {
     {
         let keys = others.keys.keys(alloc)?;
         self.keys.put_all(alloc, keys.as_slice())?;
-        self.all = self.all || others.all;
+        self.all |= others.all;
         Ok(())
     }
 }

@@ -9,8 +9,8 @@ use Rattle.kp_touch_defs.specs.Touches.{apply_touches, is_key, node_touches, pod
 use Rattle.kp_store.specs.Touched.{AddsTo}
 use Rattle.kp_store.proofs.touching.add_applied.Goals as goal
 
-pub returns-in-Service : goal.returns-in-Service
-returns-in-Service c =
+pub returns-in_ok-copy-in-Service : goal.returns-in_ok-copy-in-Service
+returns-in_ok-copy-in-Service c =
     let config = c.args.config.now in
     let o = c.args.objects.now in
     let old = c.args.touched.now in
@@ -18,7 +18,7 @@ returns-in-Service c =
     let by = apply_touches config.node config.controller o in
     subst (λ (x : Object). OnOk c.add.result (AddsTo (by x) old new)) (sym c.in-Service.is)
     (subst (λ key. OnOk c.add.result (AddsTo (is_key key) old new))
-    (c.in_ok-copy.ensures ∙ ap (λ (x : Service). x.key) c.get.ensures) c.add.ensures.ok)
+    (c.in_ok-copy-in-Service.ensures ∙ ap (λ (x : Service). x.key) c.get.ensures) c.add.ensures.ok)
 
 pub returns-in-EndpointSlice : goal.returns-in-EndpointSlice
 returns-in-EndpointSlice c =
@@ -63,4 +63,4 @@ returns-in-Node c =
     c.get-node.ensures
     (subst
     (λ zone. OnOk c.add_by_zone.result (AddsTo (node_touches config.node config.controller o c.get-node.result.now.name zone) old new))
-    c.as_ref.ensures c.add_by_zone.ensures))
+    c.as_ref.ensures.value c.add_by_zone.ensures))

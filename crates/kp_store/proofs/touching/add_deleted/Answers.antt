@@ -4,15 +4,15 @@ use Rattle.kp_touch_defs.specs.Touches.{delete_touches, is_key, lost_node_touche
 use Rattle.kp_store.specs.Touched.{AddsTo}
 use Rattle.kp_store.proofs.touching.add_deleted.Goals as goal
 
-pub returns-in-Service : goal.returns-in-Service
-returns-in-Service c =
+pub returns-in_ok-copy-in-Service : goal.returns-in_ok-copy-in-Service
+returns-in_ok-copy-in-Service c =
     let config = c.args.config.now in
     let o = c.args.objects.now in
     let old = c.args.touched.now in
     let new = c.add.new.self in
     let by = λ (of : Kind). delete_touches config.node config.controller o of c.args.key.now in
     subst (λ (of : Kind). OnOk c.add.result (AddsTo (by of) old new)) (sym c.in-Service.is)
-    (subst (λ key. OnOk c.add.result (AddsTo (is_key key) old new)) c.in_ok-copy.ensures
+    (subst (λ key. OnOk c.add.result (AddsTo (is_key key) old new)) c.in_ok-copy-in-Service.ensures
     c.add.ensures.ok)
 
 pub returns-in-EndpointSlice : goal.returns-in-EndpointSlice

@@ -11,8 +11,8 @@ use Rattle.kp_store.proofs.Adding.{as_well}
 use Rattle.kp_store.proofs.Owners.{owned}
 use Rattle.kp_store.proofs.touching.add_named_by.Goals as goal
 
-pub returns-in-Some : goal.returns-in-Some
-returns-in-Some c =
+pub returns-in_ok-owners-in-Some : goal.returns-in_ok-owners-in-Some
+returns-in_ok-owners-in-Some c =
     let old = c.args.touched.now in
     let new = c.add_each.new.self in
     let slice = c.in-Some.slice.now in
@@ -22,7 +22,7 @@ returns-in-Some c =
     (sym c.in-Some.is)
     (on_ok_weaker c.add_each.result (λ adds.
     as_well old new (λ k. list_any (eq_by_cmp key_cmp k) listed) adds (λ k. is_of_service k slice) (λ k.
-    ap (list_any (eq_by_cmp key_cmp k)) (c.as_slice.ensures ∙ c.in_ok-owners.ensures)
+    ap (list_any (eq_by_cmp key_cmp k)) (c.as_slice.ensures ∙ c.in_ok-owners-in-Some.ensures)
     ∙ owned k slice)) c.add_each.ensures.ok)
 
 pub returns-in-None : goal.returns-in-None

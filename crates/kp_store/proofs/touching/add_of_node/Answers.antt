@@ -12,8 +12,8 @@ returns-then-eq c =
     (zone_touches config.node config.controller c.args.objects.now c.args.name.now)
     (λ k. ap (λ b. b || (config.controller && on k)) (sym c.if-eq.true ∙ c.eq.ensures))
 
-pub returns-else-eq+then-config-controller : goal.returns-else-eq+then-config-controller
-returns-else-eq+then-config-controller c =
+pub returns-then-config : goal.returns-then-config
+returns-then-config c =
     let config = c.args.config.now in
     let on = selects_on c.args.objects.now c.args.name.now in
     let old = c.args.touched.now in
@@ -21,13 +21,13 @@ returns-else-eq+then-config-controller c =
     subst (λ a. OnOk c.add_selecting_on.result (AddsTo (λ k. a || (config.controller && on k)) old new))
     (sym c.if-eq.false ∙ c.eq.ensures)
     (subst (λ b. OnOk c.add_selecting_on.result (AddsTo (λ k. b && on k) old new))
-    (sym c.if-config-controller.true) c.add_selecting_on.ensures)
+    (sym c.if-config.true) c.add_selecting_on.ensures)
 
-pub returns-else-eq+else-config-controller : goal.returns-else-eq+else-config-controller
-returns-else-eq+else-config-controller c =
+pub returns-else-config : goal.returns-else-config
+returns-else-config c =
     let config = c.args.config.now in
     let on = selects_on c.args.objects.now c.args.name.now in
     none_added c.args.touched.now
     (zone_touches config.node config.controller c.args.objects.now c.args.name.now)
     (λ k. ap (λ a. a || (config.controller && on k)) (sym c.eq.ensures ∙ c.if-eq.false)
-    ∙ ap (λ b. b && on k) c.if-config-controller.false)
+    ∙ ap (λ b. b && on k) c.if-config.false)

@@ -18,8 +18,8 @@ selecting : (pod : Pod) (s : Option Service) → passes (λ s. selects s pod) s 
 selecting pod None = refl
 selecting pod (Some s) = refl
 
-pub returns-in-Some : goal.returns-in-Some
-returns-in-Some c =
+pub returns-in_ok-keys-in-Some : goal.returns-in_ok-keys-in-Some
+returns-in_ok-keys-in-Some c =
     let o = c.args.objects.now in
     let old = c.args.touched.now in
     let new = c.add_each.new.self in
@@ -30,9 +30,9 @@ returns-in-Some c =
     (sym c.in-Some.is)
     (on_ok_weaker c.add_each.result (λ adds.
     as_well old new (λ k. list_any (eq_by_cmp key_cmp k) listed) adds (is_selected o (Some pod)) (λ k.
-    ap (list_any (eq_by_cmp key_cmp k)) (c.as_slice.ensures ∙ c.in_ok-keys.ensures.found)
+    ap (list_any (eq_by_cmp key_cmp k)) (c.as_slice.ensures ∙ c.in_ok-keys-in-Some.ensures.found)
     ∙ passing_keys (λ (s : Service). s.key) (λ s. selects s pod) o.services
-    c.in_ok-keys.ensures.own_keys.services k
+    c.in_ok-keys-in-Some.ensures.own_keys.services k
     ∙ selecting pod (finite.get o.services k))) c.add_each.ensures.ok)
 
 pub returns-in-None : goal.returns-in-None

@@ -5,14 +5,14 @@ use Rattle.kp_store.specs.Touched.{is_touched}
 use Rattle.kp_store.proofs.Adding.{as_well, still}
 use Rattle.kp_store.proofs.objects.Objects.apply_touching.Goals as goal
 
-pub returns-then-changes-clause-changed : goal.returns-then-changes-clause-changed
-returns-then-changes-clause-changed c =
+pub returns-in_ok-apply-clause-changed : goal.returns-in_ok-apply-clause-changed
+returns-in_ok-apply-clause-changed c =
     let old = c.args.self.now in
     subst (λ b. (b ≡ false) ↔ (objects_step old c.args.event.now ≡ old)) c.if-changes.true
     c.changes.ensures
 
-pub returns-then-changes-clause-adds : goal.returns-then-changes-clause-adds
-returns-then-changes-clause-adds c =
+pub returns-in_ok-apply-clause-adds : goal.returns-in_ok-apply-clause-adds
+returns-in_ok-apply-clause-adds c =
     let config = c.args.config.now in
     as_well c.args.touched.now c.join.new.self (is_touched c.in_ok-new.new) c.in_ok-join.ensures.ok
     (touches config.node config.controller c.args.self.now c.args.event.now) c.in_ok-new.ensures
@@ -20,6 +20,7 @@ returns-then-changes-clause-adds c =
 pub returns-in_err-apply-clause-stay : goal.returns-in_err-apply-clause-stay
 returns-in_err-apply-clause-stay c =
     still c.args.touched.now c.join.new.self (is_touched c.in_ok-new.new) c.in_ok-join.ensures.ok
+    c.from_residual-in_err-apply.result
 
 pub returns-else-changes-clause-changed : goal.returns-else-changes-clause-changed
 returns-else-changes-clause-changed c =

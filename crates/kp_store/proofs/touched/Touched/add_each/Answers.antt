@@ -1,11 +1,10 @@
-use Rattle.std.proofs.Common.{◌||◌, Bool, take, refl, ap, ◌∙◌}
+use Rattle.std.proofs.Common.{◌||◌, OnErr, take, refl, sym, ap, subst, ◌∙◌}
 use Rattle.std.proofs.lemmas.List.{take_all}
 use Rattle.std.specs.List.{list_any}
 use Rattle.std.specs.Ordering.{eq_by_cmp}
 use Rattle.kp_base.specs.Keys.{key_cmp}
-use Rattle.kp_base.specs.declared.key.ObjectKey.{ObjectKey}
 use Rattle.kp_touch_defs.specs.Touches.{is_key}
-use Rattle.kp_store.specs.Touched.{is_touched}
+use Rattle.kp_store.specs.Touched.{StaysIn, is_touched}
 use Rattle.kp_store.specs.declared.touched.Touched.{Touched}
 use Rattle.kp_store.proofs.Adding.{still}
 use Rattle.kp_store.proofs.Unions.{more_beside}
@@ -31,11 +30,12 @@ pub returns-in_err-copy-clause-err : goal.returns-in_err-copy-clause-err
 returns-in_err-copy-clause-err c =
     let some = take c.loop-key.key-index c.args.keys.now in
     still c.args.self.now c.loop-key.self (λ k. list_any (eq_by_cmp key_cmp k) some)
-    c.loop-key.invariant
+    c.loop-key.invariant c.from_residual.result
 
 pub returns-in_err-add-clause-err : goal.returns-in_err-add-clause-err
-returns-in_err-add-clause-err c = λ k there.
+returns-in_err-add-clause-err c =
     let some = take c.loop-key.key-index c.args.keys.now in
-    ap (λ (t : Touched). is_touched t k) c.in_err-add.ensures.err
-    ∙ still c.args.self.now c.loop-key.self (λ k. list_any (eq_by_cmp key_cmp k) some)
-    c.loop-key.invariant k there
+    let r = c.from_residual-in_err-add.result in
+    subst (λ (t : Touched). OnErr r (StaysIn c.args.self.now t)) (sym c.in_err-add.ensures.err)
+    (still c.args.self.now c.loop-key.self (λ k. list_any (eq_by_cmp key_cmp k) some)
+    c.loop-key.invariant r)

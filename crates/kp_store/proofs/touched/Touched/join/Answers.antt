@@ -20,4 +20,5 @@ returns-clause-ok c =
 
 pub returns-in_err-put_all-clause-err : goal.returns-in_err-put_all-clause-err
 returns-in_err-put_all-clause-err c =
-    none_lost c.args.self.now c.put_all.new.self c.in_err-put_all.ensures.kept
+    none_lost c.args.self.now c.put_all.new.self c.from_residual-in_err-put_all.result
+    c.in_err-put_all.ensures.kept
