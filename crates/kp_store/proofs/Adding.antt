@@ -1,5 +1,5 @@
 -- Services that are added to those that were touched.
-use Rattle.std.proofs.Common.{◌≡◌, ◌||◌, Bool, true, false, Result, Ok, Err, OnErr, refl, sym, ap, ◌∙◌}
+use Rattle.std.proofs.Common.{◌≡◌, ◌||◌, Bool, true, false, Result, Ok, Err, OnErr, OnOk, refl, sym, ap, subst, ◌∙◌}
 use mathlib.Core.Bool.{or-false}
 use Rattle.std.proofs.Math.Bool.{or-true}
 use Rattle.std.specs.Ordering.{eq_by_cmp}
@@ -55,7 +55,8 @@ module _ (t : Touched) (new : Keys) where
       → ((k : ObjectKey) → contains_key t.keys k ≡ true → contains_key new k ≡ true)
       → OnErr r (StaysIn t (record t { keys = new }))
   none_lost (Ok x) kept = tt
-  none_lost (Err e) kept = λ k. or_later t.all (contains_key t.keys k) (contains_key new k) (kept k)
+  none_lost (Err e) kept =
+      λ k. or_later t.all (contains_key t.keys k) (contains_key new k) (kept k)
 
 module _ (before after : Touched) (p : ObjectKey → Bool) (adds : AddsTo p before after) where
   -- what was touched still is
@@ -77,6 +78,12 @@ module _ (before after : Touched) (p : ObjectKey → Bool) (adds : AddsTo p befo
       → AddsTo (λ k. p k || q k) before last
   and_then last q more k =
       more k ∙ ap (λ b. q k || b) (adds k) ∙ in_turn (p k) (q k) (is_touched before k)
+
+-- another way to say by what they were added
+pub by_same : {T E A : Type 0} (r : Result T E) (before after : Touched)
+    (by : A → ObjectKey → Bool) {x y : A} → x ≡ y
+    → OnOk r (AddsTo (by x) before after) → OnOk r (AddsTo (by y) before after)
+by_same r before after by same = subst (λ x. OnOk r (AddsTo (by x) before after)) same
 
 -- none are added
 pub none_added : (t : Touched) (p : ObjectKey → Bool) → ((k : ObjectKey) → p k ≡ false)

@@ -70,12 +70,16 @@ pod_exact a b h =
 pub node_exact : IsExact node_eq.ghosts.eq
 node_exact a b h =
     let name = and_parts _ _ h in
-    λ i. record { name = text_test_exact a.name b.name name.0 i; zone = options_exact _ text_test_exact a.zone b.zone name.1 i }
+    λ i. record {
+      name = text_test_exact a.name b.name name.0 i;
+      zone = options_exact _ text_test_exact a.zone b.zone name.1 i;
+    }
 
 -- ---- Slices
 
 -- the two tests of values that may be missing are one
-tests_alike : {X : Type 0} (test : X → X → Bool) (a b : Option X) → same_option test a b ≡ option_eq test a b
+tests_alike : {X : Type 0} (test : X → X → Bool) (a b : Option X)
+    → same_option test a b ≡ option_eq test a b
 tests_alike test None None = refl
 tests_alike test None (Some b) = refl
 tests_alike test (Some a) None = refl
@@ -141,18 +145,20 @@ slice_exact a b h =
       endpoints = lists_exact same_entry entry_exact a.endpoints b.endpoints ports.1 i;
     }
 
+named : (name : Option (List ℕ)) → same_option bytes_eq name name ≡ true
+named None = refl
+named (Some name) = nat_list_eq_equiv.refl name
+
+flag : (b : Bool) → same_flag b b ≡ true
+flag true = refl
+flag false = refl
+
 -- a slice is the same as itself
 pub slice_itself : (s : Slice) → same_slice s s ≡ true
 slice_itself s =
-    and_from _ _
-    (and_from _ _ (and_from _ _ (nat_list_eq_equiv.refl s.key.namespace) (nat_list_eq_equiv.refl s.key.name))
-    (and_from _ _ (named s.service) (and_from _ _ (flag s.managed) (type_laws.laws-law.refl s.family))))
-    (and_from _ _ ((lists_equiv port_laws.laws-law).refl s.ports) (entries_same s.endpoints))
-  where
-    named : (name : Option (List ℕ)) → same_option bytes_eq name name ≡ true
-    named None = refl
-    named (Some name) = nat_list_eq_equiv.refl name
-
-    flag : (b : Bool) → same_flag b b ≡ true
-    flag true = refl
-    flag false = refl
+    let key =
+    and_from _ _ (nat_list_eq_equiv.refl s.key.namespace) (nat_list_eq_equiv.refl s.key.name) in
+    let rest = and_from _ _ (flag s.managed) (type_laws.laws-law.refl s.family) in
+    let ports = (lists_equiv port_laws.laws-law).refl s.ports in
+    and_from _ _ (and_from _ _ key (and_from _ _ (named s.service) rest))
+    (and_from _ _ ports (entries_same s.endpoints))

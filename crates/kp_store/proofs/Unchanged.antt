@@ -30,13 +30,17 @@ module _ {X : Type 0} (m : FinMap key_cmp X) (key : ObjectKey) where
 
   -- what is there can be put again, and nothing else
   pub put_again : (x : X) → (get m key ≡ Some x) ↔ (insert m key x ≡ m)
-  put_again x = (
-    (λ at. same_map key_total key_exact (insert m key x) m (λ q.
-    get-insert key_total m key x q ∙ put_at x at q (eq_by_cmp key_cmp q key) refl)),
-    (λ same. ap (λ n. get n key) (sym same)
-    ∙ get-insert key_total m key x key
-    ∙ ap (λ b. cond b (Some x) (get m key)) (tie_of_itself key_total key)),
-  )
+  put_again x = (stays, was)
+    where
+      stays : get m key ≡ Some x → insert m key x ≡ m
+      stays at = same_map key_total key_exact (insert m key x) m (λ q.
+          get-insert key_total m key x q ∙ put_at x at q (eq_by_cmp key_cmp q key) refl)
+
+      was : insert m key x ≡ m → get m key ≡ Some x
+      was same =
+          ap (λ n. get n key) (sym same)
+          ∙ get-insert key_total m key x key
+          ∙ ap (λ b. cond b (Some x) (get m key)) (tie_of_itself key_total key)
 
   taken_at : get m key ≡ None → (q : ObjectKey) (b : Bool) → eq_by_cmp key_cmp q key ≡ b
       → cond b None (get m q) ≡ get m q
@@ -45,14 +49,18 @@ module _ {X : Type 0} (m : FinMap key_cmp X) (key : ObjectKey) where
 
   -- what isn't there can be taken, and nothing else
   pub take_absent : (contains_key m key ≡ false) ↔ (remove m key ≡ m)
-  take_absent = (
-    (λ none. same_map key_total key_exact (remove m key) m (λ q.
-    get-remove key_total m key q
-    ∙ taken_at (nothing (get m key) none) q (eq_by_cmp key_cmp q key) refl)),
-    (λ same. ap (λ n. is_some (get n key)) (sym same)
-    ∙ ap is_some (get-remove key_total m key key
-    ∙ ap (λ b. cond b None (get m key)) (tie_of_itself key_total key))),
-  )
+  take_absent = (stays, was)
+    where
+      stays : contains_key m key ≡ false → remove m key ≡ m
+      stays none = same_map key_total key_exact (remove m key) m (λ q.
+          get-remove key_total m key q
+          ∙ taken_at (nothing (get m key) none) q (eq_by_cmp key_cmp q key) refl)
+
+      was : remove m key ≡ m → contains_key m key ≡ false
+      was same =
+          ap (λ n. is_some (get n key)) (sym same)
+          ∙ ap is_some (get-remove key_total m key key)
+          ∙ ap (λ b. is_some (cond b None (get m key))) (tie_of_itself key_total key)
 
 -- ---- all objects
 

@@ -1,4 +1,5 @@
--- Whether two slices are one value, part by part (Kubernetes API, EndpointSlice discovery.k8s.io/v1).
+-- Whether two slices are one value, part by part (Kubernetes API, EndpointSlice
+-- discovery.k8s.io/v1).
 use Rattle.std.specs.Prelude.{◌&&◌, Bool, bytes_eq}
 use Rattle.std.specs.Cmp.Lexicographic.{pointwise}
 use Rattle.kp_types.specs.declared.slice.Slice.{Slice}

@@ -1,5 +1,6 @@
 //! Which Services an event touches.
-ghost use Rattle.std.specs.Prelude.{◌≡◌, ◌&&◌, ◌↔◌, bytes_eq, OnOk, OnErr, IfOk, IsFalse, option_copied};
+ghost use Rattle.std.specs.Prelude.{◌≡◌, ◌&&◌, ◌↔◌, IfOk, IsFalse, OnErr, OnOk};
+ghost use Rattle.std.specs.Prelude.{bytes_eq, option_copied};
 ghost use Rattle.std.specs.Option.{option_eq};
 ghost use Rattle.kp_base.specs.declared.key.ObjectKey.{ObjectKey};
 ghost use Rattle.kp_object_defs.specs.Objects.{objects_step};
@@ -27,8 +28,8 @@ impl Objects {
         ensures changed { IfOk result (λ changed.
             IsFalse changed ↔ (objects_step self.old event.now ≡ self.old)) }
         ensures ok { OnOk result (self.new ≡ objects_step self.old event.now) }
-        ensures adds { IfOk result (λ changed. AddsTo
-            (λ k. changed && spec.touches config.now.node config.now.controller self.old event.now k)
+        ensures adds { IfOk result (λ changed. AddsTo (λ k. changed
+            && spec.touches config.now.node config.now.controller self.old event.now k)
             touched.old touched.new) }
         ensures err { OnErr result (self.new ≡ self.old) }
         ensures stay { OnErr result (StaysIn touched.old touched.new) }
@@ -97,11 +98,25 @@ fn add_applied(
         }
         Object::Pod(kept) => {
             let pod = kept.get();
-            add_selecting(alloc, config, objects, objects.pod(&pod.key), Some(pod), touched)
+            add_selecting(
+                alloc,
+                config,
+                objects,
+                objects.pod(&pod.key),
+                Some(pod),
+                touched,
+            )
         }
         Object::Node(kept) => {
             let node = kept.get();
-            add_by_zone(alloc, config, objects, &node.name, node.zone.as_ref(), touched)
+            add_by_zone(
+                alloc,
+                config,
+                objects,
+                &node.name,
+                node.zone.as_ref(),
+                touched,
+            )
         }
     }
 }
@@ -143,11 +158,7 @@ fn add_named(
 }
 
 /// Adds the Service that a slice names, if there is a slice and it names one.
-fn add_named_by(
-    alloc: Global,
-    slice: Option<&Slice>,
-    touched: &mut Touched,
-) -> Result<(), NoMemory>
+fn add_named_by(alloc: Global, slice: Option<&Slice>, touched: &mut Touched) -> Result<(), NoMemory>
     ensures { OnOk result (AddsTo (spec.names_service (option_copied slice.entry))
         touched.old touched.new) }
 {

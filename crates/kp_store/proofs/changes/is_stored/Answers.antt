@@ -22,7 +22,8 @@ pub returns-in-EndpointSlice : goal.returns-in-EndpointSlice
 returns-in-EndpointSlice c =
     let o = c.args.objects.now in
     let same = c.get-slice.ensures in
-    subst (λ (x : Object). (c.is_one-in-EndpointSlice.result ≡ true) ↔ IsStored o x) (sym c.in-EndpointSlice.is)
+    subst (λ (x : Object). (c.is_one-in-EndpointSlice.result ≡ true) ↔ IsStored o x)
+    (sym c.in-EndpointSlice.is)
     (of_found (c.slice.ensures ∙ ap (λ (x : Slice). finite.get o.slices x.key) same) same
     c.is_one-in-EndpointSlice.ensures)
 

@@ -1,7 +1,6 @@
-use Rattle.std.proofs.Common.{◌&&◌, ◌||◌, true, false, bytes_eq, OnOk, sym, ap, subst, ◌∙◌}
+use Rattle.std.proofs.Common.{◌&&◌, ◌||◌, Bool, true, sym, ap, ◌∙◌}
 use Rattle.kp_touch_defs.specs.Touches.{selects_on, zone_touches}
-use Rattle.kp_store.specs.Touched.{AddsTo}
-use Rattle.kp_store.proofs.Adding.{as_well, none_added}
+use Rattle.kp_store.proofs.Adding.{as_well, by_same, none_added}
 use Rattle.kp_store.proofs.touching.add_of_node.Goals as goal
 
 pub returns-then-eq : goal.returns-then-eq
@@ -16,12 +15,13 @@ pub returns-then-config : goal.returns-then-config
 returns-then-config c =
     let config = c.args.config.now in
     let on = selects_on c.args.objects.now c.args.name.now in
+    let r = c.add_selecting_on.result in
     let old = c.args.touched.now in
     let new = c.add_selecting_on.new.touched in
-    subst (λ a. OnOk c.add_selecting_on.result (AddsTo (λ k. a || (config.controller && on k)) old new))
+    by_same r old new (λ (a : Bool) k. a || (config.controller && on k))
     (sym c.if-eq.false ∙ c.eq.ensures)
-    (subst (λ b. OnOk c.add_selecting_on.result (AddsTo (λ k. b && on k) old new))
-    (sym c.if-config.true) c.add_selecting_on.ensures)
+    (by_same r old new (λ (b : Bool) k. b && on k) (sym c.if-config.true)
+    c.add_selecting_on.ensures)
 
 pub returns-else-config : goal.returns-else-config
 returns-else-config c =

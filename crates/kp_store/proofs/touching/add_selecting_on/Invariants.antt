@@ -7,5 +7,5 @@ use Rattle.kp_store.proofs.touching.add_selecting_on.Given as goal
 
 abbrev pub invariant-loop-pod : goal.invariant-loop-pod
 invariant-loop-pod l =
-    AddsTo (λ k. list_any (λ p. is_selected l.objects (Some p.now) k) (take l.pod-index l.pod-items))
-    l.fn.touched l.touched
+    let found = take l.pod-index l.pod-items in
+    AddsTo (λ k. list_any (λ p. is_selected l.objects (Some p.now) k) found) l.fn.touched l.touched
