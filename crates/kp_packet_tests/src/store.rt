@@ -1,9 +1,10 @@
 //! What each look-up finds among the objects after events.
-use crate::transcript::op_of;
-use kp_base::{Address, Items, NoMemory, ObjectKey, PortNo, Proto, Text};
+use crate::ports::config_of;
+use crate::transcript::{op_of, unfolded};
+use kp_base::{Address, Config, Items, NoMemory, ObjectKey, PortNo, Proto, Text};
 use kp_print::push;
 use kp_script::Op;
-use kp_store::Objects;
+use kp_store::{Objects, Touched};
 use kp_types::{Event, Kind, Node, Pod, Service, Slice};
 use std::alloc::Global;
 use std::process::Abort;
@@ -268,4 +269,154 @@ fn check_at(rt: &impl Abort, alloc: Global, objects: &Objects, rows: &str) -> Re
 fn services_are_found_by_their_destinations(rt: HostRuntime) -> Result<(), Fail> {
     let objects = objects_of(rt.alloc(), BALANCED)?;
     check_at(&rt, rt.alloc(), &objects, DESTINATIONS)
+}
+
+/// A configuration, and then events, each with an answer behind it: whether an object changed, and
+/// the Services that are touched. The Services are those of two namespaces; what a Pod or a Node
+/// touches is asked of its labels and its node before and after.
+const TOUCHING: &str = r#"{"node":"n1","nodeAddresses":["10.0.0.1"]}
+{"kind":"Service","metadata":{"namespace":"a","name":"web"},"spec":{"selector":{"app":"web"}}}
+changed a/web
+{"kind":"Service","metadata":{"namespace":"a","name":"api"},"spec":{"selector":{"app":"api"}}}
+changed a/api
+{"kind":"Service","metadata":{"namespace":"b","name":"web"},"spec":{"selector":{"app":"web"}}}
+changed b/web
+{"kind":"Service","metadata":{"namespace":"b","name":"web"},"spec":{"selector":{"app":"web"}}}
+same
+{"kind":"Pod","metadata":{"namespace":"a","name":"p","labels":{"app":"web"}}}
+changed a/web
+{"kind":"Pod","metadata":{"namespace":"a","name":"p","labels":{"app":"web"}},"status":{}}
+same
+{"kind":"Pod","metadata":{"namespace":"a","name":"p","labels":{"app":"api"}}}
+changed a/api a/web
+{"kind":"Pod","metadata":{"namespace":"a","name":"p","labels":{"app":"db"}}}
+changed a/api
+{"kind":"Pod","metadata":{"namespace":"b","name":"p","labels":{"app":"web"}},
+ "spec":{"nodeName":"n2"}}
+changed b/web
+{"kind":"EndpointSlice","metadata":{"namespace":"a","name":"s",
+ "labels":{"kubernetes.io/service-name":"web"}},"addressType":"IPv4"}
+changed a/web
+{"kind":"EndpointSlice","metadata":{"namespace":"a","name":"s",
+ "labels":{"kubernetes.io/service-name":"api"}},"addressType":"IPv4"}
+changed a/api a/web
+{"kind":"EndpointSlice","metadata":{"namespace":"a","name":"s",
+ "labels":{"kubernetes.io/service-name":"api"}},"addressType":"IPv4"}
+same
+{"kind":"EndpointSlice","metadata":{"namespace":"a","name":"s",
+ "labels":{"kubernetes.io/service-name":"api"}},"addressType":"IPv4",
+ "endpoints":[{"addresses":["10.244.1.2"]}]}
+changed a/api
+{"kind":"Node","metadata":{"name":"n2"}}
+changed
+{"kind":"Node","metadata":{"name":"n2","labels":{"topology.kubernetes.io/zone":"west"}}}
+changed b/web
+{"kind":"Node","metadata":{"name":"n3","labels":{"topology.kubernetes.io/zone":"west"}}}
+changed
+{"kind":"Node","metadata":{"name":"n1","labels":{"topology.kubernetes.io/zone":"west"}}}
+changed all
+{"type":"DELETED","object":{"kind":"Node","metadata":{"name":"n2"}}}
+changed b/web
+{"type":"DELETED","object":{"kind":"EndpointSlice","metadata":{"namespace":"a","name":"s"}}}
+changed a/api
+{"type":"DELETED","object":{"kind":"Pod","metadata":{"namespace":"b","name":"p"}}}
+changed b/web
+{"type":"DELETED","object":{"kind":"Service","metadata":{"namespace":"a","name":"web"}}}
+changed a/web
+{"type":"DELETED","object":{"kind":"Service","metadata":{"namespace":"a","name":"web"}}}
+same
+{"type":"DELETED","object":{"kind":"Node","metadata":{"name":"n1"}}}
+changed all"#;
+
+/// Without the controller that makes slices, Pods touch no Service, and other Nodes neither.
+const TOUCHING_BY_SLICES: &str = r#"{"node":"n1","nodeAddresses":["10.0.0.1"],"controller":false}
+{"kind":"Service","metadata":{"namespace":"b","name":"web"},"spec":{"selector":{"app":"web"}}}
+changed b/web
+{"kind":"Pod","metadata":{"namespace":"b","name":"p","labels":{"app":"web"}},
+ "spec":{"nodeName":"n2"}}
+changed
+{"kind":"Node","metadata":{"name":"n2","labels":{"topology.kubernetes.io/zone":"west"}}}
+changed
+{"kind":"Node","metadata":{"name":"n1","labels":{"topology.kubernetes.io/zone":"west"}}}
+changed all"#;
+
+/// Adds the namespace and the name of each key.
+fn push_keys(text: &mut String, keys: &[&ObjectKey]) -> Result<(), NoMemory> {
+    for key in keys {
+        push(text, " ")?;
+        push(text, key.namespace.as_str())?;
+        push(text, "/")?;
+        push(text, key.name.as_str())?;
+    }
+    Ok(())
+}
+
+/// Applies an event, and adds a line on what it touches.
+fn push_touched(
+    alloc: Global,
+    config: &Config,
+    objects: &mut Objects,
+    event: &Event,
+    text: &mut String,
+) -> Result<(), NoMemory> {
+    let mut touched = Touched::new(alloc);
+    let changed = objects.apply_touching(alloc, config, event, &mut touched)?;
+    push(text, if changed { "changed" } else { "same" })?;
+    push(text, if touched.all { " all" } else { "" })?;
+    push_keys(text, touched.keys.keys(alloc)?.as_slice())?;
+    push(text, "\n")
+}
+
+/// Adds what the events of a table touch to a text, and what it says of them to another.
+fn follow_touching(
+    alloc: Global,
+    table: &str,
+    touched: &mut String,
+    wanted: &mut String,
+) -> Result<(), Fail> {
+    let (first, rest) = table.split_once('\n').ok_or("a line")?;
+    let config = config_of(alloc, first)?;
+    let mut objects = Objects::new(alloc);
+    for line in rest.lines() {
+        if line.starts_with('{') {
+            push_touched_by(alloc, &config, &mut objects, line, touched)?;
+        } else {
+            push(wanted, line)?;
+            push(wanted, "\n")?;
+        }
+    }
+    Ok(())
+}
+
+/// Applies the event of a line, and adds a line on what it touches.
+fn push_touched_by(
+    alloc: Global,
+    config: &Config,
+    objects: &mut Objects,
+    line: &str,
+    text: &mut String,
+) -> Result<(), Fail> {
+    let Op::Events(events) = op_of(alloc, 2, line)? else {
+        return Err(Fail::from("an event"));
+    };
+    for event in events.as_slice() {
+        push_touched(alloc, config, objects, event, text)?;
+    }
+    Ok(())
+}
+
+/// The events of a table touch what it says.
+fn check_touching(rt: &impl Abort, alloc: Global, table: &str) -> Result<(), Fail> {
+    let table = unfolded(alloc, table)?;
+    let mut touched = String::new(alloc);
+    let mut wanted = String::new(alloc);
+    follow_touching(alloc, table.as_str(), &mut touched, &mut wanted)?;
+    assert_eq!(rt; touched.as_str(), wanted.as_str());
+    Ok(())
+}
+
+#[test]
+fn each_event_touches_its_services(rt: HostRuntime) -> Result<(), Fail> {
+    check_touching(&rt, rt.alloc(), TOUCHING)?;
+    check_touching(&rt, rt.alloc(), TOUCHING_BY_SLICES)
 }
