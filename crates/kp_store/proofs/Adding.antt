@@ -11,13 +11,9 @@ use Rattle.kp_store.specs.Indexes.{Keys}
 use Rattle.kp_store.specs.Touched.{AddsTo, StaysIn, is_touched}
 use Rattle.kp_store.specs.declared.touched.Touched.{Touched}
 use Rattle.kp_store.proofs.Buckets.{in_inserted, or_later}
+use Rattle.kp_store.proofs.KeyLists.{or_between}
 
 -- ---- truth values
-
-swapped : (a b c : Bool) → a || (b || c) ≡ b || (a || c)
-swapped true true c = refl
-swapped true false c = refl
-swapped false b c = refl
 
 in_turn : (a b c : Bool) → b || (a || c) ≡ (a || b) || c
 in_turn true true c = refl
@@ -40,7 +36,7 @@ module _ (t : Touched) (new : Keys) where
   one_more key is k =
       ap (λ m. t.all || contains_key m k) is
       ∙ ap (λ b. t.all || b) (in_inserted t.keys key k)
-      ∙ swapped t.all (eq_by_cmp key_cmp k key) (contains_key t.keys k)
+      ∙ or_between t.all (eq_by_cmp key_cmp k key) (contains_key t.keys k)
 
   -- other keys and what was touched
   pub joined : (others : Touched)

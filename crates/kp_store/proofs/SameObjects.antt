@@ -145,14 +145,6 @@ slice_exact a b h =
       endpoints = lists_exact same_entry entry_exact a.endpoints b.endpoints ports.1 i;
     }
 
-named : (name : Option (List ℕ)) → same_option bytes_eq name name ≡ true
-named None = refl
-named (Some name) = nat_list_eq_equiv.refl name
-
-flag : (b : Bool) → same_flag b b ≡ true
-flag true = refl
-flag false = refl
-
 -- a slice is the same as itself
 pub slice_itself : (s : Slice) → same_slice s s ≡ true
 slice_itself s =
@@ -162,3 +154,11 @@ slice_itself s =
     let ports = (lists_equiv port_laws.laws-law).refl s.ports in
     and_from _ _ (and_from _ _ key (and_from _ _ (named s.service) rest))
     (and_from _ _ ports (entries_same s.endpoints))
+  where
+    named : (name : Option (List ℕ)) → same_option bytes_eq name name ≡ true
+    named None = refl
+    named (Some name) = nat_list_eq_equiv.refl name
+
+    flag : (b : Bool) → same_flag b b ≡ true
+    flag true = refl
+    flag false = refl

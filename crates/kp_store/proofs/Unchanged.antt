@@ -18,10 +18,6 @@ use Rattle.kp_store.specs.Unchanged.{IsStored, is_there}
 
 -- ---- one map
 
-nothing : {X : Type 0} (o : Option X) → is_some o ≡ false → o ≡ None
-nothing None none = refl
-nothing (Some x) none = absurd (cc)
-
 module _ {X : Type 0} (m : FinMap key_cmp X) (key : ObjectKey) where
   put_at : (x : X) → get m key ≡ Some x → (q : ObjectKey) (b : Bool) → eq_by_cmp key_cmp q key ≡ b
       → cond b (Some x) (get m q) ≡ get m q
@@ -42,9 +38,14 @@ module _ {X : Type 0} (m : FinMap key_cmp X) (key : ObjectKey) where
           ∙ get-insert key_total m key x key
           ∙ ap (λ b. cond b (Some x) (get m key)) (tie_of_itself key_total key)
 
-  taken_at : get m key ≡ None → (q : ObjectKey) (b : Bool) → eq_by_cmp key_cmp q key ≡ b
+  nothing : (o : Option X) → is_some o ≡ false → None ≡ o
+  nothing None none = refl
+  nothing (Some x) none = absurd (cc)
+
+  taken_at : contains_key m key ≡ false → (q : ObjectKey) (b : Bool) → eq_by_cmp key_cmp q key ≡ b
       → cond b None (get m q) ≡ get m q
-  taken_at none q true e = sym none ∙ ap (get m) (sym (one_from_tie key_exact q key e))
+  taken_at none q true e =
+      nothing (get m key) none ∙ ap (get m) (sym (one_from_tie key_exact q key e))
   taken_at none q false e = refl
 
   -- what isn't there can be taken, and nothing else
@@ -54,7 +55,7 @@ module _ {X : Type 0} (m : FinMap key_cmp X) (key : ObjectKey) where
       stays : contains_key m key ≡ false → remove m key ≡ m
       stays none = same_map key_total key_exact (remove m key) m (λ q.
           get-remove key_total m key q
-          ∙ taken_at (nothing (get m key) none) q (eq_by_cmp key_cmp q key) refl)
+          ∙ taken_at none q (eq_by_cmp key_cmp q key) refl)
 
       was : remove m key ≡ m → contains_key m key ≡ false
       was same =
