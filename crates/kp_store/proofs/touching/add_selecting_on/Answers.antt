@@ -1,4 +1,4 @@
-use Rattle.std.proofs.Common.{◌||◌, List, map, Some, refl, sym, ap, ◌∙◌, Bor}
+use Rattle.std.proofs.Common.{◌||◌, List, Some, refl, ap, ◌∙◌, Bor}
 use Rattle.std.proofs.lemmas.List.{take_all}
 use Rattle.std.specs.List.{list_any}
 use Rattle.kp_types.specs.declared.pod.Pod.{Pod}
