@@ -81,7 +81,7 @@ fn push_row(alloc: Global, text: &mut String, row: &ChainText) -> Result<(), NoM
 }
 
 /// The configuration of a line.
-pub fn config_of(alloc: Global, line: &str) -> Result<Config, Fail> {
+fn config_of(alloc: Global, line: &str) -> Result<Config, Fail> {
     match op_of(alloc, 1, line)? {
         Op::Config(config) => Ok(config),
         _ => Err(Fail::from("a configuration")),
