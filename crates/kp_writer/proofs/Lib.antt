@@ -1,0 +1,17 @@
+mod ClashTest
+mod DirtyLists
+mod EitherWay
+mod KeptPorts
+mod LocalEdits
+mod MorePlaces
+mod NextPlaces
+mod OwnKeys
+mod Present
+mod RuleCounts
+mod SharedPlaces
+mod SharedRules
+mod SyncFixed
+mod SyncLaw
+mod SyncPlaces
+mod SyncTables
+mod Totals

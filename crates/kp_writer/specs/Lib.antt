@@ -1,0 +1,5 @@
+pub mod Alike
+pub mod Next
+pub mod Own
+pub mod Shared
+pub mod Written

@@ -1,0 +1,145 @@
+//! What was written of ports, and the edits to what is known of them now.
+ghost use Rattle.std.specs.Prelude.{◌≡◌, ◌+◌, ◌≤◌, None, IfOk, IfErr, OnOk, OnErr};
+ghost use Rattle.std.specs.FinMap as finite;
+ghost use Rattle.kp_full_table.specs.Faults.{TellsClash};
+ghost use Rattle.kp_full_table.specs.Parts.{all_rule_count};
+ghost use Rattle.kp_writer.specs.Written as spec;
+
+use crate::block::block_of;
+use crate::join::join_touched;
+use crate::kept;
+use crate::known::Known;
+use crate::next::NextChains;
+use crate::own::{leave_all, write_all};
+use crate::shared::touched_by;
+use kp_base::{Config, Copied, NoMemory, PortKey, Steps};
+use kp_blocks::Blocks;
+use kp_full_table::TableFault;
+use kp_rules::Table;
+use kp_tracker::Tracker;
+use kp_types::{Batch, PortInfo};
+use std::alloc::Global;
+use std::marker::Model;
+use std::sync::ledger::Ledger;
+
+/// What was written of each port, and what is known of it now. Contracts see both, and the
+/// configuration; the blocks of the shared chains are a function of these.
+pub struct Writer {
+    config: Config,
+    ports: Tracker<PortKey, Known>,
+    blocks: Blocks,
+}
+
+impl Drop for Writer {
+    fn drop(self) {
+        let Writer {
+            config,
+            ports,
+            blocks,
+        } = self;
+    }
+}
+
+/// The blocks are those of the newest ports.
+impl Model for Writer {
+    ghost use Rattle.kp_writer.specs.Written.{IsKept, WriterParts, writer_code};
+
+    ghost Value = { WriterParts };
+
+    ghost coded = { writer_code };
+
+    ghost view = { λ w. record { config = w.config; ports = w.ports } };
+
+    ghost invariant = { λ w. IsKept (record { config = w.config; ports = w.ports }) w.blocks };
+}
+
+impl Writer {
+    /// Nothing was written, and no port is known.
+    pub fn new(alloc: Global, config: &Config) -> Result<Writer, NoMemory>
+        ensures config { IfOk result (λ w. w.config ≡ config.now) }
+        ensures written { IfOk result (λ w. spec.written_ports w ≡ finite.empty) }
+        ensures newest { IfOk result (λ w. spec.newest_ports w ≡ finite.empty) }
+    {
+        Ok(Writer {
+            config: config.copy(alloc)?,
+            ports: Tracker::new(alloc),
+            blocks: Blocks::new(alloc),
+        })
+    }
+
+    /// Takes over what is known of a port. Where memory is out, all stays.
+    pub fn put(&mut self, alloc: Global, info: PortInfo) -> Result<(), NoMemory>
+        ensures config { self.new.config ≡ self.old.config }
+        ensures written { spec.written_ports self.new ≡ spec.written_ports self.old }
+        ensures newest { OnOk result (spec.newest_ports self.new
+            ≡ finite.insert (spec.newest_ports self.old) info.key info) }
+        ensures err { OnErr result (spec.newest_ports self.new ≡ spec.newest_ports self.old) }
+    {
+        let block = block_of(alloc, &self.config, &info)?;
+        kept::put(alloc, &mut self.ports, &mut self.blocks, info, block)
+    }
+
+    /// Takes over that a port is gone. Where memory is out, all stays.
+    pub fn drop_port(&mut self, alloc: Global, port: &PortKey) -> Result<(), NoMemory>
+        ensures config { self.new.config ≡ self.old.config }
+        ensures written { spec.written_ports self.new ≡ spec.written_ports self.old }
+        ensures newest { OnOk result (spec.newest_ports self.new
+            ≡ finite.remove (spec.newest_ports self.old) port.now) }
+        ensures err { OnErr result (spec.newest_ports self.new ≡ spec.newest_ports self.old) }
+    {
+        kept::drop_port(alloc, &mut self.ports, &mut self.blocks, port)
+    }
+
+    /// The edits that lead from the full table of what was written, which is given, to that of what
+    /// is known now: exactly the changes between the two. It is refused exactly where two different
+    /// chains that are needed have one name, and tells the least such pair, or where memory is out.
+    /// It takes at most a step for each rule of the dirty ports before, and one for each after.
+    pub fn edits<L: Ledger>(
+        &self,
+        alloc: Global,
+        table: &Table,
+        steps: &mut Steps<L>,
+    ) -> Result<Batch, TableFault>
+        requires table { table.now.chains ≡ spec.chains_of self.now (spec.written_ports self.now) }
+        requires apart { spec.clash_of self.now (spec.written_ports self.now) ≡ None }
+        ensures batch { IfOk result (λ b. b.edits ≡ spec.next_edits self.now) }
+        ensures no_clash { OnOk result (
+            spec.clash_of self.now (spec.newest_ports self.now) ≡ None) }
+        ensures clash { IfErr result (TellsClash
+            (spec.clash_of self.now (spec.newest_ports self.now))) }
+        ensures steps { steps.new ≤ steps.old
+            + (all_rule_count (spec.setting_in self.now)
+            (spec.dirty_of self.now (spec.written_ports self.now))
+            + all_rule_count (spec.setting_in self.now)
+            (spec.dirty_of self.now (spec.newest_ports self.now))) }
+    {
+        let keys = self.ports.pending(alloc)?;
+        let before = keys.iter().filter_map(|key| self.ports.published(key)).collect(alloc)?;
+        let after = keys.iter().filter_map(|key| self.ports.newest(key)).collect(alloc)?;
+        let mut next = NextChains::new(alloc);
+        leave_all(alloc, &self.config, &before, &mut next)?;
+        write_all(alloc, &self.config, table, &after, &mut next, steps)?;
+        if !next.all_free() {
+            self.check_names(alloc)?;
+        }
+        let touched = touched_by(alloc, &self.config, &self.ports, &keys, steps)?;
+        join_touched(alloc, &self.blocks, &touched, &mut next)?;
+        Ok(next.edits(alloc, table)?)
+    }
+
+    /// Checks that no two chains that the newest ports need have one name. It looks at all ports.
+    fn check_names(&self, alloc: Global) -> Result<(), TableFault>
+        ensures no_clash { OnOk result (
+            spec.clash_of self.now (spec.newest_ports self.now) ≡ None) }
+        ensures clash { IfErr result (TellsClash
+            (spec.clash_of self.now (spec.newest_ports self.now))) };
+
+    /// Takes over that the newest ports are written. It takes no memory.
+    pub fn keep(&mut self)
+        ensures config { self.new.config ≡ self.old.config }
+        ensures written { spec.written_ports self.new ≡ spec.newest_ports self.old }
+        ensures newest { spec.newest_ports self.new ≡ spec.newest_ports self.old }
+    {
+        self.ports.settle();
+    }
+}
