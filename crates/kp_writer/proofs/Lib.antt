@@ -6,12 +6,16 @@ mod LocalEdits
 mod MorePlaces
 mod NextPlaces
 mod OwnKeys
+mod OwnValues
 mod Present
 mod RuleCounts
 mod SharedPlaces
 mod SharedRules
+mod SyncCount
 mod SyncFixed
 mod SyncLaw
 mod SyncPlaces
 mod SyncTables
 mod Totals
+mod WriterEdits
+mod WrittenRules

@@ -96,6 +96,11 @@ module _ (blocks : BlocksByPort) where
 abbrev fixed_rows : List (ChainAt × List Rule)
 fixed_rows = layout.nat_rows_with V4 [] [] ++ layout.filter_rows_with V4 [] [] []
 
+-- a fixed chain is one of the table of no ports
+fixed_by : (at : ChainAt) → is_some (find chain_cmp at fixed_rows) ≡ true
+    → is_some (get (fixed_chains V4) at) ≡ true
+fixed_by at h = ap is_some (get-from_entries chain_total fixed_rows at) ∙ h
+
 -- the shared chains, the last first, with whether each is touched
 abbrev pub shared_flags : Touched → List (ChainAt × Bool)
 shared_flags t =
@@ -126,11 +131,6 @@ module _ (blocks : BlocksByPort) (start : NextParts) where
         ]
       ]
 
-  -- a fixed chain is one of the table of no ports
-  fixed_by : (at : ChainAt) → is_some (find chain_cmp at fixed_rows) ≡ true
-      → is_some (get (fixed_chains V4) at) ≡ true
-  fixed_by at h = ap is_some (get-from_entries chain_total fixed_rows at) ∙ h
-
   pub found_shared : (t : Touched) (q : ChainAt)
       → Joins (with_shared blocks t start) (shared_flags t) q
   found_shared t q =
@@ -139,3 +139,29 @@ module _ (blocks : BlocksByPort) (start : NextParts) where
       (one_more _ (drop 3 (shared_flags t)) t.firewall _ q (fixed_by _ refl)
       (one_more _ (drop 4 (shared_flags t)) t.node_ports _ q (fixed_by _ refl)
       (one_more start [] t.services _ q (fixed_by _ refl) (inr (tt, refl))))))
+
+  -- what each join of a fixed chain leaves, all leave
+  pub through_joins : (P : NextParts → Type 0)
+      → ((n : NextParts) (b : Bool) (at : ChainAt) → is_some (get (fixed_chains V4) at) ≡ true
+      → P n → P (join_if blocks n b at))
+      → (t : Touched) → P start → P (with_shared blocks t start)
+  through_joins P one t h =
+      let services : ChainAt = record { table = Nat; chain = layout.kube_services } in
+      let node_ports : ChainAt = record { table = Nat; chain = layout.kube_node_ports } in
+      let firewall : ChainAt = record { table = Filter; chain = layout.kube_proxy_firewall } in
+      let external : ChainAt = record { table = Filter; chain = layout.kube_external_services } in
+      let refusals : ChainAt = record { table = Filter; chain = layout.kube_services } in
+      one _ t.refusals refusals (fixed_by refusals refl)
+      (one _ t.external external (fixed_by external refl)
+      (one _ t.firewall firewall (fixed_by firewall refl)
+      (one _ t.node_ports node_ports (fixed_by node_ports refl)
+      (one start t.services services (fixed_by services refl) h))))
+
+  still_free : (n : NextParts) (b : Bool) (at : ChainAt) → (join_if blocks n b at).free ≡ n.free
+  still_free n true at = refl
+  still_free n false at = refl
+
+  -- so they leave whether each port's chain found its place free
+  pub shared_free : (t : Touched) → (with_shared blocks t start).free ≡ start.free
+  shared_free t =
+      through_joins (λ n. n.free ≡ start.free) (λ n b at fixed h. still_free n b at ∙ h) t refl

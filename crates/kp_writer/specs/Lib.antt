@@ -2,4 +2,5 @@ pub mod Alike
 pub mod Next
 pub mod Own
 pub mod Shared
+pub mod Sync
 pub mod Written

@@ -3,12 +3,14 @@
 #![tactic(auto)]
 
 mod block;
+mod infos;
 mod join;
 mod kept;
 mod known;
 mod next;
 mod own;
 mod shared;
+mod sync;
 mod writer;
 
 pub use known::Known;

@@ -1,6 +1,6 @@
 //! The chains of ports, before and after.
 ghost use Rattle.std.specs.Prelude.{◌≡◌, ◌+◌, ◌≤◌, map, OnOk};
-ghost use Rattle.std.specs.List.{flat_map, fold};
+ghost use Rattle.std.specs.List.{fold};
 ghost use Rattle.kp_base.specs.declared.address.Family.TheVariants.{V4};
 ghost use Rattle.kp_choice_defs.specs.Settings.{setting_of};
 ghost use Rattle.kp_table_defs.specs.Layout.{place_of_key, port_rows};
@@ -8,7 +8,6 @@ ghost use Rattle.kp_chains.specs.Rows.{row_of, rows_of_texts, rule_count};
 ghost use Rattle.kp_writer.specs.Next as next_spec;
 ghost use Rattle.kp_writer.specs.Own as spec;
 
-use crate::known::Known;
 use crate::next::NextChains;
 use kp_base::{Config, NoMemory, Steps};
 use kp_chains::{count_chains, info_chains, own_keys};
@@ -22,14 +21,14 @@ use std::sync::ledger::Ledger;
 pub fn leave_all(
     alloc: Global,
     config: &Config,
-    infos: &[&Known],
+    infos: &[&PortInfo],
     next: &mut NextChains,
 ) -> Result<(), NoMemory>
     ensures { OnOk result (next.new ≡ spec.left (setting_of V4 config.now) next.old
         (map (λ i. i.now) infos.now)) }
 {
     for info in infos {
-        leave_port(alloc, config, info.info(), next)?;
+        leave_port(alloc, config, info, next)?;
     }
     Ok(())
 }
@@ -66,17 +65,19 @@ pub fn write_all<L: Ledger>(
     alloc: Global,
     config: &Config,
     before: &Table,
-    infos: &[&Known],
+    infos: &[&PortInfo],
     next: &mut NextChains,
     steps: &mut Steps<L>,
 ) -> Result<(), NoMemory>
     ensures next { OnOk result (next.new ≡ spec.written before.now.chains
         (setting_of V4 config.now) next.old (map (λ i. i.now) infos.now)) }
-    ensures steps { steps.new ≤ steps.old + rule_count (flat_map
-        (port_rows (setting_of V4 config.now)) (map (λ i. i.now) infos.now)) }
+    ensures made { OnOk result (steps.new ≡ steps.old + spec.own_rule_count
+        (setting_of V4 config.now) (map (λ i. i.now) infos.now)) }
+    ensures steps { steps.new ≤ steps.old + spec.own_rule_count
+        (setting_of V4 config.now) (map (λ i. i.now) infos.now) }
 {
     for info in infos {
-        write_port(alloc, config, before, info.info(), next, steps)?;
+        write_port(alloc, config, before, info, next, steps)?;
     }
     Ok(())
 }
@@ -92,6 +93,8 @@ fn write_port<L: Ledger>(
 ) -> Result<(), NoMemory>
     ensures next { OnOk result (next.new ≡ fold (next_spec.write before.now.chains) next.old
         (port_rows (setting_of V4 config.now) info.now)) }
+    ensures made { OnOk result (steps.new
+        ≡ steps.old + rule_count (port_rows (setting_of V4 config.now) info.now)) }
     ensures steps { steps.new
         ≤ steps.old + rule_count (port_rows (setting_of V4 config.now) info.now) }
 {

@@ -1,5 +1,5 @@
 //! Which shared chains are touched by changed ports.
-ghost use Rattle.std.specs.Prelude.{◌≡◌, ◌+◌, ◌≤◌, [], map, IfOk, OnErr};
+ghost use Rattle.std.specs.Prelude.{◌≡◌, ◌+◌, ◌≤◌, [], map, IfOk, OnOk, OnErr};
 ghost use Rattle.std.specs.FinMap as finite;
 ghost use Rattle.std.specs.Option.{option_copied};
 ghost use Rattle.kp_base.specs.Keys.{port_key_cmp};
@@ -41,6 +41,7 @@ pub fn touched_by<L: Ledger>(
           finite.get (tracked.published port_key_cmp ports.now) k.now,
           finite.get (tracked.newest port_key_cmp ports.now) k.now,
         )) keys.now)) }
+    ensures more { OnOk result (steps.old ≤ steps.new) }
     ensures steps { steps.new ≤ steps.old + spec.change_count (setting_of V4 config.now)
         (map (λ k. (
           finite.get (tracked.published port_key_cmp ports.now) k.now,

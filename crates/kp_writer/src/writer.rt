@@ -1,20 +1,19 @@
 //! What was written of ports, and the edits to what is known of them now.
-ghost use Rattle.std.specs.Prelude.{◌≡◌, ◌+◌, ◌≤◌, None, IfOk, IfErr, OnOk, OnErr};
+ghost use Rattle.std.specs.Prelude.{◌≡◌, ◌+◌, ◌≤◌, true, None, IfOk, IfErr, OnOk, OnErr};
 ghost use Rattle.std.specs.FinMap as finite;
 ghost use Rattle.kp_full_table.specs.Faults.{TellsClash};
 ghost use Rattle.kp_full_table.specs.Parts.{all_rule_count};
+ghost use Rattle.kp_writer.specs.Batch.{own_rules_written};
 ghost use Rattle.kp_writer.specs.Written as spec;
 
 use crate::block::block_of;
-use crate::join::join_touched;
+use crate::infos::newest_infos;
 use crate::kept;
 use crate::known::Known;
-use crate::next::NextChains;
-use crate::own::{leave_all, write_all};
-use crate::shared::touched_by;
+use crate::sync::next_chains;
 use kp_base::{Config, Copied, NoMemory, PortKey, Steps};
 use kp_blocks::Blocks;
-use kp_full_table::TableFault;
+use kp_full_table::{TableFault, check_names};
 use kp_rules::Table;
 use kp_tracker::Tracker;
 use kp_types::{Batch, PortInfo};
@@ -93,7 +92,8 @@ impl Writer {
     /// The edits that lead from the full table of what was written, which is given, to that of what
     /// is known now: exactly the changes between the two. It is refused exactly where two different
     /// chains that are needed have one name, and tells the least such pair, or where memory is out.
-    /// It takes at most a step for each rule of the dirty ports before, and one for each after.
+    /// It takes at most a step for each rule of the dirty ports before, and one for each after, and
+    /// at least one for each rule of a port's own chains that the edits write.
     pub fn edits<L: Ledger>(
         &self,
         alloc: Global,
@@ -107,32 +107,45 @@ impl Writer {
             spec.clash_of self.now (spec.newest_ports self.now) ≡ None) }
         ensures clash { IfErr result (TellsClash
             (spec.clash_of self.now (spec.newest_ports self.now))) }
+        ensures made { IfOk result (λ b. steps.old + own_rules_written b.edits ≤ steps.new) }
         ensures steps { steps.new ≤ steps.old
             + (all_rule_count (spec.setting_in self.now)
             (spec.dirty_of self.now (spec.written_ports self.now))
             + all_rule_count (spec.setting_in self.now)
             (spec.dirty_of self.now (spec.newest_ports self.now))) }
     {
+        kp_walk_laws::hashed_prefixed();
         let keys = self.ports.pending(alloc)?;
-        let before = keys.iter().filter_map(|key| self.ports.published(key)).collect(alloc)?;
-        let after = keys.iter().filter_map(|key| self.ports.newest(key)).collect(alloc)?;
-        let mut next = NextChains::new(alloc);
-        leave_all(alloc, &self.config, &before, &mut next)?;
-        write_all(alloc, &self.config, table, &after, &mut next, steps)?;
-        if !next.all_free() {
-            self.check_names(alloc)?;
-        }
-        let touched = touched_by(alloc, &self.config, &self.ports, &keys, steps)?;
-        join_touched(alloc, &self.blocks, &touched, &mut next)?;
+        let next = next_chains(
+            alloc,
+            &self.config,
+            &self.ports,
+            &self.blocks,
+            &keys,
+            table,
+            steps,
+        )?;
+        self.check_names(alloc, next.all_free())?;
         Ok(next.edits(alloc, table)?)
     }
 
-    /// Checks that no two chains that the newest ports need have one name. It looks at all ports.
-    fn check_names(&self, alloc: Global) -> Result<(), TableFault>
+    /// Checks that no two chains that the newest ports need have one name. Where each chain of a
+    /// dirty port found its place free none have, so that the names of all ports are made and
+    /// compared only where one didn't.
+    fn check_names(&self, alloc: Global, all_free: bool) -> Result<(), TableFault>
+        requires { all_free ≡ true → spec.clash_of self.now (spec.newest_ports self.now) ≡ None }
         ensures no_clash { OnOk result (
             spec.clash_of self.now (spec.newest_ports self.now) ≡ None) }
         ensures clash { IfErr result (TellsClash
-            (spec.clash_of self.now (spec.newest_ports self.now))) };
+            (spec.clash_of self.now (spec.newest_ports self.now))) }
+    {
+        if all_free {
+            return Ok(());
+        }
+        let ports = self.blocks.ports(alloc)?;
+        let infos = newest_infos(alloc, &self.ports, &ports)?;
+        check_names(alloc, &self.config, &infos)
+    }
 
     /// Takes over that the newest ports are written. It takes no memory.
     pub fn keep(&mut self)

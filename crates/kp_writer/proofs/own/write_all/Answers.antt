@@ -1,11 +1,10 @@
-use Rattle.std.proofs.Common.{ap, arith, ◌∙◌}
-use Rattle.std.specs.List.{fold}
+use Rattle.std.proofs.Common.{arith}
 use Rattle.kp_base.specs.declared.address.Family.TheVariants.{V4}
 use Rattle.kp_choice_defs.specs.Settings.{setting_of}
 use Rattle.kp_table_defs.specs.Layout.{port_rows}
-use Rattle.kp_chains.specs.Rows.{rule_count}
 use Rattle.kp_writer.specs.Next.{write}
-use Rattle.kp_writer.proofs.RuleCounts.{own_count, own_one, own_parts}
+use Rattle.kp_writer.specs.Own.{own_rule_count}
+use Rattle.kp_writer.proofs.RuleCounts.{own_one, own_parts}
 use Rattle.kp_writer.proofs.Totals.{fold_parts, next_total, part_total}
 use Rattle.kp_writer.proofs.own.write_all.Goals as goal
 
@@ -16,11 +15,10 @@ returns-in_err-write_port-clause-steps g c =
     omega (
       arith,
       c.in_err-write_port.ensures.steps,
-      ap (λ i. rule_count (port_rows s i)) c.info.ensures,
       c.loop-info.invariant.steps,
       own_one s info.now,
       part_total (λ i. i.now) c.args.infos.now c.loop-info.info-index info c.loop-info-test.true
-          c.info-item.is (own_count s) (own_parts s),
+          c.info-item.is (own_rule_count s) (own_parts s),
     )
 
 pub loop-info-preserved : goal.loop-info-preserved
@@ -32,15 +30,13 @@ loop-info-preserved g c =
       next = fold_parts (λ i. i.now) c.args.infos.now c.loop-info.info-index info
           c.loop-info-test.true c.info-item.is (write before) (port_rows s) c.args.next.now
           c.loop-info.next c.write_port.new.next c.loop-info.invariant.next
-          (c.in_ok-write_port.ensures.next ∙ ap (λ i. fold (write before) c.loop-info.next
-          (port_rows s i)) c.info.ensures);
+          c.in_ok-write_port.ensures.next;
       steps = omega (
         arith,
-        c.in_ok-write_port.ensures.steps,
-        ap (λ i. rule_count (port_rows s i)) c.info.ensures,
-        c.loop-info.invariant.steps,
+        c.in_ok-write_port.ensures.made,
+          c.loop-info.invariant.steps,
         own_one s info.now,
         next_total (λ i. i.now) c.args.infos.now c.loop-info.info-index info
-            c.loop-info-test.true c.info-item.is (own_count s) (own_parts s),
+            c.loop-info-test.true c.info-item.is (own_rule_count s) (own_parts s),
       );
     }

@@ -57,6 +57,12 @@ loop-key-preserved g c =
           c.loop-key-test.true c.key-item.is (spec.touch_by s) spec.untouched c.loop-key.touched
           c.touch-touched.result c.loop-key.invariant.touched
           (c.touch-touched.ensures ∙ (λ i. spec.touch c.loop-key.touched (before i) (after i)));
+      more = omega (
+        arith,
+        c.in_ok-after.ensures.steps,
+        c.in_ok-before.ensures.steps,
+        c.loop-key.invariant.more,
+      );
       steps = omega (
         arith,
         c.in_ok-after.ensures.steps,

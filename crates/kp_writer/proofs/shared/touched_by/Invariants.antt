@@ -17,6 +17,7 @@ invariant-loop-key g l = record {
             k.now,
         get (newest port_key_cmp l.ports) k.now,
       )) (take l.key-index l.keys));
+  more : l.fn.steps ≤ l.steps;
   steps :
       l.steps
       ≤ l.fn.steps + spec.change_count (setting_of V4 l.config) (map (λ k. (
