@@ -1,6 +1,6 @@
 -- What the edits of a writer are, from what it keeps.
-use Rattle.std.proofs.Common.{◌≡◌, ◌+◌, ℕ, ◌≤◌, arith, Bool, true, false, true≢false, not, List, map}
-use Rattle.std.proofs.Common.{filter, Contains, None, refl, sym, ap, subst, ◌∙◌}
+use Rattle.std.proofs.Common.{◌≡◌, ◌+◌, ℕ, ◌≤◌, arith, Bool, true, false, true≢false, not, Bor}
+use Rattle.std.proofs.Common.{List, map, filter, Contains, None, refl, sym, ap, subst, ◌∙◌}
 use Rattle.std.proofs.Math.Bool.{not-not}
 use Rattle.std.specs.FinMap.{entries, get, values}
 use Rattle.kp_lemmas.proofs.Equality.{options_exact}
@@ -39,7 +39,17 @@ MostSteps w old new =
     + all_rule_count (setting_in w) (dirty_of w (newest_ports w)))
 
 module _ (v w : WriterParts) (is : v ≡ w) (blocks : BlocksByPort) (kept : IsKept v blocks)
-    (keys : List PortKey) (pending : IsPending port_key_cmp same_info v.ports keys) where
+    (refs items : List (Bor PortKey)) (same_refs : refs ≡ items)
+    (found : IsPending port_key_cmp same_info v.ports (map (λ k. k.now) items)) where
+  -- the ports that differ
+  abbrev keys : List PortKey
+  keys = map (λ k. k.now) refs
+
+  pending : IsPending port_key_cmp same_info v.ports keys
+  pending =
+      subst (λ (ks : List (Bor PortKey)). IsPending port_key_cmp same_info v.ports
+      (map (λ k. k.now) ks)) (sym same_refs) found
+
   abbrev s : Setting
   s = setting_in v
 

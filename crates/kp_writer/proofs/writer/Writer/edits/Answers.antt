@@ -1,8 +1,4 @@
-use Rattle.std.proofs.Common.{Bor, List, map, sym, subst}
-use Rattle.kp_base.specs.Keys.{port_key_cmp}
-use Rattle.kp_base.specs.declared.key.PortKey.{PortKey}
-use Rattle.kp_history_defs.specs.DirtyPorts.{same_info}
-use Rattle.kp_tracker.specs.Tracked.{IsPending}
+use Rattle.std.proofs.Common.{sym, ◌∙◌}
 use Rattle.kp_writer.specs.Written.{WriterParts}
 use Rattle.kp_writer.proofs.WriterEdits.{free_is_clear, least_steps, most_steps, next_edits_are}
 use Rattle.kp_writer.proofs.writer.Writer.edits.Goals as goal
@@ -10,31 +6,25 @@ use Rattle.kp_writer.proofs.writer.Writer.edits.Goals as goal
 pub check_names-requires : goal.check_names-requires
 check_names-requires g c =
     let v : WriterParts = record { config = c.self.inside.config; ports = c.self.inside.ports } in
-    let keys : List PortKey = map (λ k. k.now) c.deref.result.now in
-    let pending = subst (λ (ks : List (Bor PortKey)). IsPending port_key_cmp same_info v.ports (map
-    (λ k. k.now) ks)) (sym c.deref.ensures.value) c.in_ok-keys.ensures in
     λ free. free_is_clear v c.args.self.now c.self.view_is c.self.inside.blocks c.self.invariant
-    keys pending c.hashed_prefixed.ensures c.args.table.now.chains c.in_ok-next.next
-    c.requires.table c.requires.apart c.in_ok-next.ensures.next (sym c.all_free.ensures ∙ free)
+    c.deref.result.now c.in_ok-keys.keys.items c.deref.ensures.value c.in_ok-keys.ensures
+    c.hashed_prefixed.ensures c.args.table.now.chains c.in_ok-next.next c.requires.table
+    c.requires.apart c.in_ok-next.ensures.next (sym c.all_free.ensures ∙ free)
 
 pub returns-clause-batch : goal.returns-clause-batch
 returns-clause-batch g c =
     let v : WriterParts = record { config = c.self.inside.config; ports = c.self.inside.ports } in
-    let keys : List PortKey = map (λ k. k.now) c.deref.result.now in
-    let pending = subst (λ (ks : List (Bor PortKey)). IsPending port_key_cmp same_info v.ports (map
-    (λ k. k.now) ks)) (sym c.deref.ensures.value) c.in_ok-keys.ensures in
-    next_edits_are v c.args.self.now c.self.view_is c.self.inside.blocks c.self.invariant keys
-    pending c.hashed_prefixed.ensures c.args.table.now.chains c.in_ok-next.next c.requires.table
+    next_edits_are v c.args.self.now c.self.view_is c.self.inside.blocks c.self.invariant
+    c.deref.result.now c.in_ok-keys.keys.items c.deref.ensures.value c.in_ok-keys.ensures
+    c.hashed_prefixed.ensures c.args.table.now.chains c.in_ok-next.next c.requires.table
     c.requires.apart c.in_ok-next.ensures.next c.in_ok-edits.field-0.edits c.in_ok-edits.ensures
     c.in_ok-check_names.ensures.no_clash
 
 pub returns-clause-made : goal.returns-clause-made
 returns-clause-made g c =
     let v : WriterParts = record { config = c.self.inside.config; ports = c.self.inside.ports } in
-    let keys : List PortKey = map (λ k. k.now) c.deref.result.now in
-    let pending = subst (λ (ks : List (Bor PortKey)). IsPending port_key_cmp same_info v.ports (map
-    (λ k. k.now) ks)) (sym c.deref.ensures.value) c.in_ok-keys.ensures in
-    least_steps v c.args.self.now c.self.view_is c.self.inside.blocks c.self.invariant keys pending
+    least_steps v c.args.self.now c.self.view_is c.self.inside.blocks c.self.invariant
+    c.deref.result.now c.in_ok-keys.keys.items c.deref.ensures.value c.in_ok-keys.ensures
     c.args.table.now.chains c.in_ok-next.next c.in_ok-edits.field-0.edits c.args.steps.now
     c.next_chains-next.new.steps c.in_ok-next.ensures.next c.in_ok-edits.ensures
     c.in_ok-next.ensures.made
@@ -42,8 +32,6 @@ returns-clause-made g c =
 pub returns-clause-steps : goal.returns-clause-steps
 returns-clause-steps g c =
     let v : WriterParts = record { config = c.self.inside.config; ports = c.self.inside.ports } in
-    let keys : List PortKey = map (λ k. k.now) c.deref.result.now in
-    let pending = subst (λ (ks : List (Bor PortKey)). IsPending port_key_cmp same_info v.ports (map
-    (λ k. k.now) ks)) (sym c.deref.ensures.value) c.in_ok-keys.ensures in
-    most_steps v c.args.self.now c.self.view_is c.self.inside.blocks c.self.invariant keys pending
+    most_steps v c.args.self.now c.self.view_is c.self.inside.blocks c.self.invariant
+    c.deref.result.now c.in_ok-keys.keys.items c.deref.ensures.value c.in_ok-keys.ensures
     c.args.steps.now c.next_chains-next.new.steps c.in_ok-next.ensures.steps
