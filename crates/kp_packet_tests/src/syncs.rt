@@ -173,7 +173,11 @@ fn clash_text(alloc: Global, clash: &Clash) -> Result<String, NoMemory> {
 /// What a sync wrote, or the clash that refused it.
 fn told(alloc: Global, answer: Result<Batch, TableFault>) -> Result<String, Fail> {
     match answer {
-        Ok(batch) => Ok(batch_text(alloc, &batch)?.as_str().replace(alloc, "\n", "|")?),
+        Ok(batch) => Ok(
+            batch_text(alloc, &batch)?
+                .as_str()
+                .replace(alloc, "\n", "|")?,
+        ),
         Err(TableFault::ChainClash(clash)) => Ok(clash_text(alloc, &clash)?),
         Err(TableFault::NoMemory) => Err(Fail::from(NoMemory)),
     }
@@ -196,7 +200,11 @@ fn take(alloc: Global, synced: &mut Synced, row: &str) -> Result<bool, Fail> {
 /// A writer that wrote nothing.
 fn unwritten(alloc: Global) -> Result<Synced, Fail> {
     let config = config_of(alloc, unfolded(alloc, CONFIG)?.as_str())?;
-    Ok(Synced::new::<Brand>(alloc, &config, Blank::new(1)).ok().ok_or("a writer")?)
+    Ok(
+        Synced::new::<Brand>(alloc, &config, Blank::new(1))
+            .ok()
+            .ok_or("a writer")?,
+    )
 }
 
 #[test]

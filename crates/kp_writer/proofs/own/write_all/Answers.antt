@@ -34,7 +34,7 @@ loop-info-preserved g c =
       steps = omega (
         arith,
         c.in_ok-write_port.ensures.made,
-          c.loop-info.invariant.steps,
+        c.loop-info.invariant.steps,
         own_one s info.now,
         next_total (λ i. i.now) c.args.infos.now c.loop-info.info-index info
             c.loop-info-test.true c.info-item.is (own_rule_count s) (own_parts s),
