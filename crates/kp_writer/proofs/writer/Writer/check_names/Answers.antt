@@ -14,7 +14,7 @@ use Rattle.kp_writer.proofs.writer.Writer.check_names.Goals as goal
 pub returns-clause-no_clash : goal.returns-clause-no_clash
 returns-clause-no_clash c =
     let v : WriterParts = record { config = c.self.inside.config; ports = c.self.inside.ports } in
-    let all = ap (map (λ i. i.now)) c.deref-2.ensures.value ∙ c.in_ok-infos.ensures
+    let all = ap (map (λ (i : Bor PortInfo). i.now)) c.deref-2.ensures.value ∙ c.in_ok-infos.ensures
     ∙ ap (λ (ks : List (Bor PortKey)). infos_at (newest_ports v) (map (λ k. k.now) ks))
     c.deref.ensures.value
     ∙ ap (infos_at (newest_ports v)) c.in_ok-ports.ensures
@@ -26,7 +26,7 @@ returns-clause-no_clash c =
 pub returns-clause-clash : goal.returns-clause-clash
 returns-clause-clash c =
     let v : WriterParts = record { config = c.self.inside.config; ports = c.self.inside.ports } in
-    let all = ap (map (λ i. i.now)) c.deref-2.ensures.value ∙ c.in_ok-infos.ensures
+    let all = ap (map (λ (i : Bor PortInfo). i.now)) c.deref-2.ensures.value ∙ c.in_ok-infos.ensures
     ∙ ap (λ (ks : List (Bor PortKey)). infos_at (newest_ports v) (map (λ k. k.now) ks))
     c.deref.ensures.value
     ∙ ap (infos_at (newest_ports v)) c.in_ok-ports.ensures
