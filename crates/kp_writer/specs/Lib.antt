@@ -1,4 +1,5 @@
 pub mod Alike
+pub mod Batch
 pub mod Next
 pub mod Own
 pub mod Shared
