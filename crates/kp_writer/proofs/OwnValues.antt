@@ -1,6 +1,6 @@
 -- Ports under their own keys, as a list.
-use Rattle.std.proofs.Common.{◌≡◌, List, [], ◌∷◌, map, Contains, Option, Some, None, option_map}
-use Rattle.std.proofs.Common.{unwrap_or, refl, sym, ap, ◌∙◌}
+use Rattle.std.proofs.Common.{◌≡◌, inl, inr, List, [], ◌∷◌, map, Contains, Option, Some, None}
+use Rattle.std.proofs.Common.{option_map, unwrap_or, refl, sym, ap, ◌∙◌}
 use Rattle.std.specs.List.{AllByRecursion, cons_option, filter_map}
 use Rattle.std.specs.FinMap.{entries, get, keys, values}
 use Rattle.kp_lemmas.proofs.Entries.{entries_found}

@@ -26,7 +26,7 @@ returns-clause-made g c =
     least_steps v c.args.self.now c.self.view_is c.self.inside.blocks c.self.invariant
     c.deref.result.now c.in_ok-keys.keys.items c.deref.ensures.value c.in_ok-keys.ensures
     c.args.table.now.chains c.in_ok-next.next c.in_ok-edits.field-0.edits c.args.steps.now
-    c.next_chains-next.new.steps c.in_ok-next.ensures.next c.in_ok-edits.ensures
+    c.next_chains.new.steps c.in_ok-next.ensures.next c.in_ok-edits.ensures
     c.in_ok-next.ensures.made
 
 pub returns-clause-steps : goal.returns-clause-steps
@@ -34,4 +34,25 @@ returns-clause-steps g c =
     let v : WriterParts = record { config = c.self.inside.config; ports = c.self.inside.ports } in
     most_steps v c.args.self.now c.self.view_is c.self.inside.blocks c.self.invariant
     c.deref.result.now c.in_ok-keys.keys.items c.deref.ensures.value c.in_ok-keys.ensures
-    c.args.steps.now c.next_chains-next.new.steps c.in_ok-next.ensures.steps
+    c.args.steps.now c.next_chains.new.steps c.in_ok-next.ensures.steps
+
+pub returns-in_err-next-clause-steps : goal.returns-in_err-next-clause-steps
+returns-in_err-next-clause-steps g c =
+    let v : WriterParts = record { config = c.self.inside.config; ports = c.self.inside.ports } in
+    most_steps v c.args.self.now c.self.view_is c.self.inside.blocks c.self.invariant
+    c.deref.result.now c.in_ok-keys.keys.items c.deref.ensures.value c.in_ok-keys.ensures
+    c.args.steps.now c.next_chains.new.steps c.in_err-next.ensures.steps
+
+pub returns-in_err-check_names-clause-steps : goal.returns-in_err-check_names-clause-steps
+returns-in_err-check_names-clause-steps g c =
+    let v : WriterParts = record { config = c.self.inside.config; ports = c.self.inside.ports } in
+    most_steps v c.args.self.now c.self.view_is c.self.inside.blocks c.self.invariant
+    c.deref.result.now c.in_ok-keys.keys.items c.deref.ensures.value c.in_ok-keys.ensures
+    c.args.steps.now c.next_chains.new.steps c.in_ok-next.ensures.steps
+
+pub returns-in_err-edits-clause-steps : goal.returns-in_err-edits-clause-steps
+returns-in_err-edits-clause-steps g c =
+    let v : WriterParts = record { config = c.self.inside.config; ports = c.self.inside.ports } in
+    most_steps v c.args.self.now c.self.view_is c.self.inside.blocks c.self.invariant
+    c.deref.result.now c.in_ok-keys.keys.items c.deref.ensures.value c.in_ok-keys.ensures
+    c.args.steps.now c.next_chains.new.steps c.in_ok-next.ensures.steps
