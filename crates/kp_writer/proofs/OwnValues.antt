@@ -12,7 +12,7 @@ use Rattle.kp_types.specs.Setting.{Setting}
 use Rattle.kp_object_defs.specs.PortInfo.{PortInfo}
 use Rattle.kp_table_laws.specs.Laws.{HaveOwnKeys}
 use Rattle.kp_writer_laws.proofs.LocalChanges.{same_given}
-use Rattle.kp_blocks.specs.Joined.{Block, BlocksByPort, port_block}
+use Rattle.kp_blocks.specs.Joined.{BlocksByPort, port_block}
 use Rattle.kp_writer.specs.Sync.{infos_at}
 use Rattle.kp_writer.specs.Written.{AreBlocksOf, AreUnderOwnKeys, Ports}
 use Rattle.kp_writer.proofs.DirtyLists.{keys_rise, not_found}

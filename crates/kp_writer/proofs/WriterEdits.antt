@@ -1,6 +1,6 @@
 -- What the edits of a writer are, from what it keeps.
 use Rattle.std.proofs.Common.{◌≡◌, ◌+◌, ℕ, ◌≤◌, arith, Bool, true, false, true≢false, not, Bor}
-use Rattle.std.proofs.Common.{List, map, filter, Contains, None, refl, sym, ap, subst, ◌∙◌}
+use Rattle.std.proofs.Common.{List, map, filter, Contains, None, sym, ap, subst, ◌∙◌}
 use Rattle.std.proofs.Math.Bool.{not-not}
 use Rattle.std.specs.FinMap.{entries, get, values}
 use Rattle.kp_lemmas.proofs.Equality.{options_exact}

@@ -1,4 +1,4 @@
-use Rattle.std.proofs.Common.{Bor, arith, map, sym, ap, ◌∙◌}
+use Rattle.std.proofs.Common.{Bor, arith, sym, ap, ◌∙◌}
 use Rattle.std.specs.FinMap.{get}
 use Rattle.std.proofs.lemmas.Simd.{map-map}
 use Rattle.kp_base.specs.Keys.{port_key_cmp}

@@ -1,5 +1,4 @@
 use Rattle.std.proofs.Common.{◌≡◌, Bor, List, None, map, ap, subst, ◌∙◌}
-use Rattle.std.specs.FinMap.{values}
 use Rattle.std.specs.Result.{IfErr, OnOk}
 use Rattle.kp_base.specs.declared.key.PortKey.{PortKey}
 use Rattle.kp_choice_defs.specs.Names.{first_clash}
