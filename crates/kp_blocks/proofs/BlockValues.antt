@@ -1,9 +1,9 @@
--- The blocks of a sorted map, in order.
+-- The ports and the blocks of a sorted map, in order.
 use Rattle.std.proofs.Common.{◌≡◌, List, [], ◌∷◌, ◌++◌, map, flat_map, append-nil, sym, ap, ◌∙◌}
 use Rattle.std.proofs.Common.{Bor}
 use Rattle.std.specs.declared.cmp.Ordering.TheVariants.{Less}
 use Rattle.std.specs.List.Sorted.{IsStrictlySortedBy}
-use Rattle.std.specs.FinMap.{from_entries, values}
+use Rattle.std.specs.FinMap.{from_entries, keys, values}
 use Rattle.std.proofs.lemmas.List.{map-append}
 use Rattle.std.proofs.lemmas.List.Concat.{flat_map-append}
 use Rattle.kp_lemmas.proofs.ListFacts.{all_weaker}
@@ -40,4 +40,12 @@ pub block_values : (es : List (PortKey × List ChainText))
     → map (λ e. e.1) es ≡ values (from_entries {R = port_key_cmp} es)
 block_values es h =
     ap (map (λ e. e.1)) (sym (entries_of port_key_total port_key_exact es (rises (map
+    (λ e. e.0) es) h)))
+
+-- so are the ports that have one
+pub block_ports : (es : List (PortKey × List ChainText))
+    → IsStrictlySortedBy order.ghosts.cmp (map (λ e. e.0) es)
+    → map (λ e. e.0) es ≡ keys (from_entries {R = port_key_cmp} es)
+block_ports es h =
+    ap (map (λ e. e.0)) (sym (entries_of port_key_total port_key_exact es (rises (map
     (λ e. e.0) es) h)))

@@ -97,6 +97,13 @@ impl Blocks {
         self.ports.remove(port);
     }
 
+    /// The ports that have a block, in order.
+    pub fn ports(&self, alloc: Global) -> Result<Vec<&PortKey>, NoMemory>
+        ensures { IfOk result (λ ports. map (λ k. k.now) ports.items ≡ finite.keys self.now) }
+    {
+        Ok(self.ports.keys().collect(alloc)?)
+    }
+
     /// The rules of a chain of IPv4: its fixed rules but the last jump to KUBE-NODEPORTS, the
     /// blocks' rules in order of ports, and that jump, where the chain has it.
     pub fn joined(&self, alloc: Global, at: &ChainAt) -> Result<Items<Rule>, NoMemory>

@@ -1,5 +1,6 @@
 //! The full table of the objects, and of what is known of the ports.
-ghost use Rattle.std.specs.Prelude.{◌≡◌, ◌+◌, ◌++◌, ◌≤◌, List, length, None, IfOk, IfErr, OnOk};
+ghost use Rattle.std.specs.Prelude.{◌≡◌, ◌+◌, ◌++◌, ◌≤◌, List, length, map, None, IfOk};
+ghost use Rattle.std.specs.Prelude.{IfErr, OnOk};
 ghost use Rattle.kp_base.specs.declared.address.Family.TheVariants.{V4};
 ghost use Rattle.kp_choice_defs.specs.Names.{chain_name, first_clash};
 ghost use Rattle.kp_choice_defs.specs.Settings.{setting_of};
@@ -14,12 +15,11 @@ ghost use Rattle.kp_full_table.specs.Faults.{TellsClash};
 ghost use Rattle.kp_full_table.specs.Parts.{IsPartOf, all_port_count, all_rule_count};
 
 use crate::fault::TableFault;
-use crate::keys::needed_keys;
+use crate::names::check_names;
 use crate::part::{Part, joined, no_part, part_of_port};
 use kp_base::{Config, NoMemory, Steps};
 use kp_chains::{filter_rows, nat_rows, table_of};
 use kp_known_ports::port_infos;
-use kp_names::Namer;
 use kp_rules::Table;
 use kp_store::Objects;
 use kp_types::{ChainText, PortInfo};
@@ -77,13 +77,13 @@ pub fn table_of_infos<L: Ledger>(
 {
     let part = part_of_ports(alloc, config, infos, steps)?;
     let (table, rows) = table_of_part(alloc, part)?;
-    check_names(alloc, config, infos, rows, &table)?;
+    check_rows(alloc, config, infos, rows, &table)?;
     Ok(table)
 }
 
 /// Checks that no two chains that are needed have one name. Where the table has a chain for each of
 /// its rows none have, so that the names are made again and compared only where rows share a place.
-fn check_names(
+fn check_rows(
     alloc: Global,
     config: &Config,
     infos: &[PortInfo],
@@ -100,8 +100,14 @@ fn check_names(
     if rows as u64 == table.count() {
         return Ok(());
     }
-    let keys = needed_keys(alloc, infos)?;
-    Ok(Namer::new(config.name_length).check_names(alloc, &keys)?)
+    check_names(alloc, config, &references(alloc, infos)?)
+}
+
+/// References to ports.
+fn references(alloc: Global, infos: &[PortInfo]) -> Result<Vec<&PortInfo>, NoMemory>
+    ensures { IfOk result (λ refs. map (λ i. i.now) refs.items ≡ infos.now) }
+{
+    Ok(infos.iter().collect(alloc)?)
 }
 
 /// What all ports contribute, in their order.

@@ -1,5 +1,5 @@
 //! The chains that ports need, by what they are for.
-ghost use Rattle.std.specs.Prelude.{◌≡◌, ◌++◌, IfOk, OnOk};
+ghost use Rattle.std.specs.Prelude.{◌≡◌, ◌++◌, map, IfOk, OnOk};
 ghost use Rattle.std.specs.List.{filter, flat_map};
 ghost use Rattle.kp_base.specs.Keys.{endpoint_cmp};
 ghost use Rattle.kp_choice_defs.specs.Names.{port_chain_place};
@@ -14,8 +14,8 @@ use std::alloc::Global;
 use std::collections::BTreeSet;
 
 /// The keys of all chains that ports need: by kind, port and endpoint.
-pub fn needed_keys(alloc: Global, infos: &[PortInfo]) -> Result<Items<ChainKey>, NoMemory>
-    ensures { IfOk result (λ keys. keys ≡ spec.needed_keys infos.now) }
+pub fn needed_keys(alloc: Global, infos: &[&PortInfo]) -> Result<Items<ChainKey>, NoMemory>
+    ensures { IfOk result (λ keys. keys ≡ spec.needed_keys (map (λ i. i.now) infos.now)) }
 {
     let own = all_own_keys(alloc, infos)?;
     let mut keys = Vec::new(alloc);
@@ -25,8 +25,9 @@ pub fn needed_keys(alloc: Global, infos: &[PortInfo]) -> Result<Items<ChainKey>,
 }
 
 /// The keys of all ports' own chains.
-fn all_own_keys(alloc: Global, infos: &[PortInfo]) -> Result<Vec<ChainKey>, NoMemory>
-    ensures { IfOk result (λ own. own.items ≡ flat_map own_spec.own_keys infos.now) }
+fn all_own_keys(alloc: Global, infos: &[&PortInfo]) -> Result<Vec<ChainKey>, NoMemory>
+    ensures { IfOk result (λ own. own.items
+        ≡ flat_map own_spec.own_keys (map (λ i. i.now) infos.now)) }
 {
     let mut own = Vec::new(alloc);
     for info in infos {
@@ -98,9 +99,13 @@ fn place(kind: PortChain) -> u8
 }
 
 /// Adds the keys of the chains of all ports' endpoints, those of each port in order.
-fn add_in_order(alloc: Global, keys: &mut Vec<ChainKey>, infos: &[PortInfo]) -> Result<(), NoMemory>
+fn add_in_order(
+    alloc: Global,
+    keys: &mut Vec<ChainKey>,
+    infos: &[&PortInfo],
+) -> Result<(), NoMemory>
     ensures { OnOk result (keys.new.items
-        ≡ keys.old.items ++ flat_map spec.endpoint_keys infos.now) }
+        ≡ keys.old.items ++ flat_map spec.endpoint_keys (map (λ i. i.now) infos.now)) }
 {
     for info in infos {
         add_keys_of(alloc, keys, info)?;

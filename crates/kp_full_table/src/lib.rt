@@ -6,9 +6,11 @@
 mod fault;
 mod full;
 mod keys;
+mod names;
 mod part;
 
 pub use fault::TableFault;
 pub use full::{rebuild, table_of_infos};
 pub use kp_types::{Clash, PortInfo};
+pub use names::check_names;
 pub use part::{Part, part_of_port};

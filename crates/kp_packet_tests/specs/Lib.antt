@@ -3,3 +3,4 @@ pub mod Answers
 pub mod Live
 pub mod Refusals
 pub mod Slices
+pub mod Syncs

@@ -1,5 +1,5 @@
 //! Tests of the calls that packets cross: draws, session affinity, the store, tables, walks and
-//! decisions; of what is printed: worked examples of the printed lines, each call of kp_report,
+//! decisions; the syncs of a writer; of what is printed: worked examples of the printed lines, each call of kp_report,
 //! which gives exactly these lines, kp_gen, which gives the lines of a script, kp_rule_text and
 //! kp_restore, which read and print the texts of tables and batches; tests with threads: events
 //! that four feed and one takes, and published tables that two read beside the publisher, or that
@@ -34,6 +34,8 @@ mod rules;
 mod script;
 #[cfg(test)]
 mod store;
+#[cfg(test)]
+mod syncs;
 #[cfg(test)]
 mod tables;
 #[cfg(test)]

@@ -27,16 +27,18 @@ const RULES: &str = "-A KUBE-SVC- ! -s 10.244.0.0/16 -d 10.96.0.10/32 -p tcp -m 
 -A KUBE-SERVICES -d 10.96.0.10/32 -p tcp -m tcp --dport 80 -j KUBE-SVC-
 ";
 
-/// The lists of one endpoint on another node.
-fn lists(alloc: Global) -> Result<Lists, Fail> {
-    let address = Address::parse(b"10.244.1.2").ok().ok_or("an address")?;
-    let port = PortNo::new(8080).ok_or("a port")?;
+/// The lists of one endpoint of an address on another node, or of none.
+pub fn lists_of(alloc: Global, address: &str) -> Result<Lists, Fail> {
     let mut cluster = Vec::new(alloc);
-    cluster.push(Endpoint { address, port })?;
+    if !address.is_empty() {
+        let address = Address::parse(address.as_bytes()).ok().ok_or("an address")?;
+        let port = PortNo::new(8080).ok_or("a port")?;
+        cluster.push(Endpoint { address, port })?;
+    }
     Ok(Lists {
+        has_any: !cluster.is_empty(),
         cluster: Items::from_vec(cluster),
         local: Items::new(alloc),
-        has_any: true,
     })
 }
 
@@ -53,7 +55,7 @@ fn push_ports<L: Ledger>(
     requires some_rules { 0 < rules.parts }
 {
     let mut steps = Steps::<L>::new(rules);
-    let lists = lists(alloc)?;
+    let lists = lists_of(alloc, "10.244.1.2")?;
     for port in service.ports.as_slice() {
         let chains = port_chains(alloc, service, port, &lists, config, &mut steps)?;
         push_rows(alloc, text, chains.as_slice())?;
@@ -81,7 +83,7 @@ fn push_row(alloc: Global, text: &mut String, row: &ChainText) -> Result<(), NoM
 }
 
 /// The configuration of a line.
-fn config_of(alloc: Global, line: &str) -> Result<Config, Fail> {
+pub fn config_of(alloc: Global, line: &str) -> Result<Config, Fail> {
     match op_of(alloc, 1, line)? {
         Op::Config(config) => Ok(config),
         _ => Err(Fail::from("a configuration")),

@@ -46,7 +46,7 @@ back true true false some false same all = refl
 back true false false true false same all = let h : false ≡ true = all refl in absurd (cc)
 back true false false false false same all = refl
 
-or_later : (a p q : Bool) → (p ≡ true → q ≡ true) → a || p ≡ true → a || q ≡ true
+pub or_later : (a p q : Bool) → (p ≡ true → q ≡ true) → a || p ≡ true → a || q ≡ true
 or_later true p q f h = refl
 or_later false p q f h = f h
 

@@ -1,6 +1,6 @@
 -- The objects of the keys in a bucket are those with its tag.
-use Rattle.std.proofs.Common.{◌≡◌, Bool, true, false, cond, List, [], ◌∷◌, length, map, filter, Option, Some, None, is_some, refl, sym, ap, subst, ◌∙◌, T}
-use Rattle.std.specs.List.{filter_map, cons_option, AllByRecursion}
+use Rattle.std.proofs.Common.{◌≡◌, ◌||◌, Bool, true, false, cond, List, [], ◌∷◌, length, map, filter, Option, Some, None, is_some, refl, sym, ap, subst, ◌∙◌, T}
+use Rattle.std.specs.List.{filter_map, cons_option, list_any, AllByRecursion}
 use Rattle.std.specs.Ordering.{eq_by_cmp, is_lt}
 use Rattle.std.specs.FinMap as finite
 use Rattle.std.specs.FinMap.{FinMap, find, is_sorted, entries, entries_sorted, get, get-entries, contains_key, len, len-entries}
@@ -13,6 +13,7 @@ use Rattle.kp_lemmas.proofs.Entries.{entries_found}
 use Rattle.kp_base.specs.Keys.{key_cmp}
 use Rattle.kp_base.specs.declared.key.ObjectKey.{ObjectKey}
 use Rattle.kp_base.proofs.KeyOrder.{key_total, key_exact}
+use Rattle.kp_object_defs.specs.OwnKeys.{IsUnderOwnKeys}
 use Rattle.kp_store.specs.Indexes.{Keys, is_among, is_tagged}
 
 -- options of nothing
@@ -126,3 +127,36 @@ found_all {X} same tags tag m keys has = found_passes (λ x. is_among same (tags
 -- a bucket has as many keys as objects have its tag
 pub count_all : {T X : Type 0} (same : T → T → Bool) (tags : X → List T) (tag : T) (m : FinMap key_cmp X) (keys : Keys) → ((k : ObjectKey) → contains_key keys k ≡ is_tagged same tags tag (get m k)) → len keys ≡ length (filter (λ x. is_among same (tags x) tag) (finite.values m))
 count_all same tags tag m keys has = count_passes (λ x. is_among same (tags x) tag) m keys (λ k. has k ∙ agrees same tags tag (get m k))
+
+-- ---- objects under their own keys
+
+own_of : {X : Type 0} (key_of : X → ObjectKey) (m : FinMap key_cmp X) → IsUnderOwnKeys key_of m
+    → (es : List (ObjectKey × X)) → AllByRecursion (λ e. get m e.0 ≡ Some e.1) es
+    → map key_of (map (λ e. e.1) es) ≡ map (λ e. e.0) es
+own_of key_of m own [] all = refl
+own_of key_of m own (e ∷ es) all =
+    λ i. own e.0 e.1 all.0 i ∷ own_of key_of m own es all.1 i
+
+among_bare : {X : Type 0} (k : ObjectKey) (es : List (ObjectKey × X))
+    → list_any (eq_by_cmp key_cmp k) (map (λ e. e.0) es) ≡ is_some (find key_cmp k (bare es))
+among_bare k [] = refl
+among_bare k (e ∷ es) = by (eq_by_cmp key_cmp k e.0) (find key_cmp k (bare es)) (among_bare k es)
+  where
+    by : {b : Bool} (t : Bool) (o : Option (Unit {0})) → b ≡ is_some o
+        → t || b ≡ is_some (cond t (Some tt) o)
+    by true o is = refl
+    by false o is = is
+
+-- a key is among those of the objects that pass where its object passes
+pub passing_keys : {X : Type 0} (key_of : X → ObjectKey) (p : X → Bool) (m : FinMap key_cmp X)
+    → IsUnderOwnKeys key_of m → (k : ObjectKey)
+    → list_any (eq_by_cmp key_cmp k) (map key_of (filter p (finite.values m))) ≡ passes p (get m k)
+passing_keys {X} key_of p m own k =
+    ap (λ xs. list_any (eq_by_cmp key_cmp k) (map key_of xs)) (sym (values_passing p (entries m)))
+    ∙ ap (list_any (eq_by_cmp key_cmp k)) (own_of key_of m own (passing p (entries m)) found)
+    ∙ among_bare k (passing p (entries m))
+    ∙ found_passing p k (entries m) (entries_sorted m)
+    ∙ ap (passes p) (sym (get-entries m k))
+  where
+    found : AllByRecursion (λ e. get m e.0 ≡ Some e.1) (passing p (entries m))
+    found = all_filter (λ e. get m e.0 ≡ Some e.1) (λ e. p e.1) (entries m) (entries_found key_total m)

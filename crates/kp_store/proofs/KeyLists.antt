@@ -21,7 +21,7 @@ or_last true false c = refl
 or_last false true c = refl
 or_last false false c = refl
 
-or_between : (a b c : Bool) → a || (b || c) ≡ b || (a || c)
+pub or_between : (a b c : Bool) → a || (b || c) ≡ b || (a || c)
 or_between true true c = refl
 or_between true false c = refl
 or_between false b c = refl

@@ -1,3 +1,4 @@
+pub mod Adding
 pub mod Buckets
 pub mod Changed
 pub mod Filled
@@ -9,6 +10,8 @@ pub mod OwnObjects
 pub mod Ordered
 pub mod Owners
 pub mod Rarest
+pub mod SameObjects
 pub mod Selected
 pub mod SortedEntries
+pub mod Unchanged
 pub mod Unions

@@ -1,8 +1,11 @@
 -- The slices of a Service, by the keys of their owners, and the pods of a node, by its name.
 use Rattle.std.proofs.Common.{◌≡◌, ℕ, ◌&&◌, List, [], ◌∷◌, ◌++◌, map, filter, bytes_eq, Option, Some, None, option_map, refl, sym, ◌∙◌}
+use Rattle.std.specs.List.{list_any}
 use Rattle.std.specs.Option.{option_to_list}
+use Rattle.std.specs.Ordering.{eq_by_cmp}
 use Rattle.std.specs.Cmp.{eq_by_cmp_equiv}
 use Rattle.std.specs.Cmp.Lexicographic.{nat_list_eq_equiv}
+use Rattle.kp_base.specs.Keys.{key_cmp}
 use Rattle.kp_base.specs.declared.key.ObjectKey.{ObjectKey}
 use Rattle.kp_base.specs.contracts.key.ObjectKeyPartialEq.TheImpl as key_eq
 use Rattle.kp_base.proofs.KeyOrder.{key_total, key_ties}
@@ -28,6 +31,11 @@ owned_by service s (Some name) =
 -- those with the Service as their owner are the slices of the Service
 pub of_owner : (service : ObjectKey) (slices : List Slice) → filter (λ s. is_among key_eq.ghosts.eq (owners_of s) service) slices ≡ filter (is_of_service service) slices
 of_owner service slices = λ i. filter (λ s. owned_by service s s.service i) slices
+
+-- the Service that a slice names is its owner
+pub owned : (k : ObjectKey) (s : Slice)
+    → list_any (eq_by_cmp key_cmp k) (owners_of s) ≡ is_of_service k s
+owned k s = sym (λ i. list_any (λ q. key_ties k q i) (owners_of s)) ∙ owned_by k s s.service
 
 named_node : (node : List ℕ) (own : Option (List ℕ)) → is_among tag_eq.ghosts.eq (option_to_list (option_map On own)) (On node) ≡ is_named node own
 named_node node None = refl

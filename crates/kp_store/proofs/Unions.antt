@@ -18,11 +18,12 @@ any_more p xs i x lt is =
     ∙ ap (λ y. list_any p (take i xs) || p y) is
     ∙ sym (list_any_more p xs i x lt)
 
--- one more key was put
-pub put_more : {Q : Type 0} (key_of : Q → ObjectKey) (names : List Q) (i : ℕ) (q : Q) (k : ObjectKey) (old : Bool) → i < length names → q ≡ get_or names i q → eq_by_cmp key_cmp k (key_of q) || (list_any (λ x. eq_by_cmp key_cmp k (key_of x)) (take i names) || old) ≡ list_any (λ x. eq_by_cmp key_cmp k (key_of x)) (take (i + 1) names) || old
-put_more key_of names i q k old lt is =
-    sym (or_assoc (eq_by_cmp key_cmp k (key_of q)) (list_any (λ x. eq_by_cmp key_cmp k (key_of x)) (take i names)) old)
-    ∙ ap (λ b. b || old) (any_more (λ x. eq_by_cmp key_cmp k (key_of x)) names i q lt is)
+-- a test of one more element, beside another test
+pub more_beside : {X : Type 0} (p : X → Bool) (xs : List X) (i : ℕ) (x : X) (old : Bool)
+    → i < length xs → x ≡ get_or xs i x
+    → p x || (list_any p (take i xs) || old) ≡ list_any p (take (i + 1) xs) || old
+more_beside p xs i x old lt is =
+    sym (or_assoc (p x) (list_any p (take i xs)) old) ∙ ap (λ b. b || old) (any_more p xs i x lt is)
 
 -- a key is among the keys of a map
 pub among_keys : {X : Type 0} (m : FinMap key_cmp X) (k : ObjectKey) → list_any (eq_by_cmp key_cmp k) (finite.keys m) ≡ contains_key m k
@@ -36,10 +37,11 @@ among_keys {X} m k = among (entries m) ∙ ap is_some (sym (get-entries m k))
     among [] = refl
     among (e ∷ es) = by (eq_by_cmp key_cmp k e.0) e.1 (find key_cmp k es) (list_any (eq_by_cmp key_cmp k) (map (λ e. e.0) es)) (among es)
 
--- what names stand for
-pub any_shown : {Q : Type 0} (key_of : Q → ObjectKey) (k : ObjectKey) (qs : List Q) → list_any (λ q. eq_by_cmp key_cmp k (key_of q)) qs ≡ list_any (eq_by_cmp key_cmp k) (map key_of qs)
-any_shown key_of k [] = refl
-any_shown key_of k (q ∷ qs) = ap (λ b. eq_by_cmp key_cmp k (key_of q) || b) (any_shown key_of k qs)
+-- a test of what others show
+pub any_shown : {Q X : Type 0} (shown : Q → X) (p : X → Bool) (qs : List Q)
+    → list_any (λ q. p (shown q)) qs ≡ list_any p (map shown qs)
+any_shown shown p [] = refl
+any_shown shown p (q ∷ qs) = ap (λ b. p (shown q) || b) (any_shown shown p qs)
 
 -- the keys of one more bucket
 pub union_more : {T : Type 0} (in_bucket : T → Bool) (tags : List T) (i : ℕ) (t : T) (new old : Bool) → i < length tags → t ≡ get_or tags i t → new ≡ in_bucket t || old → old ≡ list_any in_bucket (take i tags) → new ≡ list_any in_bucket (take (i + 1) tags)

@@ -4,5 +4,8 @@ pub mod LookUps
 pub mod Named
 pub mod NodeNames
 pub mod Rarest
+pub mod SameSlice
 pub mod Stored
 pub mod Tags
+pub mod Touched
+pub mod Unchanged

@@ -58,7 +58,7 @@ impl<K: Name, X: Drop> Hashed<K, X> {
     }
 
     /// The object of a key, if there is one.
-    fn at(&self, key: &ObjectKey) -> Option<&X>
+    pub fn at(&self, key: &ObjectKey) -> Option<&X>
         ensures { option_copied result ≡ finite.get self.now key.now }
     {
         match K::of(key) {

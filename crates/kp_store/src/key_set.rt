@@ -1,5 +1,5 @@
 //! Keys of objects, in order.
-ghost use Rattle.std.specs.Prelude.{◌≡◌, ◌<◌, ◌^◌, ◌||◌, ◌↔◌, map, IfOk, OnOk, OnErr, IsTrue};
+ghost use Rattle.std.specs.Prelude.{◌≡◌, ◌<◌, ◌^◌, ◌||◌, ◌↔◌, true, map, IfOk, OnOk, OnErr, IsTrue};
 ghost use Rattle.std.specs.List.{list_any};
 ghost use Rattle.std.specs.Ordering.{eq_by_cmp};
 ghost use Rattle.kp_base.specs.Keys.{key_cmp};
@@ -78,11 +78,13 @@ impl KeySet {
         Ok(())
     }
 
-    /// Puts the keys of names.
+    /// Puts the keys of names. Where memory is out, some of them may be there, and none is lost.
     pub fn put_all<K: Name>(&mut self, alloc: Global, names: &[&K]) -> Result<(), NoMemory>
-        ensures { OnOk result ((k : ObjectKey) → finite.contains_key self.new k
+        ensures all { OnOk result ((k : ObjectKey) → finite.contains_key self.new k
             ≡ list_any (λ q. eq_by_cmp key_cmp k (K.key_of q.now)) names.now
             || finite.contains_key self.old k) }
+        ensures kept { OnErr result ((k : ObjectKey) → finite.contains_key self.old k ≡ true
+            → finite.contains_key self.new k ≡ true) }
     {
         for name in names {
             self.put(name.key(alloc)?)?;

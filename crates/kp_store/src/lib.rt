@@ -2,6 +2,7 @@
 #![tactic(auto)]
 
 mod bucket;
+mod changes;
 mod hashed;
 mod index;
 mod indexed;
@@ -10,8 +11,12 @@ mod named;
 mod objects;
 mod selections;
 mod tags;
+mod touched;
+mod touching;
 mod wanted;
 
 pub use indexed::{Indexed, Tagged};
+pub use key_set::KeySet;
 pub use objects::Objects;
+pub use touched::Touched;
 pub use wanted::wanted_of;

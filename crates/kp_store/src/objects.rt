@@ -135,6 +135,27 @@ impl Objects {
         self.services.get(key)
     }
 
+    /// The slice of a key, if there is one.
+    pub fn slice(&self, key: &ObjectKey) -> Option<&Slice>
+        ensures { option_copied result ≡ finite.get self.now.slices key.now }
+    {
+        self.slices.get(key)
+    }
+
+    /// The pod of a key, if there is one.
+    pub fn pod(&self, key: &ObjectKey) -> Option<&Pod>
+        ensures { option_copied result ≡ finite.get self.now.pods key.now }
+    {
+        self.pods.get(key)
+    }
+
+    /// The node of a key, if there is one: a key of a namespace is that of no node.
+    pub fn node_at(&self, key: &ObjectKey) -> Option<&Node>
+        ensures { option_copied result ≡ finite.get self.now.nodes key.now }
+    {
+        self.nodes.at(key)
+    }
+
     /// All Services, in order of their keys. Each object stands under its own key.
     pub fn all_services(&self, alloc: Global) -> Result<Vec<&Service>, NoMemory>
         ensures found { IfOk result (λ ss. map (λ s. s.now) ss.items
@@ -173,11 +194,14 @@ impl Objects {
     }
 
     /// The keys of the Services that select a pod, which may be one that an event brings, in order.
+    /// Each object stands under its own key.
     pub fn services_selecting(&self, alloc: Global, pod: &Pod) -> Result<Items<ObjectKey>, NoMemory>
-        ensures { IfOk result (λ ks. ks ≡ find.services_selecting self.now pod.now) }
+        ensures found { IfOk result (λ ks. ks ≡ find.services_selecting self.now pod.now) }
+        ensures own_keys { AreUnderOwnKeys self.now }
     {
+        let services = &self.services;
         let tags = selected_by(alloc, pod)?;
-        let found = self.services.found_any(alloc, tags.as_slice())?;
+        let found = services.found_any(alloc, tags.as_slice())?;
         keys_selecting(alloc, found.as_slice(), pod)
     }
 

@@ -19,10 +19,10 @@ returns c =
     let others = finite.contains_key c.args.keys.now k in
     let test : List ObjectKey → Bool = list_any (eq_by_cmp key_cmp k) in
     let seen : List (Bor ObjectKey) → Bool = λ qs. test (map (λ q. q.now) qs) in
-    let listed = any_shown (λ (q : Bor ObjectKey). q.now) k c.as_slice.result.now ∙ ap seen c.as_slice.ensures.value ∙ ap test (map_from_collect {E = ℕ} (Ok c.in_ok-few.few) c.in_ok-few.ensures.ran (YieldsList-from_slice c.deref.result.now cc) ∙ c.deref.ensures.value) in
-    let beside = any_shown (λ (q : Bor ObjectKey). q.now) k c.as_slice-2.result.now ∙ ap seen c.as_slice-2.ensures.value ∙ ap test c.in_ok-many.ensures ∙ among_keys many k in
+    let listed = any_shown (λ (q : Bor ObjectKey). q.now) (eq_by_cmp key_cmp k) c.as_slice.result.now ∙ ap seen c.as_slice.ensures.value ∙ ap test (map_from_collect {E = ℕ} (Ok c.in_ok-few.few) c.in_ok-few.ensures.ran (YieldsList-from_slice c.deref.result.now cc) ∙ c.deref.ensures.value) in
+    let beside = any_shown (λ (q : Bor ObjectKey). q.now) (eq_by_cmp key_cmp k) c.as_slice-2.result.now ∙ ap seen c.as_slice-2.ensures.value ∙ ap test c.in_ok-many.ensures ∙ among_keys many k in
     is k
-    ∙ (λ i. beside i || c.in_ok-put_all.ensures k i)
+    ∙ (λ i. beside i || c.in_ok-put_all.ensures.all k i)
     ∙ ap (λ b. finite.contains_key many k || (b || others)) listed
     ∙ in_both few many k others
-    ∙ ap (λ m. finite.contains_key m k || others) c.self.view_is) c.put_all-2.ensures
+    ∙ ap (λ m. finite.contains_key m k || others) c.self.view_is) c.put_all-2.ensures.all

@@ -14,7 +14,7 @@ returns g c = λ k.
     let es = c.self.inside.entries.entries in
     let key_of = g.K.Name.key_of in
     let names = c.as_slice.result.now in
-    c.in_ok-put_all.ensures k
+    c.in_ok-put_all.ensures.all k
     ∙ ap (λ b. list_any (λ (q : Bor g.row.K.Denot). eq_by_cmp key_cmp k (key_of q.now)) names || b)
     (ap (λ m. finite.contains_key m k) c.new-order.ensures ∙ none_before k)
     ∙ or-false (list_any (λ (q : Bor g.row.K.Denot). eq_by_cmp key_cmp k (key_of q.now)) names)

@@ -11,4 +11,4 @@ returns-in-Some c =
     IfOk-weaker c.services_selecting.result _ _ (λ ks is.
     is
     ∙ ap (selecting now) c.in-Some.ensures
-    ∙ ap (λ (o : Objects). selecting now (finite.get o.pods c.args.pod.now)) c.self.view_is) c.services_selecting.ensures
+    ∙ ap (λ (o : Objects). selecting now (finite.get o.pods c.args.pod.now)) c.self.view_is) c.services_selecting.ensures.found

@@ -13,8 +13,8 @@ use Rattle.kp_store.specs.contracts.tags.ServiceTagEq.TheImpl.Laws as tag_laws
 use Rattle.kp_store.proofs.Selected.{filter_within, has_label_of}
 use Rattle.kp_store.proofs.objects.Objects.services_selecting.Goals as goal
 
-pub returns : goal.returns
-returns c =
+pub returns-clause-found : goal.returns-clause-found
+returns-clause-found c =
     let pod = c.args.pod.now in
     let services = finite.values c.self.inside.services in
     let keys = λ (ss : List Service). map (λ (s : Service). s.key) (filter (λ s. selects s pod) ss) in

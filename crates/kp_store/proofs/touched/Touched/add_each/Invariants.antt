@@ -1,0 +1,11 @@
+-- The Services of the keys so far were added.
+use Rattle.std.proofs.Common.{take}
+use Rattle.std.specs.List.{list_any}
+use Rattle.std.specs.Ordering.{eq_by_cmp}
+use Rattle.kp_base.specs.Keys.{key_cmp}
+use Rattle.kp_store.specs.Touched.{AddsTo}
+use Rattle.kp_store.proofs.touched.Touched.add_each.Given as goal
+
+abbrev pub invariant-loop-key : goal.invariant-loop-key
+invariant-loop-key l =
+    AddsTo (λ k. list_any (eq_by_cmp key_cmp k) (take l.key-index l.keys)) l.fn.self l.self

@@ -1,0 +1,140 @@
+-- What a writer keeps stays in order where a port is put, or goes.
+use Rattle.std.proofs.Common.{◌≡◌, Bool, true, false, cond, Option, Some, None, unwrap_or, refl}
+use Rattle.std.proofs.Common.{option_map, sym, ap, subst, ◌∙◌}
+use Rattle.std.specs.Ordering.{eq_by_cmp}
+use Rattle.std.specs.FinMap.{empty, get, get-empty, get-insert, get-remove, insert, remove}
+use Rattle.kp_lemmas.proofs.Orders.{one_from_tie}
+use Rattle.kp_base.specs.Keys.{port_key_cmp}
+use Rattle.kp_base.specs.declared.address.Family.TheVariants.{V4}
+use Rattle.kp_base.specs.declared.config.Config.{Config}
+use Rattle.kp_base.specs.declared.key.PortKey.{PortKey}
+use Rattle.kp_base.proofs.KeyOrder.{port_key_total, port_key_exact}
+use Rattle.kp_types.specs.Setting.{Setting}
+use Rattle.kp_choice_defs.specs.Settings.{setting_of}
+use Rattle.kp_object_defs.specs.PortInfo.{PortInfo}
+use Rattle.kp_blocks.specs.Joined.{Block, BlocksByPort, port_block}
+use Rattle.kp_writer.specs.Written.{AreBlocksOf, AreUnderOwnKeys, IsKept, Ports, WriterParts}
+use Rattle.kp_writer.specs.Written.{newest_ports, setting_in, written_ports}
+
+-- ---- Own keys
+
+own_by : (m : Ports) (i j : PortInfo) (k : PortKey) → AreUnderOwnKeys m → (b : Bool)
+    → eq_by_cmp port_key_cmp k i.key ≡ b → cond b (Some i) (get m k) ≡ Some j → j.key ≡ k
+own_by m i j k own true tie is =
+    ap (λ o. (unwrap_or o i).key) (sym is) ∙ sym (one_from_tie port_key_exact k i.key tie)
+own_by m i j k own false tie is = own k j is
+
+own_put : (m : Ports) (i : PortInfo) → AreUnderOwnKeys m → AreUnderOwnKeys (insert m i.key i)
+own_put m i own k j is =
+    own_by m i j k own (eq_by_cmp port_key_cmp k i.key) refl
+    (sym (get-insert port_key_total m i.key i k) ∙ is)
+
+left_by : (m : Ports) (j : PortInfo) (k : PortKey) → AreUnderOwnKeys m → (b : Bool)
+    → cond b None (get m k) ≡ Some j → j.key ≡ k
+left_by m j k own true is = absurd (cc)
+left_by m j k own false is = own k j is
+
+own_left : (m : Ports) (port : PortKey) → AreUnderOwnKeys m → AreUnderOwnKeys (remove m port)
+own_left m port own k j is =
+    left_by m j k own (eq_by_cmp port_key_cmp k port) (sym (get-remove port_key_total m port k) ∙ is)
+
+-- ---- Blocks
+
+either : {A B : Type 0} (f : A → B) (b : Bool) (o p : Option A)
+    → cond b (option_map f o) (option_map f p) ≡ option_map f (cond b o p)
+either f true o p = refl
+either f false o p = refl
+
+blocks_put : (s : Setting) (m : Ports) (bs : BlocksByPort) (i : PortInfo) → AreBlocksOf s m bs
+    → AreBlocksOf s (insert m i.key i) (insert bs i.key (port_block s i))
+blocks_put s m bs i are k =
+    get-insert port_key_total bs i.key (port_block s i) k
+    ∙ ap (cond (eq_by_cmp port_key_cmp k i.key) (Some (port_block s i))) (are k)
+    ∙ either (port_block s) (eq_by_cmp port_key_cmp k i.key) (Some i) (get m k)
+    ∙ ap (option_map (port_block s)) (sym (get-insert port_key_total m i.key i k))
+
+blocks_left : (s : Setting) (m : Ports) (bs : BlocksByPort) (port : PortKey) → AreBlocksOf s m bs
+    → AreBlocksOf s (remove m port) (remove bs port)
+blocks_left s m bs port are k =
+    get-remove port_key_total bs port k
+    ∙ ap (cond (eq_by_cmp port_key_cmp k port) None) (are k)
+    ∙ either (port_block s) (eq_by_cmp port_key_cmp k port) None (get m k)
+    ∙ ap (option_map (port_block s)) (sym (get-remove port_key_total m port k))
+
+-- ---- What is kept
+
+-- blocks of ports under a configuration
+abbrev Under : Config → Ports → BlocksByPort → Type 0
+Under config ports blocks = AreBlocksOf (setting_of V4 config) ports blocks
+
+moved : (c d : Config) (m n : Ports) (bs cs : BlocksByPort) → d ≡ c → n ≡ m → cs ≡ bs
+    → Under c m bs → Under d n cs
+moved c d m n bs cs config ports blocks are =
+    subst (λ e. Under e n cs) (sym config) (subst (λ p. Under c p cs) (sym ports) (subst (Under c m)
+    (sym blocks) are))
+
+module _ (w v : WriterParts) (bs cs : BlocksByPort) (kept : IsKept w bs)
+    (config : v.config ≡ w.config) where
+  -- where the ports stay
+  pub stays_kept : written_ports v ≡ written_ports w → newest_ports v ≡ newest_ports w → cs ≡ bs
+      → IsKept v cs
+  stays_kept written newest blocks = record {
+    written = subst AreUnderOwnKeys (sym written) kept.written;
+    newest = subst AreUnderOwnKeys (sym newest) kept.newest;
+    blocks = moved w.config v.config (newest_ports w) (newest_ports v) bs cs config newest blocks
+        kept.blocks;
+  }
+
+  -- where the newest are written
+  pub settled_kept : written_ports v ≡ newest_ports w → newest_ports v ≡ newest_ports w → cs ≡ bs
+      → IsKept v cs
+  settled_kept written newest blocks = record {
+    written = subst AreUnderOwnKeys (sym written) kept.newest;
+    newest = subst AreUnderOwnKeys (sym newest) kept.newest;
+    blocks = moved w.config v.config (newest_ports w) (newest_ports v) bs cs config newest blocks
+        kept.blocks;
+  }
+
+  -- where a port is put
+  pub put_kept : (i : PortInfo) (block : Block) → block ≡ port_block (setting_in w) i
+      → written_ports v ≡ written_ports w → newest_ports v ≡ insert (newest_ports w) i.key i
+      → cs ≡ insert bs i.key block → IsKept v cs
+  put_kept i block made written newest blocks = record {
+    written = subst AreUnderOwnKeys (sym written) kept.written;
+    newest = subst AreUnderOwnKeys (sym newest) (own_put (newest_ports w) i kept.newest);
+    blocks = moved w.config v.config (insert (newest_ports w) i.key i) (newest_ports v)
+        (insert bs i.key (port_block (setting_in w) i)) cs config newest
+        (blocks ∙ ap (insert bs i.key) made)
+        (blocks_put (setting_in w) (newest_ports w) bs i kept.blocks);
+  }
+
+  -- where one goes
+  pub left_kept : (port : PortKey) → written_ports v ≡ written_ports w
+      → newest_ports v ≡ remove (newest_ports w) port → cs ≡ remove bs port → IsKept v cs
+  left_kept port written newest blocks = record {
+    written = subst AreUnderOwnKeys (sym written) kept.written;
+    newest = subst AreUnderOwnKeys (sym newest) (own_left (newest_ports w) port kept.newest);
+    blocks = moved w.config v.config (remove (newest_ports w) port) (newest_ports v)
+        (remove bs port) cs config newest blocks
+        (blocks_left (setting_in w) (newest_ports w) bs port kept.blocks);
+  }
+
+-- ---- Nothing
+
+none_found : (m : Ports) (k : PortKey) (i : PortInfo) → m ≡ empty → get m k ≡ Some i → i.key ≡ k
+none_found m k i none is =
+    absurd (some_none (sym is ∙ ap (λ n. get n k) none ∙ get-empty port_key_cmp k))
+  where
+    some_none : Some i ≡ None → ⊥
+    some_none h = absurd (cc)
+
+pub nothing_kept : (w : WriterParts) (bs : BlocksByPort) → written_ports w ≡ empty
+    → newest_ports w ≡ empty → bs ≡ empty → IsKept w bs
+nothing_kept w bs written newest blocks = record {
+  written = λ k i. none_found (written_ports w) k i written;
+  newest = λ k i. none_found (newest_ports w) k i newest;
+  blocks = λ k.
+      ap (λ n. get n k) blocks ∙ get-empty port_key_cmp k
+      ∙ ap (option_map (port_block (setting_in w))) (sym (ap (λ n. get n k) newest
+      ∙ get-empty port_key_cmp k));
+}

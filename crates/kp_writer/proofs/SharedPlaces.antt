@@ -1,0 +1,167 @@
+-- What stands at a place once the shared chains are joined.
+use Rattle.std.proofs.Common.{◌≡◌, ◌||◌, ◌⊎◌, inl, inr, Bool, true, false, cond, not, List}
+use Rattle.std.proofs.Common.{[], ◌∷◌, Contains, Some, is_some, refl, sym, ap}
+use Rattle.std.proofs.Common.{◌++◌, drop, true≢false, ◌∙◌}
+use Rattle.std.specs.List.{AllByRecursion, fold}
+use Rattle.std.specs.Ordering.{eq_by_cmp}
+use Rattle.std.specs.FinMap.{find, get, get-from_entries, get-insert}
+use Rattle.std.proofs.lemmas.Bool.{or_parts}
+use Rattle.kp_lemmas.proofs.Members.{in_cases, none_in}
+use Rattle.kp_lemmas.proofs.Orders.{one_from_tie, tie_of_itself}
+use Rattle.kp_base.specs.declared.address.Family.TheVariants.{V4}
+use Rattle.kp_types.specs.Places.{chain_cmp}
+use Rattle.kp_types.specs.Setting.{Setting}
+use Rattle.kp_types.specs.declared.chain.ChainAt.{ChainAt}
+use Rattle.kp_types.specs.declared.chain.TableName.TheVariants.{Nat, Filter}
+use Rattle.kp_types.specs.declared.rule.Rule.{Rule}
+use Rattle.kp_types.proofs.ChainOrder.{chain_total, chain_exact}
+use Rattle.kp_table_defs.specs.Edits.{same_rules}
+use Rattle.kp_table_defs.specs.Layout as layout
+use Rattle.kp_rules.proofs.ChangesLead.{same_rules_exact}
+use Rattle.kp_chains.specs.declared.blocks.Blocks.{Blocks}
+use Rattle.kp_blocks.specs.Joined.{BlocksByPort, fixed_chains, joined_rules}
+use Rattle.kp_writer.specs.Next.{NextParts}
+use Rattle.kp_writer.specs.Shared.{Change, blocks_if, differ, join_if, touch_by, with_shared}
+use Rattle.kp_writer.specs.declared.shared.Touched.{Touched}
+
+-- ---- Which chains are touched
+
+-- a chain that isn't touched has the same rules of each port
+module _ (setting : Setting) (flag : Touched → Bool) (rules : Blocks → List Rule)
+    (tells : (t : Touched) (c : Change) → flag (touch_by setting t c) ≡ (flag t || differ (rules
+    (blocks_if setting c.0)) (rules (blocks_if setting c.1)))) where
+  same_from : (a b : List Rule) → differ a b ≡ false → a ≡ b
+  same_from a b h = (same_rules_exact a b).0 (not_false (same_rules a b) h)
+    where
+      not_false : (t : Bool) → not t ≡ false → t ≡ true
+      not_false true n = refl
+      not_false false n = sym n
+
+  pub untouched_by : (t : Touched) (cs : List Change) → flag (fold (touch_by setting) t cs) ≡ false
+      → (flag t ≡ false) × ((c : Change) → Contains cs c → rules (blocks_if setting c.0) ≡ rules
+      (blocks_if setting c.1))
+  untouched_by t [] h = (h, (λ c in_none. absurd (none_in c in_none)))
+  untouched_by t (d ∷ cs) h =
+      let (first, rest) = untouched_by (touch_by setting t d) cs h in
+      let parts = or_parts (flag t) (differ (rules (blocks_if setting d.0)) (rules (blocks_if
+      setting d.1))) (sym (tells t d) ∙ first) in (
+        parts.0,
+        (λ c within. elim (in_cases c d cs within) [
+          | inl e ↦ ap (λ (b : Change). rules (blocks_if setting b.0)) (sym e)
+              ∙ same_from _ _ parts.1 ∙ ap (λ (b : Change). rules (blocks_if setting b.1)) e
+          | inr later ↦ rest c later
+        ]),
+      )
+
+-- ---- What stands where shared chains are joined
+
+module _ (blocks : BlocksByPort) where
+  -- a chain that is joined, or what stood there, where it isn't the chain or that isn't touched
+  abbrev pub JoinedOr : NextParts → NextParts → Bool → ChainAt → ChainAt → Type 0
+  JoinedOr n m b at q =
+      ((q ≡ at) × (get m.places q ≡ Some (Some (joined_rules V4 blocks q))))
+      ⊎ ((q ≡ at → b ≡ false) × (get m.places q ≡ get n.places q))
+
+  joined_by : (n : NextParts) (at q : ChainAt) (t : Bool) → eq_by_cmp chain_cmp q at ≡ t
+      → JoinedOr n (join_if blocks n true at) true at q
+  joined_by n at q true tie =
+      let same = one_from_tie chain_exact q at tie in
+      inl (
+        same,
+        get-insert chain_total n.places at (Some (joined_rules V4 blocks at)) q
+            ∙ ap (λ b. cond b (Some (Some (joined_rules V4 blocks at))) (get n.places q)) tie
+            ∙ ap (λ p. Some (Some (joined_rules V4 blocks p))) (sym same),
+      )
+  joined_by n at q false tie =
+      inr (
+        (λ same. absurd (other same)),
+        get-insert chain_total n.places at
+            (Some (joined_rules V4 blocks at)) q
+            ∙ ap (λ b. cond b (Some (Some (joined_rules V4 blocks at))) (get n.places q)) tie,
+      )
+    where
+      other : q ≡ at → ⊥
+      other same =
+          true≢false (sym (tie_of_itself chain_total at) ∙ ap (λ p. eq_by_cmp chain_cmp p at) (sym
+          same) ∙ tie)
+
+  pub found_joined : (n : NextParts) (b : Bool) (at q : ChainAt)
+      → JoinedOr n (join_if blocks n b at) b at q
+  found_joined n true at q = joined_by n at q (eq_by_cmp chain_cmp q at) refl
+  found_joined n false at q = inr ((λ same. refl), refl)
+
+-- ---- All shared chains
+
+-- the rows of a table of no ports
+abbrev fixed_rows : List (ChainAt × List Rule)
+fixed_rows = layout.nat_rows_with V4 [] [] ++ layout.filter_rows_with V4 [] [] []
+
+-- a fixed chain is one of the table of no ports
+fixed_by : (at : ChainAt) → is_some (find chain_cmp at fixed_rows) ≡ true
+    → is_some (get (fixed_chains V4) at) ≡ true
+fixed_by at h = ap is_some (get-from_entries chain_total fixed_rows at) ∙ h
+
+-- the shared chains, the last first, with whether each is touched
+abbrev pub shared_flags : Touched → List (ChainAt × Bool)
+shared_flags t =
+    (record { table = Filter; chain = layout.kube_services }, t.refusals)
+    ∷ (record { table = Filter; chain = layout.kube_external_services }, t.external)
+    ∷ (record { table = Filter; chain = layout.kube_proxy_firewall }, t.firewall)
+    ∷ (record { table = Nat; chain = layout.kube_node_ports }, t.node_ports)
+    ∷ (record { table = Nat; chain = layout.kube_services }, t.services) ∷ []
+
+module _ (blocks : BlocksByPort) (start : NextParts) where
+  -- a shared chain that was joined, or what stood before, where the place isn't one of those that
+  -- were joined so far, or that wasn't touched
+  abbrev pub Joins : NextParts → List (ChainAt × Bool) → ChainAt → Type 0
+  Joins m done q =
+      ((is_some (get (fixed_chains V4) q) ≡ true)
+      × (get m.places q ≡ Some (Some (joined_rules V4 blocks q))))
+      ⊎ (AllByRecursion (λ d. q ≡ d.0 → d.1 ≡ false) done × (get m.places q ≡ get start.places q))
+
+  one_more : (n : NextParts) (done : List (ChainAt × Bool)) (b : Bool) (at q : ChainAt)
+      → is_some (get (fixed_chains V4) at) ≡ true → Joins n done q
+      → Joins (join_if blocks n b at) ((at, b) ∷ done) q
+  one_more n done b at q fixed so =
+      elim (found_joined blocks n b at q) [
+        | inl h ↦ inl (ap (λ p. is_some (get (fixed_chains V4) p)) h.0 ∙ fixed, h.1)
+        | inr h ↦ elim so [
+          | inl s ↦ inl (s.0, h.1 ∙ s.1)
+          | inr s ↦ inr ((h.0, s.0), h.1 ∙ s.1)
+        ]
+      ]
+
+  pub found_shared : (t : Touched) (q : ChainAt)
+      → Joins (with_shared blocks t start) (shared_flags t) q
+  found_shared t q =
+      one_more _ (drop 1 (shared_flags t)) t.refusals _ q (fixed_by _ refl)
+      (one_more _ (drop 2 (shared_flags t)) t.external _ q (fixed_by _ refl)
+      (one_more _ (drop 3 (shared_flags t)) t.firewall _ q (fixed_by _ refl)
+      (one_more _ (drop 4 (shared_flags t)) t.node_ports _ q (fixed_by _ refl)
+      (one_more start [] t.services _ q (fixed_by _ refl) (inr (tt, refl))))))
+
+  -- what each join of a fixed chain leaves, all leave
+  pub through_joins : (P : NextParts → Type 0)
+      → ((n : NextParts) (b : Bool) (at : ChainAt) → is_some (get (fixed_chains V4) at) ≡ true
+      → P n → P (join_if blocks n b at))
+      → (t : Touched) → P start → P (with_shared blocks t start)
+  through_joins P one t h =
+      let services : ChainAt = record { table = Nat; chain = layout.kube_services } in
+      let node_ports : ChainAt = record { table = Nat; chain = layout.kube_node_ports } in
+      let firewall : ChainAt = record { table = Filter; chain = layout.kube_proxy_firewall } in
+      let external : ChainAt = record { table = Filter; chain = layout.kube_external_services } in
+      let refusals : ChainAt = record { table = Filter; chain = layout.kube_services } in
+      one _ t.refusals refusals (fixed_by refusals refl)
+      (one _ t.external external (fixed_by external refl)
+      (one _ t.firewall firewall (fixed_by firewall refl)
+      (one _ t.node_ports node_ports (fixed_by node_ports refl)
+      (one start t.services services (fixed_by services refl) h))))
+
+  still_free : (n : NextParts) (b : Bool) (at : ChainAt) → (join_if blocks n b at).free ≡ n.free
+  still_free n true at = refl
+  still_free n false at = refl
+
+  -- so they leave whether each port's chain found its place free
+  pub shared_free : (t : Touched) → (with_shared blocks t start).free ≡ start.free
+  shared_free t =
+      through_joins (λ n. n.free ≡ start.free) (λ n b at fixed h. still_free n b at ∙ h) t refl

@@ -1,0 +1,156 @@
+-- What the edits of a writer are, from what it keeps.
+use Rattle.std.proofs.Common.{◌≡◌, ◌+◌, ℕ, ◌≤◌, arith, Bool, true, false, true≢false, not, Bor}
+use Rattle.std.proofs.Common.{List, map, filter, Contains, None, sym, ap, subst, ◌∙◌}
+use Rattle.std.proofs.Math.Bool.{not-not}
+use Rattle.std.specs.FinMap.{entries, get, values}
+use Rattle.kp_lemmas.proofs.Equality.{options_exact}
+use Rattle.kp_lemmas.proofs.Members.{from_filter}
+use Rattle.kp_base.specs.Keys.{port_key_cmp}
+use Rattle.kp_base.specs.declared.key.PortKey.{PortKey}
+use Rattle.kp_types.specs.Setting.{Setting}
+use Rattle.kp_types.specs.declared.rule.Edit.{Edit}
+use Rattle.kp_object_defs.specs.PortInfo.{PortInfo}
+use Rattle.kp_table_defs.specs.Rebuild.{Chains}
+use Rattle.kp_walk_laws.specs.Laws.{HashedPrefixed}
+use Rattle.kp_history_defs.specs.DirtyPorts.{same_info}
+use Rattle.kp_history_laws.proofs.DirtyPorts.{infos_exact}
+use Rattle.kp_full_table.specs.Parts.{all_rule_count}
+use Rattle.kp_blocks.specs.Joined.{BlocksByPort}
+use Rattle.kp_tracker.specs.Tracked.{IsPending, is_changed}
+use Rattle.kp_writer.specs.Batch.{own_rules_written}
+use Rattle.kp_writer.specs.Next.{NextParts, edits_at}
+use Rattle.kp_writer.specs.Own.{own_rule_count, with_own}
+use Rattle.kp_writer.specs.Shared.{touched_by, with_shared}
+use Rattle.kp_writer.specs.Sync.{changes_of, infos_at, sync_next}
+use Rattle.kp_writer.specs.Written.{AreUnderOwnKeys, IsKept, Ports, WriterParts, chains_of, clash_of}
+use Rattle.kp_writer.specs.Written.{dirty_of, newest_ports, next_edits, setting_in, written_ports}
+use Rattle.kp_writer.proofs.ClashTest.{differs, no_clash}
+use Rattle.kp_writer.proofs.DirtyLists.{of_keys, same_passed}
+use Rattle.kp_writer.proofs.OwnValues.{own_values}
+use Rattle.kp_writer.proofs.SharedPlaces.{shared_free}
+use Rattle.kp_writer.proofs.SyncLaw.{sync_edits}
+use Rattle.kp_writer.proofs.WrittenRules.{written_rules}
+
+-- most steps of a sync
+abbrev pub MostSteps : WriterParts → ℕ → ℕ → Type 0
+MostSteps w old new =
+    new
+    ≤ old + (all_rule_count (setting_in w) (dirty_of w (written_ports w))
+    + all_rule_count (setting_in w) (dirty_of w (newest_ports w)))
+
+module _ (v w : WriterParts) (is : v ≡ w) (blocks : BlocksByPort) (kept : IsKept v blocks)
+    (refs items : List (Bor PortKey)) (same_refs : refs ≡ items)
+    (found : IsPending port_key_cmp same_info v.ports (map (λ k. k.now) items)) where
+  -- the ports that differ
+  abbrev keys : List PortKey
+  keys = map (λ k. k.now) refs
+
+  pending : IsPending port_key_cmp same_info v.ports keys
+  pending =
+      subst (λ (ks : List (Bor PortKey)). IsPending port_key_cmp same_info v.ports
+      (map (λ k. k.now) ks)) (sym same_refs) found
+
+  abbrev s : Setting
+  s = setting_in v
+
+  abbrev before : Ports
+  before = written_ports v
+
+  abbrev after : Ports
+  after = newest_ports v
+
+  -- whether a port differs
+  abbrev changed : PortKey → Bool
+  changed = is_changed port_key_cmp same_info v.ports
+
+  abbrev stays : PortInfo → Bool
+  stays i = not (changed i.key)
+
+  dirty : (m : Ports) → AreUnderOwnKeys m → infos_at m keys ≡ dirty_of v m
+  dirty m own = of_keys changed m own keys pending.in_order pending.each
+
+  -- ---- Steps
+
+  pub most_steps : (old new : ℕ)
+      → new ≤ old + (all_rule_count s (infos_at before keys) + all_rule_count s (infos_at after keys))
+      → MostSteps w old new
+  most_steps old new h =
+      subst (λ u. MostSteps u old new) is
+      (subst (λ ds. new ≤ old + (all_rule_count s (dirty_of v before) + all_rule_count s ds))
+      (dirty after kept.newest)
+      (subst (λ ds. new ≤ old + (all_rule_count s ds + all_rule_count s (infos_at after keys)))
+      (dirty before kept.written) h))
+
+  pub least_steps : (was : Chains) (next : NextParts) (edits : List Edit) (old new : ℕ)
+      → next ≡ sync_next was blocks s before after keys → edits ≡ edits_at was (entries next.places)
+      → old + own_rule_count s (infos_at after keys) ≤ new → old + own_rules_written edits ≤ new
+  least_steps was next edits old new made are h =
+      omega (
+        arith,
+        h,
+        ap own_rules_written (are ∙ ap (λ (n : NextParts). edits_at was (entries n.places)) made),
+        written_rules was blocks s before after keys,
+      )
+
+  -- ---- The ports that stay, and those that differ
+
+  twice : (is : List PortInfo) → filter (differs stays) is ≡ filter (λ i. changed i.key) is
+  twice is = ap (λ (f : PortInfo → Bool). filter f is) (λ n i. not-not (changed i.key) n)
+
+  differing : (m : Ports) → AreUnderOwnKeys m → infos_at m keys ≡ filter (differs stays) (values m)
+  differing m own = dirty m own ∙ sym (twice (values m))
+
+  alike : (k : PortKey) → changed k ≡ false → get before k ≡ get after k
+  alike k h =
+      options_exact same_info infos_exact (get before k) (get after k) (sym (not-not _) ∙ ap not h)
+
+  same : filter stays (values before) ≡ filter stays (values after)
+  same =
+      same_passed (λ k. not (changed k)) before after kept.written kept.newest
+      (λ k h. alike k (sym (not-not (changed k)) ∙ ap not h))
+
+  apart : (is : List PortInfo) (i j : PortInfo) → Contains (filter stays is) i
+      → Contains (filter (differs stays) is) j → i.key ≡ j.key → ⊥
+  apart is i j ci cj one =
+      true≢false (sym (from_filter (differs stays) j is cj).1
+      ∙ ap (λ k. not (not (changed k))) (sym one) ∙ ap not (from_filter stays i is ci).1)
+
+  -- ---- The edits
+
+  module _ (hashed : HashedPrefixed) (was : Chains) (next : NextParts)
+      (table : was ≡ chains_of w (written_ports w)) (none : clash_of w (written_ports w) ≡ None)
+      (made : next ≡ sync_next was blocks s before after keys) where
+    stood : was ≡ chains_of v before
+    stood = table ∙ ap (λ u. chains_of u (written_ports u)) (sym is)
+
+    none_before : clash_of v before ≡ None
+    none_before = ap (λ u. clash_of u (written_ports u)) is ∙ none
+
+    own_chains : with_own was s (infos_at before keys) (infos_at after keys)
+        ≡ with_own (chains_of v before) s (filter (differs stays) (values before))
+        (filter (differs stays) (values after))
+    own_chains =
+        λ n. with_own (stood n) s (differing before kept.written n) (differing after kept.newest n)
+
+    -- where each port's chain finds its place free, none clash
+    pub free_is_clear : next.free ≡ true → clash_of w (newest_ports w) ≡ None
+    free_is_clear free =
+        ap (λ u. clash_of u (newest_ports u)) (sym is)
+        ∙ no_clash s (values before) (values after) stays same apart none_before
+        (ap (λ (n : NextParts). n.free) (sym own_chains)
+        ∙ sym (shared_free blocks (with_own was s (infos_at before keys) (infos_at after keys))
+        (touched_by s (changes_of before after keys)))
+        ∙ ap (λ (n : NextParts). n.free) (sym made) ∙ free)
+
+    -- and where none clash, the edits are the changes
+    pub next_edits_are : (edits : List Edit) → edits ≡ edits_at was (entries next.places)
+        → clash_of w (newest_ports w) ≡ None → edits ≡ next_edits w
+    next_edits_are edits are clear =
+        are
+        ∙ ap (λ (n : NextParts). edits_at was (entries n.places)) made
+        ∙ (λ n. edits_at (stood n) (entries (with_shared blocks
+        (touched_by s (changes_of before after keys)) (own_chains n)).places))
+        ∙ sync_edits v.config (hashed v.config.name_length) before after kept.written kept.newest
+        changed alike keys pending.each blocks kept.blocks stays same (own_values after kept.newest)
+        apart none_before (ap (λ u. clash_of u (newest_ports u)) is ∙ clear)
+        ∙ ap next_edits is

@@ -1,0 +1,76 @@
+use Rattle.std.proofs.Common.{ap, arith, Bor, ◌∙◌}
+use Rattle.std.specs.FinMap.{get}
+use Rattle.kp_base.specs.Keys.{port_key_cmp}
+use Rattle.kp_base.specs.declared.address.Family.TheVariants.{V4}
+use Rattle.kp_base.specs.declared.key.PortKey.{PortKey}
+use Rattle.kp_choice_defs.specs.Settings.{setting_of}
+use Rattle.kp_full_table.specs.Parts.{block_count}
+use Rattle.kp_tracker.specs.Tracked.{newest, published}
+use Rattle.kp_writer.specs.Shared as spec
+use Rattle.kp_writer.proofs.RuleCounts.{change_parts}
+use Rattle.kp_writer.proofs.Totals.{fold_next, next_total, part_total}
+use Rattle.kp_writer.proofs.shared.touched_by.Goals as goal
+
+pub returns-in_err-before-clause-steps : goal.returns-in_err-before-clause-steps
+returns-in_err-before-clause-steps g c =
+    let s = setting_of V4 c.args.config.now in
+    let show : Bor PortKey → spec.Change = λ k. (
+      get (published port_key_cmp c.args.ports.now) k.now,
+      get (newest port_key_cmp c.args.ports.now) k.now,
+    ) in
+    omega (
+      arith,
+      c.in_err-before.ensures.no_step,
+      c.loop-key.invariant.steps,
+      part_total show c.args.keys.now c.loop-key.key-index c.key-item.result c.loop-key-test.true
+          c.key-item.is (spec.change_count s) (change_parts s),
+    )
+
+pub returns-in_err-after-clause-steps : goal.returns-in_err-after-clause-steps
+returns-in_err-after-clause-steps g c =
+    let s = setting_of V4 c.args.config.now in
+    let show : Bor PortKey → spec.Change = λ k. (
+      get (published port_key_cmp c.args.ports.now) k.now,
+      get (newest port_key_cmp c.args.ports.now) k.now,
+    ) in
+    omega (
+      arith,
+      c.in_err-after.ensures.no_step,
+      c.in_ok-before.ensures.steps,
+      ap block_count (c.in_ok-before.ensures.blocks ∙ ap (spec.blocks_if s) c.published.ensures),
+      c.loop-key.invariant.steps,
+      part_total show c.args.keys.now c.loop-key.key-index c.key-item.result c.loop-key-test.true
+          c.key-item.is (spec.change_count s) (change_parts s),
+    )
+
+pub loop-key-preserved : goal.loop-key-preserved
+loop-key-preserved g c =
+    let s = setting_of V4 c.args.config.now in
+    let show : Bor PortKey → spec.Change = λ k. (
+      get (published port_key_cmp c.args.ports.now) k.now,
+      get (newest port_key_cmp c.args.ports.now) k.now,
+    ) in
+    let before = c.in_ok-before.ensures.blocks ∙ ap (spec.blocks_if s) c.published.ensures in
+    let after = c.in_ok-after.ensures.blocks ∙ ap (spec.blocks_if s) c.newest.ensures in
+    record {
+      touched = fold_next show c.args.keys.now c.loop-key.key-index c.key-item.result
+          c.loop-key-test.true c.key-item.is (spec.touch_by s) spec.untouched c.loop-key.touched
+          c.touch-touched.result c.loop-key.invariant.touched
+          (c.touch-touched.ensures ∙ (λ i. spec.touch c.loop-key.touched (before i) (after i)));
+      more = omega (
+        arith,
+        c.in_ok-after.ensures.steps,
+        c.in_ok-before.ensures.steps,
+        c.loop-key.invariant.more,
+      );
+      steps = omega (
+        arith,
+        c.in_ok-after.ensures.steps,
+        ap block_count after,
+        c.in_ok-before.ensures.steps,
+        ap block_count before,
+        c.loop-key.invariant.steps,
+        next_total show c.args.keys.now c.loop-key.key-index c.key-item.result
+            c.loop-key-test.true c.key-item.is (spec.change_count s) (change_parts s),
+      );
+    }

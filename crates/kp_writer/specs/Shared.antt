@@ -1,0 +1,89 @@
+-- Which shared chains are joined: those where the rules of a changed port differ.
+use Rattle.std.specs.Prelude.{ℕ, ◌+◌, ◌||◌, Bool, true, false, List, [], ◌∷◌, Option, Some, None, not}
+use Rattle.std.specs.List.{fold}
+use Rattle.kp_base.specs.declared.address.Family.TheVariants.{V4}
+use Rattle.kp_types.specs.Setting.{Setting}
+use Rattle.kp_types.specs.declared.chain.ChainAt.{ChainAt}
+use Rattle.kp_types.specs.declared.chain.TableName.TheVariants.{Nat, Filter}
+use Rattle.kp_types.specs.declared.rule.Rule.{Rule}
+use Rattle.kp_object_defs.specs.PortInfo.{PortInfo}
+use Rattle.kp_table_defs.specs.Edits.{same_rules}
+use Rattle.kp_table_defs.specs.Layout as layout
+use Rattle.kp_chains.specs.Blocks.{blocks_of}
+use Rattle.kp_chains.specs.declared.blocks.Blocks.{Blocks}
+use Rattle.kp_blocks.specs.Joined.{BlocksByPort, joined_rules}
+use Rattle.kp_full_table.specs.Parts.{block_count}
+use Rattle.kp_writer.specs.Next.{NextParts, join}
+use Rattle.kp_writer.specs.declared.shared.Touched.{Touched}
+
+-- what is known of a port before and after
+abbrev pub Change : Type 0
+Change = Option PortInfo × Option PortInfo
+
+-- the rules of a port in the shared chains, if there is one
+abbrev pub blocks_if : Setting → Option PortInfo → Blocks
+blocks_if setting None = record {
+  services = [];
+  node_ports = [];
+  firewall = [];
+  external = [];
+  refusals = [];
+}
+blocks_if setting (Some i) = blocks_of setting i
+
+-- whether the rules of a chain differ
+abbrev pub differ : List Rule → List Rule → Bool
+differ before after = not (same_rules before after)
+
+-- which chains are touched, with those where two blocks differ
+abbrev pub touch : Touched → Blocks → Blocks → Touched
+touch t b a = record {
+  services = t.services || differ b.services a.services;
+  node_ports = t.node_ports || differ b.node_ports a.node_ports;
+  firewall = t.firewall || differ b.firewall a.firewall;
+  external = t.external || differ b.external a.external;
+  refusals = t.refusals || differ b.refusals a.refusals;
+}
+
+-- the same, with those where a port's blocks differ
+abbrev pub touch_by : Setting → Touched → Change → Touched
+touch_by setting t (before, after) = touch t (blocks_if setting before) (blocks_if setting after)
+
+-- no chain is touched
+abbrev pub untouched : Touched
+untouched = record {
+  services = false;
+  node_ports = false;
+  firewall = false;
+  external = false;
+  refusals = false;
+}
+
+-- which chains changes touch
+abbrev pub touched_by : Setting → List Change → Touched
+touched_by setting changes = fold (touch_by setting) untouched changes
+
+-- how many rules changed ports have in the shared chains, before and after
+abbrev pub change_count : Setting → List Change → ℕ
+change_count setting [] = 0
+change_count setting (c ∷ cs) =
+    (block_count (blocks_if setting c.0) + block_count (blocks_if setting c.1))
+    + change_count setting cs
+
+-- a shared chain is joined where it is touched
+abbrev pub join_if : BlocksByPort → NextParts → Bool → ChainAt → NextParts
+join_if blocks n true at = join n at (joined_rules V4 blocks at)
+join_if blocks n false at = n
+
+-- what stands with the shared chains that are touched
+abbrev pub with_shared : BlocksByPort → Touched → NextParts → NextParts
+with_shared blocks t n =
+    join_if blocks
+    (join_if blocks
+    (join_if blocks
+    (join_if blocks
+    (join_if blocks n t.services (record { table = Nat; chain = layout.kube_services }))
+    t.node_ports (record { table = Nat; chain = layout.kube_node_ports }))
+    t.firewall (record { table = Filter; chain = layout.kube_proxy_firewall }))
+    t.external (record { table = Filter; chain = layout.kube_external_services }))
+    t.refusals (record { table = Filter; chain = layout.kube_services })

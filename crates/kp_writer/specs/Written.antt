@@ -1,0 +1,87 @@
+-- What a writer keeps of ports: what is known of each as it was written last, and the newest.
+use Rattle.std.specs.Prelude.{◌≡◌, List, Option, Some, refl}
+use Rattle.std.specs.Coded.{Coded, code_by, coded×}
+use Rattle.std.specs.List.{filter}
+use Rattle.std.specs.FinMap as finite
+use Rattle.std.specs.Option.{option_map}
+use Rattle.kp_base.specs.Keys.{port_key_cmp}
+use Rattle.kp_base.specs.contracts.config.Config as config_row
+use Rattle.kp_base.specs.contracts.key.PortKey as key_row
+use Rattle.kp_base.specs.declared.address.Family.TheVariants.{V4}
+use Rattle.kp_base.specs.declared.config.Config.{Config}
+use Rattle.kp_base.specs.declared.key.PortKey.{PortKey}
+use Rattle.kp_types.specs.Setting.{Setting}
+use Rattle.kp_types.specs.contracts.info.PortInfo as info_row
+use Rattle.kp_types.specs.declared.chain.Clash.{Clash}
+use Rattle.kp_types.specs.declared.rule.Edit.{Edit}
+use Rattle.kp_choice_defs.specs.Names.{first_clash}
+use Rattle.kp_choice_defs.specs.Settings.{setting_of}
+use Rattle.kp_object_defs.specs.PortInfo.{PortInfo}
+use Rattle.kp_table_defs.specs.Edits.{changes_between}
+use Rattle.kp_table_defs.specs.Rebuild.{Chains, full_chains, needed_keys}
+use Rattle.kp_history_defs.specs.DirtyPorts.{same_info}
+use Rattle.kp_blocks.specs.Joined.{BlocksByPort, port_block}
+use Rattle.kp_tracker.specs.Tracked as tracked
+use Rattle.kp_tracker.specs.Tracked.{Tracked, tracked_code}
+
+-- the configuration, and what is tracked of ports
+pub record WriterParts : Type 0 where
+  pub config : Config
+  pub ports : Tracked PortKey PortInfo
+
+-- it is stored as these two are
+abbrev pub writer_code : Coded WriterParts
+writer_code =
+    code_by _ (coded× config_row.the_row.coded
+    (tracked_code key_row.the_row.coded info_row.the_row.coded))
+    (λ w. (w.config, w.ports)) (λ p. record { config = p.0; ports = p.1 }) (λ _. refl)
+
+-- what tables and names are told
+abbrev pub setting_in : WriterParts → Setting
+setting_in w = setting_of V4 w.config
+
+-- the ports by name
+abbrev pub Ports : Type 0
+Ports = finite.FinMap port_key_cmp PortInfo
+
+-- as they were written last
+abbrev pub written_ports : WriterParts → Ports
+written_ports w = tracked.published port_key_cmp w.ports
+
+-- and as they are now
+abbrev pub newest_ports : WriterParts → Ports
+newest_ports w = tracked.newest port_key_cmp w.ports
+
+-- the full table of ports
+abbrev pub chains_of : WriterParts → Ports → Chains
+chains_of w ports = full_chains (setting_in w) (finite.values ports)
+
+-- the clash of ports, if there is one
+abbrev pub clash_of : WriterParts → Ports → Option Clash
+clash_of w ports = first_clash (setting_in w).name_of (needed_keys (finite.values ports))
+
+-- the edits that lead from what was written to the newest ports
+abbrev pub next_edits : WriterParts → List Edit
+next_edits w = changes_between (chains_of w (written_ports w)) (chains_of w (newest_ports w))
+
+-- the dirty ones of some ports: those of which something else is known than was written
+abbrev pub dirty_of : WriterParts → Ports → List PortInfo
+dirty_of w ports =
+    filter (λ i. tracked.is_changed port_key_cmp same_info w.ports i.key) (finite.values ports)
+
+-- each port stands under its own key
+abbrev pub AreUnderOwnKeys : Ports → Type 0
+AreUnderOwnKeys ports =
+    (key : PortKey) (i : PortInfo) → finite.get ports key ≡ Some i → i.key ≡ key
+
+-- blocks are those of ports
+abbrev pub AreBlocksOf : Setting → Ports → BlocksByPort → Type 0
+AreBlocksOf setting ports blocks =
+    (key : PortKey)
+    → finite.get blocks key ≡ option_map (port_block setting) (finite.get ports key)
+
+-- what a writer keeps: ports under their own keys, and the blocks of the newest
+pub record IsKept (w : WriterParts) (kept : BlocksByPort) : Type 0 where
+  pub written : AreUnderOwnKeys (written_ports w)
+  pub newest : AreUnderOwnKeys (newest_ports w)
+  pub blocks : AreBlocksOf (setting_in w) (newest_ports w) kept

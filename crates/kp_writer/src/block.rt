@@ -1,0 +1,76 @@
+//! What a port has in the shared chains.
+ghost use Rattle.std.specs.Prelude.{◌≡◌, ◌++◌, ◌∷◌, [], true, IfOk, OnOk};
+ghost use Rattle.kp_base.specs.declared.address.Family.TheVariants.{V4};
+ghost use Rattle.kp_choice_defs.specs.Settings.{setting_of};
+ghost use Rattle.kp_types.specs.Chains.{is_chain_name};
+ghost use Rattle.kp_types.specs.declared.chain.TableName.TheVariants.{Filter};
+ghost use Rattle.kp_table_defs.specs.Layout as layout;
+ghost use Rattle.kp_blocks.specs.Joined.{port_block, text_of};
+
+use kp_base::{Config, Items, NoMemory};
+use kp_chains::info_blocks;
+use kp_types::{ChainAt, ChainName, ChainText, PortInfo, Rule, TableName};
+use std::alloc::Global;
+
+/// A port's rules in each shared chain.
+pub fn block_of(
+    alloc: Global,
+    config: &Config,
+    info: &PortInfo,
+) -> Result<Items<ChainText>, NoMemory>
+    ensures { IfOk result (λ block. block ≡ port_block (setting_of V4 config.now) info.now) }
+{
+    let blocks = info_blocks(alloc, config, info)?;
+    let mut block = Vec::new(alloc);
+    add(&mut block, TableName::Nat, "KUBE-SERVICES", blocks.services)?;
+    add(
+        &mut block,
+        TableName::Nat,
+        "KUBE-NODEPORTS",
+        blocks.node_ports,
+    )?;
+    add_filter(
+        &mut block,
+        blocks.firewall,
+        blocks.external,
+        blocks.refusals,
+    )?;
+    Ok(Items::from_vec(block))
+}
+
+/// Adds the rules of filter.
+fn add_filter(
+    block: &mut Vec<ChainText>,
+    firewall: Items<Rule>,
+    external: Items<Rule>,
+    refusals: Items<Rule>,
+) -> Result<(), NoMemory>
+    ensures { OnOk result (block.new.items ≡ block.old.items
+        ++ (text_of (layout.row Filter layout.kube_proxy_firewall firewall)
+        ∷ text_of (layout.row Filter layout.kube_external_services external)
+        ∷ text_of (layout.row Filter layout.kube_services refusals) ∷ [])) }
+{
+    add(block, TableName::Filter, "KUBE-PROXY-FIREWALL", firewall)?;
+    add(block, TableName::Filter, "KUBE-EXTERNAL-SERVICES", external)?;
+    add(block, TableName::Filter, "KUBE-SERVICES", refusals)?;
+    Ok(())
+}
+
+/// Adds the rules of one chain.
+fn add(
+    block: &mut Vec<ChainText>,
+    table: TableName,
+    chain: &str,
+    rules: Items<Rule>,
+) -> Result<(), NoMemory>
+    requires { is_chain_name chain.now ≡ true }
+    ensures { OnOk result (block.new.items
+        ≡ block.old.items ++ text_of (layout.row table chain.now rules) ∷ []) }
+{
+    let chain = ChainName::new(chain);
+    block.push(ChainText {
+        at: ChainAt { table, chain },
+        rules,
+    })?;
+    Ok(())
+}

@@ -1,0 +1,18 @@
+//! The edits of a sync, made in the size of its change: from what was written of each port and what
+//! is known of it now, with the shared chains joined from blocks that are kept by port.
+#![tactic(auto)]
+
+mod block;
+mod infos;
+mod join;
+mod kept;
+mod known;
+mod next;
+mod own;
+mod shared;
+mod sync;
+mod writer;
+
+pub use known::Known;
+pub use kp_full_table::TableFault;
+pub use writer::Writer;

@@ -1,0 +1,144 @@
+//! Which shared chains are touched by changed ports.
+ghost use Rattle.std.specs.Prelude.{◌≡◌, ◌+◌, ◌≤◌, [], map, IfOk, OnOk, OnErr};
+ghost use Rattle.std.specs.FinMap as finite;
+ghost use Rattle.std.specs.Option.{option_copied};
+ghost use Rattle.kp_base.specs.Keys.{port_key_cmp};
+ghost use Rattle.kp_base.specs.declared.address.Family.TheVariants.{V4};
+ghost use Rattle.kp_choice_defs.specs.Settings.{setting_of};
+ghost use Rattle.kp_full_table.specs.Parts.{block_count};
+ghost use Rattle.kp_tracker.specs.Tracked as tracked;
+ghost use Rattle.kp_writer.specs.Shared as spec;
+
+use crate::known::Known;
+use kp_base::{Config, Items, NoMemory, PortKey, Steps};
+use kp_chains::{Blocks, count_rules, info_blocks};
+use kp_tracker::Tracker;
+use kp_types::Rule;
+use std::alloc::Global;
+use std::sync::ledger::Ledger;
+
+/// Which of the shared chains have a block that changed.
+#[derive(Drop)]
+pub struct Touched {
+    pub services: bool,
+    pub node_ports: bool,
+    pub firewall: bool,
+    pub external: bool,
+    pub refusals: bool,
+}
+
+/// Which shared chains the changes of ports touch. A step is taken for each rule of a port in
+/// these, before and after.
+pub fn touched_by<L: Ledger>(
+    alloc: Global,
+    config: &Config,
+    ports: &Tracker<PortKey, Known>,
+    keys: &[&PortKey],
+    steps: &mut Steps<L>,
+) -> Result<Touched, NoMemory>
+    ensures touched { IfOk result (λ t. t ≡ spec.touched_by (setting_of V4 config.now)
+        (map (λ k. (
+          finite.get (tracked.published port_key_cmp ports.now) k.now,
+          finite.get (tracked.newest port_key_cmp ports.now) k.now,
+        )) keys.now)) }
+    ensures more { OnOk result (steps.old ≤ steps.new) }
+    ensures steps { steps.new ≤ steps.old + spec.change_count (setting_of V4 config.now)
+        (map (λ k. (
+          finite.get (tracked.published port_key_cmp ports.now) k.now,
+          finite.get (tracked.newest port_key_cmp ports.now) k.now,
+        )) keys.now) }
+{
+    let mut touched = untouched();
+    for key in keys {
+        let before = blocks_if(alloc, config, ports.published(key), steps)?;
+        let after = blocks_if(alloc, config, ports.newest(key), steps)?;
+        touched = touch(touched, &before, &after);
+    }
+    Ok(touched)
+}
+
+/// No chain is touched.
+fn untouched() -> Touched
+    ensures { result ≡ spec.untouched }
+{
+    Touched {
+        services: false,
+        node_ports: false,
+        firewall: false,
+        external: false,
+        refusals: false,
+    }
+}
+
+/// Which chains are touched, with those where two blocks differ.
+fn touch(touched: Touched, before: &Blocks, after: &Blocks) -> Touched
+    ensures { result ≡ spec.touch touched before.now after.now }
+{
+    Touched {
+        services: touched.services || differ(&before.services, &after.services),
+        node_ports: touched.node_ports || differ(&before.node_ports, &after.node_ports),
+        firewall: touched.firewall || differ(&before.firewall, &after.firewall),
+        external: touched.external || differ(&before.external, &after.external),
+        refusals: touched.refusals || differ(&before.refusals, &after.refusals),
+    }
+}
+
+/// Whether rules differ.
+fn differ(before: &Items<Rule>, after: &Items<Rule>) -> bool
+    ensures { result ≡ spec.differ before.now after.now }
+{
+    before.as_slice() != after.as_slice()
+}
+
+/// The rules of a port in the shared chains, if there is one. A step is taken for each; without
+/// memory none is.
+fn blocks_if<L: Ledger>(
+    alloc: Global,
+    config: &Config,
+    info: Option<&Known>,
+    steps: &mut Steps<L>,
+) -> Result<Blocks, NoMemory>
+    ensures blocks { IfOk result (λ b. b
+        ≡ spec.blocks_if (setting_of V4 config.now) (option_copied info.entry)) }
+    ensures steps { IfOk result (λ b. steps.new ≡ steps.old + block_count b) }
+    ensures no_step { OnErr result (steps.new ≡ steps.old) }
+{
+    match info {
+        None => Ok(no_blocks(alloc)),
+        Some(info) => {
+            let blocks = info_blocks(alloc, config, info.info())?;
+            count_blocks(steps, &blocks);
+            Ok(blocks)
+        }
+    }
+}
+
+/// No rules.
+fn no_blocks(alloc: Global) -> Blocks
+    ensures { result ≡ record {
+      services = [];
+      node_ports = [];
+      firewall = [];
+      external = [];
+      refusals = [];
+    } }
+{
+    Blocks {
+        services: Items::new(alloc),
+        node_ports: Items::new(alloc),
+        firewall: Items::new(alloc),
+        external: Items::new(alloc),
+        refusals: Items::new(alloc),
+    }
+}
+
+/// Takes a step for each rule of blocks.
+fn count_blocks<L: Ledger>(steps: &mut Steps<L>, blocks: &Blocks)
+    ensures { steps.new ≡ steps.old + block_count blocks.now }
+{
+    count_rules(steps, blocks.services.as_slice());
+    count_rules(steps, blocks.node_ports.as_slice());
+    count_rules(steps, blocks.firewall.as_slice());
+    count_rules(steps, blocks.external.as_slice());
+    count_rules(steps, blocks.refusals.as_slice());
+}

@@ -1,0 +1,158 @@
+//! What was written of ports, and the edits to what is known of them now.
+ghost use Rattle.std.specs.Prelude.{◌≡◌, ◌+◌, ◌≤◌, true, None, IfOk, IfErr, OnOk, OnErr};
+ghost use Rattle.std.specs.FinMap as finite;
+ghost use Rattle.kp_full_table.specs.Faults.{TellsClash};
+ghost use Rattle.kp_full_table.specs.Parts.{all_rule_count};
+ghost use Rattle.kp_writer.specs.Batch.{own_rules_written};
+ghost use Rattle.kp_writer.specs.Written as spec;
+
+use crate::block::block_of;
+use crate::infos::newest_infos;
+use crate::kept;
+use crate::known::Known;
+use crate::sync::next_chains;
+use kp_base::{Config, Copied, NoMemory, PortKey, Steps};
+use kp_blocks::Blocks;
+use kp_full_table::{TableFault, check_names};
+use kp_rules::Table;
+use kp_tracker::Tracker;
+use kp_types::{Batch, PortInfo};
+use std::alloc::Global;
+use std::marker::Model;
+use std::sync::ledger::Ledger;
+
+/// What was written of each port, and what is known of it now. Contracts see both, and the
+/// configuration; the blocks of the shared chains are a function of these.
+pub struct Writer {
+    config: Config,
+    ports: Tracker<PortKey, Known>,
+    blocks: Blocks,
+}
+
+impl Drop for Writer {
+    fn drop(self) {
+        let Writer {
+            config,
+            ports,
+            blocks,
+        } = self;
+    }
+}
+
+/// The blocks are those of the newest ports.
+impl Model for Writer {
+    ghost use Rattle.kp_writer.specs.Written.{IsKept, WriterParts, writer_code};
+
+    ghost Value = { WriterParts };
+
+    ghost coded = { writer_code };
+
+    ghost view = { λ w. record { config = w.config; ports = w.ports } };
+
+    ghost invariant = { λ w. IsKept (record { config = w.config; ports = w.ports }) w.blocks };
+}
+
+impl Writer {
+    /// Nothing was written, and no port is known.
+    pub fn new(alloc: Global, config: &Config) -> Result<Writer, NoMemory>
+        ensures config { IfOk result (λ w. w.config ≡ config.now) }
+        ensures written { IfOk result (λ w. spec.written_ports w ≡ finite.empty) }
+        ensures newest { IfOk result (λ w. spec.newest_ports w ≡ finite.empty) }
+    {
+        Ok(Writer {
+            config: config.copy(alloc)?,
+            ports: Tracker::new(alloc),
+            blocks: Blocks::new(alloc),
+        })
+    }
+
+    /// Takes over what is known of a port. Where memory is out, all stays.
+    pub fn put(&mut self, alloc: Global, info: PortInfo) -> Result<(), NoMemory>
+        ensures config { self.new.config ≡ self.old.config }
+        ensures written { spec.written_ports self.new ≡ spec.written_ports self.old }
+        ensures newest { OnOk result (spec.newest_ports self.new
+            ≡ finite.insert (spec.newest_ports self.old) info.key info) }
+        ensures err { OnErr result (spec.newest_ports self.new ≡ spec.newest_ports self.old) }
+    {
+        let block = block_of(alloc, &self.config, &info)?;
+        kept::put(alloc, &mut self.ports, &mut self.blocks, info, block)
+    }
+
+    /// Takes over that a port is gone. Where memory is out, all stays.
+    pub fn drop_port(&mut self, alloc: Global, port: &PortKey) -> Result<(), NoMemory>
+        ensures config { self.new.config ≡ self.old.config }
+        ensures written { spec.written_ports self.new ≡ spec.written_ports self.old }
+        ensures newest { OnOk result (spec.newest_ports self.new
+            ≡ finite.remove (spec.newest_ports self.old) port.now) }
+        ensures err { OnErr result (spec.newest_ports self.new ≡ spec.newest_ports self.old) }
+    {
+        kept::drop_port(alloc, &mut self.ports, &mut self.blocks, port)
+    }
+
+    /// The edits that lead from the full table of what was written, which is given, to that of what
+    /// is known now: exactly the changes between the two. It is refused exactly where two different
+    /// chains that are needed have one name, and tells the least such pair, or where memory is out.
+    /// It takes at most a step for each rule of the dirty ports before, and one for each after, and
+    /// at least one for each rule of a port's own chains that the edits write.
+    pub fn edits<L: Ledger>(
+        &self,
+        alloc: Global,
+        table: &Table,
+        steps: &mut Steps<L>,
+    ) -> Result<Batch, TableFault>
+        requires table { table.now.chains ≡ spec.chains_of self.now (spec.written_ports self.now) }
+        requires apart { spec.clash_of self.now (spec.written_ports self.now) ≡ None }
+        ensures batch { IfOk result (λ b. b.edits ≡ spec.next_edits self.now) }
+        ensures no_clash { OnOk result (
+            spec.clash_of self.now (spec.newest_ports self.now) ≡ None) }
+        ensures clash { IfErr result (TellsClash
+            (spec.clash_of self.now (spec.newest_ports self.now))) }
+        ensures made { IfOk result (λ b. steps.old + own_rules_written b.edits ≤ steps.new) }
+        ensures steps { steps.new ≤ steps.old
+            + (all_rule_count (spec.setting_in self.now)
+            (spec.dirty_of self.now (spec.written_ports self.now))
+            + all_rule_count (spec.setting_in self.now)
+            (spec.dirty_of self.now (spec.newest_ports self.now))) }
+    {
+        kp_walk_laws::hashed_prefixed();
+        let keys = self.ports.pending(alloc)?;
+        let next = next_chains(
+            alloc,
+            &self.config,
+            &self.ports,
+            &self.blocks,
+            &keys,
+            table,
+            steps,
+        )?;
+        self.check_names(alloc, next.all_free())?;
+        Ok(next.edits(alloc, table)?)
+    }
+
+    /// Checks that no two chains that the newest ports need have one name. Where each chain of a
+    /// dirty port found its place free none have, so that the names of all ports are made and
+    /// compared only where one didn't.
+    fn check_names(&self, alloc: Global, all_free: bool) -> Result<(), TableFault>
+        requires { all_free ≡ true → spec.clash_of self.now (spec.newest_ports self.now) ≡ None }
+        ensures no_clash { OnOk result (
+            spec.clash_of self.now (spec.newest_ports self.now) ≡ None) }
+        ensures clash { IfErr result (TellsClash
+            (spec.clash_of self.now (spec.newest_ports self.now))) }
+    {
+        if all_free {
+            return Ok(());
+        }
+        let ports = self.blocks.ports(alloc)?;
+        let infos = newest_infos(alloc, &self.ports, &ports)?;
+        check_names(alloc, &self.config, &infos)
+    }
+
+    /// Takes over that the newest ports are written. It takes no memory.
+    pub fn keep(&mut self)
+        ensures config { self.new.config ≡ self.old.config }
+        ensures written { spec.written_ports self.new ≡ spec.newest_ports self.old }
+        ensures newest { spec.newest_ports self.new ≡ spec.newest_ports self.old }
+    {
+        self.ports.settle();
+    }
+}
