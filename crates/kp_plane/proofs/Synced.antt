@@ -1,6 +1,6 @@
 -- What one more sync changes, and what it looks at.
 use Rattle.std.proofs.Common.{◌≡◌, ◌≤◌, ◌<◌, ◌+◌, ◌-◌, nat_lt, ℕ, suc, List, [], ◌∷◌, ◌++◌}
-use Rattle.std.proofs.Common.{take, length, sum, Bool, true, false, Option, None}
+use Rattle.std.proofs.Common.{take, length, sum, Bool, true, false, None}
 use Rattle.std.proofs.Common.{refl, sym, ap, subst, ◌∙◌, arith, le_refl}
 use Rattle.std.proofs.lemmas.Bool.Decides.{nat_tests}
 use Rattle.std.proofs.lemmas.List.{take_all, take-append-le, length_push}
@@ -24,10 +24,10 @@ use Rattle.kp_decide.specs.Told.{told}
 use Rattle.kp_history_defs.specs.DirtyPorts.{dirty_ports}
 use Rattle.kp_history.specs.Parts.{PlaneParts, HasExactHistory, setting_in, uncovered_in}
 use Rattle.kp_history.specs.Parts.{objects_in, table_in, chains_in, next_edits, synced}
-use Rattle.kp_history.specs.Invariant.{IsHistory, LeadsToNext, LeadsToTable}
+use Rattle.kp_history.specs.Invariant.{IsHistory, LeadsToNext}
 use Rattle.kp_history.specs.declared.history.History.{History}
 use Rattle.kp_history.proofs.Synced.{all_counted, within}
-use Rattle.kp_plane.specs.Invariant.{IsAtPlace, IsPlane, IsSlicesAt}
+use Rattle.kp_plane.specs.Invariant.{IsAtPlace, IsPlane, IsSlicesAt, LeadsToTable}
 use Rattle.kp_plane.specs.Notes.{last_note}
 use Rattle.kp_plane.specs.Parts.{most_steps, explained_in, syncs_in, next_record, dirty_in}
 use Rattle.kp_plane.specs.declared.note.SyncNote.{SyncNote}
@@ -119,24 +119,25 @@ nothing_new p h is same =
 -- so nothing leads on
 pub leads_nowhere : SameRulesAreEqual → (p q : PlaneParts) → p ≡ q → (h : History) → IsHistory p h
     → length p.events ≡ h.covered → {edits : List Edit} → edits ≡ []
-    → LeadsToNext q (record { edits = edits }) None
+    → LeadsToNext q (record { edits = edits })
 leads_nowhere rules p q same h is none {edits} empty =
     let all = nothing_new p h is none in
-    subst (λ r. LeadsToNext r (record { edits = edits }) None) same (record {
+    subst (λ r. LeadsToNext r (record { edits = edits })) same (record {
       no_clash = ap (clash_of (setting_in p)) (sym all) ∙ is.no_clash;
       edits = empty ∙ sym (no_changes rules (chains_in p))
           ∙ ap (λ o. changes_between (chains_in p) (full_table (setting_in p) o).chains) all;
-      chains = ap (λ o. (full_table (setting_in p) o).chains) all;
     })
 
 -- what leads from the table to that of all events' objects leads on
 pub leads_on : (p q : PlaneParts) → p ≡ q → (t : TableParts) (o : Objects) → t ≡ table_in p
-    → o ≡ objects_after p.events → (batch : Batch) (table : Option TableParts)
-    → LeadsToTable (setting_in p) o t.chains batch table → LeadsToNext q batch table
-leads_on p q same t o is all batch table leads =
-    subst (λ r. LeadsToNext r batch table) same
-    (subst (λ (u : TableParts). LeadsToTable (setting_in p) (objects_after p.events) u.chains batch table) is
-    (subst (λ o. LeadsToTable (setting_in p) o t.chains batch table) all leads))
+    → o ≡ objects_after p.events → (batch : Batch)
+    → LeadsToTable (setting_in p) o t.chains batch → LeadsToNext q batch
+leads_on p q same t o is all batch leads =
+    subst (λ r. LeadsToNext r batch) same (record {
+      no_clash = ap (clash_of (setting_in p)) (sym all) ∙ leads.no_clash;
+      edits = leads.edits
+          ∙ (λ i. changes_between (is i).chains (full_table (setting_in p) (all i)).chains);
+    })
 
 -- a clash of all objects, by equal parts
 pub same_clash : (p q : PlaneParts) → p ≡ q → (o : Objects) → o ≡ objects_after p.events → clash_of (setting_in p) o ≡ clash_of (setting_in q) (objects_after q.events)

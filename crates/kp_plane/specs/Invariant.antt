@@ -1,11 +1,15 @@
 -- What holds of a plane's fields, by the parts that contracts see.
-use Rattle.std.specs.Prelude.{◌≡◌, ◌≤◌, ◌<◌, ◌+◌, ◌-◌, ℕ, List, [], ◌∷◌, length, sum, take, drop}
+use Rattle.std.specs.Prelude.{◌≡◌, ◌≤◌, ◌<◌, ◌+◌, ◌-◌, ℕ, List, [], ◌∷◌, length, sum, take, drop, None}
 use Rattle.std.specs.List.{fold}
 use Rattle.kp_base.specs.declared.address.Family.TheVariants.{V4}
 use Rattle.kp_base.specs.declared.config.Config.{Config}
 use Rattle.kp_types.specs.declared.event.Event.{Event}
-use Rattle.kp_object_defs.specs.Objects.{objects_after}
+use Rattle.kp_types.specs.Setting.{Setting}
+use Rattle.kp_types.specs.declared.rule.Batch.{Batch}
+use Rattle.kp_object_defs.specs.Objects.{Objects, objects_after}
 use Rattle.kp_object_defs.specs.SlicesNow.{slices_now, slices_step}
+use Rattle.kp_table_defs.specs.Edits.{changes_between}
+use Rattle.kp_table_defs.specs.Rebuild.{Chains, clash_of, full_table}
 use Rattle.kp_events.specs.JournalContents.{Contents}
 use Rattle.kp_history.specs.Invariant.{IsHistory}
 use Rattle.kp_history.specs.declared.history.History.{History}
@@ -46,6 +50,13 @@ pub record IsFed (events : List Event) (to : ℕ) (before after : SlicesAt) : Ty
   pub slices : after.slices
       ≡ fold slices_step before.slices
       (take (to - before.place.at) (drop before.place.at events))
+
+-- what leads from chains to the full table of objects: these have no clash, and the batch has the
+-- changes
+pub record LeadsToTable
+    (setting : Setting) (objects : Objects) (from : Chains) (batch : Batch) : Type 0 where
+  pub no_clash : clash_of setting objects ≡ None
+  pub edits : batch.edits ≡ changes_between from (full_table setting objects).chains
 
 -- what holds of all fields: the latest objects stand at any place of the journal, and those for
 -- explanations at or before what the last sync covers

@@ -26,7 +26,7 @@ use Rattle.kp_history_defs.specs.DirtyPorts.{dirty_ports}
 use Rattle.kp_history_defs.specs.declared.dirty.DirtyPort.{DirtyPort}
 pub use Rattle.kp_history.specs.Parts.{PlaneParts, HasExactHistory, setting_in, syncs_in, uncovered_in}
 pub use Rattle.kp_history.specs.Parts.{objects_in, chains_in, table_in, last_edits, batch_after, last_batch_in}
-pub use Rattle.kp_history.specs.Parts.{synced, next_chains, next_edits, chains_or}
+pub use Rattle.kp_history.specs.Parts.{synced, next_chains, next_edits}
 pub use Rattle.kp_history.specs.Parts.{records_in, next_record}
 
 -- how they are told apart as values

@@ -22,7 +22,7 @@ ghost use Rattle.kp_walk_laws.specs.Laws.{Agree};
 
 use crate::dirty::dirty_between;
 use crate::laws::walk_decides;
-use crate::next::next_table;
+use crate::next::next_batch;
 use crate::note::SyncNote;
 use crate::place::ObjectsAt;
 use crate::slices_at::SlicesAt;
@@ -213,9 +213,9 @@ impl Plane {
             → asked.new ≡ asked.old + parts.most_asked self.old) }
     {
         self.records_grow();
-        let (batch, table) = self.next_batch(alloc, steps, asked)?;
+        let batch = self.next_batch(alloc, steps, asked)?;
         let copy = batch.copy(alloc)?;
-        let note = self.keep(batch, table)?;
+        let note = self.keep(batch)?;
         Ok(SyncRecord {
             sync: note.sync,
             events: note.events,
@@ -372,15 +372,15 @@ impl Plane {
         kp_history_laws::sync_records();
     }
 
-    /// The batch that leads to the full table of all events' objects, and that table. Where no
-    /// event came since the last sync the batch is empty, and nothing is looked at or made.
+    /// The batch that leads to the full table of all events' objects. Where no event came since the
+    /// last sync it is empty, and nothing is looked at or made.
     fn next_batch<L: Ledger, A: Ledger>(
         &mut self,
         alloc: Global,
         steps: &mut Steps<L>,
         asked: &mut Steps<A>,
-    ) -> Result<(Batch, Option<Table>), TableFault>
-        ensures next { IfOk result (λ (b, t). LeadsToNext self.old b t) }
+    ) -> Result<Batch, TableFault>
+        ensures next { IfOk result (LeadsToNext self.old) }
         ensures clash { IfErr result (TellsClash
             (clash_of (setting_in self.old) (objects_after self.old.events))) }
         ensures steps { IsCounted (parts.uncovered_in self.old) (parts.most_steps self.old)
@@ -392,14 +392,13 @@ impl Plane {
         kp_rules::laws::same_rules_are_equal();
         let events = self.journal.events();
         if events.len() as u64 == self.history.covered {
-            let batch = Batch {
+            return Ok(Batch {
                 edits: Items::new(alloc),
-            };
-            return Ok((batch, None));
+            });
         }
         self.latest.advance(alloc, events, events.len())?;
         let objects = &self.latest.objects;
-        next_table(
+        next_batch(
             alloc,
             objects,
             &self.config,
@@ -433,13 +432,13 @@ impl Plane {
     {
         let mut steps = Steps::<L>::new(rules);
         let mut asked = Steps::<A>::new(ports);
-        let (batch, table) = self.next_batch(alloc, &mut steps, &mut asked)?;
-        Ok(self.keep(batch, table)?)
+        let batch = self.next_batch(alloc, &mut steps, &mut asked)?;
+        Ok(self.keep(batch)?)
     }
 
-    /// Keeps the batch of a sync of all events, and the table that it leads to, and tells of it.
-    fn keep(&mut self, batch: Batch, table: Option<Table>) -> Result<SyncNote, NoMemory>
-        requires { LeadsToNext self.old batch table }
+    /// Keeps the batch of a sync of all events, and tells of it.
+    fn keep(&mut self, batch: Batch) -> Result<SyncNote, NoMemory>
+        requires { LeadsToNext self.old batch }
         ensures note { IfOk result (λ n. n
             ≡ last_note (parts.uncovered_in self.old) self.new) }
         ensures ok { OnOk result (self.new ≡ parts.synced self.old) }
@@ -448,7 +447,7 @@ impl Plane {
         let (written, removed) = counts(batch.edits.as_slice());
         let events = self.uncovered();
         let covered = self.journal.events().len() as u64;
-        self.history.record(covered, batch, table)?;
+        self.history.record(covered, batch)?;
         Ok(SyncNote {
             sync: self.syncs(),
             events,

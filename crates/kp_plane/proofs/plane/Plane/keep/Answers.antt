@@ -13,7 +13,7 @@ invariant_of-self c =
     let s = c.self.inside in
     let p = parts_of s.config s.journal s.history in
     let is = c.self.invariant in
-    let leads = subst (λ q. LeadsToNext q c.args.batch c.args.table) (sym c.self.view_is) c.requires in
+    let leads = subst (λ q. LeadsToNext q c.args.batch) (sym c.self.view_is) c.requires in
     either_way c.record.result
     (c.record.ensures.ok p is.history (ap length c.events.ensures) leads)
     (c.record.ensures.err p is.history)
@@ -25,7 +25,7 @@ invariant_of-self-2 c =
     let s = c.self.inside in
     let p = parts_of s.config s.journal s.history in
     let is = c.self.invariant in
-    let leads = subst (λ q. LeadsToNext q c.args.batch c.args.table) (sym c.self.view_is) c.requires in
+    let leads = subst (λ q. LeadsToNext q c.args.batch) (sym c.self.view_is) c.requires in
     plane_next p s.journal.most s.history c.record.new.self s.latest s.explained s.slices is
     (c.in_ok-record.ensures.ok p is.history (ap length c.events.ensures) leads)
 
@@ -33,7 +33,7 @@ pub returns-clause-ok : goal.returns-clause-ok
 returns-clause-ok c =
     let s = c.self.inside in
     let p = parts_of s.config s.journal s.history in
-    let leads = subst (λ q. LeadsToNext q c.args.batch c.args.table) (sym c.self.view_is) c.requires in
+    let leads = subst (λ q. LeadsToNext q c.args.batch) (sym c.self.view_is) c.requires in
     let next =
     c.in_ok-record.ensures.ok p c.self.invariant.history (ap length c.events.ensures) leads in
     ap (λ (counts : List ℕ). record p { counts = counts }) next.counts ∙ ap synced c.self.view_is
@@ -43,7 +43,7 @@ returns-clause-note c =
     let s = c.self.inside in
     let p = parts_of s.config s.journal s.history in
     let is = c.self.invariant.history in
-    let leads = subst (λ q. LeadsToNext q c.args.batch c.args.table) (sym c.self.view_is) c.requires in
+    let leads = subst (λ q. LeadsToNext q c.args.batch) (sym c.self.view_is) c.requires in
     let next = c.in_ok-record.ensures.ok p is (ap length c.events.ensures) leads in
     let made =
     c.as_slice.ensures ∙ leads.edits ∙ sym (last_is_next p is.exact)

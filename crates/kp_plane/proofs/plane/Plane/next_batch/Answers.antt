@@ -36,11 +36,11 @@ returns-clause-next g c =
     let all =
     at_end c.events-events.result.now p.events c.advance.new.self c.advance.ensures.place
     c.in_ok-advance.ensures.ok c.events-events.ensures in
-    IfOk-weaker c.next_table.result _ _
-    (λ made is.
+    IfOk-weaker c.next_batch.result _ _
+    (λ batch is.
     leads_on p c.args.self.now c.self.view_is c.self.inside.history.table
-    c.advance.new.self.objects c.self.invariant.history.table all made.0 made.1 is)
-    c.next_table.ensures.next
+    c.advance.new.self.objects c.self.invariant.history.table all batch is)
+    c.next_batch.ensures.next
 
 pub returns-clause-clash : goal.returns-clause-clash
 returns-clause-clash g c =
@@ -48,11 +48,11 @@ returns-clause-clash g c =
     let all =
     at_end c.events-events.result.now p.events c.advance.new.self c.advance.ensures.place
     c.in_ok-advance.ensures.ok c.events-events.ensures in
-    IfErr-weaker c.next_table.result _ _
+    IfErr-weaker c.next_batch.result _ _
     (λ fault told.
     subst (λ clash. TellsClash clash fault)
     (same_clash p c.args.self.now c.self.view_is c.advance.new.self.objects all) told)
-    c.next_table.ensures.clash
+    c.next_batch.ensures.clash
 
 pub returns-clause-steps : goal.returns-clause-steps
 returns-clause-steps g c =
@@ -60,11 +60,11 @@ returns-clause-steps g c =
     let all =
     at_end c.events-events.result.now p.events c.advance.new.self c.advance.ensures.place
     c.in_ok-advance.ensures.ok c.events-events.ensures in
-    counted_all c.next_table.result
+    counted_all c.next_batch.result
     (some_left p c.args.self.now c.self.view_is c.self.inside.history c.self.invariant.history
     c.if-events-self.false (ap length c.events-events.ensures))
     (same_steps p c.args.self.now c.self.view_is c.advance.new.self.objects all)
-    c.next_table.ensures.steps c.next_table.ensures.bound
+    c.next_batch.ensures.steps c.next_batch.ensures.bound
 
 pub returns-clause-asked : goal.returns-clause-asked
 returns-clause-asked g c =
@@ -72,8 +72,8 @@ returns-clause-asked g c =
     let all =
     at_end c.events-events.result.now p.events c.advance.new.self c.advance.ensures.place
     c.in_ok-advance.ensures.ok c.events-events.ensures in
-    counted_all c.next_table.result
+    counted_all c.next_batch.result
     (some_left p c.args.self.now c.self.view_is c.self.inside.history c.self.invariant.history
     c.if-events-self.false (ap length c.events-events.ensures))
     (ap all_port_count all ∙ ap most_asked c.self.view_is)
-    c.next_table.ensures.asked c.next_table.ensures.asked_bound
+    c.next_batch.ensures.asked c.next_batch.ensures.asked_bound

@@ -4,5 +4,5 @@ use Rattle.kp_plane.proofs.plane.Plane.sync_uncounted.Goals as goal
 
 pub keep-requires : goal.keep-requires
 keep-requires g c =
-    subst (λ p. LeadsToNext p c.in_ok-batch.batch c.in_ok-batch.table)
+    subst (λ p. LeadsToNext p c.in_ok-batch.batch)
     (sym c.next_batch.ensures.stays) c.in_ok-batch.ensures.next
