@@ -114,7 +114,7 @@ impl Blocks {
             self.ports
                 .range(first..)
                 .map(|(port, _)| port)
-                .take_while(|port| port.object == *service)
+                .take_while(|port| *service == port.object)
                 .collect(alloc)?,
         )
     }

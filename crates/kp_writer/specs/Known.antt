@@ -1,17 +1,21 @@
 -- The ports of which something else is known than was written, and ports that are those of objects.
-use Rattle.std.specs.Prelude.{◌≡◌, List, ◌++◌, map}
+use Rattle.std.specs.Prelude.{◌≡◌, true, List, ◌++◌, map}
 use Rattle.std.specs.FinMap as finite
-use Rattle.std.specs.List.{filter, filter_map}
+use Rattle.std.specs.List.{filter, filter_map, flat_map}
+use Rattle.std.specs.Option.{option_to_list}
 use Rattle.kp_base.specs.Keys.{port_key_cmp}
+use Rattle.kp_base.specs.declared.key.ObjectKey.{ObjectKey}
 use Rattle.kp_base.specs.declared.key.PortKey.{PortKey}
 use Rattle.kp_types.specs.Setting.{Setting}
 use Rattle.kp_object_defs.specs.Objects.{Objects}
 use Rattle.kp_object_defs.specs.Order.{distinct_in_order}
 use Rattle.kp_object_defs.specs.OwnKeys.{AreUnderOwnKeys}
-use Rattle.kp_object_defs.specs.PortByKey.{info_at}
+use Rattle.kp_object_defs.specs.PortByKey.{info_at, port_keys_of}
 use Rattle.kp_object_defs.specs.PortInfo.{port_infos}
 use Rattle.kp_history_defs.specs.DirtyPorts.{dirty_keys, dirty_ports, same_info}
 use Rattle.kp_history_defs.specs.declared.dirty.DirtyPort.{DirtyPort}
+use Rattle.kp_writer_laws.specs.LocalLaws.{info_of}
+use Rattle.kp_blocks.specs.Joined.{is_port_of}
 use Rattle.kp_tracker.specs.Tracked.{is_changed}
 use Rattle.kp_writer.specs.Written.{Ports, WriterParts, dirty_of, newest_ports, written_ports}
 
@@ -44,6 +48,20 @@ KnownPorts =
     (setting : Setting) (o : Objects) (ports : Ports)
     → AreUnderOwnKeys o → ArePortsOf setting o ports
     → finite.values ports ≡ port_infos setting.family setting.config o
+
+-- the names of the ports of the Service at a key, if there is one, in order
+abbrev pub port_keys_at : Objects → ObjectKey → List PortKey
+port_keys_at o service =
+    distinct_in_order port_key_cmp
+    (flat_map port_keys_of (option_to_list (finite.get o.services service)))
+
+-- What is known of the ports of one Service is found by their names.
+abbrev pub KnownOfService : Type 0
+KnownOfService =
+    (setting : Setting) (o : Objects) (service : ObjectKey) (key : PortKey)
+    → AreUnderOwnKeys o → is_port_of service key ≡ true
+    → info_of (filter_map (info_at setting.family setting.config o) (port_keys_at o service)) key
+    ≡ info_at setting.family setting.config o key
 
 -- the ports that a writer wrote are those of some objects, and the newest those of others
 pub record IsBetween (setting : Setting) (before after : Objects) (w : WriterParts) : Type 0 where

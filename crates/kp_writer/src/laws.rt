@@ -1,12 +1,15 @@
 //! What the ports of a writer are, where by each name it knows what some objects tell.
 ghost use Rattle.kp_writer.specs.Known as spec;
 
-/// The ports of objects are what the proxy knows of all ports of these.
-#[tactic(auto, using(crate::proofs::KnownPorts::known_ports))]
+/// The ports of objects are what the proxy knows of all ports of these, and what is known of the
+/// ports of one Service is found by their names.
 pub fn known_ports()
-    ensures { spec.KnownPorts }
+    ensures ports { spec.KnownPorts }
+    ensures of_service { spec.KnownOfService }
 {
+    kp_history_laws::infos_by_name();
     kp_object_laws::ports_by_key();
+    kp_table_laws::ports_are_in_order();
 }
 
 /// The dirty ports are those of which something else is known after than before, and what is known
@@ -17,4 +20,5 @@ pub fn known_dirty_ports()
     ensures newest { spec.DirtyNewest }
 {
     kp_history_laws::dirty_ports();
+    kp_object_laws::ports_by_key();
 }

@@ -96,6 +96,14 @@ impl Writer {
         kept::drop_port(alloc, &mut self.ports, &mut self.blocks, port)
     }
 
+    /// The newest ports, in order of their names.
+    pub fn ports(&self, alloc: Global) -> Result<Vec<&PortKey>, NoMemory>
+        ensures { IfOk result (λ ports. map (λ k. k.now) ports.items
+            ≡ finite.keys (spec.newest_ports self.now)) }
+    {
+        self.blocks.ports(alloc)
+    }
+
     /// The newest ports of a Service, in order of their names. Of the others at most one is looked
     /// at.
     pub fn ports_of(&self, alloc: Global, service: &ObjectKey) -> Result<Vec<&PortKey>, NoMemory>
