@@ -12,7 +12,7 @@ use Rattle.kp_object_defs.specs.Objects.{objects_after}
 use Rattle.kp_table_defs.specs.Edits.{ChangesLeadOver, chains_after_edit, changes_between}
 use Rattle.kp_table_defs.specs.Edits.{table_after_batch}
 use Rattle.kp_table_defs.specs.Rebuild.{TableParts, clash_of, full_table}
-use Rattle.kp_history_defs.specs.History.{IsExactHistory, chains_covered, objects_covered}
+use Rattle.kp_history_defs.specs.History.{IsExactHistory, objects_covered}
 use Rattle.kp_history_laws.specs.HistoryLaws.{all_covered, CoversRest, ExactByRecord}
 use Rattle.kp_history_laws.specs.HistoryLaws.{RecordsHaveCounts, RecordsGrow}
 use Rattle.kp_history.specs.Parts.{PlaneParts, HasExactHistory, setting_in, syncs_in, uncovered_in}
@@ -44,14 +44,18 @@ module _ (p : PlaneParts) (h : HasExactHistory p) where
   objects_before : objects_covered p.events (synced p).counts (syncs_in p) ≡ objects_in p
   objects_before = ap (λ c. objects_after (take (sum c) p.events)) (take-append-le (syncs_in p) p.counts (uncovered_in p ∷ []) (le_refl (syncs_in p)))
 
-  -- the last edits are then those of this sync
-  pub last_is_next : last_edits (synced p) ≡ next_edits p
-  last_is_next =
+  -- the last sync was one before
+  pub before_next : objects_covered p.events (synced p).counts (syncs_in (synced p) - 1) ≡ objects_in p
+  before_next =
       let longer = length_push p.counts (uncovered_in p) in
       let one : syncs_in (synced p) - 1 ≡ syncs_in p = omega arith in
-      ap (λ (n : ℕ). changes_between (chains_covered (setting_in p) p.events (synced p).counts n) (chains_in (synced p))) one
-      ∙ ap (λ o. changes_between (full_table (setting_in p) o).chains (chains_in (synced p))) objects_before
-      ∙ ap (λ o. changes_between (chains_in p) (full_table (setting_in p) o).chains) objects_next
+      ap (λ (n : ℕ). objects_covered p.events (synced p).counts n) one ∙ objects_before
+
+  -- the last edits are then those of this sync
+  pub last_is_next : last_edits (synced p) ≡ next_edits p
+  last_is_next = λ i.
+      changes_between (full_table (setting_in p) (before_next i)).chains
+      (full_table (setting_in p) (objects_next i)).chains
 
   -- one more sync adds its record to those before it
   pub records_next : RecordsGrow → records_in (synced p) ≡ records_in p ++ next_record p ∷ []

@@ -1,6 +1,6 @@
 -- What holds of a plane's fields, by the parts that contracts see.
 use Rattle.std.specs.Prelude.{◌≡◌, ◌≤◌, ◌<◌, ◌+◌, ◌-◌, ℕ, List, [], ◌∷◌, length, sum, take, drop}
-use Rattle.std.specs.Prelude.{Bool, cond}
+use Rattle.std.specs.Prelude.{Bool, cond, None}
 use Rattle.std.specs.List.{fold}
 use Rattle.kp_base.specs.declared.address.Family.TheVariants.{V4}
 use Rattle.kp_base.specs.declared.config.Config.{Config}
@@ -13,8 +13,9 @@ use Rattle.kp_history_defs.specs.DirtyPorts.{dirty_ports}
 use Rattle.kp_history_defs.specs.declared.dirty.DirtyPort.{DirtyPort}
 use Rattle.kp_history.specs.Invariant.{IsHistory, LeadsToNext}
 use Rattle.kp_history.specs.declared.history.History.{History}
-use Rattle.kp_writer.specs.Known.{ArePortsOf}
-use Rattle.kp_writer.specs.Written.{Ports, newest_ports, written_ports}
+use Rattle.kp_writer.specs.Known.{ArePortsOf, pending_ports}
+use Rattle.kp_writer.specs.Written as written
+use Rattle.kp_writer.specs.Written.{Ports, WriterParts, newest_ports, written_ports}
 use Rattle.kp_plane.specs.Known.{KnowsUntouched}
 use Rattle.kp_plane.specs.Parts.{PlaneParts, dirty_in, objects_in, setting_in, uncovered_in}
 use Rattle.kp_plane.specs.declared.next.Next.{Next}
@@ -91,6 +92,12 @@ pub record IsSettled (is_new : Bool) (dirty : List DirtyPort) (before after : Po
 pub record Holds (p : PlaneParts) (h : History) (s : PortsAt) : Type 0 where
   pub history : IsHistory p h
   pub ports : IsPortsAt p s
+
+-- what a writer makes of a sync
+pub record IsMade (w : WriterParts) (next : Next) : Type 0 where
+  pub edits : next.batch.edits ≡ written.next_edits w
+  pub dirty : next.dirty ≡ pending_ports w
+  pub no_clash : written.clash_of w (newest_ports w) ≡ None
 
 -- What one more sync keeps: the batch, and the ports of which something else is known. Where it
 -- covers new events the ports that are known are those of all events' objects.

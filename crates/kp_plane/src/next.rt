@@ -4,14 +4,12 @@ ghost use Rattle.kp_base.specs.declared.address.Family.TheVariants.{V4};
 ghost use Rattle.kp_choice_defs.specs.Settings.{setting_of};
 ghost use Rattle.kp_full_table.specs.Faults.{TellsClash};
 ghost use Rattle.kp_full_table.specs.Parts.{all_rule_count};
-ghost use Rattle.kp_history.specs.Invariant.{IsHistory};
 ghost use Rattle.kp_object_defs.specs.Objects.{objects_after};
 ghost use Rattle.kp_table_defs.specs.Rebuild.{clash_of};
 ghost use Rattle.kp_writer.specs.Batch.{own_rules_written};
-ghost use Rattle.kp_writer.specs.Known.{pending_ports};
 ghost use Rattle.kp_writer.specs.Written as written;
 ghost use Rattle.kp_plane.specs.Counts.{IsCounted};
-ghost use Rattle.kp_plane.specs.Invariant.{Holds, IsNext, IsPortsAt, parts_of};
+ghost use Rattle.kp_plane.specs.Invariant.{Holds, IsMade, IsNext, IsPortsAt, parts_of};
 ghost use Rattle.kp_plane.specs.Parts as parts;
 ghost use Rattle.kp_plane.specs.Parts.{PlaneParts as Parts};
 
@@ -101,10 +99,7 @@ fn made<L: Ledger>(
     requires table { table.now.chains
         ≡ written.chains_of writer.now (written.written_ports writer.now) }
     requires apart { written.clash_of writer.now (written.written_ports writer.now) ≡ None }
-    ensures batch { IfOk result (λ n. n.batch.edits ≡ written.next_edits writer.now) }
-    ensures dirty { IfOk result (λ n. n.dirty ≡ pending_ports writer.now) }
-    ensures no_clash { OnOk result (
-        written.clash_of writer.now (written.newest_ports writer.now) ≡ None) }
+    ensures next { IfOk result (IsMade writer.now) }
     ensures clash { IfErr result (TellsClash
         (written.clash_of writer.now (written.newest_ports writer.now))) }
     ensures made { IfOk result (λ n. steps.old + own_rules_written n.batch.edits ≤ steps.new) }

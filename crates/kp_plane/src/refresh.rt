@@ -1,20 +1,16 @@
 //! What a writer knows of the ports of touched Services, brought up to the objects.
-ghost use Rattle.std.specs.Prelude.{◌≡◌, ◌+◌, ◌≤◌, false, true, map, None, IfOk, OnOk};
+ghost use Rattle.std.specs.Prelude.{◌≡◌, ◌+◌, ◌≤◌, ◌∷◌, [], false, map, None, IfOk, OnOk};
 ghost use Rattle.std.specs.FinMap as finite;
-ghost use Rattle.std.specs.List.{filter_map, flat_map};
-ghost use Rattle.std.specs.Option.{option_to_list};
-ghost use Rattle.kp_base.specs.Keys.{port_key_cmp};
+ghost use Rattle.std.specs.List.{filter_map};
 ghost use Rattle.kp_base.specs.declared.address.Family.TheVariants.{V4};
 ghost use Rattle.kp_base.specs.declared.key.ObjectKey.{ObjectKey as Key};
 ghost use Rattle.kp_base.specs.declared.key.PortKey.{PortKey as Port};
 ghost use Rattle.kp_types.specs.Setting.{config_for};
 ghost use Rattle.kp_choice_defs.specs.Settings.{setting_of};
-ghost use Rattle.kp_object_defs.specs.Order.{distinct_in_order};
 ghost use Rattle.kp_object_defs.specs.OwnKeys.{AreUnderOwnKeys};
-ghost use Rattle.kp_object_defs.specs.PortByKey.{info_at, port_keys_of};
-ghost use Rattle.kp_known_ports.specs.Known.{all_port_count, port_count};
-ghost use Rattle.kp_blocks.specs.Joined.{is_port_of};
-ghost use Rattle.kp_writer.specs.Known.{ArePortsOf};
+ghost use Rattle.kp_object_defs.specs.PortByKey.{info_at};
+ghost use Rattle.kp_known_ports.specs.Known.{all_port_count};
+ghost use Rattle.kp_writer.specs.Known.{ArePortsOf, port_keys_at};
 ghost use Rattle.kp_writer.specs.Refresh.{OthersStay};
 ghost use Rattle.kp_writer.specs.Written.{newest_ports, written_ports};
 ghost use Rattle.kp_plane.specs.Known as spec;
@@ -141,7 +137,7 @@ fn refresh_one<A: Ledger>(
         (newest_ports writer.new)) }
     ensures asked { asked.new ≤ asked.old + spec.asked_count objects.now (service.now ∷ []) }
 {
-    kp_writer::known_of_service();
+    kp_writer::known_ports();
     let infos = infos_of(alloc, config, objects, service, asked)?;
     writer.refresh(alloc, service, infos)
 }
@@ -157,8 +153,7 @@ fn infos_of<A: Ledger>(
     requires { AreUnderOwnKeys objects.now }
     ensures infos { IfOk result (λ infos. infos.items
         ≡ filter_map (info_at V4 (config_for V4 config.now) objects.now)
-        (distinct_in_order port_key_cmp (flat_map port_keys_of
-        (option_to_list (finite.get objects.now.services service.now))))) }
+        (port_keys_at objects.now service.now)) }
     ensures asked { asked.new ≤ asked.old + spec.asked_count objects.now (service.now ∷ []) }
 {
     match objects.service(service) {

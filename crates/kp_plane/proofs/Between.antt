@@ -1,0 +1,102 @@
+-- What a writer makes between what the last sync covers and all events.
+use Rattle.std.proofs.Common.{◌≡◌, ◌+◌, ℕ, List, Option, None, sym, ap, subst, ◌∙◌}
+use Rattle.std.specs.FinMap as finite
+use Rattle.kp_base.specs.declared.address.Family.TheVariants.{V4}
+use Rattle.kp_types.specs.declared.chain.Clash.{Clash}
+use Rattle.kp_choice_defs.specs.Names.{first_clash}
+use Rattle.kp_choice_defs.specs.Settings.{setting_of}
+use Rattle.kp_object_defs.specs.Objects.{Objects, objects_after}
+use Rattle.kp_object_defs.specs.OwnKeys.{AreUnderOwnKeys}
+use Rattle.kp_object_laws.specs.ObjectLaws.{OwnKeysAfterEvents}
+use Rattle.kp_table_defs.specs.Edits.{changes_between}
+use Rattle.kp_table_defs.specs.Rebuild as rebuild
+use Rattle.kp_table_defs.specs.Rebuild.{TableParts, full_chains, full_table, needed_keys}
+use Rattle.kp_full_table.specs.Parts.{all_rule_count}
+use Rattle.kp_history.specs.Invariant.{IsHistory}
+use Rattle.kp_history.specs.declared.history.History.{History}
+use Rattle.kp_writer.specs.Known.{ArePortsOf, DirtyNewest, DirtyWritten, IsBetween, KnownDirtyPorts}
+use Rattle.kp_writer.specs.Known.{KnownPorts}
+use Rattle.kp_writer.specs.Written as written
+use Rattle.kp_writer.specs.Written.{Ports, WriterParts, chains_of, newest_ports, written_ports}
+use Rattle.kp_plane.specs.Invariant.{IsBroughtOn, IsMade, IsNext, IsPortsAt}
+use Rattle.kp_plane.specs.Parts.{PlaneParts, most_steps, objects_in, setting_in, uncovered_in}
+use Rattle.kp_plane.specs.declared.next.Next.{Next}
+use Rattle.kp_plane.specs.declared.ports_at.PortsAt.{PortsAt}
+
+-- what is known of ports at a later place
+pub brought_on : (p : PlaneParts) (s t : PortsAt) → IsPortsAt p s
+    → IsBroughtOn (setting_in p) p.events s t → IsPortsAt p t
+brought_on p s t is on = record {
+  place = on.place;
+  config = on.config ∙ is.config;
+  written = λ key. ap (λ (m : Ports). finite.get m key) on.written ∙ is.written key;
+  untouched = on.untouched;
+  dirty = on.dirty ∙ is.dirty;
+}
+
+module _ (known : KnownPorts) (own : OwnKeysAfterEvents) (p : PlaneParts) (w : WriterParts)
+    (config : w.config ≡ p.config) where
+  -- the full table of ports is that of the objects that tell of them
+  same_chains : (o : Objects) (m : Ports) → AreUnderOwnKeys o → ArePortsOf (setting_in p) o m
+      → chains_of w m ≡ (full_table (setting_in p) o).chains
+  same_chains o m under are =
+      ap (λ c. full_chains (setting_of V4 c) (finite.values m)) config
+      ∙ ap (full_chains (setting_in p)) (known (setting_in p) o m under are)
+
+  -- so is the clash
+  same_clash : (o : Objects) (m : Ports) → AreUnderOwnKeys o → ArePortsOf (setting_in p) o m
+      → written.clash_of w m ≡ rebuild.clash_of (setting_in p) o
+  same_clash o m under are =
+      ap (λ c. first_clash (setting_of V4 c).name_of (needed_keys (finite.values m))) config
+      ∙ ap (λ is. first_clash (setting_in p).name_of (needed_keys is))
+      (known (setting_in p) o m under are)
+
+  module _ (old : ArePortsOf (setting_in p) (objects_in p) (written_ports w)) where
+    -- the table that stands is the one that was written, and has no clash
+    pub stands : (h : History) → IsHistory p h → h.table.chains ≡ chains_of w (written_ports w)
+    stands h is =
+        ap (λ (t : TableParts). t.chains) is.table
+        ∙ sym (same_chains (objects_in p) (written_ports w) (own _) old)
+
+    pub stands_apart : (h : History) → IsHistory p h
+        → written.clash_of w (written_ports w) ≡ None
+    stands_apart h is = same_clash (objects_in p) (written_ports w) (own _) old ∙ is.no_clash
+
+    module _ (new : ArePortsOf (setting_in p) (objects_after p.events) (newest_ports w)) where
+      pub next_clash : written.clash_of w (newest_ports w)
+          ≡ rebuild.clash_of (setting_in p) (objects_after p.events)
+      next_clash = same_clash (objects_after p.events) (newest_ports w) (own p.events) new
+
+      between : IsBetween (setting_in p) (objects_in p) (objects_after p.events) w
+      between = record {
+        own_before = own _;
+        own_after = own p.events;
+        written = old;
+        newest = new;
+      }
+
+      -- what the writer makes is what a sync keeps
+      pub makes_next : KnownDirtyPorts → (next : Next) → IsMade w next
+          → IsNext p (newest_ports w) next
+      makes_next dirty next made = record {
+        leads = record {
+          no_clash = sym next_clash ∙ made.no_clash;
+          edits = made.edits
+              ∙ (λ i. changes_between
+              (same_chains (objects_in p) (written_ports w) (own _) old i)
+              (same_chains (objects_after p.events) (newest_ports w) (own p.events) new i));
+        };
+        dirty = made.dirty ∙ dirty (setting_in p) (objects_in p) (objects_after p.events) w between;
+        newest = λ _. new;
+      }
+
+      -- its most steps are those of the dirty ports
+      pub most_made : DirtyWritten → DirtyNewest
+          → all_rule_count (written.setting_in w) (written.dirty_of w (written_ports w))
+          + all_rule_count (written.setting_in w) (written.dirty_of w (newest_ports w))
+          ≡ most_steps p
+      most_made was becomes = λ i.
+          all_rule_count (setting_of V4 (config i))
+          (was (setting_in p) (objects_in p) (objects_after p.events) w between i)
+          + all_rule_count (setting_of V4 (config i))
+          (becomes (setting_in p) (objects_in p) (objects_after p.events) w between i)
