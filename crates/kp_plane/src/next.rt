@@ -26,15 +26,10 @@ use std::alloc::Global;
 use std::sync::ledger::Ledger;
 
 /// The batch of a sync, and the ports of which something else is known after it than before.
+#[derive(Drop)]
 pub(crate) struct Next {
     pub(crate) batch: Batch,
     pub(crate) dirty: Items<DirtyPort>,
-}
-
-impl Drop for Next {
-    fn drop(self) {
-        let Next { batch, dirty } = self;
-    }
 }
 
 /// What a sync of all events keeps. Where no event came since the last sync it is nothing, and

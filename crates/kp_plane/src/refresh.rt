@@ -137,7 +137,7 @@ fn refresh_one<A: Ledger>(
         (newest_ports writer.new)) }
     ensures asked { asked.new ≤ asked.old + spec.asked_count objects.now (service.now ∷ []) }
 {
-    kp_writer::known_ports();
+    kp_writer::known_of_service();
     let infos = infos_of(alloc, config, objects, service, asked)?;
     writer.refresh(alloc, service, infos)
 }
