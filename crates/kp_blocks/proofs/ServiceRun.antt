@@ -1,6 +1,6 @@
 -- The ports of a Service stand together: of those from the least name that they may have on, they
 -- are the first.
-use Rattle.std.proofs.Common.{◌≡◌, ℕ, zero, suc, ◌+◌, Bool, true, false, cond, List, [], ◌∷◌, map}
+use Rattle.std.proofs.Common.{◌≡◌, ℕ, suc, ◌+◌, arith, Bool, true, false, cond, List, [], ◌∷◌, map}
 use Rattle.std.proofs.Common.{filter, take, refl, sym, ap, ◌∙◌}
 use Rattle.std.specs.declared.cmp.Ordering.{Ordering}
 use Rattle.std.specs.declared.cmp.Ordering.TheVariants.{Less, Equal, Greater}
@@ -10,8 +10,13 @@ use Rattle.std.specs.Ordering.{is_eq, is_le, nat_cmp, ordering_then}
 use Rattle.kp_base.specs.Keys.{key_cmp, port_key_cmp, proto_place, text_cmp}
 use Rattle.kp_base.specs.declared.key.ObjectKey.{ObjectKey}
 use Rattle.kp_base.specs.declared.key.PortKey.{PortKey}
+use Rattle.kp_base.specs.declared.port.Proto.{Proto}
+use Rattle.kp_base.specs.declared.port.Proto.TheVariants.{Sctp, Tcp, Udp}
 use Rattle.kp_base.proofs.KeyOrder.{key_exact, key_total}
 use Rattle.kp_blocks.specs.Joined.{first_port_of, is_port_of}
+
+one_more : (n : ℕ) → 1 + n ≡ suc n
+one_more n = omega arith
 
 -- ---- Keys that fall before, among and behind some
 
@@ -57,6 +62,7 @@ module _ {K X : Type 0} (R : K → K → Ordering) (s : K → Ordering) (q : K �
           ∙ sym (none_behind e.0 here (map (λ f. f.0) es) below)
       by Equal here =
           ap (λ p. take (cond (is_eq p) (1 + prefix_len among (rest es)) 0) (e.0 ∷ rest es)) here
+          ∙ ap (λ n. take n (e.0 ∷ rest es)) (one_more (prefix_len among (rest es)))
           ∙ ap (λ ks. e.0 ∷ ks) so_far
       by Greater here = so_far
 
@@ -69,18 +75,19 @@ module _ {K X : Type 0} (R : K → K → Ordering) (s : K → Ordering) (q : K �
 
 -- ---- The ports of a Service
 
-least : (name : List ℕ) (place : ℕ)
-    → is_le (ordering_then (text_cmp [] name) (nat_cmp 0 place)) ≡ true
-least [] zero = refl
-least [] (suc n) = refl
-least (x ∷ xs) place = refl
+least : (name : List ℕ) (proto : Proto)
+    → is_le (ordering_then (text_cmp [] name) (nat_cmp 0 (proto_place proto))) ≡ true
+least [] Sctp = refl
+least [] Tcp = refl
+least [] Udp = refl
+least (x ∷ xs) proto = refl
 
 module _ (service : ObjectKey) where
   from_by : (port : PortKey) (o : Ordering)
       → is_le (ordering_then o (ordering_then (text_cmp [] port.port_name) (nat_cmp 0
       (proto_place port.proto)))) ≡ is_le o
   from_by port Less = refl
-  from_by port Equal = least port.port_name (proto_place port.proto)
+  from_by port Equal = least port.port_name port.proto
   from_by port Greater = refl
 
   -- a port is at the least name of a Service or behind it where its Service is

@@ -18,5 +18,5 @@ mod writer;
 
 pub use known::Known;
 pub use kp_full_table::TableFault;
-pub use laws::{known_dirty_ports, known_ports};
+pub use laws::{known_dirty_ports, known_of_service, known_ports};
 pub use writer::Writer;

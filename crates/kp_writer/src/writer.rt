@@ -148,8 +148,8 @@ impl Writer {
     pub fn dirty(&self, alloc: Global) -> Result<Items<DirtyPort>, NoMemory>
         ensures { IfOk result (λ ports. ports ≡ pending_ports self.now) }
     {
-        let keys = self.ports.pending(alloc)?;
-        dirty_ports(alloc, &self.ports, &keys)
+        let pending = self.ports.pending(alloc)?;
+        dirty_ports(alloc, &self.ports, &pending)
     }
 
     /// The edits that lead from the full table of what was written, which is given, to that of what
@@ -205,7 +205,7 @@ impl Writer {
         if all_free {
             return Ok(());
         }
-        let ports = self.blocks.ports(alloc)?;
+        let ports = self.ports(alloc)?;
         let infos = newest_infos(alloc, &self.ports, &ports)?;
         check_names(alloc, &self.config, &infos)
     }
