@@ -1,9 +1,10 @@
 -- What is known of ports once those of Services are made anew.
 use Rattle.std.proofs.Common.{◌≡◌, ◌||◌, ◌+◌, Bool, true, false, List, [], ◌∷◌, ◌++◌, map, refl, sym}
 use Rattle.std.proofs.Common.{ap, subst, ◌∙◌, arith, ◌≤◌, ℕ, Option, None, cond, absurd}
-use Rattle.std.specs.List.{filter_map, list_any, sum_by}
+use Rattle.std.proofs.Common.{Some, flat_map}
+use Rattle.std.specs.List.{Contains, cons_option, filter_map, list_any, sum_by}
 use Rattle.std.specs.Ordering.{eq_by_cmp}
-use Rattle.std.specs.Option.{option_and_then}
+use Rattle.std.specs.Option.{option_and_then, option_to_list}
 use Rattle.std.specs.Cmp.{eq_by_cmp_equiv}
 use Rattle.std.specs.FinMap as finite
 use Rattle.std.specs.FinMap.{contains_key-keys}
@@ -11,15 +12,18 @@ use Rattle.std.proofs.lemmas.Bool.{or_parts}
 use Rattle.std.proofs.lemmas.List.Elements.{filter_map-append}
 use Rattle.std.proofs.lemmas.List.Folds.{list_any-append}
 use Rattle.std.proofs.lemmas.List.Sums.{sum_by-append}
-use Rattle.kp_base.specs.Keys.{key_cmp}
+use Rattle.kp_lemmas.proofs.Members.{in_cases, none_in}
+use Rattle.kp_base.specs.Keys.{key_cmp, port_key_cmp}
 use Rattle.kp_base.proofs.KeyOrder.{key_total, key_exact}
 use Rattle.kp_base.specs.declared.key.ObjectKey.{ObjectKey}
 use Rattle.kp_base.specs.declared.key.PortKey.{PortKey}
 use Rattle.kp_types.specs.Setting.{Setting}
+use Rattle.kp_types.specs.declared.service.Service.{Service}
 use Rattle.kp_object_defs.specs.Objects.{Objects}
-use Rattle.kp_object_defs.specs.PortByKey.{info_at, info_in}
+use Rattle.kp_object_defs.specs.Order.{distinct_in_order}
+use Rattle.kp_object_defs.specs.PortByKey.{info_at, info_in, port_keys_of}
 use Rattle.kp_object_defs.specs.PortInfo.{PortInfo}
-use Rattle.kp_known_ports.specs.Known.{all_port_count, ports_in}
+use Rattle.kp_known_ports.specs.Known.{AreStored, all_port_count, port_count, ports_in}
 use Rattle.kp_store.specs.Indexes.{Keys}
 use Rattle.kp_store.specs.Touched.{is_touched}
 use Rattle.kp_store.specs.declared.touched.Touched.{Touched}
@@ -139,3 +143,31 @@ pub few_asked : (o : Objects) (s : Keys) (services : List ObjectKey) → service
 few_asked o s services are =
     subst (λ ks. asked_count o ks ≤ all_port_count o) (sym are)
     (few_of_all key_total key_exact ports_in o.services s)
+
+module _ (o : Objects) (own : AreUnderOwnKeys o) (service : ObjectKey) (s : Service)
+    (is : finite.get o.services service ≡ Some s) where
+  -- the Service at a key is stored
+  pub one_stored : AreStored o (s ∷ [])
+  one_stored t among =
+      let same : s ≡ t = only_one t (in_cases t s [] among) in
+      ap (finite.get o.services) (ap (λ (u : Service). u.key) (sym same) ∙ own.services service s is)
+      ∙ is ∙ ap Some same
+    where
+      only_one : (t : Service) → (s ≡ t) ⊎ Contains [] t → s ≡ t
+      only_one t (inl e) = e
+      only_one t (inr none) = absurd (none_in t none)
+
+  -- it has these ports
+  pub one_counted : port_count (s ∷ []) ≡ asked_count o (service ∷ [])
+  one_counted = ap (λ o. port_count (cons_option o [])) (sym is)
+
+  pub one_named : distinct_in_order port_key_cmp (flat_map port_keys_of (s ∷ []))
+      ≡ port_keys_at o service
+  one_named =
+      ap (λ o. distinct_in_order port_key_cmp (flat_map port_keys_of (option_to_list o))) (sym is)
+
+-- where there is none, it has no ports
+pub none_named : (o : Objects) (service : ObjectKey) → finite.get o.services service ≡ None
+    → port_keys_at o service ≡ []
+none_named o service is =
+    ap (λ o. distinct_in_order port_key_cmp (flat_map port_keys_of (option_to_list o))) is

@@ -1,7 +1,7 @@
 use Rattle.std.proofs.Common.{◌≡◌, ◌≤◌, take}
 use Rattle.std.specs.Prelude.{count_by, not}
 use Rattle.kp_table_defs.specs.Edits.{is_write}
-use Rattle.kp_plane.proofs.plane.counts.Given as goal
+use Rattle.kp_plane.proofs.sync.counts.Given as goal
 
 -- the counts of the edits so far
 abbrev pub invariant-loop-edit : goal.invariant-loop-edit
