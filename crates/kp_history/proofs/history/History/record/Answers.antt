@@ -16,7 +16,7 @@ returns-clause-ok c = λ p is all made.
     let pushed : c.push_reserved.new.self.items ≡ before.counts.items ++ (c.args.covered - before.covered) ∷ [] =
     search rules in
     let few : length c.push_reserved.new.self.items < 2 ^ 64 =
-    subst (λ l. length l < 2 ^ 64) c.as_slice.ensures c.fits_memory.ensures in
+    subst (λ l. length l < 2 ^ 64) c.as_slice.ensures.value c.fits_memory.ensures in
     history_next c.changes_lead_over.ensures c.exact_histories.ensures.by_record
     c.sync_records.ensures.counts c.sync_records.ensures.grow p before after c.args.covered
     c.args.batch is all made pushed few refl c.in_ok-apply.ensures.ok refl
