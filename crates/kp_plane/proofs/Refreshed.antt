@@ -8,13 +8,17 @@ use Rattle.std.specs.Option.{option_and_then, option_to_list}
 use Rattle.std.specs.Cmp.{eq_by_cmp_equiv}
 use Rattle.std.specs.FinMap as finite
 use Rattle.std.specs.FinMap.{contains_key-keys}
-use Rattle.std.proofs.lemmas.Bool.{or_parts}
+use Rattle.std.proofs.lemmas.Bool.{false_from_ne_true, or_parts}
 use Rattle.std.proofs.lemmas.List.Elements.{filter_map-append}
 use Rattle.std.proofs.lemmas.List.Folds.{list_any-append}
 use Rattle.std.proofs.lemmas.List.Sums.{sum_by-append}
 use Rattle.kp_lemmas.proofs.Members.{in_cases, none_in}
 use Rattle.kp_base.specs.Keys.{key_cmp, port_key_cmp}
-use Rattle.kp_base.proofs.KeyOrder.{key_total, key_exact}
+use Rattle.kp_base.proofs.KeyOrder.{key_total, key_exact, port_key_exact}
+use Rattle.kp_lemmas.proofs.Orders.{one_from_tie, tie_of_itself}
+use Rattle.std.proofs.Common.{is_some}
+use Rattle.std.specs.FinMap.{FinMap}
+use Rattle.std.specs.declared.cmp.Ordering.{Ordering}
 use Rattle.kp_base.specs.declared.key.ObjectKey.{ObjectKey}
 use Rattle.kp_base.specs.declared.key.PortKey.{PortKey}
 use Rattle.kp_types.specs.Setting.{Setting}
@@ -36,6 +40,7 @@ use Rattle.kp_object_defs.specs.OwnKeys.{AreUnderOwnKeys}
 use Rattle.kp_plane.specs.Known.{IsKnown, KnowsOthers, KnowsService, KnowsUntouched}
 use Rattle.kp_plane.specs.Known.{asked_count, is_port_of_one}
 use Rattle.kp_plane.proofs.FewAsked.{few_of_all}
+use Rattle.kp_plane.proofs.Touching.{both_answers}
 
 -- some Services are among others
 abbrev pub AreAmong : List ObjectKey → List ObjectKey → Type 0
@@ -103,7 +108,7 @@ module _ (setting : Setting) (o : Objects) where
       ∙ ap (λ is. info_of is key) are
       ∙ known setting o service key own is
 
-  -- of a Service that isn't there nothing is known
+  -- of a port of a Service that isn't there nothing is known
   pub none_known : (ports : Ports) (all : Keys)
       → ((key : PortKey) → finite.contains_key all key.object ≡ false → finite.get ports key ≡ None)
       → ((key : ObjectKey) → finite.contains_key all key ≡ false → finite.get o.services key ≡ None)
@@ -131,12 +136,8 @@ module _ (setting : Setting) (o : Objects) where
     -- where all are, nothing is asked for
     pub none_left : touched.all ≡ true → KnowsUntouched setting o touched ports
     none_left all = λ key none.
-        absurd (true_not_false
+        absurd (both_answers true refl
         (ap (λ b. b || finite.contains_key touched.keys key.object) (sym all) ∙ none))
-      where
-        true_not_false : true ≡ false → ⊥
-        true_not_false e = cc
-
 -- the ports of Services with different keys are among all ports
 pub few_asked : (o : Objects) (s : Keys) (services : List ObjectKey) → services ≡ finite.keys s
     → asked_count o services ≤ all_port_count o
@@ -171,3 +172,40 @@ pub none_named : (o : Objects) (service : ObjectKey) → finite.get o.services s
     → port_keys_at o service ≡ []
 none_named o service is =
     ap (λ o. distinct_in_order port_key_cmp (flat_map port_keys_of (option_to_list o))) is
+
+-- ---- All Services
+
+none_from : {X : Type 0} (o : Option X) → is_some o ≡ false → o ≡ None
+none_from None no = refl
+none_from (Some x) no = absurd (cc)
+
+-- a key that isn't listed has nothing
+pub not_listed : {K X : Type 0} {R : K → K → Ordering} (m : FinMap R X) (k : K)
+    → list_any (eq_by_cmp R k) (finite.keys m) ≡ false → finite.get m k ≡ None
+not_listed m k no = none_from (finite.get m k) (contains_key-keys m k ∙ no)
+
+-- a port of other Services is another port
+pub other_ports : (port : PortKey) (ks : List PortKey)
+    → list_any (eq_by_cmp key_cmp port.object) (map (λ k. k.object) ks) ≡ false
+    → list_any (eq_by_cmp port_key_cmp port) ks ≡ false
+other_ports port [] no = refl
+other_ports port (k ∷ ks) no =
+    let parts = or_parts _ _ no in
+    let other : eq_by_cmp port_key_cmp port k ≡ false =
+    false_from_ne_true _ (λ tie.
+    both_answers (eq_by_cmp key_cmp port.object k.object)
+    (ap (λ (q : PortKey). eq_by_cmp key_cmp port.object q.object)
+    (sym (one_from_tie port_key_exact port k tie)) ∙ tie_of_itself key_total port.object) parts.0) in
+    λ i. other i || other_ports port ks parts.1 i
+
+-- keys that were put, and then others
+pub put_twice : (first second : Keys) (known stored : List ObjectKey)
+    → ((k : ObjectKey) → finite.contains_key first k
+    ≡ list_any (eq_by_cmp key_cmp k) known || finite.contains_key {R = key_cmp} (finite.empty {X = Unit {0}}) k)
+    → ((k : ObjectKey) → finite.contains_key second k
+    ≡ list_any (eq_by_cmp key_cmp k) stored || finite.contains_key first k)
+    → (k : ObjectKey) → finite.contains_key second k ≡ false
+    → (list_any (eq_by_cmp key_cmp k) known ≡ false) × (list_any (eq_by_cmp key_cmp k) stored ≡ false)
+put_twice first second known stored one two k no =
+    let parts = or_parts _ _ (sym (two k) ∙ no) in
+    ((or_parts _ _ (sym (one k) ∙ parts.1)).0, parts.0)

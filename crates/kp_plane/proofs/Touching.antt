@@ -15,7 +15,7 @@ use Rattle.kp_writer.specs.Written.{Ports}
 use Rattle.kp_plane.specs.Known.{KnowsUntouched, LeavesUntouched}
 
 -- no test has both answers
-both_answers : (b : Bool) → b ≡ true → b ≡ false → ⊥
+pub both_answers : (b : Bool) → b ≡ true → b ≡ false → ⊥
 both_answers true yes no = cc
 both_answers false yes no = cc
 

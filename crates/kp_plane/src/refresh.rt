@@ -46,11 +46,53 @@ pub(crate) fn refresh<A: Ledger>(
     ensures asked { asked.new ≤ asked.old + all_port_count objects.now }
 {
     if touched.all {
-        let all = all_services(alloc, objects, writer)?;
-        refresh_each(alloc, config, objects, all.keys(alloc)?, writer, asked)
+        refresh_all(alloc, config, objects, writer, asked)
     } else {
-        refresh_each(alloc, config, objects, touched.keys.keys(alloc)?, writer, asked)
+        refresh_keys(alloc, config, objects, &touched.keys, writer, asked)
     }
+}
+
+/// Brings what a writer knows of all ports up to the objects.
+fn refresh_all<A: Ledger>(
+    alloc: Global,
+    config: &Config,
+    objects: &Objects,
+    writer: &mut Writer,
+    asked: &mut Steps<A>,
+) -> Result<(), NoMemory>
+    requires { AreUnderOwnKeys objects.now }
+    ensures config { writer.new.config ≡ writer.old.config }
+    ensures written { written_ports writer.new ≡ written_ports writer.old }
+    ensures ok { OnOk result
+        (ArePortsOf (setting_of V4 config.now) objects.now (newest_ports writer.new)) }
+    ensures asked { asked.new ≤ asked.old + all_port_count objects.now }
+{
+    let all = all_services(alloc, objects, writer)?;
+    refresh_keys(alloc, config, objects, &all, writer, asked)
+}
+
+/// Brings what a writer knows of the ports of the Services of some keys up to the objects.
+fn refresh_keys<A: Ledger>(
+    alloc: Global,
+    config: &Config,
+    objects: &Objects,
+    keys: &KeySet,
+    writer: &mut Writer,
+    asked: &mut Steps<A>,
+) -> Result<(), NoMemory>
+    requires own_keys { AreUnderOwnKeys objects.now }
+    requires others { spec.KnowsOthers (setting_of V4 config.now) objects.now
+        (finite.keys keys.now) (newest_ports writer.old) }
+    ensures config { writer.new.config ≡ writer.old.config }
+    ensures written { written_ports writer.new ≡ written_ports writer.old }
+    ensures others { spec.KnowsOthers (setting_of V4 config.now) objects.now
+        (finite.keys keys.now) (newest_ports writer.new) }
+    ensures ok { OnOk result
+        (ArePortsOf (setting_of V4 config.now) objects.now (newest_ports writer.new)) }
+    ensures asked { asked.new ≤ asked.old + all_port_count objects.now }
+{
+    let services = keys.keys(alloc)?;
+    refresh_each(alloc, config, objects, services, writer, asked)
 }
 
 /// The Services of the objects, and those of whose ports a writer knows something.
@@ -63,9 +105,11 @@ fn all_services(alloc: Global, objects: &Objects, writer: &Writer) -> Result<Key
 {
     let mut all = KeySet::new(alloc);
     let ports = writer.ports(alloc)?;
-    all.put_all(alloc, &objects_of(alloc, &ports)?)?;
+    let known = objects_of(alloc, &ports)?;
+    all.put_all(alloc, &known)?;
     let services = objects.services(alloc)?;
-    all.put_all(alloc, &each_of(alloc, services.as_slice())?)?;
+    let stored = each_of(alloc, services.as_slice())?;
+    all.put_all(alloc, &stored)?;
     Ok(all)
 }
 
