@@ -1,5 +1,6 @@
 -- What a writer makes between what the last sync covers and all events.
-use Rattle.std.proofs.Common.{◌≡◌, ◌+◌, ℕ, List, Option, None, sym, ap, subst, ◌∙◌}
+use Rattle.std.proofs.Common.{◌≡◌, ◌≤◌, ◌<◌, ◌+◌, ℕ, List, [], Option, None, length, map, refl, sym, ap}
+use Rattle.std.proofs.Common.{subst, ◌∙◌, arith, absurd}
 use Rattle.std.specs.FinMap as finite
 use Rattle.kp_base.specs.declared.address.Family.TheVariants.{V4}
 use Rattle.kp_types.specs.declared.chain.Clash.{Clash}
@@ -8,11 +9,16 @@ use Rattle.kp_choice_defs.specs.Settings.{setting_of}
 use Rattle.kp_object_defs.specs.Objects.{Objects, objects_after}
 use Rattle.kp_object_defs.specs.OwnKeys.{AreUnderOwnKeys}
 use Rattle.kp_object_laws.specs.ObjectLaws.{OwnKeysAfterEvents}
-use Rattle.kp_table_defs.specs.Edits.{changes_between}
+use Rattle.kp_table_defs.specs.Edits.{SameRulesAreEqual, changes_between}
 use Rattle.kp_table_defs.specs.Rebuild as rebuild
 use Rattle.kp_table_defs.specs.Rebuild.{TableParts, full_chains, full_table, needed_keys}
 use Rattle.kp_full_table.specs.Parts.{all_rule_count}
+use Rattle.kp_history_defs.specs.DirtyPorts.{dirty_port, dirty_ports}
+use Rattle.kp_history_laws.specs.DirtyLaws.{NoneDirty}
 use Rattle.kp_history.specs.Invariant.{IsHistory}
+use Rattle.kp_history.proofs.Synced.{within}
+use Rattle.kp_plane.specs.Counts.{IsCounted}
+use Rattle.kp_plane.proofs.Synced.{leads_nowhere, none_left, nothing_new}
 use Rattle.kp_history.specs.declared.history.History.{History}
 use Rattle.kp_writer.specs.Known.{ArePortsOf, DirtyNewest, DirtyWritten, IsBetween, KnownDirtyPorts}
 use Rattle.kp_writer.specs.Known.{KnownPorts}
@@ -100,3 +106,36 @@ module _ (known : KnownPorts) (own : OwnKeysAfterEvents) (p : PlaneParts) (w : W
           (was (setting_in p) (objects_in p) (objects_after p.events) w between i)
           + all_rule_count (setting_of V4 (config i))
           (becomes (setting_in p) (objects_in p) (objects_after p.events) w between i)
+
+-- ---- Where no event came
+
+-- nothing is kept then
+pub nothing_next : SameRulesAreEqual → NoneDirty → (p : PlaneParts) (h : History) → IsHistory p h
+    → length p.events ≡ h.covered → (ports : Ports) (next : Next) → next.batch.edits ≡ []
+    → next.dirty ≡ [] → IsNext p ports next
+nothing_next rules clean p h is none ports next edits dirty = record {
+  leads = leads_nowhere rules p h is none edits;
+  dirty = dirty
+      ∙ ap (map (dirty_port (setting_in p) (objects_in p))) (sym (clean (setting_in p) (objects_in p)))
+      ∙ ap (dirty_ports (setting_in p) (objects_in p)) (nothing_new p h is none);
+  newest = λ some. let left = none_left p h is none in absurd (omega (arith, left, some));
+}
+
+-- ---- Counts
+
+-- what isn't counted
+pub counted_none : (left most old : ℕ) → IsCounted left most old old
+counted_none left most old = record { bound = omega arith; unchanged = λ none. refl }
+
+-- what is counted where an event came
+pub counted_some : {left most few old new : ℕ} → 0 < left → few ≡ most → new ≤ old + few
+    → IsCounted left most old new
+counted_some {left} {most} {few} {old} {new} some is bound = record {
+  bound = subst (λ n. new ≤ old + n) is bound;
+  unchanged = λ none. absurd (omega (arith, none, some));
+}
+
+-- the last sync covers events that there are
+pub covers_within : (p : PlaneParts) (h : History) → IsHistory p h → h.covered ≤ length p.events
+covers_within p h is =
+    let few = within p is.exact in let covered = is.covered in omega (arith, few, covered)
