@@ -29,7 +29,7 @@ use Rattle.kp_history.specs.declared.history.History.{History}
 use Rattle.kp_history.proofs.Synced.{all_counted, within}
 use Rattle.kp_plane.specs.Invariant.{Holds, IsAtPlace, IsPlane, IsSlicesAt}
 use Rattle.kp_plane.specs.Notes.{last_note}
-use Rattle.kp_plane.specs.Parts.{most_steps, explained_in, syncs_in, next_record, dirty_in}
+use Rattle.kp_plane.specs.Parts.{IsNextRecord, explained_in, syncs_in, next_record}
 use Rattle.kp_plane.specs.declared.note.SyncNote.{SyncNote}
 use Rattle.kp_plane.specs.declared.place.ObjectsAt.{ObjectsAt}
 use Rattle.kp_plane.specs.declared.ports_at.PortsAt.{PortsAt}
@@ -165,16 +165,25 @@ same_decision p q same o is packet drawn lists =
 
 -- ---- What a sync tells
 
--- a record with the note's counts and these edits is the one that is added
-pub record_added : (p q : PlaneParts) (note : SyncNote) (r : SyncRecord) → q ≡ synced p
-    → note ≡ last_note (uncovered_in p) q
-    → r.sync ≡ note.sync → r.events ≡ note.events → r.batch.edits ≡ next_edits p
-    → r ≡ next_record p
-record_added p q note r next noted numbered counted edits =
-    let longer = length_push p.counts (uncovered_in p) in
-    let one : syncs_in (synced p) ≡ suc (syncs_in p) = omega arith in
-    λ i. record {
-      sync = (numbered ∙ ap (λ n. n.sync) noted ∙ ap syncs_in next ∙ one) i;
-      events = (counted ∙ ap (λ n. n.events) noted) i;
-      batch = record { edits = edits i };
-    }
+module _ (p q : PlaneParts) (r : SyncRecord) (next : q ≡ synced p) (numbered : r.sync ≡ syncs_in q)
+    (counted : r.events ≡ uncovered_in p) (edits : r.batch.edits ≡ next_edits p) where
+  number : r.sync ≡ suc (syncs_in p)
+  number =
+      let longer = length_push p.counts (uncovered_in p) in
+      let one : syncs_in (synced p) ≡ suc (syncs_in p) = omega arith in
+      numbered ∙ ap syncs_in next ∙ one
+
+  -- a record with these counts and edits is the one that is added
+  pub record_added : r ≡ next_record p
+  record_added = λ i. record {
+    sync = number i;
+    events = counted i;
+    batch = record { edits = edits i };
+  }
+
+  -- and the next one
+  pub record_next : clash_of (setting_in p) (objects_after p.events) ≡ None → IsNextRecord p r
+  record_next no_clash = record {
+    events = counted;
+    exact = record { is_numbered = number; has_no_clash = no_clash; is_changes = edits };
+  }
