@@ -1,5 +1,5 @@
 -- Ports by whose names the same is known as objects tell.
-use Rattle.std.proofs.Common.{◌≡◌, Bool, true, false, true≢false, not, List, [], ◌∷◌, map, filter}
+use Rattle.std.proofs.Common.{◌≡◌, Bool, true, false, not, List, map, filter}
 use Rattle.std.proofs.Common.{Option, Some, None, flat_map, ◌++◌, refl, sym, ap, ◌∙◌}
 use Rattle.std.proofs.Math.Bool.{not-not}
 use Rattle.std.specs.FinMap.{entries, entries_sorted, get, get-entries, values}
@@ -22,7 +22,7 @@ use Rattle.kp_object_defs.specs.PortByKey.{info_at, port_keys_of}
 use Rattle.kp_object_defs.specs.PortInfo.{PortInfo, port_infos}
 use Rattle.kp_object_laws.specs.PortLaws.{InfoHasKey}
 use Rattle.kp_table_laws.specs.Laws.{PortsAreInOrder}
-use Rattle.kp_history_defs.specs.DirtyPorts.{dirty_keys, dirty_port, keeps_info, same_info}
+use Rattle.kp_history_defs.specs.DirtyPorts.{dirty_keys, keeps_info, same_info}
 use Rattle.kp_history_defs.specs.Inputs.{ports_of_either}
 use Rattle.kp_history_laws.specs.DirtyLaws.{CleanInfos, DirtyInfos, InfosByName}
 use Rattle.kp_history_laws.proofs.DirtyPorts.{info_itself, infos_exact}

@@ -1,9 +1,8 @@
 -- Ports where those of one Service are made anew.
 use Rattle.std.proofs.Common.{◌≡◌, ℕ, ◌||◌, ◌&&◌, Bool, true, false, cond, List, [], ◌∷◌, drop}
 use Rattle.std.proofs.Common.{Option, Some, None, filter, zero, suc, refl, sym, ap, ◌∙◌}
-use Rattle.std.specs.FinMap.{find, get, get-insert, get-remove, insert, keys, remove}
+use Rattle.std.specs.FinMap.{get, get-insert, get-remove, insert, keys}
 use Rattle.std.specs.Ordering.{eq_by_cmp}
-use Rattle.std.proofs.Math.Bool.{and-true}
 use Rattle.std.proofs.lemmas.Bool.{or_parts}
 use Rattle.kp_lemmas.proofs.Orders.{one_from_tie}
 use Rattle.kp_base.specs.Keys.{port_key_cmp}

@@ -1,8 +1,7 @@
 -- The ports that have a block are the newest ones.
-use Rattle.std.proofs.Common.{◌≡◌, List, Bor, map, Option, Some, None, is_some, option_map, filter}
+use Rattle.std.proofs.Common.{◌≡◌, Option, Some, None, is_some, option_map}
 use Rattle.std.proofs.Common.{refl, sym, ap, ◌∙◌}
 use Rattle.std.specs.FinMap.{contains_key-keys, get, keys}
-use Rattle.std.specs.List.{list_any}
 use Rattle.kp_base.specs.Keys.{port_key_cmp}
 use Rattle.kp_base.proofs.KeyOrder.{port_key_exact, port_key_total}
 use Rattle.kp_types.specs.Setting.{Setting}

@@ -85,16 +85,16 @@ no_port : (s : Service) (key : PortKey) → s.key ≡ key.object → (ps : List 
     → list.find (is_port key.port_name key.proto) ps ≡ None
 no_port s key own [] h = refl
 no_port s key own (p ∷ ps) h =
-    let parts = or_parts _ _ h in by (is_port key.port_name key.proto p) refl parts.0 parts.1
+    let parts = or_parts _ _ h in
+    by (is_port key.port_name key.proto p) refl parts.0 (no_port s key own ps parts.1)
   where
     by : (b : Bool) → is_port key.port_name key.proto p ≡ b
         → eq_by_cmp port_key_cmp key (port_key_of s p) ≡ false
-        → is_one_of (map (port_key_of s) ps) key ≡ false
+        → list.find (is_port key.port_name key.proto) ps ≡ None
         → list.find (is_port key.port_name key.proto) (p ∷ ps) ≡ None
     by true is other rest = absurd (true≢false (sym (port_by s key own p is) ∙ other))
     by false is other rest =
-        ap (λ b. cond b (Some p) (list.find (is_port key.port_name key.proto) ps)) is
-        ∙ no_port s key own ps rest
+        ap (λ b. cond b (Some p) (list.find (is_port key.port_name key.proto) ps)) is ∙ rest
 
 module _ (setting : Setting) (o : Objects) (key : PortKey) (its : AreUnderOwnKeys o) where
   abbrev known : PortKey → Option PortInfo

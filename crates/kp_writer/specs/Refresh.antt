@@ -1,5 +1,5 @@
 -- Ports where those of one Service are made anew.
-use Rattle.std.specs.Prelude.{◌≡◌, Bool, false, cond, List, [], ◌∷◌, Option}
+use Rattle.std.specs.Prelude.{◌≡◌, false, cond, List, [], ◌∷◌}
 use Rattle.std.specs.FinMap as finite
 use Rattle.kp_base.specs.declared.key.ObjectKey.{ObjectKey}
 use Rattle.kp_base.specs.declared.key.PortKey.{PortKey}

@@ -72,7 +72,7 @@ fn put_if(
         (finite.insert (newest_ports writer.old) info.key info) (newest_ports writer.old)) }
     ensures err { OnErr result (newest_ports writer.new ≡ newest_ports writer.old) }
 {
-    if info.key.object == *service {
+    if *service == info.key.object {
         writer.put(alloc, info)
     } else {
         Ok(())

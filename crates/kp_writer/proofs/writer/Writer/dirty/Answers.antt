@@ -1,5 +1,4 @@
 use Rattle.std.proofs.lemmas.Result.{IfOk-weaker}
-use Rattle.kp_writer.specs.Known.{pending_ports, with_written}
 use Rattle.kp_writer.specs.Written.{WriterParts}
 use Rattle.kp_writer.proofs.PendingPorts.{dirty_are}
 use Rattle.kp_writer.proofs.writer.Writer.dirty.Goals as goal
