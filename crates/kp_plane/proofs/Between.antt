@@ -1,6 +1,6 @@
 -- What a writer makes between what the last sync covers and all events.
 use Rattle.std.proofs.Common.{◌≡◌, ◌≤◌, ◌<◌, ◌+◌, ℕ, List, [], Option, None, length, map, refl, sym, ap}
-use Rattle.std.proofs.Common.{subst, ◌∙◌, arith, absurd}
+use Rattle.std.proofs.Common.{subst, ◌∙◌, arith}
 use Rattle.std.specs.FinMap as finite
 use Rattle.kp_base.specs.declared.address.Family.TheVariants.{V4}
 use Rattle.kp_types.specs.declared.chain.Clash.{Clash}
@@ -14,6 +14,7 @@ use Rattle.kp_table_defs.specs.Rebuild as rebuild
 use Rattle.kp_table_defs.specs.Rebuild.{TableParts, full_chains, full_table, needed_keys}
 use Rattle.kp_full_table.specs.Parts.{all_rule_count}
 use Rattle.kp_history_defs.specs.DirtyPorts.{dirty_port, dirty_ports}
+use Rattle.kp_history_defs.specs.History.{covered}
 use Rattle.kp_history_laws.specs.DirtyLaws.{NoneDirty}
 use Rattle.kp_history.specs.Invariant.{IsHistory}
 use Rattle.kp_history.proofs.Synced.{within}
@@ -25,7 +26,8 @@ use Rattle.kp_writer.specs.Known.{KnownPorts}
 use Rattle.kp_writer.specs.Written as written
 use Rattle.kp_writer.specs.Written.{Ports, WriterParts, chains_of, newest_ports, written_ports}
 use Rattle.kp_plane.specs.Invariant.{IsBroughtOn, IsMade, IsNext, IsPortsAt}
-use Rattle.kp_plane.specs.Parts.{PlaneParts, most_steps, objects_in, setting_in, uncovered_in}
+use Rattle.kp_plane.specs.Parts.{PlaneParts, most_steps, objects_in, setting_in, syncs_in}
+use Rattle.kp_plane.specs.Parts.{uncovered_in}
 use Rattle.kp_plane.specs.declared.next.Next.{Next}
 use Rattle.kp_plane.specs.declared.ports_at.PortsAt.{PortsAt}
 
@@ -42,6 +44,9 @@ brought_on p s t is on = record {
 
 module _ (known : KnownPorts) (own : OwnKeysAfterEvents) (p : PlaneParts) (w : WriterParts)
     (config : w.config ≡ p.config) where
+  own_last : AreUnderOwnKeys (objects_in p)
+  own_last = own (covered p.events p.counts (syncs_in p))
+
   -- the full table of ports is that of the objects that tell of them
   same_chains : (o : Objects) (m : Ports) → AreUnderOwnKeys o → ArePortsOf (setting_in p) o m
       → chains_of w m ≡ (full_table (setting_in p) o).chains
@@ -62,11 +67,11 @@ module _ (known : KnownPorts) (own : OwnKeysAfterEvents) (p : PlaneParts) (w : W
     pub stands : (h : History) → IsHistory p h → h.table.chains ≡ chains_of w (written_ports w)
     stands h is =
         ap (λ (t : TableParts). t.chains) is.table
-        ∙ sym (same_chains (objects_in p) (written_ports w) (own _) old)
+        ∙ sym (same_chains (objects_in p) (written_ports w) own_last old)
 
     pub stands_apart : (h : History) → IsHistory p h
         → written.clash_of w (written_ports w) ≡ None
-    stands_apart h is = same_clash (objects_in p) (written_ports w) (own _) old ∙ is.no_clash
+    stands_apart h is = same_clash (objects_in p) (written_ports w) own_last old ∙ is.no_clash
 
     module _ (new : ArePortsOf (setting_in p) (objects_after p.events) (newest_ports w)) where
       pub next_clash : written.clash_of w (newest_ports w)
@@ -75,7 +80,7 @@ module _ (known : KnownPorts) (own : OwnKeysAfterEvents) (p : PlaneParts) (w : W
 
       between : IsBetween (setting_in p) (objects_in p) (objects_after p.events) w
       between = record {
-        own_before = own _;
+        own_before = own_last;
         own_after = own p.events;
         written = old;
         newest = new;
@@ -89,7 +94,7 @@ module _ (known : KnownPorts) (own : OwnKeysAfterEvents) (p : PlaneParts) (w : W
           no_clash = sym next_clash ∙ made.no_clash;
           edits = made.edits
               ∙ (λ i. changes_between
-              (same_chains (objects_in p) (written_ports w) (own _) old i)
+              (same_chains (objects_in p) (written_ports w) own_last old i)
               (same_chains (objects_after p.events) (newest_ports w) (own p.events) new i));
         };
         dirty = made.dirty ∙ dirty (setting_in p) (objects_in p) (objects_after p.events) w between;

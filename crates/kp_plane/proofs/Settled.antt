@@ -29,13 +29,15 @@ module _ (p : PlaneParts) (h : History) (s t : PortsAt) (next : Next) (held : Ho
       → ArePortsOf (setting_in p) (objects_after p.events) (written_ports t.writer)
   all_written true new settled = λ key.
       let covered = held.history.covered in
-      let some : h.covered < length p.events = grind (arith, nat_tests, new) in
+      let told : nat_lt h.covered (length p.events) ≡ true = sym new in
+      let some : h.covered < length p.events = grind (arith, nat_tests) in
       let left : 0 < uncovered_in p = omega (arith, covered, some) in
       ap (λ (m : Ports). finite.get m key) settled.written ∙ is.newest left key
   all_written false old settled = λ key.
       let few = within p held.history.exact in
       let covered = held.history.covered in
-      let all : length p.events ≤ h.covered = grind (arith, nat_tests, old) in
+      let told : nat_lt h.covered (length p.events) ≡ false = sym old in
+      let all : length p.events ≤ h.covered = grind (arith, nat_tests) in
       let same : length p.events ≡ h.covered = omega (arith, few, covered, all) in
       ap (λ (m : Ports). finite.get m key) settled.written
       ∙ held.ports.written key

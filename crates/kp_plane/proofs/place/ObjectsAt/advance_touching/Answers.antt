@@ -1,4 +1,4 @@
-use Rattle.std.proofs.Common.{◌≡◌, ◌<◌, ◌+◌, ℕ, length, get_or, refl, sym, ap, subst, ◌∙◌, arith}
+use Rattle.std.proofs.Common.{◌≡◌, ◌<◌, ◌+◌, ℕ, length, get_or, take, refl, sym, ap, subst, ◌∙◌, arith}
 use Rattle.kp_base.specs.declared.address.Family.TheVariants.{V4}
 use Rattle.kp_choice_defs.specs.Settings.{setting_of}
 use Rattle.kp_object_defs.specs.OwnKeys.{AreUnderOwnKeys}
@@ -22,7 +22,7 @@ loop-at-preserved c =
     let inv = c.loop-at.invariant in
     let few : before.at < length events = omega (arith, inv.at, c.loop-at-test.true) in
     let setting = setting_of V4 c.args.config.now in
-    let own = subst AreUnderOwnKeys (sym inv.place.objects) (c.own_keys.ensures.after_events _) in
+    let own = subst AreUnderOwnKeys (sym inv.place.objects) (c.own_keys.ensures.after_events (take before.at events)) in
     record {
       place = next_place events before (record { objects = after; at = c.loop-at.at + 1 }) event
           inv.place few
