@@ -199,13 +199,13 @@ other_ports port (k ∷ ks) no =
     λ i. other i || other_ports port ks parts.1 i
 
 -- keys that were put, and then others
-pub put_twice : (first second : Keys) (known stored : List ObjectKey)
+pub put_twice : (before first second : Keys) (known stored : List ObjectKey)
     → ((k : ObjectKey) → finite.contains_key first k
-    ≡ list_any (eq_by_cmp key_cmp k) known || finite.contains_key {R = key_cmp} (finite.empty {X = Unit {0}}) k)
+    ≡ list_any (eq_by_cmp key_cmp k) known || finite.contains_key before k)
     → ((k : ObjectKey) → finite.contains_key second k
     ≡ list_any (eq_by_cmp key_cmp k) stored || finite.contains_key first k)
     → (k : ObjectKey) → finite.contains_key second k ≡ false
     → (list_any (eq_by_cmp key_cmp k) known ≡ false) × (list_any (eq_by_cmp key_cmp k) stored ≡ false)
-put_twice first second known stored one two k no =
+put_twice before first second known stored one two k no =
     let parts = or_parts _ _ (sym (two k) ∙ no) in
     ((or_parts _ _ (sym (one k) ∙ parts.1)).0, parts.0)
