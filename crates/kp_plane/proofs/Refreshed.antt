@@ -138,6 +138,7 @@ module _ (setting : Setting) (o : Objects) where
     none_left all = λ key none.
         absurd (both_answers true refl
         (ap (λ b. b || finite.contains_key touched.keys key.object) (sym all) ∙ none))
+
 -- the ports of Services with different keys are among all ports
 pub few_asked : (o : Objects) (s : Keys) (services : List ObjectKey) → services ≡ finite.keys s
     → asked_count o services ≤ all_port_count o

@@ -27,9 +27,11 @@ module _ (setting : Setting) where
 
   -- where more is touched no more is left
   pub leaves_fewer : (o : Objects) (t u : Touched) → StaysIn t u → LeavesUntouched setting o t o u
-  leaves_fewer o t u stays = λ key none.
-      (false_from_ne_true (is_touched t key.object)
-      (λ yes. both_answers (is_touched u key.object) (stays key.object yes) none), refl)
+  leaves_fewer o t u stays = λ key none. (
+    false_from_ne_true (is_touched t key.object)
+        (λ yes. both_answers (is_touched u key.object) (stays key.object yes) none),
+    refl,
+  )
 
   -- what is left by some and then by others is left by all
   pub leaves_both : (o p q : Objects) (t u v : Touched) → LeavesUntouched setting o t p u
@@ -44,9 +46,11 @@ module _ (setting : Setting) where
       → AreUnderOwnKeys o → (IsFalse changed ↔ (objects_step o e ≡ o)) → after ≡ objects_step o e
       → AddsTo (λ k. changed && touches_in setting o e k) t u → LeavesUntouched setting o t after u
   leaves_one stay o after t u e true own same is adds = λ key none.
-      let parts = or_parts _ _ (sym (adds key.object) ∙ none) in
-      (parts.1, ap (λ p. info_at setting.family setting.config p key) is
-      ∙ stay setting o e key own parts.0)
+      let parts = or_parts _ _ (sym (adds key.object) ∙ none) in (
+        parts.1,
+        ap (λ p. info_at setting.family setting.config p key) is
+            ∙ stay setting o e key own parts.0,
+      )
   leaves_one stay o after t u e false own same is adds = λ key none.
       let parts = or_parts _ _ (sym (adds key.object) ∙ none) in
       (parts.1, ap (λ p. info_at setting.family setting.config p key) (is ∙ same.0 refl))

@@ -25,7 +25,7 @@ made-requires-clause-table g c =
     let s = c.args.ports.now in
     let t = c.bring_on.new.self in
     let on = subst (λ es. IsBroughtOn (setting_of V4 c.args.config.now) es s t) c.events.ensures
-        c.bring_on.ensures.goes_on in
+    c.bring_on.ensures.goes_on in
     let is = brought_on p s t c.requires.ports on in
     stands c.known_ports.ensures c.own_keys.ensures.after_events p t.writer is.config is.written
     c.args.history.now c.requires.history
@@ -36,7 +36,7 @@ made-requires-clause-apart g c =
     let s = c.args.ports.now in
     let t = c.bring_on.new.self in
     let on = subst (λ es. IsBroughtOn (setting_of V4 c.args.config.now) es s t) c.events.ensures
-        c.bring_on.ensures.goes_on in
+    c.bring_on.ensures.goes_on in
     let is = brought_on p s t c.requires.ports on in
     stands_apart c.known_ports.ensures c.own_keys.ensures.after_events p t.writer is.config
     is.written c.args.history.now c.requires.history
@@ -93,10 +93,10 @@ returns-clause-next g c =
     let s = c.args.ports.now in
     let t = c.bring_on.new.self in
     let on = subst (λ es. IsBroughtOn (setting_of V4 c.args.config.now) es s t) c.events.ensures
-        c.bring_on.ensures.goes_on in
+    c.bring_on.ensures.goes_on in
     let is = brought_on p s t c.requires.ports on in
     let new = subst (λ es. ArePortsOf (setting_of V4 c.args.config.now) (objects_after es)
-        (newest_ports t.writer)) c.events.ensures c.in_ok-bring_on.ensures.ok in
+    (newest_ports t.writer)) c.events.ensures c.in_ok-bring_on.ensures.ok in
     IfOk-weaker c.made.result _ _
     (λ next made.
     makes_next c.known_ports.ensures c.own_keys.ensures.after_events p t.writer is.config
@@ -109,10 +109,10 @@ returns-clause-clash g c =
     let s = c.args.ports.now in
     let t = c.bring_on.new.self in
     let on = subst (λ es. IsBroughtOn (setting_of V4 c.args.config.now) es s t) c.events.ensures
-        c.bring_on.ensures.goes_on in
+    c.bring_on.ensures.goes_on in
     let is = brought_on p s t c.requires.ports on in
     let new = subst (λ es. ArePortsOf (setting_of V4 c.args.config.now) (objects_after es)
-        (newest_ports t.writer)) c.events.ensures c.in_ok-bring_on.ensures.ok in
+    (newest_ports t.writer)) c.events.ensures c.in_ok-bring_on.ensures.ok in
     IfErr-weaker c.made.result _ _
     (λ fault told.
     subst (λ clash. TellsClash clash fault)
@@ -126,10 +126,10 @@ returns-clause-steps g c =
     let s = c.args.ports.now in
     let t = c.bring_on.new.self in
     let on = subst (λ es. IsBroughtOn (setting_of V4 c.args.config.now) es s t) c.events.ensures
-        c.bring_on.ensures.goes_on in
+    c.bring_on.ensures.goes_on in
     let is = brought_on p s t c.requires.ports on in
     let new = subst (λ es. ArePortsOf (setting_of V4 c.args.config.now) (objects_after es)
-        (newest_ports t.writer)) c.events.ensures c.in_ok-bring_on.ensures.ok in
+    (newest_ports t.writer)) c.events.ensures c.in_ok-bring_on.ensures.ok in
     counted_some (some_left p c.args.history.now c.requires.history c.if-events-history.false
     (ap length c.events.ensures))
     (most_made c.known_ports.ensures c.own_keys.ensures.after_events p t.writer is.config

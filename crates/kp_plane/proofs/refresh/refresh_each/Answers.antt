@@ -16,7 +16,7 @@ loop-service-preserved g c =
     let new = map (λ k. k.now) c.pop.new.self.items in
     let k = c.in-Some.service.now in
     let is = ap (map (λ k. k.now)) c.in-Some.ensures.items
-        ∙ map-append (λ k. k.now) c.pop.new.self.items (c.in-Some.service ∷ []) in
+    ∙ map-append (λ k. k.now) c.pop.new.self.items (c.in-Some.service ∷ []) in
     let split = asked_split old new k is o in
     let step = c.refresh_one.ensures.asked in
     let before = inv.asked in
