@@ -2,6 +2,7 @@
 use Rattle.std.proofs.Common.{◌≡◌, ◌≤◌, ◌+◌, ℕ, Bool, true, false, cond, List, [], ◌∷◌, map, Option}
 use Rattle.std.proofs.Common.{Some, None, T, refl, sym, ap, subst, ◌∙◌, arith}
 use Rattle.std.specs.List.{cons_option, filter_map, sum_by}
+use Rattle.std.proofs.lemmas.List.Sums.{sum_by-append}
 use Rattle.std.specs.Ordering.{eq_by_cmp}
 use Rattle.std.specs.declared.cmp.Ordering.{Ordering}
 use Rattle.std.specs.Cmp.{IsTotalOrder}
@@ -13,19 +14,19 @@ use Rattle.kp_lemmas.proofs.Entries.{find_behind}
 use Rattle.kp_lemmas.proofs.Orders.{less_from_fact, one_from_tie}
 
 -- what a value counts, if there is one
-weight : {X : Type 0} → (X → ℕ) → Option X → ℕ
+abbrev weight : {X : Type 0} → (X → ℕ) → Option X → ℕ
 weight f None = 0
 weight f (Some x) = f x
 
 weighed : {X : Type 0} (f : X → ℕ) (o : Option X) (xs : List X)
     → sum_by f (cons_option o xs) ≡ weight f o + sum_by f xs
-weighed f None xs = refl
-weighed f (Some x) xs = refl
+weighed f None xs = omega arith
+weighed f (Some x) xs = sum_by-append f (x ∷ []) xs
 
 module _ {K X Y : Type 0} {R : K → K → Ordering} (total : IsTotalOrder R)
     (exact : IsAntisymmetric R) (f : X → ℕ) where
   -- the values that entries have at keys
-  count : List (K × X) → List (K × Y) → ℕ
+  abbrev count : List (K × X) → List (K × Y) → ℕ
   count es ks = sum_by f (filter_map (λ k. find R k es) (map (λ k. k.0) ks))
 
   counted : (es : List (K × X)) (k : K × Y) (ks : List (K × Y))
@@ -47,24 +48,23 @@ module _ {K X Y : Type 0} {R : K → K → Ordering} (total : IsTotalOrder R)
   one_more : (e : K × X) (es : List (K × X)) (ks : List (K × Y)) → T (is_sorted R ks)
       → count (e ∷ es) ks ≤ f e.1 + count es ks
   one_more e es [] sorted = omega arith
-  one_more e es (k ∷ ks) sorted = by (eq_by_cmp R k.0 e.0) refl
+  one_more e es (k ∷ ks) sorted =
+      let both = both_facts _ _ sorted in
+      by both.0 (one_more e es ks both.1) (eq_by_cmp R k.0 e.0) refl
     where
-      both : T (below_all R k.0 ks) × T (is_sorted R ks)
-      both = both_facts _ _ sorted
-
-      by : (b : Bool) → eq_by_cmp R k.0 e.0 ≡ b → count (e ∷ es) (k ∷ ks) ≤ f e.1 + count es (k ∷ ks)
-      by true tie =
+      by : T (below_all R k.0 ks) → count (e ∷ es) ks ≤ f e.1 + count es ks → (b : Bool)
+          → eq_by_cmp R k.0 e.0 ≡ b → count (e ∷ es) (k ∷ ks) ≤ f e.1 + count es (k ∷ ks)
+      by under rest true tie =
           let found : find R k.0 (e ∷ es) ≡ Some e.1 =
           ap (λ b. cond b (Some e.1) (find R k.0 es)) tie in
-          let below = subst (λ q. T (below_all R q ks)) (one_from_tie exact k.0 e.0 tie) both.0 in
-          let rest = behind e es ks below in
+          let below = subst (λ q. T (below_all R q ks)) (one_from_tie exact k.0 e.0 tie) under in
+          let same = behind e es ks below in
           let all = counted (e ∷ es) k ks ∙ ap (λ o. weight f o + count (e ∷ es) ks) found in
           let before = counted es k ks in
-          omega (arith, all, rest, before)
-      by false other =
+          omega (arith, all, same, before)
+      by under rest false other =
           let passed : find R k.0 (e ∷ es) ≡ find R k.0 es =
           ap (λ b. cond b (Some e.1) (find R k.0 es)) other in
-          let rest = one_more e es ks both.1 in
           let all = counted (e ∷ es) k ks ∙ ap (λ o. weight f o + count (e ∷ es) ks) passed in
           let before = counted es k ks in
           omega (arith, all, rest, before)

@@ -1,7 +1,7 @@
 -- What is known of ports once those of Services are made anew.
 use Rattle.std.proofs.Common.{◌≡◌, ◌||◌, ◌+◌, Bool, true, false, List, [], ◌∷◌, ◌++◌, map, refl, sym}
 use Rattle.std.proofs.Common.{ap, subst, ◌∙◌, arith, ◌≤◌, ℕ, Option, None, cond}
-use Rattle.std.proofs.Common.{Some, flat_map, inl, inr}
+use Rattle.std.proofs.Common.{Some, flat_map, inl, inr, ◌⊎◌}
 use Rattle.std.specs.List.{Contains, cons_option, filter_map, list_any, sum_by}
 use Rattle.std.specs.Ordering.{eq_by_cmp}
 use Rattle.std.specs.Option.{option_and_then, option_to_list}
@@ -177,21 +177,21 @@ none_named o service is =
 -- ---- All Services
 
 none_from : {X : Type 0} (o : Option X) → is_some o ≡ false → o ≡ None
-none_from None no = refl
-none_from (Some x) no = absurd (cc)
+none_from None e = refl
+none_from (Some x) e = absurd (cc)
 
 -- a key that isn't listed has nothing
 pub not_listed : {K X : Type 0} {R : K → K → Ordering} (m : FinMap R X) (k : K)
     → list_any (eq_by_cmp R k) (finite.keys m) ≡ false → finite.get m k ≡ None
-not_listed m k no = none_from (finite.get m k) (contains_key-keys m k ∙ no)
+not_listed m k out = none_from (finite.get m k) (contains_key-keys m k ∙ out)
 
 -- a port of other Services is another port
 pub other_ports : (port : PortKey) (ks : List PortKey)
     → list_any (eq_by_cmp key_cmp port.object) (map (λ k. k.object) ks) ≡ false
     → list_any (eq_by_cmp port_key_cmp port) ks ≡ false
-other_ports port [] no = refl
-other_ports port (k ∷ ks) no =
-    let parts = or_parts _ _ no in
+other_ports port [] out = refl
+other_ports port (k ∷ ks) out =
+    let parts = or_parts _ _ out in
     let other : eq_by_cmp port_key_cmp port k ≡ false =
     false_from_ne_true _ (λ tie.
     both_answers (eq_by_cmp key_cmp port.object k.object)
@@ -207,6 +207,6 @@ pub put_twice : (before first second : Keys) (known stored : List ObjectKey)
     ≡ list_any (eq_by_cmp key_cmp k) stored || finite.contains_key first k)
     → (k : ObjectKey) → finite.contains_key second k ≡ false
     → (list_any (eq_by_cmp key_cmp k) known ≡ false) × (list_any (eq_by_cmp key_cmp k) stored ≡ false)
-put_twice before first second known stored one two k no =
-    let parts = or_parts _ _ (sym (two k) ∙ no) in
+put_twice before first second known stored one two k out =
+    let parts = or_parts _ _ (sym (two k) ∙ out) in
     ((or_parts _ _ (sym (one k) ∙ parts.1)).0, parts.0)

@@ -17,8 +17,8 @@ use Rattle.kp_plane.specs.Known.{KnowsUntouched, LeavesUntouched}
 
 -- no test has both answers
 pub both_answers : (b : Bool) → b ≡ true → b ≡ false → ⊥
-both_answers true yes no = cc
-both_answers false yes no = cc
+both_answers true e f = cc
+both_answers false e f = cc
 
 module _ (setting : Setting) where
   -- no event touches nothing
@@ -46,13 +46,13 @@ module _ (setting : Setting) where
       → AreUnderOwnKeys o → (IsFalse changed ↔ (objects_step o e ≡ o)) → after ≡ objects_step o e
       → AddsTo (λ k. changed && touches_in setting o e k) t u → LeavesUntouched setting o t after u
   leaves_one stay o after t u e true own same is adds = λ key none.
-      let parts = or_parts _ _ (sym (adds key.object) ∙ none) in (
+      let parts = or_parts (touches_in setting o e key.object) (is_touched t key.object) (sym (adds key.object) ∙ none) in (
         parts.1,
         ap (λ p. info_at setting.family setting.config p key) is
             ∙ stay setting o e key own parts.0,
       )
   leaves_one stay o after t u e false own same is adds = λ key none.
-      let parts = or_parts _ _ (sym (adds key.object) ∙ none) in
+      let parts = or_parts false (is_touched t key.object) (sym (adds key.object) ∙ none) in
       (parts.1, ap (λ p. info_at setting.family setting.config p key) (is ∙ same.0 refl))
 
   -- what is known of the ports that are left stays known

@@ -78,7 +78,7 @@ pub record IsBroughtOn
   pub dirty : after.dirty ≡ before.dirty
 
 -- what is known of ports once a sync is kept, which covers new events or none
-pub record IsSettled (is_new : Bool) (dirty : List DirtyPort) (before after : PortsAt)
+pub record IsSettled (is_new : Bool) (told : List DirtyPort) (before after : PortsAt)
     : Type 0 where
   pub latest : after.latest ≡ before.latest
   pub touched : after.touched ≡ before.touched
@@ -86,7 +86,7 @@ pub record IsSettled (is_new : Bool) (dirty : List DirtyPort) (before after : Po
   pub written : written_ports after.writer
       ≡ cond is_new (newest_ports before.writer) (written_ports before.writer)
   pub newest : newest_ports after.writer ≡ newest_ports before.writer
-  pub dirty : after.dirty ≡ dirty
+  pub dirty : after.dirty ≡ told
 
 -- what is held of the syncs, and what is known of ports
 pub record Holds (p : PlaneParts) (h : History) (s : PortsAt) : Type 0 where

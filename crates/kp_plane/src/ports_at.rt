@@ -50,11 +50,15 @@ impl PortsAt {
             → IsPortsAt (record { config = config.now; events = events; counts = [] }) s) }
     {
         kp_history_laws::dirty_ports();
+        let latest = ObjectsAt::start(alloc);
+        let touched = Touched::new(alloc);
+        let writer = Writer::new(alloc, config)?;
+        let dirty = Items::new(alloc);
         Ok(PortsAt {
-            latest: ObjectsAt::start(alloc),
-            touched: Touched::new(alloc),
-            writer: Writer::new(alloc, config)?,
-            dirty: Items::new(alloc),
+            latest,
+            touched,
+            writer,
+            dirty,
         })
     }
 

@@ -151,11 +151,11 @@ fn refresh_each<A: Ledger>(
     ensures config { writer.new.config ≡ writer.old.config }
     ensures written { written_ports writer.new ≡ written_ports writer.old }
     ensures others { spec.KnowsOthers (setting_of V4 config.now) objects.now
-        (map (λ k. k.now) services.items) (newest_ports writer.new) }
+        (map (λ k. k.now) services.entry.items) (newest_ports writer.new) }
     ensures ok { OnOk result
         (ArePortsOf (setting_of V4 config.now) objects.now (newest_ports writer.new)) }
     ensures asked { asked.new ≤ asked.old
-        + spec.asked_count objects.now (map (λ k. k.now) services.items) }
+        + spec.asked_count objects.now (map (λ k. k.now) services.entry.items) }
 {
     while let Some(service) = services.pop() {
         refresh_one(alloc, config, objects, service, writer, asked)?;

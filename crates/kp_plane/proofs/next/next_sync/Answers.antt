@@ -16,7 +16,7 @@ use Rattle.kp_plane.proofs.next.next_sync.Goals as goal
 
 pub bring_on-requires-clause-place : goal.bring_on-requires-clause-place
 bring_on-requires-clause-place g c =
-    subst (λ es. IsAtPlace es c.args.ports.now.latest) (sym c.events.ensures)
+    subst (λ es. IsAtPlace es c.args.ports.now.latest) (sym c.events-events.ensures)
     c.requires.ports.place
 
 pub made-requires-clause-table : goal.made-requires-clause-table
@@ -24,7 +24,7 @@ made-requires-clause-table g c =
     let p = parts_of c.args.config.now c.args.journal.now c.args.history.now in
     let s = c.args.ports.now in
     let t = c.bring_on.new.self in
-    let on = subst (λ es. IsBroughtOn (setting_of V4 c.args.config.now) es s t) c.events.ensures
+    let on = subst (λ es. IsBroughtOn (setting_of V4 c.args.config.now) es s t) c.events-events.ensures
     c.bring_on.ensures.goes_on in
     let is = brought_on p s t c.requires.ports on in
     stands c.known_ports.ensures c.own_keys.ensures.after_events p t.writer is.config is.written
@@ -35,7 +35,7 @@ made-requires-clause-apart g c =
     let p = parts_of c.args.config.now c.args.journal.now c.args.history.now in
     let s = c.args.ports.now in
     let t = c.bring_on.new.self in
-    let on = subst (λ es. IsBroughtOn (setting_of V4 c.args.config.now) es s t) c.events.ensures
+    let on = subst (λ es. IsBroughtOn (setting_of V4 c.args.config.now) es s t) c.events-events.ensures
     c.bring_on.ensures.goes_on in
     let is = brought_on p s t c.requires.ports on in
     stands_apart c.known_ports.ensures c.own_keys.ensures.after_events p t.writer is.config
@@ -45,7 +45,7 @@ pub returns-then-events-history-clause-next : goal.returns-then-events-history-c
 returns-then-events-history-clause-next g c =
     let p = parts_of c.args.config.now c.args.journal.now c.args.history.now in
     nothing_next c.same_rules_are_equal.ensures c.dirty_ports.ensures.none p c.args.history.now
-    c.requires.history (ap length (sym c.events.ensures) ∙ c.if-events-history.true)
+    c.requires.history (ap length (sym c.events-events.ensures) ∙ c.if-events-history.true)
     (newest_ports c.args.ports.now.writer) c.nothing.result c.nothing.ensures.edits
     c.nothing.ensures.dirty
 
@@ -65,7 +65,7 @@ returns-in_err-bring_on-clause-ports g c =
     let s = c.args.ports.now in
     let t = c.bring_on.new.self in
     brought_on p s t c.requires.ports
-    (subst (λ es. IsBroughtOn (setting_of V4 c.args.config.now) es s t) c.events.ensures
+    (subst (λ es. IsBroughtOn (setting_of V4 c.args.config.now) es s t) c.events-events.ensures
     c.bring_on.ensures.goes_on)
 
 pub returns-in_err-bring_on-clause-steps : goal.returns-in_err-bring_on-clause-steps
@@ -75,7 +75,7 @@ pub returns-in_err-bring_on-clause-asked : goal.returns-in_err-bring_on-clause-a
 returns-in_err-bring_on-clause-asked g c =
     let p = parts_of c.args.config.now c.args.journal.now c.args.history.now in
     counted_some (some_left p c.args.history.now c.requires.history c.if-events-history.false
-    (ap length c.events.ensures)) (ap (λ es. all_port_count (objects_after es)) c.events.ensures)
+    (ap length c.events-events.ensures)) (ap (λ es. all_port_count (objects_after es)) c.events-events.ensures)
     c.bring_on.ensures.asked
 
 pub returns-clause-ports : goal.returns-clause-ports
@@ -84,7 +84,7 @@ returns-clause-ports g c =
     let s = c.args.ports.now in
     let t = c.bring_on.new.self in
     brought_on p s t c.requires.ports
-    (subst (λ es. IsBroughtOn (setting_of V4 c.args.config.now) es s t) c.events.ensures
+    (subst (λ es. IsBroughtOn (setting_of V4 c.args.config.now) es s t) c.events-events.ensures
     c.bring_on.ensures.goes_on)
 
 pub returns-clause-next : goal.returns-clause-next
@@ -92,11 +92,11 @@ returns-clause-next g c =
     let p = parts_of c.args.config.now c.args.journal.now c.args.history.now in
     let s = c.args.ports.now in
     let t = c.bring_on.new.self in
-    let on = subst (λ es. IsBroughtOn (setting_of V4 c.args.config.now) es s t) c.events.ensures
+    let on = subst (λ es. IsBroughtOn (setting_of V4 c.args.config.now) es s t) c.events-events.ensures
     c.bring_on.ensures.goes_on in
     let is = brought_on p s t c.requires.ports on in
     let new = subst (λ es. ArePortsOf (setting_of V4 c.args.config.now) (objects_after es)
-    (newest_ports t.writer)) c.events.ensures c.in_ok-bring_on.ensures.ok in
+    (newest_ports t.writer)) c.events-events.ensures c.in_ok-bring_on.ensures.ok in
     IfOk-weaker c.made.result _ _
     (λ next made.
     makes_next c.known_ports.ensures c.own_keys.ensures.after_events p t.writer is.config
@@ -108,11 +108,11 @@ returns-clause-clash g c =
     let p = parts_of c.args.config.now c.args.journal.now c.args.history.now in
     let s = c.args.ports.now in
     let t = c.bring_on.new.self in
-    let on = subst (λ es. IsBroughtOn (setting_of V4 c.args.config.now) es s t) c.events.ensures
+    let on = subst (λ es. IsBroughtOn (setting_of V4 c.args.config.now) es s t) c.events-events.ensures
     c.bring_on.ensures.goes_on in
     let is = brought_on p s t c.requires.ports on in
     let new = subst (λ es. ArePortsOf (setting_of V4 c.args.config.now) (objects_after es)
-    (newest_ports t.writer)) c.events.ensures c.in_ok-bring_on.ensures.ok in
+    (newest_ports t.writer)) c.events-events.ensures c.in_ok-bring_on.ensures.ok in
     IfErr-weaker c.made.result _ _
     (λ fault told.
     subst (λ clash. TellsClash clash fault)
@@ -125,13 +125,13 @@ returns-clause-steps g c =
     let p = parts_of c.args.config.now c.args.journal.now c.args.history.now in
     let s = c.args.ports.now in
     let t = c.bring_on.new.self in
-    let on = subst (λ es. IsBroughtOn (setting_of V4 c.args.config.now) es s t) c.events.ensures
+    let on = subst (λ es. IsBroughtOn (setting_of V4 c.args.config.now) es s t) c.events-events.ensures
     c.bring_on.ensures.goes_on in
     let is = brought_on p s t c.requires.ports on in
     let new = subst (λ es. ArePortsOf (setting_of V4 c.args.config.now) (objects_after es)
-    (newest_ports t.writer)) c.events.ensures c.in_ok-bring_on.ensures.ok in
+    (newest_ports t.writer)) c.events-events.ensures c.in_ok-bring_on.ensures.ok in
     counted_some (some_left p c.args.history.now c.requires.history c.if-events-history.false
-    (ap length c.events.ensures))
+    (ap length c.events-events.ensures))
     (most_made c.known_ports.ensures c.own_keys.ensures.after_events p t.writer is.config
     is.written new c.known_dirty_ports.ensures.written c.known_dirty_ports.ensures.newest)
     c.made.ensures.steps
@@ -140,5 +140,5 @@ pub returns-clause-asked : goal.returns-clause-asked
 returns-clause-asked g c =
     let p = parts_of c.args.config.now c.args.journal.now c.args.history.now in
     counted_some (some_left p c.args.history.now c.requires.history c.if-events-history.false
-    (ap length c.events.ensures)) (ap (λ es. all_port_count (objects_after es)) c.events.ensures)
+    (ap length c.events-events.ensures)) (ap (λ es. all_port_count (objects_after es)) c.events-events.ensures)
     c.bring_on.ensures.asked

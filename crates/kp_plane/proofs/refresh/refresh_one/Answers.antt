@@ -8,7 +8,7 @@ use Rattle.kp_plane.proofs.refresh.refresh_one.Goals as goal
 pub returns-clause-ok : goal.returns-clause-ok
 returns-clause-ok g c =
     on_ok_weaker c.refresh.result
-    (λ made _. service_done (setting_of V4 c.args.config.now) c.args.objects.now
+    (λ made. service_done (setting_of V4 c.args.config.now) c.args.objects.now
     c.known_of_service.ensures c.requires c.args.service.now c.in_ok-infos.infos.items
     (newest_ports c.args.writer.now) (newest_ports c.refresh.new.self)
     c.in_ok-infos.ensures.infos made)

@@ -15,3 +15,9 @@ returns-clause-ok g c =
     c.in_ok-keep.ensures.ok p refl
     (record { history = c.requires.history; ports = c.next_sync.ensures.ports })
     c.in_ok-next.ensures.next
+
+pub returns-in_err-keep-clause-err : goal.returns-in_err-keep-clause-err
+returns-in_err-keep-clause-err g c =
+    let p = parts_of c.args.config.now c.args.journal.now c.args.history.now in
+    c.in_err-keep.ensures.err p
+    (record { history = c.requires.history; ports = c.next_sync.ensures.ports })

@@ -4,9 +4,9 @@ use Rattle.kp_plane.proofs.plane.Plane.new.Goals as goal
 pub invariant_of-result : goal.invariant_of-result
 invariant_of-result c =
     first_plane c.args.config c.new-journal.result c.in_ok-history.history c.in_ok-ports.ports
-    c.start-explained.result c.start-slices.result c.new-journal.ensures
-    c.in_ok-history.ensures c.in_ok-ports.ensures c.start-explained.ensures.place
-    c.start-explained.ensures.start c.start-slices.ensures
+    c.start.result c.start-2.result c.new-journal.ensures
+    c.in_ok-history.ensures c.in_ok-ports.ensures c.start.ensures.place
+    c.start.ensures.start c.start-2.ensures
 
 pub returns : goal.returns
 returns c =
