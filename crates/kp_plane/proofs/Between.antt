@@ -1,6 +1,6 @@
 -- What a writer makes between what the last sync covers and all events.
 use Rattle.std.proofs.Common.{◌≡◌, ◌≤◌, ◌<◌, ◌+◌, ℕ, List, [], Option, None, length, map, refl, sym, ap}
-use Rattle.std.proofs.Common.{subst, ◌∙◌, arith}
+use Rattle.std.proofs.Common.{subst, ◌∙◌, arith, Result, Ok, Err, OnErr}
 use Rattle.std.specs.FinMap as finite
 use Rattle.kp_base.specs.declared.address.Family.TheVariants.{V4}
 use Rattle.kp_types.specs.declared.chain.Clash.{Clash}
@@ -144,3 +144,8 @@ counted_some {left} {most} {few} {old} {new} some is bound = record {
 pub covers_within : (p : PlaneParts) (h : History) → IsHistory p h → h.covered ≤ length p.events
 covers_within p h is =
     let few = within p is.exact in let covered = is.covered in omega (arith, few, covered)
+
+-- what holds where a call fails
+pub holds_after : {X E P : Type 0} (r : Result X E) → P → OnErr r P
+holds_after (Ok x) p = tt
+holds_after (Err e) p = p

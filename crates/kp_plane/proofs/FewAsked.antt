@@ -2,7 +2,7 @@
 use Rattle.std.proofs.Common.{◌≡◌, ◌≤◌, ◌+◌, ℕ, Bool, true, false, cond, List, [], ◌∷◌, map, Option}
 use Rattle.std.proofs.Common.{Some, None, T, refl, sym, ap, subst, ◌∙◌, arith}
 use Rattle.std.specs.List.{cons_option, filter_map, sum_by}
-use Rattle.std.proofs.lemmas.List.Sums.{sum_by-append}
+use Rattle.std.proofs.lemmas.List.Sums.{sum_by-cons}
 use Rattle.std.specs.Ordering.{eq_by_cmp}
 use Rattle.std.specs.declared.cmp.Ordering.{Ordering}
 use Rattle.std.specs.Cmp.{IsTotalOrder}
@@ -21,7 +21,7 @@ weight f (Some x) = f x
 weighed : {X : Type 0} (f : X → ℕ) (o : Option X) (xs : List X)
     → sum_by f (cons_option o xs) ≡ weight f o + sum_by f xs
 weighed f None xs = omega arith
-weighed f (Some x) xs = sum_by-append f (x ∷ []) xs
+weighed f (Some x) xs = sum_by-cons f x xs
 
 module _ {K X Y : Type 0} {R : K → K → Ordering} (total : IsTotalOrder R)
     (exact : IsAntisymmetric R) (f : X → ℕ) where
@@ -79,7 +79,8 @@ module _ {K X Y : Type 0} {R : K → K → Ordering} (total : IsTotalOrder R)
   among (e ∷ es) ks sorted =
       let one = one_more e es ks sorted in
       let rest = among es ks sorted in
-      omega (arith, one, rest)
+      let all = sum_by-cons f e.1 (map (λ d. d.1) es) in
+      omega (arith, one, rest, all)
 
   -- values at the keys of another map count at most what all count
   pub few_of_all : (m : FinMap R X) (s : FinMap R Y)

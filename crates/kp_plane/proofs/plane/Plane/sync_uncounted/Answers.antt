@@ -1,10 +1,15 @@
-use Rattle.std.proofs.Common.{ℕ, List, not, count_by, sym, ap, ◌∙◌}
+use Rattle.std.proofs.Common.{rules, ◌≡◌, None, IfErr, ℕ, List, not, count_by, sym, ap, subst, ◌∙◌}
+use Rattle.kp_base.specs.declared.address.Family.TheVariants.{V4}
+use Rattle.kp_choice_defs.specs.Settings.{setting_of}
+use Rattle.kp_full_table.specs.Faults.{TellsClash}
+use Rattle.kp_object_defs.specs.Objects.{objects_after}
+use Rattle.kp_table_defs.specs.Rebuild.{clash_of}
 use Rattle.kp_store.proofs.OwnObjects.{either_way}
 use Rattle.kp_table_defs.specs.Edits.{is_write}
 use Rattle.kp_history.proofs.Synced.{last_is_next}
 use Rattle.kp_plane.specs.Invariant.{parts_of}
-use Rattle.kp_plane.specs.Parts.{last_edits}
-use Rattle.kp_plane.proofs.Synced.{parts_kept, parts_next, plane_kept, plane_next}
+use Rattle.kp_plane.specs.Parts.{last_edits, setting_in}
+use Rattle.kp_plane.proofs.Synced.{parts_next, plane_kept, plane_next}
 use Rattle.kp_plane.proofs.plane.Plane.sync_uncounted.Goals as goal
 
 pub invariant_of-self : goal.invariant_of-self
@@ -44,3 +49,16 @@ returns-clause-note g c =
       written = (c.in_ok-written.ensures.written ∙ ap (count_by is_write) made) i;
       removed = (c.in_ok-written.ensures.removed ∙ ap (count_by (λ e. not (is_write e))) made) i;
     }
+
+pub returns-in_err-written-clause-clash : goal.returns-in_err-written-clause-clash
+returns-in_err-written-clause-clash g c =
+    let told : IfErr c.from_residual.result (TellsClash (clash_of (setting_of V4 c.self.inside.config)
+        (objects_after c.self.inside.journal.events))) =
+    search rules in
+    subst (λ q. IfErr c.from_residual.result
+    (TellsClash (clash_of (setting_in q) (objects_after q.events)))) c.self.view_is told
+
+pub returns-clause-no_clash : goal.returns-clause-no_clash
+returns-clause-no_clash g c =
+    subst (λ q. clash_of (setting_in q) (objects_after q.events) ≡ None) c.self.view_is
+    c.in_ok-written.ensures.no_clash
