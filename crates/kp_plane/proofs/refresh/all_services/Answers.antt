@@ -15,7 +15,7 @@ pub returns-clause-ports : goal.returns-clause-ports
 returns-clause-ports c = λ port out.
     let ports = newest_ports c.args.writer.now in
     let names : map (λ (q : Bor ObjectKey). q.now) c.deref-2.result.now
-        ≡ map (λ (k : PortKey). k.object) (finite.keys ports) =
+    ≡ map (λ (k : PortKey). k.object) (finite.keys ports) =
     ap (map (λ (q : Bor ObjectKey). q.now)) c.deref-2.ensures.value
     ∙ c.in_ok-known.ensures
     ∙ ap (map (λ (p : Bor PortKey). p.now.object)) c.deref.ensures.value

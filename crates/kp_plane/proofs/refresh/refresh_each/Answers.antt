@@ -37,7 +37,7 @@ returns-in_err-refresh_one-clause-others g c =
     let old = map (λ k. k.now) c.loop-service.services.items in
     let new = map (λ k. k.now) c.pop.new.self.items in
     let is = ap (map (λ k. k.now)) c.in-Some.ensures.items
-        ∙ map-append (λ k. k.now) c.pop.new.self.items (c.in-Some.service ∷ []) in
+    ∙ map-append (λ k. k.now) c.pop.new.self.items (c.in-Some.service ∷ []) in
     still_others old new c.in-Some.service.now is (setting_of V4 c.args.config.now)
     c.args.objects.now (newest_ports c.loop-service.writer) (newest_ports c.refresh_one.new.writer)
     inv.known c.refresh_one.ensures.others all inv.among
@@ -47,7 +47,7 @@ returns-in_err-refresh_one-clause-asked g c =
     let old = map (λ k. k.now) c.loop-service.services.items in
     let new = map (λ k. k.now) c.pop.new.self.items in
     let is = ap (map (λ k. k.now)) c.in-Some.ensures.items
-        ∙ map-append (λ k. k.now) c.pop.new.self.items (c.in-Some.service ∷ []) in
+    ∙ map-append (λ k. k.now) c.pop.new.self.items (c.in-Some.service ∷ []) in
     let split = asked_split old new c.in-Some.service.now is c.args.objects.now in
     let step = c.refresh_one.ensures.asked in
     let before = c.loop-service.invariant.asked in

@@ -37,7 +37,7 @@ returns-clause-ok g c =
 pub returns-in_err-batch-clause-clash : goal.returns-in_err-batch-clause-clash
 returns-in_err-batch-clause-clash g c =
     let told : IfErr c.from_residual.result (TellsClash (clash_of (setting_of V4 c.self.inside.config)
-        (objects_after c.self.inside.journal.events))) =
+    (objects_after c.self.inside.journal.events))) =
     search rules in
     subst (λ q. IfErr c.from_residual.result
     (TellsClash (clash_of (setting_in q) (objects_after q.events)))) c.self.view_is told
