@@ -1,20 +1,23 @@
 -- What one more sync adds.
-use Rattle.std.proofs.Common.{◌≡◌, ◌≤◌, ◌+◌, ◌-◌, ℕ, suc, List, [], ◌∷◌, ◌++◌, take, length, sum, Option}
-use Rattle.std.proofs.Common.{Some, None, refl, sym, ap, subst, ◌∙◌, arith, le_refl}
+use Rattle.std.proofs.Common.{◌≡◌, ◌≤◌, ◌<◌, ◌+◌, ◌-◌, ◌^◌, ℕ, suc, List, [], ◌∷◌, ◌++◌, take, length}
+use Rattle.std.proofs.Common.{sum, Some, None, refl, sym, ap, subst, ◌∙◌, arith, le_refl}
+use Rattle.std.specs.Prelude.{min}
+use Rattle.std.specs.List.{fold}
 use Rattle.std.proofs.lemmas.List.{take_all, take-append-le, length-map, length_push}
 use Rattle.std.proofs.lemmas.List.Sums.{sum_by_push}
 use Rattle.std.proofs.Math.Seq.{get_or-append_seam}
 use Rattle.kp_types.specs.declared.rule.Batch.{Batch}
 use Rattle.kp_types.specs.declared.rule.Edit.{Edit}
 use Rattle.kp_object_defs.specs.Objects.{objects_after}
-use Rattle.kp_table_defs.specs.Edits.{changes_between}
+use Rattle.kp_table_defs.specs.Edits.{ChangesLeadOver, chains_after_edit, changes_between}
+use Rattle.kp_table_defs.specs.Edits.{table_after_batch}
 use Rattle.kp_table_defs.specs.Rebuild.{TableParts, clash_of, full_table}
-use Rattle.kp_history_defs.specs.History.{IsExactHistory, chains_covered, objects_covered}
+use Rattle.kp_history_defs.specs.History.{IsExactHistory, objects_covered}
 use Rattle.kp_history_laws.specs.HistoryLaws.{all_covered, CoversRest, ExactByRecord}
 use Rattle.kp_history_laws.specs.HistoryLaws.{RecordsHaveCounts, RecordsGrow}
 use Rattle.kp_history.specs.Parts.{PlaneParts, HasExactHistory, setting_in, syncs_in, uncovered_in}
 use Rattle.kp_history.specs.Parts.{objects_in, chains_in, last_edits, batch_after, next_edits}
-use Rattle.kp_history.specs.Parts.{next_chains, chains_or, synced, records_in, next_record}
+use Rattle.kp_history.specs.Parts.{next_chains, synced, records_in, next_record}
 use Rattle.kp_history.specs.Invariant.{IsHistory, LeadsToNext}
 use Rattle.kp_history.specs.declared.history.History.{History}
 
@@ -41,14 +44,18 @@ module _ (p : PlaneParts) (h : HasExactHistory p) where
   objects_before : objects_covered p.events (synced p).counts (syncs_in p) ≡ objects_in p
   objects_before = ap (λ c. objects_after (take (sum c) p.events)) (take-append-le (syncs_in p) p.counts (uncovered_in p ∷ []) (le_refl (syncs_in p)))
 
-  -- the last edits are then those of this sync
-  pub last_is_next : last_edits (synced p) ≡ next_edits p
-  last_is_next =
+  -- the last sync was one before
+  pub before_next : objects_covered p.events (synced p).counts (syncs_in (synced p) - 1) ≡ objects_in p
+  before_next =
       let longer = length_push p.counts (uncovered_in p) in
       let one : syncs_in (synced p) - 1 ≡ syncs_in p = omega arith in
-      ap (λ (n : ℕ). changes_between (chains_covered (setting_in p) p.events (synced p).counts n) (chains_in (synced p))) one
-      ∙ ap (λ o. changes_between (full_table (setting_in p) o).chains (chains_in (synced p))) objects_before
-      ∙ ap (λ o. changes_between (chains_in p) (full_table (setting_in p) o).chains) objects_next
+      ap (λ (n : ℕ). objects_covered p.events (synced p).counts n) one ∙ objects_before
+
+  -- the last edits are then those of this sync
+  pub last_is_next : last_edits (synced p) ≡ next_edits p
+  last_is_next = λ i.
+      changes_between (full_table (setting_in p) (before_next i)).chains
+      (full_table (setting_in p) (objects_next i)).chains
 
   -- one more sync adds its record to those before it
   pub records_next : RecordsGrow → records_in (synced p) ≡ records_in p ++ next_record p ∷ []
@@ -92,26 +99,30 @@ module _ (p : PlaneParts) (h : HasExactHistory p) where
         }));
   }
 
--- a history after one more sync
-pub history_next : ExactByRecord → RecordsHaveCounts → RecordsGrow
-    → (p : PlaneParts) (before after : History) (covered : ℕ) (batch : Batch) (table : Option TableParts)
-    → IsHistory p before → covered ≡ length p.events → LeadsToNext p batch table
+-- a history after one more sync, which makes the edits of its batch
+pub history_next : ChangesLeadOver → ExactByRecord → RecordsHaveCounts → RecordsGrow
+    → (p : PlaneParts) (before after : History) (covered : ℕ) (batch : Batch)
+    → IsHistory p before → covered ≡ length p.events → LeadsToNext p batch
     → after.counts.items ≡ before.counts.items ++ (covered - before.covered) ∷ []
+    → length after.counts.items < 2 ^ 64
     → after.covered ≡ covered
-    → after.table
-    ≡ (record { chains = chains_or before.table.chains table; syncs = length after.counts.items })
+    → after.table ≡ table_after_batch before.table batch.edits
     → after.last ≡ Some batch
     → IsHistory (synced p) after
-history_next goes_on counted_all grow p before after covered batch table is all made counts covers kept last =
+history_next lead goes_on counted_all grow p before after covered batch is all made counts few covers kept last =
     let counted : after.counts.items ≡ (synced p).counts =
     counts ∙ (λ i. is.counts i ++ (all i - is.covered i) ∷ []) in
-    let chains : chains_or before.table.chains table ≡ chains_in (synced p) =
-    ap (λ (t : TableParts). chains_or t.chains table) is.table ∙ made.chains
-    ∙ ap (λ o. (full_table (setting_in p) o).chains) (sym (objects_next p is.exact)) in
+    let made_of : fold chains_after_edit before.table.chains batch.edits ≡ next_chains p =
+    (λ i. fold chains_after_edit (is.table i).chains (made.edits i))
+    ∙ lead (chains_in p) (next_chains p) in
+    let chains = made_of ∙ ap (λ o. (full_table (setting_in p) o).chains) (sym (objects_next p is.exact)) in
+    let longer = length_push p.counts (uncovered_in p) in
+    let one : min (before.table.syncs + 1) (2 ^ 64 - 1) ≡ syncs_in (synced p) =
+    omega (arith, ap (λ (t : TableParts). t.syncs) is.table, longer, ap length counted, few) in
     record {
       counts = counted;
       covered = covers ∙ all ∙ sym (all_counted p is.exact);
-      table = kept ∙ (λ i. record { chains = chains i; syncs = length (counted i) });
+      table = kept ∙ (λ i. record { chains = chains i; syncs = one i });
       last = last
           ∙ ap (λ es. Some (record { edits = es })) (made.edits ∙ sym (last_is_next p is.exact))
           ∙ sym (some_batch p.counts (uncovered_in p) (last_edits (synced p)));

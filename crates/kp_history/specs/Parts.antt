@@ -72,11 +72,6 @@ next_chains p = (full_table (setting_in p) (objects_after p.events)).chains
 abbrev pub next_edits : PlaneParts → List Edit
 next_edits p = changes_between (chains_in p) (next_chains p)
 
--- the chains of a table that was made, or these where none was
-abbrev pub chains_or : Chains → Option TableParts → Chains
-chains_or chains None = chains
-chains_or chains (Some t) = t.chains
-
 -- the records of the syncs
 abbrev pub records_in : PlaneParts → List SyncRecord
 records_in p = sync_records (setting_in p) p.events p.counts

@@ -1,8 +1,5 @@
 //! The syncs so far.
-ghost use Rattle.std.specs.Prelude.{◌≡◌};
-ghost use Rattle.kp_history.specs.Parts.{chains_or};
-
-use kp_base::NoMemory;
+use kp_base::{NoMemory, fits_memory};
 use kp_chains::fixed_chains;
 use kp_rules::Table;
 use kp_types::Batch;
@@ -50,25 +47,22 @@ impl History {
         })
     }
 
-    /// Keeps the batch of a sync, after which so many events are covered, and the table that it
-    /// leads to, where that isn't the one that stands. Where memory is out, all stays.
-    pub fn record(
-        &mut self,
-        covered: u64,
-        batch: Batch,
-        table: Option<Table>,
-    ) -> Result<(), NoMemory>
+    /// Makes the edits of a sync, after which so many events are covered, and keeps its batch. It
+    /// costs what these edits do: no other chain is looked at. Where memory is out, all stays.
+    pub fn record(&mut self, covered: u64, batch: Batch) -> Result<(), NoMemory>
         requires { self.old.covered ≤ covered }
         ensures ok { (p : PlaneParts) → IsHistory p self.old → covered ≡ length p.events
-            → LeadsToNext p batch table → OnOk result (IsHistory (synced p) self.new) }
+            → LeadsToNext p batch → OnOk result (IsHistory (synced p) self.new) }
         ensures err { (p : PlaneParts) → IsHistory p self.old
             → OnErr result (IsHistory p self.new) }
     {
         kp_history_laws::exact_histories();
         kp_history_laws::sync_records();
-        self.counts.push(covered - self.covered)?;
-        let syncs = self.counts.as_slice().len() as u64;
-        take_over(&mut self.table, table, syncs);
+        kp_rules::laws::changes_lead_over();
+        self.counts.reserve(1)?;
+        self.table.apply(&batch)?;
+        self.counts.push_reserved(covered - self.covered);
+        fits_memory(self.counts.as_slice());
         self.covered = covered;
         self.last = Some(batch);
         Ok(())
@@ -97,19 +91,5 @@ impl History {
             last,
         } = self;
         (counts, table)
-    }
-}
-
-/// Puts a table, if there is one, in place of the one that stands, and counts the batches.
-fn take_over(table: &mut Table, next: Option<Table>, syncs: u64)
-    ensures { table.new ≡ record { chains = chains_or table.old.chains next; syncs = syncs } }
-{
-    match next {
-        None => table.set_syncs(syncs),
-        Some(next) => {
-            *table = next;
-            table.link();
-            table.set_syncs(syncs);
-        }
     }
 }

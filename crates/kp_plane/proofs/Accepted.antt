@@ -17,8 +17,11 @@ use Rattle.kp_history.specs.Invariant.{IsHistory}
 use Rattle.kp_history.specs.declared.history.History.{History}
 use Rattle.kp_plane.specs.Parts.{PlaneParts, HasExactHistory, setting_in, syncs_in, batch_after}
 use Rattle.kp_plane.specs.Parts.{with_events, records_in}
-use Rattle.kp_plane.specs.Invariant.{IsAtPlace, IsPlane, IsSlicesAt}
+use Rattle.kp_history_defs.specs.DirtyPorts.{dirty_ports}
+use Rattle.kp_object_defs.specs.PortByKey.{info_at}
+use Rattle.kp_plane.specs.Invariant.{IsAtPlace, IsPlane, IsPortsAt, IsSlicesAt}
 use Rattle.kp_plane.specs.declared.place.ObjectsAt.{ObjectsAt}
+use Rattle.kp_plane.specs.declared.ports_at.PortsAt.{PortsAt}
 use Rattle.kp_plane.specs.declared.slices_at.SlicesAt.{SlicesAt}
 
 module _ (p : PlaneParts) (more : List Event) where
@@ -66,26 +69,49 @@ module _ (p : PlaneParts) (more : List Event) where
     slices = is.slices ∙ ap (λ es. slices_now (V4 ∷ []) p.config es (take s.syncs p.counts)) (sym (take-append-le s.place.at p.events more is.place.within));
   }
 
+  ports_same : HasExactHistory p → (s : PortsAt) → IsPortsAt p s → IsPortsAt (with_events p more) s
+  ports_same h s is = record {
+    place = place_same s.latest is.place;
+    config = is.config;
+    written = λ key.
+        is.written key
+        ∙ ap (λ o. info_at V4 (setting_in p).config o key) (sym (covered_same h (syncs_in p)));
+    untouched = is.untouched;
+    dirty = is.dirty
+        ∙ (λ i. dirty_ports (setting_in p) (sym (covered_same h (syncs_in p - 1)) i)
+        (sym (covered_same h (syncs_in p)) i));
+  }
+
   -- what holds of a plane's fields still does where more events are accepted
-  pub plane_same : ExactByEvents → RecordsStay → (most : ℕ) (h : History) (latest explained : ObjectsAt) (slices : SlicesAt) → length (p.events ++ more) ≤ most → IsPlane p most h latest explained slices → IsPlane (with_events p more) most h latest explained slices
-  plane_same goes_on stay most h latest explained slices room is = record {
+  pub plane_same : ExactByEvents → RecordsStay → (most : ℕ) (h : History) (s : PortsAt)
+      → (explained : ObjectsAt) (slices : SlicesAt) → length (p.events ++ more) ≤ most
+      → IsPlane p most h s explained slices → IsPlane (with_events p more) most h s explained slices
+  plane_same goes_on stay most h s explained slices room is = record {
     limit = is.limit;
     room = room;
-    history = history_same goes_on stay h is.history;
-    latest_at = place_same latest is.latest_at;
+    holds = record {
+      history = history_same goes_on stay h is.holds.history;
+      ports = ports_same is.holds.history.exact s is.holds.ports;
+    };
     explained_at = place_same explained is.explained_at;
     to = is.to;
     slices_at = slices_same slices is.slices_at;
   }
 
 -- a journal's answer keeps what holds of all fields
-pub accepted : ExactByEvents → RecordsStay → {E : Type 0} (r : Result (Unit {0}) E) (p : PlaneParts) (more : List Event) (before after : Contents) (h : History) (latest explained : ObjectsAt) (slices : SlicesAt)
-    → OnOk r (after ≡ journal.with_events before more) → OnOk r (HasRoom before (length more)) → OnErr r (after ≡ before)
-    → IsPlane (record p { events = before.events }) before.most h latest explained slices
-    → IsPlane (record p { events = after.events }) after.most h latest explained slices
-accepted goes_on stay (Ok x) p more before after h latest explained slices ok fits err is =
+pub accepted : ExactByEvents → RecordsStay → {E : Type 0} (r : Result (Unit {0}) E) (p : PlaneParts)
+    → (more : List Event) (before after : Contents) (h : History) (s : PortsAt)
+    → (explained : ObjectsAt) (slices : SlicesAt)
+    → OnOk r (after ≡ journal.with_events before more) → OnOk r (HasRoom before (length more))
+    → OnErr r (after ≡ before)
+    → IsPlane (record p { events = before.events }) before.most h s explained slices
+    → IsPlane (record p { events = after.events }) after.most h s explained slices
+accepted goes_on stay (Ok x) p more before after h s explained slices ok fits err is =
     let longer = length-append before.events more in
-    subst (λ (j : Contents). IsPlane (record p { events = j.events }) j.most h latest explained slices) (sym ok)
-    (plane_same (record p { events = before.events }) more goes_on stay before.most h latest explained slices (omega (arith, longer, fits)) is)
-accepted goes_on stay (Err e) p more before after h latest explained slices ok fits err is =
-    subst (λ (j : Contents). IsPlane (record p { events = j.events }) j.most h latest explained slices) (sym err) is
+    subst (λ (j : Contents). IsPlane (record p { events = j.events }) j.most h s explained slices)
+    (sym ok)
+    (plane_same (record p { events = before.events }) more goes_on stay before.most h s explained
+    slices (omega (arith, longer, fits)) is)
+accepted goes_on stay (Err e) p more before after h s explained slices ok fits err is =
+    subst (λ (j : Contents). IsPlane (record p { events = j.events }) j.most h s explained slices)
+    (sym err) is

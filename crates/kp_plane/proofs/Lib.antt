@@ -1,9 +1,12 @@
 mod Accepted
-mod Compared
-mod Counts
+mod Between
+mod FewAsked
 mod Places
+mod Refreshed
+mod Settled
 mod SlicesAtPlaces
 mod Start
 mod Synced
+mod Touching
 mod Unchanged
 mod Walks

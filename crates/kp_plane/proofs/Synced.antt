@@ -1,6 +1,6 @@
 -- What one more sync changes, and what it looks at.
 use Rattle.std.proofs.Common.{◌≡◌, ◌≤◌, ◌<◌, ◌+◌, ◌-◌, nat_lt, ℕ, suc, List, [], ◌∷◌, ◌++◌}
-use Rattle.std.proofs.Common.{take, length, sum, Bool, true, false, Option, None}
+use Rattle.std.proofs.Common.{take, length, sum, Bool, true, false}
 use Rattle.std.proofs.Common.{refl, sym, ap, subst, ◌∙◌, arith, le_refl}
 use Rattle.std.proofs.lemmas.Bool.Decides.{nat_tests}
 use Rattle.std.proofs.lemmas.List.{take_all, take-append-le, length_push}
@@ -24,14 +24,15 @@ use Rattle.kp_decide.specs.Told.{told}
 use Rattle.kp_history_defs.specs.DirtyPorts.{dirty_ports}
 use Rattle.kp_history.specs.Parts.{PlaneParts, HasExactHistory, setting_in, uncovered_in}
 use Rattle.kp_history.specs.Parts.{objects_in, table_in, chains_in, next_edits, synced}
-use Rattle.kp_history.specs.Invariant.{IsHistory, LeadsToNext, LeadsToTable}
+use Rattle.kp_history.specs.Invariant.{IsHistory, LeadsToNext}
 use Rattle.kp_history.specs.declared.history.History.{History}
 use Rattle.kp_history.proofs.Synced.{all_counted, within}
-use Rattle.kp_plane.specs.Invariant.{IsAtPlace, IsPlane, IsSlicesAt}
+use Rattle.kp_plane.specs.Invariant.{Holds, IsAtPlace, IsPlane, IsSlicesAt}
 use Rattle.kp_plane.specs.Notes.{last_note}
-use Rattle.kp_plane.specs.Parts.{most_steps, explained_in, syncs_in, next_record, dirty_in}
+use Rattle.kp_plane.specs.Parts.{IsNextRecord, explained_in, syncs_in, next_record}
 use Rattle.kp_plane.specs.declared.note.SyncNote.{SyncNote}
 use Rattle.kp_plane.specs.declared.place.ObjectsAt.{ObjectsAt}
+use Rattle.kp_plane.specs.declared.ports_at.PortsAt.{PortsAt}
 use Rattle.kp_plane.specs.declared.slices_at.SlicesAt.{SlicesAt}
 use Rattle.kp_plane.proofs.Unchanged.{no_changes}
 
@@ -62,35 +63,45 @@ slices_next p h s is =
         (subst (λ (n : ℕ). s.place.at ≤ n) (sym (all_counted p h)) inside)
 
 -- what holds of all fields after one more sync
-pub plane_next : (p : PlaneParts) (most : ℕ) (h next : History) (latest explained : ObjectsAt) (slices : SlicesAt) → IsPlane p most h latest explained slices → IsHistory (synced p) next
-    → IsPlane (record p { counts = next.counts.items }) most next latest explained slices
-plane_next p most h next latest explained slices is more =
-    let all = all_counted p is.history.exact in
-    let few = within p is.history.exact in
+pub plane_next : (p : PlaneParts) (most : ℕ) (h next : History) (s t : PortsAt)
+    → (explained : ObjectsAt) (slices : SlicesAt) → IsPlane p most h s explained slices
+    → Holds (synced p) next t
+    → IsPlane (record p { counts = next.counts.items }) most next t explained slices
+plane_next p most h next s t explained slices is more =
+    let all = all_counted p is.holds.history.exact in
+    let few = within p is.holds.history.exact in
     let before = is.to in
-    subst (λ (counts : List ℕ). IsPlane (record p { counts = counts }) most next latest explained slices) (sym more.counts) (record {
+    subst (λ (counts : List ℕ). IsPlane (record p { counts = counts }) most next t explained slices)
+    (sym more.history.counts) (record {
       limit = is.limit;
       room = is.room;
-      history = more;
-      latest_at = is.latest_at;
+      holds = more;
       explained_at = is.explained_at;
       to = omega (arith, all, few, before);
-      slices_at = slices_next p is.history.exact slices is.slices_at;
+      slices_at = slices_next p is.holds.history.exact slices is.slices_at;
     })
 
 -- and where none was made
-pub plane_kept : (p : PlaneParts) (most : ℕ) (h next : History) (latest explained : ObjectsAt) (slices : SlicesAt) → IsPlane p most h latest explained slices → IsHistory p next
-    → IsPlane (record p { counts = next.counts.items }) most next latest explained slices
-plane_kept p most h next latest explained slices is same =
-    subst (λ (counts : List ℕ). IsPlane (record p { counts = counts }) most next latest explained slices) (sym same.counts) (record {
+pub plane_kept : (p : PlaneParts) (most : ℕ) (h next : History) (s t : PortsAt)
+    → (explained : ObjectsAt) (slices : SlicesAt) → IsPlane p most h s explained slices
+    → Holds p next t
+    → IsPlane (record p { counts = next.counts.items }) most next t explained slices
+plane_kept p most h next s t explained slices is same =
+    subst (λ (counts : List ℕ). IsPlane (record p { counts = counts }) most next t explained slices)
+    (sym same.history.counts) (record {
       limit = is.limit;
       room = is.room;
-      history = same;
-      latest_at = is.latest_at;
+      holds = same;
       explained_at = is.explained_at;
       to = is.to;
       slices_at = is.slices_at;
     })
+
+-- what contracts see after one more sync
+pub parts_next : (p q : PlaneParts) → p ≡ q → (next : History) (t : PortsAt)
+    → Holds (synced p) next t → ◌≡◌ {A = PlaneParts} (record p { counts = next.counts.items }) (synced q)
+parts_next p q same next t more =
+    ap (λ (counts : List ℕ). record p { counts = counts }) more.history.counts ∙ ap synced same
 
 -- ---- What a sync looks at
 
@@ -116,51 +127,30 @@ nothing_new p h is same =
     ∙ ap (λ (n : ℕ). objects_after (take n p.events)) (sym (same ∙ is.covered))
     ∙ ap objects_after (take_all (length p.events) p.events (le_refl (length p.events)))
 
--- so nothing leads on
-pub leads_nowhere : SameRulesAreEqual → (p q : PlaneParts) → p ≡ q → (h : History) → IsHistory p h
+-- so no edit leads on
+pub leads_nowhere : SameRulesAreEqual → (p : PlaneParts) (h : History) → IsHistory p h
     → length p.events ≡ h.covered → {edits : List Edit} → edits ≡ []
-    → LeadsToNext q (record { edits = edits }) None
-leads_nowhere rules p q same h is none {edits} empty =
+    → LeadsToNext p (record { edits = edits })
+leads_nowhere rules p h is none {edits} empty =
     let all = nothing_new p h is none in
-    subst (λ r. LeadsToNext r (record { edits = edits }) None) same (record {
+    record {
       no_clash = ap (clash_of (setting_in p)) (sym all) ∙ is.no_clash;
       edits = empty ∙ sym (no_changes rules (chains_in p))
           ∙ ap (λ o. changes_between (chains_in p) (full_table (setting_in p) o).chains) all;
-      chains = ap (λ o. (full_table (setting_in p) o).chains) all;
-    })
-
--- what leads from the table to that of all events' objects leads on
-pub leads_on : (p q : PlaneParts) → p ≡ q → (t : TableParts) (o : Objects) → t ≡ table_in p
-    → o ≡ objects_after p.events → (batch : Batch) (table : Option TableParts)
-    → LeadsToTable (setting_in p) o t.chains batch table → LeadsToNext q batch table
-leads_on p q same t o is all batch table leads =
-    subst (λ r. LeadsToNext r batch table) same
-    (subst (λ (u : TableParts). LeadsToTable (setting_in p) (objects_after p.events) u.chains batch table) is
-    (subst (λ o. LeadsToTable (setting_in p) o t.chains batch table) all leads))
-
--- a clash of all objects, by equal parts
-pub same_clash : (p q : PlaneParts) → p ≡ q → (o : Objects) → o ≡ objects_after p.events → clash_of (setting_in p) o ≡ clash_of (setting_in q) (objects_after q.events)
-same_clash p q same o is = ap (clash_of (setting_in p)) is ∙ ap (λ r. clash_of (setting_in r) (objects_after r.events)) same
-
--- the steps that a rebuild of all objects takes at most, by equal parts
-pub same_steps : (p q : PlaneParts) → p ≡ q → (o : Objects) → o ≡ objects_after p.events → all_rule_count (setting_in p) (port_infos V4 (config_for V4 p.config) o) ≡ most_steps q
-same_steps p q same o is = ap (λ o. all_rule_count (setting_in p) (port_infos V4 (config_for V4 p.config) o)) is ∙ ap most_steps same
+    }
 
 -- where the last sync covers all, no event is left
-pub all_covered : (p q : PlaneParts) → p ≡ q → (h : History) → IsHistory p h
-    → length p.events ≡ h.covered → uncovered_in q ≡ 0
-all_covered p q same h is all =
-    let covered = is.covered in
-    let none : uncovered_in p ≡ 0 = omega arith in
-    sym (ap uncovered_in same) ∙ none
+pub none_left : (p : PlaneParts) (h : History) → IsHistory p h → length p.events ≡ h.covered
+    → uncovered_in p ≡ 0
+none_left p h is all = let covered = is.covered in omega arith
 
 -- and else one is
-pub some_left : (p q : PlaneParts) → p ≡ q → (h : History) → IsHistory p h → {n : ℕ}
-    → (n ≡ h.covered → ⊥) → n ≡ length p.events → 0 < uncovered_in q
-some_left p q same h is more all =
+pub some_left : (p : PlaneParts) (h : History) → IsHistory p h → {n : ℕ} → (n ≡ h.covered → ⊥)
+    → n ≡ length p.events → 0 < uncovered_in p
+some_left p h is more all =
     let covered = is.covered in
     let few = within p is.exact in
-    subst (λ r. 0 < uncovered_in r) same (omega (arith, more, all, covered, few))
+    omega (arith, more, all, covered, few)
 
 -- the decision on the objects that the last sync covers
 pub same_decision : (p q : PlaneParts) → p ≡ q → (o : Objects) → o ≡ objects_in p → (packet : Packet) (drawn : ℕ → ℕ) (lists : RecentParts)
@@ -170,39 +160,25 @@ same_decision p q same o is packet drawn lists =
 
 -- ---- What a sync tells
 
--- a record with the note's counts and these edits is the one that is added
-pub record_added : (p q : PlaneParts) (note : SyncNote) (r : SyncRecord) → q ≡ synced p
-    → note ≡ last_note (uncovered_in p) q
-    → r.sync ≡ note.sync → r.events ≡ note.events → r.batch.edits ≡ next_edits p
-    → r ≡ next_record p
-record_added p q note r next noted numbered counted edits =
-    let longer = length_push p.counts (uncovered_in p) in
-    let one : syncs_in (synced p) ≡ suc (syncs_in p) = omega arith in
-    λ i. record {
-      sync = (numbered ∙ ap (λ n. n.sync) noted ∙ ap syncs_in next ∙ one) i;
-      events = (counted ∙ ap (λ n. n.events) noted) i;
-      batch = record { edits = edits i };
-    }
+module _ (p q : PlaneParts) (r : SyncRecord) (next : q ≡ synced p) (numbered : r.sync ≡ syncs_in q)
+    (counted : r.events ≡ uncovered_in p) (edits : r.batch.edits ≡ next_edits p) where
+  number : r.sync ≡ suc (syncs_in p)
+  number =
+      let longer = length_push p.counts (uncovered_in p) in
+      let one : syncs_in (synced p) ≡ suc (syncs_in p) = omega arith in
+      numbered ∙ ap syncs_in next ∙ one
 
--- ---- Dirty ports
+  -- a record with these counts and edits is the one that is added
+  pub record_added : r ≡ next_record p
+  record_added = λ i. record {
+    sync = number i;
+    events = counted i;
+    batch = record { edits = edits i };
+  }
 
-module _ (p : PlaneParts) (h : History) (is : IsHistory p h) where
-  -- the events before the last sync are among those that it covers
-  pub before_within : (n : ℕ) → n ≡ sum (take (syncs_in p - 1) p.counts)
-      → (n ≤ h.covered) × (h.covered ≤ length p.events)
-  before_within n count =
-      let part = sum_by-take-le (λ (m : ℕ). m) p.counts (syncs_in p - 1) in
-      let few = within p is.exact in
-      let covered = is.covered in
-      (omega arith, omega arith)
-
-  -- the ports that are dirty between these places are those of the last sync
-  pub dirty_covered : (from : ℕ) → from ≡ sum (take (syncs_in p - 1) p.counts)
-      → dirty_ports (setting_in p) (objects_after (take from p.events))
-      (objects_after (take h.covered p.events))
-      ≡ dirty_in p
-  dirty_covered from before = λ i.
-      dirty_ports (setting_in p) (objects_after (take (before i) p.events))
-      ((ap (λ (n : ℕ). objects_after (take n p.events)) is.covered
-      ∙ ap (λ c. objects_after (take (sum c) p.events))
-      (sym (take_all (length p.counts) p.counts (le_refl (length p.counts))))) i)
+  -- and the next one
+  pub record_next : clash_of (setting_in p) (objects_after p.events) ≡ None → IsNextRecord p r
+  record_next no_clash = record {
+    events = counted;
+    exact = record { is_numbered = number; has_no_clash = no_clash; is_changes = edits };
+  }

@@ -1,10 +1,7 @@
 -- How far a sync counts.
-use Rattle.std.specs.Prelude.{◌≡◌, ◌<◌, ◌≤◌, ◌+◌, ℕ, Result, OnOk}
+use Rattle.std.specs.Prelude.{◌≡◌, ◌≤◌, ◌+◌, ℕ}
 
--- A count of a sync that is to take so many steps: it takes none where no event is left to cover,
--- and else all of them where the sync is made, and no more where it is refused.
-pub record IsCounted
-    {T E : Type 0} (left all old new : ℕ) (result : Result T E) : Type 0 where
-  pub bound : new ≤ old + all
+-- A count of a sync that takes at most so many steps: it takes none where no event is left to cover.
+pub record IsCounted (left most old new : ℕ) : Type 0 where
+  pub bound : new ≤ old + most
   pub unchanged : left ≡ 0 → new ≡ old
-  pub counted : OnOk result (0 < left → new ≡ old + all)

@@ -1,16 +1,26 @@
 -- What holds of a plane's fields, by the parts that contracts see.
 use Rattle.std.specs.Prelude.{◌≡◌, ◌≤◌, ◌<◌, ◌+◌, ◌-◌, ℕ, List, [], ◌∷◌, length, sum, take, drop}
+use Rattle.std.specs.Prelude.{Bool, cond, None}
 use Rattle.std.specs.List.{fold}
 use Rattle.kp_base.specs.declared.address.Family.TheVariants.{V4}
 use Rattle.kp_base.specs.declared.config.Config.{Config}
 use Rattle.kp_types.specs.declared.event.Event.{Event}
+use Rattle.kp_types.specs.Setting.{Setting}
 use Rattle.kp_object_defs.specs.Objects.{objects_after}
 use Rattle.kp_object_defs.specs.SlicesNow.{slices_now, slices_step}
 use Rattle.kp_events.specs.JournalContents.{Contents}
-use Rattle.kp_history.specs.Invariant.{IsHistory}
+use Rattle.kp_history_defs.specs.DirtyPorts.{dirty_ports}
+use Rattle.kp_history_defs.specs.declared.dirty.DirtyPort.{DirtyPort}
+use Rattle.kp_history.specs.Invariant.{IsHistory, LeadsToNext}
 use Rattle.kp_history.specs.declared.history.History.{History}
-use Rattle.kp_plane.specs.Parts.{PlaneParts}
+use Rattle.kp_writer.specs.Known.{ArePortsOf, pending_ports}
+use Rattle.kp_writer.specs.Written as written
+use Rattle.kp_writer.specs.Written.{Ports, WriterParts, newest_ports, written_ports}
+use Rattle.kp_plane.specs.Known.{KnowsUntouched}
+use Rattle.kp_plane.specs.Parts.{PlaneParts, dirty_in, objects_in, setting_in, uncovered_in}
+use Rattle.kp_plane.specs.declared.next.Next.{Next}
 use Rattle.kp_plane.specs.declared.place.ObjectsAt.{ObjectsAt}
+use Rattle.kp_plane.specs.declared.ports_at.PortsAt.{PortsAt}
 use Rattle.kp_plane.specs.declared.slices_at.SlicesAt.{SlicesAt}
 
 -- what contracts see of a plane's fields
@@ -47,15 +57,62 @@ pub record IsFed (events : List Event) (to : ℕ) (before after : SlicesAt) : Ty
       ≡ fold slices_step before.slices
       (take (to - before.place.at) (drop before.place.at events))
 
--- what holds of all fields: the latest objects stand at any place of the journal, and those for
--- explanations at or before what the last sync covers
+-- What is known of ports: by the names of ports whose Service isn't touched the writer knows what
+-- the latest objects tell, which stand at any place of the journal; what it wrote is what the objects
+-- tell that the last sync covers.
+pub record IsPortsAt (p : PlaneParts) (s : PortsAt) : Type 0 where
+  pub place : IsAtPlace p.events s.latest
+  pub config : s.writer.config ≡ p.config
+  pub written : ArePortsOf (setting_in p) (objects_in p) (written_ports s.writer)
+  pub untouched : KnowsUntouched (setting_in p) s.latest.objects s.touched (newest_ports s.writer)
+  pub dirty : s.dirty ≡ dirty_in p
+
+-- what is known of ports at a later place of the journal, where nothing was written
+pub record IsBroughtOn
+    (setting : Setting) (events : List Event) (before after : PortsAt) : Type 0 where
+  pub place : IsAtPlace events after.latest
+  pub untouched : KnowsUntouched setting after.latest.objects after.touched
+      (newest_ports after.writer)
+  pub config : after.writer.config ≡ before.writer.config
+  pub written : written_ports after.writer ≡ written_ports before.writer
+  pub dirty : after.dirty ≡ before.dirty
+
+-- what is known of ports once a sync is kept, which covers new events or none
+pub record IsSettled (is_new : Bool) (told : List DirtyPort) (before after : PortsAt)
+    : Type 0 where
+  pub latest : after.latest ≡ before.latest
+  pub touched : after.touched ≡ before.touched
+  pub config : after.writer.config ≡ before.writer.config
+  pub written : written_ports after.writer
+      ≡ cond is_new (newest_ports before.writer) (written_ports before.writer)
+  pub newest : newest_ports after.writer ≡ newest_ports before.writer
+  pub dirty : after.dirty ≡ told
+
+-- what is held of the syncs, and what is known of ports
+pub record Holds (p : PlaneParts) (h : History) (s : PortsAt) : Type 0 where
+  pub history : IsHistory p h
+  pub ports : IsPortsAt p s
+
+-- what a writer makes of a sync
+pub record IsMade (w : WriterParts) (next : Next) : Type 0 where
+  pub edits : next.batch.edits ≡ written.next_edits w
+  pub dirty : next.dirty ≡ pending_ports w
+  pub no_clash : written.clash_of w (newest_ports w) ≡ None
+
+-- What one more sync keeps: the batch, and the ports of which something else is known. Where it
+-- covers new events the ports that are known are those of all events' objects.
+pub record IsNext (p : PlaneParts) (ports : Ports) (next : Next) : Type 0 where
+  pub leads : LeadsToNext p next.batch
+  pub dirty : next.dirty ≡ dirty_ports (setting_in p) (objects_in p) (objects_after p.events)
+  pub newest : 0 < uncovered_in p → ArePortsOf (setting_in p) (objects_after p.events) ports
+
+-- what holds of all fields: the objects for explanations stand at or before what the last sync covers
 pub record IsPlane
-    (p : PlaneParts) (most : ℕ) (h : History) (latest explained : ObjectsAt)
+    (p : PlaneParts) (most : ℕ) (h : History) (s : PortsAt) (explained : ObjectsAt)
     (slices : SlicesAt) : Type 0 where
   pub limit : most ≡ p.config.max_events
   pub room : length p.events ≤ most
-  pub history : IsHistory p h
-  pub latest_at : IsAtPlace p.events latest
+  pub holds : Holds p h s
   pub explained_at : IsAtPlace p.events explained
   pub to : explained.at ≤ sum p.counts
   pub slices_at : IsSlicesAt p.config p.events p.counts slices

@@ -1,5 +1,5 @@
-pub mod Compared
 pub mod Counts
 pub mod Invariant
+pub mod Known
 pub mod Notes
 pub mod Parts

@@ -1,11 +1,13 @@
 -- What contracts see of a plane: the parts that tables and batches are functions of, and what
 -- slices, decisions and walks are by them.
-use Rattle.std.specs.Prelude.{◌≡◌, ℕ, suc, ◌-◌, List, [], ◌∷◌, ◌++◌, refl}
+use Rattle.std.specs.Prelude.{◌≡◌, ℕ, suc, ◌+◌, ◌-◌, List, [], ◌∷◌, ◌++◌, refl}
+use Rattle.std.specs.List.{filter_map}
 use Rattle.std.specs.Coded.{Coded, code_by, coded×, coded_ℕ, coded_list}
 use Rattle.std.specs.FinMap as finite
 use Rattle.kp_base.specs.declared.address.Family.TheVariants.{V4}
 use Rattle.kp_base.specs.declared.config.Config.{Config}
 use Rattle.kp_base.specs.contracts.config.Config as config_row
+use Rattle.kp_base.specs.declared.key.PortKey.{PortKey}
 use Rattle.kp_types.specs.Setting.{config_for}
 use Rattle.kp_types.specs.declared.event.Event.{Event}
 use Rattle.kp_types.specs.contracts.event.Event as event_row
@@ -17,16 +19,16 @@ use Rattle.kp_choice_defs.specs.Recent.{RecentParts}
 use Rattle.kp_door_defs.specs.Decision.{Decided, decision_of}
 use Rattle.kp_events.specs.JournalContents.{Contents}
 use Rattle.kp_object_defs.specs.Objects.{Objects, objects_after}
-use Rattle.kp_object_defs.specs.PortInfo.{port_infos}
+use Rattle.kp_object_defs.specs.PortByKey.{info_at}
 use Rattle.kp_object_defs.specs.SlicesNow.{slices_now}
 use Rattle.kp_table_defs.specs.Walk.{Walked, walk_of}
 use Rattle.kp_full_table.specs.Parts.{all_port_count, all_rule_count}
 use Rattle.kp_history_defs.specs.History.{IsExactRecord, objects_covered}
-use Rattle.kp_history_defs.specs.DirtyPorts.{dirty_ports}
+use Rattle.kp_history_defs.specs.DirtyPorts.{dirty_keys, dirty_ports}
 use Rattle.kp_history_defs.specs.declared.dirty.DirtyPort.{DirtyPort}
 pub use Rattle.kp_history.specs.Parts.{PlaneParts, HasExactHistory, setting_in, syncs_in, uncovered_in}
 pub use Rattle.kp_history.specs.Parts.{objects_in, chains_in, table_in, last_edits, batch_after, last_batch_in}
-pub use Rattle.kp_history.specs.Parts.{synced, next_chains, next_edits, chains_or}
+pub use Rattle.kp_history.specs.Parts.{synced, next_chains, next_edits}
 pub use Rattle.kp_history.specs.Parts.{records_in, next_record}
 
 -- how they are told apart as values
@@ -45,10 +47,21 @@ slices_in p = finite.values (slices_now (V4 ∷ []) p.config p.events p.counts)
 abbrev pub with_events : PlaneParts → List Event → PlaneParts
 with_events p more = record p { events = p.events ++ more }
 
--- the most steps that a sync of all events takes: one for each rule of a port of their objects
+-- the names of the ports of which something else is known after all events than was at the last sync
+abbrev pub next_dirty : PlaneParts → List PortKey
+next_dirty p = dirty_keys (setting_in p) (objects_in p) (objects_after p.events)
+
+-- how many rules the ports of these names have by some objects
+abbrev pub rules_by : PlaneParts → Objects → List PortKey → ℕ
+rules_by p o keys =
+    all_rule_count (setting_in p) (filter_map (info_at V4 (config_for V4 p.config) o) keys)
+
+-- the most steps that a sync of all events takes: one for each rule that these ports had, and one
+-- for each that they have
 abbrev pub most_steps : PlaneParts → ℕ
 most_steps p =
-    all_rule_count (setting_in p) (port_infos V4 (config_for V4 p.config) (objects_after p.events))
+    rules_by p (objects_in p) (next_dirty p)
+    + rules_by p (objects_after p.events) (next_dirty p)
 
 -- the most ports that a sync of all events asks the objects about: all that there are
 abbrev pub most_asked : PlaneParts → ℕ

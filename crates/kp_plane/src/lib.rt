@@ -2,13 +2,15 @@
 //! answered by the last sync.
 #![tactic(auto)]
 
-mod dirty;
 pub mod laws;
 mod next;
 mod note;
 mod place;
 mod plane;
+mod ports_at;
+mod refresh;
 mod slices_at;
+mod sync;
 
 pub use kp_events::{Journal, JournalFault};
 pub use kp_full_table::TableFault;

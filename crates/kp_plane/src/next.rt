@@ -1,47 +1,132 @@
-//! What a sync keeps: the full table of objects, and the batch that leads to it.
-ghost use Rattle.std.specs.Prelude.{◌≡◌, ◌+◌, ◌≤◌, IfOk, IfErr, OnOk};
+//! What one more sync keeps.
+ghost use Rattle.std.specs.Prelude.{◌≡◌, ◌+◌, ◌≤◌, [], length, None, IfOk, IfErr, OnOk, OnErr};
 ghost use Rattle.kp_base.specs.declared.address.Family.TheVariants.{V4};
 ghost use Rattle.kp_choice_defs.specs.Settings.{setting_of};
-ghost use Rattle.kp_types.specs.Setting.{config_for};
-ghost use Rattle.kp_object_defs.specs.PortInfo.{port_infos};
-ghost use Rattle.kp_table_defs.specs.Rebuild.{clash_of};
 ghost use Rattle.kp_full_table.specs.Faults.{TellsClash};
-ghost use Rattle.kp_full_table.specs.Parts.{all_port_count, all_rule_count};
-ghost use Rattle.kp_history.specs.Invariant.{LeadsToTable};
+ghost use Rattle.kp_full_table.specs.Parts.{all_rule_count};
+ghost use Rattle.kp_object_defs.specs.Objects.{objects_after};
+ghost use Rattle.kp_table_defs.specs.Rebuild.{clash_of};
+ghost use Rattle.kp_writer.specs.Batch.{own_rules_written};
+ghost use Rattle.kp_writer.specs.Written as written;
+ghost use Rattle.kp_plane.specs.Counts.{IsCounted};
+ghost use Rattle.kp_plane.specs.Invariant.{Holds, IsMade, IsNext, IsPortsAt, parts_of};
+ghost use Rattle.kp_plane.specs.Parts as parts;
+ghost use Rattle.kp_plane.specs.Parts.{PlaneParts as Parts};
 
-use kp_base::{Config, Steps};
-use kp_full_table::{TableFault, rebuild};
-use kp_rules::{Table, changed};
-use kp_store::Objects;
+use crate::ports_at::PortsAt;
+use kp_base::{Config, Items, NoMemory, Steps};
+use kp_events::Journal;
+use kp_full_table::TableFault;
+use kp_history::History;
+use kp_history_defs::DirtyPort;
+use kp_rules::Table;
 use kp_types::Batch;
+use kp_writer::Writer;
 use std::alloc::Global;
 use std::sync::ledger::Ledger;
 
-/// The batch that leads from a table to the full one of the objects, and that table. A step is
-/// taken for each rule of a port, and one of the other count for each port that the objects are
-/// asked about.
-pub(crate) fn next_table<L: Ledger, A: Ledger>(
+/// The batch of a sync, and the ports of which something else is known after it than before.
+#[derive(Drop)]
+pub(crate) struct Next {
+    pub(crate) batch: Batch,
+    pub(crate) dirty: Items<DirtyPort>,
+}
+
+/// What a sync of all events keeps. Where no event came since the last sync it is nothing, and
+/// nothing is looked at or made. Else it costs what these events changed.
+pub(crate) fn next_sync<L: Ledger, A: Ledger>(
     alloc: Global,
-    objects: &Objects,
     config: &Config,
-    from: &Table,
+    journal: &Journal,
+    history: &History,
+    ports: &mut PortsAt,
     steps: &mut Steps<L>,
     asked: &mut Steps<A>,
-) -> Result<(Batch, Option<Table>), TableFault>
-    ensures next { IfOk result (λ (b, t).
-        LeadsToTable (setting_of V4 config.now) objects.now from.now.chains b t) }
-    ensures clash { IfErr result (TellsClash (clash_of (setting_of V4 config.now) objects.now)) }
-    ensures steps { OnOk result (steps.new ≡ steps.old + all_rule_count (setting_of V4 config.now)
-        (port_infos V4 (config_for V4 config.now) objects.now)) }
-    ensures bound { steps.new ≤ steps.old + all_rule_count (setting_of V4 config.now)
-        (port_infos V4 (config_for V4 config.now) objects.now) }
-    ensures asked { OnOk result (asked.new ≡ asked.old + all_port_count objects.now) }
-    ensures asked_bound { asked.new ≤ asked.old + all_port_count objects.now }
+) -> Result<Next, TableFault>
+    requires { Holds (parts_of config.now journal.now history.now) history.now ports.old }
+    ensures ports { IsPortsAt (parts_of config.now journal.now history.now) ports.new }
+    ensures next { IfOk result (IsNext (parts_of config.now journal.now history.now)
+        (written.newest_ports ports.new.writer)) }
+    ensures clash { IfErr result (TellsClash
+        (clash_of (setting_of V4 config.now) (objects_after journal.now.events))) }
+    ensures steps { IsCounted
+        (parts.uncovered_in (parts_of config.now journal.now history.now))
+        (parts.most_steps (parts_of config.now journal.now history.now)) steps.old steps.new }
+    ensures asked { IsCounted
+        (parts.uncovered_in (parts_of config.now journal.now history.now))
+        (parts.most_asked (parts_of config.now journal.now history.now)) asked.old asked.new }
+    ensures made { IfOk result (λ n. steps.old + own_rules_written n.batch.edits ≤ steps.new) }
 {
-    let table = match rebuild(alloc, objects, config, steps, asked) {
-        Ok(table) => table,
-        Err(fault) => return Err(fault),
-    };
-    let batch = changed(alloc, from, &table)?;
-    Ok((batch, Some(table)))
+    kp_object_laws::own_keys();
+    kp_rules::laws::same_rules_are_equal();
+    kp_history_laws::dirty_ports();
+    kp_writer::known_ports();
+    kp_writer::known_dirty_ports();
+    let events = journal.events();
+    if events.len() as u64 == history.covered {
+        return Ok(nothing(alloc));
+    }
+    ports.bring_on(alloc, config, events, asked)?;
+    made(alloc, &ports.writer, &history.table, steps)
+}
+
+/// No edit and no dirty port.
+fn nothing(alloc: Global) -> Next
+    ensures edits { result.batch.edits ≡ [] }
+    ensures dirty { result.dirty ≡ [] }
+{
+    Next {
+        batch: Batch {
+            edits: Items::new(alloc),
+        },
+        dirty: Items::new(alloc),
+    }
+}
+
+/// The batch that leads from what a writer has written, whose table is given, to what it knows now,
+/// and the ports that differ.
+fn made<L: Ledger>(
+    alloc: Global,
+    writer: &Writer,
+    table: &Table,
+    steps: &mut Steps<L>,
+) -> Result<Next, TableFault>
+    requires table { table.now.chains
+        ≡ written.chains_of writer.now (written.written_ports writer.now) }
+    requires apart { written.clash_of writer.now (written.written_ports writer.now) ≡ None }
+    ensures next { IfOk result (IsMade writer.now) }
+    ensures clash { IfErr result (TellsClash
+        (written.clash_of writer.now (written.newest_ports writer.now))) }
+    ensures made { IfOk result (λ n. steps.old + own_rules_written n.batch.edits ≤ steps.new) }
+    ensures steps { steps.new ≤ steps.old
+        + (all_rule_count (written.setting_in writer.now)
+        (written.dirty_of writer.now (written.written_ports writer.now))
+        + all_rule_count (written.setting_in writer.now)
+        (written.dirty_of writer.now (written.newest_ports writer.now))) }
+{
+    let dirty = writer.dirty(alloc)?;
+    let batch = writer.edits(alloc, table, steps)?;
+    Ok(Next { batch, dirty })
+}
+
+/// Keeps what a sync of all events keeps. Where memory is out, all stays.
+pub(crate) fn keep(
+    journal: &Journal,
+    history: &mut History,
+    ports: &mut PortsAt,
+    next: Next,
+) -> Result<(), NoMemory>
+    requires { history.old.covered ≤ length journal.now.events }
+    ensures ok { (p : Parts) → p.events ≡ journal.now.events → Holds p history.old ports.old
+        → IsNext p (written.newest_ports ports.old.writer) next
+        → OnOk result (Holds (parts.synced p) history.new ports.new) }
+    ensures err { (p : Parts) → Holds p history.old ports.old
+        → OnErr result (Holds p history.new ports.new) }
+{
+    let Next { batch, dirty } = next;
+    let covered = journal.events().len() as u64;
+    let is_new = history.covered < covered;
+    history.record(covered, batch)?;
+    ports.settle(is_new, dirty);
+    Ok(())
 }

@@ -1,6 +1,6 @@
 //! The objects at a place of the journal.
-use kp_base::NoMemory;
-use kp_store::Objects;
+use kp_base::{Config, NoMemory};
+use kp_store::{Objects, Touched};
 use kp_types::Event;
 use std::alloc::Global;
 
@@ -19,7 +19,10 @@ impl Drop for ObjectsAt {
 impl ObjectsAt {
     ghost use Rattle.std.specs.Prelude.{◌≡◌, ◌≤◌, List, length, OnOk};
     ghost use Rattle.kp_types.specs.declared.event.Event.{Event};
+    ghost use Rattle.kp_base.specs.declared.address.Family.TheVariants.{V4};
+    ghost use Rattle.kp_choice_defs.specs.Settings.{setting_of};
     ghost use Rattle.kp_plane.specs.Invariant.{IsAtPlace};
+    ghost use Rattle.kp_plane.specs.Known.{LeavesUntouched};
 
     /// Before the first event.
     pub(crate) fn start(alloc: Global) -> ObjectsAt
@@ -49,6 +52,31 @@ impl ObjectsAt {
     {
         for at in self.at..to {
             self.objects.apply(alloc, &events[at])?;
+            self.at = at + 1;
+        }
+        Ok(())
+    }
+
+    /// Goes on to the journal's end, and adds the Services that the events on the way touch. Where
+    /// memory is out, it stands on the way there, and what the events up to there touch is added.
+    pub(crate) fn advance_touching(
+        &mut self,
+        alloc: Global,
+        config: &Config,
+        events: &[Event],
+        touched: &mut Touched,
+    ) -> Result<(), NoMemory>
+        requires { IsAtPlace events.now self.old }
+        ensures place { IsAtPlace events.now self.new }
+        ensures untouched { LeavesUntouched (setting_of V4 config.now) self.old.objects touched.old
+            self.new.objects touched.new }
+        ensures ok { OnOk result (self.new.at ≡ length events.now) }
+    {
+        kp_object_laws::own_keys();
+        kp_touch_laws::untouched_ports();
+        for at in self.at..events.len() {
+            self.objects
+                .apply_touching(alloc, config, &events[at], touched)?;
             self.at = at + 1;
         }
         Ok(())

@@ -1,31 +1,28 @@
 //! The plane.
-ghost use Rattle.std.specs.Prelude.{◌≡◌, ◌+◌, ◌<◌, ◌≤◌, ℕ, [], ◌∷◌, ◌++◌, length, sum, count_by};
-ghost use Rattle.std.specs.Prelude.{not, true};
+ghost use Rattle.std.specs.Prelude.{◌≡◌, ◌+◌, ◌<◌, ◌≤◌, ℕ, [], ◌∷◌, ◌++◌, length, sum, true};
 ghost use Rattle.std.specs.Prelude.{None, IfOk, IfErr, OnOk, OnErr};
 ghost use Rattle.std.specs.Option.{option_copied};
 ghost use Rattle.kp_choice_defs.specs.Draws.{IsStated, AreDraws};
 ghost use Rattle.kp_choice_defs.specs.Recent.{RecentParts};
 ghost use Rattle.kp_events.specs.JournalContents.{HasRoom, Refuses};
 ghost use Rattle.kp_full_table.specs.Faults.{TellsClash};
-ghost use Rattle.kp_history.specs.Invariant.{LeadsToNext};
 ghost use Rattle.kp_object_defs.specs.Objects.{objects_after};
 ghost use Rattle.kp_types.specs.declared.packet.Packet.{Packet};
-ghost use Rattle.kp_plane.specs.Counts.{IsCounted};
 ghost use Rattle.kp_plane.specs.Notes.{last_note};
 ghost use Rattle.kp_plane.specs.Parts as parts;
 ghost use Rattle.kp_plane.specs.Parts.{HasExactHistory, IsNextRecord, setting_in};
 ghost use Rattle.kp_plane.specs.Parts.{decided_in, explained_in, walked_in};
-ghost use Rattle.kp_table_defs.specs.Edits.{is_write};
 ghost use Rattle.kp_table_defs.specs.Ranks.{is_ranked, has_built_in_chains};
 ghost use Rattle.kp_table_defs.specs.Rebuild.{clash_of};
 ghost use Rattle.kp_walk_laws.specs.Laws.{Agree};
+ghost use Rattle.kp_writer.specs.Batch.{own_rules_written};
 
-use crate::dirty::dirty_between;
 use crate::laws::walk_decides;
-use crate::next::next_table;
 use crate::note::SyncNote;
 use crate::place::ObjectsAt;
+use crate::ports_at::PortsAt;
 use crate::slices_at::SlicesAt;
+use crate::sync::{sync_copied, sync_counted};
 use kp_base::{Config, Copied, Items, NoMemory, Steps};
 use kp_decide::decide;
 use kp_draws::DrawSource;
@@ -35,7 +32,7 @@ use kp_history::History;
 use kp_history_defs::DirtyPort;
 use kp_recent::RecentLists;
 use kp_rules::Table;
-use kp_types::{Batch, Decision, Edit, Event, Packet, Slice, SyncRecord};
+use kp_types::{Batch, Decision, Event, Packet, Slice, SyncRecord};
 use std::alloc::Global;
 use std::marker::{Brand, Model};
 use std::mem::replace;
@@ -46,8 +43,8 @@ pub struct Plane {
     config: Config,
     journal: Journal,
     history: History,
-    /// The objects of the latest sync, which may have been refused.
-    latest: ObjectsAt,
+    /// What is known of ports at the latest sync, which may have been refused.
+    ports: PortsAt,
     /// The objects of the last accepted sync, where a refused one has led the others on.
     explained: ObjectsAt,
     /// The slices, where they were last asked for.
@@ -61,7 +58,7 @@ impl Drop for Plane {
             config,
             journal,
             history,
-            latest,
+            ports,
             explained,
             slices,
         } = self;
@@ -79,7 +76,7 @@ impl Model for Plane {
     ghost view = { λ s. parts_of s.config s.journal s.history };
 
     ghost invariant = { λ s. IsPlane (parts_of s.config s.journal s.history) s.journal.most
-        s.history s.latest s.explained s.slices };
+        s.history s.ports s.explained s.slices };
 }
 
 impl Plane {
@@ -88,12 +85,13 @@ impl Plane {
         ensures { IfOk result (λ p. p ≡ record { config = config; events = []; counts = [] }) }
     {
         let history = History::new(alloc)?;
+        let ports = PortsAt::start(alloc, &config)?;
         let journal = Journal::new(alloc, config.max_events);
         Ok(Plane {
             config,
             journal,
             history,
-            latest: ObjectsAt::start(alloc),
+            ports,
             explained: ObjectsAt::start(alloc),
             slices: SlicesAt::start(alloc),
         })
@@ -200,26 +198,32 @@ impl Plane {
             (clash_of (setting_in self.old) (objects_after self.old.events))) }
         ensures err { OnErr result (self.new ≡ self.old) }
 
-        // It takes a step for each rule of a port, one of the other count for each port that the
-        // objects are asked about, and none where no event came since the last sync. Where it is
-        // refused it may have taken some of them.
+        // It costs what changed: at most a step for each rule that a port had of which something
+        // else is known, and one for each that it has; at least one for each rule of a port's own
+        // chains that is written; and one of the other count at most for each port, but none where
+        // no event came since the last sync. Where it is refused it may have taken some of them.
         ensures bound { steps.new ≤ steps.old + parts.most_steps self.old }
+        ensures made { IfOk result (λ r.
+            steps.old + own_rules_written r.batch.edits ≤ steps.new) }
         ensures asked { asked.new ≤ asked.old + parts.most_asked self.old }
         ensures unchanged { parts.uncovered_in self.old ≡ 0 → steps.new ≡ steps.old }
         ensures unasked { parts.uncovered_in self.old ≡ 0 → asked.new ≡ asked.old }
-        ensures counted { OnOk result (0 < parts.uncovered_in self.old
-            → steps.new ≡ steps.old + parts.most_steps self.old) }
-        ensures all_asked { OnOk result (0 < parts.uncovered_in self.old
-            → asked.new ≡ asked.old + parts.most_asked self.old) }
     {
         self.records_grow();
-        let (batch, table) = self.next_batch(alloc, steps, asked)?;
-        let copy = batch.copy(alloc)?;
-        let note = self.keep(batch, table)?;
+        let events = self.uncovered();
+        let batch = sync_copied(
+            alloc,
+            &self.config,
+            &self.journal,
+            &mut self.history,
+            &mut self.ports,
+            steps,
+            asked,
+        )?;
         Ok(SyncRecord {
-            sync: note.sync,
-            events: note.events,
-            batch: copy,
+            sync: self.syncs(),
+            events,
+            batch,
         })
     }
 
@@ -255,10 +259,10 @@ impl Plane {
         ensures stays { self.new ≡ self.old }
     {
         let covered = self.history.covered as usize;
-        if self.latest.at == covered {
+        if self.ports.latest.at == covered {
             return decide(
                 alloc,
-                &self.latest.objects,
+                &self.ports.latest.objects,
                 &self.config,
                 number,
                 packet,
@@ -301,25 +305,7 @@ impl Plane {
     pub fn dirty(&self, alloc: Global) -> Result<Items<DirtyPort>, NoMemory>
         ensures { IfOk result (λ ports. ports ≡ parts.dirty_in self.now) }
     {
-        self.dirty_uncounted::<Brand>(alloc, Blank::new(1))
-    }
-
-    /// The dirty ports, where nobody counts which ports the objects are asked about.
-    fn dirty_uncounted<A: Ledger>(
-        &self,
-        alloc: Global,
-        blank: Blank,
-    ) -> Result<Items<DirtyPort>, NoMemory>
-        requires name { blank.name ≡ A.name }
-        requires parts { blank.parts ≡ A.parts }
-        requires some { 0 < blank.parts }
-        ensures { IfOk result (λ ports. ports ≡ parts.dirty_in self.now) }
-    {
-        let from = self.history.covered_before() as usize;
-        let to = self.history.covered as usize;
-        let mut asked = Steps::<A>::new(blank);
-        let events = self.journal.events();
-        dirty_between(alloc, &self.config, events, from, to, &mut asked)
+        self.ports.dirty.copy(alloc)
     }
 
     /// What a plane that ends holds: its events, how many of them each sync covers more than the
@@ -333,7 +319,7 @@ impl Plane {
             config,
             journal,
             history,
-            latest,
+            ports,
             explained,
             slices,
         } = self;
@@ -372,43 +358,6 @@ impl Plane {
         kp_history_laws::sync_records();
     }
 
-    /// The batch that leads to the full table of all events' objects, and that table. Where no
-    /// event came since the last sync the batch is empty, and nothing is looked at or made.
-    fn next_batch<L: Ledger, A: Ledger>(
-        &mut self,
-        alloc: Global,
-        steps: &mut Steps<L>,
-        asked: &mut Steps<A>,
-    ) -> Result<(Batch, Option<Table>), TableFault>
-        ensures next { IfOk result (λ (b, t). LeadsToNext self.old b t) }
-        ensures clash { IfErr result (TellsClash
-            (clash_of (setting_in self.old) (objects_after self.old.events))) }
-        ensures steps { IsCounted (parts.uncovered_in self.old) (parts.most_steps self.old)
-            steps.old steps.new result }
-        ensures asked { IsCounted (parts.uncovered_in self.old) (parts.most_asked self.old)
-            asked.old asked.new result }
-        ensures stays { self.new ≡ self.old }
-    {
-        kp_rules::laws::same_rules_are_equal();
-        let events = self.journal.events();
-        if events.len() as u64 == self.history.covered {
-            let batch = Batch {
-                edits: Items::new(alloc),
-            };
-            return Ok((batch, None));
-        }
-        self.latest.advance(alloc, events, events.len())?;
-        let objects = &self.latest.objects;
-        next_table(
-            alloc,
-            objects,
-            &self.config,
-            &self.history.table,
-            steps,
-            asked,
-        )
-    }
-
     /// A sync whose steps nobody counts.
     fn sync_uncounted<L: Ledger, A: Ledger>(
         &mut self,
@@ -433,22 +382,16 @@ impl Plane {
     {
         let mut steps = Steps::<L>::new(rules);
         let mut asked = Steps::<A>::new(ports);
-        let (batch, table) = self.next_batch(alloc, &mut steps, &mut asked)?;
-        Ok(self.keep(batch, table)?)
-    }
-
-    /// Keeps the batch of a sync of all events, and the table that it leads to, and tells of it.
-    fn keep(&mut self, batch: Batch, table: Option<Table>) -> Result<SyncNote, NoMemory>
-        requires { LeadsToNext self.old batch table }
-        ensures note { IfOk result (λ n. n
-            ≡ last_note (parts.uncovered_in self.old) self.new) }
-        ensures ok { OnOk result (self.new ≡ parts.synced self.old) }
-        ensures err { OnErr result (self.new ≡ self.old) }
-    {
-        let (written, removed) = counts(batch.edits.as_slice());
         let events = self.uncovered();
-        let covered = self.journal.events().len() as u64;
-        self.history.record(covered, batch, table)?;
+        let (written, removed) = sync_counted(
+            alloc,
+            &self.config,
+            &self.journal,
+            &mut self.history,
+            &mut self.ports,
+            &mut steps,
+            &mut asked,
+        )?;
         Ok(SyncNote {
             sync: self.syncs(),
             events,
@@ -456,19 +399,4 @@ impl Plane {
             removed,
         })
     }
-}
-
-/// How many edits are writes, and how many are removes.
-fn counts(edits: &[Edit]) -> (u64, u64)
-    ensures written { result.0 ≡ count_by is_write edits.now }
-    ensures removed { result.1 ≡ count_by (λ e. not (is_write e)) edits.now }
-{
-    let (mut written, mut removed) = (0, 0);
-    for edit in edits {
-        match edit {
-            Edit::Write { .. } => written += 1,
-            Edit::Remove { .. } => removed += 1,
-        }
-    }
-    (written, removed)
 }

@@ -1,6 +1,5 @@
-use Rattle.std.proofs.Common.{rules, ◌≡◌, ◌-◌, ◌++◌, ◌∷◌, [], length, Some, refl, ◌∙◌}
+use Rattle.std.proofs.Common.{rules, ◌≡◌, ◌<◌, ◌-◌, ◌++◌, ◌∷◌, ◌^◌, [], length, Some, refl, subst}
 use Rattle.kp_history.specs.declared.history.History.{History}
-use Rattle.kp_history.specs.Parts.{chains_or}
 use Rattle.kp_history.proofs.Synced.{history_next}
 use Rattle.kp_history.proofs.history.History.record.Goals as goal
 
@@ -9,22 +8,15 @@ returns-clause-ok c = λ p is all made.
     let before : History = c.args.self.now in
     let after : History =
     record {
-      counts = c.push.new.self;
+      counts = c.push_reserved.new.self;
       covered = c.args.covered;
-      table = c.take_over.new.table;
+      table = c.apply.new.self;
       last = Some c.args.batch;
     } in
-    let pushed : c.push.new.self.items ≡ before.counts.items ++ (c.args.covered - before.covered) ∷ [] =
+    let pushed : c.push_reserved.new.self.items ≡ before.counts.items ++ (c.args.covered - before.covered) ∷ [] =
     search rules in
-    let kept : c.take_over.new.table ≡ (record {
-      chains = chains_or before.table.chains c.args.table;
-      syncs = length c.push.new.self.items;
-    }) =
-    c.take_over.ensures
-    ∙ (λ i. record {
-      chains = chains_or before.table.chains c.args.table;
-      syncs = length (c.as_slice.ensures.value i);
-    }) in
-    history_next c.exact_histories.ensures.by_record c.sync_records.ensures.counts
-    c.sync_records.ensures.grow p before after c.args.covered c.args.batch c.args.table
-    is all made pushed refl kept refl
+    let few : length c.push_reserved.new.self.items < 2 ^ 64 =
+    subst (λ l. length l < 2 ^ 64) c.as_slice.ensures.value c.fits_memory.ensures in
+    history_next c.changes_lead_over.ensures c.exact_histories.ensures.by_record
+    c.sync_records.ensures.counts c.sync_records.ensures.grow p before after c.args.covered
+    c.args.batch is all made pushed few refl c.in_ok-apply.ensures.ok refl

@@ -15,4 +15,4 @@ pub returns-clause-agree : goal.returns-clause-agree
 returns-clause-agree c = λ packet drawn lists.
     let p = c.args.self.now in
     c.walk_decides.ensures V4 p.config (objects_in p) packet drawn lists
-    (subst (λ q. clash_of (setting_in q) (objects_in q) ≡ None) c.self.view_is c.self.invariant.history.no_clash)
+    (subst (λ q. clash_of (setting_in q) (objects_in q) ≡ None) c.self.view_is c.self.invariant.holds.history.no_clash)

@@ -4,4 +4,4 @@ use Rattle.kp_plane.proofs.plane.Plane.into_parts.Goals as goal
 
 pub returns-clause-table : goal.returns-clause-table
 returns-clause-table c =
-    c.into_parts-counts.ensures.table ∙ c.self.invariant.history.table ∙ ap table_in c.self.view_is
+    c.into_parts-counts.ensures.table ∙ c.self.invariant.holds.history.table ∙ ap table_in c.self.view_is

@@ -8,4 +8,4 @@ pub returns : goal.returns
 returns c =
     let p = parts_of c.self.inside.config c.self.inside.journal c.self.inside.history in
     subst (λ q. records_in (synced q) ≡ records_in q ++ next_record q ∷ []) c.self.view_is
-    (records_next p c.self.invariant.history.exact c.sync_records.ensures.grow)
+    (records_next p c.self.invariant.holds.history.exact c.sync_records.ensures.grow)

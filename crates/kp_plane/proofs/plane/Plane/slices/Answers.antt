@@ -15,8 +15,7 @@ invariant_of-self c =
     record {
       limit = is.limit;
       room = is.room;
-      history = is.history;
-      latest_at = is.latest_at;
+      holds = is.holds;
       explained_at = is.explained_at;
       to = is.to;
       slices_at = subst (IsSlicesAt config events counts) (sym c.replace-slices.ensures.after) (c.start.ensures config events counts);
@@ -31,8 +30,7 @@ invariant_of-self-2 c =
     record {
       limit = is.limit;
       room = is.room;
-      history = is.history;
-      latest_at = is.latest_at;
+      holds = is.holds;
       explained_at = is.explained_at;
       to = is.to;
       slices_at = subst (λ counts. IsSlicesAt config c.self.inside.journal.events counts made) c.as_slice.ensures.value over_events;

@@ -5,16 +5,16 @@ use Rattle.kp_plane.specs.Parts.{table_in}
 use Rattle.kp_plane.proofs.plane.Plane.table.Goals as goal
 
 pub returns-clause-table : goal.returns-clause-table
-returns-clause-table c = c.self.invariant.history.table ∙ ap table_in c.self.view_is
+returns-clause-table c = c.self.invariant.holds.history.table ∙ ap table_in c.self.view_is
 
 pub returns-clause-ranked : goal.returns-clause-ranked
 returns-clause-ranked c =
     ap (λ (t : TableParts). is_ranked t.chains)
-    (c.self.invariant.history.table ∙ ap table_in c.self.view_is)
+    (c.self.invariant.holds.history.table ∙ ap table_in c.self.view_is)
     ∙ c.decides.ensures.ranked
 
 pub returns-clause-built_in : goal.returns-clause-built_in
 returns-clause-built_in c =
     ap (λ (t : TableParts). has_built_in_chains t.chains)
-    (c.self.invariant.history.table ∙ ap table_in c.self.view_is)
+    (c.self.invariant.holds.history.table ∙ ap table_in c.self.view_is)
     ∙ c.decides.ensures.built_in

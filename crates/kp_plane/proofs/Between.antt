@@ -1,0 +1,152 @@
+-- What a writer makes between what the last sync covers and all events.
+use Rattle.std.proofs.Common.{◌≡◌, ◌≤◌, ◌<◌, ◌+◌, ℕ, List, [], Option, None, length, map, refl, sym, ap}
+use Rattle.std.proofs.Common.{subst, ◌∙◌, arith, Result, Ok, Err, OnErr}
+use Rattle.std.specs.FinMap as finite
+use Rattle.kp_base.specs.declared.address.Family.TheVariants.{V4}
+use Rattle.kp_types.specs.declared.chain.Clash.{Clash}
+use Rattle.kp_choice_defs.specs.Names.{first_clash}
+use Rattle.kp_choice_defs.specs.Settings.{setting_of}
+use Rattle.kp_object_defs.specs.Objects.{Objects, objects_after}
+use Rattle.kp_object_defs.specs.OwnKeys.{AreUnderOwnKeys}
+use Rattle.kp_object_laws.specs.ObjectLaws.{OwnKeysAfterEvents}
+use Rattle.kp_table_defs.specs.Edits.{SameRulesAreEqual, changes_between}
+use Rattle.kp_table_defs.specs.Rebuild as rebuild
+use Rattle.kp_table_defs.specs.Rebuild.{TableParts, full_chains, full_table, needed_keys}
+use Rattle.kp_full_table.specs.Parts.{all_rule_count}
+use Rattle.kp_history_defs.specs.DirtyPorts.{dirty_port, dirty_ports}
+use Rattle.kp_history_defs.specs.History.{covered}
+use Rattle.kp_history_laws.specs.DirtyLaws.{NoneDirty}
+use Rattle.kp_history.specs.Invariant.{IsHistory}
+use Rattle.kp_history.proofs.Synced.{within}
+use Rattle.kp_plane.specs.Counts.{IsCounted}
+use Rattle.kp_plane.proofs.Synced.{leads_nowhere, none_left, nothing_new}
+use Rattle.kp_history.specs.declared.history.History.{History}
+use Rattle.kp_writer.specs.Known.{ArePortsOf, DirtyNewest, DirtyWritten, IsBetween, KnownDirtyPorts}
+use Rattle.kp_writer.specs.Known.{KnownPorts}
+use Rattle.kp_writer.specs.Written as written
+use Rattle.kp_writer.specs.Written.{Ports, WriterParts, chains_of, newest_ports, written_ports}
+use Rattle.kp_plane.specs.Invariant.{Holds, IsBroughtOn, IsMade, IsNext, IsPortsAt}
+use Rattle.kp_plane.specs.Parts.{PlaneParts, most_steps, objects_in, setting_in, syncs_in}
+use Rattle.kp_plane.specs.Parts.{uncovered_in}
+use Rattle.kp_plane.specs.declared.next.Next.{Next}
+use Rattle.kp_plane.specs.declared.ports_at.PortsAt.{PortsAt}
+
+-- what is known of ports at a later place
+pub brought_on : (p : PlaneParts) (s t : PortsAt) → IsPortsAt p s
+    → IsBroughtOn (setting_in p) p.events s t → IsPortsAt p t
+brought_on p s t is on = record {
+  place = on.place;
+  config = on.config ∙ is.config;
+  written = λ key. ap (λ (m : Ports). finite.get m key) on.written ∙ is.written key;
+  untouched = on.untouched;
+  dirty = on.dirty ∙ is.dirty;
+}
+
+module _ (known : KnownPorts) (own : OwnKeysAfterEvents) (p : PlaneParts) (w : WriterParts)
+    (config : w.config ≡ p.config) where
+  own_last : AreUnderOwnKeys (objects_in p)
+  own_last = own (covered p.events p.counts (syncs_in p))
+
+  -- the full table of ports is that of the objects that tell of them
+  same_chains : (o : Objects) (m : Ports) → AreUnderOwnKeys o → ArePortsOf (setting_in p) o m
+      → chains_of w m ≡ (full_table (setting_in p) o).chains
+  same_chains o m under are =
+      ap (λ c. full_chains (setting_of V4 c) (finite.values m)) config
+      ∙ ap (full_chains (setting_in p)) (known (setting_in p) o m under are)
+
+  -- so is the clash
+  same_clash : (o : Objects) (m : Ports) → AreUnderOwnKeys o → ArePortsOf (setting_in p) o m
+      → written.clash_of w m ≡ rebuild.clash_of (setting_in p) o
+  same_clash o m under are =
+      ap (λ c. first_clash (setting_of V4 c).name_of (needed_keys (finite.values m))) config
+      ∙ ap (λ is. first_clash (setting_in p).name_of (needed_keys is))
+      (known (setting_in p) o m under are)
+
+  module _ (old : ArePortsOf (setting_in p) (objects_in p) (written_ports w)) where
+    -- the table that stands is the one that was written, and has no clash
+    pub stands : (h : History) → IsHistory p h → h.table.chains ≡ chains_of w (written_ports w)
+    stands h is =
+        ap (λ (t : TableParts). t.chains) is.table
+        ∙ sym (same_chains (objects_in p) (written_ports w) own_last old)
+
+    pub stands_apart : (h : History) → IsHistory p h
+        → written.clash_of w (written_ports w) ≡ None
+    stands_apart h is = same_clash (objects_in p) (written_ports w) own_last old ∙ is.no_clash
+
+    module _ (new : ArePortsOf (setting_in p) (objects_after p.events) (newest_ports w)) where
+      pub next_clash : written.clash_of w (newest_ports w)
+          ≡ rebuild.clash_of (setting_in p) (objects_after p.events)
+      next_clash = same_clash (objects_after p.events) (newest_ports w) (own p.events) new
+
+      between : IsBetween (setting_in p) (objects_in p) (objects_after p.events) w
+      between = record {
+        own_before = own_last;
+        own_after = own p.events;
+        written = old;
+        newest = new;
+      }
+
+      -- what the writer makes is what a sync keeps
+      pub makes_next : KnownDirtyPorts → (next : Next) → IsMade w next
+          → IsNext p (newest_ports w) next
+      makes_next dirty next made = record {
+        leads = record {
+          no_clash = sym next_clash ∙ made.no_clash;
+          edits = made.edits
+              ∙ (λ i. changes_between
+              (same_chains (objects_in p) (written_ports w) own_last old i)
+              (same_chains (objects_after p.events) (newest_ports w) (own p.events) new i));
+        };
+        dirty = made.dirty ∙ dirty (setting_in p) (objects_in p) (objects_after p.events) w between;
+        newest = λ _. new;
+      }
+
+      -- its most steps are those of the dirty ports
+      pub most_made : DirtyWritten → DirtyNewest
+          → all_rule_count (written.setting_in w) (written.dirty_of w (written_ports w))
+          + all_rule_count (written.setting_in w) (written.dirty_of w (newest_ports w))
+          ≡ most_steps p
+      most_made was becomes = λ i.
+          all_rule_count (setting_of V4 (config i))
+          (was (setting_in p) (objects_in p) (objects_after p.events) w between i)
+          + all_rule_count (setting_of V4 (config i))
+          (becomes (setting_in p) (objects_in p) (objects_after p.events) w between i)
+
+-- ---- Where no event came
+
+-- nothing is kept then
+pub nothing_next : SameRulesAreEqual → NoneDirty → (p : PlaneParts) (h : History) → IsHistory p h
+    → length p.events ≡ h.covered → (ports : Ports) (next : Next) → next.batch.edits ≡ []
+    → next.dirty ≡ [] → IsNext p ports next
+nothing_next rules clean p h is none ports next edits dirty = record {
+  leads = leads_nowhere rules p h is none edits;
+  dirty = dirty
+      ∙ ap (map (dirty_port (setting_in p) (objects_in p))) (sym (clean (setting_in p) (objects_in p)))
+      ∙ ap (dirty_ports (setting_in p) (objects_in p)) (nothing_new p h is none);
+  newest = λ some. let left = none_left p h is none in absurd (omega (arith, left, some));
+}
+
+-- ---- Counts
+
+-- what isn't counted
+pub counted_none : (left most old : ℕ) → IsCounted left most old old
+counted_none left most old = record { bound = omega arith; unchanged = λ none. refl }
+
+-- what is counted where an event came
+pub counted_some : {left most few old new : ℕ} → 0 < left → few ≡ most → new ≤ old + few
+    → IsCounted left most old new
+counted_some {left} {most} {few} {old} {new} some is bound = record {
+  bound = subst (λ n. new ≤ old + n) is bound;
+  unchanged = λ none. absurd (omega (arith, none, some));
+}
+
+-- the last sync covers events that there are
+pub covers_within : (p : PlaneParts) (h : History) → IsHistory p h → h.covered ≤ length p.events
+covers_within p h is =
+    let few = within p is.exact in let covered = is.covered in omega (arith, few, covered)
+
+-- what is held is held where a call fails
+pub still_held : {X E : Type 0} (r : Result X E) (p : PlaneParts) (h : History) (s : PortsAt)
+    → Holds p h s → OnErr r (Holds p h s)
+still_held (Ok x) p h s held = tt
+still_held (Err e) p h s held = held

@@ -1,0 +1,213 @@
+-- What is known of ports once those of Services are made anew.
+use Rattle.std.proofs.Common.{◌≡◌, ◌||◌, ◌+◌, Bool, true, false, List, [], ◌∷◌, ◌++◌, map, refl, sym}
+use Rattle.std.proofs.Common.{ap, subst, ◌∙◌, arith, ◌≤◌, ℕ, Option, None, cond}
+use Rattle.std.proofs.Common.{Some, flat_map, inl, inr, ◌⊎◌}
+use Rattle.std.specs.List.{Contains, cons_option, filter_map, list_any, sum_by}
+use Rattle.std.specs.Ordering.{eq_by_cmp}
+use Rattle.std.specs.Option.{option_and_then, option_to_list}
+use Rattle.std.specs.Cmp.{eq_by_cmp_equiv}
+use Rattle.std.specs.FinMap as finite
+use Rattle.std.specs.FinMap.{contains_key-keys}
+use Rattle.std.proofs.lemmas.Bool.{false_from_ne_true, or_parts}
+use Rattle.std.proofs.lemmas.List.Elements.{filter_map-append}
+use Rattle.std.proofs.lemmas.List.Folds.{list_any-append}
+use Rattle.std.proofs.lemmas.List.Sums.{sum_by-append}
+use Rattle.kp_lemmas.proofs.Members.{in_cases, none_in}
+use Rattle.kp_base.specs.Keys.{key_cmp, port_key_cmp}
+use Rattle.kp_base.proofs.KeyOrder.{key_total, key_exact, port_key_exact}
+use Rattle.kp_lemmas.proofs.Orders.{one_from_tie, tie_of_itself}
+use Rattle.std.proofs.Common.{is_some}
+use Rattle.std.specs.FinMap.{FinMap}
+use Rattle.std.specs.declared.cmp.Ordering.{Ordering}
+use Rattle.kp_base.specs.declared.key.ObjectKey.{ObjectKey}
+use Rattle.kp_base.specs.declared.key.PortKey.{PortKey}
+use Rattle.kp_types.specs.Setting.{Setting}
+use Rattle.kp_types.specs.declared.service.Service.{Service}
+use Rattle.kp_object_defs.specs.Objects.{Objects}
+use Rattle.kp_object_defs.specs.Order.{distinct_in_order}
+use Rattle.kp_object_defs.specs.PortByKey.{info_at, info_in, port_keys_of}
+use Rattle.kp_object_defs.specs.PortInfo.{PortInfo}
+use Rattle.kp_known_ports.specs.Known.{AreStored, all_port_count, port_count, ports_in}
+use Rattle.kp_store.specs.Indexes.{Keys}
+use Rattle.kp_store.specs.Touched.{is_touched}
+use Rattle.kp_store.specs.declared.touched.Touched.{Touched}
+use Rattle.kp_blocks.specs.Joined.{is_port_of}
+use Rattle.kp_writer_laws.specs.LocalLaws.{info_of}
+use Rattle.kp_writer.specs.Known.{ArePortsOf, KnownOfService, port_keys_at}
+use Rattle.kp_writer.specs.Refresh.{IsRefreshed, OthersStay}
+use Rattle.kp_writer.specs.Written.{Ports}
+use Rattle.kp_object_defs.specs.OwnKeys.{AreUnderOwnKeys}
+use Rattle.kp_plane.specs.Known.{IsKnown, KnowsOthers, KnowsService, KnowsUntouched}
+use Rattle.kp_plane.specs.Known.{asked_count, is_port_of_one}
+use Rattle.kp_plane.proofs.FewAsked.{few_of_all}
+use Rattle.kp_plane.proofs.Touching.{both_answers}
+
+-- some Services are among others
+abbrev pub AreAmong : List ObjectKey → List ObjectKey → Type 0
+AreAmong some all =
+    (key : PortKey) → is_port_of_one all key ≡ false → is_port_of_one some key ≡ false
+
+module _ (old new : List ObjectKey) (k : ObjectKey) (is : old ≡ new ++ k ∷ []) where
+  split : (key : PortKey)
+      → is_port_of_one old key ≡ is_port_of_one new key || (is_port_of k key || false)
+  split key =
+      ap (list_any (eq_by_cmp key_cmp key.object)) is
+      ∙ list_any-append (eq_by_cmp key_cmp key.object) new (k ∷ [])
+      ∙ ap (λ b. is_port_of_one new key || (b || false))
+      ((eq_by_cmp_equiv key_total).symm key.object k)
+
+  -- without the last there are no more
+  pub still_among : (all : List ObjectKey) → AreAmong old all → AreAmong new all
+  still_among all among = λ key none. (or_parts _ _ (sym (split key) ∙ among key none)).0
+
+  last_not : (all : List ObjectKey) → AreAmong old all → (key : PortKey)
+      → is_port_of_one all key ≡ false → is_port_of k key ≡ false
+  last_not all among key none =
+      (or_parts _ _ (or_parts _ _ (sym (split key) ∙ among key none)).1).0
+
+  module _ (setting : Setting) (o : Objects) (before after : Ports)
+      (knows : KnowsOthers setting o old before) (others : OthersStay k before after) where
+    -- the ports of one Service more are known
+    pub one_fewer : KnowsService setting o k after → KnowsOthers setting o new after
+    one_fewer made = λ key none. by key none (is_port_of k key) refl
+      where
+        by : (key : PortKey) → is_port_of_one new key ≡ false → (b : Bool) → is_port_of k key ≡ b
+            → IsKnown setting o after key
+        by key none true e = made key e
+        by key none false e =
+            others key e ∙ knows key (split key ∙ (λ i. none i || (e i || false)))
+
+    -- and those of other Services than all stay known
+    pub still_others : (all : List ObjectKey) → AreAmong old all → KnowsOthers setting o all after
+    still_others all among = λ key none.
+        others key (last_not all among key none) ∙ knows key (among key none)
+
+  -- what is asked of all is asked of the last and of those before it
+  pub asked_split : (o : Objects) → asked_count o old ≡ asked_count o new + asked_count o (k ∷ [])
+  asked_split o =
+      ap (asked_count o) is
+      ∙ ap (sum_by ports_in) (filter_map-append (finite.get o.services) new (k ∷ []))
+      ∙ sum_by-append ports_in (filter_map (finite.get o.services) new)
+      (filter_map (finite.get o.services) (k ∷ []))
+
+module _ (setting : Setting) (o : Objects) where
+  -- where all are done, all ports are known
+  pub all_done : (left : List ObjectKey) (ports : Ports) → left ≡ []
+      → KnowsOthers setting o left ports → ArePortsOf setting o ports
+  all_done left ports none knows =
+      λ key. knows key (ap (λ (ks : List ObjectKey). is_port_of_one ks key) none)
+
+  -- the ports of a Service that are made anew are known
+  pub service_done : KnownOfService → AreUnderOwnKeys o → (service : ObjectKey)
+      → (infos : List PortInfo) (before after : Ports)
+      → infos ≡ filter_map (info_at setting.family setting.config o) (port_keys_at o service)
+      → IsRefreshed service infos before after → KnowsService setting o service after
+  service_done known own service infos before after are made = λ key is.
+      made key
+      ∙ ap (λ b. cond b (info_of infos key) (finite.get before key)) is
+      ∙ ap (λ is. info_of is key) are
+      ∙ known setting o service key own is
+
+  -- of a port of a Service that isn't there nothing is known
+  pub none_known : (ports : Ports) (all : Keys)
+      → ((key : PortKey) → finite.contains_key all key.object ≡ false → finite.get ports key ≡ None)
+      → ((key : ObjectKey) → finite.contains_key all key ≡ false → finite.get o.services key ≡ None)
+      → KnowsOthers setting o (finite.keys all) ports
+  none_known ports all by_ports by_services = λ key none.
+      let out = contains_key-keys all key.object ∙ none in
+      by_ports key out
+      ∙ sym (ap (option_and_then (info_in setting.family setting.config o key))
+      (by_services key.object out))
+
+  module _ (touched : Touched) (ports : Ports) where
+    -- where not all Services are touched, these are those of the keys
+    pub by_keys : touched.all ≡ false → KnowsUntouched setting o touched ports
+        → KnowsOthers setting o (finite.keys touched.keys) ports
+    by_keys some knows = λ key none.
+        knows key
+        ((λ i. some i || contains_key-keys touched.keys key.object i) ∙ none)
+
+    pub from_keys : touched.all ≡ false → KnowsOthers setting o (finite.keys touched.keys) ports
+        → KnowsUntouched setting o touched ports
+    from_keys some knows = λ key none.
+        knows key (sym (contains_key-keys touched.keys key.object)
+        ∙ ap (λ b. b || finite.contains_key touched.keys key.object) (sym some) ∙ none)
+
+    -- where all are, nothing is asked for
+    pub none_left : touched.all ≡ true → KnowsUntouched setting o touched ports
+    none_left all = λ key none.
+        absurd (both_answers true refl
+        (ap (λ b. b || finite.contains_key touched.keys key.object) (sym all) ∙ none))
+
+-- the ports of Services with different keys are among all ports
+pub few_asked : (o : Objects) (s : Keys) (services : List ObjectKey) → services ≡ finite.keys s
+    → asked_count o services ≤ all_port_count o
+few_asked o s services are =
+    subst (λ ks. asked_count o ks ≤ all_port_count o) (sym are)
+    (few_of_all key_total key_exact ports_in o.services s)
+
+module _ (o : Objects) (own : AreUnderOwnKeys o) (service : ObjectKey) (s : Service)
+    (is : finite.get o.services service ≡ Some s) where
+  -- the Service at a key is stored
+  pub one_stored : AreStored o (s ∷ [])
+  one_stored t among =
+      let same : s ≡ t = only_one t (in_cases t s [] among) in
+      ap (finite.get o.services) (ap (λ (u : Service). u.key) (sym same) ∙ own.services service s is)
+      ∙ is ∙ ap Some same
+    where
+      only_one : (t : Service) → (s ≡ t) ⊎ Contains [] t → s ≡ t
+      only_one t (inl e) = e
+      only_one t (inr none) = absurd (none_in t none)
+
+  -- it has these ports
+  pub one_counted : port_count (s ∷ []) ≡ asked_count o (service ∷ [])
+  one_counted = ap (λ o. port_count (cons_option o [])) (sym is)
+
+  pub one_named : distinct_in_order port_key_cmp (flat_map port_keys_of (s ∷ []))
+      ≡ port_keys_at o service
+  one_named =
+      ap (λ o. distinct_in_order port_key_cmp (flat_map port_keys_of (option_to_list o))) (sym is)
+
+-- where there is none, it has no ports
+pub none_named : (o : Objects) (service : ObjectKey) → finite.get o.services service ≡ None
+    → port_keys_at o service ≡ []
+none_named o service is =
+    ap (λ o. distinct_in_order port_key_cmp (flat_map port_keys_of (option_to_list o))) is
+
+-- ---- All Services
+
+absent : {K X : Type 0} {R : K → K → Ordering} (m : FinMap R X) (k : K) (o : Option X)
+    → finite.get m k ≡ o → is_some o ≡ false → finite.get m k ≡ None
+absent m k None e f = e
+absent m k (Some x) e f = absurd (cc)
+
+-- a key that isn't listed has nothing
+pub not_listed : {K X : Type 0} {R : K → K → Ordering} (m : FinMap R X) (k : K)
+    → list_any (eq_by_cmp R k) (finite.keys m) ≡ false → finite.get m k ≡ None
+not_listed m k out = absent m k (finite.get m k) refl (contains_key-keys m k ∙ out)
+
+-- a port of other Services is another port
+pub other_ports : (port : PortKey) (ks : List PortKey)
+    → list_any (eq_by_cmp key_cmp port.object) (map (λ k. k.object) ks) ≡ false
+    → list_any (eq_by_cmp port_key_cmp port) ks ≡ false
+other_ports port [] out = refl
+other_ports port (k ∷ ks) out =
+    let parts = or_parts _ _ out in
+    let other : eq_by_cmp port_key_cmp port k ≡ false =
+    false_from_ne_true _ (λ tie.
+    both_answers (eq_by_cmp key_cmp port.object k.object)
+    (ap (λ (q : PortKey). eq_by_cmp key_cmp port.object q.object)
+    (sym (one_from_tie port_key_exact port k tie)) ∙ tie_of_itself key_total port.object) parts.0) in
+    λ i. other i || other_ports port ks parts.1 i
+
+-- keys that were put, and then others
+pub put_twice : (before first second : Keys) (known stored : List ObjectKey)
+    → ((k : ObjectKey) → finite.contains_key first k
+    ≡ list_any (eq_by_cmp key_cmp k) known || finite.contains_key before k)
+    → ((k : ObjectKey) → finite.contains_key second k
+    ≡ list_any (eq_by_cmp key_cmp k) stored || finite.contains_key first k)
+    → (k : ObjectKey) → finite.contains_key second k ≡ false
+    → (list_any (eq_by_cmp key_cmp k) known ≡ false) × (list_any (eq_by_cmp key_cmp k) stored ≡ false)
+put_twice before first second known stored one two k out =
+    let parts = or_parts _ _ (sym (two k) ∙ out) in
+    ((or_parts _ _ (sym (one k) ∙ parts.1)).0, parts.0)

@@ -1,0 +1,15 @@
+-- The objects are those of the events so far, and what these touch was added.
+use Rattle.std.proofs.Common.{◌≡◌}
+use Rattle.kp_base.specs.declared.address.Family.TheVariants.{V4}
+use Rattle.kp_choice_defs.specs.Settings.{setting_of}
+use Rattle.kp_plane.specs.Invariant.{IsAtPlace}
+use Rattle.kp_plane.specs.Known.{LeavesUntouched}
+use Rattle.kp_plane.proofs.place.ObjectsAt.advance_touching.Given as goal
+
+abbrev pub invariant-loop-at : goal.invariant-loop-at
+invariant-loop-at l = record {
+  place : IsAtPlace l.events l.self;
+  at : l.self.at ≡ l.at;
+  untouched : LeavesUntouched (setting_of V4 l.config) l.fn.self.objects l.fn.touched
+      l.self.objects l.touched;
+}

@@ -1,0 +1,16 @@
+use Rattle.kp_plane.specs.declared.ports_at.PortsAt.{PortsAt}
+use Rattle.kp_plane.proofs.Start.{first_ports}
+use Rattle.kp_plane.proofs.ports_at.PortsAt.start.Goals as goal
+
+pub returns : goal.returns
+returns c = λ events.
+    let s : PortsAt =
+    record {
+      latest = c.start-latest.result;
+      touched = c.new-touched.result;
+      writer = c.in_ok-writer.writer;
+      dirty = c.new-dirty.result;
+    } in
+    first_ports c.dirty_ports.ensures.none c.args.config.now events s
+    (c.start-latest.ensures.place events) c.start-latest.ensures.start c.in_ok-writer.ensures.config
+    c.in_ok-writer.ensures.written c.in_ok-writer.ensures.newest c.new-dirty.ensures

@@ -1,0 +1,54 @@
+use Rattle.std.proofs.Common.{◌≡◌, ◌∷◌, ◌++◌, [], map, sym, ap, ◌∙◌, arith, le_refl}
+use Rattle.std.proofs.lemmas.List.{map-append}
+use Rattle.kp_base.specs.declared.address.Family.TheVariants.{V4}
+use Rattle.kp_choice_defs.specs.Settings.{setting_of}
+use Rattle.kp_writer.specs.Written.{newest_ports, written_ports}
+use Rattle.kp_plane.proofs.Refreshed.{all_done, asked_split, one_fewer, still_among, still_others}
+use Rattle.kp_plane.proofs.refresh.refresh_each.Goals as goal
+
+pub loop-service-preserved : goal.loop-service-preserved
+loop-service-preserved g c =
+    let setting = setting_of V4 c.args.config.now in
+    let o = c.args.objects.now in
+    let inv = c.loop-service.invariant in
+    let all = map (λ k. k.now) c.args.services.items in
+    let old = map (λ k. k.now) c.loop-service.services.items in
+    let new = map (λ k. k.now) c.pop.new.self.items in
+    let k = c.in-Some.service.now in
+    let is = ap (map (λ k. k.now)) c.in-Some.ensures.items
+    ∙ map-append (λ k. k.now) c.pop.new.self.items (c.in-Some.service ∷ []) in
+    let split = asked_split old new k is o in
+    let step = c.refresh_one.ensures.asked in
+    let before = inv.asked in
+    record {
+      config = c.refresh_one.ensures.config ∙ inv.config;
+      written = c.refresh_one.ensures.written ∙ inv.written;
+      known = one_fewer old new k is setting o (newest_ports c.loop-service.writer)
+          (newest_ports c.refresh_one.new.writer) inv.known c.refresh_one.ensures.others
+          c.in_ok-refresh_one.ensures.ok;
+      among = still_among old new k is all inv.among;
+      asked = omega (arith, split, step, before);
+    }
+
+pub returns-in_err-refresh_one-clause-others : goal.returns-in_err-refresh_one-clause-others
+returns-in_err-refresh_one-clause-others g c =
+    let inv = c.loop-service.invariant in
+    let all = map (λ k. k.now) c.args.services.items in
+    let old = map (λ k. k.now) c.loop-service.services.items in
+    let new = map (λ k. k.now) c.pop.new.self.items in
+    let is = ap (map (λ k. k.now)) c.in-Some.ensures.items
+    ∙ map-append (λ k. k.now) c.pop.new.self.items (c.in-Some.service ∷ []) in
+    still_others old new c.in-Some.service.now is (setting_of V4 c.args.config.now)
+    c.args.objects.now (newest_ports c.loop-service.writer) (newest_ports c.refresh_one.new.writer)
+    inv.known c.refresh_one.ensures.others all inv.among
+
+pub returns-in_err-refresh_one-clause-asked : goal.returns-in_err-refresh_one-clause-asked
+returns-in_err-refresh_one-clause-asked g c =
+    let old = map (λ k. k.now) c.loop-service.services.items in
+    let new = map (λ k. k.now) c.pop.new.self.items in
+    let is = ap (map (λ k. k.now)) c.in-Some.ensures.items
+    ∙ map-append (λ k. k.now) c.pop.new.self.items (c.in-Some.service ∷ []) in
+    let split = asked_split old new c.in-Some.service.now is c.args.objects.now in
+    let step = c.refresh_one.ensures.asked in
+    let before = c.loop-service.invariant.asked in
+    omega (arith, split, step, before)

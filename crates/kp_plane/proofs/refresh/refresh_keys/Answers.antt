@@ -1,0 +1,23 @@
+use Rattle.std.proofs.Common.{sym, subst, ◌∙◌, arith}
+use Rattle.kp_base.specs.declared.address.Family.TheVariants.{V4}
+use Rattle.kp_choice_defs.specs.Settings.{setting_of}
+use Rattle.kp_writer.specs.Written.{newest_ports}
+use Rattle.kp_plane.specs.Known.{KnowsOthers}
+use Rattle.kp_plane.proofs.Refreshed.{few_asked}
+use Rattle.kp_plane.proofs.refresh.refresh_keys.Goals as goal
+
+pub refresh_each-requires-clause-others : goal.refresh_each-requires-clause-others
+refresh_each-requires-clause-others g c =
+    subst (λ ks. KnowsOthers (setting_of V4 c.args.config.now) c.args.objects.now ks
+    (newest_ports c.args.writer.now)) (sym c.in_ok-services.ensures) c.requires.others
+
+pub returns-clause-others : goal.returns-clause-others
+returns-clause-others g c =
+    subst (λ ks. KnowsOthers (setting_of V4 c.args.config.now) c.args.objects.now ks
+    (newest_ports c.refresh_each.new.writer)) c.in_ok-services.ensures c.refresh_each.ensures.others
+
+pub returns-clause-asked : goal.returns-clause-asked
+returns-clause-asked g c =
+    let few = few_asked c.args.objects.now c.args.keys.now _ c.in_ok-services.ensures in
+    let step = c.refresh_each.ensures.asked in
+    omega (arith, few, step)

@@ -1,0 +1,51 @@
+-- What a writer knows of ports while events come in.
+use Rattle.std.specs.Prelude.{◌≡◌, ℕ, Bool, true, false, List}
+use Rattle.std.specs.FinMap as finite
+use Rattle.std.specs.List.{filter_map, list_any}
+use Rattle.std.specs.Ordering.{eq_by_cmp}
+use Rattle.kp_base.specs.Keys.{key_cmp}
+use Rattle.kp_base.specs.declared.key.ObjectKey.{ObjectKey}
+use Rattle.kp_base.specs.declared.key.PortKey.{PortKey}
+use Rattle.kp_types.specs.Setting.{Setting}
+use Rattle.kp_object_defs.specs.Objects.{Objects}
+use Rattle.kp_object_defs.specs.PortByKey.{info_at}
+use Rattle.kp_known_ports.specs.Known.{port_count}
+use Rattle.kp_store.specs.Touched.{is_touched}
+use Rattle.kp_store.specs.declared.touched.Touched.{Touched}
+use Rattle.kp_blocks.specs.Joined.{is_port_of}
+use Rattle.kp_writer.specs.Written.{Ports}
+
+-- of a port the same is known as the objects tell
+abbrev pub IsKnown : Setting → Objects → Ports → PortKey → Type 0
+IsKnown setting o ports key = finite.get ports key ≡ info_at setting.family setting.config o key
+
+-- of each port whose Service isn't touched
+abbrev pub KnowsUntouched : Setting → Objects → Touched → Ports → Type 0
+KnowsUntouched setting o touched ports =
+    (key : PortKey) → is_touched touched key.object ≡ false → IsKnown setting o ports key
+
+-- whether a port is one of some Services
+abbrev pub is_port_of_one : List ObjectKey → PortKey → Bool
+is_port_of_one services key = list_any (eq_by_cmp key_cmp key.object) services
+
+-- of each port of other Services than these
+abbrev pub KnowsOthers : Setting → Objects → List ObjectKey → Ports → Type 0
+KnowsOthers setting o services ports =
+    (key : PortKey) → is_port_of_one services key ≡ false → IsKnown setting o ports key
+
+-- of each port of a Service
+abbrev pub KnowsService : Setting → Objects → ObjectKey → Ports → Type 0
+KnowsService setting o service ports =
+    (key : PortKey) → is_port_of service key ≡ true → IsKnown setting o ports key
+
+-- Objects after others tell the same of each port whose Service isn't touched after, and it wasn't
+-- touched before.
+abbrev pub LeavesUntouched : Setting → Objects → Touched → Objects → Touched → Type 0
+LeavesUntouched setting o touched p more =
+    (key : PortKey) → is_touched more key.object ≡ false
+    → (is_touched touched key.object ≡ false)
+    × (info_at setting.family setting.config p key ≡ info_at setting.family setting.config o key)
+
+-- how many ports the Services of these keys have, where they are there
+abbrev pub asked_count : Objects → List ObjectKey → ℕ
+asked_count o services = port_count (filter_map (finite.get o.services) services)

@@ -1,0 +1,109 @@
+//! What is known of ports at a place of the journal.
+ghost use Rattle.std.specs.Prelude.{◌≡◌, ◌+◌, ◌≤◌, cond, [], List, IfOk, OnOk};
+ghost use Rattle.kp_base.specs.declared.address.Family.TheVariants.{V4};
+ghost use Rattle.kp_types.specs.declared.event.Event.{Event as OneEvent};
+ghost use Rattle.kp_choice_defs.specs.Settings.{setting_of};
+ghost use Rattle.kp_object_defs.specs.Objects.{objects_after};
+ghost use Rattle.kp_known_ports.specs.Known.{all_port_count};
+ghost use Rattle.kp_writer.specs.Known.{ArePortsOf};
+ghost use Rattle.kp_writer.specs.Written.{newest_ports, written_ports};
+ghost use Rattle.kp_plane.specs.Known.{KnowsUntouched};
+ghost use Rattle.kp_plane.specs.Invariant.{IsAtPlace, IsBroughtOn, IsPortsAt, IsSettled};
+
+use crate::place::ObjectsAt;
+use crate::refresh::refresh;
+use kp_base::{Config, Items, NoMemory, Steps};
+use kp_history_defs::DirtyPort;
+use kp_store::Touched;
+use kp_types::Event;
+use kp_writer::Writer;
+use std::alloc::Global;
+use std::sync::ledger::Ledger;
+
+/// The objects after the first events of a journal, and what is known of ports by them.
+pub(crate) struct PortsAt {
+    /// The objects of the latest sync, which may have been refused.
+    pub(crate) latest: ObjectsAt,
+    /// The Services of whose ports the writer may know something else than these objects tell.
+    pub(crate) touched: Touched,
+    /// What was written of each port at the last sync, and what is known of it now.
+    pub(crate) writer: Writer,
+    /// The ports of which something else is known after the last sync than before it.
+    pub(crate) dirty: Items<DirtyPort>,
+}
+
+impl Drop for PortsAt {
+    fn drop(self) {
+        let PortsAt {
+            latest,
+            touched,
+            writer,
+            dirty,
+        } = self;
+    }
+}
+
+impl PortsAt {
+    /// Before the first event.
+    pub(crate) fn start(alloc: Global, config: &Config) -> Result<PortsAt, NoMemory>
+        ensures { IfOk result (λ s. (events : List OneEvent)
+            → IsPortsAt (record { config = config.now; events = events; counts = [] }) s) }
+    {
+        kp_history_laws::dirty_ports();
+        let latest = ObjectsAt::start(alloc);
+        let touched = Touched::new(alloc);
+        let writer = Writer::new(alloc, config)?;
+        let dirty = Items::new(alloc);
+        Ok(PortsAt {
+            latest,
+            touched,
+            writer,
+            dirty,
+        })
+    }
+
+    /// Goes on to the journal's end, and brings what is known of the ports of touched Services up
+    /// to it. A step is taken for each port that the objects are asked about. Where memory is out,
+    /// it stands on the way there.
+    pub(crate) fn bring_on<A: Ledger>(
+        &mut self,
+        alloc: Global,
+        config: &Config,
+        events: &[Event],
+        asked: &mut Steps<A>,
+    ) -> Result<(), NoMemory>
+        requires place { IsAtPlace events.now self.old.latest }
+        requires untouched { KnowsUntouched (setting_of V4 config.now) self.old.latest.objects
+            self.old.touched (newest_ports self.old.writer) }
+        ensures goes_on { IsBroughtOn (setting_of V4 config.now) events.now self.old self.new }
+        ensures ok { OnOk result (ArePortsOf (setting_of V4 config.now) (objects_after events.now)
+            (newest_ports self.new.writer)) }
+        ensures asked { asked.new ≤ asked.old + all_port_count (objects_after events.now) }
+    {
+        kp_object_laws::own_keys();
+        self.latest
+            .advance_touching(alloc, config, events, &mut self.touched)?;
+        let objects = &self.latest.objects;
+        refresh(
+            alloc,
+            config,
+            objects,
+            &self.touched,
+            &mut self.writer,
+            asked,
+        )?;
+        self.touched = Touched::new(alloc);
+        Ok(())
+    }
+
+    /// Takes over which ports were dirty at a sync and, where it covers new events, that what is
+    /// known now is written. It takes no memory.
+    pub(crate) fn settle(&mut self, is_new: bool, dirty: Items<DirtyPort>)
+        ensures { IsSettled is_new dirty self.old self.new }
+    {
+        if is_new {
+            self.writer.keep();
+        }
+        self.dirty = dirty;
+    }
+}

@@ -1,0 +1,207 @@
+//! What a writer knows of the ports of touched Services, brought up to the objects.
+ghost use Rattle.std.specs.Prelude.{◌≡◌, ◌+◌, ◌≤◌, ◌∷◌, [], false, map, None, IfOk, OnOk};
+ghost use Rattle.std.specs.FinMap as finite;
+ghost use Rattle.std.specs.List.{filter_map};
+ghost use Rattle.kp_base.specs.declared.address.Family.TheVariants.{V4};
+ghost use Rattle.kp_base.specs.declared.key.ObjectKey.{ObjectKey as Key};
+ghost use Rattle.kp_base.specs.declared.key.PortKey.{PortKey as Port};
+ghost use Rattle.kp_types.specs.Setting.{config_for};
+ghost use Rattle.kp_choice_defs.specs.Settings.{setting_of};
+ghost use Rattle.kp_object_defs.specs.OwnKeys.{AreUnderOwnKeys};
+ghost use Rattle.kp_object_defs.specs.PortByKey.{info_at};
+ghost use Rattle.kp_known_ports.specs.Known.{all_port_count};
+ghost use Rattle.kp_writer.specs.Known.{ArePortsOf, port_keys_at};
+ghost use Rattle.kp_writer.specs.Refresh.{OthersStay};
+ghost use Rattle.kp_writer.specs.Written.{newest_ports, written_ports};
+ghost use Rattle.kp_plane.specs.Known as spec;
+
+use kp_base::{Config, Copied, NoMemory, ObjectKey, PortKey, Steps};
+use kp_known_ports::infos_of_services;
+use kp_store::{KeySet, Objects, Touched};
+use kp_types::PortInfo;
+use kp_writer::Writer;
+use std::alloc::Global;
+use std::sync::ledger::Ledger;
+
+/// Brings what a writer knows of the ports of touched Services up to the objects. A step is taken
+/// for each port that the objects are asked about. Where memory is out, of a port of another
+/// Service nothing else is known.
+pub(crate) fn refresh<A: Ledger>(
+    alloc: Global,
+    config: &Config,
+    objects: &Objects,
+    touched: &Touched,
+    writer: &mut Writer,
+    asked: &mut Steps<A>,
+) -> Result<(), NoMemory>
+    requires own_keys { AreUnderOwnKeys objects.now }
+    requires untouched { spec.KnowsUntouched (setting_of V4 config.now) objects.now touched.now
+        (newest_ports writer.old) }
+    ensures config { writer.new.config ≡ writer.old.config }
+    ensures written { written_ports writer.new ≡ written_ports writer.old }
+    ensures untouched { spec.KnowsUntouched (setting_of V4 config.now) objects.now touched.now
+        (newest_ports writer.new) }
+    ensures ok { OnOk result
+        (ArePortsOf (setting_of V4 config.now) objects.now (newest_ports writer.new)) }
+    ensures asked { asked.new ≤ asked.old + all_port_count objects.now }
+{
+    if touched.all {
+        refresh_all(alloc, config, objects, writer, asked)
+    } else {
+        refresh_keys(alloc, config, objects, &touched.keys, writer, asked)
+    }
+}
+
+/// Brings what a writer knows of all ports up to the objects.
+fn refresh_all<A: Ledger>(
+    alloc: Global,
+    config: &Config,
+    objects: &Objects,
+    writer: &mut Writer,
+    asked: &mut Steps<A>,
+) -> Result<(), NoMemory>
+    requires { AreUnderOwnKeys objects.now }
+    ensures config { writer.new.config ≡ writer.old.config }
+    ensures written { written_ports writer.new ≡ written_ports writer.old }
+    ensures ok { OnOk result
+        (ArePortsOf (setting_of V4 config.now) objects.now (newest_ports writer.new)) }
+    ensures asked { asked.new ≤ asked.old + all_port_count objects.now }
+{
+    let all = all_services(alloc, objects, writer)?;
+    refresh_keys(alloc, config, objects, &all, writer, asked)
+}
+
+/// Brings what a writer knows of the ports of the Services of some keys up to the objects.
+fn refresh_keys<A: Ledger>(
+    alloc: Global,
+    config: &Config,
+    objects: &Objects,
+    keys: &KeySet,
+    writer: &mut Writer,
+    asked: &mut Steps<A>,
+) -> Result<(), NoMemory>
+    requires own_keys { AreUnderOwnKeys objects.now }
+    requires others { spec.KnowsOthers (setting_of V4 config.now) objects.now
+        (finite.keys keys.now) (newest_ports writer.old) }
+    ensures config { writer.new.config ≡ writer.old.config }
+    ensures written { written_ports writer.new ≡ written_ports writer.old }
+    ensures others { spec.KnowsOthers (setting_of V4 config.now) objects.now
+        (finite.keys keys.now) (newest_ports writer.new) }
+    ensures ok { OnOk result
+        (ArePortsOf (setting_of V4 config.now) objects.now (newest_ports writer.new)) }
+    ensures asked { asked.new ≤ asked.old + all_port_count objects.now }
+{
+    let services = keys.keys(alloc)?;
+    refresh_each(alloc, config, objects, services, writer, asked)
+}
+
+/// The Services of the objects, and those of whose ports a writer knows something.
+fn all_services(alloc: Global, objects: &Objects, writer: &Writer) -> Result<KeySet, NoMemory>
+    ensures ports { IfOk result (λ all. (port : Port)
+        → finite.contains_key all port.object ≡ false
+        → finite.get (newest_ports writer.now) port ≡ None) }
+    ensures services { IfOk result (λ all. (key : Key) → finite.contains_key all key ≡ false
+        → finite.get objects.now.services key ≡ None) }
+{
+    let mut all = KeySet::new(alloc);
+    let ports = writer.ports(alloc)?;
+    let known = objects_of(alloc, &ports)?;
+    all.put_all(alloc, &known)?;
+    let services = objects.services(alloc)?;
+    let stored = each_of(alloc, services.as_slice())?;
+    all.put_all(alloc, &stored)?;
+    Ok(all)
+}
+
+/// The Services of ports.
+fn objects_of<'a>(alloc: Global, ports: &[&'a PortKey]) -> Result<Vec<&'a ObjectKey>, NoMemory>
+    ensures { IfOk result (λ keys. map (λ k. k.now) keys.items
+        ≡ map (λ p. p.now.object) ports.now) }
+{
+    let mut keys = Vec::new(alloc);
+    for port in ports {
+        keys.push(&port.object)?;
+    }
+    Ok(keys)
+}
+
+/// Each of some keys.
+fn each_of(alloc: Global, keys: &[ObjectKey]) -> Result<Vec<&ObjectKey>, NoMemory>
+    ensures { IfOk result (λ each. map (λ k. k.now) each.items ≡ keys.now) }
+{
+    let mut each = Vec::new(alloc);
+    for key in keys {
+        each.push(key)?;
+    }
+    Ok(each)
+}
+
+/// Brings what a writer knows of the ports of some Services up to the objects.
+fn refresh_each<A: Ledger>(
+    alloc: Global,
+    config: &Config,
+    objects: &Objects,
+    mut services: Vec<&ObjectKey>,
+    writer: &mut Writer,
+    asked: &mut Steps<A>,
+) -> Result<(), NoMemory>
+    requires own_keys { AreUnderOwnKeys objects.now }
+    requires others { spec.KnowsOthers (setting_of V4 config.now) objects.now
+        (map (λ k. k.now) services.items) (newest_ports writer.old) }
+    ensures config { writer.new.config ≡ writer.old.config }
+    ensures written { written_ports writer.new ≡ written_ports writer.old }
+    ensures others { spec.KnowsOthers (setting_of V4 config.now) objects.now
+        (map (λ k. k.now) services.entry.items) (newest_ports writer.new) }
+    ensures ok { OnOk result
+        (ArePortsOf (setting_of V4 config.now) objects.now (newest_ports writer.new)) }
+    ensures asked { asked.new ≤ asked.old
+        + spec.asked_count objects.now (map (λ k. k.now) services.entry.items) }
+{
+    while let Some(service) = services.pop() {
+        refresh_one(alloc, config, objects, service, writer, asked)?;
+    }
+    Ok(())
+}
+
+/// Brings what a writer knows of the ports of a Service up to the objects.
+fn refresh_one<A: Ledger>(
+    alloc: Global,
+    config: &Config,
+    objects: &Objects,
+    service: &ObjectKey,
+    writer: &mut Writer,
+    asked: &mut Steps<A>,
+) -> Result<(), NoMemory>
+    requires { AreUnderOwnKeys objects.now }
+    ensures config { writer.new.config ≡ writer.old.config }
+    ensures written { written_ports writer.new ≡ written_ports writer.old }
+    ensures others { OthersStay service.now
+        (newest_ports writer.old) (newest_ports writer.new) }
+    ensures ok { OnOk result (spec.KnowsService (setting_of V4 config.now) objects.now service.now
+        (newest_ports writer.new)) }
+    ensures asked { asked.new ≤ asked.old + spec.asked_count objects.now (service.now ∷ []) }
+{
+    kp_writer::known_of_service();
+    let infos = infos_of(alloc, config, objects, service, asked)?;
+    writer.refresh(alloc, service, infos)
+}
+
+/// What the objects tell of the ports of a Service, in order: nothing where it isn't there.
+fn infos_of<A: Ledger>(
+    alloc: Global,
+    config: &Config,
+    objects: &Objects,
+    service: &ObjectKey,
+    asked: &mut Steps<A>,
+) -> Result<Vec<PortInfo>, NoMemory>
+    requires { AreUnderOwnKeys objects.now }
+    ensures infos { IfOk result (λ infos. infos.items
+        ≡ filter_map (info_at V4 (config_for V4 config.now) objects.now)
+        (port_keys_at objects.now service.now)) }
+    ensures asked { asked.new ≤ asked.old + spec.asked_count objects.now (service.now ∷ []) }
+{
+    match objects.service(service) {
+        Some(service) => infos_of_services(alloc, objects, config, &[service], asked),
+        None => Ok(Vec::new(alloc)),
+    }
+}
