@@ -21,7 +21,7 @@ IsSameBut before after = after ≡ record before { counts = after.counts }
 
 -- the journal holds as many events as it may
 abbrev pub IsFull : Config → Taken → Type 0
-IsFull config t = config.max_events ≤ length t.journal
+IsFull config t = length t.journal ≡ config.max_events
 
 -- the most events that one sync takes
 abbrev pub budget : ℕ
