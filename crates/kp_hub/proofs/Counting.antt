@@ -33,7 +33,8 @@ module _ {W : Type 0} (P : W → Type 0) where
   pub all_next : (ws : List W) (i : ℕ) (w : W) → i < length ws → w ≡ get_or ws i w → P w
       → AllByRecursion P (take i ws) → AllByRecursion P (take (i + 1) ws)
   all_next ws i w lt at one all =
-      subst (λ n. AllByRecursion P (take n ws)) (sym (next_is i)) (first_hold ws i w lt (subst P at one) all)
+      subst (λ n. AllByRecursion P (take n ws)) (sym (next_is i))
+      (first_hold ws i w lt (subst P at one) all)
 
 module _ {W : Type 0} (f : W → ℕ) where
   counted : (ws : List W) (i : ℕ) (d : W) → i < length ws

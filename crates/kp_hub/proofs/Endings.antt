@@ -26,7 +26,8 @@ learned_in_told (Some reader) learned a b outside = outside
 learned_in_told None learned a b outside = absurd outside
 
 -- what passes that count nothing any more know, they knew before
-pub knew_fewer : (n : ℕ) (ws : List Worker) → AllByRecursion (λ (w : Worker). known w < n) (map uncounted ws)
+pub knew_fewer : (n : ℕ) (ws : List Worker)
+    → AllByRecursion (λ (w : Worker). known w < n) (map uncounted ws)
     → AllByRecursion (λ (w : Worker). known w < n) ws
 knew_fewer n [] all = tt
 knew_fewer n (w ∷ ws) all = (all.0, knew_fewer n ws all.1)

@@ -50,7 +50,8 @@ module _ (config : Config) (t : Taken) (journal : List Fed) (notes : List Record
       ap length notes_are ∙ (length-map (records_at config t) note_of ∙ records_length config t)
 
   pub ends : length t.journal ≤ config.max_events
-      → (refusals : List Refusal) (clash : Option Clash) (table : TableParts) → table ≡ table_in (plane_of config t) → AllByRecursion (IsRefusal config t.journal) refusals
+      → (refusals : List Refusal) (clash : Option Clash) (table : TableParts)
+      → table ≡ table_in (plane_of config t) → AllByRecursion (IsRefusal config t.journal) refusals
       → clash ≡ clash_after config t.journal → (clash ≡ None → CoversAll t)
       → IsEnd config journal notes refusals clash table
   ends few refusals clash table table_is refused clash_is covers = record {

@@ -55,7 +55,8 @@ module _ (config : Config) (queue : QueueId) (t : Taken) (plane : PlaneParts) (t
 
   -- an event is accepted
   pub taken_next : RecordsStay → (f : Fed) (journal : List Fed) (plane' : PlaneParts) (taker' : Taker) → journal ≡ t.journal ++ f ∷ []
-      → length t.journal < config.max_events → plane' ≡ with_events plane (f.event ∷ []) → taker' ≡ record taker { taken = t.journal ++ f ∷ [] }
+      → length t.journal < config.max_events → plane' ≡ with_events plane (f.event ∷ [])
+      → taker' ≡ record taker { taken = t.journal ++ f ∷ [] }
       → IsTaken config queue (record { journal = journal; waits = None; counts = plane'.counts; feeders = taker'.feeders; ended = taker'.ended }) plane' taker' notes
   taken_next stay f journal plane' taker' grown room more took =
       let led : plane' ≡ with_events (plane_of config t) (f.event ∷ []) = more ∙ ap (λ p. with_events p (f.event ∷ [])) is.plane_is in

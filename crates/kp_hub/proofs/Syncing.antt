@@ -148,7 +148,8 @@ pub told : (config : Config) (t : Taken) (outlet : Keeps) (before learned after 
     → learned.accepted ≡ before.accepted → learned.refused ≡ before.refused
     → after ≡ record learned { accepted = learned.accepted + 1 } → after.accepted ≤ book → book ≤ length t.counts
     → IsTold (length t.counts) before after
-told config t outlet before learned after book records newer front longer begins seen accepted refused one bound few =
+told config t outlet before learned after book records newer front longer begins seen accepted refused
+    one bound few =
     let front_is : after.learned ≡ outlet.published = ap (λ (w : Worker). w.learned) one ∙ front in
     let told_is : after.told ≡ learned.told = ap (λ (w : Worker). w.told) one in
     let count : length (records_of outlet.published) ≡ length t.counts =

@@ -83,8 +83,8 @@ abbrev pub IsUncounted : TableFault → HubState → Type 0
 IsUncounted (ChainClash clash) h = h.refused < length h.refusals
 IsUncounted NoMemory h = Unit {0}
 
--- The pass of an accepted sync, which is newer than all that it knew: the front that it learned last
--- has just so many records; it counts the sync, and has counted no more than there are records.
+-- The pass of an accepted sync, which is newer than all that it knew: the front that it learned
+-- last has just so many records; it counts the sync, and has counted no more than there are records.
 pub record IsTold (sync : ℕ) (before after : Worker) : Type 0 where
   pub newer : known before < sync
   pub front : length (records_of after.learned) ≡ sync
