@@ -1,5 +1,5 @@
 -- What changes where events are taken, and where that stops.
-use Rattle.std.specs.Prelude.{◌≡◌, ◌≤◌, ◌<◌, ◌+◌, ◌⊎◌, ℕ, None, length}
+use Rattle.std.specs.Prelude.{◌≡◌, ◌<◌, ◌+◌, ◌⊎◌, ℕ, None, length}
 use mathlib.Core.List.{IsPrefix}
 use Rattle.kp_base.specs.declared.config.Config.{Config}
 use Rattle.kp_feed.specs.Feeding.{AreWhole}

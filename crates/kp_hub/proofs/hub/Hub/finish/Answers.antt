@@ -1,4 +1,4 @@
-use Rattle.std.proofs.Common.{ℕ, ◌<◌, List, ◌++◌, length, ap, subst, arith}
+use Rattle.std.proofs.Common.{◌<◌, List, ◌++◌, length, ap, subst, arith}
 use Rattle.std.specs.List.{AllByRecursion}
 use Rattle.kp_feed.specs.declared.rule.Ended.{Ended}
 use Rattle.kp_feed.specs.Feeding.{AreWhole}
