@@ -1,8 +1,9 @@
 -- Passes of workers, one after the other.
-use Rattle.std.proofs.Common.{◌≡◌, ℕ, zero, suc, ◌+◌, ◌<◌, List, [], ◌∷◌, ◌++◌, length, map, sum, take, drop, replicate, slice_set, slice_index_or, refl, ap, sym, ◌∙◌, arith, append_assoc}
+use Rattle.std.proofs.Common.{◌≡◌, ℕ, zero, suc, ◌+◌, ◌<◌, List, [], ◌∷◌, ◌++◌, length, map, sum, take, drop, replicate, get_or, slice_set, slice_index_or, refl, ap, sym, subst, ◌∙◌, arith, append_assoc}
 use Rattle.std.proofs.Math.Seq.{take-suc}
 use Rattle.std.proofs.lemmas.List.{append-nil, map-append}
 use Rattle.std.proofs.lemmas.List.Sums.{fold-append}
+use Rattle.std.specs.List.{AllByRecursion}
 
 module _ {W R : Type 0} (new : W) where
   -- one more is made, for one less that is left
@@ -20,6 +21,20 @@ module _ {W R : Type 0} (new : W) where
 
 next_is : (i : ℕ) → i + 1 ≡ suc i
 next_is i = omega arith
+
+module _ {W : Type 0} (P : W → Type 0) where
+  first_hold : (ws : List W) (i : ℕ) (d : W) → i < length ws → P (get_or ws i d)
+      → AllByRecursion P (take i ws) → AllByRecursion P (take (suc i) ws)
+  first_hold [] i d lt one all = absurd (omega arith)
+  first_hold (w ∷ ws) zero d lt one all = (one, tt)
+  first_hold (w ∷ ws) (suc i) d lt one all = (all.0, first_hold ws i d (omega arith) one all.1)
+
+  -- what holds of the first ones, and of the next
+  pub all_next : (ws : List W) (i : ℕ) (w : W) → i < length ws → w ≡ get_or ws i w → P w
+      → AllByRecursion P (take i ws) → AllByRecursion P (take (i + 1) ws)
+  all_next ws i w lt at one all =
+      subst (λ n. AllByRecursion P (take n ws)) (sym (next_is i))
+      (first_hold ws i w lt (subst P at one) all)
 
 module _ {W : Type 0} (f : W → ℕ) where
   counted : (ws : List W) (i : ℕ) (d : W) → i < length ws

@@ -49,17 +49,19 @@ module _ (config : Config) (t : Taken) (journal : List Fed) (notes : List Record
   notes_length =
       ap length notes_are ∙ (length-map (records_at config t) note_of ∙ records_length config t)
 
-  pub ends : (refusals : List Refusal) (clash : Option Clash) (table : TableParts)
+  pub ends : length t.journal ≤ config.max_events
+      → (refusals : List Refusal) (clash : Option Clash) (table : TableParts)
       → table ≡ table_in (plane_of config t) → AllByRecursion (IsRefusal config t.journal) refusals
       → clash ≡ clash_after config t.journal → (clash ≡ None → CoversAll t)
       → IsEnd config journal notes refusals clash table
-  ends refusals clash table table_is refused clash_is covers = record {
+  ends few refusals clash table table_is refused clash_is covers = record {
     exact = subst HasExactHistory (sym plane_is) exact;
     notes_are = notes_are ∙ ap (map note_of) records_are;
     table_is = table_is ∙ sym (ap table_in plane_is);
     clash_is = clash_is ∙ sym (ap (clash_after config) journal_is);
     covers = λ none. ap sum counts_are ∙ (covers none ∙ sym (ap length journal_is));
     refused = subst (λ (j : List Fed). AllByRecursion (IsRefusal config j) refusals) (sym journal_is) refused;
+    few = subst (λ (j : List Fed). length j ≤ config.max_events) (sym journal_is) few;
   }
 
 -- a closed history has the records from before

@@ -55,9 +55,10 @@ module _ (config : Config) (queue : QueueId) (t : Taken) (plane : PlaneParts) (t
 
   -- an event is accepted
   pub taken_next : RecordsStay → (f : Fed) (journal : List Fed) (plane' : PlaneParts) (taker' : Taker) → journal ≡ t.journal ++ f ∷ []
-      → plane' ≡ with_events plane (f.event ∷ []) → taker' ≡ record taker { taken = t.journal ++ f ∷ [] }
+      → length t.journal < config.max_events → plane' ≡ with_events plane (f.event ∷ [])
+      → taker' ≡ record taker { taken = t.journal ++ f ∷ [] }
       → IsTaken config queue (record { journal = journal; waits = None; counts = plane'.counts; feeders = taker'.feeders; ended = taker'.ended }) plane' taker' notes
-  taken_next stay f journal plane' taker' grown more took =
+  taken_next stay f journal plane' taker' grown room more took =
       let led : plane' ≡ with_events (plane_of config t) (f.event ∷ []) = more ∙ ap (λ p. with_events p (f.event ∷ [])) is.plane_is in
       let counts : plane'.counts ≡ t.counts = ap (λ p. p.counts) led in
       let events : events_of journal ≡ events_of t.journal ++ f.event ∷ [] = ap events_of grown ∙ map-append (λ (x : Fed). x.event) t.journal (f ∷ []) in
@@ -73,6 +74,7 @@ module _ (config : Config) (queue : QueueId) (t : Taken) (plane : PlaneParts) (t
         });
         notes_are = is.notes_are ∙ ap (map note_of) (sym (records_stay stay f journal plane'.counts grown counts None taker'.feeders taker'.ended));
         covers = omega (arith, longer, fewer);
+        few = omega (arith, longer, room);
         room = tt;
       }
 
@@ -93,6 +95,7 @@ module _ (config : Config) (queue : QueueId) (t : Taken) (plane : PlaneParts) (t
         });
         notes_are = is.notes_are ∙ (λ i. map note_of (records_in (record { config = config; events = events_of (sym same i); counts = sym counts i })));
         covers = subst (λ (x : List ℕ × List Fed). sum x.0 ≤ length x.1) (λ i. (sym counts i, sym same i)) is.covers;
+        few = subst (λ (l : List Fed). length l ≤ config.max_events) (sym same) is.few;
         room = subst (λ (l : List Fed). length l < config.max_events) (sym same) room;
       }
 
@@ -146,5 +149,6 @@ module _ (config : Config) (queue : QueueId) (t : Taken) (plane : PlaneParts) (t
         notes_are = noted ∙ (ap (λ ns. ns ++ note_of r ∷ []) (is.notes_are ∙ ap (λ p. map note_of (records_in p)) (sym is.plane_is))
             ∙ (sym (map-append note_of (records_in plane) (r ∷ [])) ∙ ap (map note_of) (sym grows ∙ ap records_in whole)));
         covers = subst (λ (x : List ℕ × List Fed). sum x.0 ≤ length x.1) (λ i. (sym counts i, sym same i)) (omega (arith, synced_covers));
+        few = subst (λ (l : List Fed). length l ≤ config.max_events) (sym same) is.few;
         room = subst (λ (l : List Fed). IfSome t.waits (λ f. length l < config.max_events)) (sym same) is.room;
       }

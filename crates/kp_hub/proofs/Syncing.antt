@@ -1,5 +1,5 @@
 -- What a sync does by its answer, from its steps.
-use Rattle.std.proofs.Common.{◌≡◌, ℕ, ◌+◌, ◌≤◌, ◌⊎◌, inl, inr, List, [], ◌∷◌, ◌++◌, Some, None, length, ap, sym, subst, ◌∙◌, arith}
+use Rattle.std.proofs.Common.{◌≡◌, ℕ, ◌+◌, ◌≤◌, ◌<◌, ◌⊎◌, inl, inr, List, [], ◌∷◌, ◌++◌, Some, None, length, ap, sym, subst, ◌∙◌, arith}
 use mathlib.Core.List.{IsPrefix}
 use Rattle.kp_base.specs.declared.config.Config.{Config}
 use Rattle.kp_types.specs.declared.chain.Clash.{Clash}
@@ -8,7 +8,7 @@ use Rattle.kp_publish.specs.Pending.{Keeps}
 use Rattle.kp_publish.specs.declared.entry.Entry.{Entry}
 use Rattle.kp_full_table.specs.declared.fault.TableFault.{TableFault}
 use Rattle.kp_full_table.specs.declared.fault.TableFault.TheVariants.{ChainClash, NoMemory}
-use Rattle.kp_hub.specs.Known.{Worker}
+use Rattle.kp_hub.specs.Known.{Worker, known}
 use Rattle.kp_hub.specs.State.{HubState}
 use Rattle.kp_hub.specs.Syncs.{Accepts, Fails, GivesUp, IsClashOfSome, IsTold, Refuses, clash_after, counts_with_sync, with_refusal}
 use Rattle.kp_hub.specs.Taken.{Taken, records_at, with_sync}
@@ -142,17 +142,21 @@ module _ (config : Config) (before after last : HubState) where
 
 -- The pass has learned all that is published, and counts the sync.
 pub told : (config : Config) (t : Taken) (outlet : Keeps) (before learned after : Worker) (book : ℕ)
-    → records_of outlet.published ≡ records_at config t → learned.learned ≡ outlet.published
+    → records_of outlet.published ≡ records_at config t
+    → known before < length (records_of outlet.published) → learned.learned ≡ outlet.published
     → IsPrefix before.told learned.told → IsPrefix outlet.published learned.told → learned.seen ≡ before.seen
     → learned.accepted ≡ before.accepted → learned.refused ≡ before.refused
     → after ≡ record learned { accepted = learned.accepted + 1 } → after.accepted ≤ book → book ≤ length t.counts
     → IsTold (length t.counts) before after
-told config t outlet before learned after book records front longer begins seen accepted refused one bound few =
+told config t outlet before learned after book records newer front longer begins seen accepted refused
+    one bound few =
     let front_is : after.learned ≡ outlet.published = ap (λ (w : Worker). w.learned) one ∙ front in
     let told_is : after.told ≡ learned.told = ap (λ (w : Worker). w.told) one in
+    let count : length (records_of outlet.published) ≡ length t.counts =
+    ap length records ∙ records_length config t in
     record {
-      front = ap (λ (l : List Entry). length (records_of l)) front_is
-          ∙ (ap length records ∙ records_length config t);
+      newer = subst (λ n. known before < n) count newer;
+      front = ap (λ (l : List Entry). length (records_of l)) front_is ∙ count;
       learned = subst (λ (p : List Entry × List Entry). IsPrefix p.0 p.1)
           (λ i. (sym front_is i, sym told_is i)) begins;
       told = subst (λ (l : List Entry). IsPrefix before.told l) (sym told_is) longer;

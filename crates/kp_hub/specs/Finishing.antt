@@ -34,7 +34,7 @@ records_told config journal notes = records_in (plane_told config journal notes)
 
 -- What is handed out at the end: the syncs are an exact history of the journal, with these notes
 -- and this table, and cover all of it unless the last was refused, whose clash this is. Each
--- refusal is by a clash after the first events of the journal.
+-- refusal is by a clash after the first events of the journal, which has no more than it may.
 pub record IsEnd
     (config : Config) (journal : List Fed) (notes : List RecordNote) (refusals : List Refusal)
     (clash : Option Clash) (table : TableParts) : Type 0 where
@@ -44,6 +44,7 @@ pub record IsEnd
   pub clash_is : clash ≡ clash_after config journal
   pub covers : clash ≡ None → sum (map (λ n. n.events) notes) ≡ length journal
   pub refused : AllByRecursion (IsRefusal config journal) refusals
+  pub few : length journal ≤ config.max_events
 
 -- feeders end
 abbrev pub with_ended : Taken → List Feeder → Taken

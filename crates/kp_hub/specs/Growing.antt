@@ -1,5 +1,5 @@
 -- What changes where events are taken, and where that stops.
-use Rattle.std.specs.Prelude.{◌≡◌, ◌≤◌, ◌<◌, ◌+◌, ◌⊎◌, ℕ, None, length}
+use Rattle.std.specs.Prelude.{◌≡◌, ◌<◌, ◌+◌, ◌⊎◌, ℕ, None, length}
 use mathlib.Core.List.{IsPrefix}
 use Rattle.kp_base.specs.declared.config.Config.{Config}
 use Rattle.kp_feed.specs.Feeding.{AreWhole}
@@ -21,7 +21,7 @@ IsSameBut before after = after ≡ record before { counts = after.counts }
 
 -- the journal holds as many events as it may
 abbrev pub IsFull : Config → Taken → Type 0
-IsFull config t = config.max_events ≤ length t.journal
+IsFull config t = length t.journal ≡ config.max_events
 
 -- the most events that one sync takes
 abbrev pub budget : ℕ

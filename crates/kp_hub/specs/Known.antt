@@ -1,7 +1,8 @@
 -- What contracts see of a worker's pass.
-use Rattle.std.specs.Prelude.{ℕ, List, [], Option, Some, None, refl}
+use Rattle.std.specs.Prelude.{ℕ, List, [], Option, Some, None, length, max, refl}
 use mathlib.Core.List.{IsPrefix}
 use Rattle.std.specs.Coded.{Coded, code_by, coded×, coded_ℕ, coded_list}
+use Rattle.kp_publish.specs.Entries.{records_of}
 use Rattle.kp_publish.specs.Knows.{Knows}
 use Rattle.kp_publish.specs.declared.entry.Entry.{Entry}
 use Rattle.kp_publish.specs.contracts.entry.Entry as entry_row
@@ -55,6 +56,10 @@ IsOutside (Some reader) learned = IsPrefix learned reader.told
 -- a pass that has seen nothing and synced nothing
 abbrev pub new_worker : Worker
 new_worker = record { seen = []; told = []; learned = []; accepted = 0; refused = 0 }
+
+-- how many records it knows of: those that it saw, or learned of
+abbrev pub known : Worker → ℕ
+known w = max (length (records_of w.seen)) (length (records_of w.told))
 
 -- a pass that counts nothing any more
 abbrev pub uncounted : Worker → Worker

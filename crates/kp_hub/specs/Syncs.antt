@@ -12,7 +12,7 @@ use Rattle.kp_history_defs.specs.Runs.{events_of}
 use Rattle.kp_publish.specs.Entries.{records_of}
 use Rattle.kp_full_table.specs.declared.fault.TableFault.{TableFault}
 use Rattle.kp_full_table.specs.declared.fault.TableFault.TheVariants.{ChainClash, NoMemory}
-use Rattle.kp_hub.specs.Known.{Worker}
+use Rattle.kp_hub.specs.Known.{Worker, known}
 use Rattle.kp_hub.specs.State.{HubState}
 use Rattle.kp_hub.specs.Taken.{Taken, records_at, with_sync}
 
@@ -83,9 +83,10 @@ abbrev pub IsUncounted : TableFault → HubState → Type 0
 IsUncounted (ChainClash clash) h = h.refused < length h.refusals
 IsUncounted NoMemory h = Unit {0}
 
--- The pass of an accepted sync: the front that it learned last has just so many records; it counts
--- the sync, and has counted no more than there are records.
+-- The pass of an accepted sync, which is newer than all that it knew: the front that it learned
+-- last has just so many records; it counts the sync, and has counted no more than there are records.
 pub record IsTold (sync : ℕ) (before after : Worker) : Type 0 where
+  pub newer : known before < sync
   pub front : length (records_of after.learned) ≡ sync
   pub learned : IsPrefix after.learned after.told
   pub told : IsPrefix before.told after.told

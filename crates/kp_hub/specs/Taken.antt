@@ -94,7 +94,7 @@ note_of r = record {
 }
 
 -- What holds of a plane, of the taker's pass and of the notes of what was taken. Every sync covers
--- events of the journal. An event waits only where the journal has room for it.
+-- events of the journal. It has no more than it may, and an event waits only where it has room.
 pub record IsTaken
     (config : Config) (queue : QueueId) (t : Taken) (plane : PlaneParts) (taker : Taker)
     (notes : List RecordNote) : Type 0 where
@@ -102,4 +102,5 @@ pub record IsTaken
   pub taker_is : taker ≡ taker_of queue t
   pub notes_are : notes ≡ map note_of (records_at config t)
   pub covers : sum t.counts ≤ length t.journal
+  pub few : length t.journal ≤ config.max_events
   pub room : IfSome t.waits (λ f. length t.journal < config.max_events)

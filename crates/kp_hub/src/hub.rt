@@ -1,6 +1,6 @@
 //! The hub.
 ghost use Rattle.std.specs.Prelude.{◌≡◌, ◌-◌, ◌+◌, ◌<◌, ◌≤◌, ◌^◌, ◌++◌, [], ℕ, List, suc, length};
-ghost use Rattle.std.specs.Prelude.{filter, map, replicate, sum};
+ghost use Rattle.std.specs.Prelude.{None, filter, map, replicate, sum};
 ghost use Rattle.std.specs.Prelude.{IfOk, IfErr, OnOk, OnErr, string_bytes};
 ghost use Rattle.std.specs.List.{AllByRecursion};
 ghost use Rattle.kp_feed.specs.Calls as calls;
@@ -10,7 +10,7 @@ ghost use Rattle.kp_history_defs.specs.Runs.{is_of_stream};
 ghost use Rattle.kp_publish.specs.Entries.{records_of};
 ghost use Rattle.kp_run_defs.specs.LegalRuns.{last_syncs};
 ghost use Rattle.kp_hub.specs.Finishing.{IsEnd};
-ghost use Rattle.kp_hub.specs.Known.{new_worker, uncounted};
+ghost use Rattle.kp_hub.specs.Known.{known, new_worker, uncounted};
 ghost use Rattle.kp_hub.specs.Reading.{answer_after, HasWalked, OnTheWay, Reads, walk_after};
 ghost use Rattle.kp_hub.specs.State.{first_table};
 ghost use Rattle.kp_hub.specs.Syncs.{IsClashOfSome, IsDenied, IsTold};
@@ -102,9 +102,9 @@ impl<J: Sharing, A: Ledger, C: Ledger> Hub<J, A, C> {
         }
     }
 
-    /// What becomes of the packet of the line of this number, by a published table, and the number of
-    /// that table's sync. The table goes on from all that the pass saw before or learned of. It takes
-    /// no lock.
+    /// What becomes of the packet of the line of this number, by a published table, and the number
+    /// of that table's sync. The table goes on from all that the pass saw before or learned of. It
+    /// takes no lock.
     pub fn verdict_of<R: Wait>(
         rt: &R,
         pass: &mut WorkerPass<J, A, C>,
@@ -166,8 +166,8 @@ impl<J: Sharing, A: Ledger, C: Ledger> Hub<J, A, C> {
     }
 
     /// Makes a sync under the lock, of what was taken by then, and answers its record's number.
-    /// The pass then knows that record, so whatever it reads from now on is as new. Where two
-    /// different chains have one name the sync is refused, and the published table stays.
+    /// The pass knew of none that is as new, and knows that record now, so whatever it reads from
+    /// now on is as new. Where two different chains have one name the sync is refused.
     pub fn sync<R: Wait>(
         &self,
         rt: &R,
@@ -184,9 +184,9 @@ impl<J: Sharing, A: Ledger, C: Ledger> Hub<J, A, C> {
         Ok(synced?.sync)
     }
 
-    /// Ends the hub: ends these streams, and syncs until all that they fed is covered or the journal
-    /// is full. The passes of workers stay passes of its history, and count no more syncs. Where
-    /// memory is out it is given up.
+    /// Ends the hub: ends these streams, and syncs until all that they fed is covered or the
+    /// journal is full. The passes of workers stay passes of its history, and count no more syncs.
+    /// Where memory is out it is given up.
     pub fn finish<R: Wait>(
         self,
         rt: &R,
@@ -206,7 +206,10 @@ impl<J: Sharing, A: Ledger, C: Ledger> Hub<J, A, C> {
         ensures made { IfOk result (λ done. (p : ℕ) → J.streams ≤ p
             → filter (is_of_stream p) done.journal ≡ []) }
 
-        // There are as many syncs as workers were told of, and one more that isn't refused last.
+        // No pass knows of the last sync, unless it was refused. There are as many syncs as passes
+        // were told of, and that one more.
+        ensures last { IfOk result (λ done. done.clash ≡ None
+            → AllByRecursion (λ w. known w < length done.notes) workers.old) }
         ensures accepted { IfOk result (λ done. sum (map (λ w. w.accepted) workers.old)
             + last_syncs done.clash ≤ length done.notes) }
         ensures refused { IfOk result (λ done. sum (map (λ w. w.refused) workers.old)
@@ -217,6 +220,8 @@ impl<J: Sharing, A: Ledger, C: Ledger> Hub<J, A, C> {
         let mut held = held.into_inner();
         held.take_counts(workers);
         held.end_feeders(&feed, passes);
-        held.finish(rt, alloc, feed)
+        let done = held.finish(rt, alloc, feed)?;
+        done.is_newer(rt, workers);
+        Ok(done)
     }
 }

@@ -1,6 +1,6 @@
 //! What was taken from the queue, and the syncs that cover it.
-ghost use Rattle.std.specs.Prelude.{◌≡◌, ◌+◌, ◌<◌, ◌++◌, ◌∷◌, [], true, false, length, map, None};
-ghost use Rattle.std.specs.Prelude.{IfOk, IfErr, IsTrue, ◌↔◌, OnOk, OnErr};
+ghost use Rattle.std.specs.Prelude.{◌≡◌, ◌+◌, ◌<◌, ◌≤◌, ◌++◌, ◌∷◌, [], true, false, length, map};
+ghost use Rattle.std.specs.Prelude.{None, IfOk, IfErr, IsTrue, ◌↔◌, OnOk, OnErr};
 ghost use Rattle.kp_base.specs.declared.address.Family.TheVariants.{V4};
 ghost use Rattle.kp_choice_defs.specs.Settings.{setting_of};
 ghost use Rattle.std.specs.List.{AllByRecursion};
@@ -223,6 +223,7 @@ impl<J: Sharing> Intake<J> {
         ensures table { IfOk result.1
             (λ (_, _, table). table ≡ parts.table_in (plane_of J.config self)) }
         ensures exact { parts.HasExactHistory (plane_of J.config self) }
+        ensures few { length self.journal ≤ J.config.max_events }
     {
         let Intake {
             plane,

@@ -3,7 +3,7 @@ ghost use Rattle.std.specs.Prelude.{◌≡◌, ◌+◌, ◌≤◌, ◌<◌, ◌+
 ghost use Rattle.std.specs.Prelude.{IfOk, OnOk, OnErr, string_bytes};
 ghost use mathlib.Core.List.{IsPrefix};
 ghost use Rattle.kp_publish.specs.Entries.{records_of, StandsFor};
-ghost use Rattle.kp_hub.specs.Known.{new_worker};
+ghost use Rattle.kp_hub.specs.Known.{known, new_worker};
 ghost use Rattle.kp_hub.specs.Reading.{answer_after, HasWalked, OnTheWay, Reads, walk_after};
 
 use crate::sharing::Sharing;
@@ -141,6 +141,29 @@ impl<J: Sharing, A: Ledger, C: Ledger> WorkerPass<J, A, C> {
         ensures { IsPrefix self.now.learned self.now.told }
     {
         let _reader = &self.reader;
+    }
+
+    /// How many records it knows of.
+    fn known(&self) -> u64
+        ensures { result ≡ known self.now }
+    {
+        match &self.reader {
+            Some(reader) => reader.known(),
+            None => 0,
+        }
+    }
+
+    /// Waits until it knows of fewer records than these. It does at once where the last of them was
+    /// published behind all that passes knew. No type says so.
+    pub(crate) fn knows_fewer<R: Wait>(&self, rt: &R, records: u64)
+        ensures { known self.now < records }
+    {
+        for _ in rt.forever() {
+            if self.known() < records {
+                return;
+            }
+        }
+        unreachable!()
     }
 
     /// Gives its counts to these shares.

@@ -126,7 +126,7 @@ impl<J: Sharing, A: Ledger, C: Ledger> Held<J, A, C> {
         let stop = self.take_all(rt, feed)?;
         match self.record(rt, alloc) {
             Ok(sync) => {
-                self.tell_accepted(pass);
+                self.tell_accepted(rt, pass);
                 Ok(Synced { sync, stop })
             }
             Err(TableFault::ChainClash(clash)) => {
@@ -437,8 +437,9 @@ impl<J: Sharing, A: Ledger, C: Ledger> Held<J, A, C> {
         Ok(self.refusals.push(refusal)?)
     }
 
-    /// Lets a pass know all that is published, and count an accepted sync.
-    fn tell_accepted(&mut self, pass: &mut WorkerPass<J, A, C>)
+    /// Lets a pass know all that is published, of which the last record is new to it, and count an
+    /// accepted sync.
+    fn tell_accepted<R: Wait>(&mut self, rt: &R, pass: &mut WorkerPass<J, A, C>)
         requires published { self.old.outlet.published ≡ self.old.outlet.newest }
         requires records { records_of self.old.outlet.published
             ≡ records_at J.config self.old.taken }
@@ -446,6 +447,7 @@ impl<J: Sharing, A: Ledger, C: Ledger> Held<J, A, C> {
         ensures told { IsTold (length self.old.taken.counts) pass.old pass.new }
         ensures counts { self.new ≡ record self.old { accepted = self.old.accepted + 1 } }
     {
+        pass.knows_fewer(rt, self.publisher.count());
         pass.learn(self.publisher.tell());
         pass.count_accepted(&mut self.accepted);
     }

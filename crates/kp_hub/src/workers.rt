@@ -1,7 +1,7 @@
 //! The publisher of a hub, and the passes of its workers.
 ghost use Rattle.std.specs.Prelude.{◌≡◌, ◌+◌, ◌<◌, [], length, map, replicate, sum, IfOk, OnOk};
 ghost use Rattle.std.specs.List.{AllByRecursion};
-ghost use Rattle.kp_hub.specs.Known.{new_worker, uncounted};
+ghost use Rattle.kp_hub.specs.Known.{known, new_worker, uncounted};
 ghost use Rattle.kp_hub.specs.State.{first_table};
 
 use crate::pass::WorkerPass;
@@ -99,6 +99,19 @@ fn worker_of<J: Sharing, A: Ledger, C: Ledger>(
     let refused = refused.split_off(1, 0);
     let node = node.copy(alloc)?;
     Ok(WorkerPass::new(reader, publisher.tell(), node, accepted, refused))
+}
+
+/// Waits until each of these passes knows of fewer records than these.
+pub(crate) fn know_fewer<J: Sharing, A: Ledger, C: Ledger, R: Wait>(
+    rt: &R,
+    workers: &[WorkerPass<J, A, C>],
+    records: u64,
+)
+    ensures { AllByRecursion (λ w. known w < records) workers.now }
+{
+    for worker in workers {
+        worker.knows_fewer(rt, records);
+    }
 }
 
 /// Gives to these shares what passes have counted.

@@ -1,5 +1,5 @@
 //! Readers, and what they see.
-ghost use Rattle.std.specs.Prelude.{◌≡◌, ◌⊎◌, [], length};
+ghost use Rattle.std.specs.Prelude.{◌≡◌, ◌⊎◌, [], length, max};
 ghost use mathlib.Core.List.{IsPrefix};
 ghost use Rattle.kp_publish.specs.Entries.{records_of, GoesOnFrom, StandsFor};
 ghost use Rattle.kp_publish.specs.Knows.{nothing_of};
@@ -94,6 +94,15 @@ impl<J: Publication> Reader<J> {
             }
         }
         unreachable!()
+    }
+
+    /// How many records it knows of: those that it saw last, or learned of.
+    pub fn known(&self) -> u64
+        ensures { result ≡ max (length (records_of self.now.seen))
+            (length (records_of self.now.told)) }
+    {
+        let (seen, told) = (self.seen.count(), self.told.count());
+        if seen < told { told } else { seen }
     }
 
     /// Takes in a front. Whatever is seen from now on goes on from it too.

@@ -19,7 +19,9 @@ returns-in-Ok-clause-more g c =
     let took = c.in-Some.ensures.next t.journal (ap (λ (k : Taker). k.taken) is.taker_is) in
     let now = taken_next g.J.Sharing.config g.J.Sharing.queue t s.plane s.taker s.notes.items is
     c.sync_records.ensures.stay c.in-Some.fed (fed_of c.accept.new.origins.items c.accept.new.plane.events)
-    c.accept.new.plane c.next.new.taker c.in-Ok.ensures.journal c.in-Ok.ensures.plane took in
+    c.accept.new.plane c.next.new.taker c.in-Ok.ensures.journal
+    (subst (λ (u : Taken). length u.journal < g.J.Sharing.config.max_events) (sym c.self.view_is)
+    c.requires.room) c.in-Ok.ensures.plane took in
     subst (λ (p : Taken × Taken). TakesMore p.0 p.1)
     (λ i. (c.self.view_is i, taken_in c.accept.new.origins.items (sym c.in-Some.ensures.waits i) c.accept.new.plane c.next.new.taker))
     (takes_from g.J.Sharing.config g.J.Sharing.queue t s.plane s.taker s.notes.items is

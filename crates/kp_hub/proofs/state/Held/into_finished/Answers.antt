@@ -35,7 +35,7 @@ returns-in-Ok-Ok-clause-end g c =
     let notes : c.in-Ok-Ok.notes ≡ map note_of (records_at g.J.Sharing.config s.intake) = search rules in
     let table : c.in-Ok-Ok.table ≡ table_in (plane_of g.J.Sharing.config s.intake) = search rules in
     ends g.J.Sharing.config s.intake c.in-Ok-Ok.journal c.in-Ok-Ok.notes c.into_parts-taker.ensures.exact journal notes
-    c.from_vec.result c.args.clash c.in-Ok-Ok.table table
+    c.into_parts-taker.ensures.few c.from_vec.result c.args.clash c.in-Ok-Ok.table table
     (subst (AllByRecursion (IsRefusal g.J.Sharing.config s.intake.journal)) (sym c.from_vec.ensures) c.self.invariant.2.keeps.refusals)
     (subst (λ (h : HubState). c.args.clash ≡ clash_after g.J.Sharing.config h.taken.journal) (sym c.self.view_is) c.requires.clash)
     (subst (λ (h : HubState). c.args.clash ≡ None → CoversAll h.taken) (sym c.self.view_is) c.requires.covers)

@@ -1,7 +1,8 @@
-use Rattle.std.proofs.Common.{◌≡◌, ◌<◌, List, length, sym, subst, ◌∙◌, arith}
+use Rattle.std.proofs.Common.{◌≡◌, ℕ, ◌<◌, List, length, sym, subst, ◌∙◌, arith}
 use mathlib.Core.List.{IsPrefix}
 use Rattle.kp_publish.specs.declared.entry.Entry.{Entry}
 use Rattle.kp_publish.specs.Entries.{records_of}
+use Rattle.kp_hub.specs.Known.{known}
 use Rattle.kp_hub.specs.State.{HubState, state_in}
 use Rattle.kp_hub.specs.Syncs.{IsTold}
 use Rattle.kp_hub.specs.Taken.{records_at}
@@ -31,6 +32,7 @@ returns-clause-told g c =
     subst (λ (h : HubState). IsTold (length h.taken.counts) c.args.pass.now c.count_accepted.new.self) c.self.view_is
     (told g.J.Sharing.config s.intake s.publisher c.args.pass.now c.learn.new.self c.count_accepted.new.self c.count_accepted.new.book.total
     (subst (λ (h : HubState). records_of h.outlet.published ≡ records_at g.J.Sharing.config h.taken) (sym c.self.view_is) c.requires.records)
+    (subst (λ (n : ℕ). known c.args.pass.now < n) c.count.ensures c.knows_fewer.ensures)
     (c.learn.ensures.learned ∙ c.tell.ensures) c.learn.ensures.told
     (subst (λ (l : List Entry). IsPrefix l c.learn.new.self.told) c.tell.ensures c.learn.ensures.front)
     c.learn.ensures.seen c.learn.ensures.accepted c.learn.ensures.refused c.count_accepted.ensures.one c.count_accepted.ensures.bound
