@@ -1,8 +1,8 @@
 #!/usr/bin/env bash
-# The wall time of `kproxy live` on packets to a table of 1,000 Services: sent by one stream, by four,
-# and by four beside a fifth that changes a pod and syncs 2,000 times. The three run by turns; each
-# figure is the least of its runs, less what a run without lines takes. Then the most memory that
-# each held, and how much of it one packet more takes, with its line.
+# The wall time of `kproxy live` on packets to a table of 1,000 Services: sent by one stream, by
+# four, and by four beside a fifth that changes a pod and syncs 2,000 times. The three run by turns;
+# each figure is the least of its runs, less what a run without lines takes. Then the most memory
+# that each held, and how much of it one packet more takes, with its line.
 #   bench/live.sh [PACKETS [RUNS]]
 # With UNPROVED=yes before it, the program is not proved.
 set -eu
@@ -21,8 +21,8 @@ bench/streams.sh 1 "$services" $((packets / 2)) >"$work/half"
 bench/streams.sh 1 "$services" "$packets" >"$work/one"
 bench/streams.sh 4 "$services" "$packets" >"$work/four"
 bench/streams.sh 4 "$services" "$packets" "$changes" >"$work/five"
-echo "input: bench/streams.sh 1, 4 $services $packets, and 4 with $changes changes; wall time, the" \
-    "least of $runs by turns, on $(nproc) processors"
+echo "input: bench/streams.sh 1 and 4 $services $packets, and 4 with $changes changes; wall time," \
+    "the least of $runs by turns, on $(nproc) processors"
 "${program[@]}" <"$work/none" >/dev/null
 
 for ((run = 0; run < runs; run++)); do
