@@ -1,6 +1,6 @@
-# What the benches share: processor time, measured from outside. A figure is the difference of two
-# numbers of repeats, each the median of five runs, so that starting and reading what comes first
-# isn't in it. The caller sets the folder `work`.
+# What the benches share: time, measured from outside. A figure of processor time is the difference
+# of two numbers of repeats, each the median of five runs, so that starting and reading what comes
+# first isn't in it. The caller sets the folder `work`.
 
 # the processor time of a command on a file, in seconds; a command that fails ends the bench
 processor_seconds() { # $1: the file, then the command
@@ -12,6 +12,26 @@ processor_seconds() { # $1: the file, then the command
         return 1
     fi
     awk '{ printf "%.3f\n", $1 + $2 }' "$work/took"
+}
+
+# the wall time of a command on a file, in seconds; a command that fails ends the bench
+wall_seconds() { # as processor_seconds
+    local file=$1 TIMEFORMAT='%3R'
+    shift
+    if ! { time "$@" <"$file" >"$work/output" 2>"$work/complaints"; } 2>"$work/took"; then
+        echo "$*: failed" >&2
+        cat "$work/complaints" >&2
+        return 1
+    fi
+    cat "$work/took"
+}
+
+# the most memory that a command on a file held, in KB
+most_memory() { # as processor_seconds
+    local file=$1
+    shift
+    /usr/bin/time -f '%M' -o "$work/held" "$@" <"$file" >"$work/output" 2>"$work/complaints"
+    cat "$work/held"
 }
 
 # the median of five runs

@@ -4,10 +4,11 @@ use Rattle.std.specs.List.{flat_map}
 use Rattle.std.proofs.lemmas.List.{flat_map_more, map-append}
 use Rattle.std.proofs.lemmas.List.Concat.{flat_map-cons}
 use Rattle.kp_types.specs.declared.chain.Clash.{Clash}
+use Rattle.kp_types.specs.declared.verdict.Verdict.{Verdict}
 use Rattle.kp_live.specs.declared.answers.Answers.{Answers}
 use Rattle.kp_live.specs.declared.answers.Piece.{Piece}
 use Rattle.kp_live.specs.declared.answers.Piece.TheVariants as piece
-use Rattle.kp_live.specs.Told.{Told, Says, Denies, Keeps, bytes_told, clashes_told, piece_told}
+use Rattle.kp_live.specs.Told.{Told, Says, Decides, Denies, Keeps, bytes_told, clashes_told, piece_told, piece_decided}
 
 -- a text more
 pub keeps_text : (text : List ℕ) (pieces : List Piece) (clashes : List Clash) (told : List Told)
@@ -21,6 +22,20 @@ keeps_text text pieces clashes told bytes n t p len c = record {
       ∙ sym (map-append piece_told told (Says bytes ∷ []));
   clashes_are = c ∙ sym (append-nil (flat_map clashes_told told))
       ∙ flat_map_more clashes_told [] told (Says bytes);
+}
+
+-- a packet's verdict more
+pub keeps_verdict : (text : List ℕ) (pieces : List Piece) (clashes : List Clash)
+    (told : List Told) (sync : ℕ) (verdict : Verdict) → text ≡ flat_map bytes_told told
+    → pieces ≡ map piece_told told ++ piece_decided sync verdict ∷ []
+    → clashes ≡ flat_map clashes_told told
+    → Keeps text pieces clashes (told ++ Decides sync verdict ∷ [])
+keeps_verdict text pieces clashes told sync verdict t p c = record {
+  text_is = t ∙ sym (append-nil (flat_map bytes_told told))
+      ∙ flat_map_more bytes_told [] told (Decides sync verdict);
+  pieces_are = p ∙ sym (map-append piece_told told (Decides sync verdict ∷ []));
+  clashes_are = c ∙ sym (append-nil (flat_map clashes_told told))
+      ∙ flat_map_more clashes_told [] told (Decides sync verdict);
 }
 
 -- a refusal more

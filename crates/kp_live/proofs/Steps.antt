@@ -17,7 +17,7 @@ use Rattle.kp_table_defs.specs.Rebuild.{TableParts}
 use Rattle.kp_history_defs.specs.History.{table_from}
 use Rattle.kp_text_defs.specs.Live.{live_sync_text}
 use Rattle.kp_text_defs.specs.declared.packet.PacketLine.{PacketLine}
-use Rattle.kp_run_defs.specs.AnswerText.{answer_text, walk_at}
+use Rattle.kp_run_defs.specs.AnswerText.{walk_at}
 use Rattle.kp_run_defs.specs.LegalRuns.{Mark, Shows, Refuses, Seen, nothing_seen, seen_work, is_sync, is_shown}
 use Rattle.kp_run_defs.specs.LiveLines.{events_fed}
 use Rattle.kp_run_defs.specs.declared.live.StreamLine.{StreamLine}
@@ -27,9 +27,9 @@ use Rattle.kp_publish.specs.declared.entry.Entry.{Entry}
 use Rattle.kp_publish.specs.Entries.{records_of, table_of, GoesOnFrom}
 use Rattle.kp_publish.proofs.Beginnings.{begins_records, prefix_length}
 use Rattle.kp_hub.specs.Known.{Worker}
-use Rattle.kp_hub.specs.Reading.{Reads, answer_after, walk_after}
+use Rattle.kp_hub.specs.Reading.{Reads, walk_after}
 use Rattle.kp_hub.specs.Syncs.{IsTold}
-use Rattle.kp_live.specs.Told.{Told, Says, Denies, Holds}
+use Rattle.kp_live.specs.Told.{Told, Says, Denies, Holds, packet_told}
 use Rattle.kp_live.specs.Stands.{Stand}
 use Rattle.kp_live.specs.Streams.{Shown, Answering, GoesOnFromAll, known, FitsRecords, HasRun, HasFed, StandsBehind, SyncTold, PacketTold, nothing_told, answering, after_shown, with_shown, see_shown, seen_from, walk_from, is_accepted, is_denied}
 
@@ -211,7 +211,7 @@ module _ (start : TableParts) (config : Config) where
       λ i. record {
         told = told
             ++ (sent.told_is
-            ∙ ap (λ x. Says (answer_text line.number n p x.verdict x.trail)) walks) i ∷ [];
+            ∙ ap (λ x. packet_told line.number n p x) walks) i ∷ [];
         lists = (sent.lists_are ∙ ap (λ x. x.lists) walks) i;
       } in
       fits_more records shown (line, Shows n) now (record { told = told ++ next ∷ []; lists = left })

@@ -6,19 +6,22 @@ use Rattle.kp_base.specs.declared.config.Config.{Config}
 use Rattle.kp_types.specs.declared.event.Event.{Event}
 use Rattle.kp_types.specs.declared.sync.SyncRecord.{SyncRecord}
 use Rattle.kp_types.specs.declared.chain.Clash.{Clash}
+use Rattle.kp_types.specs.declared.verdict.Verdict.{Verdict}
 use Rattle.kp_choice_defs.specs.Recent.{RecentParts}
 use Rattle.kp_table_defs.specs.Rebuild.{TableParts}
+use Rattle.kp_table_defs.specs.Walk.{Walked}
 use Rattle.kp_history_defs.specs.Runs.{at_number}
 use Rattle.kp_text_defs.specs.Live.{live_sync_text}
+use Rattle.kp_text_defs.specs.Printed.{packet_text}
 use Rattle.kp_text_defs.specs.declared.packet.PacketLine.{PacketLine}
-use Rattle.kp_run_defs.specs.AnswerText.{answer_text}
+use Rattle.kp_run_defs.specs.AnswerText.{answer_text, trail_if}
 use Rattle.kp_run_defs.specs.LegalRuns.{LiveRun, Mark, Shows, Refuses, is_sync, is_shown}
 use Rattle.kp_run_defs.specs.LiveText.{Answered, after_answer, with_packet, with_work, decided_at, walked_at, sync_answer, packet_answer, is_refused_sync}
 use Rattle.kp_run_defs.specs.declared.live.StreamLine.{StreamLine}
 use Rattle.kp_run_defs.specs.declared.live.Work.{Work}
 use Rattle.kp_run_defs.specs.declared.live.Work.TheVariants.{Feeds, Syncs, Sends}
 use Rattle.kp_hub.specs.declared.notes.Refusal.{Refusal}
-use Rattle.kp_live.specs.Told.{Told, Says, Denies}
+use Rattle.kp_live.specs.Told.{Told, Says, Decides, Denies, packet_told}
 use Rattle.kp_live.specs.Streams.{Shown, Answering, after_shown, is_denied, with_shown, walk_from}
 use Rattle.kp_live.specs.Runs.{Telling, after_line, is_denial, with_line, with_next, told_text, kept_clash}
 use Rattle.kp_live.proofs.Merging.{line_of, is_shown_of}
@@ -39,6 +42,23 @@ or_assoc : (a b c : Bool) → ((a || b) || c) ≡ (a || (b || c))
 or_assoc true b c = refl
 or_assoc false b c = refl
 
+-- what a packet's line is told prints what it is answered
+says_packet : (refusals : List Refusal) (number sync : ℕ) (p : PacketLine) (w : Walked) (b : Bool)
+    → p.trail ≡ b
+    → told_text refusals number
+    (cond b (Says (answer_text number sync p w.verdict w.trail)) (Decides sync w.verdict))
+    ≡ answer_text number sync p w.verdict w.trail
+says_packet refusals number sync p w true is = refl
+says_packet refusals number sync p w false is =
+    sym (append-nil (packet_text number sync w.verdict))
+    ∙ ap (λ t. packet_text number sync w.verdict ++ trail_if t number w.trail) (sym is)
+
+-- and no refusal
+is_no_denial : (b : Bool) (bytes : List ℕ) (sync : ℕ) (verdict : Verdict)
+    → is_denial (cond b (Says bytes) (Decides sync verdict)) ≡ false
+is_no_denial true bytes sync verdict = refl
+is_no_denial false bytes sync verdict = refl
+
 pub or_false : (a : Bool) → (a || false) ≡ a
 or_false true = refl
 or_false false = refl
@@ -52,8 +72,7 @@ module _ (start : TableParts) (config : Config) (records : List SyncRecord) wher
   next_told number (Shows n) Syncs lists = Says (live_sync_text number n) ∷ []
   next_told number (Refuses clash) Syncs lists = Denies clash ∷ []
   next_told number (Shows n) (Sends p) lists =
-      let w = walk_from start config records n number p lists in
-      Says (answer_text number n p w.verdict w.trail) ∷ []
+      packet_told number n p (walk_from start config records n number p lists) ∷ []
   next_told number (Refuses clash) (Sends p) lists = []
 
   -- and the recent lists behind it
@@ -253,7 +272,7 @@ module _ (start : TableParts) (config : Config) (records : List SyncRecord) wher
         let lists = a.lists s.0.stream in
         let walk = walk_from start config records n s.0.number p lists in
         let decided = decided_at run n s.0.number p lists in
-        let next = Says (answer_text s.0.number n p walk.verdict walk.trail) in
+        let next = packet_told s.0.number n p walk in
         let new = decided.lists in
         let after : Answered = record {
           text = a.text ++ packet_answer run n s.0.number p lists;
@@ -265,14 +284,17 @@ module _ (start : TableParts) (config : Config) (records : List SyncRecord) wher
         let lists_are : next_lists s.0.number s.1 s.0.work lists ≡ new =
         (λ k. next_lists s.0.number (m k) (w k) lists) ∙ walks.lists n s.0.number p lists le in
         let there = next_left t.left a.lists s all next new is lists_are alike.left in
-        let says : answer_text s.0.number n p walk.verdict walk.trail
-        ≡ packet_answer run n s.0.number p lists =
-        λ k. answer_text s.0.number n p (walks.verdict n s.0.number p lists le k)
-        (walks.trail n s.0.number p lists le k) in
+        let says : told_text refusals s.0.number next ≡ packet_answer run n s.0.number p lists =
+        says_packet refusals s.0.number n p walk p.trail refl
+        ∙ (λ k. answer_text s.0.number n p (walks.verdict n s.0.number p lists le k)
+        (walks.trail n s.0.number p lists le k)) in
+        let no_denial : is_denial next ≡ is_denied s =
+        is_no_denial p.trail (answer_text s.0.number n p walk.verdict walk.trail) n walk.verdict
+        ∙ sym (ap (λ x. is_sync x && not (is_shown s.1)) w) in
         let now : Alike whole (with_next refusals s.0 (next ∷ rest) t) after all = record {
           text = λ k. alike.text k ++ says k;
-          denied = denied_on t.denied false (is_denied s) (list_any is_denied all) whole
-              (sym (ap (λ x. is_sync x && not (is_shown s.1)) w)) alike.denied;
+          denied = denied_on t.denied (is_denial next) (is_denied s) (list_any is_denied all) whole
+              no_denial alike.denied;
           left = λ i. rest_left t.left a.lists s all new alike.left i (i == s.0.stream) refl;
         } in
         subst (λ x. Alike whole x after all) (sym (takes_next s t next rest there)) now

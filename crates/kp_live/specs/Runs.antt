@@ -6,6 +6,7 @@ use Rattle.kp_types.specs.declared.chain.Clash.{Clash}
 use Rattle.kp_choice_defs.specs.Names.{same_chain_key}
 use Rattle.kp_text_defs.specs.declared.line_refusal.LineRefusal.TheVariants.{ChainClash}
 use Rattle.kp_text_defs.specs.Live.{record_text, final_text}
+use Rattle.kp_text_defs.specs.Printed.{packet_text}
 use Rattle.kp_text_defs.specs.Refusals.{refusal_text}
 use Rattle.kp_table_defs.specs.Rebuild.{TableParts}
 use Rattle.kp_history_defs.specs.Runs.{at_number}
@@ -22,7 +23,7 @@ use Rattle.kp_hub.specs.declared.notes.RecordNote.{RecordNote}
 use Rattle.kp_hub.specs.declared.notes.Refusal.{Refusal}
 use Rattle.kp_live.specs.Stands.{Stand}
 use Rattle.kp_live.specs.Streams.{StandsBehind}
-use Rattle.kp_live.specs.Told.{Told, Says, Denies, Holds, HoldsOn}
+use Rattle.kp_live.specs.Told.{Told, Says, Decides, Denies, Holds, HoldsOn}
 use Rattle.kp_live.specs.declared.answers.Answers.{Answers}
 use Rattle.kp_live.specs.declared.answers.ToldOn.{ToldOn}
 
@@ -47,12 +48,14 @@ kept_clash refusals clash =
 -- what a line prints
 abbrev pub told_text : List Refusal → ℕ → Told → List ℕ
 told_text refusals number (Says bytes) = bytes
+told_text refusals number (Decides sync verdict) = packet_text number sync verdict
 told_text refusals number (Denies clash) =
     refusal_text number (ChainClash (kept_clash refusals clash))
 
 -- a line prints a refusal
 abbrev pub is_denial : Told → Bool
 is_denial (Says bytes) = false
+is_denial (Decides sync verdict) = false
 is_denial (Denies clash) = true
 
 -- how far the telling has come: the text, whether a sync was refused, and what of each stream's

@@ -15,7 +15,7 @@ use Rattle.kp_table_defs.specs.Walk.{Walked}
 use Rattle.kp_history_defs.specs.History.{table_from}
 use Rattle.kp_text_defs.specs.Live.{live_sync_text}
 use Rattle.kp_text_defs.specs.declared.packet.PacketLine.{PacketLine}
-use Rattle.kp_run_defs.specs.AnswerText.{answer_text, walk_at}
+use Rattle.kp_run_defs.specs.AnswerText.{walk_at}
 use Rattle.kp_run_defs.specs.LegalRuns.{Mark, Shows, Refuses, Seen, nothing_seen, seen_work, is_sync, is_shown}
 use Rattle.kp_run_defs.specs.LiveLines.{events_fed}
 use Rattle.kp_run_defs.specs.ReplayText.{no_sources}
@@ -24,9 +24,9 @@ use Rattle.kp_run_defs.specs.declared.live.Work.{Work}
 use Rattle.kp_run_defs.specs.declared.live.Work.TheVariants.{Feeds, Syncs, Sends}
 use Rattle.kp_publish.specs.Entries.{records_of}
 use Rattle.kp_hub.specs.Known.{Worker, new_worker}
-use Rattle.kp_hub.specs.Reading.{Reads, answer_after, walk_after}
+use Rattle.kp_hub.specs.Reading.{Reads, walk_after}
 use Rattle.kp_hub.specs.Syncs.{IsTold}
-use Rattle.kp_live.specs.Told.{Told, Says, Denies, Holds}
+use Rattle.kp_live.specs.Told.{Told, Says, Denies, Holds, packet_told}
 use Rattle.kp_live.specs.Stands.{Stand}
 
 -- ---- Lines and what they show
@@ -62,7 +62,7 @@ module _ (start : TableParts) (config : Config) (records : List SyncRecord) wher
   abbrev pub with_packet_from : ℕ → ℕ → PacketLine → Answering → Answering
   with_packet_from n number p a =
       let w = walk_from n number p a.lists in record {
-        told = a.told ++ Says (answer_text number n p w.verdict w.trail) ∷ [];
+        told = a.told ++ packet_told number n p w ∷ [];
         lists = w.lists;
       }
 
@@ -165,5 +165,7 @@ pub record PacketTold
     (start : TableParts) (config : Config) (number : ℕ) (p : PacketLine)
     (before after : Worker) (lists left : RecentParts) (told : Told) : Type 0 where
   pub reads : Reads before after
-  pub told_is : told ≡ Says (answer_after start config after.seen number p lists)
+  pub told_is : told
+      ≡ packet_told number (length (records_of after.seen)) p
+      (walk_after start config after.seen number p lists)
   pub lists_are : left ≡ (walk_after start config after.seen number p lists).lists

@@ -2,30 +2,87 @@
 ghost use Rattle.std.specs.Prelude.{◌≡◌, ◌≤◌, ◌++◌, ◌∷◌, [], List, ℕ, None, OnOk};
 ghost use Rattle.std.specs.Prelude.{string_bytes, length};
 ghost use Rattle.kp_hub.specs.Reading.{Reads, answer_after, walk_after};
+ghost use Rattle.kp_publish.specs.Entries.{records_of};
 ghost use Rattle.kp_text_defs.specs.Live.{live_sync_text};
-ghost use Rattle.kp_live.specs.Told.{Told, Says, Denies, HasText, Holds, HoldsOn, IsAnswer};
+ghost use Rattle.kp_live.specs.Told.{Told, Says, Decides, Denies, HasText, Holds, HoldsOn};
+ghost use Rattle.kp_live.specs.Runs as runs;
+ghost use Rattle.kp_live.specs.Told.{IsAnswer, decided_in, packet_told, piece_decided};
 
-use kp_base::NoMemory;
+use kp_base::{Endpoint, NoMemory};
 use kp_hub::{Hub, Sharing, WorkerPass};
 use kp_recent::RecentLists;
 use kp_report::push_live_sync;
 use kp_script::PacketLine;
-use kp_types::Clash;
+use kp_streams::{StreamLine, Work};
+use kp_types::{Clash, Verdict};
 use std::alloc::Global;
 use std::sync::Wait;
 use std::sync::ledger::Ledger;
 
-/// What a line was answered.
-#[derive(Clone, Copy, Debug, PartialEq, Eq)]
+/// What a line was answered, in 48 bytes. A verdict within would take 64, so what becomes of a
+/// packet has variants here, each with the number of the sync that it is answered from.
+#[derive(Clone, Copy, Debug)]
 pub(crate) enum Piece {
     /// A text of so many bytes.
     Text(u32),
+    /// A packet goes to an endpoint.
+    To(u64, Endpoint),
+    /// It does, and its source is masqueraded.
+    Masked(u64, Endpoint),
+    Rejected(u64),
+    Dropped(u64),
+    LeftAlone(u64),
     /// A refused sync, whose text isn't known before the run has ended.
     Refusal,
 }
 
-/// What the lines of a stream that sync or send a packet were answered, in order. A packet costs its
-/// text and the length of that.
+impl Piece {
+    /// What is kept of what becomes of a packet by the sync of this number.
+    fn of(sync: u64, verdict: Verdict) -> Piece
+        ensures { result ≡ piece_decided sync verdict }
+    {
+        match verdict {
+            Verdict::To { endpoint, masked } if masked => Piece::Masked(sync, endpoint),
+            Verdict::To { endpoint, .. } => Piece::To(sync, endpoint),
+            Verdict::Rejected => Piece::Rejected(sync),
+            Verdict::Dropped => Piece::Dropped(sync),
+            Verdict::LeftAlone => Piece::LeftAlone(sync),
+        }
+    }
+
+    /// What becomes of the packet, and the number of its sync, where it is one of a packet.
+    fn decision(self) -> Option<(u64, Verdict)>
+        ensures { result ≡ decided_in self }
+    {
+        match self {
+            Piece::To(sync, endpoint) => {
+                let masked = false;
+                Some((sync, Verdict::To { endpoint, masked }))
+            }
+            Piece::Masked(sync, endpoint) => {
+                let masked = true;
+                Some((sync, Verdict::To { endpoint, masked }))
+            }
+            Piece::Rejected(sync) => Some((sync, Verdict::Rejected)),
+            Piece::Dropped(sync) => Some((sync, Verdict::Dropped)),
+            Piece::LeftAlone(sync) => Some((sync, Verdict::LeftAlone)),
+            Piece::Text(_) | Piece::Refusal => None,
+        }
+    }
+}
+
+/// Whether a line is answered: it syncs or sends a packet.
+pub(crate) fn is_answered(work: &Work) -> bool
+    ensures { result ≡ runs.is_answered work.now }
+{
+    match work {
+        Work::Feeds(_) => false,
+        Work::Syncs | Work::Sends(_) => true,
+    }
+}
+
+/// What the lines of a stream that sync or send a packet were answered, in order. A packet without
+/// a trail costs a piece, and no text.
 pub(crate) struct Answers {
     text: String,
     pieces: Vec<Piece>,
@@ -55,9 +112,42 @@ impl Answers {
         }
     }
 
-    /// Adds what the packet of the line of this number is answered from the table that was published
-    /// last.
+    /// Makes room for the answers of these lines.
+    pub(crate) fn make_room(&mut self, lines: &[&StreamLine]) -> Result<(), NoMemory>
+        ensures { (told : List Told) → Holds self.old told → Holds self.new told }
+    {
+        let answered = lines
+            .iter()
+            .filter(|line: &&&StreamLine| is_answered(&line.work))
+            .count();
+        Ok(self.pieces.reserve_exact(answered)?)
+    }
+
+    /// Adds what the packet of the line of this number is answered from a published table.
     pub(crate) fn add_packet<J: Sharing, A: Ledger, C: Ledger, R: Wait>(
+        &mut self,
+        rt: &R,
+        pass: &mut WorkerPass<J, A, C>,
+        number: u64,
+        line: &PacketLine,
+        lists: &mut RecentLists,
+    ) -> Result<(), NoMemory>
+        ensures reads { Reads pass.old pass.new }
+        ensures told { OnOk result ((told : List Told) → Holds self.old told → Holds self.new
+            (told ++ packet_told number (length (records_of pass.new.seen)) line.now
+            (walk_after J.start J.config pass.new.seen number line.now lists.old) ∷ [])) }
+        ensures lists { OnOk result (lists.new
+            ≡ (walk_after J.start J.config pass.new.seen number line.now lists.old).lists) }
+    {
+        if line.trail {
+            self.add_text(rt, pass, number, line, lists)
+        } else {
+            self.add_verdict(rt, pass, number, line, lists)
+        }
+    }
+
+    /// Adds the text of it.
+    fn add_text<J: Sharing, A: Ledger, C: Ledger, R: Wait>(
         &mut self,
         rt: &R,
         pass: &mut WorkerPass<J, A, C>,
@@ -75,6 +165,26 @@ impl Answers {
         let before = self.text.len();
         Hub::<J, A, C>::walk(rt, pass, number, line, lists, &mut self.text)?;
         self.close(before)
+    }
+
+    /// Adds what becomes of it.
+    fn add_verdict<J: Sharing, A: Ledger, C: Ledger, R: Wait>(
+        &mut self,
+        rt: &R,
+        pass: &mut WorkerPass<J, A, C>,
+        number: u64,
+        line: &PacketLine,
+        lists: &mut RecentLists,
+    ) -> Result<(), NoMemory>
+        ensures reads { Reads pass.old pass.new }
+        ensures told { OnOk result ((told : List Told) → Holds self.old told → Holds self.new
+            (told ++ Decides (length (records_of pass.new.seen))
+            (walk_after J.start J.config pass.new.seen number line.now lists.old).verdict ∷ [])) }
+        ensures lists { OnOk result (lists.new
+            ≡ (walk_after J.start J.config pass.new.seen number line.now lists.old).lists) }
+    {
+        let (sync, verdict) = Hub::<J, A, C>::verdict_of(rt, pass, number, line, lists)?;
+        Ok(self.pieces.push(Piece::of(sync, verdict))?)
     }
 
     /// Adds that the sync of the line of this number made a record.
@@ -125,6 +235,8 @@ impl Answers {
 #[derive(Drop)]
 pub(crate) enum Answer<'a> {
     Text(&'a [u8]),
+    /// What becomes of a packet by the sync of this number.
+    Decision(u64, Verdict),
     Refusal(&'a Clash),
 }
 
@@ -158,6 +270,10 @@ impl<'a> ToldOn<'a> {
                 let (clash, clashes) = self.clashes.split_first()?;
                 self.clashes = clashes;
                 Some(Answer::Refusal(clash))
+            }
+            decided => {
+                let (sync, verdict) = decided.decision()?;
+                Some(Answer::Decision(sync, verdict))
             }
         }
     }

@@ -7,24 +7,25 @@ ghost use Rattle.kp_streams.specs.Streams.{reading_in};
 ghost use Rattle.kp_text_defs.specs.declared.line_refusal.LineRefusal.TheVariants.{ChainClash};
 ghost use Rattle.kp_restore_defs.specs.TableText.{table_text_of};
 ghost use Rattle.kp_text_defs.specs.Live.{event_text, final_text, record_text};
+ghost use Rattle.kp_text_defs.specs.Printed.{packet_text};
 ghost use Rattle.kp_text_defs.specs.Refusals.{refusal_text};
 ghost use Rattle.kp_live.specs.Runs as runs;
 ghost use Rattle.kp_live.specs.Runs.{Telling};
 ghost use Rattle.kp_live.specs.Told.{Told, HoldsOn};
 ghost use Rattle.kp_live.specs.Written.{Prints, said_of};
 
-use crate::answers::{Answer, Answers, ToldOn};
+use crate::answers::{Answer, Answers, ToldOn, is_answered};
 use crate::fault::LiveFault;
 use crate::output::{write, write_made};
 use crate::refusals::kept_clash;
 use kp_base::{Copied, Items, NoMemory, Text};
 use kp_hub::{Fed, Finished, RecordNote, Refusal, Sharing};
 use kp_io::Sink;
-use kp_report::{push_event, push_final, push_record, push_refusal};
+use kp_report::{push_answer, push_event, push_final, push_record, push_refusal};
 use kp_restore::{Table, table_text};
 use kp_script::LineRefusal;
-use kp_streams::{RefusedLine, StreamLine, StreamLines, Work};
-use kp_types::Clash;
+use kp_streams::{RefusedLine, StreamLine, StreamLines};
+use kp_types::{Clash, Verdict};
 use std::alloc::Global;
 
 /// Writes the text of a run whose streams were answered so, and answers whether a line or the sync
@@ -254,9 +255,10 @@ fn print_lines<K: Sink>(
     ensures denied { (all : ℕ → List Told) → runs.AreLeft all told.old
         → IfOk result (λ denied. denied ≡ (runs.telling refusals.now all lines.now).denied) }
 {
+    let mut text = String::new(alloc);
     let mut denied = false;
     for line in lines {
-        match print_line(alloc, line, told, refusals, sink) {
+        match print_line(alloc, line, told, refusals, &mut text, sink) {
             Ok(more) => denied = either(denied, more),
             Err(fault) => return Err(fault),
         }
@@ -290,6 +292,7 @@ fn print_line<K: Sink>(
     line: &StreamLine,
     told: &mut [ToldOn<'_>],
     refusals: &[Refusal],
+    text: &mut String,
     sink: &mut K,
 ) -> Result<bool, LiveFault>
     ensures left { (t : Telling) → runs.AreLeft t.left told.old
@@ -304,17 +307,7 @@ fn print_line<K: Sink>(
     if !is_answered(&line.work) || place >= told.len() {
         return Ok(false);
     }
-    print_next(alloc, line.number, &mut told[place], refusals, sink)
-}
-
-/// Whether a line is answered: it syncs or sends a packet.
-fn is_answered(work: &Work) -> bool
-    ensures { result ≡ runs.is_answered work.now }
-{
-    match work {
-        Work::Feeds(_) => false,
-        Work::Syncs | Work::Sends(_) => true,
-    }
+    print_next(alloc, line.number, &mut told[place], refusals, text, sink)
 }
 
 /// Writes the next answer of a stream, which is that of the line of this number, and answers whether
@@ -324,6 +317,7 @@ fn print_next<K: Sink>(
     number: u64,
     told: &mut ToldOn<'_>,
     refusals: &[Refusal],
+    text: &mut String,
     sink: &mut K,
 ) -> Result<bool, LiveFault>
     ensures next { (t : Told) (rest : List Told) → HoldsOn told.old (t ∷ rest)
@@ -335,6 +329,9 @@ fn print_next<K: Sink>(
 {
     match told.next() {
         Some(Answer::Text(bytes)) => said(write(sink, bytes), false),
+        Some(Answer::Decision(sync, verdict)) => {
+            said(print_verdict(number, sync, &verdict, text, sink), false)
+        }
         Some(Answer::Refusal(clash)) => {
             let clash = kept_clash(refusals, clash, &mut told.found);
             said(print_denied(alloc, number, clash, sink), true)
@@ -351,6 +348,22 @@ fn said(written: Result<(), LiveFault>, refusal: bool) -> Result<bool, LiveFault
         Ok(()) => Ok(refusal),
         Err(fault) => Err(fault),
     }
+}
+
+/// Writes what becomes of the packet of the line of this number, by the sync of that number.
+fn print_verdict<K: Sink>(
+    number: u64,
+    sync: u64,
+    verdict: &Verdict,
+    text: &mut String,
+    sink: &mut K,
+) -> Result<(), LiveFault>
+    ensures { Prints result (packet_text number sync verdict.now)
+        (K.written sink.old) (K.written sink.new) (K.faults sink.old) (K.faults sink.new) }
+{
+    text.clear();
+    let made = push_answer(text, number, sync, verdict);
+    write_made(made, text.as_bytes(), sink)
 }
 
 /// Writes that the sync of the line of this number was refused.

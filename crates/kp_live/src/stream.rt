@@ -191,6 +191,16 @@ impl<J: Sharing, A: Ledger, C: Ledger> Standing<J, A, C> {
         answered
     }
 
+    /// Makes room for the answers of these lines.
+    fn make_room(&mut self, lines: &[&StreamLine]) -> Result<(), NoMemory>
+        ensures queue { self.new.feeder.queue ≡ self.old.feeder.queue }
+        ensures feeder { self.new.feeder.feeder ≡ self.old.feeder.feeder }
+        ensures behind { (lines : List StreamLine) → StandsBehind J.start J.config lines self.old
+            → StandsBehind J.start J.config lines self.new }
+    {
+        self.answers.make_room(lines)
+    }
+
     /// Its passes, and what its lines were answered.
     pub(crate) fn into_parts(self) -> (FeedPass, WorkerPass<J, A, C>, Answers)
         ensures feeder { result.0 ≡ self.feeder }
@@ -278,6 +288,7 @@ fn take_all<J: Sharing, A: Ledger, C: Ledger, R: Wait, G: Gate<R>>(
     ensures { OnOk result (RunsOn J.start J.config (map (λ l. l.now) lines.now)
         standing.old standing.new) }
 {
+    standing.make_room(lines)?;
     for line in lines {
         standing.take(rt, alloc, hub, gate, line)?;
     }
