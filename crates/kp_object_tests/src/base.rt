@@ -1,8 +1,7 @@
 //! Each call of kp_base with enough memory, with each kind of its answers.
 ghost use Rattle.std.specs.Prelude.{◌≡◌, ◌<◌};
 
-use crate::keys::{object, port_key};
-use crate::words::is_copied;
+use crate::keys::{is_copied, object, port_key};
 use kp_base::{
     Address, BadAddress, BadCidr, Cidr, Config, Copied, Endpoint, Family, Items, NoMemory,
     ObjectKey, Pair, PortNo, Proto, Steps, Text, is_label_value, is_name, is_port_name,

@@ -1,7 +1,5 @@
-//! Names of chains, and copies of their keys and of records. Copies of objects are tested where
-//! objects are read.
-use crate::keys::port_key;
-use crate::words::is_copied;
+//! Names of chains, and copies of their keys and of records.
+use crate::keys::{is_copied, port_key};
 use arrayvec::ArrayVec;
 use kp_base::{Address, Cidr, Copied, Endpoint, Items, NoMemory, PortNo, Shared};
 use kp_types::{

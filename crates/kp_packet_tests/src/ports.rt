@@ -2,7 +2,7 @@
 ghost use Rattle.std.specs.Prelude.{◌≡◌, ◌<◌};
 
 use crate::tables::push_line;
-use crate::transcript::{op_of, unfolded};
+use crate::lines::{op_of, unfolded};
 use kp_base::{Address, Config, Endpoint, Items, NoMemory, PortNo, Steps};
 use kp_chains::{port_block, port_chains};
 use kp_rule_text::push_rule;
