@@ -1,6 +1,6 @@
-//! Tests of the calls of what all else stands on: kp_base, kp_types, kp_io, kp_json and kp_names.
-//! What objects and lines are read as is worked out in `kp_worked_texts`; the built program reads
-//! them row by row.
+//! Tests of the calls of what all else stands on: kp_base, kp_types, kp_io and kp_json. What texts,
+//! objects and lines are read as, and how chains are named, is worked out in `kp_worked_texts`; the
+//! built program reads objects and lines row by row.
 #![tactic(auto)]
 
 #[cfg(test)]
@@ -11,7 +11,5 @@ mod io;
 mod json;
 #[cfg(test)]
 mod keys;
-#[cfg(test)]
-mod names;
 #[cfg(test)]
 mod types;

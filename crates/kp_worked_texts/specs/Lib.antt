@@ -8,3 +8,5 @@ pub mod Services
 pub mod EndpointSlices
 pub mod Pods
 pub mod Lines
+pub mod Fields
+pub mod ChainNames

@@ -21,29 +21,33 @@ abbrev pub AllOfPacket : Type 0
 AllOfPacket =
     Reads told read_packet
     (codes "{'from':'node','src':'10.244.9.9','dst':'10.96.0.10','proto':'UDP','sport':9,"
-    ++ codes "'dport':53,'now':7,'draws':[5,6],'seed':1,'trail':true}")
-    (record {
-      from = Node;
-      source = v4_address 183765257;
-      target = v4_address 174063626;
-      proto = Udp;
-      port = 53;
-      now = 7;
-    }, (draws.List (5 ∷ 6 ∷ []), true))
+    ++ codes "'dport':53,'now':7,'draws':[5,6],'seed':1,'trail':true}") (
+      record {
+        from = Node;
+        source = v4_address 183765257;
+        target = v4_address 174063626;
+        proto = Udp;
+        port = 53;
+        now = 7;
+      },
+      (draws.List (5 ∷ 6 ∷ []), true),
+    )
 
 -- a packet line without the members that may be left out, but with these, has these draws
 abbrev pub DrawsAre : List ℕ → Draws → Type 0
 DrawsAre more drawn =
     Reads told read_packet
-    (codes "{'src':'10.244.9.9','dst':'10.96.0.10','dport':80" ++ more ++ codes "}")
-    (record {
-      from = Wire;
-      source = v4_address 183765257;
-      target = v4_address 174063626;
-      proto = Tcp;
-      port = 80;
-      now = 0;
-    }, (drawn, false))
+    (codes "{'src':'10.244.9.9','dst':'10.96.0.10','dport':80" ++ more ++ codes "}") (
+      record {
+        from = Wire;
+        source = v4_address 183765257;
+        target = v4_address 174063626;
+        proto = Tcp;
+        port = 80;
+        now = 0;
+      },
+      (drawn, false),
+    )
 
 -- with none
 abbrev pub PlainPacket : Type 0
@@ -63,9 +67,22 @@ Told = List ℕ × (List AddressParts × (Option RangeParts × (Bool × (Bool ×
 
 -- what a configuration tells
 abbrev pub told_by : Config → Told
-told_by c =
-    (c.node, (c.addresses, (c.cluster, (c.masquerade_all, (c.controller,
-    c.max_per_slice ∷ c.max_events ∷ c.recent_size ∷ c.name_length ∷ [])))))
+told_by c = (
+  c.node,
+  (
+    c.addresses,
+    (
+      c.cluster,
+      (
+        c.masquerade_all,
+        (
+          c.controller,
+          c.max_per_slice ∷ c.max_events ∷ c.recent_size ∷ c.name_length ∷ [],
+        ),
+      ),
+    ),
+  ),
+)
 
 -- a setting with each member; an address of another family is passed over
 abbrev pub AllOfSetting : Type 0
@@ -73,10 +90,22 @@ AllOfSetting =
     Reads told_by read_config
     (codes "{'node':'n1','nodeAddresses':['10.0.0.1','fd00::1','10.0.0.2'],"
     ++ codes "'clusterCIDR':'10.244.9.9/16','masqueradeAll':true,'controller':false,"
-    ++ codes "'maxEndpointsPerSlice':2,'maxEvents':3,'recentSize':4,'nameLength':5}")
-    (codes "n1", (v4_address 167772161 ∷ v4_address 167772162 ∷ [],
-    (Some (record { base = v4_address 183762944; bits = 16 }), (true, (false,
-    2 ∷ 3 ∷ 4 ∷ 5 ∷ [])))))
+    ++ codes "'maxEndpointsPerSlice':2,'maxEvents':3,'recentSize':4,'nameLength':5}") (
+      codes "n1",
+      (
+        v4_address 167772161 ∷ v4_address 167772162 ∷ [],
+        (
+          Some (record { base = v4_address 183762944; bits = 16 }),
+          (
+            true,
+            (
+              false,
+              2 ∷ 3 ∷ 4 ∷ 5 ∷ [],
+            ),
+          ),
+        ),
+      ),
+    )
 
 -- what a setting tells where nothing is said
 abbrev pub default : Told
