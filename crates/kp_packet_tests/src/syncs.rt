@@ -3,7 +3,6 @@ ghost use Rattle.std.specs.Prelude.{◌≡◌, ◌<◌};
 
 use crate::lines::unfolded;
 use crate::ports::{config_of, lists_of};
-use crate::tables::{push_line, table_of};
 use kp_base::{Address, Config, Items, NoMemory, ObjectKey, PortKey, PortNo, Proto, Steps, Text};
 use kp_full_table::{TableFault, table_of_infos};
 use kp_restore::{batch_text, table_text};
