@@ -1,5 +1,5 @@
-//! Tests of the calls that packets cross: draws, session affinity, the store, and the next rule of a
-//! table; the syncs of a writer; what is printed: each call of kp_report, kp_gen, which gives the
+//! Tests of the calls that packets cross: draws, session affinity, the store, and the next rule of
+//! a table; the syncs of a writer; what is printed: each call of kp_report, kp_gen, which gives the
 //! lines of a script, kp_rule_text and kp_restore, which read and print the texts of tables and
 //! batches; tests with threads: events that four feed and one takes, and published tables that two
 //! read beside the publisher, or that one reads who learns what the publisher tells.

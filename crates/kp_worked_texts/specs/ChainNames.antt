@@ -1,5 +1,5 @@
--- Worked names of chains: those that kube-proxy gives, computed by sha256sum and base32 of coreutils, and clashes of
--- shortened names.
+-- Worked names of chains: those that kube-proxy gives, computed by sha256sum and base32 of
+-- coreutils, and clashes of shortened names.
 use Rattle.std.specs.Prelude.{◌≡◌, ℕ, List, [], ◌∷◌, codes, map, Option, Some, None}
 use Rattle.kp_base.specs.declared.port.Proto.TheVariants.{Tcp}
 use Rattle.kp_base.specs.declared.key.PortKey.{PortKey}
@@ -17,7 +17,8 @@ port_of service name = record { object = object service; port_name = name; proto
 
 -- the name of a chain of the API server's Service, of so many characters of its hash
 abbrev pub named : ℕ → PortChain → List ℕ
-named characters kind = port_chain_name characters kind (port_of (codes "kubernetes") (codes "https"))
+named characters kind =
+    port_chain_name characters kind (port_of (codes "kubernetes") (codes "https"))
 
 -- what a port's chain is for stands in the prefix alone
 abbrev pub OfPort : Type 0
@@ -34,7 +35,8 @@ OfEndpoint = endpoint_chain_name 16 (web []) first ≡ codes "KUBE-SEP-PXJ2U7QYT
 abbrev pub chain_of : List ℕ → ChainKey
 chain_of service = Port Svc (port_of service [])
 
--- The chains of five Services, of which one comes twice. The names of d and b begin with W, those of k and u with I.
+-- The chains of five Services, of which one comes twice. The names of d and b begin with W, those of
+-- k and u with I.
 abbrev pub five : List ChainKey
 five = map chain_of (codes "d" ∷ codes "k" ∷ codes "u" ∷ codes "d" ∷ codes "b" ∷ [])
 

@@ -1,5 +1,5 @@
--- Worked readings of single fields of JSON objects (Kubernetes API conventions, "Optional vs. Required"), and of whole
--- texts (RFC 8259, of at most 127 levels).
+-- Worked readings of single fields of JSON objects (Kubernetes API conventions, "Optional vs.
+-- Required"), and of whole texts (RFC 8259, of at most 127 levels).
 use Rattle.std.specs.Prelude.{◌≡◌, ℕ, true, List, [], ◌∷◌, ◌++◌, codes, map, replicate, Option, Some, None, is_some, is_none, option_map, option_and_then, Result, Ok, Err}
 use Rattle.std.specs.List.{list_all}
 use Rattle.json.specs.Print as print
@@ -85,7 +85,7 @@ Absent =
     × (asked (λ p. option_map (λ q. q.path) (label (codes "b/c.d") p)) (codes "labels")
     ≡ Some (Some (codes "labels.b/c.d")))
 
--- the faults of a list: it has no members, no text, no element behind its last, or too many elements
+-- the faults of a list: it has no members, no text, no element behind its last, or too many of them
 abbrev pub OfList : Type 0
 OfList =
     (asked (λ p. field_at p (codes "a")) (codes "list")

@@ -117,7 +117,7 @@ Empty =
       distinct = refl;
     })
 
--- a cluster address of another family is passed over, and of a member that comes twice the last counts
+-- a cluster address of another family is passed over; of a member that comes twice the last counts
 abbrev pub Passed : Type 0
 Passed =
     Is

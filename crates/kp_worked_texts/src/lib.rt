@@ -1,5 +1,5 @@
-//! Texts that are read and lines that are printed, worked out. Each example is a clause of a function
-//! that does nothing; what calls answer in these cases is what their clauses say.
+//! Texts that are read and lines that are printed, worked out. Each example is a clause of a
+//! function that does nothing; what calls answer in these cases is what their clauses say.
 #![tactic(auto)]
 
 mod fields;

@@ -26,10 +26,11 @@ pub fn worked_addresses()
     ensures least { address_of (codes "0.0.0.0") ≡ Some (v4_address 0) }
     ensures greatest { address_of (codes "255.255.255.255") ≡ Some (v4_address 4294967295) }
     ensures others { list_all (λ text. is_none (address_of text))
-        ([] ∷ codes "256.0.0.1" ∷ codes "192.168.1.256" ∷ codes "1.2.3.999999999999" ∷ codes "1.2.3" ∷ codes "1.2.3.4.5"
-        ∷ codes "..." ∷ codes "1..2.3" ∷ codes ".1.2.3" ∷ codes "1.2.3." ∷ codes "01.2.3.4"
-        ∷ codes "1.2.3.00" ∷ codes "1.2.3.04" ∷ codes " 1.2.3.4" ∷ codes "1.2.3.4 "
-        ∷ codes "+1.2.3.4" ∷ codes "0x1.2.3.4" ∷ codes "1.2.3.a" ∷ codes "1.2.3.4/32" ∷ []) ≡ true }
+        ([] ∷ codes "256.0.0.1" ∷ codes "192.168.1.256" ∷ codes "1.2.3.999999999999"
+        ∷ codes "1.2.3" ∷ codes "1.2.3.4.5" ∷ codes "..." ∷ codes "1..2.3" ∷ codes ".1.2.3"
+        ∷ codes "1.2.3." ∷ codes "01.2.3.4" ∷ codes "1.2.3.00" ∷ codes "1.2.3.04"
+        ∷ codes " 1.2.3.4" ∷ codes "1.2.3.4 " ∷ codes "+1.2.3.4" ∷ codes "0x1.2.3.4"
+        ∷ codes "1.2.3.a" ∷ codes "1.2.3.4/32" ∷ []) ≡ true }
 {}
 
 /// Texts that are ranges, texts that are none, and what ranges hold.
