@@ -1,5 +1,5 @@
 -- Worked readings of EndpointSlices (Kubernetes API, EndpointSlice discovery.k8s.io/v1).
-use Rattle.std.specs.Prelude.{◌≡◌, ℕ, Bool, true, false, List, [], ◌∷◌, ◌++◌, codes, Some, None}
+use Rattle.std.specs.Prelude.{ℕ, true, false, List, [], ◌∷◌, ◌++◌, codes, Some, None}
 use Rattle.kp_base.specs.Net.{v4_address}
 use Rattle.kp_base.specs.declared.port.Proto.TheVariants.{Tcp, Udp}
 use Rattle.kp_types.specs.declared.slice.AddressType.{AddressType}

@@ -1,5 +1,5 @@
 -- Worked readings of Pods and Nodes (Kubernetes API, Pod v1 and Node v1).
-use Rattle.std.specs.Prelude.{◌≡◌, ℕ, Bool, true, false, List, [], ◌∷◌, ◌++◌, codes, Option, Some, None}
+use Rattle.std.specs.Prelude.{ℕ, Bool, true, false, List, [], ◌∷◌, ◌++◌, codes, Option, Some, None}
 use Rattle.kp_base.specs.Net.{v4_address}
 use Rattle.kp_base.specs.declared.port.Proto.TheVariants.{Tcp, Sctp}
 use Rattle.kp_types.specs.declared.pod.Pod.{Pod}

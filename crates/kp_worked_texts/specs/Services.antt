@@ -1,7 +1,6 @@
 -- Worked readings of Services (Kubernetes API, Service v1).
-use Rattle.std.specs.Prelude.{◌≡◌, ℕ, Bool, true, false, refl, List, [], ◌∷◌, ◌++◌, codes, Option, Some, None}
+use Rattle.std.specs.Prelude.{ℕ, true, false, refl, List, [], ◌∷◌, ◌++◌, codes, Option, Some, None}
 use Rattle.kp_base.specs.Net.{RangeParts, v4_address}
-use Rattle.kp_base.specs.declared.key.ObjectKey.{ObjectKey}
 use Rattle.kp_base.specs.declared.port.Proto.TheVariants.{Tcp, Udp, Sctp}
 use Rattle.kp_types.specs.declared.service.Service.{Service}
 use Rattle.kp_types.specs.declared.service.ServiceKind.{ServiceKind}
