@@ -1,74 +1,17 @@
-//! Each call of kp_base with enough memory, with each kind of its answers.
+//! Each call of kp_base that takes memory, with enough of it, and the orders of its values. What
+//! texts are to the others is worked out in `kp_worked_texts`.
 ghost use Rattle.std.specs.Prelude.{◌≡◌, ◌<◌};
 
-use crate::keys::{object, port_key};
-use crate::words::is_copied;
+use crate::keys::{is_copied, object, port_key};
 use kp_base::{
-    Address, BadAddress, BadCidr, Cidr, Config, Copied, Endpoint, Family, Items, NoMemory,
-    ObjectKey, Pair, PortNo, Proto, Steps, Text, is_label_value, is_name, is_port_name,
-    printed_addresses_are_read, split_once,
+    Address, Cidr, Config, Copied, Endpoint, Family, Items, NoMemory, ObjectKey, Pair, PortNo,
+    Proto, Steps, Text,
 };
 use std::alloc::Global;
 use std::marker::Brand;
 use std::mem::size_of;
 use std::sync::ledger::{Blank, Ledger};
 use std::test::Fail;
-
-#[test]
-fn addresses_and_ranges_are_read(rt: HostRuntime) -> Result<(), Fail> {
-    let address = Address::v4(0xc0a8_014d);
-    assert!(rt; Address::parse(b"192.168.1.77") == Ok(address));
-    assert!(rt; Address::parse(b"192.168.1.256") == Err(BadAddress));
-    assert!(rt; address.family() == Family::V4 && address.number() == 0xc0a8_014d);
-    let range = Cidr::parse(b"192.168.1.77/26")?;
-    assert!(rt; range.base() == Address::v4(0xc0a8_0140) && range.bits() == 26);
-    assert!(rt; Cidr::parse(b"10.0.0.0/33") == Err(BadCidr));
-    assert!(rt; range.contains(&address) && !Cidr::single(range.base()).contains(&address));
-    printed_addresses_are_read(192, 168, 1, 77);
-    Ok(())
-}
-
-#[test]
-fn names_and_values_are_told_from_others(rt: HostRuntime) {
-    assert!(rt; is_name(b"web-1.example") && !is_name(b"-web"));
-    assert!(rt; is_name(&[b'a'; 253]) && !is_name(&[b'a'; 254]));
-    assert!(rt; is_port_name(b"8080-tcp") && !is_port_name(b"HTTP"));
-    assert!(rt; is_port_name(&[b'a'; 63]) && !is_port_name(&[b'a'; 64]));
-    assert!(rt; is_label_value(b"Web_1.x-Z") && !is_label_value(b"a b"));
-    assert!(rt; is_label_value(&[b'A'; 63]) && !is_label_value(&[b'A'; 64]));
-}
-
-/// The port of a number, and 0 for none.
-fn port(number: u64) -> u16 {
-    match PortNo::new(number) {
-        Some(port) => port.get(),
-        None => 0,
-    }
-}
-
-#[test]
-fn ports_are_1_to_65535(rt: HostRuntime) {
-    assert!(rt; port(0) == 0 && port(1) == 1);
-    assert!(rt; port(65_535) == 65_535 && port(65_536) == 0 && port(65_537) == 0);
-}
-
-/// Whether the first equals sign cuts a text into these two.
-fn is_cut(text: &[u8], before: &[u8], behind: &[u8]) -> bool {
-    match split_once(text, b'=') {
-        Some((left, right)) => left == before && right == behind,
-        None => false,
-    }
-}
-
-/// Whether no equals sign cuts a text.
-fn is_whole(text: &[u8]) -> bool {
-    split_once(text, b'=').is_none()
-}
-
-#[test]
-fn a_text_is_cut_at_the_first_such_byte(rt: HostRuntime) {
-    assert!(rt; is_cut(b"a=b=c", b"a", b"b=c") && is_cut(b"=", b"", b"") && is_whole(b"app"));
-}
 
 #[test]
 fn a_list_keeps_what_is_pushed(rt: HostRuntime) -> Result<(), Fail> {

@@ -1,5 +1,5 @@
-//! Keys of objects and of ports, and words that are numbers.
-use kp_base::{NoMemory, ObjectKey, PortKey, Proto, Text};
+//! Keys of objects and of ports, copies, and words that are numbers.
+use kp_base::{Copied, NoMemory, ObjectKey, PortKey, Proto, Text};
 use std::alloc::Global;
 
 /// The object of this namespace and name.
@@ -23,4 +23,9 @@ pub(crate) fn port_key(alloc: Global, service: &str, name: &str) -> Result<PortK
 /// Whether a word is this number.
 pub(crate) fn is_number(word: &str, number: u64) -> bool {
     word.parse::<u64>() == Ok(number)
+}
+
+/// Whether the copy of a value is equal to it.
+pub(crate) fn is_copied<T: Copied + PartialEq>(alloc: Global, value: &T) -> Result<bool, NoMemory> {
+    Ok(value.copy(alloc)? == *value)
 }

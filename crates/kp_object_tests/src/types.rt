@@ -1,7 +1,5 @@
-//! Names of chains, and copies of their keys and of records. Copies of objects are tested where
-//! objects are read.
-use crate::keys::port_key;
-use crate::words::is_copied;
+//! Copies of the keys of chains and of records.
+use crate::keys::{is_copied, port_key};
 use arrayvec::ArrayVec;
 use kp_base::{Address, Cidr, Copied, Endpoint, Items, NoMemory, PortNo, Shared};
 use kp_types::{
@@ -10,15 +8,6 @@ use kp_types::{
 };
 use std::alloc::Global;
 use std::test::Fail;
-
-#[test]
-fn chains_are_named(rt: HostRuntime) {
-    assert!(rt; ChainName::of(b"DROP").is_none() && ChainName::of(&[b'K', 0xff]).is_none());
-    match ChainName::of(b"KUBE-SEP") {
-        Some(name) => assert!(rt; name.as_str() == "KUBE-SEP"),
-        None => assert!(rt; false, "a name"),
-    }
-}
 
 /// A rule of two matches that leads to an endpoint.
 fn rule(port: PortNo) -> Rule {

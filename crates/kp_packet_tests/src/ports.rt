@@ -1,8 +1,8 @@
 //! The chains of one port, and its rules in the shared chains.
 ghost use Rattle.std.specs.Prelude.{◌≡◌, ◌<◌};
 
+use crate::lines::{op_of, unfolded};
 use crate::tables::push_line;
-use crate::transcript::{op_of, unfolded};
 use kp_base::{Address, Config, Endpoint, Items, NoMemory, PortNo, Steps};
 use kp_chains::{port_block, port_chains};
 use kp_rule_text::push_rule;

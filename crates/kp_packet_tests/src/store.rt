@@ -1,5 +1,5 @@
 //! What each look-up finds among the objects after events.
-use crate::transcript::op_of;
+use crate::lines::op_of;
 use kp_base::{Address, Items, NoMemory, ObjectKey, PortNo, Proto, Text};
 use kp_print::push;
 use kp_script::Op;

@@ -1,9 +1,8 @@
 //! Syncs of a writer: what each writes, by the ports that were put and dropped before it.
 ghost use Rattle.std.specs.Prelude.{◌≡◌, ◌<◌};
 
+use crate::lines::unfolded;
 use crate::ports::{config_of, lists_of};
-use crate::tables::{push_line, table_of};
-use crate::transcript::unfolded;
 use kp_base::{Address, Config, Items, NoMemory, ObjectKey, PortKey, PortNo, Proto, Steps, Text};
 use kp_full_table::{TableFault, table_of_infos};
 use kp_restore::{batch_text, table_text};

@@ -4,7 +4,6 @@ use crate::tables::{TABLE, table_of};
 use kp_base::{Address, PortNo, Proto};
 use kp_restore::Table;
 use kp_types::{ChainAt, ChainName, TableName};
-use std::alloc::Global;
 use std::test::*;
 
 /// Chains of nat, a place in each, destinations, and the place of the next rule for them, or `-`

@@ -1,0 +1,12 @@
+pub mod Setting
+pub mod Answers
+pub mod Live
+pub mod Refusals
+pub mod Slices
+pub mod Readings
+pub mod Services
+pub mod EndpointSlices
+pub mod Pods
+pub mod Lines
+pub mod Fields
+pub mod ChainNames

@@ -1,0 +1,42 @@
+//! Objects and lines that are known from what people write in them.
+ghost use Rattle.kp_worked_texts.specs.EndpointSlices as slices;
+ghost use Rattle.kp_worked_texts.specs.Lines as lines;
+ghost use Rattle.kp_worked_texts.specs.Pods as pods;
+ghost use Rattle.kp_worked_texts.specs.Services as services;
+
+/// Services with all members, with none, with empty ones, and with some of another family.
+pub fn worked_services()
+    ensures all { services.All }
+    ensures defaults { services.Defaults }
+    ensures empty { services.Empty }
+    ensures passed { services.Passed }
+    ensures closed { services.Closed }
+{}
+
+/// Slices with all members, and of other address types.
+pub fn worked_endpoint_slices()
+    ensures all { slices.All }
+    ensures host_names { slices.HostNames }
+    ensures other_family { slices.OtherFamily }
+{}
+
+/// Pods with all members and in their phases, and nodes.
+pub fn worked_pods()
+    ensures all { pods.All }
+    ensures succeeded { pods.Succeeded }
+    ensures failed { pods.Failed }
+    ensures other_phase { pods.OtherPhase }
+    ensures zoned { pods.Zoned }
+    ensures unzoned { pods.Unzoned }
+{}
+
+/// The members of packets and of settings, and what they are where nothing is said.
+pub fn worked_members()
+    ensures packet { lines.AllOfPacket }
+    ensures plain { lines.PlainPacket }
+    ensures listed { lines.ListBeforeSeed }
+    ensures seeded { lines.SeedAlone }
+    ensures setting { lines.AllOfSetting }
+    ensures default { lines.DefaultSetting }
+    ensures none { lines.NoSetting }
+{}
