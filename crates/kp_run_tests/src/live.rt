@@ -7,7 +7,7 @@ use kp_run::Status;
 use std::alloc::Global;
 use std::process::Abort;
 use std::sync::Wait;
-use std::sync::atomic::{AtomicBool, AtomicU64, Ordering};
+use std::sync::atomic::{AtomicU32, Ordering};
 use std::test::Fail;
 use std::thread::Threads;
 
@@ -16,11 +16,10 @@ use std::thread::Threads;
 #[derive(Drop)]
 struct CountingGate {
     holds: HoldGate,
-    /// The passages of the first stream, and those of the second.
-    first: AtomicU64,
-    second: AtomicU64,
-    /// Whether one came out of turn.
-    strayed: AtomicBool,
+    /// The passages of the first stream, those of the second, and those of both out of turn.
+    first: AtomicU32,
+    second: AtomicU32,
+    strayed: AtomicU32,
 }
 
 impl CountingGate {
@@ -30,16 +29,17 @@ impl CountingGate {
             0 => &self.first,
             _ => &self.second,
         };
-        if passed.fetch_add(1, Ordering::SeqCst) != number {
-            self.strayed.store(true, Ordering::SeqCst);
+        if u64::from(passed.fetch_add(1, Ordering::SeqCst)) != number {
+            self.strayed.fetch_add(1, Ordering::SeqCst);
         }
     }
 
-    /// Whether each passage came in turn, so many of each stream, and no hold ended by its turns.
-    fn has_seen(&self, first: u64, second: u64) -> bool {
-        self.first.load(Ordering::SeqCst) == first
-            && self.second.load(Ordering::SeqCst) == second
-            && !self.strayed.load(Ordering::SeqCst)
+    /// Whether so many calls of each stream have passed twice, in turn, and no hold ended by its
+    /// turns.
+    fn has_passed(&self, calls: (u32, u32)) -> bool {
+        self.first.load(Ordering::SeqCst) == calls.0.wrapping_mul(2)
+            && self.second.load(Ordering::SeqCst) == calls.1.wrapping_mul(2)
+            && self.strayed.load(Ordering::SeqCst) == 0
             && !self.holds.ran_out()
     }
 }
@@ -56,8 +56,8 @@ impl<R> Gate<R> for CountingGate {
     }
 }
 
-/// The hold that a word tells. `b1-a3` holds the first call of stream `b` until the third one of `a`
-/// has left, and `b1+a3` until it has arrived.
+/// The hold that a word tells. `b1-a3` holds the first call of stream `b` until the third one of
+/// `a` has left, and `b1+a3` until it has arrived.
 fn hold_of(word: &str) -> Result<Hold, Fail> {
     let [worker, call, until, other_worker, other_call] = word.as_bytes() else {
         return Err(Fail::from("a hold"));
@@ -82,18 +82,18 @@ fn counting_gate(alloc: Global, words: &str) -> Result<CountingGate, Fail> {
     }
     Ok(CountingGate {
         holds: gate_of(alloc, holds.as_slice(), TURNS)?,
-        first: AtomicU64::new(0),
-        second: AtomicU64::new(0),
-        strayed: AtomicBool::new(false),
+        first: AtomicU32::new(0),
+        second: AtomicU32::new(0),
+        strayed: AtomicU32::new(0),
     })
 }
 
-/// A live run of a script, with these holds, writes this text before its tables. Of its first stream
-/// and of the others so many calls pass the gate twice, and no hold runs out of turns.
+/// A live run of a script, with these holds, writes this text before its tables. So many calls of
+/// its first stream and of its second one pass the gate twice, and no hold runs out of turns.
 fn check_run<R: Abort + Threads + Wait + Sync + AllocGlobal>(
     rt: &R,
     holds: &str,
-    calls: (u64, u64),
+    calls: (u32, u32),
     script: &str,
     text: &str,
 ) -> Result<(), Fail> {
@@ -104,7 +104,7 @@ fn check_run<R: Abort + Threads + Wait + Sync + AllocGlobal>(
     let (told, _) = written.split_once("*nat\n").ok_or("tables")?;
     assert_eq!(rt; told, text);
     assert!(rt; ended.status == Status::Done, "{text}");
-    assert!(rt; gate.has_seen(calls.0.wrapping_mul(2), calls.1.wrapping_mul(2)), "{text}");
+    assert!(rt; gate.has_passed(calls), "{text}");
     Ok(())
 }
 
