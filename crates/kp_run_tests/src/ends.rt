@@ -2,7 +2,7 @@
 use crate::inputs::{AFFINITY, Case, ENDPOINTS, RECENT, REFUSED, REJECTED, TERMINATING, case_of};
 use crate::lines::words_of;
 use kp_base::Items;
-use kp_gate::OpenGate;
+use kp_gate::{Gate, OpenGate};
 use kp_io::{MemorySink, MemorySource, SureSink, SureSource};
 use kp_run::{Status, run};
 use std::alloc::Global;
@@ -13,9 +13,9 @@ use std::thread::Threads;
 
 /// How a run ended, and the bytes that it wrote.
 #[derive(Drop)]
-struct Ended {
-    status: Status,
-    written: Vec<u8>,
+pub(crate) struct Ended {
+    pub(crate) status: Status,
+    pub(crate) written: Vec<u8>,
 }
 
 /// The number of one call that fails, or none for 0.
@@ -52,26 +52,21 @@ fn planned_run<R: Threads + Wait + Sync + AllocGlobal>(
     Ok(Ended { status, written })
 }
 
-/// A replay over ends that never fail, in pieces of so many bytes.
-fn sure_run<R: Threads + Wait + Sync + AllocGlobal>(
+/// A run over ends that never fail, in pieces of so many bytes, whose calls pass a gate.
+pub(crate) fn sure_run<R: Threads + Wait + Sync + AllocGlobal, G: Gate<R> + Sync>(
     rt: &R,
+    line: &str,
     input: &str,
     piece: u64,
+    gate: &G,
 ) -> Result<Ended, Fail> {
     let alloc = rt.alloc();
     let piece = piece.max(1);
     let bytes = Items::from_vec(Vec::from_slice(alloc, input.as_bytes())?);
     let mut source = SureSource::new(bytes, piece);
     let mut sink = SureSink::new(alloc, piece, 4096)?;
-    let words = words_of(alloc, "kproxy replay --workers=4")?;
-    let status = run(
-        rt,
-        alloc,
-        words.as_slice(),
-        &mut source,
-        &mut sink,
-        &OpenGate,
-    );
+    let words = words_of(alloc, line)?;
+    let status = run(rt, alloc, words.as_slice(), &mut source, &mut sink, gate);
     let written = Vec::from_slice(alloc, sink.written())?;
     Ok(Ended { status, written })
 }
@@ -90,7 +85,8 @@ fn check_whole<R: Abort + Threads + Wait + Sync + AllocGlobal>(
     let alloc = rt.alloc();
     let case = case_of(alloc, rows, 100)?;
     for piece in [1u64, 7, 4096] {
-        let whole = sure_run(rt, &case.input, piece)?;
+        let words = "kproxy replay --workers=4";
+        let whole = sure_run(rt, words, &case.input, piece, &OpenGate)?;
         assert!(rt; is_end(&whole, status, &case.printed), "{piece}: {rows}");
     }
     Ok(())

@@ -8,7 +8,8 @@ use std::test::Fail;
 use std::thread;
 use std::thread::Threads;
 
-const TURNS: u64 = 1_000_000;
+/// For how many turns a hold looks for what it waits for.
+pub(crate) const TURNS: u64 = 1_000_000;
 
 /// The first call of a worker is held until that of another one has come so far.
 fn hold(worker: u32, until: Until, other_worker: u32) -> Hold {
@@ -22,7 +23,7 @@ fn hold(worker: u32, until: Until, other_worker: u32) -> Hold {
 }
 
 /// A gate with these holds.
-fn gate_of(alloc: Global, holds: &[Hold], turns: u64) -> Result<HoldGate, Fail> {
+pub(crate) fn gate_of(alloc: Global, holds: &[Hold], turns: u64) -> Result<HoldGate, Fail> {
     let holds = Items::from_vec(Vec::from_slice(alloc, holds)?);
     Ok(HoldGate::new(alloc, holds, turns)?)
 }

@@ -1,7 +1,8 @@
-//! Tests of `run` over ends in memory: worked inputs in any pieces, and reads and writes that fail
-//! at a chosen call; and of what `run` alone reaches of the other crates: the words that fit, a plane
-//! that takes events one by one, syncs, tells its dirty ports and ends, lines that are answered from
-//! a table, and gates: what holds keep, in threads, and for how long.
+//! Tests of `run` over ends in memory: worked inputs in any pieces, reads and writes that fail at a
+//! chosen call, and live runs whose calls are held by a gate, so that their texts are told
+//! beforehand. And tests of what `run` alone reaches of the other crates: the words that fit, a
+//! plane that takes events one by one, syncs, tells its dirty ports and ends, lines that are
+//! answered from a table, and gates: what holds keep, in threads, and for how long.
 #![tactic(auto)]
 
 #[cfg(test)]
@@ -14,6 +15,8 @@ mod gates;
 mod inputs;
 #[cfg(test)]
 mod lines;
+#[cfg(test)]
+mod live;
 #[cfg(test)]
 mod planes;
 #[cfg(test)]

@@ -9,6 +9,27 @@ pub(crate) fn unfolded(alloc: Global, text: &str) -> Result<String, Fail> {
     Ok(text.replace(alloc, "\n ", "")?)
 }
 
+/// Signs of scripts, and what each stands for. `@slice` is the slice but for its endpoints, `@one`
+/// its first one, and `@packet` a packet of a pod but for its port.
+const SIGNS: &str = r#"@node "node":"n1","nodeAddresses":["10.0.0.1"],"clusterCIDR":"10.244.0.0/16"
+@service "apiVersion":"v1","kind":"Service","metadata":{"name":"web"},
+ "spec":{"clusterIP":"10.96.0.10","ports":[{"port":80,"targetPort":8080}]}
+@slice "apiVersion":"discovery.k8s.io/v1","kind":"EndpointSlice",
+ "metadata":{"name":"web-x","labels":{"kubernetes.io/service-name":"web"}},"addressType":"IPv4",
+ "ports":[{"port":8080}]
+@one "addresses":["10.244.1.2"],"nodeName":"n1"
+@packet "op":"packet","src":"10.244.9.9","dst":"10.96.0.10","dport""#;
+
+/// A script with what its signs stand for, unfolded.
+pub(crate) fn whole_script(alloc: Global, script: &str) -> Result<String, Fail> {
+    let mut whole = unfolded(alloc, script)?;
+    for row in unfolded(alloc, SIGNS)?.lines() {
+        let (sign, members) = row.split_once(' ').ok_or("a sign")?;
+        whole = whole.replace(alloc, sign, members)?;
+    }
+    Ok(whole)
+}
+
 /// Words that stand apart by one space each.
 pub(crate) fn words_of(alloc: Global, line: &str) -> Result<Vec<String>, Fail> {
     let mut words = Vec::new(alloc);

@@ -2,7 +2,7 @@
 //! ends.
 ghost use Rattle.std.specs.Prelude.{◌≡◌, ◌<◌};
 
-use crate::lines::{op_of, unfolded};
+use crate::lines::{op_of, whole_script};
 use kp_base::{Config, Items, NoMemory, Steps};
 use kp_plane::{DirtyPort, Plane, SyncRecord, TableFault};
 use kp_print::{push, push_labelled};
@@ -15,10 +15,8 @@ use std::test::Fail;
 
 /// A Service that gets an endpoint, nothing, a second endpoint beside a Service without a cluster
 /// address, and none, before an event that no sync covers.
-const SCRIPT: &str = r#"{"op":"config","node":"n1","nodeAddresses":["10.0.0.1"],
- "clusterCIDR":"10.244.0.0/16"}
-{"apiVersion":"v1","kind":"Service","metadata":{"name":"web"},
- "spec":{"clusterIP":"10.96.0.10","ports":[{"port":80,"targetPort":8080}]}}
+const SCRIPT: &str = r#"{"op":"config",@node}
+{@service}
 {@slice,"endpoints":[{@one}]}
 {"op":"sync"}
 {"op":"sync"}
@@ -29,13 +27,6 @@ const SCRIPT: &str = r#"{"op":"config","node":"n1","nodeAddresses":["10.0.0.1"],
 {"type":"DELETED","object":{@slice}}
 {"op":"sync"}
 {@slice,"endpoints":[{@one}]}"#;
-
-/// What `@slice` stands for in the script: the slice but for its endpoints.
-const SLICE: &str = r#""apiVersion":"discovery.k8s.io/v1","kind":"EndpointSlice",
- "metadata":{"name":"web-x","labels":{"kubernetes.io/service-name":"web"}},"addressType":"IPv4",
- "ports":[{"port":8080}]"#;
-/// What `@one` stands for: its first endpoint.
-const ONE: &str = r#""addresses":["10.244.1.2"],"nodeName":"n1""#;
 
 /// What each sync records, how many of how many events it covers, and its dirty ports with the
 /// port number and the endpoints that were known before; and what the plane holds at its end. The
@@ -174,17 +165,9 @@ fn told(alloc: Global, script: &str) -> Result<String, Fail> {
     Ok(text)
 }
 
-/// The script with what its signs stand for.
-fn whole_script(alloc: Global) -> Result<String, Fail> {
-    let script = SCRIPT
-        .replace(alloc, "@slice", SLICE)?
-        .replace(alloc, "@one", ONE)?;
-    unfolded(alloc, script.as_str())
-}
-
 #[test]
 fn a_plane_tells_what_each_sync_made(rt: HostRuntime) -> Result<(), Fail> {
-    let script = whole_script(rt.alloc())?;
+    let script = whole_script(rt.alloc(), SCRIPT)?;
     let text = told(rt.alloc(), script.as_str())?;
     assert_eq!(rt; text.as_str(), TOLD);
     Ok(())
