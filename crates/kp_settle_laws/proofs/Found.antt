@@ -21,21 +21,21 @@ use Rattle.kp_object_laws.proofs.OwnEntries.{found_in, missing, owned}
 use Rattle.kp_settle_laws.specs.SettleLaws.{AreOwn}
 
 -- what is behind an entry in order isn't found at its key
-pub not_behind : (e : ObjectKey × Slice) (es : List (ObjectKey × Slice))
-    → below_all key_cmp e.0 es ≡ true
-    → (q : ObjectKey) → eq_by_cmp key_cmp q e.0 ≡ true → find key_cmp q es ≡ None
-not_behind e es below q tied =
+pub not_behind : (q : ObjectKey) (e : ObjectKey × Slice) (es : List (ObjectKey × Slice))
+    → below_all key_cmp e.0 es ≡ true → eq_by_cmp key_cmp q e.0 ≡ true
+    → find key_cmp q es ≡ None
+not_behind q e es below tied =
     ap (λ k. find key_cmp k es) (one_from_tie key_exact q e.0 tied)
     ∙ missing key_cmp e.0 es below
 
 module _ (test : Slice → Bool) where
   -- a slice that is found, where it doesn't pass
-  abbrev pub kept : Option Slice → Option Slice
+  abbrev pub kept : (found : Option Slice) → Option Slice
   kept None = None
   kept (Some s) = cond (not (test s)) (Some s) None
 
   -- the entries whose slices don't pass
-  abbrev pub others : List (ObjectKey × Slice) → List (ObjectKey × Slice)
+  abbrev pub others : (es : List (ObjectKey × Slice)) → List (ObjectKey × Slice)
   others es = filter (λ e. not (test e.1)) es
 
   -- among entries in order the others are found where they were
@@ -52,7 +52,7 @@ module _ (test : Slice → Bool) where
           → find key_cmp q (cond (not t) (e ∷ others es) (others es))
           ≡ kept (cond b (Some e.1) (find key_cmp q es))
       by below rest true is true tied =
-          rest ∙ ap kept (not_behind e es below q tied)
+          rest ∙ ap kept (not_behind q e es below tied)
           ∙ ap (λ t. cond (not t) (Some e.1) None) (sym is)
       by below rest true is false tied = rest
       by below rest false is true tied =
