@@ -1,0 +1,6 @@
+pub mod Enough
+pub mod Events
+pub mod Found
+pub mod Managed
+pub mod OwnValues
+pub mod Settling
