@@ -3,4 +3,5 @@ pub mod ChangedBlocks
 pub mod JoinedChains
 mod PutBack
 mod PutBehind
+mod ServiceRun
 mod WorkedChains

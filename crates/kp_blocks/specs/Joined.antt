@@ -4,9 +4,13 @@ use Rattle.std.specs.Prelude.{map, take, drop, length, slice_get, Option, Some, 
 use Rattle.std.specs.Coded.{Coded, coded_list}
 use Rattle.std.specs.List.{flat_map}
 use Rattle.std.specs.FinMap as finite
-use Rattle.kp_base.specs.Keys.{port_key_cmp}
+use Rattle.std.specs.Ordering.{eq_by_cmp}
+use Rattle.kp_base.specs.Keys.{key_cmp, port_key_cmp}
 use Rattle.kp_base.specs.contracts.key.PortKey as key_row
 use Rattle.kp_base.specs.declared.address.Family.{Family}
+use Rattle.kp_base.specs.declared.key.ObjectKey.{ObjectKey}
+use Rattle.kp_base.specs.declared.key.PortKey.{PortKey}
+use Rattle.kp_base.specs.declared.port.Proto.TheVariants.{Sctp}
 use Rattle.kp_types.specs.Setting.{Setting}
 use Rattle.kp_types.specs.contracts.chain.ChainAtPartialEq.TheImpl as same
 use Rattle.kp_types.specs.contracts.rule.ChainText as text_row
@@ -31,6 +35,14 @@ BlocksByPort = finite.FinMap port_key_cmp Block
 -- they are stored as finite maps are
 abbrev pub blocks_code : Coded BlocksByPort
 blocks_code = finite.code key_row.the_row.coded (coded_list text_row.the_row.coded)
+
+-- whether a port is one of a Service
+abbrev pub is_port_of : ObjectKey → PortKey → Bool
+is_port_of service port = eq_by_cmp key_cmp service port.object
+
+-- the least name that a port of a Service may have
+abbrev pub first_port_of : ObjectKey → PortKey
+first_port_of service = record { object = service; port_name = []; proto = Sctp }
 
 -- the chains of a table of no ports
 abbrev pub fixed_chains : Family → Chains

@@ -2,7 +2,7 @@
 ghost use Rattle.std.specs.Prelude.{◌≡◌, ◌++◌, true, is_some, map, IfOk, OnOk, OnErr};
 ghost use Rattle.std.specs.BTreeMap.{IsOrdered, values};
 ghost use Rattle.std.specs.FinMap as finite;
-ghost use Rattle.std.specs.List.{flat_map};
+ghost use Rattle.std.specs.List.{filter, flat_map};
 ghost use Rattle.std.specs.Map.Iter.{deref_pair};
 ghost use Rattle.kp_base.specs.Keys.{port_key_cmp};
 ghost use Rattle.kp_base.specs.contracts.key.PortKeyOrd.TheImpl as order;
@@ -10,7 +10,7 @@ ghost use Rattle.kp_base.specs.declared.address.Family.TheVariants.{V4};
 ghost use Rattle.kp_blocks.specs.Joined as spec;
 
 use crate::fixed::{fixed_rules, place_of_ports};
-use kp_base::{Copied, Items, NoMemory, PortKey};
+use kp_base::{Copied, Items, NoMemory, ObjectKey, PortKey, Proto, Text};
 use kp_types::{ChainAt, ChainText, Rule};
 use std::alloc::Global;
 use std::collections::BTreeMap;
@@ -104,6 +104,21 @@ impl Blocks {
         Ok(self.ports.keys().collect(alloc)?)
     }
 
+    /// The ports of a Service that have a block, in order. Of the others at most one is looked at.
+    pub fn ports_of(&self, alloc: Global, service: &ObjectKey) -> Result<Vec<&PortKey>, NoMemory>
+        ensures { IfOk result (λ ports. map (λ k. k.now) ports.items
+            ≡ filter (spec.is_port_of service.now) (finite.keys self.now)) }
+    {
+        let first = first_of(alloc, service)?;
+        Ok(
+            self.ports
+                .range(first..)
+                .map(|(port, _)| port)
+                .take_while(|port| *service == port.object)
+                .collect(alloc)?,
+        )
+    }
+
     /// The rules of a chain of IPv4: its fixed rules but the last jump to KUBE-NODEPORTS, the
     /// blocks' rules in order of ports, and that jump, where the chain has it.
     pub fn joined(&self, alloc: Global, at: &ChainAt) -> Result<Items<Rule>, NoMemory>
@@ -125,6 +140,17 @@ impl Blocks {
     {
         add_blocks(rules, at, &self.ports)
     }
+}
+
+/// The least name that a port of a Service may have.
+fn first_of(alloc: Global, service: &ObjectKey) -> Result<PortKey, NoMemory>
+    ensures { IfOk result (λ first. first ≡ spec.first_port_of service.now) }
+{
+    Ok(PortKey {
+        object: service.copy(alloc)?,
+        port_name: Text::of(alloc, "")?,
+        proto: Proto::Sctp,
+    })
 }
 
 /// Puts the block of a port that has one already. It takes no memory.

@@ -1,21 +1,16 @@
 -- Ports under their own keys, as a list.
-use Rattle.std.proofs.Common.{◌≡◌, inl, inr, List, [], ◌∷◌, map, Contains, Option, Some, None}
-use Rattle.std.proofs.Common.{option_map, unwrap_or, refl, sym, ap, ◌∙◌}
+use Rattle.std.proofs.Common.{◌≡◌, inl, inr, List, [], ◌∷◌, map, Contains, Some}
+use Rattle.std.proofs.Common.{unwrap_or, refl, sym, ap, ◌∙◌}
 use Rattle.std.specs.List.{AllByRecursion, cons_option, filter_map}
 use Rattle.std.specs.FinMap.{entries, get, keys, values}
 use Rattle.kp_lemmas.proofs.Entries.{entries_found}
 use Rattle.kp_lemmas.proofs.Members.{in_cases, none_in}
-use Rattle.kp_base.specs.Keys.{port_key_cmp}
 use Rattle.kp_base.specs.declared.key.PortKey.{PortKey}
-use Rattle.kp_base.proofs.KeyOrder.{port_key_total, port_key_exact}
-use Rattle.kp_types.specs.Setting.{Setting}
+use Rattle.kp_base.proofs.KeyOrder.{port_key_total}
 use Rattle.kp_object_defs.specs.PortInfo.{PortInfo}
 use Rattle.kp_table_laws.specs.Laws.{HaveOwnKeys}
-use Rattle.kp_writer_laws.proofs.LocalChanges.{same_given}
-use Rattle.kp_blocks.specs.Joined.{BlocksByPort, port_block}
 use Rattle.kp_writer.specs.Sync.{infos_at}
-use Rattle.kp_writer.specs.Written.{AreBlocksOf, AreUnderOwnKeys, Ports}
-use Rattle.kp_writer.proofs.DirtyLists.{keys_rise, not_found}
+use Rattle.kp_writer.specs.Written.{AreUnderOwnKeys, Ports}
 
 -- ---- A port of the list is found by its key
 
@@ -41,23 +36,13 @@ own_values m own i j ci cj same =
     ap (λ o. unwrap_or o i) (sym (found_by_key m own i ci) ∙ ap (get m) same
     ∙ found_by_key m own j cj)
 
--- ---- The ports of blocks are all
+-- ---- The ports of all keys are all
 
-all_found : (m : Ports) (es : List (PortKey × PortInfo))
+found_of : (m : Ports) (es : List (PortKey × PortInfo))
     → AllByRecursion (λ e. get m e.0 ≡ Some e.1) es
     → filter_map (get m) (map (λ e. e.0) es) ≡ map (λ e. e.1) es
-all_found m [] h = refl
-all_found m (e ∷ es) h = λ i. cons_option (h.0 i) (all_found m es h.1 i)
+found_of m [] h = refl
+found_of m (e ∷ es) h = λ i. cons_option (h.0 i) (found_of m es h.1 i)
 
-no_port : (s : Setting) (o : Option PortInfo) → option_map (port_block s) o ≡ None → o ≡ None
-no_port s None h = refl
-no_port s (Some i) h = absurd (cc)
-
-pub all_newest : (s : Setting) (m : Ports) (blocks : BlocksByPort) → AreBlocksOf s m blocks
-    → infos_at m (keys blocks) ≡ values m
-all_newest s m blocks are =
-    same_given port_key_cmp (get m) port_key_exact port_key_total (keys blocks) (keys m)
-    (λ k here out. not_found port_key_cmp m k out)
-    (λ k here out. no_port s (get m k) (sym (are k) ∙ not_found port_key_cmp blocks k out))
-    (keys_rise port_key_cmp blocks) (keys_rise port_key_cmp m)
-    ∙ all_found m (entries m) (entries_found port_key_total m)
+pub all_found : (m : Ports) → infos_at m (keys m) ≡ values m
+all_found m = found_of m (entries m) (entries_found port_key_total m)

@@ -1,7 +1,9 @@
 pub mod Alike
 pub mod Batch
+pub mod Known
 pub mod Next
 pub mod Own
+pub mod Refresh
 pub mod Shared
 pub mod Sync
 pub mod Written

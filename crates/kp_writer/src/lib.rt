@@ -3,16 +3,20 @@
 #![tactic(auto)]
 
 mod block;
+mod dirty;
 mod infos;
 mod join;
 mod kept;
 mod known;
+mod laws;
 mod next;
 mod own;
+mod refresh;
 mod shared;
 mod sync;
 mod writer;
 
 pub use known::Known;
 pub use kp_full_table::TableFault;
+pub use laws::{known_dirty_ports, known_of_service, known_ports};
 pub use writer::Writer;

@@ -1,19 +1,26 @@
 //! What was written of ports, and the edits to what is known of them now.
-ghost use Rattle.std.specs.Prelude.{◌≡◌, ◌+◌, ◌≤◌, true, None, IfOk, IfErr, OnOk, OnErr};
+ghost use Rattle.std.specs.Prelude.{◌≡◌, ◌+◌, ◌≤◌, true, None, map, IfOk, IfErr, OnOk, OnErr};
 ghost use Rattle.std.specs.FinMap as finite;
+ghost use Rattle.std.specs.List.{filter};
+ghost use Rattle.kp_blocks.specs.Joined.{is_port_of};
 ghost use Rattle.kp_full_table.specs.Faults.{TellsClash};
 ghost use Rattle.kp_full_table.specs.Parts.{all_rule_count};
 ghost use Rattle.kp_writer.specs.Batch.{own_rules_written};
+ghost use Rattle.kp_writer.specs.Known.{pending_ports};
+ghost use Rattle.kp_writer.specs.Refresh.{IsRefreshed, OthersStay};
 ghost use Rattle.kp_writer.specs.Written as spec;
 
 use crate::block::block_of;
+use crate::dirty::dirty_ports;
 use crate::infos::newest_infos;
 use crate::kept;
 use crate::known::Known;
+use crate::refresh::{copies, drop_all, put_all};
 use crate::sync::next_chains;
-use kp_base::{Config, Copied, NoMemory, PortKey, Steps};
+use kp_base::{Config, Copied, Items, NoMemory, ObjectKey, PortKey, Steps};
 use kp_blocks::Blocks;
 use kp_full_table::{TableFault, check_names};
+use kp_history_defs::DirtyPort;
 use kp_rules::Table;
 use kp_tracker::Tracker;
 use kp_types::{Batch, PortInfo};
@@ -89,6 +96,62 @@ impl Writer {
         kept::drop_port(alloc, &mut self.ports, &mut self.blocks, port)
     }
 
+    /// The newest ports, in order of their names.
+    pub fn ports(&self, alloc: Global) -> Result<Vec<&PortKey>, NoMemory>
+        ensures { IfOk result (λ ports. map (λ k. k.now) ports.items
+            ≡ finite.keys (spec.newest_ports self.now)) }
+    {
+        self.blocks.ports(alloc)
+    }
+
+    /// The newest ports of a Service, in order of their names. Of the others at most one is looked
+    /// at.
+    pub fn ports_of(&self, alloc: Global, service: &ObjectKey) -> Result<Vec<&PortKey>, NoMemory>
+        ensures { IfOk result (λ ports. map (λ k. k.now) ports.items
+            ≡ filter (is_port_of service.now) (finite.keys (spec.newest_ports self.now))) }
+    {
+        self.blocks.ports_of(alloc, service)
+    }
+
+    /// Takes over what is known of the ports of a Service: those that aren't given are gone. Of two
+    /// of one name the first counts. Ports of other Services stay, and where such are given they
+    /// are passed over. Where memory is out, ports of the Service may be gone or new.
+    pub fn refresh(
+        &mut self,
+        alloc: Global,
+        service: &ObjectKey,
+        infos: Vec<PortInfo>,
+    ) -> Result<(), NoMemory>
+        ensures config { self.new.config ≡ self.old.config }
+        ensures written { spec.written_ports self.new ≡ spec.written_ports self.old }
+        ensures newest { OnOk result (IsRefreshed service.now infos.items
+            (spec.newest_ports self.old) (spec.newest_ports self.new)) }
+        ensures others { OthersStay service.now
+            (spec.newest_ports self.old) (spec.newest_ports self.new) }
+    {
+        let gone = self.copies_of(alloc, service)?;
+        drop_all(alloc, self, gone)?;
+        put_all(alloc, self, service, infos)
+    }
+
+    /// Copies of the names of the newest ports of a Service.
+    fn copies_of(&self, alloc: Global, service: &ObjectKey) -> Result<Vec<PortKey>, NoMemory>
+        ensures { IfOk result (λ ports. ports.items
+            ≡ filter (is_port_of service.now) (finite.keys (spec.newest_ports self.now))) }
+    {
+        let ports = self.ports_of(alloc, service)?;
+        copies(alloc, &ports)
+    }
+
+    /// The ports of which something else is known than was written, in order of their names, each
+    /// with what was written of it.
+    pub fn dirty(&self, alloc: Global) -> Result<Items<DirtyPort>, NoMemory>
+        ensures { IfOk result (λ ports. ports ≡ pending_ports self.now) }
+    {
+        let pending = self.ports.pending(alloc)?;
+        dirty_ports(alloc, &self.ports, &pending)
+    }
+
     /// The edits that lead from the full table of what was written, which is given, to that of what
     /// is known now: exactly the changes between the two. It is refused exactly where two different
     /// chains that are needed have one name, and tells the least such pair, or where memory is out.
@@ -142,7 +205,7 @@ impl Writer {
         if all_free {
             return Ok(());
         }
-        let ports = self.blocks.ports(alloc)?;
+        let ports = self.ports(alloc)?;
         let infos = newest_infos(alloc, &self.ports, &ports)?;
         check_names(alloc, &self.config, &infos)
     }

@@ -1,4 +1,5 @@
-use Rattle.std.proofs.Common.{◌≡◌, Bor, List, None, map, ap, subst, ◌∙◌}
+use Rattle.std.proofs.Common.{◌≡◌, Bor, List, None, map, ap, subst, sym, ◌∙◌}
+use Rattle.std.specs.FinMap.{keys}
 use Rattle.std.specs.Result.{IfErr, OnOk}
 use Rattle.kp_base.specs.declared.key.PortKey.{PortKey}
 use Rattle.kp_choice_defs.specs.Names.{first_clash}
@@ -7,7 +8,7 @@ use Rattle.kp_table_defs.specs.Rebuild.{needed_keys}
 use Rattle.kp_full_table.specs.Faults.{TellsClash}
 use Rattle.kp_writer.specs.Sync.{infos_at}
 use Rattle.kp_writer.specs.Written.{WriterParts, clash_of, newest_ports, setting_in}
-use Rattle.kp_writer.proofs.OwnValues.{all_newest}
+use Rattle.kp_writer.proofs.OwnValues.{all_found}
 use Rattle.kp_writer.proofs.writer.Writer.check_names.Goals as goal
 
 pub returns-clause-no_clash : goal.returns-clause-no_clash
@@ -17,7 +18,8 @@ returns-clause-no_clash c =
     ∙ ap (λ (ks : List (Bor PortKey)). infos_at (newest_ports v) (map (λ k. k.now) ks))
     c.deref.ensures.value
     ∙ ap (infos_at (newest_ports v)) c.in_ok-ports.ensures
-    ∙ all_newest (setting_in v) (newest_ports v) c.self.inside.blocks c.self.invariant.blocks in
+    ∙ (λ i. infos_at (newest_ports v) (keys (newest_ports (sym c.self.view_is i))))
+    ∙ all_found (newest_ports v) in
     subst (λ u. OnOk c.check_names.result (clash_of u (newest_ports u) ≡ None)) c.self.view_is
     (subst (λ (is : List PortInfo). OnOk c.check_names.result
     (first_clash (setting_in v).name_of (needed_keys is) ≡ None)) all c.check_names.ensures.no_clash)
@@ -29,7 +31,8 @@ returns-clause-clash c =
     ∙ ap (λ (ks : List (Bor PortKey)). infos_at (newest_ports v) (map (λ k. k.now) ks))
     c.deref.ensures.value
     ∙ ap (infos_at (newest_ports v)) c.in_ok-ports.ensures
-    ∙ all_newest (setting_in v) (newest_ports v) c.self.inside.blocks c.self.invariant.blocks in
+    ∙ (λ i. infos_at (newest_ports v) (keys (newest_ports (sym c.self.view_is i))))
+    ∙ all_found (newest_ports v) in
     subst (λ u. IfErr c.check_names.result (TellsClash (clash_of u (newest_ports u))))
     c.self.view_is
     (subst (λ (is : List PortInfo). IfErr c.check_names.result (TellsClash

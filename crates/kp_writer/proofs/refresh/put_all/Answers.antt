@@ -1,0 +1,41 @@
+use Rattle.std.proofs.Common.{cond, drop, length, ap, sym, ◌∙◌}
+use Rattle.std.specs.FinMap.{insert}
+use Rattle.kp_chains.proofs.Popped.{popped-drop, popped-take}
+use Rattle.kp_blocks.specs.Joined.{is_port_of}
+use Rattle.kp_writer.specs.Refresh.{with_infos}
+use Rattle.kp_writer.specs.Written.{newest_ports}
+use Rattle.kp_writer.proofs.Refreshed.{others_stay}
+use Rattle.kp_writer.proofs.refresh.put_all.Goals as goal
+
+-- one port more
+pub loop-info-preserved : goal.loop-info-preserved
+loop-info-preserved c =
+    let all = c.args.infos.items in
+    let old = c.loop-info.infos.items in
+    let new = c.pop.new.self.items in
+    let info = c.in-Some.info in
+    let so_far = c.loop-info.invariant in
+    let service = c.args.service.now in
+    record {
+      config = c.put_if.ensures.config ∙ so_far.config;
+      written = c.put_if.ensures.written ∙ so_far.written;
+      newest =
+          c.in_ok-put_if.ensures.newest
+          ∙ ap (λ m. cond (is_port_of service info.key) (insert m info.key info) m) so_far.newest
+          ∙ ap (with_infos service (newest_ports c.args.writer.now))
+          (sym (popped-drop all old new info c.in-Some.ensures.items so_far.left));
+      left = popped-take all old new info c.in-Some.ensures.items so_far.left;
+    }
+
+pub returns-clause-others : goal.returns-clause-others
+returns-clause-others c =
+    others_stay c.args.service.now (newest_ports c.args.writer.now)
+    (newest_ports c.loop-info.writer)
+    (drop (length c.loop-info.infos.items) c.args.infos.items) c.loop-info.invariant.newest
+
+pub returns-in_err-put_if-clause-others : goal.returns-in_err-put_if-clause-others
+returns-in_err-put_if-clause-others c =
+    others_stay c.args.service.now (newest_ports c.args.writer.now)
+    (newest_ports c.put_if.new.writer)
+    (drop (length c.loop-info.infos.items) c.args.infos.items)
+    (c.in_err-put_if.ensures.err ∙ c.loop-info.invariant.newest)

@@ -1,0 +1,31 @@
+use Rattle.std.proofs.Common.{ap, ◌∙◌}
+use Rattle.std.proofs.lemmas.Result.{on_ok_weaker}
+use Rattle.kp_writer_laws.specs.LocalLaws.{is_one_of}
+use Rattle.kp_writer.specs.Refresh.{without}
+use Rattle.kp_writer.specs.Written.{newest_ports}
+use Rattle.kp_writer.proofs.Refreshed.{others_left, refreshed}
+use Rattle.kp_writer.proofs.writer.Writer.refresh.Goals as goal
+
+pub returns-clause-newest : goal.returns-clause-newest
+returns-clause-newest c =
+    let old = newest_ports c.args.self.now in
+    on_ok_weaker c.put_all.result (λ put. refreshed c.args.service.now c.args.infos.items old
+    (newest_ports c.drop_all.new.writer) (newest_ports c.put_all.new.writer)
+    (c.in_ok-drop_all.ensures.newest ∙ ap (without old) c.in_ok-gone.ensures) put)
+    c.put_all.ensures.newest
+
+pub returns-clause-others : goal.returns-clause-others
+returns-clause-others c = λ key h.
+    c.put_all.ensures.others key h
+    ∙ others_left c.args.service.now c.args.infos.items (newest_ports c.args.self.now)
+    (newest_ports c.drop_all.new.writer) (newest_ports c.put_all.new.writer)
+    (λ k out. c.in_ok-drop_all.ensures.others k
+    (ap (λ ks. is_one_of ks k) c.in_ok-gone.ensures ∙ out))
+    key h
+
+pub returns-in_err-drop_all-clause-others : goal.returns-in_err-drop_all-clause-others
+returns-in_err-drop_all-clause-others c =
+    others_left c.args.service.now c.args.infos.items (newest_ports c.args.self.now)
+    (newest_ports c.drop_all.new.writer) (newest_ports c.drop_all.new.writer)
+    (λ k out. c.in_err-drop_all.ensures.others k
+    (ap (λ ks. is_one_of ks k) c.in_ok-gone.ensures ∙ out))

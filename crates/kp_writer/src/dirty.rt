@@ -1,0 +1,44 @@
+//! The ports of which something else is known than was written.
+ghost use Rattle.std.specs.Prelude.{◌≡◌, map, IfOk};
+ghost use Rattle.std.specs.FinMap as finite;
+ghost use Rattle.std.specs.Option.{option_copied};
+ghost use Rattle.kp_base.specs.Keys.{port_key_cmp};
+ghost use Rattle.kp_tracker.specs.Tracked as tracked;
+
+use crate::known::Known;
+use kp_base::{Copied, Items, NoMemory, PortKey};
+use kp_history_defs::DirtyPort;
+use kp_tracker::Tracker;
+use kp_types::PortInfo;
+use std::alloc::Global;
+
+/// Ports, each with what was written of it.
+pub fn dirty_ports(
+    alloc: Global,
+    ports: &Tracker<PortKey, Known>,
+    keys: &[&PortKey],
+) -> Result<Items<DirtyPort>, NoMemory>
+    ensures { IfOk result (λ dirty. dirty ≡ map (λ k. record {
+      key = k.now;
+      before = finite.get (tracked.published port_key_cmp ports.now) k.now;
+    }) keys.now) }
+{
+    let mut dirty = Vec::new(alloc);
+    for key in keys {
+        dirty.push(DirtyPort {
+            key: key.copy(alloc)?,
+            before: copy_of(alloc, ports.published(key))?,
+        })?;
+    }
+    Ok(Items::from_vec(dirty))
+}
+
+/// A copy of what is known of a port, if something is.
+fn copy_of(alloc: Global, known: Option<&Known>) -> Result<Option<PortInfo>, NoMemory>
+    ensures { IfOk result (λ copy. copy ≡ option_copied known.entry) }
+{
+    match known {
+        Some(known) => Ok(Some(known.info().copy(alloc)?)),
+        None => Ok(None),
+    }
+}
