@@ -1,0 +1,67 @@
+#!/bin/sh
+# Adds changes to the lines of a made cluster, which standard input has: so many times one Pod's
+# event and a sync.
+#   bench/cluster.sh SERVICES PODS 0 | bench/changes.sh KIND TIMES [THEN]
+# KIND says what an event does: `move` gives a ready Pod another address, so that its Service keeps
+# an endpoint; `last` makes the only ready Pod of a Service unready, and then ready again; `beat` says
+# what is known, with another version. THEN is `nothing`, `explain` or `slices`: what follows each
+# sync; or `unsynced`, where no sync follows.
+set -eu
+if [ $# -lt 2 ] || [ $# -gt 3 ]; then
+    echo "usage: bench/changes.sh move|last|beat TIMES [nothing|explain|slices|unsynced]" >&2
+    exit 2
+fi
+exec awk -v kind="$1" -v times="$2" -v after="${3-nothing}" '
+# what stands behind a member of a line, up to its quote
+function member(line, name,   at) {
+    at = index(line, "\"" name "\":\"")
+    return at ? substr(line, at + length(name) + 4, index(substr(line, at + length(name) + 4), "\"") - 1) : ""
+}
+
+# a line with one text in place of another
+function with(line, old, new,   at) {
+    at = index(line, old)
+    return substr(line, 1, at - 1) new substr(line, at + length(old))
+}
+
+function follow(pod,   app) {
+    if (after == "unsynced") return
+    print "{\"op\":\"sync\"}"
+    app = substr(member(pod, "app"), 2) + 1
+    if (after == "explain")
+        print "{\"op\":\"explain\",\"src\":\"10.244.255.1\",\"dst\":\"10.96." int(app / 256) % 256 "." \
+            app % 256 "\",\"dport\":80,\"seed\":1}"
+    if (after == "slices") print "{\"op\":\"show\",\"what\":\"slices\"}"
+}
+
+# the Pods that are changed: all that are ready, or the only ready ones of their Services
+function choose(   i) {
+    for (i = 1; i <= ready; i++)
+        if (kind != "last" || count[member(pods[i], "app")] == 1) chosen[++most] = pods[i]
+    if (!most) {
+        print "bench/changes.sh: there is no such Pod" > "/dev/stderr"
+        exit 1
+    }
+}
+
+# the n-th event of a Pod
+function event(pod, n) {
+    if (kind == "move") return with(pod, "\"podIP\":\"10.244.", "\"podIP\":\"10." 100 + n % 99 ".")
+    if (kind == "last") return n % 2 ? pod : with(pod, "\"status\":\"True\"", "\"status\":\"False\"")
+    return with(pod, "\"metadata\":{", "\"metadata\":{\"resourceVersion\":\"" n "\",")
+}
+
+{ print }
+/"kind":"Pod"/ && /"status":"True"/ && !/DELETED/ {
+    pods[++ready] = $0
+    count[member($0, "app")]++
+}
+
+END {
+    choose()
+    for (n = 0; n < times; n++) {
+        pod = chosen[(kind == "last" ? int(n / 2) : n) * 37 % most + 1]
+        print event(pod, n)
+        follow(pod)
+    }
+}'
