@@ -8,6 +8,7 @@ mod line;
 mod numbers;
 mod object;
 mod reading;
+mod stream;
 
 pub use json::Scratch;
 pub use line::packet_line;

@@ -1,8 +1,9 @@
 //! A packet's line.
-ghost use Rattle.std.specs.Prelude.{◌≡◌, Bool, Ok, None, IfSome};
+ghost use Rattle.std.specs.Prelude.{◌≡◌, Bool, Ok, codes, IfSome};
+ghost use Rattle.kp_json.specs.Places.{member_at};
 ghost use Rattle.kp_row_defs.specs.Rows.{rows_fault};
 ghost use Rattle.kp_text_defs.specs.PacketText.{packet_line_from, packet_rows};
-ghost use Rattle.kp_text_defs.specs.ScriptLines.{line_of, read_script};
+ghost use Rattle.kp_text_defs.specs.ScriptLines.{line_of, op_at, read_script};
 ghost use Rattle.kp_packet_lines.specs.Taken.{Takes, place_of};
 
 use crate::draws::{draws_of, listed_draws};
@@ -11,8 +12,9 @@ use crate::fields::{
 };
 use crate::object::PlainObject;
 use crate::reading::plain_object;
+use crate::stream::stream;
 use json::Scratch;
-use kp_text_defs::{Op, PacketLine, ScriptLine, Stream};
+use kp_text_defs::{Op, PacketLine, ScriptLine};
 use kp_types::Packet;
 use std::alloc::Global;
 
@@ -21,8 +23,7 @@ const LONGEST: usize = 16384;
 
 /// Reads a line that sends or explains a packet in the plain way: an object of at most 16,384 bytes
 /// whose members are texts that aren't empty, whole numbers, truth values and lists of draws, with
-/// no fault and without a stream. Anything else is not taken, and neither is a line for which
-/// memory runs out.
+/// no fault. Anything else is not taken, and neither is a line for which memory runs out.
 pub fn packet_line(alloc: Global, bytes: &[u8], scratch: &mut Scratch) -> Option<ScriptLine>
     ensures { IfSome result (λ line. (first : Bool) → line_of bytes.now first ≡ Ok line) }
 {
@@ -38,22 +39,20 @@ fn line_in(alloc: Global, object: PlainObject<'_>) -> Option<ScriptLine>
     ensures { IfSome result (λ line. (first : Bool)
         → read_script first (place_of object.entry) ≡ Ok line) }
 {
-    if object.member("by").is_some() {
-        return None;
-    }
-    match text_field(&object, "op")? {
-        Some("packet") => Some(main_line(Op::Packet(packet_in(alloc, object)?))),
-        Some("explain") => Some(main_line(Op::Explain(packet_in(alloc, object)?))),
-        _ => None,
-    }
+    let by = stream(alloc, &object)?;
+    let op = op_in(alloc, object)?;
+    Some(ScriptLine { by, op })
 }
 
-fn main_line(op: Op) -> ScriptLine
-    ensures { result ≡ record { by = Stream.Main; op = op } }
+/// The packet that is sent or explained.
+fn op_in(alloc: Global, object: PlainObject<'_>) -> Option<Op>
+    ensures { IfSome result (λ op. (first : Bool) → op_at first (place_of object.entry)
+        (member_at (place_of object.entry) (codes "op")) ≡ Ok op) }
 {
-    ScriptLine {
-        by: Stream::Main,
-        op,
+    match text_field(&object, "op")? {
+        Some("packet") => Some(Op::Packet(packet_in(alloc, object)?)),
+        Some("explain") => Some(Op::Explain(packet_in(alloc, object)?)),
+        _ => None,
     }
 }
 
