@@ -78,7 +78,8 @@ impl NextChains {
         let ChainText { at, rules } = row;
         let place = at.same();
         let had = self.places.insert(at, Some(Shared::of(alloc, rules)?))?;
-        self.free = stays_free(self.free, before, &place, had.as_ref());
+        let free = stays_free(self.free, before, &place, had.as_ref());
+        self.free = free;
         Ok(())
     }
 
