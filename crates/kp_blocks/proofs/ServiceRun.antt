@@ -1,6 +1,6 @@
 -- The ports of a Service stand together: of those from the least name that they may have on, they
 -- are the first.
-use Rattle.std.proofs.Common.{◌≡◌, ℕ, suc, ◌+◌, arith, Bool, true, false, cond, List, [], ◌∷◌, map}
+use Rattle.std.proofs.Common.{◌≡◌, ℕ, suc, ◌+◌, arith, Bool, true, cond, List, [], ◌∷◌, map}
 use Rattle.std.proofs.Common.{filter, take, refl, sym, ap, ◌∙◌}
 use Rattle.std.proofs.Math.Bool.{and-true}
 use Rattle.std.specs.BTreeMap.Range.{entries_between, range_contains}

@@ -4,6 +4,7 @@ ghost use Rattle.std.specs.BTreeMap.{IsOrdered, values};
 ghost use Rattle.std.specs.FinMap as finite;
 ghost use Rattle.std.specs.List.{filter, flat_map};
 ghost use Rattle.std.specs.Map.Iter.{deref_pair};
+ghost use Rattle.std.specs.Option.{option_copied};
 ghost use Rattle.kp_base.specs.Keys.{port_key_cmp};
 ghost use Rattle.kp_base.specs.contracts.key.PortKeyOrd.TheImpl as order;
 ghost use Rattle.kp_base.specs.declared.address.Family.TheVariants.{V4};
@@ -95,6 +96,13 @@ impl Blocks {
         ensures { self.new ≡ finite.remove self.old port.now }
     {
         self.ports.remove(port);
+    }
+
+    /// A port's block, if it has one.
+    pub fn block(&self, port: &PortKey) -> Option<&Items<ChainText>>
+        ensures { option_copied result ≡ finite.get self.now port.now }
+    {
+        self.ports.get(port)
     }
 
     /// The ports that have a block, in order.

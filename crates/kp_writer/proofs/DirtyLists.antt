@@ -1,42 +1,28 @@
 -- The ports that differ, by the keys that are pending, and the ports that stay.
 use Rattle.std.proofs.Common.{◌≡◌, Bool, true, false, cond, List, [], ◌∷◌, map, filter}
-use Rattle.std.proofs.Common.{Option, Some, None, is_some, Contains, refl, sym, ap, ◌∙◌, T}
+use Rattle.std.proofs.Common.{Option, Some, None, is_some, Contains, refl, sym, ap, ◌∙◌}
 use Rattle.std.specs.declared.cmp.Ordering.{Ordering}
-use Rattle.std.specs.declared.cmp.Ordering.TheVariants.{Less}
 use Rattle.std.specs.List.{AllByRecursion, cons_option, filter_map, list_any}
 use Rattle.std.specs.List.Sorted.{IsStrictlySortedBy}
 use Rattle.std.specs.Ordering.{eq_by_cmp}
-use Rattle.std.specs.FinMap.{FinMap, contains_key-keys, entries, entries_sorted, get, is_sorted, keys}
-use Rattle.std.specs.FinMap.{values}
-use Rattle.std.specs.FinMap.Entries.{below_all}
-use Rattle.kp_lemmas.proofs.Booleans.{both_facts}
+use Rattle.std.specs.FinMap.{FinMap, contains_key-keys, entries, entries_sorted, get, keys, values}
 use Rattle.kp_lemmas.proofs.Entries.{entries_found}
 use Rattle.kp_lemmas.proofs.Members.{any_from, first_in, later_in}
-use Rattle.kp_lemmas.proofs.Orders.{less_from_fact, tie_of_itself}
+use Rattle.kp_lemmas.proofs.Orders.{tie_of_itself}
 use Rattle.kp_base.specs.Keys.{port_key_cmp}
 use Rattle.kp_base.specs.declared.key.PortKey.{PortKey}
 use Rattle.kp_base.proofs.KeyOrder.{port_key_total, port_key_exact}
 use Rattle.kp_object_defs.specs.PortInfo.{PortInfo}
+use Rattle.kp_writer_laws.proofs.KeyLists as key_lists
 use Rattle.kp_writer_laws.proofs.LocalChanges.{same_given}
 use Rattle.kp_writer.specs.Written.{AreUnderOwnKeys, Ports}
 
 -- ---- Keys of a finite map
 
 module _ {K X : Type 0} (R : K → K → Ordering) where
-  below : (k : K) (es : List (K × X)) → T (below_all R k es)
-      → AllByRecursion (λ l. R k l ≡ Less) (map (λ e. e.0) es)
-  below k [] h = tt
-  below k (e ∷ es) h =
-      (less_from_fact (R k e.0) (both_facts _ _ h).0, below k es (both_facts _ _ h).1)
-
-  rising : (es : List (K × X)) → T (is_sorted R es) → IsStrictlySortedBy R (map (λ e. e.0) es)
-  unfolding IsStrictlySortedBy
-  rising [] h = tt
-  rising (e ∷ es) h = (below e.0 es (both_facts _ _ h).0, rising es (both_facts _ _ h).1)
-
   -- they rise
   pub keys_rise : (m : FinMap R X) → IsStrictlySortedBy R (keys m)
-  keys_rise m = rising (entries m) (entries_sorted m)
+  keys_rise m = key_lists.keys_rise R (entries m) (entries_sorted m)
 
   -- what isn't among the keys isn't found
   pub not_found : (m : FinMap R X) (k : K) → list_any (eq_by_cmp R k) (keys m) ≡ false

@@ -38,15 +38,11 @@ use Rattle.kp_writer.proofs.PendingPorts.{pending_has, pending_rise}
 
 -- ---- All ports
 
--- ports under their names
-abbrev named : List PortInfo → List (PortKey × PortInfo)
-named infos = map (λ i. (i.key, i)) infos
-
 pub known_ports : InfosByName → PortsAreInOrder → KnownPorts
 known_ports by_name in_order setting o ports own are =
     let infos = port_infos setting.family setting.config o in
     ap (map (λ (e : PortKey × PortInfo). e.1)) (same_entries port_key_cmp port_key_total
-    port_key_exact (entries ports) (named infos) (entries_sorted ports)
+    port_key_exact (entries ports) (map (λ i. (i.key, i)) infos) (entries_sorted ports)
     (fact_from_true (in_order setting.family setting.config o))
     (λ key. sym (get-entries ports key) ∙ are key ∙ sym (by_name setting o key own)))
     ∙ map-map (λ (e : PortKey × PortInfo). e.1) (λ (i : PortInfo). (i.key, i)) infos

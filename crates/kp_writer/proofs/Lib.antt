@@ -1,6 +1,7 @@
 mod ClashTest
 mod DirtyLists
 mod EitherWay
+mod KeptBlocks
 mod KeptPorts
 mod KnownPorts
 mod LocalEdits

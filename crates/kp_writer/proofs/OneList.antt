@@ -26,7 +26,8 @@ module _ {K : Type 0} (R : K → K → Ordering) (total : IsTotalOrder R) where
   -- names once each in order rise,
   pub distinct_rise : (ks : List K) → IsStrictlySortedBy R (distinct_in_order R ks)
   distinct_rise ks =
-      entries.keys_rise R (in_order R (paired ks)) (fact_from_true (sorted-in_order total (paired ks)))
+      entries.keys_rise R (in_order R (paired ks))
+      (fact_from_true (sorted-in_order total (paired ks)))
 
   -- and are the same ones
   pub distinct_has : (ks : List K) (k : K)

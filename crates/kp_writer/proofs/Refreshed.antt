@@ -62,8 +62,8 @@ module _ (service : ObjectKey) (m : Ports) (key : PortKey) where
   put_by i is rest true of_it true one =
       get-insert port_key_total (with_infos service m is) i.key i key
       ∙ ap (λ d. cond d (Some i) (get (with_infos service m is) key)) one
-      ∙ sym (ap (known (i ∷ is)) (ap (is_port_of service) (one_from_tie port_key_exact key i.key one)
-      ∙ of_it)
+      ∙ sym (ap (known (i ∷ is)) (ap (is_port_of service) (one_from_tie port_key_exact key i.key
+      one) ∙ of_it)
       ∙ ap (λ d. first_some (cond d (Some i) (info_of is key)) (get m key)) one)
   put_by i is rest true of_it false other =
       get-insert port_key_total (with_infos service m is) i.key i key

@@ -7,7 +7,8 @@ use Rattle.kp_base.proofs.KeyOrder.{port_key_exact, port_key_total}
 use Rattle.kp_types.specs.Setting.{Setting}
 use Rattle.kp_object_defs.specs.PortInfo.{PortInfo}
 use Rattle.kp_blocks.specs.Joined.{BlocksByPort, port_block}
-use Rattle.kp_writer.specs.Written.{AreBlocksOf, IsKept, Ports, WriterParts, newest_ports, setting_in}
+use Rattle.kp_writer.specs.Written.{AreBlocksOf, IsKept, Ports, WriterParts, newest_ports}
+use Rattle.kp_writer.specs.Written.{setting_in}
 use Rattle.kp_writer.proofs.DirtyLists.{keys_rise}
 use Rattle.kp_writer.proofs.OneList.{one_list}
 

@@ -36,9 +36,9 @@ use Rattle.kp_writer.proofs.OneList.{distinct_has}
 
 module _ (gives : PortKey → Option PortInfo)
     (names : (k : PortKey) (i : PortInfo) → gives k ≡ Some i → i.key ≡ k) (key : PortKey) where
-  none_either : (b : Bool) {o : Option PortInfo} → o ≡ None → cond b o None ≡ None
-  none_either true h = h
-  none_either false h = refl
+  either_way : (b : Bool) {o : Option PortInfo} → o ≡ None → cond b o None ≡ o
+  either_way true h = refl
+  either_way false h = sym h
 
   given_by : (k : PortKey) (ks : List PortKey)
       → info_of (filter_map gives ks) key ≡ cond (is_one_of ks key) (gives key) None
@@ -46,8 +46,8 @@ module _ (gives : PortKey → Option PortInfo)
       → info_of (cons_option o (filter_map gives ks)) key
       ≡ cond (b || is_one_of ks key) (gives key) None
   given_by k ks rest None at true is =
-      let none : gives key ≡ None = ap gives (one_from_tie port_key_exact key k is) ∙ at in
-      rest ∙ none_either (is_one_of ks key) none ∙ sym none
+      rest
+      ∙ either_way (is_one_of ks key) (ap gives (one_from_tie port_key_exact key k is) ∙ at)
   given_by k ks rest None at false is = rest
   given_by k ks rest (Some i) at true is =
       ap (λ l. cond (eq_by_cmp port_key_cmp key l) (Some i) (info_of (filter_map gives ks) key))
@@ -102,8 +102,8 @@ module _ (setting : Setting) (o : Objects) (key : PortKey) (its : AreUnderOwnKey
 
   -- of a name that no port of its Service has nothing is known
   unknown_by : (found : Option Service) → get o.services key.object ≡ found
-      → is_one_of (distinct_in_order port_key_cmp (flat_map port_keys_of (option_to_list found))) key
-      ≡ false
+      → is_one_of
+      (distinct_in_order port_key_cmp (flat_map port_keys_of (option_to_list found))) key ≡ false
       → option_and_then (info_in setting.family setting.config o key) found ≡ None
   unknown_by None at h = refl
   unknown_by (Some s) at h =

@@ -1,17 +1,19 @@
 -- Which shared chains are joined: those where the rules of a changed port differ.
 use Rattle.std.specs.Prelude.{ℕ, ◌+◌, ◌||◌, Bool, true, false, List, [], ◌∷◌, Option, Some, None, not}
+use Rattle.std.specs.Prelude.{slice_get}
 use Rattle.std.specs.List.{fold}
 use Rattle.kp_base.specs.declared.address.Family.TheVariants.{V4}
 use Rattle.kp_types.specs.Setting.{Setting}
 use Rattle.kp_types.specs.declared.chain.ChainAt.{ChainAt}
 use Rattle.kp_types.specs.declared.chain.TableName.TheVariants.{Nat, Filter}
+use Rattle.kp_types.specs.declared.rule.ChainText.{ChainText}
 use Rattle.kp_types.specs.declared.rule.Rule.{Rule}
 use Rattle.kp_object_defs.specs.PortInfo.{PortInfo}
 use Rattle.kp_table_defs.specs.Edits.{same_rules}
 use Rattle.kp_table_defs.specs.Layout as layout
 use Rattle.kp_chains.specs.Blocks.{blocks_of}
 use Rattle.kp_chains.specs.declared.blocks.Blocks.{Blocks}
-use Rattle.kp_blocks.specs.Joined.{BlocksByPort, joined_rules}
+use Rattle.kp_blocks.specs.Joined.{Block, BlocksByPort, joined_rules}
 use Rattle.kp_full_table.specs.Parts.{block_count}
 use Rattle.kp_writer.specs.Next.{NextParts, join}
 use Rattle.kp_writer.specs.declared.shared.Touched.{Touched}
@@ -30,6 +32,30 @@ blocks_if setting None = record {
   refusals = [];
 }
 blocks_if setting (Some i) = blocks_of setting i
+
+-- a port's block, if it is found
+abbrev pub block_found : Option Block → Block
+block_found None = []
+block_found (Some block) = block
+
+-- a chain's rules, if it is found
+abbrev pub rules_found : Option ChainText → List Rule
+rules_found None = []
+rules_found (Some c) = c.rules
+
+-- the rules of a block's chain at a place, from 0
+abbrev pub chain_rules : Block → ℕ → List Rule
+chain_rules block place = rules_found (slice_get block place)
+
+-- a block's rules in each shared chain: its chains stand in the order of `port_block`
+abbrev pub blocks_in : Block → Blocks
+blocks_in block = record {
+  services = chain_rules block 0;
+  node_ports = chain_rules block 1;
+  firewall = chain_rules block 2;
+  external = chain_rules block 3;
+  refusals = chain_rules block 4;
+}
 
 -- whether the rules of a chain differ
 abbrev pub differ : List Rule → List Rule → Bool

@@ -12,7 +12,8 @@ use kp_chains::info_blocks;
 use kp_types::{ChainAt, ChainName, ChainText, PortInfo, Rule, TableName};
 use std::alloc::Global;
 
-/// A port's rules in each shared chain.
+/// A port's rules in each shared chain. They get no more memory than they take, since those of all
+/// ports are kept.
 pub fn block_of(
     alloc: Global,
     config: &Config,
@@ -21,7 +22,7 @@ pub fn block_of(
     ensures { IfOk result (λ block. block ≡ port_block (setting_of V4 config.now) info.now) }
 {
     let blocks = info_blocks(alloc, config, info)?;
-    let mut block = Vec::new(alloc);
+    let mut block = Vec::with_capacity(alloc, 5)?;
     add(&mut block, TableName::Nat, "KUBE-SERVICES", blocks.services)?;
     add(
         &mut block,
@@ -68,9 +69,11 @@ fn add(
         ≡ block.old.items ++ text_of (layout.row table chain.now rules) ∷ []) }
 {
     let chain = ChainName::new(chain);
+    let mut rules = rules.into_vec();
+    rules.shrink_to_fit();
     block.push(ChainText {
         at: ChainAt { table, chain },
-        rules,
+        rules: Items::from_vec(rules),
     })?;
     Ok(())
 }

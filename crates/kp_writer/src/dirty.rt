@@ -23,7 +23,7 @@ pub fn dirty_ports(
       before = finite.get (tracked.published port_key_cmp ports.now) k.now;
     }) keys.now) }
 {
-    let mut dirty = Vec::new(alloc);
+    let mut dirty = Vec::with_capacity(alloc, keys.len())?;
     for key in keys {
         dirty.push(DirtyPort {
             key: key.copy(alloc)?,

@@ -30,8 +30,10 @@ pub fn put(
 {
     let key = info.key.copy(alloc)?;
     let back = info.key.copy(alloc)?;
-    let had = blocks.swap(info.key.copy(alloc)?, block)?;
-    match ports.update(key, Some(Known::of(info))) {
+    let place = info.key.copy(alloc)?;
+    let known = Known::of(alloc, info)?;
+    let had = blocks.swap(place, block)?;
+    match ports.update(key, Some(known)) {
         Ok(()) => Ok(()),
         Err(fault) => {
             blocks.put_back(back, had);

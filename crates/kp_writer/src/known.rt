@@ -1,14 +1,17 @@
 //! What is kept of a port.
-ghost use Rattle.std.specs.Prelude.{◌≡◌};
+ghost use Rattle.std.specs.Prelude.{◌≡◌, IfOk};
 
+use kp_base::{Kept, NoMemory};
 use kp_history_defs::same_info;
 use kp_tracker::Told;
 use kp_types::PortInfo;
+use std::alloc::Global;
 use std::marker::Model;
 
-/// What is known of a port. What it contributes to the table is a function of this alone.
+/// What is known of a port. What it contributes to the table is a function of this alone. It stands
+/// behind a pointer, since maps move what they hold and have room for more than they hold.
 pub struct Known {
-    info: PortInfo,
+    info: Kept<PortInfo>,
 }
 
 impl Drop for Known {
@@ -30,17 +33,19 @@ impl Model for Known {
 
 impl Known {
     /// What is known of a port.
-    pub fn of(info: PortInfo) -> Known
-        ensures { result ≡ info }
+    pub fn of(alloc: Global, info: PortInfo) -> Result<Known, NoMemory>
+        ensures { IfOk result (λ k. k ≡ info) }
     {
-        Known { info }
+        Ok(Known {
+            info: Kept::of(alloc, info)?,
+        })
     }
 
     /// It.
     pub fn info(&self) -> &PortInfo
         ensures { result.now ≡ self.now }
     {
-        &self.info
+        self.info.get()
     }
 }
 
@@ -54,6 +59,6 @@ impl Told for Known {
     ghost tells = { info_tells };
 
     fn is_same(&self, other: &Known) -> bool {
-        same_info(&self.info, &other.info)
+        same_info(self.info(), other.info())
     }
 }

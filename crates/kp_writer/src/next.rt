@@ -76,8 +76,9 @@ impl NextChains {
         ensures { OnOk result (self.new ≡ spec.write before.now.chains self.old (row_of row)) }
     {
         let ChainText { at, rules } = row;
-        let free = stays_free(self.free, before, &at, self.places.get(&at));
-        self.places.insert(at, Some(Shared::of(alloc, rules)?))?;
+        let place = at.same();
+        let had = self.places.insert(at, Some(Shared::of(alloc, rules)?))?;
+        let free = stays_free(self.free, before, &place, had.as_ref());
         self.free = free;
         Ok(())
     }
@@ -222,7 +223,7 @@ fn remove_of(
 ) -> Option<Edit>
     ensures { result ≡ spec.remove_of before.now.chains table (at.now, chain.now) }
 {
-    if before.chain(at).is_some() && is_in(table, at) && chain.is_none() {
+    if is_in(table, at) && chain.is_none() && before.chain(at).is_some() {
         Some(Edit::Remove { at: at.same() })
     } else {
         None

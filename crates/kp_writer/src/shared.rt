@@ -8,12 +8,13 @@ ghost use Rattle.kp_choice_defs.specs.Settings.{setting_of};
 ghost use Rattle.kp_full_table.specs.Parts.{block_count};
 ghost use Rattle.kp_tracker.specs.Tracked as tracked;
 ghost use Rattle.kp_writer.specs.Shared as spec;
+ghost use Rattle.kp_writer.specs.Written.{AreBlocksOf};
 
 use crate::known::Known;
 use kp_base::{Config, Items, NoMemory, PortKey, Steps};
-use kp_chains::{Blocks, count_rules, info_blocks};
+use kp_chains::{Blocks, count_chains, count_rules, info_blocks};
 use kp_tracker::Tracker;
-use kp_types::Rule;
+use kp_types::{ChainText, Rule};
 use std::alloc::Global;
 use std::sync::ledger::Ledger;
 
@@ -28,14 +29,17 @@ pub struct Touched {
 }
 
 /// Which shared chains the changes of ports touch. A step is taken for each rule of a port in
-/// these, before and after.
+/// these, before and after; those after are at hand in the ports' blocks.
 pub fn touched_by<L: Ledger>(
     alloc: Global,
     config: &Config,
     ports: &Tracker<PortKey, Known>,
+    blocks: &kp_blocks::Blocks,
     keys: &[&PortKey],
     steps: &mut Steps<L>,
 ) -> Result<Touched, NoMemory>
+    requires { AreBlocksOf (setting_of V4 config.now) (tracked.newest port_key_cmp ports.now)
+        blocks.now }
     ensures touched { IfOk result (λ t. t ≡ spec.touched_by (setting_of V4 config.now)
         (map (λ k. (
           finite.get (tracked.published port_key_cmp ports.now) k.now,
@@ -51,8 +55,9 @@ pub fn touched_by<L: Ledger>(
     let mut touched = untouched();
     for key in keys {
         let before = blocks_if(alloc, config, ports.published(key), steps)?;
-        let after = blocks_if(alloc, config, ports.newest(key), steps)?;
-        touched = touch(touched, &before, &after);
+        let after = block_kept(blocks, key);
+        count_chains(steps, after);
+        touched = touch(touched, &before, after);
     }
     Ok(touched)
 }
@@ -70,24 +75,44 @@ fn untouched() -> Touched
     }
 }
 
-/// Which chains are touched, with those where two blocks differ.
-fn touch(touched: Touched, before: &Blocks, after: &Blocks) -> Touched
-    ensures { result ≡ spec.touch touched before.now after.now }
+/// A port's block as it is kept: none of its chains where the port has none.
+fn block_kept<'a>(blocks: &'a kp_blocks::Blocks, port: &PortKey) -> &'a [ChainText]
+    ensures { result.now ≡ spec.block_found (finite.get blocks.now port.now) }
+{
+    match blocks.block(port) {
+        None => &[],
+        Some(block) => block.as_slice(),
+    }
+}
+
+/// Which chains are touched, with those where the rules before differ from a block's.
+fn touch(touched: Touched, before: &Blocks, after: &[ChainText]) -> Touched
+    ensures { result ≡ spec.touch touched before.now (spec.blocks_in after.now) }
 {
     Touched {
-        services: touched.services || differ(&before.services, &after.services),
-        node_ports: touched.node_ports || differ(&before.node_ports, &after.node_ports),
-        firewall: touched.firewall || differ(&before.firewall, &after.firewall),
-        external: touched.external || differ(&before.external, &after.external),
-        refusals: touched.refusals || differ(&before.refusals, &after.refusals),
+        services: touched.services || differ(&before.services, chain_rules(after, 0)),
+        node_ports: touched.node_ports || differ(&before.node_ports, chain_rules(after, 1)),
+        firewall: touched.firewall || differ(&before.firewall, chain_rules(after, 2)),
+        external: touched.external || differ(&before.external, chain_rules(after, 3)),
+        refusals: touched.refusals || differ(&before.refusals, chain_rules(after, 4)),
+    }
+}
+
+/// The rules of a block's chain at a place, from 0.
+fn chain_rules(block: &[ChainText], place: usize) -> &[Rule]
+    ensures { result.now ≡ spec.chain_rules block.now place }
+{
+    match block.get(place) {
+        None => &[],
+        Some(chain) => chain.rules.as_slice(),
     }
 }
 
 /// Whether rules differ.
-fn differ(before: &Items<Rule>, after: &Items<Rule>) -> bool
+fn differ(before: &Items<Rule>, after: &[Rule]) -> bool
     ensures { result ≡ spec.differ before.now after.now }
 {
-    before.as_slice() != after.as_slice()
+    before.as_slice() != after
 }
 
 /// The rules of a port in the shared chains, if there is one. A step is taken for each; without

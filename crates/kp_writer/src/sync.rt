@@ -7,6 +7,7 @@ ghost use Rattle.kp_full_table.specs.Parts.{all_rule_count};
 ghost use Rattle.kp_tracker.specs.Tracked as tracked;
 ghost use Rattle.kp_writer.specs.Own.{own_rule_count, with_own};
 ghost use Rattle.kp_writer.specs.Sync as spec;
+ghost use Rattle.kp_writer.specs.Written.{AreBlocksOf};
 
 use crate::infos::{newest_infos, written_infos};
 use crate::join::join_touched;
@@ -32,6 +33,8 @@ pub fn next_chains<L: Ledger>(
     table: &Table,
     steps: &mut Steps<L>,
 ) -> Result<NextChains, NoMemory>
+    requires { AreBlocksOf (setting_of V4 config.now) (tracked.newest port_key_cmp ports.now)
+        blocks.now }
     ensures next { IfOk result (λ next. next ≡ spec.sync_next table.now.chains blocks.now
         (setting_of V4 config.now) (tracked.published port_key_cmp ports.now)
         (tracked.newest port_key_cmp ports.now) (map (λ k. k.now) keys.now)) }
@@ -45,7 +48,7 @@ pub fn next_chains<L: Ledger>(
         (tracked.newest port_key_cmp ports.now) (map (λ k. k.now) keys.now))) }
 {
     let mut next = own_chains(alloc, config, ports, keys, table, steps)?;
-    let touched = touched_by(alloc, config, ports, keys, steps)?;
+    let touched = touched_by(alloc, config, ports, blocks, keys, steps)?;
     join_touched(alloc, blocks, &touched, &mut next)?;
     Ok(next)
 }

@@ -1,4 +1,4 @@
-use Rattle.std.proofs.Common.{◌≡◌, ◌&&◌, Some, ap, ◌∙◌}
+use Rattle.std.proofs.Common.{◌≡◌, ◌&&◌, Some, option_copied, ap, ◌∙◌}
 use Rattle.std.specs.FinMap.{from_entries, get}
 use Rattle.kp_base.proofs.Maps.{inserted, lookup-get}
 use Rattle.kp_types.specs.Places.{chain_cmp}
@@ -16,11 +16,13 @@ returns c =
     record { places = from_entries {R = chain_cmp} was; free = c.self.inside.free } in
     let free : c.stays_free-free.result ≡ (n.free && spec.is_free_by before at (get n.places at)) =
     c.stays_free-free.ensures
-    ∙ ap (λ o. n.free && spec.is_free_by before at o) (c.get.ensures.value
-    ∙ lookup-get chain_total chain_tree_ties was at) in
+    ∙ ap (λ a. n.free && spec.is_free_by before a (option_copied c.as_ref.result))
+    c.same-place.ensures
+    ∙ ap (λ o. n.free && spec.is_free_by before at o) (c.as_ref.ensures.value
+    ∙ c.in_ok-had.ensures.old ∙ lookup-get chain_total chain_tree_ties was at) in
     (λ i. record {
       places = inserted chain_total chain_tree_ties chain_exact was c.insert.new.self.entries at
-          (Some c.in_ok-of.field-0) c.in_ok-insert.ensures.updates.0 i;
+          (Some c.in_ok-of.field-0) c.in_ok-had.ensures.updates.0 i;
       free = free i;
     })
     ∙ ap (λ rules. spec.write before n (at, rules)) c.in_ok-of.ensures

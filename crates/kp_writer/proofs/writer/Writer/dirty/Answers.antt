@@ -7,6 +7,6 @@ pub returns : goal.returns
 returns c =
     let v : WriterParts = record { config = c.self.inside.config; ports = c.self.inside.ports } in
     IfOk-weaker c.dirty_ports.result _ _
-    (λ dirty are. dirty_are v c.args.self.now c.self.view_is c.deref.result.now c.in_ok-pending.pending.items
-    c.deref.ensures.value c.in_ok-pending.ensures dirty are)
+    (λ dirty are. dirty_are v c.args.self.now c.self.view_is c.deref.result.now
+    c.in_ok-pending.pending.items c.deref.ensures.value c.in_ok-pending.ensures dirty are)
     c.dirty_ports.ensures
