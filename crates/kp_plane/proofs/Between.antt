@@ -25,7 +25,7 @@ use Rattle.kp_writer.specs.Known.{ArePortsOf, DirtyNewest, DirtyWritten, IsBetwe
 use Rattle.kp_writer.specs.Known.{KnownPorts}
 use Rattle.kp_writer.specs.Written as written
 use Rattle.kp_writer.specs.Written.{Ports, WriterParts, chains_of, newest_ports, written_ports}
-use Rattle.kp_plane.specs.Invariant.{IsBroughtOn, IsMade, IsNext, IsPortsAt}
+use Rattle.kp_plane.specs.Invariant.{Holds, IsBroughtOn, IsMade, IsNext, IsPortsAt}
 use Rattle.kp_plane.specs.Parts.{PlaneParts, most_steps, objects_in, setting_in, syncs_in}
 use Rattle.kp_plane.specs.Parts.{uncovered_in}
 use Rattle.kp_plane.specs.declared.next.Next.{Next}
@@ -145,7 +145,8 @@ pub covers_within : (p : PlaneParts) (h : History) → IsHistory p h → h.cover
 covers_within p h is =
     let few = within p is.exact in let covered = is.covered in omega (arith, few, covered)
 
--- what holds where a call fails
-pub holds_after : {X E P : Type 0} (r : Result X E) → P → OnErr r P
-holds_after (Ok x) p = tt
-holds_after (Err e) p = p
+-- what is held is held where a call fails
+pub still_held : {X E : Type 0} (r : Result X E) (p : PlaneParts) (h : History) (s : PortsAt)
+    → Holds p h s → OnErr r (Holds p h s)
+still_held (Ok x) p h s held = tt
+still_held (Err e) p h s held = held

@@ -176,14 +176,15 @@ none_named o service is =
 
 -- ---- All Services
 
-none_from : {X : Type 0} (o : Option X) → is_some o ≡ false → o ≡ None
-none_from None e = refl
-none_from (Some x) e = absurd (cc)
+absent : {K X : Type 0} {R : K → K → Ordering} (m : FinMap R X) (k : K) (o : Option X)
+    → finite.get m k ≡ o → is_some o ≡ false → finite.get m k ≡ None
+absent m k None e f = e
+absent m k (Some x) e f = absurd (cc)
 
 -- a key that isn't listed has nothing
 pub not_listed : {K X : Type 0} {R : K → K → Ordering} (m : FinMap R X) (k : K)
     → list_any (eq_by_cmp R k) (finite.keys m) ≡ false → finite.get m k ≡ None
-not_listed m k out = none_from (finite.get m k) (contains_key-keys m k ∙ out)
+not_listed m k out = absent m k (finite.get m k) refl (contains_key-keys m k ∙ out)
 
 -- a port of other Services is another port
 pub other_ports : (port : PortKey) (ks : List PortKey)

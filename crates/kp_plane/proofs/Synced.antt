@@ -97,16 +97,11 @@ plane_kept p most h next s t explained slices is same =
       slices_at = is.slices_at;
     })
 
--- what contracts see after one more sync, and where none was made
+-- what contracts see after one more sync
 pub parts_next : (p q : PlaneParts) → p ≡ q → (next : History) (t : PortsAt)
     → Holds (synced p) next t → ◌≡◌ {A = PlaneParts} (record p { counts = next.counts.items }) (synced q)
 parts_next p q same next t more =
     ap (λ (counts : List ℕ). record p { counts = counts }) more.history.counts ∙ ap synced same
-
-pub parts_kept : (p q : PlaneParts) → p ≡ q → (next : History) (t : PortsAt)
-    → Holds p next t → ◌≡◌ {A = PlaneParts} (record p { counts = next.counts.items }) q
-parts_kept p q same next t held =
-    ap (λ (counts : List ℕ). record p { counts = counts }) held.history.counts ∙ same
 
 -- ---- What a sync looks at
 
