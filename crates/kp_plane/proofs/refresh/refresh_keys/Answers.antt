@@ -1,4 +1,4 @@
-use Rattle.std.proofs.Common.{sym, subst, ◌∙◌, arith}
+use Rattle.std.proofs.Common.{sym, subst, arith}
 use Rattle.kp_base.specs.declared.address.Family.TheVariants.{V4}
 use Rattle.kp_choice_defs.specs.Settings.{setting_of}
 use Rattle.kp_writer.specs.Written.{newest_ports}

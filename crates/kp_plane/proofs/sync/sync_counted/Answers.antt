@@ -1,6 +1,5 @@
-use Rattle.std.proofs.Common.{refl, ap, sym, ◌∙◌, count_by, not}
-use Rattle.kp_plane.specs.Invariant.{Holds, parts_of}
-use Rattle.kp_table_defs.specs.Edits.{is_write}
+use Rattle.std.proofs.Common.{refl}
+use Rattle.kp_plane.specs.Invariant.{parts_of}
 use Rattle.kp_plane.proofs.Between.{covers_within, still_held}
 use Rattle.kp_plane.proofs.sync.sync_counted.Goals as goal
 

@@ -1,9 +1,9 @@
-use Rattle.std.proofs.Common.{◌≡◌, ◌<◌, ◌+◌, ℕ, length, get_or, take, refl, sym, ap, subst, ◌∙◌, arith}
+use Rattle.std.proofs.Common.{◌<◌, ◌+◌, ℕ, length, get_or, take, refl, sym, ap, subst, ◌∙◌, arith}
 use Rattle.kp_base.specs.declared.address.Family.TheVariants.{V4}
 use Rattle.kp_choice_defs.specs.Settings.{setting_of}
 use Rattle.kp_object_defs.specs.OwnKeys.{AreUnderOwnKeys}
 use Rattle.kp_plane.proofs.Places.{next_place}
-use Rattle.kp_plane.proofs.Touching.{leaves_all, leaves_both, leaves_fewer, leaves_one}
+use Rattle.kp_plane.proofs.Touching.{leaves_all, leaves_both, leaves_one}
 use Rattle.kp_plane.proofs.place.ObjectsAt.advance_touching.Goals as goal
 
 pub loop-at-init : goal.loop-at-init
