@@ -1,0 +1,36 @@
+use Rattle.std.proofs.Common.{◌≡◌, ◌||◌, Bool, true, map, refl, sym, ap, ◌∙◌, Bor}
+use Rattle.std.proofs.lemmas.Result.{on_ok_weaker}
+use Rattle.std.specs.List.{list_any}
+use Rattle.std.specs.Ordering.{eq_by_cmp}
+use Rattle.std.specs.FinMap as finite
+use Rattle.kp_base.specs.Keys.{key_cmp}
+use Rattle.kp_base.specs.declared.key.ObjectKey.{ObjectKey}
+use Rattle.kp_store.specs.Touched.{is_touched}
+use Rattle.kp_plane.proofs.Collecting.{by_all, by_all_few, listed, listed_few}
+use Rattle.kp_plane.proofs.collected.add_touched.Goals as goal
+
+pub returns-then-others-clause-ok : goal.returns-then-others-clause-ok
+returns-then-others-clause-ok c =
+    by_all c.args.others.now c.args.touched.now c.add_all.new.self c.if-others.true c.add_all.ensures
+
+pub returns-then-others-clause-few : goal.returns-then-others-clause-few
+returns-then-others-clause-few c =
+    by_all_few c.args.others.now c.args.touched.now c.add_all.new.self c.if-others.true
+
+pub returns-else-others-clause-ok : goal.returns-else-others-clause-ok
+returns-else-others-clause-ok c =
+    on_ok_weaker c.add_keys.result
+    (listed c.args.others.now c.args.touched.now c.add_keys.new.touched c.deref.result.now
+    c.if-others.false
+    (ap (map (λ (q : Bor ObjectKey). q.now)) c.deref.ensures.value ∙ c.in_ok-keys.ensures))
+    c.add_keys.ensures.ok
+
+pub returns-else-others-clause-few : goal.returns-else-others-clause-few
+returns-else-others-clause-few c =
+    listed_few c.args.others.now c.args.touched.now c.add_keys.new.touched c.deref.result.now
+    c.if-others.false
+    (ap (map (λ (q : Bor ObjectKey). q.now)) c.deref.ensures.value ∙ c.in_ok-keys.ensures)
+    c.add_keys.ensures.few
+
+pub returns-in_err-keys-clause-few : goal.returns-in_err-keys-clause-few
+returns-in_err-keys-clause-few c = λ k. refl
