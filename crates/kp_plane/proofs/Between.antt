@@ -142,8 +142,8 @@ asked_since p =
     let counted = take_all (length p.counts) p.counts (le_refl (length p.counts)) in
     let all = take_all (length p.events) p.events (le_refl (length p.events)) in
     λ i. touched_count (objects_after p.events)
-        (touches_one (setting_in p) (objects_after (take (sum (sym counted i)) p.events))
-        (drop (sum p.counts) (all i)))
+    (touches_one (setting_in p) (objects_after (take (sum (sym counted i)) p.events))
+    (drop (sum p.counts) (all i)))
 
 -- what isn't counted
 pub counted_none : (left most old : ℕ) → IsCounted left most old old

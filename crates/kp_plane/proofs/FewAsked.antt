@@ -92,7 +92,7 @@ module _ {K X Y : Type 0} {R : K → K → Ordering} (total : IsTotalOrder R)
       subst (λ (look : K → Option X). sum_by f (filter_map look (keys s)) ≤ sum_by f (values m))
       (λ i q. sym (get-entries m q) i) (among (entries m) (entries s) (entries_sorted s))
 
-module _ {K X Y : Type 0} {R : K → K → Ordering} (total : IsTotalOrder R)
+module _ {K X : Type 0} {R : K → K → Ordering} (total : IsTotalOrder R)
     (exact : IsAntisymmetric R) (f : X → ℕ) (key_of : X → K) (test : K → Bool) (m : FinMap R X)
     (own : (k : K) (x : X) → get m k ≡ Some x → key_of x ≡ k) where
   -- what counts where the key passes
@@ -118,7 +118,7 @@ module _ {K X Y : Type 0} {R : K → K → Ordering} (total : IsTotalOrder R)
       ∙ sym (weighed passing (get m k) (filter_map (get m) ks))
 
   -- values at the keys of another map, which all pass, count at most what all count that pass
-  pub few_of_passing : (s : FinMap R Y) → ((k : K) → contains_key s k ≡ true → test k ≡ true)
+  pub few_of_passing : {Y : Type 0} (s : FinMap R Y) → ((k : K) → contains_key s k ≡ true → test k ≡ true)
       → sum_by f (filter_map (get m) (keys s))
       ≤ sum_by f (filter (λ x. test (key_of x)) (values m))
   few_of_passing s passes =

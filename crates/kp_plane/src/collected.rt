@@ -26,8 +26,10 @@ impl Drop for Collected {
 
 impl Collected {
     ghost use Rattle.std.specs.Prelude.{◌&&◌, ◌↔◌, false, IfOk, IsFalse, OnErr};
+    ghost use Rattle.kp_base.specs.declared.address.Family.TheVariants.{V4};
+    ghost use Rattle.kp_choice_defs.specs.Settings.{setting_of};
     ghost use Rattle.kp_object_defs.specs.Objects.{objects_step};
-    ghost use Rattle.kp_touch_defs.specs.Touches.{touches};
+    ghost use Rattle.kp_touch_laws.specs.TouchLaws.{touches_in};
     ghost use Rattle.kp_plane.specs.Collected.{AreJoined, Collects, CollectsSame, is_collected};
 
     /// No Services.
@@ -54,7 +56,7 @@ impl Collected {
             IsFalse changed ↔ (objects_step objects.old event.now ≡ objects.old)) }
         ensures ok { OnOk result (objects.new ≡ objects_step objects.old event.now) }
         ensures adds { IfOk result (λ changed. Collects (λ k. changed
-            && touches config.now.node config.now.controller objects.old event.now k)
+            && touches_in (setting_of V4 config.now) objects.old event.now k)
             self.old self.new) }
         ensures err { OnErr result (objects.new ≡ objects.old) }
         ensures same { OnErr result (CollectsSame self.old self.new) }

@@ -4,7 +4,6 @@ use Rattle.std.specs.List.{list_any}
 use Rattle.std.specs.Ordering.{eq_by_cmp}
 use Rattle.kp_base.specs.Keys.{key_cmp}
 use Rattle.kp_base.specs.declared.key.ObjectKey.{ObjectKey}
-use Rattle.kp_touch_defs.specs.Touches.{is_key}
 use Rattle.kp_store.specs.Touched.{is_touched}
 use Rattle.kp_store.specs.declared.touched.Touched.{Touched}
 use Rattle.kp_store.proofs.Unions.{any_shown, more_beside}
@@ -17,7 +16,7 @@ loop-key-init c = λ k. refl
 pub loop-key-preserved : goal.loop-key-preserved
 loop-key-preserved c = λ k.
     c.in_ok-add.ensures.ok k
-    ∙ (λ i. is_key (c.in_ok-copy.ensures i) k || c.loop-key.invariant k i)
+    ∙ (λ i. eq_by_cmp key_cmp k (c.in_ok-copy.ensures i) || c.loop-key.invariant k i)
     ∙ more_beside (λ (q : Bor ObjectKey). eq_by_cmp key_cmp k q.now) c.args.keys.now
     c.loop-key.key-index c.key-item.result (is_touched c.args.touched.now k) c.loop-key-test.true
     c.key-item.is

@@ -17,16 +17,16 @@ pub returns-then-others-clause-few : goal.returns-then-others-clause-few
 returns-then-others-clause-few c =
     by_all_few c.args.others.now c.args.touched.now c.add_all.new.self c.if-others.true
 
-pub returns-else-others-clause-ok : goal.returns-else-others-clause-ok
-returns-else-others-clause-ok c =
+pub returns-in_ok-keys-clause-ok : goal.returns-in_ok-keys-clause-ok
+returns-in_ok-keys-clause-ok c =
     on_ok_weaker c.add_keys.result
     (listed c.args.others.now c.args.touched.now c.add_keys.new.touched c.deref.result.now
     c.if-others.false
     (ap (map (λ (q : Bor ObjectKey). q.now)) c.deref.ensures.value ∙ c.in_ok-keys.ensures))
     c.add_keys.ensures.ok
 
-pub returns-else-others-clause-few : goal.returns-else-others-clause-few
-returns-else-others-clause-few c =
+pub returns-in_ok-keys-clause-few : goal.returns-in_ok-keys-clause-few
+returns-in_ok-keys-clause-few c =
     listed_few c.args.others.now c.args.touched.now c.add_keys.new.touched c.deref.result.now
     c.if-others.false
     (ap (map (λ (q : Bor ObjectKey). q.now)) c.deref.ensures.value ∙ c.in_ok-keys.ensures)
