@@ -2,6 +2,7 @@
 use Rattle.std.proofs.Common.{◌≡◌, ◌||◌, ℕ, Bool, true, false, List, map, take, drop, refl, sym, ap, ◌∙◌}
 use Rattle.std.proofs.Common.{Bor}
 use mathlib.Core.Bool.{or-false}
+use Rattle.std.proofs.Math.Bool.{or-true}
 use Rattle.std.specs.List.{list_any}
 use Rattle.std.specs.Ordering.{eq_by_cmp}
 use Rattle.std.specs.FinMap as finite
@@ -95,3 +96,20 @@ one_apart before middle none last test same joined new adds k =
     ap (λ b. b || is_touched middle.joined k)
     (adds k ∙ ap (λ b. test k || b) (new k) ∙ or-false (test k))
     ∙ ap (λ b. test k || b) (joined k ∙ same k)
+
+-- all are, where all of the latest event or all others are
+pub has_all : (t : Collected) → t.joined.all || t.last.all ≡ true → (k : ObjectKey)
+    → is_collected t k ≡ true
+has_all t all k =
+    by t.joined.all t.last.all (finite.contains_key t.joined.keys k)
+    (finite.contains_key t.last.keys k) all
+  where
+    by : (a b c d : Bool) → a || b ≡ true → (b || d) || (a || c) ≡ true
+    by a true c d is = refl
+    by true false c d is = or-true d
+    by false false c d is = absurd (both_answers false is refl)
+
+-- so no others are added
+pub none_more : (t : Collected) (test : ObjectKey → Bool)
+    → ((k : ObjectKey) → is_collected t k ≡ true) → Collects test t t
+none_more t test all k = all k ∙ sym (ap (λ b. test k || b) (all k) ∙ or-true (test k))

@@ -1,9 +1,10 @@
 //! The Services that events touched, collected so that no want of memory loses or adds one.
-ghost use Rattle.std.specs.Prelude.{◌≡◌, ◌||◌, map, OnOk};
+ghost use Rattle.std.specs.Prelude.{◌≡◌, ◌||◌, ◌↔◌, map, IfOk, IsFalse, OnErr, OnOk};
 ghost use Rattle.std.specs.List.{list_any};
 ghost use Rattle.std.specs.Ordering.{eq_by_cmp};
 ghost use Rattle.kp_base.specs.Keys.{key_cmp};
 ghost use Rattle.kp_base.specs.declared.key.ObjectKey.{ObjectKey as Key};
+ghost use Rattle.kp_object_defs.specs.Objects.{objects_step};
 ghost use Rattle.kp_store.specs.Touched.{AddsTo, is_touched};
 
 use kp_base::{Config, Copied, NoMemory, ObjectKey};
@@ -25,10 +26,9 @@ impl Drop for Collected {
 }
 
 impl Collected {
-    ghost use Rattle.std.specs.Prelude.{◌&&◌, ◌↔◌, false, IfOk, IsFalse, OnErr};
+    ghost use Rattle.std.specs.Prelude.{◌&&◌, true, false, IsTrue};
     ghost use Rattle.kp_base.specs.declared.address.Family.TheVariants.{V4};
     ghost use Rattle.kp_choice_defs.specs.Settings.{setting_of};
-    ghost use Rattle.kp_object_defs.specs.Objects.{objects_step};
     ghost use Rattle.kp_touch_laws.specs.TouchLaws.{touches_in};
     ghost use Rattle.kp_plane.specs.Collected.{AreJoined, Collects, CollectsSame, is_collected};
 
@@ -44,7 +44,7 @@ impl Collected {
 
     /// Applies one more event to the objects, and collects the Services that it touches. Tells
     /// whether any object changed. Where memory is out, the objects stay, and the same Services are
-    /// collected.
+    /// collected. Once all Services are, no more is looked for.
     pub(crate) fn apply_touching(
         &mut self,
         alloc: Global,
@@ -61,11 +61,21 @@ impl Collected {
         ensures err { OnErr result (objects.new ≡ objects.old) }
         ensures same { OnErr result (CollectsSame self.old self.new) }
     {
+        if self.has_all() {
+            return apply_changing(alloc, objects, event);
+        }
         self.join(alloc)?;
         let mut last = Touched::new(alloc);
         let changed = objects.apply_touching(alloc, config, event, &mut last)?;
         self.last = last;
         Ok(changed)
+    }
+
+    /// Whether all Services were touched, so that there are no others to look for.
+    fn has_all(&self) -> bool
+        ensures { IsTrue result → (k : Key) → is_collected self.now k ≡ true }
+    {
+        self.joined.all || self.last.all
     }
 
     /// Joins the Services of the latest event to the others. The same are collected, also where
@@ -77,6 +87,21 @@ impl Collected {
         add_touched(alloc, &self.last, &mut self.joined)?;
         self.last = Touched::new(alloc);
         Ok(())
+    }
+}
+
+/// Applies one more event to the objects where it changes any, and tells whether it does.
+fn apply_changing(alloc: Global, objects: &mut Objects, event: &Event) -> Result<bool, NoMemory>
+    ensures changed { IfOk result (λ changed.
+        IsFalse changed ↔ (objects_step objects.old event.now ≡ objects.old)) }
+    ensures ok { OnOk result (objects.new ≡ objects_step objects.old event.now) }
+    ensures err { OnErr result (objects.new ≡ objects.old) }
+{
+    if objects.changes(event) {
+        objects.apply(alloc, event)?;
+        Ok(true)
+    } else {
+        Ok(false)
     }
 }
 
