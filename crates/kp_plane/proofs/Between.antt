@@ -1,10 +1,9 @@
 -- What a writer makes between what the last sync covers and all events.
-use Rattle.std.proofs.Common.{◌≡◌, ◌≤◌, ◌<◌, ◌+◌, ℕ, List, [], Option, None, length, map, sum, take}
+use Rattle.std.proofs.Common.{◌≡◌, ◌≤◌, ◌<◌, ◌+◌, ℕ, [], None, length, map, sum, take}
 use Rattle.std.proofs.Common.{drop, refl, sym, ap, subst, ◌∙◌, arith, le_refl, Result, Ok, Err, OnErr}
 use Rattle.std.proofs.lemmas.List.{take_all}
 use Rattle.std.specs.FinMap as finite
 use Rattle.kp_base.specs.declared.address.Family.TheVariants.{V4}
-use Rattle.kp_types.specs.declared.chain.Clash.{Clash}
 use Rattle.kp_choice_defs.specs.Names.{first_clash}
 use Rattle.kp_choice_defs.specs.Settings.{setting_of}
 use Rattle.kp_object_defs.specs.Objects.{Objects, objects_after}
@@ -31,7 +30,6 @@ use Rattle.kp_plane.specs.Invariant.{Holds, IsBroughtOn, IsMade, IsNext, IsPorts
 use Rattle.kp_plane.specs.Invariant.{touched_between}
 use Rattle.kp_plane.specs.Known.{touched_count}
 use Rattle.kp_plane.specs.Parts.{PlaneParts, most_asked, most_steps, objects_in, setting_in, syncs_in}
-use Rattle.kp_plane.specs.Parts.{uncovered_in}
 use Rattle.kp_plane.specs.declared.next.Next.{Next}
 use Rattle.kp_plane.specs.declared.ports_at.PortsAt.{PortsAt}
 

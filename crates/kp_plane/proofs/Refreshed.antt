@@ -1,6 +1,6 @@
 -- What is known of ports once those of Services are made anew.
 use Rattle.std.proofs.Common.{◌≡◌, ◌||◌, ◌+◌, Bool, true, false, List, [], ◌∷◌, ◌++◌, map, refl, sym}
-use Rattle.std.proofs.Common.{ap, subst, ◌∙◌, arith, ◌≤◌, ℕ, Option, None, cond}
+use Rattle.std.proofs.Common.{ap, ◌∙◌, ◌≤◌, Option, None, cond}
 use Rattle.std.proofs.Common.{Some, flat_map, inl, inr, ◌⊎◌}
 use Rattle.std.specs.List.{Contains, cons_option, filter_map, list_any, sum_by}
 use Rattle.std.specs.Ordering.{eq_by_cmp}

@@ -1,22 +1,20 @@
 -- What holds of ports once a sync is kept.
-use Rattle.std.proofs.Common.{◌≡◌, ◌≤◌, ◌<◌, nat_lt, ℕ, Bool, true, false, length, sym, ap, subst, ◌∙◌}
+use Rattle.std.proofs.Common.{◌≡◌, ◌≤◌, ◌<◌, nat_lt, Bool, true, false, length, sym, ap, subst, ◌∙◌}
 use Rattle.std.proofs.Common.{arith, sum, refl}
 use Rattle.std.proofs.lemmas.Bool.Decides.{nat_tests}
 use Rattle.std.specs.FinMap as finite
 use Rattle.kp_base.specs.declared.address.Family.TheVariants.{V4}
-use Rattle.kp_object_defs.specs.Objects.{Objects, objects_after}
+use Rattle.kp_object_defs.specs.Objects.{objects_after}
 use Rattle.kp_object_defs.specs.PortByKey.{info_at}
-use Rattle.kp_history_defs.specs.DirtyPorts.{dirty_ports, dirty_port}
-use Rattle.kp_history_defs.specs.declared.dirty.DirtyPort.{DirtyPort}
-use Rattle.kp_history.specs.Invariant.{IsHistory}
+use Rattle.kp_history_defs.specs.DirtyPorts.{dirty_ports}
 use Rattle.kp_history.specs.declared.history.History.{History}
 use Rattle.kp_history.proofs.Synced.{all_counted, before_next, objects_next, within}
 use Rattle.kp_writer.specs.Known.{ArePortsOf}
-use Rattle.kp_writer.specs.Written.{Ports, newest_ports, written_ports}
+use Rattle.kp_writer.specs.Written.{Ports, written_ports}
 use Rattle.kp_plane.specs.Collected.{is_collected}
 use Rattle.kp_plane.specs.Invariant.{AreTouchedBetween, Holds, IsAtPlace, IsNext, IsPortsAt}
 use Rattle.kp_plane.specs.Invariant.{IsSettled}
-use Rattle.kp_plane.specs.Parts.{PlaneParts, objects_in, setting_in, synced, uncovered_in}
+use Rattle.kp_plane.specs.Parts.{PlaneParts, setting_in, synced, uncovered_in}
 use Rattle.kp_plane.specs.declared.collected.Collected.{Collected}
 use Rattle.kp_plane.specs.declared.next.Next.{Next}
 use Rattle.kp_plane.specs.declared.place.ObjectsAt.{ObjectsAt}

@@ -2,9 +2,7 @@
 use Rattle.std.proofs.Common.{◌≡◌, ◌&&◌, ◌||◌, ◌↔◌, Bool, true, false, refl, sym, ap, ◌∙◌}
 use Rattle.std.specs.Prelude.{IsFalse}
 use Rattle.std.proofs.lemmas.Bool.{or_parts}
-use Rattle.std.specs.FinMap as finite
 use Rattle.kp_base.specs.declared.key.ObjectKey.{ObjectKey}
-use Rattle.kp_base.specs.declared.key.PortKey.{PortKey}
 use Rattle.kp_types.specs.Setting.{Setting}
 use Rattle.kp_types.specs.declared.event.Event.{Event}
 use Rattle.kp_object_defs.specs.Objects.{Objects, objects_step}

@@ -1,11 +1,6 @@
-use Rattle.std.proofs.Common.{◌≡◌, ◌||◌, Bool, true, map, refl, sym, ap, ◌∙◌, Bor}
+use Rattle.std.proofs.Common.{map, refl, ap, ◌∙◌, Bor}
 use Rattle.std.proofs.lemmas.Result.{on_ok_weaker}
-use Rattle.std.specs.List.{list_any}
-use Rattle.std.specs.Ordering.{eq_by_cmp}
-use Rattle.std.specs.FinMap as finite
-use Rattle.kp_base.specs.Keys.{key_cmp}
 use Rattle.kp_base.specs.declared.key.ObjectKey.{ObjectKey}
-use Rattle.kp_store.specs.Touched.{is_touched}
 use Rattle.kp_plane.proofs.Collecting.{by_all, by_all_few, listed, listed_few}
 use Rattle.kp_plane.proofs.collected.add_touched.Goals as goal
 
