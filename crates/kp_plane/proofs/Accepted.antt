@@ -23,6 +23,7 @@ use Rattle.kp_plane.specs.Invariant.{IsAtPlace, IsPlane, IsPortsAt, IsSlicesAt}
 use Rattle.kp_plane.specs.declared.place.ObjectsAt.{ObjectsAt}
 use Rattle.kp_plane.specs.declared.ports_at.PortsAt.{PortsAt}
 use Rattle.kp_plane.specs.declared.slices_at.SlicesAt.{SlicesAt}
+use Rattle.kp_plane.proofs.Since.{since_accepted}
 
 module _ (p : PlaneParts) (more : List Event) where
   pub covered_same : HasExactHistory p → (n : ℕ) → objects_covered (p.events ++ more) p.counts n ≡ objects_covered p.events p.counts n
@@ -77,6 +78,8 @@ module _ (p : PlaneParts) (more : List Event) where
         is.written key
         ∙ ap (λ o. info_at V4 (setting_in p).config o key) (sym (covered_same h (syncs_in p)));
     untouched = is.untouched;
+    since = since_accepted (setting_in p) p.events (sum p.counts) s.latest.at s.touched more
+        is.place.within is.since;
     dirty = is.dirty
         ∙ (λ i. dirty_ports (setting_in p) (sym (covered_same h (syncs_in p - 1)) i)
         (sym (covered_same h (syncs_in p)) i));

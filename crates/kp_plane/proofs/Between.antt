@@ -1,9 +1,9 @@
 -- What a writer makes between what the last sync covers and all events.
-use Rattle.std.proofs.Common.{◌≡◌, ◌≤◌, ◌<◌, ◌+◌, ℕ, List, [], Option, None, length, map, refl, sym, ap}
-use Rattle.std.proofs.Common.{subst, ◌∙◌, arith, Result, Ok, Err, OnErr}
+use Rattle.std.proofs.Common.{◌≡◌, ◌≤◌, ◌<◌, ◌+◌, ℕ, [], None, length, map, sum, take}
+use Rattle.std.proofs.Common.{drop, refl, sym, ap, subst, ◌∙◌, arith, le_refl, Result, Ok, Err, OnErr}
+use Rattle.std.proofs.lemmas.List.{take_all}
 use Rattle.std.specs.FinMap as finite
 use Rattle.kp_base.specs.declared.address.Family.TheVariants.{V4}
-use Rattle.kp_types.specs.declared.chain.Clash.{Clash}
 use Rattle.kp_choice_defs.specs.Names.{first_clash}
 use Rattle.kp_choice_defs.specs.Settings.{setting_of}
 use Rattle.kp_object_defs.specs.Objects.{Objects, objects_after}
@@ -18,6 +18,7 @@ use Rattle.kp_history_defs.specs.History.{covered}
 use Rattle.kp_history_laws.specs.DirtyLaws.{NoneDirty}
 use Rattle.kp_history.specs.Invariant.{IsHistory}
 use Rattle.kp_history.proofs.Synced.{within}
+use Rattle.kp_touch_laws.specs.TouchLaws.{touches_one}
 use Rattle.kp_plane.specs.Counts.{IsCounted}
 use Rattle.kp_plane.proofs.Synced.{leads_nowhere, none_left, nothing_new}
 use Rattle.kp_history.specs.declared.history.History.{History}
@@ -25,9 +26,10 @@ use Rattle.kp_writer.specs.Known.{ArePortsOf, DirtyNewest, DirtyWritten, IsBetwe
 use Rattle.kp_writer.specs.Known.{KnownPorts}
 use Rattle.kp_writer.specs.Written as written
 use Rattle.kp_writer.specs.Written.{Ports, WriterParts, chains_of, newest_ports, written_ports}
-use Rattle.kp_plane.specs.Invariant.{IsBroughtOn, IsMade, IsNext, IsPortsAt}
-use Rattle.kp_plane.specs.Parts.{PlaneParts, most_steps, objects_in, setting_in, syncs_in}
-use Rattle.kp_plane.specs.Parts.{uncovered_in}
+use Rattle.kp_plane.specs.Invariant.{Holds, IsBroughtOn, IsMade, IsNext, IsPortsAt, IsUpToDate}
+use Rattle.kp_plane.specs.Invariant.{touched_between}
+use Rattle.kp_plane.specs.Known.{touched_count}
+use Rattle.kp_plane.specs.Parts.{PlaneParts, most_asked, most_steps, objects_in, setting_in, syncs_in}
 use Rattle.kp_plane.specs.declared.next.Next.{Next}
 use Rattle.kp_plane.specs.declared.ports_at.PortsAt.{PortsAt}
 
@@ -39,6 +41,7 @@ brought_on p s t is on = record {
   config = on.config ∙ is.config;
   written = λ key. ap (λ (m : Ports). finite.get m key) on.written ∙ is.written key;
   untouched = on.untouched;
+  since = on.since (sum p.counts) is.since;
   dirty = on.dirty ∙ is.dirty;
 }
 
@@ -87,9 +90,9 @@ module _ (known : KnownPorts) (own : OwnKeysAfterEvents) (p : PlaneParts) (w : W
       }
 
       -- what the writer makes is what a sync keeps
-      pub makes_next : KnownDirtyPorts → (next : Next) → IsMade w next
-          → IsNext p (newest_ports w) next
-      makes_next dirty next made = record {
+      pub makes_next : KnownDirtyPorts → (s : PortsAt) → IsUpToDate (setting_in p) p.events s
+          → (next : Next) → IsMade w next → IsNext p s next
+      makes_next dirty s up next made = record {
         leads = record {
           no_clash = sym next_clash ∙ made.no_clash;
           edits = made.edits
@@ -98,7 +101,7 @@ module _ (known : KnownPorts) (own : OwnKeysAfterEvents) (p : PlaneParts) (w : W
               (same_chains (objects_after p.events) (newest_ports w) (own p.events) new i));
         };
         dirty = made.dirty ∙ dirty (setting_in p) (objects_in p) (objects_after p.events) w between;
-        newest = λ _. new;
+        newest = λ _. up;
       }
 
       -- its most steps are those of the dirty ports
@@ -116,9 +119,9 @@ module _ (known : KnownPorts) (own : OwnKeysAfterEvents) (p : PlaneParts) (w : W
 
 -- nothing is kept then
 pub nothing_next : SameRulesAreEqual → NoneDirty → (p : PlaneParts) (h : History) → IsHistory p h
-    → length p.events ≡ h.covered → (ports : Ports) (next : Next) → next.batch.edits ≡ []
-    → next.dirty ≡ [] → IsNext p ports next
-nothing_next rules clean p h is none ports next edits dirty = record {
+    → length p.events ≡ h.covered → (s : PortsAt) (next : Next) → next.batch.edits ≡ []
+    → next.dirty ≡ [] → IsNext p s next
+nothing_next rules clean p h is none s next edits dirty = record {
   leads = leads_nowhere rules p h is none edits;
   dirty = dirty
       ∙ ap (map (dirty_port (setting_in p) (objects_in p))) (sym (clean (setting_in p) (objects_in p)))
@@ -127,6 +130,18 @@ nothing_next rules clean p h is none ports next edits dirty = record {
 }
 
 -- ---- Counts
+
+-- the ports of Services that events touched since the last sync are the most that are asked about
+pub asked_since : (p : PlaneParts)
+    → touched_count (objects_after p.events)
+    (touched_between (setting_in p) p.events (sum p.counts) (length p.events))
+    ≡ most_asked p
+asked_since p =
+    let counted = take_all (length p.counts) p.counts (le_refl (length p.counts)) in
+    let all = take_all (length p.events) p.events (le_refl (length p.events)) in
+    λ i. touched_count (objects_after p.events)
+    (touches_one (setting_in p) (objects_after (take (sum (sym counted i)) p.events))
+    (drop (sum p.counts) (all i)))
 
 -- what isn't counted
 pub counted_none : (left most old : ℕ) → IsCounted left most old old
@@ -145,7 +160,8 @@ pub covers_within : (p : PlaneParts) (h : History) → IsHistory p h → h.cover
 covers_within p h is =
     let few = within p is.exact in let covered = is.covered in omega (arith, few, covered)
 
--- what holds where a call fails
-pub holds_after : {X E P : Type 0} (r : Result X E) → P → OnErr r P
-holds_after (Ok x) p = tt
-holds_after (Err e) p = p
+-- what is held is held where a call fails
+pub still_held : {X E : Type 0} (r : Result X E) (p : PlaneParts) (h : History) (s : PortsAt)
+    → Holds p h s → OnErr r (Holds p h s)
+still_held (Ok x) p h s held = tt
+still_held (Err e) p h s held = held

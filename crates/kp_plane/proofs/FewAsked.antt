@@ -1,17 +1,20 @@
--- Services of different keys have at most as many ports as all have together.
-use Rattle.std.proofs.Common.{◌≡◌, ◌≤◌, ◌+◌, ℕ, Bool, true, false, cond, List, [], ◌∷◌, map, Option}
-use Rattle.std.proofs.Common.{Some, None, T, refl, sym, ap, subst, ◌∙◌, arith}
-use Rattle.std.specs.List.{cons_option, filter_map, sum_by}
+-- Services of different keys have at most as many ports as all have together, and as those whose
+-- keys pass a test have, where these do.
+use Rattle.std.proofs.Common.{◌≡◌, ◌≤◌, ◌+◌, ◌||◌, ℕ, Bool, true, false, cond, List, [], ◌∷◌, map}
+use Rattle.std.proofs.Common.{Option, Some, None, T, filter, refl, sym, ap, subst, ◌∙◌, arith}
+use Rattle.std.proofs.Math.Bool.{or-true}
+use Rattle.std.specs.List.{cons_option, filter_map, list_any, sum_by}
 use Rattle.std.proofs.lemmas.List.Sums.{sum_by-cons}
 use Rattle.std.specs.Ordering.{eq_by_cmp}
 use Rattle.std.specs.declared.cmp.Ordering.{Ordering}
 use Rattle.std.specs.Cmp.{IsTotalOrder}
 use Rattle.std.specs.FinMap.{FinMap, IsAntisymmetric, entries, entries_sorted, find, get, get-entries}
-use Rattle.std.specs.FinMap.{keys, values, is_sorted}
+use Rattle.std.specs.FinMap.{contains_key, contains_key-keys, keys, values, is_sorted}
 use Rattle.std.specs.FinMap.Entries.{below_all}
 use Rattle.kp_lemmas.proofs.Booleans.{both_facts}
 use Rattle.kp_lemmas.proofs.Entries.{find_behind}
-use Rattle.kp_lemmas.proofs.Orders.{less_from_fact, one_from_tie}
+use Rattle.kp_lemmas.proofs.Orders.{less_from_fact, one_from_tie, tie_of_itself}
+use Rattle.kp_plane.proofs.Sums.{counted_if, sum_passing}
 
 -- what a value counts, if there is one
 abbrev weight : {X : Type 0} → (X → ℕ) → Option X → ℕ
@@ -88,3 +91,38 @@ module _ {K X Y : Type 0} {R : K → K → Ordering} (total : IsTotalOrder R)
   few_of_all m s =
       subst (λ (look : K → Option X). sum_by f (filter_map look (keys s)) ≤ sum_by f (values m))
       (λ i q. sym (get-entries m q) i) (among (entries m) (entries s) (entries_sorted s))
+
+module _ {K X : Type 0} {R : K → K → Ordering} (total : IsTotalOrder R)
+    (exact : IsAntisymmetric R) (f : X → ℕ) (key_of : X → K) (test : K → Bool) (m : FinMap R X)
+    (own : (k : K) (x : X) → get m k ≡ Some x → key_of x ≡ k) where
+  -- what counts where the key passes
+  abbrev passing : X → ℕ
+  passing = counted_if f (λ x. test (key_of x))
+
+  one_same : (k : K) → test k ≡ true → (o : Option X) → get m k ≡ o
+      → weight f o ≡ weight passing o
+  one_same k passes None at = refl
+  one_same k passes (Some x) at =
+      sym (ap (λ q. cond (test q) (f x) 0) (own k x at) ∙ ap (λ b. cond b (f x) 0) passes)
+
+  -- at keys that pass all values count
+  same_count : (ks : List K) → ((k : K) → list_any (eq_by_cmp R k) ks ≡ true → test k ≡ true)
+      → sum_by f (filter_map (get m) ks) ≡ sum_by passing (filter_map (get m) ks)
+  same_count [] all = refl
+  same_count (k ∷ ks) all =
+      let rest = same_count ks
+      (λ q there. all q (ap (λ b. eq_by_cmp R q k || b) there ∙ or-true (eq_by_cmp R q k))) in
+      let passes = all k (ap (λ b. b || list_any (eq_by_cmp R k) ks) (tie_of_itself total k)) in
+      weighed f (get m k) (filter_map (get m) ks)
+      ∙ (λ i. one_same k passes (get m k) refl i + rest i)
+      ∙ sym (weighed passing (get m k) (filter_map (get m) ks))
+
+  -- values at the keys of another map, which all pass, count at most what all count that pass
+  pub few_of_passing : {Y : Type 0} (s : FinMap R Y) → ((k : K) → contains_key s k ≡ true → test k ≡ true)
+      → sum_by f (filter_map (get m) (keys s))
+      ≤ sum_by f (filter (λ x. test (key_of x)) (values m))
+  few_of_passing s passes =
+      let same = same_count (keys s) (λ k there. passes k (contains_key-keys s k ∙ there)) in
+      let few = few_of_all total exact passing m s in
+      let all = sum_passing f (λ x. test (key_of x)) (values m) in
+      omega (arith, same, few, all)

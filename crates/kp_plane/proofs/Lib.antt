@@ -1,11 +1,14 @@
 mod Accepted
 mod Between
+mod Collecting
 mod FewAsked
 mod Places
 mod Refreshed
 mod Settled
+mod Since
 mod SlicesAtPlaces
 mod Start
+mod Sums
 mod Synced
 mod Touching
 mod Unchanged

@@ -1,6 +1,6 @@
 -- What is known of ports once those of Services are made anew.
 use Rattle.std.proofs.Common.{◌≡◌, ◌||◌, ◌+◌, Bool, true, false, List, [], ◌∷◌, ◌++◌, map, refl, sym}
-use Rattle.std.proofs.Common.{ap, subst, ◌∙◌, arith, ◌≤◌, ℕ, Option, None, cond}
+use Rattle.std.proofs.Common.{ap, ◌∙◌, ◌≤◌, Option, None, cond}
 use Rattle.std.proofs.Common.{Some, flat_map, inl, inr, ◌⊎◌}
 use Rattle.std.specs.List.{Contains, cons_option, filter_map, list_any, sum_by}
 use Rattle.std.specs.Ordering.{eq_by_cmp}
@@ -8,6 +8,7 @@ use Rattle.std.specs.Option.{option_and_then, option_to_list}
 use Rattle.std.specs.Cmp.{eq_by_cmp_equiv}
 use Rattle.std.specs.FinMap as finite
 use Rattle.std.specs.FinMap.{contains_key-keys}
+use Rattle.std.proofs.Math.Bool.{or-true}
 use Rattle.std.proofs.lemmas.Bool.{false_from_ne_true, or_parts}
 use Rattle.std.proofs.lemmas.List.Elements.{filter_map-append}
 use Rattle.std.proofs.lemmas.List.Folds.{list_any-append}
@@ -38,8 +39,9 @@ use Rattle.kp_writer.specs.Refresh.{IsRefreshed, OthersStay}
 use Rattle.kp_writer.specs.Written.{Ports}
 use Rattle.kp_object_defs.specs.OwnKeys.{AreUnderOwnKeys}
 use Rattle.kp_plane.specs.Known.{IsKnown, KnowsOthers, KnowsService, KnowsUntouched}
-use Rattle.kp_plane.specs.Known.{asked_count, is_port_of_one}
-use Rattle.kp_plane.proofs.FewAsked.{few_of_all}
+use Rattle.kp_plane.specs.Known.{asked_count, is_port_of_one, touched_count}
+use Rattle.kp_plane.proofs.FewAsked.{few_of_all, few_of_passing}
+use Rattle.kp_plane.proofs.Sums.{sum_all, sum_more}
 use Rattle.kp_plane.proofs.Touching.{both_answers}
 
 -- some Services are among others
@@ -121,30 +123,49 @@ module _ (setting : Setting) (o : Objects) where
 
   module _ (touched : Touched) (ports : Ports) where
     -- where not all Services are touched, these are those of the keys
-    pub by_keys : touched.all ≡ false → KnowsUntouched setting o touched ports
+    pub by_keys : touched.all ≡ false → KnowsUntouched setting o (is_touched touched) ports
         → KnowsOthers setting o (finite.keys touched.keys) ports
     by_keys some knows = λ key none.
         knows key
         ((λ i. some i || contains_key-keys touched.keys key.object i) ∙ none)
 
     pub from_keys : touched.all ≡ false → KnowsOthers setting o (finite.keys touched.keys) ports
-        → KnowsUntouched setting o touched ports
+        → KnowsUntouched setting o (is_touched touched) ports
     from_keys some knows = λ key none.
         knows key (sym (contains_key-keys touched.keys key.object)
         ∙ ap (λ b. b || finite.contains_key touched.keys key.object) (sym some) ∙ none)
 
     -- where all are, nothing is asked for
-    pub none_left : touched.all ≡ true → KnowsUntouched setting o touched ports
+    pub none_left : touched.all ≡ true → KnowsUntouched setting o (is_touched touched) ports
     none_left all = λ key none.
         absurd (both_answers true refl
         (ap (λ b. b || finite.contains_key touched.keys key.object) (sym all) ∙ none))
 
 -- the ports of Services with different keys are among all ports
-pub few_asked : (o : Objects) (s : Keys) (services : List ObjectKey) → services ≡ finite.keys s
-    → asked_count o services ≤ all_port_count o
-few_asked o s services are =
-    subst (λ ks. asked_count o ks ≤ all_port_count o) (sym are)
-    (few_of_all key_total key_exact ports_in o.services s)
+pub few_asked : (o : Objects) (s : Keys) → asked_count o (finite.keys s) ≤ all_port_count o
+few_asked o s = few_of_all key_total key_exact ports_in o.services s
+
+module _ (o : Objects) (t : Touched) where
+  -- those of touched Services are among the ports of all that were touched
+  pub touched_asked : AreUnderOwnKeys o
+      → asked_count o (finite.keys t.keys) ≤ touched_count o (is_touched t)
+  touched_asked own =
+      few_of_passing key_total key_exact ports_in (λ (s : Service). s.key) (is_touched t) o.services
+      own.services t.keys (λ k there. ap (λ b. t.all || b) there ∙ or-true t.all)
+
+  -- where all Services were touched, these are all ports
+  pub all_asked : t.all ≡ true → all_port_count o ≤ touched_count o (is_touched t)
+  all_asked all =
+      sum_all ports_in (λ (s : Service). is_touched t s.key)
+      (λ s. ap (λ b. b || finite.contains_key t.keys s.key) all) (finite.values o.services)
+
+-- where more Services were touched, these have more ports
+pub more_touched : (o : Objects) (some more : ObjectKey → Bool)
+    → ((k : ObjectKey) → some k ≡ true → more k ≡ true)
+    → touched_count o some ≤ touched_count o more
+more_touched o some more as_well =
+    sum_more ports_in (λ (s : Service). some s.key) (λ (s : Service). more s.key)
+    (λ s. as_well s.key) (finite.values o.services)
 
 module _ (o : Objects) (own : AreUnderOwnKeys o) (service : ObjectKey) (s : Service)
     (is : finite.get o.services service ≡ Some s) where
@@ -176,14 +197,15 @@ none_named o service is =
 
 -- ---- All Services
 
-none_from : {X : Type 0} (o : Option X) → is_some o ≡ false → o ≡ None
-none_from None e = refl
-none_from (Some x) e = absurd (cc)
+absent : {K X : Type 0} {R : K → K → Ordering} (m : FinMap R X) (k : K) (o : Option X)
+    → finite.get m k ≡ o → is_some o ≡ false → finite.get m k ≡ None
+absent m k None e f = e
+absent m k (Some x) e f = absurd (cc)
 
 -- a key that isn't listed has nothing
 pub not_listed : {K X : Type 0} {R : K → K → Ordering} (m : FinMap R X) (k : K)
     → list_any (eq_by_cmp R k) (finite.keys m) ≡ false → finite.get m k ≡ None
-not_listed m k out = none_from (finite.get m k) (contains_key-keys m k ∙ out)
+not_listed m k out = absent m k (finite.get m k) refl (contains_key-keys m k ∙ out)
 
 -- a port of other Services is another port
 pub other_ports : (port : PortKey) (ks : List PortKey)

@@ -1,9 +1,11 @@
 -- Before the first event.
-use Rattle.std.proofs.Common.{◌≡◌, ◌≤◌, ℕ, length, subst, arith, List, [], None, sym, ap, take, map, ◌∙◌}
+use Rattle.std.proofs.Common.{◌≡◌, ◌≤◌, ℕ, length, subst, arith, List, [], None, false, sym, ap, take}
+use Rattle.std.proofs.Common.{map, ◌∙◌}
 use Rattle.std.specs.FinMap as finite
 use Rattle.std.specs.Option.{option_and_then}
 use Rattle.kp_base.specs.Keys.{key_cmp, port_key_cmp}
 use Rattle.kp_base.specs.declared.address.Family.TheVariants.{V4}
+use Rattle.kp_base.specs.declared.key.ObjectKey.{ObjectKey}
 use Rattle.kp_base.specs.declared.key.PortKey.{PortKey}
 use Rattle.kp_base.specs.declared.config.Config.{Config}
 use Rattle.kp_types.specs.Setting.{Setting}
@@ -18,10 +20,12 @@ use Rattle.kp_events.specs.JournalContents.{Contents}
 use Rattle.kp_history.specs.Invariant.{IsHistory}
 use Rattle.kp_history.specs.Parts.{PlaneParts}
 use Rattle.kp_history.specs.declared.history.History.{History}
+use Rattle.kp_plane.specs.Collected.{is_collected}
 use Rattle.kp_plane.specs.Invariant.{IsAtPlace, IsPlane, IsPortsAt, IsSlicesAt}
 use Rattle.kp_plane.specs.declared.place.ObjectsAt.{ObjectsAt}
 use Rattle.kp_plane.specs.declared.ports_at.PortsAt.{PortsAt}
 use Rattle.kp_plane.specs.declared.slices_at.SlicesAt.{SlicesAt}
+use Rattle.kp_plane.proofs.Touching.{both_answers}
 
 -- what holds of all fields then
 pub first_plane : (config : Config) (j : Contents) (h : History) (s : PortsAt)
@@ -61,10 +65,11 @@ none_known setting key =
 
 -- what is known of ports before the first event
 pub first_ports : NoneDirty → (config : Config) (events : List Event) (s : PortsAt)
-    → IsAtPlace events s.latest → s.latest.at ≡ 0 → s.writer.config ≡ config
+    → IsAtPlace events s.latest → s.latest.at ≡ 0
+    → ((k : ObjectKey) → is_collected s.touched k ≡ false) → s.writer.config ≡ config
     → written_ports s.writer ≡ finite.empty → newest_ports s.writer ≡ finite.empty → s.dirty ≡ []
     → IsPortsAt (record { config = config; events = events; counts = [] }) s
-first_ports clean config events s place at config_is written newest dirty =
+first_ports clean config events s place at untouched config_is written newest dirty =
     let setting = setting_of V4 config in
     let first : s.latest.objects ≡ no_objects =
     place.objects ∙ ap (λ (n : ℕ). objects_after (take n events)) at in
@@ -78,6 +83,10 @@ first_ports clean config events s place at config_is written newest dirty =
           ap (λ (m : Ports). finite.get m key) newest
           ∙ finite.get-empty port_key_cmp key ∙ sym (none_known setting key)
           ∙ ap (λ o. info_at V4 setting.config o key) (sym first);
+      since = record {
+        later = omega (arith, at);
+        few = λ k some. absurd (both_answers (is_collected s.touched k) some (untouched k));
+      };
       dirty = dirty ∙ ap (map (dirty_port setting no_objects)) (sym (clean setting no_objects));
     }
 

@@ -1,36 +1,28 @@
 -- What one more sync changes, and what it looks at.
-use Rattle.std.proofs.Common.{◌≡◌, ◌≤◌, ◌<◌, ◌+◌, ◌-◌, nat_lt, ℕ, suc, List, [], ◌∷◌, ◌++◌}
+use Rattle.std.proofs.Common.{◌≡◌, ◌≤◌, ◌<◌, ◌+◌, nat_lt, ℕ, suc, List, [], ◌∷◌, ◌++◌}
 use Rattle.std.proofs.Common.{take, length, sum, Bool, true, false, None}
 use Rattle.std.proofs.Common.{refl, sym, ap, subst, ◌∙◌, arith, le_refl}
 use Rattle.std.proofs.lemmas.Bool.Decides.{nat_tests}
 use Rattle.std.proofs.lemmas.List.{take_all, take-append-le, length_push}
-use Rattle.std.proofs.lemmas.List.Sums.{sum_by-take-le}
 use Rattle.kp_base.specs.declared.address.Family.TheVariants.{V4}
-use Rattle.kp_types.specs.Setting.{config_for}
 use Rattle.kp_types.specs.declared.event.Event.{Event}
 use Rattle.kp_types.specs.declared.packet.Packet.{Packet}
-use Rattle.kp_types.specs.declared.rule.Batch.{Batch}
 use Rattle.kp_types.specs.declared.rule.Edit.{Edit}
 use Rattle.kp_types.specs.declared.sync.SyncRecord.{SyncRecord}
 use Rattle.kp_choice_defs.specs.Recent.{RecentParts}
 use Rattle.kp_object_defs.specs.Objects.{Objects, objects_after}
-use Rattle.kp_object_defs.specs.PortInfo.{port_infos}
 use Rattle.kp_object_defs.specs.SlicesNow.{slices_now}
 use Rattle.kp_door_defs.specs.Decision.{decision_of}
 use Rattle.kp_table_defs.specs.Edits.{SameRulesAreEqual, changes_between}
-use Rattle.kp_table_defs.specs.Rebuild.{TableParts, clash_of, full_table}
-use Rattle.kp_full_table.specs.Parts.{all_rule_count}
+use Rattle.kp_table_defs.specs.Rebuild.{clash_of, full_table}
 use Rattle.kp_decide.specs.Told.{told}
-use Rattle.kp_history_defs.specs.DirtyPorts.{dirty_ports}
 use Rattle.kp_history.specs.Parts.{PlaneParts, HasExactHistory, setting_in, uncovered_in}
-use Rattle.kp_history.specs.Parts.{objects_in, table_in, chains_in, next_edits, synced}
+use Rattle.kp_history.specs.Parts.{objects_in, chains_in, next_edits, synced}
 use Rattle.kp_history.specs.Invariant.{IsHistory, LeadsToNext}
 use Rattle.kp_history.specs.declared.history.History.{History}
 use Rattle.kp_history.proofs.Synced.{all_counted, within}
 use Rattle.kp_plane.specs.Invariant.{Holds, IsAtPlace, IsPlane, IsSlicesAt}
-use Rattle.kp_plane.specs.Notes.{last_note}
 use Rattle.kp_plane.specs.Parts.{IsNextRecord, explained_in, syncs_in, next_record}
-use Rattle.kp_plane.specs.declared.note.SyncNote.{SyncNote}
 use Rattle.kp_plane.specs.declared.place.ObjectsAt.{ObjectsAt}
 use Rattle.kp_plane.specs.declared.ports_at.PortsAt.{PortsAt}
 use Rattle.kp_plane.specs.declared.slices_at.SlicesAt.{SlicesAt}
@@ -97,16 +89,11 @@ plane_kept p most h next s t explained slices is same =
       slices_at = is.slices_at;
     })
 
--- what contracts see after one more sync, and where none was made
+-- what contracts see after one more sync
 pub parts_next : (p q : PlaneParts) → p ≡ q → (next : History) (t : PortsAt)
     → Holds (synced p) next t → ◌≡◌ {A = PlaneParts} (record p { counts = next.counts.items }) (synced q)
 parts_next p q same next t more =
     ap (λ (counts : List ℕ). record p { counts = counts }) more.history.counts ∙ ap synced same
-
-pub parts_kept : (p q : PlaneParts) → p ≡ q → (next : History) (t : PortsAt)
-    → Holds p next t → ◌≡◌ {A = PlaneParts} (record p { counts = next.counts.items }) q
-parts_kept p q same next t held =
-    ap (λ (counts : List ℕ). record p { counts = counts }) held.history.counts ∙ same
 
 -- ---- What a sync looks at
 

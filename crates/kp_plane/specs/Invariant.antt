@@ -1,9 +1,10 @@
 -- What holds of a plane's fields, by the parts that contracts see.
 use Rattle.std.specs.Prelude.{◌≡◌, ◌≤◌, ◌<◌, ◌+◌, ◌-◌, ℕ, List, [], ◌∷◌, length, sum, take, drop}
-use Rattle.std.specs.Prelude.{Bool, cond, None}
+use Rattle.std.specs.Prelude.{Bool, true, false, cond, None}
 use Rattle.std.specs.List.{fold}
 use Rattle.kp_base.specs.declared.address.Family.TheVariants.{V4}
 use Rattle.kp_base.specs.declared.config.Config.{Config}
+use Rattle.kp_base.specs.declared.key.ObjectKey.{ObjectKey}
 use Rattle.kp_types.specs.declared.event.Event.{Event}
 use Rattle.kp_types.specs.Setting.{Setting}
 use Rattle.kp_object_defs.specs.Objects.{objects_after}
@@ -13,11 +14,14 @@ use Rattle.kp_history_defs.specs.DirtyPorts.{dirty_ports}
 use Rattle.kp_history_defs.specs.declared.dirty.DirtyPort.{DirtyPort}
 use Rattle.kp_history.specs.Invariant.{IsHistory, LeadsToNext}
 use Rattle.kp_history.specs.declared.history.History.{History}
+use Rattle.kp_touch_laws.specs.TouchLaws.{touches_one}
 use Rattle.kp_writer.specs.Known.{ArePortsOf, pending_ports}
 use Rattle.kp_writer.specs.Written as written
-use Rattle.kp_writer.specs.Written.{Ports, WriterParts, newest_ports, written_ports}
+use Rattle.kp_writer.specs.Written.{WriterParts, newest_ports, written_ports}
+use Rattle.kp_plane.specs.Collected.{is_collected}
 use Rattle.kp_plane.specs.Known.{KnowsUntouched}
 use Rattle.kp_plane.specs.Parts.{PlaneParts, dirty_in, objects_in, setting_in, uncovered_in}
+use Rattle.kp_plane.specs.declared.collected.Collected.{Collected}
 use Rattle.kp_plane.specs.declared.next.Next.{Next}
 use Rattle.kp_plane.specs.declared.place.ObjectsAt.{ObjectsAt}
 use Rattle.kp_plane.specs.declared.ports_at.PortsAt.{PortsAt}
@@ -57,25 +61,54 @@ pub record IsFed (events : List Event) (to : ℕ) (before after : SlicesAt) : Ty
       ≡ fold slices_step before.slices
       (take (to - before.place.at) (drop before.place.at events))
 
--- What is known of ports: by the names of ports whose Service isn't touched the writer knows what
--- the latest objects tell, which stand at any place of the journal; what it wrote is what the objects
+-- whether one of the events from one place of the journal to another touches the Service of this key
+abbrev pub touched_between : Setting → List Event → ℕ → ℕ → ObjectKey → Bool
+touched_between setting events from to =
+    touches_one setting (objects_after (take from events)) (drop from (take to events))
+
+-- each Service that was touched is one that such an event touches
+pub record AreTouchedBetween
+    (setting : Setting) (events : List Event) (from to : ℕ) (t : Collected) : Type 0 where
+  pub later : from ≤ to
+  pub few : (key : ObjectKey) → is_collected t key ≡ true
+      → touched_between setting events from to key ≡ true
+
+-- so it stays where more events are gone over, from wherever they are counted
+abbrev pub GoesOnTouching : Setting → List Event → ℕ → Collected → ℕ → Collected → Type 0
+GoesOnTouching setting events at before to after =
+    (from : ℕ) → AreTouchedBetween setting events from at before
+    → AreTouchedBetween setting events from to after
+
+-- What is known of ports: by the names of ports whose Service wasn't touched the writer knows what
+-- the latest objects tell, which stand at a place of the journal at or after what the last sync
+-- covers; an event between these touched each Service that was; what it wrote is what the objects
 -- tell that the last sync covers.
 pub record IsPortsAt (p : PlaneParts) (s : PortsAt) : Type 0 where
   pub place : IsAtPlace p.events s.latest
   pub config : s.writer.config ≡ p.config
   pub written : ArePortsOf (setting_in p) (objects_in p) (written_ports s.writer)
-  pub untouched : KnowsUntouched (setting_in p) s.latest.objects s.touched (newest_ports s.writer)
+  pub untouched : KnowsUntouched (setting_in p) s.latest.objects (is_collected s.touched)
+      (newest_ports s.writer)
+  pub since : AreTouchedBetween (setting_in p) p.events (sum p.counts) s.latest.at s.touched
   pub dirty : s.dirty ≡ dirty_in p
 
 -- what is known of ports at a later place of the journal, where nothing was written
 pub record IsBroughtOn
     (setting : Setting) (events : List Event) (before after : PortsAt) : Type 0 where
   pub place : IsAtPlace events after.latest
-  pub untouched : KnowsUntouched setting after.latest.objects after.touched
+  pub untouched : KnowsUntouched setting after.latest.objects (is_collected after.touched)
       (newest_ports after.writer)
+  pub since : GoesOnTouching setting events before.latest.at before.touched
+      after.latest.at after.touched
   pub config : after.writer.config ≡ before.writer.config
   pub written : written_ports after.writer ≡ written_ports before.writer
   pub dirty : after.dirty ≡ before.dirty
+
+-- what is known of ports is brought up to all events, so that no Service is touched any more
+pub record IsUpToDate (setting : Setting) (events : List Event) (s : PortsAt) : Type 0 where
+  pub at : s.latest.at ≡ length events
+  pub none : (key : ObjectKey) → is_collected s.touched key ≡ false
+  pub newest : ArePortsOf setting (objects_after events) (newest_ports s.writer)
 
 -- what is known of ports once a sync is kept, which covers new events or none
 pub record IsSettled (is_new : Bool) (told : List DirtyPort) (before after : PortsAt)
@@ -101,10 +134,10 @@ pub record IsMade (w : WriterParts) (next : Next) : Type 0 where
 
 -- What one more sync keeps: the batch, and the ports of which something else is known. Where it
 -- covers new events the ports that are known are those of all events' objects.
-pub record IsNext (p : PlaneParts) (ports : Ports) (next : Next) : Type 0 where
+pub record IsNext (p : PlaneParts) (s : PortsAt) (next : Next) : Type 0 where
   pub leads : LeadsToNext p next.batch
   pub dirty : next.dirty ≡ dirty_ports (setting_in p) (objects_in p) (objects_after p.events)
-  pub newest : 0 < uncovered_in p → ArePortsOf (setting_in p) (objects_after p.events) ports
+  pub newest : 0 < uncovered_in p → IsUpToDate (setting_in p) p.events s
 
 -- what holds of all fields: the objects for explanations stand at or before what the last sync covers
 pub record IsPlane

@@ -1,5 +1,5 @@
 -- What a writer knows of ports while events come in.
-use Rattle.std.specs.Prelude.{◌≡◌, ℕ, Bool, true, false, List}
+use Rattle.std.specs.Prelude.{◌≡◌, ℕ, Bool, true, false, List, filter}
 use Rattle.std.specs.FinMap as finite
 use Rattle.std.specs.List.{filter_map, list_any}
 use Rattle.std.specs.Ordering.{eq_by_cmp}
@@ -10,8 +10,6 @@ use Rattle.kp_types.specs.Setting.{Setting}
 use Rattle.kp_object_defs.specs.Objects.{Objects}
 use Rattle.kp_object_defs.specs.PortByKey.{info_at}
 use Rattle.kp_known_ports.specs.Known.{port_count}
-use Rattle.kp_store.specs.Touched.{is_touched}
-use Rattle.kp_store.specs.declared.touched.Touched.{Touched}
 use Rattle.kp_blocks.specs.Joined.{is_port_of}
 use Rattle.kp_writer.specs.Written.{Ports}
 
@@ -19,10 +17,10 @@ use Rattle.kp_writer.specs.Written.{Ports}
 abbrev pub IsKnown : Setting → Objects → Ports → PortKey → Type 0
 IsKnown setting o ports key = finite.get ports key ≡ info_at setting.family setting.config o key
 
--- of each port whose Service isn't touched
-abbrev pub KnowsUntouched : Setting → Objects → Touched → Ports → Type 0
+-- of each port whose Service wasn't touched, which a test tells
+abbrev pub KnowsUntouched : Setting → Objects → (ObjectKey → Bool) → Ports → Type 0
 KnowsUntouched setting o touched ports =
-    (key : PortKey) → is_touched touched key.object ≡ false → IsKnown setting o ports key
+    (key : PortKey) → touched key.object ≡ false → IsKnown setting o ports key
 
 -- whether a port is one of some Services
 abbrev pub is_port_of_one : List ObjectKey → PortKey → Bool
@@ -40,12 +38,17 @@ KnowsService setting o service ports =
 
 -- Objects after others tell the same of each port whose Service isn't touched after, and it wasn't
 -- touched before.
-abbrev pub LeavesUntouched : Setting → Objects → Touched → Objects → Touched → Type 0
+abbrev pub LeavesUntouched :
+    Setting → Objects → (ObjectKey → Bool) → Objects → (ObjectKey → Bool) → Type 0
 LeavesUntouched setting o touched p more =
-    (key : PortKey) → is_touched more key.object ≡ false
-    → (is_touched touched key.object ≡ false)
+    (key : PortKey) → more key.object ≡ false
+    → (touched key.object ≡ false)
     × (info_at setting.family setting.config p key ≡ info_at setting.family setting.config o key)
 
 -- how many ports the Services of these keys have, where they are there
 abbrev pub asked_count : Objects → List ObjectKey → ℕ
 asked_count o services = port_count (filter_map (finite.get o.services) services)
+
+-- how many ports the Services have whose keys pass a test
+abbrev pub touched_count : Objects → (ObjectKey → Bool) → ℕ
+touched_count o touched = port_count (filter (λ s. touched s.key) (finite.values o.services))

@@ -1,12 +1,13 @@
 -- What contracts see of a plane: the parts that tables and batches are functions of, and what
 -- slices, decisions and walks are by them.
-use Rattle.std.specs.Prelude.{◌≡◌, ℕ, suc, ◌+◌, ◌-◌, List, [], ◌∷◌, ◌++◌, refl}
+use Rattle.std.specs.Prelude.{◌≡◌, ℕ, suc, ◌+◌, ◌-◌, Bool, List, [], ◌∷◌, ◌++◌, drop, sum, refl}
 use Rattle.std.specs.List.{filter_map}
 use Rattle.std.specs.Coded.{Coded, code_by, coded×, coded_ℕ, coded_list}
 use Rattle.std.specs.FinMap as finite
 use Rattle.kp_base.specs.declared.address.Family.TheVariants.{V4}
 use Rattle.kp_base.specs.declared.config.Config.{Config}
 use Rattle.kp_base.specs.contracts.config.Config as config_row
+use Rattle.kp_base.specs.declared.key.ObjectKey.{ObjectKey}
 use Rattle.kp_base.specs.declared.key.PortKey.{PortKey}
 use Rattle.kp_types.specs.Setting.{config_for}
 use Rattle.kp_types.specs.declared.event.Event.{Event}
@@ -22,10 +23,12 @@ use Rattle.kp_object_defs.specs.Objects.{Objects, objects_after}
 use Rattle.kp_object_defs.specs.PortByKey.{info_at}
 use Rattle.kp_object_defs.specs.SlicesNow.{slices_now}
 use Rattle.kp_table_defs.specs.Walk.{Walked, walk_of}
-use Rattle.kp_full_table.specs.Parts.{all_port_count, all_rule_count}
+use Rattle.kp_full_table.specs.Parts.{all_rule_count}
 use Rattle.kp_history_defs.specs.History.{IsExactRecord, objects_covered}
 use Rattle.kp_history_defs.specs.DirtyPorts.{dirty_keys, dirty_ports}
 use Rattle.kp_history_defs.specs.declared.dirty.DirtyPort.{DirtyPort}
+use Rattle.kp_touch_laws.specs.TouchLaws.{touches_one}
+use Rattle.kp_plane.specs.Known.{touched_count}
 pub use Rattle.kp_history.specs.Parts.{PlaneParts, HasExactHistory, setting_in, syncs_in, uncovered_in}
 pub use Rattle.kp_history.specs.Parts.{objects_in, chains_in, table_in, last_edits, batch_after, last_batch_in}
 pub use Rattle.kp_history.specs.Parts.{synced, next_chains, next_edits}
@@ -63,9 +66,13 @@ most_steps p =
     rules_by p (objects_in p) (next_dirty p)
     + rules_by p (objects_after p.events) (next_dirty p)
 
--- the most ports that a sync of all events asks the objects about: all that there are
+-- whether one of the events that no sync covers yet touches the Service of this key
+abbrev pub is_touched_since : PlaneParts → ObjectKey → Bool
+is_touched_since p = touches_one (setting_in p) (objects_in p) (drop (sum p.counts) p.events)
+
+-- the most ports that a sync of all events asks the objects about: those that these Services have
 abbrev pub most_asked : PlaneParts → ℕ
-most_asked p = all_port_count (objects_after p.events)
+most_asked p = touched_count (objects_after p.events) (is_touched_since p)
 
 -- The record of a sync: it covers all events, has the next number, and leads to the full table
 -- of all objects, which have no clash.

@@ -2,6 +2,7 @@
 //! answered by the last sync.
 #![tactic(auto)]
 
+mod collected;
 pub mod laws;
 mod next;
 mod note;

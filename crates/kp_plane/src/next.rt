@@ -45,8 +45,7 @@ pub(crate) fn next_sync<L: Ledger, A: Ledger>(
 ) -> Result<Next, TableFault>
     requires { Holds (parts_of config.now journal.now history.now) history.now ports.old }
     ensures ports { IsPortsAt (parts_of config.now journal.now history.now) ports.new }
-    ensures next { IfOk result (IsNext (parts_of config.now journal.now history.now)
-        (written.newest_ports ports.new.writer)) }
+    ensures next { IfOk result (IsNext (parts_of config.now journal.now history.now) ports.new) }
     ensures clash { IfErr result (TellsClash
         (clash_of (setting_of V4 config.now) (objects_after journal.now.events))) }
     ensures steps { IsCounted
@@ -118,7 +117,7 @@ pub(crate) fn keep(
 ) -> Result<(), NoMemory>
     requires { history.old.covered ≤ length journal.now.events }
     ensures ok { (p : Parts) → p.events ≡ journal.now.events → Holds p history.old ports.old
-        → IsNext p (written.newest_ports ports.old.writer) next
+        → IsNext p ports.old next
         → OnOk result (Holds (parts.synced p) history.new ports.new) }
     ensures err { (p : Parts) → Holds p history.old ports.old
         → OnErr result (Holds p history.new ports.new) }

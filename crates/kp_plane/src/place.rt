@@ -1,6 +1,7 @@
 //! The objects at a place of the journal.
+use crate::collected::Collected;
 use kp_base::{Config, NoMemory};
-use kp_store::{Objects, Touched};
+use kp_store::Objects;
 use kp_types::Event;
 use std::alloc::Global;
 
@@ -21,7 +22,8 @@ impl ObjectsAt {
     ghost use Rattle.kp_types.specs.declared.event.Event.{Event};
     ghost use Rattle.kp_base.specs.declared.address.Family.TheVariants.{V4};
     ghost use Rattle.kp_choice_defs.specs.Settings.{setting_of};
-    ghost use Rattle.kp_plane.specs.Invariant.{IsAtPlace};
+    ghost use Rattle.kp_plane.specs.Collected.{AreJoined, is_collected};
+    ghost use Rattle.kp_plane.specs.Invariant.{GoesOnTouching, IsAtPlace};
     ghost use Rattle.kp_plane.specs.Known.{LeavesUntouched};
 
     /// Before the first event.
@@ -57,28 +59,31 @@ impl ObjectsAt {
         Ok(())
     }
 
-    /// Goes on to the journal's end, and adds the Services that the events on the way touch. Where
-    /// memory is out, it stands on the way there, and what the events up to there touch is added.
+    /// Goes on to the journal's end, and collects the Services that the events on the way touch.
+    /// Where memory is out, it stands on the way there, and what the events up to there touch is
+    /// collected, and no more.
     pub(crate) fn advance_touching(
         &mut self,
         alloc: Global,
         config: &Config,
         events: &[Event],
-        touched: &mut Touched,
+        touched: &mut Collected,
     ) -> Result<(), NoMemory>
         requires { IsAtPlace events.now self.old }
         ensures place { IsAtPlace events.now self.new }
-        ensures untouched { LeavesUntouched (setting_of V4 config.now) self.old.objects touched.old
-            self.new.objects touched.new }
+        ensures untouched { LeavesUntouched (setting_of V4 config.now) self.old.objects
+            (is_collected touched.old) self.new.objects (is_collected touched.new) }
+        ensures since { GoesOnTouching (setting_of V4 config.now) events.now
+            self.old.at touched.old self.new.at touched.new }
         ensures ok { OnOk result (self.new.at ≡ length events.now) }
+        ensures joined { OnOk result (AreJoined touched.new) }
     {
         kp_object_laws::own_keys();
         kp_touch_laws::untouched_ports();
         for at in self.at..events.len() {
-            self.objects
-                .apply_touching(alloc, config, &events[at], touched)?;
+            touched.apply_touching(alloc, config, &mut self.objects, &events[at])?;
             self.at = at + 1;
         }
-        Ok(())
+        touched.join(alloc)
     }
 }

@@ -199,9 +199,11 @@ impl Plane {
         ensures err { OnErr result (self.new ≡ self.old) }
 
         // It costs what changed: at most a step for each rule that a port had of which something
-        // else is known, and one for each that it has; at least one for each rule of a port's own
-        // chains that is written; and one of the other count at most for each port, but none where
-        // no event came since the last sync. Where it is refused it may have taken some of them.
+        // else is known, and one for each that it has; and at least one for each rule of a port's
+        // own chains that is written. Of the other count it takes one for each port that the
+        // objects are asked about: these are ports of Services that events touch which no sync
+        // covers yet, each once at most, so none where no event came. Where it is refused it may
+        // have taken some of them, and takes them again at the next sync.
         ensures bound { steps.new ≤ steps.old + parts.most_steps self.old }
         ensures made { IfOk result (λ r.
             steps.old + own_rules_written r.batch.edits ≤ steps.new) }

@@ -1,20 +1,20 @@
 //! What is known of ports at a place of the journal.
-ghost use Rattle.std.specs.Prelude.{◌≡◌, ◌+◌, ◌≤◌, cond, [], List, IfOk, OnOk};
+ghost use Rattle.std.specs.Prelude.{◌≡◌, ◌+◌, ◌≤◌, ℕ, cond, [], List, length, IfOk, OnOk};
 ghost use Rattle.kp_base.specs.declared.address.Family.TheVariants.{V4};
 ghost use Rattle.kp_types.specs.declared.event.Event.{Event as OneEvent};
 ghost use Rattle.kp_choice_defs.specs.Settings.{setting_of};
 ghost use Rattle.kp_object_defs.specs.Objects.{objects_after};
-ghost use Rattle.kp_known_ports.specs.Known.{all_port_count};
-ghost use Rattle.kp_writer.specs.Known.{ArePortsOf};
-ghost use Rattle.kp_writer.specs.Written.{newest_ports, written_ports};
-ghost use Rattle.kp_plane.specs.Known.{KnowsUntouched};
-ghost use Rattle.kp_plane.specs.Invariant.{IsAtPlace, IsBroughtOn, IsPortsAt, IsSettled};
+ghost use Rattle.kp_writer.specs.Written.{newest_ports};
+ghost use Rattle.kp_plane.specs.Collected.{is_collected};
+ghost use Rattle.kp_plane.specs.Known.{KnowsUntouched, touched_count};
+ghost use Rattle.kp_plane.specs.Invariant.{AreTouchedBetween, IsAtPlace, IsBroughtOn, IsPortsAt};
+ghost use Rattle.kp_plane.specs.Invariant.{IsSettled, IsUpToDate, touched_between};
 
+use crate::collected::Collected;
 use crate::place::ObjectsAt;
 use crate::refresh::refresh;
 use kp_base::{Config, Items, NoMemory, Steps};
 use kp_history_defs::DirtyPort;
-use kp_store::Touched;
 use kp_types::Event;
 use kp_writer::Writer;
 use std::alloc::Global;
@@ -25,7 +25,7 @@ pub(crate) struct PortsAt {
     /// The objects of the latest sync, which may have been refused.
     pub(crate) latest: ObjectsAt,
     /// The Services of whose ports the writer may know something else than these objects tell.
-    pub(crate) touched: Touched,
+    pub(crate) touched: Collected,
     /// What was written of each port at the last sync, and what is known of it now.
     pub(crate) writer: Writer,
     /// The ports of which something else is known after the last sync than before it.
@@ -51,7 +51,7 @@ impl PortsAt {
     {
         kp_history_laws::dirty_ports();
         let latest = ObjectsAt::start(alloc);
-        let touched = Touched::new(alloc);
+        let touched = Collected::new(alloc);
         let writer = Writer::new(alloc, config)?;
         let dirty = Items::new(alloc);
         Ok(PortsAt {
@@ -63,8 +63,9 @@ impl PortsAt {
     }
 
     /// Goes on to the journal's end, and brings what is known of the ports of touched Services up
-    /// to it. A step is taken for each port that the objects are asked about. Where memory is out,
-    /// it stands on the way there.
+    /// to it. A step is taken for each port that the objects are asked about: at most one for each
+    /// port of a Service that an event touches since those that were touched before were counted.
+    /// Where memory is out, it stands on the way there.
     pub(crate) fn bring_on<A: Ledger>(
         &mut self,
         alloc: Global,
@@ -74,11 +75,13 @@ impl PortsAt {
     ) -> Result<(), NoMemory>
         requires place { IsAtPlace events.now self.old.latest }
         requires untouched { KnowsUntouched (setting_of V4 config.now) self.old.latest.objects
-            self.old.touched (newest_ports self.old.writer) }
+            (is_collected self.old.touched) (newest_ports self.old.writer) }
         ensures goes_on { IsBroughtOn (setting_of V4 config.now) events.now self.old self.new }
-        ensures ok { OnOk result (ArePortsOf (setting_of V4 config.now) (objects_after events.now)
-            (newest_ports self.new.writer)) }
-        ensures asked { asked.new ≤ asked.old + all_port_count (objects_after events.now) }
+        ensures ok { OnOk result (IsUpToDate (setting_of V4 config.now) events.now self.new) }
+        ensures asked { (from : ℕ) → AreTouchedBetween (setting_of V4 config.now) events.now from
+            self.old.latest.at self.old.touched
+            → asked.new ≤ asked.old + touched_count (objects_after events.now)
+            (touched_between (setting_of V4 config.now) events.now from (length events.now)) }
     {
         kp_object_laws::own_keys();
         self.latest
@@ -88,11 +91,11 @@ impl PortsAt {
             alloc,
             config,
             objects,
-            &self.touched,
+            &self.touched.joined,
             &mut self.writer,
             asked,
         )?;
-        self.touched = Touched::new(alloc);
+        self.touched = Collected::new(alloc);
         Ok(())
     }
 

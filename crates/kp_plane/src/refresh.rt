@@ -13,6 +13,7 @@ ghost use Rattle.kp_known_ports.specs.Known.{all_port_count};
 ghost use Rattle.kp_writer.specs.Known.{ArePortsOf, port_keys_at};
 ghost use Rattle.kp_writer.specs.Refresh.{OthersStay};
 ghost use Rattle.kp_writer.specs.Written.{newest_ports, written_ports};
+ghost use Rattle.kp_store.specs.Touched.{is_touched};
 ghost use Rattle.kp_plane.specs.Known as spec;
 
 use kp_base::{Config, Copied, NoMemory, ObjectKey, PortKey, Steps};
@@ -35,15 +36,16 @@ pub(crate) fn refresh<A: Ledger>(
     asked: &mut Steps<A>,
 ) -> Result<(), NoMemory>
     requires own_keys { AreUnderOwnKeys objects.now }
-    requires untouched { spec.KnowsUntouched (setting_of V4 config.now) objects.now touched.now
-        (newest_ports writer.old) }
+    requires untouched { spec.KnowsUntouched (setting_of V4 config.now) objects.now
+        (is_touched touched.now) (newest_ports writer.old) }
     ensures config { writer.new.config ≡ writer.old.config }
     ensures written { written_ports writer.new ≡ written_ports writer.old }
-    ensures untouched { spec.KnowsUntouched (setting_of V4 config.now) objects.now touched.now
-        (newest_ports writer.new) }
+    ensures untouched { spec.KnowsUntouched (setting_of V4 config.now) objects.now
+        (is_touched touched.now) (newest_ports writer.new) }
     ensures ok { OnOk result
         (ArePortsOf (setting_of V4 config.now) objects.now (newest_ports writer.new)) }
-    ensures asked { asked.new ≤ asked.old + all_port_count objects.now }
+    ensures asked { asked.new ≤ asked.old
+        + spec.touched_count objects.now (is_touched touched.now) }
 {
     if touched.all {
         refresh_all(alloc, config, objects, writer, asked)
@@ -89,7 +91,8 @@ fn refresh_keys<A: Ledger>(
         (finite.keys keys.now) (newest_ports writer.new) }
     ensures ok { OnOk result
         (ArePortsOf (setting_of V4 config.now) objects.now (newest_ports writer.new)) }
-    ensures asked { asked.new ≤ asked.old + all_port_count objects.now }
+    ensures asked { asked.new ≤ asked.old
+        + spec.asked_count objects.now (finite.keys keys.now) }
 {
     let services = keys.keys(alloc)?;
     refresh_each(alloc, config, objects, services, writer, asked)

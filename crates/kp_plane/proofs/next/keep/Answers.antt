@@ -1,5 +1,4 @@
 use Rattle.std.proofs.Common.{length, nat_lt, sym, ap, ◌∙◌}
-use Rattle.kp_plane.specs.Invariant.{Holds}
 use Rattle.kp_plane.proofs.Settled.{settled_ports}
 use Rattle.kp_plane.proofs.next.keep.Goals as goal
 

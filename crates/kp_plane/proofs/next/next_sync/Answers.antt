@@ -1,15 +1,15 @@
-use Rattle.std.proofs.Common.{◌≡◌, ◌+◌, ◌≤◌, length, refl, sym, ap, subst, ◌∙◌, arith}
+use Rattle.std.proofs.Common.{length, sum, sym, ap, subst, ◌∙◌, arith}
 use Rattle.std.proofs.lemmas.Result.{IfOk-weaker, IfErr-weaker}
 use Rattle.kp_base.specs.declared.address.Family.TheVariants.{V4}
 use Rattle.kp_choice_defs.specs.Settings.{setting_of}
 use Rattle.kp_object_defs.specs.Objects.{objects_after}
 use Rattle.kp_full_table.specs.Faults.{TellsClash}
-use Rattle.kp_known_ports.specs.Known.{all_port_count}
 use Rattle.kp_writer.specs.Batch.{own_rules_written}
-use Rattle.kp_writer.specs.Known.{ArePortsOf}
-use Rattle.kp_writer.specs.Written.{newest_ports}
-use Rattle.kp_plane.specs.Invariant.{IsAtPlace, IsBroughtOn, parts_of}
-use Rattle.kp_plane.proofs.Between.{brought_on, counted_none, counted_some, makes_next, most_made}
+use Rattle.kp_plane.specs.Known.{touched_count}
+use Rattle.kp_plane.specs.Invariant.{AreTouchedBetween, IsAtPlace, IsBroughtOn, IsUpToDate}
+use Rattle.kp_plane.specs.Invariant.{parts_of, touched_between}
+use Rattle.kp_plane.proofs.Between.{asked_since, brought_on, counted_none, counted_some}
+use Rattle.kp_plane.proofs.Between.{makes_next, most_made}
 use Rattle.kp_plane.proofs.Between.{next_clash, nothing_next, stands, stands_apart}
 use Rattle.kp_plane.proofs.Synced.{some_left}
 use Rattle.kp_plane.proofs.next.next_sync.Goals as goal
@@ -46,7 +46,7 @@ returns-then-events-history-clause-next g c =
     let p = parts_of c.args.config.now c.args.journal.now c.args.history.now in
     nothing_next c.same_rules_are_equal.ensures c.dirty_ports.ensures.none p c.args.history.now
     c.requires.history (ap length (sym c.events-events.ensures) ∙ c.if-events-history.true)
-    (newest_ports c.args.ports.now.writer) c.nothing.result c.nothing.ensures.edits
+    c.args.ports.now c.nothing.result c.nothing.ensures.edits
     c.nothing.ensures.dirty
 
 pub returns-then-events-history-clause-steps : goal.returns-then-events-history-clause-steps
@@ -73,10 +73,17 @@ returns-in_err-bring_on-clause-steps g c = counted_none _ _ _
 
 pub returns-in_err-bring_on-clause-asked : goal.returns-in_err-bring_on-clause-asked
 returns-in_err-bring_on-clause-asked g c =
+    let setting = setting_of V4 c.args.config.now in
     let p = parts_of c.args.config.now c.args.journal.now c.args.history.now in
+    let from = sum p.counts in
+    let s = c.args.ports.now in
+    let since = subst (λ es. AreTouchedBetween setting es from s.latest.at s.touched)
+    (sym c.events-events.ensures) c.requires.ports.since in
     counted_some (some_left p c.args.history.now c.requires.history c.if-events-history.false
-    (ap length c.events-events.ensures)) (ap (λ es. all_port_count (objects_after es)) c.events-events.ensures)
-    c.bring_on.ensures.asked
+    (ap length c.events-events.ensures))
+    (ap (λ es. touched_count (objects_after es) (touched_between setting es from (length es)))
+    c.events-events.ensures ∙ asked_since p)
+    (c.bring_on.ensures.asked from since)
 
 pub returns-clause-ports : goal.returns-clause-ports
 returns-clause-ports g c =
@@ -95,12 +102,12 @@ returns-clause-next g c =
     let on = subst (λ es. IsBroughtOn (setting_of V4 c.args.config.now) es s t) c.events-events.ensures
     c.bring_on.ensures.goes_on in
     let is = brought_on p s t c.requires.ports on in
-    let new = subst (λ es. ArePortsOf (setting_of V4 c.args.config.now) (objects_after es)
-    (newest_ports t.writer)) c.events-events.ensures c.in_ok-bring_on.ensures.ok in
+    let up = subst (λ es. IsUpToDate (setting_of V4 c.args.config.now) es t) c.events-events.ensures
+    c.in_ok-bring_on.ensures.ok in
     IfOk-weaker c.made.result _ _
     (λ next made.
     makes_next c.known_ports.ensures c.own_keys.ensures.after_events p t.writer is.config
-    is.written new c.known_dirty_ports.ensures.ports next made)
+    is.written up.newest c.known_dirty_ports.ensures.ports t up next made)
     c.made.ensures.next
 
 pub returns-clause-clash : goal.returns-clause-clash
@@ -111,13 +118,13 @@ returns-clause-clash g c =
     let on = subst (λ es. IsBroughtOn (setting_of V4 c.args.config.now) es s t) c.events-events.ensures
     c.bring_on.ensures.goes_on in
     let is = brought_on p s t c.requires.ports on in
-    let new = subst (λ es. ArePortsOf (setting_of V4 c.args.config.now) (objects_after es)
-    (newest_ports t.writer)) c.events-events.ensures c.in_ok-bring_on.ensures.ok in
+    let up = subst (λ es. IsUpToDate (setting_of V4 c.args.config.now) es t) c.events-events.ensures
+    c.in_ok-bring_on.ensures.ok in
     IfErr-weaker c.made.result _ _
     (λ fault told.
     subst (λ clash. TellsClash clash fault)
     (next_clash c.known_ports.ensures c.own_keys.ensures.after_events p t.writer is.config
-    is.written new) told)
+    is.written up.newest) told)
     c.made.ensures.clash
 
 pub returns-clause-steps : goal.returns-clause-steps
@@ -128,17 +135,24 @@ returns-clause-steps g c =
     let on = subst (λ es. IsBroughtOn (setting_of V4 c.args.config.now) es s t) c.events-events.ensures
     c.bring_on.ensures.goes_on in
     let is = brought_on p s t c.requires.ports on in
-    let new = subst (λ es. ArePortsOf (setting_of V4 c.args.config.now) (objects_after es)
-    (newest_ports t.writer)) c.events-events.ensures c.in_ok-bring_on.ensures.ok in
+    let up = subst (λ es. IsUpToDate (setting_of V4 c.args.config.now) es t) c.events-events.ensures
+    c.in_ok-bring_on.ensures.ok in
     counted_some (some_left p c.args.history.now c.requires.history c.if-events-history.false
     (ap length c.events-events.ensures))
     (most_made c.known_ports.ensures c.own_keys.ensures.after_events p t.writer is.config
-    is.written new c.known_dirty_ports.ensures.written c.known_dirty_ports.ensures.newest)
+    is.written up.newest c.known_dirty_ports.ensures.written c.known_dirty_ports.ensures.newest)
     c.made.ensures.steps
 
 pub returns-clause-asked : goal.returns-clause-asked
 returns-clause-asked g c =
+    let setting = setting_of V4 c.args.config.now in
     let p = parts_of c.args.config.now c.args.journal.now c.args.history.now in
+    let from = sum p.counts in
+    let s = c.args.ports.now in
+    let since = subst (λ es. AreTouchedBetween setting es from s.latest.at s.touched)
+    (sym c.events-events.ensures) c.requires.ports.since in
     counted_some (some_left p c.args.history.now c.requires.history c.if-events-history.false
-    (ap length c.events-events.ensures)) (ap (λ es. all_port_count (objects_after es)) c.events-events.ensures)
-    c.bring_on.ensures.asked
+    (ap length c.events-events.ensures))
+    (ap (λ es. touched_count (objects_after es) (touched_between setting es from (length es)))
+    c.events-events.ensures ∙ asked_since p)
+    (c.bring_on.ensures.asked from since)

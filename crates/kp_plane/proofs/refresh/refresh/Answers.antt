@@ -1,7 +1,8 @@
+use Rattle.std.proofs.Common.{arith}
 use Rattle.kp_base.specs.declared.address.Family.TheVariants.{V4}
 use Rattle.kp_choice_defs.specs.Settings.{setting_of}
 use Rattle.kp_writer.specs.Written.{newest_ports}
-use Rattle.kp_plane.proofs.Refreshed.{by_keys, from_keys, none_left}
+use Rattle.kp_plane.proofs.Refreshed.{all_asked, by_keys, from_keys, none_left, touched_asked}
 use Rattle.kp_plane.proofs.refresh.refresh.Goals as goal
 
 pub refresh_keys-requires-clause-others : goal.refresh_keys-requires-clause-others
@@ -18,3 +19,15 @@ pub returns-else-touched-clause-untouched : goal.returns-else-touched-clause-unt
 returns-else-touched-clause-untouched g c =
     from_keys (setting_of V4 c.args.config.now) c.args.objects.now c.args.touched.now
     (newest_ports c.refresh_keys.new.writer) c.if-touched.false c.refresh_keys.ensures.others
+
+pub returns-then-touched-clause-asked : goal.returns-then-touched-clause-asked
+returns-then-touched-clause-asked g c =
+    let few = all_asked c.args.objects.now c.args.touched.now c.if-touched.true in
+    let step = c.refresh_all.ensures.asked in
+    omega (arith, few, step)
+
+pub returns-else-touched-clause-asked : goal.returns-else-touched-clause-asked
+returns-else-touched-clause-asked g c =
+    let few = touched_asked c.args.objects.now c.args.touched.now c.requires.own_keys in
+    let step = c.refresh_keys.ensures.asked in
+    omega (arith, few, step)

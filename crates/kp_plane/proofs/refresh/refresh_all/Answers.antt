@@ -1,7 +1,8 @@
+use Rattle.std.proofs.Common.{arith}
 use Rattle.kp_base.specs.declared.address.Family.TheVariants.{V4}
 use Rattle.kp_choice_defs.specs.Settings.{setting_of}
 use Rattle.kp_writer.specs.Written.{newest_ports}
-use Rattle.kp_plane.proofs.Refreshed.{none_known}
+use Rattle.kp_plane.proofs.Refreshed.{few_asked, none_known}
 use Rattle.kp_plane.proofs.refresh.refresh_all.Goals as goal
 
 pub refresh_keys-requires-clause-others : goal.refresh_keys-requires-clause-others
@@ -9,3 +10,9 @@ refresh_keys-requires-clause-others g c =
     none_known (setting_of V4 c.args.config.now) c.args.objects.now
     (newest_ports c.args.writer.now) c.in_ok-all.all c.in_ok-all.ensures.ports
     c.in_ok-all.ensures.services
+
+pub returns-clause-asked : goal.returns-clause-asked
+returns-clause-asked g c =
+    let few = few_asked c.args.objects.now c.in_ok-all.all in
+    let step = c.refresh_keys.ensures.asked in
+    omega (arith, few, step)

@@ -1,9 +1,9 @@
-use Rattle.std.proofs.Common.{◌≡◌, ◌∷◌, ◌++◌, [], map, sym, ap, ◌∙◌, arith, le_refl}
+use Rattle.std.proofs.Common.{◌∷◌, [], map, ap, ◌∙◌, arith}
 use Rattle.std.proofs.lemmas.List.{map-append}
 use Rattle.kp_base.specs.declared.address.Family.TheVariants.{V4}
 use Rattle.kp_choice_defs.specs.Settings.{setting_of}
-use Rattle.kp_writer.specs.Written.{newest_ports, written_ports}
-use Rattle.kp_plane.proofs.Refreshed.{all_done, asked_split, one_fewer, still_among, still_others}
+use Rattle.kp_writer.specs.Written.{newest_ports}
+use Rattle.kp_plane.proofs.Refreshed.{asked_split, one_fewer, still_among, still_others}
 use Rattle.kp_plane.proofs.refresh.refresh_each.Goals as goal
 
 pub loop-service-preserved : goal.loop-service-preserved

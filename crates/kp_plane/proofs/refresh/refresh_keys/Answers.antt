@@ -1,9 +1,8 @@
-use Rattle.std.proofs.Common.{sym, subst, ◌∙◌, arith}
+use Rattle.std.proofs.Common.{◌≤◌, ◌+◌, sym, subst}
 use Rattle.kp_base.specs.declared.address.Family.TheVariants.{V4}
 use Rattle.kp_choice_defs.specs.Settings.{setting_of}
 use Rattle.kp_writer.specs.Written.{newest_ports}
-use Rattle.kp_plane.specs.Known.{KnowsOthers}
-use Rattle.kp_plane.proofs.Refreshed.{few_asked}
+use Rattle.kp_plane.specs.Known.{KnowsOthers, asked_count}
 use Rattle.kp_plane.proofs.refresh.refresh_keys.Goals as goal
 
 pub refresh_each-requires-clause-others : goal.refresh_each-requires-clause-others
@@ -18,6 +17,5 @@ returns-clause-others g c =
 
 pub returns-clause-asked : goal.returns-clause-asked
 returns-clause-asked g c =
-    let few = few_asked c.args.objects.now c.args.keys.now _ c.in_ok-services.ensures in
-    let step = c.refresh_each.ensures.asked in
-    omega (arith, few, step)
+    subst (λ ks. c.refresh_each.new.asked ≤ c.args.asked.now + asked_count c.args.objects.now ks)
+    c.in_ok-services.ensures c.refresh_each.ensures.asked

@@ -1,7 +1,6 @@
-use Rattle.std.proofs.Common.{refl, ap, sym, ◌∙◌, count_by, not}
-use Rattle.kp_plane.specs.Invariant.{Holds, parts_of}
-use Rattle.kp_table_defs.specs.Edits.{is_write}
-use Rattle.kp_plane.proofs.Between.{covers_within, holds_after}
+use Rattle.std.proofs.Common.{refl}
+use Rattle.kp_plane.specs.Invariant.{parts_of}
+use Rattle.kp_plane.proofs.Between.{covers_within, still_held}
 use Rattle.kp_plane.proofs.sync.sync_copied.Goals as goal
 
 pub keep-requires : goal.keep-requires
@@ -19,6 +18,6 @@ returns-clause-ok g c =
 pub returns-in_err-keep-clause-err : goal.returns-in_err-keep-clause-err
 returns-in_err-keep-clause-err g c =
     let p = parts_of c.args.config.now c.args.journal.now c.args.history.now in
-    holds_after c.from_residual-in_err-keep.result
+    still_held c.from_residual-in_err-keep.result p c.keep.new.history c.keep.new.ports
     (c.in_err-keep.ensures.err p
     (record { history = c.requires.history; ports = c.next_sync.ensures.ports }))

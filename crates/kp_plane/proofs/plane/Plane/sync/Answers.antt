@@ -7,7 +7,7 @@ use Rattle.kp_table_defs.specs.Rebuild.{clash_of}
 use Rattle.kp_store.proofs.OwnObjects.{either_way}
 use Rattle.kp_types.specs.declared.sync.SyncRecord.{SyncRecord}
 use Rattle.kp_plane.specs.Invariant.{parts_of}
-use Rattle.kp_plane.specs.Parts.{most_steps, next_edits, records_in, setting_in}
+use Rattle.kp_plane.specs.Parts.{most_asked, most_steps, next_edits, records_in, setting_in}
 use Rattle.kp_plane.proofs.Synced.{parts_next, plane_kept, plane_next, record_added, record_next}
 use Rattle.kp_plane.proofs.plane.Plane.sync.Goals as goal
 
@@ -51,6 +51,16 @@ pub returns-clause-bound : goal.returns-clause-bound
 returns-clause-bound g c =
     subst (λ q. c.sync_copied.new.steps ≤ c.args.steps.now + most_steps q) c.self.view_is
     c.sync_copied.ensures.steps.bound
+
+pub returns-in_err-batch-clause-asked : goal.returns-in_err-batch-clause-asked
+returns-in_err-batch-clause-asked g c =
+    subst (λ q. c.sync_copied.new.asked ≤ c.args.asked.now + most_asked q) c.self.view_is
+    c.sync_copied.ensures.asked.bound
+
+pub returns-clause-asked : goal.returns-clause-asked
+returns-clause-asked g c =
+    subst (λ q. c.sync_copied.new.asked ≤ c.args.asked.now + most_asked q) c.self.view_is
+    c.sync_copied.ensures.asked.bound
 
 pub returns-clause-record : goal.returns-clause-record
 returns-clause-record g c =

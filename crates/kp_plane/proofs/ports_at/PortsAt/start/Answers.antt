@@ -12,5 +12,6 @@ returns c = λ events.
       dirty = c.new-dirty.result;
     } in
     first_ports c.dirty_ports.ensures.none c.args.config.now events s
-    (c.start-latest.ensures.place events) c.start-latest.ensures.start c.in_ok-writer.ensures.config
+    (c.start-latest.ensures.place events) c.start-latest.ensures.start c.new-touched.ensures
+    c.in_ok-writer.ensures.config
     c.in_ok-writer.ensures.written c.in_ok-writer.ensures.newest c.new-dirty.ensures
