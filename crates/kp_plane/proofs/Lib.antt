@@ -1,5 +1,6 @@
 mod Accepted
 mod Between
+mod Controlled
 mod FewAsked
 mod Places
 mod Refreshed
