@@ -114,7 +114,7 @@ module _ (o : Objects) (m : Slices) (own : IsUnderOwnKeys (λ (s : Slice). s.key
       same_map key_total key_exact _ _ (λ q.
       found_without found_keys m q ∙ by q (get m q) refl ∙ sym (found_unless_left o m q))
     where
-      nothing : (b : Bool) → cond b None None ≡ None {A = Slice}
+      nothing : (b : Bool) → ◌≡◌ {A = Option Slice} (cond b None None) None
       nothing true = refl
       nothing false = refl
 
