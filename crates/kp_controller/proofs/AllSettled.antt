@@ -1,5 +1,5 @@
 -- Once the picked Services are packed, all are settled.
-use Rattle.std.proofs.Common.{◌≡◌, ◌≤◌, ℕ, ◌&&◌, ◌||◌, Bool, true, false, not, List, [], ◌∷◌, filter, Contains, Some, refl, sym, ap, subst, ◌∙◌}
+use Rattle.std.proofs.Common.{◌≡◌, ◌≤◌, ℕ, ◌&&◌, ◌||◌, Bool, true, false, not, List, [], ◌∷◌, filter, Some, refl, sym, ap, subst, ◌∙◌}
 use Rattle.std.specs.List.{fold, list_any}
 use Rattle.std.specs.FinMap as finite
 use Rattle.std.specs.FinMap.{get}

@@ -1,5 +1,5 @@
 -- The Service that a slice's label names.
-use Rattle.std.proofs.Common.{◌≡◌, ◌&&◌, false, ℕ, List, Some, None, bytes_eq, refl, sym, ap, ◌∙◌}
+use Rattle.std.proofs.Common.{◌≡◌, ◌&&◌, false, Some, None, bytes_eq, refl, sym, ap, ◌∙◌}
 use Rattle.std.specs.Cmp.{eq_by_cmp_equiv}
 use Rattle.std.proofs.lemmas.Bool.{and_right}
 use Rattle.kp_base.specs.declared.key.ObjectKey.{ObjectKey}

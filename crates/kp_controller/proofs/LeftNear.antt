@@ -1,6 +1,6 @@
 -- The slices that are left over are near to the Services that their labels name, so they are found
 -- by these.
-use Rattle.std.proofs.Common.{◌≡◌, ◌&&◌, Bool, true, false, true≢false, cond, not, ℕ, List, [], ◌∷◌, map, filter, flat_map, bytes_eq, Contains, Option, Some, None, refl, sym, ap, subst, ◌∙◌}
+use Rattle.std.proofs.Common.{◌≡◌, Bool, true, false, true≢false, cond, not, ℕ, List, [], map, filter, flat_map, Contains, Option, Some, None, refl, sym, ap, subst, ◌∙◌}
 use Rattle.std.specs.List.{list_any}
 use Rattle.std.specs.Cmp.{eq_by_cmp_equiv}
 use Rattle.std.specs.Cmp.Lexicographic.{nat_list_eq_equiv}

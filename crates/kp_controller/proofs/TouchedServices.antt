@@ -1,5 +1,5 @@
 -- The Services of keys that are there, in order of the keys, are the stored ones among the keys.
-use Rattle.std.proofs.Common.{◌≡◌, ◌&&◌, Bool, true, false, List, [], ◌∷◌, map, filter, filter_map, Contains, Option, Some, None, inl, inr, refl, sym, ap, subst, ◌∙◌, is_lt}
+use Rattle.std.proofs.Common.{◌≡◌, true, List, [], ◌∷◌, map, filter, filter_map, Contains, Option, Some, None, inl, inr, refl, sym, ap, subst, ◌∙◌, is_lt}
 use Rattle.std.specs.List.{cons_option}
 use Rattle.std.specs.Cmp.{eq_by_cmp_equiv}
 use Rattle.std.specs.FinMap as finite

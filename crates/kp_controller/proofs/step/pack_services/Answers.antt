@@ -1,9 +1,6 @@
-use Rattle.std.proofs.Common.{Bool, cond, take, map, filter, refl, sym, ap, subst, ◌∙◌, Bor}
-use Rattle.std.specs.List.{fold}
-use Rattle.std.proofs.lemmas.List.{take_all}
+use Rattle.std.proofs.Common.{cond, take, map, filter, refl, sym, ap, subst, ◌∙◌, Bor}
 use Rattle.kp_lemmas.proofs.Members.{in_map}
 use Rattle.kp_base.specs.declared.address.Family.TheVariants.{V4}
-use Rattle.kp_base.specs.declared.key.ObjectKey.{ObjectKey}
 use Rattle.kp_types.specs.declared.service.Service.{Service}
 use Rattle.kp_object_defs.specs.Desired.{has_selector}
 use Rattle.kp_object_defs.specs.SlicesNow.{after_packing}

@@ -1,7 +1,6 @@
 use Rattle.std.proofs.Common.{Bor, map, ap, sym, subst, ◌∙◌}
 use Rattle.std.proofs.lemmas.Result.{on_ok_weaker}
 use Rattle.kp_base.specs.declared.address.Family.TheVariants.{V4}
-use Rattle.kp_base.specs.declared.key.ObjectKey.{ObjectKey}
 use Rattle.kp_types.specs.declared.service.Service.{Service}
 use Rattle.kp_settle_laws.specs.Settled.{AreLeftBy, AreSettledBut, none}
 use Rattle.kp_store.specs.Touched.{is_touched}
