@@ -1,3 +1,4 @@
+use Rattle.std.proofs.Common.{refl}
 use Rattle.kp_plane.proofs.SlicesAtPlaces.{first_slices}
 use Rattle.kp_plane.proofs.slices_at.SlicesAt.start.Goals as goal
 

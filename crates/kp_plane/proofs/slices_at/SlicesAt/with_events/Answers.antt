@@ -20,8 +20,8 @@ loop-slices-preserved c =
       omega (arith, at, c.loop-slices-test.true),
     )
 
-pub loop-slices-decreases : goal.loop-slices-decreases
-loop-slices-decreases c =
+pub loop-slices-smaller : goal.loop-slices-smaller
+loop-slices-smaller c =
     let at = c.in_ok-after_event.ensures.at in omega (arith, at, c.loop-slices-test.true)
 
 pub returns : goal.returns
