@@ -1,4 +1,4 @@
-use Rattle.std.proofs.Common.{◌+◌, take, refl, sym, subst}
+use Rattle.std.proofs.Common.{take, refl, sym, subst}
 use Rattle.kp_object_defs.specs.OwnKeys.{AreUnderOwnKeys}
 use Rattle.kp_plane.proofs.Controlled.{objects_controlled, slices_controlled}
 use Rattle.kp_plane.proofs.SlicesAtPlaces.{fed_one}
