@@ -7,22 +7,20 @@ use Rattle.std.specs.FinMap.{find, is_sorted, get-entries, get-remove, get-from_
 use Rattle.std.specs.FinMap.Entries.{below_all}
 use Rattle.std.proofs.lemmas.Bool.{and_parts}
 use Rattle.kp_lemmas.proofs.Booleans.{true_from_fact}
-use Rattle.kp_lemmas.proofs.Orders.{one_from_tie}
 use Rattle.kp_base.specs.Keys.{key_cmp}
 use Rattle.kp_base.specs.declared.key.ObjectKey.{ObjectKey}
 use Rattle.kp_base.proofs.KeyOrder.{key_total, key_exact}
 use Rattle.kp_types.specs.declared.slice.Slice.{Slice}
 use Rattle.kp_object_defs.specs.OwnKeys.{IsUnderOwnKeys}
 use Rattle.kp_object_defs.specs.SlicesNow.{Slices}
-use Rattle.kp_object_laws.proofs.OwnEntries.{AreOwn, missing, own_entries}
+use Rattle.kp_object_laws.proofs.OwnEntries.{AreOwn, own_entries}
+use Rattle.kp_settle_laws.proofs.Found.{found_others, kept, not_behind, others}
 use Rattle.kp_controller.specs.Replaced.{without_keys}
 
--- what is behind an entry in order isn't found at its key
-not_behind : (e : ObjectKey × Slice) (es : List (ObjectKey × Slice)) → below_all key_cmp e.0 es ≡ true → (q : ObjectKey) → eq_by_cmp key_cmp q e.0 ≡ true → find key_cmp q es ≡ None
-not_behind e es below q tied = ap (λ k. find key_cmp k es) (one_from_tie key_exact q e.0 tied) ∙ missing key_cmp e.0 es below
-
 -- what is found once keys are taken out
-found_without : (keys : List ObjectKey) (m : Slices) (q : ObjectKey) → finite.get (without_keys keys m) q ≡ cond (list_any (eq_by_cmp key_cmp q) keys) None (finite.get m q)
+pub found_without : (keys : List ObjectKey) (m : Slices) (q : ObjectKey)
+    → finite.get (without_keys keys m) q
+    ≡ cond (list_any (eq_by_cmp key_cmp q) keys) None (finite.get m q)
 found_without [] m q = refl
 found_without (k ∷ ks) m q = found_without ks (finite.remove m k) q ∙ ap (cond (list_any (eq_by_cmp key_cmp q) ks) None) (get-remove key_total m k q) ∙ by (eq_by_cmp key_cmp q k) (list_any (eq_by_cmp key_cmp q) ks)
   where
@@ -32,35 +30,10 @@ found_without (k ∷ ks) m q = found_without ks (finite.remove m k) q ∙ ap (co
     by false b = refl
 
 module _ (test : Slice → Bool) where
-  -- a slice that is found, where it doesn't pass
-  kept : Option Slice → Option Slice
-  kept None = None
-  kept (Some s) = cond (not (test s)) (Some s) None
-
   -- a slice is found, and it passes
   passes : Option Slice → Bool
   passes None = false
   passes (Some s) = test s
-
-  abbrev Others : List (ObjectKey × Slice) → List (ObjectKey × Slice)
-  Others es = filter (λ e. not (test e.1)) es
-
-  -- among entries in order the others are found where they were
-  found_kept : (es : List (ObjectKey × Slice)) → is_sorted key_cmp es ≡ true → (q : ObjectKey) → find key_cmp q (Others es) ≡ kept (find key_cmp q es)
-  unfolding kept
-  found_kept [] sorted q = refl
-  found_kept (e ∷ es) sorted q =
-      let parts = and_parts (below_all key_cmp e.0 es) (is_sorted key_cmp es) sorted in
-      by parts.0 (found_kept es parts.1 q) (test e.1) refl (eq_by_cmp key_cmp q e.0) refl
-    where
-      by : below_all key_cmp e.0 es ≡ true → find key_cmp q (Others es) ≡ kept (find key_cmp q es) → (t : Bool) → test e.1 ≡ t → (b : Bool) → eq_by_cmp key_cmp q e.0 ≡ b
-          → find key_cmp q (cond (not t) (e ∷ Others es) (Others es)) ≡ kept (cond b (Some e.1) (find key_cmp q es))
-      by below rest true is true tied =
-          rest ∙ ap kept (not_behind e es below q tied) ∙ ap (λ t. cond (not t) (Some e.1) None) (sym is)
-      by below rest true is false tied = rest
-      by below rest false is true tied =
-          ap (λ b. cond b (Some e.1) (find key_cmp q (Others es))) tied ∙ ap (λ t. cond (not t) (Some e.1) None) (sym is)
-      by below rest false is false tied = ap (λ b. cond b (Some e.1) (find key_cmp q (Others es))) tied ∙ rest
 
   abbrev Keys : List (ObjectKey × Slice) → List ObjectKey
   Keys es = map (λ s. s.key) (filter test (map (λ e. e.1) es))
@@ -81,11 +54,11 @@ module _ (test : Slice → Bool) where
           → list_any (eq_by_cmp key_cmp q) (map (λ (s : Slice). s.key) (cond t (e.1 ∷ filter test (map (λ f. f.1) es)) (filter test (map (λ f. f.1) es)))) ≡ passes (cond b (Some e.1) (find key_cmp q es))
       by below rest true is true tied = ap (λ b. b || list_any (eq_by_cmp key_cmp q) (Keys es)) (first true tied) ∙ sym is
       by below rest true is false tied = ap (λ b. b || list_any (eq_by_cmp key_cmp q) (Keys es)) (first false tied) ∙ rest
-      by below rest false is true tied = rest ∙ ap passes (not_behind e es below q tied) ∙ sym is
+      by below rest false is true tied = rest ∙ ap passes (not_behind q e es below tied) ∙ sym is
       by below rest false is false tied = rest
 
-  kept_by : (o : Option Slice) → cond (passes o) None o ≡ kept o
-  unfolding passes kept
+  kept_by : (o : Option Slice) → cond (passes o) None o ≡ kept test o
+  unfolding passes
   kept_by None = refl
   kept_by (Some s) = by (test s)
     where
@@ -102,8 +75,7 @@ module _ (test : Slice → Bool) where
       let owned = own_entries key_total key_exact (λ (s : Slice). s.key) es sorted (λ k x h. own k x (get-entries m k ∙ h)) in
       same_map key_total key_exact _ _ (λ q.
       found_without (Keys es) m q
-      ∙ ap (λ b. cond b None (finite.get m q)) (key_passes es sorted owned q)
-      ∙ ap (cond (passes (find key_cmp q es)) None) (get-entries m q)
-      ∙ kept_by (find key_cmp q es)
-      ∙ sym (found_kept es sorted q)
-      ∙ sym (get-from_entries key_total (Others es) q))
+      ∙ ap (λ b. cond b None (finite.get m q)) (key_passes es sorted owned q ∙ ap passes (sym (get-entries m q)))
+      ∙ kept_by (finite.get m q)
+      ∙ sym (found_others test m q)
+      ∙ sym (get-from_entries key_total (others test es) q))

@@ -1,5 +1,9 @@
+mod AllSettled
 mod Kept
+mod Labels
+mod LeftNear
 mod Narrowed
 mod OneMore
 mod Packed
 mod Stems
+mod TouchedServices

@@ -179,12 +179,19 @@ module _ (service : ObjectKey) where
       let within = filter_within (may_clash service) in_namespace (λ s clash. (and_parts (in_namespace s) (near s) (sym (clash_parts s) ∙ clash)).0) slices in
       omega (arith, length-map (filter (may_clash service) slices) (λ s. s.key.name), length-map all (λ s. s.key.name), ap length within, length-filter (may_clash service) all, count_by-le-length (may_clash service) all)
 
+  -- a slice whose label names the Service may clash
+  pub own_may_clash : (s : Slice) → is_of_service service s ≡ true → may_clash service s ≡ true
+  own_may_clash s of =
+      let own = and_parts (in_namespace s) (is_named service.name s.service) of in
+      clash_parts s
+      ∙ and_from (in_namespace s) (near s) own.0
+      (or_left (is_named service.name s.service) (is_named service.name (stem s.key.name)) own.1)
+
   -- those managed for the Service are among those that may clash
   pub managed_near : (slices : List Slice) → filter (is_managed_for V4 service) (filter (may_clash service) slices) ≡ filter (is_managed_for V4 service) slices
   managed_near =
       filter_within (is_managed_for V4 service) (may_clash service) (λ s managed.
-      let own = and_parts (in_namespace s) (is_named service.name s.service) (and_parts (is_of_service service s) (s.managed && is_type_of V4 s.family) managed).0 in
-      clash_parts s ∙ and_from (in_namespace s) (near s) own.0 (or_left (is_named service.name s.service) (is_named service.name (stem s.key.name)) own.1))
+      own_may_clash s (and_parts (is_of_service service s) (s.managed && is_type_of V4 s.family) managed).0)
 
   -- the Service's own names may clash
   pub own_taken : (slices : List Slice) → are_taken (map (λ s. s.key.name) (filter (may_clash service) slices)) (filter (is_managed_for V4 service) slices) ≡ true

@@ -1,4 +1,5 @@
 pub mod Clashing
 pub mod Near
 pub mod Replaced
+pub mod Settling
 pub mod Stored

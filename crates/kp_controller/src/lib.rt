@@ -6,8 +6,10 @@ mod leftovers;
 mod managed;
 mod near;
 mod replaced;
+mod services;
 mod slice_map;
 mod step;
+mod touching;
 
 pub use slice_map::SliceMap;
 pub use step::control;

@@ -1,13 +1,16 @@
 //! The slices that the controller manages for one Service.
-ghost use Rattle.std.specs.Prelude.{◌≡◌, map, IfOk, OnOk};
+ghost use Rattle.std.specs.Prelude.{◌≡◌, true, map, IfOk, OnOk};
 ghost use Rattle.std.specs.List.{filter};
 ghost use Rattle.std.specs.FinMap as finite;
 ghost use Rattle.kp_base.specs.declared.address.Family.TheVariants.{V4};
+ghost use Rattle.kp_object_defs.specs.Desired.{desired_endpoints_of};
 ghost use Rattle.kp_object_defs.specs.Entries as entries;
 ghost use Rattle.kp_object_defs.specs.OwnKeys.{AreUnderOwnKeys, IsUnderOwnKeys};
 ghost use Rattle.kp_object_defs.specs.PackingLaws as laws;
+ghost use Rattle.kp_object_defs.specs.PackingLaws.{IsPackingOf};
 ghost use Rattle.kp_object_defs.specs.SlicesNow as now;
 ghost use Rattle.kp_object_defs.specs.SlicesNow.{after_packing};
+ghost use Rattle.kp_settle_laws.specs.Settled.{IsSettled};
 ghost use Rattle.kp_controller.specs.Clashing.{may_clash};
 
 use crate::replaced::{put_all, take_all};
@@ -15,11 +18,13 @@ use crate::slice_map::SliceMap;
 use kp_base::{Config, Copied, Items, NoMemory, ObjectKey, Text, fits_memory};
 use kp_object_laws::{slices_now, wanted_endpoints};
 use kp_packer::pack;
+use kp_settle_laws::packing_settles;
 use kp_store::{Objects, wanted_of};
 use kp_types::{AddressType, Service, Slice};
 use std::alloc::Global;
 
-/// Packs a Service of the objects: its managed IPv4 slices hold the endpoints that it wants.
+/// Packs a Service of the objects: its managed IPv4 slices hold the endpoints that it wants, so it
+/// is settled.
 pub fn pack_service(
     alloc: Global,
     config: &Config,
@@ -28,9 +33,12 @@ pub fn pack_service(
     slices: &mut SliceMap,
 ) -> Result<(), NoMemory>
     requires own { AreUnderOwnKeys objects.now }
-    ensures { OnOk result (slices.new
+    ensures packed { OnOk result (slices.new
         ≡ after_packing config.now.max_per_slice objects.now service.now slices.old V4) }
+    ensures settled { OnOk result (IsSettled V4 config.now.max_per_slice objects.now slices.new
+        service.now) }
 {
+    packing_settles();
     let (managed, packed) = packed_now(alloc, config, objects, service, slices)?;
     take_all(alloc, managed.as_slice(), slices)?;
     put_all(alloc, packed, slices)
@@ -50,6 +58,11 @@ fn packed_now(
         ≡ map (λ s. s.key) (now.managed_slices V4 service.now.key slices.now)) }
     ensures packed { IfOk result (λ (_, packed). packed ≡ (now.packed_now V4
         config.now.max_per_slice objects.now service.now slices.now).slices) }
+    ensures packing { IfOk result (λ (_, packed). IsPackingOf config.now.max_per_slice
+        (desired_endpoints_of V4 objects.now service.now) packed) }
+    ensures fits { IfOk result (λ (_, packed).
+        (laws.are_managed_for V4 service.now.key packed ≡ true)
+        × (laws.have_own_names packed ≡ true)) }
 {
     let (before, near) = managed_now(alloc, &service.key, slices)?;
     let wanted = wanted_of(alloc, objects, service)?;

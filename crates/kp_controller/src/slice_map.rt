@@ -1,7 +1,8 @@
 //! Slices by their keys.
 use crate::near::Near;
+use crate::touching::add_named;
 use kp_base::{Copied, Items, Kept, NoMemory, ObjectKey};
-use kp_store::Indexed;
+use kp_store::{Indexed, Touched};
 use kp_types::{Event, Kind, Object, Slice};
 use std::alloc::Global;
 use std::marker::Model;
@@ -35,9 +36,12 @@ impl Model for SliceMap {
 impl SliceMap {
     ghost use Rattle.std.specs.Prelude.{◌≡◌, map, IfOk, OnOk, OnErr};
     ghost use Rattle.std.specs.FinMap as finite;
-    ghost use Rattle.std.specs.List.{filter, fold};
+    ghost use Rattle.std.specs.List.{filter};
     ghost use Rattle.kp_object_defs.specs.OwnKeys.{IsUnderOwnKeys};
     ghost use Rattle.kp_object_defs.specs.SlicesNow.{slices_step};
+    ghost use Rattle.kp_base.specs.declared.key.ObjectKey.{ObjectKey};
+    ghost use Rattle.kp_settle_laws.specs.Settled.{touches_slices};
+    ghost use Rattle.kp_store.specs.Touched.{AddsTo, StaysIn, is_touched};
     ghost use Rattle.kp_controller.specs.Clashing.{may_clash};
 
     /// No slices.
@@ -57,6 +61,13 @@ impl SliceMap {
         self.slices.values(alloc)
     }
 
+    /// Each slice stands under its own key.
+    pub fn own_keys(&self)
+        ensures { IsUnderOwnKeys (λ s. s.key) self.now }
+    {
+        let _ = &self.slices;
+    }
+
     /// The slices that are near to a Service, in order of their keys.
     pub(crate) fn near(&self, alloc: Global, service: &ObjectKey) -> Result<Vec<&Slice>, NoMemory>
         ensures found { IfOk result (λ ss. map (λ s. s.now) ss.items
@@ -69,9 +80,28 @@ impl SliceMap {
         self.slices.found(alloc, &tag)
     }
 
-    /// Applies an event, which changes the slices at once where it is about one. Where memory is
-    /// out, all stays.
-    pub fn apply(&mut self, alloc: Global, event: &Event) -> Result<(), NoMemory>
+    /// Applies an event, which changes the slices at once where it is about one, and adds the
+    /// Services that it touches among these slices. Where memory is out, the slices stay, and all
+    /// that were touched still are.
+    pub fn apply_touching(
+        &mut self,
+        alloc: Global,
+        event: &Event,
+        touched: &mut Touched,
+    ) -> Result<(), NoMemory>
+        ensures ok { OnOk result (self.new ≡ slices_step self.old event.now) }
+        ensures adds { OnOk result (AddsTo (touches_slices self.old event.now)
+            touched.old touched.new) }
+        ensures err { OnErr result (self.new ≡ self.old) }
+        ensures stay { OnErr result (StaysIn touched.old touched.new) }
+    {
+        let new = self.touched_by(alloc, event)?;
+        touched.join(alloc, &new)?;
+        self.apply(alloc, event)
+    }
+
+    /// Applies an event. Where memory is out, all stays.
+    fn apply(&mut self, alloc: Global, event: &Event) -> Result<(), NoMemory>
         ensures ok { OnOk result (self.new ≡ slices_step self.old event.now) }
         ensures err { OnErr result (self.new ≡ self.old) }
     {
@@ -85,14 +115,37 @@ impl SliceMap {
         }
     }
 
-    /// Applies events, the first one first.
-    pub fn apply_all(&mut self, alloc: Global, events: &[Event]) -> Result<(), NoMemory>
-        ensures { OnOk result (self.new ≡ fold slices_step self.old events.now) }
+    /// The Services that an event touches among these slices.
+    fn touched_by(&self, alloc: Global, event: &Event) -> Result<Touched, NoMemory>
+        ensures { IfOk result (λ t. (k : ObjectKey)
+            → is_touched t k ≡ touches_slices self.now event.now k) }
     {
-        for event in events {
-            self.apply(alloc, event)?;
+        let mut touched = Touched::new(alloc);
+        self.add_touched(alloc, event, &mut touched)?;
+        Ok(touched)
+    }
+
+    /// Adds the Services that an event touches among these slices.
+    fn add_touched(
+        &self,
+        alloc: Global,
+        event: &Event,
+        touched: &mut Touched,
+    ) -> Result<(), NoMemory>
+        ensures { OnOk result (AddsTo (touches_slices self.now event.now)
+            touched.old touched.new) }
+    {
+        match event {
+            Event::Apply(Object::EndpointSlice(kept)) => {
+                let slice = kept.get();
+                add_named(alloc, self.slices.get(&slice.key), Some(slice), touched)
+            }
+            Event::Delete {
+                kind: Kind::EndpointSlice,
+                key,
+            } => add_named(alloc, self.slices.get(key), None, touched),
+            _ => Ok(()),
         }
-        Ok(())
     }
 
     /// Copies of all slices, in order of their keys.

@@ -4,37 +4,75 @@ ghost use Rattle.std.specs.List.{filter, fold};
 ghost use Rattle.kp_base.specs.declared.address.Family.TheVariants.{V4};
 ghost use Rattle.kp_object_defs.specs.Desired as desired;
 ghost use Rattle.kp_object_defs.specs.OwnKeys.{AreUnderOwnKeys};
-ghost use Rattle.kp_object_defs.specs.SlicesNow.{after_packing, controller_step};
+ghost use Rattle.kp_object_defs.specs.SlicesNow.{after_controller, after_packing, controller_step};
+ghost use Rattle.kp_settle_laws.specs.Settled.{AreLeftBy, AreSettledBut, IsControlledBut, none};
+ghost use Rattle.kp_store.specs.Touched.{is_touched};
+ghost use Rattle.kp_controller.specs.Settling.{Settles};
 
-use crate::leftovers::remove_leftovers;
+use crate::leftovers::remove_touched;
 use crate::managed::pack_service;
+use crate::services::services_touched;
 use crate::slice_map::SliceMap;
 use kp_base::{Config, NoMemory};
-use kp_store::Objects;
+use kp_settle_laws::{packing_settles, touched_are_enough};
+use kp_store::{Objects, Touched};
 use kp_types::{Service, ServiceKind};
 use std::alloc::Global;
 
 /// Makes the slices what the controller makes them at a sync that covers these objects, in IPv4
 /// (KEP-752): those of absent Services go, and each Service with a selector is packed, in order of
-/// their keys. Where the controller is off, all stays.
+/// their keys. Where the controller is off, all stays. Since all is as the controller left it but
+/// for the touched Services, only these are packed, and only slices near to them are looked at for
+/// those that are left over; after it all is as the controller leaves it.
 pub fn control(
     alloc: Global,
     config: &Config,
     objects: &Objects,
+    touched: &Touched,
     slices: &mut SliceMap,
 ) -> Result<(), NoMemory>
-    ensures { OnOk result (slices.new
+    requires own_keys { AreUnderOwnKeys objects.now }
+    requires controlled { IsControlledBut V4 (is_touched touched.now) config.now objects.now
+        slices.now }
+    ensures ok { OnOk result (slices.new
         ≡ controller_step (V4 ∷ []) config.now objects.now slices.old) }
+    ensures controlled { OnOk result (IsControlledBut V4 none config.now objects.now slices.new) }
 {
-    if !config.controller {
-        return Ok(());
+    if config.controller {
+        settle(alloc, config, objects, touched, slices)
+    } else {
+        Ok(())
     }
-    remove_leftovers(alloc, objects, slices)?;
-    let services = objects.all_services(alloc)?;
-    pack_services(alloc, config, objects, services.as_slice(), slices)
 }
 
-/// Packs Services of the objects, in this order.
+/// Takes out the slices that are left over, and packs the touched Services.
+fn settle(
+    alloc: Global,
+    config: &Config,
+    objects: &Objects,
+    touched: &Touched,
+    slices: &mut SliceMap,
+) -> Result<(), NoMemory>
+    requires own_keys { AreUnderOwnKeys objects.now }
+    requires settled { AreSettledBut V4 (is_touched touched.now) config.now.max_per_slice
+        objects.now slices.now }
+    requires left { AreLeftBy (is_touched touched.now) objects.now slices.now }
+    ensures ok { OnOk result (slices.new
+        ≡ after_controller (V4 ∷ []) config.now.max_per_slice objects.now slices.old) }
+    ensures settled { OnOk result (AreSettledBut V4 none config.now.max_per_slice objects.now
+        slices.new) }
+    ensures left { OnOk result (AreLeftBy none objects.now slices.new) }
+{
+    packing_settles();
+    touched_are_enough();
+    slices.own_keys();
+    remove_touched(alloc, objects, touched, slices)?;
+    let few = services_touched(alloc, objects, touched)?;
+    slices.own_keys();
+    pack_services(alloc, config, objects, few.as_slice(), slices)
+}
+
+/// Packs Services of the objects, in this order. Those of them with a selector are settled.
 fn pack_services<'a>(
     alloc: Global,
     config: &Config,
@@ -43,11 +81,15 @@ fn pack_services<'a>(
     slices: &mut SliceMap,
 ) -> Result<(), NoMemory>
     requires own { AreUnderOwnKeys objects.now }
-    ensures { OnOk result (slices.new
+    ensures packed { OnOk result (slices.new
         ≡ fold (λ m s. after_packing config.now.max_per_slice objects.now s m V4) slices.old
         (filter desired.has_selector (map (λ s. s.now) services.now))) }
+    ensures settles { OnOk result (Settles config.now.max_per_slice objects.now
+        (map (λ s. s.now) services.now) slices.old slices.new) }
 {
+    packing_settles();
     for service in services {
+        slices.own_keys();
         if has_selector(service) {
             pack_service(alloc, config, objects, service, slices)?;
         }

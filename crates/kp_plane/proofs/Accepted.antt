@@ -68,6 +68,7 @@ module _ (p : PlaneParts) (more : List Event) where
     from = is.from;
     to = is.to;
     slices = is.slices ∙ ap (λ es. slices_now (V4 ∷ []) p.config es (take s.syncs p.counts)) (sym (take-append-le s.place.at p.events more is.place.within));
+    controlled = is.controlled;
   }
 
   ports_same : HasExactHistory p → (s : PortsAt) → IsPortsAt p s → IsPortsAt (with_events p more) s

@@ -1,6 +1,7 @@
 mod Accepted
 mod Between
 mod Collecting
+mod Controlled
 mod FewAsked
 mod Places
 mod Refreshed

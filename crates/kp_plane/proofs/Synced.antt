@@ -41,6 +41,7 @@ slices_next p h s is =
       from = is.from;
       to = λ _. by (nat_lt s.syncs (length p.counts)) refl;
       slices = is.slices ∙ ap (slices_now (V4 ∷ []) p.config (take s.place.at p.events)) (sym same);
+      controlled = is.controlled;
     }
   where
     by : (b : Bool) → nat_lt s.syncs (length p.counts) ≡ b → s.place.at ≤ sum (take (s.syncs + 1) (p.counts ++ uncovered_in p ∷ []))

@@ -1,19 +1,20 @@
 -- What holds of a plane's fields, by the parts that contracts see.
-use Rattle.std.specs.Prelude.{◌≡◌, ◌≤◌, ◌<◌, ◌+◌, ◌-◌, ℕ, List, [], ◌∷◌, length, sum, take, drop}
+use Rattle.std.specs.Prelude.{◌≡◌, ◌≤◌, ◌<◌, ◌+◌, ℕ, List, [], ◌∷◌, length, sum, take, drop}
 use Rattle.std.specs.Prelude.{Bool, true, false, cond, None}
-use Rattle.std.specs.List.{fold}
 use Rattle.kp_base.specs.declared.address.Family.TheVariants.{V4}
 use Rattle.kp_base.specs.declared.config.Config.{Config}
 use Rattle.kp_base.specs.declared.key.ObjectKey.{ObjectKey}
 use Rattle.kp_types.specs.declared.event.Event.{Event}
 use Rattle.kp_types.specs.Setting.{Setting}
 use Rattle.kp_object_defs.specs.Objects.{objects_after}
-use Rattle.kp_object_defs.specs.SlicesNow.{slices_now, slices_step}
+use Rattle.kp_object_defs.specs.SlicesNow.{slices_now}
 use Rattle.kp_events.specs.JournalContents.{Contents}
 use Rattle.kp_history_defs.specs.DirtyPorts.{dirty_ports}
 use Rattle.kp_history_defs.specs.declared.dirty.DirtyPort.{DirtyPort}
 use Rattle.kp_history.specs.Invariant.{IsHistory, LeadsToNext}
 use Rattle.kp_history.specs.declared.history.History.{History}
+use Rattle.kp_settle_laws.specs.Settled.{IsControlledBut}
+use Rattle.kp_store.specs.Touched.{is_touched}
 use Rattle.kp_touch_laws.specs.TouchLaws.{touches_one}
 use Rattle.kp_writer.specs.Known.{ArePortsOf, pending_ports}
 use Rattle.kp_writer.specs.Written as written
@@ -40,8 +41,12 @@ pub record IsAtPlace (events : List Event) (o : ObjectsAt) : Type 0 where
   pub within : o.at ≤ length events
   pub objects : o.objects ≡ objects_after (take o.at events)
 
+-- the slices are as the controller would leave them, but for the Services that were touched since
+abbrev pub IsControlled : Config → SlicesAt → Type 0
+IsControlled config s = IsControlledBut V4 (is_touched s.touched) config s.place.objects s.slices
+
 -- Slices at a place of the journal are those of the events and of the syncs before it: it stands
--- behind what these syncs cover, and at or before what one more covers.
+-- after what these syncs cover, and at or before what one more covers.
 pub record IsSlicesAt
     (config : Config) (events : List Event) (counts : List ℕ) (s : SlicesAt) : Type 0 where
   pub place : IsAtPlace events s.place
@@ -50,16 +55,24 @@ pub record IsSlicesAt
   pub from : s.covered ≤ s.place.at
   pub to : s.syncs < length counts → s.place.at ≤ sum (take (s.syncs + 1) counts)
   pub slices : s.slices ≡ slices_now (V4 ∷ []) config (take s.place.at events) (take s.syncs counts)
+  pub controlled : IsControlled config s
+
+-- the slices are those of the events before their place, and of syncs that cover so many
+abbrev pub IsNowBy : Config → List Event → SlicesAt → List ℕ → Type 0
+IsNowBy config events s counts =
+    s.slices ≡ slices_now (V4 ∷ []) config (take s.place.at events) counts
 
 -- slices at a later place of the journal, after no more syncs
-pub record IsFed (events : List Event) (to : ℕ) (before after : SlicesAt) : Type 0 where
+pub record IsFed (config : Config) (events : List Event) (to : ℕ) (before after : SlicesAt)
+    : Type 0 where
   pub place : IsAtPlace events after.place
   pub at : after.place.at ≡ to
+  pub later : before.place.at ≤ to
   pub syncs : after.syncs ≡ before.syncs
   pub covered : after.covered ≡ before.covered
-  pub slices : after.slices
-      ≡ fold slices_step before.slices
-      (take (to - before.place.at) (drop before.place.at events))
+  pub slices : (counts : List ℕ) → sum counts ≤ before.place.at
+      → IsNowBy config events before counts → IsNowBy config events after counts
+  pub controlled : IsControlled config after
 
 -- whether one of the events from one place of the journal to another touches the Service of this key
 abbrev pub touched_between : Setting → List Event → ℕ → ℕ → ObjectKey → Bool

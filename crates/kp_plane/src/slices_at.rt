@@ -1,7 +1,8 @@
 //! The slices at a place of the journal.
 use crate::place::ObjectsAt;
-use kp_base::{Config, NoMemory};
+use kp_base::{Config, NoMemory, fits_memory};
 use kp_controller::{SliceMap, control};
+use kp_store::Touched;
 use kp_types::Event;
 use std::alloc::Global;
 
@@ -10,6 +11,8 @@ pub(crate) struct SlicesAt {
     pub(crate) slices: SliceMap,
     /// The objects after these events.
     pub(crate) place: ObjectsAt,
+    /// The Services that these events touched since the controller acted.
+    pub(crate) touched: Touched,
     pub(crate) syncs: usize,
     /// How many events these syncs cover.
     pub(crate) covered: usize,
@@ -20,6 +23,7 @@ impl Drop for SlicesAt {
         let SlicesAt {
             slices,
             place,
+            touched,
             syncs,
             covered,
         } = self;
@@ -27,12 +31,13 @@ impl Drop for SlicesAt {
 }
 
 impl SlicesAt {
-    ghost use Rattle.std.specs.Prelude.{◌≡◌, ◌≤◌, ◌<◌, ◌+◌, ℕ, List, [], ◌∷◌, length, sum, IfOk};
+    ghost use Rattle.std.specs.Prelude.{◌≡◌, ◌≤◌, ◌<◌, ◌+◌, ℕ, List, [], ◌∷◌};
+    ghost use Rattle.std.specs.Prelude.{length, sum, IfOk, OnOk};
     ghost use Rattle.kp_base.specs.declared.address.Family.TheVariants.{V4};
     ghost use Rattle.kp_base.specs.declared.config.Config.{Config};
     ghost use Rattle.kp_types.specs.declared.event.Event.{Event};
     ghost use Rattle.kp_object_defs.specs.SlicesNow.{slices_now};
-    ghost use Rattle.kp_plane.specs.Invariant.{IsAtPlace, IsFed, IsSlicesAt};
+    ghost use Rattle.kp_plane.specs.Invariant.{IsAtPlace, IsControlled, IsFed, IsSlicesAt};
 
     /// Before the first event and the first sync.
     pub(crate) fn start(alloc: Global) -> SlicesAt
@@ -40,9 +45,14 @@ impl SlicesAt {
             → IsSlicesAt config events counts result }
     {
         kp_object_laws::slices_now();
+        kp_settle_laws::controlled_between_syncs();
+        let slices = SliceMap::new(alloc);
+        let place = ObjectsAt::start(alloc);
+        let touched = Touched::new(alloc);
         SlicesAt {
-            slices: SliceMap::new(alloc),
-            place: ObjectsAt::start(alloc),
+            slices,
+            place,
+            touched,
             syncs: 0,
             covered: 0,
         }
@@ -63,12 +73,11 @@ impl SlicesAt {
         ensures slices { IfOk result (λ s. s.slices
             ≡ slices_now (V4 ∷ []) config.now events.now counts.now) }
     {
-        kp_object_laws::slices_now();
         let mut slices = self;
         while slices.syncs < counts.len() {
             slices = slices.after_sync(alloc, config, events, counts)?;
         }
-        slices.with_events(alloc, events, events.len())
+        slices.with_events(alloc, config, events, events.len())
     }
 
     /// Goes on over the next sync.
@@ -86,36 +95,69 @@ impl SlicesAt {
         ensures next { IfOk result (λ s. s.syncs ≡ self.syncs + 1) }
     {
         kp_object_laws::slices_now();
+        kp_object_laws::own_keys();
+        kp_settle_laws::controlled_between_syncs();
         let covered = self.covered + counts[self.syncs] as usize;
-        let mut slices = self.with_events(alloc, events, covered)?;
-        control(alloc, config, &slices.place.objects, &mut slices.slices)?;
+        let mut slices = self.with_events(alloc, config, events, covered)?;
+        control(
+            alloc,
+            config,
+            &slices.place.objects,
+            &slices.touched,
+            &mut slices.slices,
+        )?;
+        slices.touched = Touched::new(alloc);
         slices.covered = covered;
         slices.syncs += 1;
         Ok(slices)
     }
 
     /// Goes on to a later place of the journal, over no sync.
-    fn with_events(self, alloc: Global, events: &[Event], to: usize) -> Result<SlicesAt, NoMemory>
+    fn with_events(
+        self,
+        alloc: Global,
+        config: &Config,
+        events: &[Event],
+        to: usize,
+    ) -> Result<SlicesAt, NoMemory>
         requires place { IsAtPlace events.now self.place }
+        requires controlled { IsControlled config.now self }
         requires later { self.place.at ≤ to }
         requires within { to ≤ length events.now }
-        ensures { IfOk result (IsFed events.now to self) }
+        ensures { IfOk result (IsFed config.now events.now to self) }
     {
-        let SlicesAt {
-            mut slices,
-            mut place,
-            syncs,
-            covered,
-        } = self;
-        let (_, behind) = events.split_at(place.at);
-        let (between, _) = behind.split_at(to - place.at);
-        slices.apply_all(alloc, between)?;
-        place.advance(alloc, events, to)?;
-        Ok(SlicesAt {
-            slices,
-            place,
-            syncs,
-            covered,
-        })
+        let mut slices = self;
+        while slices.place.at < to {
+            slices.after_event(alloc, config, events)?;
+        }
+        Ok(slices)
+    }
+
+    /// Goes on over the next event. Where memory is out, it stands on the way there.
+    fn after_event(
+        &mut self,
+        alloc: Global,
+        config: &Config,
+        events: &[Event],
+    ) -> Result<(), NoMemory>
+        requires place { IsAtPlace events.now self.old.place }
+        requires controlled { IsControlled config.now self.old }
+        requires some { self.old.place.at < length events.now }
+        ensures { OnOk result (IsFed config.now events.now (self.old.place.at + 1) self.old
+            self.new) }
+    {
+        kp_object_laws::slices_now();
+        kp_object_laws::own_keys();
+        kp_settle_laws::controlled_between_syncs();
+        fits_memory(events);
+        self.slices.own_keys();
+        let at = self.place.at;
+        let event = &events[at];
+        self.place
+            .objects
+            .apply_touching(alloc, config, event, &mut self.touched)?;
+        self.slices.apply_touching(alloc, event, &mut self.touched)?;
+        self.place.at = at + 1;
+        Ok(())
     }
 }

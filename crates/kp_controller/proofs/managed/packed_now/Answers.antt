@@ -1,8 +1,8 @@
-use Rattle.std.proofs.Common.{map, filter, length, bytes_eq, ap, ◌∙◌, arith}
+use Rattle.std.proofs.Common.{map, filter, length, bytes_eq, ap, subst, ◌∙◌, arith}
 use Rattle.std.specs.FinMap as finite
 use Rattle.kp_base.specs.declared.address.Family.TheVariants.{V4}
 use Rattle.kp_object_defs.specs.Packing.{packed_slices}
-use Rattle.kp_object_defs.specs.PackingLaws.{are_taken, is_managed_for}
+use Rattle.kp_object_defs.specs.PackingLaws.{IsPackingOf, are_taken, is_managed_for}
 use Rattle.kp_controller.proofs.Narrowed.{narrowed, own_taken}
 use Rattle.kp_controller.proofs.managed.packed_now.Goals as goal
 
@@ -24,3 +24,11 @@ returns-clause-packed c =
     ∙ narrowed key own c.in_ok-wanted.wanted most all c.args.config.now.slice_from
     (omega (arith, ap length near, ap length c.as_slice.ensures, c.fits_memory.ensures)) (omega (arith, ap length c.as_slice-2.ensures, c.fits_memory-2.ensures))
     ∙ ap (λ wanted. packed_slices V4 key own wanted most (map (λ s. s.key.name) (filter (λ s. bytes_eq s.key.namespace key.namespace) all))) c.in_ok-wanted.ensures)
+
+pub returns-clause-packing : goal.returns-clause-packing
+returns-clause-packing c =
+    subst (λ wanted. IsPackingOf c.args.config.now.max_per_slice wanted c.in_ok-packed.packed.slices)
+    c.in_ok-wanted.ensures c.in_ok-packed.ensures.packing
+
+pub returns-clause-fits : goal.returns-clause-fits
+returns-clause-fits c = (c.in_ok-packed.ensures.next.managed, c.in_ok-packed.ensures.next.names)

@@ -1,4 +1,4 @@
--- They stand behind some of the syncs.
+-- They stand after some of the syncs.
 use Rattle.std.proofs.Common.{length, ◌-◌}
 use Rattle.kp_plane.specs.Invariant.{IsSlicesAt}
 use Rattle.kp_plane.proofs.slices_at.SlicesAt.caught_up.Given as goal
