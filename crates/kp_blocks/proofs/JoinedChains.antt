@@ -88,7 +88,7 @@ one_alone at a [] cs =
     either_way rs false = refl
 
 -- so a block has the same rules without such chains
-with_rules_alone : (at : ChainAt) (cs : List ChainText)
+pub with_rules_alone : (at : ChainAt) (cs : List ChainText)
     → block_rules at (filter has_rules cs) ≡ block_rules at cs
 with_rules_alone at [] = refl
 with_rules_alone at (c ∷ cs) =
