@@ -2,7 +2,7 @@
 -- blocks.
 use Rattle.std.proofs.Common.{◌≡◌, ◌&&◌, Bool, true, false, cond, List, [], ◌∷◌, ◌++◌, map}
 use Rattle.std.proofs.Common.{flat_map, Option, Some, is_some, refl, sym, ap, ◌∙◌}
-use Rattle.std.proofs.Common.{append-nil}
+use Rattle.std.proofs.Common.{append-nil, filter}
 use Rattle.std.specs.Ordering.{eq_by_cmp, is_lt}
 use Rattle.std.specs.FinMap.{entries, entries_sorted, find, from_entries, get, get-entries}
 use Rattle.std.specs.FinMap.{get-from_entries, is_sorted, values}
@@ -19,6 +19,7 @@ use Rattle.kp_types.specs.Places.{chain_cmp}
 use Rattle.kp_types.specs.Rules.{rule_of}
 use Rattle.kp_types.specs.Setting.{Setting}
 use Rattle.kp_types.specs.declared.rule.Target.TheVariants as target
+use Rattle.kp_types.specs.contracts.chain.ChainAtPartialEq.TheImpl as same
 use Rattle.kp_types.specs.declared.chain.ChainAt.{ChainAt}
 use Rattle.kp_types.specs.declared.rule.Rule.{Rule}
 use Rattle.kp_types.specs.declared.rule.ChainText.{ChainText}
@@ -27,8 +28,8 @@ use Rattle.kp_object_defs.specs.PortInfo.{PortInfo}
 use Rattle.kp_table_defs.specs.Layout as layout
 use Rattle.kp_table_laws.specs.Laws.{AreInOrder}
 use Rattle.kp_blocks.specs.Joined.{JoinedChainsAreTheTables, block_rules, blocks_by_port}
-use Rattle.kp_blocks.specs.Joined.{fixed_chains, port_block, rules_if_found}
-use Rattle.kp_blocks.specs.Joined.{with_rules}
+use Rattle.kp_blocks.specs.Joined.{fixed_chains, has_rules, port_block, port_texts, rules_at}
+use Rattle.kp_blocks.specs.Joined.{rules_if_found, with_rules}
 
 abbrev Row : Type 0
 Row = ChainAt × List Rule
@@ -73,18 +74,40 @@ module _ (at : ChainAt) (mine : List Rule) where
 
 -- ---- The rules of ports in a chain
 
+-- a chain without rules adds none
+one_alone : (at : ChainAt) (a : ChainAt) (rules : List Rule) (cs : List ChainText)
+    → block_rules at (cond (has_rules (record { at = a; rules = rules }))
+    (record { at = a; rules = rules } ∷ cs) cs)
+    ≡ rules_at at (record { at = a; rules = rules }) ++ block_rules at cs
+one_alone at a (r ∷ rs) cs = refl
+one_alone at a [] cs =
+    ap (λ rs. rs ++ block_rules at cs) (either_way [] (same.ghosts.eq a at))
+  where
+    either_way : (rs : List Rule) (b : Bool) → rs ≡ cond b rs rs
+    either_way rs true = refl
+    either_way rs false = refl
+
+-- so a block has the same rules without such chains
+pub with_rules_alone : (at : ChainAt) (cs : List ChainText)
+    → block_rules at (filter has_rules cs) ≡ block_rules at cs
+with_rules_alone at [] = refl
+with_rules_alone at (c ∷ cs) =
+    one_alone at c.at c.rules (filter has_rules cs)
+    ∙ ap (λ rs. rules_at at c ++ rs) (with_rules_alone at cs)
+
 module _ (setting : Setting) (infos : List PortInfo) where
   abbrev blocks : List (List ChainText)
   blocks = map (port_block setting) infos
 
   -- those in order of the ports
   rules_of : (at : ChainAt) (g : PortInfo → List Rule)
-      → ((i : PortInfo) → block_rules at (port_block setting i) ≡ g i ++ [])
+      → ((i : PortInfo) → block_rules at (port_texts setting i) ≡ g i ++ [])
       → (is : List PortInfo)
       → flat_map (block_rules at) (map (port_block setting) is) ≡ flat_map g is
   rules_of at g each [] = refl
   rules_of at g each (i ∷ is) =
-      λ k. (each i ∙ append-nil (g i)) k ++ rules_of at g each is k
+      λ k. (with_rules_alone at (port_texts setting i) ∙ each i ∙ append-nil (g i)) k
+      ++ rules_of at g each is k
 
   -- a port without rules
   abbrev nothing : PortInfo → List Rule
@@ -100,7 +123,7 @@ module _ (setting : Setting) (infos : List PortInfo) where
     mine = flat_map (block_rules at) blocks
 
     -- a row without rules of ports
-    plain : (r : Row) → ((i : PortInfo) → block_rules r.0 (port_block setting i) ≡ [])
+    plain : (r : Row) → ((i : PortInfo) → block_rules r.0 (port_texts setting i) ≡ [])
         → with_rules r.1 [] ≡ r.1 → RowFits at mine r r
     plain r none whole = (
       refl,
@@ -112,7 +135,7 @@ module _ (setting : Setting) (infos : List PortInfo) where
 
     -- a row with rules of ports
     shared : (place : ChainAt) (fixed rules : List Rule) (g : PortInfo → List Rule)
-        → ((i : PortInfo) → block_rules place (port_block setting i) ≡ g i ++ [])
+        → ((i : PortInfo) → block_rules place (port_texts setting i) ≡ g i ++ [])
         → with_rules fixed (flat_map g infos) ≡ rules
         → RowFits at mine (place, fixed) (place, rules)
     shared place fixed rules g each whole = (

@@ -1,10 +1,11 @@
 -- Blocks of rules by port, and the chains that are joined from them between the fixed rules.
 use Rattle.std.specs.Prelude.{◌≡◌, ℕ, ◌-◌, Bool, true, false, cond, bytes_eq, List, [], ◌∷◌, ◌++◌}
-use Rattle.std.specs.Prelude.{map, take, drop, length, slice_get, Option, Some, None, is_some}
+use Rattle.std.specs.Prelude.{map, take, drop, length, slice_get, Option, Some, None, is_some, not}
 use Rattle.std.specs.Coded.{Coded, coded_list}
-use Rattle.std.specs.List.{flat_map}
+use Rattle.std.specs.List.{filter, flat_map}
 use Rattle.std.specs.FinMap as finite
 use Rattle.std.specs.Ordering.{eq_by_cmp}
+use Rattle.kp_lemmas.specs.Lists.{is_empty}
 use Rattle.kp_base.specs.Keys.{key_cmp, port_key_cmp}
 use Rattle.kp_base.specs.contracts.key.PortKey as key_row
 use Rattle.kp_base.specs.declared.address.Family.{Family}
@@ -108,9 +109,9 @@ joined_rules family blocks at =
 abbrev pub text_of : ChainAt × List Rule → ChainText
 text_of row = record { at = row.0; rules = row.1 }
 
--- a port's rules in each shared chain
-abbrev pub port_block : Setting → PortInfo → List ChainText
-port_block setting i =
+-- a port's rules in each shared chain, also where it has none
+abbrev pub port_texts : Setting → PortInfo → List ChainText
+port_texts setting i =
     map text_of (
     layout.row (layout.nat_table setting.family) layout.kube_services
     (layout.service_block setting i)
@@ -122,6 +123,14 @@ port_block setting i =
     (layout.external_block setting.family i)
     ∷ layout.row (layout.filter_table setting.family) layout.kube_services (layout.refusal_block i)
     ∷ [])
+
+-- whether a chain has rules
+abbrev pub has_rules : ChainText → Bool
+has_rules c = not (is_empty c.rules)
+
+-- a port's rules in each shared chain where it has some
+abbrev pub port_block : Setting → PortInfo → List ChainText
+port_block setting i = filter has_rules (port_texts setting i)
 
 -- the blocks of ports, by their names
 abbrev pub blocks_by_port : Setting → List PortInfo → BlocksByPort

@@ -18,7 +18,8 @@ use Rattle.kp_choice_defs.specs.Settings.{setting_of}
 use Rattle.kp_object_defs.specs.PortInfo.{PortInfo}
 use Rattle.kp_table_defs.specs.Layout as layout
 use Rattle.kp_chains.specs.declared.blocks.Blocks.{Blocks}
-use Rattle.kp_blocks.specs.Joined.{block_rules, port_block}
+use Rattle.kp_blocks.specs.Joined.{block_rules, port_block, port_texts}
+use Rattle.kp_blocks.proofs.JoinedChains.{with_rules_alone}
 use Rattle.kp_writer.specs.Shared.{Change, blocks_if, touched_by, untouched}
 use Rattle.kp_writer.specs.declared.shared.Touched.{Touched}
 use Rattle.kp_writer.proofs.SharedPlaces.{shared_flags, untouched_by}
@@ -34,11 +35,13 @@ module _ (config : Config) where
 
   -- a shared chain's rules are a field of the port's blocks
   in_field : (q : ChainAt) (field : Blocks → List Rule)
-      → ((i : PortInfo) → rules_in q i ≡ field (blocks_if s (Some i)) ++ [])
+      → ((i : PortInfo)
+      → block_rules q (port_texts s i) ≡ field (blocks_if s (Some i)) ++ [])
       → field (blocks_if s None) ≡ []
       → (o : Option PortInfo) → rules_if (rules_in q) o ≡ field (blocks_if s o)
   in_field q field each none None = sym none
-  in_field q field each none (Some i) = each i ∙ append-nil (field (blocks_if s (Some i)))
+  in_field q field each none (Some i) =
+      with_rules_alone q (port_texts s i) ∙ each i ∙ append-nil (field (blocks_if s (Some i)))
 
   module _ (changes : List Change) (c : Change) (within : Contains changes c) (q : ChainAt) where
     -- the rules of a port are the same before and after
@@ -86,12 +89,12 @@ module _ (config : Config) where
         → (o : Option PortInfo) → rules_if (rules_in q) o ≡ []
     nothing a b d e f None = refl
     nothing a b d e f (Some i) =
-        λ n.
-        cond (apart_from services a n) (layout.service_block s i) []
+        with_rules_alone q (port_texts s i)
+        ∙ (λ n. cond (apart_from services a n) (layout.service_block s i) []
         ++ (cond (apart_from node_ports b n) (layout.node_port_block s i) []
         ++ (cond (apart_from firewall d n) (layout.firewall_block i) []
         ++ (cond (apart_from external e n) (layout.external_block V4 i) []
-        ++ (cond (apart_from refusals f n) (layout.refusal_block i) [] ++ []))))
+        ++ (cond (apart_from refusals f n) (layout.refusal_block i) [] ++ [])))))
 
     -- where the shared chains at the place aren't touched, they are
     pub same_in : AllByRecursion (λ d. q ≡ d.0 → d.1 ≡ false) (shared_flags (touched_by s changes))

@@ -1,9 +1,9 @@
 -- Which shared chains are joined: those where the rules of a changed port differ.
 use Rattle.std.specs.Prelude.{ℕ, ◌+◌, ◌||◌, Bool, true, false, List, [], ◌∷◌, Option, Some, None, not}
-use Rattle.std.specs.Prelude.{slice_get}
-use Rattle.std.specs.List.{fold}
+use Rattle.std.specs.List.{find, fold}
 use Rattle.kp_base.specs.declared.address.Family.TheVariants.{V4}
 use Rattle.kp_types.specs.Setting.{Setting}
+use Rattle.kp_types.specs.contracts.chain.ChainAtPartialEq.TheImpl as same
 use Rattle.kp_types.specs.declared.chain.ChainAt.{ChainAt}
 use Rattle.kp_types.specs.declared.chain.TableName.TheVariants.{Nat, Filter}
 use Rattle.kp_types.specs.declared.rule.ChainText.{ChainText}
@@ -43,18 +43,22 @@ abbrev pub rules_found : Option ChainText → List Rule
 rules_found None = []
 rules_found (Some c) = c.rules
 
--- the rules of a block's chain at a place, from 0
-abbrev pub chain_rules : Block → ℕ → List Rule
-chain_rules block place = rules_found (slice_get block place)
+-- whether a chain stands at a place
+abbrev pub stands_at : ChainAt → ChainText → Bool
+stands_at at c = same.ghosts.eq c.at at
 
--- a block's rules in each shared chain: its chains stand in the order of `port_block`
+-- the rules that a block has in a chain
+abbrev pub chain_rules : ChainAt → Block → List Rule
+chain_rules at block = rules_found (find (stands_at at) block)
+
+-- and those that it has in each shared chain
 abbrev pub blocks_in : Block → Blocks
 blocks_in block = record {
-  services = chain_rules block 0;
-  node_ports = chain_rules block 1;
-  firewall = chain_rules block 2;
-  external = chain_rules block 3;
-  refusals = chain_rules block 4;
+  services = chain_rules (record { table = Nat; chain = layout.kube_services }) block;
+  node_ports = chain_rules (record { table = Nat; chain = layout.kube_node_ports }) block;
+  firewall = chain_rules (record { table = Filter; chain = layout.kube_proxy_firewall }) block;
+  external = chain_rules (record { table = Filter; chain = layout.kube_external_services }) block;
+  refusals = chain_rules (record { table = Filter; chain = layout.kube_services }) block;
 }
 
 -- whether the rules of a chain differ

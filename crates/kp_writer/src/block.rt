@@ -1,19 +1,20 @@
 //! What a port has in the shared chains.
 ghost use Rattle.std.specs.Prelude.{◌≡◌, ◌++◌, ◌∷◌, [], true, IfOk, OnOk};
+ghost use Rattle.std.specs.List.{filter};
 ghost use Rattle.kp_base.specs.declared.address.Family.TheVariants.{V4};
 ghost use Rattle.kp_choice_defs.specs.Settings.{setting_of};
 ghost use Rattle.kp_types.specs.Chains.{is_chain_name};
 ghost use Rattle.kp_types.specs.declared.chain.TableName.TheVariants.{Filter};
 ghost use Rattle.kp_table_defs.specs.Layout as layout;
-ghost use Rattle.kp_blocks.specs.Joined.{port_block, text_of};
+ghost use Rattle.kp_blocks.specs.Joined.{has_rules, port_block, text_of};
 
 use kp_base::{Config, Items, NoMemory};
 use kp_chains::info_blocks;
 use kp_types::{ChainAt, ChainName, ChainText, PortInfo, Rule, TableName};
 use std::alloc::Global;
 
-/// A port's rules in each shared chain. They get no more memory than they take, since those of all
-/// ports are kept.
+/// A port's rules in each shared chain where it has some. They get no more memory than they take,
+/// since those of all ports are kept, and most ports have rules in one.
 pub fn block_of(
     alloc: Global,
     config: &Config,
@@ -22,7 +23,7 @@ pub fn block_of(
     ensures { IfOk result (λ block. block ≡ port_block (setting_of V4 config.now) info.now) }
 {
     let blocks = info_blocks(alloc, config, info)?;
-    let mut block = Vec::with_capacity(alloc, 5)?;
+    let mut block = Vec::with_capacity(alloc, 1)?;
     add(&mut block, TableName::Nat, "KUBE-SERVICES", blocks.services)?;
     add(
         &mut block,
@@ -36,6 +37,7 @@ pub fn block_of(
         blocks.external,
         blocks.refusals,
     )?;
+    block.shrink_to_fit();
     Ok(Items::from_vec(block))
 }
 
@@ -47,7 +49,7 @@ fn add_filter(
     refusals: Items<Rule>,
 ) -> Result<(), NoMemory>
     ensures { OnOk result (block.new.items ≡ block.old.items
-        ++ (text_of (layout.row Filter layout.kube_proxy_firewall firewall)
+        ++ filter has_rules (text_of (layout.row Filter layout.kube_proxy_firewall firewall)
         ∷ text_of (layout.row Filter layout.kube_external_services external)
         ∷ text_of (layout.row Filter layout.kube_services refusals) ∷ [])) }
 {
@@ -57,7 +59,7 @@ fn add_filter(
     Ok(())
 }
 
-/// Adds the rules of one chain.
+/// Adds the rules of one chain, where there are some.
 fn add(
     block: &mut Vec<ChainText>,
     table: TableName,
@@ -66,8 +68,11 @@ fn add(
 ) -> Result<(), NoMemory>
     requires { is_chain_name chain.now ≡ true }
     ensures { OnOk result (block.new.items
-        ≡ block.old.items ++ text_of (layout.row table chain.now rules) ∷ []) }
+        ≡ block.old.items ++ filter has_rules (text_of (layout.row table chain.now rules) ∷ [])) }
 {
+    if rules.as_slice().is_empty() {
+        return Ok(());
+    }
     let chain = ChainName::new(chain);
     let mut rules = rules.into_vec();
     rules.shrink_to_fit();

@@ -129,7 +129,7 @@ fn edits_at(
         ≡ spec.edits_at table.now.chains places.now.entries) }
     ensures in_order { IsOrdered order.ghosts.cmp places.now }
 {
-    let mut edits = Vec::new(alloc);
+    let mut edits = Vec::with_capacity(alloc, places.len())?;
     add_edits(alloc, table, places, TableName::Nat, &mut edits)?;
     add_edits(alloc, table, places, TableName::Filter, &mut edits)?;
     Ok(Batch {

@@ -1,10 +1,12 @@
 //! Which shared chains are touched by changed ports.
-ghost use Rattle.std.specs.Prelude.{◌≡◌, ◌+◌, ◌≤◌, [], map, IfOk, OnOk, OnErr};
+ghost use Rattle.std.specs.Prelude.{◌≡◌, ◌+◌, ◌≤◌, [], true, map, IfOk, OnOk, OnErr};
 ghost use Rattle.std.specs.FinMap as finite;
+ghost use Rattle.std.specs.List.{find};
 ghost use Rattle.std.specs.Option.{option_copied};
 ghost use Rattle.kp_base.specs.Keys.{port_key_cmp};
 ghost use Rattle.kp_base.specs.declared.address.Family.TheVariants.{V4};
 ghost use Rattle.kp_choice_defs.specs.Settings.{setting_of};
+ghost use Rattle.kp_types.specs.Chains.{is_chain_name};
 ghost use Rattle.kp_full_table.specs.Parts.{block_count};
 ghost use Rattle.kp_tracker.specs.Tracked as tracked;
 ghost use Rattle.kp_writer.specs.Shared as spec;
@@ -14,7 +16,7 @@ use crate::known::Known;
 use kp_base::{Config, Items, NoMemory, PortKey, Steps};
 use kp_chains::{Blocks, count_chains, count_rules, info_blocks};
 use kp_tracker::Tracker;
-use kp_types::{ChainText, Rule};
+use kp_types::{ChainAt, ChainName, ChainText, Rule, TableName};
 use std::alloc::Global;
 use std::sync::ledger::Ledger;
 
@@ -89,23 +91,46 @@ fn block_kept<'a>(blocks: &'a kp_blocks::Blocks, port: &PortKey) -> &'a [ChainTe
 fn touch(touched: Touched, before: &Blocks, after: &[ChainText]) -> Touched
     ensures { result ≡ spec.touch touched before.now (spec.blocks_in after.now) }
 {
+    let (nat, filter) = (TableName::Nat, TableName::Filter);
     Touched {
-        services: touched.services || differ(&before.services, chain_rules(after, 0)),
-        node_ports: touched.node_ports || differ(&before.node_ports, chain_rules(after, 1)),
-        firewall: touched.firewall || differ(&before.firewall, chain_rules(after, 2)),
-        external: touched.external || differ(&before.external, chain_rules(after, 3)),
-        refusals: touched.refusals || differ(&before.refusals, chain_rules(after, 4)),
+        services: touched.services || differs(&before.services, after, nat, "KUBE-SERVICES"),
+        node_ports: touched.node_ports || differs(&before.node_ports, after, nat, "KUBE-NODEPORTS"),
+        firewall: touched.firewall
+            || differs(&before.firewall, after, filter, "KUBE-PROXY-FIREWALL"),
+        external: touched.external
+            || differs(&before.external, after, filter, "KUBE-EXTERNAL-SERVICES"),
+        refusals: touched.refusals || differs(&before.refusals, after, filter, "KUBE-SERVICES"),
     }
 }
 
-/// The rules of a block's chain at a place, from 0.
-fn chain_rules(block: &[ChainText], place: usize) -> &[Rule]
-    ensures { result.now ≡ spec.chain_rules block.now place }
+/// Whether rules differ from those that a block has in a chain.
+fn differs(before: &Items<Rule>, block: &[ChainText], table: TableName, chain: &str) -> bool
+    requires { is_chain_name chain.now ≡ true }
+    ensures { result ≡ spec.differ before.now
+        (spec.chain_rules (record { table = table; chain = chain.now }) block.now) }
 {
-    match block.get(place) {
+    let at = ChainAt {
+        table,
+        chain: ChainName::new(chain),
+    };
+    differ(before, chain_rules(block, &at))
+}
+
+/// The rules that a block has in a chain.
+fn chain_rules<'a>(block: &'a [ChainText], at: &ChainAt) -> &'a [Rule]
+    ensures { result.now ≡ spec.chain_rules at.now block.now }
+{
+    match chain_at(block, at) {
         None => &[],
         Some(chain) => chain.rules.as_slice(),
     }
+}
+
+/// The chain at a place that a block has rules in, if it has some there.
+fn chain_at<'a>(block: &'a [ChainText], at: &ChainAt) -> Option<&'a ChainText>
+    ensures { option_copied result ≡ find (spec.stands_at at.now) block.now }
+{
+    block.iter().find(|chain| chain.at == *at)
 }
 
 /// Whether rules differ.
