@@ -5,7 +5,6 @@ use Rattle.std.specs.List.{find}
 use Rattle.kp_base.specs.declared.address.Family.TheVariants.{V4}
 use Rattle.kp_base.specs.declared.config.Config.{Config}
 use Rattle.kp_types.specs.declared.chain.ChainAt.{ChainAt}
-use Rattle.kp_types.specs.declared.chain.TableName.TheVariants.{Nat, Filter}
 use Rattle.kp_types.specs.declared.rule.ChainText.{ChainText}
 use Rattle.kp_types.specs.declared.rule.Rule.{Rule}
 use Rattle.kp_choice_defs.specs.Settings.{setting_of}
@@ -15,7 +14,7 @@ use Rattle.kp_chains.specs.Rows.{rows_of_texts, rule_count}
 use Rattle.kp_blocks.specs.Joined.{has_rules, port_block, port_texts, text_of}
 use Rattle.kp_full_table.specs.Parts.{block_count}
 use Rattle.kp_writer.specs.Shared.{block_found, blocks_if, blocks_in, chain_rules, rules_found}
-use Rattle.kp_writer.specs.Shared.{stands_at}
+use Rattle.kp_writer.specs.Shared.{external, firewall, node_ports, refusals, services, stands_at}
 
 -- ---- Chains without rules are left out
 
@@ -51,21 +50,6 @@ same_count (c ∷ cs) =
     omega (arith, one_count c.at c.rules (filter has_rules cs), same_count cs)
 
 -- ---- The shared chains
-
-abbrev services : ChainAt
-services = record { table = Nat; chain = layout.kube_services }
-
-abbrev node_ports : ChainAt
-node_ports = record { table = Nat; chain = layout.kube_node_ports }
-
-abbrev firewall : ChainAt
-firewall = record { table = Filter; chain = layout.kube_proxy_firewall }
-
-abbrev external : ChainAt
-external = record { table = Filter; chain = layout.kube_external_services }
-
-abbrev refusals : ChainAt
-refusals = record { table = Filter; chain = layout.kube_services }
 
 five : (a b c d e : List Rule)
     → blocks_in (filter has_rules (text_of (services, a) ∷ text_of (node_ports, b)

@@ -11,7 +11,6 @@ use Rattle.kp_types.specs.Places.{chain_cmp}
 use Rattle.kp_types.specs.Setting.{Setting}
 use Rattle.kp_types.specs.contracts.chain.ChainAtPartialEq.TheImpl as same
 use Rattle.kp_types.specs.declared.chain.ChainAt.{ChainAt}
-use Rattle.kp_types.specs.declared.chain.TableName.TheVariants.{Nat, Filter}
 use Rattle.kp_types.specs.declared.rule.Rule.{Rule}
 use Rattle.kp_types.proofs.ChainOrder.{chain_total, chain_exact, chain_ties}
 use Rattle.kp_choice_defs.specs.Settings.{setting_of}
@@ -20,7 +19,8 @@ use Rattle.kp_table_defs.specs.Layout as layout
 use Rattle.kp_chains.specs.declared.blocks.Blocks.{Blocks}
 use Rattle.kp_blocks.specs.Joined.{block_rules, port_block, port_texts}
 use Rattle.kp_blocks.proofs.JoinedChains.{with_rules_alone}
-use Rattle.kp_writer.specs.Shared.{Change, blocks_if, touched_by, untouched}
+use Rattle.kp_writer.specs.Shared.{Change, blocks_if, external, firewall, node_ports, refusals}
+use Rattle.kp_writer.specs.Shared.{services, touched_by, untouched}
 use Rattle.kp_writer.specs.declared.shared.Touched.{Touched}
 use Rattle.kp_writer.proofs.SharedPlaces.{shared_flags, untouched_by}
 use Rattle.kp_writer.proofs.SharedRules.{rules_if}
@@ -56,22 +56,6 @@ module _ (config : Config) where
         ap (λ p. rules_if (rules_in p) c.0) same
         ∙ is c.0 ∙ told off ∙ sym (is c.1)
         ∙ ap (λ p. rules_if (rules_in p) c.1) (sym same)
-
-    -- the shared chains
-    abbrev services : ChainAt
-    services = record { table = Nat; chain = layout.kube_services }
-
-    abbrev node_ports : ChainAt
-    node_ports = record { table = Nat; chain = layout.kube_node_ports }
-
-    abbrev firewall : ChainAt
-    firewall = record { table = Filter; chain = layout.kube_proxy_firewall }
-
-    abbrev external : ChainAt
-    external = record { table = Filter; chain = layout.kube_external_services }
-
-    abbrev refusals : ChainAt
-    refusals = record { table = Filter; chain = layout.kube_services }
 
     -- whether the place is another one
     abbrev Other : ChainAt → Type 0

@@ -51,14 +51,30 @@ stands_at at c = same.ghosts.eq c.at at
 abbrev pub chain_rules : ChainAt → Block → List Rule
 chain_rules at block = rules_found (find (stands_at at) block)
 
--- and those that it has in each shared chain
+-- the shared chains
+abbrev pub services : ChainAt
+services = record { table = Nat; chain = layout.kube_services }
+
+abbrev pub node_ports : ChainAt
+node_ports = record { table = Nat; chain = layout.kube_node_ports }
+
+abbrev pub firewall : ChainAt
+firewall = record { table = Filter; chain = layout.kube_proxy_firewall }
+
+abbrev pub external : ChainAt
+external = record { table = Filter; chain = layout.kube_external_services }
+
+abbrev pub refusals : ChainAt
+refusals = record { table = Filter; chain = layout.kube_services }
+
+-- the rules that a block has in each of them
 abbrev pub blocks_in : Block → Blocks
 blocks_in block = record {
-  services = chain_rules (record { table = Nat; chain = layout.kube_services }) block;
-  node_ports = chain_rules (record { table = Nat; chain = layout.kube_node_ports }) block;
-  firewall = chain_rules (record { table = Filter; chain = layout.kube_proxy_firewall }) block;
-  external = chain_rules (record { table = Filter; chain = layout.kube_external_services }) block;
-  refusals = chain_rules (record { table = Filter; chain = layout.kube_services }) block;
+  services = chain_rules services block;
+  node_ports = chain_rules node_ports block;
+  firewall = chain_rules firewall block;
+  external = chain_rules external block;
+  refusals = chain_rules refusals block;
 }
 
 -- whether the rules of a chain differ
@@ -112,8 +128,7 @@ with_shared blocks t n =
     (join_if blocks
     (join_if blocks
     (join_if blocks
-    (join_if blocks n t.services (record { table = Nat; chain = layout.kube_services }))
-    t.node_ports (record { table = Nat; chain = layout.kube_node_ports }))
-    t.firewall (record { table = Filter; chain = layout.kube_proxy_firewall }))
-    t.external (record { table = Filter; chain = layout.kube_external_services }))
-    t.refusals (record { table = Filter; chain = layout.kube_services })
+    (join_if blocks n t.services services) t.node_ports node_ports)
+    t.firewall firewall)
+    t.external external)
+    t.refusals refusals

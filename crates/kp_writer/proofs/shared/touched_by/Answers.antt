@@ -37,7 +37,8 @@ loop-key-preserved g c =
     ) in
     let before = c.in_ok-before.ensures.blocks ∙ ap (spec.blocks_if s) c.published.ensures in
     let found = get (newest port_key_cmp c.args.ports.now) c.key-item.result.now in
-    let kept = c.block_kept-after.ensures ∙ ap spec.block_found (c.requires c.key-item.result.now) in
+    let kept = c.block_kept-after.ensures
+    ∙ ap spec.block_found (c.requires c.key-item.result.now) in
     let after = ap spec.blocks_in kept ∙ kept_blocks c.args.config.now found in
     record {
       touched = fold_next show c.args.keys.now c.loop-key.key-index c.key-item.result
