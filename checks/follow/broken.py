@@ -14,8 +14,7 @@ import sys
 
 from follow import Program, changes_of, fault_of, is_sync, worked_scripts
 
-# an event that changes nothing: what is overlooked isn't told by the number of events alone
-INSTEAD = {"apiVersion": "v1", "kind": "Node", "metadata": {"name": "nowhere"}}
+EVENTS = re.compile(r"(?<=: events )\d+")
 
 
 class Broken(Program):
@@ -29,9 +28,14 @@ class Broken(Program):
         self.given, self.printed = given, printed
 
     def run(self, values):
+        text = self.right(values)
         if sum(map(is_sync, values)) < 2:
-            return self.right(values)
-        text = self.right(self.given(self, values) if self.given else values)
+            return text
+        if self.given:
+            counts = iter(EVENTS.findall(text))
+            text = self.right(self.given(self, values))
+            # what is overlooked isn't told by the number of events alone
+            text = EVENTS.sub(lambda at: next(counts, at[0]), text)
         return self.printed(text) if self.printed else text
 
     def right(self, values):
@@ -45,15 +49,6 @@ class Broken(Program):
 # ---- what is overlooked
 
 
-def without(value, is_lost):
-    """A line with an event that changes nothing in place of each that is lost."""
-    events = [(key[0], item) for key, item in changes_of(value)]
-    if not any(is_lost(*event) for event in events):
-        return value
-    kept = [INSTEAD if is_lost(*event) else event[1] for event in events]
-    return {"apiVersion": "v1", "kind": "List", "items": kept}
-
-
 def loses(is_lost):
     """Loses such events after the first sync, by kind and object, which is none where it goes."""
 
@@ -65,16 +60,13 @@ def loses(is_lost):
     return given
 
 
-def loses_refused(program, values):
-    """Loses what came before a refused sync."""
-    said = program.right(values)
-    refused = set(re.findall(r"^line (\d+): refused: chain name ", said, re.M))
-    kept, start = list(values), 0
-    for end in (i for i, value in enumerate(values) if is_sync(value)):
-        if str(end + 1) in refused:
-            kept[start:end] = [without(value, lambda *_: True) for value in values[start:end]]
-        start = end
-    return kept
+def without(value, is_lost):
+    """A line without the events that are lost."""
+    events = [(key[0], item) for key, item in changes_of(value)]
+    if not any(is_lost(*event) for event in events):
+        return value
+    kept = [item for kind, item in events if not is_lost(kind, item)]
+    return {"apiVersion": "v1", "kind": "List", "items": kept}
 
 
 def takes_first(program, values):
@@ -88,18 +80,34 @@ def takes_first(program, values):
     return kept
 
 
+def loses_refused(program, values):
+    """Loses what came before the first refused sync and after the last accepted one."""
+    refused = re.search(r"^line (\d+): refused: chain name ", program.right(values), re.M)
+    if not refused:
+        return values
+    objects, covered, end = {}, {}, int(refused[1])
+    for value in values[:end]:
+        covered = dict(objects) if is_sync(value) and value is not values[end - 1] else covered
+        for key, item in changes_of(value):
+            objects[key] = item
+    back = [(objects[key] or covered[key], covered.get(key)) for key in objects]
+    back = [item or {"type": "DELETED", "object": gone} for gone, item in back if gone]
+    return values[:end] + back + values[end:]
+
+
 # what is overlooked, and how it is told
+DIFFERS = "(nat|filter|slices|endpoints): "
 GIVEN = {
-    "a Service that goes": (loses(lambda kind, it: kind == "Service" and not it), "sync"),
-    "a slice that goes": (loses(lambda kind, it: kind == "EndpointSlice" and not it), "sync"),
-    "a pod that goes": (loses(lambda kind, it: kind == "Pod" and not it), "sync"),
-    "a node that goes": (loses(lambda kind, it: kind == "Node" and not it), "sync|endpoints"),
-    "another Service": (loses(lambda kind, it: kind == "Service" and it), "sync"),
-    "another slice": (loses(lambda kind, it: kind == "EndpointSlice" and it), "sync"),
-    "another pod": (loses(lambda kind, it: kind == "Pod" and it), "sync"),
-    "another node": (loses(lambda kind, it: kind == "Node" and it), "sync|endpoints"),
-    "what a refused sync covers": (loses_refused, "nat"),
-    "an object's second event": (takes_first, "sync"),
+    "a Service that goes": (loses(lambda kind, it: kind == "Service" and not it), DIFFERS),
+    "a slice that goes": (loses(lambda kind, it: kind == "EndpointSlice" and not it), DIFFERS),
+    "a pod that goes": (loses(lambda kind, it: kind == "Pod" and not it), DIFFERS),
+    "a node that goes": (loses(lambda kind, it: kind == "Node" and not it), DIFFERS),
+    "another Service": (loses(lambda kind, it: kind == "Service" and it), DIFFERS),
+    "another slice": (loses(lambda kind, it: kind == "EndpointSlice" and it), DIFFERS),
+    "another pod": (loses(lambda kind, it: kind == "Pod" and it), DIFFERS),
+    "another node": (loses(lambda kind, it: kind == "Node" and it), DIFFERS),
+    "an object's second event": (takes_first, DIFFERS),
+    "what a refused sync covers": (loses_refused, DIFFERS),
 }
 
 
@@ -144,7 +152,7 @@ PRINTED = {
 
 def main(path):
     """Tells the programs that aren't told, and a right one that is."""
-    scripts = [values for _, values in worked_scripts()]
+    scripts = [[it for it in values if it.get("op") != "show"] for _, values in worked_scripts()]
     wrong = [f"the program itself: {it}" for it in faults(Broken(path), scripts) if it]
     for name, (given, how) in GIVEN.items():
         found = faults(Broken(path, given=given), scripts)

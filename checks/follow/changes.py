@@ -20,8 +20,8 @@ COUNTS = [0, 1, 1, 1, 1, 1, 2, 2, 3, 8]
 
 # What the members of an object may be. Of None there is no such member.
 SERVICE = {
-    "spec.type": ["ClusterIP", "NodePort", "LoadBalancer", "LoadBalancer", "ExternalName"],
-    "spec.internalTrafficPolicy": [None, "Cluster", "Local"],
+    "spec.type": ["ClusterIP", *["NodePort"] * 3, *["LoadBalancer"] * 4, "ExternalName"],
+    "spec.internalTrafficPolicy": [None, None, "Cluster", "Cluster", "Local"],
     "spec.externalTrafficPolicy": [None, "Cluster", "Local", "Local"],
     "spec.externalIPs": [None, ["203.0.113.5"], ["203.0.113.6", "203.0.113.5"], ["2001:db8::5"]],
     "spec.loadBalancerSourceRanges": [
@@ -53,33 +53,33 @@ PORT = {
     "nodePort": [None, *range(30000, 30060)],
 }
 SLICE = {
-    "addressType": ["IPv4"] * 5 + ["IPv6", "FQDN"],
+    "addressType": ["IPv4"] * 12 + ["IPv6", "FQDN"],
     "ports": [
         [{"name": name, "port": 8080 + step} for name in PORT["name"][:count]]
-        for step, count in [(0, 4), (0, 4), (1, 4), (0, 2), (0, 0)]
+        for step, count in [*[(0, 4)] * 6, (1, 4), (0, 2), (0, 0)]
     ],
 }
 ENDPOINT = {
     "nodeName": [None, *NODES],
     "zone": [None, *ZONES],
-    "hints": [None, None, *({"forZones": [{"name": zone}]} for zone in ZONES)],
+    "hints": [*[None] * 4, *({"forZones": [{"name": zone}]} for zone in ZONES)],
     "conditions": [
-        None,
-        {"ready": True},
+        *[None] * 4,
+        *[{"ready": True}] * 4,
         {"ready": False},
         {"ready": False, "serving": True, "terminating": True},
         {"ready": False, "serving": False, "terminating": True},
     ],
 }
 POD = {
-    "metadata.deletionTimestamp": [None, None, "2026-03-02T09:00:00Z"],
-    "spec.nodeName": [*NODES, "n9"],
+    "metadata.deletionTimestamp": [*[None] * 6, "2026-03-02T09:00:00Z"],
+    "spec.nodeName": [*NODES, *NODES, "n9"],
     "spec.containers": [
         [{"name": "main", "ports": [{"name": name, "containerPort": number, "protocol": proto}]}]
         for name, number, proto in (("http", 8080, "TCP"), ("http", 90, "TCP"), ("web", 80, "UDP"))
     ],
-    "status.phase": ["Running", "Running", "Running", "Succeeded", "Pending"],
-    "status.conditions": [[{"type": "Ready", "status": it}] for it in ("True", "True", "False")],
+    "status.phase": ["Running"] * 8 + ["Succeeded", "Pending"],
+    "status.conditions": [[{"type": "Ready", "status": it}] for it in ["True"] * 4 + ["False"]],
 }
 NODE = {"metadata.labels": [{}, *({ZONE: zone} for zone in ZONES)]}
 
@@ -94,7 +94,7 @@ def random_script(seed, syncs):
         lines += cluster.put(made("Node", name, NODE, rng))
     for _ in range(services):
         lines += made_service(cluster, rng)
-    for _ in range(services * 3):
+    for _ in range(services * 5):
         lines += (made_pod if cluster.controller else more_endpoints)(cluster, rng)
     for sync in range(syncs):
         for _ in range(rng.choice(COUNTS) if sync else 0):
@@ -138,6 +138,11 @@ class Cluster:
             self.objects.pop((item["kind"], item["metadata"]["name"]), None)
         return [{"type": "DELETED", "object": copy.deepcopy(item)} for item in items]
 
+    def named(self, kind, name):
+        """A copy of the object of this name, in a list that is empty where there is none."""
+        found = self.objects.get((kind, name))
+        return [copy.deepcopy(found)] if found else []
+
     def some(self, kind, count=1):
         """Copies of so many of the objects of a kind, or of all where there are fewer."""
         items = [item for key, item in self.objects.items() if key[0] == kind]
@@ -176,8 +181,8 @@ def service_choices(name):
     """A Service has its own cluster address, mostly, and selects its own pods."""
     own = f"10.96.0.{int(name[1:]) + 10}"
     return SERVICE | {
-        "spec.clusterIP": [own, own, own, "None", "10.96.0.200"],
-        "spec.selector": [{"app": name}, {"app": name}, {"app": name, "tier": "a"}, None],
+        "spec.clusterIP": [*[own] * 8, "None", "10.96.0.200"],
+        "spec.selector": [*[{"app": name}] * 4, {"app": name, "tier": "a"}, None],
     }
 
 
@@ -186,7 +191,7 @@ def made_service(cluster, rng):
     name = rng.choice(cluster.names)
     service = made("Service", name, service_choices(name), rng)
     service["spec"]["ports"] = []
-    for _ in range(rng.choice([1, 1, 2, 3])):
+    for _ in range(rng.choice([1, 2, 3])):
         more_ports(service["spec"]["ports"], rng)
     return cluster.put(service)
 
@@ -208,7 +213,7 @@ def changed_ports(cluster, rng):
 
 
 def deleted_service(cluster, rng):
-    return cluster.drop(*cluster.some("Service"))
+    return cluster.drop(*cluster.named("Service", rng.choice(cluster.names)))
 
 
 def service_made_again(cluster, rng):
@@ -274,17 +279,21 @@ def are_distinct(ports):
 def slice_choices(name):
     """A slice is mostly of the Service that it is named after."""
     own = name.partition("-")[0]
-    labels = [{OF_SERVICE: own}] * 4 + [{OF_SERVICE: "s0"}, {OF_SERVICE: own, MANAGER: CONTROLLER}]
-    return SLICE | {"metadata.labels": labels}
+    labels = [{OF_SERVICE: "s0"}, {OF_SERVICE: own, MANAGER: CONTROLLER}]
+    return SLICE | {"metadata.labels": [{OF_SERVICE: own}] * 8 + labels}
+
+
+def slice_name(cluster, rng):
+    return f"{rng.choice(cluster.names)}-{rng.choice('xxy')}"
 
 
 def more_endpoints(cluster, rng):
     """An endpoint comes to a slice that was there or is new."""
-    name = f"{rng.choice(cluster.names)}-{rng.choice('xxy')}"
-    found = cluster.objects.get(("EndpointSlice", name))
-    slices = copy.deepcopy(found) or made("EndpointSlice", name, slice_choices(name), rng)
-    slices.setdefault("endpoints", []).append(endpoint(name, rng))
-    return cluster.put(slices)
+    name = slice_name(cluster, rng)
+    found = cluster.named("EndpointSlice", name)
+    slices = found or [made("EndpointSlice", name, slice_choices(name), rng) | {"endpoints": []}]
+    slices[0]["endpoints"].append(endpoint(name, rng))
+    return cluster.put(*slices)
 
 
 def endpoint(name, rng):
@@ -299,6 +308,16 @@ def changed_endpoint(cluster, rng):
     slices = cluster.some("EndpointSlice")
     for endpoints in [it["endpoints"] for it in slices if it["endpoints"]]:
         change_one(rng.choice(endpoints), ENDPOINT, rng)
+    return cluster.put(*slices)
+
+
+def changed_hints(cluster, rng):
+    """All endpoints of a slice get hints for their own zones, or lose theirs."""
+    slices = cluster.some("EndpointSlice")
+    lost = rng.random() < 0.3
+    for it in (it for found in slices for it in found["endpoints"]):
+        it.pop("hints", None)
+        it |= {} if lost else {"hints": {"forZones": [{"name": it.get("zone", "a")}]}}
     return cluster.put(*slices)
 
 
@@ -325,7 +344,7 @@ def changed_slice(cluster, rng):
 
 
 def deleted_slice(cluster, rng):
-    return cluster.drop(*cluster.some("EndpointSlice"))
+    return cluster.drop(*cluster.named("EndpointSlice", slice_name(cluster, rng)))
 
 
 # ---- pods and nodes
@@ -340,9 +359,13 @@ def pod_choices(cluster, name):
     return POD | {"metadata.labels": labels, "status.podIP": [*addresses, None]}
 
 
+def pod_name(cluster, rng):
+    return f"p{rng.randrange(5 * len(cluster.names))}"
+
+
 def made_pod(cluster, rng):
     """A pod comes, or becomes another one."""
-    name = f"p{rng.randrange(5 * len(cluster.names))}"
+    name = pod_name(cluster, rng)
     return cluster.put(made("Pod", name, pod_choices(cluster, name), rng))
 
 
@@ -354,7 +377,7 @@ def changed_pod(cluster, rng):
 
 
 def deleted_pod(cluster, rng):
-    return cluster.drop(*cluster.some("Pod"))
+    return cluster.drop(*cluster.named("Pod", pod_name(cluster, rng)))
 
 
 def changed_node(cluster, rng):
@@ -384,7 +407,7 @@ def nothing(cluster, rng):
 EVERYWHERE = [
     *[changed_service] * 6,
     *[changed_ports] * 3,
-    made_service,
+    *[made_service] * 3,
     deleted_service,
     service_made_again,
     swapped_addresses,
@@ -394,18 +417,20 @@ EVERYWHERE = [
     nothing,
 ]
 OF_SLICES = [
-    *[more_endpoints] * 3,
+    *[more_endpoints] * 5,
     *[fewer_endpoints] * 3,
     *[changed_endpoint] * 5,
+    changed_hints,
     moved_endpoint,
     moved_endpoint,
     changed_slice,
     deleted_slice,
 ]
 OF_PODS = [
-    *[made_pod] * 3,
+    *[made_pod] * 5,
     *[changed_pod] * 8,
-    *[deleted_pod] * 3,
+    *[deleted_pod] * 2,
+    more_endpoints,
     more_endpoints,
     fewer_endpoints,
     changed_slice,

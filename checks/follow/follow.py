@@ -5,9 +5,9 @@ them. A fresh run of a moment is given the setting, the objects as the events le
 each once and in another order, and one sync. After some of the script's syncs, its places, the
 program that follows the script is asked what a fresh run is asked, and says the same, byte for
 byte: its tables, and where packets go to doors that are there or were there, by which chains, and
-why. The endpoints in slices are the same by Service and ports; how many a slice has depends on the
-slices before. Where a fresh run's sync is refused, so is the script's, in the same words, and all
-is as in a fresh run of what the last accepted sync covers.
+why. The endpoints in slices are the same by Service and ports; how they are spread over slices
+depends on the slices before. Where a fresh run's sync is refused, so is the script's, in the same words, and all
+is as in a fresh run that syncs what the last accepted sync covers, and then has the other events.
 
 At a place the batch of the sync takes the tables before it to those after it, it writes no chain
 that stays as it was, and the sync's line has its counts. The script is followed twice, without
@@ -52,6 +52,12 @@ def demand(condition, where):
     """Raises where a condition isn't met."""
     if not condition:
         raise Wrong(where)
+
+
+def compare(text, wanted, where=""):
+    """Raises the first line in which a text isn't what is wanted."""
+    for line, other in zip_longest(text.split("\n"), wanted.split("\n")):
+        demand(line == other, f"{where}{line!r}, and not {other!r}")
 
 
 def show(what):
@@ -206,14 +212,14 @@ def follow(program, values, every):
     places = list(places_of(values, said, every))
     lines, own = with_questions(values, places)
     *answers, last_slices, last_endpoints = program.answers([*lines, *SLICES])
-    for line, (other, at) in enumerate(zip(said, own), 1):
-        demand(answers[at] == other, f"line {line}: {answers[at]!r}; {other!r} if less is asked")
+    for line, (answer, at) in enumerate(zip(said, own), 1):
+        compare(answer, answers[at], f"line {line}, if less is asked: ")
     for place in places:
         try:
             check_place(program, values[0], place, answers[own[place.line - 1] - len(TABLES) :])
         except Wrong as fault:
             raise Wrong(f"line {place.line} ({place.why}): {fault}") from fault
-    demand([slices, endpoints] == [last_slices, last_endpoints], "slices depend on earlier shows")
+    compare(slices + endpoints, last_slices + last_endpoints, "the end, if less is asked: ")
 
 
 def with_questions(values, places):
@@ -228,34 +234,37 @@ def with_questions(values, places):
     return lines, own
 
 
-def fresh_run(program, setting, objects, synced, asked):
-    """What a fresh run says of its sync, and of what it is asked then."""
-    events = [item for _, item in sorted(objects.items(), key=lambda pair: pair[0])]
-    lines = [setting, *events, *[SYNC] * synced]
-    answers = program.answers([*lines, *TABLES, *SLICES, *asked])
-    return answers[len(lines) - 1], answers[len(lines) :]
+def fresh_run(program, place, setting, covered):
+    """What a fresh run says of its sync, and of what it is asked then. It covers these objects, and
+    the place's, where they are others, come after its sync; there is none before the first one."""
+    lines = [setting, *(covered[key] for key in sorted(covered))]
+    lines += [SYNC] if covered is place.objects or place.accepted else []
+    sync, objects = len(lines) - 1, place.objects
+    lines += [item for key, item in objects.items() if covered.get(key) is not item]
+    gone = [covered[key] for key in covered if key not in objects]
+    lines += [{"type": "DELETED", "object": item} for item in gone]
+    answers = program.answers([*lines, *TABLES, *SLICES, *place.asked])
+    return answers[sync], answers[len(lines) :]
 
 
 def check_place(program, setting, place, answers):
     """What the program says at a place, beginning with the tables before its sync, is what fresh
-    runs say."""
+    runs say. A refused sync leaves what one of the objects before has, and the events after it."""
     before, (said, batch), answers = answers[:2], answers[2:4], answers[4:]
-    made, wanted = fresh_run(program, setting, place.objects, True, place.asked)
+    made, wanted = fresh_run(program, place, setting, place.objects)
     if is_refused(made):
-        demand(said == made, f"{said!r}, and not {made!r}")
-        synced = place.accepted > 0
-        made, wanted = fresh_run(program, setting, place.covered, synced, place.asked)
+        compare(said, made)
+        made, wanted = fresh_run(program, place, setting, place.covered)
     else:
         demand(not is_refused(said), f"{said!r}, and a fresh sync is accepted")
         counts = check_batch(before, batch, answers[:2])
-        line = f"sync {place.accepted}: events {place.events}, {counts}\n"
-        demand(said == line, f"{said!r}, and not {line!r}")
-    names = ["nat", "filter", "slices", "endpoints", *(json.dumps(it) for it in place.asked)]
-    answers = answers[: len(names)]
-    answers[2:4], wanted[2:4] = endpoints_of(*answers[2:4]), endpoints_of(*wanted[2:4])
+        compare(said, f"sync {place.accepted}: events {place.events}, {counts}\n")
+    names = ["nat", "filter", "slices", "endpoints", *map(json.dumps, place.asked)]
+    if setting.get("controller", True):
+        answers[2:4] = slices_told(place.covered, *answers[2:4])
+        wanted[2:4] = slices_told(place.covered, *wanted[2:4])
     for name, answer, other in zip(names, answers, wanted):
-        for line, wanted_line in zip_longest(answer.split("\n"), other.split("\n")):
-            demand(line == wanted_line, f"{name}: {line!r}, and not {wanted_line!r}")
+        compare(answer, other, f"{name}: ")
 
 
 def chains_of(text):
@@ -287,13 +296,27 @@ def check_batch(before, batch, after):
     return f"written {len(edits) - removed}, removed {removed}"
 
 
-def endpoints_of(slices, endpoints):
-    """The slices without those that the controller makes, and the endpoints of all slices, by what
-    their slices are for."""
-    of_slice = dict(re.findall(r"^slice (\S+): (.*), endpoints \d+$", slices, re.M))
-    told = re.findall(r"^endpoint (\S+) \d+: (.*)$", endpoints, re.M)
-    own = [line for line in slices.splitlines() if ", managed," not in line]
-    return "\n".join(own), "\n".join(sorted(f"{of_slice[name]}: {text}" for name, text in told))
+def slices_told(objects, slices, endpoints):
+    """The slices that the controller doesn't make, and what those of IPv4 hold that it makes for
+    Services with a selector, by Service and ports. Others with its name stay as they were, or go
+    with their Service."""
+    packed = {key[1:] for key, item in objects.items() if is_packed(item)}
+    told = re.findall(r"^slice ((\S+)/\S+): (.*, managed, service (.*), ports .*), e", slices, re.M)
+    made = {
+        name: kind if (space, service) in packed and kind.startswith("IPv4") else ""
+        for name, space, kind, service in told
+    }
+    lines = (slices + endpoints).splitlines()
+    own = [line for line in lines if line.split()[1].rstrip(":") not in made]
+    held = re.findall(r"^endpoint (\S+) \d+: (.*)$", endpoints, re.M)
+    held = sorted(f"{made[name]}: {text}" for name, text in held if made.get(name))
+    return "\n".join(own), "\n".join(held)
+
+
+def is_packed(item):
+    """Whether the controller makes slices for an object."""
+    spec = item.get("spec", {})
+    return item["kind"] == "Service" and spec.get("type") != "ExternalName" and spec.get("selector")
 
 
 # ---- scripts
