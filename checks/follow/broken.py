@@ -49,24 +49,25 @@ class Broken(Program):
 # ---- what is overlooked
 
 
-def loses(is_lost):
-    """Loses such events after the first sync, by kind and object, which is none where it goes."""
-
-    def given(program, values):
-        del program
-        first = values.index(next(filter(is_sync, values)))
-        return values[:first] + [without(value, is_lost) for value in values[first:]]
-
-    return given
-
-
 def without(value, is_lost):
-    """A line without the events that are lost."""
+    """A line without the events that are lost, by kind and object, which is none where it goes."""
     events = [(key[0], item) for key, item in changes_of(value)]
     if not any(is_lost(*event) for event in events):
         return value
     kept = [item for kind, item in events if not is_lost(kind, item)]
     return {"apiVersion": "v1", "kind": "List", "items": kept}
+
+
+def loses(kind, goes):
+    """Loses that an object of a kind goes, or that it comes or changes, after the first sync."""
+
+    def given(program, values):
+        del program
+        first = values.index(next(filter(is_sync, values)))
+        lost = (without(it, lambda a, item: (a, not item) == (kind, goes)) for it in values[first:])
+        return values[:first] + list(lost)
+
+    return given
 
 
 def takes_first(program, values):
@@ -85,30 +86,25 @@ def loses_refused(program, values):
     refused = re.search(r"^line (\d+): refused: chain name ", program.right(values), re.M)
     if not refused:
         return values
-    objects, covered, end = {}, {}, int(refused[1])
-    for value in values[:end]:
-        covered = dict(objects) if is_sync(value) and value is not values[end - 1] else covered
-        for key, item in changes_of(value):
-            objects[key] = item
-    back = [(objects[key] or covered[key], covered.get(key)) for key in objects]
-    back = [item or {"type": "DELETED", "object": gone} for gone, item in back if gone]
-    return values[:end] + back + values[end:]
+    place = int(refused[1])
+    accepted = max(i for i, value in enumerate(values[: place - 1]) if is_sync(value))
+    covered, objects = objects_after(values[:accepted]), objects_after(values[:place])
+    back = [item for key, item in covered.items() if objects.get(key) is not item]
+    gone = [item for key, item in objects.items() if key not in covered]
+    back += [{"type": "DELETED", "object": item} for item in gone]
+    return values[:place] + back + values[place:]
 
 
-# what is overlooked, and how it is told
-DIFFERS = "(nat|filter|slices|endpoints): "
-GIVEN = {
-    "a Service that goes": (loses(lambda kind, it: kind == "Service" and not it), DIFFERS),
-    "a slice that goes": (loses(lambda kind, it: kind == "EndpointSlice" and not it), DIFFERS),
-    "a pod that goes": (loses(lambda kind, it: kind == "Pod" and not it), DIFFERS),
-    "a node that goes": (loses(lambda kind, it: kind == "Node" and not it), DIFFERS),
-    "another Service": (loses(lambda kind, it: kind == "Service" and it), DIFFERS),
-    "another slice": (loses(lambda kind, it: kind == "EndpointSlice" and it), DIFFERS),
-    "another pod": (loses(lambda kind, it: kind == "Pod" and it), DIFFERS),
-    "another node": (loses(lambda kind, it: kind == "Node" and it), DIFFERS),
-    "an object's second event": (takes_first, DIFFERS),
-    "what a refused sync covers": (loses_refused, DIFFERS),
-}
+def objects_after(values):
+    """The objects that there are after lines."""
+    last = {key: item for value in values for key, item in changes_of(value)}
+    return {key: item for key, item in last.items() if item}
+
+
+KINDS = ["Service", "EndpointSlice", "Pod", "Node"]
+GIVEN = {f"a {kind} that goes": loses(kind, True) for kind in KINDS}
+GIVEN |= {f"another {kind}": loses(kind, False) for kind in KINDS}
+GIVEN |= {"an object's second event": takes_first, "what a refused sync covers": loses_refused}
 
 
 # ---- what is printed
@@ -125,6 +121,8 @@ def prints(pattern, text):
     return printed
 
 
+# how a program is told that holds something else than it should
+DIFFERS = "(nat|filter|slices|endpoints): "
 # an edit that writes a chain that always is so
 EDIT = r":KUBE-MARK-MASQ - [0:0]\n-A KUBE-MARK-MASQ -j MARK --or-mark 0x4000\n"
 # what is printed wrong, and how it is told
@@ -151,17 +149,16 @@ PRINTED = {
 
 
 def main(path):
-    """Tells the programs that aren't told, and a right one that is."""
+    """Tells the programs that aren't told, and the right one if it is."""
     scripts = [[it for it in values if it.get("op") != "show"] for _, values in worked_scripts()]
-    wrong = [f"the program itself: {it}" for it in faults(Broken(path), scripts) if it]
-    for name, (given, how) in GIVEN.items():
-        found = faults(Broken(path, given=given), scripts)
-        if not any(re.search(how, it) for it in found):
-            wrong.append(f"it overlooks {name}: told as {found}")
-    for name, (printed, how) in PRINTED.items():
-        found = faults(Broken(path, printed=printed), scripts)
-        if not any(re.search(how, it) for it in found):
-            wrong.append(f"it prints {name}: told as {found}")
+    broken = {f"overlooks {name}": (Broken(path, it), DIFFERS) for name, it in GIVEN.items()}
+    for name, (it, how) in PRINTED.items():
+        broken[f"prints {name}"] = Broken(path, printed=it), how
+    wrong = [f"the program itself: {fault}" for fault in faults(Broken(path), scripts) if fault]
+    for name, (program, how) in broken.items():
+        found = faults(program, scripts)
+        if not any(re.search(how, fault) for fault in found):
+            wrong.append(f"a program that {name} is told so: {found}")
     for it in wrong:
         print(f"checks: follow: {it}")
     return int(bool(wrong))

@@ -1,17 +1,19 @@
-"""Whether what a replay holds after many small changes is what a fresh run makes of the objects.
+"""Whether many small changes leave what a fresh run makes of the objects as they are then.
 
-A script has a setting on its first line, then events and syncs, and what a replay is asked between
-them. A fresh run of a moment is given the setting, the objects as the events left them by then,
-each once and in another order, and one sync. After some of the script's syncs, its places, the
-program that follows the script is asked what a fresh run is asked, and says the same, byte for
-byte: its tables, and where packets go to doors that are there or were there, by which chains, and
-why. The endpoints in slices are the same by Service and ports; how they are spread over slices
-depends on the slices before. Where a fresh run's sync is refused, so is the script's, in the same words, and all
-is as in a fresh run that syncs what the last accepted sync covers, and then has the other events.
+A script has a setting on its first line, then events and syncs, and other commands between them.
+The program follows it. After some of its syncs, which are its places, there is a fresh run: it has
+the setting, each object once, as the events left it by then, in another order, and one sync. Both
+say the same:
+
+    the tables, byte for byte;
+    where packets go, by which chains, and why, to doors that are there and doors that were;
+    the endpoints in slices, by Service and ports: how many a slice has depends on those before;
+    the refusal, where two chains would have one name. All else is then as in a fresh run that
+    syncs what the last accepted sync covers, and has the other events after that.
 
 At a place the batch of the sync takes the tables before it to those after it, it writes no chain
-that stays as it was, and the sync's line has its counts. The script is followed twice, without
-what is asked at places and with it, which changes neither its syncs nor the slices at its end.
+that stays as it was, and the sync's line has its counts. A script is followed twice, without what
+is asked at places and with it: that changes neither its answers nor the slices at its end.
 
     follow.py check PROGRAM SYNCS COUNT FIRST    follows the scripts beside this file, with each
                                                  sync a place, and random ones with so many syncs,
