@@ -1,6 +1,7 @@
 #!/usr/bin/env bash
 # What it costs to follow a cluster: syncs after one Pod's event each, beside loading the cluster and
 # syncing once, a smaller cluster, and `jq -c .`. Processor time, each the least of seven runs by turns.
+# What 200 syncs of a Pod's event cost is a tenth of what 2,000 cost, which stands out from the loading.
 #   bench/follow.sh [FIGURE..]
 # FIGURE is `size`, `explain`, `slices`, `last`, `jq`, `beats` or `memory`; all of them if left out.
 # KPROXY is the command that is measured: `./kproxy` if left out.
@@ -39,22 +40,22 @@ figure() { # $1: a sentence, $2: names and an awk expression over t["name"]
 }
 
 size() {
-    changes 10000 60000 many move 200
-    changes 1000 6000 few move 200
+    changes 10000 60000 many move 2000
+    changes 1000 6000 few move 2000
     least_by_turns 10000-60000 many 1000-6000 few
     figure "200 syncs among 10,000 Services, of loading and syncing once" \
-        '(t["many"] - t["10000-60000"]) / t["10000-60000"]'
+        '(t["many"] - t["10000-60000"]) / 10 / t["10000-60000"]'
     figure "200 syncs among 10,000 Services, of those among 1,000" \
         '(t["many"] - t["10000-60000"]) / (t["few"] - t["1000-6000"])'
-    figure "seconds of one sync among 10,000 Services" '(t["many"] - t["10000-60000"]) / 200'
+    figure "milliseconds of one sync among 10,000 Services" '(t["many"] - t["10000-60000"]) / 2'
 }
 
 explain() {
-    changes 10000 60000 explained move 200 explain
-    changes 1000 6000 few_explained move 200 explain
+    changes 10000 60000 explained move 2000 explain
+    changes 1000 6000 few_explained move 2000 explain
     least_by_turns 10000-60000 explained 1000-6000 few_explained
     figure "200 syncs and explains among 10,000 Services, of loading and syncing once" \
-        '(t["explained"] - t["10000-60000"]) / t["10000-60000"]'
+        '(t["explained"] - t["10000-60000"]) / 10 / t["10000-60000"]'
     figure "200 syncs and explains among 10,000 Services, of those among 1,000" \
         '(t["explained"] - t["10000-60000"]) / (t["few_explained"] - t["1000-6000"])'
 }
@@ -94,8 +95,8 @@ beats() {
 }
 
 memory() {
-    changes 10000 60000 many move 200
-    python3 - "$work/many" "${program[@]}" <<'END'
+    changes 10000 60000 held move 200
+    python3 - "$work/held" "${program[@]}" <<'END'
 import os, resource, subprocess, sys
 with open(sys.argv[1], "rb") as lines:
     subprocess.run(sys.argv[2:] + ["replay"], stdin=lines, stdout=subprocess.DEVNULL, check=True)
