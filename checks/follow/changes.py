@@ -12,9 +12,9 @@ ZONE = "topology.kubernetes.io/zone"
 OF_SERVICE = "kubernetes.io/service-name"
 MANAGER = "endpointslice.kubernetes.io/managed-by"
 CONTROLLER = "endpointslice-controller.k8s.io"
-# how many Services there are at most, and how long the hash in a chain's name is: names of few
+# how many Services there are at most, and how long the hash in a chain's name is: names of two
 # characters clash now and then
-SIZES = [(60, 16), (60, 16), (8, 2), (25, 3)]
+SIZES = [(60, 16), (60, 16), (24, 2), (24, 2)]
 # how many changes come before a sync
 COUNTS = [0, 1, 1, 1, 1, 1, 2, 2, 3, 8]
 
@@ -404,6 +404,7 @@ def nothing(cluster, rng):
     return rng.choice([cluster.drop(gone), [bookmark]])
 
 
+# the changes, the likelier ones more than once
 EVERYWHERE = [
     *[changed_service] * 6,
     *[changed_ports] * 3,
