@@ -1,12 +1,21 @@
 #!/usr/bin/env bash
 # What it costs to follow a cluster: syncs after one Pod's event each, beside loading the cluster and
 # syncing once, a smaller cluster, and `jq -c .`. Processor time, each the least of seven runs by turns.
+# What 200 syncs of a Pod's event cost is a tenth of what 2,000 cost, which stands out from the loading.
 #   bench/follow.sh [FIGURE..]
+#   METER=instructions bench/follow.sh size|explain|slices|last|beats
 # FIGURE is `size`, `explain`, `slices`, `last`, `jq`, `beats` or `memory`; all of them if left out.
-# KPROXY is the command that is measured: `./kproxy` if left out.
+# With the second call they are instructions, which other work on the machine doesn't change.
+# KPROXY is the command that is measured, `./kproxy` if left out; of instructions it is a program's
+# path, that of the built one if left out.
 set -eu
 cd "$(dirname "$0")/.."
+meter=processor_seconds turns=(1 2 3 4 5 6 7)
 read -ra program <<<"${KPROXY:-./kproxy}"
+if [[ ${METER-} == instructions ]]; then
+    meter=instructions turns=(1)
+    read -ra program <<<"${KPROXY:-$(checks/program kproxy)}"
+fi
 work=$(mktemp -d)
 trap 'rm -rf "$work"' EXIT
 . bench/timing.sh
@@ -25,9 +34,9 @@ changes() { # $1: Services, $2: Pods, $3: the name of the file, then the argumen
 # the least of seven runs of the program on each of these files, by turns
 least_by_turns() { # the names of files, each once
     local run file
-    for run in 1 2 3 4 5 6 7; do
+    for run in "${turns[@]}"; do
         for file in "$@"; do
-            echo "$file $(processor_seconds "$work/$file" "${program[@]}" replay)"
+            echo "$file $("$meter" "$work/$file" "${program[@]}" replay)"
         done
     done | awk '!($1 in least) || $2 < least[$1] { least[$1] = $2 } END { for (f in least) print f, least[f] }' \
         >"$work/least"
@@ -39,22 +48,23 @@ figure() { # $1: a sentence, $2: names and an awk expression over t["name"]
 }
 
 size() {
-    changes 10000 60000 many move 200
-    changes 1000 6000 few move 200
+    changes 10000 60000 many move 2000
+    changes 1000 6000 few move 2000
     least_by_turns 10000-60000 many 1000-6000 few
     figure "200 syncs among 10,000 Services, of loading and syncing once" \
-        '(t["many"] - t["10000-60000"]) / t["10000-60000"]'
+        '(t["many"] - t["10000-60000"]) / 10 / t["10000-60000"]'
     figure "200 syncs among 10,000 Services, of those among 1,000" \
         '(t["many"] - t["10000-60000"]) / (t["few"] - t["1000-6000"])'
-    figure "seconds of one sync among 10,000 Services" '(t["many"] - t["10000-60000"]) / 200'
+    [[ $meter == instructions ]] ||
+        figure "milliseconds of one sync among 10,000 Services" '(t["many"] - t["10000-60000"]) / 2'
 }
 
 explain() {
-    changes 10000 60000 explained move 200 explain
-    changes 1000 6000 few_explained move 200 explain
+    changes 10000 60000 explained move 2000 explain
+    changes 1000 6000 few_explained move 2000 explain
     least_by_turns 10000-60000 explained 1000-6000 few_explained
     figure "200 syncs and explains among 10,000 Services, of loading and syncing once" \
-        '(t["explained"] - t["10000-60000"]) / t["10000-60000"]'
+        '(t["explained"] - t["10000-60000"]) / 10 / t["10000-60000"]'
     figure "200 syncs and explains among 10,000 Services, of those among 1,000" \
         '(t["explained"] - t["10000-60000"]) / (t["few_explained"] - t["1000-6000"])'
 }
@@ -94,8 +104,8 @@ beats() {
 }
 
 memory() {
-    changes 10000 60000 many move 200
-    python3 - "$work/many" "${program[@]}" <<'END'
+    changes 10000 60000 held move 200
+    python3 - "$work/held" "${program[@]}" <<'END'
 import os, resource, subprocess, sys
 with open(sys.argv[1], "rb") as lines:
     subprocess.run(sys.argv[2:] + ["replay"], stdin=lines, stdout=subprocess.DEVNULL, check=True)

@@ -35,8 +35,7 @@ cost_of() { # $1: the layer, $2: the file, $3: how often
     if [ "$meter" = seconds ]; then
         median_of_five "$work/$2" "$program" "$1" "$3"
     else
-        valgrind --tool=callgrind --callgrind-out-file=/dev/null "$program" "$1" "$3" \
-            <"$work/$2" 2>&1 >"$work/output" | awk '/Collected/ { print $NF }'
+        instructions "$work/$2" "$program" "$1" "$3"
     fi
 }
 

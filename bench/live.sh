@@ -4,14 +4,15 @@
 # each figure is the least of its runs, less what a run without lines takes. Then the most memory
 # that each held, and how much of it one packet more takes, with its line.
 #   bench/live.sh [PACKETS [RUNS]]
-# With UNPROVED=yes before it, the program is not proved.
+# KPROXY is the command that is measured: `./kproxy` if left out.
 set -eu
 cd "$(dirname "$0")/.."
 packets=${1:-1000000}
 runs=${2:-5}
 services=1000
 changes=2000
-program=(./kproxy ${UNPROVED:+--unproved} live)
+read -ra program <<<"${KPROXY:-./kproxy}"
+program+=(live)
 work=$(mktemp -d)
 trap 'rm -rf "$work"' EXIT
 . bench/timing.sh

@@ -14,6 +14,14 @@ processor_seconds() { # $1: the file, then the command
     awk '{ printf "%.3f\n", $1 + $2 }' "$work/took"
 }
 
+# the instructions of a command on a file, as valgrind counts them
+instructions() { # as processor_seconds; the command is a program, and no script
+    local file=$1
+    shift
+    valgrind --tool=callgrind --callgrind-out-file=/dev/null "$@" <"$file" 2>&1 >"$work/output" |
+        awk '/Collected/ { print $NF }'
+}
+
 # the wall time of a command on a file, in seconds; a command that fails ends the bench
 wall_seconds() { # as processor_seconds
     local file=$1 TIMEFORMAT='%3R'
