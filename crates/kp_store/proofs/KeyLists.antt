@@ -37,7 +37,7 @@ abbrev is_key : ObjectKey → ObjectKey → Bool
 is_key q k = eq_by_cmp key_cmp q k
 
 -- what stands in the list, and what beside it
-in_keys : (ks : List ObjectKey) (m : Keys) (q : ObjectKey) → contains_key (with_keys ks m) q ≡ list_any (is_key q) ks || contains_key m q
+pub in_keys : (ks : List ObjectKey) (m : Keys) (q : ObjectKey) → contains_key (with_keys ks m) q ≡ list_any (is_key q) ks || contains_key m q
 in_keys [] m q = refl
 in_keys (k ∷ ks) m q =
     in_inserted (with_keys ks m) k q

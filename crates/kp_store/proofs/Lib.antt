@@ -1,6 +1,7 @@
 pub mod Adding
 pub mod Buckets
 pub mod Changed
+pub mod Choosing
 pub mod Filled
 pub mod Found
 pub mod KeyLists

@@ -1,5 +1,5 @@
 -- What the look-ups of the store find: filters of the objects, in the order of their keys.
-use Rattle.std.specs.Prelude.{ℕ, Bool, List, [], map, Option, Some, None}
+use Rattle.std.specs.Prelude.{ℕ, Bool, false, List, [], map, Option, Some, None}
 use Rattle.std.specs.List.{filter}
 use Rattle.std.specs.FinMap as finite
 use Rattle.kp_base.specs.declared.key.ObjectKey.{ObjectKey}
@@ -8,6 +8,11 @@ use Rattle.kp_types.specs.declared.pod.Pod.{Pod}
 use Rattle.kp_object_defs.specs.Objects.{Objects}
 use Rattle.kp_object_defs.specs.Desired.{selects}
 use Rattle.kp_object_defs.specs.Entries.{is_on_node}
+
+-- a Service is there and selects a pod
+abbrev pub selects_if : Pod → Option Service → Bool
+selects_if pod None = false
+selects_if pod (Some s) = selects s pod
 
 -- the keys of the Services that select a pod, which needn't be among the objects
 abbrev pub services_selecting : Objects → Pod → List ObjectKey

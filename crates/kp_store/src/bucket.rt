@@ -1,5 +1,6 @@
 //! The keys of the objects with one tag.
-ghost use Rattle.std.specs.Prelude.{◌≡◌, ◌&&◌, ◌||◌, ◌↔◌, not, false, IfOk, OnOk, OnErr, IsTrue};
+ghost use Rattle.std.specs.Prelude.{◌≡◌, ◌&&◌, ◌||◌, ◌↔◌, not, false, map, IfOk, OnOk, OnErr, IsTrue};
+ghost use Rattle.std.specs.List.{list_any};
 ghost use Rattle.std.specs.FinMap as finite;
 ghost use Rattle.std.specs.Ordering.{eq_by_cmp};
 ghost use Rattle.kp_base.specs.Keys.{key_cmp};
@@ -94,6 +95,17 @@ impl Bucket {
     {
         self.few.retain(|other| *other != *key);
         self.many.take(key);
+    }
+
+    /// The keys, in no order.
+    pub fn keys(&self, alloc: Global) -> Result<Vec<&ObjectKey>, NoMemory>
+        ensures { IfOk result (λ ks. (k : ObjectKey) → list_any (eq_by_cmp key_cmp k)
+            (map (λ q. q.now) ks.items) ≡ finite.contains_key self.now k) }
+    {
+        let mut keys: Vec<&ObjectKey> = self.few.iter().collect(alloc)?;
+        let mut many = self.many.keys(alloc)?;
+        keys.append(&mut many)?;
+        Ok(keys)
     }
 
     /// Puts the keys beside others.

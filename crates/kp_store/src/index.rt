@@ -1,8 +1,10 @@
 //! Keys of objects by what the objects are found by.
-ghost use Rattle.std.specs.Prelude.{◌≡◌, ◌&&◌, ◌||◌, not, false, [], None, IfOk, OnOk, OnErr};
+ghost use Rattle.std.specs.Prelude.{◌≡◌, ◌&&◌, ◌||◌, not, false, [], map, None, IfOk, OnOk, OnErr};
 ghost use Rattle.std.specs.FinMap as finite;
 ghost use Rattle.std.specs.List.{list_any};
 ghost use Rattle.std.specs.Map.{lookup};
+ghost use Rattle.std.specs.Ordering.{eq_by_cmp};
+ghost use Rattle.kp_base.specs.Keys.{key_cmp};
 ghost use Rattle.kp_base.specs.declared.key.ObjectKey.{ObjectKey};
 ghost use Rattle.kp_store.specs.Indexes.{bucket, has, is_among, is_pair, is_tag_of, is_lost};
 ghost use Rattle.kp_store.specs.Indexes.{AreFilled, AreFilledBut, IsPartly};
@@ -59,6 +61,17 @@ impl<T: Eq + Hash + Drop> Index<T> {
         let mut bucket = KeySet::new(alloc);
         self.put_into(alloc, tag, &mut bucket)?;
         Ok(bucket)
+    }
+
+    /// The keys of a tag as they are kept, in no order.
+    pub fn kept(&self, alloc: Global, tag: &T) -> Result<Vec<&ObjectKey>, NoMemory>
+        ensures { IfOk result (λ ks. (k : ObjectKey) → list_any (eq_by_cmp key_cmp k)
+            (map (λ q. q.now) ks.items) ≡ has T.eq self.now tag.now k) }
+    {
+        match self.buckets.get(tag) {
+            Some(bucket) => bucket.keys(alloc),
+            None => Ok(Vec::new(alloc)),
+        }
     }
 
     /// How many keys a tag has.

@@ -1,11 +1,15 @@
 //! Objects of one kind by their keys, with an index of what they are found by.
 ghost use Rattle.std.specs.Prelude.{◌≡◌, List, length, map, IfOk, OnOk, OnErr, option_copied};
-ghost use Rattle.std.specs.List.{filter, list_any};
+ghost use Rattle.std.specs.List.{filter, filter_map, list_any};
+ghost use Rattle.std.specs.Ordering.{eq_by_cmp};
 ghost use Rattle.std.specs.FinMap as finite;
+ghost use Rattle.kp_base.specs.Keys.{key_cmp};
+ghost use Rattle.kp_base.specs.declared.key.ObjectKey.{ObjectKey};
 ghost use Rattle.kp_store.specs.Indexes.{is_among, is_tagged};
 
 use crate::hashed::Hashed;
 use crate::index::Index;
+use crate::key_set::KeySet;
 use kp_base::{Copied, Items, Kept, NoMemory, ObjectKey};
 use std::alloc::Global;
 use std::hash::Hash;
@@ -95,6 +99,22 @@ impl<X: Tagged<T>, T: Eq + Hash + Copied> Indexed<X, T> {
     {
         let bucket = self.index.keys(alloc, tag)?;
         self.objects.found(alloc, &bucket)
+    }
+
+    /// The keys of the objects with a tag, in no order.
+    pub fn tagged(&self, alloc: Global, tag: &T) -> Result<Vec<&ObjectKey>, NoMemory>
+        ensures { IfOk result (λ ks. (k : ObjectKey) → list_any (eq_by_cmp key_cmp k)
+            (map (λ q. q.now) ks.items) ≡ is_tagged T.eq X.tags tag.now (finite.get self.now k)) }
+    {
+        self.index.kept(alloc, tag)
+    }
+
+    /// The objects of keys, where they are there, in order of the keys.
+    pub fn found_at(&self, alloc: Global, keys: &KeySet) -> Result<Vec<&X>, NoMemory>
+        ensures { IfOk result (λ xs. map (λ x. x.now) xs.items
+            ≡ filter_map (finite.get self.now) (finite.keys keys.now)) }
+    {
+        self.objects.found(alloc, keys)
     }
 
     /// The objects with any of some tags, in order of their keys.

@@ -9,6 +9,7 @@ mod indexed;
 mod key_set;
 mod named;
 mod objects;
+mod selecting;
 mod selections;
 mod tags;
 mod touched;

@@ -14,6 +14,7 @@ ghost use Rattle.kp_store.specs.Rarest.{IsRarest};
 
 use crate::hashed::Hashed;
 use crate::indexed::Indexed;
+use crate::selecting::selecting_with;
 use crate::selections::{copies, keys_selecting, pods_selected, services_answering};
 use crate::tags::{PodTag, ServiceTag, label_tag, selected_by};
 use kp_base::{Address, Copied, Items, NoMemory, ObjectKey, PortNo, Proto, Text};
@@ -201,7 +202,8 @@ impl Objects {
     {
         let services = &self.services;
         let tags = selected_by(alloc, pod)?;
-        let found = services.found_any(alloc, tags.as_slice())?;
+        let keys = selecting_with(alloc, services, tags.as_slice(), pod)?;
+        let found = services.found_at(alloc, &keys)?;
         keys_selecting(alloc, found.as_slice(), pod)
     }
 
