@@ -3,6 +3,7 @@ use Rattle.std.proofs.Common.{◌≡◌, ◌<◌, ◌≤◌, ◌+◌, inr, ℕ, 
 use Rattle.std.specs.Prelude.{Option, Some, None, Result, Ok, Err, IfOk, IfSome, OnErr, nat_lt}
 use Rattle.std.specs.List.{AllByRecursion, filter}
 use Rattle.kp_base.specs.declared.config.Config.{Config}
+use Rattle.kp_pack_laws.proofs.Shuffles.{all_unmapped}
 use Rattle.kp_types.specs.declared.chain.Clash.{Clash}
 use Rattle.kp_table_defs.specs.Rebuild.{TableParts}
 use Rattle.kp_history_defs.specs.declared.fed.Fed.{Fed}
@@ -30,7 +31,6 @@ use Rattle.kp_live.specs.Written.{EndsRun, GrowsFront, Prints, WritesFront, Writ
 use Rattle.kp_live.specs.declared.answers.Answers.{Answers}
 use Rattle.kp_live.specs.declared.fault.LiveFault.{LiveFault}
 use Rattle.kp_live.proofs.Ending.{answers_at, ends_legal, few_by, told_at}
-use Rattle.kp_live.proofs.Legal.{all_of_map}
 use Rattle.kp_live.proofs.Readings.{IsRead, input_is_read}
 use Rattle.kp_live.proofs.Together.{all_by_place, all_to_map}
 
@@ -75,7 +75,7 @@ handed reading config n feeders workers old met journal notes refusals clash tab
       met =
           subst (λ c. AllByRecursion (GoesOnFromAll (records_told c journal notes)) workers)
           (sym config_is)
-          (all_of_map (GoesOnFromAll (records_told config journal notes)) uncounted workers
+          (all_unmapped (GoesOnFromAll (records_told config journal notes)) uncounted workers
           (subst (AllByRecursion (GoesOnFromAll (records_told config journal notes)))
           (met_is ∙ ap (map uncounted) old_is) goes));
     }

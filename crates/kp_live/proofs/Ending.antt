@@ -8,6 +8,7 @@ use Rattle.std.proofs.lemmas.List.{length-map}
 use Rattle.std.proofs.lemmas.Slice.Eq.{bytes_eq-Decides}
 use Rattle.std.proofs.lemmas.Option.{get_or_from_slice_get, slice_get_cases, slice_get-get_or, slice_get-map}
 use Rattle.kp_lemmas.proofs.ListFacts.{all_weaker}
+use Rattle.kp_pack_laws.proofs.Shuffles.{all_unmapped}
 use Rattle.kp_types.specs.declared.chain.Clash.{Clash}
 use Rattle.kp_types.specs.declared.sync.SyncRecord.{SyncRecord}
 use Rattle.kp_choice_defs.specs.Names.{same_chain_key}
@@ -41,7 +42,7 @@ use Rattle.kp_live.specs.Streams.{Shown, GoesOnFromAll, answering, is_accepted, 
 use Rattle.kp_live.specs.Told.{Told, Holds}
 use Rattle.kp_live.specs.declared.answers.Answers.{Answers}
 use Rattle.kp_live.proofs.Journals.{all_delivered, all_below}
-use Rattle.kp_live.proofs.Legal.{all_both, all_by_stream, all_filter, all_of_map, count_cons, first_true, fits_has, second_true, any_refused, count_accepted, mark_at, marks_found, seen_fits, ShowsIt}
+use Rattle.kp_live.proofs.Legal.{all_both, all_by_stream, all_filter, count_cons, first_true, fits_has, second_true, any_refused, count_accepted, mark_at, marks_found, seen_fits, ShowsIt}
 use Rattle.kp_live.proofs.Merging.{line_of, is_shown_of, merge, Merges}
 use Rattle.kp_live.proofs.Readings.{AreRising, IsRead}
 use Rattle.kp_live.proofs.Records.{run_of, have_tables, cover_journal, records_count, walks_decide, notes_print}
@@ -351,7 +352,7 @@ module _ (reading : Reading) (read : IsRead reading) (start : TableParts)
   records = records_told reading.config journal notes
 
   met : AllByRecursion (λ (s : Stand). GoesOnFromAll records s.worker) stands
-  met = all_of_map (GoesOnFromAll records) (λ (s : Stand). s.worker) stands out.met
+  met = all_unmapped (GoesOnFromAll records) (λ (s : Stand). s.worker) stands out.met
 
   abbrev at : ℕ → List Shown
   at = shown_at reading start queue stands each

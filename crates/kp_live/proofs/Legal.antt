@@ -21,11 +21,6 @@ use Rattle.kp_live.proofs.Telling.{HasRecord, settled}
 
 -- ---- Lists
 
-pub all_of_map : {A B : Type 0} (P : B → Type 0) (f : A → B) (xs : List A)
-    → AllByRecursion P (map f xs) → AllByRecursion (λ x. P (f x)) xs
-all_of_map P f [] all = tt
-all_of_map P f (x ∷ xs) all = (all.0, all_of_map P f xs all.1)
-
 pub all_both : {A : Type 0} (P Q S : A → Type 0) → ((x : A) → P x → Q x → S x) → (xs : List A)
     → AllByRecursion P xs → AllByRecursion Q xs → AllByRecursion S xs
 all_both P Q S h [] p q = tt

@@ -10,6 +10,7 @@ use Rattle.kp_base.specs.declared.config.Config.{Config}
 use Rattle.kp_table_defs.specs.Rebuild.{TableParts}
 use Rattle.kp_feed.specs.Calls.{new_feeder, new_feeders}
 use Rattle.kp_feed.specs.Passes.{Feeder, QueueId}
+use Rattle.kp_pack_laws.proofs.Shuffles.{all_unmapped}
 use Rattle.kp_hub.specs.Known.{Worker, new_worker}
 use Rattle.kp_run_defs.specs.LiveLines.{Reading, is_line_of}
 use Rattle.kp_run_defs.specs.declared.live.StreamLine.{StreamLine}
@@ -18,7 +19,6 @@ use Rattle.kp_live.specs.Stands.{Stand}
 use Rattle.kp_live.specs.Streams.{IsAtStart, RunsOn, StandsBehind}
 use Rattle.kp_live.specs.declared.answers.Answers.{Answers}
 use Rattle.kp_live.proofs.Ending.{all_at}
-use Rattle.kp_live.proofs.Legal.{all_of_map}
 use Rattle.kp_live.proofs.Printing.{pushed_each}
 use Rattle.kp_live.proofs.Records.{map_twice}
 
@@ -117,7 +117,7 @@ module _ {X : Type 0} (standing : X → Stand) (lines : X → List StreamLine) (
   pub of_queue : All (λ x. (standing x).feeder.queue ≡ queue) cs
   of_queue =
       All-from_recursion (λ x. (standing x).feeder.queue ≡ queue) cs
-      (all_of_map (λ (f : Feeder). f.queue ≡ queue) (λ x. (standing x).feeder) cs
+      (all_unmapped (λ (f : Feeder). f.queue ≡ queue) (λ x. (standing x).feeder) cs
       (subst (AllByRecursion (λ (f : Feeder). f.queue ≡ queue)) (sym feeders_kept) queues_new))
 
   counts : (length ss ≡ n) × (length cs ≡ n)

@@ -30,6 +30,7 @@ use Rattle.kp_table_laws.specs.Laws.{HaveOwnNames, StandApart}
 use Rattle.kp_table_laws.proofs.ChangedPorts.{no_clash_of_changed_ports}
 use Rattle.kp_table_laws.proofs.KeyRows.{row_key, row_stands}
 use Rattle.kp_table_laws.proofs.NeededKeys.{no_clash_is_own_names}
+use Rattle.kp_writer_laws.proofs.NoClashes.{keys_of_some}
 use Rattle.kp_writer.specs.Next.{NextParts, is_free_by}
 use Rattle.kp_writer.specs.Own.{left, places_of, written}
 use Rattle.kp_writer.proofs.NextPlaces.{AreApart, Row, found_left, free_written}
@@ -56,13 +57,6 @@ module _ (kept : PortInfo → Bool) where
     ]),
   )
 
--- the keys of some of the ports are keys of all
-pub fewer : (test : PortInfo → Bool) (is : List PortInfo) (k : ChainKey)
-    → Contains (flat_map own_keys (filter test is)) k → Contains (flat_map own_keys is) k
-fewer test is k c =
-    let (i, ci, own) = from_flat_map own_keys k (filter test is) c in
-    in_flat_map own_keys i k is (from_filter test i is ci).0 own
-
 module _ (setting : Setting) where
   -- so no two of them clash
   pub some_apart : (test : PortInfo → Bool) (is : List PortInfo)
@@ -71,7 +65,7 @@ module _ (setting : Setting) where
   some_apart test is none =
       let own = (no_clash_is_own_names setting.name_of is).0 none in
       (no_clash_is_own_names setting.name_of (filter test is)).1 (λ k l ck cl same.
-      own k l (fewer test is k ck) (fewer test is l cl) same)
+      own k l (keys_of_some test is k ck) (keys_of_some test is l cl) same)
 
   -- the chains of ports stand at the places of their keys
   places_of_rows : (is : List PortInfo)
@@ -177,7 +171,7 @@ module _ (setting : Setting) where
         ∙ stands_apart.free l cl
     free_by q false old free true h =
         let (l, cl, at) = key_at (filter kept after) q h in
-        let mine : Contains (flat_map own_keys before) l = fewer kept before l
+        let mine : Contains (flat_map own_keys before) l = keys_of_some kept before l
         (subst (λ is. Contains (flat_map own_keys is) l) (sym same) cl) in
         sym (in_table before l mine)
         ∙ ap (λ p. is_some (get table p)) at

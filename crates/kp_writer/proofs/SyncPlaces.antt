@@ -36,9 +36,10 @@ use Rattle.kp_table_laws.proofs.NeededKeys.{key_port, no_clash_is_own_names, por
 use Rattle.kp_walk_laws.specs.Laws.{IsPrefixed}
 use Rattle.kp_writer_laws.specs.LocalLaws.{fixed_rows, own_chain}
 use Rattle.kp_writer_laws.proofs.LocalLookUps.{found_own, tables_agree_elsewhere}
+use Rattle.kp_writer_laws.proofs.NoClashes.{keys_of_some}
 use Rattle.kp_writer.specs.Next.{NextParts}
 use Rattle.kp_writer.specs.Own.{places_of, written}
-use Rattle.kp_writer.proofs.ClashTest.{differs, fewer, gone, key_at, old_key, old_places}
+use Rattle.kp_writer.proofs.ClashTest.{differs, gone, key_at, old_key, old_places}
 use Rattle.kp_writer.proofs.ClashTest.{rows, split}
 use Rattle.kp_writer.proofs.NextPlaces.{Row, found_left, found_written}
 
@@ -118,7 +119,7 @@ module _ (config : Config) where
                 let both : m ≡ l =
                 (no_clash_is_own_names s.name_of before).0 none m l
                 (in_flat_map own_keys i m before (from_filter kept i before was).0 mi)
-                (fewer (differs kept) before l cl)
+                (keys_of_some (differs kept) before l cl)
                 (ap (λ (a : ChainAt). a.chain) (to ∙ sym at)) in
                 absurd (apart before i p was cp
                 (sym (key_port i m mi) ∙ ap port_of both ∙ key_port p l lp))
