@@ -14,7 +14,7 @@ MANAGER = "endpointslice.kubernetes.io/managed-by"
 CONTROLLER = "endpointslice-controller.k8s.io"
 # how many Services there are at most, and how long the hash in a chain's name is: names of two
 # characters clash now and then
-SIZES = [(60, 16), (60, 16), (24, 2), (24, 2)]
+SIZES = [(60, 16), (60, 16), (20, 2), (32, 2)]
 # how many changes come before a sync
 COUNTS = [0, 1, 1, 1, 1, 1, 2, 2, 3, 8]
 
@@ -62,7 +62,7 @@ SLICE = {
 ENDPOINT = {
     "nodeName": [None, *NODES],
     "zone": [None, *ZONES],
-    "hints": [*[None] * 4, *({"forZones": [{"name": zone}]} for zone in ZONES)],
+    "hints": [None, *({"forZones": [{"name": zone}]} for zone in ZONES)],
     "conditions": [
         *[None] * 4,
         *[{"ready": True}] * 4,
@@ -314,7 +314,7 @@ def changed_endpoint(cluster, rng):
 def changed_hints(cluster, rng):
     """All endpoints of a slice get hints for their own zones, or lose theirs."""
     slices = cluster.some("EndpointSlice")
-    lost = rng.random() < 0.3
+    lost = rng.random() < 0.5
     for it in (it for found in slices for it in found["endpoints"]):
         it.pop("hints", None)
         it |= {} if lost else {"hints": {"forZones": [{"name": it.get("zone", "a")}]}}
@@ -381,8 +381,8 @@ def deleted_pod(cluster, rng):
 
 
 def changed_node(cluster, rng):
-    """A node is in another zone or in none; now and then it goes."""
-    node = made("Node", rng.choice(NODES), NODE, rng)
+    """A node is in another zone or in none, the own one more often; now and then it goes."""
+    node = made("Node", rng.choice([NODES[0], rng.choice(NODES)]), NODE, rng)
     return cluster.drop(node) if rng.random() < 0.2 else cluster.put(node)
 
 
@@ -413,7 +413,7 @@ EVERYWHERE = [
     service_made_again,
     swapped_addresses,
     swapped_node_ports,
-    changed_node,
+    *[changed_node] * 3,
     heartbeat,
     nothing,
 ]
@@ -421,7 +421,7 @@ OF_SLICES = [
     *[more_endpoints] * 5,
     *[fewer_endpoints] * 3,
     *[changed_endpoint] * 5,
-    changed_hints,
+    *[changed_hints] * 3,
     moved_endpoint,
     moved_endpoint,
     changed_slice,
