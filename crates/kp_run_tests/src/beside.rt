@@ -162,7 +162,8 @@ fn hub_answers_beside<
         }
         _ => false,
     };
-    hub.finish(rt, alloc, feeders, &mut [])?.end(rt);
+    let mut none = Vec::new(alloc);
+    hub.finish(rt, alloc, feeders, none.as_mut_slice())?.end(rt);
     Ok(beside)
 }
 

@@ -10,7 +10,7 @@ use kp_hub::{FeedPass, Finished, Hub, Opening, Sharing, TableFault, WorkerPass};
 use kp_print::{push, push_labelled};
 use kp_recent::RecentLists;
 use kp_report::push_answer;
-use kp_script::Op;
+use kp_script::{Op, ScriptLine};
 use kp_types::Event;
 use std::alloc::Global;
 use std::marker::Brand;
@@ -106,7 +106,8 @@ fn take<J: Sharing, A: Ledger, C: Ledger, R: Wait>(
     let Ok(line) = read(alloc, number, line) else {
         return Err(NoMemory);
     };
-    match line.op {
+    let ScriptLine { by: _by, op } = line;
+    match op {
         Op::Events(events) => feed_all(rt, hub, feeder, events, text),
         Op::Packet(packet) => {
             let mut lists = RecentLists::new(alloc, 100)?;
