@@ -1,4 +1,5 @@
 pub mod Codes
 pub mod Given
+pub mod LastTables
 pub mod Outcome
 pub mod Sums

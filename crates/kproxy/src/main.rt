@@ -5,7 +5,7 @@ ghost use Rattle.std.specs.Prelude.{◌≡◌, map, string_bytes, true};
 ghost use Rattle.std.specs.Process.{exit_status};
 ghost use Rattle.kp_words.specs.Words.{mode_of};
 ghost use Rattle.kp_run.specs.Codes.{code_of};
-ghost use Rattle.kp_run.specs.Outcome.{asks_replay};
+ghost use Rattle.kp_run.specs.Outcome.{reads_source};
 ghost use Rattle.kp_run.specs.declared.status.Status.TheVariants.{Usage};
 
 use kp_gate::OpenGate;
@@ -56,7 +56,7 @@ fn run_into<W: Write + Drop, R: Threads + Wait + Sync>(
     words: &[String],
     writer: W,
 ) -> Status
-    ensures { asks_replay (mode_of (map string_bytes words.now)) ≡ true → result ≡ Usage → ⊥ }
+    ensures { reads_source (mode_of (map string_bytes words.now)) ≡ true → result ≡ Usage → ⊥ }
 {
     let mut source = RealSource::new(rt.reader());
     let mut sink = RealSink::new(writer);
