@@ -1,3 +1,4 @@
+pub mod Asked
 pub mod Beginnings
 pub mod Fitting
 pub mod Readers

@@ -6,7 +6,8 @@ use Rattle.kp_publish.specs.declared.fault.PublishFault.{PublishFault}
 use Rattle.kp_publish.specs.declared.fault.PublishFault.TheVariants.{NoMemoryBack, NoMemoryPending}
 use Rattle.kp_publish.specs.Pending.{Keeps}
 
--- it comes back and all is as before, or it is kept behind those that are pending
+-- it comes back and all else is as before, or it is kept after those that are pending
 abbrev pub IsKeptOrBack : PublishFault → SyncRecord → Keeps → Keeps → Type 0
-IsKeptOrBack (NoMemoryBack back) next before now = (back ≡ next) × (now ≡ before)
+IsKeptOrBack (NoMemoryBack back) next before now =
+    (back ≡ next) × (now ≡ record before { refusals = now.refusals })
 IsKeptOrBack NoMemoryPending next before now = now.newest ≡ before.newest ++ Record next ∷ []

@@ -1,24 +1,27 @@
 -- What a publisher has taken in and not published.
-use Rattle.std.specs.Prelude.{◌≡◌, false, List, refl, Option, Some, None}
+use Rattle.std.specs.Prelude.{◌≡◌, false, ℕ, List, refl, Option, Some, None}
 use Rattle.std.specs.List.{fold}
-use Rattle.std.specs.Coded.{Coded, code_by, coded×, coded_list}
+use Rattle.std.specs.Coded.{Coded, code_by, coded×, coded_ℕ, coded_list}
 use Rattle.atomic_table.specs.Seated.{TableId, table_id_coded}
 use Rattle.kp_publish.specs.declared.entry.Entry.{Entry}
 use Rattle.kp_publish.specs.contracts.entry.Entry as entry_row
 use Rattle.kp_publish.specs.Entries.{records_of, is_ended}
 
--- the history that is published, the one with what is pending, and the pair of copies that it writes
+-- the history that is published, the one with what is pending, the pair of copies that it writes, and
+-- how often there was no memory for that
 pub record Keeps : Type 0 where
   pub published : List Entry
   pub newest : List Entry
   pub pair : TableId
+  pub refusals : ℕ
 
 -- it is stored as a tuple
 abbrev pub keeps_code : Coded Keeps
 keeps_code =
-    code_by (List Entry × (List Entry × TableId))
-    (coded× (coded_list entry_row.the_row.coded) (coded× (coded_list entry_row.the_row.coded) table_id_coded))
-    (λ k. (k.published, (k.newest, k.pair))) (λ p. record { published = p.0; newest = p.1.0; pair = p.1.1 }) (λ _. refl)
+    code_by (List Entry × (List Entry × (TableId × ℕ)))
+    (coded× (coded_list entry_row.the_row.coded) (coded× (coded_list entry_row.the_row.coded)
+    (coded× table_id_coded coded_ℕ))) (λ k. (k.published, (k.newest, (k.pair, k.refusals))))
+    (λ p. record { published = p.0; newest = p.1.0; pair = p.1.1.0; refusals = p.1.1.1 }) (λ _. refl)
 
 -- An addition is the history after it.
 abbrev pub after : List Entry → List Entry → List Entry

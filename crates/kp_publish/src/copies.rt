@@ -1,15 +1,17 @@
 //! The two copies of a table, and what readers don't see yet.
-ghost use Rattle.std.specs.Prelude.{◌≡◌, ◌+◌, ◌-◌, ◌^◌, ◌<◌, ◌++◌, ◌∷◌, [], drop, fold, length, false, OnOk, OnErr, IfErr};
+ghost use Rattle.std.specs.Prelude.{◌≡◌, ◌+◌, ◌-◌, ◌^◌, ◌<◌, ◌≤◌, ◌++◌, ◌∷◌, [], drop, length};
+ghost use Rattle.std.specs.Prelude.{false, OnOk, OnErr, IfErr};
+ghost use Rattle.kp_io.specs.Faults.{Rose};
 ghost use Rattle.kp_history_defs.specs.History.{table_from};
 ghost use Rattle.kp_publish.specs.Entries.{records_of, is_ended, table_of, IsReady};
-ghost use Rattle.kp_publish.specs.Pending.{after, newest_of};
+ghost use Rattle.kp_publish.specs.Pending.{after};
 ghost use Rattle.kp_publish.specs.declared.entry.Entry.TheVariants.{Record, End};
 
+use crate::asking::Refusals;
 use crate::entry::Entry;
 use crate::front::Front;
 use crate::history::{Head, Publication};
 use crate::shown::{Addition, Shown};
-use core::mem::replace_with;
 use crossbeam_utils::rule::Unruled;
 use kp_base::NoMemory;
 use kp_rules::Table;
@@ -31,6 +33,7 @@ pub struct Copies<J: Publication, T: Absorb<O, State = [Entry; 0]> + Drop, O: Dr
     newest: Front<J>,
     // The last record, where the writer had no room for it.
     held: Option<O>,
+    refusals: Refusals,
 }
 
 impl<J: Publication, T: Absorb<O, State = [Entry; 0]> + Drop, O: Drop> Model for Copies<J, T, O> {
@@ -45,52 +48,12 @@ impl<J: Publication, T: Absorb<O, State = [Entry; 0]> + Drop, O: Drop> Model for
       published = c.published;
       newest = c.newest;
       pair = c.writer.desk.place.table_id;
+      refusals = c.refusals;
     } };
 
     ghost invariant = { λ c. Fits c.published c.newest (T.state c.writer.desk.shown.value)
         (newest_of T.applied (T.state c.writer.desk.shown.value)
         (drop c.writer.behind c.writer.log.items) c.held) };
-}
-
-/// Hands what is held to the writer, and gives it back where there is no room.
-fn settle<J: Publication>(
-    writer: &mut Writer<Shown<J>, Addition<J>, (), Unruled>,
-    held: Option<Addition<J>>,
-) -> Option<Addition<J>>
-    ensures desk { writer.new.desk ≡ writer.old.desk }
-    ensures newest { newest_of after writer.new.desk.shown.value
-        (drop writer.new.behind writer.new.log.items) result
-        ≡ newest_of after writer.old.desk.shown.value
-        (drop writer.old.behind writer.old.log.items) held }
-{
-    match held {
-        None => None,
-        Some(addition) => match writer.append(addition) {
-            Ok(()) => None,
-            Err(back) => Some(back),
-        },
-    }
-}
-
-/// Has readers take a copy with all that is pending.
-fn show<J: Publication, R: Wait>(
-    rt: &R,
-    writer: &mut Writer<Shown<J>, Addition<J>, (), Unruled>,
-) -> Result<(), NoMemory>
-    ensures shown { OnOk result (writer.new.desk.shown.value ≡ fold after
-        writer.old.desk.shown.value (drop writer.old.behind writer.old.log.items)) }
-    ensures none { OnOk result (drop writer.new.behind writer.new.log.items ≡ []) }
-    ensures same { OnErr result (writer.new.desk.shown.value ≡ writer.old.desk.shown.value) }
-    ensures pending { OnErr result (drop writer.new.behind writer.new.log.items
-        ≡ drop writer.old.behind writer.old.log.items) }
-{
-    let shown = replace_with(writer, rt, |writer, rt| {
-        writer.publish_as::<Unruled, R>(rt)
-    });
-    match shown {
-        Ok(()) => Ok(()),
-        Err(_) => Err(NoMemory),
-    }
 }
 
 impl<J: Publication> Copies<J, Shown<J>, Addition<J>> {
@@ -106,6 +69,7 @@ impl<J: Publication> Copies<J, Shown<J>, Addition<J>> {
           published = front;
           newest = front;
           pair = writer.desk.place.table_id;
+          refusals = 0;
         } }
     {
         Copies {
@@ -114,6 +78,7 @@ impl<J: Publication> Copies<J, Shown<J>, Addition<J>> {
             published: front.again(),
             newest: front,
             held: None,
+            refusals: Refusals::none(),
         }
     }
 
@@ -138,34 +103,40 @@ impl<J: Publication> Copies<J, Shown<J>, Addition<J>> {
         requires ready { IsReady (table_from J.start (records_of self.old.newest ++ next ∷ [])) }
         ensures published { self.new.published ≡ self.old.published }
         ensures ok { OnOk result (self.new.newest ≡ self.old.newest ++ Record next ∷ []) }
-        ensures err { OnErr result (self.new ≡ self.old) }
+        ensures err { OnErr result (self.new
+            ≡ record self.old { refusals = self.new.refusals }) }
         ensures back { IfErr result (λ r. r ≡ next) }
+        ensures later { self.old.refusals ≤ self.new.refusals }
+        ensures cause { OnErr result (Rose self.old.refusals self.new.refusals) }
     {
         let held = self.held.take();
-        self.held = settle(&mut self.writer, held);
+        self.held = self.refusals.settle(&mut self.writer, held);
         if self.held.is_some() {
             return Err(next);
         }
         let after = self.newest.with_record(rt, &self.head, &next);
         let addition = Addition::new(next, self.newest.again(), after.again());
         self.newest = after;
-        self.held = settle(&mut self.writer, Some(addition));
+        self.held = self.refusals.settle(&mut self.writer, Some(addition));
         Ok(())
     }
 
     /// Publishes what is pending.
+    #[tactic(auto, using(crate::proofs::Asked::rose_after))]
     pub(crate) fn publish<R: Wait>(&mut self, rt: &R) -> Result<(), NoMemory>
         requires open { is_ended self.old.newest ≡ false }
         ensures newest { self.new.newest ≡ self.old.newest }
         ensures ok { OnOk result (self.new.published ≡ self.new.newest) }
         ensures err { OnErr result (self.new.published ≡ self.old.published) }
+        ensures later { self.old.refusals ≤ self.new.refusals }
+        ensures cause { OnErr result (Rose self.old.refusals self.new.refusals) }
     {
-        let held = self.held.take();
-        self.held = settle(&mut self.writer, held);
+        let last = self.held.take();
+        self.held = self.refusals.settle(&mut self.writer, last);
         if self.held.is_some() {
             return Err(NoMemory);
         }
-        show(rt, &mut self.writer)?;
+        self.refusals.show(rt, &mut self.writer)?;
         self.published = self.newest.again();
         Ok(())
     }
@@ -193,6 +164,7 @@ impl<J: Publication> Copies<J, Shown<J>, Addition<J>> {
             published: _published,
             newest: _newest,
             held: _held,
+            refusals: _refusals,
         } = self;
         let shown = writer.take(rt);
         Box::into_inner(shown).into_table()

@@ -3,6 +3,7 @@
 //! that goes on from all that it saw before or learned of.
 #![tactic(auto)]
 
+mod asking;
 mod copies;
 mod entry;
 mod fault;

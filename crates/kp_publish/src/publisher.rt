@@ -1,6 +1,8 @@
 //! The publisher.
-ghost use Rattle.std.specs.Prelude.{◌≡◌, ◌+◌, ◌++◌, ◌∷◌, [], false, length, OnOk, OnErr, IfOk, IfErr};
+ghost use Rattle.std.specs.Prelude.{◌≡◌, ◌+◌, ◌≤◌, ◌++◌, ◌∷◌, [], false, length};
+ghost use Rattle.std.specs.Prelude.{OnOk, OnErr, IfOk, IfErr};
 ghost use Rattle.kp_history_defs.specs.History.{table_from};
+ghost use Rattle.kp_io.specs.Faults.{Rose};
 ghost use Rattle.kp_publish.specs.Entries.{records_of, is_ended, table_of, IsReady};
 ghost use Rattle.kp_publish.specs.Faults.{IsKeptOrBack};
 ghost use Rattle.kp_publish.specs.declared.entry.Entry.TheVariants.{Record, End};
@@ -16,8 +18,9 @@ use kp_types::SyncRecord;
 use std::marker::Model;
 use std::sync::Wait;
 
-/// The one that publishes. Contracts see the history that is published, and that with the records
-/// which it keeps for the next publishing. Once it is closed both are ended.
+/// The one that publishes. Contracts see the history that is published, that with the records which
+/// it keeps for the next publishing, and how often it was without memory. Once it is closed both
+/// histories are ended.
 pub struct Publisher<J: Publication> {
     copies: Copies<J, Shown<J>, Addition<J>>,
 }
@@ -54,8 +57,9 @@ impl<J: Publication> Publisher<J> {
         self.copies.published().again()
     }
 
-    /// Publishes a record, behind those that it keeps, and answers its number. It waits for
-    /// readers of the copy that it changes.
+    /// Publishes a record, after those that it keeps, and answers its number. It waits for readers
+    /// of the copy that it changes. It is refused only where memory was out in this call.
+    #[tactic(auto, using(crate::proofs::Asked::rose_after))]
     pub fn push_and_publish<R: Wait>(
         &mut self,
         rt: &R,
@@ -69,6 +73,8 @@ impl<J: Publication> Publisher<J> {
         ensures published { OnOk result (self.new.published ≡ self.new.newest) }
         ensures err { OnErr result (self.new.published ≡ self.old.published) }
         ensures record { IfErr result (λ fault. IsKeptOrBack fault next self.old self.new) }
+        ensures later { self.old.refusals ≤ self.new.refusals }
+        ensures cause { OnErr result (Rose self.old.refusals self.new.refusals) }
     {
         let number = next.sync;
         match self.copies.take_in(rt, next) {
