@@ -3,6 +3,7 @@ use Rattle.std.proofs.Common.{◌≡◌, ℕ, ◌+◌, ◌≤◌, ◌<◌, ◌�
 use mathlib.Core.List.{IsPrefix}
 use Rattle.kp_base.specs.declared.config.Config.{Config}
 use Rattle.kp_types.specs.declared.chain.Clash.{Clash}
+use Rattle.kp_io.specs.Faults.{Rose}
 use Rattle.kp_publish.specs.Entries.{records_of}
 use Rattle.kp_publish.specs.Pending.{Keeps}
 use Rattle.kp_publish.specs.declared.entry.Entry.{Entry}
@@ -10,7 +11,7 @@ use Rattle.kp_full_table.specs.declared.fault.TableFault.{TableFault}
 use Rattle.kp_full_table.specs.declared.fault.TableFault.TheVariants.{ChainClash, NoMemory}
 use Rattle.kp_hub.specs.Known.{Worker, known}
 use Rattle.kp_hub.specs.State.{HubState}
-use Rattle.kp_hub.specs.Syncs.{Accepts, Fails, GivesUp, IsClashOfSome, IsTold, Refuses, clash_after, counts_with_sync, with_refusal}
+use Rattle.kp_hub.specs.Syncs.{Accepts, Fails, GivesUp, IsClashOfSome, IsTold, IsUnpublished, Refuses, clash_after, counts_with_sync, with_refusal}
 use Rattle.kp_hub.specs.Taken.{Taken, records_at, with_sync}
 use Rattle.kp_hub.proofs.States.{records_length}
 
@@ -47,8 +48,15 @@ module _ (config : Config) (before made after : HubState)
     refusals = refusals_are;
   }
 
-  pub gives_up_made : GivesUp config before after
-  gives_up_made = record { counts = inr (no_clash_after, counts_are); refusals = refusals_are }
+  pub gives_up_made : Rose made.outlet.refusals after.outlet.refusals → GivesUp config before after
+  gives_up_made rose = record {
+    counts = inr (record {
+      no_clash = no_clash_after;
+      counts = counts_are;
+      cause = subst (λ (h : HubState). Rose h.outlet.refusals after.outlet.refusals) makes rose;
+    });
+    refusals = refusals_are;
+  }
 
 -- ---- It is refused
 
@@ -117,14 +125,15 @@ module _ (config : Config) (before first after : HubState)
     refusals = is.refusals ∙ refusals_stay;
   }
     where
-      given : (after.taken.counts ≡ first.taken.counts)
-          ⊎ ((clash_after config after.taken.journal ≡ None)
-          × (after.taken.counts ≡ counts_with_sync config first.taken.counts after.taken))
-          → (after.taken.counts ≡ before.taken.counts)
-          ⊎ ((clash_after config after.taken.journal ≡ None)
-          × (after.taken.counts ≡ counts_with_sync config before.taken.counts after.taken))
+      given : (after.taken.counts ≡ first.taken.counts) ⊎ IsUnpublished config first after
+          → (after.taken.counts ≡ before.taken.counts) ⊎ IsUnpublished config before after
       given (inl same) = inl (same ∙ counts)
-      given (inr more) = inr (more.0, more.1 ∙ ap (λ cs. counts_with_sync config cs after.taken) counts)
+      given (inr more) = inr (record {
+        no_clash = more.no_clash;
+        counts = more.counts ∙ ap (λ cs. counts_with_sync config cs after.taken) counts;
+        cause = subst (λ (k : Keeps). Rose k.refusals after.outlet.refusals)
+            (ap (λ (h : HubState). h.outlet) takes) more.cause;
+      })
 
 -- ---- A pass is told of it
 

@@ -9,6 +9,7 @@ use Rattle.kp_object_defs.specs.Objects.{objects_after}
 use Rattle.kp_table_defs.specs.Rebuild.{clash_of}
 use Rattle.kp_history_defs.specs.declared.fed.Fed.{Fed}
 use Rattle.kp_history_defs.specs.Runs.{events_of}
+use Rattle.kp_io.specs.Faults.{Rose}
 use Rattle.kp_publish.specs.Entries.{records_of}
 use Rattle.kp_full_table.specs.declared.fault.TableFault.{TableFault}
 use Rattle.kp_full_table.specs.declared.fault.TableFault.TheVariants.{ChainClash, NoMemory}
@@ -49,11 +50,15 @@ pub record Refuses (config : Config) (clash : Clash) (before after : HubState) :
       ≡ before.refusals
       ++ record { events = length after.taken.journal; clash = clash } ∷ []
 
+-- A record of the whole journal was made, and then the publisher had no memory.
+pub record IsUnpublished (config : Config) (before after : HubState) : Type 0 where
+  pub no_clash : clash_after config after.taken.journal ≡ None
+  pub counts : after.taken.counts ≡ counts_with_sync config before.taken.counts after.taken
+  pub cause : Rose before.outlet.refusals after.outlet.refusals
+
 -- Memory ran out: the syncs stay, or there is one more, which then waits or is published later.
 pub record GivesUp (config : Config) (before after : HubState) : Type 0 where
-  pub counts : (after.taken.counts ≡ before.taken.counts)
-      ⊎ ((clash_after config after.taken.journal ≡ None)
-      × (after.taken.counts ≡ counts_with_sync config before.taken.counts after.taken))
+  pub counts : (after.taken.counts ≡ before.taken.counts) ⊎ IsUnpublished config before after
   pub refusals : after.refusals ≡ before.refusals
 
 -- which of these a fault tells

@@ -19,6 +19,7 @@ pub use finished::Finished;
 pub use hub::Hub;
 pub use kp_feed::{Fed, FeedPass};
 pub use kp_full_table::TableFault;
+pub use kp_publish::{Reader, View};
 pub use notes::{Origin, RecordNote, Refusal, Stop, Synced};
 pub use opening::Opening;
 pub use pass::WorkerPass;

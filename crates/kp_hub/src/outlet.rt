@@ -1,6 +1,7 @@
 //! Records that wait, and their publishing.
 ghost use Rattle.std.specs.Prelude.{◌≡◌, ◌+◌, ◌<◌, ◌≤◌, ◌++◌, ◌∷◌, [], false, length, OnOk, OnErr, IfErr};
 ghost use Rattle.std.specs.VecDeque.{deque_len, deque_capacity};
+ghost use Rattle.kp_io.specs.Faults.{Rose};
 ghost use mathlib.Core.List.{IsPrefix};
 ghost use Rattle.kp_publish.specs.Entries.{is_ended, records_of};
 ghost use Rattle.kp_hub.specs.Ready.{AreReady};
@@ -36,6 +37,8 @@ fn publish_first<J: Publication, R: Wait>(
     ensures one { OnOk result (length waiting.new.items + 1 ≡ length waiting.old.items) }
     ensures published { OnOk result (publisher.new.published ≡ publisher.new.newest) }
     ensures kept { OnErr result (publisher.new.published ≡ publisher.old.published) }
+    ensures later { publisher.old.refusals ≤ publisher.new.refusals }
+    ensures cause { OnErr result (Rose publisher.old.refusals publisher.new.refusals) }
 {
     let Some(next) = waiting.pop_front() else {
         return Ok(());
@@ -51,7 +54,7 @@ fn publish_first<J: Publication, R: Wait>(
 }
 
 /// Publishes the records that wait, in order. Where memory is out those that are left still wait,
-/// or the publisher keeps them.
+/// or the publisher keeps them. It is out only where it was for the publisher.
 pub(crate) fn publish_all<J: Publication, R: Wait>(
     rt: &R,
     publisher: &mut Publisher<J>,
@@ -65,6 +68,8 @@ pub(crate) fn publish_all<J: Publication, R: Wait>(
     ensures all { OnOk result (waiting.new.items ≡ []) }
     ensures published { OnOk result (0 < length waiting.old.items
         → publisher.new.published ≡ publisher.new.newest) }
+    ensures later { publisher.old.refusals ≤ publisher.new.refusals }
+    ensures cause { OnErr result (Rose publisher.old.refusals publisher.new.refusals) }
 {
     for turn in 0..waiting.len() {
         publish_first(rt, publisher, waiting)?;

@@ -68,6 +68,25 @@ impl<J: Sharing, A: Ledger, C: Ledger> WorkerPass<J, A, C> {
         }
     }
 
+    /// Its reader, which goes on from all that the pass saw or learned of. It may stay inside for
+    /// more than one look. What the pass counted counts for nobody.
+    pub fn into_reader(self) -> Reader<J>
+        ensures seen { result.seen ≡ self.seen }
+        ensures told { result.told ≡ self.told }
+    {
+        let WorkerPass {
+            reader,
+            learned: _learned,
+            node: _node,
+            accepted: _accepted,
+            refused: _refused,
+        } = self;
+        match reader {
+            Some(reader) => reader,
+            None => unreachable!(),
+        }
+    }
+
     /// What becomes of the packet of the line of this number, by a published table, and the number
     /// of that table's sync.
     pub(crate) fn verdict_of<R: Wait>(

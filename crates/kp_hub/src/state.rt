@@ -5,6 +5,7 @@ ghost use Rattle.std.specs.List.{AllByRecursion};
 ghost use Rattle.kp_feed.specs.Feeding.{AreWhole};
 ghost use Rattle.kp_full_table.specs.Faults.{TellsClash};
 ghost use Rattle.kp_history_defs.specs.declared.fed.Fed.{Fed};
+ghost use Rattle.kp_io.specs.Faults.{Rose};
 ghost use Rattle.kp_publish.specs.Entries.{records_of};
 ghost use Rattle.kp_publish.specs.Pending.{Keeps};
 ghost use Rattle.kp_run_defs.specs.LegalRuns.{last_syncs};
@@ -104,7 +105,8 @@ impl<J: Sharing, A: Ledger, C: Ledger> Held<J, A, C> {
     /// Takes events until one of the stops, and then makes a record of them all and publishes it,
     /// with those that wait before it. It is refused exactly where two different chains that the
     /// objects need have one name; then nothing is published, and the clash is kept. After want of
-    /// memory records that waited may have been published.
+    /// memory records that waited may have been published, and where the record was made, it is the
+    /// publisher that had none.
     pub fn sync<R: Wait>(
         &mut self,
         rt: &R,
@@ -416,6 +418,7 @@ impl<J: Sharing, A: Ledger, C: Ledger> Held<J, A, C> {
         ensures published { OnOk result (self.new.outlet.published ≡ self.new.outlet.newest) }
         ensures records { OnOk result (records_of self.new.outlet.published
             ≡ records_at J.config self.new.taken) }
+        ensures cause { OnErr result (Rose self.old.outlet.refusals self.new.outlet.refusals) }
         ensures stays { self.new ≡ record self.old { outlet = self.new.outlet } }
     {
         self.intake.are_ready();
