@@ -48,7 +48,7 @@ pub(crate) fn op_of(alloc: Global, number: u64, line: &str) -> Result<Op, Fail> 
 }
 
 /// What a line is read as. A call with a long contract is behind a function that has none.
-fn read(alloc: Global, number: u64, line: &str) -> Result<ScriptLine, ScriptFault> {
+pub(crate) fn read(alloc: Global, number: u64, line: &str) -> Result<ScriptLine, ScriptFault> {
     line_of(alloc, line.as_bytes(), number == 1)
 }
 

@@ -131,7 +131,7 @@ fn take_lines(
 }
 
 /// The configuration of a line.
-fn config_of(alloc: Global, line: &str) -> Result<Config, Fail> {
+pub(crate) fn config_of(alloc: Global, line: &str) -> Result<Config, Fail> {
     match op_of(alloc, 1, line)? {
         Op::Config(config) => Ok(config),
         _ => Err(Fail::from("a configuration")),
