@@ -3,7 +3,7 @@ use Rattle.std.proofs.Common.{◌≡◌, ◌<◌, ◌≤◌, ◌+◌, inr, ℕ, 
 use Rattle.std.specs.Prelude.{Option, Some, None, Result, Ok, Err, IfOk, IfSome, OnErr, nat_lt}
 use Rattle.std.specs.List.{AllByRecursion, filter}
 use Rattle.kp_base.specs.declared.config.Config.{Config}
-use Rattle.kp_pack_laws.proofs.Shuffles.{all_unmapped}
+use Rattle.kp_pack_laws.proofs.Shuffles.{all_mapped, all_unmapped}
 use Rattle.kp_types.specs.declared.chain.Clash.{Clash}
 use Rattle.kp_table_defs.specs.Rebuild.{TableParts}
 use Rattle.kp_history_defs.specs.declared.fed.Fed.{Fed}
@@ -32,7 +32,7 @@ use Rattle.kp_live.specs.declared.answers.Answers.{Answers}
 use Rattle.kp_live.specs.declared.fault.LiveFault.{LiveFault}
 use Rattle.kp_live.proofs.Ending.{answers_at, ends_legal, few_by, told_at}
 use Rattle.kp_live.proofs.Readings.{IsRead, input_is_read}
-use Rattle.kp_live.proofs.Together.{all_by_place, all_to_map}
+use Rattle.kp_live.proofs.Together.{all_by_place}
 
 -- feeders of streams that ended are of the queue
 pub ended_queues : (start : TableParts) (reading : Reading) (queue : QueueId) (n : ℕ)
@@ -41,7 +41,7 @@ pub ended_queues : (start : TableParts) (reading : Reading) (queue : QueueId) (n
     → AllByRecursion (λ (f : Feeder). f.queue ≡ queue) feeders
 ended_queues start reading queue n feeders workers answers e =
     subst (AllByRecursion (λ (f : Feeder). f.queue ≡ queue)) (sym e.feeders_are)
-    (all_to_map (λ (f : Feeder). f.queue ≡ queue) (λ (s : Stand). s.feeder) e.stands
+    (all_mapped (λ (f : Feeder). f.queue ≡ queue) (λ (s : Stand). s.feeder) e.stands
     (all_by_place (λ (s : Stand). s.feeder.queue ≡ queue) e.stands
     (λ i s is. (e.each i s is).queue_is)))
 

@@ -29,11 +29,6 @@ pub all_by_place : {A : Type 0} (P : A → Type 0) (xs : List A)
 all_by_place P [] each = tt
 all_by_place P (x ∷ xs) each = (each 0 x refl, all_by_place P xs (λ i y is. each (suc i) y is))
 
-pub all_to_map : {A B : Type 0} (P : B → Type 0) (f : A → B) (xs : List A)
-    → AllByRecursion (λ x. P (f x)) xs → AllByRecursion P (map f xs)
-all_to_map P f [] all = tt
-all_to_map P f (x ∷ xs) all = (all.0, all_to_map P f xs all.1)
-
 -- what several clauses say of a result
 pub all_ok : {E F : Type 0} (r : Result E F) (A B C G : E → Type 0) (W : Type 0)
     → ((e : E) → A e → B e → C e → W → G e) → IfOk r A → IfOk r B → IfOk r C → OnOk r W → IfOk r G
