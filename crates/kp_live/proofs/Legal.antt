@@ -12,6 +12,7 @@ use Rattle.kp_run_defs.specs.LiveLines.{Reading, is_line_of, lines_of_stream}
 use Rattle.kp_run_defs.specs.LiveText.{is_refused_sync}
 use Rattle.kp_run_defs.specs.declared.live.StreamLine.{StreamLine}
 use Rattle.kp_run_defs.specs.declared.live.Work.{Work}
+use Rattle.kp_pack_laws.proofs.Shuffles.{all_unmapped}
 use Rattle.kp_run_defs.specs.declared.live.Work.TheVariants.{Feeds, Syncs, Sends}
 use Rattle.kp_hub.specs.declared.notes.Refusal.{Refusal}
 use Rattle.kp_live.specs.Streams.{Shown, is_accepted, is_denied, seen_from, see_shown}
@@ -106,7 +107,7 @@ marks_found (s ∷ all) rising = (
       (λ x lt found.
       ap (λ b. cond b s.1 (mark_at all x.0.number))
       (not_equal s.0.number x.0.number (s.0.number == x.0.number) refl lt) ∙ found)
-      all (all_of_map (λ (l : StreamLine). s.0.number < l.number) line_of all rising.0)
+      all (all_unmapped (λ (l : StreamLine). s.0.number < l.number) line_of all rising.0)
       (marks_found all rising.1),
 )
 

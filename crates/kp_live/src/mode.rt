@@ -1,5 +1,5 @@
 //! The mode.
-ghost use Rattle.std.specs.Prelude.{◌≡◌, ◌≤◌, ◌⊎◌, ◌++◌, [], ℕ, List, Err, IfOk, IfSome, OnOk};
+ghost use Rattle.std.specs.Prelude.{◌≡◌, ◌≤◌, ◌<◌, ◌⊎◌, ◌++◌, [], ℕ, List, Err, IfOk, IfSome, OnOk};
 ghost use Rattle.std.specs.Prelude.{OnErr, length, replicate};
 ghost use Rattle.std.specs.Io.KnownBytes.{IsAtEnd};
 ghost use Rattle.std.specs.List.{AllByRecursion};
@@ -20,7 +20,7 @@ ghost use Rattle.kp_live.specs.Written.{EndsRun, WritesFront, WritesInput};
 use crate::fault::LiveFault;
 use crate::parts::print;
 use crate::streams::{Ended, cut_lines, run_all, streams_of, take_apart};
-use kp_base::{Copied, Items, NoMemory};
+use kp_base::{Copied, Items, NoMemory, Text};
 use kp_feed::FeedPass;
 use kp_gate::Gate;
 use kp_hub::{Finished, Hub, Opening, Sharing, WorkerPass, laws};
@@ -73,11 +73,18 @@ fn opening_of(alloc: Global, lines: &StreamLines) -> Result<Opening, NoMemory>
     ensures streams { IfOk result
         (λ o. o.streams ≡ length (running_streams (reading_in lines.now))) }
 {
-    let streams = match lines.streams().len() as u32 {
-        0 => 1,
-        streams => streams,
-    };
+    let streams = count_of(lines.streams());
     Opening::new(alloc, lines.config().copy(alloc)?, streams)
+}
+
+/// How many streams run, by the names of the streams: one where there are none.
+fn count_of(names: &[Text]) -> u32
+    requires { length names.now ≤ 64 }
+    ensures none { length names.now ≡ 0 → result ≡ 1 }
+    ensures some { 0 < length names.now → result ≡ length names.now }
+{
+    let count = names.len();
+    if count == 0 { 1 } else { count as u32 }
 }
 
 /// Runs the streams of these lines over a hub of these parts, and writes the text of the run.
