@@ -1,8 +1,9 @@
 #!/usr/bin/env bash
 # The wall time of `kproxy live` on packets to a table of 1,000 Services: sent by one stream, by
-# four, and by four beside a fifth that changes a pod and syncs 2,000 times. The three run by turns;
-# each figure is the least of its runs, less what a run without lines takes. Then the most memory
-# that each held, and how much of it one packet more takes, with its line.
+# four, and by four beside a fifth that changes a pod and syncs 2,000 times: a pod that leaves its
+# Service an endpoint, or its Service's only one. The four run by turns; each figure is the least of
+# its runs, less what a run without lines takes. Then the most memory that three of them held, and
+# how much of it one packet more takes, with its line.
 #   bench/live.sh [PACKETS [RUNS]]
 # KPROXY is the command that is measured: `./kproxy` if left out.
 set -eu
@@ -22,12 +23,13 @@ bench/streams.sh 1 "$services" $((packets / 2)) >"$work/half"
 bench/streams.sh 1 "$services" "$packets" >"$work/one"
 bench/streams.sh 4 "$services" "$packets" >"$work/four"
 bench/streams.sh 4 "$services" "$packets" "$changes" >"$work/five"
+bench/streams.sh 4 "$services" "$packets" "$changes" last >"$work/last"
 echo "input: bench/streams.sh 1 and 4 $services $packets, and 4 with $changes changes; wall time," \
     "the least of $runs by turns, on $(nproc) processors"
 "${program[@]}" <"$work/none" >/dev/null
 
 for ((run = 0; run < runs; run++)); do
-    for name in none one four five; do
+    for name in none one four five last; do
         wall_seconds "$work/$name" "${program[@]}" >>"$work/$name.seconds"
     done
 done
@@ -45,6 +47,7 @@ tell() { # $1: what it is, $2: the file, $3: what it stands beside, $4: the file
 echo "one stream: $(least one) s"
 tell "four streams" four "one stream" one
 tell "four streams beside a fifth" five "four streams" four
+tell "the same, of a Service's last endpoint" last "four streams" four
 [ -x /usr/bin/time ] || exit 0
 for name in half one four five; do
     most_memory "$work/$name" "${program[@]}" >"$work/$name.held"
