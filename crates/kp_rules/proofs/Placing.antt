@@ -1,5 +1,5 @@
 -- The places of a table's chains as a set, while edits are made.
-use Rattle.std.proofs.Common.{◌≡◌, ◌||◌, ◌&&◌, ◌+◌, ◌<◌, ◌∷◌, ◌++◌, [], ℕ, suc, Bool, true, false, cond, List, Option, Some, None, is_some, fold, length, take, drop, arith, refl, sym, ap, ◌∙◌, subst, ◌⊎◌, inl, inr, ⊎_elim}
+use Rattle.std.proofs.Common.{◌≡◌, ◌||◌, ◌&&◌, ◌+◌, ◌<◌, ◌≤◌, ◌-◌, ◌∷◌, ◌++◌, [], ℕ, suc, Bool, true, false, cond, List, Option, Some, None, is_some, fold, length, drop, arith, refl, sym, ap, ◌∙◌, subst, ◌⊎◌, inl, inr, ⊎_elim}
 use Rattle.std.specs.declared.cmp.Ordering.{Ordering}
 use Rattle.std.specs.BTreeSet.{BTreeSet, IsOrdered}
 use Rattle.std.specs.Cmp.{IsTotalOrder, eq_by_cmp_equiv}
@@ -11,7 +11,7 @@ use Rattle.std.proofs.lemmas.Bool.{false≢true, or_cases, or_left, or_right}
 use denote.Ref.{Bor}
 use lib.ListN.{get_or}
 use Rattle.std.specs.Option.{option_copied}
-use Rattle.std.proofs.lemmas.List.Folds.{list_any-append, list_any_at, list_any_more}
+use Rattle.std.proofs.lemmas.List.Folds.{list_any-append, list_any_at}
 use Rattle.std.proofs.Math.Seq.{drop-cons}
 use Rattle.std.proofs.lemmas.Map.Lookups.{btree_set_from_contains}
 use Rattle.kp_types.specs.Places.{chain_cmp}
@@ -251,14 +251,18 @@ staged_left places m es i e lt is =
     let next : suc i ≡ i + 1 = omega arith in
     subst (AreStaged places m) (drop-cons es i e lt ∙ (λ j. sym is j ∷ drop (next j) es))
 
--- and those before it, and it, are written
-pub written_more : (places more : BTreeSet ChainAt) (es : List Edit) (i : ℕ) (e : Edit) → i < length es
-    → e ≡ get_or es i e → ((q : ChainAt) → has_place places q ≡ true → has_place more q ≡ true)
+-- and those after it, and it, are written
+pub written_before : (places more : BTreeSet ChainAt) (es : List Edit) (i : ℕ) (e : Edit) → 0 < i
+    → i ≤ length es → e ≡ get_or es (i - 1) e
+    → ((q : ChainAt) → has_place places q ≡ true → has_place more q ≡ true)
     → ((q : ChainAt) → is_write e && is_at q e ≡ true → has_place more q ≡ true)
-    → HaveWritten places (take i es) → HaveWritten more (take (i + 1) es)
-written_more places more es i e lt is old new written q h =
-    let either = or_cases _ _ (sym (list_any_more (λ x. is_write x && is_at q x) es i e lt) ∙ h) in
-    ⊎_elim (λ k. old q (written q k)) (λ k. new q (ap (λ x. is_write x && is_at q x) is ∙ k)) either
+    → HaveWritten places (drop i es) → HaveWritten more (drop (i - 1) es)
+written_before places more es i e some within is old new written q h =
+    let inside : i - 1 < length es = omega (arith, some, within) in
+    let next : suc (i - 1) ≡ i = omega (arith, some) in
+    let cut : drop (i - 1) es ≡ e ∷ drop i es =
+    drop-cons es (i - 1) e inside ∙ (λ k. sym is k ∷ drop (next k) es) in
+    ⊎_elim (new q) (λ k. old q (written q k)) (or_cases _ _ (sym (ap (λ xs. is_written xs q) cut) ∙ h))
 
 -- what is put in is there
 pub there : (t h : Bool) → t ≡ true → cond t true h ≡ true

@@ -11,14 +11,16 @@ use kp_types::{ChainAt, Edit};
 use std::alloc::Global;
 use std::collections::BTreeSet;
 
-/// Puts in the places that these edits write. Without memory some of them may be there.
+/// Puts in the places that these edits write. Without memory some of them may be there. Edits stand
+/// mostly in the order of their places, and a tree's nodes are searched from their first key on, so
+/// that the last is put in first.
 pub fn add_written(places: &mut BTreeSet<ChainAt>, edits: &[Edit]) -> Result<(), NoMemory>
     ensures staged { (chains : Chains) → ArePlaces places.old chains
         → AreStaged places.new chains edits.now }
     ensures written { OnOk result (HaveWritten places.new edits.now) }
 {
-    for edit in edits {
-        if let Edit::Write { at, .. } = edit {
+    for i in (0..edits.len()).rev() {
+        if let Edit::Write { at, .. } = &edits[i] {
             places.insert(at.same())?;
         }
     }

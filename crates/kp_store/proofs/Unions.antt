@@ -1,5 +1,6 @@
 -- The keys of several buckets, and the objects with any of several tags.
-use Rattle.std.proofs.Common.{◌≡◌, ℕ, ◌+◌, ◌<◌, ◌||◌, Bool, true, false, List, [], ◌∷◌, map, take, length, get_or, filter, Option, Some, None, cond, is_some, refl, sym, ap, ◌∙◌}
+use Rattle.std.proofs.Common.{◌≡◌, ℕ, suc, ◌+◌, ◌-◌, ◌<◌, ◌≤◌, arith, drop, ◌||◌, Bool, true, false, List, [], ◌∷◌, map, take, length, get_or, filter, Option, Some, None, cond, is_some, refl, sym, ap, ◌∙◌}
+use Rattle.std.proofs.Math.Seq.{drop-cons}
 use Rattle.std.specs.List.{list_any, filter_map}
 use Rattle.std.specs.Ordering.{eq_by_cmp}
 use Rattle.std.specs.FinMap as finite
@@ -24,6 +25,17 @@ pub more_beside : {X : Type 0} (p : X → Bool) (xs : List X) (i : ℕ) (x : X) 
     → p x || (list_any p (take i xs) || old) ≡ list_any p (take (i + 1) xs) || old
 more_beside p xs i x old lt is =
     sym (or_assoc (p x) (list_any p (take i xs)) old) ∙ ap (λ b. b || old) (any_more p xs i x lt is)
+
+-- the same where elements are taken from the last on
+pub one_before : {X : Type 0} (p : X → Bool) (xs : List X) (i : ℕ) (x : X) (old : Bool)
+    → 0 < i → i ≤ length xs → x ≡ get_or xs (i - 1) x
+    → p x || (list_any p (drop i xs) || old) ≡ list_any p (drop (i - 1) xs) || old
+one_before p xs i x old some within is =
+    let inside : i - 1 < length xs = omega (arith, some, within) in
+    let next : suc (i - 1) ≡ i = omega (arith, some) in
+    let cut : drop (i - 1) xs ≡ x ∷ drop i xs =
+    drop-cons xs (i - 1) x inside ∙ (λ k. sym is k ∷ drop (next k) xs) in
+    sym (or_assoc (p x) (list_any p (drop i xs)) old) ∙ ap (λ ys. list_any p ys || old) (sym cut)
 
 -- a key is among the keys of a map
 pub among_keys : {X : Type 0} (m : FinMap key_cmp X) (k : ObjectKey) → list_any (eq_by_cmp key_cmp k) (finite.keys m) ≡ contains_key m k

@@ -78,7 +78,9 @@ impl KeySet {
         Ok(())
     }
 
-    /// Puts the keys of names. Where memory is out, some of them may be there, and none is lost.
+    /// Puts the keys of names. Where memory is out, some of them may be there, and none is lost. Names
+    /// stand mostly in order, and a tree's nodes are searched from their first key on, so that the
+    /// last is put first.
     pub fn put_all<K: Name>(&mut self, alloc: Global, names: &[&K]) -> Result<(), NoMemory>
         ensures all { OnOk result ((k : ObjectKey) → finite.contains_key self.new k
             ≡ list_any (λ q. eq_by_cmp key_cmp k (K.key_of q.now)) names.now
@@ -86,8 +88,8 @@ impl KeySet {
         ensures kept { OnErr result ((k : ObjectKey) → finite.contains_key self.old k ≡ true
             → finite.contains_key self.new k ≡ true) }
     {
-        for name in names {
-            self.put(name.key(alloc)?)?;
+        for i in (0..names.len()).rev() {
+            self.put(names[i].key(alloc)?)?;
         }
         Ok(())
     }
