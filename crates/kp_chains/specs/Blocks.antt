@@ -1,5 +1,5 @@
 -- The rules of a port in the shared chains.
-use Rattle.std.specs.Prelude.{List, [], ◌∷◌, Option, Some, None}
+use Rattle.std.specs.Prelude.{ℕ, ◌+◌, List, [], ◌∷◌, length, Option, Some, None}
 use Rattle.kp_types.specs.Setting.{Setting}
 use Rattle.kp_types.specs.declared.chain.ChainAt.{ChainAt}
 use Rattle.kp_types.specs.declared.chain.TableName.TheVariants.{Nat, Filter}
@@ -17,6 +17,10 @@ blocks_of setting i = record {
   external = external_block setting.family i;
   refusals = refusal_block i;
 }
+
+-- how many rules blocks have together
+abbrev pub block_count : Blocks → ℕ
+block_count b = length b.services + length b.node_ports + length b.firewall + length b.external + length b.refusals
 
 -- blocks, each under the place of its chain
 abbrev pub rows_of_blocks : Blocks → List (ChainAt × List Rule)

@@ -1,5 +1,5 @@
 //! The rules of one port in the shared chains.
-ghost use Rattle.std.specs.Prelude.{◌≡◌, ◌++◌, ◌∷◌, [], not, map, IfOk, OnOk};
+ghost use Rattle.std.specs.Prelude.{◌≡◌, ◌+◌, ◌++◌, ◌∷◌, [], not, map, IfOk, OnOk, OnErr};
 ghost use Rattle.kp_base.specs.declared.address.Family.TheVariants.{V4};
 ghost use Rattle.kp_choice_defs.specs.Settings.{setting_of};
 ghost use Rattle.kp_object_defs.specs.PortInfo as spec;
@@ -9,15 +9,17 @@ ghost use Rattle.kp_types.specs.declared.chain.PortChain.TheVariants.{Ext};
 ghost use Rattle.kp_types.specs.declared.rule.Match.TheVariants as match;
 ghost use Rattle.kp_types.specs.declared.rule.Target.TheVariants as target;
 ghost use Rattle.kp_table_defs.specs.Layout as layout;
-ghost use Rattle.kp_chains.specs.Blocks.{blocks_of};
+ghost use Rattle.kp_chains.specs.Blocks.{block_count, blocks_of};
 
+use crate::count::count_blocks;
 use crate::external::port_chain;
 use crate::keys::has_firewall;
 use crate::rows::outside_loopback;
 use crate::rules::{add_rules_at, rule_at, rule1, rule3};
-use kp_base::{Address, Cidr, Config, Endpoint, Items, NoMemory, PortNo};
+use kp_base::{Address, Cidr, Config, Endpoint, Items, NoMemory, PortNo, Steps};
 use kp_types::{Match, Policy, PortChain, PortInfo, Rule, Target};
 use std::alloc::Global;
+use std::sync::ledger::Ledger;
 
 /// The rules of one or more ports in the shared chains.
 #[derive(Drop)]
@@ -34,8 +36,25 @@ pub struct Blocks {
     pub refusals: Items<Rule>,
 }
 
-/// The rules of one port in the shared chains.
-pub fn info_blocks(alloc: Global, config: &Config, info: &PortInfo) -> Result<Blocks, NoMemory>
+/// The rules of one port in the shared chains. A step is taken for each; without memory none is.
+pub fn info_blocks<L: Ledger>(
+    alloc: Global,
+    config: &Config,
+    info: &PortInfo,
+    steps: &mut Steps<L>,
+) -> Result<Blocks, NoMemory>
+    ensures blocks { IfOk result (λ b. b ≡ blocks_of (setting_of V4 config.now) info.now) }
+    ensures steps { OnOk result (steps.new
+        ≡ steps.old + block_count (blocks_of (setting_of V4 config.now) info.now)) }
+    ensures no_step { OnErr result (steps.new ≡ steps.old) }
+{
+    let blocks = all_blocks(alloc, config, info)?;
+    count_blocks(steps, &blocks);
+    Ok(blocks)
+}
+
+/// They, uncounted.
+pub fn all_blocks(alloc: Global, config: &Config, info: &PortInfo) -> Result<Blocks, NoMemory>
     ensures { IfOk result (λ b. b ≡ blocks_of (setting_of V4 config.now) info.now) }
 {
     let services = service_block(alloc, config, info)?;

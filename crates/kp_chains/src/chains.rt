@@ -1,26 +1,46 @@
 //! The chains of one port.
-ghost use Rattle.std.specs.Prelude.{◌≡◌, ◌++◌, map, IfOk, OnOk};
+ghost use Rattle.std.specs.Prelude.{◌≡◌, ◌+◌, ◌++◌, map, IfOk, OnOk, OnErr};
 ghost use Rattle.kp_base.specs.declared.address.Family.TheVariants.{V4};
 ghost use Rattle.kp_choice_defs.specs.Settings.{setting_of};
 ghost use Rattle.kp_object_defs.specs.Lists as Lists;
 ghost use Rattle.kp_table_defs.specs.Keys as keys;
 ghost use Rattle.kp_table_defs.specs.Layout as layout;
 ghost use Rattle.kp_chains.specs.Named as spec;
-ghost use Rattle.kp_chains.specs.Rows.{row_of, rows_of_texts};
+ghost use Rattle.kp_chains.specs.Rows.{row_of, rows_of_texts, rule_count};
 
+use crate::count::count_chains;
 use crate::endpoints::{add_endpoint_chains, add_other_chains};
 use crate::external::{external_rules, firewall_chain_rules, port_chain};
 use crate::keys::needed_kinds;
 use crate::lists::list_rules;
 use crate::named::{NamedEndpoint, named};
-use kp_base::{Config, Items, NoMemory};
+use kp_base::{Config, Items, NoMemory, Steps};
 use kp_types::{ChainAt, ChainText, Policy, PortChain, PortInfo, Rule, TableName};
 use std::alloc::Global;
+use std::sync::ledger::Ledger;
 
 /// The chains of one port: those that choose among the endpoints of a list, that of what comes in
-/// from outside, that of the source ranges, and those of the endpoints. The name of an endpoint's
-/// chain is hashed once a list.
-pub fn info_chains(
+/// from outside, that of the source ranges, and those of the endpoints. A step is taken for each of
+/// their rules; without memory none is.
+pub fn info_chains<L: Ledger>(
+    alloc: Global,
+    config: &Config,
+    info: &PortInfo,
+    steps: &mut Steps<L>,
+) -> Result<Vec<ChainText>, NoMemory>
+    ensures chains { IfOk result (λ rows. rows_of_texts rows.items
+        ≡ layout.port_rows (setting_of V4 config.now) info.now) }
+    ensures steps { OnOk result (steps.new
+        ≡ steps.old + rule_count (layout.port_rows (setting_of V4 config.now) info.now)) }
+    ensures no_step { OnErr result (steps.new ≡ steps.old) }
+{
+    let rows = all_chains(alloc, config, info)?;
+    count_chains(steps, rows.as_slice());
+    Ok(rows)
+}
+
+/// They. The name of an endpoint's chain is hashed once a list.
+pub fn all_chains(
     alloc: Global,
     config: &Config,
     info: &PortInfo,

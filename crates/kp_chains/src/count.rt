@@ -1,7 +1,9 @@
 //! Counting of the rules that are made.
 ghost use Rattle.std.specs.Prelude.{◌≡◌, ◌+◌, length};
+ghost use Rattle.kp_chains.specs.Blocks.{block_count};
 ghost use Rattle.kp_chains.specs.Rows.{rows_of_texts, rule_count};
 
+use crate::blocks::Blocks;
 use kp_base::Steps;
 use kp_types::{ChainText, Rule};
 use std::sync::ledger::Ledger;
@@ -22,4 +24,15 @@ pub fn count_chains<L: Ledger>(steps: &mut Steps<L>, chains: &[ChainText])
     for chain in chains {
         count_rules(steps, chain.rules.as_slice());
     }
+}
+
+/// Takes a step for each rule of blocks.
+pub fn count_blocks<L: Ledger>(steps: &mut Steps<L>, blocks: &Blocks)
+    ensures { steps.new ≡ steps.old + block_count blocks.now }
+{
+    count_rules(steps, blocks.services.as_slice());
+    count_rules(steps, blocks.node_ports.as_slice());
+    count_rules(steps, blocks.firewall.as_slice());
+    count_rules(steps, blocks.external.as_slice());
+    count_rules(steps, blocks.refusals.as_slice());
 }

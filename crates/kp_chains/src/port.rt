@@ -3,15 +3,13 @@ ghost use Rattle.std.specs.Prelude.{◌≡◌, ◌+◌, IfOk, OnOk, OnErr};
 ghost use Rattle.kp_base.specs.declared.address.Family.TheVariants.{V4};
 ghost use Rattle.kp_choice_defs.specs.Settings.{setting_of};
 ghost use Rattle.kp_chains.specs.Rows.{rows_of_texts, rule_count};
-ghost use Rattle.kp_table_defs.specs.Layout.{port_rows};
 ghost use Rattle.kp_chains.specs.Ports.{rows_known};
 ghost use Rattle.kp_port_info.specs.Infos.{known_of};
 
 use crate::chains::info_chains;
-use crate::count::count_chains;
 use kp_base::{Config, Copied, Items, NoMemory, Steps};
 use kp_port_info::port_info;
-use kp_types::{ChainText, Lists, PortInfo, Service, ServicePort};
+use kp_types::{ChainText, Lists, Service, ServicePort};
 use std::alloc::Global;
 use std::sync::ledger::Ledger;
 
@@ -33,25 +31,7 @@ pub fn port_chains<L: Ledger>(
     ensures no_step { OnErr result (steps.new ≡ steps.old) }
 {
     match port_info(alloc, service, port, lists.copy(alloc)?)? {
-        Some(info) => counted_chains(alloc, config, &info, steps),
+        Some(info) => Ok(Items::from_vec(info_chains(alloc, config, &info, steps)?)),
         None => Ok(Items::new(alloc)),
     }
-}
-
-/// The chains of one port. A step is taken for each of their rules; without memory none is.
-fn counted_chains<L: Ledger>(
-    alloc: Global,
-    config: &Config,
-    info: &PortInfo,
-    steps: &mut Steps<L>,
-) -> Result<Items<ChainText>, NoMemory>
-    ensures chains { IfOk result (λ cs. rows_of_texts cs
-        ≡ port_rows (setting_of V4 config.now) info.now) }
-    ensures steps { OnOk result (steps.new
-        ≡ steps.old + rule_count (port_rows (setting_of V4 config.now) info.now)) }
-    ensures no_step { OnErr result (steps.new ≡ steps.old) }
-{
-    let chains = Items::from_vec(info_chains(alloc, config, info)?);
-    count_chains(steps, chains.as_slice());
-    Ok(chains)
 }

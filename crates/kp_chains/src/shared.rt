@@ -9,7 +9,7 @@ ghost use Rattle.kp_port_info.specs.Infos.{known_of};
 ghost use Rattle.kp_chains.specs.Blocks as spec;
 ghost use Rattle.kp_chains.specs.Blocks.{block_rows_known, blocks_of};
 
-use crate::blocks::{Blocks, info_blocks};
+use crate::blocks::{Blocks, all_blocks};
 use crate::count::count_chains;
 use crate::rows::add_row;
 use kp_base::{Config, Copied, Items, NoMemory, Steps};
@@ -55,7 +55,7 @@ fn counted_block<L: Ledger>(
         + rule_count (spec.rows_of_blocks (blocks_of (setting_of V4 config.now) info.now))) }
     ensures no_step { OnErr result (steps.new ≡ steps.old) }
 {
-    let block = rows_of_blocks(alloc, info_blocks(alloc, config, info)?)?;
+    let block = rows_of_blocks(alloc, all_blocks(alloc, config, info)?)?;
     count_chains(steps, block.as_slice());
     Ok(block)
 }

@@ -1,11 +1,12 @@
 -- What ports contribute to the full table, as the program keeps it.
-use Rattle.std.specs.Prelude.{◌≡◌, ℕ, ◌+◌, List, [], ◌∷◌, ◌++◌, length}
+use Rattle.std.specs.Prelude.{◌≡◌, ℕ, ◌+◌, List, [], ◌∷◌, ◌++◌}
 use Rattle.std.specs.List.{flat_map}
 use Rattle.kp_types.specs.Setting.{Setting}
 use Rattle.kp_object_defs.specs.PortInfo.{PortInfo}
 use Rattle.kp_table_defs.specs.Layout.{service_block, node_port_block, firewall_block, external_block, refusal_block, port_rows}
 use Rattle.kp_chains.specs.Rows.{rows_of_texts, rule_count}
 use Rattle.kp_chains.specs.Blocks.{blocks_of}
+pub use Rattle.kp_chains.specs.Blocks.{block_count}
 use Rattle.kp_chains.specs.declared.blocks.Blocks.{Blocks}
 pub use Rattle.kp_known_ports.specs.Known.{all_port_count}
 use Rattle.kp_full_table.specs.declared.part.Part.{Part}
@@ -34,10 +35,6 @@ joined_blocks a b = record {
   external = a.external ++ b.external;
   refusals = a.refusals ++ b.refusals;
 }
-
--- how many rules blocks have together
-abbrev pub block_count : Blocks → ℕ
-block_count b = length b.services + length b.node_ports + length b.firewall + length b.external + length b.refusals
 
 -- how many rules a port has, in its own chains and in the shared ones
 abbrev pub port_rule_count : Setting → PortInfo → ℕ

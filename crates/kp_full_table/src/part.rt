@@ -6,10 +6,10 @@ ghost use Rattle.kp_base.specs.declared.config.Config.{Config};
 ghost use Rattle.kp_types.specs.Setting.{Setting};
 ghost use Rattle.kp_object_defs.specs.PortInfo as Info;
 ghost use Rattle.kp_full_table.specs.Parts as spec;
-ghost use Rattle.kp_full_table.specs.Parts.{IsPartOf, block_count, port_rule_count};
+ghost use Rattle.kp_full_table.specs.Parts.{IsPartOf, port_rule_count};
 
 use kp_base::{Config, Items, NoMemory, Steps};
-use kp_chains::{Blocks, count_chains, count_rules, info_blocks, info_chains};
+use kp_chains::{Blocks, info_rules};
 use kp_types::{ChainText, PortInfo};
 use std::alloc::Global;
 use std::sync::ledger::Ledger;
@@ -33,25 +33,11 @@ pub fn part_of_port<L: Ledger>(
         ≡ steps.old + port_rule_count (setting_of V4 config.now) info.now) }
     ensures no_step { OnErr result (steps.new ≡ steps.old) }
 {
-    let chains = info_chains(alloc, config, info)?;
-    let blocks = info_blocks(alloc, config, info)?;
-    count_chains(steps, chains.as_slice());
-    count_blocks(steps, &blocks);
+    let (chains, blocks) = info_rules(alloc, config, info, steps)?;
     Ok(Part {
         chains: Items::from_vec(chains),
         blocks,
     })
-}
-
-/// Takes a step for each rule of blocks.
-fn count_blocks<L: Ledger>(steps: &mut Steps<L>, blocks: &Blocks)
-    ensures { steps.new ≡ steps.old + block_count blocks.now }
-{
-    count_rules(steps, blocks.services.as_slice());
-    count_rules(steps, blocks.node_ports.as_slice());
-    count_rules(steps, blocks.firewall.as_slice());
-    count_rules(steps, blocks.external.as_slice());
-    count_rules(steps, blocks.refusals.as_slice());
 }
 
 /// What no port contributes.

@@ -98,8 +98,18 @@ impl Synced {
         Ok(Synced { writer, table })
     }
 
-    fn put(&mut self, alloc: Global, info: PortInfo) -> Result<(), NoMemory> {
-        self.writer.put(alloc, info)
+    fn put<L: Ledger>(
+        &mut self,
+        alloc: Global,
+        info: PortInfo,
+        rules: Blank,
+    ) -> Result<(), NoMemory>
+        requires name { rules.name ≡ L.name }
+        requires parts { rules.parts ≡ L.parts }
+        requires some { 0 < rules.parts }
+    {
+        let mut steps = Steps::<L>::new(rules);
+        self.writer.put(alloc, info, &mut steps)
     }
 
     fn drop_port(&mut self, alloc: Global, port: &PortKey) -> Result<(), NoMemory> {
@@ -186,7 +196,7 @@ fn told(alloc: Global, answer: Result<Batch, TableFault>) -> Result<String, Fail
 fn take(alloc: Global, synced: &mut Synced, row: &str) -> Result<bool, Fail> {
     let (word, rest) = row.split_once(' ').ok_or("a row")?;
     match word {
-        "put" => synced.put(alloc, info_of(alloc, rest)?)?,
+        "put" => synced.put::<Brand>(alloc, info_of(alloc, rest)?, Blank::new(1))?,
         "drop" => synced.drop_port(alloc, &port_of(alloc, rest)?)?,
         _ => {
             let text = told(alloc, synced.sync::<Brand>(alloc, Blank::new(1)))?;

@@ -12,7 +12,6 @@ use Rattle.kp_object_laws.specs.ObjectLaws.{OwnKeysAfterEvents}
 use Rattle.kp_table_defs.specs.Edits.{SameRulesAreEqual, changes_between}
 use Rattle.kp_table_defs.specs.Rebuild as rebuild
 use Rattle.kp_table_defs.specs.Rebuild.{TableParts, full_chains, full_table, needed_keys}
-use Rattle.kp_full_table.specs.Parts.{all_rule_count}
 use Rattle.kp_history_defs.specs.DirtyPorts.{dirty_port, dirty_ports}
 use Rattle.kp_history_defs.specs.History.{covered}
 use Rattle.kp_history_laws.specs.DirtyLaws.{NoneDirty}
@@ -24,12 +23,15 @@ use Rattle.kp_plane.proofs.Synced.{leads_nowhere, none_left, nothing_new}
 use Rattle.kp_history.specs.declared.history.History.{History}
 use Rattle.kp_writer.specs.Known.{ArePortsOf, DirtyNewest, DirtyWritten, IsBetween, KnownDirtyPorts}
 use Rattle.kp_writer.specs.Known.{KnownPorts}
+use Rattle.kp_writer.specs.Own.{own_rule_count}
+use Rattle.kp_writer.specs.Shared.{shared_rule_count}
 use Rattle.kp_writer.specs.Written as written
 use Rattle.kp_writer.specs.Written.{Ports, WriterParts, chains_of, newest_ports, written_ports}
 use Rattle.kp_plane.specs.Invariant.{Holds, IsBroughtOn, IsMade, IsNext, IsPortsAt, IsUpToDate}
 use Rattle.kp_plane.specs.Invariant.{touched_between}
-use Rattle.kp_plane.specs.Known.{touched_count}
-use Rattle.kp_plane.specs.Parts.{PlaneParts, most_asked, most_steps, objects_in, setting_in, syncs_in}
+use Rattle.kp_plane.specs.Known.{touched_count, touched_rules}
+use Rattle.kp_plane.specs.Parts.{PlaneParts, is_touched_since, most_asked, most_blocks, most_edited}
+use Rattle.kp_plane.specs.Parts.{objects_in, setting_in, syncs_in}
 use Rattle.kp_plane.specs.declared.next.Next.{Next}
 use Rattle.kp_plane.specs.declared.ports_at.PortsAt.{PortsAt}
 
@@ -104,15 +106,15 @@ module _ (known : KnownPorts) (own : OwnKeysAfterEvents) (p : PlaneParts) (w : W
         newest = λ _. up;
       }
 
-      -- its most steps are those of the dirty ports
+      -- its edits are made from rules of the dirty ports
       pub most_made : DirtyWritten → DirtyNewest
-          → all_rule_count (written.setting_in w) (written.dirty_of w (written_ports w))
-          + all_rule_count (written.setting_in w) (written.dirty_of w (newest_ports w))
-          ≡ most_steps p
+          → shared_rule_count (written.setting_in w) (written.dirty_of w (written_ports w))
+          + own_rule_count (written.setting_in w) (written.dirty_of w (newest_ports w))
+          ≡ most_edited p
       most_made was becomes = λ i.
-          all_rule_count (setting_of V4 (config i))
+          shared_rule_count (setting_of V4 (config i))
           (was (setting_in p) (objects_in p) (objects_after p.events) w between i)
-          + all_rule_count (setting_of V4 (config i))
+          + own_rule_count (setting_of V4 (config i))
           (becomes (setting_in p) (objects_in p) (objects_after p.events) w between i)
 
 -- ---- Where no event came
@@ -131,21 +133,41 @@ nothing_next rules clean p h is none s next edits dirty = record {
 
 -- ---- Counts
 
--- the ports of Services that events touched since the last sync are the most that are asked about
+-- Services that events touched since the last sync
+touched_since : (p : PlaneParts)
+    → touched_between (setting_in p) p.events (sum p.counts) (length p.events)
+    ≡ is_touched_since p
+touched_since p =
+    let counted = take_all (length p.counts) p.counts (le_refl (length p.counts)) in
+    let all = take_all (length p.events) p.events (le_refl (length p.events)) in
+    λ i. touches_one (setting_in p) (objects_after (take (sum (sym counted i)) p.events))
+    (drop (sum p.counts) (all i))
+
+-- their ports are the most that are asked about
 pub asked_since : (p : PlaneParts)
     → touched_count (objects_after p.events)
     (touched_between (setting_in p) p.events (sum p.counts) (length p.events))
     ≡ most_asked p
-asked_since p =
-    let counted = take_all (length p.counts) p.counts (le_refl (length p.counts)) in
-    let all = take_all (length p.events) p.events (le_refl (length p.events)) in
-    λ i. touched_count (objects_after p.events)
-    (touches_one (setting_in p) (objects_after (take (sum (sym counted i)) p.events))
-    (drop (sum p.counts) (all i)))
+asked_since p = ap (touched_count (objects_after p.events)) (touched_since p)
+
+-- and the most of which blocks are made
+pub blocks_since : (p : PlaneParts)
+    → touched_rules (setting_in p) (objects_after p.events)
+    (touched_between (setting_in p) p.events (sum p.counts) (length p.events))
+    ≡ most_blocks p
+blocks_since p = ap (touched_rules (setting_in p) (objects_after p.events)) (touched_since p)
 
 -- what isn't counted
 pub counted_none : (left most old : ℕ) → IsCounted left most old old
 counted_none left most old = record { bound = omega arith; unchanged = λ none. refl }
+
+-- what is counted at most where an event came
+pub counted_within : {left most old new : ℕ} → 0 < left → new ≤ old + most
+    → IsCounted left most old new
+counted_within some bound = record {
+  bound = bound;
+  unchanged = λ none. absurd (omega (arith, none, some));
+}
 
 -- what is counted where an event came
 pub counted_some : {left most few old new : ℕ} → 0 < left → few ≡ most → new ≤ old + few

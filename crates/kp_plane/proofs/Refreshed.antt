@@ -1,7 +1,7 @@
 -- What is known of ports once those of Services are made anew.
 use Rattle.std.proofs.Common.{◌≡◌, ◌||◌, ◌+◌, Bool, true, false, List, [], ◌∷◌, ◌++◌, map, refl, sym}
 use Rattle.std.proofs.Common.{ap, ◌∙◌, ◌≤◌, Option, None, cond}
-use Rattle.std.proofs.Common.{Some, flat_map, inl, inr, ◌⊎◌}
+use Rattle.std.proofs.Common.{Some, ℕ, arith, filter, flat_map, inl, inr, ◌⊎◌}
 use Rattle.std.specs.List.{Contains, cons_option, filter_map, list_any, sum_by}
 use Rattle.std.specs.Ordering.{eq_by_cmp}
 use Rattle.std.specs.Option.{option_and_then, option_to_list}
@@ -12,7 +12,7 @@ use Rattle.std.proofs.Math.Bool.{or-true}
 use Rattle.std.proofs.lemmas.Bool.{false_from_ne_true, or_parts}
 use Rattle.std.proofs.lemmas.List.Elements.{filter_map-append}
 use Rattle.std.proofs.lemmas.List.Folds.{list_any-append}
-use Rattle.std.proofs.lemmas.List.Sums.{sum_by-append}
+use Rattle.std.proofs.lemmas.List.Sums.{sum_by-append, sum_by-cons}
 use Rattle.kp_lemmas.proofs.Members.{in_cases, none_in}
 use Rattle.kp_base.specs.Keys.{key_cmp, port_key_cmp}
 use Rattle.kp_base.proofs.KeyOrder.{key_total, key_exact, port_key_exact}
@@ -28,7 +28,7 @@ use Rattle.kp_object_defs.specs.Objects.{Objects}
 use Rattle.kp_object_defs.specs.Order.{distinct_in_order}
 use Rattle.kp_object_defs.specs.PortByKey.{info_at, info_in, port_keys_of}
 use Rattle.kp_object_defs.specs.PortInfo.{PortInfo}
-use Rattle.kp_known_ports.specs.Known.{AreStored, all_port_count, port_count, ports_in}
+use Rattle.kp_known_ports.specs.Known.{AreStored, port_count}
 use Rattle.kp_store.specs.Indexes.{Keys}
 use Rattle.kp_store.specs.Touched.{is_touched}
 use Rattle.kp_store.specs.declared.touched.Touched.{Touched}
@@ -36,10 +36,11 @@ use Rattle.kp_blocks.specs.Joined.{is_port_of}
 use Rattle.kp_writer_laws.specs.LocalLaws.{info_of}
 use Rattle.kp_writer.specs.Known.{ArePortsOf, KnownOfService, port_keys_at}
 use Rattle.kp_writer.specs.Refresh.{IsRefreshed, OthersStay}
+use Rattle.kp_writer.specs.Shared.{shared_rule_count}
 use Rattle.kp_writer.specs.Written.{Ports}
 use Rattle.kp_object_defs.specs.OwnKeys.{AreUnderOwnKeys}
 use Rattle.kp_plane.specs.Known.{IsKnown, KnowsOthers, KnowsService, KnowsUntouched}
-use Rattle.kp_plane.specs.Known.{asked_count, is_port_of_one, touched_count}
+use Rattle.kp_plane.specs.Known.{asked_count, is_port_of_one, made_count, shared_rules_in}
 use Rattle.kp_plane.proofs.FewAsked.{few_of_all, few_of_passing}
 use Rattle.kp_plane.proofs.Sums.{sum_all, sum_more}
 use Rattle.kp_plane.proofs.Touching.{both_answers}
@@ -84,12 +85,15 @@ module _ (old new : List ObjectKey) (k : ObjectKey) (is : old ≡ new ++ k ∷ [
     still_others all among = λ key none.
         others key (last_not all among key none) ∙ knows key (among key none)
 
-  -- what is asked of all is asked of the last and of those before it
-  pub asked_split : (o : Objects) → asked_count o old ≡ asked_count o new + asked_count o (k ∷ [])
-  asked_split o =
-      ap (asked_count o) is
-      ∙ ap (sum_by ports_in) (filter_map-append (finite.get o.services) new (k ∷ []))
-      ∙ sum_by-append ports_in (filter_map (finite.get o.services) new)
+  -- what counts of all counts of the last and of those before it
+  pub count_split : (f : Service → ℕ) (o : Objects)
+      → sum_by f (filter_map (finite.get o.services) old)
+      ≡ sum_by f (filter_map (finite.get o.services) new)
+      + sum_by f (filter_map (finite.get o.services) (k ∷ []))
+  count_split f o =
+      ap (λ ks. sum_by f (filter_map (finite.get o.services) ks)) is
+      ∙ ap (sum_by f) (filter_map-append (finite.get o.services) new (k ∷ []))
+      ∙ sum_by-append f (filter_map (finite.get o.services) new)
       (filter_map (finite.get o.services) (k ∷ []))
 
 module _ (setting : Setting) (o : Objects) where
@@ -141,30 +145,36 @@ module _ (setting : Setting) (o : Objects) where
         absurd (both_answers true refl
         (ap (λ b. b || finite.contains_key touched.keys key.object) (sym all) ∙ none))
 
--- the ports of Services with different keys are among all ports
-pub few_asked : (o : Objects) (s : Keys) → asked_count o (finite.keys s) ≤ all_port_count o
-few_asked o s = few_of_all key_total key_exact ports_in o.services s
+-- what Services with different keys count is at most what all do
+pub few_of_services : (f : Service → ℕ) (o : Objects) (s : Keys)
+    → sum_by f (filter_map (finite.get o.services) (finite.keys s))
+    ≤ sum_by f (finite.values o.services)
+few_of_services f o s = few_of_all key_total key_exact f o.services s
 
-module _ (o : Objects) (t : Touched) where
-  -- those of touched Services are among the ports of all that were touched
-  pub touched_asked : AreUnderOwnKeys o
-      → asked_count o (finite.keys t.keys) ≤ touched_count o (is_touched t)
-  touched_asked own =
-      few_of_passing key_total key_exact ports_in (λ (s : Service). s.key) (is_touched t) o.services
+module _ (f : Service → ℕ) (o : Objects) (t : Touched) where
+  -- what those of the keys count that were touched is at most what all do that were touched
+  pub few_of_touched : AreUnderOwnKeys o
+      → sum_by f (filter_map (finite.get o.services) (finite.keys t.keys))
+      ≤ sum_by f (filter (λ (s : Service). is_touched t s.key) (finite.values o.services))
+  few_of_touched own =
+      few_of_passing key_total key_exact f (λ (s : Service). s.key) (is_touched t) o.services
       own.services t.keys (λ k there. ap (λ b. t.all || b) there ∙ or-true t.all)
 
-  -- where all Services were touched, these are all ports
-  pub all_asked : t.all ≡ true → all_port_count o ≤ touched_count o (is_touched t)
-  all_asked all =
-      sum_all ports_in (λ (s : Service). is_touched t s.key)
+  -- where all Services were touched, all count
+  pub all_of_touched : t.all ≡ true
+      → sum_by f (finite.values o.services)
+      ≤ sum_by f (filter (λ (s : Service). is_touched t s.key) (finite.values o.services))
+  all_of_touched all =
+      sum_all f (λ (s : Service). is_touched t s.key)
       (λ s. ap (λ b. b || finite.contains_key t.keys s.key) all) (finite.values o.services)
 
--- where more Services were touched, these have more ports
-pub more_touched : (o : Objects) (some more : ObjectKey → Bool)
+-- where more Services were touched, more counts
+pub more_touched : (f : Service → ℕ) (o : Objects) (some more : ObjectKey → Bool)
     → ((k : ObjectKey) → some k ≡ true → more k ≡ true)
-    → touched_count o some ≤ touched_count o more
-more_touched o some more as_well =
-    sum_more ports_in (λ (s : Service). some s.key) (λ (s : Service). more s.key)
+    → sum_by f (filter (λ (s : Service). some s.key) (finite.values o.services))
+    ≤ sum_by f (filter (λ (s : Service). more s.key) (finite.values o.services))
+more_touched f o some more as_well =
+    sum_more f (λ (s : Service). some s.key) (λ (s : Service). more s.key)
     (λ s. as_well s.key) (finite.values o.services)
 
 module _ (o : Objects) (own : AreUnderOwnKeys o) (service : ObjectKey) (s : Service)
@@ -194,6 +204,26 @@ pub none_named : (o : Objects) (service : ObjectKey) → finite.get o.services s
     → port_keys_at o service ≡ []
 none_named o service is =
     ap (λ o. distinct_in_order port_key_cmp (flat_map port_keys_of (option_to_list o))) is
+
+-- what the ports of a Service have in the shared chains, which is there or isn't
+pub made_one : (setting : Setting) (o : Objects) → AreUnderOwnKeys o → (service : ObjectKey)
+    → (infos : List PortInfo)
+    → infos ≡ filter_map (info_at setting.family setting.config o) (port_keys_at o service)
+    → shared_rule_count setting infos ≡ made_count setting o (service ∷ [])
+made_one setting o own service infos are =
+    ap (shared_rule_count setting) are
+    ∙ by (finite.get o.services service) refl
+    ∙ refl
+  where
+    count : List PortKey → ℕ
+    count ks = shared_rule_count setting (filter_map (info_at setting.family setting.config o) ks)
+
+    by : (s : Option Service) → finite.get o.services service ≡ s
+        → count (port_keys_at o service) ≡ sum_by (shared_rules_in setting o) (cons_option s [])
+    by None is = ap count (none_named o service is)
+    by (Some s) is =
+        let at = ap (λ k. count (port_keys_at o k)) (sym (own.services service s is)) in
+        let one = sum_by-cons (shared_rules_in setting o) s [] in omega (arith, at, one)
 
 -- ---- All Services
 

@@ -1,8 +1,9 @@
 -- What events touch from one place of a journal to another.
 use Rattle.std.proofs.Common.{◌≡◌, ◌≤◌, ◌<◌, ◌+◌, ◌&&◌, ◌||◌, ℕ, Bool, true, false, List, [], ◌∷◌}
 use Rattle.std.proofs.Common.{◌++◌, take, drop, length, get_or, inl, inr, ◌⊎◌, refl, sym, ap, subst}
-use Rattle.std.proofs.Common.{◌∙◌, arith}
-use Rattle.std.specs.List.{fold}
+use Rattle.std.proofs.Common.{◌∙◌, arith, filter}
+use Rattle.std.specs.FinMap as finite
+use Rattle.std.specs.List.{fold, sum_by}
 use Rattle.std.proofs.Math.Bool.{or-true}
 use Rattle.std.proofs.lemmas.Bool.{and_parts, or_cases}
 use Rattle.std.proofs.lemmas.List.{drop-append-le, length-take-le, take-append-drop, take-append-le}
@@ -12,17 +13,21 @@ use mathlib.Core.Bool.{or_assoc}
 use Rattle.kp_base.specs.declared.key.ObjectKey.{ObjectKey}
 use Rattle.kp_types.specs.Setting.{Setting}
 use Rattle.kp_types.specs.declared.event.Event.{Event}
+use Rattle.kp_types.specs.declared.service.Service.{Service}
 use Rattle.kp_object_defs.specs.Objects.{Objects, no_objects, objects_after, objects_step}
 use Rattle.kp_touch_laws.specs.TouchLaws.{touches_in, touches_one}
 use Rattle.kp_store.specs.Touched.{is_touched}
 use Rattle.kp_plane.specs.Collected.{AreJoined, Collects, CollectsSame, is_collected}
 use Rattle.kp_plane.specs.Invariant.{AreTouchedBetween, IsAtPlace, touched_between}
-use Rattle.kp_plane.specs.Known.{touched_count}
 use Rattle.kp_plane.specs.declared.collected.Collected.{Collected}
 use Rattle.kp_plane.specs.declared.place.ObjectsAt.{ObjectsAt}
 use Rattle.kp_plane.proofs.Refreshed.{more_touched}
 use Rattle.kp_plane.proofs.Synced.{at_end}
 use Rattle.kp_plane.proofs.Touching.{both_answers}
+
+-- what Services count whose keys pass a test
+abbrev count : (Objects → Service → ℕ) → Objects → (ObjectKey → Bool) → ℕ
+count f o touched = sum_by (f o) (filter (λ s. touched s.key) (finite.values o.services))
 
 module _ (setting : Setting) where
   -- events and then others touch what either touch
@@ -120,21 +125,21 @@ module _ (setting : Setting) where
           ∙ is.few k some;
     }
 
-    -- the ports of the Services that are collected at the end are among those of the Services that
-    -- events touched
-    pub asked_between : (from : ℕ) (here : ObjectsAt) (t : Collected) (old new : ℕ)
-        → AreTouchedBetween setting events from here.at t → IsAtPlace events here
+    -- what the Services count that are collected at the end is at most what those do that events
+    -- touched
+    pub counted_between : (f : Objects → Service → ℕ) (from : ℕ) (here : ObjectsAt) (t : Collected)
+        → (old new : ℕ) → AreTouchedBetween setting events from here.at t → IsAtPlace events here
         → here.at ≡ length events → AreJoined t
-        → new ≤ old + touched_count here.objects (is_touched t.joined)
-        → new ≤ old + touched_count (objects_after events)
+        → new ≤ old + count f here.objects (is_touched t.joined)
+        → new ≤ old + count f (objects_after events)
         (touched_between setting events from (length events))
-    asked_between from here t old new is place at joined asked =
-        let few = more_touched here.objects (is_touched t.joined)
+    counted_between f from here t old new is place at joined counted =
+        let few = more_touched (f here.objects) here.objects (is_touched t.joined)
         (touched_between setting events from here.at)
         (λ k some. is.few k (sym (joined k) ∙ some)) in
-        let most : new ≤ old + touched_count here.objects (touched_between setting events from here.at) =
-        omega (arith, few, asked) in
-        subst (λ n. new ≤ old + touched_count (objects_after events)
+        let most : new ≤ old + count f here.objects (touched_between setting events from here.at) =
+        omega (arith, few, counted) in
+        subst (λ n. new ≤ old + count f (objects_after events)
         (touched_between setting events from n)) at
-        (subst (λ o. new ≤ old + touched_count o (touched_between setting events from here.at))
+        (subst (λ o. new ≤ old + count f o (touched_between setting events from here.at))
         (at_end events events here place at refl) most)

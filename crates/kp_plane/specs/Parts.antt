@@ -21,14 +21,16 @@ use Rattle.kp_door_defs.specs.Decision.{Decided, decision_of}
 use Rattle.kp_events.specs.JournalContents.{Contents}
 use Rattle.kp_object_defs.specs.Objects.{Objects, objects_after}
 use Rattle.kp_object_defs.specs.PortByKey.{info_at}
+use Rattle.kp_object_defs.specs.PortInfo.{PortInfo}
 use Rattle.kp_object_defs.specs.SlicesNow.{slices_now}
 use Rattle.kp_table_defs.specs.Walk.{Walked, walk_of}
-use Rattle.kp_full_table.specs.Parts.{all_rule_count}
 use Rattle.kp_history_defs.specs.History.{IsExactRecord, objects_covered}
 use Rattle.kp_history_defs.specs.DirtyPorts.{dirty_keys, dirty_ports}
 use Rattle.kp_history_defs.specs.declared.dirty.DirtyPort.{DirtyPort}
 use Rattle.kp_touch_laws.specs.TouchLaws.{touches_one}
-use Rattle.kp_plane.specs.Known.{touched_count}
+use Rattle.kp_writer.specs.Own.{own_rule_count}
+use Rattle.kp_writer.specs.Shared.{shared_rule_count}
+use Rattle.kp_plane.specs.Known.{touched_count, touched_rules}
 pub use Rattle.kp_history.specs.Parts.{PlaneParts, HasExactHistory, setting_in, syncs_in, uncovered_in}
 pub use Rattle.kp_history.specs.Parts.{objects_in, chains_in, table_in, last_edits, batch_after, last_batch_in}
 pub use Rattle.kp_history.specs.Parts.{synced, next_chains, next_edits}
@@ -54,21 +56,28 @@ with_events p more = record p { events = p.events ++ more }
 abbrev pub next_dirty : PlaneParts → List PortKey
 next_dirty p = dirty_keys (setting_in p) (objects_in p) (objects_after p.events)
 
--- how many rules the ports of these names have by some objects
-abbrev pub rules_by : PlaneParts → Objects → List PortKey → ℕ
-rules_by p o keys =
-    all_rule_count (setting_in p) (filter_map (info_at V4 (config_for V4 p.config) o) keys)
-
--- the most steps that a sync of all events takes: one for each rule that these ports had, and one
--- for each that they have
-abbrev pub most_steps : PlaneParts → ℕ
-most_steps p =
-    rules_by p (objects_in p) (next_dirty p)
-    + rules_by p (objects_after p.events) (next_dirty p)
+-- what some objects tell of the ports of these names
+abbrev pub infos_by : PlaneParts → Objects → List PortKey → List PortInfo
+infos_by p o keys = filter_map (info_at V4 (config_for V4 p.config) o) keys
 
 -- whether one of the events that no sync covers yet touches the Service of this key
 abbrev pub is_touched_since : PlaneParts → ObjectKey → Bool
 is_touched_since p = touches_one (setting_in p) (objects_in p) (drop (sum p.counts) p.events)
+
+-- the most rules that the edits of a sync of all events are made from: those that these ports had in
+-- the shared chains, and those that they have in their own
+abbrev pub most_edited : PlaneParts → ℕ
+most_edited p =
+    shared_rule_count (setting_in p) (infos_by p (objects_in p) (next_dirty p))
+    + own_rule_count (setting_in p) (infos_by p (objects_after p.events) (next_dirty p))
+
+-- the most rules of its blocks: those that the ports of these Services have in the shared chains
+abbrev pub most_blocks : PlaneParts → ℕ
+most_blocks p = touched_rules (setting_in p) (objects_after p.events) (is_touched_since p)
+
+-- the most steps that it takes: one for each of either
+abbrev pub most_steps : PlaneParts → ℕ
+most_steps p = most_edited p + most_blocks p
 
 -- the most ports that a sync of all events asks the objects about: those that these Services have
 abbrev pub most_asked : PlaneParts → ℕ

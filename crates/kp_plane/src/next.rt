@@ -3,10 +3,11 @@ ghost use Rattle.std.specs.Prelude.{◌≡◌, ◌+◌, ◌≤◌, [], length, N
 ghost use Rattle.kp_base.specs.declared.address.Family.TheVariants.{V4};
 ghost use Rattle.kp_choice_defs.specs.Settings.{setting_of};
 ghost use Rattle.kp_full_table.specs.Faults.{TellsClash};
-ghost use Rattle.kp_full_table.specs.Parts.{all_rule_count};
 ghost use Rattle.kp_object_defs.specs.Objects.{objects_after};
 ghost use Rattle.kp_table_defs.specs.Rebuild.{clash_of};
 ghost use Rattle.kp_writer.specs.Batch.{own_rules_written};
+ghost use Rattle.kp_writer.specs.Own.{own_rule_count};
+ghost use Rattle.kp_writer.specs.Shared.{shared_rule_count};
 ghost use Rattle.kp_writer.specs.Written as written;
 ghost use Rattle.kp_plane.specs.Counts.{IsCounted};
 ghost use Rattle.kp_plane.specs.Invariant.{Holds, IsMade, IsNext, IsPortsAt, parts_of};
@@ -65,7 +66,7 @@ pub(crate) fn next_sync<L: Ledger, A: Ledger>(
     if events.len() as u64 == history.covered {
         return Ok(nothing(alloc));
     }
-    ports.bring_on(alloc, config, events, asked)?;
+    ports.bring_on(alloc, config, events, steps, asked)?;
     made(alloc, &ports.writer, &history.table, steps)
 }
 
@@ -98,9 +99,9 @@ fn made<L: Ledger>(
         (written.clash_of writer.now (written.newest_ports writer.now))) }
     ensures made { IfOk result (λ n. steps.old + own_rules_written n.batch.edits ≤ steps.new) }
     ensures steps { steps.new ≤ steps.old
-        + (all_rule_count (written.setting_in writer.now)
+        + (shared_rule_count (written.setting_in writer.now)
         (written.dirty_of writer.now (written.written_ports writer.now))
-        + all_rule_count (written.setting_in writer.now)
+        + own_rule_count (written.setting_in writer.now)
         (written.dirty_of writer.now (written.newest_ports writer.now))) }
 {
     let dirty = writer.dirty(alloc)?;

@@ -1,5 +1,5 @@
 //! The plane.
-ghost use Rattle.std.specs.Prelude.{◌≡◌, ◌+◌, ◌<◌, ◌≤◌, ℕ, [], ◌∷◌, ◌++◌, length, sum, true};
+ghost use Rattle.std.specs.Prelude.{◌≡◌, ◌+◌, ◌≤◌, ℕ, [], ◌∷◌, ◌++◌, length, sum, true};
 ghost use Rattle.std.specs.Prelude.{None, IfOk, IfErr, OnOk, OnErr};
 ghost use Rattle.std.specs.Option.{option_copied};
 ghost use Rattle.kp_choice_defs.specs.Draws.{IsStated, AreDraws};
@@ -34,9 +34,9 @@ use kp_recent::RecentLists;
 use kp_rules::Table;
 use kp_types::{Batch, Decision, Event, Packet, Slice, SyncRecord};
 use std::alloc::Global;
-use std::marker::{Brand, Model};
+use std::marker::Model;
 use std::mem::replace;
-use std::sync::ledger::{Blank, Ledger};
+use std::sync::ledger::Ledger;
 
 /// One order of events: those that were accepted, and the syncs that cover the first of them.
 pub struct Plane {
@@ -198,9 +198,11 @@ impl Plane {
             (clash_of (setting_in self.old) (objects_after self.old.events))) }
         ensures err { OnErr result (self.new ≡ self.old) }
 
-        // It costs what changed: at most a step for each rule that a port had of which something
-        // else is known, and one for each that it has; and at least one for each rule of a port's
-        // own chains that is written. Of the other count it takes one for each port that the
+        // It costs what changed. For the edits it takes at most a step for each rule that ports had
+        // in the shared chains of which something else is known, and one for each that these have in
+        // their own; and at least one for each rule of a port's own chains that is written. For the
+        // blocks of ports that are made anew it takes at most one for each rule that the ports of
+        // touched Services have in the shared chains. Of the other count it takes one for each port that the
         // objects are asked about: these are ports of Services that events touch which no sync
         // covers yet, each once at most, so none where no event came. Where it is refused it may
         // have taken some of them, and takes them again at the next sync.
@@ -229,9 +231,13 @@ impl Plane {
         })
     }
 
-    /// Does what `sync` does, and answers its record's counts alone: no edit is copied, and its
-    /// steps are counted for nobody.
-    pub fn sync_noted(&mut self, alloc: Global) -> Result<SyncNote, TableFault>
+    /// Does what `sync` does, and answers its record's counts alone: no edit is copied.
+    pub fn sync_noted<L: Ledger, A: Ledger>(
+        &mut self,
+        alloc: Global,
+        steps: &mut Steps<L>,
+        asked: &mut Steps<A>,
+    ) -> Result<SyncNote, TableFault>
         ensures note { IfOk result (λ n. n
             ≡ last_note (parts.uncovered_in self.old) self.new) }
         ensures no_clash { OnOk result (
@@ -240,8 +246,29 @@ impl Plane {
         ensures clash { IfErr result (TellsClash
             (clash_of (setting_in self.old) (objects_after self.old.events))) }
         ensures err { OnErr result (self.new ≡ self.old) }
+
+        // It costs what `sync` does.
+        ensures bound { steps.new ≤ steps.old + parts.most_steps self.old }
+        ensures asked { asked.new ≤ asked.old + parts.most_asked self.old }
+        ensures unchanged { parts.uncovered_in self.old ≡ 0 → steps.new ≡ steps.old }
+        ensures unasked { parts.uncovered_in self.old ≡ 0 → asked.new ≡ asked.old }
     {
-        self.sync_uncounted::<Brand, Brand>(alloc, Blank::new(1), Blank::new(1))
+        let events = self.uncovered();
+        let (written, removed) = sync_counted(
+            alloc,
+            &self.config,
+            &self.journal,
+            &mut self.history,
+            &mut self.ports,
+            steps,
+            asked,
+        )?;
+        Ok(SyncNote {
+            sync: self.syncs(),
+            events,
+            written,
+            removed,
+        })
     }
 
     /// The decision on a packet by the objects that the last sync covers, with its reason. The
@@ -358,47 +385,5 @@ impl Plane {
     {
         let _ = &self.history;
         kp_history_laws::sync_records();
-    }
-
-    /// A sync whose steps nobody counts.
-    fn sync_uncounted<L: Ledger, A: Ledger>(
-        &mut self,
-        alloc: Global,
-        rules: Blank,
-        ports: Blank,
-    ) -> Result<SyncNote, TableFault>
-        requires rules_name { rules.name ≡ L.name }
-        requires rules_parts { rules.parts ≡ L.parts }
-        requires some_rules { 0 < rules.parts }
-        requires ports_name { ports.name ≡ A.name }
-        requires ports_parts { ports.parts ≡ A.parts }
-        requires some_ports { 0 < ports.parts }
-        ensures note { IfOk result (λ n. n
-            ≡ last_note (parts.uncovered_in self.old) self.new) }
-        ensures no_clash { OnOk result (
-            clash_of (setting_in self.old) (objects_after self.old.events) ≡ None) }
-        ensures ok { OnOk result (self.new ≡ parts.synced self.old) }
-        ensures clash { IfErr result (TellsClash
-            (clash_of (setting_in self.old) (objects_after self.old.events))) }
-        ensures err { OnErr result (self.new ≡ self.old) }
-    {
-        let mut steps = Steps::<L>::new(rules);
-        let mut asked = Steps::<A>::new(ports);
-        let events = self.uncovered();
-        let (written, removed) = sync_counted(
-            alloc,
-            &self.config,
-            &self.journal,
-            &mut self.history,
-            &mut self.ports,
-            &mut steps,
-            &mut asked,
-        )?;
-        Ok(SyncNote {
-            sync: self.syncs(),
-            events,
-            written,
-            removed,
-        })
     }
 }

@@ -6,7 +6,7 @@ ghost use Rattle.kp_choice_defs.specs.Settings.{setting_of};
 ghost use Rattle.kp_object_defs.specs.Objects.{objects_after};
 ghost use Rattle.kp_writer.specs.Written.{newest_ports};
 ghost use Rattle.kp_plane.specs.Collected.{is_collected};
-ghost use Rattle.kp_plane.specs.Known.{KnowsUntouched, touched_count};
+ghost use Rattle.kp_plane.specs.Known.{KnowsUntouched, touched_count, touched_rules};
 ghost use Rattle.kp_plane.specs.Invariant.{AreTouchedBetween, IsAtPlace, IsBroughtOn, IsPortsAt};
 ghost use Rattle.kp_plane.specs.Invariant.{IsSettled, IsUpToDate, touched_between};
 
@@ -64,20 +64,29 @@ impl PortsAt {
 
     /// Goes on to the journal's end, and brings what is known of the ports of touched Services up
     /// to it. A step is taken for each port that the objects are asked about: at most one for each
-    /// port of a Service that an event touches since those that were touched before were counted.
+    /// port of a Service that an event touches since those that were touched before were counted. Of
+    /// the other count it takes at most one for each rule that these have in the shared chains.
     /// Where memory is out, it stands on the way there.
-    pub(crate) fn bring_on<A: Ledger>(
+    pub(crate) fn bring_on<L: Ledger, A: Ledger>(
         &mut self,
         alloc: Global,
         config: &Config,
         events: &[Event],
+        steps: &mut Steps<L>,
         asked: &mut Steps<A>,
     ) -> Result<(), NoMemory>
+        requires config { self.old.writer.config ≡ config.now }
         requires place { IsAtPlace events.now self.old.latest }
         requires untouched { KnowsUntouched (setting_of V4 config.now) self.old.latest.objects
             (is_collected self.old.touched) (newest_ports self.old.writer) }
         ensures goes_on { IsBroughtOn (setting_of V4 config.now) events.now self.old self.new }
         ensures ok { OnOk result (IsUpToDate (setting_of V4 config.now) events.now self.new) }
+        ensures more { steps.old ≤ steps.new }
+        ensures steps { (from : ℕ) → AreTouchedBetween (setting_of V4 config.now) events.now from
+            self.old.latest.at self.old.touched
+            → steps.new ≤ steps.old + touched_rules (setting_of V4 config.now)
+            (objects_after events.now)
+            (touched_between (setting_of V4 config.now) events.now from (length events.now)) }
         ensures asked { (from : ℕ) → AreTouchedBetween (setting_of V4 config.now) events.now from
             self.old.latest.at self.old.touched
             → asked.new ≤ asked.old + touched_count (objects_after events.now)
@@ -93,6 +102,7 @@ impl PortsAt {
             objects,
             &self.touched.joined,
             &mut self.writer,
+            steps,
             asked,
         )?;
         self.touched = Collected::new(alloc);

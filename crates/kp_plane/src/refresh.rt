@@ -24,17 +24,20 @@ use kp_writer::Writer;
 use std::alloc::Global;
 use std::sync::ledger::Ledger;
 
-/// Brings what a writer knows of the ports of touched Services up to the objects. A step is taken
-/// for each port that the objects are asked about. Where memory is out, of a port of another
-/// Service nothing else is known.
-pub(crate) fn refresh<A: Ledger>(
+/// Brings what a writer knows of the ports of touched Services up to the objects. It takes at most a
+/// step for each rule that these have in the shared chains, and one of the other count for each port
+/// that the objects are asked about. Where memory is out, of a port of another Service nothing else
+/// is known.
+pub(crate) fn refresh<L: Ledger, A: Ledger>(
     alloc: Global,
     config: &Config,
     objects: &Objects,
     touched: &Touched,
     writer: &mut Writer,
+    steps: &mut Steps<L>,
     asked: &mut Steps<A>,
 ) -> Result<(), NoMemory>
+    requires config { writer.old.config ≡ config.now }
     requires own_keys { AreUnderOwnKeys objects.now }
     requires untouched { spec.KnowsUntouched (setting_of V4 config.now) objects.now
         (is_touched touched.now) (newest_ports writer.old) }
@@ -44,44 +47,55 @@ pub(crate) fn refresh<A: Ledger>(
         (is_touched touched.now) (newest_ports writer.new) }
     ensures ok { OnOk result
         (ArePortsOf (setting_of V4 config.now) objects.now (newest_ports writer.new)) }
+    ensures more { steps.old ≤ steps.new }
+    ensures steps { steps.new ≤ steps.old
+        + spec.touched_rules (setting_of V4 config.now) objects.now
+        (is_touched touched.now) }
     ensures asked { asked.new ≤ asked.old
         + spec.touched_count objects.now (is_touched touched.now) }
 {
     if touched.all {
-        refresh_all(alloc, config, objects, writer, asked)
+        refresh_all(alloc, config, objects, writer, steps, asked)
     } else {
-        refresh_keys(alloc, config, objects, &touched.keys, writer, asked)
+        refresh_keys(alloc, config, objects, &touched.keys, writer, steps, asked)
     }
 }
 
 /// Brings what a writer knows of all ports up to the objects.
-fn refresh_all<A: Ledger>(
+fn refresh_all<L: Ledger, A: Ledger>(
     alloc: Global,
     config: &Config,
     objects: &Objects,
     writer: &mut Writer,
+    steps: &mut Steps<L>,
     asked: &mut Steps<A>,
 ) -> Result<(), NoMemory>
-    requires { AreUnderOwnKeys objects.now }
+    requires config { writer.old.config ≡ config.now }
+    requires own_keys { AreUnderOwnKeys objects.now }
     ensures config { writer.new.config ≡ writer.old.config }
     ensures written { written_ports writer.new ≡ written_ports writer.old }
     ensures ok { OnOk result
         (ArePortsOf (setting_of V4 config.now) objects.now (newest_ports writer.new)) }
+    ensures more { steps.old ≤ steps.new }
+    ensures steps { steps.new ≤ steps.old
+        + spec.all_made_count (setting_of V4 config.now) objects.now }
     ensures asked { asked.new ≤ asked.old + all_port_count objects.now }
 {
     let all = all_services(alloc, objects, writer)?;
-    refresh_keys(alloc, config, objects, &all, writer, asked)
+    refresh_keys(alloc, config, objects, &all, writer, steps, asked)
 }
 
 /// Brings what a writer knows of the ports of the Services of some keys up to the objects.
-fn refresh_keys<A: Ledger>(
+fn refresh_keys<L: Ledger, A: Ledger>(
     alloc: Global,
     config: &Config,
     objects: &Objects,
     keys: &KeySet,
     writer: &mut Writer,
+    steps: &mut Steps<L>,
     asked: &mut Steps<A>,
 ) -> Result<(), NoMemory>
+    requires config { writer.old.config ≡ config.now }
     requires own_keys { AreUnderOwnKeys objects.now }
     requires others { spec.KnowsOthers (setting_of V4 config.now) objects.now
         (finite.keys keys.now) (newest_ports writer.old) }
@@ -91,11 +105,15 @@ fn refresh_keys<A: Ledger>(
         (finite.keys keys.now) (newest_ports writer.new) }
     ensures ok { OnOk result
         (ArePortsOf (setting_of V4 config.now) objects.now (newest_ports writer.new)) }
+    ensures more { steps.old ≤ steps.new }
+    ensures steps { steps.new ≤ steps.old
+        + spec.made_count (setting_of V4 config.now) objects.now
+        (finite.keys keys.now) }
     ensures asked { asked.new ≤ asked.old
         + spec.asked_count objects.now (finite.keys keys.now) }
 {
     let services = keys.keys(alloc)?;
-    refresh_each(alloc, config, objects, services, writer, asked)
+    refresh_each(alloc, config, objects, services, writer, steps, asked)
 }
 
 /// The Services of the objects, and those of whose ports a writer knows something.
@@ -140,14 +158,16 @@ fn each_of(alloc: Global, keys: &[ObjectKey]) -> Result<Vec<&ObjectKey>, NoMemor
 }
 
 /// Brings what a writer knows of the ports of some Services up to the objects.
-fn refresh_each<A: Ledger>(
+fn refresh_each<L: Ledger, A: Ledger>(
     alloc: Global,
     config: &Config,
     objects: &Objects,
     mut services: Vec<&ObjectKey>,
     writer: &mut Writer,
+    steps: &mut Steps<L>,
     asked: &mut Steps<A>,
 ) -> Result<(), NoMemory>
+    requires config { writer.old.config ≡ config.now }
     requires own_keys { AreUnderOwnKeys objects.now }
     requires others { spec.KnowsOthers (setting_of V4 config.now) objects.now
         (map (λ k. k.now) services.items) (newest_ports writer.old) }
@@ -157,36 +177,46 @@ fn refresh_each<A: Ledger>(
         (map (λ k. k.now) services.entry.items) (newest_ports writer.new) }
     ensures ok { OnOk result
         (ArePortsOf (setting_of V4 config.now) objects.now (newest_ports writer.new)) }
+    ensures more { steps.old ≤ steps.new }
+    ensures steps { steps.new ≤ steps.old
+        + spec.made_count (setting_of V4 config.now) objects.now
+        (map (λ k. k.now) services.entry.items) }
     ensures asked { asked.new ≤ asked.old
         + spec.asked_count objects.now (map (λ k. k.now) services.entry.items) }
 {
     while let Some(service) = services.pop() {
-        refresh_one(alloc, config, objects, service, writer, asked)?;
+        refresh_one(alloc, config, objects, service, writer, steps, asked)?;
     }
     Ok(())
 }
 
 /// Brings what a writer knows of the ports of a Service up to the objects.
-fn refresh_one<A: Ledger>(
+fn refresh_one<L: Ledger, A: Ledger>(
     alloc: Global,
     config: &Config,
     objects: &Objects,
     service: &ObjectKey,
     writer: &mut Writer,
+    steps: &mut Steps<L>,
     asked: &mut Steps<A>,
 ) -> Result<(), NoMemory>
-    requires { AreUnderOwnKeys objects.now }
+    requires config { writer.old.config ≡ config.now }
+    requires own_keys { AreUnderOwnKeys objects.now }
     ensures config { writer.new.config ≡ writer.old.config }
     ensures written { written_ports writer.new ≡ written_ports writer.old }
     ensures others { OthersStay service.now
         (newest_ports writer.old) (newest_ports writer.new) }
     ensures ok { OnOk result (spec.KnowsService (setting_of V4 config.now) objects.now service.now
         (newest_ports writer.new)) }
+    ensures more { steps.old ≤ steps.new }
+    ensures steps { steps.new ≤ steps.old
+        + spec.made_count (setting_of V4 config.now) objects.now
+        (service.now ∷ []) }
     ensures asked { asked.new ≤ asked.old + spec.asked_count objects.now (service.now ∷ []) }
 {
     kp_writer::known_of_service();
     let infos = infos_of(alloc, config, objects, service, asked)?;
-    writer.refresh(alloc, service, infos)
+    writer.refresh(alloc, service, infos, steps)
 }
 
 /// What the objects tell of the ports of a Service, in order: nothing where it isn't there.

@@ -79,6 +79,12 @@ pub(crate) fn sync_counted<L: Ledger, A: Ledger>(
         clash_of (setting_of V4 config.now) (objects_after journal.now.events) ≡ None) }
     ensures clash { IfErr result (TellsClash
         (clash_of (setting_of V4 config.now) (objects_after journal.now.events))) }
+    ensures steps { IsCounted
+        (parts.uncovered_in (parts_of config.now journal.now history.old))
+        (parts.most_steps (parts_of config.now journal.now history.old)) steps.old steps.new }
+    ensures asked { IsCounted
+        (parts.uncovered_in (parts_of config.now journal.now history.old))
+        (parts.most_asked (parts_of config.now journal.now history.old)) asked.old asked.new }
 {
     let next = next_sync(alloc, config, journal, history, ports, steps, asked)?;
     let counted = counts(next.batch.edits.as_slice());

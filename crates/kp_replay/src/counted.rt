@@ -7,12 +7,15 @@ ghost use Rattle.kp_run_defs.specs.ReplayText as spec;
 
 use crate::packets::snapshot_of;
 use crate::replay::{Replay, is_blank};
+use crate::syncs::noted;
 use crate::totals::{add_packet, add_sync};
 use kp_base::NoMemory;
 use kp_plane::TableFault;
 use kp_script::{LineRefusal, Op, PacketLine, ScriptFault, line_with};
 use kp_text_defs::Totals;
 use std::alloc::Global;
+use std::marker::Brand;
+use std::sync::ledger::Blank;
 
 /// The most bytes that a line may have, without its line feed.
 const LONGEST_LINE: usize = 16_777_216;
@@ -107,7 +110,7 @@ impl Replay {
             (clash_of (spec.setting_in (standing_of self.old))
             (objects_after (standing_of self.old).events)) (standing_of self.old) totals.old) }
     {
-        match self.plane.sync_noted(alloc) {
+        match noted::<Brand, Brand>(alloc, &mut self.plane, Blank::new(1), Blank::new(1)) {
             Ok(note) => {
                 add_sync(totals, note);
                 Ok(())

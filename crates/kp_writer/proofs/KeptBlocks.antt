@@ -1,5 +1,5 @@
 -- The block of a port that is kept has its rules in each shared chain.
-use Rattle.std.proofs.Common.{◌≡◌, arith, true, false, cond, List, [], ◌∷◌, filter, Option, Some}
+use Rattle.std.proofs.Common.{◌≡◌, true, false, cond, List, [], ◌∷◌, filter, Option, Some}
 use Rattle.std.proofs.Common.{None, option_map, refl, ap, ◌∙◌}
 use Rattle.std.specs.List.{find}
 use Rattle.kp_base.specs.declared.address.Family.TheVariants.{V4}
@@ -10,9 +10,7 @@ use Rattle.kp_types.specs.declared.rule.Rule.{Rule}
 use Rattle.kp_choice_defs.specs.Settings.{setting_of}
 use Rattle.kp_object_defs.specs.PortInfo.{PortInfo}
 use Rattle.kp_table_defs.specs.Layout as layout
-use Rattle.kp_chains.specs.Rows.{rows_of_texts, rule_count}
-use Rattle.kp_blocks.specs.Joined.{has_rules, port_block, port_texts, text_of}
-use Rattle.kp_full_table.specs.Parts.{block_count}
+use Rattle.kp_blocks.specs.Joined.{has_rules, port_block, text_of}
 use Rattle.kp_writer.specs.Shared.{block_found, blocks_if, blocks_in, chain_rules, rules_found}
 use Rattle.kp_writer.specs.Shared.{external, firewall, node_ports, refusals, services, stands_at}
 
@@ -35,19 +33,6 @@ module _ (at : ChainAt) where
   elsewhere a [] cs is = refl
   elsewhere a (r ∷ rs) cs is =
       ap (λ b. rules_found (cond b (Some (text_of (a, r ∷ rs))) (find (stands_at at) cs))) is
-
-one_count : (a : ChainAt) (rules : List Rule) (cs : List ChainText)
-    → rule_count (rows_of_texts (cond (has_rules (text_of (a, rules)))
-    (text_of (a, rules) ∷ cs) cs))
-    ≡ rule_count (rows_of_texts (text_of (a, rules) ∷ cs))
-one_count a [] cs = omega arith
-one_count a (r ∷ rs) cs = refl
-
-same_count : (cs : List ChainText)
-    → rule_count (rows_of_texts (filter has_rules cs)) ≡ rule_count (rows_of_texts cs)
-same_count [] = refl
-same_count (c ∷ cs) =
-    omega (arith, one_count c.at c.rules (filter has_rules cs), same_count cs)
 
 -- ---- The shared chains
 
@@ -95,10 +80,3 @@ module _ (config : Config) where
       five (layout.service_block (setting_of V4 config) i)
       (layout.node_port_block (setting_of V4 config) i) (layout.firewall_block i)
       (layout.external_block V4 i) (layout.refusal_block i)
-
-  pub kept_count : (o : Option PortInfo)
-      → rule_count (rows_of_texts (block_found
-      (option_map (port_block (setting_of V4 config)) o)))
-      ≡ block_count (blocks_if (setting_of V4 config) o)
-  kept_count None = refl
-  kept_count (Some i) = omega (arith, same_count (port_texts (setting_of V4 config) i))

@@ -14,13 +14,12 @@ use Rattle.kp_table_defs.specs.Rebuild.{Chains}
 use Rattle.kp_walk_laws.specs.Laws.{HashedPrefixed}
 use Rattle.kp_history_defs.specs.DirtyPorts.{same_info}
 use Rattle.kp_history_laws.proofs.DirtyPorts.{infos_exact}
-use Rattle.kp_full_table.specs.Parts.{all_rule_count}
 use Rattle.kp_blocks.specs.Joined.{BlocksByPort}
 use Rattle.kp_tracker.specs.Tracked.{IsPending, is_changed}
 use Rattle.kp_writer.specs.Batch.{own_rules_written}
 use Rattle.kp_writer.specs.Next.{NextParts, edits_at}
 use Rattle.kp_writer.specs.Own.{own_rule_count, with_own}
-use Rattle.kp_writer.specs.Shared.{touched_by, with_shared}
+use Rattle.kp_writer.specs.Shared.{shared_rule_count, touched_by, with_shared}
 use Rattle.kp_writer.specs.Sync.{changes_of, infos_at, sync_next}
 use Rattle.kp_writer.specs.Written.{AreUnderOwnKeys, IsKept, Ports, WriterParts, chains_of, clash_of}
 use Rattle.kp_writer.specs.Written.{dirty_of, newest_ports, next_edits, setting_in, written_ports}
@@ -35,8 +34,8 @@ use Rattle.kp_writer.proofs.WrittenRules.{written_rules}
 abbrev pub MostSteps : WriterParts → ℕ → ℕ → Type 0
 MostSteps w old new =
     new
-    ≤ old + (all_rule_count (setting_in w) (dirty_of w (written_ports w))
-    + all_rule_count (setting_in w) (dirty_of w (newest_ports w)))
+    ≤ old + (shared_rule_count (setting_in w) (dirty_of w (written_ports w))
+    + own_rule_count (setting_in w) (dirty_of w (newest_ports w)))
 
 module _ (v w : WriterParts) (is : v ≡ w) (blocks : BlocksByPort) (kept : IsKept v blocks)
     (refs items : List (Bor PortKey)) (same_refs : refs ≡ items)
@@ -72,13 +71,14 @@ module _ (v w : WriterParts) (is : v ≡ w) (blocks : BlocksByPort) (kept : IsKe
   -- ---- Steps
 
   pub most_steps : (old new : ℕ)
-      → new ≤ old + (all_rule_count s (infos_at before keys) + all_rule_count s (infos_at after keys))
+      → new
+      ≤ old + (shared_rule_count s (infos_at before keys) + own_rule_count s (infos_at after keys))
       → MostSteps w old new
   most_steps old new h =
       subst (λ u. MostSteps u old new) is
-      (subst (λ ds. new ≤ old + (all_rule_count s (dirty_of v before) + all_rule_count s ds))
+      (subst (λ ds. new ≤ old + (shared_rule_count s (dirty_of v before) + own_rule_count s ds))
       (dirty after kept.newest)
-      (subst (λ ds. new ≤ old + (all_rule_count s ds + all_rule_count s (infos_at after keys)))
+      (subst (λ ds. new ≤ old + (shared_rule_count s ds + own_rule_count s (infos_at after keys)))
       (dirty before kept.written) h))
 
   pub least_steps : (was : Chains) (next : NextParts) (edits : List Edit) (old new : ℕ)

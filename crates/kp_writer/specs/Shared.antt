@@ -11,10 +11,9 @@ use Rattle.kp_types.specs.declared.rule.Rule.{Rule}
 use Rattle.kp_object_defs.specs.PortInfo.{PortInfo}
 use Rattle.kp_table_defs.specs.Edits.{same_rules}
 use Rattle.kp_table_defs.specs.Layout as layout
-use Rattle.kp_chains.specs.Blocks.{blocks_of}
+use Rattle.kp_chains.specs.Blocks.{block_count, blocks_of}
 use Rattle.kp_chains.specs.declared.blocks.Blocks.{Blocks}
 use Rattle.kp_blocks.specs.Joined.{Block, BlocksByPort, joined_rules}
-use Rattle.kp_full_table.specs.Parts.{block_count}
 use Rattle.kp_writer.specs.Next.{NextParts, join}
 use Rattle.kp_writer.specs.declared.shared.Touched.{Touched}
 
@@ -109,12 +108,16 @@ untouched = record {
 abbrev pub touched_by : Setting → List Change → Touched
 touched_by setting changes = fold (touch_by setting) untouched changes
 
--- how many rules changed ports have in the shared chains, before and after
-abbrev pub change_count : Setting → List Change → ℕ
-change_count setting [] = 0
-change_count setting (c ∷ cs) =
-    (block_count (blocks_if setting c.0) + block_count (blocks_if setting c.1))
-    + change_count setting cs
+-- how many rules ports have in the shared chains
+abbrev pub shared_rule_count : Setting → List PortInfo → ℕ
+shared_rule_count setting [] = 0
+shared_rule_count setting (i ∷ is) =
+    block_count (blocks_of setting i) + shared_rule_count setting is
+
+-- how many rules changed ports had there before
+abbrev pub before_count : Setting → List Change → ℕ
+before_count setting [] = 0
+before_count setting (c ∷ cs) = block_count (blocks_if setting c.0) + before_count setting cs
 
 -- a shared chain is joined where it is touched
 abbrev pub join_if : BlocksByPort → NextParts → Bool → ChainAt → NextParts

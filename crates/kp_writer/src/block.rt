@@ -1,28 +1,36 @@
 //! What a port has in the shared chains.
-ghost use Rattle.std.specs.Prelude.{◌≡◌, ◌++◌, ◌∷◌, [], true, IfOk, OnOk};
+ghost use Rattle.std.specs.Prelude.{◌≡◌, ◌+◌, ◌≤◌, ◌++◌, ◌∷◌, [], true, IfOk, OnOk};
 ghost use Rattle.std.specs.List.{filter};
 ghost use Rattle.kp_base.specs.declared.address.Family.TheVariants.{V4};
 ghost use Rattle.kp_choice_defs.specs.Settings.{setting_of};
 ghost use Rattle.kp_types.specs.Chains.{is_chain_name};
 ghost use Rattle.kp_types.specs.declared.chain.TableName.TheVariants.{Filter};
 ghost use Rattle.kp_table_defs.specs.Layout as layout;
+ghost use Rattle.kp_chains.specs.Blocks.{block_count, blocks_of};
 ghost use Rattle.kp_blocks.specs.Joined.{has_rules, port_block, text_of};
 
-use kp_base::{Config, Items, NoMemory};
+use kp_base::{Config, Items, NoMemory, Steps};
 use kp_chains::info_blocks;
 use kp_types::{ChainAt, ChainName, ChainText, PortInfo, Rule, TableName};
 use std::alloc::Global;
+use std::sync::ledger::Ledger;
 
 /// A port's rules in each shared chain where it has some. They get no more memory than they take,
-/// since those of all ports are kept, and most ports have rules in one.
-pub fn block_of(
+/// since those of all ports are kept, and most ports have rules in one. It takes at most a step for
+/// each.
+pub fn block_of<L: Ledger>(
     alloc: Global,
     config: &Config,
     info: &PortInfo,
+    steps: &mut Steps<L>,
 ) -> Result<Items<ChainText>, NoMemory>
-    ensures { IfOk result (λ block. block ≡ port_block (setting_of V4 config.now) info.now) }
+    ensures block { IfOk result (λ block. block
+        ≡ port_block (setting_of V4 config.now) info.now) }
+    ensures more { steps.old ≤ steps.new }
+    ensures steps { steps.new
+        ≤ steps.old + block_count (blocks_of (setting_of V4 config.now) info.now) }
 {
-    let blocks = info_blocks(alloc, config, info)?;
+    let blocks = info_blocks(alloc, config, info, steps)?;
     let mut block = Vec::with_capacity(alloc, 1)?;
     add(&mut block, TableName::Nat, "KUBE-SERVICES", blocks.services)?;
     add(

@@ -10,7 +10,7 @@ ghost use Rattle.kp_writer.specs.Own as spec;
 
 use crate::next::NextChains;
 use kp_base::{Config, NoMemory, Steps};
-use kp_chains::{count_chains, info_chains, own_keys};
+use kp_chains::{info_chains, own_keys};
 use kp_names::Namer;
 use kp_rules::Table;
 use kp_types::{ChainAt, ChainKey, ChainText, PortInfo, TableName};
@@ -98,8 +98,7 @@ fn write_port<L: Ledger>(
     ensures steps { steps.new
         ≤ steps.old + rule_count (port_rows (setting_of V4 config.now) info.now) }
 {
-    let rows = info_chains(alloc, config, info)?;
-    count_chains(steps, rows.as_slice());
+    let rows = info_chains(alloc, config, info, steps)?;
     write_rows(alloc, before, rows, next)
 }
 

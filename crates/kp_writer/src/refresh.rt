@@ -1,16 +1,18 @@
 //! What is known of the ports of one Service, taken over together.
-ghost use Rattle.std.specs.Prelude.{◌≡◌, cond, map, false, IfOk, OnOk, OnErr};
+ghost use Rattle.std.specs.Prelude.{◌≡◌, ◌+◌, ◌≤◌, ◌∷◌, [], cond, map, false, IfOk, OnOk, OnErr};
 ghost use Rattle.std.specs.FinMap as finite;
 ghost use Rattle.kp_base.specs.declared.key.PortKey.{PortKey as Key};
 ghost use Rattle.kp_writer_laws.specs.LocalLaws.{is_one_of};
 ghost use Rattle.kp_blocks.specs.Joined.{is_port_of};
 ghost use Rattle.kp_writer.specs.Refresh as spec;
-ghost use Rattle.kp_writer.specs.Written.{newest_ports, written_ports};
+ghost use Rattle.kp_writer.specs.Shared.{shared_rule_count};
+ghost use Rattle.kp_writer.specs.Written.{newest_ports, setting_in, written_ports};
 
 use crate::writer::Writer;
-use kp_base::{Copied, NoMemory, ObjectKey, PortKey};
+use kp_base::{Copied, NoMemory, ObjectKey, PortKey, Steps};
 use kp_types::PortInfo;
 use std::alloc::Global;
+use std::sync::ledger::Ledger;
 
 /// Copies of names of ports.
 pub fn copies(alloc: Global, ports: &[&PortKey]) -> Result<Vec<PortKey>, NoMemory>
@@ -38,12 +40,14 @@ pub fn drop_all(alloc: Global, writer: &mut Writer, mut ports: Vec<PortKey>) -> 
     Ok(())
 }
 
-/// Takes over what is known of ports, as far as they are a Service's.
-pub fn put_all(
+/// Takes over what is known of ports, as far as they are a Service's. It takes at most a step for
+/// each rule that they have in the shared chains.
+pub fn put_all<L: Ledger>(
     alloc: Global,
     writer: &mut Writer,
     service: &ObjectKey,
     mut infos: Vec<PortInfo>,
+    steps: &mut Steps<L>,
 ) -> Result<(), NoMemory>
     ensures config { writer.new.config ≡ writer.old.config }
     ensures written { written_ports writer.new ≡ written_ports writer.old }
@@ -51,19 +55,23 @@ pub fn put_all(
         ≡ spec.with_infos service.now (newest_ports writer.old) infos.items) }
     ensures others { spec.OthersStay service.now
         (newest_ports writer.old) (newest_ports writer.new) }
+    ensures more { steps.old ≤ steps.new }
+    ensures steps { steps.new
+        ≤ steps.old + shared_rule_count (setting_in writer.old) infos.items }
 {
     while let Some(info) = infos.pop() {
-        put_if(alloc, writer, service, info)?;
+        put_if(alloc, writer, service, info, steps)?;
     }
     Ok(())
 }
 
 /// Takes over what is known of a port, where it is a Service's.
-fn put_if(
+fn put_if<L: Ledger>(
     alloc: Global,
     writer: &mut Writer,
     service: &ObjectKey,
     info: PortInfo,
+    steps: &mut Steps<L>,
 ) -> Result<(), NoMemory>
     ensures config { writer.new.config ≡ writer.old.config }
     ensures written { written_ports writer.new ≡ written_ports writer.old }
@@ -71,9 +79,12 @@ fn put_if(
         ≡ cond (is_port_of service.now info.key)
         (finite.insert (newest_ports writer.old) info.key info) (newest_ports writer.old)) }
     ensures err { OnErr result (newest_ports writer.new ≡ newest_ports writer.old) }
+    ensures more { steps.old ≤ steps.new }
+    ensures steps { steps.new
+        ≤ steps.old + shared_rule_count (setting_in writer.old) (info ∷ []) }
 {
     if *service == info.key.object {
-        writer.put(alloc, info)
+        writer.put(alloc, info, steps)
     } else {
         Ok(())
     }

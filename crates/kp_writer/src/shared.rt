@@ -7,14 +7,14 @@ ghost use Rattle.kp_base.specs.Keys.{port_key_cmp};
 ghost use Rattle.kp_base.specs.declared.address.Family.TheVariants.{V4};
 ghost use Rattle.kp_choice_defs.specs.Settings.{setting_of};
 ghost use Rattle.kp_types.specs.Chains.{is_chain_name};
-ghost use Rattle.kp_full_table.specs.Parts.{block_count};
+ghost use Rattle.kp_chains.specs.Blocks.{block_count};
 ghost use Rattle.kp_tracker.specs.Tracked as tracked;
 ghost use Rattle.kp_writer.specs.Shared as spec;
 ghost use Rattle.kp_writer.specs.Written.{AreBlocksOf};
 
 use crate::known::Known;
 use kp_base::{Config, Items, NoMemory, PortKey, Steps};
-use kp_chains::{Blocks, count_chains, count_rules, info_blocks};
+use kp_chains::{Blocks, info_blocks};
 use kp_tracker::Tracker;
 use kp_types::{ChainAt, ChainName, ChainText, Rule, TableName};
 use std::alloc::Global;
@@ -30,8 +30,8 @@ pub struct Touched {
     pub refusals: bool,
 }
 
-/// Which shared chains the changes of ports touch. A step is taken for each rule of a port in
-/// these, before and after; those after are at hand in the ports' blocks.
+/// Which shared chains the changes of ports touch. A step is taken for each rule that a port had in
+/// these before; those that it has are at hand in its block.
 pub fn touched_by<L: Ledger>(
     alloc: Global,
     config: &Config,
@@ -48,7 +48,7 @@ pub fn touched_by<L: Ledger>(
           finite.get (tracked.newest port_key_cmp ports.now) k.now,
         )) keys.now)) }
     ensures more { OnOk result (steps.old ≤ steps.new) }
-    ensures steps { steps.new ≤ steps.old + spec.change_count (setting_of V4 config.now)
+    ensures steps { steps.new ≤ steps.old + spec.before_count (setting_of V4 config.now)
         (map (λ k. (
           finite.get (tracked.published port_key_cmp ports.now) k.now,
           finite.get (tracked.newest port_key_cmp ports.now) k.now,
@@ -57,9 +57,7 @@ pub fn touched_by<L: Ledger>(
     let mut touched = untouched();
     for key in keys {
         let before = blocks_if(alloc, config, ports.published(key), steps)?;
-        let after = block_kept(blocks, key);
-        count_chains(steps, after);
-        touched = touch(touched, &before, after);
+        touched = touch(touched, &before, block_kept(blocks, key));
     }
     Ok(touched)
 }
@@ -155,11 +153,7 @@ fn blocks_if<L: Ledger>(
 {
     match info {
         None => Ok(no_blocks(alloc)),
-        Some(info) => {
-            let blocks = info_blocks(alloc, config, info.info())?;
-            count_blocks(steps, &blocks);
-            Ok(blocks)
-        }
+        Some(info) => { info_blocks(alloc, config, info.info(), steps) }
     }
 }
 
@@ -180,15 +174,4 @@ fn no_blocks(alloc: Global) -> Blocks
         external: Items::new(alloc),
         refusals: Items::new(alloc),
     }
-}
-
-/// Takes a step for each rule of blocks.
-fn count_blocks<L: Ledger>(steps: &mut Steps<L>, blocks: &Blocks)
-    ensures { steps.new ≡ steps.old + block_count blocks.now }
-{
-    count_rules(steps, blocks.services.as_slice());
-    count_rules(steps, blocks.node_ports.as_slice());
-    count_rules(steps, blocks.firewall.as_slice());
-    count_rules(steps, blocks.external.as_slice());
-    count_rules(steps, blocks.refusals.as_slice());
 }

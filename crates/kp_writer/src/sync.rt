@@ -3,9 +3,9 @@ ghost use Rattle.std.specs.Prelude.{◌≡◌, ◌+◌, ◌≤◌, map, IfOk, On
 ghost use Rattle.kp_base.specs.Keys.{port_key_cmp};
 ghost use Rattle.kp_base.specs.declared.address.Family.TheVariants.{V4};
 ghost use Rattle.kp_choice_defs.specs.Settings.{setting_of};
-ghost use Rattle.kp_full_table.specs.Parts.{all_rule_count};
 ghost use Rattle.kp_tracker.specs.Tracked as tracked;
 ghost use Rattle.kp_writer.specs.Own.{own_rule_count, with_own};
+ghost use Rattle.kp_writer.specs.Shared.{shared_rule_count};
 ghost use Rattle.kp_writer.specs.Sync as spec;
 ghost use Rattle.kp_writer.specs.Written.{AreBlocksOf};
 
@@ -23,7 +23,8 @@ use std::alloc::Global;
 use std::sync::ledger::Ledger;
 
 /// What stands after at the places that ports may change: their own chains, and the shared chains
-/// that they touch, which are joined. It takes a step for each rule that is made of a port's.
+/// that they touch, which are joined. It takes a step for each rule that is made: at most those that
+/// the ports had in the shared chains, and those that they have in their own.
 pub fn next_chains<L: Ledger>(
     alloc: Global,
     config: &Config,
@@ -42,9 +43,9 @@ pub fn next_chains<L: Ledger>(
         (spec.infos_at (tracked.newest port_key_cmp ports.now) (map (λ k. k.now) keys.now))
         ≤ steps.new) }
     ensures steps { steps.new ≤ steps.old
-        + (all_rule_count (setting_of V4 config.now) (spec.infos_at
+        + (shared_rule_count (setting_of V4 config.now) (spec.infos_at
         (tracked.published port_key_cmp ports.now) (map (λ k. k.now) keys.now))
-        + all_rule_count (setting_of V4 config.now) (spec.infos_at
+        + own_rule_count (setting_of V4 config.now) (spec.infos_at
         (tracked.newest port_key_cmp ports.now) (map (λ k. k.now) keys.now))) }
 {
     let mut next = own_chains(alloc, config, ports, keys, table, steps)?;

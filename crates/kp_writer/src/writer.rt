@@ -1,13 +1,15 @@
 //! What was written of ports, and the edits to what is known of them now.
-ghost use Rattle.std.specs.Prelude.{◌≡◌, ◌+◌, ◌≤◌, true, None, map, IfOk, IfErr, OnOk, OnErr};
+ghost use Rattle.std.specs.Prelude.{◌≡◌, ◌+◌, ◌≤◌, ◌∷◌, [], true, None, map, IfOk};
+ghost use Rattle.std.specs.Prelude.{IfErr, OnOk, OnErr};
 ghost use Rattle.std.specs.FinMap as finite;
 ghost use Rattle.std.specs.List.{filter};
 ghost use Rattle.kp_blocks.specs.Joined.{is_port_of};
 ghost use Rattle.kp_full_table.specs.Faults.{TellsClash};
-ghost use Rattle.kp_full_table.specs.Parts.{all_rule_count};
 ghost use Rattle.kp_writer.specs.Batch.{own_rules_written};
 ghost use Rattle.kp_writer.specs.Known.{pending_ports};
+ghost use Rattle.kp_writer.specs.Own.{own_rule_count};
 ghost use Rattle.kp_writer.specs.Refresh.{IsRefreshed, OthersStay};
+ghost use Rattle.kp_writer.specs.Shared.{shared_rule_count};
 ghost use Rattle.kp_writer.specs.Written as spec;
 
 use crate::block::block_of;
@@ -73,15 +75,24 @@ impl Writer {
         })
     }
 
-    /// Takes over what is known of a port. Where memory is out, all stays.
-    pub fn put(&mut self, alloc: Global, info: PortInfo) -> Result<(), NoMemory>
+    /// Takes over what is known of a port. It takes at most a step for each rule that the port has
+    /// in the shared chains. Where memory is out, all stays.
+    pub fn put<L: Ledger>(
+        &mut self,
+        alloc: Global,
+        info: PortInfo,
+        steps: &mut Steps<L>,
+    ) -> Result<(), NoMemory>
         ensures config { self.new.config ≡ self.old.config }
         ensures written { spec.written_ports self.new ≡ spec.written_ports self.old }
         ensures newest { OnOk result (spec.newest_ports self.new
             ≡ finite.insert (spec.newest_ports self.old) info.key info) }
         ensures err { OnErr result (spec.newest_ports self.new ≡ spec.newest_ports self.old) }
+        ensures more { steps.old ≤ steps.new }
+        ensures steps { steps.new ≤ steps.old
+            + shared_rule_count (spec.setting_in self.old) (info ∷ []) }
     {
-        let block = block_of(alloc, &self.config, &info)?;
+        let block = block_of(alloc, &self.config, &info, steps)?;
         kept::put(alloc, &mut self.ports, &mut self.blocks, info, block)
     }
 
@@ -115,12 +126,14 @@ impl Writer {
 
     /// Takes over what is known of the ports of a Service: those that aren't given are gone. Of two
     /// of one name the first counts. Ports of other Services stay, and where such are given they
-    /// are passed over. Where memory is out, ports of the Service may be gone or new.
-    pub fn refresh(
+    /// are passed over. It takes at most a step for each rule that those have in the shared chains
+    /// that are given. Where memory is out, ports of the Service may be gone or new.
+    pub fn refresh<L: Ledger>(
         &mut self,
         alloc: Global,
         service: &ObjectKey,
         infos: Vec<PortInfo>,
+        steps: &mut Steps<L>,
     ) -> Result<(), NoMemory>
         ensures config { self.new.config ≡ self.old.config }
         ensures written { spec.written_ports self.new ≡ spec.written_ports self.old }
@@ -128,10 +141,13 @@ impl Writer {
             (spec.newest_ports self.old) (spec.newest_ports self.new)) }
         ensures others { OthersStay service.now
             (spec.newest_ports self.old) (spec.newest_ports self.new) }
+        ensures more { steps.old ≤ steps.new }
+        ensures steps { steps.new ≤ steps.old
+            + shared_rule_count (spec.setting_in self.old) infos.items }
     {
         let gone = self.copies_of(alloc, service)?;
         drop_all(alloc, self, gone)?;
-        put_all(alloc, self, service, infos)
+        put_all(alloc, self, service, infos, steps)
     }
 
     /// Copies of the names of the newest ports of a Service.
@@ -155,8 +171,9 @@ impl Writer {
     /// The edits that lead from the full table of what was written, which is given, to that of what
     /// is known now: exactly the changes between the two. It is refused exactly where two different
     /// chains that are needed have one name, and tells the least such pair, or where memory is out.
-    /// It takes at most a step for each rule of the dirty ports before, and one for each after, and
-    /// at least one for each rule of a port's own chains that the edits write.
+    /// It takes at most a step for each rule that the dirty ports had in the shared chains, and one
+    /// for each that they have in their own, and at least one for each rule of a port's own chains
+    /// that the edits write.
     pub fn edits<L: Ledger>(
         &self,
         alloc: Global,
@@ -172,9 +189,9 @@ impl Writer {
             (spec.clash_of self.now (spec.newest_ports self.now))) }
         ensures made { IfOk result (λ b. steps.old + own_rules_written b.edits ≤ steps.new) }
         ensures steps { steps.new ≤ steps.old
-            + (all_rule_count (spec.setting_in self.now)
+            + (shared_rule_count (spec.setting_in self.now)
             (spec.dirty_of self.now (spec.written_ports self.now))
-            + all_rule_count (spec.setting_in self.now)
+            + own_rule_count (spec.setting_in self.now)
             (spec.dirty_of self.now (spec.newest_ports self.now))) }
     {
         kp_walk_laws::hashed_prefixed();

@@ -5,10 +5,11 @@ use Rattle.kp_choice_defs.specs.Settings.{setting_of}
 use Rattle.kp_object_defs.specs.Objects.{objects_after}
 use Rattle.kp_full_table.specs.Faults.{TellsClash}
 use Rattle.kp_writer.specs.Batch.{own_rules_written}
-use Rattle.kp_plane.specs.Known.{touched_count}
+use Rattle.kp_plane.specs.Known.{touched_count, touched_rules}
 use Rattle.kp_plane.specs.Invariant.{AreTouchedBetween, IsAtPlace, IsBroughtOn, IsUpToDate}
 use Rattle.kp_plane.specs.Invariant.{parts_of, touched_between}
-use Rattle.kp_plane.proofs.Between.{asked_since, brought_on, counted_none, counted_some}
+use Rattle.kp_plane.proofs.Between.{asked_since, blocks_since, brought_on, counted_none, counted_some}
+use Rattle.kp_plane.proofs.Between.{counted_within}
 use Rattle.kp_plane.proofs.Between.{makes_next, most_made}
 use Rattle.kp_plane.proofs.Between.{next_clash, nothing_next, stands, stands_apart}
 use Rattle.kp_plane.proofs.Synced.{some_left}
@@ -69,7 +70,19 @@ returns-in_err-bring_on-clause-ports g c =
     c.bring_on.ensures.goes_on)
 
 pub returns-in_err-bring_on-clause-steps : goal.returns-in_err-bring_on-clause-steps
-returns-in_err-bring_on-clause-steps g c = counted_none _ _ _
+returns-in_err-bring_on-clause-steps g c =
+    let setting = setting_of V4 c.args.config.now in
+    let p = parts_of c.args.config.now c.args.journal.now c.args.history.now in
+    let s = c.args.ports.now in
+    let since = subst (λ es. AreTouchedBetween setting es (sum p.counts) s.latest.at s.touched)
+    (sym c.events-events.ensures) c.requires.ports.since in
+    let few = ap (λ es. touched_rules setting (objects_after es)
+    (touched_between setting es (sum p.counts) (length es))) c.events-events.ensures
+    ∙ blocks_since p in
+    let blocks = c.bring_on.ensures.steps (sum p.counts) since in
+    counted_within (some_left p c.args.history.now c.requires.history c.if-events-history.false
+    (ap length c.events-events.ensures))
+    (omega (arith, few, blocks))
 
 pub returns-in_err-bring_on-clause-asked : goal.returns-in_err-bring_on-clause-asked
 returns-in_err-bring_on-clause-asked g c =
@@ -129,19 +142,27 @@ returns-clause-clash g c =
 
 pub returns-clause-steps : goal.returns-clause-steps
 returns-clause-steps g c =
+    let setting = setting_of V4 c.args.config.now in
     let p = parts_of c.args.config.now c.args.journal.now c.args.history.now in
     let s = c.args.ports.now in
+    let since = subst (λ es. AreTouchedBetween setting es (sum p.counts) s.latest.at s.touched)
+    (sym c.events-events.ensures) c.requires.ports.since in
+    let few = ap (λ es. touched_rules setting (objects_after es)
+    (touched_between setting es (sum p.counts) (length es))) c.events-events.ensures
+    ∙ blocks_since p in
+    let blocks = c.bring_on.ensures.steps (sum p.counts) since in
     let t = c.bring_on.new.self in
-    let on = subst (λ es. IsBroughtOn (setting_of V4 c.args.config.now) es s t) c.events-events.ensures
+    let on = subst (λ es. IsBroughtOn setting es s t) c.events-events.ensures
     c.bring_on.ensures.goes_on in
     let is = brought_on p s t c.requires.ports on in
-    let up = subst (λ es. IsUpToDate (setting_of V4 c.args.config.now) es t) c.events-events.ensures
+    let up = subst (λ es. IsUpToDate setting es t) c.events-events.ensures
     c.in_ok-bring_on.ensures.ok in
-    counted_some (some_left p c.args.history.now c.requires.history c.if-events-history.false
+    let edited = most_made c.known_ports.ensures c.own_keys.ensures.after_events p t.writer
+    is.config is.written up.newest c.known_dirty_ports.ensures.written
+    c.known_dirty_ports.ensures.newest in
+    counted_within (some_left p c.args.history.now c.requires.history c.if-events-history.false
     (ap length c.events-events.ensures))
-    (most_made c.known_ports.ensures c.own_keys.ensures.after_events p t.writer is.config
-    is.written up.newest c.known_dirty_ports.ensures.written c.known_dirty_ports.ensures.newest)
-    c.made.ensures.steps
+    (omega (arith, few, blocks, edited, c.made.ensures.steps))
 
 pub returns-clause-asked : goal.returns-clause-asked
 returns-clause-asked g c =

@@ -3,7 +3,7 @@ use Rattle.std.proofs.Common.{◌≡◌, ◌≤◌, ◌+◌, map, vec_len}
 use Rattle.kp_base.specs.declared.address.Family.TheVariants.{V4}
 use Rattle.kp_choice_defs.specs.Settings.{setting_of}
 use Rattle.kp_writer.specs.Written.{newest_ports, written_ports}
-use Rattle.kp_plane.specs.Known.{KnowsOthers, asked_count}
+use Rattle.kp_plane.specs.Known.{KnowsOthers, asked_count, made_count}
 use Rattle.kp_plane.proofs.Refreshed.{AreAmong}
 use Rattle.kp_plane.proofs.refresh.refresh_each.Given as goal
 
@@ -14,6 +14,11 @@ invariant-loop-service g l = record {
   known : KnowsOthers (setting_of V4 l.config) l.objects (map (λ k. k.now) l.services.items)
       (newest_ports l.writer);
   among : AreAmong (map (λ k. k.now) l.services.items) (map (λ k. k.now) l.fn.services.items);
+  more : l.fn.steps ≤ l.steps;
+  steps : l.steps
+      + made_count (setting_of V4 l.config) l.objects (map (λ k. k.now) l.services.items)
+      ≤ l.fn.steps
+      + made_count (setting_of V4 l.config) l.objects (map (λ k. k.now) l.fn.services.items);
   asked : l.asked + asked_count l.objects (map (λ k. k.now) l.services.items)
       ≤ l.fn.asked + asked_count l.objects (map (λ k. k.now) l.fn.services.items);
 }

@@ -2,7 +2,7 @@ use Rattle.std.proofs.Common.{◌≤◌, ◌+◌, sym, subst}
 use Rattle.kp_base.specs.declared.address.Family.TheVariants.{V4}
 use Rattle.kp_choice_defs.specs.Settings.{setting_of}
 use Rattle.kp_writer.specs.Written.{newest_ports}
-use Rattle.kp_plane.specs.Known.{KnowsOthers, asked_count}
+use Rattle.kp_plane.specs.Known.{KnowsOthers, asked_count, made_count}
 use Rattle.kp_plane.proofs.refresh.refresh_keys.Goals as goal
 
 pub refresh_each-requires-clause-others : goal.refresh_each-requires-clause-others
@@ -19,3 +19,9 @@ pub returns-clause-asked : goal.returns-clause-asked
 returns-clause-asked g c =
     subst (λ ks. c.refresh_each.new.asked ≤ c.args.asked.now + asked_count c.args.objects.now ks)
     c.in_ok-services.ensures c.refresh_each.ensures.asked
+
+pub returns-clause-steps : goal.returns-clause-steps
+returns-clause-steps g c =
+    subst (λ ks. c.refresh_each.new.steps ≤ c.args.steps.now
+    + made_count (setting_of V4 c.args.config.now) c.args.objects.now ks)
+    c.in_ok-services.ensures c.refresh_each.ensures.steps

@@ -1,21 +1,26 @@
-use Rattle.std.proofs.Common.{cond, drop, length, ap, sym, ◌∙◌}
+use Rattle.std.proofs.Common.{[], ◌∷◌, arith, cond, drop, length, ap, sym, ◌∙◌}
 use Rattle.std.specs.FinMap.{insert}
 use Rattle.kp_chains.proofs.Popped.{popped-drop, popped-take}
 use Rattle.kp_blocks.specs.Joined.{is_port_of}
 use Rattle.kp_writer.specs.Refresh.{with_infos}
-use Rattle.kp_writer.specs.Written.{newest_ports}
+use Rattle.kp_writer.specs.Shared.{shared_rule_count}
+use Rattle.kp_writer.specs.Written.{newest_ports, setting_in}
+use Rattle.kp_writer.proofs.RuleCounts.{put_count, shared_parts}
 use Rattle.kp_writer.proofs.Refreshed.{others_stay}
 use Rattle.kp_writer.proofs.refresh.put_all.Goals as goal
 
 -- one port more
 pub loop-info-preserved : goal.loop-info-preserved
-loop-info-preserved c =
+loop-info-preserved g c =
     let all = c.args.infos.items in
     let old = c.loop-info.infos.items in
     let new = c.pop.new.self.items in
     let info = c.in-Some.info in
     let so_far = c.loop-info.invariant in
     let service = c.args.service.now in
+    let one = put_count c.loop-info.writer.config c.args.writer.now.config so_far.config info in
+    let split = ap (shared_rule_count (setting_in c.args.writer.now)) c.in-Some.ensures.items in
+    let parts = shared_parts (setting_in c.args.writer.now) new (info ∷ []) in
     record {
       config = c.put_if.ensures.config ∙ so_far.config;
       written = c.put_if.ensures.written ∙ so_far.written;
@@ -24,18 +29,33 @@ loop-info-preserved c =
           ∙ ap (λ m. cond (is_port_of service info.key) (insert m info.key info) m) so_far.newest
           ∙ ap (with_infos service (newest_ports c.args.writer.now))
           (sym (popped-drop all old new info c.in-Some.ensures.items so_far.left));
+      more = omega (arith, c.put_if.ensures.more, so_far.more);
+      steps = omega (arith, one, split, parts, c.put_if.ensures.steps, so_far.steps);
       left = popped-take all old new info c.in-Some.ensures.items so_far.left;
     }
 
 pub returns-clause-others : goal.returns-clause-others
-returns-clause-others c =
+returns-clause-others g c =
     others_stay c.args.service.now (newest_ports c.args.writer.now)
     (newest_ports c.loop-info.writer)
     (drop (length c.loop-info.infos.items) c.args.infos.items) c.loop-info.invariant.newest
 
 pub returns-in_err-put_if-clause-others : goal.returns-in_err-put_if-clause-others
-returns-in_err-put_if-clause-others c =
+returns-in_err-put_if-clause-others g c =
     others_stay c.args.service.now (newest_ports c.args.writer.now)
     (newest_ports c.put_if.new.writer)
     (drop (length c.loop-info.infos.items) c.args.infos.items)
     (c.in_err-put_if.ensures.err ∙ c.loop-info.invariant.newest)
+
+pub returns-in_err-put_if-clause-more : goal.returns-in_err-put_if-clause-more
+returns-in_err-put_if-clause-more g c =
+    omega (arith, c.put_if.ensures.more, c.loop-info.invariant.more)
+
+pub returns-in_err-put_if-clause-steps : goal.returns-in_err-put_if-clause-steps
+returns-in_err-put_if-clause-steps g c =
+    let info = c.in-Some.info in
+    let so_far = c.loop-info.invariant in
+    let one = put_count c.loop-info.writer.config c.args.writer.now.config so_far.config info in
+    let split = ap (shared_rule_count (setting_in c.args.writer.now)) c.in-Some.ensures.items in
+    let parts = shared_parts (setting_in c.args.writer.now) c.pop.new.self.items (info ∷ []) in
+    omega (arith, one, split, parts, c.put_if.ensures.steps, so_far.steps)

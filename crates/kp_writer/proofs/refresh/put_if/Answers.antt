@@ -7,7 +7,7 @@ use Rattle.kp_writer.proofs.refresh.put_if.Goals as goal
 
 -- a port of the Service is put
 pub returns-then-eq-clause-newest : goal.returns-then-eq-clause-newest
-returns-then-eq-clause-newest c =
+returns-then-eq-clause-newest g c =
     let old = newest_ports c.args.writer.now in
     let key = c.args.info.key in
     on_ok_weaker c.put.result (λ put.
@@ -18,7 +18,7 @@ returns-then-eq-clause-newest c =
 
 -- and another is passed over
 pub returns-else-eq-clause-newest : goal.returns-else-eq-clause-newest
-returns-else-eq-clause-newest c =
+returns-else-eq-clause-newest g c =
     let old = newest_ports c.args.writer.now in
     let key = c.args.info.key in
     sym (ap (λ b. cond b (finite.insert old key c.args.info) old)

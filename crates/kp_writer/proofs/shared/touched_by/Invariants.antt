@@ -20,7 +20,7 @@ invariant-loop-key g l = record {
   more : l.fn.steps ≤ l.steps;
   steps :
       l.steps
-      ≤ l.fn.steps + spec.change_count (setting_of V4 l.config) (map (λ k. (
+      ≤ l.fn.steps + spec.before_count (setting_of V4 l.config) (map (λ k. (
         get (published
             port_key_cmp l.ports) k.now,
         get (newest port_key_cmp l.ports) k.now,

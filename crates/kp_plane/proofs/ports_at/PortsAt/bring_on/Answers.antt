@@ -6,7 +6,9 @@ use Rattle.kp_store.specs.Touched.{is_touched}
 use Rattle.kp_writer.specs.Known.{ArePortsOf}
 use Rattle.kp_writer.specs.Written.{newest_ports}
 use Rattle.kp_plane.specs.Collected.{is_collected}
-use Rattle.kp_plane.proofs.Since.{asked_between, since_none}
+use Rattle.kp_known_ports.specs.Known.{ports_in}
+use Rattle.kp_plane.specs.Known.{shared_rules_in}
+use Rattle.kp_plane.proofs.Since.{counted_between, since_none}
 use Rattle.kp_plane.proofs.Synced.{at_end}
 use Rattle.kp_plane.proofs.Touching.{knows_on, knows_same}
 use Rattle.kp_plane.proofs.ports_at.PortsAt.bring_on.Goals as goal
@@ -63,7 +65,7 @@ returns-in_err-refresh-clause-goes_on g c =
 pub returns-in_err-refresh-clause-asked : goal.returns-in_err-refresh-clause-asked
 returns-in_err-refresh-clause-asked g c = λ from is.
     let done = c.in_ok-advance_touching.ensures in
-    asked_between (setting_of V4 c.args.config.now) c.args.events.now from
+    counted_between (setting_of V4 c.args.config.now) c.args.events.now (λ o. ports_in) from
     c.advance_touching.new.self c.advance_touching.new.touched c.args.asked.now c.refresh.new.asked
     (c.advance_touching.ensures.since from is) c.advance_touching.ensures.place done.ok done.joined
     c.refresh.ensures.asked
@@ -95,7 +97,28 @@ returns-clause-ok g c = record {
 pub returns-clause-asked : goal.returns-clause-asked
 returns-clause-asked g c = λ from is.
     let done = c.in_ok-advance_touching.ensures in
-    asked_between (setting_of V4 c.args.config.now) c.args.events.now from
+    counted_between (setting_of V4 c.args.config.now) c.args.events.now (λ o. ports_in) from
     c.advance_touching.new.self c.advance_touching.new.touched c.args.asked.now c.refresh.new.asked
     (c.advance_touching.ensures.since from is) c.advance_touching.ensures.place done.ok done.joined
     c.refresh.ensures.asked
+
+pub returns-in_err-refresh-clause-steps : goal.returns-in_err-refresh-clause-steps
+returns-in_err-refresh-clause-steps g c = λ from is.
+    let done = c.in_ok-advance_touching.ensures in
+    let setting = setting_of V4 c.args.config.now in
+    counted_between setting c.args.events.now (shared_rules_in setting) from
+    c.advance_touching.new.self c.advance_touching.new.touched c.args.steps.now c.refresh.new.steps
+    (c.advance_touching.ensures.since from is) c.advance_touching.ensures.place done.ok done.joined
+    c.refresh.ensures.steps
+
+pub returns-clause-steps : goal.returns-clause-steps
+returns-clause-steps g c = λ from is.
+    let done = c.in_ok-advance_touching.ensures in
+    let setting = setting_of V4 c.args.config.now in
+    counted_between setting c.args.events.now (shared_rules_in setting) from
+    c.advance_touching.new.self c.advance_touching.new.touched c.args.steps.now c.refresh.new.steps
+    (c.advance_touching.ensures.since from is) c.advance_touching.ensures.place done.ok done.joined
+    c.refresh.ensures.steps
+
+pub returns-in_err-advance_touching-clause-steps : goal.returns-in_err-advance_touching-clause-steps
+returns-in_err-advance_touching-clause-steps g c = λ from is. omega arith

@@ -7,7 +7,7 @@ use Rattle.kp_writer.proofs.Refreshed.{others_left, refreshed}
 use Rattle.kp_writer.proofs.writer.Writer.refresh.Goals as goal
 
 pub returns-clause-newest : goal.returns-clause-newest
-returns-clause-newest c =
+returns-clause-newest g c =
     let old = newest_ports c.args.self.now in
     on_ok_weaker c.put_all.result (λ put. refreshed c.args.service.now c.args.infos.items old
     (newest_ports c.drop_all.new.writer) (newest_ports c.put_all.new.writer)
@@ -15,7 +15,7 @@ returns-clause-newest c =
     c.put_all.ensures.newest
 
 pub returns-clause-others : goal.returns-clause-others
-returns-clause-others c = λ key h.
+returns-clause-others g c = λ key h.
     c.put_all.ensures.others key h
     ∙ others_left c.args.service.now c.args.infos.items (newest_ports c.args.self.now)
     (newest_ports c.drop_all.new.writer) (newest_ports c.put_all.new.writer)
@@ -24,7 +24,7 @@ returns-clause-others c = λ key h.
     key h
 
 pub returns-in_err-drop_all-clause-others : goal.returns-in_err-drop_all-clause-others
-returns-in_err-drop_all-clause-others c =
+returns-in_err-drop_all-clause-others g c =
     others_left c.args.service.now c.args.infos.items (newest_ports c.args.self.now)
     (newest_ports c.drop_all.new.writer) (newest_ports c.drop_all.new.writer)
     (λ k out. c.in_err-drop_all.ensures.others k

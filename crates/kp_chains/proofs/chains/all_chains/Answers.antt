@@ -5,7 +5,7 @@ use Rattle.kp_table_defs.specs.Keys.{needed_kinds}
 use Rattle.kp_chains.specs.Named.{kind_row, not_among, endpoint_row}
 use Rattle.kp_chains.specs.Rows.{rows_of_texts}
 use Rattle.kp_chains.proofs.PortRows.{named, port_rows_are}
-use Rattle.kp_chains.proofs.chains.info_chains.Goals as goal
+use Rattle.kp_chains.proofs.chains.all_chains.Goals as goal
 
 pub returns : goal.returns
 returns c =

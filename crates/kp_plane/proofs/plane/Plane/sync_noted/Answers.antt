@@ -1,4 +1,4 @@
-use Rattle.std.proofs.Common.{rules, ◌≡◌, None, IfErr, ℕ, List, not, count_by, sym, ap, subst, ◌∙◌}
+use Rattle.std.proofs.Common.{rules, ◌≡◌, ◌≤◌, ◌+◌, None, IfErr, ℕ, List, not, count_by, sym, ap, subst, ◌∙◌}
 use Rattle.kp_base.specs.declared.address.Family.TheVariants.{V4}
 use Rattle.kp_choice_defs.specs.Settings.{setting_of}
 use Rattle.kp_full_table.specs.Faults.{TellsClash}
@@ -8,9 +8,9 @@ use Rattle.kp_store.proofs.OwnObjects.{either_way}
 use Rattle.kp_table_defs.specs.Edits.{is_write}
 use Rattle.kp_history.proofs.Synced.{last_is_next}
 use Rattle.kp_plane.specs.Invariant.{parts_of}
-use Rattle.kp_plane.specs.Parts.{last_edits, setting_in}
+use Rattle.kp_plane.specs.Parts.{last_edits, most_asked, most_steps, setting_in}
 use Rattle.kp_plane.proofs.Synced.{parts_next, plane_kept, plane_next}
-use Rattle.kp_plane.proofs.plane.Plane.sync_uncounted.Goals as goal
+use Rattle.kp_plane.proofs.plane.Plane.sync_noted.Goals as goal
 
 pub invariant_of-self : goal.invariant_of-self
 invariant_of-self g c =
@@ -62,3 +62,23 @@ pub returns-clause-no_clash : goal.returns-clause-no_clash
 returns-clause-no_clash g c =
     subst (λ q. clash_of (setting_in q) (objects_after q.events) ≡ None) c.self.view_is
     c.in_ok-written.ensures.no_clash
+
+pub returns-in_err-written-clause-bound : goal.returns-in_err-written-clause-bound
+returns-in_err-written-clause-bound g c =
+    subst (λ q. c.sync_counted.new.steps ≤ c.args.steps.now + most_steps q) c.self.view_is
+    c.sync_counted.ensures.steps.bound
+
+pub returns-in_err-written-clause-asked : goal.returns-in_err-written-clause-asked
+returns-in_err-written-clause-asked g c =
+    subst (λ q. c.sync_counted.new.asked ≤ c.args.asked.now + most_asked q) c.self.view_is
+    c.sync_counted.ensures.asked.bound
+
+pub returns-clause-bound : goal.returns-clause-bound
+returns-clause-bound g c =
+    subst (λ q. c.sync_counted.new.steps ≤ c.args.steps.now + most_steps q) c.self.view_is
+    c.sync_counted.ensures.steps.bound
+
+pub returns-clause-asked : goal.returns-clause-asked
+returns-clause-asked g c =
+    subst (λ q. c.sync_counted.new.asked ≤ c.args.asked.now + most_asked q) c.self.view_is
+    c.sync_counted.ensures.asked.bound
