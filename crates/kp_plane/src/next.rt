@@ -19,10 +19,9 @@ use kp_base::{Config, Items, NoMemory, Steps};
 use kp_events::Journal;
 use kp_full_table::TableFault;
 use kp_history::History;
-use kp_history_defs::DirtyPort;
 use kp_rules::Table;
 use kp_types::Batch;
-use kp_writer::Writer;
+use kp_writer::{Pending, Writer};
 use std::alloc::Global;
 use std::sync::ledger::Ledger;
 
@@ -30,7 +29,7 @@ use std::sync::ledger::Ledger;
 #[derive(Drop)]
 pub(crate) struct Next {
     pub(crate) batch: Batch,
-    pub(crate) dirty: Items<DirtyPort>,
+    pub(crate) dirty: Items<Pending>,
 }
 
 /// What a sync of all events keeps. Where no event came since the last sync it is nothing, and

@@ -33,6 +33,7 @@ use kp_history_defs::DirtyPort;
 use kp_recent::RecentLists;
 use kp_rules::Table;
 use kp_types::{Batch, Decision, Event, Packet, Slice, SyncRecord};
+use kp_writer::told;
 use std::alloc::Global;
 use std::marker::Model;
 use std::mem::replace;
@@ -334,7 +335,7 @@ impl Plane {
     pub fn dirty(&self, alloc: Global) -> Result<Items<DirtyPort>, NoMemory>
         ensures { IfOk result (λ ports. ports ≡ parts.dirty_in self.now) }
     {
-        self.ports.dirty.copy(alloc)
+        told(alloc, self.ports.dirty.as_slice())
     }
 
     /// What a plane that ends holds: its events, how many of them each sync covers more than the

@@ -14,9 +14,8 @@ use crate::collected::Collected;
 use crate::place::ObjectsAt;
 use crate::refresh::refresh;
 use kp_base::{Config, Items, NoMemory, Steps};
-use kp_history_defs::DirtyPort;
 use kp_types::Event;
-use kp_writer::Writer;
+use kp_writer::{Pending, Writer};
 use std::alloc::Global;
 use std::sync::ledger::Ledger;
 
@@ -29,7 +28,7 @@ pub(crate) struct PortsAt {
     /// What was written of each port at the last sync, and what is known of it now.
     pub(crate) writer: Writer,
     /// The ports of which something else is known after the last sync than before it.
-    pub(crate) dirty: Items<DirtyPort>,
+    pub(crate) dirty: Items<Pending>,
 }
 
 impl Drop for PortsAt {
@@ -111,7 +110,7 @@ impl PortsAt {
 
     /// Takes over which ports were dirty at a sync and, where it covers new events, that what is
     /// known now is written. It takes no memory.
-    pub(crate) fn settle(&mut self, is_new: bool, dirty: Items<DirtyPort>)
+    pub(crate) fn settle(&mut self, is_new: bool, dirty: Items<Pending>)
         ensures { IsSettled is_new dirty self.old self.new }
     {
         if is_new {

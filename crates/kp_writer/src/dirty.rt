@@ -6,10 +6,9 @@ ghost use Rattle.kp_base.specs.Keys.{port_key_cmp};
 ghost use Rattle.kp_tracker.specs.Tracked as tracked;
 
 use crate::known::Known;
+use crate::pending::Pending;
 use kp_base::{Copied, Items, NoMemory, PortKey};
-use kp_history_defs::DirtyPort;
 use kp_tracker::Tracker;
-use kp_types::PortInfo;
 use std::alloc::Global;
 
 /// Ports, each with what was written of it.
@@ -17,7 +16,7 @@ pub fn dirty_ports(
     alloc: Global,
     ports: &Tracker<PortKey, Known>,
     keys: &[&PortKey],
-) -> Result<Items<DirtyPort>, NoMemory>
+) -> Result<Items<Pending>, NoMemory>
     ensures { IfOk result (λ dirty. dirty ≡ map (λ k. record {
       key = k.now;
       before = finite.get (tracked.published port_key_cmp ports.now) k.now;
@@ -25,20 +24,18 @@ pub fn dirty_ports(
 {
     let mut dirty = Vec::with_capacity(alloc, keys.len())?;
     for key in keys {
-        dirty.push(DirtyPort {
-            key: key.copy(alloc)?,
-            before: copy_of(alloc, ports.published(key))?,
-        })?;
+        let before = copy_of(alloc, ports.published(key))?;
+        dirty.push(Pending::new(key.copy(alloc)?, before))?;
     }
     Ok(Items::from_vec(dirty))
 }
 
 /// A copy of what is known of a port, if something is.
-fn copy_of(alloc: Global, known: Option<&Known>) -> Result<Option<PortInfo>, NoMemory>
+fn copy_of(alloc: Global, known: Option<&Known>) -> Result<Option<Known>, NoMemory>
     ensures { IfOk result (λ copy. copy ≡ option_copied known.entry) }
 {
     match known {
-        Some(known) => Ok(Some(known.info().copy(alloc)?)),
+        Some(known) => Ok(Some(Known::of(alloc, known.info().copy(alloc)?)?)),
         None => Ok(None),
     }
 }

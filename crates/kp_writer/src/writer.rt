@@ -17,12 +17,12 @@ use crate::dirty::dirty_ports;
 use crate::infos::newest_infos;
 use crate::kept;
 use crate::known::Known;
+use crate::pending::Pending;
 use crate::refresh::{copies, drop_all, put_all};
 use crate::sync::next_chains;
 use kp_base::{Config, Copied, Items, NoMemory, ObjectKey, PortKey, Steps};
 use kp_blocks::Blocks;
 use kp_full_table::{TableFault, check_names};
-use kp_history_defs::DirtyPort;
 use kp_rules::Table;
 use kp_tracker::Tracker;
 use kp_types::{Batch, PortInfo};
@@ -161,7 +161,7 @@ impl Writer {
 
     /// The ports of which something else is known than was written, in order of their names, each
     /// with what was written of it.
-    pub fn dirty(&self, alloc: Global) -> Result<Items<DirtyPort>, NoMemory>
+    pub fn dirty(&self, alloc: Global) -> Result<Items<Pending>, NoMemory>
         ensures { IfOk result (λ ports. ports ≡ pending_ports self.now) }
     {
         let pending = self.ports.pending(alloc)?;
