@@ -53,7 +53,7 @@ pub fn info_blocks<L: Ledger>(
     Ok(blocks)
 }
 
-/// They, uncounted.
+/// The rules, uncounted.
 pub fn all_blocks(alloc: Global, config: &Config, info: &PortInfo) -> Result<Blocks, NoMemory>
     ensures { IfOk result (λ b. b ≡ blocks_of (setting_of V4 config.now) info.now) }
 {

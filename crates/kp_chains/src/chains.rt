@@ -39,7 +39,7 @@ pub fn info_chains<L: Ledger>(
     Ok(rows)
 }
 
-/// They. The name of an endpoint's chain is hashed once a list.
+/// The chains, uncounted. The name of an endpoint's chain is hashed once a list.
 pub fn all_chains(
     alloc: Global,
     config: &Config,
