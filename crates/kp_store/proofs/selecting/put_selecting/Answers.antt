@@ -1,4 +1,4 @@
-use Rattle.std.proofs.Common.{◌&&◌, ◌||◌, Bool, List, map, sym, ap, ◌∙◌, Bor}
+use Rattle.std.proofs.Common.{◌&&◌, ◌||◌, Bool, List, map, ap, ◌∙◌, Bor}
 use Rattle.std.specs.List.{list_any}
 use Rattle.std.specs.Ordering.{eq_by_cmp}
 use Rattle.std.specs.FinMap as finite
