@@ -1,4 +1,5 @@
 pub mod Decimals
+pub mod Groups
 pub mod KeyOrder
 pub mod Maps
 pub mod Pieces

@@ -79,6 +79,9 @@ bool_exact true false h = absurd (false≢true h)
 bool_exact false true h = absurd (false≢true h)
 bool_exact false false h = refl
 
+pub family_test_exact : IsExact family_eq.ghosts.eq
+family_test_exact a b h = same_family_exact a b (sym (family_same a b) ∙ h)
+
 pub text_test_exact : IsExact bytes_eq
 text_test_exact a b h = (bytes_eq-Decides a b).0 h
 

@@ -2,4 +2,5 @@ pub mod Dotted
 pub mod Grammar
 pub mod Keys
 pub mod Net
+pub mod Six
 pub mod Words

@@ -31,6 +31,10 @@ same_family V6 V4 = false
 abbrev pub v4_address : ℕ → AddressParts
 v4_address n = record { family = V4; number = n }
 
+-- the IPv6 address with this number
+abbrev pub v6_address : ℕ → AddressParts
+v6_address n = record { family = V6; number = n }
+
 -- whether two addresses are one
 abbrev pub same_address : AddressParts → AddressParts → Bool
 same_address a b = same_family a.family b.family && (a.number == b.number)
@@ -52,7 +56,7 @@ single_range a = record { base = a; bits = width a.family }
 -- the loopback range of a family (RFC 1122, 3.2.1.3; RFC 4291, 2.5.3)
 abbrev pub loopback_range : Family → RangeParts
 loopback_range V4 = record { base = v4_address (127 * 2 ^ 24); bits = 8 }
-loopback_range V6 = record { base = record { family = V6; number = 1 }; bits = 128 }
+loopback_range V6 = record { base = v6_address 1; bits = 128 }
 
 -- the node's own addresses: those of its interfaces that the configuration names, and loopback
 abbrev pub is_local_address : List AddressParts → AddressParts → Bool

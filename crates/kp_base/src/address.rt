@@ -1,10 +1,12 @@
 //! Addresses of IPv4 and IPv6.
-ghost use Rattle.std.specs.Prelude.{◌≡◌, ok_or};
-ghost use Rattle.kp_base.specs.Net.{v4_address};
+ghost use Rattle.std.specs.Prelude.{◌≡◌, ◌≤◌, ◌-◌, ◌%◌, ◌^◌, ok_or};
+ghost use Rattle.kp_base.specs.Net.{v4_address, v6_address, width};
 ghost use Rattle.kp_base.specs.Dotted.{address_of};
+ghost use Rattle.kp_base.specs.Six.{any_address_of};
 
 use crate::dotted::v4_number;
 use crate::memory::{Copied, NoMemory};
+use crate::six::v6_number;
 use crate::wide::Wide;
 use std::alloc::Global;
 use std::marker::Model;
@@ -53,6 +55,24 @@ impl Address {
         }
     }
 
+    /// The address that the text writes: an IPv4 address as `parse` reads it, or an IPv6 address
+    /// (RFC 4291, 2.2) without a zone.
+    pub fn parse_any(text: &[u8]) -> Result<Address, BadAddress>
+        ensures { result ≡ ok_or (any_address_of text.now) (record {}) }
+    {
+        Address::read_any(text).ok_or(BadAddress)
+    }
+
+    /// The address of either family that the text writes.
+    pub(crate) fn read_any(text: &[u8]) -> Option<Address>
+        ensures { result ≡ any_address_of text.now }
+    {
+        match v4_number(text) {
+            Some(number) => Some(Address::v4(number)),
+            None => v6_number(text).map(Address::v6),
+        }
+    }
+
     /// The IPv4 address with this number.
     pub fn v4(number: u32) -> Address
         ensures { result ≡ v4_address number }
@@ -60,6 +80,16 @@ impl Address {
         Address {
             family: Family::V4,
             number: Wide::of(number as u128),
+        }
+    }
+
+    /// The IPv6 address with this number.
+    pub fn v6(number: u128) -> Address
+        ensures { result ≡ v6_address number }
+    {
+        Address {
+            family: Family::V6,
+            number: Wide::of(number),
         }
     }
 
@@ -73,6 +103,33 @@ impl Address {
         ensures { result ≡ self.now.number }
     {
         self.number.number()
+    }
+}
+
+impl Address {
+    /// The address with this many of its lowest bits cleared.
+    pub(crate) fn without_low_bits(self, free: u8) -> Address
+        requires { free ≤ width self.family }
+        ensures { result ≡ record {
+          family = self.family;
+          number = self.number - self.number % 2 ^ free;
+        } }
+    {
+        let number = self.number();
+        let past = match free {
+            128 => number,
+            _ => number % (1 << free),
+        };
+        Address {
+            family: self.family,
+            number: Wide::of(number - past),
+        }
+    }
+}
+
+impl Copied for Family {
+    fn copy(&self, _alloc: Global) -> Result<Family, NoMemory> {
+        Ok(*self)
     }
 }
 

@@ -14,8 +14,13 @@ pub struct Config {
     pub node: Text,
     /// The addresses of the node's interfaces.
     pub addresses: Items<Address>,
-    /// The range of the cluster's pods. A source outside it is masqueraded at a cluster address.
+    /// The IPv4 range of the cluster's pods. A source outside it is masqueraded at a cluster
+    /// address.
     pub cluster: Option<Cidr>,
+    /// The IPv6 range of the cluster's pods.
+    pub cluster6: Option<Cidr>,
+    /// Whether the node has tables of both families.
+    pub dual: bool,
     /// Masquerade every packet that goes through a cluster address.
     pub masquerade_all: bool,
     /// Whether the EndpointSlice controller runs.
@@ -43,6 +48,8 @@ impl Drop for Config {
             node,
             addresses,
             cluster,
+            cluster6,
+            dual,
             masquerade_all,
             controller,
             max_per_slice,
@@ -59,6 +66,8 @@ impl Copied for Config {
             node: self.node.copy(alloc)?,
             addresses: self.addresses.copy(alloc)?,
             cluster: self.cluster,
+            cluster6: self.cluster6,
+            dual: self.dual,
             masquerade_all: self.masquerade_all,
             controller: self.controller,
             max_per_slice: self.max_per_slice,

@@ -1,7 +1,9 @@
 //! Ranges of addresses.
 ghost use Rattle.std.specs.Prelude.{◌≡◌, ◌≤◌, ok_or};
-ghost use Rattle.kp_base.specs.Net.{range_contains, single_range, v4_address};
+ghost use Rattle.kp_base.specs.Net.{range_contains, single_range};
 ghost use Rattle.kp_base.specs.Dotted.{range_of, range_from};
+ghost use Rattle.kp_base.specs.Six.{any_range_of};
+ghost use Rattle.kp_base.specs.Net as spec;
 
 use crate::address::{Address, Family};
 use crate::dotted::v4_number;
@@ -45,15 +47,22 @@ impl Cidr {
         range_in(text).ok_or(BadCidr)
     }
 
+    /// The range that the text writes: an address of either family, a slash and a length of at most
+    /// 32 or 128 with no leading zero. The bits past the length are cleared.
+    pub fn parse_any(text: &[u8]) -> Result<Cidr, BadCidr>
+        ensures { result ≡ ok_or (any_range_of text.now) (record {}) }
+    {
+        any_range_in(text).ok_or(BadCidr)
+    }
+
     /// The range of one address.
     pub fn single(a: Address) -> Cidr
         ensures { result ≡ single_range a }
     {
-        let bits = match a.family() {
-            Family::V4 => 32,
-            Family::V6 => 128,
-        };
-        Cidr { base: a, bits }
+        Cidr {
+            base: a,
+            bits: width(a.family()),
+        }
     }
 
     pub fn base(&self) -> Address
@@ -77,11 +86,7 @@ impl Cidr {
             return false;
         }
         let (number, base) = (a.number(), self.base.number());
-        let width = match a.family() {
-            Family::V4 => 32u32,
-            Family::V6 => 128u32,
-        };
-        let shift = width - self.bits as u32;
+        let shift = width(a.family()) as u32 - self.bits as u32;
         if shift == 128 {
             return true;
         }
@@ -89,27 +94,43 @@ impl Cidr {
     }
 }
 
-/// The range that the text writes.
+/// The IPv4 range that the text writes.
 fn range_in(text: &[u8]) -> Option<Cidr>
     ensures { result ≡ range_of text.now }
 {
     let (base, bits) = split_once(text, b'/')?;
     let number = v4_number(base)?;
     let bits = decimal_up_to(32, bits)?;
-    Some(cleared(number, bits))
+    Some(cleared(Address::v4(number), bits))
 }
 
-/// The IPv4 range of this length that holds the address with this number.
-fn cleared(number: u32, bits: u8) -> Cidr
-    requires { bits ≤ 32 }
-    ensures { result ≡ range_from (v4_address number) bits }
+/// The range of either family that the text writes.
+fn any_range_in(text: &[u8]) -> Option<Cidr>
+    ensures { result ≡ any_range_of text.now }
 {
-    let size = 1u64 << (32 - bits);
-    let past = number as u64 % size;
-    Cidr {
-        base: Address::v4(number - past as u32),
-        bits,
+    let (base, bits) = split_once(text, b'/')?;
+    let base = Address::read_any(base)?;
+    let bits = decimal_up_to(width(base.family()), bits)?;
+    Some(cleared(base, bits))
+}
+
+/// The bits of an address.
+fn width(family: Family) -> u8
+    ensures { result ≡ spec.width family }
+{
+    match family {
+        Family::V4 => 32,
+        Family::V6 => 128,
     }
+}
+
+/// The range of this length that holds the address.
+fn cleared(a: Address, bits: u8) -> Cidr
+    requires { bits ≤ spec.width a.family }
+    ensures { result ≡ range_from a bits }
+{
+    let base = a.without_low_bits(width(a.family()) - bits);
+    Cidr { base, bits }
 }
 
 impl Copied for Cidr {

@@ -1,6 +1,7 @@
 pub mod Booleans
 pub mod Entries
 pub mod Equality
+pub mod FirstPlaces
 pub mod ListFacts
 pub mod Members
 pub mod Numbers

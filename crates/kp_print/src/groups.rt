@@ -4,6 +4,7 @@ ghost use Rattle.std.specs.Net.Text as Text;
 ghost use Rattle.std.specs.Char.{digit_char};
 ghost use Rattle.arrayvec.specs.ArrayString.{array_string_len};
 ghost use Rattle.kp_base.specs.declared.address.Family.TheVariants as family;
+ghost use Rattle.kp_base.specs.Six.{groups_of};
 ghost use Rattle.kp_choice_defs.specs.AddressText as spec;
 
 use crate::address::AddressText;
@@ -19,7 +20,7 @@ pub(crate) fn push_groups_of(text: &mut AddressText, number: u128)
 
 /// The groups of an IPv6 address, the highest first.
 fn segments(number: u128) -> [u16; 8]
-    ensures { result ≡ spec.segments_of number }
+    ensures { result ≡ groups_of number }
 {
     [
         segment(number, 7),

@@ -1,6 +1,6 @@
 -- The order of chains' places is total, and tells all places apart; and what the derived comparisons and
 -- tests of places answer is what it answers.
-use Rattle.std.proofs.Common.{◌≡◌, ◌==◌, ℕ, true, List, refl, ap, ◌∙◌}
+use Rattle.std.proofs.Common.{◌≡◌, ◌==◌, ℕ, zero, suc, true, List, refl, sym, ap, ◌∙◌}
 use Rattle.std.specs.Ordering.{eq_by_cmp, ordering_then, is_eq}
 use Rattle.std.specs.Cmp.{IsTotalOrder}
 use Rattle.std.specs.FinMap.{IsAntisymmetric, nat_cmp-IsAntisymmetric}
@@ -11,19 +11,28 @@ use Rattle.kp_base.specs.Keys.{text_cmp}
 use Rattle.kp_base.proofs.KeyOrder.{text_total, text_exact}
 use Rattle.kp_types.specs.Places.{table_place, table_cmp, chain_cmp}
 use Rattle.kp_types.specs.declared.chain.TableName.{TableName}
-use Rattle.kp_types.specs.declared.chain.TableName.TheVariants.{Nat, Filter}
+use Rattle.kp_types.specs.declared.chain.TableName.TheVariants.{Nat, Filter, Nat6, Filter6}
 use Rattle.kp_types.specs.declared.chain.ChainAt.{ChainAt}
 use Rattle.kp_types.specs.contracts.chain.TableNameOrd.TheImpl as table_ord
 use Rattle.kp_types.specs.contracts.chain.ChainAtOrd.TheImpl as chain_ord
 use Rattle.kp_types.specs.contracts.chain.ChainAtOrd.TheImpl.Laws as chain_laws
 use Rattle.kp_types.specs.contracts.chain.ChainAtPartialEq.TheImpl as chain_eq
 
--- no two tables have one place
+-- the table at a place, which no two tables have
+abbrev table_at : ℕ → TableName
+table_at zero = Nat
+table_at (suc zero) = Filter
+table_at (suc (suc zero)) = Nat6
+table_at (suc (suc (suc n))) = Filter6
+
+table_there : (t : TableName) → table_at (table_place t) ≡ t
+table_there Nat = refl
+table_there Filter = refl
+table_there Nat6 = refl
+table_there Filter6 = refl
+
 one_table : (a b : TableName) → table_place a ≡ table_place b → a ≡ b
-one_table Nat Nat h = refl
-one_table Nat Filter h = absurd (cc)
-one_table Filter Nat h = absurd (cc)
-one_table Filter Filter h = refl
+one_table a b h = sym (table_there a) ∙ ap table_at h ∙ table_there b
 
 -- the same by the test of numbers
 pub one_table_from_test : (a b : TableName) → (table_place a == table_place b) ≡ true → a ≡ b
@@ -36,8 +45,20 @@ table_exact a b h = one_table a b (nat_cmp-IsAntisymmetric _ _ h)
 table_matches : (a b : TableName) → table_ord.ghosts.cmp a b ≡ table_cmp a b
 table_matches Nat Nat = refl
 table_matches Nat Filter = refl
+table_matches Nat Nat6 = refl
+table_matches Nat Filter6 = refl
 table_matches Filter Nat = refl
 table_matches Filter Filter = refl
+table_matches Filter Nat6 = refl
+table_matches Filter Filter6 = refl
+table_matches Nat6 Nat = refl
+table_matches Nat6 Filter = refl
+table_matches Nat6 Nat6 = refl
+table_matches Nat6 Filter6 = refl
+table_matches Filter6 Nat = refl
+table_matches Filter6 Filter = refl
+table_matches Filter6 Nat6 = refl
+table_matches Filter6 Filter6 = refl
 
 pub chain_total : IsTotalOrder chain_cmp
 chain_total = then_total (on_total (λ c. table_place c.table) nat_cmp_total) (on_total (λ c. c.chain) text_total)

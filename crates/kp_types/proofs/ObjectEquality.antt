@@ -1,16 +1,21 @@
 -- The derived tests of Services, of their parts and of endpoints are true at equal ones alone.
-use Rattle.std.proofs.Common.{◌≡◌, true, List, refl, ap, subst, ◌∙◌}
+use Rattle.std.proofs.Common.{◌≡◌, true, List, Option, refl, sym, ap, subst, ◌∙◌}
 use Rattle.std.proofs.Math.Bool.{Bool-set}
 use Rattle.std.proofs.lemmas.Bool.{false≢true, and_parts}
 use Rattle.std.proofs.lemmas.Map.Views.{exact_unsigned_eq}
 use denote.Enum.Declared.{values_one}
 use Rattle.kp_lemmas.specs.Exact.{IsExact}
 use Rattle.kp_lemmas.proofs.Equality.{AreExact, variants_exact, lists_exact, options_exact, one_field}
+use Rattle.kp_base.specs.Net.{AddressParts, RangeParts}
+use Rattle.kp_base.specs.declared.address.Family.{Family}
+use Rattle.kp_base.specs.declared.key.ObjectKey.{ObjectKey}
+use Rattle.kp_base.specs.declared.key.Pair.{Pair}
 use Rattle.kp_base.specs.contracts.key.ObjectKeyPartialEq.TheImpl as key_eq
 use Rattle.kp_base.specs.contracts.key.PairPartialEq.TheImpl as pair_eq
-use Rattle.kp_base.proofs.SameParts.{bool_exact, text_test_exact, proto_test_exact, address_test_exact, range_test_exact, endpoint_test_exact}
+use Rattle.kp_base.proofs.SameParts.{bool_exact, text_test_exact, family_test_exact, proto_test_exact, address_test_exact, range_test_exact, endpoint_test_exact}
 use Rattle.kp_types.specs.Ports.{distinct_ports}
 use Rattle.kp_types.specs.declared.service.Service.{Service}
+use Rattle.kp_types.specs.declared.service.Six.{Six}
 use Rattle.kp_types.specs.declared.service.ServicePort.{ServicePort}
 use Rattle.kp_types.specs.declared.service.ServiceKind.TheVariants.{ClusterIp, NodePort, LoadBalancer, ExternalName}
 use Rattle.kp_types.specs.contracts.service.ServiceKindPartialEq.TheImpl as kind_eq
@@ -21,6 +26,7 @@ use Rattle.kp_types.specs.contracts.service.ClusterAddressPartialEq.TheImpl as c
 use Rattle.kp_types.specs.contracts.service.TargetPort as target_row
 use Rattle.kp_types.specs.contracts.service.TargetPortPartialEq.TheImpl as target_eq
 use Rattle.kp_types.specs.contracts.service.ServicePortPartialEq.TheImpl as port_eq
+use Rattle.kp_types.specs.contracts.service.SixPartialEq.TheImpl as six_eq
 use Rattle.kp_types.specs.contracts.service.ServicePartialEq.TheImpl as service_eq
 use Rattle.kp_types.specs.contracts.lists.CandidatePartialEq.TheImpl as candidate_eq
 
@@ -86,6 +92,18 @@ service_port_exact a b h =
       node_port = options_exact _ exact_unsigned_eq a.node_port b.node_port s.1 i;
     }
 
+six_exact : IsExact six_eq.ghosts.eq
+six_exact a b h =
+    let cluster = and_parts _ _ h in
+    let external = and_parts _ _ cluster.1 in
+    let balancer = and_parts _ _ external.1 in
+    λ i. record {
+      cluster = options_exact _ address_test_exact a.cluster b.cluster cluster.0 i;
+      external = lists_exact _ address_test_exact a.external b.external external.0 i;
+      balancer = lists_exact _ address_test_exact a.balancer b.balancer balancer.0 i;
+      ranges = lists_exact _ range_test_exact a.ranges b.ranges balancer.1 i;
+    }
+
 -- equal ports differ among themselves in one way
 same_proof : (a : Service) (ports : List ServicePort) → a.ports ≡ ports
     → (d : distinct_ports ports ≡ true) → a ≡ record a { ports = ports; distinct = d }
@@ -93,12 +111,45 @@ same_proof a ports e =
     subst (λ ps. (d : distinct_ports ps ≡ true) → a ≡ record a { ports = ps; distinct = d }) e
     (λ d. ap (λ p. record a { distinct = p }) (Bool-set _ _ a.distinct d))
 
+-- a Service that is put together of copies of its parts is itself
+pub copied_is_one : (a : Service) (key : ObjectKey) (families : List Family) (ports : List ServicePort)
+    (selector : List Pair) (external balancer : List AddressParts) (ranges : Option (List RangeParts))
+    (six : Six) (differ : distinct_ports ports ≡ true)
+    → key ≡ a.key → ◌≡◌ {A = List Family × List ServicePort × List Pair} (families, ports, selector) (a.families, a.ports, a.selector)
+    → ◌≡◌ {A = List AddressParts × List AddressParts × Option (List RangeParts)} (external, balancer, ranges) (a.external, a.balancer, a.ranges)
+    → six ≡ a.six
+    → record a {
+      key = key;
+      families = families;
+      ports = ports;
+      selector = selector;
+      external = external;
+      balancer = balancer;
+      ranges = ranges;
+      six = six;
+      distinct = differ;
+    } ≡ a
+copied_is_one a key families ports selector external balancer ranges six differ k f e s =
+    (λ i. record a {
+      key = k i;
+      families = (f i).0;
+      ports = ports;
+      selector = (f i).2;
+      external = (e i).0;
+      balancer = (e i).1;
+      ranges = (e i).2;
+      six = s i;
+      distinct = differ;
+    })
+    ∙ sym (same_proof a ports (sym (ap (λ (p : List Family × List ServicePort × List Pair). p.1) f)) differ)
+
 pub service_exact : IsExact service_eq.ghosts.eq
 service_exact a b h =
     let key = and_parts _ _ h in
     let kind = and_parts _ _ key.1 in
     let cluster = and_parts _ _ kind.1 in
-    let ports = and_parts _ _ cluster.1 in
+    let families = and_parts _ _ cluster.1 in
+    let ports = and_parts _ _ families.1 in
     let selector = and_parts _ _ ports.1 in
     let external = and_parts _ _ selector.1 in
     let affinity = and_parts _ _ external.1 in
@@ -107,11 +158,14 @@ service_exact a b h =
     let publish = and_parts _ _ outer.1 in
     let ranges = and_parts _ _ publish.1 in
     let zone = and_parts _ _ ranges.1 in
+    let health = and_parts _ _ zone.1 in
+    let balancer = and_parts _ _ health.1 in
     same_proof a b.ports (lists_exact _ service_port_exact a.ports b.ports ports.0) b.distinct
     ∙ (λ i. record {
       key = key_test_exact a.key b.key key.0 i;
       kind = kind_exact a.kind b.kind kind.0 i;
       cluster = cluster_exact a.cluster b.cluster cluster.0 i;
+      families = lists_exact _ family_test_exact a.families b.families families.0 i;
       ports = b.ports;
       selector = lists_exact _ pair_exact a.selector b.selector selector.0 i;
       external = lists_exact _ address_test_exact a.external b.external external.0 i;
@@ -121,7 +175,9 @@ service_exact a b h =
       publish_not_ready = bool_exact a.publish_not_ready b.publish_not_ready publish.0 i;
       ranges = options_exact _ (lists_exact _ range_test_exact) a.ranges b.ranges ranges.0 i;
       same_zone = bool_exact a.same_zone b.same_zone zone.0 i;
-      balancer = lists_exact _ address_test_exact a.balancer b.balancer zone.1 i;
+      health = options_exact _ exact_unsigned_eq a.health b.health health.0 i;
+      balancer = lists_exact _ address_test_exact a.balancer b.balancer balancer.0 i;
+      six = six_exact a.six b.six balancer.1 i;
       distinct = b.distinct;
     })
 

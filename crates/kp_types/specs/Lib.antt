@@ -1,4 +1,5 @@
 pub mod Chains
+pub mod Edits
 pub mod Places
 pub mod Ports
 pub mod Rules

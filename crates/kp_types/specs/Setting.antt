@@ -1,8 +1,9 @@
 -- What decisions, tables and clashes are told beside the objects: the address family, the names of chains,
 -- how endpoints are picked, and the configuration as the family sees it (this project's choice).
-use Rattle.std.specs.Prelude.{ℕ, Bool, List, Option, cond, option_and_then, Some, None}
+use Rattle.std.specs.Prelude.{ℕ, Bool, List, [], ◌∷◌, Option, cond, option_and_then, Some, None}
 use Rattle.kp_base.specs.Net.{AddressParts, RangeParts, same_family}
 use Rattle.kp_base.specs.declared.address.Family.{Family}
+use Rattle.kp_base.specs.declared.address.Family.TheVariants.{V4, V6}
 use Rattle.kp_base.specs.declared.config.Config.{Config}
 use Rattle.kp_types.specs.declared.chain.ChainKey.{ChainKey}
 
@@ -33,12 +34,25 @@ pub record Setting : Type 0 where
 abbrev pub range_in : Family → RangeParts → Option RangeParts
 range_in family r = cond (same_family r.base.family family) (Some r) None
 
+-- both families, in the order of their tables and slices
+abbrev pub both_families : List Family
+both_families = V4 ∷ V6 ∷ []
+
+-- the families that the node has tables of
+abbrev pub table_families : Config → List Family
+table_families config = cond config.dual both_families (V4 ∷ [])
+
+-- the range of the cluster's pods in a family
+abbrev pub cluster_range : Family → Config → Option RangeParts
+cluster_range V4 config = option_and_then (range_in V4) config.cluster
+cluster_range V6 config = option_and_then (range_in V6) config.cluster6
+
 -- a configuration as a family sees it
 abbrev pub config_for : Family → Config → FamilyConfig
 config_for family config = record {
   node = config.node;
   addresses = config.addresses;
-  cluster = option_and_then (range_in family) config.cluster;
+  cluster = cluster_range family config;
   masquerade_all = config.masquerade_all;
   controller = config.controller;
 }

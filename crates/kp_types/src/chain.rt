@@ -9,20 +9,36 @@ ghost use Rattle.std.specs.Hash as fed;
 ghost use Rattle.std.specs.List.{list_all, list_any};
 ghost use Rattle.kp_types.specs.Chains as Chains;
 ghost use Rattle.kp_types.specs.Chains.{is_chain_name};
+ghost use Rattle.kp_types.specs.Places.{family_of_table};
 
 use arrayvec::ArrayString;
-use kp_base::{Copied, Endpoint, NoMemory, PortKey};
+use kp_base::{Copied, Endpoint, Family, NoMemory, PortKey};
 use std::alloc::Global;
 use std::cmp::Ordering;
 use std::hash::{Hash, Hasher};
 use std::marker::Model;
 use std::str;
 
-/// A table of iptables. The nat table stands before the filter table.
+/// A table of iptables or of ip6tables. The tables of IPv4 stand before those of IPv6, and the nat
+/// table before the filter table.
 #[derive(Clone, Copy, Debug, PartialEq, Eq, PartialOrd, Ord, Hash)]
 pub enum TableName {
     Nat,
     Filter,
+    Nat6,
+    Filter6,
+}
+
+impl TableName {
+    /// The family of the packets that pass the table.
+    pub fn family(self) -> Family
+        ensures { result ≡ family_of_table self }
+    {
+        match self {
+            TableName::Nat | TableName::Filter => Family::V4,
+            TableName::Nat6 | TableName::Filter6 => Family::V6,
+        }
+    }
 }
 
 /// The name of a chain or of a recent list: 1 to 28 letters, digits and dashes, and no word of a

@@ -25,7 +25,7 @@ pub use lists::{Candidate, Lists};
 pub use packet::{Origin, Packet};
 pub use pod::{ContainerPort, Node, Pod};
 pub use rule::{Batch, ChainText, Edit, Match, Rule, Target};
-pub use service::{ClusterAddress, Policy, Service, ServiceKind, ServicePort, TargetPort};
+pub use service::{ClusterAddress, Policy, Service, ServiceKind, ServicePort, Six, TargetPort};
 pub use slice::{AddressType, Packed, Slice, SliceEndpoint, SlicePort, Wanted};
 pub use sync::SyncRecord;
 pub use verdict::{Answer, Pass, Trail, Verdict};

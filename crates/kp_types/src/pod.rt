@@ -25,7 +25,10 @@ pub struct Pod {
     pub ports: Items<ContainerPort>,
     /// Whether the phase is Succeeded or Failed.
     pub finished: bool,
+    /// Its IPv4 address.
     pub address: Option<Address>,
+    /// Its IPv6 address.
+    pub address6: Option<Address>,
     /// Whether the first condition of type Ready is True.
     pub ready: bool,
 }
@@ -40,6 +43,7 @@ impl Drop for Pod {
             ports,
             finished,
             address,
+            address6,
             ready,
         } = self;
     }
@@ -82,6 +86,7 @@ impl Copied for Pod {
             ports,
             finished: self.finished,
             address: self.address,
+            address6: self.address6,
             ready: self.ready,
         })
     }

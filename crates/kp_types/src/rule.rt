@@ -1,9 +1,10 @@
 //! Rules of iptables, and edits of a table.
 ghost use Rattle.std.specs.Prelude.{◌≡◌, IfOk};
+ghost use Rattle.kp_types.specs.Edits.{place_of, is_edit_in, edits_of_family};
 
 use crate::chain::{ChainAt, ChainName};
 use arrayvec::ArrayVec;
-use kp_base::{Cidr, Copied, Endpoint, Items, NoMemory, PortNo, Proto, Shared};
+use kp_base::{Cidr, Copied, Endpoint, Family, Items, NoMemory, PortNo, Proto, Shared};
 use std::alloc::Global;
 
 /// One match of a rule (iptables(8), iptables-extensions(8)).
@@ -79,6 +80,42 @@ pub struct Batch {
 impl Drop for Batch {
     fn drop(self) {
         let Batch { edits } = self;
+    }
+}
+
+impl Edit {
+    /// The chain that is changed.
+    pub fn place(&self) -> &ChainAt
+        ensures { result.now ≡ place_of self.now }
+    {
+        match self {
+            Edit::Write { at, rules: _ } => at,
+            Edit::Remove { at } => at,
+        }
+    }
+
+    /// Whether a table of this family is changed.
+    pub fn is_in(&self, family: Family) -> bool
+        ensures { result ≡ is_edit_in family self.now }
+    {
+        self.place().table.family() == family
+    }
+}
+
+impl Batch {
+    /// The edits of the tables of one family, in their order.
+    pub fn of_family(&self, alloc: Global, family: Family) -> Result<Batch, NoMemory>
+        ensures { IfOk result (λ b. b.edits ≡ edits_of_family family self.now.edits) }
+    {
+        let mut edits = Vec::new(alloc);
+        for edit in self.edits.as_slice() {
+            if edit.is_in(family) {
+                edits.push(edit.copy(alloc)?)?;
+            }
+        }
+        Ok(Batch {
+            edits: Items::from_vec(edits),
+        })
     }
 }
 

@@ -2,7 +2,9 @@
 ghost use Rattle.std.specs.Prelude.{◌≡◌, IfOk, true};
 ghost use Rattle.kp_types.specs.Ports.{distinct_ports};
 
-use kp_base::{Address, Cidr, Copied, Items, NoMemory, ObjectKey, Pair, PortNo, Proto, Text};
+use kp_base::{
+    Address, Cidr, Copied, Family, Items, NoMemory, ObjectKey, Pair, PortNo, Proto, Text,
+};
 use std::alloc::Global;
 
 /// `spec.type`.
@@ -21,7 +23,7 @@ pub enum Policy {
     Local,
 }
 
-/// `spec.clusterIP`: absent, `None`, or an address.
+/// The IPv4 cluster address of a Service: absent, `None`, or an address.
 #[derive(Clone, Copy, Debug, PartialEq, Eq)]
 pub enum ClusterAddress {
     Absent,
@@ -67,16 +69,39 @@ impl Drop for ServicePort {
     }
 }
 
+/// What a Service has of the family IPv6.
+#[derive(PartialEq, Eq)]
+pub struct Six {
+    pub cluster: Option<Address>,
+    pub external: Items<Address>,
+    pub balancer: Items<Address>,
+    pub ranges: Items<Cidr>,
+}
+
+impl Drop for Six {
+    fn drop(self) {
+        let Six {
+            cluster,
+            external,
+            balancer,
+            ranges,
+        } = self;
+    }
+}
+
 /// A Service. No two of its ports have the same name and protocol.
 #[derive(PartialEq, Eq)]
 pub struct Service {
     pub key: ObjectKey,
     pub kind: ServiceKind,
+    /// `None`, the IPv4 cluster address, or neither.
     pub cluster: ClusterAddress,
+    /// The families of the Service, none of them twice.
+    pub families: Items<Family>,
     pub ports: Items<ServicePort>,
     /// The pairs of `spec.selector`, in byte order of the keys.
     pub selector: Items<Pair>,
-    /// `spec.externalIPs`.
+    /// The IPv4 addresses of `spec.externalIPs`.
     pub external: Items<Address>,
     /// The timeout of session affinity by client address, in seconds, where it is on.
     pub affinity: Option<u32>,
@@ -86,12 +111,16 @@ pub struct Service {
     pub outer: Policy,
     /// `spec.publishNotReadyAddresses`.
     pub publish_not_ready: bool,
-    /// `spec.loadBalancerSourceRanges`, where the list isn't empty.
+    /// The IPv4 ranges of `spec.loadBalancerSourceRanges`, where the list isn't empty.
     pub ranges: Option<Items<Cidr>>,
     /// `spec.trafficDistribution` is `PreferClose`.
     pub same_zone: bool,
-    /// The addresses of `status.loadBalancer.ingress`.
+    /// `spec.healthCheckNodePort`.
+    pub health: Option<PortNo>,
+    /// The IPv4 addresses of `status.loadBalancer.ingress`.
     pub balancer: Items<Address>,
+    /// Its IPv6 addresses and ranges.
+    pub six: Six,
     pub ghost distinct: { distinct_ports ports ≡ true },
 }
 
@@ -101,6 +130,7 @@ impl Drop for Service {
             key,
             kind,
             cluster,
+            families,
             ports,
             selector,
             external,
@@ -110,7 +140,9 @@ impl Drop for Service {
             publish_not_ready,
             ranges,
             same_zone,
+            health,
             balancer,
+            six,
         } = self;
     }
 }
@@ -136,15 +168,31 @@ impl Copied for ServicePort {
     }
 }
 
-/// Copies of the lists of ports and of the selector.
-fn copied_pairs(
+impl Copied for Six {
+    fn copy(&self, alloc: Global) -> Result<Six, NoMemory> {
+        let external = self.external.copy(alloc)?;
+        let balancer = self.balancer.copy(alloc)?;
+        let ranges = self.ranges.copy(alloc)?;
+        Ok(Six {
+            cluster: self.cluster,
+            external,
+            balancer,
+            ranges,
+        })
+    }
+}
+
+/// Copies of the lists of families and ports, and of the selector.
+fn copied_lists(
     alloc: Global,
     service: &Service,
-) -> Result<(Items<ServicePort>, Items<Pair>), NoMemory>
-    ensures { IfOk result (λ c. c ≡ (service.now.ports, service.now.selector)) }
+) -> Result<(Items<Family>, Items<ServicePort>, Items<Pair>), NoMemory>
+    ensures { IfOk result (λ c.
+        c ≡ (service.now.families, service.now.ports, service.now.selector)) }
 {
+    let families = service.families.copy(alloc)?;
     let ports = service.ports.copy(alloc)?;
-    Ok((ports, service.selector.copy(alloc)?))
+    Ok((families, ports, service.selector.copy(alloc)?))
 }
 
 /// Copies of the external addresses, those of the load balancer, and its source ranges.
@@ -163,12 +211,14 @@ fn copied_addresses(
 impl Copied for Service {
     fn copy(&self, alloc: Global) -> Result<Service, NoMemory> {
         let (external, balancer, ranges) = copied_addresses(alloc, self)?;
-        let (ports, selector) = copied_pairs(alloc, self)?;
+        let (families, ports, selector) = copied_lists(alloc, self)?;
+        let six = self.six.copy(alloc)?;
         let key = self.key.copy(alloc)?;
         Ok(Service {
             key,
             kind: self.kind,
             cluster: self.cluster,
+            families,
             ports,
             selector,
             external,
@@ -178,7 +228,9 @@ impl Copied for Service {
             publish_not_ready: self.publish_not_ready,
             ranges,
             same_zone: self.same_zone,
+            health: self.health,
             balancer,
+            six,
         })
     }
 }
