@@ -1,4 +1,5 @@
 pub mod EventText
+pub mod FamilyParts
 pub mod PodText
 pub mod ServiceText
 pub mod SliceText

@@ -1,15 +1,18 @@
 -- How Pods and Nodes are read (Kubernetes API, Pod v1 and Node v1): their rows, and the object where no row is at
 -- fault. Which members are read, and their bounds, is this project's choice.
-use Rattle.std.specs.Prelude.{ℕ, ◌||◌, Bool, false, List, [], map, codes, Option, Some, None, is_some, unwrap_or, Result, find}
-use Rattle.std.specs.List.{flat_map}
+use Rattle.std.specs.Prelude.{ℕ, ◌||◌, Bool, false, List, [], ◌∷◌, map, codes, Option, Some, None, is_some, unwrap_or, Result, find}
+use Rattle.std.specs.List.{filter_map, flat_map}
 use Rattle.kp_json.specs.Places.{Place}
 use Rattle.kp_json.specs.declared.fault.BadField.{BadField}
+use Rattle.kp_base.specs.Net.{AddressParts}
+use Rattle.kp_base.specs.declared.address.Family.TheVariants.{V4, V6}
 use Rattle.kp_types.specs.declared.pod.Pod.{Pod}
 use Rattle.kp_types.specs.declared.pod.Node.{Node}
 use Rattle.kp_types.specs.declared.pod.ContainerPort.{ContainerPort}
 use Rattle.kp_row_defs.specs.Fields.{inner, text_in, whole_in, items_in, is_text, texts_of, protocols, proto_in, port_name_in, address_in, pairs_in, key_in}
 use Rattle.kp_row_defs.specs.Metadata.{name_row, namespace_row, texts_row}
 use Rattle.kp_row_defs.specs.Rows.{Row, Rows, done, ◌▸◌, field, inside, each, needed, optional, any_text, name_text, port_name_text, label_text, address_text, choice, whole, rows_fault, unless_fault}
+use Rattle.kp_event_defs.specs.FamilyParts.{first_address}
 
 -- the rows of a container's port
 abbrev pub container_port_rows : Rows
@@ -43,11 +46,16 @@ pod_spec_rows = field (codes "nodeName") optional name_text ▸ each (codes "con
 abbrev pub pod_spec_row : Row
 pod_spec_row = inside (codes "spec") optional pod_spec_rows
 
+-- the rows of an address in a Pod's list
+abbrev pub pod_address_rows : Rows
+pod_address_rows = field (codes "ip") optional address_text ▸ done
+
 -- the rows of a Pod's `status`
 abbrev pub pod_status_rows : Rows
 pod_status_rows =
     field (codes "phase") optional any_text
     ▸ field (codes "podIP") optional address_text
+    ▸ each (codes "podIPs") pod_address_rows
     ▸ each (codes "conditions") condition_rows
     ▸ done
 
@@ -100,6 +108,18 @@ holds (Some p) = is_text (codes "True") (text_in (codes "status") p)
 abbrev pub is_finished : Option (List ℕ) → Bool
 is_finished phase = is_text (codes "Succeeded") phase || is_text (codes "Failed") phase
 
+-- the addresses of a list, or else the one address beside it
+abbrev pub addresses_or : List AddressParts → Option AddressParts → List AddressParts
+addresses_or [] None = []
+addresses_or [] (Some a) = a ∷ []
+addresses_or (a ∷ others) single = a ∷ others
+
+-- the addresses of a Pod: those of `podIPs`, or else `podIP` (API reference, PodStatus)
+abbrev pub pod_addresses : Place → List AddressParts
+pod_addresses status =
+    addresses_or (filter_map (address_in (codes "ip")) (items_in (codes "podIPs") status))
+    (address_in (codes "podIP") status)
+
 -- the Pod at a place
 abbrev pub pod_from : Place → Pod
 pod_from p =
@@ -112,7 +132,8 @@ pod_from p =
       node = text_in (codes "nodeName") spec;
       ports = flat_map container_ports (items_in (codes "containers") spec);
       finished = is_finished (text_in (codes "phase") status);
-      address = address_in (codes "podIP") status;
+      address = first_address V4 (pod_addresses status);
+      address6 = first_address V6 (pod_addresses status);
       ready = holds (find is_readiness (items_in (codes "conditions") status));
     }
 

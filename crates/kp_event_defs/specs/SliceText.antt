@@ -29,7 +29,7 @@ address_type_in p = address_type_of (text_in (codes "addressType") p)
 -- what the first address of an endpoint is
 abbrev pub address_form : AddressType → Form
 address_form Ipv4 = address_text
-address_form Ipv6 = any_text
+address_form Ipv6 = address_text
 address_form Fqdn = any_text
 
 -- the rows of an endpoint's conditions
@@ -123,10 +123,10 @@ slice_rows family =
     ▸ ports_row
     ▸ done
 
--- the address at a place, in a slice of some address type
+-- the address at a place, in a slice of some address type; it may be of the other family
 abbrev pub address_of_type : AddressType → Place → Option AddressParts
 address_of_type Ipv4 p = address_at p
-address_of_type Ipv6 p = None
+address_of_type Ipv6 p = address_at p
 address_of_type Fqdn p = None
 
 -- the first address of an endpoint

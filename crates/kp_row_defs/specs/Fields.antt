@@ -6,8 +6,9 @@ use Rattle.std.specs.Map.{lookup}
 use Rattle.serde_json.specs.Data.{null}
 use Rattle.serde_json.specs.Find.{as_bool, as_str, as_number, as_u64}
 use Rattle.kp_json.specs.Places.{Place, member_at, elements_of, members_of}
-use Rattle.kp_base.specs.Net.{AddressParts, RangeParts}
-use Rattle.kp_base.specs.Dotted.{address_of, range_of}
+use Rattle.kp_base.specs.Net.{AddressParts, RangeParts, same_family}
+use Rattle.kp_base.specs.Dotted.{address_of, range_of, split_once}
+use Rattle.kp_base.specs.Six.{any_address_of, any_range_of}
 use Rattle.kp_base.specs.declared.key.ObjectKey.{ObjectKey}
 use Rattle.kp_base.specs.declared.key.Pair.{Pair}
 use Rattle.kp_base.specs.declared.port.Proto.{Proto}
@@ -76,6 +77,34 @@ proto_in p = chosen protocols Tcp (text_in (codes "protocol") p)
 abbrev pub port_name_in : Place → List ℕ
 port_name_in p = unwrap_or (text_in (codes "name") p) []
 
+-- the address of either family at a place
+abbrev pub address_at : Place → Option AddressParts
+address_at p = option_and_then any_address_of (text_of p)
+
+-- the address of either family of a member
+abbrev pub address_in : List ℕ → Place → Option AddressParts
+address_in name p = option_and_then any_address_of (text_in name p)
+
+-- the range of either family at a place
+abbrev pub range_at : Place → Option RangeParts
+range_at p = option_and_then any_range_of (text_of p)
+
+-- two ranges, where their families differ
+abbrev pub of_both_families : RangeParts → RangeParts → Option (List RangeParts)
+of_both_families a b = cond (same_family a.base.family b.base.family) None (Some (a ∷ b ∷ []))
+
+-- the range of a text without a comma, or the two ranges of the parts of one with a comma
+abbrev pub ranges_of_parts : List ℕ → Option (List ℕ × List ℕ) → Option (List RangeParts)
+ranges_of_parts text None = option_map (λ r. r ∷ []) (any_range_of text)
+ranges_of_parts text (Some (first, second)) =
+    option_and_then (λ a. option_and_then (of_both_families a) (any_range_of second)) (any_range_of first)
+
+-- the ranges that a text writes: one, or one of each family with a comma between them
+abbrev pub ranges_of_text : List ℕ → Option (List RangeParts)
+ranges_of_text text = ranges_of_parts text (split_once 44 text)
+
+-- ---- Where IPv4 alone serves
+
 -- a text of another address family, which is passed over: one with a colon
 abbrev pub is_other_family : List ℕ → Bool
 is_other_family text = list_any (λ b. b == 58) text
@@ -89,25 +118,17 @@ abbrev pub found : {A E : Type 0} → Result (Option A) E → Option A
 found (Ok o) = o
 found (Err e) = None
 
--- the address that a text writes, unless it is passed over
-abbrev pub address_of_text : List ℕ → Option AddressParts
-address_of_text text = found (unless_other (tt {0}) address_of text)
+-- the IPv4 address that a text writes, unless it is passed over
+abbrev pub v4_address_of : List ℕ → Option AddressParts
+v4_address_of text = found (unless_other (tt {0}) address_of text)
 
--- the range that a text writes, unless it is passed over
-abbrev pub range_of_text : List ℕ → Option RangeParts
-range_of_text text = found (unless_other (tt {0}) range_of text)
+-- the IPv4 range that a text writes, unless it is passed over
+abbrev pub v4_range_of : List ℕ → Option RangeParts
+v4_range_of text = found (unless_other (tt {0}) range_of text)
 
--- the address at a place
-abbrev pub address_at : Place → Option AddressParts
-address_at p = option_and_then address_of_text (text_of p)
-
--- the address of a member
-abbrev pub address_in : List ℕ → Place → Option AddressParts
-address_in name p = option_and_then address_of_text (text_in name p)
-
--- the range at a place
-abbrev pub range_at : Place → Option RangeParts
-range_at p = option_and_then range_of_text (text_of p)
+-- the IPv4 address at a place
+abbrev pub v4_address_at : Place → Option AddressParts
+v4_address_at p = option_and_then v4_address_of (text_of p)
 
 -- a member of an object of texts
 abbrev pub pair_of : List ℕ × Place → Pair

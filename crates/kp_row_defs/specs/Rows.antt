@@ -1,7 +1,7 @@
 -- How objects and lines are read from JSON text: tables of rows in order, and the first fault of a value by a
 -- table (Kubernetes API conventions; for names "Object Names and IDs"). Which faults there are, and that the first one
 -- in the order of the rows counts, is this project's choice.
-use Rattle.std.specs.Prelude.{ℕ, ◌&&◌, ◌||◌, nat_lt, nat_le, Bool, true, false, List, [], ◌∷◌, ◌++◌, codes, length, map, cond, bytes_eq, Option, Some, None, is_some, is_ok, Result, Ok, Err}
+use Rattle.std.specs.Prelude.{ℕ, ◌&&◌, ◌||◌, nat_lt, nat_le, Bool, true, false, List, [], ◌∷◌, ◌++◌, codes, length, map, cond, bytes_eq, Option, Some, None, option_map, unwrap_or, is_some, is_ok, Result, Ok, Err}
 use Rattle.std.specs.List.{list_any}
 use Rattle.std.specs.Result.{result_err}
 use Rattle.serde_json.specs.Data.{Data, null, boolean, number, string, array, object}
@@ -11,11 +11,13 @@ use Rattle.kp_json.specs.Places.{Place, field_at, text_at, flag_at, whole_at, el
 use Rattle.kp_json.specs.declared.fault.Why.{Why}
 use Rattle.kp_json.specs.declared.fault.Why.TheVariants.{Missing, OutOfRange, BadName, BadAddress, BadCidr, DuplicatePort}
 use Rattle.kp_json.specs.declared.fault.BadField.{BadField}
+use Rattle.kp_base.specs.Net.{AddressParts, same_family}
 use Rattle.kp_base.specs.Dotted.{address_of, range_of}
+use Rattle.kp_base.specs.Six.{any_address_of, any_range_of}
 use Rattle.kp_base.specs.Grammar.{is_name_text, is_port_name_text, is_label_text}
 use Rattle.kp_base.specs.declared.port.Proto.{Proto}
 use Rattle.kp_base.specs.Keys.{same_proto}
-use Rattle.kp_row_defs.specs.Fields.{text_in, is_text, unless_other, port_name_in, proto_in}
+use Rattle.kp_row_defs.specs.Fields.{text_in, is_text, address_in, ranges_of_text, unless_other, port_name_in, proto_in}
 
 -- what a value is
 pub data Form : Type 0 where
@@ -24,10 +26,15 @@ pub data Form : Type 0 where
   name_text : Form
   port_name_text : Form
   label_text : Form
+  -- an address or a range of either family, `None` or an address, and one range or one of each family
   address_text : Form
   range_text : Form
   cluster_address_text : Form
-  -- an address that may not be of another family, and the name of a port that may not be empty: lines ask these
+  ranges_text : Form
+  -- an IPv4 address or range, where a text of another family is passed over
+  v4_address_text : Form
+  v4_range_text : Form
+  -- an IPv4 address and nothing else, and the name of a port that may not be empty: lines ask these
   own_address_text : Form
   filled_port_name_text : Form
   choice : List (List ℕ) → Form
@@ -60,6 +67,8 @@ mutual
     each_port : List ℕ → Rows → Row
     -- a list whose first element has this form; both have to be there, and the other elements aren't read
     first_item : List ℕ → Form → Row
+    -- an address that has to be there, of the family of the address of another member
+    address_like : List ℕ → List ℕ → Row
     -- this value itself has this form
     itself : Form → Row
     -- rows that count only where the member is this text
@@ -95,15 +104,27 @@ on_member (Err fault) absent faults = Some fault
 abbrev pub text_fault : (List ℕ → Bool) → Why → Place → Option BadField
 text_fault test kind p = on_ok (text_at p) (λ text. cond (test text) None (Some (fault_at kind p.path)))
 
--- an address; a text of another family is passed over
+-- an address of either family
 abbrev pub is_address_text : List ℕ → Bool
-is_address_text text = is_ok (unless_other (tt {0}) address_of text)
+is_address_text text = is_some (any_address_of text)
 
--- a range; a text of another family is passed over
+-- a range of either family
 abbrev pub is_range_text : List ℕ → Bool
-is_range_text text = is_ok (unless_other (tt {0}) range_of text)
+is_range_text text = is_some (any_range_of text)
 
--- an address of the family that is read
+-- a range, or one of each family
+abbrev pub is_ranges_text : List ℕ → Bool
+is_ranges_text text = is_some (ranges_of_text text)
+
+-- an IPv4 address; a text of another family is passed over
+abbrev pub is_v4_address_text : List ℕ → Bool
+is_v4_address_text text = is_ok (unless_other (tt {0}) address_of text)
+
+-- an IPv4 range; a text of another family is passed over
+abbrev pub is_v4_range_text : List ℕ → Bool
+is_v4_range_text text = is_ok (unless_other (tt {0}) range_of text)
+
+-- an IPv4 address
 abbrev pub is_own_address_text : List ℕ → Bool
 is_own_address_text text = is_some (address_of text)
 
@@ -114,6 +135,15 @@ is_filled_port_name_text text = nat_le 1 (length text) && is_port_name_text text
 -- `None` or an address
 abbrev pub is_cluster_address_text : List ℕ → Bool
 is_cluster_address_text text = bytes_eq text (codes "None") || is_address_text text
+
+-- two addresses of one family, where the first one is there
+abbrev pub is_like : Option AddressParts → AddressParts → Bool
+is_like None a = true
+is_like (Some other) a = same_family other.family a.family
+
+-- an address of the family of another one, if that is there
+abbrev pub is_address_like : Option AddressParts → List ℕ → Bool
+is_address_like other text = unwrap_or (option_map (is_like other) (any_address_of text)) false
 
 -- one of some texts
 abbrev pub is_one_of : List (List ℕ) → List ℕ → Bool
@@ -147,6 +177,9 @@ form_fault label_text p = text_fault is_label_text BadName p
 form_fault address_text p = text_fault is_address_text BadAddress p
 form_fault range_text p = text_fault is_range_text BadCidr p
 form_fault cluster_address_text p = text_fault is_cluster_address_text BadAddress p
+form_fault ranges_text p = text_fault is_ranges_text BadCidr p
+form_fault v4_address_text p = text_fault is_v4_address_text BadAddress p
+form_fault v4_range_text p = text_fault is_v4_range_text BadCidr p
 form_fault own_address_text p = text_fault is_own_address_text BadAddress p
 form_fault filled_port_name_text p = text_fault is_filled_port_name_text BadName p
 form_fault (choice choices) p = text_fault (is_one_of choices) OutOfRange p
@@ -164,6 +197,9 @@ is_text_form label_text = true
 is_text_form address_text = true
 is_text_form range_text = true
 is_text_form cluster_address_text = true
+is_text_form ranges_text = true
+is_text_form v4_address_text = true
+is_text_form v4_range_text = true
 is_text_form own_address_text = true
 is_text_form filled_port_name_text = false
 is_text_form (choice choices) = true
@@ -242,6 +278,8 @@ abbrev mutual
   row_fault (each_port name rows) p = on_member (field_at p name) None (port_list_fault (λ q. rows_fault rows q))
   row_fault (first_item name form) p =
       on_member (field_at p name) (absent_fault needed p name) (λ q. on_ok (elements_at q) (head_fault form q))
+  row_fault (address_like name other) p =
+      on_member (field_at p name) (absent_fault needed p name) (text_fault (is_address_like (address_in other p)) BadAddress)
   row_fault (itself form) p = form_fault form p
   row_fault (where_text name text rows) p = cond (is_text text (text_in name p)) (rows_fault rows p) None
 
@@ -252,6 +290,10 @@ abbrev mutual
 -- the rows of an address in a list
 abbrev pub address_rows : Rows
 address_rows = itself address_text ▸ done
+
+-- the rows of an IPv4 address in a list, where others are passed over
+abbrev pub v4_address_rows : Rows
+v4_address_rows = itself v4_address_text ▸ done
 
 -- what is read, unless there is a fault
 abbrev pub unless_fault : {A : Type 0} → Option BadField → A → Result A BadField

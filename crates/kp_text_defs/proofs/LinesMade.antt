@@ -16,14 +16,15 @@ of_facts P single make a b same x =
 
 -- the fields of a configuration without their bounds
 abbrev pub Fields : Type 0
-Fields = List ℕ × List AddressParts × Option RangeParts × Bool × Bool × ℕ × ℕ × ℕ × ℕ
+Fields = List ℕ × List AddressParts × Option RangeParts × Option RangeParts × Bool × Bool × Bool × ℕ × ℕ × ℕ × ℕ
 
 abbrev pub fields_of : Config → Fields
-fields_of c = (c.node, c.addresses, c.cluster, c.masquerade_all, c.controller, c.max_per_slice, c.max_events, c.recent_size, c.name_length)
+fields_of c =
+    (c.node, c.addresses, c.cluster, c.cluster6, c.dual, c.masquerade_all, c.controller, c.max_per_slice, c.max_events, c.recent_size, c.name_length)
 
 -- the bounds
 abbrev AreBounded : Fields → Type 0
-AreBounded (node, addresses, cluster, all, controller, slice, events, recent, name) =
+AreBounded (node, addresses, cluster, cluster6, dual, all, controller, slice, events, recent, name) =
     (1 ≤ slice) × (slice ≤ 1000) × (1 ≤ events) × (events ≤ 1000000) × (1 ≤ recent) × (recent ≤ 1000) × (name ≤ 16)
 
 bounded_once : (f : Fields) (x y : AreBounded f) → x ≡ y
@@ -31,10 +32,12 @@ bounded_once f (a, b, c, d, e, g, h) (a', b', c', d', e', g', h') = λ i.
     (le_prop a a' i, le_prop b b' i, le_prop c c' i, le_prop d d' i, le_prop e e' i, le_prop g g' i, le_prop h h' i)
 
 abbrev make_config : (f : Fields) → AreBounded f → Config
-make_config (node, addresses, cluster, all, controller, slice, events, recent, name) (a, b, c, d, e, g, h) = record {
+make_config (node, addresses, cluster, cluster6, dual, all, controller, slice, events, recent, name) (a, b, c, d, e, g, h) = record {
   node = node;
   addresses = addresses;
   cluster = cluster;
+  cluster6 = cluster6;
+  dual = dual;
   masquerade_all = all;
   controller = controller;
   max_per_slice = slice;

@@ -2,12 +2,12 @@
 -- that is absent has the default of its row.
 use Rattle.std.specs.Prelude.{ℕ, true, false, List, [], codes, None, option_and_then, unwrap_or, Result}
 use Rattle.std.specs.List.{filter_map}
-use Rattle.std.proofs.Common.{lit≤, le_trans}
+use Rattle.std.proofs.Common.{lit≤}
 use Rattle.kp_base.specs.declared.config.Config.{Config}
 use Rattle.kp_json.specs.Places.{Place}
 use Rattle.kp_json.specs.declared.fault.BadField.{BadField}
-use Rattle.kp_row_defs.specs.Fields.{text_in, flag_in, whole_in, items_in, address_at, range_of_text}
-use Rattle.kp_row_defs.specs.Rows.{Rows, done, ◌▸◌, field, each, optional, name_text, range_text, whole, truth_value, address_rows, rows_fault, unless_fault}
+use Rattle.kp_row_defs.specs.Fields.{text_in, flag_in, whole_in, items_in, v4_address_at, v4_range_of}
+use Rattle.kp_row_defs.specs.Rows.{Rows, done, ◌▸◌, field, each, optional, name_text, v4_range_text, whole, truth_value, v4_address_rows, rows_fault, unless_fault}
 use Rattle.kp_text_defs.specs.Bounds.{between, between_from, between_to}
 
 -- the configuration without a line that says otherwise
@@ -16,6 +16,8 @@ default_config = record {
   node = codes "node";
   addresses = [];
   cluster = None;
+  cluster6 = None;
+  dual = false;
   masquerade_all = false;
   controller = true;
   max_per_slice = 100;
@@ -35,11 +37,11 @@ default_config = record {
 abbrev pub config_rows : Rows
 config_rows =
     field (codes "node") optional name_text
-    ▸ each (codes "nodeAddresses") address_rows
-    ▸ field (codes "clusterCIDR") optional range_text
+    ▸ each (codes "nodeAddresses") v4_address_rows
+    ▸ field (codes "clusterCIDR") optional v4_range_text
     ▸ field (codes "masqueradeAll") optional truth_value
     ▸ field (codes "controller") optional truth_value
-    ▸ field (codes "maxEndpointsPerSlice") optional (whole 1 100)
+    ▸ field (codes "maxEndpointsPerSlice") optional (whole 1 1000)
     ▸ field (codes "maxEvents") optional (whole 1 1000000)
     ▸ field (codes "recentSize") optional (whole 1 1000)
     ▸ field (codes "nameLength") optional (whole 0 16)
@@ -53,16 +55,18 @@ number_in least most default name p = between least most (unwrap_or (whole_in na
 abbrev pub config_from : Place → Config
 config_from p = record {
   node = unwrap_or (text_in (codes "node") p) (codes "node");
-  addresses = filter_map address_at (items_in (codes "nodeAddresses") p);
-  cluster = option_and_then range_of_text (text_in (codes "clusterCIDR") p);
+  addresses = filter_map v4_address_at (items_in (codes "nodeAddresses") p);
+  cluster = option_and_then v4_range_of (text_in (codes "clusterCIDR") p);
+  cluster6 = None;
+  dual = false;
   masquerade_all = unwrap_or (flag_in (codes "masqueradeAll") p) false;
   controller = unwrap_or (flag_in (codes "controller") p) true;
-  max_per_slice = number_in 1 100 100 (codes "maxEndpointsPerSlice") p;
+  max_per_slice = number_in 1 1000 100 (codes "maxEndpointsPerSlice") p;
   max_events = number_in 1 1000000 1000000 (codes "maxEvents") p;
   recent_size = number_in 1 1000 100 (codes "recentSize") p;
   name_length = number_in 0 16 16 (codes "nameLength") p;
-  slice_from = between_from 1 100 _;
-  slice_to = le_trans (between_to 1 100 _ (lit≤ tt)) (lit≤ tt);
+  slice_from = between_from 1 1000 _;
+  slice_to = between_to 1 1000 _ (lit≤ tt);
   events_from = between_from 1 1000000 _;
   events_to = between_to 1 1000000 _ (lit≤ tt);
   recent_from = between_from 1 1000 _;

@@ -1,12 +1,15 @@
 -- Worked readings of EndpointSlices (Kubernetes API, EndpointSlice discovery.k8s.io/v1).
-use Rattle.std.specs.Prelude.{ℕ, true, false, List, [], ◌∷◌, ◌++◌, codes, Some, None}
-use Rattle.kp_base.specs.Net.{v4_address}
+use Rattle.std.specs.Prelude.{ℕ, true, false, List, [], ◌∷◌, ◌++◌, codes, Option, Some, None}
+use Rattle.kp_base.specs.Net.{AddressParts, v4_address}
 use Rattle.kp_base.specs.declared.port.Proto.TheVariants.{Tcp, Udp}
+use Rattle.kp_json.specs.Answers.{fault_at}
+use Rattle.kp_json.specs.declared.fault.Why.TheVariants.{BadAddress}
 use Rattle.kp_types.specs.declared.slice.AddressType.{AddressType}
 use Rattle.kp_types.specs.declared.slice.AddressType.TheVariants.{Ipv4, Ipv6, Fqdn}
 use Rattle.kp_types.specs.declared.slice.Slice.{Slice}
 use Rattle.kp_event_defs.specs.SliceText.{read_slice}
-use Rattle.kp_worked_texts.specs.Readings.{Reads}
+use Rattle.kp_worked_texts.specs.Readings.{Reads, Refuses}
+use Rattle.kp_worked_texts.specs.Services.{local_six}
 
 -- a text reads as a slice
 abbrev pub Is : List ℕ → Slice → Type 0
@@ -47,7 +50,7 @@ All =
             pod = Some (record { namespace = codes "shop"; name = codes "p" });
           }
           ∷ record {
-            address = None;
+            address = Some (local_six 1);
             ready = true;
             serving = false;
             terminating = true;
@@ -69,9 +72,9 @@ All =
           ∷ [];
     })
 
--- a slice of another address type, which isn't read: one endpoint without an address
-abbrev pub other : AddressType → Slice
-other family = record {
+-- a slice of another address type, with one endpoint
+abbrev pub other : AddressType → Option AddressParts → Slice
+other family address = record {
   key = record { namespace = codes "default"; name = codes "s" };
   service = None;
   managed = false;
@@ -79,7 +82,7 @@ other family = record {
   ports = [];
   endpoints =
       record {
-        address = None;
+        address = address;
         ready = true;
         serving = true;
         terminating = false;
@@ -91,19 +94,32 @@ other family = record {
       ∷ [];
 }
 
--- a slice of host names, with labels that are empty
+-- a slice of host names, which aren't read, with labels that are empty
 abbrev pub HostNames : Type 0
 HostNames =
     Is
     (codes "{'metadata':{'name':'s','labels':{'kubernetes.io/service-name':'',"
     ++ codes "'endpointslice.kubernetes.io/managed-by':''}},'addressType':'FQDN',"
     ++ codes "'endpoints':[{'addresses':['']}]}")
-    (other Fqdn)
+    (other Fqdn None)
 
 -- one of IPv6
+abbrev pub InSix : Type 0
+InSix =
+    Is
+    (codes "{'metadata':{'name':'s'},'addressType':'IPv6','endpoints':[{'addresses':['FD00:0::2']}]}")
+    (other Ipv6 (Some (local_six 2)))
+
+-- an address of the other family stays with its endpoint
 abbrev pub OtherFamily : Type 0
 OtherFamily =
     Is
-    (codes "{'metadata':{'name':'s'},'addressType':'IPv6',"
-    ++ codes "'endpoints':[{'addresses':['anything']}]}")
-    (other Ipv6)
+    (codes "{'metadata':{'name':'s'},'addressType':'IPv6','endpoints':[{'addresses':['10.244.1.2']}]}")
+    (other Ipv6 (Some (v4_address 183763202)))
+
+-- a text of neither family is refused
+abbrev pub Fault : Type 0
+Fault =
+    Refuses read_slice
+    (codes "{'metadata':{'name':'s'},'addressType':'IPv6','endpoints':[{'addresses':['x']}]}")
+    (fault_at BadAddress (codes "endpoints[0].addresses[0]"))

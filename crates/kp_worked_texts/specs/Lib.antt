@@ -5,6 +5,7 @@ pub mod Refusals
 pub mod Slices
 pub mod Readings
 pub mod Services
+pub mod SixTexts
 pub mod EndpointSlices
 pub mod Pods
 pub mod Lines

@@ -1,11 +1,14 @@
 -- Worked readings of Pods and Nodes (Kubernetes API, Pod v1 and Node v1).
 use Rattle.std.specs.Prelude.{ℕ, Bool, true, false, List, [], ◌∷◌, ◌++◌, codes, Option, Some, None}
-use Rattle.kp_base.specs.Net.{v4_address}
+use Rattle.kp_base.specs.Net.{AddressParts, v4_address}
 use Rattle.kp_base.specs.declared.port.Proto.TheVariants.{Tcp, Sctp}
+use Rattle.kp_json.specs.Answers.{fault_at}
+use Rattle.kp_json.specs.declared.fault.Why.TheVariants.{BadAddress}
 use Rattle.kp_types.specs.declared.pod.Pod.{Pod}
 use Rattle.kp_types.specs.declared.pod.Node.{Node}
 use Rattle.kp_event_defs.specs.PodText.{read_pod, read_node}
-use Rattle.kp_worked_texts.specs.Readings.{Reads}
+use Rattle.kp_worked_texts.specs.Readings.{Reads, Refuses}
+use Rattle.kp_worked_texts.specs.Services.{local_six}
 
 -- a text reads as a Pod
 abbrev pub Is : List ℕ → Pod → Type 0
@@ -34,6 +37,7 @@ All =
           ∷ record { name = []; proto = Sctp; port = 1 } ∷ [];
       finished = false;
       address = Some (v4_address 1);
+      address6 = None;
       ready = true;
     })
 
@@ -47,16 +51,53 @@ idle finished = record {
   ports = [];
   finished = finished;
   address = None;
+  address6 = None;
   ready = false;
 }
 
--- a Pod that succeeded, of another family; the first condition of readiness counts
+-- a Pod with these addresses alone
+abbrev pub addressed : Option AddressParts → Option AddressParts → Pod
+addressed four six = record (idle false) { address = four; address6 = six }
+
+-- IPv6 stands first: each family has its address
+abbrev pub SixFirst : Type 0
+SixFirst =
+    Is
+    (codes "{'metadata':{'name':'p'},'status':{'podIP':'fd00::2',"
+    ++ codes "'podIPs':[{'ip':'fd00::2'},{'ip':'10.244.1.2'}]}}")
+    (addressed (Some (v4_address 183763202)) (Some (local_six 2)))
+
+-- a list with an address of either family hides the single one
+abbrev pub ListHides : Type 0
+ListHides =
+    Is
+    (codes "{'metadata':{'name':'p'},'status':{'podIP':'10.244.1.2',"
+    ++ codes "'podIPs':[{},{'ip':'fd00::2'},{'ip':'fd00::3'}]}}")
+    (addressed None (Some (local_six 2)))
+
+-- one without an address doesn't
+abbrev pub EmptyList : Type 0
+EmptyList =
+    Is (codes "{'metadata':{'name':'p'},'status':{'podIP':'10.244.1.2','podIPs':[{},{'ip':''}]}}")
+    (addressed (Some (v4_address 183763202)) None)
+
+-- the single address is read for faults, and each of the list
+abbrev pub Faults : Type 0
+Faults =
+    Refuses read_pod
+    (codes "{'metadata':{'name':'p'},'status':{'podIP':'x','podIPs':[{'ip':'fd00::2'}]}}")
+    (fault_at BadAddress (codes "status.podIP"))
+    × Refuses read_pod
+    (codes "{'metadata':{'name':'p'},'status':{'podIPs':[{'ip':'fd00::2'},{'ip':'::1%lo'}]}}")
+    (fault_at BadAddress (codes "status.podIPs[1].ip"))
+
+-- a Pod of IPv6 that succeeded; the first condition of readiness counts
 abbrev pub Succeeded : Type 0
 Succeeded =
     Is
     (codes "{'metadata':{'name':'p'},'status':{'phase':'Succeeded','podIP':'fd00::1','conditions':["
     ++ codes "{'type':'Ready','status':'False'},{'type':'Ready','status':'True'}]}}")
-    (idle true)
+    (record (idle true) { address6 = Some (local_six 1) })
 
 -- one that failed, with members that are empty
 abbrev pub Failed : Type 0

@@ -14,5 +14,5 @@ pub use printed::{worked_answers, worked_live_lines, worked_refusals, worked_sli
 pub use read::{worked_endpoint_slices, worked_members, worked_pods, worked_services};
 pub use words::{
     worked_addresses, worked_chain_names, worked_cuts, worked_label_values, worked_names,
-    worked_port_names, worked_ranges,
+    worked_port_names, worked_ranges, worked_six_texts,
 };

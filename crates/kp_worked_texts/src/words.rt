@@ -17,6 +17,7 @@ ghost use Rattle.kp_base.specs.Dotted.{address_of, range_of, split_once};
 ghost use Rattle.kp_base.specs.Net.{v4_address, range_contains, single_range};
 ghost use Rattle.kp_base.specs.Grammar.{is_name_text, is_port_name_text, is_label_text};
 ghost use Rattle.kp_types.specs.Chains.{is_chain_name};
+ghost use Rattle.kp_worked_texts.specs.SixTexts as six;
 
 /// Texts that are addresses, and texts that are none.
 pub fn worked_addresses()
@@ -55,6 +56,16 @@ pub fn worked_ranges()
         (3232235839 ∷ 3232235904 ∷ []) ≡ false }
     ensures alone { range_contains (single_range (v4_address 3232235840)) (v4_address 3232235853)
         ≡ false }
+{}
+
+/// Texts of IPv6 addresses and ranges, how addresses are printed, and texts that are none.
+pub fn worked_six_texts()
+    ensures printed { six.Printed }
+    ensures tails { six.Tails }
+    ensures numbers { six.Numbers }
+    ensures no_addresses { six.NoAddresses }
+    ensures ranges { six.Ranges }
+    ensures no_ranges { six.NoRanges }
 {}
 
 /// Texts that name objects, and texts that don't.
