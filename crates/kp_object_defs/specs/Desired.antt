@@ -9,6 +9,7 @@ pub use Rattle.kp_lemmas.specs.Lists.{is_empty}
 use Rattle.kp_base.specs.Net.{AddressParts, same_family}
 use Rattle.kp_base.specs.Keys.{key_cmp}
 use Rattle.kp_base.specs.declared.address.Family.{Family}
+use Rattle.kp_base.specs.declared.address.Family.TheVariants.{V4, V6}
 use Rattle.kp_base.specs.declared.port.Proto.{Proto}
 use Rattle.kp_base.specs.declared.key.Pair.{Pair}
 use Rattle.kp_types.specs.Setting.{FamilyConfig}
@@ -99,13 +100,22 @@ abbrev pub with_ports : Pod → SliceEndpoint → List SlicePort → Option Want
 with_ports pod entry [] = None
 with_ports pod entry (p ∷ ps) = Some (record { pod = pod.key; ports = p ∷ ps; entry = entry })
 
--- the endpoint that a Service wants of a selected pod, whose node has this zone: none of a pod that
--- has finished, has no address of the family or resolves no port
+-- a family is one of the Service's (Kubernetes documents on IPv4/IPv6 dual-stack)
+abbrev pub has_family : Family → Service → Bool
+has_family family s = list_any (λ f. same_family f family) s.families
+
+-- the address of a pod in a family
+abbrev pub pod_address : Family → Pod → Option AddressParts
+pod_address V4 pod = option_and_then (address_in V4) pod.address
+pod_address V6 pod = option_and_then (address_in V6) pod.address6
+
+-- the endpoint that a Service wants of a selected pod in one of its families, on a node with this
+-- zone: none of a pod that has finished, has no address of the family or resolves no port
 abbrev pub desired_in_zone : Family → Service → Pod → Option (List ℕ) → Option Wanted
 desired_in_zone family s pod zone =
-    cond pod.finished None
+    cond (not (has_family family s) || pod.finished) None
     (option_and_then (λ a. with_ports pod (entry_of s pod zone a) (resolved_ports s pod))
-    (option_and_then (address_in family) pod.address))
+    (pod_address family pod))
 
 -- the endpoint that a Service wants of a selected pod, with the zones of nodes
 abbrev pub desired_of : Family → (List ℕ → Option (List ℕ)) → Service → Pod → Option Wanted

@@ -1,9 +1,10 @@
 -- Lists in the order of keys.
-use Rattle.std.specs.Prelude.{◌&&◌, Bool, true, List, [], ◌∷◌, map, not, reverse}
-use Rattle.std.specs.List.{filter, list_all}
+use Rattle.std.specs.Prelude.{◌&&◌, Bool, true, List, [], ◌∷◌, map, reverse}
+use Rattle.std.specs.List.{list_all}
 use Rattle.std.specs.Ordering.{is_lt}
 use Rattle.std.specs.declared.cmp.Ordering.{Ordering}
 use Rattle.std.specs.FinMap.{put}
+pub use Rattle.kp_lemmas.specs.Lists.{first_places}
 
 -- the entries in the order of their keys; of entries with one key the first counts, as in a finite
 -- map
@@ -23,11 +24,6 @@ by_key R key xs = in_order R (reverse (map (λ x. (key x, x)) xs))
 -- the elements once each, in order
 abbrev pub distinct_in_order : {K : Type 0} → (K → K → Ordering) → List K → List K
 distinct_in_order R ks = map (λ e. e.0) (in_order R (map (λ k. (k, k)) ks))
-
--- the elements that don't stand earlier in the list
-abbrev pub first_places : {A : Type 0} → (A → A → Bool) → List A → List A
-first_places same [] = []
-first_places same (x ∷ xs) = x ∷ filter (λ y. not (same x y)) (first_places same xs)
 
 -- each key is below all that stand behind it, so that none stands twice
 abbrev pub rises : {K : Type 0} → (K → K → Ordering) → List K → Bool

@@ -2,12 +2,13 @@
 -- its policies and its endpoints (Kubernetes documents on Services). Only Services with a cluster
 -- address take part. Addresses and ranges that stand twice in one list count once, at their first
 -- place.
-use Rattle.std.specs.Prelude.{ℕ, ◌==◌, ◌&&◌, ◌||◌, Bool, true, false, List, [], map, not, cond, Option, None, option_map, is_some}
+use Rattle.std.specs.Prelude.{ℕ, ◌==◌, ◌&&◌, ◌||◌, Bool, true, false, List, [], map, not, cond, Option, None, option_map, option_and_then, is_some}
 use Rattle.std.specs.List.{filter, filter_map, flat_map}
 use Rattle.std.specs.FinMap as finite
 use Rattle.kp_base.specs.Net.{AddressParts, RangeParts, same_address, same_family}
 use Rattle.kp_base.specs.Keys.{port_key_cmp}
 use Rattle.kp_base.specs.declared.address.Family.{Family}
+use Rattle.kp_base.specs.declared.address.Family.TheVariants.{V4, V6}
 use Rattle.kp_base.specs.declared.key.PortKey.{PortKey}
 use Rattle.kp_base.specs.declared.key.Endpoint.{Endpoint}
 use Rattle.kp_types.specs.Setting.{FamilyConfig}
@@ -47,9 +48,29 @@ address_at family Absent = None
 address_at family Headless = None
 address_at family (At a) = address_in family a
 
+-- the cluster address that a Service gives for a family
+abbrev pub cluster_of_family : Family → Service → Option AddressParts
+cluster_of_family V4 s = address_at V4 s.cluster
+cluster_of_family V6 s = option_and_then (address_in V6) s.six.cluster
+
 -- the cluster address of a Service in a family; what is only another name has none
 abbrev pub cluster_address_in : Family → Service → Option AddressParts
-cluster_address_in family s = cond (is_external_name s.kind) None (address_at family s.cluster)
+cluster_address_in family s = cond (is_external_name s.kind) None (cluster_of_family family s)
+
+-- the external addresses that a Service gives for a family
+abbrev pub external_of : Family → Service → List AddressParts
+external_of V4 s = s.external
+external_of V6 s = s.six.external
+
+-- the load balancer's addresses that it gives
+abbrev pub balancer_of : Family → Service → List AddressParts
+balancer_of V4 s = s.balancer
+balancer_of V6 s = s.six.balancer
+
+-- the source ranges that it gives, where sources are restricted in either family
+abbrev pub ranges_of : Family → Service → Option (List RangeParts)
+ranges_of V4 s = s.ranges
+ranges_of V6 s = option_map (λ _v4. s.six.ranges) s.ranges
 
 -- load-balancer addresses count for type LoadBalancer
 abbrev pub has_balancer : ServiceKind → Bool
@@ -65,9 +86,13 @@ has_node_port NodePort = true
 has_node_port ClusterIp = false
 has_node_port ExternalName = false
 
+-- the external addresses of a Service in a family
+abbrev pub external_in : Family → Service → List AddressParts
+external_in family s = addresses_in family (external_of family s)
+
 -- the load-balancer addresses of a Service in a family
 abbrev pub balancer_in : Family → Service → List AddressParts
-balancer_in family s = cond (has_balancer s.kind) (addresses_in family s.balancer) []
+balancer_in family s = cond (has_balancer s.kind) (addresses_in family (balancer_of family s)) []
 
 -- the node port of a Service's port
 abbrev pub node_port_of : Service → ServicePort → Option ℕ
@@ -85,7 +110,7 @@ port_key_of s p = record { object = s.key; port_name = p.name; proto = p.proto }
 -- a port of a Service may be reached from outside the cluster in a family
 abbrev pub is_reachable_in : Family → Service → ServicePort → Bool
 is_reachable_in family s p =
-    is_reachable (addresses_in family s.external) (balancer_in family s) (node_port_of s p)
+    is_reachable (external_in family s) (balancer_in family s) (node_port_of s p)
 
 -- the endpoints of a port of a Service that it may send to, in a zone
 abbrev pub lists_of : Family → Service → ServicePort → Option (List ℕ) → List Candidate → Lists
@@ -104,10 +129,10 @@ info_from family s p zone entries address = record {
   key = port_key_of s p;
   number = p.port;
   address = address;
-  external = addresses_in family s.external;
+  external = external_in family s;
   balancer = balancer_in family s;
   node_port = node_port_of s p;
-  ranges = restriction_in family s.ranges;
+  ranges = restriction_in family (ranges_of family s);
   affinity = s.affinity;
   internal = s.internal;
   outer = s.outer;

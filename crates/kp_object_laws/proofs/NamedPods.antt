@@ -1,5 +1,5 @@
 -- The entries of the endpoints that a Service wants name their pods.
-use Rattle.std.proofs.Common.{◌≡◌, Bool, true, false, cond, ℕ, List, [], ◌∷◌, Option, Some, None, option_and_then, filter, refl}
+use Rattle.std.proofs.Common.{◌≡◌, Bool, true, false, cond, ℕ, List, [], ◌∷◌, Option, Some, None, option_and_then, filter, refl, not, ◌||◌}
 use Rattle.std.specs.FinMap as finite
 use Rattle.kp_base.specs.Net.{AddressParts}
 use Rattle.kp_base.specs.declared.address.Family.{Family}
@@ -8,7 +8,7 @@ use Rattle.kp_types.specs.declared.slice.SlicePort.{SlicePort}
 use Rattle.kp_types.specs.declared.slice.Wanted.{Wanted}
 use Rattle.kp_types.specs.declared.pod.Pod.{Pod}
 use Rattle.kp_object_defs.specs.Objects.{zone_of}
-use Rattle.kp_object_defs.specs.Desired.{selects, desired_of, zone_among, in_name_order, with_ports, entry_of, resolved_ports}
+use Rattle.kp_object_defs.specs.Desired.{selects, desired_of, zone_among, in_name_order, with_ports, entry_of, resolved_ports, has_family, pod_address}
 use Rattle.kp_object_defs.specs.Packing.{same_option, same_object}
 use Rattle.kp_object_defs.proofs.SameObjects.{object_itself}
 use Rattle.kp_object_defs.proofs.AllOf.{holds_of, all_filter_map}
@@ -35,7 +35,9 @@ of_finished false made h = h
 
 of_pod : (family : Family) (zone_at : List ℕ → Option (List ℕ)) (s : Service) (pod : Pod)
     → holds_of names_pod (desired_of family zone_at s pod) ≡ true
-of_pod family zone_at s pod = of_finished pod.finished _ (of_address s pod _ _)
+of_pod family zone_at s pod =
+    of_finished (not (has_family family s) || pod.finished) _
+    (of_address s pod (option_and_then zone_at pod.node) (pod_address family pod))
 
 pub wanted_name_pods : WantedNamePods
 wanted_name_pods family s pods nodes =

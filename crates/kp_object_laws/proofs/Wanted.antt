@@ -1,5 +1,5 @@
 -- The endpoints that a Service wants of the objects, in whatever order these are given, and their pods.
-use Rattle.std.proofs.Common.{◌≡◌, Bool, true, false, cond, not, ℕ, List, [], ◌∷◌, map, bytes_eq, Option, Some, None, option_and_then, filter, filter_map, refl, ap, ◌∙◌, Less, is_eq, is_lt}
+use Rattle.std.proofs.Common.{◌≡◌, Bool, true, false, cond, not, ℕ, List, [], ◌∷◌, map, bytes_eq, Option, Some, None, option_and_then, filter, filter_map, refl, ap, ◌∙◌, Less, is_eq, is_lt, ◌||◌}
 use Rattle.std.specs.List as list
 use Rattle.std.specs.List.{cons_option, list_any}
 use Rattle.std.specs.Cmp.{eq_by_cmp_equiv}
@@ -22,7 +22,7 @@ use Rattle.kp_types.specs.declared.pod.Pod.{Pod}
 use Rattle.kp_types.specs.declared.pod.Node.{Node}
 use Rattle.kp_object_defs.specs.Objects.{Objects, node_key, zone_of}
 use Rattle.kp_object_defs.specs.OwnKeys.{AreUnderOwnKeys}
-use Rattle.kp_object_defs.specs.Desired.{selects, desired_of, zone_among, in_name_order, with_ports}
+use Rattle.kp_object_defs.specs.Desired.{selects, desired_of, zone_among, in_name_order, with_ports, has_family, pod_address, entry_of, resolved_ports}
 use Rattle.kp_object_defs.specs.Packing.{same_object}
 use Rattle.kp_object_defs.specs.PackingLaws.{have_own_pods}
 use Rattle.kp_object_laws.specs.ObjectLaws.{HaveSameElements, WantedOfObjects, WantedOfOwnPods, DesiredOfOwnPods}
@@ -78,7 +78,9 @@ of_finished key true made h = tt
 of_finished key false made h = h
 
 of_pod : (family : Family) (zone_at : List ℕ → Option (List ℕ)) (s : Service) (pod : Pod) → IsOfPod pod.key (desired_of family zone_at s pod)
-of_pod family zone_at s pod = of_finished pod.key pod.finished _ (of_address pod _ _ _)
+of_pod family zone_at s pod =
+    of_finished pod.key (not (has_family family s) || pod.finished) _
+    (of_address pod (entry_of s pod (option_and_then zone_at pod.node)) (resolved_ports s pod) (pod_address family pod))
 
 other_object : (a b c : ObjectKey) → key_cmp a b ≡ Less → c ≡ b → same_object a c ≡ false
 other_object a b c less same = ap (same_object a) same ∙ key_ties a b ∙ ap is_eq less

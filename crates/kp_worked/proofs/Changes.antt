@@ -4,10 +4,11 @@ use Rattle.std.specs.FinMap.{find, from_entries, get, get-from_entries}
 use Rattle.kp_object_defs.specs.Order.{in_order}
 use Rattle.kp_object_defs.specs.PortInfo.{PortInfo}
 use Rattle.kp_types.proofs.ChainOrder.{chain_total}
-use Rattle.kp_types.specs.Places.{chain_cmp, table_place}
+use Rattle.kp_base.specs.declared.address.Family.{Family}
+use Rattle.kp_base.specs.declared.address.Family.TheVariants.{V4, V6}
+use Rattle.kp_types.specs.Places.{chain_cmp, table_place, nat_of, filter_of}
 use Rattle.kp_types.specs.declared.chain.ChainAt.{ChainAt}
 use Rattle.kp_types.specs.declared.chain.TableName.{TableName}
-use Rattle.kp_types.specs.declared.chain.TableName.TheVariants.{Nat, Filter}
 use Rattle.kp_types.specs.declared.rule.Edit.{Edit}
 use Rattle.kp_types.specs.declared.rule.Edit.TheVariants.{Write, Remove}
 use Rattle.kp_types.specs.declared.rule.Rule.{Rule}
@@ -31,9 +32,13 @@ table_by before_at after_at before after table =
     filter_map (λ e. cond (is_found_with e.1 (before_at e.0)) None (Some (Write e.0 e.1))) (filter (λ e. table_place e.0.table == table_place table) after)
     ++ filter_map (λ e. cond (is_some (after_at e.0)) None (Some (Remove e.0))) (filter (λ e. table_place e.0.table == table_place table) before)
 
+abbrev family_by : (ChainAt → Option (List Rule)) → (ChainAt → Option (List Rule)) → Rows → Rows → Family → List Edit
+family_by before_at after_at before after family =
+    table_by before_at after_at before after (nat_of family) ++ table_by before_at after_at before after (filter_of family)
+
 abbrev changes_by : (ChainAt → Option (List Rule)) → (ChainAt → Option (List Rule)) → Rows → Rows → List Edit
 changes_by before_at after_at before after =
-    table_by before_at after_at before after Nat ++ table_by before_at after_at before after Filter
+    family_by before_at after_at before after V4 ++ family_by before_at after_at before after V6
 
 -- the changes from one list of chains to another
 abbrev pub changes_listed : Rows → Rows → List Edit

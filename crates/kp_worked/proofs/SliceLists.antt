@@ -5,8 +5,8 @@ use Rattle.std.specs.FinMap as finite
 use Rattle.kp_base.proofs.KeyOrder.{key_total}
 use Rattle.kp_base.specs.Keys.{key_cmp}
 use Rattle.kp_base.specs.declared.address.Family.{Family}
-use Rattle.kp_base.specs.declared.address.Family.TheVariants.{V4}
 use Rattle.kp_base.specs.declared.key.ObjectKey.{ObjectKey}
+use Rattle.kp_types.specs.Setting.{both_families}
 use Rattle.kp_types.specs.declared.event.Event.{Event}
 use Rattle.kp_types.specs.declared.service.Service.{Service}
 use Rattle.kp_types.specs.declared.slice.Slice.{Slice}
@@ -19,7 +19,7 @@ use Rattle.kp_object_defs.specs.PackingLaws.{is_managed_for}
 use Rattle.kp_object_defs.specs.SlicesNow.{slices_step, names_absent, without_leftovers, after_packing, after_controller, Synced, sync_step, slices_now}
 use Rattle.kp_object_defs.proofs.InOrder.{entries_in_order}
 use Rattle.kp_worked.proofs.Events.{Listed, as_objects, step, step_is, steps_are, in_key_order, values_are, found_are}
-use Rattle.kp_worked.specs.SlicesNow.{config_of_two, name_and_pods, shown_after}
+use Rattle.kp_worked.specs.SlicesNow.{config_of_two, seen_after}
 
 abbrev Entries : Type 0
 Entries = List (ObjectKey × Slice)
@@ -100,29 +100,29 @@ sync_in families most c n =
     let objects = fold step c.objects (take n c.left) in
     record { left = drop n c.left; objects = objects; slices = controlled_in families most objects (fold slices_listed c.slices (take n c.left)) }
 
-sync_alike : (c : ListedSync) (n : ℕ) → sync_step (V4 ∷ []) config_of_two (as_synced c) n ≡ as_synced (sync_in (V4 ∷ []) 2 c n)
+sync_alike : (c : ListedSync) (n : ℕ) → sync_step both_families config_of_two (as_synced c) n ≡ as_synced (sync_in both_families 2 c n)
 sync_alike c n =
     let objects = fold step c.objects (take n c.left) in
     (λ i. record {
       left = drop n c.left;
       objects = steps_are c.objects (take n c.left) i;
-      slices = after_controller (V4 ∷ []) 2 (steps_are c.objects (take n c.left) i) (folded_alike as_slices slices_step slices_listed slices_alike (take n c.left) c.slices i);
+      slices = after_controller both_families 2 (steps_are c.objects (take n c.left) i) (folded_alike as_slices slices_step slices_listed slices_alike (take n c.left) c.slices i);
     })
-    ∙ ap (λ m. record { left = drop n c.left; objects = as_objects objects; slices = m }) (controlled_alike (V4 ∷ []) 2 objects (fold slices_listed c.slices (take n c.left)))
+    ∙ ap (λ m. record { left = drop n c.left; objects = as_objects objects; slices = m }) (controlled_alike both_families 2 objects (fold slices_listed c.slices (take n c.left)))
 
 -- the slices after events and syncs
 abbrev slices_in : List Event → List ℕ → Entries
 slices_in events counts =
-    let last = fold (sync_in (V4 ∷ []) 2) (record { left = events; objects = record { services = []; slices = []; pods = []; nodes = [] }; slices = [] }) counts in
+    let last = fold (sync_in both_families 2) (record { left = events; objects = record { services = []; slices = []; pods = []; nodes = [] }; slices = [] }) counts in
     fold slices_listed last.slices last.left
 
-slices_now_alike : (events : List Event) (counts : List ℕ) → slices_now (V4 ∷ []) config_of_two events counts ≡ as_slices (slices_in events counts)
+slices_now_alike : (events : List Event) (counts : List ℕ) → slices_now both_families config_of_two events counts ≡ as_slices (slices_in events counts)
 slices_now_alike events counts =
     let start : ListedSync = record { left = events; objects = record { services = []; slices = []; pods = []; nodes = [] }; slices = [] } in
-    let last = fold (sync_in (V4 ∷ []) 2) start counts in
-    ap (λ (c : Synced). fold slices_step c.slices c.left) (folded_alike as_synced (sync_step (V4 ∷ []) config_of_two) (sync_in (V4 ∷ []) 2) sync_alike counts start)
+    let last = fold (sync_in both_families 2) start counts in
+    ap (λ (c : Synced). fold slices_step c.slices c.left) (folded_alike as_synced (sync_step both_families config_of_two) (sync_in both_families 2) sync_alike counts start)
     ∙ folded_alike as_slices slices_step slices_listed slices_alike last.left last.slices
 
--- what is shown of them
-pub shown_alike : (events : List Event) (counts : List ℕ) {shown : List (List ℕ × List (Option ObjectKey))} → map name_and_pods (in_key_order (slices_in events counts)) ≡ shown → shown_after events counts ≡ shown
-shown_alike events counts is = ap (λ m. map name_and_pods (finite.values m)) (slices_now_alike events counts) ∙ ap (map name_and_pods) (values_are (slices_in events counts)) ∙ is
+-- what is seen of them
+pub seen_alike : {A : Type 0} (view : Slice → A) (events : List Event) (counts : List ℕ) {seen : List A} → map view (in_key_order (slices_in events counts)) ≡ seen → seen_after view events counts ≡ seen
+seen_alike view events counts is = ap (λ m. map view (finite.values m)) (slices_now_alike events counts) ∙ ap (map view) (values_are (slices_in events counts)) ∙ is

@@ -16,6 +16,10 @@ use Rattle.kp_worked.specs.Setting.{config, setting_under, web, first, infos, ep
 use Rattle.kp_worked.specs.Decisions.{two}
 use Rattle.kp_worked.specs.Masquerades.{verdict_under}
 
+-- the range fd00::/8
+abbrev pub range_of_ipv6 : RangeParts
+range_of_ipv6 = record { base = record { family = V6; number = 253 * 2 ^ 120 }; bits = 8 }
+
 -- the range of the pods is one of IPv4, which sees it
 abbrev pub OwnRange : Type 0
 OwnRange = (setting_of V4 config).config.cluster ≡ config.cluster
@@ -24,13 +28,14 @@ OwnRange = (setting_of V4 config).config.cluster ≡ config.cluster
 abbrev pub OtherRange : Type 0
 OtherRange = (setting_of V6 config).config.cluster ≡ None
 
+-- which sees a range of its own
+abbrev pub OtherOwnRange : Type 0
+OtherOwnRange =
+    (setting_of V6 (record config { cluster6 = Some range_of_ipv6 })).config.cluster ≡ Some range_of_ipv6
+
 -- the node's addresses are seen by both
 abbrev pub AllAddresses : Type 0
 AllAddresses = (setting_of V6 config).config.addresses ≡ config.addresses
-
--- the range fd00::/8
-abbrev pub range_of_ipv6 : RangeParts
-range_of_ipv6 = record { base = record { family = V6; number = 253 * 2 ^ 120 }; bits = 8 }
 
 -- the node's configuration with this range alone
 abbrev pub with_ipv6 : Config

@@ -1,5 +1,6 @@
 pub mod Setting
 pub mod Decisions
+pub mod DualStack
 pub mod Lists
 pub mod Entries
 pub mod Wanted

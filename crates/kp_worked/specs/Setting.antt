@@ -19,6 +19,7 @@ use Rattle.kp_types.specs.declared.packet.Origin.TheVariants.{Wire, Node}
 use Rattle.kp_types.specs.declared.service.Service.{Service}
 use Rattle.kp_types.specs.declared.service.ServiceKind.TheVariants.{ClusterIp}
 use Rattle.kp_types.specs.declared.service.ServicePort.{ServicePort}
+use Rattle.kp_types.specs.declared.service.Six.{Six}
 use Rattle.kp_types.specs.declared.service.TargetPort.TheVariants.{Number}
 use Rattle.kp_types.specs.declared.service.ClusterAddress.TheVariants.{At}
 use Rattle.kp_types.specs.declared.service.Policy.TheVariants.{Cluster}
@@ -42,6 +43,8 @@ config = record {
   node = codes "n1";
   addresses = ipv4 10 0 0 1 ∷ [];
   cluster = Some (record { base = ipv4 10 244 0 0; bits = 16 });
+  cluster6 = None;
+  dual = false;
   masquerade_all = false;
   controller = true;
   max_per_slice = 100;
@@ -65,12 +68,17 @@ default_key name = record { namespace = codes "default"; name = name }
 abbrev pub port_with : Option ℕ → ServicePort
 port_with node_port = record { name = []; proto = Tcp; port = 80; target = Number 8080; node_port = node_port }
 
+-- nothing of IPv6
+abbrev pub no_six : Six
+no_six = record { cluster = None; external = []; balancer = []; ranges = [] }
+
 -- a Service of type ClusterIP, whose port may have a node port
 abbrev pub service_at : List ℕ → AddressParts → Option ℕ → Service
 service_at name address node_port = record {
   key = default_key name;
   kind = ClusterIp;
   cluster = At address;
+  families = V4 ∷ [];
   ports = port_with node_port ∷ [];
   selector = [];
   external = [];
@@ -80,7 +88,9 @@ service_at name address node_port = record {
   publish_not_ready = false;
   ranges = None;
   same_zone = false;
+  health = None;
   balancer = [];
+  six = no_six;
   distinct = refl;
 }
 

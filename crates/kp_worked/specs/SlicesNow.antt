@@ -4,9 +4,9 @@
 use Rattle.std.specs.Prelude.{◌≡◌, ℕ, List, [], ◌∷◌, ◌++◌, map, codes, Option, Some, None}
 use Rattle.std.specs.FinMap as finite
 use Rattle.std.proofs.Common.{lit≤}
-use Rattle.kp_base.specs.declared.address.Family.TheVariants.{V4}
 use Rattle.kp_base.specs.declared.config.Config.{Config}
 use Rattle.kp_base.specs.declared.key.ObjectKey.{ObjectKey}
+use Rattle.kp_types.specs.Setting.{both_families}
 use Rattle.kp_types.specs.declared.event.Event.{Event}
 use Rattle.kp_types.specs.declared.event.Event.TheVariants.{Apply, Delete}
 use Rattle.kp_types.specs.declared.event.Kind.TheVariants as kind
@@ -35,10 +35,14 @@ applied =
 abbrev pub name_and_pods : Slice → List ℕ × List (Option ObjectKey)
 name_and_pods s = (s.key.name, map (λ e. e.pod) s.endpoints)
 
--- the slices after events and syncs, each of which covers so many events more
+-- what is seen of the slices after events and syncs, each of which covers so many events more
+abbrev pub seen_after : {A : Type 0} → (Slice → A) → List Event → List ℕ → List A
+seen_after view events counts =
+    map view (finite.values (slices_now both_families config_of_two events counts))
+
+-- their names and pods
 abbrev pub shown_after : List Event → List ℕ → List (List ℕ × List (Option ObjectKey))
-shown_after events counts =
-    map name_and_pods (finite.values (slices_now (V4 ∷ []) config_of_two events counts))
+shown_after events counts = seen_after name_and_pods events counts
 
 -- the Service's own slice, whose endpoint is of no pod
 abbrev pub own : List ℕ × List (Option ObjectKey)

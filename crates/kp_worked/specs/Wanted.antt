@@ -40,6 +40,7 @@ ready_pod name address = record {
   ports = record { name = codes "http"; proto = Udp; port = 53 } ∷ record { name = codes "http"; proto = Tcp; port = 8080 } ∷ [];
   finished = false;
   address = Some address;
+  address6 = None;
   ready = true;
 }
 

@@ -10,6 +10,7 @@ ghost use Rattle.kp_worked.specs.Counts as counts;
 ghost use Rattle.kp_worked.specs.Entries as entries;
 ghost use Rattle.kp_worked.specs.Events as events;
 ghost use Rattle.kp_worked.specs.Decisions as decisions;
+ghost use Rattle.kp_worked.specs.DualStack as dual;
 ghost use Rattle.kp_worked.specs.Families as families;
 ghost use Rattle.kp_worked.specs.Lists as lists;
 ghost use Rattle.kp_worked.specs.Masquerades as masquerades;
@@ -168,6 +169,7 @@ pub fn worked_masquerades()
 pub fn worked_families()
     ensures own { families.OwnRange }
     ensures other { families.OtherRange }
+    ensures other_own { families.OtherOwnRange }
     ensures addresses { families.AllAddresses }
     ensures source { families.KeepsSource }
     ensures mark { families.NoMark }
@@ -295,6 +297,23 @@ pub fn worked_repacking()
     ensures shrunk { repacking.Shrunk }
     ensures other_ports { repacking.OtherPorts }
     ensures unchanged { repacking.TenAgain }
+{}
+
+/// Endpoints, slices and ports of Services of both families.
+pub fn worked_dual_stack()
+    ensures in_six { dual.InSix }
+    ensures in_four { dual.InFour }
+    ensures one_family { dual.OneFamily }
+    ensures six_alone { dual.SixAlone }
+    ensures without_address { dual.WithoutAddress }
+    ensures other_address { dual.OtherAddress }
+    ensures other_slice { dual.OtherSlice }
+    ensures new_slice { dual.NewSlice }
+    ensures slices_of_both { dual.SlicesOfBoth }
+    ensures family_goes { dual.FamilyGoes }
+    ensures known_in_six { dual.KnownInSix }
+    ensures known_in_four { dual.KnownInFour }
+    ensures no_port_in_six { dual.NoPortInSix }
 {}
 
 /// Slices as they are now, over syncs.
