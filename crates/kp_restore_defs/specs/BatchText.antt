@@ -7,10 +7,10 @@ use Rattle.std.specs.List.{list_all, list_any, filter, flat_map}
 use Rattle.kp_base.specs.Keys.{text_cmp}
 use Rattle.kp_base.specs.declared.address.Family.{Family}
 use Rattle.kp_types.specs.Chains.{is_chain_name}
-use Rattle.kp_types.specs.Places.{table_place}
+pub use Rattle.kp_types.specs.Edits.{place_of}
+use Rattle.kp_types.specs.Edits.{is_edit_in}
+use Rattle.kp_types.specs.Places.{table_place, nat_of, filter_of}
 use Rattle.kp_types.specs.declared.chain.TableName.{TableName}
-use Rattle.kp_types.specs.declared.chain.TableName.TheVariants.{Nat, Filter}
-use Rattle.kp_types.specs.declared.chain.ChainAt.{ChainAt}
 use Rattle.kp_types.specs.declared.rule.Edit.{Edit}
 use Rattle.kp_types.specs.declared.rule.Edit.TheVariants.{Write, Remove}
 use Rattle.kp_object_defs.specs.Order.{distinct_in_order}
@@ -18,11 +18,6 @@ use Rattle.kp_object_defs.specs.Desired.{is_empty}
 use Rattle.kp_table_defs.specs.Ranks.{is_built_in}
 use Rattle.kp_restore_defs.specs.RuleText.{rule_line, is_canonical_rule}
 use Rattle.kp_restore_defs.specs.TableText.{table_line, declared_line, commit_line, text_of_lines}
-
--- the place of an edit
-abbrev pub place_of : Edit → ChainAt
-place_of (Write at rules) = at
-place_of (Remove at) = at
 
 -- ---- Lines
 
@@ -54,13 +49,17 @@ edits_section table edits =
 abbrev pub section_if_edited : TableName → List Edit → List (List ℕ)
 section_if_edited table edits = cond (is_empty edits) [] (edits_section table edits)
 
--- both sections, nat before filter
-abbrev pub batch_lines : List Edit → List (List ℕ)
-batch_lines edits = section_if_edited Nat (edits_in Nat edits) ++ section_if_edited Filter (edits_in Filter edits)
+-- the section of a table that is edited
+abbrev pub section_in : TableName → List Edit → List (List ℕ)
+section_in table edits = section_if_edited table (edits_in table edits)
 
--- the text of edits
-abbrev pub batch_text_of : List Edit → List ℕ
-batch_text_of edits = text_of_lines (batch_lines edits)
+-- both sections of a family, nat before filter
+abbrev pub batch_lines : Family → List Edit → List (List ℕ)
+batch_lines family edits = section_in (nat_of family) edits ++ section_in (filter_of family) edits
+
+-- the text of edits of a family's tables
+abbrev pub batch_text_of : Family → List Edit → List ℕ
+batch_text_of family edits = text_of_lines (batch_lines family edits)
 
 -- ---- Edits that have a text of their own
 
@@ -96,11 +95,12 @@ abbrev pub has_canonical_rules : Family → Edit → Bool
 has_canonical_rules family (Write at rules) = list_all (is_canonical_rule family) rules
 has_canonical_rules family (Remove at) = true
 
--- an edit of a chain that isn't built in
+-- an edit of a chain of a family that isn't built in
 abbrev pub is_canonical_edit : Family → Edit → Bool
 is_canonical_edit family e =
-    is_chain_name (place_of e).chain
-    && (not (is_built_in (place_of e).table (place_of e).chain) && has_canonical_rules family e)
+    is_edit_in family e
+    && (is_chain_name (place_of e).chain
+    && (not (is_built_in (place_of e).table (place_of e).chain) && has_canonical_rules family e))
 
 -- edits in order, one of a place
 abbrev pub is_canonical_batch : Family → List Edit → Bool
@@ -111,4 +111,4 @@ is_canonical_batch family edits =
 abbrev pub BatchTextsDiffer : Type 0
 BatchTextsDiffer =
     (family : Family) (a b : List Edit) → is_canonical_batch family a ≡ true → is_canonical_batch family b ≡ true
-    → batch_text_of a ≡ batch_text_of b → a ≡ b
+    → batch_text_of family a ≡ batch_text_of family b → a ≡ b

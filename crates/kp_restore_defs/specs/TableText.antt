@@ -2,17 +2,19 @@
 use Rattle.std.specs.Prelude.{◌≡◌, ℕ, ◌&&◌, Bool, true, List, [], ◌∷◌, ◌++◌, map, not, codes, Option, option_map, is_some}
 use Rattle.std.specs.List.{list_all, filter, filter_map, flat_map}
 use Rattle.std.specs.FinMap as finite
+use Rattle.kp_base.specs.Net.{same_family}
 use Rattle.kp_base.specs.declared.address.Family.{Family}
 use Rattle.kp_types.specs.Chains.{is_chain_name}
+use Rattle.kp_types.specs.Places.{family_of_table, nat_of, filter_of}
 use Rattle.kp_types.specs.declared.chain.TableName.{TableName}
-use Rattle.kp_types.specs.declared.chain.TableName.TheVariants.{Nat, Filter}
+use Rattle.kp_types.specs.declared.chain.TableName.TheVariants.{Nat, Filter, Nat6, Filter6}
 use Rattle.kp_types.specs.declared.chain.ChainAt.{ChainAt}
 use Rattle.kp_types.specs.declared.rule.Rule.{Rule}
 use Rattle.kp_types.specs.declared.rule.Target.{Target}
 use Rattle.kp_types.specs.declared.rule.Target.TheVariants as target
 use Rattle.kp_table_defs.specs.Rebuild.{Chains}
 use Rattle.kp_table_defs.specs.Edits.{chains_in}
-use Rattle.kp_table_defs.specs.Ranks.{built_in_chains, is_built_in, has_built_in_chains}
+use Rattle.kp_table_defs.specs.Ranks.{built_in_chains, is_built_in, has_chains_of}
 use Rattle.kp_restore_defs.specs.RuleText.{rule_line, is_canonical_rule}
 
 -- ---- Lines
@@ -21,10 +23,12 @@ use Rattle.kp_restore_defs.specs.RuleText.{rule_line, is_canonical_rule}
 abbrev pub text_of_lines : List (List ℕ) → List ℕ
 text_of_lines lines = flat_map (λ line. line ++ 10 ∷ []) lines
 
--- the first line of a table's section
+-- the first line of a table's section; which family a text is of is told by the program that takes it
 abbrev pub table_line : TableName → List ℕ
 table_line Nat = codes "*nat"
 table_line Filter = codes "*filter"
+table_line Nat6 = codes "*nat"
+table_line Filter6 = codes "*filter"
 
 -- the last line of a section
 abbrev pub commit_line : List ℕ
@@ -72,19 +76,19 @@ section_of table built_in others =
 abbrev pub section_lines : Chains → TableName → List (List ℕ)
 section_lines chains table = section_of table (built_in_rows chains table) (other_rows chains table)
 
--- both sections, nat before filter
-abbrev pub table_lines : Chains → List (List ℕ)
-table_lines chains = section_lines chains Nat ++ section_lines chains Filter
+-- both sections of a family, nat before filter
+abbrev pub table_lines : Family → Chains → List (List ℕ)
+table_lines family chains = section_lines chains (nat_of family) ++ section_lines chains (filter_of family)
 
 -- the text of a section
 abbrev pub section_text_of : Chains → TableName → List ℕ
 section_text_of chains table = text_of_lines (section_lines chains table)
 
--- a table's text
-abbrev pub table_text_of : Chains → List ℕ
-table_text_of chains = text_of_lines (table_lines chains)
+-- the text of a family's tables
+abbrev pub table_text_of : Family → Chains → List ℕ
+table_text_of family chains = text_of_lines (table_lines family chains)
 
--- ---- Tables that have a text of their own
+-- ---- Tables that have a text of their own in a family
 
 -- a jump goes to a chain of the table that there is
 abbrev pub jumps_to_declared : Chains → TableName → Target → Bool
@@ -108,13 +112,23 @@ abbrev pub is_canonical_chain : Family → Chains → ChainAt × List Rule → B
 is_canonical_chain family chains (at, rules) =
     is_chain_name at.chain && list_all (may_stand family chains at.table) rules
 
--- a table with all built-in chains, whose rules and jumps are within their bounds
+-- a chain of a family's tables
+abbrev pub is_chain_of : Family → ChainAt × List Rule → Bool
+is_chain_of family (at, rules) = same_family (family_of_table at.table) family
+
+-- a table with all built-in chains of a family, whose rules and jumps are within their bounds
+abbrev pub is_canonical_part : Family → Chains → Bool
+is_canonical_part family chains =
+    has_chains_of family chains
+    && list_all (is_canonical_chain family chains) (filter (is_chain_of family) (finite.entries chains))
+
+-- such a table, which has chains of the family alone
 abbrev pub is_canonical_table : Family → Chains → Bool
 is_canonical_table family chains =
-    has_built_in_chains chains && list_all (is_canonical_chain family chains) (finite.entries chains)
+    is_canonical_part family chains && list_all (is_chain_of family) (finite.entries chains)
 
--- Different canonical tables have different texts.
+-- Different canonical tables of a family have different texts.
 abbrev pub TableTextsDiffer : Type 0
 TableTextsDiffer =
     (family : Family) (a b : Chains) → is_canonical_table family a ≡ true → is_canonical_table family b ≡ true
-    → table_text_of a ≡ table_text_of b → a ≡ b
+    → table_text_of family a ≡ table_text_of family b → a ≡ b

@@ -5,6 +5,7 @@
 use Rattle.std.specs.Prelude.{ℕ, suc, Bool, not, ◌||◌, ◌&&◌, nat_lt, List, [], ◌∷◌, ◌++◌, length, get_or, count_by, is_some}
 use Rattle.std.specs.List.{list_any, flat_map, fold, range_with_len}
 use Rattle.std.specs.FinMap as finite
+use Rattle.kp_base.specs.declared.address.Family.TheVariants.{V4}
 use Rattle.kp_types.specs.declared.rule.Edit.{Edit}
 use Rattle.kp_choice_defs.specs.Recent.{RecentParts}
 use Rattle.kp_door_defs.specs.Decision.{Decided, decision_of}
@@ -134,7 +135,7 @@ live_lines_text run =
 
 -- the text of a run
 abbrev pub live_text : LiveRun → List ℕ
-live_text run = live_lines_text run ++ table_text_of (chains_at run (records_in run))
+live_text run = live_lines_text run ++ table_text_of V4 (chains_at run (records_in run))
 
 -- a line is a sync that is refused
 abbrev pub is_refused_sync : LiveRun → StreamLine → Bool

@@ -8,7 +8,7 @@ use Rattle.std.specs.List.{list_all, fold}
 use Rattle.std.specs.FinMap as finite
 use Rattle.kp_base.specs.declared.address.Family.TheVariants.{V4}
 use Rattle.kp_base.specs.declared.config.Config.{Config}
-use Rattle.kp_types.specs.Setting.{Setting}
+use Rattle.kp_types.specs.Setting.{Setting, both_families}
 use Rattle.kp_types.specs.declared.chain.Clash.{Clash}
 use Rattle.kp_types.specs.declared.chain.TableName.TheVariants as table
 use Rattle.kp_types.specs.declared.event.Event.{Event}
@@ -95,7 +95,7 @@ last_edits s =
 
 -- the slices by now
 abbrev pub slices_in : Standing → List Slice
-slices_in s = finite.values (slices_now (V4 ∷ []) s.config s.events s.counts)
+slices_in s = finite.values (slices_now both_families s.config s.events s.counts)
 
 -- ---- Steps
 
@@ -167,7 +167,7 @@ explain_line number p s =
 -- the edits of the last sync in the form of iptables-restore, or nothing before the first
 abbrev pub batch_shown : List ℕ → List Edit → List ℕ
 batch_shown [] edits = []
-batch_shown (n ∷ counts) edits = batch_text_of edits
+batch_shown (n ∷ counts) edits = batch_text_of V4 edits
 
 -- what is shown
 abbrev pub shown_text : Shown → Standing → List ℕ

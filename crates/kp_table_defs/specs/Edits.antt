@@ -3,9 +3,10 @@ use Rattle.std.specs.Prelude.{◌≡◌, ◌↔◌, ℕ, ◌+◌, ◌-◌, ◌^�
 use Rattle.std.specs.List.{filter, filter_map, fold, list_any}
 use Rattle.std.specs.FinMap as finite
 use Rattle.std.specs.Cmp.Lexicographic.{pointwise}
-use Rattle.kp_types.specs.Places.{chain_cmp, table_place}
+use Rattle.kp_base.specs.declared.address.Family.{Family}
+use Rattle.kp_base.specs.declared.address.Family.TheVariants.{V4, V6}
+use Rattle.kp_types.specs.Places.{chain_cmp, table_place, nat_of, filter_of}
 use Rattle.kp_types.specs.declared.chain.TableName.{TableName}
-use Rattle.kp_types.specs.declared.chain.TableName.TheVariants.{Nat, Filter}
 use Rattle.kp_types.specs.declared.chain.ChainAt.{ChainAt}
 use Rattle.kp_types.specs.declared.rule.Rule.{Rule}
 use Rattle.kp_types.specs.declared.rule.Edit.{Edit}
@@ -54,9 +55,14 @@ table_changes before after table =
     filter_map (write_if_changed before) (chains_in table after)
     ++ filter_map (remove_if_gone after) (chains_in table before)
 
--- the changes from one table to another, nat before filter
+-- the changes of a family's tables, nat before filter
+abbrev pub changes_of : Family → Chains → Chains → List Edit
+changes_of family before after =
+    table_changes before after (nat_of family) ++ table_changes before after (filter_of family)
+
+-- the changes from one table to another, IPv4 before IPv6
 abbrev pub changes_between : Chains → Chains → List Edit
-changes_between before after = table_changes before after Nat ++ table_changes before after Filter
+changes_between before after = changes_of V4 before after ++ changes_of V6 before after
 
 -- whether an edit is a write
 abbrev pub is_write : Edit → Bool

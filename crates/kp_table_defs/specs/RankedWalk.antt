@@ -3,13 +3,14 @@ use Rattle.std.specs.Prelude.{◌≡◌, ◌≢◌, ℕ, true, List}
 use Rattle.std.specs.FinMap as finite
 use Rattle.kp_types.specs.declared.chain.TableName.{TableName}
 use Rattle.kp_table_defs.specs.Matching.{WalkState, Surroundings}
-use Rattle.kp_table_defs.specs.Ranks.{is_built_in, is_ranked, has_built_in_chains}
+use Rattle.kp_table_defs.specs.Ranks.{is_built_in, is_ranked, has_built_in}
 use Rattle.kp_table_defs.specs.Rebuild.{Chains}
 use Rattle.kp_table_defs.specs.Walk.{Stuck, chain_outcome, most_chains}
 
--- On a ranked table that has its built-in chains no walk of a hook gets stuck.
+-- Where all chains are ranked, no walk of a hook gets stuck in a table that has its built-in chains.
 abbrev pub RankedWalksEnd : Type 0
 RankedWalksEnd =
-    (chains : Chains) → is_ranked chains ≡ true → has_built_in_chains chains ≡ true
-    → (table : TableName) (chain : List ℕ) → is_built_in table chain ≡ true
+    (chains : Chains) → is_ranked chains ≡ true
+    → (table : TableName) → has_built_in chains table ≡ true
+    → (chain : List ℕ) → is_built_in table chain ≡ true
     → (e : Surroundings) (s : WalkState) → chain_outcome e (finite.get chains) table most_chains chain s ≢ Stuck

@@ -6,8 +6,11 @@ use Rattle.std.specs.FinMap as finite
 use Rattle.std.specs.List.{list_all, list_any, starts_with}
 use Rattle.std.specs.Map.{lookup}
 use Rattle.std.specs.Option.{option_or}
+use Rattle.kp_base.specs.declared.address.Family.{Family}
+use Rattle.kp_base.specs.declared.address.Family.TheVariants.{V4}
+use Rattle.kp_types.specs.Places.{nat_of, filter_of}
 use Rattle.kp_types.specs.declared.chain.TableName.{TableName}
-use Rattle.kp_types.specs.declared.chain.TableName.TheVariants.{Nat, Filter}
+use Rattle.kp_types.specs.declared.chain.TableName.TheVariants.{Nat, Filter, Nat6, Filter6}
 use Rattle.kp_types.specs.declared.chain.ChainAt.{ChainAt}
 use Rattle.kp_types.specs.declared.rule.Rule.{Rule}
 use Rattle.kp_types.specs.declared.rule.Target.{Target}
@@ -15,10 +18,20 @@ use Rattle.kp_types.specs.declared.rule.Target.TheVariants as target
 use Rattle.kp_table_defs.specs.Layout.{mark_masq, kube_services, kube_node_ports, kube_postrouting, kube_external_services, kube_forward, kube_proxy_firewall}
 use Rattle.kp_table_defs.specs.Rebuild.{Chains}
 
+-- the built-in chains of nat tables
+abbrev pub nat_chains : List (List ℕ)
+nat_chains = codes "PREROUTING" ∷ codes "INPUT" ∷ codes "OUTPUT" ∷ codes "POSTROUTING" ∷ []
+
+-- those of filter tables
+abbrev pub filter_chains : List (List ℕ)
+filter_chains = codes "INPUT" ∷ codes "FORWARD" ∷ codes "OUTPUT" ∷ []
+
 -- the built-in chains of a table
 abbrev pub built_in_chains : TableName → List (List ℕ)
-built_in_chains Nat = codes "PREROUTING" ∷ codes "INPUT" ∷ codes "OUTPUT" ∷ codes "POSTROUTING" ∷ []
-built_in_chains Filter = codes "INPUT" ∷ codes "FORWARD" ∷ codes "OUTPUT" ∷ []
+built_in_chains Nat = nat_chains
+built_in_chains Filter = filter_chains
+built_in_chains Nat6 = nat_chains
+built_in_chains Filter6 = filter_chains
 
 -- the shared chains
 abbrev pub shared_ranks : List (List ℕ × ℕ)
@@ -83,6 +96,10 @@ abbrev pub has_built_in : Chains → TableName → Bool
 has_built_in chains table =
     list_all (λ chain. is_some (finite.get chains (record { table = table; chain = chain }))) (built_in_chains table)
 
--- whether both tables do
+-- whether both tables of a family do
+abbrev pub has_chains_of : Family → Chains → Bool
+has_chains_of family chains = has_built_in chains (nat_of family) && has_built_in chains (filter_of family)
+
+-- whether those of IPv4 do
 abbrev pub has_built_in_chains : Chains → Bool
-has_built_in_chains chains = has_built_in chains Nat && has_built_in chains Filter
+has_built_in_chains chains = has_chains_of V4 chains

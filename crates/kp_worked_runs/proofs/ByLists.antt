@@ -58,7 +58,7 @@ table_by chain_at rows = section_by chain_at rows Nat ++ section_by chain_at row
 abbrev pub table_listed : Rows → List (List ℕ)
 table_listed rows = table_by (λ q. find chain_cmp q rows) (in_order chain_cmp rows)
 
-table_is : (rows : Rows) → table_lines (from_entries rows) ≡ table_listed rows
+table_is : (rows : Rows) → table_lines V4 (from_entries rows) ≡ table_listed rows
 table_is rows = λ i. table_by (found rows i) (entries_in_order chain_total rows i)
 
 -- ---- Runs
@@ -194,5 +194,5 @@ module _ (run : LiveRun) where
   prints lines table before is =
       (λ i. (lines_are ∙ before) i
       ++ text_of_lines
-      ((ap table_lines (chains_are (records_in run)) ∙ table_is (rows_at (records_in run)) ∙ is) i))
+      ((ap (table_lines V4) (chains_are (records_in run)) ∙ table_is (rows_at (records_in run)) ∙ is) i))
       ∙ sym (flat_map-append (λ line. line ++ 10 ∷ []) lines table)
