@@ -1,56 +1,28 @@
-//! Addresses and ranges.
-ghost use Rattle.std.specs.Prelude.{◌≡◌};
+//! Addresses and ranges of both families.
+ghost use Rattle.std.specs.Prelude.{◌≡◌, Some};
 ghost use Rattle.std.specs.List.{filter_map};
 ghost use Rattle.kp_json.specs.Places.{elements_of};
 ghost use Rattle.kp_json.specs.Views.{place_of};
-ghost use Rattle.kp_base.specs.Dotted.{address_of, range_of};
-ghost use Rattle.kp_row_defs.specs.Fields.{is_other_family, unless_other, address_at, address_in, items_in, range_at};
+ghost use Rattle.kp_row_defs.specs.Fields.{address_at, address_in, items_in, range_at};
 ghost use Rattle.kp_row_defs.specs.Reads.{Reads};
 ghost use Rattle.kp_row_defs.specs.Rows.{optional, address_rows, address_text, each, range_text, field_fault, form_fault, list_fault, row_fault, rows_fault};
 
-use kp_base::{Address, BadAddress, BadCidr, Cidr, Items};
+use kp_base::{Address, Cidr, Items};
 use kp_json::{FieldFault, Spot, Why};
 use std::alloc::Global;
 
-/// Whether a text is of another address family, and so passed over: it has a colon.
-fn is_other_family(text: &str) -> bool
-    ensures { result ≡ is_other_family text.now }
-{
-    text.as_bytes().contains(&b':')
-}
-
-/// The address that a text writes, or nothing where the text is passed over.
-pub fn address_text(text: &str) -> Result<Option<Address>, BadAddress>
-    ensures { result ≡ unless_other (record {}) address_of text.now }
-{
-    if is_other_family(text) {
-        return Ok(None);
-    }
-    Ok(Some(Address::parse(text.as_bytes())?))
-}
-
-/// The range that a text writes, or nothing where the text is passed over.
-pub fn range_text(text: &str) -> Result<Option<Cidr>, BadCidr>
-    ensures { result ≡ unless_other (record {}) range_of text.now }
-{
-    if is_other_family(text) {
-        return Ok(None);
-    }
-    Ok(Some(Cidr::parse(text.as_bytes())?))
-}
-
-/// The address here. One of another family is passed over.
-pub fn address_here(alloc: Global, spot: &Spot<'_>) -> Result<Option<Address>, FieldFault>
-    ensures { Reads (λ a. a) result (form_fault address_text (place_of spot.now))
+/// The address here.
+pub fn address_here(alloc: Global, spot: &Spot<'_>) -> Result<Address, FieldFault>
+    ensures { Reads Some result (form_fault address_text (place_of spot.now))
         (address_at (place_of spot.now)) }
 {
-    match address_text(spot.str_at(alloc)?) {
+    match Address::parse_any(spot.str_at(alloc)?.as_bytes()) {
         Ok(address) => Ok(address),
         Err(_) => Err(spot.bad(alloc, Why::BadAddress)),
     }
 }
 
-/// The address of a member that may be absent. One of another family is passed over.
+/// The address of a member that may be absent.
 pub fn address_field<'a>(
     alloc: Global,
     spot: &'a Spot<'a>,
@@ -64,12 +36,12 @@ pub fn address_field<'a>(
         None => Ok(None),
         Some(member) => match member.as_text() {
             Some(text) if text.is_empty() => Ok(None),
-            _ => address_here(alloc, &member),
+            _ => Ok(Some(address_here(alloc, &member)?)),
         },
     }
 }
 
-/// The addresses of a list that may be absent. Those of another family are passed over.
+/// The addresses of a list that may be absent.
 pub fn addresses_field<'a>(
     alloc: Global,
     spot: &'a Spot<'a>,
@@ -90,19 +62,17 @@ fn addresses_here<'a>(alloc: Global, list: &'a Spot<'a>) -> Result<Items<Address
 {
     let mut addresses = Vec::new(alloc);
     for element in list.elements(alloc)? {
-        if let Some(address) = address_here(alloc, &element)? {
-            addresses.push(address)?;
-        }
+        addresses.push(address_here(alloc, &element)?)?;
     }
     Ok(Items::from_vec(addresses))
 }
 
-/// The range here. One of another family is passed over.
-pub fn range_here(alloc: Global, spot: &Spot<'_>) -> Result<Option<Cidr>, FieldFault>
-    ensures { Reads (λ r. r) result (form_fault range_text (place_of spot.now))
+/// The range here.
+pub fn range_here(alloc: Global, spot: &Spot<'_>) -> Result<Cidr, FieldFault>
+    ensures { Reads Some result (form_fault range_text (place_of spot.now))
         (range_at (place_of spot.now)) }
 {
-    match range_text(spot.str_at(alloc)?) {
+    match Cidr::parse_any(spot.str_at(alloc)?.as_bytes()) {
         Ok(range) => Ok(range),
         Err(_) => Err(spot.bad(alloc, Why::BadCidr)),
     }

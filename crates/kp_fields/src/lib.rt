@@ -7,10 +7,9 @@ mod labels;
 mod number;
 mod proto;
 mod text;
+mod v4;
 
-pub use address::{
-    address_field, address_here, address_text, addresses_field, range_here, range_text,
-};
+pub use address::{address_field, address_here, addresses_field, range_here};
 pub use key::{copied_key, key_field, name_field};
 pub use labels::{check_texts, pairs_field};
 pub use number::{flag_field, needed_port, port_field, whole_field};
@@ -19,3 +18,4 @@ pub use text::{
     TextForm, choice_field, copied_option, copied_text, is_text, needed_choice, needed_text,
     text_field,
 };
+pub use v4::{v4_addresses_field, v4_range_field};

@@ -2,11 +2,13 @@
 use Rattle.std.specs.Prelude.{◌≡◌, Bool, List, ◌++◌, codes, Option, Some, None, is_some, find, Result, Ok, Err}
 use Rattle.std.specs.Bool.{then_some}
 use Rattle.std.specs.List.{flat_map}
+use Rattle.kp_base.specs.declared.address.Family.TheVariants.{V4, V6}
 use Rattle.kp_json.specs.Places.{Place}
 use Rattle.kp_json.specs.declared.fault.BadField.{BadField}
 use Rattle.kp_json.specs.declared.fault.FieldFault.{FieldFault}
-use Rattle.kp_row_defs.specs.Fields.{text_in, items_in, address_in, pairs_in, key_from}
-use Rattle.kp_event_defs.specs.PodText.{container_ports, is_readiness, is_finished, holds}
+use Rattle.kp_row_defs.specs.Fields.{text_in, items_in, pairs_in, key_from}
+use Rattle.kp_event_defs.specs.FamilyParts.{first_address}
+use Rattle.kp_event_defs.specs.PodText.{container_ports, is_readiness, is_finished, holds, pod_addresses}
 use Rattle.kp_row_defs.specs.Reads.{Refuses}
 use Rattle.kp_objects.specs.declared.pod.Metadata.{Metadata}
 use Rattle.kp_objects.specs.declared.pod.spec.PodSpec.{PodSpec}
@@ -31,7 +33,8 @@ spec_from p = record {
 abbrev pub status_from : Place → PodStatus
 status_from p = record {
   finished = is_finished (text_in (codes "phase") p);
-  address = address_in (codes "podIP") p;
+  address = first_address V4 (pod_addresses p);
+  address6 = first_address V6 (pod_addresses p);
   ready = holds (find is_readiness (items_in (codes "conditions") p));
 }
 

@@ -1,6 +1,7 @@
 //! Services, EndpointSlices, Pods and Nodes are read from JSON.
 #![tactic(auto)]
 
+mod family;
 mod node;
 mod pod;
 mod service;
@@ -8,7 +9,7 @@ mod slice;
 
 pub use kp_types::{
     AddressType, ClusterAddress, ContainerPort, Node, Pod, Policy, Service, ServiceKind,
-    ServicePort, Slice, SliceEndpoint, SlicePort, TargetPort,
+    ServicePort, Six, Slice, SliceEndpoint, SlicePort, TargetPort,
 };
 pub use node::node_of;
 pub use pod::pod_of;

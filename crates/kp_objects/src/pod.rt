@@ -35,6 +35,7 @@ pub fn pod_of<'a>(alloc: Global, spot: &'a Spot<'a>) -> Result<Pod, FieldFault>
         ports: spec.ports,
         finished: status.finished,
         address: status.address,
+        address6: status.address6,
         ready: status.ready,
     })
 }

@@ -1,14 +1,14 @@
 //! Lines that set the configuration.
-ghost use Rattle.std.specs.Prelude.{◌≡◌, ◌≤◌, codes, option_and_then, unwrap_or, IfOk};
+ghost use Rattle.std.specs.Prelude.{◌≡◌, ◌≤◌, codes, unwrap_or, IfOk};
 ghost use Rattle.kp_json.specs.Views.{place_of};
-ghost use Rattle.kp_row_defs.specs.Fields.{flag_in, range_of_text, text_in};
+ghost use Rattle.kp_row_defs.specs.Fields.{flag_in, text_in};
 ghost use Rattle.kp_row_defs.specs.Reads.{Reads};
-ghost use Rattle.kp_row_defs.specs.Rows.{field_fault, name_text, optional, range_text, rows_fault, truth_value, whole};
+ghost use Rattle.kp_row_defs.specs.Rows.{field_fault, name_text, optional, rows_fault, truth_value, whole};
 ghost use Rattle.kp_text_defs.specs.ConfigText.{config_from, config_rows, default_config, number_in};
 
-use kp_base::{Cidr, Config, Items, NoMemory, Text};
+use kp_base::{Config, Items, NoMemory, Text};
 use kp_fields::{
-    TextForm, addresses_field, copied_text, flag_field, range_here, text_field, whole_field,
+    TextForm, copied_text, flag_field, text_field, v4_addresses_field, v4_range_field, whole_field,
 };
 use kp_json::{FieldFault, Spot};
 use std::alloc::Global;
@@ -21,6 +21,8 @@ pub fn default_config(alloc: Global) -> Result<Config, NoMemory>
         node: Text::of(alloc, "node")?,
         addresses: Items::new(alloc),
         cluster: None,
+        cluster6: None,
+        dual: false,
         masquerade_all: false,
         controller: true,
         max_per_slice: 100,
@@ -36,11 +38,11 @@ pub(crate) fn config_of<'a>(alloc: Global, spot: &'a Spot<'a>) -> Result<Config,
         (config_from (place_of spot.now)) }
 {
     let node = node_field(alloc, spot)?;
-    let addresses = addresses_field(alloc, spot, "nodeAddresses")?;
-    let cluster = range_field(alloc, spot, "clusterCIDR")?;
+    let addresses = v4_addresses_field(alloc, spot, "nodeAddresses")?;
+    let cluster = v4_range_field(alloc, spot, "clusterCIDR")?;
     let masquerade_all = flag_or(alloc, spot, "masqueradeAll", false)?;
     let controller = flag_or(alloc, spot, "controller", true)?;
-    let max_per_slice = count_field(alloc, spot, "maxEndpointsPerSlice", 100, 100)?;
+    let max_per_slice = count_field(alloc, spot, "maxEndpointsPerSlice", 1000, 100)?;
     let max_events = number_field(alloc, spot, "maxEvents", 1, 1000000, 1000000)?;
     let recent_size = count_field(alloc, spot, "recentSize", 1000, 100)?;
     let name_length = name_length_field(alloc, spot)?;
@@ -48,6 +50,8 @@ pub(crate) fn config_of<'a>(alloc: Global, spot: &'a Spot<'a>) -> Result<Config,
         node,
         addresses,
         cluster,
+        cluster6: None,
+        dual: false,
         masquerade_all,
         controller,
         max_per_slice,
@@ -65,25 +69,6 @@ fn node_field<'a>(alloc: Global, spot: &'a Spot<'a>) -> Result<Text, FieldFault>
 {
     let name = text_field(alloc, spot, "node", TextForm::Name)?;
     copied_text(alloc, name.unwrap_or("node"))
-}
-
-/// The range of a member that may be absent. One of another family is passed over.
-fn range_field<'a>(
-    alloc: Global,
-    spot: &'a Spot<'a>,
-    name: &'a str,
-) -> Result<Option<Cidr>, FieldFault>
-    ensures { Reads (λ r. r) result
-        (field_fault name.now optional range_text (place_of spot.now))
-        (option_and_then range_of_text (text_in name.now (place_of spot.now))) }
-{
-    match spot.field(alloc, name)? {
-        None => Ok(None),
-        Some(member) => match member.as_text() {
-            Some(text) if text.is_empty() => Ok(None),
-            _ => range_here(alloc, &member),
-        },
-    }
 }
 
 /// A truth value, or else a default.

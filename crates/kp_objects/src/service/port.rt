@@ -56,7 +56,7 @@ fn port_of<'a>(alloc: Global, spot: &'a Spot<'a>) -> Result<ServicePort, FieldFa
     let proto = proto_field(alloc, spot, "protocol")?;
     let port = needed_port(alloc, spot, "port")?;
     let target = target_field(alloc, spot, port)?;
-    let node_port = node_port_field(alloc, spot)?;
+    let node_port = node_port_field(alloc, spot, "nodePort")?;
     Ok(ServicePort {
         name,
         proto,
@@ -89,12 +89,17 @@ fn target_field<'a>(
     }
 }
 
-fn node_port_field<'a>(alloc: Global, spot: &'a Spot<'a>) -> Result<Option<PortNo>, FieldFault>
+/// A port of the node that may be absent; 0 counts as absent.
+pub(crate) fn node_port_field<'a>(
+    alloc: Global,
+    spot: &'a Spot<'a>,
+    name: &'a str,
+) -> Result<Option<PortNo>, FieldFault>
     ensures { Reads (λ p. p) result
-        (field_fault (codes "nodePort") optional (whole 0 65535) (place_of spot.now))
-        (option_and_then not_zero (whole_in (codes "nodePort") (place_of spot.now))) }
+        (field_fault name.now optional (whole 0 65535) (place_of spot.now))
+        (option_and_then not_zero (whole_in name.now (place_of spot.now))) }
 {
-    match whole_field(alloc, spot, "nodePort", 0, 65535)? {
+    match whole_field(alloc, spot, name, 0, 65535)? {
         None => Ok(None),
         Some(number) => Ok(PortNo::new(number)),
     }

@@ -103,8 +103,8 @@ fn address_of(
         (address_of_type family (place_of spot.now)) }
 {
     match family {
-        AddressType::Ipv4 => address_here(alloc, spot),
-        AddressType::Ipv6 | AddressType::Fqdn => {
+        AddressType::Ipv4 | AddressType::Ipv6 => Ok(Some(address_here(alloc, spot)?)),
+        AddressType::Fqdn => {
             spot.str_at(alloc)?;
             Ok(None)
         }

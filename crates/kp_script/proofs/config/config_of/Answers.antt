@@ -1,4 +1,4 @@
-use Rattle.std.proofs.Common.{None}
+use Rattle.std.proofs.Common.{None, false}
 use Rattle.kp_row_defs.specs.Rows.{or_then}
 use Rattle.kp_text_defs.proofs.LinesMade.{same_config}
 use Rattle.kp_script.proofs.config.config_of.Goals as goal
@@ -14,6 +14,8 @@ returns c = (
     c.in_ok-node.ensures.1 i,
     c.in_ok-addresses.ensures.1 i,
     c.in_ok-cluster.ensures.1 i,
+    None,
+    false,
     c.in_ok-masquerade_all.ensures.1 i,
     c.in_ok-controller.ensures.1 i,
     c.in_ok-max_per_slice.ensures.number.1 i,

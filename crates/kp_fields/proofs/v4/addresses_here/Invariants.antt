@@ -1,0 +1,13 @@
+use Rattle.std.proofs.Common.{◌≡◌, ◌++◌, map}
+use Rattle.std.specs.List.{filter_map}
+use Rattle.kp_json.specs.Places.{elements_of}
+use Rattle.kp_json.specs.Views.{place_of, elements_left}
+use Rattle.kp_row_defs.specs.Rows.{v4_address_rows, first_in, rows_fault}
+use Rattle.kp_row_defs.specs.Fields.{v4_address_at}
+use Rattle.kp_fields.proofs.v4.addresses_here.Given as goal
+
+-- What was read so far, and what is read of the elements that are left, is what is read of all. None so far is at fault.
+abbrev pub invariant-loop-element : goal.invariant-loop-element
+invariant-loop-element l =
+    (l.addresses.items ++ filter_map v4_address_at (elements_left l.element-iterator) ≡ filter_map v4_address_at (elements_of (place_of l.list)))
+    × (first_in (map (rows_fault v4_address_rows) (elements_left l.element-iterator)) ≡ first_in (map (rows_fault v4_address_rows) (elements_of (place_of l.list))))
