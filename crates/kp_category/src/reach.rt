@@ -3,7 +3,8 @@ ghost use Rattle.std.specs.Prelude.{◌≡◌, not, is_some};
 ghost use Rattle.std.specs.List.{list_any};
 ghost use Rattle.kp_base.specs.Net.{same_family};
 ghost use Rattle.kp_object_defs.specs.Desired.{is_empty};
-ghost use Rattle.kp_object_defs.specs.PortInfo.{addresses_in, balancer_in};
+ghost use Rattle.kp_object_defs.specs.PortInfo as spec;
+ghost use Rattle.kp_object_defs.specs.PortInfo.{external_in, balancer_in};
 ghost use Rattle.kp_object_defs.specs.PortInfo.{node_port_of, is_reachable_in};
 
 use kp_base::{Address, Family, PortNo};
@@ -20,16 +21,36 @@ pub fn is_reachable(family: Family, service: &Service, port: &ServicePort) -> bo
 }
 
 fn has_external(family: Family, service: &Service) -> bool
-    ensures { result ≡ not (is_empty (addresses_in family service.now.external)) }
+    ensures { result ≡ not (is_empty (external_in family service.now)) }
 {
-    has_address_in(family, service.external.as_slice())
+    has_address_in(family, external_of(family, service))
+}
+
+/// The external addresses that a Service gives for a family.
+fn external_of(family: Family, service: &Service) -> &[Address]
+    ensures { result.now ≡ spec.external_of family service.now }
+{
+    match family {
+        Family::V4 => service.external.as_slice(),
+        Family::V6 => service.six.external.as_slice(),
+    }
+}
+
+/// The load balancer's addresses that it gives.
+fn balancer_of(family: Family, service: &Service) -> &[Address]
+    ensures { result.now ≡ spec.balancer_of family service.now }
+{
+    match family {
+        Family::V4 => service.balancer.as_slice(),
+        Family::V6 => service.six.balancer.as_slice(),
+    }
 }
 
 fn has_balancer(family: Family, service: &Service) -> bool
     ensures { result ≡ not (is_empty (balancer_in family service.now)) }
 {
     match service.kind {
-        ServiceKind::LoadBalancer => has_address_in(family, service.balancer.as_slice()),
+        ServiceKind::LoadBalancer => has_address_in(family, balancer_of(family, service)),
         _ => false,
     }
 }

@@ -6,6 +6,7 @@ use Rattle.std.proofs.lemmas.Option.{same_Some}
 use Rattle.kp_lemmas.proofs.Members.{none_in, none_passes, from_filter, any_from}
 use Rattle.kp_base.specs.Net.{AddressParts, same_address, same_family}
 use Rattle.kp_base.specs.declared.address.Family.{Family}
+use Rattle.kp_base.specs.declared.address.Family.TheVariants.{V4}
 use Rattle.kp_types.specs.Ports.{same_proto}
 use Rattle.kp_types.specs.Setting.{FamilyConfig}
 use Rattle.kp_types.specs.declared.packet.Packet.{Packet}
@@ -19,7 +20,7 @@ use Rattle.kp_types.specs.declared.service.ClusterAddress.{ClusterAddress}
 use Rattle.kp_types.specs.declared.service.ClusterAddress.TheVariants.{Absent, Headless, At}
 use Rattle.kp_object_defs.specs.Desired.{is_empty, is_external_name}
 use Rattle.kp_object_defs.specs.Entries.{entries_from}
-use Rattle.kp_object_defs.specs.PortInfo.{PortInfo, address_at, addresses_in, balancer_in, cluster_address_in, external_list, has_balancer, has_node_port, info_from, info_of, internal_list, node_port_of, port_key_of}
+use Rattle.kp_object_defs.specs.PortInfo.{PortInfo, address_at, addresses_in, balancer_in, cluster_address_in, external_in, external_list, has_balancer, has_node_port, info_from, info_of, internal_list, node_port_of, port_key_of}
 use Rattle.kp_door_defs.specs.Doors.{Door, address_doors, door_at, fits, is_at, node_door, offer_of, takes}
 use Rattle.kp_door_defs.specs.Filter.{DropsClosed, Line, Refusal, external_lines, firewall_lines, line_of, refusal_by, service_lines}
 use Rattle.kp_object_laws.proofs.FirstPlaces.{from_places}
@@ -36,7 +37,7 @@ pub record Shows (family : Family) (s : Service) (p : ServicePort) (i : PortInfo
   pub proto : i.key.proto ≡ p.proto
   pub number : i.number ≡ p.port
   pub address : cluster_address_in family s ≡ Some i.address
-  pub external : i.external ≡ addresses_in family s.external
+  pub external : i.external ≡ external_in family s
   pub balancer : i.balancer ≡ balancer_in family s
   pub node_port : i.node_port ≡ node_port_of s p
 
@@ -57,7 +58,7 @@ pub shown_of : (family : Family) (node : List ℕ) (zone : Option (List ℕ)) (s
 shown_of family node zone sources s p i is h =
     subst (λ t. Shows family t p i) is (shown_from family zone sources.service p (entries_from family node sources (port_key_of sources.service p)) (cluster_address_in family sources.service) i refl h)
 
-module _ (family : Family) (config : FamilyConfig) (packet : Packet) (s : Service) (p : ServicePort) (i : PortInfo) (shows : Shows family s p i) (miss : port_answers packet.proto packet.target packet.port s p ≡ false) where
+module _ (config : FamilyConfig) (packet : Packet) (s : Service) (p : ServicePort) (i : PortInfo) (shows : Shows V4 s p i) (miss : port_answers packet.proto packet.target packet.port s p ≡ false) where
   abbrev fitting : Door → Bool
   fitting d = fits config.addresses packet d
 
@@ -91,12 +92,12 @@ module _ (family : Family) (config : FamilyConfig) (packet : Packet) (s : Servic
       refl
 
   -- the cluster address is one of the Service
-  cluster_listed : (name : Bool) (c : ClusterAddress) → cond name None (address_at family c) ≡ Some i.address → same_address i.address packet.target ≡ true → has_address packet.target (cluster_addresses c) ≡ true
+  cluster_listed : (name : Bool) (c : ClusterAddress) → cond name None (address_at V4 c) ≡ Some i.address → same_address i.address packet.target ≡ true → has_address packet.target (cluster_addresses c) ≡ true
   cluster_listed true c h same = absurd (cc)
   cluster_listed false Absent h same = absurd (cc)
   cluster_listed false Headless h same = absurd (cc)
   cluster_listed false (At a) h same =
-      or_left (same_address a packet.target) false (ap (λ b. same_address b packet.target) (in_family (same_family a.family family) h) ∙ same)
+      or_left (same_address a packet.target) false (ap (λ b. same_address b packet.target) (in_family (same_family a.family V4) h) ∙ same)
     where
       in_family : (b : Bool) → cond b (Some a) None ≡ Some i.address → a ≡ i.address
       in_family true g = same_Some a i.address g
@@ -110,19 +111,19 @@ module _ (family : Family) (config : FamilyConfig) (packet : Packet) (s : Servic
   misses_external : list_any fitting (map (door_at door.External i) i.external) ≡ false
   misses_external =
       ap (λ xs. list_any fitting (map (door_at door.External i) xs)) shows.external
-      ∙ none_mapped fitting (door_at door.External i) (addresses_in family s.external) (λ a c.
+      ∙ none_mapped fitting (door_at door.External i) (external_in V4 s) (λ a c.
       misses_at door.External a (λ same.
       or_right (has_address packet.target (cluster_addresses s.cluster)) (has_address packet.target s.external || has_address packet.target s.balancer)
-      (or_left (has_address packet.target s.external) (has_address packet.target s.balancer) (listed family packet.target a s.external c same))))
+      (or_left (has_address packet.target s.external) (has_address packet.target s.balancer) (listed V4 packet.target a s.external c same))))
 
-  balancer_listed : (b : Bool) (a : AddressParts) → Contains (cond b (addresses_in family s.balancer) []) a → same_address a packet.target ≡ true → has_address packet.target s.balancer ≡ true
-  balancer_listed true a c same = listed family packet.target a s.balancer c same
+  balancer_listed : (b : Bool) (a : AddressParts) → Contains (cond b (addresses_in V4 s.balancer) []) a → same_address a packet.target ≡ true → has_address packet.target s.balancer ≡ true
+  balancer_listed true a c same = listed V4 packet.target a s.balancer c same
   balancer_listed false a c same = absurd (none_in a c)
 
   misses_balancer : list_any fitting (map (door_at door.Balancer i) i.balancer) ≡ false
   misses_balancer =
       ap (λ xs. list_any fitting (map (door_at door.Balancer i) xs)) shows.balancer
-      ∙ none_mapped fitting (door_at door.Balancer i) (balancer_in family s) (λ a c.
+      ∙ none_mapped fitting (door_at door.Balancer i) (balancer_in V4 s) (λ a c.
       misses_at door.Balancer a (λ same.
       or_right (has_address packet.target (cluster_addresses s.cluster)) (has_address packet.target s.external || has_address packet.target s.balancer)
       (or_right (has_address packet.target s.external) (has_address packet.target s.balancer) (balancer_listed (has_balancer s.kind) a c same))))

@@ -8,4 +8,4 @@ mod wanted;
 mod zones;
 
 pub use selection::selects;
-pub use wanted::{desired_endpoint, desired_endpoints};
+pub use wanted::{desired_endpoint, desired_endpoints, has_family};

@@ -1,9 +1,8 @@
 //! The endpoints that a Service wants of its pods.
-ghost use Rattle.std.specs.Prelude.{◌≡◌, true, ◌++◌, map, IfOk, OnOk, option_copied};
+ghost use Rattle.std.specs.Prelude.{◌≡◌, true, ◌++◌, map, IfOk, OnOk, option_and_then, option_copied};
 ghost use Rattle.std.specs.FinMap.{values};
 ghost use Rattle.std.specs.List.{filter_map};
 ghost use Rattle.std.specs.Option.{option_to_list};
-ghost use Rattle.kp_base.specs.declared.address.Family.TheVariants.{V4};
 ghost use Rattle.kp_object_defs.specs.Desired as spec;
 ghost use Rattle.kp_object_defs.specs.Desired.{desired_among, desired_endpoints_of};
 ghost use Rattle.kp_object_defs.specs.Desired.{desired_in_zone, desired_of};
@@ -21,43 +20,46 @@ use kp_types::{Node, Pod, Service, SliceEndpoint, Wanted};
 use std::alloc::Global;
 use std::collections::BTreeMap;
 
-/// The endpoints that a Service wants of pods, on nodes, in order of the pods' names (Kubernetes
-/// documents on EndpointSlices). Pods and nodes stand in any order; of selected pods of one name
-/// the last counts, and of nodes too. A pod that has finished, has no IPv4 address or resolves no
-/// port gives no endpoint, and no pod gives two. Of the cluster's pods and nodes they are the
-/// endpoints that the controller wants.
+/// The endpoints that a Service wants of pods in a family, on nodes, in order of the pods' names
+/// (Kubernetes documents on EndpointSlices and on IPv4/IPv6 dual-stack). Pods and nodes stand in
+/// any order; of selected pods of one name the last counts, and of nodes too. A pod that has
+/// finished, has no address of the family or resolves no port gives no endpoint, and no pod gives
+/// two; none does where the family isn't the Service's. Of the cluster's pods and nodes they are
+/// the endpoints that the controller wants.
 pub fn desired_endpoints(
     alloc: Global,
     service: &Service,
+    family: Family,
     pods: &Items<Pod>,
     nodes: &Items<Node>,
 ) -> Result<Items<Wanted>, NoMemory>
-    ensures exact { IfOk result (λ ws. ws ≡ desired_among V4 service.now pods.now nodes.now) }
+    ensures exact { IfOk result (λ ws. ws ≡ desired_among family service.now pods.now nodes.now) }
     ensures of_objects { (o : Objects) → AreUnderOwnKeys o →
         HaveSameElements pods.now (values o.pods) → HaveSameElements nodes.now (values o.nodes) →
-        IfOk result (λ ws. ws ≡ desired_endpoints_of V4 o service.now) }
+        IfOk result (λ ws. ws ≡ desired_endpoints_of family o service.now) }
     ensures own_pods { IfOk result (λ ws. have_own_pods ws ≡ true) }
     ensures named { IfOk result (λ ws. entries_name_pods ws ≡ true) }
 {
     let by_name = nodes_by_name(alloc, nodes.as_slice())?;
     let pods = selected_pods(alloc, service, pods.as_slice())?;
-    wanted_of(alloc, service, pods.as_slice(), &by_name)
+    wanted_of(alloc, service, family, pods.as_slice(), &by_name)
 }
 
 /// The endpoints that a Service wants of pods, in their order.
 fn wanted_of<'a>(
     alloc: Global,
     service: &Service,
+    family: Family,
     pods: &[&'a Pod],
     nodes: &BTreeMap<&'a Text, &'a Node>,
 ) -> Result<Items<Wanted>, NoMemory>
     ensures { IfOk result (λ ws. ws ≡ filter_map
-        (desired_of V4 (zone_in (shown nodes.now.entries)) service.now)
+        (desired_of family (zone_in (shown nodes.now.entries)) service.now)
         (map (λ p. p.now) pods.now)) }
 {
     let mut wanted = Vec::new(alloc);
     for pod in pods {
-        add_wanted(alloc, &mut wanted, service, *pod, nodes)?;
+        add_wanted(alloc, &mut wanted, service, family, *pod, nodes)?;
     }
     Ok(Items::from_vec(wanted))
 }
@@ -67,35 +69,70 @@ fn add_wanted<'a>(
     alloc: Global,
     wanted: &mut Vec<Wanted>,
     service: &Service,
+    family: Family,
     pod: &'a Pod,
     nodes: &BTreeMap<&'a Text, &'a Node>,
 ) -> Result<(), NoMemory>
     ensures { OnOk result (wanted.new.items ≡ wanted.old.items ++ option_to_list
-        (desired_of V4 (zone_in (shown nodes.now.entries)) service.now pod.now)) }
+        (desired_of family (zone_in (shown nodes.now.entries)) service.now pod.now)) }
 {
-    if let Some(endpoint) = desired_endpoint(alloc, service, pod, zone_of_pod(nodes, pod))? {
+    let zone = zone_of_pod(nodes, pod);
+    if let Some(endpoint) = desired_endpoint(alloc, service, family, pod, zone)? {
         wanted.push(endpoint)?;
     }
     Ok(())
 }
 
-/// The endpoint that a Service wants of a pod that it selects, whose node has this zone (Kubernetes
-/// documents on EndpointSlices): none of a pod that has finished, has no IPv4 address or resolves
-/// no port.
+/// The endpoint that a Service wants in a family of a pod that it selects, whose node has this zone
+/// (Kubernetes documents on EndpointSlices): none where the family isn't the Service's, and none of
+/// a pod that has finished, has no address of the family or resolves no port.
 pub fn desired_endpoint(
     alloc: Global,
     service: &Service,
+    family: Family,
     pod: &Pod,
     zone: Option<&Text>,
 ) -> Result<Option<Wanted>, NoMemory>
     ensures { IfOk result (λ w.
-        w ≡ desired_in_zone V4 service.now pod.now (option_copied zone.entry)) }
+        w ≡ desired_in_zone family service.now pod.now (option_copied zone.entry)) }
 {
-    match pod.address {
-        Some(address) if address.family() == Family::V4 && !pod.finished => {
-            wanted_at(alloc, service, pod, zone, address)
-        }
-        _ => Ok(None),
+    if !has_family(service, family) || pod.finished {
+        return Ok(None);
+    }
+    match pod_address(pod, family) {
+        Some(address) => wanted_at(alloc, service, pod, zone, address),
+        None => Ok(None),
+    }
+}
+
+/// Whether a family is one of the Service's.
+pub fn has_family(service: &Service, family: Family) -> bool
+    ensures { result ≡ spec.has_family family service.now }
+{
+    service
+        .families
+        .as_slice()
+        .iter()
+        .any(|other| *other == family)
+}
+
+/// The address of a pod in a family.
+fn pod_address(pod: &Pod, family: Family) -> Option<Address>
+    ensures { result ≡ spec.pod_address family pod.now }
+{
+    match family {
+        Family::V4 => address_in(pod.address, Family::V4),
+        Family::V6 => address_in(pod.address6, Family::V6),
+    }
+}
+
+/// An address, if there is one and it is of the family.
+fn address_in(address: Option<Address>, family: Family) -> Option<Address>
+    ensures { result ≡ option_and_then (spec.address_in family) address }
+{
+    match address {
+        Some(address) if address.family() == family => Some(address),
+        _ => None,
     }
 }
 

@@ -6,7 +6,7 @@ ghost use Rattle.kp_object_defs.specs.Desired as desired;
 ghost use Rattle.kp_object_defs.specs.Entries as spec;
 ghost use Rattle.kp_known_ports.specs.Known.{sources_in};
 
-use kp_base::{Config, Items, NoMemory};
+use kp_base::{Config, Family, Items, NoMemory};
 use kp_port_info::cluster_address;
 use kp_store::{Objects, wanted_of};
 use kp_types::{Service, ServiceKind, Slice, Wanted};
@@ -70,7 +70,7 @@ fn sources_of<'a>(
     if is_reconciled(config, service) {
         Ok(Sources {
             service,
-            wanted: wanted_of(alloc, objects, service)?,
+            wanted: wanted_of(alloc, objects, service, Family::V4)?,
             slices: unmanaged(alloc, slices.as_slice())?,
         })
     } else {

@@ -1,13 +1,12 @@
 //! New slices and their names.
 ghost use Rattle.std.specs.Prelude.{◌≡◌, ℕ, List, [], ◌∷◌, ◌++◌, IfOk, OnOk, map, not, take, bytes_eq};
 ghost use Rattle.std.specs.List.{list_any, filter};
-ghost use Rattle.kp_base.specs.declared.address.Family.TheVariants.{V4};
 ghost use Rattle.kp_object_defs.specs.Packing as spec;
 ghost use Rattle.kp_packer.specs.Views.{shown, new_slice_of};
 
 use indexmap::IndexSet;
 use itoa::Buffer;
-use kp_base::{Copied, Items, NoMemory, ObjectKey, Text};
+use kp_base::{Copied, Family, Items, NoMemory, ObjectKey, Text};
 use kp_types::{AddressType, Slice, SliceEndpoint, SlicePort, Wanted};
 use std::alloc::Global;
 
@@ -22,16 +21,17 @@ pub struct NewSlice<'a, 'g> {
 pub fn new_slices(
     alloc: Global,
     service: &ObjectKey,
+    family: Family,
     taken: &[Text],
     made: &[NewSlice],
 ) -> Result<Vec<Slice>, NoMemory>
     ensures { IfOk result (λ slices. slices.items
-        ≡ spec.new_slices V4 service.now taken.now (map new_slice_of made.now)) }
+        ≡ spec.new_slices family service.now taken.now (map new_slice_of made.now)) }
 {
     let names = free_names(alloc, service, taken, made.len())?;
     let mut slices = Vec::new(alloc);
     for place in 0..names.len().min(made.len()) {
-        slices.push(new_slice(alloc, service, &names[place], &made[place])?)?;
+        slices.push(new_slice(alloc, service, family, &names[place], &made[place])?)?;
     }
     Ok(slices)
 }
@@ -40,11 +40,12 @@ pub fn new_slices(
 fn new_slice(
     alloc: Global,
     service: &ObjectKey,
+    family: Family,
     name: &Text,
     new: &NewSlice,
 ) -> Result<Slice, NoMemory>
     ensures { IfOk result (λ s. s
-        ≡ spec.new_slice V4 service.now (name.now, new_slice_of new.now)) }
+        ≡ spec.new_slice family service.now (name.now, new_slice_of new.now)) }
 {
     Ok(Slice {
         key: ObjectKey {
@@ -53,10 +54,20 @@ fn new_slice(
         },
         service: Some(service.name.copy(alloc)?),
         managed: true,
-        family: AddressType::Ipv4,
+        family: type_of(family),
         ports: copies(alloc, new.ports)?,
         endpoints: entries_of(alloc, &new.wanted)?,
     })
+}
+
+/// The address type of slices of a family.
+fn type_of(family: Family) -> AddressType
+    ensures { result ≡ spec.type_of family }
+{
+    match family {
+        Family::V4 => AddressType::Ipv4,
+        Family::V6 => AddressType::Ipv6,
+    }
 }
 
 /// Copies of values.

@@ -1,7 +1,6 @@
 //! Packing: all groups, each by itself.
 ghost use Rattle.std.specs.Prelude.{◌≡◌, ◌++◌, ◌≤◌, true, IfOk, OnOk, map, not, length};
 ghost use Rattle.std.specs.List.{filter, list_all, flat_map};
-ghost use Rattle.kp_base.specs.declared.address.Family.TheVariants.{V4};
 ghost use Rattle.kp_object_defs.specs.Packing as spec;
 ghost use Rattle.kp_object_defs.specs.Packing.{packed_slices};
 ghost use Rattle.kp_object_defs.specs.PackingLaws.{are_managed_for, have_own_names, have_own_pods, are_taken, IsPackingOf, CanGoOn};
@@ -17,7 +16,7 @@ use crate::order::{names_in_order, slices_in_order, sorted_slices};
 use crate::place::{Placed, place_left};
 use crate::ports::groups_of;
 use indexmap::IndexSet;
-use kp_base::{Copied, Items, NoMemory, ObjectKey, Text, fits_memory};
+use kp_base::{Copied, Family, Items, NoMemory, ObjectKey, Text, fits_memory};
 use kp_pack_laws::{packing_goes_on, packing_places_each};
 use kp_types::{Packed, Slice, SliceEndpoint, SlicePort, Wanted};
 use std::alloc::Global;
@@ -34,11 +33,12 @@ impl Drop for Packing<'_, '_> {
     }
 }
 
-/// Packs the endpoints that a Service wants into its managed IPv4 slices, with at most so many
-/// endpoints each (KEP-752). Packing can go on from the slices after it.
+/// Packs the endpoints that a Service wants into its managed slices of a family, with at most
+/// so many endpoints each (KEP-752). Packing can go on from the slices after it.
 pub fn pack<'a>(
     alloc: Global,
     service: &ObjectKey,
+    family: Family,
     before: &'a Items<Slice>,
     wanted: &'a Items<Wanted>,
     most: u32,
@@ -46,26 +46,27 @@ pub fn pack<'a>(
 ) -> Result<Packed, NoMemory>
     requires some { 1 ≤ most }
     requires room { most ≤ 1000 }
-    requires managed { are_managed_for V4 service.now before.now ≡ true }
+    requires managed { are_managed_for family service.now before.now ≡ true }
     requires names { have_own_names before.now ≡ true }
     requires pods { have_own_pods wanted.now ≡ true }
     requires taken { are_taken taken.now before.now ≡ true }
     ensures exact { IfOk result (λ p. p
-        ≡ packed_slices V4 service.now before.now wanted.now most taken.now) }
+        ≡ packed_slices family service.now before.now wanted.now most taken.now) }
     ensures packing { IfOk result (λ p. IsPackingOf most wanted.now p.slices) }
-    ensures next { IfOk result (λ p. CanGoOn V4 service.now wanted.now taken.now p) }
+    ensures next { IfOk result (λ p. CanGoOn family service.now wanted.now taken.now p) }
 {
     packing_places_each();
     packing_goes_on();
     fits_memory(wanted.as_slice());
     fits_memory(taken.as_slice());
-    packed(alloc, service, before, wanted, most, taken)
+    packed(alloc, service, family, before, wanted, most, taken)
 }
 
 /// The slices after packing.
 fn packed<'a>(
     alloc: Global,
     service: &ObjectKey,
+    family: Family,
     before: &'a Items<Slice>,
     wanted: &'a Items<Wanted>,
     most: u32,
@@ -74,13 +75,13 @@ fn packed<'a>(
     requires some { 1 ≤ most }
     requires pods { have_own_pods wanted.now ≡ true }
     ensures exact { IfOk result (λ p. p
-        ≡ packed_slices V4 service.now before.now wanted.now most taken.now) }
+        ≡ packed_slices family service.now before.now wanted.now most taken.now) }
 {
     let before = before.as_slice();
     let wanted = wanted.as_slice();
     let groups = groups_of(alloc, wanted)?;
     let packing = pack_all(alloc, most as usize, &groups, before, wanted)?;
-    let made = new_slices(alloc, service, taken.as_slice(), &packing.made)?;
+    let made = new_slices(alloc, service, family, taken.as_slice(), &packing.made)?;
     let left_over = left_over(alloc, &groups, before)?;
     packed_by(alloc, left_over, &packing.fills, made)
 }

@@ -5,7 +5,7 @@ use Rattle.kp_base.specs.declared.address.Family.{Family}
 use Rattle.kp_types.specs.declared.lists.Lists.{Lists}
 use Rattle.kp_types.specs.declared.service.Service.{Service}
 use Rattle.kp_types.specs.declared.service.ServicePort.{ServicePort}
-use Rattle.kp_object_defs.specs.PortInfo.{PortInfo, port_key_of, addresses_in, balancer_in, node_port_of, restriction_in, cluster_address_in}
+use Rattle.kp_object_defs.specs.PortInfo.{PortInfo, port_key_of, external_in, balancer_in, ranges_of, node_port_of, restriction_in, cluster_address_in}
 
 -- at a cluster address
 abbrev pub info_with : Family → Service → ServicePort → Lists → AddressParts → PortInfo
@@ -13,10 +13,10 @@ info_with family s p lists address = record {
   key = port_key_of s p;
   number = p.port;
   address = address;
-  external = addresses_in family s.external;
+  external = external_in family s;
   balancer = balancer_in family s;
   node_port = node_port_of s p;
-  ranges = restriction_in family s.ranges;
+  ranges = restriction_in family (ranges_of family s);
   affinity = s.affinity;
   internal = s.internal;
   outer = s.outer;

@@ -6,5 +6,5 @@ use Rattle.kp_category.proofs.reach.has_external.Goals as goal
 
 pub returns : goal.returns
 returns c =
-    c.has_address_in.ensures ∙ has_address c.args.family c.as_slice.result.now
-    ∙ ap (λ addresses. not (is_empty (addresses_in c.args.family addresses))) c.as_slice.ensures
+    c.has_address_in.ensures ∙ has_address c.args.family c.external_of.result.now
+    ∙ ap (λ addresses. not (is_empty (addresses_in c.args.family addresses))) c.external_of.ensures

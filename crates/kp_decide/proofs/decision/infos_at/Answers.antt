@@ -34,5 +34,5 @@ returns c =
     (λ is same.
     subst (λ infos. AreEnough config packet infos all)
     (sym (same ∙ ap (λ ss. filter_map (info_at V4 config o) (distinct_in_order port_key_cmp (flat_map port_keys_of ss))) found))
-    (enough V4 config o c.services_at.ensures.own_keys packet))
+    (enough config o c.services_at.ensures.own_keys packet))
     c.infos_uncounted.ensures

@@ -1,7 +1,6 @@
 use Rattle.std.proofs.Common.{◌≡◌, true, map, ap, ◌∙◌}
 use Rattle.std.specs.List.{filter_map, filter}
 use Rattle.std.proofs.lemmas.Result.{IfOk-weaker}
-use Rattle.kp_base.specs.declared.address.Family.TheVariants.{V4}
 use Rattle.kp_base.specs.Keys.{text_cmp}
 use Rattle.kp_object_defs.specs.Order.{by_key}
 use Rattle.kp_object_defs.specs.Desired.{desired_of, desired_among, desired_endpoints_of, in_name_order, selects}
@@ -19,27 +18,27 @@ returns c =
     let nodes = c.args.nodes.now in
     let entries = c.in_ok-by_name.by_name.entries in
     let exact = IfOk-weaker c.wanted_of.result
-    (λ ws. ws ≡ filter_map (desired_of V4 (zone_in (shown entries)) s) (map (λ p. p.now) c.as_slice-3.result.now)) (λ ws. ws ≡ desired_among V4 s pods nodes)
+    (λ ws. ws ≡ filter_map (desired_of c.args.family (zone_in (shown entries)) s) (map (λ p. p.now) c.as_slice-3.result.now)) (λ ws. ws ≡ desired_among c.args.family s pods nodes)
     (λ ws same.
     same
-    ∙ ap (λ ps. filter_map (desired_of V4 (zone_in (shown entries)) s) (map (λ p. p.now) ps)) c.as_slice-3.ensures.value
-    ∙ ap (filter_map (desired_of V4 (zone_in (shown entries)) s)) (c.in_ok-pods.ensures ∙ ap (λ ps. in_name_order (filter (selects s) ps)) c.as_slice-2.ensures)
-    ∙ ap (λ es. filter_map (desired_of V4 (zone_in es) s) (in_name_order (filter (selects s) pods))) (c.in_ok-by_name.ensures ∙ ap (by_key text_cmp (λ n. n.name)) c.as_slice.ensures)
-    ∙ (λ i. filter_map (desired_of V4 (λ name. zone-by_name nodes name i) s) (in_name_order (filter (selects s) pods))))
+    ∙ ap (λ ps. filter_map (desired_of c.args.family (zone_in (shown entries)) s) (map (λ p. p.now) ps)) c.as_slice-3.ensures.value
+    ∙ ap (filter_map (desired_of c.args.family (zone_in (shown entries)) s)) (c.in_ok-pods.ensures ∙ ap (λ ps. in_name_order (filter (selects s) ps)) c.as_slice-2.ensures)
+    ∙ ap (λ es. filter_map (desired_of c.args.family (zone_in es) s) (in_name_order (filter (selects s) pods))) (c.in_ok-by_name.ensures ∙ ap (by_key text_cmp (λ n. n.name)) c.as_slice.ensures)
+    ∙ (λ i. filter_map (desired_of c.args.family (λ name. zone-by_name nodes name i) s) (in_name_order (filter (selects s) pods))))
     c.wanted_of.ensures
     in
     record {
       exact = exact;
       of_objects = λ o own same_pods same_nodes. IfOk-weaker c.wanted_of.result
-          (λ ws. ws ≡ desired_among V4 s pods nodes) (λ ws. ws ≡ desired_endpoints_of V4 o s)
-          (λ ws same. same ∙ wanted_of_objects V4 o s pods nodes own same_pods same_nodes)
+          (λ ws. ws ≡ desired_among c.args.family s pods nodes) (λ ws. ws ≡ desired_endpoints_of c.args.family o s)
+          (λ ws same. same ∙ wanted_of_objects c.args.family o s pods nodes own same_pods same_nodes)
           exact;
       own_pods = IfOk-weaker c.wanted_of.result
-          (λ ws. ws ≡ desired_among V4 s pods nodes) (λ ws. have_own_pods ws ≡ true)
-          (λ ws same. ap have_own_pods same ∙ wanted_of_own_pods V4 s pods nodes)
+          (λ ws. ws ≡ desired_among c.args.family s pods nodes) (λ ws. have_own_pods ws ≡ true)
+          (λ ws same. ap have_own_pods same ∙ wanted_of_own_pods c.args.family s pods nodes)
           exact;
       named = IfOk-weaker c.wanted_of.result
-          (λ ws. ws ≡ desired_among V4 s pods nodes) (λ ws. entries_name_pods ws ≡ true)
-          (λ ws same. ap entries_name_pods same ∙ wanted_name_pods V4 s pods nodes)
+          (λ ws. ws ≡ desired_among c.args.family s pods nodes) (λ ws. entries_name_pods ws ≡ true)
+          (λ ws same. ap entries_name_pods same ∙ wanted_name_pods c.args.family s pods nodes)
           exact;
     }

@@ -1,7 +1,6 @@
 use Rattle.std.proofs.Common.{rules, ◌≡◌, ◌≤◌, ◌<◌, ◌+◌, ◌∙◌, ◌++◌, ◌∷◌, [], ℕ, List, min, length, map, take, drop, ap, sym, arith, append_assoc}
 use Rattle.std.specs.List.{zip}
 use Rattle.std.proofs.lemmas.List.{append-nil, length-map}
-use Rattle.kp_base.specs.declared.address.Family.TheVariants.{V4}
 use Rattle.kp_types.specs.declared.slice.Slice.{Slice}
 use Rattle.kp_object_defs.specs.Packing as spec
 use Rattle.kp_packer.specs.Views.{new_slice_of}
@@ -14,7 +13,7 @@ loop-place-preserved c =
     let made = c.args.made.now in
     let i = c.loop-place.place in
     let slices = c.loop-place.slices.items in
-    let f : List ℕ × spec.NewSlice → Slice = spec.new_slice V4 c.args.service.now in
+    let f : List ℕ × spec.NewSlice → Slice = spec.new_slice c.args.family c.args.service.now in
     let x = c.index.result.now in
     let y = c.index-made-place.result in
     let rest = map f (zip (drop (i + 1) names) (map new_slice_of (drop (i + 1) made))) in
@@ -33,7 +32,7 @@ returns c =
     let made = c.args.made.now in
     let i = c.loop-place.place in
     let slices = c.loop-place.slices.items in
-    let f : List ℕ × spec.NewSlice → Slice = spec.new_slice V4 c.args.service.now in
+    let f : List ℕ × spec.NewSlice → Slice = spec.new_slice c.args.family c.args.service.now in
     let counted : c.len.result ≡ length names = search rules in
     let past : min (length names) (length made) ≤ i = omega (arith, c.loop-place-test.false, c.min-place-end.ensures, counted) in
     let more = map new_slice_of made in

@@ -1,7 +1,6 @@
 use Rattle.std.proofs.Common.{◌≡◌, ◌∙◌, map, ap, filter}
 use Rattle.std.specs.List.{flat_map}
 use Rattle.std.proofs.lemmas.Result.{IfOk-weaker}
-use Rattle.kp_base.specs.declared.address.Family.TheVariants.{V4}
 use Rattle.kp_object_defs.specs.Packing as spec
 use Rattle.kp_object_defs.specs.Packing.{is_left_over}
 use Rattle.kp_packer.specs.Views.{shown, filling_of, new_slice_of}
@@ -25,6 +24,6 @@ returns c =
     ap (map filling_of) c.deref-2.ensures.value ∙ c.in_ok-packing.ensures.fills ∙ ap (flat_map (λ g. g.fillings)) same in
     let new : map new_slice_of c.deref.result.now ≡ flat_map (λ g. g.made) packed =
     ap (map new_slice_of) c.deref.ensures.value ∙ c.in_ok-packing.ensures.made ∙ ap (flat_map (λ g. g.made)) same in
-    let made : c.in_ok-made.made.items ≡ spec.new_slices V4 service c.args.taken.now (flat_map (λ g. g.made) packed) =
-    c.in_ok-made.ensures ∙ (λ j. spec.new_slices V4 service (c.as_slice.ensures j) (new j)) in
+    let made : c.in_ok-made.made.items ≡ spec.new_slices c.args.family service c.args.taken.now (flat_map (λ g. g.made) packed) =
+    c.in_ok-made.ensures ∙ (λ j. spec.new_slices c.args.family service (c.as_slice.ensures j) (new j)) in
     record { exact = IfOk-weaker c.packed_by.result _ _ (λ p is. is ∙ (λ j. spec.packed_by (over j) (fills j) (made j))) c.packed_by.ensures }

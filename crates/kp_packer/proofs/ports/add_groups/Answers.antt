@@ -5,7 +5,8 @@ use Rattle.kp_types.specs.declared.slice.SlicePort.{SlicePort}
 use Rattle.kp_types.specs.declared.slice.Wanted.{Wanted}
 use Rattle.kp_object_defs.specs.Order.{first_places}
 use Rattle.kp_object_defs.specs.Packing as spec
-use Rattle.kp_packer.proofs.Grouping.{ports_alike, first_places-push, seen_insert}
+use Rattle.kp_lemmas.proofs.FirstPlaces.{first_places-push}
+use Rattle.kp_packer.proofs.Grouping.{ports_alike, seen_insert}
 use Rattle.kp_packer.proofs.ports.add_groups.Goals as goal
 
 pub loop-endpoint-preserved : goal.loop-endpoint-preserved
