@@ -4,7 +4,7 @@ use Rattle.std.specs.Map.{lookup}
 use Rattle.std.specs.Option.{unwrap_or}
 use Rattle.std.specs.Ordering.{eq_by_cmp}
 use Rattle.std.specs.Cmp.{IsEquivalence}
-use Rattle.std.specs.FinMap.{get, get-empty, get-insert, get-remove, insert, remove, empty, contains_key}
+use Rattle.std.specs.FinMap.{get, get-empty, get-insert, get-remove, insert, remove, empty, contains_key, same_map}
 use Rattle.std.proofs.lemmas.List.Folds.{list_any_more}
 use mathlib.Core.Bool.{and-false}
 use Rattle.kp_lemmas.proofs.Orders.{one_from_tie, tie_of_itself}
@@ -65,6 +65,15 @@ in_inserted m key k = ap is_some (get-insert key_total m key tt k) ∙ some_or (
 
 pub in_removed : (m : Keys) (key k : ObjectKey) → contains_key (remove m key) k ≡ not (eq_by_cmp key_cmp k key) && contains_key m k
 in_removed m key k = ap is_some (get-remove key_total m key k) ∙ some_and (eq_by_cmp key_cmp k key) (get m k)
+
+-- nothing is taken out of no keys
+pub none_taken : (key : ObjectKey) → remove (empty {X = Unit {0}} {R = key_cmp}) key ≡ empty
+none_taken key =
+    same_map key_total key_exact _ _ (λ q. get-remove key_total empty key q ∙ by q (eq_by_cmp key_cmp q key))
+  where
+    by : (q : ObjectKey) (b : Bool) → cond b None (get (empty {X = Unit {0}} {R = key_cmp}) q) ≡ get (empty {X = Unit {0}} {R = key_cmp}) q
+    by q true = sym (get-empty key_cmp q)
+    by q false = refl
 
 module _ {T : Type 0} (same : T → T → Bool) (laws : IsEquivalence same) where
   -- tags that are the same have one bucket

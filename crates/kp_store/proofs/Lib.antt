@@ -9,6 +9,7 @@ pub mod NamedEntries
 pub mod Once
 pub mod OwnObjects
 pub mod Ordered
+pub mod OtherFamily
 pub mod Owners
 pub mod Rarest
 pub mod SameObjects

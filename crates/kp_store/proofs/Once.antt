@@ -1,17 +1,19 @@
--- Each key of a bucket stands once, so that their number is that of the list and the tree.
-use Rattle.std.proofs.Common.{◌≡◌, ℕ, suc, ◌+◌, ◌≤◌, ◌<◌, ◌&&◌, ◌||◌, Bool, true, false, not, cond, List, [], ◌∷◌, ◌++◌, filter, length, arith, refl, sym, ap, ◌∙◌}
+-- Each key of a bucket stands once, so that their number is that of the list and of the keys beside it.
+use Rattle.std.proofs.Common.{◌≡◌, ℕ, suc, ◌+◌, ◌≤◌, ◌<◌, ◌&&◌, ◌||◌, Bool, true, false, not, cond, List, [], ◌∷◌, ◌++◌, filter, map, length, arith, refl, sym, ap, ◌∙◌}
+use Rattle.std.specs.List.{AllByRecursion, IsDistinct, list_any}
 use Rattle.std.specs.Ordering.{eq_by_cmp}
 use Rattle.std.specs.Cmp.{eq_by_cmp_equiv}
-use Rattle.std.specs.FinMap.{contains_key, empty, insert, len, len-insert, remove}
+use Rattle.std.specs.FinMap.{contains_key, empty, from_entries, insert, len, len-empty, len-insert, remove}
 use Rattle.std.proofs.lemmas.Bool.{and_parts}
 use Rattle.std.proofs.lemmas.List.{length-append}
 use Rattle.kp_base.specs.Keys.{key_cmp}
+use Rattle.kp_base.specs.contracts.key.ObjectKeyPartialEq.TheImpl as key_eq
 use Rattle.kp_base.specs.declared.key.ObjectKey.{ObjectKey}
-use Rattle.kp_base.proofs.KeyOrder.{key_total}
+use Rattle.kp_base.proofs.KeyOrder.{key_ties, key_total}
 use Rattle.kp_store.specs.Indexes.{Keys, are_once, with_keys}
 use Rattle.kp_store.proofs.Buckets.{in_inserted}
 use Rattle.kp_store.proofs.KeyLists.{pushed, put_beside, taken}
-use Rattle.kp_store.proofs.Ordered.{none_before}
+use Rattle.kp_store.proofs.Ordered.{has_entries, none_before}
 
 -- ---- truth values
 
@@ -104,3 +106,32 @@ count_once (k ∷ ks) m once =
     let parts = and_parts (not (contains_key (with_keys ks m) k)) (are_once ks m) once in
     let one_more = len-insert key_total (with_keys ks m) k tt ∙ ap (λ b. cond b (len (with_keys ks m)) (len (with_keys ks m) + 1)) (is_not (contains_key (with_keys ks m) k) parts.0) in
     more (length ks) (len m) (len (with_keys ks m)) _ one_more (count_once ks m parts.1)
+
+-- ---- entries whose keys are told apart
+
+next : (a b : ℕ) → a ≡ b → a + 1 ≡ suc b
+next a b is = omega arith
+
+-- a key that is told apart from those of entries isn't among them
+not_among : {X : Type 0} (key : ObjectKey) (es : List (ObjectKey × X))
+    → AllByRecursion (λ k. key_eq.ghosts.eq key k ≡ false) (map (λ e. e.0) es)
+    → contains_key (from_entries {R = key_cmp} es) key ≡ false
+not_among {X} key es apart = has_entries key es ∙ none es apart
+  where
+    none : (fs : List (ObjectKey × X))
+        → AllByRecursion (λ k. key_eq.ghosts.eq key k ≡ false) (map (λ e. e.0) fs)
+        → list_any (eq_by_cmp key_cmp key) (map (λ e. e.0) fs) ≡ false
+    none [] all = refl
+    none (f ∷ fs) all = λ i. (sym (key_ties key f.0) ∙ all.0) i || none fs all.1 i
+
+-- their map has as many keys
+pub count_distinct : {X : Type 0} (es : List (ObjectKey × X))
+    → IsDistinct key_eq.ghosts.eq (map (λ e. e.0) es)
+    → len (from_entries {R = key_cmp} es) ≡ length es
+unfolding IsDistinct
+count_distinct {X} [] once = len-empty key_cmp X
+count_distinct (e ∷ es) once =
+    len-insert key_total (from_entries es) e.0 e.1
+    ∙ ap (λ b. cond b (len (from_entries {R = key_cmp} es)) (len (from_entries {R = key_cmp} es) + 1))
+    (not_among e.0 es once.0)
+    ∙ next (len (from_entries {R = key_cmp} es)) (length es) (count_distinct es once.1)

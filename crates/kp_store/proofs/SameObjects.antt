@@ -56,6 +56,7 @@ pod_exact a b h =
     let ports = and_parts _ _ node.1 in
     let finished = and_parts _ _ ports.1 in
     let address = and_parts _ _ finished.1 in
+    let address6 = and_parts _ _ address.1 in
     λ i. record {
       key = object_exact a.key b.key key.0 i;
       labels = lists_exact _ pair_exact a.labels b.labels labels.0 i;
@@ -64,7 +65,8 @@ pod_exact a b h =
       ports = lists_exact _ container_port_exact a.ports b.ports ports.0 i;
       finished = bool_exact a.finished b.finished finished.0 i;
       address = options_exact _ address_test_exact a.address b.address address.0 i;
-      ready = bool_exact a.ready b.ready address.1 i;
+      address6 = options_exact _ address_test_exact a.address6 b.address6 address6.0 i;
+      ready = bool_exact a.ready b.ready address6.1 i;
     }
 
 pub node_exact : IsExact node_eq.ghosts.eq

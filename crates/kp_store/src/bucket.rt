@@ -6,6 +6,7 @@ ghost use Rattle.std.specs.Ordering.{eq_by_cmp};
 ghost use Rattle.kp_base.specs.Keys.{key_cmp};
 ghost use Rattle.kp_base.specs.declared.key.ObjectKey.{ObjectKey};
 
+use crate::further::FurtherKeys;
 use crate::key_set::KeySet;
 use kp_base::{Copied, NoMemory, ObjectKey};
 use std::alloc::Global;
@@ -15,11 +16,11 @@ use std::marker::Model;
 const FEW: usize = 8;
 
 /// Keys, each once, which contracts see as a map to nothing. Most tags have few objects: the first
-/// keys stand in a list, where one is added without a look at the others, and further ones in a
-/// tree.
+/// keys stand in a list, where one is added without a look at the others, and further ones are found
+/// by their hashes.
 pub struct Bucket {
     few: Vec<ObjectKey>,
-    many: KeySet,
+    many: FurtherKeys,
 }
 
 impl Drop for Bucket {
@@ -54,7 +55,7 @@ impl Bucket {
         few.push(key.copy(alloc)?)?;
         Ok(Bucket {
             few,
-            many: KeySet::new(alloc),
+            many: FurtherKeys::none(),
         })
     }
 
@@ -84,7 +85,7 @@ impl Bucket {
             self.few.push(key)?;
             Ok(())
         } else {
-            self.many.put(key)
+            self.many.put(alloc, key)
         }
     }
 

@@ -1,5 +1,5 @@
 //! Keys of objects, in order.
-ghost use Rattle.std.specs.Prelude.{◌≡◌, ◌<◌, ◌^◌, ◌||◌, ◌↔◌, true, map, IfOk, OnOk, OnErr, IsTrue};
+ghost use Rattle.std.specs.Prelude.{◌≡◌, ◌||◌, true, map, IfOk, OnOk, OnErr};
 ghost use Rattle.std.specs.List.{list_any};
 ghost use Rattle.std.specs.Ordering.{eq_by_cmp};
 ghost use Rattle.kp_base.specs.Keys.{key_cmp};
@@ -54,21 +54,6 @@ impl KeySet {
         Ok(self.entries.keys().collect(alloc)?)
     }
 
-    /// Whether there are no keys.
-    pub fn is_empty(&self) -> bool
-        ensures { IsTrue result ↔ (self.now ≡ finite.empty) }
-    {
-        self.entries.is_empty()
-    }
-
-    /// How many keys there are.
-    pub fn len(&self) -> usize
-        ensures len { result ≡ finite.len self.now }
-        ensures small { result < 2 ^ 63 }
-    {
-        self.entries.len()
-    }
-
     /// Puts a key. Where memory is out, all stays.
     pub fn put(&mut self, key: ObjectKey) -> Result<(), NoMemory>
         ensures ok { OnOk result (self.new ≡ finite.insert self.old key tt) }
@@ -92,12 +77,5 @@ impl KeySet {
             self.put(names[i].key(alloc)?)?;
         }
         Ok(())
-    }
-
-    /// Takes out a key, if it is there.
-    pub fn take(&mut self, key: &ObjectKey)
-        ensures { self.new ≡ finite.remove self.old key.now }
-    {
-        self.entries.remove(key);
     }
 }

@@ -3,10 +3,12 @@
 
 mod bucket;
 mod changes;
+mod further;
 mod hashed;
 mod index;
 mod indexed;
 mod key_set;
+mod loose_keys;
 mod named;
 mod objects;
 mod selecting;

@@ -9,7 +9,6 @@ use Rattle.std.proofs.lemmas.List.Folds.{list_any-append}
 use Rattle.kp_base.specs.Keys.{key_cmp}
 use Rattle.kp_base.specs.declared.key.ObjectKey.{ObjectKey}
 use Rattle.kp_store.proofs.KeyLists.{in_keys}
-use Rattle.kp_store.proofs.Unions.{among_keys}
 use Rattle.kp_store.proofs.bucket.Bucket.keys.Goals as goal
 
 pub returns : goal.returns
@@ -22,7 +21,6 @@ returns c = λ k.
     ap (λ qs. test (now qs)) c.in_ok-append.ensures.items
     ∙ ap test (map-append (λ (q : Bor ObjectKey). q.now) c.in_ok-keys.keys.items c.in_ok-many.many.items)
     ∙ list_any-append (eq_by_cmp key_cmp k) (now c.in_ok-keys.keys.items) (now c.in_ok-many.many.items)
-    ∙ (λ i. test (listed i) || test (c.in_ok-many.ensures i))
-    ∙ ap (λ b. test few || b) (among_keys many k)
+    ∙ (λ i. test (listed i) || c.in_ok-many.ensures k i)
     ∙ sym (in_keys few many k)
     ∙ ap (λ m. finite.contains_key m k) c.self.view_is

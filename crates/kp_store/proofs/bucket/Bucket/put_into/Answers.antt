@@ -8,7 +8,7 @@ use Rattle.kp_base.specs.Keys.{key_cmp}
 use Rattle.kp_base.specs.declared.key.ObjectKey.{ObjectKey}
 use Rattle.std.proofs.lemmas.Result.{on_ok_weaker}
 use Rattle.kp_store.proofs.KeyLists.{in_both}
-use Rattle.kp_store.proofs.Unions.{any_shown, among_keys}
+use Rattle.kp_store.proofs.Unions.{any_shown}
 use Rattle.kp_store.proofs.bucket.Bucket.put_into.Goals as goal
 
 pub returns : goal.returns
@@ -20,7 +20,7 @@ returns c =
     let test : List ObjectKey → Bool = list_any (eq_by_cmp key_cmp k) in
     let seen : List (Bor ObjectKey) → Bool = λ qs. test (map (λ q. q.now) qs) in
     let listed = any_shown (λ (q : Bor ObjectKey). q.now) (eq_by_cmp key_cmp k) c.as_slice.result.now ∙ ap seen c.as_slice.ensures.value ∙ ap test (map_from_collect {E = ℕ} (Ok c.in_ok-few.few) c.in_ok-few.ensures.ran (YieldsList-from_slice c.deref.result.now cc) ∙ c.deref.ensures.value) in
-    let beside = any_shown (λ (q : Bor ObjectKey). q.now) (eq_by_cmp key_cmp k) c.as_slice-2.result.now ∙ ap seen c.as_slice-2.ensures.value ∙ ap test c.in_ok-many.ensures ∙ among_keys many k in
+    let beside = any_shown (λ (q : Bor ObjectKey). q.now) (eq_by_cmp key_cmp k) c.as_slice-2.result.now ∙ ap seen c.as_slice-2.ensures.value ∙ c.in_ok-many.ensures k in
     is k
     ∙ (λ i. beside i || c.in_ok-put_all.ensures.all k i)
     ∙ ap (λ b. finite.contains_key many k || (b || others)) listed

@@ -3,7 +3,7 @@ use Rattle.std.specs.FinMap as finite
 use Rattle.kp_base.specs.Keys.{key_cmp}
 use Rattle.std.proofs.lemmas.List.{nil_from_length}
 use Rattle.kp_store.proofs.Filled.{no_entries}
-use Rattle.kp_store.proofs.key_set.KeySet.is_empty.Goals as goal
+use Rattle.kp_store.proofs.loose_keys.LooseKeys.is_empty.Goals as goal
 
 pub returns : goal.returns
 returns c =
