@@ -5,9 +5,10 @@ use Rattle.std.specs.FinMap.Entries.{find}
 use Rattle.std.specs.List.{filter_map, cons_option, AllByRecursion}
 use Rattle.std.specs.Ordering.{eq_by_cmp}
 use Rattle.std.proofs.lemmas.Bool.{false≢true}
+use Rattle.kp_base.specs.declared.address.Family.TheVariants.{V4, V6}
 use Rattle.kp_types.specs.Places.{chain_cmp, table_place}
 use Rattle.kp_types.specs.declared.chain.TableName.{TableName}
-use Rattle.kp_types.specs.declared.chain.TableName.TheVariants.{Nat, Filter}
+use Rattle.kp_types.specs.declared.chain.TableName.TheVariants.{Nat, Filter, Nat6, Filter6}
 use Rattle.kp_types.specs.declared.chain.ChainAt.{ChainAt}
 use Rattle.kp_types.specs.declared.rule.Rule.{Rule}
 use Rattle.kp_types.specs.declared.rule.Edit.{Edit}
@@ -16,7 +17,7 @@ use Rattle.kp_types.specs.contracts.rule.RulePartialEq.TheImpl as same_rule
 use Rattle.kp_types.proofs.ChainOrder.{chain_total, chain_exact}
 use Rattle.kp_types.proofs.RuleEquality.{lists_exact, rule_exact, rules_equiv}
 use Rattle.kp_table_defs.specs.Rebuild.{Chains}
-use Rattle.kp_table_defs.specs.Edits.{SameRulesAreEqual, ChangesLeadOver, chains_after_edit, same_rules, is_found_with, write_if_changed, remove_if_gone, chains_in, table_changes, changes_between}
+use Rattle.kp_table_defs.specs.Edits.{SameRulesAreEqual, ChangesLeadOver, chains_after_edit, same_rules, is_found_with, write_if_changed, remove_if_gone, chains_in, table_changes, changes_of, changes_between}
 use Rattle.kp_lemmas.proofs.ListFacts.{all_weaker, all_append, all_filter}
 use Rattle.kp_lemmas.proofs.Entries.{entries_found}
 use Rattle.kp_lemmas.proofs.Orders.{one_from_tie, tie_of_itself}
@@ -108,7 +109,10 @@ table_right before after table =
     (all_weaker (λ e. get before e.0 ≡ Some e.1) (λ e. In_option (IsRight after) (remove_if_gone after e)) (λ e h. remove_right after e) (entries before) (entries_found chain_total before))))
 
 all_right : (before after : Chains) → AllByRecursion (IsRight after) (changes_between before after)
-all_right before after = all_append (IsRight after) _ _ (table_right before after Nat) (table_right before after Filter)
+all_right before after =
+    all_append (IsRight after) _ _
+    (all_append (IsRight after) _ _ (table_right before after Nat) (table_right before after Filter))
+    (all_append (IsRight after) _ _ (table_right before after Nat6) (table_right before after Filter6))
 
 -- ---- where the tables differ there is a change
 
@@ -150,17 +154,29 @@ some_edit f test q v edit t g here (e ∷ es) (inl h) =
     subst (λ x. Some_of (IsAt q) (filter_map f (cond (test x) (x ∷ rest) rest))) same kept
 some_edit f test q v edit t g here (e ∷ es) (inr h) = later f q e (filter test es) (test e) (some_edit f test q v edit t g here es h)
 
--- the place of a table, or of the other
+-- a place is in one of the tables
 table_cases : (q : ChainAt) (P : Type 0) → ((table : TableName) → table_place q.table == table_place table ≡ true → P) → P
 table_cases q P f = f q.table (one_place q.table)
   where
     one_place : (t : TableName) → table_place t == table_place t ≡ true
     one_place Nat = refl
     one_place Filter = refl
+    one_place Nat6 = refl
+    one_place Filter6 = refl
 
 in_table : (before after : Chains) (q : ChainAt) (table : TableName) → Some_of (IsAt q) (table_changes before after table) → Some_of (IsAt q) (changes_between before after)
-in_table before after q Nat h = some_left (IsAt q) (table_changes before after Nat) (table_changes before after Filter) h
-in_table before after q Filter h = some_right (IsAt q) (table_changes before after Nat) (table_changes before after Filter) h
+in_table before after q Nat h =
+    some_left (IsAt q) (changes_of V4 before after) (changes_of V6 before after)
+    (some_left (IsAt q) (table_changes before after Nat) (table_changes before after Filter) h)
+in_table before after q Filter h =
+    some_left (IsAt q) (changes_of V4 before after) (changes_of V6 before after)
+    (some_right (IsAt q) (table_changes before after Nat) (table_changes before after Filter) h)
+in_table before after q Nat6 h =
+    some_right (IsAt q) (changes_of V4 before after) (changes_of V6 before after)
+    (some_left (IsAt q) (table_changes before after Nat6) (table_changes before after Filter6) h)
+in_table before after q Filter6 h =
+    some_right (IsAt q) (changes_of V4 before after) (changes_of V6 before after)
+    (some_right (IsAt q) (table_changes before after Nat6) (table_changes before after Filter6) h)
 
 abbrev Settled : Chains → Chains → ChainAt → Type 0
 Settled before after q = Agrees after q before ⊎ Some_of (IsAt q) (changes_between before after)

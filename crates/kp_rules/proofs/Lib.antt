@@ -3,6 +3,7 @@ pub mod ChangesLead
 mod KeyedPlaces
 pub mod MapPlaces
 mod NextPlaces
+pub mod OtherFamily
 mod OtherPlaces
 mod PlacesFound
 mod Placing

@@ -8,13 +8,12 @@ use Rattle.std.specs.Option.{option_or}
 use Rattle.std.proofs.lemmas.Bool.{false≢true, and_parts, ltb-true}
 use Rattle.std.proofs.lemmas.Slice.Eq.{bytes_eq-Decides}
 use Rattle.kp_types.specs.declared.chain.TableName.{TableName}
-use Rattle.kp_types.specs.declared.chain.TableName.TheVariants.{Nat, Filter}
 use Rattle.kp_types.specs.declared.chain.ChainAt.{ChainAt}
 use Rattle.kp_types.specs.declared.rule.Rule.{Rule}
 use Rattle.kp_types.specs.declared.rule.Target.{Target}
 use Rattle.kp_types.specs.declared.rule.Target.TheVariants as target
 use Rattle.kp_table_defs.specs.Matching.{WalkState, Surroundings, try_all}
-use Rattle.kp_table_defs.specs.Ranks.{rank_of, shared_ranks, prefix_ranks, is_built_in, built_in_chains, is_above, is_reached, goes_on, jumps_go_on, is_ranked, is_ranked_chain, has_built_in, has_built_in_chains}
+use Rattle.kp_table_defs.specs.Ranks.{rank_of, shared_ranks, prefix_ranks, is_built_in, built_in_chains, is_above, is_reached, goes_on, jumps_go_on, is_ranked, is_ranked_chain}
 use Rattle.kp_table_defs.specs.RankedWalk.{RankedWalksEnd}
 use Rattle.kp_table_defs.specs.Rebuild.{Chains}
 use Rattle.kp_table_defs.specs.Walk.{Outcome, Next, Left, Ended, Stuck, and_then, returned_from, target_outcome, target_if, rule_outcome, rules_outcome, found_outcome, chain_outcome, most_chains}
@@ -135,15 +134,11 @@ all_any P chain (name ∷ names) h a = by (bytes_eq chain name) refl a (all_any 
     by true t k rest = ap P ((bytes_eq-Decides chain name).0 t) ∙ (and_parts _ _ h).0
     by false t k rest = rest k
 
-built_in_there : (chains : Chains) (table : TableName) → has_built_in_chains chains ≡ true → has_built_in chains table ≡ true
-built_in_there chains Nat h = (and_parts _ _ h).0
-built_in_there chains Filter h = (and_parts _ _ h).1
-
 not_stuck : (o : Outcome) → Ends o → o ≢ Stuck
 not_stuck o h e = subst Ends e h
 
 pub ranked_walks_end : RankedWalksEnd
-ranked_walks_end chains ranked there table chain built e s =
-    let found = has_value (get chains (record { table = table; chain = chain })) (all_any (λ chain. is_some (get chains (record { table = table; chain = chain }))) chain (built_in_chains table) (built_in_there chains table there) built) in
+ranked_walks_end chains ranked table there chain built e s =
+    let found = has_value (get chains (record { table = table; chain = chain })) (all_any (λ chain. is_some (get chains (record { table = table; chain = chain }))) chain (built_in_chains table) there built) in
     not_stuck _ (chain_ends chains ranked e table most_chains chain 0 found.0 (omega arith)
     (ap (λ b. cond b (Some 0) (option_or (lookup (bytes_eq chain) shared_ranks) (lookup (starts_with nat_eq chain) prefix_ranks))) built) found.1 s)

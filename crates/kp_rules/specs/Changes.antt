@@ -1,7 +1,10 @@
 -- The edit of one place among the changes of a table.
-use Rattle.std.specs.Prelude.{◌==◌, Bool, cond, List, Option, Some, None, is_some}
+use Rattle.std.specs.Prelude.{◌≡◌, ◌==◌, Bool, false, cond, List, Option, Some, None, is_some}
 use Rattle.std.specs.FinMap as finite
-use Rattle.kp_types.specs.Places.{table_place}
+use Rattle.std.specs.List.{All}
+use Rattle.kp_base.specs.Net.{same_family}
+use Rattle.kp_base.specs.declared.address.Family.{Family}
+use Rattle.kp_types.specs.Places.{family_of_table, table_place}
 use Rattle.kp_types.specs.declared.chain.TableName.{TableName}
 use Rattle.kp_types.specs.declared.chain.ChainAt.{ChainAt}
 use Rattle.kp_types.specs.declared.rule.Rule.{Rule}
@@ -13,6 +16,14 @@ use Rattle.kp_table_defs.specs.Edits.{write_if_changed}
 -- whether a place is in a table
 abbrev pub is_in : TableName → ChainAt → Bool
 is_in table at = table_place at.table == table_place table
+
+-- a place isn't in a family's tables
+abbrev pub IsOutside : Family → ChainAt → Type 0
+IsOutside family at = same_family (family_of_table at.table) family ≡ false
+
+-- none of these places is
+abbrev pub AreOutside : Family → List ChainAt → Type 0
+AreOutside family places = All (IsOutside family) places
 
 -- the write of a chain that was found
 abbrev pub write_if_found : Chains → ChainAt → Option (List Rule) → Option Edit

@@ -1,28 +1,61 @@
 //! The edits that lead from one table to another.
-ghost use Rattle.std.specs.Prelude.{◌≡◌, ◌++◌, IfOk, OnOk};
+ghost use Rattle.std.specs.Prelude.{◌≡◌, ◌++◌, false, IfOk, OnOk};
 ghost use Rattle.std.specs.FinMap as finite;
 ghost use Rattle.std.specs.List.{filter_map};
 ghost use Rattle.std.specs.Option.{option_copied, option_to_list};
+ghost use Rattle.kp_base.specs.declared.address.Family.TheVariants.{V6};
 ghost use Rattle.kp_table_defs.specs.Edits as Edits;
-ghost use Rattle.kp_table_defs.specs.Edits.{changes_between, table_changes};
+ghost use Rattle.kp_table_defs.specs.Edits.{changes_between, changes_of, table_changes};
 ghost use Rattle.kp_rules.specs.Changes as Changes;
 
 use crate::table::Table;
-use kp_base::{Copied, Items, NoMemory, Shared};
+use kp_base::{Copied, Family, Items, NoMemory, Shared};
 use kp_types::{Batch, ChainAt, Edit, Rule, TableName};
 use std::alloc::Global;
 
-/// The edits that lead from one table to another: in nat and then in filter, a write of each chain
-/// that is new or whose rules differ, and then a remove of each that is gone, each by name.
+/// The edits that lead from one table to another: in the tables of IPv4 and then in those of IPv6,
+/// nat before filter, a write of each chain that is new or whose rules differ, and then a remove of
+/// each that is gone, each by name.
 pub fn changed(alloc: Global, before: &Table, after: &Table) -> Result<Batch, NoMemory>
     ensures { IfOk result (λ b. b.edits ≡ changes_between before.now.chains after.now.chains) }
 {
     let mut edits = Vec::new(alloc);
     add_changes(alloc, before, after, TableName::Nat, &mut edits)?;
     add_changes(alloc, before, after, TableName::Filter, &mut edits)?;
+    add_six(alloc, before, after, &mut edits)?;
     Ok(Batch {
         edits: Items::from_vec(edits),
     })
+}
+
+/// Adds the changes of the tables of IPv6, where there is a chain of them.
+fn add_six(
+    alloc: Global,
+    before: &Table,
+    after: &Table,
+    edits: &mut Vec<Edit>,
+) -> Result<(), NoMemory>
+    ensures { OnOk result (edits.new.items
+        ≡ edits.old.items ++ changes_of V6 before.now.chains after.now.chains) }
+{
+    if !has_six(before) && !has_six(after) {
+        return Ok(());
+    }
+    add_changes(alloc, before, after, TableName::Nat6, edits)?;
+    add_changes(alloc, before, after, TableName::Filter6, edits)
+}
+
+/// Whether there is a chain of IPv6. These stand after all others, so that the last place tells.
+fn has_six(table: &Table) -> bool
+    ensures { result ≡ false → Changes.AreOutside V6 (finite.keys table.now.chains) }
+{
+    match table.places().last() {
+        None => false,
+        Some(last) => match last.table.family() {
+            Family::V4 => false,
+            Family::V6 => true,
+        },
+    }
 }
 
 /// Adds the changes of one table.

@@ -12,6 +12,8 @@ const MOST_LETTERS: usize = 11;
 pub struct Hooks {
     nat: [Option<usize>; MOST_LETTERS + 1],
     filter: [Option<usize>; MOST_LETTERS + 1],
+    nat6: [Option<usize>; MOST_LETTERS + 1],
+    filter6: [Option<usize>; MOST_LETTERS + 1],
 }
 
 impl Hooks {
@@ -20,6 +22,8 @@ impl Hooks {
         Hooks {
             nat: [None; MOST_LETTERS + 1],
             filter: [None; MOST_LETTERS + 1],
+            nat6: [None; MOST_LETTERS + 1],
+            filter6: [None; MOST_LETTERS + 1],
         }
     }
 
@@ -28,6 +32,8 @@ impl Hooks {
         let slots = match at.table {
             TableName::Nat => &self.nat,
             TableName::Filter => &self.filter,
+            TableName::Nat6 => &self.nat6,
+            TableName::Filter6 => &self.filter6,
         };
         slots.get(at.chain.as_str().len()).copied()?
     }
@@ -38,6 +44,8 @@ impl Hooks {
         match at.table {
             TableName::Nat => set(&mut self.nat, letters, slot),
             TableName::Filter => set(&mut self.filter, letters, slot),
+            TableName::Nat6 => set(&mut self.nat6, letters, slot),
+            TableName::Filter6 => set(&mut self.filter6, letters, slot),
         }
     }
 }

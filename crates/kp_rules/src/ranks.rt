@@ -98,10 +98,12 @@ pub fn is_built_in(table: TableName, name: &str) -> bool
     ensures { result ≡ Ranks.is_built_in table name.now }
 {
     match table {
-        TableName::Nat => {
+        TableName::Nat | TableName::Nat6 => {
             name == "PREROUTING" || name == "INPUT" || name == "OUTPUT" || name == "POSTROUTING"
         }
-        TableName::Filter => name == "INPUT" || name == "FORWARD" || name == "OUTPUT",
+        TableName::Filter | TableName::Filter6 => {
+            name == "INPUT" || name == "FORWARD" || name == "OUTPUT"
+        }
     }
 }
 

@@ -165,7 +165,8 @@ impl Table {
         are_ranked(self)
     }
 
-    /// The places that have a chain: nat before filter, and then by the bytes of the name.
+    /// The places that have a chain, in order: those of IPv4 first, nat before filter, and then by
+    /// the bytes of the name.
     pub fn places(&self) -> &BTreeSet<ChainAt>
         ensures { result.now.keys ≡ finite.keys self.now.chains }
     {

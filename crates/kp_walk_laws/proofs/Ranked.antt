@@ -1,5 +1,5 @@
 -- Each jump of the full table goes to a chain that stands and has a greater rank.
-use Rattle.std.proofs.Common.{◌≡◌, ℕ, Bool, true, false, not, nat_lt, List, [], ◌∷◌, ◌++◌, map, Contains, Option, Some, None, is_some, flat_map, append-nil, refl, sym, ap, subst, ◌∙◌}
+use Rattle.std.proofs.Common.{◌≡◌, ◌&&◌, ℕ, Bool, true, false, not, nat_lt, List, [], ◌∷◌, ◌++◌, map, Contains, Option, Some, None, is_some, flat_map, append-nil, refl, sym, ap, subst, ◌∙◌}
 use Rattle.std.specs.FinMap.{entries, get}
 use Rattle.std.specs.List.{list_all}
 use Rattle.std.proofs.lemmas.Bool.{and_from}
@@ -30,7 +30,7 @@ use Rattle.kp_object_defs.specs.Lists.{is_local_policy, list_by_policy}
 use Rattle.kp_object_defs.specs.PortInfo.{PortInfo, internal_list, external_list, port_infos}
 use Rattle.kp_table_defs.specs.Keys.{has_firewall, needs, own_keys}
 use Rattle.kp_table_defs.specs.Layout.{rule_at, jump_to, affinity_rules, balancer_chain, choice_rules, external_rules, firewall_chain_rules, node_port_rules, pod_rules, mark_rules, list_rules, endpoint_chain, port_chain, chain_of_policy, mark_masq, kube_services, kube_node_ports, kube_postrouting, kube_proxy_firewall, kube_external_services, kube_forward, service_block, node_port_block, firewall_block, node_port_refusal, external_block, refusal_block, refusal_target, own_addresses, nat_rows, filter_rows, port_rows, place_of_key, row_of_key, rows_of, rules_of_key}
-use Rattle.kp_table_defs.specs.Ranks.{rank_of, is_above, goes_on, jumps_go_on, is_ranked_chain, is_ranked, built_in_chains, has_built_in}
+use Rattle.kp_table_defs.specs.Ranks.{rank_of, is_above, goes_on, jumps_go_on, is_ranked_chain, is_ranked, built_in_chains, has_built_in_chains}
 use Rattle.kp_table_defs.specs.Rebuild.{Chains, full_chains}
 use Rattle.kp_table_defs.specs.StandIn.{hex_text}
 use Rattle.kp_table_laws.proofs.Entries.{from_in_order}
@@ -349,12 +349,12 @@ module _ (setting : Setting) (infos : List PortInfo) (prefixed : IsPrefixed sett
       (subst (λ es. Contains es r) (entries_in_order chain_total (rows_of setting infos)) c)))
 
   -- a look-up finds each built-in chain among the rows
-  built_in : (at : TableName) → has_built_in table at ≡ true
-  built_in Nat i =
+  built_in : has_built_in_chains table ≡ true
+  built_in i =
       list_all (λ chain. is_some (in_rows setting infos (record { table = Nat; chain = chain }) i))
       (built_in_chains Nat)
-  built_in Filter i =
-      list_all (λ chain. is_some (in_rows setting infos (record { table = Filter; chain = chain }) i))
+      && list_all
+      (λ chain. is_some (in_rows setting infos (record { table = Filter; chain = chain }) i))
       (built_in_chains Filter)
 
 pub full_table_ranked_by : FullTableRanked

@@ -11,7 +11,6 @@ use Rattle.kp_types.specs.Chains.{is_chain_name}
 use Rattle.kp_types.specs.Setting.{FamilyConfig, Naming, Setting}
 use Rattle.kp_types.specs.declared.chain.ChainKey.{ChainKey}
 use Rattle.kp_types.specs.declared.chain.ChainKey.TheVariants as key
-use Rattle.kp_types.specs.declared.chain.TableName.{TableName}
 use Rattle.kp_types.specs.declared.chain.PortChain.{PortChain}
 use Rattle.kp_types.specs.declared.packet.Packet.{Packet}
 use Rattle.kp_choice_defs.specs.Names.{chain_name, first_clash, port_chain_prefix}
@@ -23,7 +22,7 @@ use Rattle.kp_object_defs.specs.PortInfo.{PortInfo, is_accessible, port_infos}
 use Rattle.kp_door_defs.specs.Decision.{Decided, decision_from, decision_of}
 use Rattle.kp_table_defs.specs.Keys.{all_endpoints}
 use Rattle.kp_table_defs.specs.Plain.{HasNoRecent}
-use Rattle.kp_table_defs.specs.Ranks.{has_built_in, is_ranked}
+use Rattle.kp_table_defs.specs.Ranks.{has_built_in_chains, is_ranked}
 use Rattle.kp_table_defs.specs.StandIn.{stand_in_name}
 use Rattle.kp_table_defs.specs.Rebuild.{Chains, clash_of, full_chains, full_table, needed_keys}
 use Rattle.kp_table_defs.specs.Walk.{Walked, walk_of}
@@ -135,7 +134,7 @@ HashedPrefixed = (length : ℕ) → IsPrefixed (chain_name length)
 -- built-in chains.
 pub record IsSound (chains : Chains) : Type 0 where
   pub ranked : is_ranked chains ≡ true
-  pub built_in : (table : TableName) → has_built_in chains table ≡ true
+  pub built_in : has_built_in_chains chains ≡ true
 
 -- Clash or not, the full table is so.
 abbrev pub FullTableRanked : Type 0

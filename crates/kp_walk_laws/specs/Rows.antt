@@ -44,6 +44,8 @@ config = record {
   node = codes "node";
   addresses = host 9 ∷ [];
   cluster = Some (record { base = pod 0; bits = 16 });
+  cluster6 = None;
+  dual = false;
   masquerade_all = false;
   controller = false;
   max_per_slice = 100;

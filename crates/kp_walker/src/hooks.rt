@@ -1,8 +1,10 @@
 //! The hooks that a packet meets.
 ghost use Rattle.std.specs.Prelude.{◌≡◌, ◌+◌, ◌<◌, ◌≤◌, true, [], length, OnOk, OnErr};
 ghost use Rattle.kp_base.specs.Net.{is_local_address};
+ghost use Rattle.kp_base.specs.declared.address.Family.TheVariants.{V4};
 ghost use Rattle.kp_choice_defs.specs.Draws.{IsStated, AreDraws};
 ghost use Rattle.kp_table_defs.specs.Ranks.{is_built_in};
+ghost use Rattle.kp_types.specs.Places.{family_of_table};
 ghost use Rattle.kp_table_defs.specs.Walk as walk;
 ghost use Rattle.kp_walker.specs.Journeys.{stage_of, journey_of, MovesAs, StopsAs};
 ghost use Rattle.kp_walker.specs.Sets as sets;
@@ -187,6 +189,7 @@ impl<F: Fn(u64, u32) -> u32> Surroundings<'_, F> {
     ) -> Result<(), NoMemory>
         requires stated { IsStated (F.pre self.now.draws.now) (F.post self.now.draws.now) }
         requires sound { IsSound self.now.chains.now.chains }
+        requires family { family_of_table table ≡ V4 }
         requires built_in { is_built_in table chain.now ≡ true }
         requires way { R.way journey.old.recorder ≡ [] }
         requires room { length (R.trail journey.old.recorder) < 4 }

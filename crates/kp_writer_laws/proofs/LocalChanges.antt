@@ -16,7 +16,7 @@ use Rattle.kp_lemmas.proofs.Orders.{one_from_tie}
 use Rattle.kp_types.specs.Places.{chain_cmp}
 use Rattle.kp_types.specs.declared.chain.ChainAt.{ChainAt}
 use Rattle.kp_types.specs.declared.chain.TableName.{TableName}
-use Rattle.kp_types.specs.declared.chain.TableName.TheVariants.{Nat, Filter}
+use Rattle.kp_types.specs.declared.chain.TableName.TheVariants.{Nat, Filter, Nat6, Filter6}
 use Rattle.kp_types.specs.declared.rule.Edit.{Edit}
 use Rattle.kp_types.specs.declared.rule.Edit.TheVariants.{Remove, Write}
 use Rattle.kp_types.specs.declared.rule.Rule.{Rule}
@@ -186,5 +186,7 @@ module _ (before after : Chains) (places : List ChainAt)
 pub changes_are_local : ChangesAreLocal
 changes_are_local before after places sorted agree =
     λ i.
-    of_table before after places sorted agree Nat i
-    ++ of_table before after places sorted agree Filter i
+    (of_table before after places sorted agree Nat i
+    ++ of_table before after places sorted agree Filter i)
+    ++ (of_table before after places sorted agree Nat6 i
+    ++ of_table before after places sorted agree Filter6 i)

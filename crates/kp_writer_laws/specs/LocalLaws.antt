@@ -7,12 +7,12 @@ use Rattle.std.specs.List.Sorted.{IsStrictlySortedBy}
 use Rattle.std.specs.Ordering.{eq_by_cmp}
 use Rattle.kp_base.specs.Keys.{port_key_cmp}
 use Rattle.kp_base.specs.declared.address.Family.{Family}
+use Rattle.kp_base.specs.declared.address.Family.TheVariants.{V4, V6}
 use Rattle.kp_base.specs.declared.key.PortKey.{PortKey}
-use Rattle.kp_types.specs.Places.{chain_cmp}
+use Rattle.kp_types.specs.Places.{chain_cmp, nat_of, filter_of}
 use Rattle.kp_types.specs.Setting.{Setting}
 use Rattle.kp_types.specs.declared.chain.ChainAt.{ChainAt}
 use Rattle.kp_types.specs.declared.chain.TableName.{TableName}
-use Rattle.kp_types.specs.declared.chain.TableName.TheVariants.{Nat, Filter}
 use Rattle.kp_types.specs.declared.rule.Edit.{Edit}
 use Rattle.kp_types.specs.declared.rule.Rule.{Rule}
 use Rattle.kp_choice_defs.specs.Names.{first_clash}
@@ -105,10 +105,16 @@ table_changes_at before after places table =
     filter_map (write_at before after table) places
     ++ filter_map (remove_between before after table) places
 
--- the changes at some places, nat before filter
+-- the changes of a family's tables at some places, nat before filter
+abbrev pub changes_at_of : Family → Chains → Chains → List ChainAt → List Edit
+changes_at_of family before after places =
+    table_changes_at before after places (nat_of family)
+    ++ table_changes_at before after places (filter_of family)
+
+-- the changes at some places, IPv4 before IPv6
 abbrev pub changes_at : Chains → Chains → List ChainAt → List Edit
 changes_at before after places =
-    table_changes_at before after places Nat ++ table_changes_at before after places Filter
+    changes_at_of V4 before after places ++ changes_at_of V6 before after places
 
 -- The changes between two tables are those at places in order that hold all at which they differ.
 abbrev pub ChangesAreLocal : Type 0
