@@ -6,18 +6,19 @@ use Rattle.std.specs.FinMap.{get}
 use Rattle.std.proofs.lemmas.Bool.{and_left, and_right}
 use Rattle.kp_lemmas.proofs.Members.{any_from, from_filter, in_filter}
 use Rattle.kp_lemmas.proofs.Orders.{tie_of_itself}
-use Rattle.kp_base.specs.declared.address.Family.TheVariants.{V4}
+use Rattle.kp_base.specs.declared.address.Family.{Family}
 use Rattle.kp_base.specs.declared.key.ObjectKey.{ObjectKey}
 use Rattle.kp_base.proofs.KeyOrder.{key_total}
+use Rattle.kp_types.specs.Setting.{both_families}
 use Rattle.kp_types.specs.declared.service.Service.{Service}
 use Rattle.kp_object_defs.specs.Desired.{desired_endpoints_of, has_selector}
 use Rattle.kp_object_defs.specs.Objects.{Objects}
 use Rattle.kp_object_defs.specs.OwnKeys.{AreUnderOwnKeys}
 use Rattle.kp_object_defs.specs.PackingLaws.{IsPackingOf}
-use Rattle.kp_object_defs.specs.SlicesNow.{Slices, after_controller, after_packing, without_leftovers}
+use Rattle.kp_object_defs.specs.SlicesNow.{Slices, after_controller, without_leftovers}
 use Rattle.kp_object_laws.proofs.PortByKey.{all_stored}
 use Rattle.kp_touch_defs.specs.Touches.{is_key}
-use Rattle.kp_settle_laws.specs.Settled.{AreSettledBut, IsSettled, none, without, without_each}
+use Rattle.kp_settle_laws.specs.Settled.{AreSettledBut, IsSettled, after_each, none, without, without_each}
 use Rattle.kp_settle_laws.specs.SettleLaws.{AreOwn, LeftoversStay, OneMoreSettled, TouchedAreEnough}
 use Rattle.kp_settle_laws.proofs.OwnValues.{in_values}
 use Rattle.kp_controller.specs.Settling.{AreOf, Settles}
@@ -51,8 +52,8 @@ module _ (o : Objects) (own : AreUnderOwnKeys o) (picked : ObjectKey → Bool) w
 
   -- without those with a selector no stored Service with a selector is picked
   pub all_settled : (most : ℕ) (m : Slices)
-      → AreSettledBut V4 (without_each (filter has_selector picked_services) picked) most o m
-      → AreSettledBut V4 none most o m
+      → AreSettledBut (without_each (filter has_selector picked_services) picked) most o m
+      → AreSettledBut none most o m
   all_settled most m but s at has free = but s at has (by (picked s.key) refl)
     where
       packed : List Service
@@ -70,42 +71,43 @@ module _ (o : Objects) (own : AreUnderOwnKeys o) (picked : ObjectKey → Bool) w
 
   -- the Services that are settled stay so where slices that are left over go
   pub settled_without : LeftoversStay → (most : ℕ) (m : Slices) → AreOwn m
-      → AreSettledBut V4 picked most o m → AreSettledBut V4 picked most o (without_leftovers o m)
-  settled_without leftovers most m own_slices but s at has free =
-      subst (IsPackingOf most (desired_endpoints_of V4 o s))
-      (sym (leftovers V4 o m s own_slices at)) (but s at has free)
+      → AreSettledBut picked most o m → AreSettledBut picked most o (without_leftovers o m)
+  settled_without leftovers most m own_slices but s at has free family =
+      subst (IsPackingOf most (desired_endpoints_of family o s))
+      (sym (leftovers family o m s own_slices at)) (but s at has free family)
 
--- one more Service is settled
+-- one more Service is settled, in each family
 pub settle_more : OneMoreSettled → (o : Objects) (picked : ObjectKey → Bool) (most : ℕ)
     (m new : Slices) (s : Service) → 1 ≤ most → AreOwn m → get o.services s.key ≡ Some s
-    → new ≡ after_packing most o s m V4 → IsSettled V4 most o new s
-    → AreSettledBut V4 picked most o m → AreSettledBut V4 (without s.key picked) most o new
+    → new ≡ after_each both_families most o m s
+    → ((family : Family) → IsSettled family most o new s)
+    → AreSettledBut picked most o m → AreSettledBut (without s.key picked) most o new
 settle_more one_more o picked most m new s some own stored is settled but =
-    subst (λ n. AreSettledBut V4 (without s.key picked) most o n) (sym is)
-    (one_more V4 picked most o m s some own stored
-    (subst (λ n. IsSettled V4 most o n s) is settled) but)
+    subst (λ n. AreSettledBut (without s.key picked) most o n) (sym is)
+    (one_more both_families picked most o m s some own stored
+    (λ family. subst (λ n. IsSettled family most o n s) is (settled family)) but)
 
 module _ (o : Objects) (own : AreUnderOwnKeys o) (picked : ObjectKey → Bool) (most : ℕ)
     (old m new : Slices) (services : List Service) (some : 1 ≤ most) (own_slices : AreOwn m)
     (removed : m ≡ without_leftovers o old)
     (are : services ≡ picked_services o own picked)
-    (but : AreSettledBut V4 picked most o m)
-    (packed : new ≡ fold (λ n s. after_packing most o s n V4) m (filter has_selector services))
+    (but : AreSettledBut picked most o m)
+    (packed : new ≡ fold (after_each both_families most o) m (filter has_selector services))
   where
     -- packing the picked Services after that is what the controller does
-    pub sync_is : TouchedAreEnough → new ≡ after_controller (V4 ∷ []) most o old
+    pub sync_is : TouchedAreEnough → new ≡ after_controller both_families most o old
     sync_is enough =
         packed
-        ∙ ap (λ ss. fold (λ n s. after_packing most o s n V4) m (filter has_selector ss)) are
-        ∙ enough V4 picked most o m some own own_slices but
-        ∙ ap (λ n. fold (λ n s. after_packing most o s n V4) n
+        ∙ ap (λ ss. fold (after_each both_families most o) m (filter has_selector ss)) are
+        ∙ enough both_families picked most o m some own own_slices but
+        ∙ ap (λ n. fold (after_each both_families most o) n
         (filter has_selector (finite.values o.services))) removed
 
 -- where these are packed, all are settled
 pub sync_settles : (o : Objects) (own : AreUnderOwnKeys o) (picked : ObjectKey → Bool) (most : ℕ)
     (m new : Slices) (services : List Service) → services ≡ picked_services o own picked
-    → AreSettledBut V4 picked most o m → Settles most o services m new
-    → AreSettledBut V4 none most o new
+    → AreSettledBut picked most o m → Settles most o services m new
+    → AreSettledBut none most o new
 sync_settles o own picked most m new services are but settles =
     all_settled o own picked most new
     (subst (λ ss. Settles most o ss m new) are settles (picked_are_of o own picked) picked but)

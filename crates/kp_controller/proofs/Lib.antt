@@ -1,4 +1,5 @@
 mod AllSettled
+mod BothFamilies
 mod Kept
 mod Labels
 mod LeftNear

@@ -13,7 +13,6 @@ use Rattle.std.proofs.lemmas.List.Sums.{length-filter, count_by-le-length}
 use Rattle.std.proofs.lemmas.Slice.Eq.{bytes_eq-Decides}
 use Rattle.kp_lemmas.proofs.Members.{all_from, any_from, from_filter, in_map}
 use Rattle.kp_base.specs.declared.address.Family.{Family}
-use Rattle.kp_base.specs.declared.address.Family.TheVariants.{V4}
 use Rattle.kp_base.specs.declared.key.ObjectKey.{ObjectKey}
 use Rattle.kp_types.specs.declared.slice.Slice.{Slice}
 use Rattle.kp_types.specs.declared.slice.Wanted.{Wanted}
@@ -188,27 +187,40 @@ module _ (service : ObjectKey) where
       (or_left (is_named service.name s.service) (is_named service.name (stem s.key.name)) own.1)
 
   -- those managed for the Service are among those that may clash
-  pub managed_near : (slices : List Slice) → filter (is_managed_for V4 service) (filter (may_clash service) slices) ≡ filter (is_managed_for V4 service) slices
-  managed_near =
-      filter_within (is_managed_for V4 service) (may_clash service) (λ s managed.
-      own_may_clash s (and_parts (is_of_service service s) (s.managed && is_type_of V4 s.family) managed).0)
+  pub managed_near : (family : Family) (slices : List Slice)
+      → filter (is_managed_for family service) (filter (may_clash service) slices)
+      ≡ filter (is_managed_for family service) slices
+  managed_near family =
+      filter_within (is_managed_for family service) (may_clash service) (λ s managed.
+      own_may_clash s (and_parts (is_of_service service s)
+      (s.managed && is_type_of family s.family) managed).0)
+
+  -- the names of those that may clash
+  abbrev near_ones : List Slice → List (List ℕ)
+  near_ones slices = names (may_clash service) slices
 
   -- the Service's own names may clash
-  pub own_taken : (slices : List Slice) → are_taken (map (λ s. s.key.name) (filter (may_clash service) slices)) (filter (is_managed_for V4 service) slices) ≡ true
-  own_taken slices =
-      let near_ones = filter (may_clash service) slices in
-      subst (λ own. are_taken (map (λ s. s.key.name) near_ones) own ≡ true) (managed_near slices)
-      (all_from (λ s. list_any (bytes_eq s.key.name) (map (λ s. s.key.name) near_ones)) (filter (is_managed_for V4 service) near_ones) (λ s there.
-      any_from (bytes_eq s.key.name) s.key.name (map (λ s. s.key.name) near_ones)
-      (in_map (λ s. s.key.name) s near_ones (from_filter (is_managed_for V4 service) s near_ones there).0)
+  pub own_taken : (family : Family) (slices : List Slice)
+      → are_taken (near_ones slices) (filter (is_managed_for family service) slices) ≡ true
+  own_taken family slices =
+      let near = filter (may_clash service) slices in
+      subst (λ own. are_taken (near_ones slices) own ≡ true) (managed_near family slices)
+      (all_from (λ s. list_any (bytes_eq s.key.name) (near_ones slices))
+      (filter (is_managed_for family service) near) (λ s there.
+      any_from (bytes_eq s.key.name) s.key.name (near_ones slices)
+      (in_map (λ s. s.key.name) s near (from_filter (is_managed_for family service) s near there).0)
       (nat_list_eq_equiv.refl s.key.name)))
 
   -- packing sees no more names than may clash
-  pub narrowed : (before : List Slice) (wanted : List Wanted) (most : ℕ) (slices : List Slice) → 1 ≤ most → length (map (λ s. s.key.name) (filter (may_clash service) slices)) < 2 ^ 64 → length wanted < 2 ^ 64
-      → packed_slices V4 service before wanted most (map (λ s. s.key.name) (filter (may_clash service) slices))
-      ≡ packed_slices V4 service before wanted most (map (λ s. s.key.name) (filter (λ s. bytes_eq s.key.namespace service.namespace) slices))
-  narrowed before wanted most slices some few many =
+  pub narrowed : (family : Family) (before : List Slice) (wanted : List Wanted) (most : ℕ)
+      (slices : List Slice) → 1 ≤ most → length (near_ones slices) < 2 ^ 64
+      → length wanted < 2 ^ 64
+      → packed_slices family service before wanted most (near_ones slices)
+      ≡ packed_slices family service before wanted most (names in_namespace slices)
+  narrowed family before wanted most slices some few many =
       let groups = pack_groups most (in_slice_order before) wanted in
       ap (packed_by (filter (is_left_over wanted) before) (flat_map (λ g. g.fillings) groups))
-      (fewer_taken V4 service (names in_namespace slices) (names (may_clash service) slices) (all_made groups) (fewer slices)
-      (omega (arith, few, many, made_few most some (in_slice_order before) wanted)) (λ i. agree i slices))
+      (fewer_taken family service (names in_namespace slices) (near_ones slices) (all_made groups)
+      (fewer slices)
+      (omega (arith, few, many, made_few most some (in_slice_order before) wanted))
+      (λ i. agree i slices))

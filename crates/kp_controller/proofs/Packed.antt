@@ -4,7 +4,7 @@ use Rattle.std.specs.FinMap as finite
 use Rattle.kp_base.specs.Keys.{key_cmp}
 use Rattle.kp_base.specs.declared.key.ObjectKey.{ObjectKey}
 use Rattle.kp_types.specs.declared.slice.Slice.{Slice}
-use Rattle.kp_base.specs.declared.address.Family.TheVariants.{V4}
+use Rattle.kp_base.specs.declared.address.Family.{Family}
 use Rattle.kp_object_defs.specs.OwnKeys.{IsUnderOwnKeys}
 use Rattle.kp_object_defs.specs.PackingLaws.{is_managed_for}
 use Rattle.kp_object_defs.specs.SlicesNow.{Slices, managed_slices, with_managed}
@@ -22,8 +22,11 @@ before_entries [] es = refl
 before_entries (s ∷ more) es = ap (λ m. finite.insert m s.key s) (before_entries more es)
 
 -- what packing makes stands in place of the managed slices
-pub repacked : (service : ObjectKey) (packed : List Slice) (old rest : Slices) → IsUnderOwnKeys (λ (s : Slice). s.key) old → rest ≡ without_keys (map (λ s. s.key) (managed_slices V4 service old)) old
-    → with_slices packed rest ≡ with_managed V4 service packed old
-repacked service packed old rest own is =
-    ap (with_slices packed) (is ∙ without_passing (is_managed_for V4 service) old own)
-    ∙ before_entries packed (filter (λ e. not (is_managed_for V4 service e.1)) (finite.entries old))
+pub repacked : (family : Family) (service : ObjectKey) (packed : List Slice) (old rest : Slices)
+    → IsUnderOwnKeys (λ (s : Slice). s.key) old
+    → rest ≡ without_keys (map (λ s. s.key) (managed_slices family service old)) old
+    → with_slices packed rest ≡ with_managed family service packed old
+repacked family service packed old rest own is =
+    ap (with_slices packed) (is ∙ without_passing (is_managed_for family service) old own)
+    ∙ before_entries packed
+    (filter (λ e. not (is_managed_for family service e.1)) (finite.entries old))

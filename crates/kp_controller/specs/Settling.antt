@@ -2,7 +2,6 @@
 use Rattle.std.specs.Prelude.{◌≡◌, ℕ, Bool, List, [], map, cond, Contains, Some}
 use Rattle.std.specs.List.{filter}
 use Rattle.std.specs.FinMap as finite
-use Rattle.kp_base.specs.declared.address.Family.TheVariants.{V4}
 use Rattle.kp_base.specs.declared.key.ObjectKey.{ObjectKey}
 use Rattle.kp_types.specs.declared.service.Service.{Service}
 use Rattle.kp_object_defs.specs.Desired.{has_selector}
@@ -15,11 +14,12 @@ use Rattle.kp_controller.specs.Clashing.{may_clash}
 abbrev pub AreOf : Objects → List Service → Type 0
 AreOf o services = (s : Service) → Contains services s → finite.get o.services s.key ≡ Some s
 
--- Where these are Services of the objects, those of them with a selector are settled too.
+-- Where these are Services of the objects, those of them with a selector are settled too, in each
+-- family.
 abbrev pub Settles : ℕ → Objects → List Service → Slices → Slices → Type 0
 Settles most o services before after =
-    AreOf o services → (picked : ObjectKey → Bool) → AreSettledBut V4 picked most o before
-    → AreSettledBut V4 (without_each (filter has_selector services) picked) most o after
+    AreOf o services → (picked : ObjectKey → Bool) → AreSettledBut picked most o before
+    → AreSettledBut (without_each (filter has_selector services) picked) most o after
 
 -- the keys of the slices near to a Service that are left over, where the Service is absent
 abbrev pub left_near : Objects → Slices → ObjectKey → List ObjectKey

@@ -1,21 +1,25 @@
 //! The slices that the controller manages for one Service.
-ghost use Rattle.std.specs.Prelude.{◌≡◌, true, map, IfOk, OnOk};
+ghost use Rattle.std.specs.Prelude.{◌≡◌, ◌||◌, true, map, not, IfOk, OnOk};
 ghost use Rattle.std.specs.List.{filter};
-ghost use Rattle.std.specs.FinMap as finite;
-ghost use Rattle.kp_base.specs.declared.address.Family.TheVariants.{V4};
+ghost use Rattle.kp_base.specs.declared.address.Family.TheVariants.{V4, V6};
+ghost use Rattle.kp_base.specs.declared.address.Family.{Family as AnyFamily};
+ghost use Rattle.kp_lemmas.specs.Lists.{is_empty};
 ghost use Rattle.kp_object_defs.specs.Desired.{desired_endpoints_of};
+ghost use Rattle.kp_object_defs.specs.Desired as desired;
 ghost use Rattle.kp_object_defs.specs.Entries as entries;
-ghost use Rattle.kp_object_defs.specs.OwnKeys.{AreUnderOwnKeys, IsUnderOwnKeys};
+ghost use Rattle.kp_object_defs.specs.OwnKeys.{AreUnderOwnKeys};
 ghost use Rattle.kp_object_defs.specs.PackingLaws as laws;
 ghost use Rattle.kp_object_defs.specs.PackingLaws.{IsPackingOf};
 ghost use Rattle.kp_object_defs.specs.SlicesNow as now;
 ghost use Rattle.kp_object_defs.specs.SlicesNow.{after_packing};
-ghost use Rattle.kp_settle_laws.specs.Settled.{IsSettled};
-ghost use Rattle.kp_controller.specs.Clashing.{may_clash};
+ghost use Rattle.kp_settle_laws.specs.Settled.{IsSettled, after_each};
+ghost use Rattle.kp_types.specs.Setting.{both_families};
+ghost use Rattle.kp_controller.specs.Clashing as clashing;
 
 use crate::replaced::{put_all, take_all};
 use crate::slice_map::SliceMap;
-use kp_base::{Config, Copied, Items, NoMemory, ObjectKey, Text, fits_memory};
+use kp_base::{Config, Copied, Family, Items, NoMemory, ObjectKey, Text, fits_memory};
+use kp_desired::has_family;
 use kp_object_laws::{slices_now, wanted_endpoints};
 use kp_packer::pack;
 use kp_settle_laws::packing_settles;
@@ -23,8 +27,29 @@ use kp_store::{Objects, wanted_of};
 use kp_types::{AddressType, Service, Slice};
 use std::alloc::Global;
 
-/// Packs a Service of the objects: its managed IPv4 slices hold the endpoints that it wants, so it
-/// is settled.
+/// What packing a Service in a family starts from.
+pub struct Before {
+    pub family: Family,
+    /// The Service's managed slices of the family.
+    pub managed: Items<Slice>,
+    /// The names of slices that a new one of the Service may not have.
+    pub near: Items<Text>,
+}
+
+impl Drop for Before {
+    fn drop(self) {
+        let Before {
+            family,
+            managed,
+            near,
+        } = self;
+    }
+}
+
+/// Packs a Service of the objects in both families: its managed slices of each hold the endpoints
+/// that it wants there, so it is settled. One look at its slices finds those of both; only where
+/// IPv6 has anything to pack its slices are looked at again, since the names of the new ones of
+/// IPv4 count.
 pub fn pack_service(
     alloc: Global,
     config: &Config,
@@ -34,92 +59,172 @@ pub fn pack_service(
 ) -> Result<(), NoMemory>
     requires own { AreUnderOwnKeys objects.now }
     ensures packed { OnOk result (slices.new
-        ≡ after_packing config.now.max_per_slice objects.now service.now slices.old V4) }
-    ensures settled { OnOk result (IsSettled V4 config.now.max_per_slice objects.now slices.new
-        service.now) }
+        ≡ after_each both_families config.now.max_per_slice objects.now slices.old service.now) }
+    ensures settled { OnOk result ((family : AnyFamily)
+        → IsSettled family config.now.max_per_slice objects.now slices.new service.now) }
 {
     packing_settles();
-    let (managed, packed) = packed_now(alloc, config, objects, service, slices)?;
+    slices.own_keys();
+    let (four, six, near) = managed_now(alloc, &service.key, slices)?;
+    let four = Before {
+        family: Family::V4,
+        managed: four,
+        near,
+    };
+    pack_family(alloc, config, objects, service, &four, slices)?;
+    if !is_due(service, Family::V6, six.as_slice()) {
+        return Ok(());
+    }
+    let near = names_near(alloc, &service.key, slices)?;
+    let six = Before {
+        family: Family::V6,
+        managed: six,
+        near,
+    };
+    pack_family(alloc, config, objects, service, &six, slices)?;
+    Ok(())
+}
+
+/// Whether there may be anything to pack in a family: it is the Service's, or the controller
+/// manages slices of it.
+fn is_due(service: &Service, family: Family, managed: &[Slice]) -> bool
+    ensures { result ≡ (desired.has_family family service.now || not (is_empty managed.now)) }
+{
+    has_family(service, family) || !managed.is_empty()
+}
+
+/// Packs a Service of the objects in a family: its managed slices hold the endpoints that it wants
+/// there, so it is settled.
+fn pack_family(
+    alloc: Global,
+    config: &Config,
+    objects: &Objects,
+    service: &Service,
+    before: &Before,
+    slices: &mut SliceMap,
+) -> Result<(), NoMemory>
+    requires own { AreUnderOwnKeys objects.now }
+    requires managed { before.now.managed
+        ≡ now.managed_slices before.now.family service.now.key slices.now }
+    requires near { before.now.near ≡ clashing.names_near service.now.key slices.now }
+    ensures packed { OnOk result (slices.new ≡ after_packing config.now.max_per_slice
+        objects.now service.now slices.old before.now.family) }
+    ensures settled { OnOk result (IsSettled before.now.family config.now.max_per_slice
+        objects.now slices.new service.now) }
+{
+    packing_settles();
+    slices.own_keys();
+    let packed = packed_now(alloc, config, objects, service, before, slices)?;
+    let managed = keys_of(alloc, before.managed.as_slice())?;
     take_all(alloc, managed.as_slice(), slices)?;
     put_all(alloc, packed, slices)
 }
 
-/// The keys of a Service's managed IPv4 slices, and what packing makes of these slices.
+/// What packing a Service in a family makes of its managed slices.
 fn packed_now(
     alloc: Global,
     config: &Config,
     objects: &Objects,
     service: &Service,
+    before: &Before,
     slices: &SliceMap,
-) -> Result<(Items<ObjectKey>, Items<Slice>), NoMemory>
+) -> Result<Items<Slice>, NoMemory>
     requires own { AreUnderOwnKeys objects.now }
-    ensures own_keys { IfOk result (λ _. IsUnderOwnKeys (λ s. s.key) slices.now) }
-    ensures managed { IfOk result (λ (managed, _). managed
-        ≡ map (λ s. s.key) (now.managed_slices V4 service.now.key slices.now)) }
-    ensures packed { IfOk result (λ (_, packed). packed ≡ (now.packed_now V4
+    requires managed { before.now.managed
+        ≡ now.managed_slices before.now.family service.now.key slices.now }
+    requires near { before.now.near ≡ clashing.names_near service.now.key slices.now }
+    ensures packed { IfOk result (λ packed. packed ≡ (now.packed_now before.now.family
         config.now.max_per_slice objects.now service.now slices.now).slices) }
-    ensures packing { IfOk result (λ (_, packed). IsPackingOf config.now.max_per_slice
-        (desired_endpoints_of V4 objects.now service.now) packed) }
-    ensures fits { IfOk result (λ (_, packed).
-        (laws.are_managed_for V4 service.now.key packed ≡ true)
+    ensures packing { IfOk result (λ packed. IsPackingOf config.now.max_per_slice
+        (desired_endpoints_of before.now.family objects.now service.now) packed) }
+    ensures fits { IfOk result (λ packed.
+        (laws.are_managed_for before.now.family service.now.key packed ≡ true)
         × (laws.have_own_names packed ≡ true)) }
 {
-    let (before, near) = managed_now(alloc, &service.key, slices)?;
-    let wanted = wanted_of(alloc, objects, service)?;
-    fits_memory(near.as_slice());
+    let family = before.family;
+    let wanted = wanted_of(alloc, objects, service, family)?;
+    fits_memory(before.near.as_slice());
     fits_memory(wanted.as_slice());
+    slices.own_keys();
     slices_now();
     wanted_endpoints();
     let most = config.max_per_slice;
-    let packed = pack(alloc, &service.key, &before, &wanted, most, &near)?;
-    Ok((keys_of(alloc, before.as_slice())?, packed.slices))
+    let (managed, near) = (&before.managed, &before.near);
+    let packed = pack(alloc, &service.key, family, managed, &wanted, most, near)?;
+    Ok(packed.slices)
 }
 
-/// A Service's managed IPv4 slices, and the names that a new one of its slices may not have.
+/// A Service's managed slices of IPv4 and of IPv6, and the names that a new one of its slices may
+/// not have.
 fn managed_now(
     alloc: Global,
     service: &ObjectKey,
     slices: &SliceMap,
-) -> Result<(Items<Slice>, Items<Text>), NoMemory>
-    ensures own_keys { IfOk result (λ _. IsUnderOwnKeys (λ s. s.key) slices.now) }
-    ensures managed { IfOk result (λ (managed, _). managed
+) -> Result<(Items<Slice>, Items<Slice>, Items<Text>), NoMemory>
+    ensures four { IfOk result (λ (four, _, _). four
         ≡ now.managed_slices V4 service.now slices.now) }
-    ensures near { IfOk result (λ (_, near). near
-        ≡ map (λ s. s.key.name) (filter (may_clash service.now) (finite.values slices.now))) }
+    ensures six { IfOk result (λ (_, six, _). six
+        ≡ now.managed_slices V6 service.now slices.now) }
+    ensures near { IfOk result (λ (_, _, near). near
+        ≡ clashing.names_near service.now slices.now) }
 {
     let found = slices.near(alloc, service)?;
-    let managed = managed_among(alloc, service, found.as_slice())?;
+    let four = managed_among(alloc, service, Family::V4, found.as_slice())?;
+    let six = managed_among(alloc, service, Family::V6, found.as_slice())?;
     let near = names_of(alloc, found.as_slice())?;
-    Ok((managed, near))
+    Ok((four, six, near))
 }
 
-/// The slices among these that the controller manages for a Service in IPv4.
+/// The names that a new one of a Service's slices may not have.
+fn names_near(
+    alloc: Global,
+    service: &ObjectKey,
+    slices: &SliceMap,
+) -> Result<Items<Text>, NoMemory>
+    ensures { IfOk result (λ near. near ≡ clashing.names_near service.now slices.now) }
+{
+    let found = slices.near(alloc, service)?;
+    names_of(alloc, found.as_slice())
+}
+
+/// The slices among these that the controller manages for a Service in a family.
 fn managed_among<'a>(
     alloc: Global,
     service: &ObjectKey,
+    family: Family,
     slices: &[&'a Slice],
 ) -> Result<Items<Slice>, NoMemory>
     ensures { IfOk result (λ ss. ss
-        ≡ filter (laws.is_managed_for V4 service.now) (map (λ s. s.now) slices.now)) }
+        ≡ filter (laws.is_managed_for family service.now) (map (λ s. s.now) slices.now)) }
 {
     let mut managed = Vec::new(alloc);
     for slice in slices {
-        if is_managed_for(service, slice) {
+        if is_managed_for(service, family, slice) {
             managed.push(slice.copy(alloc)?)?;
         }
     }
     Ok(Items::from_vec(managed))
 }
 
-/// Whether the controller manages a slice for a Service in IPv4.
-fn is_managed_for(service: &ObjectKey, slice: &Slice) -> bool
-    ensures { result ≡ laws.is_managed_for V4 service.now slice.now }
+/// Whether the controller manages a slice for a Service in a family.
+fn is_managed_for(service: &ObjectKey, family: Family, slice: &Slice) -> bool
+    ensures { result ≡ laws.is_managed_for family service.now slice.now }
 {
     // Names differ where namespaces seldom do.
     slice.managed
-        && slice.family == AddressType::Ipv4
+        && is_type_of(family, slice.family)
         && is_named(&slice.service, &service.name)
         && slice.key.namespace == service.namespace
+}
+
+/// Whether slices of an address type have endpoints of a family.
+fn is_type_of(family: Family, slices: AddressType) -> bool
+    ensures { result ≡ entries.is_type_of family slices }
+{
+    match family {
+        Family::V4 => slices == AddressType::Ipv4,
+        Family::V6 => slices == AddressType::Ipv6,
+    }
 }
 
 /// Whether there is a name, and it is this one.

@@ -1,12 +1,13 @@
 //! What the controller does at a sync.
-ghost use Rattle.std.specs.Prelude.{◌≡◌, ◌≤◌, [], ◌∷◌, map, OnOk};
+ghost use Rattle.std.specs.Prelude.{◌≡◌, map, OnOk};
 ghost use Rattle.std.specs.List.{filter, fold};
-ghost use Rattle.kp_base.specs.declared.address.Family.TheVariants.{V4};
 ghost use Rattle.kp_object_defs.specs.Desired as desired;
 ghost use Rattle.kp_object_defs.specs.OwnKeys.{AreUnderOwnKeys};
-ghost use Rattle.kp_object_defs.specs.SlicesNow.{after_controller, after_packing, controller_step};
-ghost use Rattle.kp_settle_laws.specs.Settled.{AreLeftBy, AreSettledBut, IsControlledBut, none};
+ghost use Rattle.kp_object_defs.specs.SlicesNow.{after_controller, controller_step};
+ghost use Rattle.kp_settle_laws.specs.Settled.{AreLeftBy, AreSettledBut, IsControlledBut};
+ghost use Rattle.kp_settle_laws.specs.Settled.{after_each, none};
 ghost use Rattle.kp_store.specs.Touched.{is_touched};
+ghost use Rattle.kp_types.specs.Setting.{both_families};
 ghost use Rattle.kp_controller.specs.Settling.{Settles};
 
 use crate::leftovers::remove_touched;
@@ -19,11 +20,12 @@ use kp_store::{Objects, Touched};
 use kp_types::{Service, ServiceKind};
 use std::alloc::Global;
 
-/// Makes the slices what the controller makes them at a sync that covers these objects, in IPv4
-/// (KEP-752): those of absent Services go, and each Service with a selector is packed, in order of
-/// their keys. Where the controller is off, all stays. Since all is as the controller left it but
-/// for the touched Services, only these are packed, and only slices near to them are looked at for
-/// those that are left over; after it all is as the controller leaves it.
+/// Makes the slices what the controller makes them at a sync that covers these objects (KEP-752;
+/// Kubernetes documents on IPv4/IPv6 dual-stack): those of absent Services go, and each Service
+/// with a selector is packed, in order of their keys, in IPv4 and then in IPv6. Where the
+/// controller is off, all stays. Since all is as the controller left it but for the touched
+/// Services, only these are packed, and only slices near to them are looked at for those that are
+/// left over; after it all is as the controller leaves it.
 pub fn control(
     alloc: Global,
     config: &Config,
@@ -32,11 +34,11 @@ pub fn control(
     slices: &mut SliceMap,
 ) -> Result<(), NoMemory>
     requires own_keys { AreUnderOwnKeys objects.now }
-    requires controlled { IsControlledBut V4 (is_touched touched.now) config.now objects.now
+    requires controlled { IsControlledBut (is_touched touched.now) config.now objects.now
         slices.now }
     ensures ok { OnOk result (slices.new
-        ≡ controller_step (V4 ∷ []) config.now objects.now slices.old) }
-    ensures controlled { OnOk result (IsControlledBut V4 none config.now objects.now slices.new) }
+        ≡ controller_step both_families config.now objects.now slices.old) }
+    ensures controlled { OnOk result (IsControlledBut none config.now objects.now slices.new) }
 {
     if config.controller {
         settle(alloc, config, objects, touched, slices)
@@ -54,12 +56,12 @@ fn settle(
     slices: &mut SliceMap,
 ) -> Result<(), NoMemory>
     requires own_keys { AreUnderOwnKeys objects.now }
-    requires settled { AreSettledBut V4 (is_touched touched.now) config.now.max_per_slice
-        objects.now slices.now }
+    requires settled { AreSettledBut (is_touched touched.now) config.now.max_per_slice objects.now
+        slices.now }
     requires left { AreLeftBy (is_touched touched.now) objects.now slices.now }
     ensures ok { OnOk result (slices.new
-        ≡ after_controller (V4 ∷ []) config.now.max_per_slice objects.now slices.old) }
-    ensures settled { OnOk result (AreSettledBut V4 none config.now.max_per_slice objects.now
+        ≡ after_controller both_families config.now.max_per_slice objects.now slices.old) }
+    ensures settled { OnOk result (AreSettledBut none config.now.max_per_slice objects.now
         slices.new) }
     ensures left { OnOk result (AreLeftBy none objects.now slices.new) }
 {
@@ -82,7 +84,7 @@ fn pack_services<'a>(
 ) -> Result<(), NoMemory>
     requires own { AreUnderOwnKeys objects.now }
     ensures packed { OnOk result (slices.new
-        ≡ fold (λ m s. after_packing config.now.max_per_slice objects.now s m V4) slices.old
+        ≡ fold (after_each both_families config.now.max_per_slice objects.now) slices.old
         (filter desired.has_selector (map (λ s. s.now) services.now))) }
     ensures settles { OnOk result (Settles config.now.max_per_slice objects.now
         (map (λ s. s.now) services.now) slices.old slices.new) }

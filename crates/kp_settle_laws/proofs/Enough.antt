@@ -24,11 +24,11 @@ use Rattle.kp_object_defs.specs.SlicesNow.{Slices, after_packing, is_leftover, w
 use Rattle.kp_object_laws.proofs.OwnEntries.{owned}
 use Rattle.kp_object_laws.proofs.OwnKeys.{values_in_order}
 use Rattle.kp_pack_laws.proofs.Shuffles.{all_mapped}
-use Rattle.kp_settle_laws.specs.Settled.{IsSettled}
+use Rattle.kp_settle_laws.specs.Settled.{IsSettled, after_each}
 use Rattle.kp_settle_laws.specs.SettleLaws.{AreOwn, NoneLeft, SettledStay, TouchedAreEnough}
 use Rattle.kp_settle_laws.proofs.Found.{found_without, from_kept, from_placed, own_without}
 use Rattle.kp_settle_laws.proofs.Managed.{managed_is_of, stored_is_kept}
-use Rattle.kp_settle_laws.proofs.Settling.{other_stays, own_after, packed_of, takes_own_place}
+use Rattle.kp_settle_laws.proofs.Settling.{each_stays, own_after, own_each, packed_of, settled_each, takes_own_place}
 
 -- a stored Service
 abbrev IsStored : Objects → Service → Type 0
@@ -49,16 +49,18 @@ lesser_differs a b less same =
     true≢false (sym (tie_of_itself key_total a) ∙ ap (eq_by_cmp key_cmp a) same
     ∙ less_is_other (key_cmp a b) less)
 
-module _ (family : Family) (most : ℕ) (o : Objects) (some : 1 ≤ most) where
+module _ (families : List Family) (most : ℕ) (o : Objects) (some : 1 ≤ most) where
   abbrev pack : Slices → Service → Slices
-  pack m s = after_packing most o s m family
+  pack m s = after_each families most o m s
 
   -- ---- The others are settled
 
   module _ (picked : ObjectKey → Bool) where
-    -- a Service with a selector that isn't picked is settled
+    -- a Service with a selector that isn't picked is settled in each family
     abbrev IsDone : Slices → Service → Type 0
-    IsDone m s = has_selector s ≡ true → picked s.key ≡ false → IsSettled family most o m s
+    IsDone m s =
+        has_selector s ≡ true → picked s.key ≡ false
+        → (family : Family) → IsSettled family most o m s
 
     -- packing a Service before them leaves them so
     still_done : (m : Slices) → AreOwn m → (s : Service) (ss : List Service)
@@ -67,11 +69,11 @@ module _ (family : Family) (most : ℕ) (o : Objects) (some : 1 ≤ most) where
     still_done m own s [] below all = tt
     still_done m own s (t ∷ ss) below all =
         let parts = and_parts (is_lt (key_cmp s.key t.key)) _ below in (
-          λ has free.
+          λ has free family.
               subst (IsPackingOf most (desired_endpoints_of family o t))
-              (sym (other_stays family most o m s some own t.key
-              (lesser_differs s.key t.key parts.0)))
-              (all.0 has free),
+              (sym (each_stays most o s some family t.key
+              (lesser_differs s.key t.key parts.0) families m own))
+              (all.0 has free family),
           still_done m own s ss parts.1 all.1,
         )
 
@@ -100,14 +102,14 @@ module _ (family : Family) (most : ℕ) (o : Objects) (some : 1 ≤ most) where
               ≡ fold pack m (cond c (s ∷ many) many)
           by below rest true true is has =
               ap (λ t. fold pack m (cond t (s ∷ few) few)) has
-              ∙ rest (pack m s) (own_after family most o m s some own)
+              ∙ rest (pack m s) (own_each most o s some families m own)
               (still_done m own s ss below all.1)
           by below rest true false is has =
               ap (λ t. fold pack m (cond t (s ∷ few) few)) has ∙ rest m own all.1
           by below rest false true is has =
               rest m own all.1
               ∙ ap (λ n. fold pack n many)
-              (sym (stay family most o m s own_objects own (all.0 has is)))
+              (sym (settled_each most o s some stay own_objects families m own (all.0 has is)))
           by below rest false false is has = rest m own all.1
 
   -- ---- None is left over
@@ -115,15 +117,22 @@ module _ (family : Family) (most : ℕ) (o : Objects) (some : 1 ≤ most) where
   abbrev NoneLeftOf : Slices → Type 0
   NoneLeftOf m = (t : Slice) → get m t.key ≡ Some t → is_leftover o t ≡ false
 
-  none_packed : (s : Service) → IsStored o s → (m : Slices) → AreOwn m → NoneLeftOf m
-      → NoneLeftOf (pack m s)
-  none_packed s stored m own none t at =
+  none_packed : (s : Service) → IsStored o s → (family : Family) (m : Slices) → AreOwn m
+      → NoneLeftOf m → NoneLeftOf (after_packing most o s m family)
+  none_packed s stored family m own none t at =
       elim (from_placed family s.key (packed_of family most o m s some own) m t.key t at) [
         | inl h ↦
             stored_is_kept o s t stored
             (managed_is_of family s.key t (takes_own_place family most o m s some own t h.0).0)
         | inr h ↦ none t h.0
       ]
+
+  none_in_each : (s : Service) → IsStored o s → (fs : List Family) (m : Slices) → AreOwn m
+      → NoneLeftOf m → NoneLeftOf (after_each fs most o m s)
+  none_in_each s stored [] m own none = none
+  none_in_each s stored (f ∷ fs) m own none =
+      none_in_each s stored fs _ (own_after f most o m s some own)
+      (none_packed s stored f m own none)
 
   none_in_all : (ss : List Service) → AllByRecursion (IsStored o) ss → (m : Slices) → AreOwn m
       → NoneLeftOf m → NoneLeftOf (fold pack m (filter has_selector ss))
@@ -135,18 +144,19 @@ module _ (family : Family) (most : ℕ) (o : Objects) (some : 1 ≤ most) where
           → (b : Bool)
           → NoneLeftOf (fold pack m (cond b (s ∷ filter has_selector ss) (filter has_selector ss)))
       by rest true =
-          rest (pack m s) (own_after family most o m s some own) (none_packed s all.0 m own none)
+          rest (pack m s) (own_each most o s some families m own)
+          (none_in_each s all.0 families m own none)
       by rest false = rest m own none
 
 pub touched_are_enough : SettledStay → TouchedAreEnough
-touched_are_enough stay family picked most o m some own_objects own but =
-    enough family most o some picked stay own_objects (finite.values o.services)
+touched_are_enough stay families picked most o m some own_objects own but =
+    enough families most o some picked stay own_objects (finite.values o.services)
     (values_in_order (λ (s : Service). s.key) o.services own_objects.services) m own
-    (all_weaker (IsStored o) (IsDone family most o some picked m)
+    (all_weaker (IsStored o) (IsDone families most o some picked m)
     (λ s at has free. but s at has free) _ (all_stored o own_objects))
 
 pub none_left : NoneLeft
-none_left family most o m some own_objects own t service at left of =
-    absurd (true≢false (sym left ∙ none_in_all family most o some (finite.values o.services)
+none_left families most o m some own_objects own t service at left of =
+    absurd (true≢false (sym left ∙ none_in_all families most o some (finite.values o.services)
     (all_stored o own_objects) (without_leftovers o m) (own_without o m own) (λ u found.
     (from_kept (is_leftover o) (get m u.key) u (sym (found_without o m u.key) ∙ found)).1) t at))

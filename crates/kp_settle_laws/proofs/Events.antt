@@ -210,8 +210,8 @@ left_alike o p service t of same =
 -- ---- The laws
 
 pub controlled_at_first : ControlledAtFirst
-controlled_at_first family config on = (
-  λ s at has free.
+controlled_at_first config on = (
+  λ s at has free family.
       let none : get (finite.empty {X = Service} {R = key_cmp}) s.key ≡ None =
       get-empty key_cmp s.key in
       absurd (cc),
@@ -222,7 +222,7 @@ controlled_at_first family config on = (
 )
 
 pub more_are_picked : MoreArePicked
-more_are_picked family picked more config o m wider controlled on = (
+more_are_picked picked more config o m wider controlled on = (
   λ s at has free.
       (controlled on).0 s at has
       (false_from_ne_true _ (λ is. true≢false (sym (wider s.key is) ∙ free))),
@@ -230,14 +230,14 @@ more_are_picked family picked more config o m wider controlled on = (
 )
 
 pub objects_touch : KnownObjectsStay → ObjectsTouch
-objects_touch known family picked config o m event own controlled on = (
-  λ s at has free.
+objects_touch known picked config o m event own controlled on = (
+  λ s at has free family.
       let parts = or_parts (touches config.node config.controller o event s.key) _ free in
       let stored = sym (services_stay config.node config.controller o event s.key parts.0) ∙ at in
       let wanted = wants_stay known family config.node o event s own stored
       (ap (λ b. touches config.node b o event s.key) (sym on) ∙ parts.0) in
       subst (λ ws. IsPackingOf config.max_per_slice ws (managed_slices family s.key m))
-      (sym wanted) ((controlled on).0 s stored has parts.1),
+      (sym wanted) ((controlled on).0 s stored has parts.1 family),
   λ t service at left of.
       let as_before = λ (free : touches config.node config.controller o event service ≡ false).
       (controlled on).1 t service at
@@ -270,6 +270,7 @@ module _ (family : Family) (m : Slices) (own : AreOwn m) (service : ObjectKey) w
   managed_stay (Delete kind.Pod key) free = refl
   managed_stay (Delete kind.Node key) free = refl
 
+module _ (m : Slices) (service : ObjectKey) where
   -- a slice that an event leaves was there, or the event touches the Service that it names
   was_there : (event : Event) (t : Slice) → get (slices_step m event) t.key ≡ Some t
       → is_of_service service t ≡ true → touches_slices m event service ≡ false
@@ -296,13 +297,13 @@ module _ (family : Family) (m : Slices) (own : AreOwn m) (service : ObjectKey) w
   was_there (Delete kind.Node key) t at of free = at
 
 pub slices_touch : SlicesTouch
-slices_touch family picked config o m event own controlled on = (
-  λ s at has free.
+slices_touch picked config o m event own controlled on = (
+  λ s at has free family.
       let parts = or_parts (touches_slices m event s.key) _ free in
       subst (IsPackingOf config.max_per_slice (desired_endpoints_of family o s))
       (sym (managed_stay family m own s.key event parts.0))
-      ((controlled on).0 s at has parts.1),
+      ((controlled on).0 s at has parts.1 family),
   λ t service at left of.
       either (touches_slices m event service) (picked service) (λ free.
-      (controlled on).1 t service (was_there family m own service event t at of free) left of),
+      (controlled on).1 t service (was_there m service event t at of free) left of),
 )

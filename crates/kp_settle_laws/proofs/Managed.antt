@@ -10,10 +10,13 @@ use Rattle.std.proofs.lemmas.Slice.Eq.{bytes_eq-Decides}
 use Rattle.kp_lemmas.proofs.ListFacts.{all_filter, all_tested, test_append}
 use Rattle.kp_lemmas.proofs.Members.{all_from, any_from, filter_passes, in_filter, in_map}
 use Rattle.kp_base.specs.Keys.{text_cmp}
+use Rattle.kp_base.specs.Net.{same_family}
 use Rattle.kp_base.specs.declared.address.Family.{Family}
 use Rattle.kp_base.specs.declared.address.Family.TheVariants.{V4, V6}
 use Rattle.kp_base.specs.declared.key.ObjectKey.{ObjectKey}
 use Rattle.kp_types.specs.declared.service.Service.{Service}
+use Rattle.kp_types.specs.declared.slice.AddressType.{AddressType}
+use Rattle.kp_types.specs.declared.slice.AddressType.TheVariants.{Ipv4, Ipv6, Fqdn}
 use Rattle.kp_types.specs.declared.slice.Slice.{Slice}
 use Rattle.kp_types.specs.declared.slice.Wanted.{Wanted}
 use Rattle.kp_object_defs.specs.Entries.{is_named, is_of_service, is_type_of}
@@ -54,11 +57,31 @@ pub managed_is_of : (family : Family) (service : ObjectKey) (s : Slice)
 managed_is_of family service s h =
     (and_parts (is_of_service service s) (s.managed && is_type_of family s.family) h).0
 
--- so not for another
-pub managed_for_one : (family : Family) (a b : ObjectKey) (s : Slice)
-    → is_managed_for family a s ≡ true → is_managed_for family b s ≡ true → a ≡ b
-managed_for_one family a b s h k =
-    one_owner a b s (managed_is_of family a s h) (managed_is_of family b s k)
+-- so not for another, whatever the family
+pub managed_for_one : (family other : Family) (a b : ObjectKey) (s : Slice)
+    → is_managed_for family a s ≡ true → is_managed_for other b s ≡ true → a ≡ b
+managed_for_one family other a b s h k =
+    one_owner a b s (managed_is_of family a s h) (managed_is_of other b s k)
+
+-- and in one family
+one_type : (a b : Family) (t : AddressType) → is_type_of a t ≡ true → is_type_of b t ≡ true
+    → same_family a b ≡ true
+one_type V4 V4 t h k = refl
+one_type V6 V6 t h k = refl
+one_type V4 V6 Ipv4 h k = absurd (cc)
+one_type V4 V6 Ipv6 h k = absurd (cc)
+one_type V4 V6 Fqdn h k = absurd (cc)
+one_type V6 V4 Ipv4 h k = absurd (cc)
+one_type V6 V4 Ipv6 h k = absurd (cc)
+one_type V6 V4 Fqdn h k = absurd (cc)
+
+pub managed_in_one : (family other : Family) (a b : ObjectKey) (s : Slice)
+    → is_managed_for family a s ≡ true → is_managed_for other b s ≡ true
+    → same_family family other ≡ true
+managed_in_one family other a b s h k =
+    one_type family other s.family
+    (and_parts s.managed _ (and_parts (is_of_service a s) _ h).1).1
+    (and_parts s.managed _ (and_parts (is_of_service b s) _ k).1).1
 
 -- whether the Service of a slice is absent is told by the Service that its label names
 pub absent_by_label : (o : Objects) (service : ObjectKey) (s : Slice)

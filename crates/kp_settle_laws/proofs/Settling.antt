@@ -1,5 +1,5 @@
 -- Packing a Service: a settled one stays, any is settled by it, and the others stay.
-use Rattle.std.proofs.Common.{◌≡◌, ◌≢◌, ℕ, ◌≤◌, ◌&&◌, inl, inr, Bool, true, false, true≢false, not, List, [], ◌∷◌, map, length, Contains, Option, Some, None, bytes_eq, is_some, refl, sym, ap, subst, ◌∙◌, IsPermutation}
+use Rattle.std.proofs.Common.{◌≡◌, ◌≢◌, ℕ, ◌≤◌, ◌&&◌, inl, inr, Bool, true, false, true≢false, not, List, [], ◌∷◌, map, length, Contains, Option, Some, None, bytes_eq, filter, is_some, refl, sym, ap, subst, ◌∙◌, IsPermutation}
 use Rattle.std.specs.List.{list_any, IsDistinct}
 use Rattle.std.specs.Ordering.{eq_by_cmp}
 use Rattle.std.specs.FinMap as finite
@@ -12,6 +12,7 @@ use Rattle.std.proofs.lemmas.Slice.Eq.{bytes_eq-Decides}
 use Rattle.kp_lemmas.proofs.Members.{any_from, from_all, in_map}
 use Rattle.kp_lemmas.proofs.Orders.{one_from_tie, tie_of_itself}
 use Rattle.kp_base.specs.Keys.{key_cmp}
+use Rattle.kp_base.specs.Net.{same_family}
 use Rattle.kp_base.specs.declared.address.Family.{Family}
 use Rattle.kp_base.specs.declared.key.ObjectKey.{ObjectKey}
 use Rattle.kp_base.proofs.KeyOrder.{key_exact, key_total}
@@ -20,6 +21,7 @@ use Rattle.kp_types.specs.declared.slice.Slice.{Slice}
 use Rattle.kp_types.specs.declared.slice.Wanted.{Wanted}
 use Rattle.kp_object_defs.specs.Desired.{desired_endpoints_of}
 use Rattle.kp_object_defs.specs.Objects.{Objects}
+use Rattle.kp_object_defs.specs.OwnKeys.{AreUnderOwnKeys}
 use Rattle.kp_object_defs.specs.Order.{by_key, values_of}
 use Rattle.kp_object_defs.specs.Packing.{in_slice_order, sorted_ports}
 use Rattle.kp_object_defs.specs.PackingLaws.{IsPackingOf, are_distinct, are_managed_for, have_own_names, is_managed_for}
@@ -34,10 +36,10 @@ use Rattle.kp_pack_laws.proofs.Following.{packing_goes_on}
 use Rattle.kp_pack_laws.proofs.Ordered.{by_key_keeps, by_key_pieces}
 use Rattle.kp_pack_laws.proofs.Shuffles.{and_then, turned}
 use Rattle.kp_pack_laws.proofs.Theorem.{ordered_keeps, packing_places_each}
-use Rattle.kp_settle_laws.specs.Settled.{IsSettled}
-use Rattle.kp_settle_laws.specs.SettleLaws.{AreOwn, LeftoversStay, OneMoreSettled, OthersStay, PackedSettle, PackingSettles, SettledStay}
+use Rattle.kp_settle_laws.specs.Settled.{IsSettled, after_each}
+use Rattle.kp_settle_laws.specs.SettleLaws.{AreOwn, LeftoversStay, OneMoreSettled, OtherFamilyStays, OthersStay, PackedSettle, PackingSettles, SettledStay}
 use Rattle.kp_settle_laws.proofs.Found.{found_without, from_kept, from_placed, in_kept, kept_behind, own_placed, own_without, packed_first}
-use Rattle.kp_settle_laws.proofs.Managed.{managed_for_one, managed_is_of, none_else, packed_take_places, stored_is_kept, takes_place}
+use Rattle.kp_settle_laws.proofs.Managed.{managed_for_one, managed_in_one, managed_is_of, none_else, packed_take_places, stored_is_kept, takes_place}
 use Rattle.kp_settle_laws.proofs.OwnValues.{from_passing, in_passing, one_in_order, passing_alike, passing_in_order}
 
 abbrev key_of : Slice → ObjectKey
@@ -239,20 +241,18 @@ module _ (family : Family) (most : ℕ) (o : Objects) (m : Slices) (s : Service)
       and_parts _ _ (from_all (takes_place family s.key m) packed_of
       (packed_take_places family s.key m (desired_endpoints_of family o s) most some own) t c)
 
-  module _ (other : ObjectKey) (differ : s.key ≢ other) where
-    apart : (t : Slice) → is_managed_for family s.key t ≡ true
-        → is_managed_for family other t ≡ true → ⊥
-    apart t mine theirs = differ (managed_for_one family s.key other t mine theirs)
-
-    there : (t : Slice) → is_managed_for family other t ≡ true
-        → get (after_packing most o s m family) t.key ≡ Some t → get m t.key ≡ Some t
+  -- where none of these passes a test, the slices that pass stay
+  module _ (test : Slice → Bool)
+      (apart : (t : Slice) → is_managed_for family s.key t ≡ true → test t ≡ true → ⊥) where
+    there : (t : Slice) → test t ≡ true → get (after_packing most o s m family) t.key ≡ Some t
+        → get m t.key ≡ Some t
     there t is at =
         elim (from_placed family s.key packed_of m t.key t at) [
           | inl h ↦ absurd (apart t (takes_own_place t h.0).0 is)
           | inr h ↦ h.0
         ]
 
-    back : (t : Slice) → is_managed_for family other t ≡ true → get m t.key ≡ Some t
+    back : (t : Slice) → test t ≡ true → get m t.key ≡ Some t
         → get (after_packing most o s m family) t.key ≡ Some t
     back t is at = by (find key_cmp t.key (owned key_of packed_of)) refl
       where
@@ -267,17 +267,60 @@ module _ (family : Family) (most : ℕ) (o : Objects) (m : Slices) (s : Service)
             let stands = ap (none_else family s.key m) (ap (get m) in_packed.1 ∙ at) in
             absurd (apart t (sym stands ∙ (takes_own_place u in_packed.0).1) is)
 
-    pub other_stays : managed_slices family other (after_packing most o s m family)
-        ≡ managed_slices family other m
-    other_stays =
-        passing_alike key_of (is_managed_for family other) _ m own_after own there back
+    unmanaged_stay : filter test (finite.values (after_packing most o s m family))
+        ≡ filter test (finite.values m)
+    unmanaged_stay = passing_alike key_of test _ m own_after own there back
+
+  pub other_stays : (kept : Family) (other : ObjectKey) → s.key ≢ other
+      → managed_slices kept other (after_packing most o s m family) ≡ managed_slices kept other m
+  other_stays kept other differ =
+      unmanaged_stay (is_managed_for kept other)
+      (λ t mine theirs. differ (managed_for_one family kept s.key other t mine theirs))
+
+  pub family_stays : (other : Family) (service : ObjectKey) → same_family family other ≡ false
+      → managed_slices other service (after_packing most o s m family)
+      ≡ managed_slices other service m
+  family_stays other service differ =
+      unmanaged_stay (is_managed_for other service) (λ t mine theirs.
+      true≢false (sym (managed_in_one family other s.key service t mine theirs) ∙ differ))
 
 pub others_stay : OthersStay
-others_stay family most o m s other some own differ =
-    other_stays family most o m s some own other differ
+others_stay family kept most o m s other some own differ =
+    other_stays family most o m s some own kept other differ
+
+pub other_family_stays : OtherFamilyStays
+other_family_stays family other most o m s service differ some own =
+    family_stays family most o m s some own other service differ
+
+-- ---- In each of some families
+
+module _ (most : ℕ) (o : Objects) (s : Service) (some : 1 ≤ most) where
+  pub own_each : (families : List Family) (m : Slices) → AreOwn m
+      → AreOwn (after_each families most o m s)
+  own_each [] m own = own
+  own_each (f ∷ fs) m own = own_each fs _ (own_after f most o m s some own)
+
+  -- the managed slices of each other Service stay
+  pub each_stays : (kept : Family) (other : ObjectKey) → s.key ≢ other → (families : List Family)
+      (m : Slices) → AreOwn m
+      → managed_slices kept other (after_each families most o m s) ≡ managed_slices kept other m
+  each_stays kept other apart [] m own = refl
+  each_stays kept other apart (f ∷ fs) m own =
+      each_stays kept other apart fs (after_packing most o s m f)
+      (own_after f most o m s some own)
+      ∙ other_stays f most o m s some own kept other apart
+
+  -- a Service that is settled in each stays
+  pub settled_each : SettledStay → AreUnderOwnKeys o → (families : List Family) (m : Slices)
+      → AreOwn m → ((family : Family) → IsSettled family most o m s)
+      → after_each families most o m s ≡ m
+  settled_each stay own_objects [] m own settled = refl
+  settled_each stay own_objects (f ∷ fs) m own settled =
+      ap (λ n. after_each fs most o n s) (stay f most o m s own_objects own (settled f))
+      ∙ settled_each stay own_objects fs m own settled
 
 pub one_more_settled : OneMoreSettled
-one_more_settled family picked most o m s some own at settled but t at_t selector free =
+one_more_settled families picked most o m s some own at settled but t at_t selector free family =
     by (eq_by_cmp key_cmp t.key s.key) refl free
   where
     without_it : (b : Bool) → b && true ≡ false → b ≡ false
@@ -285,17 +328,17 @@ one_more_settled family picked most o m s some own at settled but t at_t selecto
     without_it false h = refl
 
     by : (b : Bool) → eq_by_cmp key_cmp t.key s.key ≡ b → picked t.key && not b ≡ false
-        → IsSettled family most o (after_packing most o s m family) t
+        → IsSettled family most o (after_each families most o m s) t
     by true tied h =
         let same : s ≡ t = same_Some s t
         (sym at ∙ sym (ap (get o.services) (one_from_tie key_exact t.key s.key tied)) ∙ at_t) in
-        subst (IsSettled family most o (after_packing most o s m family)) same settled
+        subst (IsSettled family most o (after_each families most o m s)) same (settled family)
     by false apart h =
-        let others = other_stays family most o m s some own t.key (λ same.
+        let others = each_stays most o s some family t.key (λ same.
         true≢false (sym (ap (λ k. eq_by_cmp key_cmp k s.key) (sym same)
-        ∙ tie_of_itself key_total s.key) ∙ apart)) in
+        ∙ tie_of_itself key_total s.key) ∙ apart)) families m own in
         subst (IsPackingOf most (desired_endpoints_of family o t)) (sym others)
-        (but t at_t selector (without_it (picked t.key) h))
+        (but t at_t selector (without_it (picked t.key) h) family)
 
 pub leftovers_stay : LeftoversStay
 leftovers_stay family o m s own at =

@@ -19,22 +19,26 @@ use Rattle.kp_object_defs.specs.Desired.{has_selector, desired_endpoints_of}
 use Rattle.kp_object_defs.specs.Entries.{is_of_service}
 use Rattle.kp_object_defs.specs.Objects.{Objects}
 use Rattle.kp_object_defs.specs.PackingLaws.{IsPackingOf}
-use Rattle.kp_object_defs.specs.SlicesNow.{Slices, is_leftover, managed_slices}
+use Rattle.kp_object_defs.specs.SlicesNow.{Slices, after_packing, is_leftover, managed_slices}
 use Rattle.kp_touch_defs.specs.Touches.{is_key, slice_touches}
 
 -- ---- What is as the controller would leave it
 
--- A Service is settled: its managed slices of the family hold the endpoints that it wants, with at
--- most so many each. Packing it again changes nothing.
+-- A Service is settled in a family: its managed slices of it hold the endpoints that it wants
+-- there, with at most so many each. Packing it again changes nothing.
 abbrev pub IsSettled : Family → ℕ → Objects → Slices → Service → Type 0
 IsSettled family most o m s =
     IsPackingOf most (desired_endpoints_of family o s) (managed_slices family s.key m)
 
--- each Service with a selector is settled, but for those that a test picks
-abbrev pub AreSettledBut : Family → (ObjectKey → Bool) → ℕ → Objects → Slices → Type 0
-AreSettledBut family picked most o m =
+-- each Service with a selector is settled in each family, but for those that a test picks
+abbrev pub AreSettledBut : (ObjectKey → Bool) → ℕ → Objects → Slices → Type 0
+AreSettledBut picked most o m =
     (s : Service) → finite.get o.services s.key ≡ Some s → has_selector s ≡ true
-    → picked s.key ≡ false → IsSettled family most o m s
+    → picked s.key ≡ false → (family : Family) → IsSettled family most o m s
+
+-- the slices after a Service is packed in each of some families, in one after the other
+abbrev pub after_each : List Family → ℕ → Objects → Slices → Service → Slices
+after_each families most o m s = fold (after_packing most o s) m families
 
 -- each slice that is left over is labelled with a Service that a test picks
 abbrev pub AreLeftBy : (ObjectKey → Bool) → Objects → Slices → Type 0
@@ -44,11 +48,10 @@ AreLeftBy picked o m =
 
 -- Where the controller is on, the slices are as it would leave them, but for the Services that a
 -- test picks: those that were touched since it acted.
-abbrev pub IsControlledBut :
-    Family → (ObjectKey → Bool) → Config → Objects → Slices → Type 0
-IsControlledBut family picked config o m =
+abbrev pub IsControlledBut : (ObjectKey → Bool) → Config → Objects → Slices → Type 0
+IsControlledBut picked config o m =
     config.controller ≡ true
-    → AreSettledBut family picked config.max_per_slice o m × AreLeftBy picked o m
+    → AreSettledBut picked config.max_per_slice o m × AreLeftBy picked o m
 
 -- no Service
 abbrev pub none : ObjectKey → Bool

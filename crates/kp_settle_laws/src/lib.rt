@@ -5,13 +5,15 @@
 
 ghost use Rattle.kp_settle_laws.specs.SettleLaws as laws;
 
-/// Packing leaves a settled Service as it is, and settles any Service. It leaves the slices of all
-/// others, as taking out those that are left over does.
+/// Packing a Service in a family leaves it as it is where it is settled there, and settles it
+/// otherwise. It leaves the slices of the other family and those of all other Services, as taking
+/// out those that are left over does.
 pub fn packing_settles()
     ensures stay { laws.SettledStay }
     ensures packed { laws.PackedSettle }
     ensures settles { laws.PackingSettles }
     ensures others { laws.OthersStay }
+    ensures other_family { laws.OtherFamilyStays }
     ensures one_more { laws.OneMoreSettled }
     ensures leftovers { laws.LeftoversStay }
 {

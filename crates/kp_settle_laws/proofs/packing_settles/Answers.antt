@@ -14,6 +14,9 @@ returns-clause-settles c = laws.packing_settles c.slices_now.ensures.can_be_pack
 pub returns-clause-others : goal.returns-clause-others
 returns-clause-others c = laws.others_stay
 
+pub returns-clause-other_family : goal.returns-clause-other_family
+returns-clause-other_family c = laws.other_family_stays
+
 pub returns-clause-one_more : goal.returns-clause-one_more
 returns-clause-one_more c = laws.one_more_settled
 

@@ -1,9 +1,9 @@
 -- Those so far that are managed for the Service were copied.
 use Rattle.std.proofs.Common.{◌≡◌, map, take, filter}
-use Rattle.kp_base.specs.declared.address.Family.TheVariants.{V4}
 use Rattle.kp_object_defs.specs.PackingLaws.{is_managed_for}
 use Rattle.kp_controller.proofs.managed.managed_among.Given as goal
 
 abbrev pub invariant-loop-slice : goal.invariant-loop-slice
 invariant-loop-slice l =
-    l.managed.items ≡ filter (is_managed_for V4 l.service) (map (λ s. s.now) (take l.slice-index l.slices))
+    l.managed.items
+    ≡ filter (is_managed_for l.family l.service) (map (λ s. s.now) (take l.slice-index l.slices))

@@ -1,6 +1,6 @@
 use Rattle.std.proofs.Common.{Bor, map, ap, sym, subst, ◌∙◌}
 use Rattle.std.proofs.lemmas.Result.{on_ok_weaker}
-use Rattle.kp_base.specs.declared.address.Family.TheVariants.{V4}
+use Rattle.kp_types.specs.Setting.{both_families}
 use Rattle.kp_types.specs.declared.service.Service.{Service}
 use Rattle.kp_settle_laws.specs.Settled.{AreLeftBy, AreSettledBut, none}
 use Rattle.kp_store.specs.Touched.{is_touched}
@@ -18,7 +18,7 @@ returns-clause-ok c =
     let removed = c.in_ok-remove_touched.ensures in
     let are = ap (map (λ (s : Bor Service). s.now)) c.as_slice.ensures.value
     ∙ c.in_ok-few.ensures in
-    let but = subst (AreSettledBut V4 touched most o) (sym removed)
+    let but = subst (AreSettledBut touched most o) (sym removed)
     (settled_without o own touched c.packing_settles.ensures.leftovers most old c.own_keys.ensures
     c.requires.settled) in
     on_ok_weaker c.pack_services.result (λ packed.
@@ -38,7 +38,7 @@ returns-clause-settled c =
     let removed = c.in_ok-remove_touched.ensures in
     let are = ap (map (λ (s : Bor Service). s.now)) c.as_slice.ensures.value
     ∙ c.in_ok-few.ensures in
-    let but = subst (AreSettledBut V4 touched most o) (sym removed)
+    let but = subst (AreSettledBut touched most o) (sym removed)
     (settled_without o own touched c.packing_settles.ensures.leftovers most old c.own_keys.ensures
     c.requires.settled) in
     on_ok_weaker c.pack_services.result (sync_settles o own touched most m new _ are but)
@@ -55,7 +55,7 @@ returns-clause-left c =
     let removed = c.in_ok-remove_touched.ensures in
     let are = ap (map (λ (s : Bor Service). s.now)) c.as_slice.ensures.value
     ∙ c.in_ok-few.ensures in
-    let but = subst (AreSettledBut V4 touched most o) (sym removed)
+    let but = subst (AreSettledBut touched most o) (sym removed)
     (settled_without o own touched c.packing_settles.ensures.leftovers most old c.own_keys.ensures
     c.requires.settled) in
     on_ok_weaker c.pack_services.result (λ packed.
@@ -63,6 +63,6 @@ returns-clause-left c =
     (sym (sync_is o own touched most old m c.pack_services.new.slices _
     c.args.config.now.slice_from c.own_keys-2.ensures removed are but packed
     c.touched_are_enough.ensures.touched))
-    (c.touched_are_enough.ensures.left V4 most o old c.args.config.now.slice_from own
+    (c.touched_are_enough.ensures.left both_families most o old c.args.config.now.slice_from own
     c.own_keys.ensures))
     c.pack_services.ensures.packed
