@@ -1,5 +1,5 @@
 -- Rows of a section give edits in order, and are found again in them.
-use Rattle.std.proofs.Common.{◌≡◌, ℕ, Bool, true, false, cond, not, ◌&&◌, ◌||◌, ◌==◌, List, [], ◌∷◌, ◌++◌, bytes_eq, refl, sym, ap, ◌∙◌}
+use Rattle.std.proofs.Common.{◌≡◌, ◌⊎◌, ℕ, Bool, true, false, cond, not, ◌&&◌, ◌||◌, ◌==◌, List, [], ◌∷◌, ◌++◌, bytes_eq, refl, sym, ap, ◌∙◌, inl, inr}
 use Rattle.std.specs.Ordering.{nat_cmp, is_lt, ordering_then}
 use Rattle.std.specs.declared.cmp.Ordering.{Ordering}
 use Rattle.std.specs.declared.cmp.Ordering.TheVariants.{Less}
@@ -12,9 +12,10 @@ use Rattle.std.proofs.lemmas.List.Folds.{list_all-append}
 use Rattle.kp_base.specs.declared.address.Family.{Family}
 use Rattle.kp_base.specs.Keys.{text_cmp}
 use Rattle.kp_types.specs.Chains.{is_chain_name}
-use Rattle.kp_types.specs.Places.{table_place}
+use Rattle.kp_types.specs.Edits.{is_edit_in}
+use Rattle.kp_types.specs.Places.{table_place, nat_of, filter_of}
 use Rattle.kp_types.specs.declared.chain.TableName.{TableName}
-use Rattle.kp_types.specs.declared.chain.TableName.TheVariants.{Nat, Filter}
+use Rattle.kp_types.specs.declared.chain.TableName.TheVariants.{Nat, Filter, Nat6, Filter6}
 use Rattle.kp_types.specs.declared.chain.ChainAt.{ChainAt}
 use Rattle.kp_types.specs.declared.rule.Edit.{Edit}
 use Rattle.kp_types.specs.declared.rule.Edit.TheVariants.{Remove}
@@ -26,10 +27,12 @@ use Rattle.kp_restore_defs.specs.BatchText.{place_of, edits_in, edit_cmp, are_in
 use Rattle.kp_restore.specs.BatchSteps.{written, removed, edits_of}
 use Rattle.kp_restore.specs.declared.row.Row.{Row}
 use Rattle.std.specs.Cmp.Lexicographic.{nat_list_eq_equiv}
-use Rattle.kp_restore.proofs.Tests.{all_both, none_of}
+use Rattle.kp_restore.proofs.Tests.{all_both, none_of, filter_all, filter_none}
+use Rattle.kp_restore.proofs.Families.{IsTableOf, nat_is_of, filter_is_of, which_table, nat_first, filter_last, nat_is_no_filter, filter_is_no_nat, table_tied}
 use Rattle.kp_restore.proofs.BatchRows.{row_of, put_row, rows_of, is_below, rising, fits, all_rows_of, put_first, less_turned, write_of, remove_of, all_written, all_removed, edits_all, is_in}
 use Rattle.kp_lemmas.proofs.ListFacts.{test_weaker, test_always}
 use Rattle.kp_lemmas.proofs.Orders.{lesser_text_differs}
+use Rattle.kp_types.proofs.ChainOrder.{one_table_from_test}
 
 -- ---- Rows again
 
@@ -98,13 +101,14 @@ once_insert (e ∷ xs) ys x h g l =
     (none_of (is_same_place e) (xs ++ x ∷ ys) ∙ list_all-append (λ y. not (is_same_place e y)) xs (x ∷ ys) ∙ and_from _ _ others.0 (and_from _ _ m.0 others.1))
     (once_insert xs ys x k.1 m.1 l)
 
-tied_table : (t : TableName) (o : Ordering) → ordering_then (nat_cmp (table_place t) (table_place t)) o ≡ o
+pub tied_table : (t : TableName) (o : Ordering) → ordering_then (nat_cmp (table_place t) (table_place t)) o ≡ o
 tied_table Nat o = refl
 tied_table Filter o = refl
+tied_table Nat6 o = refl
+tied_table Filter6 o = refl
 
 placed_table : (t : TableName) (b : Bool) → ((table_place t == table_place t) && b) ≡ b
-placed_table Nat b = refl
-placed_table Filter b = refl
+placed_table t b = ap (λ a. a && b) (table_tied t)
 
 module _ (t : TableName) where
   writes_in_order : (rows : List Row) → rising rows ≡ true → are_in_order (flat_map (written t) rows) ≡ true
@@ -175,13 +179,13 @@ module _ (t : TableName) where
   abbrev pub is_good : Family → Row → Bool
   is_good family row = is_chain_name row.chain && list_all (is_canonical_rule family) row.rules
 
-  pub canonical_edits : (family : Family) (rows : List Row) → list_all (fits t) rows ≡ true → list_all (is_good family) rows ≡ true → list_all (is_canonical_edit family) (edits_of t rows) ≡ true
-  canonical_edits family rows f g =
+  pub canonical_edits : (family : Family) → IsTableOf family t → (rows : List Row) → list_all (fits t) rows ≡ true → list_all (is_good family) rows ≡ true → list_all (is_canonical_edit family) (edits_of t rows) ≡ true
+  canonical_edits family of rows f g =
       edits_all (is_canonical_edit family) t rows
       (all_both (fits t) (is_good family) (λ s. s.removed || is_canonical_edit family (write_of t s))
-      (λ s k l. or_right s.removed _ (within (is_chain_name s.chain) (list_all (is_canonical_rule family) s.rules) (is_built_in t s.chain) (not s.removed || is_empty s.rules) k l)) rows f g)
+      (λ s k l. or_right s.removed _ (and_from _ _ of (within (is_chain_name s.chain) (list_all (is_canonical_rule family) s.rules) (is_built_in t s.chain) (not s.removed || is_empty s.rules) k l))) rows f g)
       (all_both (fits t) (is_good family) (λ s. not s.removed || is_canonical_edit family (remove_of t s))
-      (λ s k l. or_right (not s.removed) _ (within_alone (is_chain_name s.chain) (list_all (is_canonical_rule family) s.rules) (is_built_in t s.chain) (not s.removed || is_empty s.rules) k l)) rows f g)
+      (λ s k l. or_right (not s.removed) _ (and_from _ _ of (within_alone (is_chain_name s.chain) (list_all (is_canonical_rule family) s.rules) (is_built_in t s.chain) (not s.removed || is_empty s.rules) k l))) rows f g)
 
 -- what holds of all edits of rows
 edits_true : (p : Edit → Bool) (t : TableName) → ((r : Row) → p (write_of t r) ≡ true) → ((r : Row) → p (remove_of t r) ≡ true) → (rows : List Row) → list_all p (edits_of t rows) ≡ true
@@ -189,36 +193,16 @@ edits_true p t w x rows =
     edits_all p t rows (test_always (λ r. r.removed || p (write_of t r)) (λ r. or_right r.removed _ (w r)) rows)
     (test_always (λ r. not r.removed || p (remove_of t r)) (λ r. or_right (not r.removed) _ (x r)) rows)
 
--- the edits of both sections
-pub canonical_batch : (family : Family) (n f : List Row) → rising n ≡ true → list_all (fits Nat) n ≡ true → list_all (is_good Nat family) n ≡ true
-    → rising f ≡ true → list_all (fits Filter) f ≡ true → list_all (is_good Filter family) f ≡ true
-    → is_canonical_batch family (edits_of Nat n ++ edits_of Filter f) ≡ true
-canonical_batch family n f rn fn gn rf ff gf =
-    and_from _ _
-    (list_all-append (is_canonical_edit family) (edits_of Nat n) (edits_of Filter f) ∙ and_from _ _ (canonical_edits Nat family n fn gn) (canonical_edits Filter family f ff gf))
-    (and_from _ _
-    (order_append (edits_of Nat n) (edits_of Filter f) (in_order Nat n rn) (in_order Filter f rf)
-    (edits_true (λ x. list_all (λ y. is_lt (edit_cmp x y)) (edits_of Filter f)) Nat
-    (λ r. edits_true (λ y. is_lt (edit_cmp (write_of Nat r) y)) Filter (λ s. refl) (λ s. refl) f)
-    (λ r. edits_true (λ y. is_lt (edit_cmp (remove_of Nat r) y)) Filter (λ s. refl) (λ s. refl) f) n))
-    (once_append (edits_of Nat n) (edits_of Filter f) (each_once Nat n rn) (each_once Filter f rf)
-    (edits_true (λ x. list_all (λ y. not (is_same_place x y)) (edits_of Filter f)) Nat
-    (λ r. edits_true (λ y. not (is_same_place (write_of Nat r) y)) Filter (λ s. refl) (λ s. refl) f)
-    (λ r. edits_true (λ y. not (is_same_place (remove_of Nat r) y)) Filter (λ s. refl) (λ s. refl) f) n)))
+-- an edit of the nat table of a family stands before one of its filter table, and they have two places
+pub stands_before : (family : Family) (a b : Edit) → (place_of a).table ≡ nat_of family → (place_of b).table ≡ filter_of family → is_lt (edit_cmp a b) ≡ true
+stands_before family a b p q =
+    (λ i. is_lt (ordering_then (nat_cmp (table_place (p i)) (table_place (q i))) (ordering_then (nat_cmp (kind_place a) (kind_place b)) (text_cmp (place_of a).chain (place_of b).chain))))
+    ∙ ap (λ o. is_lt (ordering_then o (ordering_then (nat_cmp (kind_place a) (kind_place b)) (text_cmp (place_of a).chain (place_of b).chain)))) (nat_first family)
 
--- ---- The sections of edits
-
-filter_all : {X : Type 0} (p : X → Bool) (xs : List X) → list_all p xs ≡ true → filter p xs ≡ xs
-filter_all p [] h = refl
-filter_all p (x ∷ xs) h =
-    let k = and_parts _ _ h in
-    ap (λ b. cond b (x ∷ filter p xs) (filter p xs)) k.0 ∙ ap (λ l. x ∷ l) (filter_all p xs k.1)
-
-filter_none : {X : Type 0} (p : X → Bool) (xs : List X) → list_all (λ x. not (p x)) xs ≡ true → filter p xs ≡ []
-filter_none p [] h = refl
-filter_none p (x ∷ xs) h =
-    let k = and_parts _ _ h in
-    ap (λ b. cond b (x ∷ filter p xs) (filter p xs)) (not-true (p x) k.0) ∙ filter_none p xs k.1
+pub stands_apart : (family : Family) (a b : Edit) → (place_of a).table ≡ nat_of family → (place_of b).table ≡ filter_of family → is_same_place a b ≡ false
+stands_apart family a b p q =
+    (λ i. (table_place (p i) == table_place (q i)) && bytes_eq (place_of a).chain (place_of b).chain)
+    ∙ ap (λ t. t && bytes_eq (place_of a).chain (place_of b).chain) (nat_is_no_filter family)
 
 pub order_filter : (q : Edit → Bool) (es : List Edit) → are_in_order es ≡ true → are_in_order (filter q es) ≡ true
 order_filter q [] h = refl
@@ -235,38 +219,88 @@ once_filter q (e ∷ es) h =
     let others = none_of (is_same_place e) (filter q es) ∙ all_filter (λ x. not (is_same_place e x)) q es (sym (none_of (is_same_place e) es) ∙ k.0) in
     elim (q e) as (λ b. edit_each_once (cond b (e ∷ filter q es) (filter q es)) ≡ true) [ true ↦ and_from _ _ others rest | false ↦ rest ]
 
--- the sections of the edits of rows
-pub nat_part : (n f : List Row) → edits_in Nat (edits_of Nat n ++ edits_of Filter f) ≡ edits_of Nat n
-nat_part n f =
-    filter-append (is_in Nat) (edits_of Nat n) (edits_of Filter f)
-    ∙ (λ i. filter_all (is_in Nat) (edits_of Nat n) (edits_true (is_in Nat) Nat (λ r. refl) (λ r. refl) n) i ++ filter_none (is_in Nat) (edits_of Filter f) (edits_true (λ e. not (is_in Nat e)) Filter (λ r. refl) (λ r. refl) f) i)
-    ∙ append-nil (edits_of Nat n)
+-- ---- The sections of a family's edits
 
-pub filter_part : (n f : List Row) → edits_in Filter (edits_of Nat n ++ edits_of Filter f) ≡ edits_of Filter f
-filter_part n f =
-    filter-append (is_in Filter) (edits_of Nat n) (edits_of Filter f)
-    ∙ (λ i. filter_none (is_in Filter) (edits_of Nat n) (edits_true (λ e. not (is_in Filter e)) Nat (λ r. refl) (λ r. refl) n) i ++ filter_all (is_in Filter) (edits_of Filter f) (edits_true (is_in Filter) Filter (λ r. refl) (λ r. refl) f) i)
+module _ (family : Family) where
+  abbrev first : TableName
+  first = nat_of family
 
--- behind an edit of filter stand only such
-later : (e other : Edit) (a b : TableName) → (place_of e).table ≡ Filter → (place_of other).table ≡ b → is_lt (edit_cmp e other) ≡ true → (table_place b == table_place Filter) ≡ true
-later e other a Nat g h less =
-    absurd (false≢true (sym (λ i. is_lt (ordering_then (nat_cmp (table_place (g i)) (table_place (h i))) (ordering_then (nat_cmp (kind_place e) (kind_place other)) (text_cmp (place_of e).chain (place_of other).chain)))) ∙ less))
-later e other a Filter g h less = refl
+  abbrev second : TableName
+  second = filter_of family
 
-pub both_parts : (es : List Edit) → are_in_order es ≡ true → edits_in Nat es ++ edits_in Filter es ≡ es
-both_parts [] h = refl
-both_parts (e ∷ es) h = by (place_of e).table refl (and_parts _ _ h).0 (both_parts es (and_parts _ _ h).1)
-  where
-    all_later : (place_of e).table ≡ Filter → list_all (λ x. is_lt (edit_cmp e x)) es ≡ true → list_all (is_in Filter) es ≡ true
-    all_later g = test_weaker (λ x. is_lt (edit_cmp e x)) (is_in Filter) (λ x l. later e x Nat (place_of x).table g refl l) es
+  -- what holds of each edit of the nat table with each one of the filter table
+  edits_apart : (p : Edit → Edit → Bool) → ((a b : Edit) → (place_of a).table ≡ first → (place_of b).table ≡ second → p a b ≡ true) → (n f : List Row) → list_all (λ x. list_all (p x) (edits_of second f)) (edits_of first n) ≡ true
+  edits_apart p h n f =
+      edits_true (λ x. list_all (p x) (edits_of second f)) first
+      (λ r. edits_true (p (write_of first r)) second (λ s. h (write_of first r) (write_of second s) refl refl) (λ s. h (write_of first r) (remove_of second s) refl refl) f)
+      (λ r. edits_true (p (remove_of first r)) second (λ s. h (remove_of first r) (write_of second s) refl refl) (λ s. h (remove_of first r) (remove_of second s) refl refl) f)
+      n
 
-    by : (t : TableName) → (place_of e).table ≡ t → list_all (λ x. is_lt (edit_cmp e x)) es ≡ true → edits_in Nat es ++ edits_in Filter es ≡ es
-        → cond (table_place t == table_place Nat) (e ∷ edits_in Nat es) (edits_in Nat es) ++ cond (table_place t == table_place Filter) (e ∷ edits_in Filter es) (edits_in Filter es) ≡ e ∷ es
-    by Nat g all rest = ap (λ l. e ∷ l) rest
-    by Filter g all rest =
-        let here = all_later g all in
-        (λ i. filter_none (is_in Nat) es (test_weaker (is_in Filter) (λ x. not (is_in Nat x)) (λ x l. elsewhere (place_of x).table l) es here) i ++ e ∷ filter_all (is_in Filter) es here i)
-      where
-        elsewhere : (t : TableName) → (table_place t == table_place Filter) ≡ true → not (table_place t == table_place Nat) ≡ true
-        elsewhere Nat l = absurd (false≢true l)
-        elsewhere Filter l = refl
+  -- the edits of both sections
+  pub canonical_batch : (n f : List Row) → rising n ≡ true → list_all (fits first) n ≡ true → list_all (is_good first family) n ≡ true
+      → rising f ≡ true → list_all (fits second) f ≡ true → list_all (is_good second family) f ≡ true
+      → is_canonical_batch family (edits_of first n ++ edits_of second f) ≡ true
+  canonical_batch n f rn fn gn rf ff gf =
+      and_from _ _
+      (list_all-append (is_canonical_edit family) (edits_of first n) (edits_of second f)
+      ∙ and_from _ _ (canonical_edits first family (nat_is_of family) n fn gn) (canonical_edits second family (filter_is_of family) f ff gf))
+      (and_from _ _
+      (order_append (edits_of first n) (edits_of second f) (in_order first n rn) (in_order second f rf) (edits_apart (λ x y. is_lt (edit_cmp x y)) (stands_before family) n f))
+      (once_append (edits_of first n) (edits_of second f) (each_once first n rn) (each_once second f rf) (edits_apart (λ x y. not (is_same_place x y)) (λ a b p q. ap not (stands_apart family a b p q)) n f)))
+
+  -- ---- The sections of edits of rows
+
+  in_itself : (t : TableName) (rows : List Row) → list_all (is_in t) (edits_of t rows) ≡ true
+  in_itself t rows = edits_true (is_in t) t (λ r. table_tied t) (λ r. table_tied t) rows
+
+  pub nat_part : (n f : List Row) → edits_in first (edits_of first n ++ edits_of second f) ≡ edits_of first n
+  nat_part n f =
+      let other = ap not (filter_is_no_nat family) in
+      filter-append (is_in first) (edits_of first n) (edits_of second f)
+      ∙ (λ i. filter_all (is_in first) (edits_of first n) (in_itself first n) i ++ filter_none (is_in first) (edits_of second f) (edits_true (λ e. not (is_in first e)) second (λ r. other) (λ r. other) f) i)
+      ∙ append-nil (edits_of first n)
+
+  pub filter_part : (n f : List Row) → edits_in second (edits_of first n ++ edits_of second f) ≡ edits_of second f
+  filter_part n f =
+      let other = ap not (nat_is_no_filter family) in
+      filter-append (is_in second) (edits_of first n) (edits_of second f)
+      ∙ (λ i. filter_none (is_in second) (edits_of first n) (edits_true (λ e. not (is_in second e)) first (λ r. other) (λ r. other) n) i ++ filter_all (is_in second) (edits_of second f) (in_itself second f) i)
+
+  -- an edit of the nat table isn't after one of the filter table
+  not_behind : (e other : Edit) → (place_of e).table ≡ second → (place_of other).table ≡ first → is_lt (edit_cmp e other) ≡ true → ⊥
+  not_behind e other g h less =
+      let rest = ordering_then (nat_cmp (kind_place e) (kind_place other)) (text_cmp (place_of e).chain (place_of other).chain) in
+      false≢true
+      (sym ((λ i. is_lt (ordering_then (nat_cmp (table_place (g i)) (table_place (h i))) rest)) ∙ ap (λ o. is_lt (ordering_then o rest)) (filter_last family)) ∙ less)
+
+  -- after an edit of the filter table stand only such
+  later : (e other : Edit) → (place_of e).table ≡ second → is_edit_in family other ≡ true → is_lt (edit_cmp e other) ≡ true → is_in second other ≡ true
+  later e other g of less = by (which_table family (place_of other).table of)
+    where
+      by : ((place_of other).table ≡ first) ⊎ ((place_of other).table ≡ second) → is_in second other ≡ true
+      by (inl h) = absurd (not_behind e other g h less)
+      by (inr h) = ap (λ t. table_place t == table_place second) h ∙ table_tied second
+
+  -- the edits of both tables are all edits of a family
+  pub both_parts : (es : List Edit) → list_all (is_edit_in family) es ≡ true → are_in_order es ≡ true → edits_in first es ++ edits_in second es ≡ es
+  both_parts [] of h = refl
+  both_parts (e ∷ es) of h =
+      let here = and_parts (is_edit_in family e) (list_all (is_edit_in family) es) of in
+      let order = and_parts (list_all (λ x. is_lt (edit_cmp e x)) es) (are_in_order es) h in
+      by (which_table family (place_of e).table here.0) here.1 order.0 (both_parts es here.1 order.1)
+    where
+      elsewhere : (t : TableName) → (table_place t == table_place second) ≡ true → not (table_place t == table_place first) ≡ true
+      elsewhere t l = ap not (ap (λ u. table_place u == table_place first) (one_table_from_test t second l) ∙ filter_is_no_nat family)
+
+      by : ((place_of e).table ≡ first) ⊎ ((place_of e).table ≡ second) → list_all (is_edit_in family) es ≡ true → list_all (λ x. is_lt (edit_cmp e x)) es ≡ true → edits_in first es ++ edits_in second es ≡ es
+          → cond (table_place (place_of e).table == table_place first) (e ∷ edits_in first es) (edits_in first es)
+          ++ cond (table_place (place_of e).table == table_place second) (e ∷ edits_in second es) (edits_in second es) ≡ e ∷ es
+      by (inl g) of all rest =
+          (λ i. cond (table_place (g i) == table_place first) (e ∷ edits_in first es) (edits_in first es) ++ cond (table_place (g i) == table_place second) (e ∷ edits_in second es) (edits_in second es))
+          ∙ (λ i. cond (table_tied first i) (e ∷ edits_in first es) (edits_in first es) ++ cond (nat_is_no_filter family i) (e ∷ edits_in second es) (edits_in second es))
+          ∙ ap (λ l. e ∷ l) rest
+      by (inr g) of all rest =
+          let here = all_both (is_edit_in family) (λ x. is_lt (edit_cmp e x)) (is_in second) (λ x o l. later e x g o l) es of all in
+          (λ i. cond (table_place (g i) == table_place first) (e ∷ edits_in first es) (edits_in first es) ++ cond (table_place (g i) == table_place second) (e ∷ edits_in second es) (edits_in second es))
+          ∙ (λ i. cond (filter_is_no_nat family i) (e ∷ edits_in first es) (edits_in first es) ++ cond (table_tied second i) (e ∷ edits_in second es) (edits_in second es))
+          ∙ (λ i. filter_none (is_in first) es (test_weaker (is_in second) (λ x. not (is_in first x)) (λ x l. elsewhere (place_of x).table l) es here) i ++ e ∷ filter_all (is_in second) es here i)

@@ -12,8 +12,8 @@ use Rattle.std.proofs.lemmas.Simd.{map-map}
 use Rattle.kp_base.specs.declared.address.Family.{Family}
 use Rattle.kp_base.specs.Keys.{text_cmp}
 use Rattle.kp_types.specs.Chains.{is_chain_name}
+use Rattle.kp_types.specs.Places.{nat_of, filter_of}
 use Rattle.kp_types.specs.declared.chain.TableName.{TableName}
-use Rattle.kp_types.specs.declared.chain.TableName.TheVariants.{Nat, Filter}
 use Rattle.kp_types.specs.declared.rule.Rule.{Rule}
 use Rattle.kp_types.specs.declared.rule.Edit.{Edit}
 use Rattle.kp_types.specs.declared.rule.Edit.TheVariants.{Write, Remove}
@@ -30,6 +30,7 @@ use Rattle.kp_restore.specs.declared.row.Row.{Row}
 use Rattle.kp_restore.proofs.Tests.{all_both, all_flat}
 use Rattle.kp_restore.proofs.BatchRows.{row_of, put_row, rows_of, fits, write_of, remove_of, is_in, edits_again}
 use Rattle.kp_restore.proofs.BatchEdits.{no_items, is_good}
+use Rattle.kp_restore.proofs.Families.{IsTableOf}
 use Rattle.kp_lemmas.proofs.ListFacts.{test_weaker}
 
 -- ---- Parts
@@ -54,8 +55,13 @@ section_parts table rows = line.Section table ∷ map declared_part rows ++ (fla
 abbrev pub parts_if : TableName → List Row → List Line
 parts_if table rows = cond (is_empty rows) [] (section_parts table rows)
 
-abbrev pub batch_parts : List Edit → List Line
-batch_parts edits = parts_if Nat (rows_of (edits_in Nat edits)) ++ parts_if Filter (rows_of (edits_in Filter edits))
+-- the section of a table that is edited
+abbrev pub parts_in : TableName → List Edit → List Line
+parts_in table edits = parts_if table (rows_of (edits_in table edits))
+
+-- both sections of a family
+abbrev pub batch_parts : Family → List Edit → List Line
+batch_parts family edits = parts_in (nat_of family) edits ++ parts_in (filter_of family) edits
 
 pub closed : (t : TableName) (rows : List Row) → open_parts t rows ++ line.Commit ∷ [] ≡ section_parts t rows
 closed t rows =
@@ -164,10 +170,11 @@ if_printed t (e ∷ es) a o d f =
 
 -- ---- Parts within their bounds
 
-module _ (family : Family) (t : TableName) where
+module _ (family : Family) (t : TableName) (of : IsTableOf family t) where
   good_parts : (rows : List Row) → list_all (is_good t family) rows ≡ true → list_all (is_canonical_line family) (section_parts t rows) ≡ true
   good_parts rows g =
-      list_all-append (is_canonical_line family) (map declared_part rows) (flat_map rule_parts rows ++ (flat_map removed_part rows ++ line.Commit ∷ []))
+      and_from _ _ of
+      (list_all-append (is_canonical_line family) (map declared_part rows) (flat_map rule_parts rows ++ (flat_map removed_part rows ++ line.Commit ∷ []))
       ∙ and_from _ _
       (list_all-map (is_canonical_line family) declared_part rows ∙ test_weaker (is_good t family) (λ r. is_chain_name r.chain) (λ r k. (and_parts _ _ k).0) rows g)
       (list_all-append (is_canonical_line family) (flat_map rule_parts rows) (flat_map removed_part rows ++ line.Commit ∷ [])
@@ -178,7 +185,7 @@ module _ (family : Family) (t : TableName) where
       ∙ and_from _ _
       (all_flat (is_canonical_line family) removed_part rows
       ∙ test_weaker (is_good t family) (λ r. list_all (is_canonical_line family) (removed_part r)) (λ r k. good_removed r r.removed (and_parts _ _ k).0) rows g)
-      refl))
+      refl)))
     where
       good_rules : (chain : List ℕ) (rules : List Rule) → is_chain_name chain ≡ true → list_all (is_canonical_rule family) rules ≡ true → list_all (is_canonical_line family) (map (line.Ruled chain) rules) ≡ true
       good_rules chain rules n k =
@@ -195,7 +202,9 @@ module _ (family : Family) (t : TableName) where
 
   rows_good : (rows : List Row) → list_all (is_canonical_line family) (section_parts t rows) ≡ true → list_all (is_good t family) rows ≡ true
   rows_good rows h =
-      let parts = and_parts _ _ (sym (list_all-append (is_canonical_line family) (map declared_part rows) (flat_map rule_parts rows ++ (flat_map removed_part rows ++ line.Commit ∷ []))) ∙ h) in
+      let lines = map declared_part rows ++ (flat_map rule_parts rows ++ (flat_map removed_part rows ++ line.Commit ∷ [])) in
+      let here = (and_parts (is_canonical_line family (line.Section t)) (list_all (is_canonical_line family) lines) h).1 in
+      let parts = and_parts _ _ (sym (list_all-append (is_canonical_line family) (map declared_part rows) (flat_map rule_parts rows ++ (flat_map removed_part rows ++ line.Commit ∷ []))) ∙ here) in
       let more = and_parts _ _ (sym (list_all-append (is_canonical_line family) (flat_map rule_parts rows) (flat_map removed_part rows ++ line.Commit ∷ [])) ∙ parts.1) in
       all_both (λ r. is_chain_name r.chain) (λ r. list_all (is_canonical_line family) (rule_parts r)) (is_good t family)
       (λ r k l. and_from (is_chain_name r.chain) (list_all (is_canonical_rule family) r.rules) k (rules_good r.chain r.rules l)) rows

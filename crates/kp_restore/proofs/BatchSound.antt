@@ -1,17 +1,21 @@
 -- What the reader of batches takes begins the lines of a batch.
-use Rattle.std.proofs.Common.{◌≡◌, ℕ, ◌-◌, Bool, true, false, cond, not, ◌&&◌, ◌||◌, List, [], ◌∷◌, ◌++◌, map, length, bytes_eq, slice_get, Option, Some, None, refl, sym, ap, subst, ◌∙◌, append_assoc, option_and_then}
+use Rattle.std.proofs.Common.{◌≡◌, ◌⊎◌, ℕ, ◌-◌, Bool, true, false, cond, not, ◌&&◌, ◌||◌, List, [], ◌∷◌, ◌++◌, map, length, bytes_eq, slice_get, Option, Some, None, refl, sym, ap, subst, ◌∙◌, append_assoc, option_and_then, inl, inr}
 use Rattle.std.specs.List.{list_all, flat_map}
 use Rattle.std.proofs.lemmas.Bool.{and_parts, and_from, false≢true, not-true, or_left}
 use Rattle.std.proofs.lemmas.List.{append-nil, map-append}
 use Rattle.std.proofs.lemmas.List.Folds.{list_all-append}
 use Rattle.std.proofs.lemmas.Grind.{flat_map-append}
+use Rattle.kp_base.specs.declared.address.Family.{Family}
+use Rattle.kp_base.specs.declared.address.Family.TheVariants.{V4, V6}
+use Rattle.kp_types.specs.Places.{nat_of, filter_of}
 use Rattle.kp_types.specs.declared.chain.TableName.{TableName}
-use Rattle.kp_types.specs.declared.chain.TableName.TheVariants.{Nat, Filter}
+use Rattle.kp_types.specs.declared.chain.TableName.TheVariants.{Nat, Filter, Nat6, Filter6}
 use Rattle.kp_types.specs.declared.rule.Rule.{Rule}
 use Rattle.kp_types.specs.declared.rule.Edit.{Edit}
 use Rattle.kp_object_defs.specs.Desired.{is_empty}
 use Rattle.kp_table_defs.specs.Ranks.{is_built_in}
 use Rattle.kp_restore.specs.BatchSteps.{edits_of, start, may_open, opened, fresh, is_behind, may_follow, declared, with_rule, ruled, ruled_in, with_removed, removed_from, removed_in, committed, step_in, step}
+use Rattle.kp_restore.specs.Lines.{is_canonical_line}
 use Rattle.kp_restore.specs.Machine.{run}
 use Rattle.kp_restore.specs.declared.line.Line.{Line}
 use Rattle.kp_restore.specs.declared.line.Line.TheVariants as line
@@ -21,6 +25,7 @@ use Rattle.kp_restore.specs.declared.batch_reader.Part.TheVariants.{Declaring, R
 use Rattle.kp_restore.specs.declared.batch_reader.BatchPhase.{BatchPhase}
 use Rattle.kp_restore.specs.declared.batch_reader.BatchPhase.TheVariants.{Between, Within}
 use Rattle.kp_restore.specs.declared.batch_reader.BatchReader.{BatchReader}
+use Rattle.kp_restore.proofs.Families.{IsTableOf, which_table}
 use Rattle.kp_restore.proofs.BatchRows.{is_below, rising, fits}
 use Rattle.kp_restore.proofs.BatchParts.{declared_part, rule_parts, removed_part, open_parts, section_parts, parts_if, closed}
 use Rattle.kp_restore.proofs.BatchTaken.{all_swap, all_at, rising_swap, last_more}
@@ -246,111 +251,144 @@ module _ (edits : List Edit) (t : TableName) where
 
 -- ---- The lines so far
 
--- what stands before a section
-abbrev pub Before : TableName → List Edit → List Line → Type 0
-Before Nat edits front = (edits ≡ []) × (front ≡ [])
-Before Filter edits front = (n : List Row) × IsSection Nat n × (edits ≡ edits_of Nat n) × (front ≡ parts_if Nat n)
-
--- what stands up to the end of a section
-abbrev pub Behind : Option TableName → List Edit → List Line → Type 0
-Behind None edits xs = (edits ≡ []) × (xs ≡ [])
-Behind (Some Nat) edits xs = (n : List Row) × IsSection Nat n × (edits ≡ edits_of Nat n) × (xs ≡ parts_if Nat n)
-Behind (Some Filter) edits xs =
-    (n : List Row) × (f : List Row) × IsSection Nat n × IsSection Filter f × (edits ≡ edits_of Nat n ++ edits_of Filter f) × (xs ≡ parts_if Nat n ++ parts_if Filter f)
-
--- the lines so far, within a section
-pub record InSection (edits : List Edit) (t : TableName) (part : Part) (passed left : List Row) (xs : List Line) : Type 0 where
-  pub front : List Line
-  pub before : Before t edits front
-  pub section : IsSection t (passed ++ left)
-  pub holds : PartHolds part passed left
-  pub lines : xs ≡ front ++ open_parts t (passed ++ left)
-
--- the lines so far are what the reader says
-abbrev pub Tells : List Edit → BatchPhase → List Line → Type 0
-Tells edits (Between last) xs = Behind last edits xs
-Tells edits (Within t part passed left) xs = InSection edits t part passed left xs
-
 pub no_rows : (t : TableName) → IsSection t []
 no_rows t = record { rises = refl; fit = refl }
 
-opening : (edits : List Edit) (t : TableName) (front xs : List Line) → Before t edits front → xs ≡ front → Tells edits (Within t Declaring [] []) (xs ++ line.Section t ∷ [])
-opening edits t front xs b e = record {
-  front = front;
-  before = b;
-  section = no_rows t;
-  holds = (refl, refl);
-  lines = ap (λ l. l ++ line.Section t ∷ []) e;
-}
-
-open_holds : (edits : List Edit) (last : Option TableName) (t : TableName) (next : BatchReader) (xs : List Line) → Behind last edits xs
-    → opened edits last (line.Section t) ≡ Some next → Tells next.edits next.phase (xs ++ line.Section t ∷ [])
-open_holds edits last t next xs b e =
-    let step = cond_some (may_open last t) (record { edits = edits; phase = Within t Declaring [] [] }) next e in
-    subst (λ n. Tells n.edits n.phase (xs ++ line.Section t ∷ [])) step.1 (by last t b step.0)
-  where
-    by : (last : Option TableName) (t : TableName) → Behind last edits xs → may_open last t ≡ true → Tells edits (Within t Declaring [] []) (xs ++ line.Section t ∷ [])
-    by None Nat b m = opening edits Nat [] xs (b.0, refl) b.1
-    by None Filter b m = opening edits Filter [] xs ([], no_rows Nat, b.0, refl) b.1
-    by (Some Nat) Nat b m = absurd (false≢true m)
-    by (Some Nat) Filter b m = opening edits Filter xs xs b refl
-    by (Some Filter) t b m = absurd (false≢true m)
-
-led_holds : (edits : List Edit) (t : TableName) (part : Part) (passed left : List Row) (x : Line) (next : BatchReader) (xs : List Line)
-    → InSection edits t part passed left xs → Led edits t (passed ++ left) x next → Tells next.edits next.phase (xs ++ x ∷ [])
-led_holds edits t part passed left x next xs s l =
-    subst (λ n. Tells n.edits n.phase (xs ++ x ∷ [])) (sym l.is) (record {
-      front = s.front;
-      before = s.before;
-      section = l.section;
-      holds = l.holds;
-      lines = ap (λ q. q ++ x ∷ []) s.lines ∙ append_assoc s.front (open_parts t (passed ++ left)) (x ∷ []) ∙ ap (λ q. s.front ++ q) (sym l.parts);
-    })
+cond_other : {A : Type 0} (b : Bool) (x y : A) → cond b None (Some x) ≡ Some y → (b ≡ false) × (x ≡ y)
+cond_other false x y h = (refl, cc)
+cond_other true x y h = absurd (cc)
 
 some_parts : (t : TableName) (rows : List Row) → is_empty rows ≡ false → open_parts t rows ++ line.Commit ∷ [] ≡ parts_if t rows
 some_parts t rows h = closed t rows ∙ sym (ap (λ b. cond b [] (section_parts t rows)) h)
 
-commit_holds : (edits : List Edit) (t : TableName) (part : Part) (passed left : List Row) (next : BatchReader) (xs : List Line) → InSection edits t part passed left xs
-    → committed edits t (passed ++ left) ≡ Some next → Tells next.edits next.phase (xs ++ line.Commit ∷ [])
-commit_holds edits t part passed left next xs s e =
-    let step = cond_other (is_empty (passed ++ left)) (record { edits = edits ++ edits_of t (passed ++ left); phase = Between (Some t) }) next e in
-    let all : xs ++ line.Commit ∷ [] ≡ s.front ++ parts_if t (passed ++ left) =
-    ap (λ q. q ++ line.Commit ∷ []) s.lines ∙ append_assoc s.front (open_parts t (passed ++ left)) (line.Commit ∷ []) ∙ ap (λ q. s.front ++ q) (some_parts t (passed ++ left) step.0)
-    in
-    subst (λ n. Tells n.edits n.phase (xs ++ line.Commit ∷ [])) step.1 (by t s.front s.before s.section all)
-  where
-    cond_other : {A : Type 0} (b : Bool) (x y : A) → cond b None (Some x) ≡ Some y → (b ≡ false) × (x ≡ y)
-    cond_other false x y h = (refl, cc)
-    cond_other true x y h = absurd (cc)
+-- what stands before a section of a family: nothing, or what is read of the nat table
+pub data Before (family : Family) (t : TableName) (edits : List Edit) (front : List Line) : Type 0 where
+  BeforeNat : t ≡ nat_of family → edits ≡ [] → front ≡ [] → Before family t edits front
+  BeforeFilter : t ≡ filter_of family → (n : List Row) → IsSection (nat_of family) n → edits ≡ edits_of (nat_of family) n → front ≡ parts_if (nat_of family) n → Before family t edits front
 
-    by : (t : TableName) (front : List Line) → Before t edits front → IsSection t (passed ++ left) → xs ++ line.Commit ∷ [] ≡ front ++ parts_if t (passed ++ left)
-        → Behind (Some t) (edits ++ edits_of t (passed ++ left)) (xs ++ line.Commit ∷ [])
-    by Nat front b s all = (passed ++ left, s, ap (λ q. q ++ edits_of Nat (passed ++ left)) b.0, all ∙ ap (λ q. q ++ parts_if Nat (passed ++ left)) b.1)
-    by Filter front b s all =
-        (b.0, passed ++ left, b.1, s, ap (λ q. q ++ edits_of Filter (passed ++ left)) b.2, all ∙ ap (λ q. q ++ parts_if Filter (passed ++ left)) b.3)
+-- what stands up to the end of a section: nothing, or what is read of the nat table, or of both
+pub data Behind (family : Family) (last : Option TableName) (edits : List Edit) (xs : List Line) : Type 0 where
+  BehindNone : last ≡ None → edits ≡ [] → xs ≡ [] → Behind family last edits xs
+  BehindNat : last ≡ Some (nat_of family) → (n : List Row) → IsSection (nat_of family) n → edits ≡ edits_of (nat_of family) n → xs ≡ parts_if (nat_of family) n → Behind family last edits xs
+  BehindFilter : last ≡ Some (filter_of family) → (n f : List Row) → IsSection (nat_of family) n → IsSection (filter_of family) f → edits ≡ edits_of (nat_of family) n ++ edits_of (filter_of family) f
+      → xs ≡ parts_if (nat_of family) n ++ parts_if (filter_of family) f → Behind family last edits xs
 
-step_holds : (edits : List Edit) (phase : BatchPhase) (x : Line) (next : BatchReader) (xs : List Line) → Tells edits phase xs → step_in edits phase x ≡ Some next → Tells next.edits next.phase (xs ++ x ∷ [])
-step_holds edits (Between last) (line.Section t) next xs b e = open_holds edits last t next xs b e
-step_holds edits (Within t part passed left) (line.Declared c) next xs s e =
-    led_holds edits t part passed left (line.Declared c) next xs s (declare_holds edits t part passed left c next s.section s.holds e)
-step_holds edits (Within t part passed left) (line.Ruled c r) next xs s e =
-    led_holds edits t part passed left (line.Ruled c r) next xs s (ruled_holds edits t part passed left c r next s.section s.holds e)
-step_holds edits (Within t part passed left) (line.Removed c) next xs s e =
-    led_holds edits t part passed left (line.Removed c) next xs s (removed_holds edits t part passed left c next s.section s.holds e)
-step_holds edits (Within t part passed left) line.Commit next xs s e = commit_holds edits t part passed left next xs s e
-step_holds edits phase x next xs h e = absurd (none-some next e)
+-- the lines so far, within a section
+pub record InSection (family : Family) (edits : List Edit) (t : TableName) (part : Part) (passed left : List Row) (xs : List Line) : Type 0 where
+  pub front : List Line
+  pub before : Before family t edits front
+  pub section : IsSection t (passed ++ left)
+  pub holds : PartHolds part passed left
+  pub lines : xs ≡ front ++ open_parts t (passed ++ left)
 
-run_holds : (s : BatchReader) (ys xs : List Line) (next : BatchReader) → Tells s.edits s.phase ys → run step s xs ≡ Some next → Tells next.edits next.phase (ys ++ xs)
-run_holds s ys [] next h e = subst (λ n. Tells n.edits n.phase (ys ++ [])) (same_Some s next e) (subst (Tells s.edits s.phase) (sym (append-nil ys)) h)
-run_holds s ys (x ∷ xs) next h e = by (step s x) refl e (λ m k. run_holds m (ys ++ x ∷ []) xs next k)
-  where
-    by : (o : Option BatchReader) → step s x ≡ o → option_and_then (λ m. run step m xs) o ≡ Some next
-        → ((m : BatchReader) → Tells m.edits m.phase (ys ++ x ∷ []) → run step m xs ≡ Some next → Tells next.edits next.phase ((ys ++ x ∷ []) ++ xs))
-        → Tells next.edits next.phase (ys ++ x ∷ xs)
-    by None g e later = absurd (none-some next e)
-    by (Some m) g e later =
-        subst (Tells next.edits next.phase) (append_assoc ys (x ∷ []) xs) (later m (step_holds s.edits s.phase x m ys h g) e)
+module _ (family : Family) where
+  abbrev first : TableName
+  first = nat_of family
 
--- what the reader has taken from the start
-pub told : (xs : List Line) (s : BatchReader) → run step start xs ≡ Some s → Tells s.edits s.phase xs
-told xs s e = run_holds start [] xs s (refl, refl) e
+  abbrev second : TableName
+  second = filter_of family
+
+  -- the lines so far are what the reader says
+  abbrev pub Tells : List Edit → BatchPhase → List Line → Type 0
+  Tells edits (Between last) xs = Behind family last edits xs
+  Tells edits (Within t part passed left) xs = InSection family edits t part passed left xs
+
+  opening : (edits : List Edit) (t : TableName) (front xs : List Line) → Before family t edits front → xs ≡ front → Tells edits (Within t Declaring [] []) (xs ++ line.Section t ∷ [])
+  opening edits t front xs b e = record {
+    front = front;
+    before = b;
+    section = no_rows t;
+    holds = (refl, refl);
+    lines = ap (λ l. l ++ line.Section t ∷ []) e;
+  }
+
+  -- no section stands after that of the filter table, and only that one after that of the nat table
+  no_more : (t : TableName) → may_open (Some second) t ≡ false
+  no_more t = by family t
+    where
+      by : (family : Family) (t : TableName) → may_open (Some (filter_of family)) t ≡ false
+      by V4 Nat = refl
+      by V4 Filter = refl
+      by V4 Nat6 = refl
+      by V4 Filter6 = refl
+      by V6 Nat = refl
+      by V6 Filter = refl
+      by V6 Nat6 = refl
+      by V6 Filter6 = refl
+
+  not_twice : may_open (Some first) first ≡ false
+  not_twice = by family
+    where
+      by : (family : Family) → may_open (Some (nat_of family)) (nat_of family) ≡ false
+      by V4 = refl
+      by V6 = refl
+
+  open_by : (edits : List Edit) (last : Option TableName) (t : TableName) (xs : List Line) → Behind family last edits xs → (t ≡ first) ⊎ (t ≡ second) → may_open last t ≡ true → Tells edits (Within t Declaring [] []) (xs ++ line.Section t ∷ [])
+  open_by edits last t xs (BehindNone l e x) (inl is) m = opening edits t [] xs (BeforeNat is e refl) x
+  open_by edits last t xs (BehindNone l e x) (inr is) m = opening edits t [] xs (BeforeFilter is [] (no_rows first) e refl) x
+  open_by edits last t xs (BehindNat l n s e x) (inl is) m = absurd (false≢true (sym ((λ i. may_open (l i) (is i)) ∙ not_twice) ∙ m))
+  open_by edits last t xs (BehindNat l n s e x) (inr is) m = opening edits t xs xs (BeforeFilter is n s e x) refl
+  open_by edits last t xs (BehindFilter l n f s r e x) is m = absurd (false≢true (sym (ap (λ o. may_open o t) l ∙ no_more t) ∙ m))
+
+  open_holds : (edits : List Edit) (last : Option TableName) (t : TableName) (next : BatchReader) (xs : List Line) → IsTableOf family t → Behind family last edits xs
+      → opened edits last (line.Section t) ≡ Some next → Tells next.edits next.phase (xs ++ line.Section t ∷ [])
+  open_holds edits last t next xs of b e =
+      let step = cond_some (may_open last t) (record { edits = edits; phase = Within t Declaring [] [] }) next e in
+      subst (λ n. Tells n.edits n.phase (xs ++ line.Section t ∷ [])) step.1 (open_by edits last t xs b (which_table family t of) step.0)
+
+  led_holds : (edits : List Edit) (t : TableName) (part : Part) (passed left : List Row) (x : Line) (next : BatchReader) (xs : List Line)
+      → InSection family edits t part passed left xs → Led edits t (passed ++ left) x next → Tells next.edits next.phase (xs ++ x ∷ [])
+  led_holds edits t part passed left x next xs s l =
+      subst (λ n. Tells n.edits n.phase (xs ++ x ∷ [])) (sym l.is) (record {
+        front = s.front;
+        before = s.before;
+        section = l.section;
+        holds = l.holds;
+        lines = ap (λ q. q ++ x ∷ []) s.lines ∙ append_assoc s.front (open_parts t (passed ++ left)) (x ∷ []) ∙ ap (λ q. s.front ++ q) (sym l.parts);
+      })
+
+  -- a section is over
+  over : (edits : List Edit) (t : TableName) (rows : List Row) (front xs : List Line) → Before family t edits front → IsSection t rows → xs ≡ front ++ parts_if t rows → Behind family (Some t) (edits ++ edits_of t rows) xs
+  over edits t rows front xs (BeforeNat is e p) s all =
+      BehindNat (ap (λ u. Some u) is) rows (subst (λ u. IsSection u rows) is s)
+      ((λ i. e i ++ edits_of (is i) rows)) (all ∙ (λ i. p i ++ parts_if (is i) rows))
+  over edits t rows front xs (BeforeFilter is n r e p) s all =
+      BehindFilter (ap (λ u. Some u) is) n rows r (subst (λ u. IsSection u rows) is s)
+      (λ i. e i ++ edits_of (is i) rows) (all ∙ (λ i. p i ++ parts_if (is i) rows))
+
+  commit_holds : (edits : List Edit) (t : TableName) (part : Part) (passed left : List Row) (next : BatchReader) (xs : List Line) → InSection family edits t part passed left xs
+      → committed edits t (passed ++ left) ≡ Some next → Tells next.edits next.phase (xs ++ line.Commit ∷ [])
+  commit_holds edits t part passed left next xs s e =
+      let step = cond_other (is_empty (passed ++ left)) (record { edits = edits ++ edits_of t (passed ++ left); phase = Between (Some t) }) next e in
+      let all : xs ++ line.Commit ∷ [] ≡ s.front ++ parts_if t (passed ++ left) =
+      ap (λ q. q ++ line.Commit ∷ []) s.lines ∙ append_assoc s.front (open_parts t (passed ++ left)) (line.Commit ∷ []) ∙ ap (λ q. s.front ++ q) (some_parts t (passed ++ left) step.0)
+      in
+      subst (λ n. Tells n.edits n.phase (xs ++ line.Commit ∷ [])) step.1 (over edits t (passed ++ left) s.front (xs ++ line.Commit ∷ []) s.before s.section all)
+
+  step_holds : (edits : List Edit) (phase : BatchPhase) (x : Line) (next : BatchReader) (xs : List Line) → is_canonical_line family x ≡ true → Tells edits phase xs → step_in edits phase x ≡ Some next → Tells next.edits next.phase (xs ++ x ∷ [])
+  step_holds edits (Between last) (line.Section t) next xs g b e = open_holds edits last t next xs g b e
+  step_holds edits (Within t part passed left) (line.Declared c) next xs g s e =
+      led_holds edits t part passed left (line.Declared c) next xs s (declare_holds edits t part passed left c next s.section s.holds e)
+  step_holds edits (Within t part passed left) (line.Ruled c r) next xs g s e =
+      led_holds edits t part passed left (line.Ruled c r) next xs s (ruled_holds edits t part passed left c r next s.section s.holds e)
+  step_holds edits (Within t part passed left) (line.Removed c) next xs g s e =
+      led_holds edits t part passed left (line.Removed c) next xs s (removed_holds edits t part passed left c next s.section s.holds e)
+  step_holds edits (Within t part passed left) line.Commit next xs g s e = commit_holds edits t part passed left next xs s e
+  step_holds edits phase x next xs g h e = absurd (none-some next e)
+
+  run_holds : (s : BatchReader) (ys xs : List Line) (next : BatchReader) → list_all (is_canonical_line family) xs ≡ true → Tells s.edits s.phase ys → run step s xs ≡ Some next → Tells next.edits next.phase (ys ++ xs)
+  run_holds s ys [] next g h e = subst (λ n. Tells n.edits n.phase (ys ++ [])) (same_Some s next e) (subst (Tells s.edits s.phase) (sym (append-nil ys)) h)
+  run_holds s ys (x ∷ xs) next g h e =
+      let good = and_parts (is_canonical_line family x) (list_all (is_canonical_line family) xs) g in
+      by (step s x) refl e good.0 (λ m k. run_holds m (ys ++ x ∷ []) xs next good.1 k)
+    where
+      by : (o : Option BatchReader) → step s x ≡ o → option_and_then (λ m. run step m xs) o ≡ Some next → is_canonical_line family x ≡ true
+          → ((m : BatchReader) → Tells m.edits m.phase (ys ++ x ∷ []) → run step m xs ≡ Some next → Tells next.edits next.phase ((ys ++ x ∷ []) ++ xs))
+          → Tells next.edits next.phase (ys ++ x ∷ xs)
+      by None f e good later = absurd (none-some next e)
+      by (Some m) f e good later =
+          subst (Tells next.edits next.phase) (append_assoc ys (x ∷ []) xs) (later m (step_holds s.edits s.phase x m ys good h f) e)
+
+  -- what the reader has taken from the start
+  pub told : (xs : List Line) (s : BatchReader) → list_all (is_canonical_line family) xs ≡ true → run step start xs ≡ Some s → Tells s.edits s.phase xs
+  told xs s g e = run_holds start [] xs s g (BehindNone refl refl refl) e

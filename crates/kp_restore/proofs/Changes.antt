@@ -8,28 +8,32 @@ use Rattle.std.specs.FinMap.Entries.{is_sorted, below_all}
 use Rattle.std.specs.List.{list_all, filter_map, cons_option, AllByRecursion}
 use Rattle.std.proofs.lemmas.Bool.{and_parts, and_from, false≢true}
 use Rattle.std.proofs.lemmas.Cmp.{tied_itself}
+use Rattle.std.proofs.lemmas.List.{append-nil}
 use Rattle.kp_base.specs.declared.address.Family.{Family}
+use Rattle.kp_base.specs.declared.address.Family.TheVariants.{V4, V6}
 use Rattle.kp_base.specs.Keys.{text_cmp}
 use Rattle.kp_types.specs.Chains.{is_chain_name}
-use Rattle.kp_types.specs.Places.{chain_cmp, table_place}
+use Rattle.kp_types.specs.Places.{chain_cmp, table_place, nat_of, filter_of}
 use Rattle.kp_types.specs.declared.chain.TableName.{TableName}
-use Rattle.kp_types.specs.declared.chain.TableName.TheVariants.{Nat, Filter}
 use Rattle.kp_types.specs.declared.chain.ChainAt.{ChainAt}
 use Rattle.kp_types.specs.declared.rule.Rule.{Rule}
 use Rattle.kp_types.specs.declared.rule.Edit.{Edit}
 use Rattle.kp_types.specs.declared.rule.Edit.TheVariants.{Write, Remove}
 use Rattle.kp_types.proofs.ChainOrder.{chain_total, one_table_from_test}
-use Rattle.kp_table_defs.specs.Edits.{chains_after_edit, is_found_with, write_if_changed, remove_if_gone, chains_in, table_changes, changes_between}
-use Rattle.kp_table_defs.specs.Ranks.{is_built_in, has_built_in_chains}
+use Rattle.kp_table_defs.specs.Edits.{chains_after_edit, is_found_with, write_if_changed, remove_if_gone, chains_in, table_changes, changes_of, changes_between}
+use Rattle.kp_table_defs.specs.Ranks.{is_built_in}
 use Rattle.kp_table_defs.specs.Rebuild.{Chains}
 use Rattle.kp_rules.proofs.ChangeLists.{Entries}
+use Rattle.kp_rules.proofs.OtherFamily.{no_changes_beside}
 use Rattle.kp_rules.proofs.ChangesLead.{In_option, all_filter_map, changes_lead, same_rules_exact}
 use Rattle.kp_restore_defs.specs.RuleText.{is_canonical_rule}
-use Rattle.kp_restore_defs.specs.TableText.{may_stand, is_canonical_chain, is_canonical_table}
+use Rattle.kp_restore_defs.specs.TableText.{may_stand, is_canonical_chain, is_chain_of, is_canonical_table}
 use Rattle.kp_restore_defs.specs.BatchText.{place_of, kind_place, edit_cmp, are_in_order, is_same_place, edit_each_once, is_canonical_edit, is_canonical_batch}
 use Rattle.kp_restore_defs.specs.BatchesBetween.{HaveSameBuiltIn, ChangesAreCanonical, ReadChangesLeadOver}
 use Rattle.kp_restore.proofs.Tests.{all_true, none_of}
+use Rattle.kp_restore.proofs.BatchEdits.{tied_table, stands_before, stands_apart}
 use Rattle.kp_restore.proofs.BatchTexts.{batch_texts_differ}
+use Rattle.kp_restore.proofs.TableReading.{canonical_parts}
 use Rattle.kp_lemmas.proofs.ListFacts.{test_weaker, all_append, all_both, all_filter, all_tested, all_weaker}
 use Rattle.kp_lemmas.proofs.Booleans.{both_facts}
 use Rattle.kp_lemmas.proofs.Orders.{less_from_fact}
@@ -134,12 +138,14 @@ entries_stand chains table f each =
 module _ (family : Family) (before after : Chains) (first : is_canonical_table family before ≡ true) (second : is_canonical_table family after ≡ true) (same : HaveSameBuiltIn before after) where
   -- an entry of a canonical table
   abbrev IsEntry : Chains → ChainAt × List Rule → Type 0
-  IsEntry chains e = (get chains e.0 ≡ Some e.1) × (is_canonical_chain family chains e ≡ true)
+  IsEntry chains e = (get chains e.0 ≡ Some e.1) × ((is_canonical_chain family chains e ≡ true) × (is_chain_of family e ≡ true))
 
   entries_are : (chains : Chains) → is_canonical_table family chains ≡ true → AllByRecursion (IsEntry chains) (entries chains)
   entries_are chains h =
-      all_both (λ e. get chains e.0 ≡ Some e.1) (λ e. is_canonical_chain family chains e ≡ true) (entries chains) (entries_found chain_total chains)
-      (all_tested (is_canonical_chain family chains) (entries chains) (and_parts (has_built_in_chains chains) _ h).1)
+      let parts = canonical_parts family chains h in
+      all_both (λ e. get chains e.0 ≡ Some e.1) (λ e. (is_canonical_chain family chains e ≡ true) × (is_chain_of family e ≡ true)) (entries chains) (entries_found chain_total chains)
+      (all_both (λ e. is_canonical_chain family chains e ≡ true) (λ e. is_chain_of family e ≡ true) (entries chains)
+      (all_tested (is_canonical_chain family chains) (entries chains) parts.bounded) (all_tested (is_chain_of family) (entries chains) parts.alone))
 
   -- a write of a chain of the table, as the second table has it
   abbrev IsWriteIn : TableName → Edit → Type 0
@@ -155,12 +161,12 @@ module _ (family : Family) (before after : Chains) (first : is_canonical_table f
   write_is table e h = by (is_found_with e.1 (get before e.0)) refl
     where
       named : is_chain_name e.0.chain ≡ true
-      named = (and_parts (is_chain_name e.0.chain) (list_all (may_stand family after e.0.table) e.1) h.0.1).0
+      named = (and_parts (is_chain_name e.0.chain) (list_all (may_stand family after e.0.table) e.1) h.0.1.0).0
 
       ruled : list_all (is_canonical_rule family) e.1 ≡ true
       ruled =
           test_weaker (may_stand family after e.0.table) (is_canonical_rule family) (λ r k. (and_parts (is_canonical_rule family r) _ k).0) e.1
-          (and_parts (is_chain_name e.0.chain) (list_all (may_stand family after e.0.table) e.1) h.0.1).1
+          (and_parts (is_chain_name e.0.chain) (list_all (may_stand family after e.0.table) e.1) h.0.1.0).1
 
       other : (b : Bool) → is_built_in e.0.table e.0.chain ≡ b → is_found_with e.1 (get before e.0) ≡ false → not b ≡ true
       other false t k = refl
@@ -168,7 +174,7 @@ module _ (family : Family) (before after : Chains) (first : is_canonical_table f
 
       by : (b : Bool) → is_found_with e.1 (get before e.0) ≡ b → In_option (IsWriteIn table) (cond b None (Some (Write e.0 e.1)))
       by true k = tt
-      by false k = (one_table_from_test e.0.table table h.1, (h.0.0, and_from _ _ named (and_from _ _ (other (is_built_in e.0.table e.0.chain) refl k) ruled)))
+      by false k = (one_table_from_test e.0.table table h.1, (h.0.0, and_from _ _ h.0.1.1 (and_from _ _ named (and_from _ _ (other (is_built_in e.0.table e.0.chain) refl k) ruled))))
 
   remove_is : (table : TableName) (e : ChainAt × List Rule) → IsEntry before e × (table_place e.0.table == table_place table ≡ true) → In_option (IsRemoveIn table) (remove_if_gone after e)
   remove_is table e h = by (get after e.0) refl
@@ -184,7 +190,7 @@ module _ (family : Family) (before after : Chains) (first : is_canonical_table f
       by (Some rules) k = tt
       by None k = (
         one_table_from_test e.0.table table h.1,
-        (k, and_from _ _ (and_parts (is_chain_name e.0.chain) _ h.0.1).0 (and_from _ _ (other (is_built_in e.0.table e.0.chain) refl k) refl)),
+        (k, and_from _ _ h.0.1.1 (and_from _ _ (and_parts (is_chain_name e.0.chain) _ h.0.1.0).0 (and_from _ _ (other (is_built_in e.0.table e.0.chain) refl k) refl))),
       )
 
   -- both kinds of changes of a table
@@ -218,8 +224,7 @@ module _ (family : Family) (before after : Chains) (first : is_canonical_table f
   )
     where
       kinds : (t : TableName) → is_lt (ordering_then (nat_cmp (table_place t) (table_place t)) (ordering_then (nat_cmp 0 1) (text_cmp at.chain to.chain))) ≡ true
-      kinds Nat = refl
-      kinds Filter = refl
+      kinds t = ap is_lt (tied_table t (ordering_then (nat_cmp 0 1) (text_cmp at.chain to.chain)))
 
       there : Some rules ≡ None → ⊥
       there k = cc
@@ -252,28 +257,35 @@ module _ (family : Family) (before after : Chains) (first : is_canonical_table f
       (all_weaker (IsWriteIn table) (IsGoodIn table) (good_write table) (writes table) (all_writes table))
       (all_weaker (IsRemoveIn table) (IsGoodIn table) (good_remove table) (removes table) (all_removes table))
 
-  tables_stand : (a b : Edit) → IsGoodIn Nat a → IsGoodIn Filter b → StandsBefore a b
-  tables_stand a b n f =
-      let parts : Ordering = ordering_then (nat_cmp (kind_place a) (kind_place b)) (text_cmp (place_of a).chain (place_of b).chain) in (
-        λ i. is_lt (ordering_then (nat_cmp (table_place (n.0 i)) (table_place (f.0 i))) parts),
-        λ i. table_place (n.0 i) == table_place (f.0 i) && bytes_eq (place_of a).chain (place_of b).chain,
-      )
+  tables_stand : (a b : Edit) → IsGoodIn (nat_of family) a → IsGoodIn (filter_of family) b → StandsBefore a b
+  tables_stand a b n f = (stands_before family a b n.0 f.0, stands_apart family a b n.0 f.0)
 
-  canonical : is_canonical_batch family (changes_between before after) ≡ true
+  canonical : is_canonical_batch family (changes_of family before after) ≡ true
   canonical =
-      let stand = pairs_append StandsBefore (table_changes before after Nat) (table_changes before after Filter) (changes_stand Nat) (changes_stand Filter)
-      (all_weaker (IsGoodIn Nat) (λ a. AllByRecursion (StandsBefore a) (table_changes before after Filter))
-      (λ a n. all_weaker (IsGoodIn Filter) (StandsBefore a) (λ b f. tables_stand a b n f) (table_changes before after Filter) (all_good Filter)) (table_changes before after Nat) (all_good Nat)) in
+      let nat = nat_of family in
+      let filter = filter_of family in
+      let stand = pairs_append StandsBefore (table_changes before after nat) (table_changes before after filter) (changes_stand nat) (changes_stand filter)
+      (all_weaker (IsGoodIn nat) (λ a. AllByRecursion (StandsBefore a) (table_changes before after filter))
+      (λ a n. all_weaker (IsGoodIn filter) (StandsBefore a) (λ b f. tables_stand a b n f) (table_changes before after filter) (all_good filter)) (table_changes before after nat) (all_good nat)) in
       let good : (table : TableName) → AllByRecursion (λ e. is_canonical_edit family e ≡ true) (table_changes before after table) =
       λ table. all_weaker (IsGoodIn table) (λ e. is_canonical_edit family e ≡ true) (λ e g. g.1) (table_changes before after table) (all_good table) in
       and_from _ _
-      (all_true (is_canonical_edit family) (λ e. is_canonical_edit family e ≡ true) (λ e h. h) (changes_between before after) (all_append (λ e. is_canonical_edit family e ≡ true) _ _ (good Nat) (good Filter)))
-      (and_from _ _ (in_order (changes_between before after) stand) (once (changes_between before after) stand))
+      (all_true (is_canonical_edit family) (λ e. is_canonical_edit family e ≡ true) (λ e h. h) (changes_of family before after) (all_append (λ e. is_canonical_edit family e ≡ true) _ _ (good nat) (good filter)))
+      (and_from _ _ (in_order (changes_of family before after) stand) (once (changes_of family before after) stand))
+
+-- tables of one family have no changes of the other
+pub own_changes : (family : Family) (before after : Chains) → is_canonical_table family before ≡ true → is_canonical_table family after ≡ true → changes_between before after ≡ changes_of family before after
+own_changes V4 before after g h =
+    ap (λ es. changes_of V4 before after ++ es) (no_changes_beside V4 V6 refl before after (canonical_parts V4 before g).alone (canonical_parts V4 after h).alone)
+    ∙ append-nil (changes_of V4 before after)
+own_changes V6 before after g h =
+    ap (λ es. es ++ changes_of V6 before after) (no_changes_beside V6 V4 refl before after (canonical_parts V6 before g).alone (canonical_parts V6 after h).alone)
 
 pub changes_canonical : ChangesAreCanonical
 changes_canonical family before after first second same = canonical family before after first second same
 
 pub read_changes_lead : ReadChangesLeadOver
 read_changes_lead family before after first second same edits good text =
-    ap (fold chains_after_edit before) (batch_texts_differ family edits (changes_between before after) good (canonical family before after first second same) text)
+    ap (fold chains_after_edit before)
+    (batch_texts_differ family edits (changes_of family before after) good (canonical family before after first second same) text ∙ sym (own_changes family before after first second))
     ∙ changes_lead before after

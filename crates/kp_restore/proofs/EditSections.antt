@@ -8,17 +8,19 @@ use Rattle.std.proofs.lemmas.List.{append-nil}
 use Rattle.std.proofs.lemmas.List.Folds.{flat_map-map}
 use Rattle.std.proofs.Math.Seq.{drop-cons}
 use Rattle.kp_base.specs.Keys.{text_cmp}
+use Rattle.kp_base.specs.declared.address.Family.{Family}
+use Rattle.kp_types.specs.Places.{nat_of, filter_of}
 use Rattle.kp_types.specs.declared.chain.TableName.{TableName}
-use Rattle.kp_types.specs.declared.chain.TableName.TheVariants.{Nat, Filter}
 use Rattle.kp_types.specs.declared.chain.ChainAt.{ChainAt}
 use Rattle.kp_types.specs.declared.rule.Edit.{Edit}
 use Rattle.kp_object_defs.specs.Order.{in_order, distinct_in_order}
 use Rattle.kp_object_defs.specs.Desired.{is_empty}
 use Rattle.kp_restore_defs.specs.TableText.{text_of_lines, table_line, commit_line}
-use Rattle.kp_restore_defs.specs.BatchText.{place_of, written_lines, removing_lines, edits_in, edits_section, batch_text_of}
+use Rattle.kp_restore_defs.specs.BatchText.{place_of, written_lines, removing_lines, edits_in, edits_section, section_in, batch_text_of}
 use Rattle.kp_restore.specs.Printed.{ended}
 use Rattle.kp_restore.specs.PrintedEdits.{is_in, edits_text, edited_names, with_name, declared_text, written_text, removed_text}
 use Rattle.kp_restore.proofs.Sections.{lines-append}
+use Rattle.kp_lemmas.proofs.ListFacts.{added_twice}
 use Rattle.kp_lemmas.proofs.Entries.{put_keys}
 
 -- ---- names
@@ -74,9 +76,13 @@ edits_added table edits names old s1 s2 s3 s4 new some h a b c d e =
     ∙ (λ i. old ++ (ended (table_line table) ++ (flat_map declared_text names ++ (lines_are table written_lines edits i ++ (lines_are table removing_lines edits i ++ ended commit_line)))))
     ∙ ap (λ l. old ++ l) (sym (section_parts table es names h) ∙ ap text_of_lines (sym (cond-false (is_empty es) [] (edits_section table es) (not-true _ (sym (any_edited table edits) ∙ some)))))
 
--- both sections
-pub batch_added : (edits : List Edit) (old s1 new : List ℕ) → s1 ≡ old ++ edits_text Nat edits → new ≡ s1 ++ edits_text Filter edits → new ≡ old ++ batch_text_of edits
-batch_added edits old s1 new p q = simp (q, p, flat_map-append, append_assoc)
+-- both sections of a family
+pub batch_added : (family : Family) (edits : List Edit) (n f : TableName) → n ≡ nat_of family → f ≡ filter_of family → (old s1 new : List ℕ) → s1 ≡ old ++ edits_text n edits → new ≡ s1 ++ edits_text f edits
+    → new ≡ old ++ batch_text_of family edits
+batch_added family edits n f is_nat is_filter old s1 new p q =
+    added_twice old s1 new (edits_text n edits) (edits_text f edits) p q
+    ∙ (λ i. old ++ (edits_text (is_nat i) edits ++ edits_text (is_filter i) edits))
+    ∙ ap (λ l. old ++ l) (sym (lines-append (section_in (nat_of family) edits) (section_in (filter_of family) edits)))
 
 -- the names of the edits from one place before
 pub edit_before : (table : TableName) (edits : List Edit) (i : ℕ) (e : Edit) (at : ChainAt) (names : List (List ℕ)) → 0 < i → i ≤ length edits → e ≡ get_or edits (i - 1) e → at ≡ place_of e → names ≡ edited_names table (drop i edits)

@@ -6,6 +6,7 @@ pub mod BatchTaken
 pub mod BatchTexts
 pub mod Changes
 pub mod EditSections
+pub mod Families
 pub mod LineTexts
 pub mod Machine
 pub mod ReadLines
@@ -15,6 +16,7 @@ pub mod RuleLines
 pub mod Sections
 pub mod Splits
 pub mod TableBack
+pub mod TableFamily
 pub mod TableParts
 pub mod TableReading
 pub mod TableRows

@@ -1,25 +1,34 @@
 -- The texts of lines: no line feed stands in one, and different lines have different texts.
-use Rattle.std.proofs.Common.{◌≡◌, ℕ, ◌==◌, true, false, cond, List, [], ◌∷◌, ◌++◌, codes, drop, refl, sym, ap, ◌∙◌, arith}
+use Rattle.std.proofs.Common.{◌≡◌, ◌⊎◌, ℕ, ◌==◌, true, false, cond, List, [], ◌∷◌, ◌++◌, codes, drop, refl, sym, ap, ◌∙◌, inl, inr, arith}
 use Rattle.std.specs.List.{list_all}
 use Rattle.std.proofs.lemmas.Bool.{and_parts}
 use Rattle.std.proofs.lemmas.Bool.Decides.{nat_tests}
 use Rattle.kp_base.specs.declared.address.Family.{Family}
+use Rattle.kp_base.specs.declared.address.Family.TheVariants.{V4, V6}
 use Rattle.kp_types.specs.Chains.{is_chain_byte}
+use Rattle.kp_types.specs.Places.{nat_of, filter_of}
 use Rattle.kp_types.specs.declared.chain.TableName.{TableName}
-use Rattle.kp_types.specs.declared.chain.TableName.TheVariants.{Nat, Filter}
+use Rattle.kp_types.specs.declared.chain.TableName.TheVariants.{Nat, Filter, Nat6, Filter6}
+use Rattle.kp_restore_defs.specs.TableText.{table_line}
 use Rattle.kp_restore.specs.declared.line.Line.{Line}
 use Rattle.kp_restore.specs.declared.line.Line.TheVariants.{Section, BuiltIn, Declared, Ruled, Removed, Commit}
 use Rattle.kp_restore.specs.Lines.{line_text, is_canonical_line}
 use Rattle.kp_restore.specs.Pieces.{no_line_feed}
 use Rattle.kp_rule_text.proofs.Rules.{lines_differ}
+use Rattle.kp_restore.proofs.Families.{IsTableOf, which_table}
 use Rattle.kp_restore.proofs.RuleLines.{name_plain, both_plain, rule_plain}
 use Rattle.kp_types.proofs.ChainBytes.{name_bytes}
 
 -- ---- No line feed
 
+section_plain : (table : TableName) → no_line_feed (table_line table) ≡ true
+section_plain Nat = refl
+section_plain Filter = refl
+section_plain Nat6 = refl
+section_plain Filter6 = refl
+
 pub line_plain : (family : Family) (l : Line) → is_canonical_line family l ≡ true → no_line_feed (line_text l) ≡ true
-line_plain family (Section Nat) h = refl
-line_plain family (Section Filter) h = refl
+line_plain family (Section table) h = section_plain table
 line_plain family (BuiltIn chain) h = both_plain chain (codes " ACCEPT [0:0]") (name_plain chain h) refl
 line_plain family (Declared chain) h = both_plain chain (codes " - [0:0]") (name_plain chain h) refl
 line_plain family (Ruled chain rule) h = rule_plain family chain rule (and_parts _ _ h).0 (and_parts _ _ h).1
@@ -67,21 +76,32 @@ mark_is : (l : Line) → mark_of_text (line_text l) ≡ mark l
 unfolding mark_of_text first_of_text second_of_text mark
 mark_is (Section Nat) = refl
 mark_is (Section Filter) = refl
+mark_is (Section Nat6) = refl
+mark_is (Section Filter6) = refl
 mark_is (BuiltIn chain) = refl
 mark_is (Declared chain) = refl
 mark_is (Ruled chain rule) = refl
 mark_is (Removed chain) = refl
 mark_is Commit = refl
 
-section_exact : (a b : TableName) → line_text (Section a) ≡ line_text (Section b) → a ≡ b
+sections_differ : (family : Family) → table_line (nat_of family) ≡ table_line (filter_of family) → ⊥
 unfolding second_of_text first_of_text
-section_exact Nat Nat e = refl
-section_exact Filter Filter e = refl
-section_exact a b e = absurd (apart _ _ refl (ap second_of_text e))
+sections_differ V4 e = apart _ _ refl (ap second_of_text e)
+sections_differ V6 e = apart _ _ refl (ap second_of_text e)
+
+-- tables of one family whose lines are one
+section_exact : (family : Family) (a b : TableName) → IsTableOf family a → IsTableOf family b → table_line a ≡ table_line b → a ≡ b
+section_exact family a b g h e = by (which_table family a g) (which_table family b h)
+  where
+    by : (a ≡ nat_of family) ⊎ (a ≡ filter_of family) → (b ≡ nat_of family) ⊎ (b ≡ filter_of family) → a ≡ b
+    by (inl p) (inl q) = p ∙ sym q
+    by (inr p) (inr q) = p ∙ sym q
+    by (inl p) (inr q) = absurd (sections_differ family (ap table_line (sym p) ∙ e ∙ ap table_line q))
+    by (inr p) (inl q) = absurd (sections_differ family (ap table_line (sym q) ∙ sym e ∙ ap table_line p))
 
 pub line_exact : (family : Family) (l m : Line) → is_canonical_line family l ≡ true → is_canonical_line family m ≡ true → line_text l ≡ line_text m → l ≡ m
 unfolding mark first_of_text
-line_exact family (Section a) (Section b) g h e = ap (λ t. Section t) (section_exact a b e)
+line_exact family (Section a) (Section b) g h e = ap (λ t. Section t) (section_exact family a b g h e)
 line_exact family (BuiltIn a) (BuiltIn b) g h e = ap (λ n. BuiltIn n) (cut_at_space a b (codes "ACCEPT [0:0]") (codes "ACCEPT [0:0]") (name_bytes a g) (name_bytes b h) (ap (drop 1) e)).0
 line_exact family (Declared a) (Declared b) g h e = ap (λ n. Declared n) (cut_at_space a b (codes "- [0:0]") (codes "- [0:0]") (name_bytes a g) (name_bytes b h) (ap (drop 1) e)).0
 line_exact family (BuiltIn a) (Declared b) g h e = absurd (apart _ _ refl (ap first_of_text (cut_at_space a b (codes "ACCEPT [0:0]") (codes "- [0:0]") (name_bytes a g) (name_bytes b h) (ap (drop 1) e)).1))

@@ -7,7 +7,7 @@ use Rattle.std.proofs.lemmas.Grind.{flat_map-append}
 use Rattle.std.proofs.lemmas.List.{append-nil, append_cancel_left, map-append, length-map, take_at}
 use Rattle.std.proofs.lemmas.List.Folds.{list_all-append}
 use Rattle.std.proofs.lemmas.Option.{same_Some}
-use Rattle.kp_base.specs.declared.address.Family.TheVariants.{V4}
+use Rattle.kp_base.specs.declared.address.Family.{Family}
 use Rattle.kp_restore_defs.specs.FirstBadLine.{ended_lines, IsFirstBadLine}
 use Rattle.kp_restore_defs.specs.TableText.{text_of_lines}
 use Rattle.kp_restore.specs.declared.fault.TextFault.{TextFault}
@@ -29,15 +29,15 @@ pub record IsBadFrom {V : Type 0} (has_text : V → Type 0) (lines_of : V → Li
   pub none : (v : V) → has_text v → text_of_lines (lines_of v) ≡ bytes → ⊥
   pub first : IsFirstBadLine has_text lines_of bytes number
 
-module _ {S : Type 0} {step : S → Line → Option S} {start : S} where
-  read_more : {bytes : List ℕ} {s t : S} {rest : List ℕ} {number : ℕ} → IsRead step start bytes s rest number
-      → (line behind : List ℕ) → rest ≡ line ++ 10 ∷ behind → IsTaken step s line t → IsRead step start bytes t behind (number + 1)
+module _ {family : Family} {S : Type 0} {step : S → Line → Option S} {start : S} where
+  read_more : {bytes : List ℕ} {s t : S} {rest : List ℕ} {number : ℕ} → IsRead family step start bytes s rest number
+      → (line behind : List ℕ) → rest ≡ line ++ 10 ∷ behind → IsTaken family step s line t → IsRead family step start bytes t behind (number + 1)
   read_more {bytes} {s} {t} {rest} {number} r line behind ended (x, is_good, is, goes) =
       let xs = r.lines in
       let texts : map line_text (xs ++ x ∷ []) ≡ map line_text xs ++ line ∷ [] = map-append line_text xs (x ∷ []) ∙ ap (λ l. map line_text xs ++ l ∷ []) is in
       record {
         lines = xs ++ x ∷ [];
-        canonical = list_all-append (is_canonical_line V4) xs (x ∷ []) ∙ and_from _ _ r.canonical (and_from _ _ is_good refl);
+        canonical = list_all-append (is_canonical_line family) xs (x ∷ []) ∙ and_from _ _ r.canonical (and_from _ _ is_good refl);
         ran = run_one step start s t xs x r.ran goes;
         cut = r.cut ∙ ap (λ l. text_of_lines (map line_text xs) ++ l) ended ∙ text_behind (map line_text xs) line behind ∙ ap (λ ls. text_of_lines ls ++ behind) (sym texts);
         counted = omega (arith, length-append xs (x ∷ []), r.counted);
@@ -45,13 +45,13 @@ module _ {S : Type 0} {step : S → Line → Option S} {start : S} where
       }
 
   -- a line that is ended, and that a call took
-  pub read_taken : {bytes : List ℕ} {s : S} {rest : List ℕ} {number : ℕ} → IsRead step start bytes s rest number
-      → (line behind : List ℕ) → rest ≡ line ++ 10 ∷ behind → (t : S) (found : Option S) → found ≡ Some t → IfSome found (IsTaken step s line) → IsRead step start bytes t behind (number + 1)
-  read_taken {s = s} r line behind ended t found is taken = read_more r line behind ended (subst (λ o. IfSome o (IsTaken step s line)) is taken)
+  pub read_taken : {bytes : List ℕ} {s : S} {rest : List ℕ} {number : ℕ} → IsRead family step start bytes s rest number
+      → (line behind : List ℕ) → rest ≡ line ++ 10 ∷ behind → (t : S) (found : Option S) → found ≡ Some t → IfSome found (IsTaken family step s line) → IsRead family step start bytes t behind (number + 1)
+  read_taken {s = s} r line behind ended t found is taken = read_more r line behind ended (subst (λ o. IfSome o (IsTaken family step s line)) is taken)
 
-module _ {S V : Type 0} {step : S → Line → Option S} {start : S} {IsEnd : S → Type 0} {value : S → V} {has_text : V → Type 0} {lines_of : V → List (List ℕ)} {parts : V → List Line}
-    (reader : IsReader step start IsEnd value line_text (is_canonical_line V4) has_text lines_of parts) where
-  module _ {bytes : List ℕ} {s : S} {rest : List ℕ} {number : ℕ} (r : IsRead step start bytes s rest number) where
+module _ {family : Family} {S V : Type 0} {step : S → Line → Option S} {start : S} {IsEnd : S → Type 0} {value : S → V} {has_text : V → Type 0} {lines_of : V → List (List ℕ)} {parts : V → List Line}
+    (reader : IsReader step start IsEnd value line_text (is_canonical_line family) has_text lines_of parts) where
+  module _ {bytes : List ℕ} {s : S} {rest : List ℕ} {number : ℕ} (r : IsRead family step start bytes s rest number) where
     counted : length (map line_text r.lines) + 1 ≡ number
     counted = omega (arith, length-map r.lines line_text, r.counted)
 
@@ -67,7 +67,7 @@ module _ {S V : Type 0} {step : S → Line → Option S} {start : S} {IsEnd : S 
         (b.0, b.1, ap (take (number - 1)) lines ∙ first more ∙ sym (ap (take (number - 1)) b.3 ∙ first (map line_text b.2)))
 
     -- a line is ended and isn't taken
-    refused : (line behind : List ℕ) → rest ≡ line ++ 10 ∷ behind → no_line_feed line ≡ true → IsRefused step s line → IsBadFrom has_text lines_of bytes number
+    refused : (line behind : List ℕ) → rest ≡ line ++ 10 ∷ behind → no_line_feed line ≡ true → IsRefused family step s line → IsBadFrom has_text lines_of bytes number
     refused line behind ended plain stuck =
         let lines : ended_lines bytes ≡ map line_text r.lines ++ line ∷ ended_lines behind =
         ap ended_lines (r.cut ∙ ap (λ t. text_of_lines (map line_text r.lines) ++ t) ended) ∙ ended_with_line (map line_text r.lines) plain_lines line behind plain
@@ -108,12 +108,12 @@ module _ {S V : Type 0} {step : S → Line → Option S} {start : S} {IsEnd : S 
         }
 
   -- a text that isn't read to an end
-  pub bad_from : {bytes : List ℕ} {number : ℕ} → (s : S) × (rest : List ℕ) × IsRead step start bytes s rest number × IsStuck step IsEnd s rest → IsBadFrom has_text lines_of bytes number
+  pub bad_from : {bytes : List ℕ} {number : ℕ} → (s : S) × (rest : List ℕ) × IsRead family step start bytes s rest number × IsStuck family step IsEnd s rest → IsBadFrom has_text lines_of bytes number
   bad_from (s, rest, r, Refused line behind ended plain stuck) = refused r line behind ended plain stuck
   bad_from (s, rest, r, Unfinished plain owed) = unfinished r plain owed
 
   -- one that is
-  pub finished : {bytes : List ℕ} {s : S} {number : ℕ} → IsRead step start bytes s [] number → IsEnd s → has_text (value s) × (text_of_lines (lines_of (value s)) ≡ bytes)
+  pub finished : {bytes : List ℕ} {s : S} {number : ℕ} → IsRead family step start bytes s [] number → IsEnd s → has_text (value s) × (text_of_lines (lines_of (value s)) ≡ bytes)
   finished {s = s} r end =
       let sound = reader.sound r.lines s r.canonical r.ran end in
       (sound.0, ap text_of_lines (reader.printed (value s) sound.0 ∙ ap (map line_text) sound.1) ∙ sym (r.cut ∙ append-nil (text_of_lines (map line_text r.lines))))

@@ -11,7 +11,7 @@ use Rattle.std.specs.Cmp.Lexicographic.{nat_list_eq_equiv}
 use Rattle.kp_base.specs.Keys.{text_cmp}
 use Rattle.kp_types.specs.Places.{chain_cmp}
 use Rattle.kp_types.specs.declared.chain.TableName.{TableName}
-use Rattle.kp_types.specs.declared.chain.TableName.TheVariants.{Nat, Filter}
+use Rattle.kp_types.specs.declared.chain.TableName.TheVariants.{Nat, Filter, Nat6, Filter6}
 use Rattle.kp_types.specs.declared.chain.ChainAt.{ChainAt}
 use Rattle.kp_types.specs.declared.rule.Rule.{Rule}
 use Rattle.kp_types.proofs.ChainOrder.{chain_total}
@@ -62,6 +62,8 @@ turned_false x y h = nat_list_eq_equiv.symm y x ∙ h
 pub tie : (table : TableName) (a b : List ℕ) → eq_by_cmp chain_cmp (at table a) (at table b) ≡ bytes_eq a b
 tie Nat a b = is_eq-slice_cmp a b
 tie Filter a b = is_eq-slice_cmp a b
+tie Nat6 a b = is_eq-slice_cmp a b
+tie Filter6 a b = is_eq-slice_cmp a b
 
 pub find_rows : (table : TableName) (rows : List Row) (name : List ℕ) → find chain_cmp (at table name) (entries_of table rows) ≡ rules_in rows name
 find_rows table [] name = refl

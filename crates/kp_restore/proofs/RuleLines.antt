@@ -1,12 +1,9 @@
 -- No line feed stands in the line of a canonical rule.
 use Rattle.std.proofs.Common.{◌≡◌, ℕ, ◌%◌, ◌^◌, ◌<◌, ◌==◌, Bool, true, false, not, nat_le, List, [], ◌∷◌, ◌++◌, map, codes, decimal, refl, ◌∙◌, inl, inr, arith}
-use Rattle.std.specs.List.{list_all, flat_map, All}
-use Rattle.std.specs.Net.Text.{dotted_text}
+use Rattle.std.specs.List.{list_all, flat_map}
 use Rattle.std.proofs.lemmas.Bool.{and_parts, and_from}
 use Rattle.std.proofs.lemmas.Bool.Decides.{nat_tests}
-use Rattle.std.proofs.lemmas.List.Elements.{All-head, All-tail}
 use Rattle.std.proofs.lemmas.List.Folds.{list_all-map}
-use Rattle.std.proofs.NetLemmas.Alphabet.{IsHexOrColon, All-hex_groups_text}
 use Rattle.kp_base.specs.Dotted.{is_digit}
 use Rattle.kp_base.specs.Net.{RangeParts, width}
 use Rattle.kp_base.specs.declared.address.Family.{Family}
@@ -20,11 +17,10 @@ use Rattle.kp_types.specs.declared.rule.Match.TheVariants as match
 use Rattle.kp_types.specs.declared.rule.Target.{Target}
 use Rattle.kp_types.specs.declared.rule.Target.TheVariants as target
 use Rattle.kp_types.specs.declared.rule.Rule.{Rule}
-use Rattle.kp_choice_defs.specs.AddressText.{octet_at, segments_of, number_text, address_text, host_text, endpoint_text}
+use Rattle.kp_choice_defs.specs.AddressText.{number_text, address_text, host_text, endpoint_text}
 use Rattle.kp_choice_defs.specs.Draws.{digit_at, probability_text_of}
 use Rattle.kp_restore_defs.specs.RuleText.{joined, range_text, proto_word, not_words, match_words, target_words, rule_line, is_canonical_range, is_port_number, is_canonical_endpoint, is_canonical_match, is_canonical_target, is_canonical_rule}
-use Rattle.kp_rule_text.proofs.AddressWords.{dotted_bytes, is_dotted_byte}
-use Rattle.kp_rule_text.proofs.FamilyWords.{segments_low}
+use Rattle.kp_rule_text.proofs.AddressWords.{is_host_byte, number_bytes}
 use Rattle.kp_rule_text.proofs.Words.{number_digits, port_digits}
 use Rattle.kp_restore.specs.Pieces.{no_line_feed}
 use Rattle.kp_lemmas.proofs.ListFacts.{test_always, test_append, test_weaker}
@@ -43,13 +39,6 @@ chain_byte b h = grind (arith, nat_tests)
 digit_byte : (b : ℕ) → is_digit b ≡ true → no_feed b ≡ true
 digit_byte b h = grind (arith, nat_tests)
 
-dotted_byte : (b : ℕ) → is_dotted_byte b ≡ true → no_feed b ≡ true
-dotted_byte b h = grind (arith, nat_tests)
-
-hex_byte : (b : ℕ) → IsHexOrColon b → no_feed b ≡ true
-hex_byte b (inl h) = grind (arith, nat_tests)
-hex_byte b (inr h) = grind (arith, nat_tests)
-
 pub name_plain : (name : List ℕ) → is_chain_name name ≡ true → no_line_feed name ≡ true
 name_plain name h = test_weaker is_chain_byte no_feed chain_byte name (name_bytes name h)
 
@@ -64,19 +53,12 @@ port_plain n h = test_weaker is_digit no_feed digit_byte (decimal n) (port_digit
 
 -- ---- Addresses
 
-dotted_plain : (a b c d : ℕ) → a < 256 → b < 256 → c < 256 → d < 256 → no_line_feed (dotted_text a b c d) ≡ true
-dotted_plain a b c d la lb lc ld = test_weaker is_dotted_byte no_feed dotted_byte (dotted_text a b c d) (dotted_bytes a b c d la lb lc ld)
-
-all_plain : (bs : List ℕ) → All IsHexOrColon bs → no_line_feed bs ≡ true
-all_plain [] h = refl
-all_plain (b ∷ bs) h = and_from _ _ (hex_byte b (All-head IsHexOrColon b bs h)) (all_plain bs (All-tail IsHexOrColon b bs h))
-
-octet_low : (n : ℕ) → n % 2 ^ 8 < 256
-octet_low n = omega arith
+host_byte : (family : Family) (b : ℕ) → is_host_byte family b ≡ true → no_feed b ≡ true
+host_byte V4 b h = grind (arith, nat_tests)
+host_byte V6 b h = grind (arith, nat_tests)
 
 pub address_plain : (family : Family) (n : ℕ) → no_line_feed (number_text family n) ≡ true
-address_plain V4 n = dotted_plain (octet_at n 3) (octet_at n 2) (octet_at n 1) (octet_at n 0) (octet_low _) (octet_low _) (octet_low _) (octet_low _)
-address_plain V6 n = all_plain (number_text V6 n) (All-hex_groups_text (segments_of n) (segments_low n))
+address_plain family n = test_weaker (is_host_byte family) no_feed (host_byte family) (number_text family n) (number_bytes family n)
 
 width_low : (family : Family) → width family < 2 ^ 64
 width_low V4 = omega arith

@@ -7,18 +7,18 @@ use Rattle.std.proofs.lemmas.List.Concat.{flat_map_single}
 use denote.Ref.{Bor}
 use Rattle.std.proofs.lemmas.List.{append-nil, map-append}
 use Rattle.std.proofs.lemmas.List.Elements.{filter-append}
-use Rattle.kp_types.specs.Places.{table_place}
+use Rattle.kp_base.specs.declared.address.Family.{Family}
+use Rattle.kp_types.specs.Places.{table_place, nat_of, filter_of}
 use Rattle.kp_types.specs.declared.chain.TableName.{TableName}
-use Rattle.kp_types.specs.declared.chain.TableName.TheVariants.{Nat, Filter}
 use Rattle.kp_types.specs.declared.chain.ChainAt.{ChainAt}
 use Rattle.kp_types.specs.declared.rule.Rule.{Rule}
 use Rattle.kp_table_defs.specs.Rebuild.{Chains}
 use Rattle.kp_table_defs.specs.Edits.{chains_in}
-use Rattle.kp_table_defs.specs.Ranks.{built_in_chains, is_built_in}
+use Rattle.kp_table_defs.specs.Ranks.{nat_chains, filter_chains, built_in_chains, is_built_in}
 use Rattle.kp_restore_defs.specs.RuleText.{rule_line}
 use Rattle.kp_restore_defs.specs.TableText.{text_of_lines, table_line, commit_line, built_in_line, declared_line, Row, row_at, built_in_rows, other_rows, row_lines, section_of, section_text_of, table_text_of, section_lines}
 use Rattle.kp_rules.proofs.ChangeLists.{Entries}
-use Rattle.kp_restore.specs.Printed.{ended, place, if_there, built_in_places, is_other, other_places, chain_text, rules_text, rules_at}
+use Rattle.kp_restore.specs.Printed.{ended, place, if_there, places_there, built_in_places, is_other, other_places, chain_text, rules_text, rules_at}
 use Rattle.kp_lemmas.proofs.ListFacts.{added_twice, all_filter}
 use Rattle.kp_lemmas.proofs.Entries.{entries_found}
 use Rattle.kp_types.proofs.ChainOrder.{chain_total}
@@ -159,15 +159,18 @@ places_more table ps at made more e m =
     ∙ ap (filter (is_other table)) (sym (map-append now ps (at ∷ [])))))
 
 -- the places of the built-in chains, one after the other
-pub nat_added : (chains : Chains) (old s1 s2 s3 new : List ChainAt) → s1 ≡ old ++ if_there chains (place Nat (codes "PREROUTING")) → s2 ≡ s1 ++ if_there chains (place Nat (codes "INPUT")) → s3 ≡ s2 ++ if_there chains (place Nat (codes "OUTPUT"))
-    → new ≡ s3 ++ if_there chains (place Nat (codes "POSTROUTING")) → new ≡ old ++ built_in_places chains Nat
-nat_added chains old s1 s2 s3 new a b c d = simp (d, c, b, a, append_assoc, append-nil)
+pub nat_added : (chains : Chains) (table : TableName) (old s1 s2 s3 new : List ChainAt) → s1 ≡ old ++ if_there chains (place table (codes "PREROUTING")) → s2 ≡ s1 ++ if_there chains (place table (codes "INPUT")) → s3 ≡ s2 ++ if_there chains (place table (codes "OUTPUT"))
+    → new ≡ s3 ++ if_there chains (place table (codes "POSTROUTING")) → new ≡ old ++ places_there chains table nat_chains
+nat_added chains table old s1 s2 s3 new a b c d = simp (d, c, b, a, append_assoc, append-nil)
 
-pub filter_added : (chains : Chains) (old s1 s2 new : List ChainAt) → s1 ≡ old ++ if_there chains (place Filter (codes "INPUT")) → s2 ≡ s1 ++ if_there chains (place Filter (codes "FORWARD")) → new ≡ s2 ++ if_there chains (place Filter (codes "OUTPUT"))
-    → new ≡ old ++ built_in_places chains Filter
-filter_added chains old s1 s2 new a b c = simp (c, b, a, append_assoc, append-nil)
+pub filter_added : (chains : Chains) (table : TableName) (old s1 s2 new : List ChainAt) → s1 ≡ old ++ if_there chains (place table (codes "INPUT")) → s2 ≡ s1 ++ if_there chains (place table (codes "FORWARD")) → new ≡ s2 ++ if_there chains (place table (codes "OUTPUT"))
+    → new ≡ old ++ places_there chains table filter_chains
+filter_added chains table old s1 s2 new a b c = simp (c, b, a, append_assoc, append-nil)
 
--- both sections
-pub table_added : (chains : Chains) (old s1 new : List ℕ) → s1 ≡ old ++ section_text_of chains Nat → new ≡ s1 ++ section_text_of chains Filter → new ≡ old ++ table_text_of chains
-table_added chains old s1 new p q =
-    added_twice old s1 new (section_text_of chains Nat) (section_text_of chains Filter) p q ∙ ap (λ l. old ++ l) (sym (lines-append (section_lines chains Nat) (section_lines chains Filter)))
+-- both sections of a family
+pub table_added : (family : Family) (chains : Chains) (n f : TableName) → n ≡ nat_of family → f ≡ filter_of family → (old s1 new : List ℕ) → s1 ≡ old ++ section_text_of chains n → new ≡ s1 ++ section_text_of chains f
+    → new ≡ old ++ table_text_of family chains
+table_added family chains n f is_nat is_filter old s1 new p q =
+    added_twice old s1 new (section_text_of chains n) (section_text_of chains f) p q
+    ∙ (λ i. old ++ (section_text_of chains (is_nat i) ++ section_text_of chains (is_filter i)))
+    ∙ ap (λ l. old ++ l) (sym (lines-append (section_lines chains (nat_of family)) (section_lines chains (filter_of family))))

@@ -12,13 +12,14 @@ use Rattle.std.proofs.lemmas.Option.{same_Some}
 use Rattle.kp_base.specs.Keys.{text_cmp}
 use Rattle.kp_types.specs.Places.{chain_cmp, table_place}
 use Rattle.kp_types.specs.declared.chain.TableName.{TableName}
-use Rattle.kp_types.specs.declared.chain.TableName.TheVariants.{Nat, Filter}
+use Rattle.kp_types.specs.declared.chain.TableName.TheVariants.{Nat, Filter, Nat6, Filter6}
 use Rattle.kp_types.specs.declared.chain.ChainAt.{ChainAt}
 use Rattle.kp_types.specs.declared.rule.Rule.{Rule}
 use Rattle.kp_types.proofs.ChainOrder.{chain_total, chain_exact, one_table_from_test}
 use Rattle.kp_table_defs.specs.Ranks.{built_in_chains, is_built_in, has_built_in}
 use Rattle.kp_table_defs.specs.Rebuild.{Chains}
 use Rattle.kp_restore_defs.specs.TableText.{Row, row_at, built_in_rows, other_rows}
+use Rattle.kp_restore.proofs.Families.{table_tied}
 use Rattle.kp_restore.proofs.Rows.{at, entries_of, rules_in, names_of, distinct, rising, Agree, turned_false, find_rows, is_some_rules, none_of, no_rules, rules_append, agree, agree_front, agree_same, rows_again}
 use Rattle.kp_lemmas.proofs.Orders.{equal_from_test, lesser_text_differs}
 use Rattle.kp_lemmas.proofs.Booleans.{true_from_fact}
@@ -64,6 +65,8 @@ distinct_append (n ∷ ns) ms g h f =
 built_in_distinct : (table : TableName) → distinct (built_in_chains table) ≡ true
 built_in_distinct Nat = refl
 built_in_distinct Filter = refl
+built_in_distinct Nat6 = refl
+built_in_distinct Filter6 = refl
 
 pub section_distinct : (table : TableName) (built_in others : List Row) → IsSection table built_in others → distinct (names_of (built_in ++ others)) ≡ true
 section_distinct table built_in others s =
@@ -107,21 +110,17 @@ one_entry p chains a q rules f = one_in p (entries chains) a q rules (sym (get-e
 
 -- ---- The rows of a table
 
-pub table_tied : (table : TableName) → (table_place table == table_place table) ≡ true
-table_tied Nat = refl
-table_tied Filter = refl
-
-table_apart : (table : TableName) (q : ChainAt) (name : List ℕ) → (table_place q.table == table_place table) ≡ false → eq_by_cmp chain_cmp q (at table name) ≡ false
-table_apart table q name h = by q.table table h
-  where
-    by : (a b : TableName) → (table_place a == table_place b) ≡ false → eq_by_cmp chain_cmp (at a q.chain) (at b name) ≡ false
-    by Nat Filter e = refl
-    by Filter Nat e = refl
-    by a b e = absurd (false≢true (sym e))
+-- places in two tables differ
+pub table_apart : (table : TableName) (q : ChainAt) (name : List ℕ) → (table_place q.table == table_place table) ≡ false → eq_by_cmp chain_cmp q (at table name) ≡ false
+table_apart table q name h =
+    false_from_ne_true (eq_by_cmp chain_cmp q (at table name))
+    (λ e. false≢true (sym h ∙ ap (λ (p : ChainAt). table_place p.table == table_place table) (chain_exact q (at table name) (equal_from_test _ e)) ∙ table_tied table))
 
 less_at : (table : TableName) (n m : List ℕ) → is_lt (chain_cmp (at table n) (at table m)) ≡ is_lt (text_cmp n m)
 less_at Nat n m = refl
 less_at Filter n m = refl
+less_at Nat6 n m = refl
+less_at Filter6 n m = refl
 
 below_names : (table : TableName) (n : List ℕ) (rows : List Row) → below_all chain_cmp (at table n) (entries_of table rows) ≡ list_all (λ m. is_lt (text_cmp n m)) (names_of rows)
 below_names table n [] = refl

@@ -9,7 +9,7 @@ use Rattle.std.proofs.lemmas.Bool.{and_parts, and_from, not-true, or_parts, or_r
 use Rattle.std.proofs.lemmas.List.{map-append, append-nil, drop-drop, drop_all, length_push}
 use Rattle.kp_types.specs.Places.{chain_cmp}
 use Rattle.kp_types.specs.declared.chain.TableName.{TableName}
-use Rattle.kp_types.specs.declared.chain.TableName.TheVariants.{Nat, Filter}
+use Rattle.kp_types.specs.declared.chain.TableName.TheVariants.{Nat, Filter, Nat6, Filter6}
 use Rattle.kp_types.specs.declared.rule.Rule.{Rule}
 use Rattle.kp_types.specs.declared.rule.Target.{Target}
 use Rattle.kp_types.specs.declared.rule.Target.TheVariants as target
@@ -24,7 +24,8 @@ use Rattle.kp_restore.specs.declared.table_reader.Phase.TheVariants.{Opening, De
 use Rattle.kp_restore.specs.Machine.{run}
 use Rattle.kp_restore.specs.TableSteps.{step, put, phase_after, is_behind, may_follow, declared, with_rule, ruled, declaring}
 use Rattle.kp_restore.proofs.Rows.{at, names_of, distinct, rising, empty_row, with_rows, with_section}
-use Rattle.kp_restore.proofs.TableRows.{IsSection, section_distinct, table_tied}
+use Rattle.kp_restore.proofs.TableRows.{IsSection, section_distinct}
+use Rattle.kp_restore.proofs.Families.{table_tied}
 use Rattle.kp_restore.proofs.TableParts.{row_parts, section_parts}
 use Rattle.kp_lemmas.proofs.ListFacts.{test_weaker, test_always}
 
@@ -201,6 +202,8 @@ follow_from table last (c ∷ cs) b a r =
 pub follow_first : (table : TableName) (cs : List (List ℕ)) → list_all (λ m. not (is_built_in table m)) cs ≡ true → rising cs ≡ true → Follow table (slice_get (built_in_chains table) (length (built_in_chains table) - 1)) cs
 follow_first Nat cs a r = follow_from Nat (codes "POSTROUTING") cs (test_always (λ m. is_built_in Nat (codes "POSTROUTING") || is_lt (text_cmp (codes "POSTROUTING") m)) (λ m. refl) cs) a r
 follow_first Filter cs a r = follow_from Filter (codes "OUTPUT") cs (test_always (λ m. is_built_in Filter (codes "OUTPUT") || is_lt (text_cmp (codes "OUTPUT") m)) (λ m. refl) cs) a r
+follow_first Nat6 cs a r = follow_from Nat6 (codes "POSTROUTING") cs (test_always (λ m. is_built_in Nat6 (codes "POSTROUTING") || is_lt (text_cmp (codes "POSTROUTING") m)) (λ m. refl) cs) a r
+follow_first Filter6 cs a r = follow_from Filter6 (codes "OUTPUT") cs (test_always (λ m. is_built_in Filter6 (codes "OUTPUT") || is_lt (text_cmp (codes "OUTPUT") m)) (λ m. refl) cs) a r
 
 pub dropped_all : {A : Type 0} (xs ys : List A) → drop (length (xs ++ ys)) xs ≡ []
 dropped_all xs ys = drop_all (length (xs ++ ys)) xs (omega (arith, length-append xs ys))

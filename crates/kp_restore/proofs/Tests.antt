@@ -1,7 +1,7 @@
 -- What tests say of all elements of a list.
-use Rattle.std.proofs.Common.{◌≡◌, Bool, true, false, not, ◌&&◌, ◌||◌, List, [], ◌∷◌, refl, ap, ◌∙◌}
-use Rattle.std.specs.List.{list_all, list_any, flat_map, AllByRecursion}
-use Rattle.std.proofs.lemmas.Bool.{and_parts, and_from}
+use Rattle.std.proofs.Common.{◌≡◌, Bool, true, false, cond, not, ◌&&◌, ◌||◌, List, [], ◌∷◌, refl, ap, ◌∙◌}
+use Rattle.std.specs.List.{list_all, list_any, filter, flat_map, AllByRecursion}
+use Rattle.std.proofs.lemmas.Bool.{and_parts, and_from, not-true}
 use Rattle.std.proofs.lemmas.List.Folds.{list_all-append}
 
 -- what follows from two tests
@@ -26,3 +26,16 @@ none_of p (x ∷ xs) = elim (p x) as (λ b. not (b || list_any p xs) ≡ (not b 
 pub all_flat : {A B : Type 0} (p : B → Bool) (f : A → List B) (xs : List A) → list_all p (flat_map f xs) ≡ list_all (λ x. list_all p (f x)) xs
 all_flat p f [] = refl
 all_flat p f (x ∷ xs) = list_all-append p (f x) (flat_map f xs) ∙ ap (λ b. list_all p (f x) && b) (all_flat p f xs)
+
+-- what all or none pass
+pub filter_all : {X : Type 0} (p : X → Bool) (xs : List X) → list_all p xs ≡ true → filter p xs ≡ xs
+filter_all p [] h = refl
+filter_all p (x ∷ xs) h =
+    let k = and_parts _ _ h in
+    ap (λ b. cond b (x ∷ filter p xs) (filter p xs)) k.0 ∙ ap (λ l. x ∷ l) (filter_all p xs k.1)
+
+pub filter_none : {X : Type 0} (p : X → Bool) (xs : List X) → list_all (λ x. not (p x)) xs ≡ true → filter p xs ≡ []
+filter_none p [] h = refl
+filter_none p (x ∷ xs) h =
+    let k = and_parts _ _ h in
+    ap (λ b. cond b (x ∷ filter p xs) (filter p xs)) (not-true (p x) k.0) ∙ filter_none p xs k.1

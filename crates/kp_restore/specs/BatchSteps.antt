@@ -4,7 +4,7 @@ use Rattle.std.specs.List.{flat_map}
 use Rattle.std.specs.Ordering.{is_lt}
 use Rattle.kp_base.specs.Keys.{text_cmp}
 use Rattle.kp_types.specs.declared.chain.TableName.{TableName}
-use Rattle.kp_types.specs.declared.chain.TableName.TheVariants.{Nat, Filter}
+use Rattle.kp_types.specs.declared.chain.TableName.TheVariants.{Nat, Filter, Nat6, Filter6}
 use Rattle.kp_types.specs.declared.rule.Rule.{Rule}
 use Rattle.kp_types.specs.declared.rule.Edit.{Edit}
 use Rattle.kp_types.specs.declared.rule.Edit.TheVariants.{Write, Remove}
@@ -39,12 +39,12 @@ edits_of section rows = flat_map (written section) rows ++ flat_map (removed sec
 abbrev pub start : BatchReader
 start = record { edits = []; phase = Between None }
 
--- a section may stand behind the last one
+-- a section may stand after the last one: the filter table's after the nat table's
 abbrev pub may_open : Option TableName → TableName → Bool
 may_open None table = true
-may_open (Some Nat) Nat = false
 may_open (Some Nat) Filter = true
-may_open (Some Filter) table = false
+may_open (Some Nat6) Filter6 = true
+may_open (Some last) table = false
 
 -- the first line of a section
 abbrev pub opened : List Edit → Option TableName → Line → Option BatchReader

@@ -23,9 +23,13 @@ place table name = record { table = table; chain = name }
 abbrev pub if_there : Chains → ChainAt → List ChainAt
 if_there chains at = cond (is_some (finite.get chains at)) (at ∷ []) []
 
+-- the places of those of some chains that there are
+abbrev pub places_there : Chains → TableName → List (List ℕ) → List ChainAt
+places_there chains table names = flat_map (λ name. if_there chains (place table name)) names
+
 -- the places of the built-in chains that there are
 abbrev pub built_in_places : Chains → TableName → List ChainAt
-built_in_places chains table = flat_map (λ name. if_there chains (place table name)) (built_in_chains table)
+built_in_places chains table = places_there chains table (built_in_chains table)
 
 -- a chain of a table that isn't built in
 abbrev pub is_other : TableName → ChainAt → Bool

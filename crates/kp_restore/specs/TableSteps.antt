@@ -3,9 +3,10 @@ use Rattle.std.specs.Prelude.{◌≡◌, ℕ, ◌-◌, ◌==◌, ◌&&◌, ◌||
 use Rattle.std.specs.Ordering.{is_lt}
 use Rattle.std.specs.FinMap as finite
 use Rattle.kp_base.specs.Keys.{text_cmp}
+use Rattle.kp_base.specs.declared.address.Family.{Family}
 use Rattle.kp_types.specs.declared.chain.TableName.{TableName}
-use Rattle.kp_types.specs.declared.chain.TableName.TheVariants.{Nat, Filter}
-use Rattle.kp_types.specs.Places.{table_place}
+use Rattle.kp_types.specs.declared.chain.TableName.TheVariants.{Nat, Filter, Nat6, Filter6}
+use Rattle.kp_types.specs.Places.{table_place, nat_of}
 use Rattle.kp_types.specs.declared.rule.Rule.{Rule}
 use Rattle.kp_table_defs.specs.Ranks.{built_in_chains, is_built_in}
 use Rattle.kp_table_defs.specs.Rebuild.{TableParts}
@@ -20,14 +21,16 @@ use Rattle.kp_restore.specs.declared.table_reader.TableReader.{TableReader}
 abbrev pub put : TableParts → TableName → List ℕ → List Rule → TableParts
 put t section chain rules = record t { chains = finite.insert t.chains (record { table = section; chain = chain }) rules }
 
--- nothing is read
-abbrev pub start : TableReader
-start = record { table = record { chains = finite.empty; syncs = 0 }; phase = Opening Nat }
+-- nothing is read of a family's text
+abbrev pub start : Family → TableReader
+start family = record { table = record { chains = finite.empty; syncs = 0 }; phase = Opening (nat_of family) }
 
 -- what comes behind a section
 abbrev pub phase_after : TableName → Phase
 phase_after Nat = Opening Filter
 phase_after Filter = Done
+phase_after Nat6 = Opening Filter6
+phase_after Filter6 = Done
 
 -- ---- Declarations
 

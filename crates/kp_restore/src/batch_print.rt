@@ -1,33 +1,55 @@
 //! Edits are printed as `iptables-restore --noflush` takes them.
 ghost use Rattle.std.specs.Prelude.{◌≡◌, ◌++◌, IfOk, OnOk, string_bytes};
 ghost use Rattle.std.specs.List.{flat_map, list_any};
+ghost use Rattle.kp_base.specs.declared.address.Family.TheVariants.{V4, V6};
 ghost use Rattle.kp_restore_defs.specs.BatchText as defs;
 ghost use Rattle.kp_restore.specs.PrintedEdits as spec;
 
 use crate::print::{push, push_chain, push_chain_rules, push_line, table_line};
-use kp_base::{NoMemory, Text};
+use crate::tables::{filter_of, nat_of};
+use kp_base::{Family, NoMemory, Text};
 use kp_types::{Batch, ChainAt, ChainName, Edit, TableName};
 use std::alloc::Global;
 use std::collections::BTreeSet;
 
-/// The edits as iptables-restore(8) takes them with `--noflush`: a section for each table with an
-/// edit, nat before filter. It declares each chain that is written or removed, by bytes, has the
-/// rules that are written, and then removes chains.
+/// The edits of IPv4's tables as iptables-restore(8) takes them with `--noflush`: a section for
+/// each table with an edit, nat before filter. It declares each chain that is written or removed,
+/// by bytes, has the rules that are written, and then removes chains.
 pub fn batch_text(alloc: Global, batch: &Batch) -> Result<Text, NoMemory>
-    ensures { IfOk result (λ t. t ≡ defs.batch_text_of batch.now.edits) }
+    ensures { IfOk result (λ t. t ≡ defs.batch_text_of V4 batch.now.edits) }
+{
+    family_text(alloc, batch, Family::V4)
+}
+
+/// The edits of IPv6's tables as ip6tables-restore(8) takes them with `--noflush`, in the form of
+/// `batch_text`.
+pub fn batch_text_six(alloc: Global, batch: &Batch) -> Result<Text, NoMemory>
+    ensures { IfOk result (λ t. t ≡ defs.batch_text_of V6 batch.now.edits) }
+{
+    family_text(alloc, batch, Family::V6)
+}
+
+/// The edits of a family's tables.
+fn family_text(alloc: Global, batch: &Batch, family: Family) -> Result<Text, NoMemory>
+    ensures { IfOk result (λ t. t ≡ defs.batch_text_of family batch.now.edits) }
 {
     let mut text = String::new(alloc);
-    push_batch(alloc, &mut text, batch.edits.as_slice())?;
+    push_batch(alloc, &mut text, batch.edits.as_slice(), family)?;
     Text::from_string(text)
 }
 
-/// Adds the sections of both tables' edits.
-fn push_batch(alloc: Global, text: &mut String, edits: &[Edit]) -> Result<(), NoMemory>
+/// Adds the sections of the edits of both tables of a family.
+fn push_batch(
+    alloc: Global,
+    text: &mut String,
+    edits: &[Edit],
+    family: Family,
+) -> Result<(), NoMemory>
     ensures { OnOk result (string_bytes text.new
-        ≡ string_bytes text.old ++ defs.batch_text_of edits.now) }
+        ≡ string_bytes text.old ++ defs.batch_text_of family edits.now) }
 {
-    push_edits(alloc, text, edits, TableName::Nat)?;
-    push_edits(alloc, text, edits, TableName::Filter)
+    push_edits(alloc, text, edits, nat_of(family))?;
+    push_edits(alloc, text, edits, filter_of(family))
 }
 
 /// Adds the section of one table's edits, if there are any.

@@ -7,7 +7,7 @@ use crate::line::Line;
 use crate::line_machine::LineMachine;
 use crate::lists::with_last;
 use crate::row::{Row, with_rule};
-use kp_base::{Items, NoMemory, Shared};
+use kp_base::{Family, Items, NoMemory, Shared};
 use kp_rules::is_built_in;
 use kp_types::{Batch, ChainAt, ChainName, Edit, Rule, TableName};
 use std::alloc::Global;
@@ -50,7 +50,7 @@ pub(crate) struct BatchReader {
 impl LineMachine for BatchReader {
     type Value = Batch;
 
-    ghost start = { spec.start };
+    ghost start = { λ _. spec.start };
 
     ghost step = { spec.step };
 
@@ -58,7 +58,7 @@ impl LineMachine for BatchReader {
 
     ghost says = { λ reader batch. batch.edits ≡ reader.edits };
 
-    fn start(alloc: Global) -> Result<BatchReader, NoMemory> {
+    fn start(alloc: Global, _family: Family) -> Result<BatchReader, NoMemory> {
         Ok(BatchReader {
             edits: Items::new(alloc),
             phase: BatchPhase::Between { last: None },
@@ -109,13 +109,14 @@ fn opened(
     }
 }
 
-/// Whether a section may stand behind the last one.
+/// Whether a section may stand after the last one: the filter table's after the nat table's.
 fn may_open(last: Option<TableName>, section: TableName) -> bool
     ensures { result ≡ spec.may_open last section }
 {
     match (last, section) {
         (None, _) => true,
         (Some(TableName::Nat), TableName::Filter) => true,
+        (Some(TableName::Nat6), TableName::Filter6) => true,
         (Some(_), _) => false,
     }
 }

@@ -1,7 +1,6 @@
 //! The built-in chains of the tables (iptables(8)), and which chain may be declared next.
 ghost use Rattle.std.specs.Prelude.{◌≡◌, option_map, slice_get};
 ghost use Rattle.kp_table_defs.specs.Ranks as ranks;
-ghost use Rattle.kp_types.specs.declared.chain.TableName.TheVariants.{Nat, Filter};
 ghost use Rattle.kp_restore.specs.TableSteps as spec;
 
 use kp_rules::is_built_in;
@@ -13,14 +12,14 @@ pub(crate) fn built_in_at(section: TableName, place: usize) -> Option<&'static s
         ≡ slice_get (ranks.built_in_chains section) place }
 {
     match section {
-        TableName::Nat => nat_at(place),
-        TableName::Filter => filter_at(place),
+        TableName::Nat | TableName::Nat6 => nat_at(place),
+        TableName::Filter | TableName::Filter6 => filter_at(place),
     }
 }
 
 fn nat_at(place: usize) -> Option<&'static str>
     ensures { option_map (λ name. name.now) result
-        ≡ slice_get (ranks.built_in_chains Nat) place }
+        ≡ slice_get (ranks.nat_chains) place }
 {
     match place {
         0 => Some("PREROUTING"),
@@ -33,7 +32,7 @@ fn nat_at(place: usize) -> Option<&'static str>
 
 fn filter_at(place: usize) -> Option<&'static str>
     ensures { option_map (λ name. name.now) result
-        ≡ slice_get (ranks.built_in_chains Filter) place }
+        ≡ slice_get (ranks.filter_chains) place }
 {
     match place {
         0 => Some("INPUT"),

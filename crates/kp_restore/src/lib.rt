@@ -17,10 +17,11 @@ mod print;
 mod read;
 mod row;
 mod table_reader;
+mod tables;
 
-pub use batch_print::batch_text;
+pub use batch_print::{batch_text, batch_text_six};
 pub use fault::TextFault;
 pub use kp_rules::Table;
 pub use kp_types::Batch;
-pub use print::{section_text, table_text};
-pub use read::{read_batch, read_table};
+pub use print::{section_text, table_text, table_text_six};
+pub use read::{read_batch, read_batch_six, read_table, read_table_six};

@@ -1,12 +1,13 @@
 //! The lines of restore text, each without its line feed (iptables-restore(8)).
 ghost use Rattle.std.specs.Prelude.{◌≡◌, ◌++◌, List, ℕ, true, None, IfSome};
-ghost use Rattle.kp_base.specs.declared.address.Family.TheVariants.{V4};
 ghost use Rattle.kp_types.specs.Chains.{is_chain_name};
 ghost use Rattle.kp_types.specs.declared.rule.Rule as rule_row;
 ghost use Rattle.kp_restore_defs.specs.RuleText.{is_canonical_rule, rule_line};
 ghost use Rattle.kp_restore.specs.declared.line.Line as line_row;
 ghost use Rattle.kp_restore.specs.Lines.{is_canonical_line, line_text, IsFixed};
 
+use crate::tables::{filter_of, nat_of};
+use kp_base::Family;
 use kp_rule_text::read_rule;
 use kp_types::{ChainName, Rule, TableName};
 
@@ -27,14 +28,14 @@ pub(crate) enum Line {
     Commit,
 }
 
-/// The line that these bytes write, if they do.
-pub(crate) fn read_line(bytes: &[u8]) -> Option<Line>
-    ensures canonical { IfSome result (λ line. is_canonical_line V4 line ≡ true) }
+/// The line that these bytes write in a family's text, if they do.
+pub(crate) fn read_line(family: Family, bytes: &[u8]) -> Option<Line>
+    ensures canonical { IfSome result (λ line. is_canonical_line family line ≡ true) }
     ensures line { IfSome result (λ line. line_text line ≡ bytes.now) }
-    ensures none { result ≡ None → (line : line_row.Line) → is_canonical_line V4 line ≡ true
+    ensures none { result ≡ None → (line : line_row.Line) → is_canonical_line family line ≡ true
         → line_text line ≡ bytes.now → ⊥ }
 {
-    if let Some((chain, rule)) = read_rule(bytes) {
+    if let Some((chain, rule)) = read_rule(family, bytes) {
         return Some(Line::Ruled(chain, rule));
     }
     if let Some(chain) = chain_between(bytes, b":", b" - [0:0]") {
@@ -46,7 +47,7 @@ pub(crate) fn read_line(bytes: &[u8]) -> Option<Line>
     if let Some(chain) = chain_between(bytes, b"-X ", b"") {
         return Some(Line::Removed(chain));
     }
-    read_fixed(bytes)
+    read_fixed(family, bytes)
 }
 
 /// The chain's name that stands between two texts, if one does.
@@ -59,9 +60,9 @@ fn chain_between(bytes: &[u8], front: &[u8], back: &[u8]) -> Option<ChainName>
     ChainName::of(bytes.strip_prefix(front)?.strip_suffix(back)?)
 }
 
-/// The line with no name in it that these bytes write, if they do.
-fn read_fixed(bytes: &[u8]) -> Option<Line>
-    ensures fixed { IfSome result (λ line. IsFixed line) }
+/// The line with no name in it that these bytes write in a family's text, if they do.
+fn read_fixed(family: Family, bytes: &[u8]) -> Option<Line>
+    ensures canonical { IfSome result (λ line. is_canonical_line family line ≡ true) }
     ensures line { IfSome result (λ line. line_text line ≡ bytes.now) }
     ensures none { result ≡ None → (line : line_row.Line) → IsFixed line
         → line_text line ≡ bytes.now → ⊥ }
@@ -69,9 +70,9 @@ fn read_fixed(bytes: &[u8]) -> Option<Line>
     if bytes == b"COMMIT".as_slice() {
         Some(Line::Commit)
     } else if bytes == b"*nat".as_slice() {
-        Some(Line::Section(TableName::Nat))
+        Some(Line::Section(nat_of(family)))
     } else if bytes == b"*filter".as_slice() {
-        Some(Line::Section(TableName::Filter))
+        Some(Line::Section(filter_of(family)))
     } else {
         None
     }

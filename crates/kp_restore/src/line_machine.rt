@@ -1,5 +1,6 @@
 //! Texts that a machine reads line by line.
 ghost use Rattle.std.specs.Prelude.{◌≡◌, ℕ, [], List, Option, IfOk, IfSome, Err, None};
+ghost use Rattle.kp_base.specs.declared.address.Family as family_row;
 ghost use Rattle.kp_restore.specs.Reading.{IsRead, IsRefused, IsStuck, IsTaken};
 ghost use Rattle.kp_restore.specs.declared.fault.TextFault.TheVariants.{BadText};
 ghost use Rattle.kp_restore.specs.declared.line.Line as line_row;
@@ -7,7 +8,7 @@ ghost use Rattle.kp_restore.specs.declared.line.Line as line_row;
 use crate::fault::TextFault;
 use crate::line::{Line, read_line};
 use crate::pieces::first_line;
-use kp_base::NoMemory;
+use kp_base::{Family, NoMemory};
 use std::alloc::Global;
 
 /// A machine that takes the lines of a text one by one.
@@ -15,8 +16,8 @@ pub(crate) trait LineMachine: Drop {
     /// What a text says.
     type Value;
 
-    /// The machine before the first line.
-    ghost start: { Self };
+    /// The machine before the first line of a family's text.
+    ghost start: { family_row.Family → Self };
 
     /// What a further line makes of it, if it takes the line.
     ghost step: { Self → line_row.Line → Option Self };
@@ -28,8 +29,8 @@ pub(crate) trait LineMachine: Drop {
     ghost says: { Self → Self.Value → Type 0 };
 
     /// Nothing is read.
-    fn start(alloc: Global) -> Result<Self, NoMemory>
-        ensures { IfOk result (λ machine. machine ≡ start) };
+    fn start(alloc: Global, family: Family) -> Result<Self, NoMemory>
+        ensures { IfOk result (λ machine. machine ≡ start family) };
 
     /// What is read with one more line, or nothing where no text has the line here.
     fn step(self, alloc: Global, line: Line) -> Result<Option<Self>, NoMemory>
@@ -41,18 +42,23 @@ pub(crate) trait LineMachine: Drop {
         ensures none { result ≡ None → is_end self → ⊥ };
 }
 
-/// What a text says whose lines the machine takes, or the first one that it doesn't take.
-pub(crate) fn read_text<M: LineMachine>(alloc: Global, bytes: &[u8]) -> Result<M::Value, TextFault>
+/// What a family's text says whose lines the machine takes, or the first one that it doesn't take.
+pub(crate) fn read_text<M: LineMachine>(
+    alloc: Global,
+    family: Family,
+    bytes: &[u8],
+) -> Result<M::Value, TextFault>
     ensures ok { IfOk result (λ value. (m : M) × (n : ℕ)
-        × IsRead M.step M.start bytes.now m [] n × M.is_end m × M.says m value) }
+        × IsRead family M.step (M.start family) bytes.now m [] n × M.is_end m × M.says m value) }
     ensures bad { (n : ℕ) → result ≡ Err (BadText n) → (m : M) × (rest : List ℕ)
-        × IsRead M.step M.start bytes.now m rest n × IsStuck M.step M.is_end m rest }
+        × IsRead family M.step (M.start family) bytes.now m rest n
+        × IsStuck family M.step M.is_end m rest }
 {
-    let mut machine = M::start(alloc)?;
+    let mut machine = M::start(alloc, family)?;
     let mut rest = bytes;
     let mut number = 1;
     while let Some((line, behind)) = first_line(rest) {
-        machine = match after_line(alloc, machine, line)? {
+        machine = match after_line(alloc, family, machine, line)? {
             Some(next) => next,
             None => return Err(TextFault::BadText { line: number }),
         };
@@ -65,13 +71,14 @@ pub(crate) fn read_text<M: LineMachine>(alloc: Global, bytes: &[u8]) -> Result<M
 /// What is read with the line of these bytes, or nothing where it isn't taken.
 fn after_line<M: LineMachine>(
     alloc: Global,
+    family: Family,
     machine: M,
     bytes: &[u8],
 ) -> Result<Option<M>, NoMemory>
-    ensures taken { IfOk result (λ next. IfSome next (IsTaken M.step machine bytes.now)) }
-    ensures refused { IfOk result (λ next. next ≡ None → IsRefused M.step machine bytes.now) }
+    ensures taken { IfOk result (λ next. IfSome next (IsTaken family M.step machine bytes.now)) }
+    ensures refused { IfOk result (λ next. next ≡ None → IsRefused family M.step machine bytes.now) }
 {
-    match read_line(bytes) {
+    match read_line(family, bytes) {
         Some(line) => machine.step(alloc, line),
         None => Ok(None),
     }

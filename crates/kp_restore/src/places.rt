@@ -2,7 +2,7 @@
 ghost use Rattle.std.specs.Prelude.{◌≡◌, [], ◌∷◌, ◌++◌, IfOk, OnOk, true};
 ghost use Rattle.std.specs.List.{filter};
 ghost use Rattle.kp_types.specs.Chains.{is_chain_name};
-ghost use Rattle.kp_types.specs.declared.chain.TableName.TheVariants as table_name;
+ghost use Rattle.kp_table_defs.specs.Ranks.{nat_chains, filter_chains};
 ghost use Rattle.kp_restore.specs.Printed as spec;
 
 use kp_base::{Items, NoMemory};
@@ -29,30 +29,30 @@ fn add_built_in(table: &Table, which: TableName, places: &mut Vec<ChainAt>) -> R
         ≡ places.old.items ++ spec.built_in_places table.now.chains which) }
 {
     match which {
-        TableName::Nat => add_nat(table, places),
-        TableName::Filter => add_filter(table, places),
+        TableName::Nat | TableName::Nat6 => add_nat(table, which, places),
+        TableName::Filter | TableName::Filter6 => add_filter(table, which, places),
     }
 }
 
-/// Adds the places of the built-in chains of the nat table.
-fn add_nat(table: &Table, places: &mut Vec<ChainAt>) -> Result<(), NoMemory>
+/// Adds the places of the built-in chains of a nat table.
+fn add_nat(table: &Table, which: TableName, places: &mut Vec<ChainAt>) -> Result<(), NoMemory>
     ensures { OnOk result (places.new.items
-        ≡ places.old.items ++ spec.built_in_places table.now.chains table_name.Nat) }
+        ≡ places.old.items ++ spec.places_there table.now.chains which nat_chains) }
 {
-    add_if_there(table, place(TableName::Nat, "PREROUTING"), places)?;
-    add_if_there(table, place(TableName::Nat, "INPUT"), places)?;
-    add_if_there(table, place(TableName::Nat, "OUTPUT"), places)?;
-    add_if_there(table, place(TableName::Nat, "POSTROUTING"), places)
+    add_if_there(table, place(which, "PREROUTING"), places)?;
+    add_if_there(table, place(which, "INPUT"), places)?;
+    add_if_there(table, place(which, "OUTPUT"), places)?;
+    add_if_there(table, place(which, "POSTROUTING"), places)
 }
 
-/// Adds the places of the built-in chains of the filter table.
-fn add_filter(table: &Table, places: &mut Vec<ChainAt>) -> Result<(), NoMemory>
+/// Adds the places of the built-in chains of a filter table.
+fn add_filter(table: &Table, which: TableName, places: &mut Vec<ChainAt>) -> Result<(), NoMemory>
     ensures { OnOk result (places.new.items
-        ≡ places.old.items ++ spec.built_in_places table.now.chains table_name.Filter) }
+        ≡ places.old.items ++ spec.places_there table.now.chains which filter_chains) }
 {
-    add_if_there(table, place(TableName::Filter, "INPUT"), places)?;
-    add_if_there(table, place(TableName::Filter, "FORWARD"), places)?;
-    add_if_there(table, place(TableName::Filter, "OUTPUT"), places)
+    add_if_there(table, place(which, "INPUT"), places)?;
+    add_if_there(table, place(which, "FORWARD"), places)?;
+    add_if_there(table, place(which, "OUTPUT"), places)
 }
 
 /// The place of a chain.

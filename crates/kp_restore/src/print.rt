@@ -1,12 +1,14 @@
 //! Tables are printed as `iptables-restore` takes them.
 ghost use Rattle.std.specs.Prelude.{◌≡◌, ◌∷◌, ◌++◌, map, IfOk, OnOk, string_bytes};
 ghost use Rattle.std.specs.List.{flat_map};
+ghost use Rattle.kp_base.specs.declared.address.Family.TheVariants.{V4, V6};
 ghost use Rattle.kp_restore_defs.specs.RuleText.{rule_line};
 ghost use Rattle.kp_restore_defs.specs.TableText as defs;
 ghost use Rattle.kp_restore.specs.Printed as spec;
 
 use crate::places::{built_in_places, other_places};
-use kp_base::{NoMemory, Text};
+use crate::tables::{filter_of, nat_of};
+use kp_base::{Family, NoMemory, Text};
 use kp_rule_text::push_rule;
 use kp_rules::Table;
 use kp_types::{ChainAt, ChainName, Rule, TableName};
@@ -22,22 +24,41 @@ pub fn section_text(alloc: Global, table: &Table, which: TableName) -> Result<Te
     Text::from_string(text)
 }
 
-/// Both sections as iptables-restore(8) takes them, nat before filter.
+/// The sections of both IPv4 tables as iptables-restore(8) takes them, nat before filter.
 pub fn table_text(alloc: Global, table: &Table) -> Result<Text, NoMemory>
-    ensures { IfOk result (λ t. t ≡ defs.table_text_of table.now.chains) }
+    ensures { IfOk result (λ t. t ≡ defs.table_text_of V4 table.now.chains) }
+{
+    family_text(alloc, table, Family::V4)
+}
+
+/// The sections of both IPv6 tables as ip6tables-restore(8) takes them, nat before filter.
+pub fn table_text_six(alloc: Global, table: &Table) -> Result<Text, NoMemory>
+    ensures { IfOk result (λ t. t ≡ defs.table_text_of V6 table.now.chains) }
+{
+    family_text(alloc, table, Family::V6)
+}
+
+/// The sections of both tables of a family.
+fn family_text(alloc: Global, table: &Table, family: Family) -> Result<Text, NoMemory>
+    ensures { IfOk result (λ t. t ≡ defs.table_text_of family table.now.chains) }
 {
     let mut text = String::new(alloc);
-    push_table(alloc, &mut text, table)?;
+    push_table(alloc, &mut text, table, family)?;
     Text::from_string(text)
 }
 
-/// Adds both sections.
-fn push_table(alloc: Global, text: &mut String, table: &Table) -> Result<(), NoMemory>
+/// Adds the sections of both tables of a family.
+fn push_table(
+    alloc: Global,
+    text: &mut String,
+    table: &Table,
+    family: Family,
+) -> Result<(), NoMemory>
     ensures { OnOk result (string_bytes text.new
-        ≡ string_bytes text.old ++ defs.table_text_of table.now.chains) }
+        ≡ string_bytes text.old ++ defs.table_text_of family table.now.chains) }
 {
-    push_section(alloc, text, table, TableName::Nat)?;
-    push_section(alloc, text, table, TableName::Filter)
+    push_section(alloc, text, table, nat_of(family))?;
+    push_section(alloc, text, table, filter_of(family))
 }
 
 /// Adds the section of one table.
@@ -65,8 +86,8 @@ pub(crate) fn table_line(which: TableName) -> &'static str
     ensures { result.now ≡ defs.table_line which }
 {
     match which {
-        TableName::Nat => "*nat",
-        TableName::Filter => "*filter",
+        TableName::Nat | TableName::Nat6 => "*nat",
+        TableName::Filter | TableName::Filter6 => "*filter",
     }
 }
 

@@ -9,7 +9,8 @@ use crate::left::Left;
 use crate::line::Line;
 use crate::line_machine::LineMachine;
 use crate::lists::with_last;
-use kp_base::{Items, NoMemory};
+use crate::tables::nat_of;
+use kp_base::{Family, Items, NoMemory};
 use kp_rules::Table;
 use kp_types::{ChainAt, ChainName, Rule, TableName, Target};
 use std::alloc::Global;
@@ -54,11 +55,11 @@ impl LineMachine for TableReader {
 
     ghost says = { λ reader table. table ≡ reader.table };
 
-    fn start(alloc: Global) -> Result<TableReader, NoMemory> {
+    fn start(alloc: Global, family: Family) -> Result<TableReader, NoMemory> {
         Ok(TableReader {
             table: Table::bare(alloc)?,
             phase: Phase::Opening {
-                section: TableName::Nat,
+                section: nat_of(family),
             },
         })
     }
@@ -306,6 +307,9 @@ fn phase_after(section: TableName) -> Phase
         TableName::Nat => Phase::Opening {
             section: TableName::Filter,
         },
-        TableName::Filter => Phase::Done,
+        TableName::Nat6 => Phase::Opening {
+            section: TableName::Filter6,
+        },
+        TableName::Filter | TableName::Filter6 => Phase::Done,
     }
 }

@@ -1,7 +1,7 @@
+pub mod AddressBounds
 pub mod AddressWords
 pub mod Cuts
 pub mod Digits
-pub mod FamilyWords
 pub mod Joined
 pub mod MatchWords
 pub mod Probabilities

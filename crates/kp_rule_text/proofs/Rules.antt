@@ -7,7 +7,6 @@ use Rattle.std.proofs.lemmas.List.{append-nil}
 use Rattle.std.proofs.lemmas.Option.{same_Some}
 use Rattle.kp_base.specs.Dotted.{split_once}
 use Rattle.kp_base.specs.declared.address.Family.{Family}
-use Rattle.kp_base.specs.declared.address.Family.TheVariants.{V4}
 use Rattle.kp_base.specs.declared.port.Proto.TheVariants.{Tcp, Udp, Sctp}
 use Rattle.kp_types.specs.Chains.{is_chain_name}
 use Rattle.kp_types.specs.Rules.{rule_of}
@@ -22,52 +21,52 @@ use Rattle.kp_rule_text.specs.WordReading.{strip, name_word}
 use Rattle.kp_rule_text.specs.Reading.{port_words, Found, match_of, before_rest, matches_of, target_of, behind_name, behind_append, rule_of_line}
 use Rattle.kp_rule_text.proofs.Cuts.{strip_is, cut_is, cut_front}
 use Rattle.kp_rule_text.proofs.Joined.{line_is}
-use Rattle.kp_rule_text.proofs.Words.{if_then, of_some, is_word_byte, names}
-use Rattle.kp_rule_text.proofs.AddressWords.{if_map}
+use Rattle.kp_rule_text.proofs.Words.{if_then, if_map, of_some, is_word_byte, names}
 use Rattle.kp_rule_text.proofs.MatchWords.{IsFound, match_found, HasNoPort, match_read}
 use Rattle.kp_rule_text.proofs.Targets.{target_found, target_read}
 
 -- ---- matches that are read
 
--- the matches are canonical, at most as many, and their texts stand at the front
-record AreFound (n : ℕ) (text : List ℕ) (p : List Match × List ℕ) : Type 0 where
-  valid : list_all (is_canonical_match V4) p.0 ≡ true
-  few : length p.0 ≤ n
-  front : text ≡ flat_map match_text p.0 ++ p.1
-
-found_before : (n : ℕ) (text : List ℕ) (o : Found) → IfSome o (IsFound [] text) → ((rest : List ℕ) → AreFound n rest (matches_of V4 n rest)) → AreFound (suc n) text (before_rest (λ rest. matches_of V4 n rest) text o)
-found_before n text None h more = record { valid = refl; few = omega arith; front = refl }
-found_before n text (Some p) h more =
-    let rest = more p.1 in
-    let few : length (matches_of V4 n p.1).0 ≤ n = rest.few in
-    record {
-      valid = and_from _ _ h.0 rest.valid;
-      few = omega (arith, few);
-      front = h.1 ∙ ap (λ l. match_text p.0 ++ l) rest.front ∙ sym (append_assoc (match_text p.0) (flat_map match_text (matches_of V4 n p.1).0) (matches_of V4 n p.1).1);
-    }
-
-matches_found : (n : ℕ) (text : List ℕ) → AreFound n text (matches_of V4 n text)
-matches_found zero text = record { valid = refl; few = omega arith; front = refl }
-matches_found (suc n) text = found_before n text (match_of V4 text) (match_found text) (matches_found n)
-
 -- matches before what is read of the rest
 abbrev pub after : List Match → List Match × List ℕ → List Match × List ℕ
 after ms p = (ms ++ p.0, p.1)
 
-pub none_left : (n : ℕ) (ms : List Match) (text : List ℕ) → None ≡ match_of V4 text → after ms (matches_of V4 n text) ≡ (ms, text)
-none_left zero ms text e = ap (λ l. (l, text)) (append-nil ms)
-none_left (suc n) ms text e = ap (λ o. after ms (before_rest (λ rest. matches_of V4 n rest) text o)) (sym e) ∙ ap (λ l. (l, text)) (append-nil ms)
+module _ (family : Family) where
+  -- the matches are canonical, at most as many, and their texts stand at the front
+  record AreFound (n : ℕ) (text : List ℕ) (p : List Match × List ℕ) : Type 0 where
+    valid : list_all (is_canonical_match family) p.0 ≡ true
+    few : length p.0 ≤ n
+    front : text ≡ flat_map match_text p.0 ++ p.1
 
-pub all_read : (n : ℕ) (ms : List Match) (text : List ℕ) → n ≡ 0 → after ms (matches_of V4 n text) ≡ (ms, text)
-all_read zero ms text e = ap (λ l. (l, text)) (append-nil ms)
-all_read (suc n) ms text e = absurd (cc)
+  found_before : (n : ℕ) (text : List ℕ) (o : Found) → IfSome o (IsFound family [] text) → ((rest : List ℕ) → AreFound n rest (matches_of family n rest)) → AreFound (suc n) text (before_rest (λ rest. matches_of family n rest) text o)
+  found_before n text None h more = record { valid = refl; few = omega arith; front = refl }
+  found_before n text (Some p) h more =
+      let rest = more p.1 in
+      let few : length (matches_of family n p.1).0 ≤ n = rest.few in
+      record {
+        valid = and_from _ _ h.0 rest.valid;
+        few = omega (arith, few);
+        front = h.1 ∙ ap (λ l. match_text p.0 ++ l) rest.front ∙ sym (append_assoc (match_text p.0) (flat_map match_text (matches_of family n p.1).0) (matches_of family n p.1).1);
+      }
 
-pub one_more : (n k : ℕ) (ms : List Match) (m : Match) (text rest : List ℕ) → n ≡ k + 1 → Some (m, rest) ≡ match_of V4 text → after ms (matches_of V4 n text) ≡ after (ms ++ m ∷ []) (matches_of V4 k rest)
-one_more n k ms m text rest e h =
-    let next : n ≡ suc k = omega (arith, e) in
-    ap (λ n. after ms (matches_of V4 n text)) next
-    ∙ ap (λ o. after ms (before_rest (λ rest. matches_of V4 k rest) text o)) (sym h)
-    ∙ ap (λ l. (l, (matches_of V4 k rest).1)) (sym (append_assoc ms (m ∷ []) (matches_of V4 k rest).0))
+  matches_found : (n : ℕ) (text : List ℕ) → AreFound n text (matches_of family n text)
+  matches_found zero text = record { valid = refl; few = omega arith; front = refl }
+  matches_found (suc n) text = found_before n text (match_of family text) (match_found family text) (matches_found n)
+
+  pub none_left : (n : ℕ) (ms : List Match) (text : List ℕ) → None ≡ match_of family text → after ms (matches_of family n text) ≡ (ms, text)
+  none_left zero ms text e = ap (λ l. (l, text)) (append-nil ms)
+  none_left (suc n) ms text e = ap (λ o. after ms (before_rest (λ rest. matches_of family n rest) text o)) (sym e) ∙ ap (λ l. (l, text)) (append-nil ms)
+
+  pub all_read : (n : ℕ) (ms : List Match) (text : List ℕ) → n ≡ 0 → after ms (matches_of family n text) ≡ (ms, text)
+  all_read zero ms text e = ap (λ l. (l, text)) (append-nil ms)
+  all_read (suc n) ms text e = absurd (cc)
+
+  pub one_more : (n k : ℕ) (ms : List Match) (m : Match) (text rest : List ℕ) → n ≡ k + 1 → Some (m, rest) ≡ match_of family text → after ms (matches_of family n text) ≡ after (ms ++ m ∷ []) (matches_of family k rest)
+  one_more n k ms m text rest e h =
+      let next : n ≡ suc k = omega (arith, e) in
+      ap (λ n. after ms (matches_of family n text)) next
+      ∙ ap (λ o. after ms (before_rest (λ rest. matches_of family k rest) text o)) (sym h)
+      ∙ ap (λ l. (l, (matches_of family k rest).1)) (sym (append_assoc ms (m ∷ []) (matches_of family k rest).0))
 
 -- ---- matches that are printed
 
@@ -151,36 +150,41 @@ matches_read family (suc n) (m ∷ ms) t few valid =
 
 -- ---- lines
 
--- a canonical rule of a chain with this line
-abbrev pub IsRead : List ℕ → List ℕ × Rule → Type 0
-IsRead line p = (is_chain_name p.0 ≡ true) × (is_canonical_rule V4 p.1 ≡ true) × (rule_line p.0 p.1 ≡ line)
+module _ (family : Family) where
+  -- a canonical rule of a chain with this line
+  abbrev pub IsRead : List ℕ → List ℕ × Rule → Type 0
+  IsRead line p = (is_chain_name p.0 ≡ true) × (is_canonical_rule family p.1 ≡ true) × (rule_line p.0 p.1 ≡ line)
 
-rule_valid : (ms : List Match) (t : Target) → length ms ≤ 4 → list_all (is_canonical_match V4) ms ≡ true → is_canonical_target V4 t ≡ true → is_canonical_rule V4 (rule_of ms t) ≡ true
-rule_valid ms t few valid ends =
-    let low : nat_le (length ms) 4 ≡ true = grind (arith, nat_tests, few) in
-    and_from _ _ low (and_from _ _ valid ends)
+  rule_valid : (ms : List Match) (t : Target) → length ms ≤ 4 → list_all (is_canonical_match family) ms ≡ true → is_canonical_target family t ≡ true → is_canonical_rule family (rule_of ms t) ≡ true
+  rule_valid ms t few valid ends =
+      let low : nat_le (length ms) 4 ≡ true = grind (arith, nat_tests, few) in
+      and_from _ _ low (and_from _ _ valid ends)
 
-pub line_found : (line : List ℕ) → IfSome (rule_of_line V4 line) (IsRead line)
-line_found line =
-    if_then (IsRead line) (behind_append V4) (strip (codes "-A ") line)
-    (λ text e. if_then (IsRead line) (λ (word, rest). option_and_then (λ chain. behind_name V4 chain (matches_of V4 4 rest)) (name_word word)) (split_once 32 text)
-    (λ p f. if_then (IsRead line) (λ chain. behind_name V4 chain (matches_of V4 4 p.1)) (name_word p.0)
-    (λ chain g. if_map (IsRead line) (λ t. (chain, rule_of (matches_of V4 4 p.1).0 t)) (target_of V4 (matches_of V4 4 p.1).1)
-    (λ t h.
-    let append = of_some (λ text. line ≡ codes "-A " ++ text) (strip (codes "-A ") line) text (strip_is (codes "-A ") line) e in
-    let cut = of_some (λ p. text ≡ p.0 ++ 32 ∷ p.1) (split_once 32 text) p (cut_is 32 text) f in
-    let name = of_some (λ n. (is_chain_name n ≡ true) × (n ≡ p.0)) (name_word p.0) chain (names.sound p.0) g in
-    let some = matches_found 4 p.1 in
-    let ends = of_some (λ t. (is_canonical_target V4 t ≡ true) × (target_text t ≡ (matches_of V4 4 p.1).1)) (target_of V4 (matches_of V4 4 p.1).1) t (target_found (matches_of V4 4 p.1).1) h in
-    let few : length (matches_of V4 4 p.1).0 ≤ 4 = some.few in (
-      name.0,
-      rule_valid (matches_of V4 4 p.1).0 t few some.valid ends.0,
-      line_is chain (rule_of (matches_of V4 4 p.1).0 t)
-          ∙ ap (λ l. codes "-A " ++ (chain ++ 32 ∷ (flat_map match_text (matches_of V4 4 p.1).0 ++ l))) ends.1
-          ∙ ap (λ l. codes "-A " ++ (chain ++ 32 ∷ l)) (sym some.front)
-          ∙ ap (λ n. codes "-A " ++ (n ++ 32 ∷ p.1)) name.1
-          ∙ ap (λ l. codes "-A " ++ l) (sym cut) ∙ sym append,
-    )))))
+  line_found : (line : List ℕ) → IfSome (rule_of_line family line) (IsRead line)
+  line_found line =
+      if_then (IsRead line) (behind_append family) (strip (codes "-A ") line)
+      (λ text e. if_then (IsRead line) (λ (word, rest). option_and_then (λ chain. behind_name family chain (matches_of family 4 rest)) (name_word word)) (split_once 32 text)
+      (λ p f. if_then (IsRead line) (λ chain. behind_name family chain (matches_of family 4 p.1)) (name_word p.0)
+      (λ chain g. if_map (IsRead line) (λ t. (chain, rule_of (matches_of family 4 p.1).0 t)) (target_of family (matches_of family 4 p.1).1)
+      (λ t h.
+      let append = of_some (λ text. line ≡ codes "-A " ++ text) (strip (codes "-A ") line) text (strip_is (codes "-A ") line) e in
+      let cut = of_some (λ p. text ≡ p.0 ++ 32 ∷ p.1) (split_once 32 text) p (cut_is 32 text) f in
+      let name = of_some (λ n. (is_chain_name n ≡ true) × (n ≡ p.0)) (name_word p.0) chain (names.sound p.0) g in
+      let some = matches_found family 4 p.1 in
+      let ends = of_some (λ t. (is_canonical_target family t ≡ true) × (target_text t ≡ (matches_of family 4 p.1).1)) (target_of family (matches_of family 4 p.1).1) t (target_found family (matches_of family 4 p.1).1) h in
+      let few : length (matches_of family 4 p.1).0 ≤ 4 = some.few in (
+        name.0,
+        rule_valid (matches_of family 4 p.1).0 t few some.valid ends.0,
+        line_is chain (rule_of (matches_of family 4 p.1).0 t)
+            ∙ ap (λ l. codes "-A " ++ (chain ++ 32 ∷ (flat_map match_text (matches_of family 4 p.1).0 ++ l))) ends.1
+            ∙ ap (λ l. codes "-A " ++ (chain ++ 32 ∷ l)) (sym some.front)
+            ∙ ap (λ n. codes "-A " ++ (n ++ 32 ∷ p.1)) name.1
+            ∙ ap (λ l. codes "-A " ++ l) (sym cut) ∙ sym append,
+      )))))
+
+  -- what a reader gives, whose answer is that of the line
+  pub same_line : (line : List ℕ) (o : Option (List ℕ × Rule)) → o ≡ rule_of_line family line → IfSome o (IsRead line)
+  same_line line o e = subst (λ o. IfSome o (IsRead line)) (sym e) (line_found line)
 
 pub line_read : (family : Family) (chain : List ℕ) (rule : Rule) → is_chain_name chain ≡ true → is_canonical_rule family rule ≡ true → rule_of_line family (rule_line chain rule) ≡ Some (chain, rule)
 line_read family chain rule named_well valid =
@@ -196,10 +200,6 @@ line_read family chain rule named_well valid =
     ∙ ap (option_and_then (λ chain. behind_name family chain (matches_of family 4 rest))) (names.complete chain named_well)
     ∙ ap (behind_name family chain) (matches_read family 4 ms t few both.0)
     ∙ ap (option_map (λ t. (chain, rule_of ms t))) (target_read family t both.1)
-
--- what a reader gives, whose answer is that of the line
-pub same_line : (line : List ℕ) (o : Option (List ℕ × Rule)) → o ≡ rule_of_line V4 line → IfSome o (IsRead line)
-same_line line o e = subst (λ o. IfSome o (IsRead line)) (sym e) (line_found line)
 
 pub lines_differ : RuleLinesDiffer
 lines_differ family chain other a b p q v w e =

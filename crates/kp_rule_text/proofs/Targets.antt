@@ -5,7 +5,6 @@ use Rattle.std.proofs.lemmas.Bool.{false_from_ne_true, false≢true}
 use Rattle.std.proofs.lemmas.Option.{IfSome_then}
 use Rattle.std.proofs.lemmas.Slice.Eq.{bytes_eq-Decides}
 use Rattle.kp_base.specs.declared.address.Family.{Family}
-use Rattle.kp_base.specs.declared.address.Family.TheVariants.{V4}
 use Rattle.kp_types.specs.Chains.{is_chain_byte, is_chain_name}
 use Rattle.kp_types.specs.declared.rule.Target.{Target}
 use Rattle.kp_types.specs.declared.rule.Target.TheVariants as target
@@ -14,15 +13,11 @@ use Rattle.kp_rule_text.specs.Lines.{target_text}
 use Rattle.kp_rule_text.specs.WordReading.{strip, endpoint_word, name_word}
 use Rattle.kp_rule_text.specs.Reading.{follow, other_target, plain_target, either, target_of}
 use Rattle.kp_rule_text.proofs.Cuts.{strip_is}
-use Rattle.kp_rule_text.proofs.Words.{if_then, of_some, names}
-use Rattle.kp_rule_text.proofs.AddressWords.{if_map, IsEndpointOf, endpoint_sound}
-use Rattle.kp_rule_text.proofs.FamilyWords.{endpoint_texts}
+use Rattle.kp_rule_text.proofs.Words.{if_then, if_map, of_some, names}
+use Rattle.kp_rule_text.proofs.AddressWords.{IsEndpointOf, endpoint_sound, endpoint_complete}
 use Rattle.kp_types.proofs.ChainBytes.{name_bytes}
 
--- a canonical target whose text is this behind `-j`
-abbrev IsTarget : List ℕ → Target → Type 0
-IsTarget text t = (is_canonical_target V4 t ≡ true) × (target_text t ≡ codes "-j " ++ text)
-
+-- a text that is compared
 if_text : (P : Target → Type 0) (text word : List ℕ) (t : Target) (other : Option Target) → (word ≡ text → P t) → IfSome other P → IfSome (cond (bytes_eq text word) (Some t) other) P
 if_text P text word t other h g = by_test (bytes_eq text word) (λ e. h (sym ((bytes_eq-Decides text word).0 e)))
   where
@@ -30,44 +25,51 @@ if_text P text word t other h g = by_test (bytes_eq text word) (λ e. h (sym ((b
     by_test true k = k refl
     by_test false k = g
 
-plain_found : (text : List ℕ) → IfSome (plain_target text) (IsTarget text)
-plain_found text =
-    let P = IsTarget text in
-    let jump = λ (l : List ℕ). codes "-j " ++ l in
-    if_text P text (codes "RETURN") target.Return _ (λ e. (refl, ap jump e))
-    (if_text P text (codes "ACCEPT") target.Accept _ (λ e. (refl, ap jump e))
-    (if_text P text (codes "DROP") target.Drop _ (λ e. (refl, ap jump e))
-    (if_text P text (codes "REJECT") target.Reject _ (λ e. (refl, ap jump e))
-    (if_text P text (codes "MASQUERADE") target.Masquerade _ (λ e. (refl, ap jump e))
-    (if_text P text (codes "MARK --or-mark 0x4000") target.SetMark _ (λ e. (refl, ap jump e))
-    (if_text P text (codes "MARK --xor-mark 0x4000") target.FlipMark None (λ e. (refl, ap jump e)) tt))))))
-
 follow_target : (P : Target → Type 0) (k : List ℕ → Option Target) (other : Option Target) (o : Option (List ℕ)) → ((rest : List ℕ) → o ≡ Some rest → IfSome (k rest) P) → IfSome other P → IfSome (follow k other o) P
 follow_target P k other None h g = g
 follow_target P k other (Some rest) h g = h rest refl
-
-other_found : (text : List ℕ) → IfSome (other_target V4 text) (IsTarget text)
-other_found text =
-    follow_target (IsTarget text) (λ word. option_map target.Dnat (endpoint_word V4 word)) (option_map target.Jump (name_word text)) (strip (codes "DNAT --to-destination ") text)
-    (λ word e. if_map (IsTarget text) target.Dnat (endpoint_word V4 word)
-    (λ a f.
-    let is = of_some (IsEndpointOf word) (endpoint_word V4 word) a (endpoint_sound word) f in
-    let front = of_some (λ rest. text ≡ codes "DNAT --to-destination " ++ rest) (strip (codes "DNAT --to-destination ") text) word (strip_is (codes "DNAT --to-destination ") text) e in
-    (is.0, ap (λ l. codes "-j DNAT --to-destination " ++ l) is.1 ∙ ap (λ l. codes "-j " ++ l) (sym front))))
-    (if_map (IsTarget text) target.Jump (name_word text)
-    (λ n f. let is = of_some (λ n. (is_chain_name n ≡ true) × (n ≡ text)) (name_word text) n (names.sound text) f in (is.0, ap (λ l. codes "-j " ++ l) is.1)))
 
 either_found : (P : Target → Type 0) (a b : Option Target) → IfSome a P → IfSome b P → IfSome (either a b) P
 either_found P None b h g = g
 either_found P (Some t) b h g = h
 
-pub target_found : (text : List ℕ) → IfSome (target_of V4 text) (λ t. (is_canonical_target V4 t ≡ true) × (target_text t ≡ text))
-target_found text =
-    if_then (λ t. (is_canonical_target V4 t ≡ true) × (target_text t ≡ text)) (λ rest. either (plain_target rest) (other_target V4 rest)) (strip (codes "-j ") text)
-    (λ rest e.
-    let front = of_some (λ rest. text ≡ codes "-j " ++ rest) (strip (codes "-j ") text) rest (strip_is (codes "-j ") text) e in
-    IfSome_then (either (plain_target rest) (other_target V4 rest)) (either_found (IsTarget rest) (plain_target rest) (other_target V4 rest) (plain_found rest) (other_found rest))
-    (λ t h. (h.0, h.1 ∙ sym front)))
+-- ---- a target that is read has its text
+
+module _ (family : Family) where
+  -- a canonical target whose text is this behind `-j`
+  abbrev IsTarget : List ℕ → Target → Type 0
+  IsTarget text t = (is_canonical_target family t ≡ true) × (target_text t ≡ codes "-j " ++ text)
+
+  plain_found : (text : List ℕ) → IfSome (plain_target text) (IsTarget text)
+  plain_found text =
+      let P = IsTarget text in
+      let jump = λ (l : List ℕ). codes "-j " ++ l in
+      if_text P text (codes "RETURN") target.Return _ (λ e. (refl, ap jump e))
+      (if_text P text (codes "ACCEPT") target.Accept _ (λ e. (refl, ap jump e))
+      (if_text P text (codes "DROP") target.Drop _ (λ e. (refl, ap jump e))
+      (if_text P text (codes "REJECT") target.Reject _ (λ e. (refl, ap jump e))
+      (if_text P text (codes "MASQUERADE") target.Masquerade _ (λ e. (refl, ap jump e))
+      (if_text P text (codes "MARK --or-mark 0x4000") target.SetMark _ (λ e. (refl, ap jump e))
+      (if_text P text (codes "MARK --xor-mark 0x4000") target.FlipMark None (λ e. (refl, ap jump e)) tt))))))
+
+  other_found : (text : List ℕ) → IfSome (other_target family text) (IsTarget text)
+  other_found text =
+      follow_target (IsTarget text) (λ word. option_map target.Dnat (endpoint_word family word)) (option_map target.Jump (name_word text)) (strip (codes "DNAT --to-destination ") text)
+      (λ word e. if_map (IsTarget text) target.Dnat (endpoint_word family word)
+      (λ a f.
+      let is = of_some (IsEndpointOf family word) (endpoint_word family word) a (endpoint_sound family word) f in
+      let front = of_some (λ rest. text ≡ codes "DNAT --to-destination " ++ rest) (strip (codes "DNAT --to-destination ") text) word (strip_is (codes "DNAT --to-destination ") text) e in
+      (is.0, ap (λ l. codes "-j DNAT --to-destination " ++ l) is.1 ∙ ap (λ l. codes "-j " ++ l) (sym front))))
+      (if_map (IsTarget text) target.Jump (name_word text)
+      (λ n f. let is = of_some (λ n. (is_chain_name n ≡ true) × (n ≡ text)) (name_word text) n (names.sound text) f in (is.0, ap (λ l. codes "-j " ++ l) is.1)))
+
+  pub target_found : (text : List ℕ) → IfSome (target_of family text) (λ t. (is_canonical_target family t ≡ true) × (target_text t ≡ text))
+  target_found text =
+      if_then (λ t. (is_canonical_target family t ≡ true) × (target_text t ≡ text)) (λ rest. either (plain_target rest) (other_target family rest)) (strip (codes "-j ") text)
+      (λ rest e.
+      let front = of_some (λ rest. text ≡ codes "-j " ++ rest) (strip (codes "-j ") text) rest (strip_is (codes "-j ") text) e in
+      IfSome_then (either (plain_target rest) (other_target family rest)) (either_found (IsTarget rest) (plain_target rest) (other_target family rest) (plain_found rest) (other_found rest))
+      (λ t h. (h.0, h.1 ∙ sym front)))
 
 -- ---- the text of a target is read
 
@@ -108,5 +110,5 @@ target_read family target.Drop h = refl
 target_read family target.Reject h = refl
 target_read family target.SetMark h = refl
 target_read family target.FlipMark h = refl
-target_read family (target.Dnat e) h = ap (option_map target.Dnat) (endpoint_texts family e h)
+target_read family (target.Dnat e) h = ap (option_map target.Dnat) (endpoint_complete family e h)
 target_read family target.Masquerade h = refl

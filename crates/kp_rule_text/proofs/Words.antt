@@ -1,5 +1,5 @@
 -- Words that stand for values: what is read has the word as its text, and the text of a value is read.
-use Rattle.std.proofs.Common.{◌≡◌, ℕ, ◌^◌, ◌<◌, ◌≤◌, ◌==◌, List, Bool, true, false, cond, not, ◌&&◌, nat_le, bytes_eq, decimal, Option, Some, None, option_and_then, IfSome, refl, sym, ap, subst, ◌∙◌, arith}
+use Rattle.std.proofs.Common.{◌≡◌, ℕ, ◌^◌, ◌<◌, ◌≤◌, ◌==◌, List, Bool, true, false, cond, not, ◌&&◌, nat_le, bytes_eq, decimal, Option, Some, None, option_map, option_and_then, IfSome, refl, sym, ap, subst, ◌∙◌, arith}
 use Rattle.std.specs.List.{list_all}
 use Rattle.std.proofs.lemmas.Bool.{and_parts, and_from, cond-true}
 use Rattle.std.proofs.lemmas.Bool.Decides.{nat_tests}
@@ -18,6 +18,11 @@ pub if_then : {A B : Type 0} (P : B → Type 0) (f : A → Option B) (o : Option
 if_then P f None h = tt
 if_then P f (Some a) h = h a refl
 
+-- what is read and then turned into something else
+pub if_map : {A B : Type 0} (P : B → Type 0) (f : A → B) (o : Option A) → ((a : A) → o ≡ Some a → P (f a)) → IfSome (option_map f o) P
+if_map P f None h = tt
+if_map P f (Some a) h = h a refl
+
 -- what holds of a value that is there
 pub of_some : {A : Type 0} (P : A → Type 0) (o : Option A) (a : A) → IfSome o P → o ≡ Some a → P a
 of_some P o a h e = subst (λ o. IfSome o P) e h
@@ -31,14 +36,6 @@ pub record IsWord {V : Type 0} (read : List ℕ → Option V) (text_of : V → L
   pub sound : (word : List ℕ) → IfSome (read word) (λ v. (is_valid v ≡ true) × (text_of v ≡ word))
   pub complete : (v : V) → is_valid v ≡ true → read (text_of v) ≡ Some v
   pub whole : (v : V) → is_valid v ≡ true → list_all is_word_byte (text_of v) ≡ true
-
--- the part of it that says that texts of values are read
-pub record IsText {V : Type 0} (read : List ℕ → Option V) (text_of : V → List ℕ) (is_valid : V → Bool) : Type 0 where
-  pub complete : (v : V) → is_valid v ≡ true → read (text_of v) ≡ Some v
-  pub whole : (v : V) → is_valid v ≡ true → list_all is_word_byte (text_of v) ≡ true
-
-pub as_text : {V : Type 0} (read : List ℕ → Option V) (text_of : V → List ℕ) (is_valid : V → Bool) → IsWord read text_of is_valid → IsText read text_of is_valid
-as_text read text_of is_valid w = record { complete = w.complete; whole = w.whole }
 
 -- ---- values whose text is compared
 

@@ -1,10 +1,10 @@
 -- The words that stand for values. A word names a value only where it is that value's text, so the readers of
 -- numbers may take more than one word for a value, as one with zeros before it.
-use Rattle.std.specs.Prelude.{ℕ, ◌+◌, ◌*◌, ◌^◌, ◌==◌, ◌&&◌, nat_le, List, [], ◌∷◌, fold, cond, bytes_eq, codes, decimal, Option, Some, None, option_map, option_and_then}
+use Rattle.std.specs.Prelude.{ℕ, ◌+◌, ◌*◌, ◌^◌, ◌==◌, ◌&&◌, nat_le, List, [], ◌∷◌, cond, bytes_eq, codes, decimal, Option, Some, None, option_map, option_and_then}
 use Rattle.std.specs.List.{list_all}
-use Rattle.std.specs.Net.Reader.{read_ipv6}
-use Rattle.kp_base.specs.Net.{AddressParts, RangeParts}
-use Rattle.kp_base.specs.Dotted.{is_digit, digits_number, address_of, range_of, split_once}
+use Rattle.kp_base.specs.Net.{AddressParts, RangeParts, same_family}
+use Rattle.kp_base.specs.Six.{any_address_of, any_range_of}
+use Rattle.kp_base.specs.Dotted.{is_digit, digits_number, split_once}
 use Rattle.kp_base.specs.declared.address.Family.{Family}
 use Rattle.kp_base.specs.declared.address.Family.TheVariants.{V4, V6}
 use Rattle.kp_base.specs.declared.key.Endpoint.{Endpoint}
@@ -36,47 +36,42 @@ strip [] text = Some text
 strip (p ∷ ps) [] = None
 strip (p ∷ ps) (b ∷ bs) = cond (b == p) (strip ps bs) None
 
--- the number of eight groups of sixteen bits, the highest first
-abbrev pub segments_number : List ℕ → ℕ
-segments_number segments = fold (λ n s. n * 2 ^ 16 + s) 0 segments
-
--- an address
+-- an address of the family, in any of its texts
 abbrev pub address_read : Family → List ℕ → Option AddressParts
-address_read V4 text = address_of text
-address_read V6 text = option_map (λ (segments, rest). record { family = V6; number = segments_number segments }) (read_ipv6 text)
+address_read family text =
+    option_and_then (λ a. cond (same_family a.family family) (Some a) None) (any_address_of text)
 
 -- an address, as it is printed
 abbrev pub address_word : Family → List ℕ → Option AddressParts
 address_word family = exact address_text (address_read family)
 
--- a range of IPv6 addresses of two texts, one on each side of the slash
-abbrev pub v6_range_of : List ℕ → List ℕ → Option RangeParts
-v6_range_of base bits =
-    option_and_then (λ a. option_map (λ n. record { base = a; bits = n }) (number_word 128 bits)) (address_word V6 base)
-
--- a range
+-- a range of the family, in any of its texts
 abbrev pub range_read : Family → List ℕ → Option RangeParts
-range_read V4 text = range_of text
-range_read V6 text = option_and_then (λ (base, bits). v6_range_of base bits) (split_once 47 text)
+range_read family text =
+    option_and_then (λ r. cond (same_family r.base.family family) (Some r) None) (any_range_of text)
 
 -- a range, as it is printed
 abbrev pub range_word : Family → List ℕ → Option RangeParts
 range_word family = exact range_text (range_read family)
+
+-- the two sides of a closing bracket and a colon
+abbrev pub bracketed : List ℕ → Option (List ℕ × List ℕ)
+bracketed text =
+    option_and_then (λ (host, rest). option_map (λ port. (host, port)) (strip (codes ":") rest)) (split_once 93 text)
+
+-- the address and the port of an endpoint's text; one of IPv6 has its address in brackets (RFC 5952, 6)
+abbrev pub host_and_port : Family → List ℕ → Option (List ℕ × List ℕ)
+host_and_port V4 word = split_once 58 word
+host_and_port V6 word = option_and_then bracketed (strip (codes "[") word)
 
 -- an endpoint of an address and a port
 abbrev pub endpoint_of : Family → List ℕ → List ℕ → Option Endpoint
 endpoint_of family host port =
     option_and_then (λ a. option_map (λ n. record { address = a; port = n }) (port_word port)) (address_word family host)
 
--- what stands behind the opening bracket of an IPv6 address
-abbrev pub v6_endpoint_of : List ℕ → Option Endpoint
-v6_endpoint_of text =
-    option_and_then (λ (host, rest). option_and_then (λ port. endpoint_of V6 host port) (strip (codes ":") rest)) (split_once 93 text)
-
--- an address, a colon and a port
+-- an address and a port
 abbrev pub endpoint_word : Family → List ℕ → Option Endpoint
-endpoint_word V4 word = option_and_then (λ (host, port). endpoint_of V4 host port) (split_once 58 word)
-endpoint_word V6 word = option_and_then v6_endpoint_of (strip (codes "[") word)
+endpoint_word family word = option_and_then (λ (host, port). endpoint_of family host port) (host_and_port family word)
 
 -- a probability of a whole part and decimals, if it is at most 1
 abbrev pub probability_of_parts : List ℕ → List ℕ → Option ℕ

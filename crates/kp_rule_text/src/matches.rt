@@ -1,16 +1,15 @@
 //! Matches are read.
 ghost use Rattle.std.specs.Prelude.{◌≡◌, option_map};
-ghost use Rattle.kp_base.specs.declared.address.Family.TheVariants.{V4};
 ghost use Rattle.kp_rule_text.specs.Reading as spec;
 
 use crate::split::strip;
 use crate::word::{name_word, port_word, probability_word, range_word, seconds_word};
-use kp_base::{Proto, split_once};
+use kp_base::{Family, Proto, split_once};
 use kp_types::{ChainName, Match};
 
 /// The match at the front, and what stands behind it and its space.
-pub(crate) fn next_match(text: &[u8]) -> Option<(Match, &[u8])>
-    ensures { option_map (λ p. (p.0, p.1.now)) result ≡ spec.match_of V4 text.now }
+pub(crate) fn next_match(family: Family, text: &[u8]) -> Option<(Match, &[u8])>
+    ensures { option_map (λ p. (p.0, p.1.now)) result ≡ spec.match_of family text.now }
 {
     if let Some(rest) = strip(text, b"-m ") {
         return module_match(rest);
@@ -19,23 +18,23 @@ pub(crate) fn next_match(text: &[u8]) -> Option<(Match, &[u8])>
         return proto_match(rest);
     }
     if let Some(rest) = strip(text, b"! ") {
-        return address_match(true, rest);
+        return address_match(family, true, rest);
     }
-    address_match(false, text)
+    address_match(family, false, text)
 }
 
-/// A source or a destination.
-fn address_match(not: bool, text: &[u8]) -> Option<(Match, &[u8])>
-    ensures { option_map (λ p. (p.0, p.1.now)) result ≡ spec.address_match V4 not text.now }
+/// A source or a destination of a family.
+fn address_match(family: Family, not: bool, text: &[u8]) -> Option<(Match, &[u8])>
+    ensures { option_map (λ p. (p.0, p.1.now)) result ≡ spec.address_match family not text.now }
 {
     if let Some(rest) = strip(text, b"-s ") {
         let (word, rest) = split_once(rest, b' ')?;
-        let range = range_word(word)?;
+        let range = range_word(family, word)?;
         return Some((Match::Src { range, not }, rest));
     }
     let rest = strip(text, b"-d ")?;
     let (word, rest) = split_once(rest, b' ')?;
-    let range = range_word(word)?;
+    let range = range_word(family, word)?;
     Some((Match::Dst { range, not }, rest))
 }
 

@@ -1,21 +1,21 @@
 //! Targets are read.
 ghost use Rattle.std.specs.Prelude.{◌≡◌};
-ghost use Rattle.kp_base.specs.declared.address.Family.TheVariants.{V4};
 ghost use Rattle.kp_rule_text.specs.Reading as spec;
 
 use crate::split::strip;
 use crate::word::{endpoint_word, name_word};
+use kp_base::Family;
 use kp_types::Target;
 
 /// The target that a text is.
-pub(crate) fn read_target(text: &[u8]) -> Option<Target>
-    ensures { result ≡ spec.target_of V4 text.now }
+pub(crate) fn read_target(family: Family, text: &[u8]) -> Option<Target>
+    ensures { result ≡ spec.target_of family text.now }
 {
     let rest = strip(text, b"-j ")?;
     if let Some(target) = plain_target(rest) {
         return Some(target);
     }
-    other_target(rest)
+    other_target(family, rest)
 }
 
 /// A target with nothing more.
@@ -42,11 +42,11 @@ fn plain_target(text: &[u8]) -> Option<Target>
 }
 
 /// A chain's name, or a destination.
-fn other_target(text: &[u8]) -> Option<Target>
-    ensures { result ≡ spec.other_target V4 text.now }
+fn other_target(family: Family, text: &[u8]) -> Option<Target>
+    ensures { result ≡ spec.other_target family text.now }
 {
     if let Some(word) = strip(text, b"DNAT --to-destination ") {
-        return Some(Target::Dnat(endpoint_word(word)?));
+        return Some(Target::Dnat(endpoint_word(family, word)?));
     }
     Some(Target::Jump(name_word(text)?))
 }

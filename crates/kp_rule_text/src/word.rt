@@ -1,13 +1,13 @@
 //! Words that stand for values. A word that the value's text differs from is none.
-ghost use Rattle.std.specs.Prelude.{◌≡◌, ◌≤◌, ◌∷◌, ◌++◌, ◌^◌, bytes_eq, decimal};
-ghost use Rattle.kp_base.specs.declared.address.Family.TheVariants.{V4};
+ghost use Rattle.std.specs.Prelude.{◌≡◌, ◌≤◌, ◌∷◌, ◌++◌, ◌^◌, bytes_eq, decimal, option_map};
 ghost use Rattle.kp_choice_defs.specs.AddressText.{number_text, address_text};
 ghost use Rattle.kp_choice_defs.specs.Draws.{probability_text_of};
 ghost use Rattle.kp_restore_defs.specs.RuleText.{range_text};
 ghost use Rattle.kp_rule_text.specs.WordReading as spec;
 
+use crate::split::strip;
 use itoa::Buffer;
-use kp_base::{Address, Cidr, Endpoint, PortNo, split_once};
+use kp_base::{Address, Cidr, Endpoint, Family, PortNo, split_once};
 use kp_draws::probability_text;
 use kp_print::address_text;
 use kp_types::ChainName;
@@ -70,11 +70,23 @@ pub(crate) fn port_word(word: &[u8]) -> Option<PortNo>
     PortNo::new(number)
 }
 
-/// An IPv4 address.
-fn address_word(word: &[u8]) -> Option<Address>
-    ensures { result ≡ spec.address_word V4 word.now }
+/// An address of a family, in any of its texts.
+fn address_read(family: Family, word: &[u8]) -> Option<Address>
+    ensures { result ≡ spec.address_read family word.now }
 {
-    let address = Address::parse(word).ok()?;
+    let address = Address::parse_any(word).ok()?;
+    if address.family() == family {
+        Some(address)
+    } else {
+        None
+    }
+}
+
+/// An address of a family.
+fn address_word(family: Family, word: &[u8]) -> Option<Address>
+    ensures { result ≡ spec.address_word family word.now }
+{
+    let address = address_read(family, word)?;
     if address_text(&address).as_str().as_bytes() == word {
         Some(address)
     } else {
@@ -82,21 +94,33 @@ fn address_word(word: &[u8]) -> Option<Address>
     }
 }
 
-/// A range of IPv4 addresses: an address, a slash and the prefix length, with no bit past it.
-pub(crate) fn range_word(word: &[u8]) -> Option<Cidr>
-    ensures { result ≡ spec.range_word V4 word.now }
+/// A range of addresses of a family, in any of its texts.
+fn range_read(family: Family, word: &[u8]) -> Option<Cidr>
+    ensures { result ≡ spec.range_read family word.now }
 {
-    let range = Cidr::parse(word).ok()?;
-    if is_v4_range(word, &range) {
+    let range = Cidr::parse_any(word).ok()?;
+    if range.base().family() == family {
         Some(range)
     } else {
         None
     }
 }
 
-/// Whether a word is the text of a range of IPv4 addresses.
-fn is_v4_range(word: &[u8], range: &Cidr) -> bool
-    requires { range.now.base.family ≡ V4 }
+/// A range of addresses of a family: an address, a slash and the prefix length, with no bit past
+/// it.
+pub(crate) fn range_word(family: Family, word: &[u8]) -> Option<Cidr>
+    ensures { result ≡ spec.range_word family word.now }
+{
+    let range = range_read(family, word)?;
+    if is_range(word, &range) {
+        Some(range)
+    } else {
+        None
+    }
+}
+
+/// Whether a word is the text of a range.
+fn is_range(word: &[u8], range: &Cidr) -> bool
     ensures { result ≡ bytes_eq (range_text range.now) word.now }
 {
     let mut text = address_text(&range.base());
@@ -106,12 +130,31 @@ fn is_v4_range(word: &[u8], range: &Cidr) -> bool
     text.as_str().as_bytes() == word
 }
 
-/// An IPv4 address, a colon and a port.
-pub(crate) fn endpoint_word(word: &[u8]) -> Option<Endpoint>
-    ensures { result ≡ spec.endpoint_word V4 word.now }
+/// The address and the port of an endpoint's text. An IPv6 address stands in brackets (RFC 5952,
+/// 6).
+fn host_and_port(family: Family, word: &[u8]) -> Option<(&[u8], &[u8])>
+    ensures { option_map (λ p. (p.0.now, p.1.now)) result ≡ spec.host_and_port family word.now }
 {
-    let (host, port) = split_once(word, b':')?;
-    let address = address_word(host)?;
+    match family {
+        Family::V4 => split_once(word, b':'),
+        Family::V6 => bracketed(strip(word, b"[")?),
+    }
+}
+
+/// What stands before a closing bracket and a colon, and behind them.
+fn bracketed(text: &[u8]) -> Option<(&[u8], &[u8])>
+    ensures { option_map (λ p. (p.0.now, p.1.now)) result ≡ spec.bracketed text.now }
+{
+    let (host, rest) = split_once(text, b']')?;
+    Some((host, strip(rest, b":")?))
+}
+
+/// An address of a family, a colon and a port.
+pub(crate) fn endpoint_word(family: Family, word: &[u8]) -> Option<Endpoint>
+    ensures { result ≡ spec.endpoint_word family word.now }
+{
+    let (host, port) = host_and_port(family, word)?;
+    let address = address_word(family, host)?;
     let port = port_word(port)?;
     Some(Endpoint { address, port })
 }

@@ -5,19 +5,22 @@ use Rattle.std.specs.List.{fold}
 use Rattle.std.specs.FinMap.{get}
 use Rattle.std.proofs.lemmas.List.Elements.{Contains-append_cases}
 use Rattle.kp_lemmas.proofs.Members.{from_all, from_filter_map}
+use Rattle.kp_base.specs.declared.address.Family.{Family}
+use Rattle.kp_base.specs.declared.address.Family.TheVariants.{V4, V6}
+use Rattle.kp_types.specs.Places.{filter_of, nat_of}
 use Rattle.kp_types.specs.declared.chain.ChainAt.{ChainAt}
 use Rattle.kp_types.specs.declared.chain.TableName.{TableName}
-use Rattle.kp_types.specs.declared.chain.TableName.TheVariants.{Nat, Filter}
 use Rattle.kp_types.specs.declared.rule.Edit.{Edit}
 use Rattle.kp_types.specs.declared.rule.Edit.TheVariants.{Write, Remove}
 use Rattle.kp_types.specs.declared.rule.Rule.{Rule}
 use Rattle.kp_object_defs.specs.PortInfo.{port_infos}
-use Rattle.kp_table_defs.specs.Edits.{chains_after_edit, chains_in, changes_between, is_found_with, table_changes, write_if_changed}
+use Rattle.kp_table_defs.specs.Edits.{chains_after_edit, chains_in, changes_between, changes_of, is_found_with, table_changes, write_if_changed}
 use Rattle.kp_table_defs.specs.Ranks.{is_ranked}
 use Rattle.kp_table_defs.specs.Rebuild.{Chains, full_table}
-use Rattle.kp_restore_defs.specs.BatchText.{is_canonical_batch, BatchTextsDiffer}
+use Rattle.kp_restore_defs.specs.BatchText.{batch_text_of, is_canonical_batch, BatchTextsDiffer}
 use Rattle.kp_restore_defs.specs.BatchesBetween.{ChangesAreCanonical, HaveSameBuiltIn, ReadChangesLeadOver}
 use Rattle.kp_restore_defs.specs.TableText.{is_canonical_table, jumps_to_declared}
+use Rattle.kp_restore.proofs.Changes.{own_changes}
 use Rattle.kp_text_laws.specs.TableLaws.{ChangesReadBack, FullTableReadsBack, FullTablesHaveSameBuiltIn, IsReadableTable, NoneJumpsTo, edits_between}
 use Rattle.kp_text_laws.proofs.Tables.{declared}
 
@@ -48,12 +51,20 @@ module _ (before after : Chains) (to : ChainAt) where
             gone_by after r.0 to (is_some (get after r.0)) refl made
       ]
 
+  removed_of : (family : Family) → Contains (changes_of family before after) (Remove to)
+      → is_some (get after to) ≡ false
+  removed_of family c =
+      elim (Contains-append_cases _ _ _ c) [
+        | inl d ↦ removed_in (nat_of family) d
+        | inr d ↦ removed_in (filter_of family) d
+      ]
+
   -- a chain that the changes remove isn't there afterwards
   removed : Contains (changes_between before after) (Remove to) → is_some (get after to) ≡ false
   removed c =
       elim (Contains-append_cases _ _ _ c) [
-        | inl d ↦ removed_in Nat d
-        | inr d ↦ removed_in Filter d
+        | inl d ↦ removed_of V4 d
+        | inr d ↦ removed_of V6 d
       ]
 
 -- where the second table is ranked, no rule of it jumps to such a chain
@@ -69,22 +80,26 @@ closed_by before after ranked to c at rules r stands in_rules same_table jumps =
 
 pub changes_read_back_by : ChangesAreCanonical → ReadChangesLeadOver → BatchTextsDiffer
     → FullTableReadsBack → FullTablesHaveSameBuiltIn → ChangesReadBack
-changes_read_back_by fits back differ readable same setting o p printable of_o of_p =
+changes_read_back_by fits back differ readable same setting o p v4 printable of_o of_p =
     let before : Chains = (full_table setting o).chains in
     let after : Chains = (full_table setting p).chains in
     let fit_before : is_canonical_table setting.family before ≡ true =
-    (readable setting o printable of_o).canonical in
-    let of_after : IsReadableTable setting.family after = readable setting p printable of_p in
+    (readable setting o v4 printable of_o).canonical in
+    let of_after : IsReadableTable setting.family after = readable setting p v4 printable of_p in
     let fit_after : is_canonical_table setting.family after ≡ true = of_after.canonical in
     let same_fixed : HaveSameBuiltIn before after =
     same setting (port_infos setting.family setting.config o)
     (port_infos setting.family setting.config p) in
     let edits : List Edit = edits_between setting o p in
+    let is : edits ≡ changes_of setting.family before after =
+    own_changes setting.family before after fit_before fit_after in
     let fit : is_canonical_batch setting.family edits ≡ true =
-    fits setting.family before after fit_before fit_after same_fixed in
+    ap (is_canonical_batch setting.family) is
+    ∙ fits setting.family before after fit_before fit_after same_fixed in
     let ranked : is_ranked after ≡ true = of_after.ranked in
     let leads : fold chains_after_edit before edits ≡ after =
-    back setting.family before after fit_before fit_after same_fixed edits fit refl in record {
+    back setting.family before after fit_before fit_after same_fixed edits fit
+    (ap (batch_text_of setting.family) is) in record {
       canonical = fit;
       only = λ others h e. differ setting.family others edits h fit e;
       leads = leads;

@@ -1,5 +1,5 @@
 -- What is known of the ports of objects is within its bounds where the objects' numbers are.
-use Rattle.std.proofs.Common.{◌≡◌, ℕ, ◌^◌, ◌&&◌, inl, inr, Bool, true, false, not, cond, nat_lt, List, [], ◌∷◌, ◌++◌, map, reverse, Contains, Option, Some, None, option_map, option_and_then, filter, filter_map, flat_map, refl, sym, ap, subst, ◌∙◌}
+use Rattle.std.proofs.Common.{◌≡◌, ℕ, ◌^◌, ◌&&◌, ◌||◌, inl, inr, Bool, true, false, not, cond, nat_lt, List, [], ◌∷◌, ◌++◌, map, reverse, Contains, Option, Some, None, option_map, option_and_then, filter, filter_map, flat_map, refl, sym, ap, subst, ◌∙◌}
 use Rattle.std.specs.List as list
 use Rattle.std.specs.List.{list_all, AllByRecursion, slice_get}
 use Rattle.std.specs.FinMap as finite
@@ -13,6 +13,7 @@ use Rattle.kp_lemmas.proofs.Options.{from_option_map, from_and_then}
 use Rattle.kp_base.specs.Keys.{key_cmp, endpoint_cmp, port_key_cmp}
 use Rattle.kp_base.specs.Net.{AddressParts, RangeParts, same_address, same_family, width}
 use Rattle.kp_base.specs.declared.address.Family.{Family}
+use Rattle.kp_base.specs.declared.address.Family.TheVariants.{V4, V6}
 use Rattle.kp_base.specs.declared.key.Endpoint.{Endpoint}
 use Rattle.kp_base.specs.declared.key.ObjectKey.{ObjectKey}
 use Rattle.kp_base.specs.declared.key.PortKey.{PortKey}
@@ -35,11 +36,11 @@ use Rattle.kp_types.specs.declared.slice.Slice.{Slice}
 use Rattle.kp_types.specs.declared.slice.SliceEndpoint.{SliceEndpoint}
 use Rattle.kp_types.specs.declared.slice.SlicePort.{SlicePort}
 use Rattle.kp_types.specs.declared.slice.Wanted.{Wanted}
-use Rattle.kp_object_defs.specs.Desired.{is_reconciled, address_in, desired_endpoints_of, entry_of, resolved_port, resolved_ports, target_number, with_ports}
+use Rattle.kp_object_defs.specs.Desired.{is_reconciled, address_in, desired_endpoints_of, entry_of, has_family, pod_address, resolved_port, resolved_ports, target_number, with_ports}
 use Rattle.kp_object_defs.specs.Entries.{candidate_at, candidate_of, candidates_from, entries_from, number_at, number_if, slice_candidates, slices_of, sources_of, unmanaged, wanted_candidate}
 use Rattle.kp_object_defs.specs.Objects.{Objects, zone_of}
 use Rattle.kp_object_defs.specs.Order.{in_order}
-use Rattle.kp_object_defs.specs.PortInfo.{PortInfo, address_at, addresses_in, cluster_address_in, has_balancer, info_from, info_of, is_reachable_in, name_of_port, port_key_of, ports_of, ranges_in, restriction_in, same_range, service_ports}
+use Rattle.kp_object_defs.specs.PortInfo.{PortInfo, address_at, addresses_in, balancer_of, cluster_address_in, cluster_of_family, external_of, has_balancer, info_from, info_of, is_reachable_in, name_of_port, port_key_of, ports_of, ranges_in, ranges_of, restriction_in, same_range, service_ports}
 use Rattle.kp_object_laws.specs.ListLaws.{AreAmong, is_usable, local}
 use Rattle.kp_object_laws.proofs.FirstPlaces.{from_places}
 use Rattle.kp_object_laws.proofs.Lists.{among_usable}
@@ -94,6 +95,21 @@ module _ {A : Type 0} (test : A → Bool) where
   all_cond true xs h = h
   all_cond false xs h = refl
 
+module _ {A : Type 0} (test choice : A → Bool) where
+  found_by : (x : A) (xs : List A) → test x ≡ true
+      → passes_if_some test (list.find choice xs) ≡ true → (b : Bool)
+      → passes_if_some test (cond b (Some x) (list.find choice xs)) ≡ true
+  found_by x xs h later true = h
+  found_by x xs h later false = later
+
+  -- the test of the first that passes another one
+  pub found_passes : (xs : List A) → list_all test xs ≡ true
+      → passes_if_some test (list.find choice xs) ≡ true
+  found_passes [] h = refl
+  found_passes (x ∷ xs) h =
+      let parts = and_parts (test x) (list_all test xs) h in
+      found_by x xs parts.0 (found_passes xs parts.1) (choice x)
+
 -- what stands under a condition stands
 from_cond : {A : Type 0} (b : Bool) (xs : List A) (x : A) → Contains (cond b xs []) x
     → Contains xs x
@@ -128,11 +144,13 @@ module _ (family : Family) where
   at_fits Headless b h e = absurd (cc)
   at_fits (At a) b h e = found_in a b h e
 
-  unless_name : (name : Bool) (field : ClusterAddress) (b : AddressParts)
-      → is_bounded_cluster_address field ≡ true → cond name None (address_at family field) ≡ Some b
+  -- or of one that may be absent
+  taken_fits : (o : Option AddressParts) (b : AddressParts)
+      → passes_if_some is_bounded_address o ≡ true → option_and_then (address_in family) o ≡ Some b
       → is_canonical_address family b ≡ true
-  unless_name true field b h e = absurd (cc)
-  unless_name false field b h e = at_fits field b h e
+  taken_fits o b h e =
+      let (a, given, taken) = from_and_then _ o b e in
+      found_in a b (some_passes _ o a h given) taken
 
   addresses_fit : (addresses : List AddressParts) → list_all is_bounded_address addresses ≡ true
       → list_all (is_canonical_address family) (addresses_in family addresses) ≡ true
@@ -156,6 +174,53 @@ module _ (family : Family) where
   restriction_fits None h = refl
   restriction_fits (Some ranges) h = ranges_fit ranges h
 
+-- ---- What a Service and a pod give for a family
+
+cluster_fits : (family : Family) (s : Service) (b : AddressParts) → IsBoundedService s
+    → cluster_of_family family s ≡ Some b → is_canonical_address family b ≡ true
+cluster_fits V4 s b h e = at_fits V4 s.cluster b h.cluster e
+cluster_fits V6 s b h e = taken_fits V6 s.six.cluster b h.six.cluster e
+
+unless_name : (family : Family) (name : Bool) (s : Service) (b : AddressParts) → IsBoundedService s
+    → cond name None (cluster_of_family family s) ≡ Some b → is_canonical_address family b ≡ true
+unless_name family true s b h e = absurd (cc)
+unless_name family false s b h e = cluster_fits family s b h e
+
+external_bounded : (family : Family) (s : Service) → IsBoundedService s
+    → list_all is_bounded_address (external_of family s) ≡ true
+external_bounded V4 s h = h.external
+external_bounded V6 s h = h.six.external
+
+balancer_bounded : (family : Family) (s : Service) → IsBoundedService s
+    → list_all is_bounded_address (balancer_of family s) ≡ true
+balancer_bounded V4 s h = h.balancer
+balancer_bounded V6 s h = h.six.balancer
+
+ranges_bounded : (family : Family) (s : Service) → IsBoundedService s
+    → passes_if_some (list_all is_bounded_range) (ranges_of family s) ≡ true
+ranges_bounded V4 s h = h.ranges
+ranges_bounded V6 s h = where_restricted s.ranges
+  where
+    where_restricted : (o : Option (List RangeParts))
+        → passes_if_some (list_all is_bounded_range) (option_map (λ _v4. s.six.ranges) o) ≡ true
+    where_restricted None = refl
+    where_restricted (Some ranges) = h.six.ranges
+
+pod_fits : (family : Family) (pod : Pod) (b : AddressParts) → IsBoundedPod pod
+    → pod_address family pod ≡ Some b → is_canonical_address family b ≡ true
+pod_fits V4 pod b h e = taken_fits V4 pod.address b h.address e
+pod_fits V6 pod b h e = taken_fits V6 pod.address6 b h.address6 e
+
+-- an address of a family within its bounds is one
+canonical_bounded : (family : Family) (a : AddressParts) → is_canonical_address family a ≡ true
+    → is_bounded_address a ≡ true
+canonical_bounded family a h =
+    subst (λ f. is_canonical_address f a ≡ true)
+    (sym (same_family_exact a.family family (and_parts _ _ h).0)) h
+
+-- ---- Endpoints, sources and ports
+
+module _ (family : Family) where
   -- ---- Candidates
 
   -- candidates at endpoints of the family
@@ -170,8 +235,7 @@ module _ (family : Family) where
       (λ n. option_map (candidate_at node e n) (option_and_then (address_in family) e.address))
       number c made in
       let (b, taken, is) = from_option_map _ _ c at in
-      let (a, given, found) = from_and_then _ e.address b taken in
-      subst Fits is (and_from _ _ (found_in a b (some_passes _ e.address a k given) found)
+      subst Fits is (and_from _ _ (taken_fits family e.address b k taken)
       (some_passes _ number n h has))
 
   number_by : (name : List ℕ) (proto : Proto) (p : SlicePort) (n : ℕ) (b : Bool)
@@ -248,24 +312,8 @@ module _ (family : Family) where
   named_fits proto name ports n h e =
       let test : ContainerPort → Bool = λ c. bytes_eq c.name name && same_proto c.proto proto in
       let (c, found, is) = from_option_map (λ (x : ContainerPort). x.port) _ n e in
-      ap is_port_number (sym is) ∙ found_fits test ports c h found
-    where
-      found_by : (test : ContainerPort → Bool) (p c : ContainerPort) (ps : List ContainerPort)
-          → is_bounded_container_port p ≡ true
-          → (list.find test ps ≡ Some c → is_bounded_container_port c ≡ true) → (b : Bool)
-          → cond b (Some p) (list.find test ps) ≡ Some c → is_bounded_container_port c ≡ true
-      found_by test p c ps h later true e =
-          ap is_bounded_container_port (sym (same_Some p c e)) ∙ h
-      found_by test p c ps h later false e = later e
-
-      found_fits : (test : ContainerPort → Bool) (ps : List ContainerPort) (c : ContainerPort)
-          → list_all is_bounded_container_port ps ≡ true → list.find test ps ≡ Some c
-          → is_bounded_container_port c ≡ true
-      found_fits test [] c h e = absurd (cc)
-      found_fits test (p ∷ ps) c h e =
-          let parts = and_parts (is_bounded_container_port p)
-          (list_all is_bounded_container_port ps) h in
-          found_by test p c ps parts.0 (found_fits test ps c parts.1) _ e
+      ap is_port_number (sym is) ∙ some_passes is_bounded_container_port _ c
+      (found_passes is_bounded_container_port test ports h) found
 
   target_fits : (pod : Pod) (proto : Proto) (t : TargetPort) (n : ℕ) → IsBoundedPod pod
       → is_bounded_target t ≡ true → target_number pod proto t ≡ Some n → is_port_number n ≡ true
@@ -293,26 +341,24 @@ module _ (family : Family) where
   given_ports pod entry (p ∷ ps) w h k e =
       subst IsBoundedWanted (same_Some _ w e) (record { ports = h; entry = k })
 
-  desired_by : (s : Service) (pod : Pod) (place : Option (List ℕ)) (w : Wanted) (finished : Bool)
+  desired_by : (s : Service) (pod : Pod) (place : Option (List ℕ)) (w : Wanted) (unwanted : Bool)
       → IsBoundedService s → IsBoundedPod pod
-      → cond finished None
+      → cond unwanted None
       (option_and_then (λ a. with_ports pod (entry_of s pod place a) (resolved_ports s pod))
-      (option_and_then (address_in family) pod.address)) ≡ Some w → IsBoundedWanted w
+      (pod_address family pod)) ≡ Some w → IsBoundedWanted w
   desired_by s pod place w true bounded of_pod e = absurd (cc)
   desired_by s pod place w false bounded of_pod e =
-      let (b, taken, made) = from_and_then
+      let (a, given, made) = from_and_then
       (λ a. with_ports pod (entry_of s pod place a) (resolved_ports s pod)) _ w e in
-      let (a, given, found) = from_and_then _ pod.address b taken in
       given_ports pod _ _ w (resolved_fit s pod bounded of_pod)
-      (ap is_bounded_address (sym (cond_some _ a b found).1)
-      ∙ some_passes _ pod.address a of_pod.address given) made
+      (canonical_bounded family a (pod_fits family pod a of_pod given)) made
 
   desired_fit : (o : Objects) (s : Service) → AreBounded o → IsBoundedService s → (w : Wanted)
       → Contains (desired_endpoints_of family o s) w → IsBoundedWanted w
   desired_fit o s objects bounded w c =
       let (pod, passed, made) = from_filter_map _ w _ c in
       let stands = (from_filter _ pod _ passed).0 in
-      desired_by s pod _ w pod.finished bounded
+      desired_by s pod _ w (not (has_family family s) || pod.finished) bounded
       (of_value IsBoundedPod o.pods objects.pods pod stands) made
 
   -- ---- What endpoints are taken from
@@ -362,12 +408,13 @@ module _ (family : Family) where
       let here : (c : Candidate) → Contains (local cs) c → Fits c = λ c d.
       fit c (from_filter (λ (x : Candidate). x.local) c cs d).0 in record {
         number = parts.0;
-        address = unless_name _ s.cluster address bounded.cluster found;
-        external = addresses_fit s.external bounded.external;
-        balancer = all_cond (is_canonical_address family) (has_balancer s.kind)
-            (addresses_in family s.balancer) (addresses_fit s.balancer bounded.balancer);
+        address = unless_name family _ s address bounded found;
+        external =
+            addresses_fit family (external_of family s) (external_bounded family s bounded);
+        balancer = all_cond (is_canonical_address family) (has_balancer s.kind) _
+            (addresses_fit family (balancer_of family s) (balancer_bounded family s bounded));
         node_port = passes_cond _ _ p.node_port node_port;
-        ranges = restriction_fits s.ranges bounded.ranges;
+        ranges = restriction_fits family (ranges_of family s) (ranges_bounded family s bounded);
         affinity = bounded.affinity;
         cluster = list_fits cs is_usable _ fit among.0;
         local = list_fits _ is_usable _ here among.1;

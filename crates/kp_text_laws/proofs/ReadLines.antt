@@ -9,7 +9,7 @@ use Rattle.kp_json.specs.declared.fault.BadField.{BadField}
 use Rattle.kp_types.specs.declared.chain.Clash.{Clash}
 use Rattle.kp_types.specs.declared.event.Event.{Event}
 use Rattle.kp_event_defs.specs.EventText.{Refused, read_events}
-use Rattle.kp_row_defs.specs.Fields.{range_of_text, text_in}
+use Rattle.kp_row_defs.specs.Fields.{text_in, v4_range_of}
 use Rattle.kp_text_defs.specs.JsonText.{json_of}
 use Rattle.kp_text_defs.specs.ScriptLines.{Command, as_op, command_of, config, config_op, event, explain, of_events, of_members, op_at, op_named, op_of, or_refusal, packet, read_script, read_stream, show, sync, with_stream, ◌>>=◌}
 use Rattle.kp_text_defs.specs.declared.line_refusal.LineRefusal.{LineRefusal}
@@ -22,7 +22,7 @@ use Rattle.kp_run_defs.specs.ReplayText.{Progress, Standing, after_line, at_star
 use Rattle.kp_text_laws.specs.Bounds.{AreBoundedEvents, IsBoundedConfig}
 use Rattle.kp_text_laws.specs.BoundLaws.{ReadIsBounded}
 use Rattle.kp_text_laws.specs.ShownLaws.{ConfigIsBounded, IsBoundedOp, IsBoundedStanding, LinesAreBounded, ReplaysAreBounded}
-use Rattle.kp_text_laws.proofs.ReadAddresses.{some_from, text_range}
+use Rattle.kp_text_laws.proofs.ReadAddresses.{some_from, v4_text_range}
 use Rattle.kp_text_laws.proofs.ReadObjects.{by_ok, read_by}
 
 -- ---- Operations
@@ -39,11 +39,14 @@ from_members (Ok y) x e = let same : y ≡ x = cc in ap (λ z. Ok z) same
 pub config_is_bounded : ConfigIsBounded
 config_is_bounded p c e =
     let (fine, is) = read_by _ _ c e in
-    subst IsBoundedConfig is (some_from _
-    (option_and_then range_of_text (text_in (codes "clusterCIDR") p)) (λ r found.
-    let (text, of_text, read) = from_and_then range_of_text
-    (text_in (codes "clusterCIDR") p) r found in
-    text_range text r read))
+    subst IsBoundedConfig is (record {
+      cluster = some_from _ (option_and_then v4_range_of (text_in (codes "clusterCIDR") p))
+          (λ r found.
+          let (text, of_text, read) = from_and_then v4_range_of
+          (text_in (codes "clusterCIDR") p) r found in
+          v4_text_range text r read);
+      cluster6 = refl;
+    })
 
 made_op : {A : Type 0} (of : A → Op) (r : Result A BadField) (o : Op)
     → ((x : A) → r ≡ Ok x → IsBoundedOp (of x)) → as_op of r ≡ Ok o → IsBoundedOp o
@@ -157,4 +160,7 @@ module _ (read_is_bounded : ReadIsBounded) where
 
   pub replays_are_bounded : ReplaysAreBounded
   replays_are_bounded lines =
-      replay_from lines at_start (record { config = refl; events = λ e c. absurd (none_in e c) })
+      replay_from lines at_start (record {
+        config = record { cluster = refl; cluster6 = refl };
+        events = λ e c. absurd (none_in e c);
+      })

@@ -1,15 +1,18 @@
 -- The objects and events that are read have their numbers within their bounds.
-use Rattle.std.proofs.Common.{◌≡◌, ℕ, zero, suc, ◌&&◌, Bool, true, false, cond, nat_le, nat_lt, List, [], ◌∷◌, map, Option, Some, None, option_and_then, unwrap_or, Result, Ok, Err, bytes_eq, codes, filter_map, flat_map, refl, ap, subst, arith, inl, inr}
+use Rattle.std.proofs.Common.{◌≡◌, ℕ, zero, suc, ◌&&◌, Bool, true, false, cond, nat_le, nat_lt, List, [], ◌∷◌, map, Option, Some, None, option_and_then, option_map, unwrap_or, Result, Ok, Err, bytes_eq, codes, filter_map, flat_map, refl, ap, subst, arith, inl, inr}
 use Rattle.std.specs.List.{list_all}
 use Rattle.std.specs.Map.{lookup}
 use Rattle.std.proofs.lemmas.Bool.{and_from, and_parts}
 use Rattle.std.proofs.lemmas.Bool.Decides.{nat_tests}
 use Rattle.serde_json.specs.Data.{Data, null, boolean, number, string, array, object}
 use Rattle.serde_json.specs.Find.{as_object}
-use Rattle.kp_lemmas.proofs.Members.{none_in, in_cases, all_from, all_map, all_flat_map, from_filter_map}
+use Rattle.kp_lemmas.proofs.Members.{none_in, in_cases, all_from, all_map, all_flat_map, from_all, from_filter, from_filter_map}
 use Rattle.kp_json.specs.Places.{Place, elements_at, member_at, needed_at}
 use Rattle.kp_json.specs.declared.fault.BadField.{BadField}
-use Rattle.kp_base.specs.Net.{AddressParts}
+use Rattle.kp_base.specs.Net.{AddressParts, RangeParts, same_family}
+use Rattle.kp_base.specs.Six.{any_address_of}
+use Rattle.kp_base.specs.declared.address.Family.{Family}
+use Rattle.kp_base.specs.declared.address.Family.TheVariants.{V4, V6}
 use Rattle.kp_types.specs.Ports.{distinct_ports}
 use Rattle.kp_types.specs.declared.event.Event.{Event}
 use Rattle.kp_types.specs.declared.event.Event.TheVariants.{Apply, Delete}
@@ -22,20 +25,22 @@ use Rattle.kp_types.specs.declared.pod.Pod.{Pod}
 use Rattle.kp_types.specs.declared.service.ClusterAddress.TheVariants.{Headless}
 use Rattle.kp_types.specs.declared.service.Service.{Service}
 use Rattle.kp_types.specs.declared.slice.AddressType.{AddressType}
-use Rattle.kp_types.specs.declared.slice.AddressType.TheVariants.{Ipv4}
+use Rattle.kp_types.specs.declared.slice.AddressType.TheVariants.{Ipv4, Ipv6, Fqdn}
 use Rattle.kp_types.specs.declared.slice.Slice.{Slice}
 use Rattle.kp_restore_defs.specs.RuleText.{is_port_number}
-use Rattle.kp_row_defs.specs.Fields.{address_in, address_of_text, inner, is_text, items_in, text_in, whole_in, whole_of}
+use Rattle.kp_row_defs.specs.Fields.{address_at, address_in, inner, is_text, items_in, text_in, whole_in, whole_of}
 use Rattle.kp_row_defs.specs.Rows.{each, field, form_fault, needed, optional, row_fault, rows_fault, unless_fault, whole, whole_or_text}
 use Rattle.kp_event_defs.specs.EventText.{Action, Refused, acted, apply_at, apply_each, applies, delete_at, deleted_key, deleted_row, deletes, kind_text, kinded, list_events, object_as, object_at, object_events, of_field, or_no_event, passes, single, watched, actions, ◌>>=◌}
-use Rattle.kp_event_defs.specs.PodText.{container_port, container_port_rows, container_ports, container_rows, pod_from, pod_rows, pod_spec_row, pod_spec_rows, read_pod}
-use Rattle.kp_event_defs.specs.ServiceText.{affinity_of, affinity_row, affinity_timeout, at_address, client_rows, cluster_of, ingress_address, not_zero, ranges_of, read_service, service_from, service_port, service_port_rows, service_ports, service_rows, service_spec_rows, service_unless, target_of, timeout_rows}
+use Rattle.kp_event_defs.specs.FamilyParts.{addresses_of, first_address, ranges_in}
+use Rattle.kp_event_defs.specs.PodText.{addresses_or, container_port, container_port_rows, container_ports, container_rows, pod_addresses, pod_from, pod_rows, pod_spec_row, pod_spec_rows, read_pod}
+use Rattle.kp_event_defs.specs.ServiceText.{affinity_of, affinity_row, affinity_timeout, at_address, balancer_addresses, client_rows, cluster_addresses, external_addresses, ingress_address, is_headless, listed_or, not_zero, ranges_of, read_service, service_from, service_port, service_port_rows, service_ports, service_rows, service_spec_rows, service_unless, source_ranges, target_of, timeout_rows, written_clusters}
 use Rattle.kp_event_defs.specs.ServiceText as service
 use Rattle.kp_event_defs.specs.SliceText as slice
-use Rattle.kp_event_defs.specs.SliceText.{address_type_in, endpoint_from, first_of_type, read_slice, slice_from, slice_port, slice_port_rows, slice_rows}
+use Rattle.kp_event_defs.specs.SliceText.{address_of_type, address_type_in, endpoint_from, first_of_type, read_slice, slice_from, slice_port, slice_port_rows, slice_rows}
 use Rattle.kp_json.specs.Places as places
 use Rattle.kp_text_laws.specs.Bounds.{AreBoundedEvents, IsBoundedEvent, IsBoundedObject, IsBoundedPod, IsBoundedService, IsBoundedSlice, is_bounded_address, is_bounded_cluster_address, is_bounded_container_port, is_bounded_entry, is_bounded_port, is_bounded_range, is_bounded_slice_port, is_bounded_target, is_timeout, passes_if_some}
 use Rattle.kp_text_laws.specs.BoundLaws.{ReadIsBounded}
+use Rattle.kp_text_laws.proofs.PortBounds.{found_passes, some_passes}
 use Rattle.kp_text_laws.proofs.ReadAddresses.{member_address, place_address, place_addresses, place_ranges, some_from, text_address}
 use Rattle.kp_text_laws.proofs.ReadRows.{each_fine, each_port_fine, either_fine, inside_fine, limited_fine, needed_fine, number_fine, optional_fine, port_from, row_fine}
 
@@ -126,25 +131,87 @@ affinity_fits : (b : Bool) (n : ℕ) → is_timeout n ≡ true
 affinity_fits true n h = h
 affinity_fits false n h = refl
 
-at_fits : (o : Option AddressParts)
-    → ((x : AddressParts) → o ≡ Some x → is_bounded_address x ≡ true)
+-- ---- What there is of a family
+
+addresses_fit : (family : Family) (xs : List AddressParts) → list_all is_bounded_address xs ≡ true
+    → list_all is_bounded_address (addresses_of family xs) ≡ true
+addresses_fit family xs h =
+    all_from _ _ (λ x c. from_all is_bounded_address xs h x
+    (from_filter (λ (a : AddressParts). same_family a.family family) x xs c).0)
+
+in_family_fit : (family : Family) (rs : List RangeParts) → list_all is_bounded_range rs ≡ true
+    → list_all is_bounded_range (ranges_in family rs) ≡ true
+in_family_fit family rs h =
+    all_from _ _ (λ r c. from_all is_bounded_range rs h r
+    (from_filter (λ (q : RangeParts). same_family q.base.family family) r rs c).0)
+
+-- ---- Cluster addresses
+
+listed_fits : (cs : List (Option AddressParts)) (o : Option (Option AddressParts))
+    → list_all (passes_if_some is_bounded_address) cs ≡ true
+    → passes_if_some (passes_if_some is_bounded_address) o ≡ true
+    → list_all (passes_if_some is_bounded_address) (listed_or cs o) ≡ true
+listed_fits [] None h k = refl
+listed_fits [] (Some c) h k = and_from _ _ k refl
+listed_fits (c ∷ cs) o h k = h
+
+single_fits : (o : Option (List ℕ))
+    → passes_if_some (passes_if_some is_bounded_address) (option_map any_address_of o) ≡ true
+single_fits None = refl
+single_fits (Some text) = some_from _ (any_address_of text) (text_address text)
+
+written_fit : (spec : Place)
+    → list_all (passes_if_some is_bounded_address) (written_clusters spec) ≡ true
+written_fit spec =
+    let items : List Place = items_in (codes "clusterIPs") spec in
+    listed_fits (map address_at items) _
+    (all_map (passes_if_some is_bounded_address) address_at items
+    (λ p c. some_from _ (address_at p) (place_address p)))
+    (single_fits (text_in (codes "clusterIP") spec))
+
+unless_headless : (b : Bool) (xs : List AddressParts) → list_all is_bounded_address xs ≡ true
+    → list_all is_bounded_address (cond b [] xs) ≡ true
+unless_headless true xs h = refl
+unless_headless false xs h = h
+
+clusters_fit : (written : List (Option AddressParts))
+    → list_all (passes_if_some is_bounded_address) written ≡ true
+    → list_all is_bounded_address (cluster_addresses written) ≡ true
+clusters_fit written h =
+    unless_headless (is_headless written) _ (all_from _ (filter_map (λ c. c) written) (λ x c.
+    let (o, stands, is) = from_filter_map (λ (d : Option AddressParts). d) x written c in
+    some_passes is_bounded_address o x (from_all _ written h o stands) is))
+
+at_fits : (o : Option AddressParts) → passes_if_some is_bounded_address o ≡ true
     → is_bounded_cluster_address (at_address o) ≡ true
 at_fits None h = refl
-at_fits (Some x) h = h x refl
+at_fits (Some x) h = h
 
-cluster_by : (text : List ℕ) (b : Bool)
-    → is_bounded_cluster_address (cond b Headless (at_address (address_of_text text))) ≡ true
-cluster_by text true = refl
-cluster_by text false = at_fits _ (λ x is. text_address text x is)
+cluster_by : (b : Bool) (o : Option AddressParts) → passes_if_some is_bounded_address o ≡ true
+    → is_bounded_cluster_address (cond b Headless (at_address o)) ≡ true
+cluster_by true o h = refl
+cluster_by false o h = at_fits o h
 
-cluster_fits : (o : Option (List ℕ)) → is_bounded_cluster_address (cluster_of o) ≡ true
-cluster_fits None = refl
-cluster_fits (Some text) = cluster_by text _
+first_fits : (family : Family) (xs : List AddressParts) → list_all is_bounded_address xs ≡ true
+    → passes_if_some is_bounded_address (first_address family xs) ≡ true
+first_fits family xs h = found_passes is_bounded_address _ xs h
+
+-- ---- Ranges and addresses of load balancers
 
 ranges_fit : (items : List Place)
     → passes_if_some (list_all is_bounded_range) (ranges_of items) ≡ true
 ranges_fit [] = refl
 ranges_fit (p ∷ ps) = place_ranges (p ∷ ps)
+
+v4_ranges_fit : (o : Option (List RangeParts)) → passes_if_some (list_all is_bounded_range) o ≡ true
+    → passes_if_some (list_all is_bounded_range) (option_map (ranges_in V4) o) ≡ true
+v4_ranges_fit None h = refl
+v4_ranges_fit (Some rs) h = in_family_fit V4 rs h
+
+v6_ranges_fit : (o : Option (List RangeParts)) → passes_if_some (list_all is_bounded_range) o ≡ true
+    → list_all is_bounded_range (ranges_in V6 (unwrap_or o [])) ≡ true
+v6_ranges_fit None h = refl
+v6_ranges_fit (Some rs) h = in_family_fit V6 rs h
 
 ingress_by : (q : Place) (x : AddressParts) (b : Bool)
     → cond b None (address_in (codes "ip") q) ≡ Some x → is_bounded_address x ≡ true
@@ -168,19 +235,43 @@ service_fits p differ h =
     (λ q. list_all is_bounded_port (map service_port (items_in (codes "ports") q)) ≡ true) refl
     (λ q fine. all_map is_bounded_port service_port (items_in (codes "ports") q) (λ r c.
     port_fits r (each_port_fine (codes "ports") service_port_rows q
-    (row_fine 2 service_spec_rows q service.ports_row refl fine) r c))) specified in
+    (row_fine 4 service_spec_rows q service.ports_row refl fine) r c))) specified in
     let timeout : is_timeout (affinity_timeout spec) ≡ true =
     inside_fine (codes "spec") needed service_spec_rows p
     (λ q. is_timeout (affinity_timeout q) ≡ true) refl
-    (λ q fine. timeout_fits q (row_fine 6 service_spec_rows q affinity_row refl fine)) specified in
+    (λ q fine. timeout_fits q (row_fine 8 service_spec_rows q affinity_row refl fine)) specified in
+    let health : passes_if_some is_port_number
+    (option_and_then not_zero (whole_in (codes "healthCheckNodePort") spec)) ≡ true =
+    inside_fine (codes "spec") needed service_spec_rows p
+    (λ q. passes_if_some is_port_number
+    (option_and_then not_zero (whole_in (codes "healthCheckNodePort") q)) ≡ true) refl
+    (λ q fine. not_zero_fits (whole_in (codes "healthCheckNodePort") q) (λ n is.
+    optional_fine (codes "healthCheckNodePort") 0 65535 n q
+    (row_fine 14 service_spec_rows q _ refl fine) is)) specified in
+    let given : List AddressParts = cluster_addresses (written_clusters spec) in
+    let clusters : list_all is_bounded_address given ≡ true =
+    clusters_fit (written_clusters spec) (written_fit spec) in
+    let external : list_all is_bounded_address (external_addresses spec) ≡ true =
+    place_addresses (items_in (codes "externalIPs") spec) in
+    let balancer : list_all is_bounded_address (balancer_addresses p) ≡ true = ingress_fits
+    (items_in (codes "ingress") (inner (codes "loadBalancer") (inner (codes "status") p))) in
+    let ranges : passes_if_some (list_all is_bounded_range) (source_ranges spec) ≡ true =
+    ranges_fit (items_in (codes "loadBalancerSourceRanges") spec) in
     record {
-      cluster = cluster_fits (text_in (codes "clusterIP") spec);
+      cluster = cluster_by (is_headless (written_clusters spec)) (first_address V4 given)
+          (first_fits V4 given clusters);
       ports = ports;
-      external = place_addresses (items_in (codes "externalIPs") spec);
+      external = addresses_fit V4 (external_addresses spec) external;
       affinity = affinity_fits _ _ timeout;
-      ranges = ranges_fit (items_in (codes "loadBalancerSourceRanges") spec);
-      balancer = ingress_fits
-          (items_in (codes "ingress") (inner (codes "loadBalancer") (inner (codes "status") p)));
+      ranges = v4_ranges_fit (source_ranges spec) ranges;
+      health = health;
+      balancer = addresses_fit V4 (balancer_addresses p) balancer;
+      six = record {
+        cluster = first_fits V6 given clusters;
+        external = addresses_fit V6 (external_addresses spec) external;
+        balancer = addresses_fit V6 (balancer_addresses p) balancer;
+        ranges = v6_ranges_fit (source_ranges spec) ranges;
+      };
     }
 
 service_by : (p : Place) (s : Service) (fault : Option BadField) (b : Bool)
@@ -208,11 +299,16 @@ slice_port_fits q h =
     some_from _ (whole_in (codes "port") q) (λ n is.
     port_from n (optional_fine (codes "port") 1 65535 n q numbered is))
 
-first_fits : (family : AddressType) (items : List Place)
-    → passes_if_some is_bounded_address (first_of_type family items) ≡ true
-first_fits family [] = refl
-first_fits Ipv4 (p ∷ ps) = some_from _ _ (λ x is. place_address p x is)
-first_fits family (p ∷ ps) = refl
+of_type_fits : (type : AddressType) (p : Place)
+    → passes_if_some is_bounded_address (address_of_type type p) ≡ true
+of_type_fits Ipv4 p = some_from _ (address_at p) (place_address p)
+of_type_fits Ipv6 p = some_from _ (address_at p) (place_address p)
+of_type_fits Fqdn p = refl
+
+entry_fits : (type : AddressType) (items : List Place)
+    → passes_if_some is_bounded_address (first_of_type type items) ≡ true
+entry_fits type [] = refl
+entry_fits type (p ∷ ps) = of_type_fits type p
 
 slice_fits : (p : Place) → rows_fault (slice_rows (address_type_in p)) p ≡ None
     → IsBoundedSlice (slice_from p)
@@ -222,7 +318,7 @@ slice_fits p h =
           slice_port_fits q (limited_fine 100 (codes "ports") slice_port_rows p ports q c));
       endpoints = all_map is_bounded_entry (endpoint_from (address_type_in p) _)
           (items_in (codes "endpoints") p)
-          (λ q c. first_fits (address_type_in p) (items_in (codes "addresses") q));
+          (λ q c. entry_fits (address_type_in p) (items_in (codes "addresses") q));
     }
 
 slice_read : (p : Place) (s : Slice) → read_slice p ≡ Ok s → IsBoundedSlice s
@@ -237,6 +333,22 @@ container_port_fits q h =
     (field (codes "containerPort") needed (whole 1 65535)) refl h in
     port_from (unwrap_or (whole_in (codes "containerPort") q) 0)
     (needed_fine (codes "containerPort") 1 65535 q numbered)
+
+one_or_fit : (xs : List AddressParts) (o : Option AddressParts)
+    → list_all is_bounded_address xs ≡ true → passes_if_some is_bounded_address o ≡ true
+    → list_all is_bounded_address (addresses_or xs o) ≡ true
+one_or_fit [] None h k = refl
+one_or_fit [] (Some a) h k = and_from _ _ k refl
+one_or_fit (x ∷ xs) o h k = h
+
+pod_addresses_fit : (status : Place) → list_all is_bounded_address (pod_addresses status) ≡ true
+pod_addresses_fit status =
+    let items : List Place = items_in (codes "podIPs") status in
+    let listed : List AddressParts = filter_map (address_in (codes "ip")) items in
+    one_or_fit listed (address_in (codes "podIP") status) (all_from _ listed (λ x c.
+    let (p, stands, is) = from_filter_map (address_in (codes "ip")) x items c in
+    member_address (codes "ip") p x is))
+    (some_from _ (address_in (codes "podIP") status) (member_address (codes "podIP") status))
 
 pod_fits : (p : Place) → rows_fault pod_rows p ≡ None → IsBoundedPod (pod_from p)
 pod_fits p h =
@@ -254,8 +366,8 @@ pod_fits p h =
           all_map is_bounded_container_port container_port (items_in (codes "ports") r) (λ s d.
           container_port_fits s (each_fine (codes "ports") container_port_rows r of_ports s d))))
           specified;
-      address = some_from _ (address_in (codes "podIP") status)
-          (λ x is. member_address (codes "podIP") status x is);
+      address = first_fits V4 (pod_addresses status) (pod_addresses_fit status);
+      address6 = first_fits V6 (pod_addresses status) (pod_addresses_fit status);
     }
 
 pod_read : (p : Place) (q : Pod) → read_pod p ≡ Ok q → IsBoundedPod q

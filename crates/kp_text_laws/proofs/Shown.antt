@@ -1,5 +1,5 @@
 -- What a replay shows is read back.
-use Rattle.std.proofs.Common.{ℕ, suc, zero, ◌-◌, List, [], ◌∷◌, ◌++◌, take, Contains, inl, inr, sym, ap, subst}
+use Rattle.std.proofs.Common.{ℕ, suc, zero, ◌-◌, List, [], ◌∷◌, ◌++◌, take, Contains, inl, inr, refl, sym, ap, subst}
 use Rattle.std.proofs.lemmas.Grind.{flat_map-append}
 use Rattle.kp_lemmas.proofs.Members.{none_in, in_cases, first_in, later_in}
 use Rattle.kp_base.specs.declared.address.Family.TheVariants.{V4}
@@ -31,13 +31,13 @@ module _ (objects : ObjectsAreBounded) where
       objects (covered events counts n) (λ e c. h e (from_take _ events e c))
 
   pub covered_tables_read_back_by : FullTableReadsBack → CoveredTablesReadBack
-  covered_tables_read_back_by tables setting events counts n printable h =
-      tables setting (objects_covered events counts n) printable (covered_bounded events counts n h)
+  covered_tables_read_back_by tables setting events counts n v4 printable h =
+      tables setting (objects_covered events counts n) v4 printable (covered_bounded events counts n h)
 
   pub covered_changes_read_back_by : ChangesReadBack → CoveredChangesReadBack
-  covered_changes_read_back_by changes setting events counts m n printable h =
-      changes setting (objects_covered events counts m) (objects_covered events counts n) printable
-      (covered_bounded events counts m h) (covered_bounded events counts n h)
+  covered_changes_read_back_by changes setting events counts m n v4 printable h =
+      changes setting (objects_covered events counts m) (objects_covered events counts n) v4
+      printable (covered_bounded events counts m h) (covered_bounded events counts n h)
 
 -- ---- What is shown
 
@@ -54,7 +54,7 @@ module _ (bounded : ReplaysAreBounded) (printable : ProductIsPrintable) where
   pub shown_tables_read_back_by : CoveredTablesReadBack → ShownTablesReadBack
   shown_tables_read_back_by tables lines =
       let s : Standing = (replay_of lines).at in record {
-        table = tables (setting_in s) s.events s.counts (syncs_in s) (setting_prints lines)
+        table = tables (setting_in s) s.events s.counts (syncs_in s) refl (setting_prints lines)
             (bounded lines).events;
         printed = sym (sections_are_table (chains_in s));
       }
@@ -62,7 +62,7 @@ module _ (bounded : ReplaysAreBounded) (printable : ProductIsPrintable) where
   pub shown_batches_read_back_by : CoveredChangesReadBack → ShownBatchesReadBack
   shown_batches_read_back_by back lines =
       let s : Standing = (replay_of lines).at in record {
-        batch = back (setting_in s) s.events s.counts (syncs_in s - 1) (syncs_in s)
+        batch = back (setting_in s) s.events s.counts (syncs_in s - 1) (syncs_in s) refl
             (setting_prints lines) (bounded lines).events;
         printed = λ n counts is. ap (λ c. batch_shown c (last_edits s)) is;
       }

@@ -19,6 +19,7 @@ use Rattle.kp_types.specs.declared.pod.Pod.{Pod}
 use Rattle.kp_types.specs.declared.service.ClusterAddress.{ClusterAddress}
 use Rattle.kp_types.specs.declared.service.ClusterAddress.TheVariants.{Absent, Headless, At}
 use Rattle.kp_types.specs.declared.service.Service.{Service}
+use Rattle.kp_types.specs.declared.service.Six.{Six}
 use Rattle.kp_types.specs.declared.service.ServicePort.{ServicePort}
 use Rattle.kp_types.specs.declared.service.TargetPort.{TargetPort}
 use Rattle.kp_types.specs.declared.service.TargetPort.TheVariants.{Number, Named}
@@ -67,6 +68,13 @@ is_bounded_port p =
     is_port_number p.port && (is_bounded_target p.target
     && passes_if_some is_port_number p.node_port)
 
+-- those of what a Service has of the family IPv6
+pub record IsBoundedSix (six : Six) : Type 0 where
+  pub cluster : passes_if_some is_bounded_address six.cluster ≡ true
+  pub external : list_all is_bounded_address six.external ≡ true
+  pub balancer : list_all is_bounded_address six.balancer ≡ true
+  pub ranges : list_all is_bounded_range six.ranges ≡ true
+
 -- those of a Service
 pub record IsBoundedService (s : Service) : Type 0 where
   pub cluster : is_bounded_cluster_address s.cluster ≡ true
@@ -74,7 +82,9 @@ pub record IsBoundedService (s : Service) : Type 0 where
   pub external : list_all is_bounded_address s.external ≡ true
   pub affinity : passes_if_some is_timeout s.affinity ≡ true
   pub ranges : passes_if_some (list_all is_bounded_range) s.ranges ≡ true
+  pub health : passes_if_some is_port_number s.health ≡ true
   pub balancer : list_all is_bounded_address s.balancer ≡ true
+  pub six : IsBoundedSix s.six
 
 -- the number of a slice's port, if it has one
 abbrev pub is_bounded_slice_port : SlicePort → Bool
@@ -97,6 +107,7 @@ is_bounded_container_port p = is_port_number p.port
 pub record IsBoundedPod (p : Pod) : Type 0 where
   pub ports : list_all is_bounded_container_port p.ports ≡ true
   pub address : passes_if_some is_bounded_address p.address ≡ true
+  pub address6 : passes_if_some is_bounded_address p.address6 ≡ true
 
 -- those of an object; a Node has none
 abbrev pub IsBoundedObject : Object → Type 0
@@ -124,9 +135,10 @@ pub record AreBounded (o : Objects) : Type 0 where
   pub slices : HoldsOfEach IsBoundedSlice o.slices
   pub pods : HoldsOfEach IsBoundedPod o.pods
 
--- a configuration whose cluster range, if it has one, is a range
-abbrev pub IsBoundedConfig : Config → Type 0
-IsBoundedConfig config = passes_if_some is_bounded_range config.cluster ≡ true
+-- a configuration whose cluster ranges, if it has any, are ranges
+pub record IsBoundedConfig (config : Config) : Type 0 where
+  pub cluster : passes_if_some is_bounded_range config.cluster ≡ true
+  pub cluster6 : passes_if_some is_bounded_range config.cluster6 ≡ true
 
 -- ---- Ports
 

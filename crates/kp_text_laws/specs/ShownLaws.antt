@@ -57,14 +57,14 @@ ReplaysAreBounded = (lines : List (List ℕ)) → IsBoundedStanding (replay_of l
 abbrev pub CoveredTablesReadBack : Type 0
 CoveredTablesReadBack =
     (setting : Setting) (events : List Event) (counts : List ℕ) (n : ℕ)
-    → IsPrintable setting → AreBoundedEvents events
+    → setting.family ≡ V4 → IsPrintable setting → AreBoundedEvents events
     → IsReadableTable setting.family (chains_covered setting events counts n)
 
 -- and so are the changes between two of these tables.
 abbrev pub CoveredChangesReadBack : Type 0
 CoveredChangesReadBack =
     (setting : Setting) (events : List Event) (counts : List ℕ) (m n : ℕ)
-    → IsPrintable setting → AreBoundedEvents events
+    → setting.family ≡ V4 → IsPrintable setting → AreBoundedEvents events
     → IsReadableBatch setting.family (chains_covered setting events counts m)
     (chains_covered setting events counts n)
     (changes_between (chains_covered setting events counts m)
@@ -72,11 +72,12 @@ CoveredChangesReadBack =
 
 -- ---- What is shown
 
--- The sections of both tables are the table's text.
+-- The sections of both tables of IPv4 are their text.
 abbrev pub SectionsAreTable : Type 0
 SectionsAreTable =
     (chains : Chains)
-    → table_text_of chains ≡ section_text_of chains table.Nat ++ section_text_of chains table.Filter
+    → table_text_of V4 chains
+    ≡ section_text_of chains table.Nat ++ section_text_of chains table.Filter
 
 -- nat and then filter, as they are shown
 abbrev pub both_shown : Standing → List ℕ
@@ -85,7 +86,7 @@ both_shown s = shown_text shown.Nat s ++ shown_text shown.Filter s
 -- what is shown of nat and of filter is the text of the table, which is read back
 pub record ShowsTable (s : Standing) : Type 0 where
   pub table : IsReadableTable V4 (chains_in s)
-  pub printed : both_shown s ≡ table_text_of (chains_in s)
+  pub printed : both_shown s ≡ table_text_of V4 (chains_in s)
 
 -- so it is in each replay
 abbrev pub ShownTablesReadBack : Type 0
@@ -100,7 +101,7 @@ chains_before s = chains_covered (setting_in s) s.events s.counts (syncs_in s - 
 pub record ShowsBatch (s : Standing) : Type 0 where
   pub batch : IsReadableBatch V4 (chains_before s) (chains_in s) (last_edits s)
   pub printed : (n : ℕ) (counts : List ℕ) → s.counts ≡ n ∷ counts
-      → shown_text shown.Batch s ≡ batch_text_of (last_edits s)
+      → shown_text shown.Batch s ≡ batch_text_of V4 (last_edits s)
 
 -- so it is in each replay
 abbrev pub ShownBatchesReadBack : Type 0

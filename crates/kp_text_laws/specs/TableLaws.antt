@@ -1,8 +1,9 @@
 -- What holds of the text of the full table, and of the batch between two full tables.
 use Rattle.std.specs.Prelude.{◌≡◌, true, List, Contains}
 use Rattle.std.specs.FinMap as finite
-use Rattle.std.specs.List.{fold}
+use Rattle.std.specs.List.{fold, list_all}
 use Rattle.kp_base.specs.declared.address.Family.{Family}
+use Rattle.kp_base.specs.declared.address.Family.TheVariants.{V4}
 use Rattle.kp_base.specs.declared.config.Config.{Config}
 use Rattle.kp_types.specs.Chains.{is_chain_name}
 use Rattle.kp_types.specs.Setting.{Setting}
@@ -21,7 +22,7 @@ use Rattle.kp_table_defs.specs.Rebuild.{Chains, TableParts, full_chains, full_ta
 use Rattle.kp_restore_defs.specs.BatchText.{batch_text_of, is_canonical_batch}
 use Rattle.kp_restore_defs.specs.BatchesBetween.{HaveSameBuiltIn}
 use Rattle.kp_restore_defs.specs.RuleText.{is_canonical_range}
-use Rattle.kp_restore_defs.specs.TableText.{is_canonical_table, table_text_of}
+use Rattle.kp_restore_defs.specs.TableText.{is_canonical_chain, is_canonical_table, table_text_of}
 use Rattle.kp_walk_laws.specs.Laws.{IsPrefixed, OffersAny}
 use Rattle.kp_text_laws.specs.Bounds.{AreBounded, IsBoundedConfig, IsBoundedInfo, passes_if_some}
 
@@ -40,10 +41,20 @@ ProductIsPrintable =
 
 -- ---- Tables
 
--- The full table of ports within their bounds has a text of its own.
+-- Each chain of the full table of ports within their bounds has texts of its own, in both families.
+abbrev pub FullChainsCanonical : Type 0
+FullChainsCanonical =
+    (setting : Setting) (infos : List PortInfo) → IsPrintable setting
+    → ((i : PortInfo) → Contains infos i → OffersAny i)
+    → ((i : PortInfo) → Contains infos i → IsBoundedInfo setting.family i)
+    → list_all (is_canonical_chain setting.family (full_chains setting infos))
+    (finite.entries (full_chains setting infos)) ≡ true
+
+-- The layout puts the chains into the tables of IPv4. So in that family the full table has a text
+-- of its own.
 abbrev pub FullTableCanonical : Type 0
 FullTableCanonical =
-    (setting : Setting) (infos : List PortInfo) → IsPrintable setting
+    (setting : Setting) (infos : List PortInfo) → setting.family ≡ V4 → IsPrintable setting
     → ((i : PortInfo) → Contains infos i → OffersAny i)
     → ((i : PortInfo) → Contains infos i → IsBoundedInfo setting.family i)
     → is_canonical_table setting.family (full_chains setting infos) ≡ true
@@ -54,22 +65,22 @@ FullTableCanonical =
 pub record IsReadableTable (family : Family) (chains : Chains) : Type 0 where
   pub canonical : is_canonical_table family chains ≡ true
   pub only : (other : Chains) → is_canonical_table family other ≡ true
-      → table_text_of other ≡ table_text_of chains → other ≡ chains
+      → table_text_of family other ≡ table_text_of family chains → other ≡ chains
   pub ranked : is_ranked chains ≡ true
   pub built_in : has_built_in_chains chains ≡ true
 
 -- So is the full table of any objects within their bounds, clash or not.
 abbrev pub FullTableReadsBack : Type 0
 FullTableReadsBack =
-    (setting : Setting) (o : Objects) → IsPrintable setting → AreBounded o
+    (setting : Setting) (o : Objects) → setting.family ≡ V4 → IsPrintable setting → AreBounded o
     → IsReadableTable setting.family (full_table setting o).chains
 
 -- And so is each table that is rebuilt from such objects.
 abbrev pub RebuiltReadsBack : Type 0
 RebuiltReadsBack =
-    (family : Family) (config : Config) (o : Objects) (t : TableParts)
-    → IsBoundedConfig config → AreBounded o → t ≡ full_table (setting_of family config) o
-    → IsReadableTable family t.chains
+    (config : Config) (o : Objects) (t : TableParts)
+    → IsBoundedConfig config → AreBounded o → t ≡ full_table (setting_of V4 config) o
+    → IsReadableTable V4 t.chains
 
 -- The built-in chains of all full tables of a setting are the same.
 abbrev pub FullTablesHaveSameBuiltIn : Type 0
@@ -98,7 +109,7 @@ pub record IsReadableBatch (family : Family) (before after : Chains)
     (edits : List Edit) : Type 0 where
   pub canonical : is_canonical_batch family edits ≡ true
   pub only : (others : List Edit) → is_canonical_batch family others ≡ true
-      → batch_text_of others ≡ batch_text_of edits → others ≡ edits
+      → batch_text_of family others ≡ batch_text_of family edits → others ≡ edits
   pub leads : fold chains_after_edit before edits ≡ after
   pub ranked : is_ranked (fold chains_after_edit before edits) ≡ true
   pub closed : (at : ChainAt) → Contains edits (Remove at) → NoneJumpsTo after at
@@ -106,7 +117,7 @@ pub record IsReadableBatch (family : Family) (before after : Chains)
 -- So are the changes between the full tables of objects within their bounds.
 abbrev pub ChangesReadBack : Type 0
 ChangesReadBack =
-    (setting : Setting) (before after : Objects) → IsPrintable setting
+    (setting : Setting) (before after : Objects) → setting.family ≡ V4 → IsPrintable setting
     → AreBounded before → AreBounded after
     → IsReadableBatch setting.family (full_table setting before).chains
     (full_table setting after).chains (edits_between setting before after)

@@ -5,7 +5,7 @@
 
 ghost use Rattle.kp_text_laws.specs.BoundLaws.{ObjectsAreBounded, PortsAreBounded, ReadIsBounded};
 ghost use Rattle.kp_text_laws.specs.ShownLaws as shown;
-ghost use Rattle.kp_text_laws.specs.TableLaws.{ChangesReadBack, FullTableCanonical, FullTableReadsBack, FullTablesHaveSameBuiltIn, ProductIsPrintable, RebuiltReadsBack};
+ghost use Rattle.kp_text_laws.specs.TableLaws.{ChangesReadBack, FullChainsCanonical, FullTableCanonical, FullTableReadsBack, FullTablesHaveSameBuiltIn, ProductIsPrintable, RebuiltReadsBack};
 
 /// Events that are read have their numbers within their bounds, and so have the objects after them
 /// and what is known of the objects' ports.
@@ -22,9 +22,11 @@ pub fn product_is_printable()
     kp_walk_laws::hashed_prefixed();
 }
 
-/// The full table of any objects has a text of its own, and no other table has that text. So it is
-/// of each table that is rebuilt. The built-in chains of all full tables are the same.
+/// The full table of any objects has a text of its own in IPv4, and no other table has that text.
+/// So it is of each table that is rebuilt. Its chains have texts of their own in both families. The
+/// built-in chains of all full tables are the same.
 pub fn full_tables_read_back()
+    ensures chains { FullChainsCanonical }
     ensures ports { FullTableCanonical }
     ensures objects { FullTableReadsBack }
     ensures rebuilt { RebuiltReadsBack }

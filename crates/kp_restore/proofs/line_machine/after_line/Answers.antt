@@ -1,11 +1,10 @@
 use Rattle.std.proofs.Common.{sym, ap, ◌∙◌}
 use Rattle.std.proofs.lemmas.Result.{IfOk-weaker}
-use Rattle.kp_base.specs.declared.address.Family.TheVariants.{V4}
 use Rattle.kp_restore.proofs.LineTexts.{line_exact}
 use Rattle.kp_restore.proofs.line_machine.after_line.Goals as goal
 
 pub returns-in-Some-clause-refused : goal.returns-in-Some-clause-refused
 returns-in-Some-clause-refused g c =
     IfOk-weaker c.step.result _ _
-    (λ next h n line good e. ap (g.M.LineMachine.step c.args.machine) (line_exact V4 line c.in-Some.line good c.in-Some.ensures.canonical (e ∙ sym c.in-Some.ensures.line)) ∙ sym h ∙ n)
+    (λ next h n line good e. ap (g.M.LineMachine.step c.args.machine) (line_exact c.args.family line c.in-Some.line good c.in-Some.ensures.canonical (e ∙ sym c.in-Some.ensures.line)) ∙ sym h ∙ n)
     c.step.ensures

@@ -12,7 +12,7 @@ pub returns-in-None-clause-bad : goal.returns-in-None-clause-bad
 returns-in-None-clause-bad g c n is = (
   c.loop-line.machine,
   c.loop-line.rest.now,
-  subst (λ k. IsRead g.M.LineMachine.step g.M.LineMachine.start c.args.bytes.now c.loop-line.machine c.loop-line.rest.now k) (one_number is) c.loop-line.invariant,
+  subst (λ k. IsRead c.args.family g.M.LineMachine.step (g.M.LineMachine.start c.args.family) c.args.bytes.now c.loop-line.machine c.loop-line.rest.now k) (one_number is) c.loop-line.invariant,
   Refused c.in-Some.line.now c.in-Some.behind.now c.in-Some.ensures.parts c.in-Some.ensures.line (c.in_ok-next.ensures.refused c.in-None.is),
 )
 
@@ -22,7 +22,7 @@ returns-clause-ok g c =
     (IfSome_then c.finished.result c.finished.ensures.value (λ value h. (
       c.loop-line.machine,
       c.loop-line.number,
-      subst (λ rest. IsRead g.M.LineMachine.step g.M.LineMachine.start c.args.bytes.now c.loop-line.machine rest c.loop-line.number) h.0 c.loop-line.invariant,
+      subst (λ rest. IsRead c.args.family g.M.LineMachine.step (g.M.LineMachine.start c.args.family) c.args.bytes.now c.loop-line.machine rest c.loop-line.number) h.0 c.loop-line.invariant,
       h.1,
       h.2,
     )))
@@ -32,6 +32,6 @@ returns-clause-bad g c n is =
     let none = not_answered c.finished.result c.loop-line.number n c.ok_or.result c.ok_or.ensures.value is in (
       c.loop-line.machine,
       c.loop-line.rest.now,
-      subst (λ k. IsRead g.M.LineMachine.step g.M.LineMachine.start c.args.bytes.now c.loop-line.machine c.loop-line.rest.now k) none.1 c.loop-line.invariant,
+      subst (λ k. IsRead c.args.family g.M.LineMachine.step (g.M.LineMachine.start c.args.family) c.args.bytes.now c.loop-line.machine c.loop-line.rest.now k) none.1 c.loop-line.invariant,
       Unfinished (c.first_line.ensures.none c.in_default.is) (c.finished.ensures.none none.0),
     )

@@ -9,5 +9,5 @@ pub returns : goal.returns
 returns c =
     let there : (old : List ChainAt) (a b : ChainAt) → a ≡ b → old ++ if_there c.args.table.now.chains a ≡ old ++ if_there c.args.table.now.chains b = λ old a b e. ap (λ at. old ++ if_there c.args.table.now.chains at) e in
     on_ok_weaker c.add_if_there-3.result
-    (λ e. filter_added c.args.table.now.chains _ _ _ _ (c.in_ok-add_if_there.ensures ∙ there _ _ _ c.place.ensures) (c.in_ok-add_if_there-2.ensures ∙ there _ _ _ c.place-2.ensures) (e ∙ there _ _ _ c.place-3.ensures))
+    (λ e. filter_added c.args.table.now.chains c.args.which _ _ _ _ (c.in_ok-add_if_there.ensures ∙ there _ _ _ c.place.ensures) (c.in_ok-add_if_there-2.ensures ∙ there _ _ _ c.place-2.ensures) (e ∙ there _ _ _ c.place-3.ensures))
     c.add_if_there-3.ensures

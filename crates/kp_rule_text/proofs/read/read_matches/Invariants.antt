@@ -1,5 +1,4 @@
 use Rattle.std.proofs.Common.{◌≡◌, ◌-◌, length}
-use Rattle.kp_base.specs.declared.address.Family.TheVariants.{V4}
 use Rattle.kp_rule_text.specs.Reading.{matches_of}
 use Rattle.kp_rule_text.proofs.Rules.{after}
 use Rattle.kp_rule_text.proofs.read.read_matches.Given as goal
@@ -8,5 +7,5 @@ use Rattle.kp_rule_text.proofs.read.read_matches.Given as goal
 abbrev pub invariant-loop : goal.invariant-loop
 invariant-loop l = record {
   count : length l.matches.items ≡ l.counter;
-  read : after l.matches.items (matches_of V4 (4 - l.counter) l.rest) ≡ matches_of V4 4 l.text;
+  read : after l.matches.items (matches_of l.family (4 - l.counter) l.rest) ≡ matches_of l.family 4 l.text;
 }
