@@ -1,7 +1,9 @@
 //! Texts of batches: some that are read and printed again, and others that have a bad line.
 use crate::tables::{TABLE, push_line, table_of};
 use kp_base::NoMemory;
-use kp_restore::{Batch, TextFault, batch_text, read_batch, table_text};
+use kp_restore::{
+    Batch, TextFault, batch_text, batch_text_six, read_batch, read_batch_six, table_text,
+};
 use std::alloc::Global;
 use std::test::*;
 
@@ -53,6 +55,36 @@ fn batches_are_printed_as_they_are_read(rt: HostRuntime) -> Result<(), Fail> {
             "at {text}"
         );
     }
+    Ok(())
+}
+
+/// Edits of both tables of IPv6.
+const EDITS_SIX: &str = "*nat
+:KUBE-SEP- - [0:0]
+:KUBE-SVC- - [0:0]
+-A KUBE-SVC- ! -s fd00:10:244::/56 -d fd00:10:96::a/128 -p tcp -m tcp --dport 80 -j KUBE-MARK-MASQ
+-X KUBE-SEP-
+COMMIT
+*filter
+:KUBE-SERVICES - [0:0]
+-A KUBE-SERVICES -d fd00:10:96::b/128 -j REJECT
+COMMIT
+";
+
+/// What a text of IPv6 is read as.
+fn read_six(alloc: Global, text: &str) -> Result<Batch, TextFault> {
+    read_batch_six(alloc, text.as_bytes())
+}
+
+/// A batch of IPv6 has no edit of IPv4, and each family's text is none of the other.
+#[test]
+fn a_batch_of_ipv6_is_printed_as_it_is_read(rt: HostRuntime) -> Result<(), Fail> {
+    let alloc = rt.alloc();
+    let batch = read_six(alloc, EDITS_SIX).ok().ok_or("a batch")?;
+    assert!(rt; batch_text_six(alloc, &batch)?.as_str() == EDITS_SIX);
+    assert!(rt; batch_text(alloc, &batch)?.as_str() == "");
+    assert_eq!(rt; bad_line(alloc, EDITS_SIX.as_bytes()), Some(4));
+    assert!(rt; matches!(read_six(alloc, EDITS), Err(TextFault::BadText { line: 5 })));
     Ok(())
 }
 

@@ -126,7 +126,7 @@ impl Synced {
         let mut steps = Steps::<L>::new(rules);
         let batch = self.writer.edits(alloc, &self.table, &mut steps)?;
         self.table.apply(&batch)?;
-        self.writer.keep();
+        self.writer.keep(alloc);
         Ok(batch)
     }
 }

@@ -1,6 +1,8 @@
 //! Texts of tables: one that is read and printed again, and others that differ from it in a line.
 use kp_base::NoMemory;
-use kp_restore::{Table, TextFault, read_table, section_text, table_text};
+use kp_restore::{
+    Table, TextFault, read_table, read_table_six, section_text, table_text, table_text_six,
+};
 use kp_types::TableName;
 use std::alloc::Global;
 use std::test::*;
@@ -66,6 +68,50 @@ fn a_table_is_printed_as_it_is_read(rt: HostRuntime) -> Result<(), Fail> {
     let table = table_of(rt.alloc(), TABLE)?;
     assert!(rt; table_text(rt.alloc(), &table)?.as_str() == TABLE);
     assert!(rt; TABLE.starts_with(section_text(rt.alloc(), &table, TableName::Nat)?.as_str()));
+    Ok(())
+}
+
+/// The text of a table of IPv6 of one Service with one endpoint.
+const TABLE_SIX: &str = "*nat
+:PREROUTING ACCEPT [0:0]
+:INPUT ACCEPT [0:0]
+:OUTPUT ACCEPT [0:0]
+:POSTROUTING ACCEPT [0:0]
+:KUBE-MARK-MASQ - [0:0]
+:KUBE-NODEPORTS - [0:0]
+:KUBE-SEP- - [0:0]
+:KUBE-SERVICES - [0:0]
+-A PREROUTING -j KUBE-SERVICES
+-A KUBE-SEP- -s fd00:10:244:1::2/128 -j KUBE-MARK-MASQ
+-A KUBE-SEP- -p tcp -j DNAT --to-destination [fd00:10:244:1::2]:8080
+-A KUBE-SERVICES -d fd00:10:96::a/128 -p tcp -m tcp --dport 80 -j KUBE-SEP-
+-A KUBE-SERVICES ! -d ::1/128 -m addrtype --dst-type LOCAL -j KUBE-NODEPORTS
+COMMIT
+*filter
+:INPUT ACCEPT [0:0]
+:FORWARD ACCEPT [0:0]
+:OUTPUT ACCEPT [0:0]
+:KUBE-SERVICES - [0:0]
+-A FORWARD -j KUBE-SERVICES
+-A KUBE-SERVICES -d fd00:10:96::b/128 -p udp -m udp --dport 53 -j REJECT
+COMMIT
+";
+
+/// What a text of IPv6 is read as.
+fn read_six(alloc: Global, text: &str) -> Result<Table, TextFault> {
+    read_table_six(alloc, text.as_bytes())
+}
+
+/// A table of IPv6 has no chain of IPv4, and its text is none of IPv4 from the first address on.
+#[test]
+fn a_table_of_ipv6_is_printed_as_it_is_read(rt: HostRuntime) -> Result<(), Fail> {
+    let alloc = rt.alloc();
+    let table = read_six(alloc, TABLE_SIX).ok().ok_or("a table")?;
+    assert!(rt; table_text_six(alloc, &table)?.as_str() == TABLE_SIX);
+    assert!(rt; TABLE_SIX.starts_with(section_text(alloc, &table, TableName::Nat6)?.as_str()));
+    assert!(rt; table_text(alloc, &table)?.as_str() == "*nat\nCOMMIT\n*filter\nCOMMIT\n");
+    assert_eq!(rt; bad_line(alloc, TABLE_SIX), Some(11));
+    assert!(rt; matches!(read_six(alloc, TABLE), Err(TextFault::BadText { line: 19 })));
     Ok(())
 }
 

@@ -1,9 +1,10 @@
 -- More events change nothing of what syncs cover.
-use Rattle.std.proofs.Common.{◌≡◌, ◌≤◌, ◌-◌, ℕ, List, [], ◌∷◌, ◌++◌, take, length, sum, sym, ap, subst, ◌∙◌, arith, Result, Ok, Err, OnOk, OnErr}
+use Rattle.std.proofs.Common.{◌≡◌, ◌≤◌, ◌-◌, ℕ, List, ◌++◌, take, length, sum, sym, ap, subst, ◌∙◌, arith, Result, Ok, Err, OnOk, OnErr}
 use Rattle.std.proofs.lemmas.List.{take-append-le, length-append}
 use Rattle.std.proofs.lemmas.List.Sums.{sum_by-take-le}
 use Rattle.kp_base.specs.declared.address.Family.TheVariants.{V4}
 use Rattle.kp_types.specs.declared.event.Event.{Event}
+use Rattle.kp_types.specs.Setting.{both_families}
 use Rattle.kp_object_defs.specs.Objects.{objects_after}
 use Rattle.kp_object_defs.specs.SlicesNow.{slices_now}
 use Rattle.kp_table_defs.specs.Edits.{changes_between}
@@ -67,7 +68,7 @@ module _ (p : PlaneParts) (more : List Event) where
     covered = is.covered;
     from = is.from;
     to = is.to;
-    slices = is.slices ∙ ap (λ es. slices_now (V4 ∷ []) p.config es (take s.syncs p.counts)) (sym (take-append-le s.place.at p.events more is.place.within));
+    slices = is.slices ∙ ap (λ es. slices_now both_families p.config es (take s.syncs p.counts)) (sym (take-append-le s.place.at p.events more is.place.within));
     controlled = is.controlled;
   }
 

@@ -1,38 +1,48 @@
 -- What a writer makes between what the last sync covers and all events.
-use Rattle.std.proofs.Common.{◌≡◌, ◌≤◌, ◌<◌, ◌+◌, ℕ, [], None, length, map, sum, take}
+use Rattle.std.proofs.Common.{◌≡◌, ◌≤◌, ◌<◌, ◌+◌, ◌++◌, ℕ, List, [], None, flat_map, length, map}
+use Rattle.std.proofs.Common.{not, sum, take}
 use Rattle.std.proofs.Common.{drop, refl, sym, ap, subst, ◌∙◌, arith, le_refl, Result, Ok, Err, OnErr}
 use Rattle.std.proofs.lemmas.List.{take_all}
 use Rattle.std.specs.FinMap as finite
+use Rattle.std.proofs.lemmas.List.Kept.{IsStrictlySortedBy-filter}
+use Rattle.kp_base.specs.Keys.{port_key_cmp}
 use Rattle.kp_base.specs.declared.address.Family.TheVariants.{V4}
+use Rattle.kp_base.specs.declared.key.PortKey.{PortKey}
+use Rattle.kp_base.proofs.KeyOrder.{port_key_total}
+use Rattle.kp_types.specs.Setting.{Setting}
+use Rattle.kp_types.specs.declared.event.Event.{Event}
 use Rattle.kp_choice_defs.specs.Names.{first_clash}
 use Rattle.kp_choice_defs.specs.Settings.{setting_of}
 use Rattle.kp_object_defs.specs.Objects.{Objects, objects_after}
 use Rattle.kp_object_defs.specs.OwnKeys.{AreUnderOwnKeys}
+use Rattle.kp_object_defs.specs.PortByKey.{port_keys_of}
 use Rattle.kp_object_laws.specs.ObjectLaws.{OwnKeysAfterEvents}
 use Rattle.kp_table_defs.specs.Edits.{SameRulesAreEqual, changes_between}
 use Rattle.kp_table_defs.specs.Rebuild as rebuild
 use Rattle.kp_table_defs.specs.Rebuild.{TableParts, full_chains, full_table, needed_keys}
-use Rattle.kp_history_defs.specs.DirtyPorts.{dirty_port, dirty_ports}
+use Rattle.kp_history_defs.specs.DirtyPorts.{dirty_port, dirty_ports, keeps_info}
+use Rattle.kp_history_defs.specs.Inputs.{ports_of_either}
 use Rattle.kp_history_defs.specs.History.{covered}
-use Rattle.kp_history_laws.specs.DirtyLaws.{NoneDirty}
+use Rattle.kp_history_laws.specs.DirtyLaws.{CleanInfos, NoneDirty}
 use Rattle.kp_history.specs.Invariant.{IsHistory}
 use Rattle.kp_history.proofs.Synced.{within}
 use Rattle.kp_touch_laws.specs.TouchLaws.{touches_one}
 use Rattle.kp_plane.specs.Counts.{IsCounted}
-use Rattle.kp_plane.proofs.Synced.{leads_nowhere, none_left, nothing_new}
+use Rattle.kp_plane.proofs.Synced.{at_end, leads_nowhere, none_left, nothing_new}
 use Rattle.kp_history.specs.declared.history.History.{History}
-use Rattle.kp_writer.specs.Known.{ArePortsOf, DirtyNewest, DirtyWritten, IsBetween, KnownDirtyPorts}
-use Rattle.kp_writer.specs.Known.{KnownPorts}
+use Rattle.kp_writer.specs.Known.{ArePortsOf, DirtyNewest, IsBetween, KnownDirtyPorts, KnownPorts}
 use Rattle.kp_writer.specs.Own.{own_rule_count}
-use Rattle.kp_writer.specs.Shared.{shared_rule_count}
 use Rattle.kp_writer.specs.Written as written
 use Rattle.kp_writer.specs.Written.{Ports, WriterParts, chains_of, newest_ports, written_ports}
-use Rattle.kp_plane.specs.Invariant.{Holds, IsBroughtOn, IsMade, IsNext, IsPortsAt, IsUpToDate}
+use Rattle.kp_writer.proofs.OneList.{distinct_rise}
+use Rattle.kp_plane.specs.Invariant.{Holds, IsAtPlace, IsBroughtOn, IsMade, IsNext, IsPortsAt}
+use Rattle.kp_plane.specs.Invariant.{IsUpToDate}
 use Rattle.kp_plane.specs.Invariant.{touched_between}
-use Rattle.kp_plane.specs.Known.{touched_count, touched_rules}
-use Rattle.kp_plane.specs.Parts.{PlaneParts, is_touched_since, most_asked, most_blocks, most_edited}
+use Rattle.kp_plane.specs.Known.{AreDirty, rules_of, touched_count}
+use Rattle.kp_plane.specs.Parts.{PlaneParts, dirty_infos, is_touched_since, most_asked, next_dirty}
 use Rattle.kp_plane.specs.Parts.{objects_in, setting_in, syncs_in}
 use Rattle.kp_plane.specs.declared.next.Next.{Next}
+use Rattle.kp_plane.specs.declared.place.ObjectsAt.{ObjectsAt}
 use Rattle.kp_plane.specs.declared.ports_at.PortsAt.{PortsAt}
 
 -- what is known of ports at a later place
@@ -78,6 +88,22 @@ module _ (known : KnownPorts) (own : OwnKeysAfterEvents) (p : PlaneParts) (w : W
         → written.clash_of w (written_ports w) ≡ None
     stands_apart h is = same_clash (objects_in p) (written_ports w) own_last old ∙ is.no_clash
 
+    -- among the dirty ports each stands of which something else was written
+    pub are_dirty : CleanInfos
+        → AreDirty (setting_in p) (written_ports w) (objects_after p.events) (next_dirty p)
+    are_dirty clean = record {
+      in_order = IsStrictlySortedBy-filter port_key_cmp
+          (λ key. not (keeps_info (setting_in p) (objects_in p) (objects_after p.events) key))
+          (ports_of_either (objects_in p) (objects_after p.events))
+          (distinct_rise port_key_cmp port_key_total
+          (flat_map port_keys_of (finite.values (objects_in p).services)
+          ++ flat_map port_keys_of (finite.values (objects_after p.events).services)));
+      rest = λ key h.
+          old key
+          ∙ sym (clean (setting_in p) (objects_in p) (objects_after p.events) key own_last
+          (own p.events) h);
+    }
+
     module _ (new : ArePortsOf (setting_in p) (objects_after p.events) (newest_ports w)) where
       pub next_clash : written.clash_of w (newest_ports w)
           ≡ rebuild.clash_of (setting_in p) (objects_after p.events)
@@ -106,15 +132,12 @@ module _ (known : KnownPorts) (own : OwnKeysAfterEvents) (p : PlaneParts) (w : W
         newest = λ _. up;
       }
 
-      -- its edits are made from rules of the dirty ports
-      pub most_made : DirtyWritten → DirtyNewest
-          → shared_rule_count (written.setting_in w) (written.dirty_of w (written_ports w))
-          + own_rule_count (written.setting_in w) (written.dirty_of w (newest_ports w))
-          ≡ most_edited p
-      most_made was becomes = λ i.
-          shared_rule_count (setting_of V4 (config i))
-          (was (setting_in p) (objects_in p) (objects_after p.events) w between i)
-          + own_rule_count (setting_of V4 (config i))
+      -- its edits are made from the dirty ports' own chains
+      pub most_made : DirtyNewest
+          → own_rule_count (written.setting_in w) (written.dirty_of w (newest_ports w))
+          ≡ own_rule_count (setting_in p) (dirty_infos p)
+      most_made becomes = λ i.
+          own_rule_count (setting_of V4 (config i))
           (becomes (setting_in p) (objects_in p) (objects_after p.events) w between i)
 
 -- ---- Where no event came
@@ -150,12 +173,16 @@ pub asked_since : (p : PlaneParts)
     ≡ most_asked p
 asked_since p = ap (touched_count (objects_after p.events)) (touched_since p)
 
--- and the most of which blocks are made
-pub blocks_since : (p : PlaneParts)
-    → touched_rules (setting_in p) (objects_after p.events)
-    (touched_between (setting_in p) p.events (sum p.counts) (length p.events))
-    ≡ most_blocks p
-blocks_since p = ap (touched_rules (setting_in p) (objects_after p.events)) (touched_since p)
+-- what is made at the end is at most what dirty ports have there
+pub made_at_end : (setting : Setting) (written : Ports) (events : List Event) (here : ObjectsAt)
+    → IsAtPlace events here → here.at ≡ length events → (old new : ℕ)
+    → ((dirty : List PortKey) → AreDirty setting written here.objects dirty
+    → new ≤ old + rules_of setting here.objects dirty)
+    → (dirty : List PortKey) → AreDirty setting written (objects_after events) dirty
+    → new ≤ old + rules_of setting (objects_after events) dirty
+made_at_end setting written events here place at old new =
+    subst (λ o. (dirty : List PortKey) → AreDirty setting written o dirty
+    → new ≤ old + rules_of setting o dirty) (at_end events events here place at refl)
 
 -- what isn't counted
 pub counted_none : (left most old : ℕ) → IsCounted left most old old

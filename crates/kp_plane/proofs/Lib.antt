@@ -3,6 +3,7 @@ mod Between
 mod Collecting
 mod Controlled
 mod FewAsked
+mod FewMade
 mod Places
 mod Refreshed
 mod Settled

@@ -1,7 +1,7 @@
 -- What is known of ports once those of Services are made anew.
 use Rattle.std.proofs.Common.{◌≡◌, ◌||◌, ◌+◌, Bool, true, false, List, [], ◌∷◌, ◌++◌, map, refl, sym}
 use Rattle.std.proofs.Common.{ap, ◌∙◌, ◌≤◌, Option, None, cond}
-use Rattle.std.proofs.Common.{Some, ℕ, arith, filter, flat_map, inl, inr, ◌⊎◌}
+use Rattle.std.proofs.Common.{Some, ℕ, append-nil, filter, flat_map, inl, inr, ◌⊎◌}
 use Rattle.std.specs.List.{Contains, cons_option, filter_map, list_any, sum_by}
 use Rattle.std.specs.Ordering.{eq_by_cmp}
 use Rattle.std.specs.Option.{option_and_then, option_to_list}
@@ -12,7 +12,8 @@ use Rattle.std.proofs.Math.Bool.{or-true}
 use Rattle.std.proofs.lemmas.Bool.{false_from_ne_true, or_parts}
 use Rattle.std.proofs.lemmas.List.Elements.{filter_map-append}
 use Rattle.std.proofs.lemmas.List.Folds.{list_any-append}
-use Rattle.std.proofs.lemmas.List.Sums.{sum_by-append, sum_by-cons}
+use Rattle.std.proofs.lemmas.List.Concat.{flat_map-append}
+use Rattle.std.proofs.lemmas.List.Sums.{sum_by-append}
 use Rattle.kp_lemmas.proofs.Members.{in_cases, none_in}
 use Rattle.kp_base.specs.Keys.{key_cmp, port_key_cmp}
 use Rattle.kp_base.proofs.KeyOrder.{key_total, key_exact, port_key_exact}
@@ -36,11 +37,13 @@ use Rattle.kp_blocks.specs.Joined.{is_port_of}
 use Rattle.kp_writer_laws.specs.LocalLaws.{info_of}
 use Rattle.kp_writer.specs.Known.{ArePortsOf, KnownOfService, port_keys_at}
 use Rattle.kp_writer.specs.Refresh.{IsRefreshed, OthersStay}
+use Rattle.kp_writer.specs.Old.{unwritten}
 use Rattle.kp_writer.specs.Shared.{shared_rule_count}
 use Rattle.kp_writer.specs.Written.{Ports}
+use Rattle.kp_writer.proofs.RuleCounts.{unwritten_parts}
 use Rattle.kp_object_defs.specs.OwnKeys.{AreUnderOwnKeys}
 use Rattle.kp_plane.specs.Known.{IsKnown, KnowsOthers, KnowsService, KnowsUntouched}
-use Rattle.kp_plane.specs.Known.{asked_count, is_port_of_one, made_count, shared_rules_in}
+use Rattle.kp_plane.specs.Known.{asked_count, infos_in, is_port_of_one, made_count}
 use Rattle.kp_plane.proofs.FewAsked.{few_of_all, few_of_passing}
 use Rattle.kp_plane.proofs.Sums.{sum_all, sum_more}
 use Rattle.kp_plane.proofs.Touching.{both_answers}
@@ -95,6 +98,20 @@ module _ (old new : List ObjectKey) (k : ObjectKey) (is : old ≡ new ++ k ∷ [
       ∙ ap (sum_by f) (filter_map-append (finite.get o.services) new (k ∷ []))
       ∙ sum_by-append f (filter_map (finite.get o.services) new)
       (filter_map (finite.get o.services) (k ∷ []))
+
+  -- so does what is made of their ports
+  pub made_split : (setting : Setting) (written : Ports) (o : Objects)
+      → made_count setting written o old
+      ≡ made_count setting written o new + made_count setting written o (k ∷ [])
+  made_split setting written o =
+      let known : PortKey → Option PortInfo = info_at setting.family setting.config o in
+      ap (made_count setting written o) is
+      ∙ ap (λ ks. shared_rule_count setting (unwritten written (filter_map known ks)))
+      (flat_map-append (port_keys_at o) new (k ∷ []))
+      ∙ ap (λ is. shared_rule_count setting (unwritten written is))
+      (filter_map-append known (flat_map (port_keys_at o) new)
+      (flat_map (port_keys_at o) (k ∷ [])))
+      ∙ unwritten_parts setting written (infos_in setting o new) (infos_in setting o (k ∷ []))
 
 module _ (setting : Setting) (o : Objects) where
   -- where all are done, all ports are known
@@ -205,25 +222,17 @@ pub none_named : (o : Objects) (service : ObjectKey) → finite.get o.services s
 none_named o service is =
     ap (λ o. distinct_in_order port_key_cmp (flat_map port_keys_of (option_to_list o))) is
 
--- what the ports of a Service have in the shared chains, which is there or isn't
-pub made_one : (setting : Setting) (o : Objects) → AreUnderOwnKeys o → (service : ObjectKey)
+-- what is made of the ports of one Service
+pub made_one : (setting : Setting) (written : Ports) (o : Objects) (service : ObjectKey)
     → (infos : List PortInfo)
     → infos ≡ filter_map (info_at setting.family setting.config o) (port_keys_at o service)
-    → shared_rule_count setting infos ≡ made_count setting o (service ∷ [])
-made_one setting o own service infos are =
-    ap (shared_rule_count setting) are
-    ∙ by (finite.get o.services service) refl
-    ∙ refl
-  where
-    count : List PortKey → ℕ
-    count ks = shared_rule_count setting (filter_map (info_at setting.family setting.config o) ks)
-
-    by : (s : Option Service) → finite.get o.services service ≡ s
-        → count (port_keys_at o service) ≡ sum_by (shared_rules_in setting o) (cons_option s [])
-    by None is = ap count (none_named o service is)
-    by (Some s) is =
-        let at = ap (λ k. count (port_keys_at o k)) (sym (own.services service s is)) in
-        let one = sum_by-cons (shared_rules_in setting o) s [] in omega (arith, at, one)
+    → shared_rule_count setting (unwritten written infos)
+    ≡ made_count setting written o (service ∷ [])
+made_one setting written o service infos are =
+    ap (λ is. shared_rule_count setting (unwritten written is)) are
+    ∙ ap (λ ks. shared_rule_count setting (unwritten written
+    (filter_map (info_at setting.family setting.config o) ks)))
+    (sym (append-nil (port_keys_at o service)))
 
 -- ---- All Services
 

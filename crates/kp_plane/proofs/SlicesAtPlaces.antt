@@ -3,9 +3,9 @@ use Rattle.std.proofs.Common.{◌≡◌, ◌≤◌, ◌<◌, ◌+◌, ◌-◌, �
 use Rattle.std.specs.FinMap as finite
 use Rattle.std.proofs.lemmas.List.{length-take-le, take_all, take_more}
 use Rattle.std.proofs.lemmas.List.Sums.{sum_by_push, sum_by-take-le}
-use Rattle.kp_base.specs.declared.address.Family.TheVariants.{V4}
 use Rattle.kp_base.specs.declared.config.Config.{Config}
 use Rattle.kp_types.specs.declared.event.Event.{Event}
+use Rattle.kp_types.specs.Setting.{both_families}
 use Rattle.kp_object_defs.specs.Objects.{no_objects, objects_after, objects_step}
 use Rattle.kp_object_defs.specs.SlicesNow.{Slices, slices_step, controller_step, slices_now}
 use Rattle.kp_object_laws.specs.SliceLaws.{SlicesAfterEvent, SlicesAfterSync, SlicesAsFed}
@@ -41,11 +41,11 @@ first_slices as_fed at_first more config events counts s place at empty syncs co
       covered = covered ∙ ap (λ (n : ℕ). sum (take n counts)) (sym syncs);
       from = omega arith;
       to = λ _. subst (λ (n : ℕ). n ≤ sum (take (s.syncs + 1) counts)) (sym at) (omega arith);
-      slices = empty ∙ sym (as_fed (V4 ∷ []) config [])
-          ∙ (λ i. slices_now (V4 ∷ []) config (take (sym at i) events) (take (sym syncs i) counts));
+      slices = empty ∙ sym (as_fed both_families config [])
+          ∙ (λ i. slices_now both_families config (take (sym at i) events) (take (sym syncs i) counts));
       controlled = controlled_by_none more config s.place.objects s.slices s.touched
-          (subst (λ o. IsControlledBut V4 none config o s.slices) (sym first)
-          (subst (IsControlledBut V4 none config no_objects) (sym empty) (at_first V4 config)));
+          (subst (λ o. IsControlledBut none config o s.slices) (sym first)
+          (subst (IsControlledBut none config no_objects) (sym empty) (at_first config)));
     }
 
 -- ---- Events
@@ -84,11 +84,11 @@ module _ (config : Config) (events : List Event) where
         slices = λ counts within is.
             step
             ∙ ap (λ m. slices_step m event) is
-            ∙ sym (by_event (V4 ∷ []) config (take at events) counts event (omega arith))
-            ∙ ap (λ e. slices_now (V4 ∷ []) config (take at events ++ e ∷ []) counts) found
-            ∙ ap (λ es. slices_now (V4 ∷ []) config es counts)
+            ∙ sym (by_event both_families config (take at events) counts event (omega arith))
+            ∙ ap (λ e. slices_now both_families config (take at events ++ e ∷ []) counts) found
+            ∙ ap (λ es. slices_now both_families config es counts)
             (sym (take_more events at event few))
-            ∙ ap (λ (n : ℕ). slices_now (V4 ∷ []) config (take n events) counts) (sym next);
+            ∙ ap (λ (n : ℕ). slices_now both_families config (take n events) counts) (sym next);
         controlled = controlled;
       }
 
@@ -113,12 +113,12 @@ module _ (config : Config) (events : List Event) where
 module _ (config : Config) (events : List Event) (counts : List ℕ) (s : SlicesAt)
     (is : IsSlicesAt config events counts s) (to : ℕ) (fed : SlicesAt)
     (f : IsFed config events to s fed) where
-  after : fed.slices ≡ slices_now (V4 ∷ []) config (take to events) (take s.syncs counts)
+  after : fed.slices ≡ slices_now both_families config (take to events) (take s.syncs counts)
   after =
       let covered = is.covered in
       let from = is.from in
       f.slices (take s.syncs counts) (omega arith) is.slices
-      ∙ ap (λ (n : ℕ). slices_now (V4 ∷ []) config (take n events) (take s.syncs counts)) f.at
+      ∙ ap (λ (n : ℕ). slices_now both_families config (take n events) (take s.syncs counts)) f.at
 
   -- over no more syncs
   pub fed_at : (s.syncs < length counts → to ≤ sum (take (s.syncs + 1) counts))
@@ -138,7 +138,7 @@ module _ (config : Config) (events : List Event) (counts : List ℕ) (s : Slices
         to = λ more.
             let rest = no_more (subst (λ (n : ℕ). n < length counts) f.syncs more) in
             subst (λ (n : ℕ). fed.place.at ≤ sum (take (n + 1) counts)) (sym f.syncs) (subst (λ (n : ℕ). n ≤ sum (take (s.syncs + 1) counts)) (sym f.at) rest);
-        slices = after ∙ (λ i. slices_now (V4 ∷ []) config (take (sym f.at i) events) (take (sym f.syncs i) counts));
+        slices = after ∙ (λ i. slices_now both_families config (take (sym f.at i) events) (take (sym f.syncs i) counts));
         controlled = f.controlled;
       }
 
@@ -148,8 +148,8 @@ pub next_sync : SlicesAfterSync → MoreArePicked
     → IsSlicesAt config events counts s → s.syncs < length counts → sum counts ≤ length events
     → (fed : SlicesAt) → IsFed config events (s.covered + get_or counts s.syncs 0) s fed
     → (made : Slices) (touched : Touched)
-    → made ≡ controller_step (V4 ∷ []) config fed.place.objects fed.slices
-    → IsControlledBut V4 none config fed.place.objects made
+    → made ≡ controller_step both_families config fed.place.objects fed.slices
+    → IsControlledBut none config fed.place.objects made
     → IsSlicesAt config events counts (record {
       slices = made;
       place = fed.place;
@@ -180,19 +180,19 @@ next_sync by_sync picked config events counts s is more within fed f made touche
       from = omega arith;
       to = λ _. subst (λ (n : ℕ). fed.place.at ≤ sum (take (n + 1 + 1) counts)) (sym f.syncs) (omega arith);
       slices = step
-          ∙ ap (λ o. controller_step (V4 ∷ []) config o fed.slices) (f.place.objects ∙ ap (λ (n : ℕ). objects_after (take n events)) f.at)
-          ∙ ap (controller_step (V4 ∷ []) config (objects_after (take to events))) (after config events counts s is to fed f)
-          ∙ sym (by_sync (V4 ∷ []) config (take to events) (take k counts) few)
-          ∙ ap (slices_now (V4 ∷ []) config (take to events)) (sym counted)
-          ∙ ap (λ (n : ℕ). slices_now (V4 ∷ []) config (take n events) (take (fed.syncs + 1) counts)) (sym f.at);
+          ∙ ap (λ o. controller_step both_families config o fed.slices) (f.place.objects ∙ ap (λ (n : ℕ). objects_after (take n events)) f.at)
+          ∙ ap (controller_step both_families config (objects_after (take to events))) (after config events counts s is to fed f)
+          ∙ sym (by_sync both_families config (take to events) (take k counts) few)
+          ∙ ap (slices_now both_families config (take to events)) (sym counted)
+          ∙ ap (λ (n : ℕ). slices_now both_families config (take n events) (take (fed.syncs + 1) counts)) (sym f.at);
       controlled = controlled_by_none picked config fed.place.objects made touched settled;
     }
 
 -- after all events and all syncs they are the slices now
 pub at_all : (config : Config) (events : List Event) (counts : List ℕ) (s : SlicesAt) → IsSlicesAt config events counts s → s.place.at ≡ length events → length counts ≤ s.syncs
-    → s.slices ≡ slices_now (V4 ∷ []) config events counts
+    → s.slices ≡ slices_now both_families config events counts
 at_all config events counts s is at all =
     is.slices
-    ∙ ap (λ (n : ℕ). slices_now (V4 ∷ []) config (take n events) (take s.syncs counts)) at
-    ∙ ap (λ es. slices_now (V4 ∷ []) config es (take s.syncs counts)) (take_all (length events) events (le_refl (length events)))
-    ∙ ap (slices_now (V4 ∷ []) config events) (take_all s.syncs counts all)
+    ∙ ap (λ (n : ℕ). slices_now both_families config (take n events) (take s.syncs counts)) at
+    ∙ ap (λ es. slices_now both_families config es (take s.syncs counts)) (take_all (length events) events (le_refl (length events)))
+    ∙ ap (slices_now both_families config events) (take_all s.syncs counts all)

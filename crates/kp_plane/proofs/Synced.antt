@@ -4,11 +4,11 @@ use Rattle.std.proofs.Common.{take, length, sum, Bool, true, false, None}
 use Rattle.std.proofs.Common.{refl, sym, ap, subst, ◌∙◌, arith, le_refl}
 use Rattle.std.proofs.lemmas.Bool.Decides.{nat_tests}
 use Rattle.std.proofs.lemmas.List.{take_all, take-append-le, length_push}
-use Rattle.kp_base.specs.declared.address.Family.TheVariants.{V4}
 use Rattle.kp_types.specs.declared.event.Event.{Event}
 use Rattle.kp_types.specs.declared.packet.Packet.{Packet}
 use Rattle.kp_types.specs.declared.rule.Edit.{Edit}
 use Rattle.kp_types.specs.declared.sync.SyncRecord.{SyncRecord}
+use Rattle.kp_types.specs.Setting.{both_families}
 use Rattle.kp_choice_defs.specs.Recent.{RecentParts}
 use Rattle.kp_object_defs.specs.Objects.{Objects, objects_after}
 use Rattle.kp_object_defs.specs.SlicesNow.{slices_now}
@@ -40,7 +40,7 @@ slices_next p h s is =
       covered = is.covered ∙ ap sum (sym same);
       from = is.from;
       to = λ _. by (nat_lt s.syncs (length p.counts)) refl;
-      slices = is.slices ∙ ap (slices_now (V4 ∷ []) p.config (take s.place.at p.events)) (sym same);
+      slices = is.slices ∙ ap (slices_now both_families p.config (take s.place.at p.events)) (sym same);
       controlled = is.controlled;
     }
   where

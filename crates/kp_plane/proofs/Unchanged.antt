@@ -7,7 +7,7 @@ use Rattle.kp_lemmas.proofs.ListFacts.{all_filter, all_weaker}
 use Rattle.kp_types.proofs.ChainOrder.{chain_total}
 use Rattle.kp_types.specs.declared.chain.ChainAt.{ChainAt}
 use Rattle.kp_types.specs.declared.chain.TableName.{TableName}
-use Rattle.kp_types.specs.declared.chain.TableName.TheVariants.{Nat, Filter}
+use Rattle.kp_types.specs.declared.chain.TableName.TheVariants.{Nat, Filter, Nat6, Filter6}
 use Rattle.kp_types.specs.declared.rule.Edit.TheVariants.{Write, Remove}
 use Rattle.kp_types.specs.declared.rule.Rule.{Rule}
 use Rattle.kp_table_defs.specs.Edits.{SameRulesAreEqual, is_found_with, write_if_changed, remove_if_gone, chains_in, table_changes, changes_between}
@@ -41,4 +41,6 @@ module _ (same : SameRulesAreEqual) (chains : Chains) where
 
   -- no edit leads from a table to itself
   pub no_changes : changes_between chains chains ≡ []
-  no_changes = ap (λ es. es ++ table_changes chains chains Filter) (no_table_changes Nat) ∙ no_table_changes Filter
+  no_changes = λ i.
+      (no_table_changes Nat i ++ no_table_changes Filter i)
+      ++ (no_table_changes Nat6 i ++ no_table_changes Filter6 i)

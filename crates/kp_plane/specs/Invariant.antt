@@ -1,11 +1,10 @@
 -- What holds of a plane's fields, by the parts that contracts see.
-use Rattle.std.specs.Prelude.{◌≡◌, ◌≤◌, ◌<◌, ◌+◌, ℕ, List, [], ◌∷◌, length, sum, take, drop}
+use Rattle.std.specs.Prelude.{◌≡◌, ◌≤◌, ◌<◌, ◌+◌, ℕ, List, length, sum, take, drop}
 use Rattle.std.specs.Prelude.{Bool, true, false, cond, None}
-use Rattle.kp_base.specs.declared.address.Family.TheVariants.{V4}
 use Rattle.kp_base.specs.declared.config.Config.{Config}
 use Rattle.kp_base.specs.declared.key.ObjectKey.{ObjectKey}
 use Rattle.kp_types.specs.declared.event.Event.{Event}
-use Rattle.kp_types.specs.Setting.{Setting}
+use Rattle.kp_types.specs.Setting.{Setting, both_families}
 use Rattle.kp_object_defs.specs.Objects.{objects_after}
 use Rattle.kp_object_defs.specs.SlicesNow.{slices_now}
 use Rattle.kp_events.specs.JournalContents.{Contents}
@@ -43,7 +42,7 @@ pub record IsAtPlace (events : List Event) (o : ObjectsAt) : Type 0 where
 
 -- the slices are as the controller would leave them, but for the Services that were touched since
 abbrev pub IsControlled : Config → SlicesAt → Type 0
-IsControlled config s = IsControlledBut V4 (is_touched s.touched) config s.place.objects s.slices
+IsControlled config s = IsControlledBut (is_touched s.touched) config s.place.objects s.slices
 
 -- Slices at a place of the journal are those of the events and of the syncs before it: it stands
 -- after what these syncs cover, and at or before what one more covers.
@@ -54,13 +53,13 @@ pub record IsSlicesAt
   pub covered : s.covered ≡ sum (take s.syncs counts)
   pub from : s.covered ≤ s.place.at
   pub to : s.syncs < length counts → s.place.at ≤ sum (take (s.syncs + 1) counts)
-  pub slices : s.slices ≡ slices_now (V4 ∷ []) config (take s.place.at events) (take s.syncs counts)
+  pub slices : s.slices ≡ slices_now both_families config (take s.place.at events) (take s.syncs counts)
   pub controlled : IsControlled config s
 
 -- the slices are those of the events before their place, and of syncs that cover so many
 abbrev pub IsNowBy : Config → List Event → SlicesAt → List ℕ → Type 0
 IsNowBy config events s counts =
-    s.slices ≡ slices_now (V4 ∷ []) config (take s.place.at events) counts
+    s.slices ≡ slices_now both_families config (take s.place.at events) counts
 
 -- slices at a later place of the journal, after no more syncs
 pub record IsFed (config : Config) (events : List Event) (to : ℕ) (before after : SlicesAt)

@@ -1,18 +1,21 @@
 -- What a writer knows of ports while events come in.
 use Rattle.std.specs.Prelude.{◌≡◌, ℕ, Bool, true, false, List, filter}
 use Rattle.std.specs.FinMap as finite
-use Rattle.std.specs.List.{filter_map, list_any, sum_by}
+use Rattle.std.specs.List.{filter_map, flat_map, list_any}
+use Rattle.std.specs.List.Sorted.{IsStrictlySortedBy}
 use Rattle.std.specs.Ordering.{eq_by_cmp}
-use Rattle.kp_base.specs.Keys.{key_cmp}
+use Rattle.kp_base.specs.Keys.{key_cmp, port_key_cmp}
 use Rattle.kp_base.specs.declared.key.ObjectKey.{ObjectKey}
 use Rattle.kp_base.specs.declared.key.PortKey.{PortKey}
 use Rattle.kp_types.specs.Setting.{Setting}
-use Rattle.kp_types.specs.declared.service.Service.{Service}
 use Rattle.kp_object_defs.specs.Objects.{Objects}
 use Rattle.kp_object_defs.specs.PortByKey.{info_at}
+use Rattle.kp_object_defs.specs.PortInfo.{PortInfo}
 use Rattle.kp_known_ports.specs.Known.{port_count}
 use Rattle.kp_blocks.specs.Joined.{is_port_of}
+use Rattle.kp_writer_laws.specs.LocalLaws.{is_one_of}
 use Rattle.kp_writer.specs.Known.{port_keys_at}
+use Rattle.kp_writer.specs.Old.{unwritten}
 use Rattle.kp_writer.specs.Shared.{shared_rule_count}
 use Rattle.kp_writer.specs.Written.{Ports}
 
@@ -52,25 +55,26 @@ LeavesUntouched setting o touched p more =
 abbrev pub asked_count : Objects → List ObjectKey → ℕ
 asked_count o services = port_count (filter_map (finite.get o.services) services)
 
--- how many rules the ports of a Service have in the shared chains
-abbrev pub shared_rules_in : Setting → Objects → Service → ℕ
-shared_rules_in setting o s =
-    shared_rule_count setting
-    (filter_map (info_at setting.family setting.config o) (port_keys_at o s.key))
+-- what objects tell of the ports of Services, one Service after another
+abbrev pub infos_in : Setting → Objects → List ObjectKey → List PortInfo
+infos_in setting o services =
+    filter_map (info_at setting.family setting.config o) (flat_map (port_keys_at o) services)
 
--- how many the ports of the Services of these keys have, where they are there
-abbrev pub made_count : Setting → Objects → List ObjectKey → ℕ
-made_count setting o services =
-    sum_by (shared_rules_in setting o) (filter_map (finite.get o.services) services)
+-- how many rules in the shared chains those of them have of which something else was written
+abbrev pub made_count : Setting → Ports → Objects → List ObjectKey → ℕ
+made_count setting written o services =
+    shared_rule_count setting (unwritten written (infos_in setting o services))
 
--- how many the ports of all Services have
-abbrev pub all_made_count : Setting → Objects → ℕ
-all_made_count setting o = sum_by (shared_rules_in setting o) (finite.values o.services)
+-- among names of ports in order each stands of which objects tell something else than was written
+pub record AreDirty (setting : Setting) (written : Ports) (o : Objects) (keys : List PortKey)
+    : Type 0 where
+  pub in_order : IsStrictlySortedBy port_key_cmp keys
+  pub rest : (key : PortKey) → is_one_of keys key ≡ false → IsKnown setting o written key
 
--- how many the ports of the Services have whose keys pass a test
-abbrev pub touched_rules : Setting → Objects → (ObjectKey → Bool) → ℕ
-touched_rules setting o touched =
-    sum_by (shared_rules_in setting o) (filter (λ s. touched s.key) (finite.values o.services))
+-- how many rules the ports of these names have in the shared chains
+abbrev pub rules_of : Setting → Objects → List PortKey → ℕ
+rules_of setting o keys =
+    shared_rule_count setting (filter_map (info_at setting.family setting.config o) keys)
 
 -- how many ports the Services have whose keys pass a test
 abbrev pub touched_count : Objects → (ObjectKey → Bool) → ℕ

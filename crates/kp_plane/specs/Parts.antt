@@ -1,6 +1,6 @@
 -- What contracts see of a plane: the parts that tables and batches are functions of, and what
 -- slices, decisions and walks are by them.
-use Rattle.std.specs.Prelude.{◌≡◌, ℕ, suc, ◌+◌, ◌-◌, Bool, List, [], ◌∷◌, ◌++◌, drop, sum, refl}
+use Rattle.std.specs.Prelude.{◌≡◌, ℕ, suc, ◌+◌, ◌-◌, Bool, List, ◌++◌, drop, sum, refl}
 use Rattle.std.specs.List.{filter_map}
 use Rattle.std.specs.Coded.{Coded, code_by, coded×, coded_ℕ, coded_list}
 use Rattle.std.specs.FinMap as finite
@@ -9,7 +9,7 @@ use Rattle.kp_base.specs.declared.config.Config.{Config}
 use Rattle.kp_base.specs.contracts.config.Config as config_row
 use Rattle.kp_base.specs.declared.key.ObjectKey.{ObjectKey}
 use Rattle.kp_base.specs.declared.key.PortKey.{PortKey}
-use Rattle.kp_types.specs.Setting.{config_for}
+use Rattle.kp_types.specs.Setting.{both_families, config_for}
 use Rattle.kp_types.specs.declared.event.Event.{Event}
 use Rattle.kp_types.specs.contracts.event.Event as event_row
 use Rattle.kp_types.specs.declared.slice.Slice.{Slice}
@@ -30,7 +30,7 @@ use Rattle.kp_history_defs.specs.declared.dirty.DirtyPort.{DirtyPort}
 use Rattle.kp_touch_laws.specs.TouchLaws.{touches_one}
 use Rattle.kp_writer.specs.Own.{own_rule_count}
 use Rattle.kp_writer.specs.Shared.{shared_rule_count}
-use Rattle.kp_plane.specs.Known.{touched_count, touched_rules}
+use Rattle.kp_plane.specs.Known.{touched_count}
 pub use Rattle.kp_history.specs.Parts.{PlaneParts, HasExactHistory, setting_in, syncs_in, uncovered_in}
 pub use Rattle.kp_history.specs.Parts.{objects_in, chains_in, table_in, last_edits, batch_after, last_batch_in}
 pub use Rattle.kp_history.specs.Parts.{synced, next_chains, next_edits}
@@ -46,7 +46,7 @@ parts_code =
 
 -- the slices by now, in order of their keys
 abbrev pub slices_in : PlaneParts → List Slice
-slices_in p = finite.values (slices_now (V4 ∷ []) p.config p.events p.counts)
+slices_in p = finite.values (slices_now both_families p.config p.events p.counts)
 
 -- more events were accepted
 abbrev pub with_events : PlaneParts → List Event → PlaneParts
@@ -64,20 +64,16 @@ infos_by p o keys = filter_map (info_at V4 (config_for V4 p.config) o) keys
 abbrev pub is_touched_since : PlaneParts → ObjectKey → Bool
 is_touched_since p = touches_one (setting_in p) (objects_in p) (drop (sum p.counts) p.events)
 
--- the most rules that the edits of a sync of all events are made from: those that these ports had in
--- the shared chains, and those that they have in their own
-abbrev pub most_edited : PlaneParts → ℕ
-most_edited p =
-    shared_rule_count (setting_in p) (infos_by p (objects_in p) (next_dirty p))
-    + own_rule_count (setting_in p) (infos_by p (objects_after p.events) (next_dirty p))
+-- what is known of these ports after all events
+abbrev pub dirty_infos : PlaneParts → List PortInfo
+dirty_infos p = infos_by p (objects_after p.events) (next_dirty p)
 
--- the most rules of its blocks: those that the ports of these Services have in the shared chains
-abbrev pub most_blocks : PlaneParts → ℕ
-most_blocks p = touched_rules (setting_in p) (objects_after p.events) (is_touched_since p)
-
--- the most steps that it takes: one for each of either
+-- the most steps that a sync of all events takes: one for each rule that these ports have after it, in
+-- their own chains and in the shared ones
 abbrev pub most_steps : PlaneParts → ℕ
-most_steps p = most_edited p + most_blocks p
+most_steps p =
+    own_rule_count (setting_in p) (dirty_infos p)
+    + shared_rule_count (setting_in p) (dirty_infos p)
 
 -- the most ports that a sync of all events asks the objects about: those that these Services have
 abbrev pub most_asked : PlaneParts → ℕ

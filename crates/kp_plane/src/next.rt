@@ -7,7 +7,6 @@ ghost use Rattle.kp_object_defs.specs.Objects.{objects_after};
 ghost use Rattle.kp_table_defs.specs.Rebuild.{clash_of};
 ghost use Rattle.kp_writer.specs.Batch.{own_rules_written};
 ghost use Rattle.kp_writer.specs.Own.{own_rule_count};
-ghost use Rattle.kp_writer.specs.Shared.{shared_rule_count};
 ghost use Rattle.kp_writer.specs.Written as written;
 ghost use Rattle.kp_plane.specs.Counts.{IsCounted};
 ghost use Rattle.kp_plane.specs.Invariant.{Holds, IsMade, IsNext, IsPortsAt, parts_of};
@@ -98,10 +97,8 @@ fn made<L: Ledger>(
         (written.clash_of writer.now (written.newest_ports writer.now))) }
     ensures made { IfOk result (λ n. steps.old + own_rules_written n.batch.edits ≤ steps.new) }
     ensures steps { steps.new ≤ steps.old
-        + (shared_rule_count (written.setting_in writer.now)
-        (written.dirty_of writer.now (written.written_ports writer.now))
         + own_rule_count (written.setting_in writer.now)
-        (written.dirty_of writer.now (written.newest_ports writer.now))) }
+        (written.dirty_of writer.now (written.newest_ports writer.now)) }
 {
     let dirty = writer.dirty(alloc)?;
     let batch = writer.edits(alloc, table, steps)?;
@@ -110,6 +107,7 @@ fn made<L: Ledger>(
 
 /// Keeps what a sync of all events keeps. Where memory is out, all stays.
 pub(crate) fn keep(
+    alloc: Global,
     journal: &Journal,
     history: &mut History,
     ports: &mut PortsAt,
@@ -126,6 +124,6 @@ pub(crate) fn keep(
     let covered = journal.events().len() as u64;
     let is_new = history.covered < covered;
     history.record(covered, batch)?;
-    ports.settle(is_new, dirty);
+    ports.settle(alloc, is_new, dirty);
     Ok(())
 }

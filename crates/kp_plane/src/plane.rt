@@ -199,14 +199,13 @@ impl Plane {
             (clash_of (setting_in self.old) (objects_after self.old.events))) }
         ensures err { OnErr result (self.new ≡ self.old) }
 
-        // It costs what changed. For the edits it takes at most a step for each rule that ports had
-        // in the shared chains of which something else is known, and one for each that these have in
-        // their own; and at least one for each rule of a port's own chains that is written. For the
-        // blocks of ports that are made anew it takes at most one for each rule that the ports of
-        // touched Services have in the shared chains. Of the other count it takes one for each port that the
-        // objects are asked about: these are ports of Services that events touch which no sync
-        // covers yet, each once at most, so none where no event came. Where it is refused it may
-        // have taken some of them, and takes them again at the next sync.
+        // It costs what changed: at most a step for each rule that the dirty ports have after it, in
+        // their own chains and in the shared ones, and at least one for each rule of a port's own
+        // chains that is written. Dirty are the ports of which something else is known than at the
+        // last sync, also where others were refused since. Of the other count it takes one for each
+        // port that the objects are asked about: these are ports of Services that events touch which
+        // no sync covers yet, each once at most, so none where no event came. Where it is refused it
+        // may have taken some of them, and takes them again at the next sync.
         ensures bound { steps.new ≤ steps.old + parts.most_steps self.old }
         ensures made { IfOk result (λ r.
             steps.old + own_rules_written r.batch.edits ≤ steps.new) }

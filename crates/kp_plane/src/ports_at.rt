@@ -1,12 +1,13 @@
 //! What is known of ports at a place of the journal.
 ghost use Rattle.std.specs.Prelude.{◌≡◌, ◌+◌, ◌≤◌, ℕ, cond, [], List, length, IfOk, OnOk};
 ghost use Rattle.kp_base.specs.declared.address.Family.TheVariants.{V4};
+ghost use Rattle.kp_base.specs.declared.key.PortKey.{PortKey as Port};
 ghost use Rattle.kp_types.specs.declared.event.Event.{Event as OneEvent};
 ghost use Rattle.kp_choice_defs.specs.Settings.{setting_of};
 ghost use Rattle.kp_object_defs.specs.Objects.{objects_after};
-ghost use Rattle.kp_writer.specs.Written.{newest_ports};
+ghost use Rattle.kp_writer.specs.Written.{newest_ports, written_ports};
 ghost use Rattle.kp_plane.specs.Collected.{is_collected};
-ghost use Rattle.kp_plane.specs.Known.{KnowsUntouched, touched_count, touched_rules};
+ghost use Rattle.kp_plane.specs.Known.{AreDirty, KnowsUntouched, rules_of, touched_count};
 ghost use Rattle.kp_plane.specs.Invariant.{AreTouchedBetween, IsAtPlace, IsBroughtOn, IsPortsAt};
 ghost use Rattle.kp_plane.specs.Invariant.{IsSettled, IsUpToDate, touched_between};
 
@@ -62,9 +63,9 @@ impl PortsAt {
     }
 
     /// Goes on to the journal's end, and brings what is known of the ports of touched Services up
-    /// to it. A step is taken for each port that the objects are asked about: at most one for each
-    /// port of a Service that an event touches since those that were touched before were counted. Of
-    /// the other count it takes at most one for each rule that these have in the shared chains.
+    /// to it. It takes at most a step for each rule that dirty ports have in the shared chains. Of the
+    /// other count it takes one for each port that the objects are asked about: at most one for each
+    /// port of a Service that an event touches since those that were touched before were counted.
     /// Where memory is out, it stands on the way there.
     pub(crate) fn bring_on<L: Ledger, A: Ledger>(
         &mut self,
@@ -81,11 +82,10 @@ impl PortsAt {
         ensures goes_on { IsBroughtOn (setting_of V4 config.now) events.now self.old self.new }
         ensures ok { OnOk result (IsUpToDate (setting_of V4 config.now) events.now self.new) }
         ensures more { steps.old ≤ steps.new }
-        ensures steps { (from : ℕ) → AreTouchedBetween (setting_of V4 config.now) events.now from
-            self.old.latest.at self.old.touched
-            → steps.new ≤ steps.old + touched_rules (setting_of V4 config.now)
-            (objects_after events.now)
-            (touched_between (setting_of V4 config.now) events.now from (length events.now)) }
+        ensures steps { (dirty : List Port) → AreDirty (setting_of V4 config.now)
+            (written_ports self.old.writer) (objects_after events.now) dirty
+            → steps.new ≤ steps.old
+            + rules_of (setting_of V4 config.now) (objects_after events.now) dirty }
         ensures asked { (from : ℕ) → AreTouchedBetween (setting_of V4 config.now) events.now from
             self.old.latest.at self.old.touched
             → asked.new ≤ asked.old + touched_count (objects_after events.now)
@@ -110,11 +110,11 @@ impl PortsAt {
 
     /// Takes over which ports were dirty at a sync and, where it covers new events, that what is
     /// known now is written. It takes no memory.
-    pub(crate) fn settle(&mut self, is_new: bool, dirty: Items<Pending>)
+    pub(crate) fn settle(&mut self, alloc: Global, is_new: bool, dirty: Items<Pending>)
         ensures { IsSettled is_new dirty self.old self.new }
     {
         if is_new {
-            self.writer.keep();
+            self.writer.keep(alloc);
         }
         self.dirty = dirty;
     }

@@ -1,5 +1,5 @@
 //! What a writer knows of the ports of touched Services, brought up to the objects.
-ghost use Rattle.std.specs.Prelude.{◌≡◌, ◌+◌, ◌≤◌, ◌∷◌, [], false, map, None, IfOk, OnOk};
+ghost use Rattle.std.specs.Prelude.{◌≡◌, ◌+◌, ◌≤◌, ◌∷◌, [], List, false, map, None, IfOk, OnOk};
 ghost use Rattle.std.specs.FinMap as finite;
 ghost use Rattle.std.specs.List.{filter_map};
 ghost use Rattle.kp_base.specs.declared.address.Family.TheVariants.{V4};
@@ -25,9 +25,9 @@ use std::alloc::Global;
 use std::sync::ledger::Ledger;
 
 /// Brings what a writer knows of the ports of touched Services up to the objects. It takes at most a
-/// step for each rule that these have in the shared chains, and one of the other count for each port
-/// that the objects are asked about. Where memory is out, of a port of another Service nothing else
-/// is known.
+/// step for each rule that dirty ports have in the shared chains, and one of the other count for each
+/// port that the objects are asked about. Where memory is out, of a port of another Service nothing
+/// else is known.
 pub(crate) fn refresh<L: Ledger, A: Ledger>(
     alloc: Global,
     config: &Config,
@@ -48,9 +48,9 @@ pub(crate) fn refresh<L: Ledger, A: Ledger>(
     ensures ok { OnOk result
         (ArePortsOf (setting_of V4 config.now) objects.now (newest_ports writer.new)) }
     ensures more { steps.old ≤ steps.new }
-    ensures steps { steps.new ≤ steps.old
-        + spec.touched_rules (setting_of V4 config.now) objects.now
-        (is_touched touched.now) }
+    ensures steps { (dirty : List Port) → spec.AreDirty (setting_of V4 config.now)
+        (written_ports writer.old) objects.now dirty
+        → steps.new ≤ steps.old + spec.rules_of (setting_of V4 config.now) objects.now dirty }
     ensures asked { asked.new ≤ asked.old
         + spec.touched_count objects.now (is_touched touched.now) }
 {
@@ -77,8 +77,9 @@ fn refresh_all<L: Ledger, A: Ledger>(
     ensures ok { OnOk result
         (ArePortsOf (setting_of V4 config.now) objects.now (newest_ports writer.new)) }
     ensures more { steps.old ≤ steps.new }
-    ensures steps { steps.new ≤ steps.old
-        + spec.all_made_count (setting_of V4 config.now) objects.now }
+    ensures steps { (dirty : List Port) → spec.AreDirty (setting_of V4 config.now)
+        (written_ports writer.old) objects.now dirty
+        → steps.new ≤ steps.old + spec.rules_of (setting_of V4 config.now) objects.now dirty }
     ensures asked { asked.new ≤ asked.old + all_port_count objects.now }
 {
     let all = all_services(alloc, objects, writer)?;
@@ -106,12 +107,13 @@ fn refresh_keys<L: Ledger, A: Ledger>(
     ensures ok { OnOk result
         (ArePortsOf (setting_of V4 config.now) objects.now (newest_ports writer.new)) }
     ensures more { steps.old ≤ steps.new }
-    ensures steps { steps.new ≤ steps.old
-        + spec.made_count (setting_of V4 config.now) objects.now
-        (finite.keys keys.now) }
+    ensures steps { (dirty : List Port) → spec.AreDirty (setting_of V4 config.now)
+        (written_ports writer.old) objects.now dirty
+        → steps.new ≤ steps.old + spec.rules_of (setting_of V4 config.now) objects.now dirty }
     ensures asked { asked.new ≤ asked.old
         + spec.asked_count objects.now (finite.keys keys.now) }
 {
+    kp_object_laws::ports_by_key();
     let services = keys.keys(alloc)?;
     refresh_each(alloc, config, objects, services, writer, steps, asked)
 }
@@ -179,7 +181,7 @@ fn refresh_each<L: Ledger, A: Ledger>(
         (ArePortsOf (setting_of V4 config.now) objects.now (newest_ports writer.new)) }
     ensures more { steps.old ≤ steps.new }
     ensures steps { steps.new ≤ steps.old
-        + spec.made_count (setting_of V4 config.now) objects.now
+        + spec.made_count (setting_of V4 config.now) (written_ports writer.old) objects.now
         (map (λ k. k.now) services.entry.items) }
     ensures asked { asked.new ≤ asked.old
         + spec.asked_count objects.now (map (λ k. k.now) services.entry.items) }
@@ -210,7 +212,7 @@ fn refresh_one<L: Ledger, A: Ledger>(
         (newest_ports writer.new)) }
     ensures more { steps.old ≤ steps.new }
     ensures steps { steps.new ≤ steps.old
-        + spec.made_count (setting_of V4 config.now) objects.now
+        + spec.made_count (setting_of V4 config.now) (written_ports writer.old) objects.now
         (service.now ∷ []) }
     ensures asked { asked.new ≤ asked.old + spec.asked_count objects.now (service.now ∷ []) }
 {

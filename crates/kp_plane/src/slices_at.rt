@@ -31,11 +31,11 @@ impl Drop for SlicesAt {
 }
 
 impl SlicesAt {
-    ghost use Rattle.std.specs.Prelude.{◌≡◌, ◌≤◌, ◌<◌, ◌+◌, ℕ, List, [], ◌∷◌};
+    ghost use Rattle.std.specs.Prelude.{◌≡◌, ◌≤◌, ◌<◌, ◌+◌, ℕ, List};
     ghost use Rattle.std.specs.Prelude.{length, sum, IfOk, OnOk};
-    ghost use Rattle.kp_base.specs.declared.address.Family.TheVariants.{V4};
     ghost use Rattle.kp_base.specs.declared.config.Config.{Config};
     ghost use Rattle.kp_types.specs.declared.event.Event.{Event};
+    ghost use Rattle.kp_types.specs.Setting.{both_families};
     ghost use Rattle.kp_object_defs.specs.SlicesNow.{slices_now};
     ghost use Rattle.kp_plane.specs.Invariant.{IsAtPlace, IsControlled, IsFed, IsSlicesAt};
 
@@ -71,7 +71,7 @@ impl SlicesAt {
         requires within { sum counts.now ≤ length events.now }
         ensures at { IfOk result (IsSlicesAt config.now events.now counts.now) }
         ensures slices { IfOk result (λ s. s.slices
-            ≡ slices_now (V4 ∷ []) config.now events.now counts.now) }
+            ≡ slices_now both_families config.now events.now counts.now) }
     {
         let mut slices = self;
         while slices.syncs < counts.len() {

@@ -52,7 +52,7 @@ pub(crate) fn sync_copied<L: Ledger, A: Ledger>(
 {
     let next = next_sync(alloc, config, journal, history, ports, steps, asked)?;
     let copy = next.batch.copy(alloc)?;
-    keep(journal, history, ports, next)?;
+    keep(alloc, journal, history, ports, next)?;
     Ok(copy)
 }
 
@@ -88,7 +88,7 @@ pub(crate) fn sync_counted<L: Ledger, A: Ledger>(
 {
     let next = next_sync(alloc, config, journal, history, ports, steps, asked)?;
     let counted = counts(next.batch.edits.as_slice());
-    keep(journal, history, ports, next)?;
+    keep(alloc, journal, history, ports, next)?;
     Ok(counted)
 }
 

@@ -1,6 +1,7 @@
 -- What a writer keeps stays in order where a port is put, or goes.
 use Rattle.std.proofs.Common.{◌≡◌, Bool, true, false, cond, Option, Some, None, unwrap_or, refl}
-use Rattle.std.proofs.Common.{option_map, sym, ap, subst, ◌∙◌}
+use Rattle.std.proofs.Common.{option_map, not, sym, ap, subst, ◌∙◌}
+use Rattle.std.specs.Option.{option_eq}
 use Rattle.std.specs.Ordering.{eq_by_cmp}
 use Rattle.std.specs.FinMap.{empty, get, get-empty, get-insert, get-remove, insert, remove}
 use Rattle.kp_lemmas.proofs.Orders.{one_from_tie}
@@ -12,9 +13,13 @@ use Rattle.kp_base.proofs.KeyOrder.{port_key_total, port_key_exact}
 use Rattle.kp_types.specs.Setting.{Setting}
 use Rattle.kp_choice_defs.specs.Settings.{setting_of}
 use Rattle.kp_object_defs.specs.PortInfo.{PortInfo}
+use Rattle.kp_history_defs.specs.DirtyPorts.{same_info}
 use Rattle.kp_blocks.specs.Joined.{Block, BlocksByPort, port_block}
-use Rattle.kp_writer.specs.Written.{AreBlocksOf, AreUnderOwnKeys, IsKept, Ports, WriterParts}
-use Rattle.kp_writer.specs.Written.{newest_ports, setting_in, written_ports}
+use Rattle.kp_writer.specs.Old.{with_old}
+use Rattle.kp_writer.specs.Written.{AreBlocksOf, AreOldBlocks, AreUnderOwnKeys, IsKept, Ports}
+use Rattle.kp_writer.specs.Written.{WriterParts, newest_ports, setting_in, written_ports}
+use Rattle.kp_writer.proofs.KnownPorts.{itself}
+use Rattle.kp_writer.proofs.OldBlocks.{none_old, old_kept, others_left, others_put}
 
 -- ---- Own keys
 
@@ -73,50 +78,72 @@ moved c d m n bs cs config ports blocks are =
     subst (λ e. Under e n cs) (sym config) (subst (λ p. Under c p cs) (sym ports) (subst (Under c m)
     (sym blocks) are))
 
-module _ (w v : WriterParts) (bs cs : BlocksByPort) (kept : IsKept w bs)
+module _ (w v : WriterParts) (bs cs os ns : BlocksByPort) (kept : IsKept w bs os)
     (config : v.config ≡ w.config) where
-  -- where the ports stay
-  pub stays_kept : written_ports v ≡ written_ports w → newest_ports v ≡ newest_ports w → cs ≡ bs
-      → IsKept v cs
-  stays_kept written newest blocks = record {
-    written = subst AreUnderOwnKeys (sym written) kept.written;
-    newest = subst AreUnderOwnKeys (sym newest) kept.newest;
-    blocks = moved w.config v.config (newest_ports w) (newest_ports v) bs cs config newest blocks
-        kept.blocks;
-  }
+  -- old blocks by the same configuration
+  olds : AreOldBlocks (setting_in w) v.ports ns → AreOldBlocks (setting_in v) v.ports ns
+  olds = subst (λ c. AreOldBlocks (setting_of V4 c) v.ports ns) (sym config)
 
   -- where the newest are written
   pub settled_kept : written_ports v ≡ newest_ports w → newest_ports v ≡ newest_ports w → cs ≡ bs
-      → IsKept v cs
+      → IsKept v cs ns
   settled_kept written newest blocks = record {
     written = subst AreUnderOwnKeys (sym written) kept.newest;
     newest = subst AreUnderOwnKeys (sym newest) kept.newest;
     blocks = moved w.config v.config (newest_ports w) (newest_ports v) bs cs config newest blocks
         kept.blocks;
+    old = none_old (setting_in v) v.ports ns (λ k.
+        (λ n. not (option_eq same_info (get (written n) k) (get (newest n) k)))
+        ∙ ap not (itself (get (newest_ports w) k)));
   }
 
+  module _ (port : PortKey) (aside : ns ≡ with_old w.ports bs os port)
+      (written : written_ports v ≡ written_ports w) where
+    -- old blocks where something else may be known of the port
+    old_beside : ((k : PortKey) → eq_by_cmp port_key_cmp k port ≡ false
+        → get (newest_ports v) k ≡ get (newest_ports w) k)
+        → AreOldBlocks (setting_in v) v.ports ns
+    old_beside others =
+        olds (old_kept (setting_in w) w.ports bs os kept.blocks kept.old port v.ports ns aside
+        written others)
+
+    -- where the ports stay
+    pub stays_kept : newest_ports v ≡ newest_ports w → cs ≡ bs → IsKept v cs ns
+    stays_kept newest blocks = record {
+      written = subst AreUnderOwnKeys (sym written) kept.written;
+      newest = subst AreUnderOwnKeys (sym newest) kept.newest;
+      blocks = moved w.config v.config (newest_ports w) (newest_ports v) bs cs config newest blocks
+          kept.blocks;
+      old = old_beside (λ k other. ap (λ m. get m k) newest);
+    }
+
+    -- where it goes
+    pub left_kept : newest_ports v ≡ remove (newest_ports w) port → cs ≡ remove bs port
+        → IsKept v cs ns
+    left_kept newest blocks = record {
+      written = subst AreUnderOwnKeys (sym written) kept.written;
+      newest = subst AreUnderOwnKeys (sym newest) (own_left (newest_ports w) port kept.newest);
+      blocks = moved w.config v.config (remove (newest_ports w) port) (newest_ports v)
+          (remove bs port) cs config newest blocks
+          (blocks_left (setting_in w) (newest_ports w) bs port kept.blocks);
+      old = old_beside (λ k other.
+          ap (λ m. get m k) newest ∙ others_left (newest_ports w) port k other);
+    }
+
   -- where a port is put
-  pub put_kept : (i : PortInfo) (block : Block) → block ≡ port_block (setting_in w) i
+  pub put_kept : (i : PortInfo) → ns ≡ with_old w.ports bs os i.key → (block : Block)
+      → block ≡ port_block (setting_in w) i
       → written_ports v ≡ written_ports w → newest_ports v ≡ insert (newest_ports w) i.key i
-      → cs ≡ insert bs i.key block → IsKept v cs
-  put_kept i block made written newest blocks = record {
+      → cs ≡ insert bs i.key block → IsKept v cs ns
+  put_kept i aside block made written newest blocks = record {
     written = subst AreUnderOwnKeys (sym written) kept.written;
     newest = subst AreUnderOwnKeys (sym newest) (own_put (newest_ports w) i kept.newest);
     blocks = moved w.config v.config (insert (newest_ports w) i.key i) (newest_ports v)
         (insert bs i.key (port_block (setting_in w) i)) cs config newest
         (blocks ∙ ap (insert bs i.key) made)
         (blocks_put (setting_in w) (newest_ports w) bs i kept.blocks);
-  }
-
-  -- where one goes
-  pub left_kept : (port : PortKey) → written_ports v ≡ written_ports w
-      → newest_ports v ≡ remove (newest_ports w) port → cs ≡ remove bs port → IsKept v cs
-  left_kept port written newest blocks = record {
-    written = subst AreUnderOwnKeys (sym written) kept.written;
-    newest = subst AreUnderOwnKeys (sym newest) (own_left (newest_ports w) port kept.newest);
-    blocks = moved w.config v.config (remove (newest_ports w) port) (newest_ports v)
-        (remove bs port) cs config newest blocks
-        (blocks_left (setting_in w) (newest_ports w) bs port kept.blocks);
+    old = old_beside i.key aside written (λ k other.
+        ap (λ m. get m k) newest ∙ others_put (newest_ports w) i k other);
   }
 
 -- ---- Nothing
@@ -128,13 +155,16 @@ none_found m k i none is =
     some_none : Some i ≡ None → ⊥
     some_none h = absurd (cc)
 
-pub nothing_kept : (w : WriterParts) (bs : BlocksByPort) → written_ports w ≡ empty
-    → newest_ports w ≡ empty → bs ≡ empty → IsKept w bs
-nothing_kept w bs written newest blocks = record {
+pub nothing_kept : (w : WriterParts) (bs os : BlocksByPort) → written_ports w ≡ empty
+    → newest_ports w ≡ empty → bs ≡ empty → IsKept w bs os
+nothing_kept w bs os written newest blocks = record {
   written = λ k i. none_found (written_ports w) k i written;
   newest = λ k i. none_found (newest_ports w) k i newest;
   blocks = λ k.
       ap (λ n. get n k) blocks ∙ get-empty port_key_cmp k
       ∙ ap (option_map (port_block (setting_in w))) (sym (ap (λ n. get n k) newest
       ∙ get-empty port_key_cmp k));
+  old = none_old (setting_in w) w.ports os (λ k.
+      (λ n. not (option_eq same_info (get (written n) k) (get (newest n) k)))
+      ∙ ap (λ (o : Option PortInfo). not (option_eq same_info o o)) (get-empty port_key_cmp k));
 }

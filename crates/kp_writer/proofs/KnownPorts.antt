@@ -50,7 +50,8 @@ known_ports by_name in_order setting o ports own are =
 
 -- ---- The ports that differ
 
-itself : (o : Option PortInfo) → option_eq same_info o o ≡ true
+-- the same is known as is known
+pub itself : (o : Option PortInfo) → option_eq same_info o o ≡ true
 itself None = refl
 itself (Some i) = info_itself i
 

@@ -1,24 +1,25 @@
 mod ClashTest
-mod DirtyLists
+pub mod DirtyLists
 mod EitherWay
 mod KeptBlocks
 mod KeptPorts
-mod KnownPorts
+pub mod KnownPorts
 mod LocalEdits
 mod MorePlaces
 mod NextPlaces
-mod OneList
+mod OldBlocks
+pub mod OneList
+mod OtherFamily
 mod OwnKeys
 mod OwnValues
 mod PendingPorts
 mod Present
 mod Refreshed
-mod RuleCounts
+pub mod RuleCounts
 mod SameKeys
 mod ServicePorts
 mod SharedPlaces
 mod SharedRules
-mod SyncCount
 mod SyncFixed
 mod SyncLaw
 mod SyncPlaces

@@ -9,7 +9,7 @@ use Rattle.std.specs.FinMap.{get}
 use Rattle.kp_types.specs.Places.{chain_cmp}
 use Rattle.kp_types.specs.declared.chain.ChainAt.{ChainAt}
 use Rattle.kp_types.specs.declared.chain.TableName.{TableName}
-use Rattle.kp_types.specs.declared.chain.TableName.TheVariants.{Nat, Filter}
+use Rattle.kp_types.specs.declared.chain.TableName.TheVariants.{Nat, Filter, Nat6, Filter6}
 use Rattle.kp_types.specs.declared.rule.Edit.TheVariants.{Remove}
 use Rattle.kp_table_defs.specs.Edits.{changes_between}
 use Rattle.kp_table_defs.specs.Rebuild.{Chains}
@@ -46,5 +46,7 @@ module _ (before after : Chains) where
       → edits_at before places ≡ changes_between before after
   edits_are_changes local places sorted others stand =
       sym (local before after (map (λ p. p.0) places) sorted others
-      ∙ (λ i. (writes Nat places stand i ++ removes Nat places stand i)
-      ++ (writes Filter places stand i ++ removes Filter places stand i)))
+      ∙ (λ i. ((writes Nat places stand i ++ removes Nat places stand i)
+      ++ (writes Filter places stand i ++ removes Filter places stand i))
+      ++ ((writes Nat6 places stand i ++ removes Nat6 places stand i)
+      ++ (writes Filter6 places stand i ++ removes Filter6 places stand i))))

@@ -1,7 +1,9 @@
 -- Counts of the rules of ports, one port after another.
-use Rattle.std.proofs.Common.{◌≡◌, ◌+◌, arith, List, [], ◌∷◌, ◌++◌, flat_map, append-nil, ap}
+use Rattle.std.proofs.Common.{not, ◌≡◌, ◌+◌, arith, List, [], ◌∷◌, ◌++◌, flat_map, append-nil, ap}
 use Rattle.std.proofs.Common.{◌∙◌}
+use Rattle.std.specs.FinMap.{get}
 use Rattle.std.proofs.lemmas.List.Concat.{flat_map-append}
+use Rattle.std.proofs.lemmas.List.Elements.{filter-append}
 use Rattle.kp_base.specs.declared.address.Family.TheVariants.{V4}
 use Rattle.kp_base.specs.declared.config.Config.{Config}
 use Rattle.kp_choice_defs.specs.Settings.{setting_of}
@@ -11,7 +13,9 @@ use Rattle.kp_table_defs.specs.Layout.{port_rows}
 use Rattle.kp_chains.specs.Rows.{rule_count}
 use Rattle.kp_chains.proofs.Counts.{count-append}
 use Rattle.kp_writer.specs.Own.{own_rule_count}
-use Rattle.kp_writer.specs.Shared.{Change, before_count, shared_rule_count}
+use Rattle.kp_writer.specs.Old.{is_known, unwritten}
+use Rattle.kp_writer.specs.Shared.{shared_rule_count}
+use Rattle.kp_writer.specs.Written.{Ports}
 
 -- the rules of ports' own chains
 pub own_parts : (setting : Setting) (is js : List PortInfo)
@@ -25,20 +29,25 @@ pub own_one : (setting : Setting) (i : PortInfo)
     → own_rule_count setting (i ∷ []) ≡ rule_count (port_rows setting i)
 own_one setting i = ap rule_count (append-nil (port_rows setting i))
 
--- the rules that changed ports had in the shared chains
-pub before_parts : (setting : Setting) (cs ds : List Change)
-    → before_count setting (cs ++ ds) ≡ before_count setting cs + before_count setting ds
-before_parts setting [] ds = omega arith
-before_parts setting (c ∷ cs) ds = omega (arith, before_parts setting cs ds)
-
--- and those that ports have
+-- those that ports have in the shared chains
 pub shared_parts : (setting : Setting) (is js : List PortInfo)
     → shared_rule_count setting (is ++ js)
     ≡ shared_rule_count setting is + shared_rule_count setting js
 shared_parts setting [] js = omega arith
 shared_parts setting (i ∷ is) js = omega (arith, shared_parts setting is js)
 
--- by the same configuration a port has the same
-pub put_count : (now was : Config) → now ≡ was → (i : PortInfo)
-    → shared_rule_count (setting_of V4 now) (i ∷ []) ≡ shared_rule_count (setting_of V4 was) (i ∷ [])
-put_count now was same i = ap (λ config. shared_rule_count (setting_of V4 config) (i ∷ [])) same
+-- those of which something else was written
+pub unwritten_parts : (setting : Setting) (written : Ports) (is js : List PortInfo)
+    → shared_rule_count setting (unwritten written (is ++ js))
+    ≡ shared_rule_count setting (unwritten written is)
+    + shared_rule_count setting (unwritten written js)
+unwritten_parts setting written is js =
+    ap (shared_rule_count setting) (filter-append (λ i. not (is_known (get written i.key) i)) is js)
+    ∙ shared_parts setting (unwritten written is) (unwritten written js)
+
+-- by the same configuration, where the same was written
+pub put_count : (now was : Config) → now ≡ was → (m n : Ports) → m ≡ n → (i : PortInfo)
+    → shared_rule_count (setting_of V4 now) (unwritten m (i ∷ []))
+    ≡ shared_rule_count (setting_of V4 was) (unwritten n (i ∷ []))
+put_count now was same m n ports i =
+    λ k. shared_rule_count (setting_of V4 (same k)) (unwritten (ports k) (i ∷ []))

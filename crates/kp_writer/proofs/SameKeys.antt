@@ -25,8 +25,8 @@ same_keys s m blocks are =
     ∙ contains_key-keys m k)
 
 -- as a writer keeps them
-pub newest_keys : (v w : WriterParts) → v ≡ w → (blocks : BlocksByPort) → IsKept v blocks
-    → keys blocks ≡ keys (newest_ports w)
-newest_keys v w is blocks kept =
+pub newest_keys : (v w : WriterParts) → v ≡ w → (blocks old : BlocksByPort)
+    → IsKept v blocks old → keys blocks ≡ keys (newest_ports w)
+newest_keys v w is blocks old kept =
     same_keys (setting_in v) (newest_ports v) blocks kept.blocks
     ∙ ap (λ u. keys (newest_ports u)) is

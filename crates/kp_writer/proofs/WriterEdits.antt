@@ -19,7 +19,7 @@ use Rattle.kp_tracker.specs.Tracked.{IsPending, is_changed}
 use Rattle.kp_writer.specs.Batch.{own_rules_written}
 use Rattle.kp_writer.specs.Next.{NextParts, edits_at}
 use Rattle.kp_writer.specs.Own.{own_rule_count, with_own}
-use Rattle.kp_writer.specs.Shared.{shared_rule_count, touched_by, with_shared}
+use Rattle.kp_writer.specs.Shared.{touched_by, with_shared}
 use Rattle.kp_writer.specs.Sync.{changes_of, infos_at, sync_next}
 use Rattle.kp_writer.specs.Written.{AreUnderOwnKeys, IsKept, Ports, WriterParts, chains_of, clash_of}
 use Rattle.kp_writer.specs.Written.{dirty_of, newest_ports, next_edits, setting_in, written_ports}
@@ -33,12 +33,10 @@ use Rattle.kp_writer.proofs.WrittenRules.{written_rules}
 -- most steps of a sync
 abbrev pub MostSteps : WriterParts → ℕ → ℕ → Type 0
 MostSteps w old new =
-    new
-    ≤ old + (shared_rule_count (setting_in w) (dirty_of w (written_ports w))
-    + own_rule_count (setting_in w) (dirty_of w (newest_ports w)))
+    new ≤ old + own_rule_count (setting_in w) (dirty_of w (newest_ports w))
 
-module _ (v w : WriterParts) (is : v ≡ w) (blocks : BlocksByPort) (kept : IsKept v blocks)
-    (refs items : List (Bor PortKey)) (same_refs : refs ≡ items)
+module _ (v w : WriterParts) (is : v ≡ w) (blocks kept_old : BlocksByPort)
+    (kept : IsKept v blocks kept_old) (refs items : List (Bor PortKey)) (same_refs : refs ≡ items)
     (found : IsPending port_key_cmp same_info v.ports (map (λ k. k.now) items)) where
   -- the ports that differ
   abbrev keys : List PortKey
@@ -71,15 +69,10 @@ module _ (v w : WriterParts) (is : v ≡ w) (blocks : BlocksByPort) (kept : IsKe
   -- ---- Steps
 
   pub most_steps : (old new : ℕ)
-      → new
-      ≤ old + (shared_rule_count s (infos_at before keys) + own_rule_count s (infos_at after keys))
-      → MostSteps w old new
+      → new ≤ old + own_rule_count s (infos_at after keys) → MostSteps w old new
   most_steps old new h =
       subst (λ u. MostSteps u old new) is
-      (subst (λ ds. new ≤ old + (shared_rule_count s (dirty_of v before) + own_rule_count s ds))
-      (dirty after kept.newest)
-      (subst (λ ds. new ≤ old + (shared_rule_count s ds + own_rule_count s (infos_at after keys)))
-      (dirty before kept.written) h))
+      (subst (λ ds. new ≤ old + own_rule_count s ds) (dirty after kept.newest) h)
 
   pub least_steps : (was : Chains) (next : NextParts) (edits : List Edit) (old new : ℕ)
       → next ≡ sync_next was blocks s before after keys → edits ≡ edits_at was (entries next.places)

@@ -7,13 +7,13 @@ use Rattle.std.specs.List.{cons_option, filter_map, flat_map, fold}
 use Rattle.std.specs.FinMap.{entries, entries-insert, get, insert}
 use Rattle.std.specs.FinMap.Entries.{by_order, put}
 use Rattle.kp_lemmas.proofs.Entries.{empty_entries}
-use Rattle.kp_base.specs.declared.address.Family.TheVariants.{V4}
+use Rattle.kp_base.specs.declared.address.Family.TheVariants.{V4, V6}
 use Rattle.kp_base.specs.declared.key.PortKey.{PortKey}
 use Rattle.kp_types.specs.Places.{chain_cmp, table_place}
 use Rattle.kp_types.specs.Setting.{Setting}
 use Rattle.kp_types.specs.declared.chain.ChainAt.{ChainAt}
 use Rattle.kp_types.specs.declared.chain.TableName.{TableName}
-use Rattle.kp_types.specs.declared.chain.TableName.TheVariants.{Nat, Filter}
+use Rattle.kp_types.specs.declared.chain.TableName.TheVariants.{Nat, Filter, Nat6, Filter6}
 use Rattle.kp_types.specs.declared.rule.Edit.{Edit}
 use Rattle.kp_types.specs.declared.rule.Edit.TheVariants.{Write, Remove}
 use Rattle.kp_types.specs.declared.rule.Rule.{Rule}
@@ -25,7 +25,7 @@ use Rattle.kp_rules.specs.Changes.{is_in, write_if_found}
 use Rattle.kp_chains.specs.Rows.{rule_count}
 use Rattle.kp_blocks.specs.Joined.{BlocksByPort, joined_rules}
 use Rattle.kp_writer.specs.Batch.{is_fixed, own_rules_of, own_rules_written}
-use Rattle.kp_writer.specs.Next.{NextParts, Place, edits_at, leave, remove_of, table_edits}
+use Rattle.kp_writer.specs.Next.{NextParts, Place, edits_at, edits_of, leave, remove_of, table_edits}
 use Rattle.kp_writer.specs.Next.{write, write_of}
 use Rattle.kp_writer.specs.Own.{left, own_rule_count, places_of, unchanged, with_own}
 use Rattle.kp_writer.specs.Shared.{join_if, touched_by, with_shared}
@@ -75,9 +75,13 @@ if_found was at (Some rules) = if_changed (is_found_with rules (get was at)) at 
 -- a place is in one table
 in_one : (t : TableName) (o : Option Edit)
     → if_written (cond (table_place t == table_place Nat) o None)
-    + if_written (cond (table_place t == table_place Filter) o None) ≤ if_written o
+    + if_written (cond (table_place t == table_place Filter) o None)
+    + if_written (cond (table_place t == table_place Nat6) o None)
+    + if_written (cond (table_place t == table_place Filter6) o None) ≤ if_written o
 in_one Nat o = omega arith
 in_one Filter o = omega arith
+in_one Nat6 o = omega arith
+in_one Filter6 o = omega arith
 
 no_rules : (a b c : Bool) (at : ChainAt)
     → if_written (cond a (cond b (cond c None (Some (Remove at))) None) None) ≡ 0
@@ -86,15 +90,21 @@ no_rules true true false at = refl
 no_rules true false c at = refl
 no_rules false b c at = refl
 
+-- the rules that are written in a table
+abbrev written_in : Chains → List Place → TableName → ℕ
+written_in was ps t = own_rules_written (filter_map (write_of was t) ps)
+
 writes : (was : Chains) (ps : List Place)
-    → own_rules_written (filter_map (write_of was Nat) ps)
-    + own_rules_written (filter_map (write_of was Filter) ps) ≤ own_rules_in ps
+    → written_in was ps Nat + written_in was ps Filter + written_in was ps Nat6
+    + written_in was ps Filter6 ≤ own_rules_in ps
 writes was [] = omega arith
 writes was (p ∷ ps) =
     omega (
       arith,
       one_more (write_of was Nat p) (filter_map (write_of was Nat) ps),
       one_more (write_of was Filter p) (filter_map (write_of was Filter) ps),
+      one_more (write_of was Nat6 p) (filter_map (write_of was Nat6) ps),
+      one_more (write_of was Filter6 p) (filter_map (write_of was Filter6) ps),
       in_one p.0.table (write_if_found was p.0 p.1),
       if_found was p.0 p.1,
       writes was ps,
@@ -111,16 +121,28 @@ removes was t (p ∷ ps) =
       removes was t ps,
     )
 
+-- the edits of a table write what its writes write
+in_table : (was : Chains) (ps : List Place) (t : TableName)
+    → own_rules_written (table_edits was ps t) ≡ written_in was ps t
+in_table was ps t =
+    omega (
+      arith,
+      both_lists (filter_map (write_of was t) ps) (filter_map (remove_of was t) ps),
+      removes was t ps,
+    )
+
 at_places : (was : Chains) (ps : List Place)
     → own_rules_written (edits_at was ps) ≤ own_rules_in ps
 at_places was ps =
     omega (
       arith,
+      both_lists (edits_of V4 was ps) (edits_of V6 was ps),
       both_lists (table_edits was ps Nat) (table_edits was ps Filter),
-      both_lists (filter_map (write_of was Nat) ps) (filter_map (remove_of was Nat) ps),
-      both_lists (filter_map (write_of was Filter) ps) (filter_map (remove_of was Filter) ps),
-      removes was Nat ps,
-      removes was Filter ps,
+      both_lists (table_edits was ps Nat6) (table_edits was ps Filter6),
+      in_table was ps Nat,
+      in_table was ps Filter,
+      in_table was ps Nat6,
+      in_table was ps Filter6,
       writes was ps,
     )
 

@@ -2,6 +2,7 @@ pub mod Alike
 pub mod Batch
 pub mod Known
 pub mod Next
+pub mod Old
 pub mod Own
 pub mod Refresh
 pub mod Shared

@@ -3,12 +3,13 @@ use Rattle.std.specs.Prelude.{◌&&◌, Bool, cond, List, ◌++◌, Option, Some
 use Rattle.std.specs.Coded.{Coded, code_by, coded×, coded_list, coded_option, coded_bool}
 use Rattle.std.specs.List.{filter_map}
 use Rattle.std.specs.FinMap as finite
-use Rattle.kp_types.specs.Places.{chain_cmp}
+use Rattle.kp_base.specs.declared.address.Family.{Family}
+use Rattle.kp_base.specs.declared.address.Family.TheVariants.{V4, V6}
+use Rattle.kp_types.specs.Places.{chain_cmp, nat_of, filter_of}
 use Rattle.kp_types.specs.contracts.chain.ChainAt as place_row
 use Rattle.kp_types.specs.contracts.rule.Rule as rule_row
 use Rattle.kp_types.specs.declared.chain.ChainAt.{ChainAt}
 use Rattle.kp_types.specs.declared.chain.TableName.{TableName}
-use Rattle.kp_types.specs.declared.chain.TableName.TheVariants.{Nat, Filter}
 use Rattle.kp_types.specs.declared.rule.Edit.{Edit}
 use Rattle.kp_types.specs.declared.rule.Edit.TheVariants.{Remove}
 use Rattle.kp_types.specs.declared.rule.Rule.{Rule}
@@ -71,6 +72,11 @@ abbrev pub table_edits : Chains → List Place → TableName → List Edit
 table_edits before places table =
     filter_map (write_of before table) places ++ filter_map (remove_of before table) places
 
--- the edits at places, nat before filter
+-- the edits of a family's tables at places, nat before filter
+abbrev pub edits_of : Family → Chains → List Place → List Edit
+edits_of family before places =
+    table_edits before places (nat_of family) ++ table_edits before places (filter_of family)
+
+-- the edits at places, IPv4 before IPv6
 abbrev pub edits_at : Chains → List Place → List Edit
-edits_at before places = table_edits before places Nat ++ table_edits before places Filter
+edits_at before places = edits_of V4 before places ++ edits_of V6 before places

@@ -114,11 +114,6 @@ shared_rule_count setting [] = 0
 shared_rule_count setting (i ∷ is) =
     block_count (blocks_of setting i) + shared_rule_count setting is
 
--- how many rules changed ports had there before
-abbrev pub before_count : Setting → List Change → ℕ
-before_count setting [] = 0
-before_count setting (c ∷ cs) = block_count (blocks_if setting c.0) + before_count setting cs
-
 -- a shared chain is joined where it is touched
 abbrev pub join_if : BlocksByPort → NextParts → Bool → ChainAt → NextParts
 join_if blocks n true at = join n at (joined_rules V4 blocks at)

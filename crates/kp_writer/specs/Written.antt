@@ -1,5 +1,5 @@
 -- What a writer keeps of ports: what is known of each as it was written last, and the newest.
-use Rattle.std.specs.Prelude.{◌≡◌, List, Option, Some, refl}
+use Rattle.std.specs.Prelude.{◌≡◌, Bool, true, List, Option, Some, refl}
 use Rattle.std.specs.Coded.{Coded, code_by, coded×}
 use Rattle.std.specs.List.{filter}
 use Rattle.std.specs.FinMap as finite
@@ -64,10 +64,14 @@ clash_of w ports = first_clash (setting_in w).name_of (needed_keys (finite.value
 abbrev pub next_edits : WriterParts → List Edit
 next_edits w = changes_between (chains_of w (written_ports w)) (chains_of w (newest_ports w))
 
+-- whether something else is known of a port than was written
+abbrev pub is_pending : Tracked PortKey PortInfo → PortKey → Bool
+is_pending ports key = tracked.is_changed port_key_cmp same_info ports key
+
 -- the dirty ones of some ports: those of which something else is known than was written
 abbrev pub dirty_of : WriterParts → Ports → List PortInfo
 dirty_of w ports =
-    filter (λ i. tracked.is_changed port_key_cmp same_info w.ports i.key) (finite.values ports)
+    filter (λ i. is_pending w.ports i.key) (finite.values ports)
 
 -- each port stands under its own key
 abbrev pub AreUnderOwnKeys : Ports → Type 0
@@ -80,8 +84,17 @@ AreBlocksOf setting ports blocks =
     (key : PortKey)
     → finite.get blocks key ≡ option_map (port_block setting) (finite.get ports key)
 
--- what a writer keeps: ports under their own keys, and the blocks of the newest
-pub record IsKept (w : WriterParts) (kept : BlocksByPort) : Type 0 where
+-- old blocks are those of what was written, of each port of which something else is known
+abbrev pub AreOldBlocks : Setting → Tracked PortKey PortInfo → BlocksByPort → Type 0
+AreOldBlocks setting ports old =
+    (key : PortKey) → is_pending ports key ≡ true
+    → finite.get old key
+    ≡ option_map (port_block setting) (finite.get (tracked.published port_key_cmp ports) key)
+
+-- what a writer keeps: ports under their own keys, the blocks of the newest, and those of what was
+-- written where these differ
+pub record IsKept (w : WriterParts) (kept aside : BlocksByPort) : Type 0 where
   pub written : AreUnderOwnKeys (written_ports w)
   pub newest : AreUnderOwnKeys (newest_ports w)
   pub blocks : AreBlocksOf (setting_in w) (newest_ports w) kept
+  pub old : AreOldBlocks (setting_in w) w.ports aside

@@ -10,6 +10,7 @@ mod kept;
 mod known;
 mod laws;
 mod next;
+mod old;
 mod own;
 mod pending;
 mod refresh;

@@ -4,6 +4,7 @@ ghost use Rattle.std.specs.FinMap as finite;
 ghost use Rattle.kp_base.specs.declared.key.PortKey.{PortKey as Key};
 ghost use Rattle.kp_writer_laws.specs.LocalLaws.{is_one_of};
 ghost use Rattle.kp_blocks.specs.Joined.{is_port_of};
+ghost use Rattle.kp_writer.specs.Old.{unwritten};
 ghost use Rattle.kp_writer.specs.Refresh as spec;
 ghost use Rattle.kp_writer.specs.Shared.{shared_rule_count};
 ghost use Rattle.kp_writer.specs.Written.{newest_ports, setting_in, written_ports};
@@ -41,7 +42,7 @@ pub fn drop_all(alloc: Global, writer: &mut Writer, mut ports: Vec<PortKey>) -> 
 }
 
 /// Takes over what is known of ports, as far as they are a Service's. It takes at most a step for
-/// each rule that they have in the shared chains.
+/// each rule in the shared chains that those have of which something else was written.
 pub fn put_all<L: Ledger>(
     alloc: Global,
     writer: &mut Writer,
@@ -57,7 +58,8 @@ pub fn put_all<L: Ledger>(
         (newest_ports writer.old) (newest_ports writer.new) }
     ensures more { steps.old ≤ steps.new }
     ensures steps { steps.new
-        ≤ steps.old + shared_rule_count (setting_in writer.old) infos.items }
+        ≤ steps.old + shared_rule_count (setting_in writer.old)
+        (unwritten (written_ports writer.old) infos.items) }
 {
     while let Some(info) = infos.pop() {
         put_if(alloc, writer, service, info, steps)?;
@@ -81,7 +83,8 @@ fn put_if<L: Ledger>(
     ensures err { OnErr result (newest_ports writer.new ≡ newest_ports writer.old) }
     ensures more { steps.old ≤ steps.new }
     ensures steps { steps.new
-        ≤ steps.old + shared_rule_count (setting_in writer.old) (info ∷ []) }
+        ≤ steps.old + shared_rule_count (setting_in writer.old)
+        (unwritten (written_ports writer.old) (info ∷ [])) }
 {
     if *service == info.key.object {
         writer.put(alloc, info, steps)

@@ -5,9 +5,8 @@ ghost use Rattle.kp_base.specs.declared.address.Family.TheVariants.{V4};
 ghost use Rattle.kp_choice_defs.specs.Settings.{setting_of};
 ghost use Rattle.kp_tracker.specs.Tracked as tracked;
 ghost use Rattle.kp_writer.specs.Own.{own_rule_count, with_own};
-ghost use Rattle.kp_writer.specs.Shared.{shared_rule_count};
 ghost use Rattle.kp_writer.specs.Sync as spec;
-ghost use Rattle.kp_writer.specs.Written.{AreBlocksOf};
+ghost use Rattle.kp_writer.specs.Written.{AreBlocksOf, AreOldBlocks};
 
 use crate::infos::{newest_infos, written_infos};
 use crate::join::join_touched;
@@ -23,33 +22,32 @@ use std::alloc::Global;
 use std::sync::ledger::Ledger;
 
 /// What stands after at the places that ports may change: their own chains, and the shared chains
-/// that they touch, which are joined. It takes a step for each rule that is made: at most those that
-/// the ports had in the shared chains, and those that they have in their own.
+/// that they touch, which are joined. It takes a step for each rule that is made: those that the
+/// ports have in their own chains.
 pub fn next_chains<L: Ledger>(
     alloc: Global,
     config: &Config,
     ports: &Tracker<PortKey, Known>,
     blocks: &Blocks,
+    aside: &Blocks,
     keys: &[&PortKey],
     table: &Table,
     steps: &mut Steps<L>,
 ) -> Result<NextChains, NoMemory>
-    requires { AreBlocksOf (setting_of V4 config.now) (tracked.newest port_key_cmp ports.now)
-        blocks.now }
+    requires blocks { AreBlocksOf (setting_of V4 config.now)
+        (tracked.newest port_key_cmp ports.now) blocks.now }
+    requires old { AreOldBlocks (setting_of V4 config.now) ports.now aside.now }
     ensures next { IfOk result (λ next. next ≡ spec.sync_next table.now.chains blocks.now
         (setting_of V4 config.now) (tracked.published port_key_cmp ports.now)
         (tracked.newest port_key_cmp ports.now) (map (λ k. k.now) keys.now)) }
     ensures made { OnOk result (steps.old + own_rule_count (setting_of V4 config.now)
         (spec.infos_at (tracked.newest port_key_cmp ports.now) (map (λ k. k.now) keys.now))
         ≤ steps.new) }
-    ensures steps { steps.new ≤ steps.old
-        + (shared_rule_count (setting_of V4 config.now) (spec.infos_at
-        (tracked.published port_key_cmp ports.now) (map (λ k. k.now) keys.now))
-        + own_rule_count (setting_of V4 config.now) (spec.infos_at
-        (tracked.newest port_key_cmp ports.now) (map (λ k. k.now) keys.now))) }
+    ensures steps { steps.new ≤ steps.old + own_rule_count (setting_of V4 config.now)
+        (spec.infos_at (tracked.newest port_key_cmp ports.now) (map (λ k. k.now) keys.now)) }
 {
     let mut next = own_chains(alloc, config, ports, keys, table, steps)?;
-    let touched = touched_by(alloc, config, ports, blocks, keys, steps)?;
+    let touched = touched_by(ports, blocks, aside, keys);
     join_touched(alloc, blocks, &touched, &mut next)?;
     Ok(next)
 }

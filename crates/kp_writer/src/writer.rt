@@ -1,12 +1,14 @@
 //! What was written of ports, and the edits to what is known of them now.
-ghost use Rattle.std.specs.Prelude.{◌≡◌, ◌+◌, ◌≤◌, ◌∷◌, [], true, None, map, IfOk};
+ghost use Rattle.std.specs.Prelude.{◌≡◌, ◌+◌, ◌≤◌, ◌∷◌, [], cond, true, None, Some, map, IfOk};
 ghost use Rattle.std.specs.Prelude.{IfErr, OnOk, OnErr};
 ghost use Rattle.std.specs.FinMap as finite;
 ghost use Rattle.std.specs.List.{filter};
-ghost use Rattle.kp_blocks.specs.Joined.{is_port_of};
+ghost use Rattle.std.specs.Option.{option_copied};
+ghost use Rattle.kp_blocks.specs.Joined.{is_port_of, port_block};
 ghost use Rattle.kp_full_table.specs.Faults.{TellsClash};
 ghost use Rattle.kp_writer.specs.Batch.{own_rules_written};
 ghost use Rattle.kp_writer.specs.Known.{pending_ports};
+ghost use Rattle.kp_writer.specs.Old.{is_known as is_told, unwritten};
 ghost use Rattle.kp_writer.specs.Own.{own_rule_count};
 ghost use Rattle.kp_writer.specs.Refresh.{IsRefreshed, OthersStay};
 ghost use Rattle.kp_writer.specs.Shared.{shared_rule_count};
@@ -17,6 +19,7 @@ use crate::dirty::dirty_ports;
 use crate::infos::newest_infos;
 use crate::kept;
 use crate::known::Known;
+use crate::old::{is_known, set_aside, written_block};
 use crate::pending::Pending;
 use crate::refresh::{copies, drop_all, put_all};
 use crate::sync::next_chains;
@@ -25,17 +28,21 @@ use kp_blocks::Blocks;
 use kp_full_table::{TableFault, check_names};
 use kp_rules::Table;
 use kp_tracker::Tracker;
-use kp_types::{Batch, PortInfo};
+use kp_types::{Batch, ChainText, PortInfo};
 use std::alloc::Global;
 use std::marker::Model;
+use std::mem::replace;
 use std::sync::ledger::Ledger;
 
 /// What was written of each port, and what is known of it now. Contracts see both, and the
-/// configuration; the blocks of the shared chains are a function of these.
+/// configuration; the blocks of the shared chains are a function of these. Where something else is
+/// known of a port than was written, the block of what was written is kept too, so that none is made
+/// where that is known again.
 pub struct Writer {
     config: Config,
     ports: Tracker<PortKey, Known>,
     blocks: Blocks,
+    aside: Blocks,
 }
 
 impl Drop for Writer {
@@ -44,11 +51,12 @@ impl Drop for Writer {
             config,
             ports,
             blocks,
+            aside,
         } = self;
     }
 }
 
-/// The blocks are those of the newest ports.
+/// The blocks are those of the newest ports, and those set aside of what was written.
 impl Model for Writer {
     ghost use Rattle.kp_writer.specs.Written.{IsKept, WriterParts, writer_code};
 
@@ -58,7 +66,8 @@ impl Model for Writer {
 
     ghost view = { λ w. record { config = w.config; ports = w.ports } };
 
-    ghost invariant = { λ w. IsKept (record { config = w.config; ports = w.ports }) w.blocks };
+    ghost invariant = { λ w. IsKept (record { config = w.config; ports = w.ports }) w.blocks
+        w.aside };
 }
 
 impl Writer {
@@ -72,11 +81,13 @@ impl Writer {
             config: config.copy(alloc)?,
             ports: Tracker::new(alloc),
             blocks: Blocks::new(alloc),
+            aside: Blocks::new(alloc),
         })
     }
 
-    /// Takes over what is known of a port. It takes at most a step for each rule that the port has
-    /// in the shared chains. Where memory is out, all stays.
+    /// Takes over what is known of a port. Where something else was written, it takes at most a step
+    /// for each rule that the port has in the shared chains, else none. Where memory is out, all
+    /// stays.
     pub fn put<L: Ledger>(
         &mut self,
         alloc: Global,
@@ -90,10 +101,45 @@ impl Writer {
         ensures err { OnErr result (spec.newest_ports self.new ≡ spec.newest_ports self.old) }
         ensures more { steps.old ≤ steps.new }
         ensures steps { steps.new ≤ steps.old
-            + shared_rule_count (spec.setting_in self.old) (info ∷ []) }
+            + shared_rule_count (spec.setting_in self.old)
+            (unwritten (spec.written_ports self.old) (info ∷ [])) }
     {
-        let block = block_of(alloc, &self.config, &info, steps)?;
+        let block = self.block_for(alloc, &info, steps)?;
+        set_aside(alloc, &self.ports, &self.blocks, &mut self.aside, &info.key)?;
         kept::put(alloc, &mut self.ports, &mut self.blocks, info, block)
+    }
+
+    /// A port's block: where the same was written it is at hand, else it is made.
+    fn block_for<L: Ledger>(
+        &self,
+        alloc: Global,
+        info: &PortInfo,
+        steps: &mut Steps<L>,
+    ) -> Result<Items<ChainText>, NoMemory>
+        ensures block { IfOk result (λ block. block
+            ≡ port_block (spec.setting_in self.now) info.now) }
+        ensures more { steps.old ≤ steps.new }
+        ensures steps { steps.new ≤ steps.old
+            + shared_rule_count (spec.setting_in self.now)
+            (unwritten (spec.written_ports self.now) (info.now ∷ [])) }
+    {
+        match self.block_at_hand(info) {
+            Some(block) => block.copy(alloc),
+            None => block_of(alloc, &self.config, info, steps),
+        }
+    }
+
+    /// A port's block, where the same was written of it.
+    fn block_at_hand(&self, info: &PortInfo) -> Option<&Items<ChainText>>
+        ensures { option_copied result
+            ≡ cond (is_told (finite.get (spec.written_ports self.now) info.now.key) info.now)
+            (Some (port_block (spec.setting_in self.now) info.now)) None }
+    {
+        if is_known(self.ports.published(&info.key), info) {
+            written_block(&self.ports, &self.blocks, &self.aside, &info.key)
+        } else {
+            None
+        }
     }
 
     /// Takes over that a port is gone. Where memory is out, all stays.
@@ -104,6 +150,7 @@ impl Writer {
             ≡ finite.remove (spec.newest_ports self.old) port.now) }
         ensures err { OnErr result (spec.newest_ports self.new ≡ spec.newest_ports self.old) }
     {
+        set_aside(alloc, &self.ports, &self.blocks, &mut self.aside, port)?;
         kept::drop_port(alloc, &mut self.ports, &mut self.blocks, port)
     }
 
@@ -126,8 +173,9 @@ impl Writer {
 
     /// Takes over what is known of the ports of a Service: those that aren't given are gone. Of two
     /// of one name the first counts. Ports of other Services stay, and where such are given they
-    /// are passed over. It takes at most a step for each rule that those have in the shared chains
-    /// that are given. Where memory is out, ports of the Service may be gone or new.
+    /// are passed over. It takes at most a step for each rule in the shared chains that those have of
+    /// which something else was written. Where memory is out, ports of the Service may be gone or
+    /// new.
     pub fn refresh<L: Ledger>(
         &mut self,
         alloc: Global,
@@ -143,7 +191,8 @@ impl Writer {
             (spec.newest_ports self.old) (spec.newest_ports self.new) }
         ensures more { steps.old ≤ steps.new }
         ensures steps { steps.new ≤ steps.old
-            + shared_rule_count (spec.setting_in self.old) infos.items }
+            + shared_rule_count (spec.setting_in self.old)
+            (unwritten (spec.written_ports self.old) infos.items) }
     {
         let gone = self.copies_of(alloc, service)?;
         drop_all(alloc, self, gone)?;
@@ -171,9 +220,8 @@ impl Writer {
     /// The edits that lead from the full table of what was written, which is given, to that of what
     /// is known now: exactly the changes between the two. It is refused exactly where two different
     /// chains that are needed have one name, and tells the least such pair, or where memory is out.
-    /// It takes at most a step for each rule that the dirty ports had in the shared chains, and one
-    /// for each that they have in their own, and at least one for each rule of a port's own chains
-    /// that the edits write.
+    /// It takes at most a step for each rule that the dirty ports have in their own chains, and at
+    /// least one for each rule of a port's own chains that the edits write.
     pub fn edits<L: Ledger>(
         &self,
         alloc: Global,
@@ -189,10 +237,8 @@ impl Writer {
             (spec.clash_of self.now (spec.newest_ports self.now))) }
         ensures made { IfOk result (λ b. steps.old + own_rules_written b.edits ≤ steps.new) }
         ensures steps { steps.new ≤ steps.old
-            + (shared_rule_count (spec.setting_in self.now)
-            (spec.dirty_of self.now (spec.written_ports self.now))
             + own_rule_count (spec.setting_in self.now)
-            (spec.dirty_of self.now (spec.newest_ports self.now))) }
+            (spec.dirty_of self.now (spec.newest_ports self.now)) }
     {
         kp_walk_laws::hashed_prefixed();
         let keys = self.ports.pending(alloc)?;
@@ -201,6 +247,7 @@ impl Writer {
             &self.config,
             &self.ports,
             &self.blocks,
+            &self.aside,
             &keys,
             table,
             steps,
@@ -228,11 +275,12 @@ impl Writer {
     }
 
     /// Takes over that the newest ports are written. It takes no memory.
-    pub fn keep(&mut self)
+    pub fn keep(&mut self, alloc: Global)
         ensures config { self.new.config ≡ self.old.config }
         ensures written { spec.written_ports self.new ≡ spec.newest_ports self.old }
         ensures newest { spec.newest_ports self.new ≡ spec.newest_ports self.old }
     {
         self.ports.settle();
+        let _ = replace(&mut self.aside, Blocks::new(alloc));
     }
 }

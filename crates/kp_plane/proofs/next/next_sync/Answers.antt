@@ -5,10 +5,12 @@ use Rattle.kp_choice_defs.specs.Settings.{setting_of}
 use Rattle.kp_object_defs.specs.Objects.{objects_after}
 use Rattle.kp_full_table.specs.Faults.{TellsClash}
 use Rattle.kp_writer.specs.Batch.{own_rules_written}
-use Rattle.kp_plane.specs.Known.{touched_count, touched_rules}
+use Rattle.kp_writer.specs.Written.{written_ports}
+use Rattle.kp_plane.specs.Known.{AreDirty, rules_of, touched_count}
 use Rattle.kp_plane.specs.Invariant.{AreTouchedBetween, IsAtPlace, IsBroughtOn, IsUpToDate}
 use Rattle.kp_plane.specs.Invariant.{parts_of, touched_between}
-use Rattle.kp_plane.proofs.Between.{asked_since, blocks_since, brought_on, counted_none, counted_some}
+use Rattle.kp_plane.specs.Parts.{next_dirty}
+use Rattle.kp_plane.proofs.Between.{are_dirty, asked_since, brought_on, counted_none, counted_some}
 use Rattle.kp_plane.proofs.Between.{counted_within}
 use Rattle.kp_plane.proofs.Between.{makes_next, most_made}
 use Rattle.kp_plane.proofs.Between.{next_clash, nothing_next, stands, stands_apart}
@@ -74,12 +76,12 @@ returns-in_err-bring_on-clause-steps g c =
     let setting = setting_of V4 c.args.config.now in
     let p = parts_of c.args.config.now c.args.journal.now c.args.history.now in
     let s = c.args.ports.now in
-    let since = subst (λ es. AreTouchedBetween setting es (sum p.counts) s.latest.at s.touched)
-    (sym c.events-events.ensures) c.requires.ports.since in
-    let few = ap (λ es. touched_rules setting (objects_after es)
-    (touched_between setting es (sum p.counts) (length es))) c.events-events.ensures
-    ∙ blocks_since p in
-    let blocks = c.bring_on.ensures.steps (sum p.counts) since in
+    let dirty = subst (λ es. AreDirty setting (written_ports s.writer) (objects_after es)
+    (next_dirty p)) (sym c.events-events.ensures)
+    (are_dirty c.known_ports.ensures c.own_keys.ensures.after_events p s.writer
+    c.requires.ports.config c.requires.ports.written c.dirty_ports.ensures.clean) in
+    let few = ap (λ es. rules_of setting (objects_after es) (next_dirty p)) c.events-events.ensures in
+    let blocks = c.bring_on.ensures.steps (next_dirty p) dirty in
     counted_within (some_left p c.args.history.now c.requires.history c.if-events-history.false
     (ap length c.events-events.ensures))
     (omega (arith, few, blocks))
@@ -145,12 +147,12 @@ returns-clause-steps g c =
     let setting = setting_of V4 c.args.config.now in
     let p = parts_of c.args.config.now c.args.journal.now c.args.history.now in
     let s = c.args.ports.now in
-    let since = subst (λ es. AreTouchedBetween setting es (sum p.counts) s.latest.at s.touched)
-    (sym c.events-events.ensures) c.requires.ports.since in
-    let few = ap (λ es. touched_rules setting (objects_after es)
-    (touched_between setting es (sum p.counts) (length es))) c.events-events.ensures
-    ∙ blocks_since p in
-    let blocks = c.bring_on.ensures.steps (sum p.counts) since in
+    let dirty = subst (λ es. AreDirty setting (written_ports s.writer) (objects_after es)
+    (next_dirty p)) (sym c.events-events.ensures)
+    (are_dirty c.known_ports.ensures c.own_keys.ensures.after_events p s.writer
+    c.requires.ports.config c.requires.ports.written c.dirty_ports.ensures.clean) in
+    let few = ap (λ es. rules_of setting (objects_after es) (next_dirty p)) c.events-events.ensures in
+    let blocks = c.bring_on.ensures.steps (next_dirty p) dirty in
     let t = c.bring_on.new.self in
     let on = subst (λ es. IsBroughtOn setting es s t) c.events-events.ensures
     c.bring_on.ensures.goes_on in
@@ -158,8 +160,7 @@ returns-clause-steps g c =
     let up = subst (λ es. IsUpToDate setting es t) c.events-events.ensures
     c.in_ok-bring_on.ensures.ok in
     let edited = most_made c.known_ports.ensures c.own_keys.ensures.after_events p t.writer
-    is.config is.written up.newest c.known_dirty_ports.ensures.written
-    c.known_dirty_ports.ensures.newest in
+    is.config is.written up.newest c.known_dirty_ports.ensures.newest in
     counted_within (some_left p c.args.history.now c.requires.history c.if-events-history.false
     (ap length c.events-events.ensures))
     (omega (arith, few, blocks, edited, c.made.ensures.steps))

@@ -4,7 +4,6 @@ use Rattle.kp_choice_defs.specs.Settings.{setting_of}
 use Rattle.kp_writer.specs.Written.{newest_ports}
 use Rattle.kp_plane.proofs.Refreshed.{all_of_touched, by_keys, few_of_touched, from_keys, none_left}
 use Rattle.kp_known_ports.specs.Known.{ports_in}
-use Rattle.kp_plane.specs.Known.{shared_rules_in}
 use Rattle.kp_plane.proofs.refresh.refresh.Goals as goal
 
 pub refresh_keys-requires-clause-others : goal.refresh_keys-requires-clause-others
@@ -32,18 +31,4 @@ pub returns-else-touched-clause-asked : goal.returns-else-touched-clause-asked
 returns-else-touched-clause-asked g c =
     let few = few_of_touched ports_in c.args.objects.now c.args.touched.now c.requires.own_keys in
     let step = c.refresh_keys.ensures.asked in
-    omega (arith, few, step)
-
-pub returns-then-touched-clause-steps : goal.returns-then-touched-clause-steps
-returns-then-touched-clause-steps g c =
-    let f = shared_rules_in (setting_of V4 c.args.config.now) c.args.objects.now in
-    let few = all_of_touched f c.args.objects.now c.args.touched.now c.if-touched.true in
-    let step = c.refresh_all.ensures.steps in
-    omega (arith, few, step)
-
-pub returns-else-touched-clause-steps : goal.returns-else-touched-clause-steps
-returns-else-touched-clause-steps g c =
-    let f = shared_rules_in (setting_of V4 c.args.config.now) c.args.objects.now in
-    let few = few_of_touched f c.args.objects.now c.args.touched.now c.requires.own_keys in
-    let step = c.refresh_keys.ensures.steps in
     omega (arith, few, step)

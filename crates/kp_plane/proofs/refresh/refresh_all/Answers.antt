@@ -4,7 +4,6 @@ use Rattle.kp_choice_defs.specs.Settings.{setting_of}
 use Rattle.kp_writer.specs.Written.{newest_ports}
 use Rattle.kp_plane.proofs.Refreshed.{few_of_services, none_known}
 use Rattle.kp_known_ports.specs.Known.{ports_in}
-use Rattle.kp_plane.specs.Known.{shared_rules_in}
 use Rattle.kp_plane.proofs.refresh.refresh_all.Goals as goal
 
 pub refresh_keys-requires-clause-others : goal.refresh_keys-requires-clause-others
@@ -17,11 +16,4 @@ pub returns-clause-asked : goal.returns-clause-asked
 returns-clause-asked g c =
     let few = few_of_services ports_in c.args.objects.now c.in_ok-all.all in
     let step = c.refresh_keys.ensures.asked in
-    omega (arith, few, step)
-
-pub returns-clause-steps : goal.returns-clause-steps
-returns-clause-steps g c =
-    let f = shared_rules_in (setting_of V4 c.args.config.now) c.args.objects.now in
-    let few = few_of_services f c.args.objects.now c.in_ok-all.all in
-    let step = c.refresh_keys.ensures.steps in
     omega (arith, few, step)

@@ -2,10 +2,11 @@ use Rattle.std.proofs.Common.{◌∷◌, [], map, ap, ◌∙◌, arith}
 use Rattle.std.proofs.lemmas.List.{map-append}
 use Rattle.kp_base.specs.declared.address.Family.TheVariants.{V4}
 use Rattle.kp_choice_defs.specs.Settings.{setting_of}
-use Rattle.kp_writer.specs.Written.{newest_ports}
-use Rattle.kp_plane.proofs.Refreshed.{count_split, one_fewer, still_among, still_others}
+use Rattle.kp_writer.specs.Written.{newest_ports, written_ports}
+use Rattle.kp_plane.proofs.Refreshed.{count_split, made_split, one_fewer, still_among}
+use Rattle.kp_plane.proofs.Refreshed.{still_others}
 use Rattle.kp_known_ports.specs.Known.{ports_in}
-use Rattle.kp_plane.specs.Known.{shared_rules_in}
+use Rattle.kp_plane.specs.Known.{made_count}
 use Rattle.kp_plane.proofs.refresh.refresh_each.Goals as goal
 
 pub loop-service-preserved : goal.loop-service-preserved
@@ -20,7 +21,8 @@ loop-service-preserved g c =
     let is = ap (map (λ k. k.now)) c.in-Some.ensures.items
     ∙ map-append (λ k. k.now) c.pop.new.self.items (c.in-Some.service ∷ []) in
     let split = count_split old new k is ports_in o in
-    let rules = count_split old new k is (shared_rules_in setting o) o in
+    let rules = made_split old new k is setting (written_ports c.args.writer.now) o in
+    let one = ap (λ m. made_count setting m o (k ∷ [])) inv.written in
     let step = c.refresh_one.ensures.asked in
     let before = inv.asked in
     record {
@@ -31,7 +33,7 @@ loop-service-preserved g c =
           c.in_ok-refresh_one.ensures.ok;
       among = still_among old new k is all inv.among;
       more = omega (arith, c.refresh_one.ensures.more, inv.more);
-      steps = omega (arith, rules, c.refresh_one.ensures.steps, inv.steps);
+      steps = omega (arith, rules, one, c.refresh_one.ensures.steps, inv.steps);
       asked = omega (arith, split, step, before);
     }
 
@@ -64,11 +66,14 @@ returns-in_err-refresh_one-clause-more g c =
 
 pub returns-in_err-refresh_one-clause-steps : goal.returns-in_err-refresh_one-clause-steps
 returns-in_err-refresh_one-clause-steps g c =
+    let setting = setting_of V4 c.args.config.now in
     let o = c.args.objects.now in
     let old = map (λ k. k.now) c.loop-service.services.items in
     let new = map (λ k. k.now) c.pop.new.self.items in
+    let k = c.in-Some.service.now in
     let is = ap (map (λ k. k.now)) c.in-Some.ensures.items
     ∙ map-append (λ k. k.now) c.pop.new.self.items (c.in-Some.service ∷ []) in
-    let rules = count_split old new c.in-Some.service.now is
-    (shared_rules_in (setting_of V4 c.args.config.now) o) o in
-    omega (arith, rules, c.refresh_one.ensures.steps, c.loop-service.invariant.steps)
+    let inv = c.loop-service.invariant in
+    let rules = made_split old new k is setting (written_ports c.args.writer.now) o in
+    let one = ap (λ m. made_count setting m o (k ∷ [])) inv.written in
+    omega (arith, rules, one, c.refresh_one.ensures.steps, inv.steps)

@@ -16,9 +16,11 @@ invariant-loop-service g l = record {
   among : AreAmong (map (λ k. k.now) l.services.items) (map (λ k. k.now) l.fn.services.items);
   more : l.fn.steps ≤ l.steps;
   steps : l.steps
-      + made_count (setting_of V4 l.config) l.objects (map (λ k. k.now) l.services.items)
+      + made_count (setting_of V4 l.config) (written_ports l.fn.writer) l.objects
+      (map (λ k. k.now) l.services.items)
       ≤ l.fn.steps
-      + made_count (setting_of V4 l.config) l.objects (map (λ k. k.now) l.fn.services.items);
+      + made_count (setting_of V4 l.config) (written_ports l.fn.writer) l.objects
+      (map (λ k. k.now) l.fn.services.items);
   asked : l.asked + asked_count l.objects (map (λ k. k.now) l.services.items)
       ≤ l.fn.asked + asked_count l.objects (map (λ k. k.now) l.fn.services.items);
 }

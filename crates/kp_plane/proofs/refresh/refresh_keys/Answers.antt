@@ -1,8 +1,9 @@
-use Rattle.std.proofs.Common.{◌≤◌, ◌+◌, sym, subst}
+use Rattle.std.proofs.Common.{◌≤◌, ◌+◌, arith, sym, ap, subst}
 use Rattle.kp_base.specs.declared.address.Family.TheVariants.{V4}
 use Rattle.kp_choice_defs.specs.Settings.{setting_of}
-use Rattle.kp_writer.specs.Written.{newest_ports}
+use Rattle.kp_writer.specs.Written.{newest_ports, written_ports}
 use Rattle.kp_plane.specs.Known.{KnowsOthers, asked_count, made_count}
+use Rattle.kp_plane.proofs.FewMade.{few_made}
 use Rattle.kp_plane.proofs.refresh.refresh_keys.Goals as goal
 
 pub refresh_each-requires-clause-others : goal.refresh_each-requires-clause-others
@@ -21,7 +22,11 @@ returns-clause-asked g c =
     c.in_ok-services.ensures c.refresh_each.ensures.asked
 
 pub returns-clause-steps : goal.returns-clause-steps
-returns-clause-steps g c =
-    subst (λ ks. c.refresh_each.new.steps ≤ c.args.steps.now
-    + made_count (setting_of V4 c.args.config.now) c.args.objects.now ks)
-    c.in_ok-services.ensures c.refresh_each.ensures.steps
+returns-clause-steps g c = λ dirty are.
+    let setting = setting_of V4 c.args.config.now in
+    let written = written_ports c.args.writer.now in
+    let o = c.args.objects.now in
+    let same = ap (made_count setting written o) c.in_ok-services.ensures in
+    let few = few_made setting written o c.requires.own_keys c.ports_by_key.ensures.key dirty are
+    c.args.keys.now in
+    omega (arith, same, few, c.refresh_each.ensures.steps)

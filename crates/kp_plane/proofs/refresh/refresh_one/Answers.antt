@@ -2,8 +2,9 @@ use Rattle.std.proofs.Common.{ap, arith}
 use Rattle.std.proofs.lemmas.Result.{on_ok_weaker}
 use Rattle.kp_base.specs.declared.address.Family.TheVariants.{V4}
 use Rattle.kp_choice_defs.specs.Settings.{setting_of}
+use Rattle.kp_writer.specs.Old.{unwritten}
 use Rattle.kp_writer.specs.Shared.{shared_rule_count}
-use Rattle.kp_writer.specs.Written.{newest_ports}
+use Rattle.kp_writer.specs.Written.{newest_ports, written_ports}
 use Rattle.kp_plane.proofs.Refreshed.{made_one, service_done}
 use Rattle.kp_plane.proofs.refresh.refresh_one.Goals as goal
 
@@ -19,8 +20,10 @@ returns-clause-ok g c =
 pub returns-clause-steps : goal.returns-clause-steps
 returns-clause-steps g c =
     let setting = setting_of V4 c.args.config.now in
+    let written = written_ports c.args.writer.now in
     let infos = c.in_ok-infos.infos.items in
-    let by = ap (λ config. shared_rule_count (setting_of V4 config) infos) c.requires.config in
-    let one = made_one setting c.args.objects.now c.requires.own_keys c.args.service.now infos
+    let by = ap (λ config. shared_rule_count (setting_of V4 config) (unwritten written infos))
+    c.requires.config in
+    let one = made_one setting written c.args.objects.now c.args.service.now infos
     c.in_ok-infos.ensures.infos in
     omega (arith, by, one, c.refresh.ensures.steps)

@@ -2,10 +2,11 @@ use Rattle.std.proofs.Common.{[], ◌∷◌, arith, cond, drop, length, ap, sym,
 use Rattle.std.specs.FinMap.{insert}
 use Rattle.kp_chains.proofs.Popped.{popped-drop, popped-take}
 use Rattle.kp_blocks.specs.Joined.{is_port_of}
+use Rattle.kp_writer.specs.Old.{unwritten}
 use Rattle.kp_writer.specs.Refresh.{with_infos}
 use Rattle.kp_writer.specs.Shared.{shared_rule_count}
-use Rattle.kp_writer.specs.Written.{newest_ports, setting_in}
-use Rattle.kp_writer.proofs.RuleCounts.{put_count, shared_parts}
+use Rattle.kp_writer.specs.Written.{newest_ports, setting_in, written_ports}
+use Rattle.kp_writer.proofs.RuleCounts.{put_count, unwritten_parts}
 use Rattle.kp_writer.proofs.Refreshed.{others_stay}
 use Rattle.kp_writer.proofs.refresh.put_all.Goals as goal
 
@@ -18,9 +19,12 @@ loop-info-preserved g c =
     let info = c.in-Some.info in
     let so_far = c.loop-info.invariant in
     let service = c.args.service.now in
-    let one = put_count c.loop-info.writer.config c.args.writer.now.config so_far.config info in
-    let split = ap (shared_rule_count (setting_in c.args.writer.now)) c.in-Some.ensures.items in
-    let parts = shared_parts (setting_in c.args.writer.now) new (info ∷ []) in
+    let s = setting_in c.args.writer.now in
+    let written = written_ports c.args.writer.now in
+    let one = put_count c.loop-info.writer.config c.args.writer.now.config so_far.config
+    (written_ports c.loop-info.writer) written so_far.written info in
+    let split = ap (λ is. shared_rule_count s (unwritten written is)) c.in-Some.ensures.items in
+    let parts = unwritten_parts s written new (info ∷ []) in
     record {
       config = c.put_if.ensures.config ∙ so_far.config;
       written = c.put_if.ensures.written ∙ so_far.written;
@@ -55,7 +59,10 @@ pub returns-in_err-put_if-clause-steps : goal.returns-in_err-put_if-clause-steps
 returns-in_err-put_if-clause-steps g c =
     let info = c.in-Some.info in
     let so_far = c.loop-info.invariant in
-    let one = put_count c.loop-info.writer.config c.args.writer.now.config so_far.config info in
-    let split = ap (shared_rule_count (setting_in c.args.writer.now)) c.in-Some.ensures.items in
-    let parts = shared_parts (setting_in c.args.writer.now) c.pop.new.self.items (info ∷ []) in
+    let s = setting_in c.args.writer.now in
+    let written = written_ports c.args.writer.now in
+    let one = put_count c.loop-info.writer.config c.args.writer.now.config so_far.config
+    (written_ports c.loop-info.writer) written so_far.written info in
+    let split = ap (λ is. shared_rule_count s (unwritten written is)) c.in-Some.ensures.items in
+    let parts = unwritten_parts s written c.pop.new.self.items (info ∷ []) in
     omega (arith, one, split, parts, c.put_if.ensures.steps, so_far.steps)

@@ -1,4 +1,5 @@
 use Rattle.std.proofs.Common.{◌≡◌, ◌+◌, ◌≤◌, drop, length, take, vec_len}
+use Rattle.kp_writer.specs.Old.{unwritten}
 use Rattle.kp_writer.specs.Refresh.{with_infos}
 use Rattle.kp_writer.specs.Shared.{shared_rule_count}
 use Rattle.kp_writer.specs.Written.{newest_ports, setting_in, written_ports}
@@ -13,8 +14,12 @@ invariant-loop-info g l = record {
       ≡ with_infos l.service (newest_ports l.fn.writer)
       (drop (length l.infos.items) l.fn.infos.items);
   more : l.fn.steps ≤ l.steps;
-  steps : l.steps + shared_rule_count (setting_in l.fn.writer) l.infos.items
-      ≤ l.fn.steps + shared_rule_count (setting_in l.fn.writer) l.fn.infos.items;
+  steps : l.steps
+      + shared_rule_count (setting_in l.fn.writer)
+      (unwritten (written_ports l.fn.writer) l.infos.items)
+      ≤ l.fn.steps
+      + shared_rule_count (setting_in l.fn.writer)
+      (unwritten (written_ports l.fn.writer) l.fn.infos.items);
   left : l.infos.items ≡ take (length l.infos.items) l.fn.infos.items;
 }
 

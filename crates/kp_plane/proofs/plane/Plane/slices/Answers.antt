@@ -1,10 +1,10 @@
-use Rattle.std.proofs.Common.{◌≡◌, IfOk, [], ◌∷◌, sym, subst, ◌∙◌}
+use Rattle.std.proofs.Common.{◌≡◌, IfOk, sym, subst, ◌∙◌}
 use Rattle.std.specs.FinMap as finite
-use Rattle.kp_base.specs.declared.address.Family.TheVariants.{V4}
 use Rattle.kp_object_defs.specs.SlicesNow.{slices_now}
 use Rattle.kp_plane.specs.Parts.{slices_in}
 use Rattle.kp_plane.specs.Invariant.{IsSlicesAt}
 use Rattle.kp_plane.proofs.plane.Plane.slices.Goals as goal
+use Rattle.kp_types.specs.Setting.{both_families}
 
 pub invariant_of-self : goal.invariant_of-self
 invariant_of-self c =
@@ -39,6 +39,6 @@ invariant_of-self-2 c =
 -- the steps of dropping the store on each way out are many, so the slices are followed by hand
 pub returns-clause-slices : goal.returns-clause-slices
 returns-clause-slices c =
-    let made = c.in_ok-self-inside.ensures.slices ∙ (λ i. slices_now (V4 ∷ []) c.self.inside.config (c.events.ensures i) (c.as_slice.ensures.value i)) in
+    let made = c.in_ok-self-inside.ensures.slices ∙ (λ i. slices_now both_families c.self.inside.config (c.events.ensures i) (c.as_slice.ensures.value i)) in
     let kept = subst (λ slices. IfOk c.copies.result (λ ss. ss ≡ finite.values slices)) made c.copies.ensures in
     subst (λ p. IfOk c.copies.result (λ ss. ss ≡ slices_in p)) c.self.view_is kept

@@ -4,10 +4,10 @@ use Rattle.kp_choice_defs.specs.Settings.{setting_of}
 use Rattle.kp_object_defs.specs.OwnKeys.{AreUnderOwnKeys}
 use Rattle.kp_store.specs.Touched.{is_touched}
 use Rattle.kp_writer.specs.Known.{ArePortsOf}
-use Rattle.kp_writer.specs.Written.{newest_ports}
+use Rattle.kp_writer.specs.Written.{newest_ports, written_ports}
 use Rattle.kp_plane.specs.Collected.{is_collected}
 use Rattle.kp_known_ports.specs.Known.{ports_in}
-use Rattle.kp_plane.specs.Known.{shared_rules_in}
+use Rattle.kp_plane.proofs.Between.{made_at_end}
 use Rattle.kp_plane.proofs.Since.{counted_between, since_none}
 use Rattle.kp_plane.proofs.Synced.{at_end}
 use Rattle.kp_plane.proofs.Touching.{knows_on, knows_same}
@@ -103,22 +103,18 @@ returns-clause-asked g c = λ from is.
     c.refresh.ensures.asked
 
 pub returns-in_err-refresh-clause-steps : goal.returns-in_err-refresh-clause-steps
-returns-in_err-refresh-clause-steps g c = λ from is.
-    let done = c.in_ok-advance_touching.ensures in
-    let setting = setting_of V4 c.args.config.now in
-    counted_between setting c.args.events.now (shared_rules_in setting) from
-    c.advance_touching.new.self c.advance_touching.new.touched c.args.steps.now c.refresh.new.steps
-    (c.advance_touching.ensures.since from is) c.advance_touching.ensures.place done.ok done.joined
-    c.refresh.ensures.steps
+returns-in_err-refresh-clause-steps g c = λ dirty are.
+    made_at_end (setting_of V4 c.args.config.now) (written_ports c.args.self.now.writer)
+    c.args.events.now c.advance_touching.new.self c.advance_touching.ensures.place
+    c.in_ok-advance_touching.ensures.ok c.args.steps.now c.refresh.new.steps
+    c.refresh.ensures.steps dirty are
 
 pub returns-clause-steps : goal.returns-clause-steps
-returns-clause-steps g c = λ from is.
-    let done = c.in_ok-advance_touching.ensures in
-    let setting = setting_of V4 c.args.config.now in
-    counted_between setting c.args.events.now (shared_rules_in setting) from
-    c.advance_touching.new.self c.advance_touching.new.touched c.args.steps.now c.refresh.new.steps
-    (c.advance_touching.ensures.since from is) c.advance_touching.ensures.place done.ok done.joined
-    c.refresh.ensures.steps
+returns-clause-steps g c = λ dirty are.
+    made_at_end (setting_of V4 c.args.config.now) (written_ports c.args.self.now.writer)
+    c.args.events.now c.advance_touching.new.self c.advance_touching.ensures.place
+    c.in_ok-advance_touching.ensures.ok c.args.steps.now c.refresh.new.steps
+    c.refresh.ensures.steps dirty are
 
 pub returns-in_err-advance_touching-clause-steps : goal.returns-in_err-advance_touching-clause-steps
-returns-in_err-advance_touching-clause-steps g c = λ from is. omega arith
+returns-in_err-advance_touching-clause-steps g c = λ dirty are. omega arith

@@ -10,5 +10,5 @@ returns c =
     let v : WriterParts = record { config = c.self.inside.config; ports = c.self.inside.ports } in
     IfOk-weaker c.ports_of.result _ _
     (λ ports are. are ∙ ap (filter (is_port_of c.args.service.now)) (newest_keys v c.args.self.now
-    c.self.view_is c.self.inside.blocks c.self.invariant))
+    c.self.view_is c.self.inside.blocks c.self.inside.aside c.self.invariant))
     c.ports_of.ensures
