@@ -1,7 +1,6 @@
 -- The records of a plane may be published.
 use Rattle.std.proofs.Common.{◌≡◌, suc, ◌+◌, ◌<◌, ◌&&◌, List, [], ◌∷◌, ◌++◌, length, take, slice_get, Some, refl, ap, subst, ◌∙◌, arith}
 use Rattle.std.proofs.lemmas.Option.{slice_get_within}
-use Rattle.kp_types.specs.declared.chain.TableName.TheVariants.{Nat, Filter}
 use Rattle.kp_types.specs.declared.sync.SyncRecord.{SyncRecord}
 use Rattle.kp_table_defs.specs.Ranks.{is_ranked, has_built_in_chains}
 use Rattle.kp_table_defs.specs.Rebuild.{Chains, TableParts}
@@ -17,7 +16,7 @@ use Rattle.kp_hub.specs.State.{first_table}
 ready_from : (t : TableParts) (chains : Chains) → t.chains ≡ chains → IsSound chains → IsReady t
 ready_from t chains same is = record {
   ranked = ap is_ranked same ∙ is.ranked;
-  built_in = ap has_built_in_chains same ∙ (λ i. is.built_in Nat i && is.built_in Filter i);
+  built_in = ap has_built_in_chains same ∙ is.built_in;
 }
 
 pub records_ready : ExactTables → FullTableRankedObjects → HashedPrefixed → (p : PlaneParts) → HasExactHistory p

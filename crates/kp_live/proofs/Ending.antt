@@ -9,6 +9,7 @@ use Rattle.std.proofs.lemmas.Slice.Eq.{bytes_eq-Decides}
 use Rattle.std.proofs.lemmas.Option.{get_or_from_slice_get, slice_get_cases, slice_get-get_or, slice_get-map}
 use Rattle.kp_lemmas.proofs.ListFacts.{all_weaker}
 use Rattle.kp_pack_laws.proofs.Shuffles.{all_unmapped}
+use Rattle.kp_base.specs.declared.address.Family.TheVariants.{V4}
 use Rattle.kp_types.specs.declared.chain.Clash.{Clash}
 use Rattle.kp_types.specs.declared.sync.SyncRecord.{SyncRecord}
 use Rattle.kp_choice_defs.specs.Names.{same_chain_key}
@@ -238,10 +239,10 @@ prints_run run journal notes refusals clash table told fed noted answered count 
     append_assoc (flat_map text.refused_text run.reading.refused
     ++ text.journal_text run.reading.streams 1 run.journal ++ text.records_text run
     ++ (text.answers_of run).text) (final_text (records_in run) (final_clash run))
-    (table_text_of (legal.chains_at run (records_in run)))
+    (table_text_of V4 (legal.chains_at run (records_in run)))
     ∙ (λ i. flat_map text.refused_text run.reading.refused
     ++ text.journal_text run.reading.streams 1 (fed i) ++ noted i ++ answered i
-    ++ (final_text (count i) (refused i) ++ table_text_of (chains i)))
+    ++ (final_text (count i) (refused i) ++ table_text_of V4 (chains i)))
 
 -- the clash that a refused sync prints is one that a refusal has
 same_is : (a b : Clash) → same_clash a b ≡ true → a ≡ b

@@ -2,6 +2,7 @@
 -- its hub handed out.
 use Rattle.std.specs.Prelude.{◌≡◌, ◌≤◌, ◌+◌, ◌&&◌, ◌||◌, ℕ, suc, nat_lt, Bool, true, false, cond, List, [], ◌∷◌, ◌++◌, map, length, Option, Some, is_some, IfSome, slice_get, bytes_eq}
 use Rattle.std.specs.List.{flat_map, fold, list_any}
+use Rattle.kp_base.specs.declared.address.Family.TheVariants.{V4}
 use Rattle.kp_types.specs.declared.chain.Clash.{Clash}
 use Rattle.kp_choice_defs.specs.Names.{same_chain_key}
 use Rattle.kp_text_defs.specs.declared.line_refusal.LineRefusal.TheVariants.{ChainClash}
@@ -126,7 +127,7 @@ head_text reading journal notes =
 
 -- and what it prints behind that
 abbrev pub end_text : ℕ → Option Clash → TableParts → List ℕ
-end_text records clash table = final_text records clash ++ table_text_of table.chains
+end_text records clash table = final_text records clash ++ table_text_of V4 table.chains
 
 -- whether something that a run prints is a refusal
 abbrev pub prints_refusal : Reading → Bool → Option Clash → Bool

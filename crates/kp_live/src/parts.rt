@@ -2,6 +2,7 @@
 ghost use Rattle.std.specs.Prelude.{◌≡◌, ◌++◌, ◌∷◌, ◌||◌, [], ℕ, List, false, length, get_or};
 ghost use Rattle.std.specs.Prelude.{IfOk, Ok};
 ghost use Rattle.std.specs.List.{flat_map};
+ghost use Rattle.kp_base.specs.declared.address.Family.TheVariants.{V4};
 ghost use Rattle.kp_run_defs.specs.LiveText as spec;
 ghost use Rattle.kp_streams.specs.Streams.{reading_in};
 ghost use Rattle.kp_text_defs.specs.declared.line_refusal.LineRefusal.TheVariants.{ChainClash};
@@ -432,7 +433,7 @@ fn print_final<K: Sink>(
 
 /// Writes a table.
 fn print_table<K: Sink>(alloc: Global, table: &Table, sink: &mut K) -> Result<(), LiveFault>
-    ensures { Prints result (table_text_of table.now.chains)
+    ensures { Prints result (table_text_of V4 table.now.chains)
         (K.written sink.old) (K.written sink.new) (K.faults sink.old) (K.faults sink.new) }
 {
     match table_text(alloc, table) {

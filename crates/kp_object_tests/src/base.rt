@@ -94,6 +94,8 @@ fn config(alloc: Global) -> Result<Config, NoMemory> {
         max_events: 1_000_000,
         recent_size: 50,
         name_length: 16,
+        dual: true,
+        cluster6: Some(Cidr::single(Address::v6(2))),
     })
 }
 
@@ -108,6 +110,8 @@ fn keeps_config(copy: &Config, first: &Config) -> bool {
         && copy.max_events == 1_000_000
         && copy.recent_size == 50
         && copy.name_length == 16
+        && copy.dual
+        && copy.cluster6 == first.cluster6
 }
 
 #[test]

@@ -1,6 +1,7 @@
-//! Tests of the calls of what all else stands on: kp_base, kp_types, kp_io and kp_json. What texts,
-//! objects and lines are read as, and how chains are named, is worked out in `kp_worked_texts`; the
-//! built program reads objects and lines row by row.
+//! Tests of the calls of what all else stands on: kp_base, kp_types, kp_io and kp_json; and texts
+//! of addresses as kp_base reads and kp_print prints them. What texts, objects and lines are read
+//! as, and how chains are named, is worked out in `kp_worked_texts`; the built program reads
+//! objects and lines row by row.
 #![tactic(auto)]
 
 #[cfg(test)]
@@ -11,5 +12,7 @@ mod io;
 mod json;
 #[cfg(test)]
 mod keys;
+#[cfg(test)]
+mod texts;
 #[cfg(test)]
 mod types;

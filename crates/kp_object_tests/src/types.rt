@@ -1,7 +1,7 @@
-//! Copies of the keys of chains and of records.
+//! Copies of the keys of chains and of records, and the edits of one family.
 use crate::keys::{is_copied, port_key};
 use arrayvec::ArrayVec;
-use kp_base::{Address, Cidr, Copied, Endpoint, Items, NoMemory, PortNo, Shared};
+use kp_base::{Address, Cidr, Copied, Endpoint, Family, Items, NoMemory, PortNo, Shared};
 use kp_types::{
     Batch, ChainAt, ChainKey, ChainName, Edit, Match, PortChain, Rule, SyncRecord, TableName,
     Target,
@@ -72,5 +72,42 @@ fn chain_key(alloc: Global) -> Result<ChainKey, NoMemory> {
 #[test]
 fn copied_keys_are_equal(rt: HostRuntime) -> Result<(), Fail> {
     assert!(rt; is_copied(rt.alloc(), &chain_key(rt.alloc())?)?);
+    Ok(())
+}
+
+/// Edits that remove a chain of one name from tables.
+fn removals(alloc: Global, tables: &[TableName]) -> Result<Batch, NoMemory> {
+    let mut edits = Vec::new(alloc);
+    for table in tables {
+        let at = ChainAt {
+            table: *table,
+            chain: ChainName::new("KUBE-FW-A"),
+        };
+        edits.push(Edit::Remove { at })?;
+    }
+    Ok(Batch {
+        edits: Items::from_vec(edits),
+    })
+}
+
+/// The tables that the edits of a batch change.
+fn tables_of(alloc: Global, batch: &Batch) -> Result<Vec<TableName>, NoMemory> {
+    let mut tables = Vec::new(alloc);
+    for edit in batch.edits.as_slice() {
+        tables.push(edit.place().table)?;
+    }
+    Ok(tables)
+}
+
+#[test]
+fn a_family_has_the_edits_of_its_two_tables(rt: HostRuntime) -> Result<(), Fail> {
+    let four = [TableName::Nat, TableName::Filter];
+    let six = [TableName::Nat6, TableName::Filter6, TableName::Nat6];
+    let mixed = [six[0], four[0], six[1], four[1], six[2]];
+    let batch = removals(rt.alloc(), mixed.as_slice())?;
+    let own = batch.of_family(rt.alloc(), Family::V4)?;
+    let other = batch.of_family(rt.alloc(), Family::V6)?;
+    assert!(rt; tables_of(rt.alloc(), &own)?.as_slice() == four.as_slice());
+    assert!(rt; tables_of(rt.alloc(), &other)?.as_slice() == six.as_slice());
     Ok(())
 }
