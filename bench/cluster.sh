@@ -2,11 +2,13 @@
 # Writes the lines of a made cluster, the same ones for the same arguments: a configuration, three
 # nodes, Services, pods, a sync, packets, the deletion of each tenth pod, a sync and the packets
 # again. An object, a command or a packet is one line.
-#   bench/cluster.sh SERVICES PODS [PACKETS [SEED]]
-# PACKETS are those after each sync, four a Service if left out; SEED is 1 if left out.
+#   bench/cluster.sh SERVICES PODS [PACKETS [SEED [LISTS]]]
+# PACKETS are those after each sync, four a Service if left out; SEED is 1 if left out. With LISTS 1
+# Services have clusterIPs and ipFamilies, and pods podIPs, as those of every cluster have; it is 0
+# if left out.
 set -eu
-if [ $# -lt 2 ] || [ $# -gt 4 ]; then
-    echo "usage: bench/cluster.sh SERVICES PODS [PACKETS [SEED]]" >&2
+if [ $# -lt 2 ] || [ $# -gt 5 ]; then
+    echo "usage: bench/cluster.sh SERVICES PODS [PACKETS [SEED [LISTS]]]" >&2
     exit 2
 fi
 for number in "$@"; do
@@ -21,7 +23,8 @@ if [ "$1" -lt 1 ]; then
     echo "bench/cluster.sh: there is at least one Service" >&2
     exit 2
 fi
-exec awk -v services="$1" -v pods="$2" -v packets="${3-$(($1 * 4))}" -v seed="${4-1}" '
+exec awk -v services="$1" -v pods="$2" -v packets="${3-$(($1 * 4))}" -v seed="${4-1}" \
+    -v lists="${5-0}" '
 # the next of the numbers from 1 to 2147483646 that the seed begins (Park and Miller)
 function word() {
     state = state * 16807 % 2147483647
@@ -33,23 +36,27 @@ function address(first, second, number) {
 }
 
 # by number: every fourth Service has affinity, a local policy or a preference for its zone
-function service(i,   more) {
+function service(i,   more, own) {
+    own = address(10, 96, i + 1)
     if (i % 4 == 1) more = ",\"sessionAffinity\":\"ClientIP\""
     if (i % 4 == 2) more = ",\"internalTrafficPolicy\":\"Local\""
     if (i % 4 == 3) more = ",\"trafficDistribution\":\"PreferClose\""
+    if (lists) more = more ",\"clusterIPs\":[\"" own "\"],\"ipFamilies\":[\"IPv4\"]"
     print "{\"apiVersion\":\"v1\",\"kind\":\"Service\",\"metadata\":{\"name\":\"s" i "\"},\"spec\":{" \
-        "\"clusterIP\":\"" address(10, 96, i + 1) "\",\"ports\":[{\"port\":80,\"targetPort\":8080}]," \
+        "\"clusterIP\":\"" own "\",\"ports\":[{\"port\":80,\"targetPort\":8080}]," \
         "\"selector\":{\"app\":\"s" i "\"}" more "}}"
 }
 
 # three new numbers: its Service, its node, and whether it is ready
-function pod(j,   app, node, ready) {
+function pod(j,   app, node, ready, own, more) {
+    own = address(10, 244, j + 1)
+    if (lists) more = ",\"podIPs\":[{\"ip\":\"" own "\"}]"
     app = word() % services
     node = 1 + word() % 3
     ready = word() % 8 ? "True" : "False"
     print "{\"apiVersion\":\"v1\",\"kind\":\"Pod\",\"metadata\":{\"name\":\"p" j "\"," \
         "\"labels\":{\"app\":\"s" app "\"}},\"spec\":{\"nodeName\":\"n" node "\"}," \
-        "\"status\":{\"phase\":\"Running\",\"podIP\":\"" address(10, 244, j + 1) "\"," \
+        "\"status\":{\"phase\":\"Running\",\"podIP\":\"" own "\"" more "," \
         "\"conditions\":[{\"type\":\"Ready\",\"status\":\"" ready "\"}]}}"
 }
 

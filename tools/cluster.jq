@@ -55,6 +55,10 @@ def proxy_setting:
           else . end)
     | {mode, clusterCIDR, detectLocalMode, masqueradeAll};
 
+# the cluster addresses of a Service's spec: those of the list, or else the single one
+def cluster_addresses:
+    [(.clusterIPs | arrays | select(. != [])) // [.clusterIP] | .[] | strings | select(. != "")];
+
 def note:
     if is_setting_of_proxy then
         ["proxy", ((.data["config.conf"] | proxy_setting)? // {})]
@@ -68,7 +72,7 @@ def note:
             (.metadata.labels["kubernetes.io/service-name"])? // "")"]
     elif .kind == "Service" then
         ["service", key, (.spec | objects // {}
-            | {type, clusterIP, selects: ((.selector | length > 0)? // false)})]
+            | {type, addresses: cluster_addresses, selects: ((.selector | length > 0)? // false)})]
     else empty end;
 
 # all that a document gives: its version and the rest of its pages, then lines and notes
@@ -137,9 +141,9 @@ def said_of_services($sliced; $controller):
             | select($controller | not) // select(.selects | not)
             | .name | select(in($sliced) | not))
         | select(. != []) | "Services without an EndpointSlice: \(some_of)"),
-    (map(select(.clusterIP | strings | contains(":")) | .name)
+    (map(select(.addresses | . != [] and all(contains(":"))) | .name)
         | select(. != [])
-        | "Services whose clusterIP is of IPv6, which are passed over: \(some_of)");
+        | "Services of IPv6 alone, to which no packet can be sent: \(some_of)");
 
 def said_of_others:
     group_by(.[1:])[]

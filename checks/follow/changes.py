@@ -1,6 +1,6 @@
-"""Random scripts of small changes to a cluster: to its Services, their ports and policies, to
-endpoints in slices or pods, to zones of nodes, and to which of these there are. The same seed makes
-the same script."""
+"""Random scripts of small changes to a cluster: to its Services, their families, ports and
+policies, to endpoints in slices or pods, to zones of nodes, and to which of these there are. The
+same seed makes the same script."""
 
 import copy
 import random
@@ -23,12 +23,13 @@ SERVICE = {
     "spec.type": ["ClusterIP", *["NodePort"] * 3, *["LoadBalancer"] * 4, "ExternalName"],
     "spec.internalTrafficPolicy": [None, None, "Cluster", "Cluster", "Local"],
     "spec.externalTrafficPolicy": [None, "Cluster", "Local", "Local"],
+    "spec.ipFamilies": [*[None] * 3, ["IPv4"], ["IPv4", "IPv6"], ["IPv6", "IPv4"], ["IPv6"]],
     "spec.externalIPs": [None, ["203.0.113.5"], ["203.0.113.6", "203.0.113.5"], ["2001:db8::5"]],
     "spec.loadBalancerSourceRanges": [
         None,
         ["192.0.2.0/24"],
         ["192.0.2.0/24", "10.244.0.0/16"],
-        ["0.0.0.0/0"],
+        ["2001:db8::/32", "0.0.0.0/0"],
         ["2001:db8::/32"],
     ],
     "spec.sessionAffinity": ["None", "ClientIP"],
@@ -40,7 +41,7 @@ SERVICE = {
     "status.loadBalancer.ingress": [
         None,
         [{"ip": "203.0.113.8"}],
-        [{"ip": "203.0.113.9", "ipMode": "VIP"}, {"ip": "203.0.113.8"}],
+        [{"ip": "203.0.113.9", "ipMode": "VIP"}, {"ip": "2001:db8::9"}, {"ip": "203.0.113.8"}],
         [{"ip": "203.0.113.9", "ipMode": "Proxy"}],
         [{"hostname": "web.example"}],
     ],
@@ -53,7 +54,7 @@ PORT = {
     "nodePort": [None, *range(30000, 30060)],
 }
 SLICE = {
-    "addressType": ["IPv4"] * 12 + ["IPv6", "FQDN"],
+    "addressType": ["IPv4"] * 12 + ["IPv6", "IPv6", "FQDN"],
     "ports": [
         [{"name": name, "port": 8080 + step} for name in PORT["name"][:count]]
         for step, count in [*[(0, 4)] * 6, (1, 4), (0, 2), (0, 0)]
@@ -178,10 +179,12 @@ def change_one(item, choices, rng):
 
 
 def service_choices(name):
-    """A Service has its own cluster address, mostly, and selects its own pods."""
-    own = f"10.96.0.{int(name[1:]) + 10}"
+    """A Service has its own cluster addresses, mostly, and selects its own pods."""
+    number = int(name[1:]) + 10
+    own, six = f"10.96.0.{number}", f"fd00:10:96::{number:x}"
     return SERVICE | {
-        "spec.clusterIP": [*[own] * 8, "None", "10.96.0.200"],
+        "spec.clusterIP": [*[own] * 8, "None", "10.96.0.200", six],
+        "spec.clusterIPs": [*[None] * 5, [], [own], [own, six], [six, own], [six], ["None"]],
         "spec.selector": [*[{"app": name}] * 4, {"app": name, "tier": "a"}, None],
     }
 
@@ -226,11 +229,12 @@ def service_made_again(cluster, rng):
 
 
 def swapped_addresses(cluster, rng):
-    """Two Services have each other's cluster address."""
+    """Two Services have each other's cluster addresses."""
     services = cluster.some("Service", 2)
-    addresses = [service["spec"]["clusterIP"] for service in services]
-    for service, address in zip(services, reversed(addresses)):
-        service["spec"]["clusterIP"] = address
+    for member in ("clusterIP", "clusterIPs"):
+        addresses = [service["spec"].pop(member, None) for service in services]
+        for service, address in zip(services, reversed(addresses)):
+            service["spec"] |= {member: address} if address is not None else {}
     return cluster.put(*services)
 
 
@@ -297,11 +301,14 @@ def more_endpoints(cluster, rng):
 
 
 def endpoint(name, rng):
-    """One of a few addresses for each Service, some of which it has in common with others."""
-    address = {"addresses": [f"10.244.{int(name[1:-2]) // 2}.{rng.randint(2, 6)}"]}
+    """One of a few addresses for each Service, some of which it has in common with others; now and
+    then one of IPv6, whatever family its slice is of."""
+    network, number = int(name[1:-2]) // 2, rng.randint(2, 6)
+    four, six = f"10.244.{network}.{number}", f"fd00:10:244:{network:x}::{number}"
+    made = {"addresses": [six if rng.random() < 0.1 else four]}
     for member in ENDPOINT:
-        change(address, member, ENDPOINT, rng)
-    return address
+        change(made, member, ENDPOINT, rng)
+    return made
 
 
 def changed_endpoint(cluster, rng):
@@ -351,12 +358,20 @@ def deleted_slice(cluster, rng):
 
 
 def pod_choices(cluster, name):
-    """A pod is selected by one Service or by none, and has one of two addresses."""
+    """A pod is selected by one Service or by none, and has one of two addresses of each family."""
     number, names = int(name[1:]), cluster.names
     apps = [names[number % len(names)], names[number * 7 % len(names)]]
     labels = [{"app": app} | tier for app in apps for tier in ({}, {"tier": "a"})]
-    addresses = [f"10.244.{number // 100}.{number % 100 + end}" for end in (2, 2, 102)]
-    return POD | {"metadata.labels": labels, "status.podIP": [*addresses, None]}
+    place, parts = divmod(number, 100), (2, 2, 102)
+    four = [f"10.244.{place[0]}.{place[1] + part}" for part in parts]
+    six = [f"fd00:10:244:{place[0]:x}::{place[1] + part:x}" for part in parts]
+    pairs = [[{"ip": first}, {"ip": other}] for first, other in zip(four, six)]
+    lists = [*[None] * 3, [], [{}], *pairs, pairs[0][::-1], pairs[2][1:]]
+    return POD | {
+        "metadata.labels": labels,
+        "status.podIP": [*four, six[0], None],
+        "status.podIPs": lists,
+    }
 
 
 def pod_name(cluster, rng):

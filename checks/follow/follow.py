@@ -179,7 +179,8 @@ def doors_of(item, setting):
         return
     spec = item["spec"]
     ingress = item.get("status", {}).get("loadBalancer", {}).get("ingress", [])
-    addresses = [spec.get("clusterIP", "None"), *spec.get("externalIPs", [])]
+    addresses = [*(spec.get("clusterIPs") or [spec.get("clusterIP", "None")])]
+    addresses += spec.get("externalIPs", [])
     addresses += [it["ip"] for it in ingress if "ip" in it]
     for port in spec.get("ports", []):
         proto = port.get("protocol", "TCP")
@@ -299,13 +300,13 @@ def check_batch(before, batch, after):
 
 
 def slices_told(objects, slices, endpoints):
-    """The slices that the controller doesn't make, and what those of IPv4 hold that it makes for
-    Services with a selector, by Service and ports. Others with its name stay as they were, or go
-    with their Service."""
+    """The slices that the controller doesn't make, and what those hold that it makes for Services
+    with a selector, by Service, family and ports. Others with its name, such as those of host
+    names, stay as they were, or go with their Service."""
     packed = {key[1:] for key, item in objects.items() if is_packed(item)}
     told = re.findall(r"^slice ((\S+)/\S+): (.*, managed, service (.*), ports .*), e", slices, re.M)
     made = {
-        name: kind if (space, service) in packed and kind.startswith("IPv4") else ""
+        name: kind if (space, service) in packed and kind.startswith("IPv") else ""
         for name, space, kind, service in told
     }
     lines = (slices + endpoints).splitlines()

@@ -1,0 +1,412 @@
+"""Whether what holds of each run of any script holds of random ones (scripts.py says of which).
+
+    The program ends, with status 0, or with 3 where a line was refused, and says nothing else.
+    Each line that isn't blank is refused, or has the answer that its form has, in order: numbers of
+    lines and syncs are right, and each sync covers the events since the one before.
+    A line is bad JSON exactly where Python's reader, held to UTF-8, to whole characters, to finite
+    numbers and to 127 levels, doesn't read it.
+    However the input is cut into pieces, and for 1 and for 4 workers, the text is the same.
+    With a bookmark in place of each refused line the text is the same, but for the refusals.
+    kp_restore_echo reads the tables at the end, and prints them as they were.
+    Where streams run at once the program ends well. Of some scripts what is written then is judged,
+    too: it is a legal run (../live/runs.py says of what), and the last tables of a stream alone are
+    those of a replay.
+
+    fuzz.py check PROGRAM ECHO COUNT FIRST    runs random scripts, by the seeds from FIRST on
+    fuzz.py judge PROGRAM ECHO SCRIPT         runs a script
+    fuzz.py script SEED                       prints the random script of a seed
+"""
+
+import fcntl
+import json
+import math
+import os
+import random
+import re
+import signal
+import subprocess
+import sys
+import time
+from itertools import islice
+from multiprocessing import Pool
+from pathlib import Path
+
+sys.path.append(str(Path(__file__).resolve().parent.parent / "live"))
+
+import runs
+from scripts import MOST_BYTES, random_script
+
+SECONDS = 60
+MOST_LEVELS = 127
+MOST_FAULTS = 5
+JUDGED = 0.25  # of the live runs are judged, which takes the most time
+SHRINKING = 30  # seconds in which a smaller script is looked for
+# a pipe holds so many pieces of at most so many bytes
+PIECES, PIECE = 256, 4096
+F_SETPIPE_SZ = 1031
+
+BLANKS = b" \t\r"
+BOOKMARK = b'{"type":"BOOKMARK","object":{}}'
+TABLES = [b'{"op":"show","what":"nat"}', b'{"op":"show","what":"filter"}']
+REFUSED = re.compile(r"^line (\d+): refused: (.*)\n", re.M)
+
+PATH = r' "(?:[^"\\]|\\.)*"'
+WHY = "|".join([
+    "bad json|not an event|config is not the first line",
+    f"kind{PATH} is not supported|op{PATH} is not known|missing{PATH}|duplicate port at{PATH}",
+    f"(?:wrong type|out of range|bad name|bad address|bad range) at{PATH}",
+    rf"too many at{PATH}: \d+|longer than 16777216 bytes|journal full at \d+",
+    "chain name KUBE-.* of .* and of .*",
+])  # fmt: skip
+VERDICT = r"(?:(?:to [\d.]+:\d+|rejected)(?: masked)?|dropped|left alone)"
+RULES = r"(?:(?::|-A |-X )[A-Z].*\n)+COMMIT\n"
+NAT, FILTER = ":PREROUTING ACCEPT", ":INPUT ACCEPT"  # with which whole tables begin
+# what stands after the beginning of an answer, which has the numbers of the line and of the sync
+FORMS = {
+    "refused": f"(?:{WHY})\n",
+    "sync": r", written \d+, removed \d+\n",
+    "packet": f"{VERDICT}\n",
+    "explain": f"{VERDICT}; .+\n",
+    "trail": r"(?:[A-Z].*|none)\n",
+    "nat": f"\\*nat\n(?={NAT}){RULES}",
+    "filter": f"\\*filter\n(?={FILTER}){RULES}",
+    "batch": f"(?:\\*nat\n(?!{NAT}){RULES})?(?:\\*filter\n(?!{FILTER}){RULES})?",
+    "slices": r"(?:slice \S+: .*, endpoints \d+\n)*",
+    "endpoints": r"(?:endpoint \S+ \d+: .*\n)*",
+}
+FORMS = {name: re.compile(form) for name, form in FORMS.items()}
+
+
+# what the judge meets where the program reads a line that it should refuse, or ends otherwise later
+UNREAD = (KeyError, TypeError, ValueError, AttributeError, RuntimeError, subprocess.TimeoutExpired)
+
+
+class Wrong(Exception):
+    """What isn't so, a colon, and where."""
+
+
+def demand(condition, where):
+    """Raises where a condition isn't met."""
+    if not condition:
+        raise Wrong(where)
+
+
+def compare(what, text, wanted):
+    """Raises the first line in which a text isn't what is wanted."""
+    if text != wanted:
+        pairs = enumerate(zip(text.split("\n") + [None], wanted.split("\n") + [None]), 1)
+        place, (found, line) = next((i, pair) for i, pair in pairs if pair[0] != pair[1])
+        raise Wrong(f"{what}: line {place} of the text is {found!r}, and not {line!r}")
+
+
+# ---- the programs
+
+
+class Program:
+    """The built program, and the one that reads tables, if it is there."""
+
+    def __init__(self, path, echo):
+        self.path, self.echo = path, echo
+        self.judge = runs.Program(path)
+
+    def run(self, words, data, pieces=()):
+        """The status and the text of a run whose input comes whole, or in pieces."""
+        return self.ended([self.path, *words], pipe_of(pieces) if pieces else file_of(data))
+
+    def echoed(self, text):
+        """What is printed of tables that are read again."""
+        status, said = self.ended([self.echo], file_of(text.encode(errors="surrogateescape")))
+        return said if status == 0 else f"{said}status {status}"
+
+    @staticmethod
+    def ended(words, given):
+        """The status of a program and all that it writes."""
+        with os.fdopen(given, "rb") as given, os.fdopen(os.memfd_create("said"), "rb") as said:
+            ends = {"stdin": given, "stdout": said, "stderr": said}
+            process = subprocess.Popen(words, **ends, close_fds=False)
+            signal.alarm(SECONDS)
+            try:
+                status = process.wait()
+            except TimeoutError as fault:
+                process.kill()
+                process.wait()
+                raise Wrong(f"status: there is none after {SECONDS} seconds") from fault
+            finally:
+                signal.alarm(0)
+            said.seek(0)
+            return status, said.read().decode(errors="surrogateescape")
+
+
+def ring(*_):
+    raise TimeoutError
+
+
+def file_of(data):
+    """A file with these bytes, to be read."""
+    made = os.memfd_create("given")
+    with os.fdopen(os.dup(made), "wb") as file:
+        file.write(data)
+    os.lseek(made, 0, os.SEEK_SET)
+    return made
+
+
+def pipe_of(pieces):
+    """A pipe that has all pieces, of which each read takes one."""
+    end, start = os.pipe2(os.O_DIRECT | os.O_CLOEXEC)
+    fcntl.fcntl(start, F_SETPIPE_SZ, PIECES * PIECE)
+    for piece in pieces:
+        os.write(start, piece)
+    os.close(start)
+    return end
+
+
+def pieces_of(data, rng):
+    """Random pieces of the bytes: some places are beside line feeds, and some beside each other.
+    There are none of bytes that a pipe doesn't hold."""
+    fixed = range(PIECE, len(data), PIECE)
+    room = PIECES - len(fixed) - 1
+    if len(data) > room * PIECE // 2:
+        return ()
+    if len(data) <= room:
+        places = set(range(len(data)))
+    else:
+        feeds = [at.end() for at in islice(re.finditer(b"\n", data), room // 4)]
+        run = rng.randrange(len(data))
+        places = {*feeds, *(it - 1 for it in feeds), *range(run, run + room // 4)}
+        places |= {rng.randrange(len(data)) for _ in range(rng.choice([0, 3, room // 4]))}
+    places = sorted(it for it in {0, *places, *fixed} if it < len(data))
+    return [data[start:end] for start, end in zip(places, [*places[1:], len(data)])]
+
+
+# ---- what lines ask for
+
+
+def is_json(line):
+    """Whether a line is a JSON value that is read."""
+    try:
+        value = json.loads(
+            line.decode(),
+            parse_constant=finite,
+            parse_float=finite,
+            parse_int=finite,
+            object_pairs_hook=tuple,
+        )
+        return levels_of(value) <= MOST_LEVELS
+    except (ValueError, RecursionError):
+        return False
+
+
+def finite(text):
+    """A number, which no constant is."""
+    number = float(text)
+    if not math.isfinite(number):
+        raise ValueError
+    return number
+
+
+def levels_of(value):
+    """How deep a value is, in which objects are tuples of pairs; no text has half a character."""
+    if isinstance(value, str):
+        value.encode()
+    if isinstance(value, tuple):
+        return 1 + max((max(levels_of(name), levels_of(it)) for name, it in value), default=0)
+    return 1 + max(map(levels_of, value), default=0) if isinstance(value, list) else 0
+
+
+class Answers:
+    """What is answered to each line of a replay, given the lines that are refused."""
+
+    def __init__(self):
+        self.syncs = self.events = 0
+
+    def to(self, number, line, why):
+        """The beginning of each part of the answer to the next line, and the form of the rest. The
+        line is refused so, or isn't."""
+        is_long = len(line) > MOST_BYTES
+        demand((why == "longer than 16777216 bytes") == is_long, f"answers: line {number}: {why}")
+        is_bad = not is_long and not is_json(line)
+        demand((why == "bad json") == is_bad, f"answers: line {number} is bad JSON: {is_bad}")
+        if why:
+            return [(f"line {number}: refused: ", "refused")]
+        value = json.loads(line)
+        op, at = value.get("op"), f"{number} at {self.syncs}"
+        if op == "sync":
+            self.syncs, events, self.events = self.syncs + 1, self.events, 0
+            return [(f"sync {self.syncs}: events {events}", op)]
+        if op == "packet":
+            trail = [(f"trail {number}: ", "trail")] if value.get("trail") else []
+            return [(f"packet {at}: ", op), *trail]
+        if op == "explain":
+            return [(f"explain {at}: ", op)]
+        if op == "show":
+            return [("", value["what"])]
+        if op != "config":
+            self.events += len(runs.events_of(value))
+        return []
+
+
+def check_answers(lines, refused, text):
+    """Each line has its answer, and there is no other."""
+    answers, place = Answers(), 0
+    for number, line in enumerate(lines, 1):
+        if not line.strip(BLANKS):
+            demand(number not in refused, f"answers: line {number} is blank")
+            continue
+        for beginning, form in answers.to(number, line, refused.get(number)):
+            begins = text.startswith(beginning, place)
+            found = begins and FORMS[form].match(text, place + len(beginning))
+            demand(found, f"answers: line {number}: {text[place : place + 200]!r} is no {form}")
+            place = found.end()
+    demand(place == len(text), f"answers: after all lines: {text[place : place + 200]!r}")
+
+
+# ---- running
+
+
+def lines_of(data):
+    lines = data.split(b"\n")
+    return lines[:-1] if lines[-1] == b"" else lines
+
+
+def check_status(mode, ended):
+    """The program ended well; its text."""
+    status, text = ended
+    is_refused = re.search("^(?:line|final).*: refused: ", text, re.M)
+    wanted = 3 if is_refused else 0
+    demand(status == wanted, f"status: {mode} ends with {status}, not {wanted}: {text[-200:]!r}")
+    return text
+
+
+def check_script(program, data, rng):
+    """Raises what isn't so of a script."""
+    text = check_status("replay", program.run(["replay", "--workers", "1"], data))
+    lines, refused = lines_of(data), {int(line): why for line, why in REFUSED.findall(text)}
+    check_answers(lines, refused, text)
+    again = program.run(["replay", "--workers", "4"], data, pieces_of(data, rng))
+    compare("pieces and workers", check_status("replay in pieces", again), text)
+    marked = [BOOKMARK if at in refused else line for at, line in enumerate(lines, 1)]
+    tables = check_marked(program, marked, REFUSED.sub("", text))
+    if program.echo:
+        compare("echo", program.echoed(tables), tables)
+    ended = program.run(["live"], data)
+    check_status("live", ended)
+    if rng.random() < JUDGED:
+        check_live(program, data, marked, *ended)
+
+
+def check_marked(program, marked, wanted):
+    """Refused lines changed nothing. The tables after all lines."""
+    data = b"\n".join([*marked, *TABLES, b""])
+    text = check_status("replay of what is read", program.run(["replay"], data))
+    compare("what refused lines leave", text[: len(wanted)], wanted)
+    return text[len(wanted) :]
+
+
+def check_live(program, data, marked, status, text):
+    """What streams at once write is a legal run."""
+    script = runs.read_script(program.judge, data)
+    fault = runs.fault_of(program.judge, script, text, status)
+    program.judge.said.clear()
+    demand(not fault, f"live: {fault}")
+    if set(script.streams) <= {"main"}:
+        lines = [BOOKMARK if at in script.refused else line for at, line in enumerate(marked, 1)]
+        ended = program.run(["replay"], b"\n".join([*lines, b'{"op":"sync"}', *TABLES, b""]))[1]
+        compare("live tables", text[text.find("*nat\n") :], ended[ended.find("*nat\n") :])
+
+
+def fault_of(program, data, seed):
+    """What isn't so of a script, or nothing."""
+    try:
+        check_script(program, data, random.Random(f"pieces {seed}"))
+    except Wrong as fault:
+        return str(fault)
+    except UNREAD as fault:
+        return f"no judgement: {fault!r}"
+    return ""
+
+
+# ---- smaller scripts
+
+
+def smallest(program, data, seed, fault):
+    """A small part of a script that has a fault of the same kind, and its fault."""
+    kind, least = fault.partition(":")[0], (data, fault)
+    end = time.monotonic() + SHRINKING
+
+    def has_fault(parts):
+        nonlocal least
+        smaller = b"".join(parts)
+        found = fault_of(program, smaller, seed) if time.monotonic() < end else ""
+        if found.partition(":")[0] != kind:
+            return False
+        least = smaller, found
+        return True
+
+    fewer(re.findall(rb"[^\n]*\n|[^\n]+", data), has_fault)
+    if len(least[0]) <= PIECE:
+        fewer([bytes([it]) for it in least[0]], has_fault)
+    return least
+
+
+def fewer(parts, has_fault):
+    """Leaves out parts, many at a time and then few, as long as the fault is there."""
+    size = max(1, len(parts) // 2)
+    while size:
+        place = 0
+        while place < len(parts):
+            others = parts[:place] + parts[place + size :]
+            if has_fault(others):
+                parts = others
+            else:
+                place += size
+        size //= 2
+
+
+# ---- the check
+
+
+def begin(path, echo):
+    """Makes a process of the check ready."""
+    global built
+    built = Program(path, echo)
+    signal.signal(signal.SIGALRM, ring)
+
+
+def told(seed):
+    """What is told of a seed, or nothing."""
+    data = random_script(seed)
+    fault = fault_of(built, data, seed)
+    if not fault:
+        return ""
+    data, fault = smallest(built, data, seed, fault)
+    lines = data[:PIECE].decode(errors="backslashreplace").split("\n")
+    of = f"  by this part of what fuzz.py script {seed} prints:"
+    return "\n    ".join([f"checks: fuzz: seed {seed}: {fault}\n{of}", *lines])
+
+
+def check(path, echo, count, first):
+    """Tells what isn't so of random scripts, up to some."""
+    seeds = range(first, first + count)
+    with Pool(len(os.sched_getaffinity(0)), begin, (path, echo)) as pool:
+        faults = filter(None, pool.imap_unordered(told, seeds, chunksize=20))
+        faults = list(islice(faults, MOST_FAULTS))
+    print(*faults, sep="\n", end="\n" * bool(faults))
+    return int(bool(faults))
+
+
+def main(words):
+    """Does what the words ask for; the status."""
+    mode, *words = words
+    if mode == "script":
+        sys.stdout.buffer.write(random_script(int(words[0])))
+        return 0
+    if mode == "check":
+        return check(words[0], words[1], int(words[2]), int(words[3]))
+    begin(*words[:2])
+    fault = fault_of(built, Path(words[2]).read_bytes(), 0)
+    print(fault or "as it should be")
+    return int(bool(fault))
+
+
+if __name__ == "__main__":
+    sys.exit(main(sys.argv[1:]))

@@ -1,0 +1,226 @@
+"""Random scripts of every form of line. A third has faults in members, and a third in bytes. The
+same seed makes the same script. Their objects are those of ../follow, a few of each kind."""
+
+import copy
+import json
+import random
+import sys
+from pathlib import Path
+
+sys.path.append(str(Path(__file__).resolve().parent.parent / "follow"))
+
+import changes
+from follow import doors_of
+
+LENGTHS = [2, 5, 10, 20, 40]
+# of every so many scripts one has a line of this many bytes, or of one more
+LONG, MOST_BYTES = 500, 16_777_216
+
+# What a member is in place of what it should be, or beside it: bounds and what is past them.
+NUMBERS = [0, 1, -1, 53, 65535, 65536, 2**31 - 1, 2**31, 2**32, 2**63, 2**64 - 1, 2**64, 10**300]
+NUMBERS += [80.0, 1.5, -0.0, 1e308, 5e-324]
+NAMES = ["", " ", "a", "A", "a" * 63, "a" * 64, "a" * 253, "a" * 254, "-a", "a-", "a.b", "a..b"]
+NAMES += ["s0", "s1", "n1", "main", "default", "\u00e4", "\0", "\U0001f600", 'a"b', "a\\b", "a/b"]
+ADDRESSES = ["0.0.0.0", "255.255.255.255", "10.0.0.256", "010.0.0.1", "10.0.0", "10.0.0.1 "]
+ADDRESSES += ["10.96.0.10", "10.244.0.2", "127.0.0.1", "::", "::1", "1::2::3", "fe80::1%eth0"]
+ADDRESSES += ["::ffff:192.0.2.1", "1:2:3:4:5:6:7::", "2001:DB8:0:0:1:0:0:1", "None", "none"]
+RANGES = ["0.0.0.0/0", "10.0.0.0/8", "10.0.0.1/8", "10.0.0.0/33", "10.0.0.0/08", "::/0", "::1/128"]
+RANGES += ["::/129", "10.0.0.0/", "/8", "10.0.0.0/-1"]
+WORDS = ["TCP", "UDP", "SCTP", "tcp", "Local", "Cluster", "ClientIP", "IPv4", "IPv6", "FQDN"]
+WORDS += ["True", "Service", "EndpointSlice", "Pod", "Node", "List", "Secret", "v1", "ADDED"]
+WORDS += ["DELETED", "BOOKMARK", "ERROR", "sync", "config", "event", "packet", "explain", "show"]
+OTHERS = [None, True, False, [], {}, [None], [[]], [{}], {"": {}}, ["a", 1], {"a": None}]
+VALUES = [NUMBERS, NAMES, ADDRESSES, RANGES, WORDS, OTHERS]
+
+# What bytes are put in: parts of lines and of characters, and numbers at their ends.
+BYTES = [b"\n", b"\r", b"\r\n", b"\n\n", b"\0", b" ", b"\t", b"\x0b", b"\x7f", b"\x80", b"\xff"]
+BYTES += [b"\xc0\x80", b"\xc3\xa4", b"\xed\xa0\x80", b"\xf4\x8f\xbf\xbf", b"\xf4\x90\x80\x80"]
+BYTES += [b"\xef\xbb\xbf", b"\\u0000", b"\\ud83d\\ude00", b"\\ud800", b"\\udc00", b"\\u12", b"\\x"]
+BYTES += [b'"', b"\\", b"/", b"{", b"}", b"[", b"]", b":", b",", b"{}", b"[]", b'""', b"-", b"+"]
+BYTES += [b"0", b"00", b"1", b".", b".0", b"e", b"E+1", b"-0", b"1e308", b"1e309", b"1e-400"]
+BYTES += [b"9" * 19, b"9" * 20, b"9" * 309, b"null", b"true", b"fals", b"NaN", b"Infinity", b"//"]
+BYTES += [b'{"op":"sync"}\n', b'\n{"op":"sync"}\n', b'"op":"sync",', b'"by":"main",', b'"":0,']
+BYTES += [b"[" * 126, b"]" * 126, b'{"":' * 126, b"[" * 127 + b"]" * 127 + b"\n"]
+BYTES += [b'{"a":' + b"[" * depth + b"]" * depth + b',"op":"sync"}\n' for depth in (126, 127)]
+
+
+def random_script(seed):
+    """The bytes of a script."""
+    rng = random.Random(f"fuzz {seed}")
+    cluster = changes.Cluster(rng, rng.randint(1, 4), rng.random() < 0.6)
+    values = [setting(cluster, rng)] if rng.random() < 0.9 else []
+    streams = rng.choice([0, 0, 0, 2, 5, 70])
+    steps = beginning(cluster) if rng.random() < 0.7 else []
+    for step in steps + rng.choices(STEPS, k=rng.choice(LENGTHS)):
+        more = step(cluster, rng)
+        if streams:
+            more = [of_stream(value, f"s{rng.randrange(streams)}") for value in more]
+        values += more
+    if seed % 3 == 1:
+        values = [faulty(value, rng) if rng.random() < 0.4 else value for value in values]
+    lines = [text_of(value, rng) for value in values]
+    for _ in range(rng.choice([0, 0, 1, 4])):
+        lines.insert(rng.randint(0, len(lines)), rng.choice([b"", b" \t", b"\r"]))
+    if seed % LONG == 0:
+        long = MOST_BYTES + rng.randint(0, 1)
+        lines.insert(rng.randint(0, len(lines)), b'{"op":"sync"}'.ljust(long))
+    data = b"\n".join(lines) + rng.choice([b"\n", b"\n", b""])
+    return bytes_mutated(data, rng) if seed % 3 == 2 and len(data) < MOST_BYTES else data
+
+
+def of_stream(value, name):
+    return {"by": name} | value if isinstance(value, dict) else value
+
+
+def text_of(value, rng):
+    """A value as a line, in one of the ways in which it may be written."""
+    if isinstance(value, dict) and rng.random() < 0.2:
+        value = dict(rng.sample(list(value.items()), len(value)))
+    separators = rng.choice([(",", ":"), (", ", ": "), (" ,\t", " : ")])
+    text = json.dumps(value, separators=separators, ensure_ascii=rng.random() < 0.5)
+    return rng.choice(["", "", "", " "]).encode() + text.encode() + rng.choice([b"", b"", b"\r"])
+
+
+# ---- lines
+
+
+def setting(cluster, rng):
+    lengths = [16, 16, 16, 0, 1, 2]
+    value = cluster.setting(rng.choice(lengths))
+    value |= {"recentSize": rng.randint(1, 2)} if rng.random() < 0.3 else {}
+    value |= {"maxEvents": rng.randint(1, 30)} if rng.random() < 0.2 else {}
+    return value
+
+
+def beginning(cluster):
+    """The steps to some Services with endpoints and a sync."""
+    ends = changes.made_pod if cluster.controller else changes.more_endpoints
+    count = len(cluster.names)
+    return [changes.made_service] * count * 2 + [ends] * count * 4 + [sync]
+
+
+def change(cluster, rng):
+    return rng.choice(cluster.changes)(cluster, rng)
+
+
+def new_object(cluster, rng):
+    made = changes.made_pod if cluster.controller else changes.more_endpoints
+    return rng.choice([changes.made_service, made])(cluster, rng)
+
+
+def all_objects(cluster, rng):
+    """A list as kubectl prints it, of all objects or of those of a kind."""
+    kind = rng.choice([None, "Service", "EndpointSlice", "Pod", "Node"])
+    items = [it for it in cluster.objects.values() if kind in (None, it["kind"])]
+    return [{"apiVersion": "v1", "kind": "List", "items": copy.deepcopy(items)}]
+
+
+def wrapped_event(cluster, rng):
+    """Events that a command brings."""
+    return [{"op": "event", "event": it} for it in change(cluster, rng) if "op" not in it]
+
+
+def sync(cluster, rng):
+    return [{"op": "sync"}]
+
+
+def show(cluster, rng):
+    return [{"op": "show", "what": rng.choice(["slices", "endpoints", "nat", "filter", "batch"])}]
+
+
+def packet(cluster, rng):
+    """A packet, or what would become of it; mostly to a door that is there."""
+    config = {"nodeAddresses": ["10.0.0.1", "10.0.0.2"]}
+    doors = [door for item in cluster.objects.values() for door in doors_of(item, config)]
+    address, port, proto = rng.choice(doors or [("10.96.0.10", 80, "TCP")])
+    value = {"op": rng.choice(["packet", "packet", "explain"]), "src": rng.choice(changes.SOURCES)}
+    value |= {"dst": address, "dport": port, "proto": proto}
+    value |= {"from": rng.choice(["node", "wire"])} if rng.random() < 0.3 else {}
+    value |= {"sport": rng.choice([0, 65535])} if rng.random() < 0.1 else {}
+    value |= {"now": rng.choice([rng.randint(0, 300), 2**64 - 1])} if rng.random() < 0.7 else {}
+    value |= {"seed": rng.getrandbits(rng.choice([1, 64]))} if rng.random() < 0.5 else {}
+    if rng.random() < 0.5:
+        value["draws"] = [rng.getrandbits(31) for _ in range(rng.choice([0, 1, 6]))]
+    value |= {"trail": True} if rng.random() < 0.3 else {}
+    before = [{"op": "sync"}] * rng.choice([0, 0, 1])
+    return before + [value] * rng.choice([1, 1, 2])  # the second one may go by affinity
+
+
+def refused(cluster, rng):
+    """A line that is refused, of each kind of fault but those of members."""
+    services = copy.deepcopy(cluster.some("Service"))
+    for service in services:
+        service["spec"]["ports"] *= 2
+    items = [*cluster.some("Node"), *services, {"kind": "List", "items": []}]
+    question = {"op": "packet", "src": "10.0.0.1", "dst": "10.96.0.10", "dport": 80}
+    values = [*services, {"op": "config"}, {"op": "flush"}, {"kind": "Secret"}, [1], "sync", None]
+    values += [{}, {"op": "show"}, {"kind": "List", "items": items}, {"op": "event"}]
+    values += [question | {"draws": [0] * 1001}, {"type": "ERROR", "object": {}}]
+    return [rng.choice(values)]
+
+
+STEPS = [new_object] * 4 + [change] * 5 + [all_objects, wrapped_event]
+STEPS += [sync] * 4 + [packet] * 4 + [show] * 2 + [refused]
+
+
+# ---- faults
+
+
+def faulty(value, rng):
+    """A copy of a value in which one member is another one, is lost, or stands elsewhere."""
+    value = copy.deepcopy(value)
+    holders = list(holders_of(value))
+    if not holders:
+        return value
+    holder = rng.choice(holders)
+    key = rng.choice(list(holder) if isinstance(holder, dict) else range(len(holder)))
+    how = rng.random()
+    if how < 0.2:
+        del holder[key]
+    elif how < 0.7:
+        holder[key] = rng.choice(rng.choice(VALUES))
+    elif how < 0.8:
+        other = rng.choice(holders)
+        holder[key] = copy.deepcopy(rng.choice([other, *members_of(other)]))
+    elif isinstance(holder, dict):
+        holder[rng.choice([*NAMES, *WORDS, key.upper()])] = holder.pop(key)
+    else:
+        holder += holder * rng.choice([1, 100])
+    return value
+
+
+def members_of(value):
+    if isinstance(value, dict):
+        return value.values()
+    return value if isinstance(value, list) else ()
+
+
+def holders_of(value):
+    """All that has members in a value."""
+    if members_of(value):
+        yield value
+    for member in members_of(value):
+        yield from holders_of(member)
+
+
+def bytes_mutated(data, rng):
+    """The bytes with a few others, put in, lost, moved or changed."""
+    data = bytearray(data)
+    for _ in range(rng.choice([1, 1, 2, 5, 20])):
+        place = rng.randint(0, len(data))
+        end = min(len(data), place + rng.choice([1, 1, 2, 8, 100]))
+        other = rng.randint(0, len(data))
+        how = rng.randrange(6)
+        if how == 0 and place < end:
+            data[place] ^= 1 << rng.randrange(8)
+        elif how == 1:
+            data[place:place] = rng.choice(BYTES)
+        elif how == 2:
+            data[place : place + rng.randint(0, 3)] = rng.choice(BYTES)
+        elif how == 3:
+            del data[place:end]
+        elif how == 4:
+            data[other:other] = data[place:end]
+        elif rng.random() < 0.1:
+            del data[place:]
+    return bytes(data)
