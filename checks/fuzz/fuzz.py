@@ -191,7 +191,9 @@ def is_json(line):
             parse_int=finite,
             object_pairs_hook=tuple,
         )
-        return levels_of(value) <= MOST_LEVELS
+        # few lines are so deep or have such characters that all of a value is looked at
+        is_plain = line.count(b"[") + line.count(b"{") <= MOST_LEVELS and b"\\u" not in line
+        return is_plain or levels_of(value) <= MOST_LEVELS
     except (ValueError, RecursionError):
         return False
 

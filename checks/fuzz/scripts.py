@@ -112,7 +112,7 @@ def all_objects(cluster, rng):
     """A list as kubectl prints it, of all objects or of those of a kind."""
     kind = rng.choice([None, "Service", "EndpointSlice", "Pod", "Node"])
     items = [it for it in cluster.objects.values() if kind in (None, it["kind"])]
-    return [{"apiVersion": "v1", "kind": "List", "items": copy.deepcopy(items)}]
+    return [{"apiVersion": "v1", "kind": "List", "items": items}]
 
 
 def wrapped_event(cluster, rng):
@@ -148,7 +148,7 @@ def packet(cluster, rng):
 
 def refused(cluster, rng):
     """A line that is refused, of each kind of fault but those of members."""
-    services = copy.deepcopy(cluster.some("Service"))
+    services = cluster.some("Service")
     for service in services:
         service["spec"]["ports"] *= 2
     items = [*cluster.some("Node"), *services, {"kind": "List", "items": []}]
