@@ -1,7 +1,7 @@
 -- The setting of the product: hashed names of the configured length, and endpoints picked by draws.
 use Rattle.kp_base.specs.declared.address.Family.{Family}
 use Rattle.kp_base.specs.declared.config.Config.{Config}
-use Rattle.kp_types.specs.Setting.{Pick, Setting, config_for}
+use Rattle.kp_types.specs.Setting.{Pick, Setting, Settings, config_for, node_config, table_families}
 use Rattle.kp_choice_defs.specs.Draws.{selected_index}
 use Rattle.kp_choice_defs.specs.Names.{chain_name}
 
@@ -16,4 +16,13 @@ setting_of family config = record {
   name_of = chain_name config.name_length;
   pick = pick_by_draws;
   config = config_for family config;
+}
+
+-- the settings of a configuration, whose view in a family is the setting of that family
+abbrev pub settings_of : Config → Settings
+settings_of config = record {
+  families = table_families config;
+  name_of = chain_name config.name_length;
+  pick = pick_by_draws;
+  config = node_config config;
 }

@@ -1,6 +1,6 @@
 -- The choice of an endpoint: by session affinity where it is on and the source was seen lately, or else by
 -- draws (Kubernetes documents on virtual IPs, "Session affinity"; iptables-extensions, recent and statistic).
-use Rattle.std.specs.Prelude.{ℕ, suc, zero, ◌+◌, Bool, List, [], ◌∷◌, length, Option, Some, None, cond, slice_get, option_map}
+use Rattle.std.specs.Prelude.{ℕ, suc, List, [], ◌∷◌, length, Option, Some, None, cond, slice_get, option_map}
 use Rattle.kp_base.specs.Net.{AddressParts}
 use Rattle.kp_base.specs.declared.key.PortKey.{PortKey}
 use Rattle.kp_base.specs.declared.key.Endpoint.{Endpoint}

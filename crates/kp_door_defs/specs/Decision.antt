@@ -1,16 +1,18 @@
 -- The decision on a packet by the objects alone: the door that takes it, the endpoint, whether it is
 -- masqueraded, and what the filter says of the translated packet (Kubernetes documents on virtual IPs and
 -- service proxies). Reasons are this project's choice.
-use Rattle.std.specs.Prelude.{ℕ, suc, List, [], length, Option, Some, None, option_and_then, option_map}
+use Rattle.std.specs.Prelude.{ℕ, suc, Bool, true, false, List, length, Option, Some, None, option_and_then, option_map}
+use Rattle.kp_base.specs.declared.address.Family.{Family}
 use Rattle.kp_base.specs.declared.key.Endpoint.{Endpoint}
-use Rattle.kp_types.specs.Setting.{FamilyConfig, Setting}
+use Rattle.kp_types.specs.Packets.{family_of_packet}
+use Rattle.kp_types.specs.Setting.{FamilyConfig, Setting, Settings, has_tables_of, view_of}
 use Rattle.kp_types.specs.declared.packet.Packet.{Packet}
 use Rattle.kp_types.specs.declared.verdict.Verdict.{Verdict}
 use Rattle.kp_types.specs.declared.verdict.Verdict.TheVariants.{To, Rejected, Dropped, LeftAlone}
 use Rattle.kp_types.specs.declared.decision.Reason.{Reason}
 use Rattle.kp_types.specs.declared.decision.Reason.TheVariants as reason
 use Rattle.kp_object_defs.specs.Objects.{Objects}
-use Rattle.kp_object_defs.specs.PortInfo.{PortInfo, port_infos}
+use Rattle.kp_object_defs.specs.PortInfo.{PortInfo, port_infos, infos_by_family}
 use Rattle.kp_choice_defs.specs.Recent.{RecentParts}
 use Rattle.kp_door_defs.specs.Doors.{Door, Offer, taking_door, offer_of}
 use Rattle.kp_door_defs.specs.Choice.{Chosen, chosen_endpoint}
@@ -66,9 +68,13 @@ refused_by Rejects d lists = record { verdict = Rejected; reason = reason.NoEndp
 refused_by DropsClosed d lists = record { verdict = Dropped; reason = reason.Closed d.kind d.info.key; lists = lists }
 refused_by DropsNoLocal d lists = record { verdict = Dropped; reason = reason.NoLocal d.kind d.info.key; lists = lists }
 
+-- no door decides
+abbrev pub left_alone : RecentParts → Decided
+left_alone lists = record { verdict = LeftAlone; reason = reason.NoDoor; lists = lists }
+
 -- the verdict and the reason of a packet that the filter lets pass
 abbrev pub passed : FamilyConfig → Packet → Option Translation → RecentParts → Decided
-passed config packet None lists = record { verdict = LeftAlone; reason = reason.NoDoor; lists = lists }
+passed config packet None lists = left_alone lists
 passed config packet (Some t) lists = record {
   verdict = To t.chosen.endpoint (is_masqueraded config t.door.kind t.door.info packet t.chosen.endpoint);
   reason = reason.Door t.door.kind t.door.info.key t.offer.kind (length t.offer.endpoints) t.chosen.by (suc t.chosen.place);
@@ -90,7 +96,25 @@ abbrev pub decision_from : Setting → List PortInfo → Packet → (ℕ → ℕ
 decision_from setting infos packet draws lists =
     decision_by setting.config infos packet lists (translation_of setting infos packet draws lists)
 
--- the decision on a packet by the objects
-abbrev pub decision_of : Setting → Objects → Packet → (ℕ → ℕ) → RecentParts → Decided
-decision_of setting o packet draws lists =
+-- the decision on a packet by the objects, as one family sees them
+abbrev pub decision_in : Setting → Objects → Packet → (ℕ → ℕ) → RecentParts → Decided
+decision_in setting o packet draws lists =
     decision_from setting (port_infos setting.family setting.config o) packet draws lists
+
+-- such a decision where the node has tables of the family; else the packet is left alone
+abbrev pub decision_if : Bool → Setting → List PortInfo → Packet → (ℕ → ℕ) → RecentParts → Decided
+decision_if true setting infos packet draws lists = decision_from setting infos packet draws lists
+decision_if false setting infos packet draws lists = left_alone lists
+
+-- the decision on a packet by what its family knows of the ports
+abbrev pub decision_among :
+    Settings → (Family → List PortInfo) → Packet → (ℕ → ℕ) → RecentParts → Decided
+decision_among settings infos packet draws lists =
+    let family = family_of_packet packet in
+    decision_if (has_tables_of family settings) (view_of family settings) (infos family)
+    packet draws lists
+
+-- the decision on a packet by the objects
+abbrev pub decision_of : Settings → Objects → Packet → (ℕ → ℕ) → RecentParts → Decided
+decision_of settings o packet draws lists =
+    decision_among settings (infos_by_family settings o) packet draws lists

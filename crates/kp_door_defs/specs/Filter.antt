@@ -2,9 +2,9 @@
 -- for sources that aren't admitted (Kubernetes documents on Services, `loadBalancerSourceRanges`, and on
 -- traffic policies; KEP-2086). In which hooks a chain stands, and the order of chains, are this project's
 -- choice.
-use Rattle.std.specs.Prelude.{ℕ, ◌&&◌, ◌||◌, Bool, true, false, List, [], ◌∷◌, ◌++◌, map, not, cond, Option, Some, None, is_some}
+use Rattle.std.specs.Prelude.{◌&&◌, Bool, true, false, List, [], ◌∷◌, ◌++◌, map, cond, Option, is_some}
 use Rattle.std.specs.List.{find, flat_map}
-use Rattle.kp_base.specs.Net.{AddressParts, is_local_address}
+use Rattle.kp_base.specs.Net.{is_local_address}
 use Rattle.kp_types.specs.Setting.{FamilyConfig}
 use Rattle.kp_types.specs.declared.packet.Packet.{Packet}
 use Rattle.kp_types.specs.declared.packet.Origin.{Origin}

@@ -1,6 +1,6 @@
 -- Which packets are marked for masquerading, and masqueraded (Kubernetes documents on virtual IPs, "Source IP
 -- for Services"; kube-proxy's rules of KUBE-MARK-MASQ and KUBE-POSTROUTING).
-use Rattle.std.specs.Prelude.{ℕ, ◌&&◌, ◌||◌, Bool, true, false, List, not, Option, Some, None, is_some}
+use Rattle.std.specs.Prelude.{◌&&◌, ◌||◌, Bool, true, false, not, is_some}
 use Rattle.kp_base.specs.Net.{AddressParts, same_address, is_local_address}
 use Rattle.kp_base.specs.declared.key.Endpoint.{Endpoint}
 use Rattle.kp_types.specs.Setting.{FamilyConfig}

@@ -6,7 +6,7 @@ use Rattle.std.specs.List.{filter}
 use Rattle.std.specs.FinMap as finite
 use Rattle.kp_base.specs.declared.key.ObjectKey.{ObjectKey}
 use Rattle.kp_base.specs.declared.key.PortKey.{PortKey}
-use Rattle.kp_types.specs.Setting.{FamilyConfig, Setting}
+use Rattle.kp_types.specs.Setting.{Settings}
 use Rattle.kp_types.specs.declared.service.Service.{Service}
 use Rattle.kp_types.specs.declared.slice.Slice.{Slice}
 use Rattle.kp_types.specs.declared.pod.Pod.{Pod}
@@ -15,7 +15,7 @@ use Rattle.kp_types.specs.declared.event.Object.TheVariants as object
 use Rattle.kp_types.specs.declared.event.Event.{Event}
 use Rattle.kp_types.specs.declared.event.Event.TheVariants.{Apply, Delete}
 use Rattle.kp_object_defs.specs.Objects.{Objects, objects_step}
-use Rattle.kp_object_defs.specs.Desired.{is_reconciled, selects}
+use Rattle.kp_object_defs.specs.Desired.{has_selector, selects}
 use Rattle.kp_object_defs.specs.Entries.{is_of_service}
 use Rattle.kp_object_defs.specs.Packing.{same_object}
 use Rattle.kp_history_defs.specs.Inputs.{ports_of_either}
@@ -30,31 +30,34 @@ abbrev pub selects_some : Service → Option Pod → Bool
 selects_some s None = false
 selects_some s (Some pod) = selects s pod
 
--- there is a Service that the controller makes slices for, and it selects the pod before or after
-abbrev pub is_pod_of : FamilyConfig → Option Service → Option Pod → Option Pod → Bool
-is_pod_of config None before after = false
-is_pod_of config (Some s) before after =
-    is_reconciled config s && (selects_some s before || selects_some s after)
+-- the controller is on, and there is a Service that it makes slices for, which selects the pod
+-- before or after
+abbrev pub is_pod_of : Bool → Option Service → Option Pod → Option Pod → Bool
+is_pod_of controller None before after = false
+is_pod_of controller (Some s) before after =
+    (controller && has_selector s) && (selects_some s before || selects_some s after)
 
 -- An event affects the ports of a Service: where it is about this Service; about a slice whose
 -- label names it before or after; about a pod that it selects before or after, where the
 -- controller makes slices for it; or about a Node, since the zones of nodes are the hints of any
 -- endpoints.
-abbrev pub affects : Setting → Objects → Event → ObjectKey → Bool
-affects setting o (Apply (object.Service s)) service = same_object service s.key
-affects setting o (Delete kind.Service key) service = same_object service key
-affects setting o (Apply (object.EndpointSlice s)) service =
+abbrev pub affects : Settings → Objects → Event → ObjectKey → Bool
+affects settings o (Apply (object.Service s)) service = same_object service s.key
+affects settings o (Delete kind.Service key) service = same_object service key
+affects settings o (Apply (object.EndpointSlice s)) service =
     is_slice_of service (finite.get o.slices s.key) || is_of_service service s
-affects setting o (Delete kind.EndpointSlice key) service =
+affects settings o (Delete kind.EndpointSlice key) service =
     is_slice_of service (finite.get o.slices key)
-affects setting o (Apply (object.Pod p)) service =
-    is_pod_of setting.config (finite.get o.services service) (finite.get o.pods p.key) (Some p)
-affects setting o (Delete kind.Pod key) service =
-    is_pod_of setting.config (finite.get o.services service) (finite.get o.pods key) None
-affects setting o (Apply (object.Node n)) service = true
-affects setting o (Delete kind.Node key) service = true
+affects settings o (Apply (object.Pod p)) service =
+    is_pod_of settings.config.controller (finite.get o.services service)
+    (finite.get o.pods p.key) (Some p)
+affects settings o (Delete kind.Pod key) service =
+    is_pod_of settings.config.controller (finite.get o.services service)
+    (finite.get o.pods key) None
+affects settings o (Apply (object.Node n)) service = true
+affects settings o (Delete kind.Node key) service = true
 
 -- the ports that an event affects, of the Services before and after it, in order
-abbrev pub affected_ports : Setting → Objects → Event → List PortKey
-affected_ports setting o event =
-    filter (λ key. affects setting o event key.object) (ports_of_either o (objects_step o event))
+abbrev pub affected_ports : Settings → Objects → Event → List PortKey
+affected_ports settings o event =
+    filter (λ key. affects settings o event key.object) (ports_of_either o (objects_step o event))

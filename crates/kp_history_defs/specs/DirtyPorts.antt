@@ -1,5 +1,5 @@
--- The ports of which something else is known than before, told by what is known of each port and
--- not by what that is made of: these are at most the ports whose inputs changed.
+-- The ports of which something else is known in a family than before, told by what is known of each
+-- port and not by what that is made of: these are at most the ports whose inputs changed.
 use Rattle.std.specs.Prelude.{◌==◌, ◌&&◌, Bool, List, map, not}
 use Rattle.std.specs.List.{filter}
 use Rattle.std.specs.Option.{option_eq}

@@ -1,5 +1,5 @@
--- Contributions of ports that are kept from one state of the cluster to the next, where those of
--- some ports are made anew.
+-- Contributions of ports to the tables of a family that are kept from one state of the cluster to
+-- the next, where those of some ports are made anew.
 use Rattle.std.specs.Prelude.{List, Option, Some, None, option_map}
 use Rattle.std.specs.List.{fold}
 use Rattle.std.specs.FinMap as finite

@@ -4,8 +4,9 @@
 -- full one is a law, and no part of a step.
 use Rattle.std.specs.Prelude.{◌≡◌, ◌<◌, ◌≤◌, ◌-◌, ◌==◌, ℕ, suc, Bool, true, false, cond, List, [], ◌∷◌, ◌++◌, map, take, length, sum, nat_lt, None, is_some}
 use Rattle.std.specs.FinMap as finite
+use Rattle.kp_base.specs.declared.address.Family.{Family}
 use Rattle.kp_base.specs.declared.key.PortKey.{PortKey}
-use Rattle.kp_types.specs.Setting.{Setting}
+use Rattle.kp_types.specs.Setting.{Settings, view_of}
 use Rattle.kp_types.specs.declared.event.Event.{Event}
 use Rattle.kp_types.specs.declared.packet.Packet.{Packet}
 use Rattle.kp_types.specs.declared.sync.SyncRecord.{SyncRecord}
@@ -13,7 +14,7 @@ use Rattle.kp_choice_defs.specs.Recent.{RecentParts}
 use Rattle.kp_object_defs.specs.Objects.{Objects, objects_after}
 use Rattle.kp_object_defs.specs.Desired.{is_empty}
 use Rattle.kp_table_defs.specs.Edits.{changes_between}
-use Rattle.kp_table_defs.specs.Parts.{RulesByPort, table_of_ports}
+use Rattle.kp_table_defs.specs.Parts.{RulesByPort, tables_of_ports}
 use Rattle.kp_table_defs.specs.Rebuild.{clash_of}
 use Rattle.kp_table_defs.specs.Walk.{Walked, walk_of}
 use Rattle.kp_history_defs.specs.declared.fed.Fed.{Fed}
@@ -24,15 +25,16 @@ use Rattle.kp_history_defs.specs.KeptRules.{with_rules_of}
 -- ---- The state of a run
 
 -- Where a run stands: what each stream has fed; the queue and the journal; the records, and how
--- many of them are published; the contributions of the ports as they were at the last record, and
--- the ports that events affected since; and the records that each worker has seen.
+-- many of them are published; the contributions of the ports to the tables of each family, as they
+-- were at the last record, and the ports that events affected since; and the records that each
+-- worker has seen.
 pub record RunState : Type 0 where
   pub fed : ℕ → List Event
   pub queue : List Fed
   pub journal : List Fed
   pub records : List SyncRecord
   pub published : ℕ
-  pub kept : RulesByPort
+  pub kept : Family → RulesByPort
   pub touched : List PortKey
   pub seen : ℕ → List SyncRecord
 
@@ -44,7 +46,7 @@ initial = record {
   journal = [];
   records = [];
   published = 0;
-  kept = finite.empty;
+  kept = λ family. finite.empty;
   touched = [];
   seen = λ worker. [];
 }
@@ -88,35 +90,36 @@ after_feed stream event s = record s {
 }
 
 -- the queue's front is taken, and the ports that it affects are touched
-abbrev pub after_take : Setting → List Fed → RunState → RunState
-after_take setting [] s = s
-after_take setting (f ∷ rest) s = record s {
+abbrev pub after_take : Settings → List Fed → RunState → RunState
+after_take settings [] s = s
+after_take settings (f ∷ rest) s = record s {
   queue = rest;
   journal = s.journal ++ f ∷ [];
-  touched = s.touched ++ affected_ports setting (objects_now s) f.event;
+  touched = s.touched ++ affected_ports settings (objects_now s) f.event;
 }
 
 -- the contributions once those of the touched ports are made anew
-abbrev pub kept_after_sync : Setting → RunState → RulesByPort
-kept_after_sync setting s = with_rules_of setting (objects_now s) s.touched s.kept
+abbrev pub kept_after_sync : Settings → RunState → Family → RulesByPort
+kept_after_sync settings s family =
+    with_rules_of (view_of family settings) (objects_now s) s.touched (s.kept family)
 
 -- the record of a sync: the events since the last record, and the changes between the tables of
 -- the contributions before and after
-abbrev pub next_record : Setting → RunState → SyncRecord
-next_record setting s = record {
+abbrev pub next_record : Settings → RunState → SyncRecord
+next_record settings s = record {
   sync = suc (length s.records);
   events = length s.journal - sum (counts_of s.records);
   batch = record {
-    edits = changes_between (table_of_ports setting.family s.kept)
-        (table_of_ports setting.family (kept_after_sync setting s));
+    edits = changes_between (tables_of_ports settings s.kept)
+        (tables_of_ports settings (kept_after_sync settings s));
   };
 }
 
 -- an accepted sync
-abbrev pub after_sync : Setting → RunState → RunState
-after_sync setting s = record s {
-  records = s.records ++ next_record setting s ∷ [];
-  kept = kept_after_sync setting s;
+abbrev pub after_sync : Settings → RunState → RunState
+after_sync settings s = record s {
+  records = s.records ++ next_record settings s ∷ [];
+  kept = kept_after_sync settings s;
   touched = [];
 }
 
@@ -125,53 +128,53 @@ abbrev pub longer : {A : Type 0} → List A → List A → List A
 longer xs ys = cond (nat_lt (length xs) (length ys)) ys xs
 
 -- what a packet is answered: the walk of the published table
-abbrev pub answer_of : Setting → RunState → Packet → (ℕ → ℕ) → RecentParts → Walked
-answer_of setting s packet draws lists =
-    walk_of (λ at. finite.get (table_after setting (published_records s)).chains at)
-    setting.config.addresses packet draws lists
+abbrev pub answer_of : Settings → RunState → Packet → (ℕ → ℕ) → RecentParts → Walked
+answer_of settings s packet draws lists =
+    walk_of (λ at. finite.get (table_after settings (published_records s)).chains at)
+    settings.config.addresses packet draws lists
 
 -- Where a step may be made: the queue has a front to take; a sync is accepted where the objects have
 -- no clash, and else refused; there are records to publish; a read has the answer of the published
 -- table; and a worker is told of published records alone.
-abbrev pub IsAllowed : Setting → RunState → Step → Type 0
-IsAllowed setting s (Feed stream event) = Unit {0}
-IsAllowed setting s Take = is_empty s.queue ≡ false
-IsAllowed setting s Sync = clash_of setting (objects_now s) ≡ None
-IsAllowed setting s Refuse = is_some (clash_of setting (objects_now s)) ≡ true
-IsAllowed setting s Publish = s.published < length s.records
-IsAllowed setting s (Read worker packet draws lists answer) =
-    answer ≡ answer_of setting s packet draws lists
-IsAllowed setting s (Tell worker n) = n ≤ s.published
+abbrev pub IsAllowed : Settings → RunState → Step → Type 0
+IsAllowed settings s (Feed stream event) = Unit {0}
+IsAllowed settings s Take = is_empty s.queue ≡ false
+IsAllowed settings s Sync = clash_of settings (objects_now s) ≡ None
+IsAllowed settings s Refuse = is_some (clash_of settings (objects_now s)) ≡ true
+IsAllowed settings s Publish = s.published < length s.records
+IsAllowed settings s (Read worker packet draws lists answer) =
+    answer ≡ answer_of settings s packet draws lists
+IsAllowed settings s (Tell worker n) = n ≤ s.published
 
 -- the state after a step
-abbrev pub state_after : Setting → RunState → Step → RunState
-state_after setting s (Feed stream event) = after_feed stream event s
-state_after setting s Take = after_take setting s.queue s
-state_after setting s Sync = after_sync setting s
-state_after setting s Refuse = s
-state_after setting s Publish = record s { published = length s.records }
-state_after setting s (Read worker packet draws lists answer) =
+abbrev pub state_after : Settings → RunState → Step → RunState
+state_after settings s (Feed stream event) = after_feed stream event s
+state_after settings s Take = after_take settings s.queue s
+state_after settings s Sync = after_sync settings s
+state_after settings s Refuse = s
+state_after settings s Publish = record s { published = length s.records }
+state_after settings s (Read worker packet draws lists answer) =
     record s { seen = at_number s.seen worker (published_records s) }
-state_after setting s (Tell worker n) =
+state_after settings s (Tell worker n) =
     record s { seen = at_number s.seen worker (longer (s.seen worker) (take n s.records)) }
 
 -- ---- Runs
 
-module _ (setting : Setting) where
+module _ (settings : Settings) where
   -- a step leads from one state to another
   pub record IsStep (before : RunState) (step : Step) (after : RunState) : Type 0 where
-    pub allowed : IsAllowed setting before step
-    pub leads : after ≡ state_after setting before step
+    pub allowed : IsAllowed settings before step
+    pub leads : after ≡ state_after settings before step
 
 -- steps lead from one state to another, one after the other
-abbrev pub IsRunFrom : Setting → RunState → List Step → RunState → Type 0
-IsRunFrom setting before [] after = after ≡ before
-IsRunFrom setting before (step ∷ steps) after =
-    (next : RunState) × IsStep setting before step next × IsRunFrom setting next steps after
+abbrev pub IsRunFrom : Settings → RunState → List Step → RunState → Type 0
+IsRunFrom settings before [] after = after ≡ before
+IsRunFrom settings before (step ∷ steps) after =
+    (next : RunState) × IsStep settings before step next × IsRunFrom settings next steps after
 
 -- a run: steps from the first state on, to this state
-abbrev pub IsRun : Setting → List Step → RunState → Type 0
-IsRun setting steps state = IsRunFrom setting initial steps state
+abbrev pub IsRun : Settings → List Step → RunState → Type 0
+IsRun settings steps state = IsRunFrom settings initial steps state
 
 -- ---- What was fed
 

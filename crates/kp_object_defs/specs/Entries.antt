@@ -11,7 +11,7 @@ use Rattle.kp_base.specs.declared.address.Family.TheVariants.{V4, V6}
 use Rattle.kp_base.specs.declared.port.Proto.{Proto}
 use Rattle.kp_base.specs.declared.key.ObjectKey.{ObjectKey}
 use Rattle.kp_base.specs.declared.key.PortKey.{PortKey}
-use Rattle.kp_types.specs.Setting.{FamilyConfig}
+use Rattle.kp_types.specs.Setting.{FamilyConfig, NodeConfig, both_families, config_of_family}
 use Rattle.kp_types.specs.Ports.{same_proto}
 use Rattle.kp_types.specs.declared.service.Service.{Service}
 use Rattle.kp_types.specs.declared.slice.AddressType.{AddressType}
@@ -140,3 +140,8 @@ entries_from family node sources port =
 abbrev pub entries_of : Family → FamilyConfig → Objects → Service → PortKey → List Candidate
 entries_of family config o s port =
     entries_from family config.node (sources_of family config o s) port
+
+-- the endpoints of a port in both families, IPv4 before IPv6
+abbrev pub entries_of_both : NodeConfig → Objects → Service → PortKey → List Candidate
+entries_of_both config o s port =
+    flat_map (λ family. entries_of family (config_of_family family config) o s port) both_families

@@ -11,7 +11,7 @@ use Rattle.kp_base.specs.declared.address.Family.{Family}
 use Rattle.kp_base.specs.declared.address.Family.TheVariants.{V4, V6}
 use Rattle.kp_base.specs.declared.key.PortKey.{PortKey}
 use Rattle.kp_base.specs.declared.key.Endpoint.{Endpoint}
-use Rattle.kp_types.specs.Setting.{FamilyConfig}
+use Rattle.kp_types.specs.Setting.{FamilyConfig, Settings, config_of_family}
 use Rattle.kp_types.specs.declared.service.Service.{Service}
 use Rattle.kp_types.specs.declared.service.ServiceKind.{ServiceKind}
 use Rattle.kp_types.specs.declared.service.ServiceKind.TheVariants.{ClusterIp, NodePort, LoadBalancer, ExternalName}
@@ -171,6 +171,10 @@ abbrev pub port_infos : Family → FamilyConfig → Objects → List PortInfo
 port_infos family config o =
     infos_from family config.node (zone_of o config.node)
     (map (sources_of family config o) (finite.values o.services))
+
+-- what the proxy knows of all ports in each family of a node
+abbrev pub infos_by_family : Settings → Objects → Family → List PortInfo
+infos_by_family settings o family = port_infos family (config_of_family family settings.config) o
 
 -- the port may be reached from outside the cluster
 abbrev pub is_accessible : PortInfo → Bool

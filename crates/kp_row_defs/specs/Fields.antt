@@ -1,14 +1,15 @@
 -- The values at places of a JSON tree that Kubernetes objects are read from (Kubernetes API conventions,
 -- "Optional vs. Required"): a null member counts as absent, and so does the empty text of a member.
-use Rattle.std.specs.Prelude.{ℕ, ◌==◌, Bool, false, List, [], ◌∷◌, map, cond, bytes_eq, codes, Option, Some, None, option_map, option_and_then, unwrap_or, Result, Ok, Err, ok_or}
-use Rattle.std.specs.List.{list_any}
+use Rattle.std.specs.Prelude.{ℕ, Bool, false, List, [], ◌∷◌, map, cond, bytes_eq, codes, Option, Some, None, option_map, option_and_then, unwrap_or}
+use Rattle.std.specs.List.{find}
 use Rattle.std.specs.Map.{lookup}
 use Rattle.serde_json.specs.Data.{null}
 use Rattle.serde_json.specs.Find.{as_bool, as_str, as_number, as_u64}
 use Rattle.kp_json.specs.Places.{Place, member_at, elements_of, members_of}
 use Rattle.kp_base.specs.Net.{AddressParts, RangeParts, same_family}
-use Rattle.kp_base.specs.Dotted.{address_of, range_of, split_once}
+use Rattle.kp_base.specs.Dotted.{split_once}
 use Rattle.kp_base.specs.Six.{any_address_of, any_range_of}
+use Rattle.kp_base.specs.declared.address.Family.{Family}
 use Rattle.kp_base.specs.declared.key.ObjectKey.{ObjectKey}
 use Rattle.kp_base.specs.declared.key.Pair.{Pair}
 use Rattle.kp_base.specs.declared.port.Proto.{Proto}
@@ -103,32 +104,13 @@ ranges_of_parts text (Some (first, second)) =
 abbrev pub ranges_of_text : List ℕ → Option (List RangeParts)
 ranges_of_text text = ranges_of_parts text (split_once 44 text)
 
--- ---- Where IPv4 alone serves
+-- the ranges of a member
+abbrev pub ranges_in : List ℕ → Place → List RangeParts
+ranges_in name p = unwrap_or (option_and_then ranges_of_text (text_in name p)) []
 
--- a text of another address family, which is passed over: one with a colon
-abbrev pub is_other_family : List ℕ → Bool
-is_other_family text = list_any (λ b. b == 58) text
-
--- what a text writes: nothing where it is passed over, a value, or the fault where it writes none
-abbrev pub unless_other : {A E : Type 0} → E → (List ℕ → Option A) → List ℕ → Result (Option A) E
-unless_other fault read text = cond (is_other_family text) (Ok None) (ok_or (option_map Some (read text)) fault)
-
--- what was read, if anything was
-abbrev pub found : {A E : Type 0} → Result (Option A) E → Option A
-found (Ok o) = o
-found (Err e) = None
-
--- the IPv4 address that a text writes, unless it is passed over
-abbrev pub v4_address_of : List ℕ → Option AddressParts
-v4_address_of text = found (unless_other (tt {0}) address_of text)
-
--- the IPv4 range that a text writes, unless it is passed over
-abbrev pub v4_range_of : List ℕ → Option RangeParts
-v4_range_of text = found (unless_other (tt {0}) range_of text)
-
--- the IPv4 address at a place
-abbrev pub v4_address_at : Place → Option AddressParts
-v4_address_at p = option_and_then v4_address_of (text_of p)
+-- the range of a family among ranges
+abbrev pub range_in_family : Family → List RangeParts → Option RangeParts
+range_in_family family ranges = find (λ r. same_family r.base.family family) ranges
 
 -- a member of an object of texts
 abbrev pub pair_of : List ℕ × Place → Pair

@@ -1,7 +1,7 @@
 -- How objects and lines are read from JSON text: tables of rows in order, and the first fault of a value by a
 -- table (Kubernetes API conventions; for names "Object Names and IDs"). Which faults there are, and that the first one
 -- in the order of the rows counts, is this project's choice.
-use Rattle.std.specs.Prelude.{ℕ, ◌&&◌, ◌||◌, nat_lt, nat_le, Bool, true, false, List, [], ◌∷◌, ◌++◌, codes, length, map, cond, bytes_eq, Option, Some, None, option_map, unwrap_or, is_some, is_ok, Result, Ok, Err}
+use Rattle.std.specs.Prelude.{ℕ, ◌&&◌, ◌||◌, nat_lt, nat_le, Bool, true, false, List, [], ◌∷◌, ◌++◌, codes, length, map, cond, bytes_eq, Option, Some, None, option_map, unwrap_or, is_some, Result, Ok, Err}
 use Rattle.std.specs.List.{list_any}
 use Rattle.std.specs.Result.{result_err}
 use Rattle.serde_json.specs.Data.{Data, null, boolean, number, string, array, object}
@@ -12,12 +12,11 @@ use Rattle.kp_json.specs.declared.fault.Why.{Why}
 use Rattle.kp_json.specs.declared.fault.Why.TheVariants.{Missing, OutOfRange, BadName, BadAddress, BadCidr, DuplicatePort}
 use Rattle.kp_json.specs.declared.fault.BadField.{BadField}
 use Rattle.kp_base.specs.Net.{AddressParts, same_family}
-use Rattle.kp_base.specs.Dotted.{address_of, range_of}
 use Rattle.kp_base.specs.Six.{any_address_of, any_range_of}
 use Rattle.kp_base.specs.Grammar.{is_name_text, is_port_name_text, is_label_text}
 use Rattle.kp_base.specs.declared.port.Proto.{Proto}
 use Rattle.kp_base.specs.Keys.{same_proto}
-use Rattle.kp_row_defs.specs.Fields.{text_in, is_text, address_in, ranges_of_text, unless_other, port_name_in, proto_in}
+use Rattle.kp_row_defs.specs.Fields.{text_in, is_text, address_in, ranges_of_text, port_name_in, proto_in}
 
 -- what a value is
 pub data Form : Type 0 where
@@ -31,11 +30,7 @@ pub data Form : Type 0 where
   range_text : Form
   cluster_address_text : Form
   ranges_text : Form
-  -- an IPv4 address or range, where a text of another family is passed over
-  v4_address_text : Form
-  v4_range_text : Form
-  -- an IPv4 address and nothing else, and the name of a port that may not be empty: lines ask these
-  own_address_text : Form
+  -- the name of a port that may not be empty: lines ask this
   filled_port_name_text : Form
   choice : List (List ℕ) → Form
   -- a whole number within bounds
@@ -116,18 +111,6 @@ is_range_text text = is_some (any_range_of text)
 abbrev pub is_ranges_text : List ℕ → Bool
 is_ranges_text text = is_some (ranges_of_text text)
 
--- an IPv4 address; a text of another family is passed over
-abbrev pub is_v4_address_text : List ℕ → Bool
-is_v4_address_text text = is_ok (unless_other (tt {0}) address_of text)
-
--- an IPv4 range; a text of another family is passed over
-abbrev pub is_v4_range_text : List ℕ → Bool
-is_v4_range_text text = is_ok (unless_other (tt {0}) range_of text)
-
--- an IPv4 address
-abbrev pub is_own_address_text : List ℕ → Bool
-is_own_address_text text = is_some (address_of text)
-
 -- the name of a port, which isn't empty
 abbrev pub is_filled_port_name_text : List ℕ → Bool
 is_filled_port_name_text text = nat_le 1 (length text) && is_port_name_text text
@@ -178,9 +161,6 @@ form_fault address_text p = text_fault is_address_text BadAddress p
 form_fault range_text p = text_fault is_range_text BadCidr p
 form_fault cluster_address_text p = text_fault is_cluster_address_text BadAddress p
 form_fault ranges_text p = text_fault is_ranges_text BadCidr p
-form_fault v4_address_text p = text_fault is_v4_address_text BadAddress p
-form_fault v4_range_text p = text_fault is_v4_range_text BadCidr p
-form_fault own_address_text p = text_fault is_own_address_text BadAddress p
 form_fault filled_port_name_text p = text_fault is_filled_port_name_text BadName p
 form_fault (choice choices) p = text_fault (is_one_of choices) OutOfRange p
 form_fault (whole least most) p = result_err (whole_at p least most)
@@ -198,9 +178,6 @@ is_text_form address_text = true
 is_text_form range_text = true
 is_text_form cluster_address_text = true
 is_text_form ranges_text = true
-is_text_form v4_address_text = true
-is_text_form v4_range_text = true
-is_text_form own_address_text = true
 is_text_form filled_port_name_text = false
 is_text_form (choice choices) = true
 is_text_form (whole least most) = false
@@ -290,10 +267,6 @@ abbrev mutual
 -- the rows of an address in a list
 abbrev pub address_rows : Rows
 address_rows = itself address_text ▸ done
-
--- the rows of an IPv4 address in a list, where others are passed over
-abbrev pub v4_address_rows : Rows
-v4_address_rows = itself v4_address_text ▸ done
 
 -- what is read, unless there is a fault
 abbrev pub unless_fault : {A : Type 0} → Option BadField → A → Result A BadField

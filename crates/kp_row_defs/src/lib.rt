@@ -6,6 +6,6 @@
 mod worked;
 
 pub use worked::{
-    a_range_of_each_family, an_address_of_another_family, another_family_is_passed_over,
-    another_family_is_refused, both_families_are_read, empty_text_is_absent, empty_text_is_refused,
+    a_range_of_each_family, an_address_of_another_family, both_families_are_read,
+    empty_text_is_absent, empty_text_is_refused,
 };

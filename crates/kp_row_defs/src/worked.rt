@@ -3,7 +3,7 @@ ghost use Rattle.std.specs.Prelude.{◌≡◌, List, ℕ, [], ◌∷◌, codes, 
 ghost use Rattle.serde_json.specs.Data.{string, object, no_members, member};
 ghost use Rattle.kp_json.specs.Answers.{fault_at};
 ghost use Rattle.kp_json.specs.declared.fault.Why.TheVariants.{BadAddress, BadName, BadCidr};
-ghost use Rattle.kp_row_defs.specs.Rows.{done, ◌▸◌, optional, address_text, address_like, cluster_address_text, range_text, ranges_text, v4_address_text, v4_range_text, own_address_text, port_name_text, filled_port_name_text, field_fault, form_fault, is_ranges_text, rows_fault};
+ghost use Rattle.kp_row_defs.specs.Rows.{done, ◌▸◌, optional, address_text, address_like, cluster_address_text, range_text, ranges_text, port_name_text, filled_port_name_text, field_fault, form_fault, is_ranges_text, rows_fault};
 
 /// Addresses, ranges and cluster addresses of objects are those of both families.
 pub fn both_families_are_read()
@@ -50,21 +50,6 @@ pub fn an_address_of_another_family()
           path = [];
         })
         ≡ Some (fault_at BadAddress (codes "dst")) }
-{}
-
-/// Where IPv4 alone serves, another family has no fault where it is passed over.
-pub fn another_family_is_passed_over()
-    ensures address { form_fault v4_address_text
-        (record { value = string (codes "fd00::1"); path = codes "ip" }) ≡ None }
-    ensures range { form_fault v4_range_text
-        (record { value = string (codes "fd00::/8"); path = codes "ip" }) ≡ None }
-{}
-
-/// Where it is not, it is a bad address.
-pub fn another_family_is_refused()
-    ensures { form_fault own_address_text
-        (record { value = string (codes "fd00::1"); path = codes "src" })
-        ≡ Some (fault_at BadAddress (codes "src")) }
 {}
 
 /// An empty port name counts as absent in an object.

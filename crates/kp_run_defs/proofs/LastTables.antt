@@ -6,7 +6,7 @@ use Rattle.kp_types.specs.declared.event.Event.{Event}
 use Rattle.kp_object_defs.specs.Objects.{objects_after}
 use Rattle.kp_table_defs.specs.Rebuild.{full_table}
 use Rattle.kp_history_defs.specs.History.{covered}
-use Rattle.kp_run_defs.specs.LegalRuns.{LastTableIsFull, setting_in, events_in}
+use Rattle.kp_run_defs.specs.LegalRuns.{LastTableIsFull, settings_in, events_in}
 
 -- what the records cover where they cover as many events as there are
 covers_all : (events : List Event) (counts : List ℕ) → sum counts ≡ length events
@@ -17,6 +17,6 @@ covers_all events counts h =
 
 pub last_table_is_full : LastTableIsFull
 last_table_is_full run legal none =
-    ap (λ events. (full_table (setting_in run) (objects_after events)).chains)
+    ap (λ events. (full_table (settings_in run) (objects_after events)).chains)
     (covers_all (events_in run) run.counts
     (legal.covered.all none ∙ sym (length-map run.journal (λ f. f.event))))

@@ -18,7 +18,7 @@ use Rattle.kp_text_defs.specs.Live.{totals_text}
 use Rattle.kp_text_defs.specs.ScriptLines.{line_of}
 use Rattle.kp_gen_defs.specs.declared.plan.ScriptPlan.{ScriptPlan}
 use Rattle.kp_gen_defs.specs.Script.{script_of}
-use Rattle.kp_run_defs.specs.ReplayText.{Standing, beginning, line_at, setting_in, uncovered_in, last_edits, synced, decided, is_blank, is_too_long}
+use Rattle.kp_run_defs.specs.ReplayText.{Standing, beginning, line_at, settings_in, uncovered_in, last_edits, synced, decided, is_blank, is_too_long}
 
 -- ---- Sums
 
@@ -73,7 +73,7 @@ sync_totals None s t = edits_totals (uncovered_in s) (last_edits (synced s)) t
 
 -- an operation
 abbrev pub op_totals : ℕ → Op → Standing → Totals → Totals
-op_totals number op.Sync s t = sync_totals (clash_of (setting_in s) (objects_after s.events)) s t
+op_totals number op.Sync s t = sync_totals (clash_of (settings_in s) (objects_after s.events)) s t
 op_totals number (op.Packet p) s t = with_packet (decided number p s).verdict t
 op_totals number _ s t = t
 

@@ -5,7 +5,7 @@
 -- packets came about in threads is no part of it.
 use Rattle.std.specs.Prelude.{◌≡◌, ◌≤◌, ◌+◌, ◌&&◌, nat_lt, nat_le, ℕ, suc, max, Bool, true, false, List, length, take, sum, count_by, Option, Some, None, is_some}
 use Rattle.std.specs.List.{AllByRecursion, filter, fold, list_all}
-use Rattle.kp_types.specs.Setting.{Setting}
+use Rattle.kp_types.specs.Setting.{Settings}
 use Rattle.kp_types.specs.declared.chain.Clash.{Clash}
 use Rattle.kp_types.specs.declared.event.Event.{Event}
 use Rattle.kp_object_defs.specs.Objects.{objects_after}
@@ -13,7 +13,7 @@ use Rattle.kp_table_defs.specs.Rebuild.{Chains, clash_of, full_table}
 use Rattle.kp_history_defs.specs.History.{chains_covered, objects_covered}
 use Rattle.kp_history_defs.specs.Runs.{events_of, is_of_stream, numbered}
 use Rattle.kp_history_defs.specs.declared.fed.Fed.{Fed}
-use Rattle.kp_run_defs.specs.LiveLines.{Reading, setting_read, lines_of_stream, events_of_stream, places_of}
+use Rattle.kp_run_defs.specs.LiveLines.{Reading, settings_read, lines_of_stream, events_of_stream, places_of}
 use Rattle.kp_run_defs.specs.declared.live.StreamLine.{StreamLine}
 use Rattle.kp_run_defs.specs.declared.live.Work.{Work}
 use Rattle.kp_run_defs.specs.declared.live.Work.TheVariants.{Feeds, Syncs, Sends}
@@ -33,9 +33,9 @@ pub record LiveRun : Type 0 where
   pub counts : List ℕ
   pub marks : ℕ → Mark
 
--- the setting of a run
-abbrev pub setting_in : LiveRun → Setting
-setting_in run = setting_read run.reading
+-- the settings of a run
+abbrev pub settings_in : LiveRun → Settings
+settings_in run = settings_read run.reading
 
 -- the events of its journal
 abbrev pub events_in : LiveRun → List Event
@@ -47,11 +47,11 @@ records_in run = length run.counts
 
 -- the clash of the objects after all its events
 abbrev pub final_clash : LiveRun → Option Clash
-final_clash run = clash_of (setting_in run) (objects_after (events_in run))
+final_clash run = clash_of (settings_in run) (objects_after (events_in run))
 
 -- the chains of the table of a record
 abbrev pub chains_at : LiveRun → ℕ → Chains
-chains_at run n = chains_covered (setting_in run) (events_in run) run.counts n
+chains_at run n = chains_covered (settings_in run) (events_in run) run.counts n
 
 -- ---- The journal and the records
 
@@ -73,7 +73,7 @@ pub record IsWholeJournal (run : LiveRun) : Type 0 where
 -- the objects of a record have no clash
 abbrev pub HasTable : LiveRun → ℕ → Type 0
 HasTable run n =
-    clash_of (setting_in run) (objects_covered (events_in run) run.counts n) ≡ None
+    clash_of (settings_in run) (objects_covered (events_in run) run.counts n) ≡ None
 
 -- The records cover events that there are. They cover all of them, or the objects after all events
 -- have a clash.
@@ -145,7 +145,7 @@ seen_by run stream = fold (seen_line run) nothing_seen (lines_of_stream run.read
 -- two chains that have one name among the objects after some first events
 abbrev pub IsClash : LiveRun → Clash → Type 0
 IsClash run clash =
-    (n : ℕ) × (clash_of (setting_in run) (objects_after (take n (events_in run))) ≡ Some clash)
+    (n : ℕ) × (clash_of (settings_in run) (objects_after (take n (events_in run))) ≡ Some clash)
 
 -- a line may be refused only by a clash
 abbrev pub IsRefusal : LiveRun → Mark → Type 0
@@ -187,4 +187,4 @@ abbrev pub LastTableIsFull : Type 0
 LastTableIsFull =
     (run : LiveRun) → IsLegalRun run → is_some (final_clash run) ≡ false
     → chains_at run (records_in run)
-    ≡ (full_table (setting_in run) (objects_after (events_in run))).chains
+    ≡ (full_table (settings_in run) (objects_after (events_in run))).chains

@@ -4,11 +4,10 @@
 -- events the journal has no room for. A refused line belongs to no stream.
 use Rattle.std.specs.Prelude.{ℕ, suc, ◌+◌, ◌==◌, ◌&&◌, nat_lt, Bool, true, false, List, [], ◌∷◌, ◌++◌, length, not, cond, codes, bytes_eq, position, unwrap_or, is_none, Option, Some, None, Result, Ok, Err}
 use Rattle.std.specs.List.{filter, flat_map, fold, range_with_len}
-use Rattle.kp_base.specs.declared.address.Family.TheVariants.{V4}
 use Rattle.kp_base.specs.declared.config.Config.{Config}
-use Rattle.kp_types.specs.Setting.{Setting}
+use Rattle.kp_types.specs.Setting.{Settings}
 use Rattle.kp_types.specs.declared.event.Event.{Event}
-use Rattle.kp_choice_defs.specs.Settings.{setting_of}
+use Rattle.kp_choice_defs.specs.Settings.{settings_of}
 use Rattle.kp_text_defs.specs.declared.line_refusal.LineRefusal.{LineRefusal}
 use Rattle.kp_text_defs.specs.declared.line_refusal.LineRefusal.TheVariants.{TooLongLine, JournalFull, NotLive, StreamsFull}
 use Rattle.kp_text_defs.specs.declared.script.Op.{Op}
@@ -154,8 +153,8 @@ reading_of_scripts lines = fold after_script nothing_read lines
 -- ---- What each stream has to do
 
 -- what tables and decisions are told
-abbrev pub setting_read : Reading → Setting
-setting_read r = setting_of V4 r.config
+abbrev pub settings_read : Reading → Settings
+settings_read r = settings_of r.config
 
 -- a line belongs to the stream at this place
 abbrev pub is_line_of : ℕ → StreamLine → Bool

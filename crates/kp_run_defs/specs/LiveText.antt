@@ -1,11 +1,11 @@
 -- The text of a live run (this project's choice): the lines refused while reading, the journal,
 -- the records, what each sync and each packet is answered in the order of their lines, how the run
--- ended, and the table of the last record. A packet is answered by the decision on the objects that
--- the record covers which its line shows, with the recent lists of its stream.
+-- ended, and the tables of the last record, IPv4 before IPv6. A packet is answered by the decision
+-- on the objects that the record covers which its line shows, with the recent lists of its stream.
 use Rattle.std.specs.Prelude.{ℕ, suc, Bool, not, ◌||◌, ◌&&◌, nat_lt, List, [], ◌∷◌, ◌++◌, length, get_or, count_by, is_some}
 use Rattle.std.specs.List.{list_any, flat_map, fold, range_with_len}
 use Rattle.std.specs.FinMap as finite
-use Rattle.kp_base.specs.declared.address.Family.TheVariants.{V4}
+use Rattle.kp_types.specs.Setting.{table_families}
 use Rattle.kp_types.specs.declared.rule.Edit.{Edit}
 use Rattle.kp_choice_defs.specs.Recent.{RecentParts}
 use Rattle.kp_door_defs.specs.Decision.{Decided, decision_of}
@@ -25,7 +25,7 @@ use Rattle.kp_run_defs.specs.declared.live.StreamLine.{StreamLine}
 use Rattle.kp_run_defs.specs.declared.live.Work.{Work}
 use Rattle.kp_run_defs.specs.declared.live.Work.TheVariants.{Feeds, Syncs, Sends}
 use Rattle.kp_run_defs.specs.declared.live.RefusedLine.{RefusedLine}
-use Rattle.kp_run_defs.specs.LegalRuns.{Mark, Shows, Refuses, LiveRun, setting_in, events_in, records_in, final_clash, chains_at, is_sync, is_shown}
+use Rattle.kp_run_defs.specs.LegalRuns.{Mark, Shows, Refuses, LiveRun, settings_in, events_in, records_in, final_clash, chains_at, is_sync, is_shown}
 
 -- ---- Lines
 
@@ -62,8 +62,8 @@ records_text run = flat_map (record_text_at run) (range_with_len 0 (records_in r
 -- the decision on a packet by the objects that a record covers
 abbrev pub decided_at : LiveRun → ℕ → ℕ → PacketLine → RecentParts → Decided
 decided_at run record_number number p lists =
-    decision_of (setting_in run) (objects_covered (events_in run) run.counts record_number) p.packet
-    (draws_at number p.draws) lists
+    decision_of (settings_in run) (objects_covered (events_in run) run.counts record_number)
+    p.packet (draws_at number p.draws) lists
 
 -- its walk through the table of the record
 abbrev pub walked_at : LiveRun → ℕ → ℕ → PacketLine → RecentParts → Walked
@@ -127,7 +127,7 @@ answers_of run = fold (after_answer run) (nothing_answered run) run.reading.line
 
 -- ---- The whole text
 
--- what stands before the table
+-- what stands before the tables
 abbrev pub live_lines_text : LiveRun → List ℕ
 live_lines_text run =
     flat_map refused_text run.reading.refused ++ journal_text run.reading.streams 1 run.journal
@@ -135,7 +135,10 @@ live_lines_text run =
 
 -- the text of a run
 abbrev pub live_text : LiveRun → List ℕ
-live_text run = live_lines_text run ++ table_text_of V4 (chains_at run (records_in run))
+live_text run =
+    live_lines_text run
+    ++ flat_map (λ family. table_text_of family (chains_at run (records_in run)))
+    (table_families run.reading.config)
 
 -- a line is a sync that is refused
 abbrev pub is_refused_sync : LiveRun → StreamLine → Bool

@@ -6,16 +6,18 @@
 use Rattle.std.specs.Prelude.{ℕ, suc, ◌+◌, ◌-◌, ◌==◌, ◌||◌, nat_lt, Bool, true, false, List, [], ◌∷◌, ◌++◌, length, sum, not, cond, count_by, Option, Some, None, Result, Ok, Err}
 use Rattle.std.specs.List.{list_all, fold}
 use Rattle.std.specs.FinMap as finite
-use Rattle.kp_base.specs.declared.address.Family.TheVariants.{V4}
+use Rattle.kp_base.specs.declared.address.Family.{Family}
+use Rattle.kp_base.specs.declared.address.Family.TheVariants.{V4, V6}
 use Rattle.kp_base.specs.declared.config.Config.{Config}
-use Rattle.kp_types.specs.Setting.{Setting, both_families}
+use Rattle.kp_types.specs.Setting.{Settings, both_families}
 use Rattle.kp_types.specs.declared.chain.Clash.{Clash}
+use Rattle.kp_types.specs.declared.chain.TableName.{TableName}
 use Rattle.kp_types.specs.declared.chain.TableName.TheVariants as table
 use Rattle.kp_types.specs.declared.event.Event.{Event}
 use Rattle.kp_types.specs.declared.rule.Edit.{Edit}
 use Rattle.kp_types.specs.declared.slice.Slice.{Slice}
 use Rattle.kp_choice_defs.specs.Recent.{RecentParts}
-use Rattle.kp_choice_defs.specs.Settings.{setting_of}
+use Rattle.kp_choice_defs.specs.Settings.{settings_of}
 use Rattle.kp_object_defs.specs.Objects.{Objects, objects_after}
 use Rattle.kp_object_defs.specs.SlicesNow.{slices_now}
 use Rattle.kp_door_defs.specs.Decision.{Decided, decision_of}
@@ -69,8 +71,8 @@ beginning = record {
 }
 
 -- what tables and decisions are told
-abbrev pub setting_in : Standing → Setting
-setting_in s = setting_of V4 s.config
+abbrev pub settings_in : Standing → Settings
+settings_in s = settings_of s.config
 
 -- how many syncs there were
 abbrev pub syncs_in : Standing → ℕ
@@ -86,12 +88,13 @@ objects_in s = objects_covered s.events s.counts (syncs_in s)
 
 -- the chains of their full table
 abbrev pub chains_in : Standing → Chains
-chains_in s = chains_covered (setting_in s) s.events s.counts (syncs_in s)
+chains_in s = chains_covered (settings_in s) s.events s.counts (syncs_in s)
 
 -- the edits of the last sync, where there was one
 abbrev pub last_edits : Standing → List Edit
 last_edits s =
-    changes_between (chains_covered (setting_in s) s.events s.counts (syncs_in s - 1)) (chains_in s)
+    changes_between (chains_covered (settings_in s) s.events s.counts (syncs_in s - 1))
+    (chains_in s)
 
 -- the slices by now
 abbrev pub slices_in : Standing → List Slice
@@ -145,7 +148,8 @@ sync_line number None s = record { text = synced_text (synced s) (uncovered_in s
 
 -- the decision on a packet
 abbrev pub decided : ℕ → PacketLine → Standing → Decided
-decided number p s = decision_of (setting_in s) (objects_in s) p.packet (draws_at number p.draws) s.lists
+decided number p s =
+    decision_of (settings_in s) (objects_in s) p.packet (draws_at number p.draws) s.lists
 
 -- the walk of a packet
 abbrev pub walked : ℕ → PacketLine → Standing → Walked
@@ -164,24 +168,33 @@ explain_line number p s =
     let d = decided number p s in
     print (explain_text number (syncs_in s) (record { verdict = d.verdict; reason = d.reason })) s
 
--- the edits of the last sync in the form of iptables-restore, or nothing before the first
-abbrev pub batch_shown : List ℕ → List Edit → List ℕ
-batch_shown [] edits = []
-batch_shown (n ∷ counts) edits = batch_text_of V4 edits
+-- the edits of a family's tables at the last sync in the form of iptables-restore, or nothing before
+-- the first
+abbrev pub batch_shown : Family → List ℕ → List Edit → List ℕ
+batch_shown family [] edits = []
+batch_shown family (n ∷ counts) edits = batch_text_of family edits
 
--- what is shown
+-- the section of a table that a node may have or lack
+abbrev pub section_if : Bool → Chains → TableName → List ℕ
+section_if true chains name = section_text_of chains name
+section_if false chains name = []
+
+-- what is shown; of tables of IPv6 nothing where the node has none
 abbrev pub shown_text : Shown → Standing → List ℕ
 shown_text shown.Slices s = slices_text (slices_in s) false
 shown_text shown.Endpoints s = slices_text (slices_in s) true
 shown_text shown.Nat s = section_text_of (chains_in s) table.Nat
 shown_text shown.Filter s = section_text_of (chains_in s) table.Filter
-shown_text shown.Batch s = batch_shown s.counts (last_edits s)
+shown_text shown.Batch s = batch_shown V4 s.counts (last_edits s)
+shown_text shown.Nat6 s = section_if s.config.dual (chains_in s) table.Nat6
+shown_text shown.Filter6 s = section_if s.config.dual (chains_in s) table.Filter6
+shown_text shown.Batch6 s = batch_shown V6 s.counts (last_edits s)
 
 -- an operation
 abbrev pub op_line : ℕ → Op → Standing → Line
 op_line number (op.Config config) s = config_line config s
 op_line number (op.Events events) s = events_line number events (has_room s (length events)) s
-op_line number op.Sync s = sync_line number (clash_of (setting_in s) (objects_after s.events)) s
+op_line number op.Sync s = sync_line number (clash_of (settings_in s) (objects_after s.events)) s
 op_line number (op.Packet p) s = packet_line number p s
 op_line number (op.Explain p) s = explain_line number p s
 op_line number (op.Show what) s = print (shown_text what s) s

@@ -53,6 +53,7 @@ sent = record {
     port = 80;
     now = 0;
   };
+  source_port = 0;
   draws = draws.List [];
   trail = false;
   low = All-nil (λ draw. draw < 2 ^ 31);

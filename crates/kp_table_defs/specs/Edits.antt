@@ -1,11 +1,11 @@
 -- Edits of a table, and the edits that lead from one table to another (iptables-restore(8), --noflush).
-use Rattle.std.specs.Prelude.{◌≡◌, ◌↔◌, ℕ, ◌+◌, ◌-◌, ◌^◌, ◌==◌, Bool, true, false, List, [], ◌∷◌, ◌++◌, map, not, cond, min, Option, Some, None, is_some}
-use Rattle.std.specs.List.{filter, filter_map, fold, list_any}
+use Rattle.std.specs.Prelude.{◌≡◌, ◌↔◌, ◌+◌, ◌-◌, ◌^◌, ◌==◌, Bool, true, false, List, ◌++◌, cond, min, Option, Some, None, is_some}
+use Rattle.std.specs.List.{filter, filter_map, fold}
 use Rattle.std.specs.FinMap as finite
 use Rattle.std.specs.Cmp.Lexicographic.{pointwise}
 use Rattle.kp_base.specs.declared.address.Family.{Family}
 use Rattle.kp_base.specs.declared.address.Family.TheVariants.{V4, V6}
-use Rattle.kp_types.specs.Places.{chain_cmp, table_place, nat_of, filter_of}
+use Rattle.kp_types.specs.Places.{table_place, nat_of, filter_of}
 use Rattle.kp_types.specs.declared.chain.TableName.{TableName}
 use Rattle.kp_types.specs.declared.chain.ChainAt.{ChainAt}
 use Rattle.kp_types.specs.declared.rule.Rule.{Rule}

@@ -5,12 +5,11 @@ use Rattle.std.specs.Prelude.{ℕ, suc, Bool, true, false, List, [], ◌∷◌, 
 use Rattle.std.specs.List.{flat_map}
 use Rattle.kp_base.specs.Net.{AddressParts, RangeParts, single_range, loopback_range}
 use Rattle.kp_base.specs.declared.address.Family.{Family}
-use Rattle.kp_base.specs.declared.address.Family.TheVariants.{V4, V6}
 use Rattle.kp_base.specs.declared.key.Endpoint.{Endpoint}
+use Rattle.kp_types.specs.Places.{nat_of, filter_of}
 use Rattle.kp_types.specs.Setting.{Setting}
 use Rattle.kp_types.specs.Rules.{rule_of}
 use Rattle.kp_types.specs.declared.chain.TableName.{TableName}
-use Rattle.kp_types.specs.declared.chain.TableName.TheVariants.{Nat, Filter}
 use Rattle.kp_types.specs.declared.chain.ChainAt.{ChainAt}
 use Rattle.kp_types.specs.declared.chain.ChainKey.{ChainKey}
 use Rattle.kp_types.specs.declared.chain.ChainKey.TheVariants as key
@@ -207,16 +206,6 @@ refusal_block i =
 
 -- ---- Chains
 
--- the nat table of a family; the tables of IPv6 aren't written yet
-abbrev pub nat_table : Family → TableName
-nat_table V4 = Nat
-nat_table V6 = Nat
-
--- the filter table of a family
-abbrev pub filter_table : Family → TableName
-filter_table V4 = Filter
-filter_table V6 = Filter
-
 -- a chain of a table, and its rules
 abbrev pub row : TableName → List ℕ → List Rule → ChainAt × List Rule
 row table chain rules = (record { table = table; chain = chain }, rules)
@@ -224,15 +213,15 @@ row table chain rules = (record { table = table; chain = chain }, rules)
 -- the fixed chains of nat, with these rules for node ports and for Services
 abbrev pub nat_rows_with : Family → List Rule → List Rule → List (ChainAt × List Rule)
 nat_rows_with family node_ports services =
-    row (nat_table family) (codes "PREROUTING") (jump_to kube_services ∷ [])
-    ∷ row (nat_table family) (codes "INPUT") []
-    ∷ row (nat_table family) (codes "OUTPUT") (jump_to kube_services ∷ [])
-    ∷ row (nat_table family) (codes "POSTROUTING") (jump_to kube_postrouting ∷ [])
-    ∷ row (nat_table family) mark_masq (rule_of [] target.SetMark ∷ [])
-    ∷ row (nat_table family) kube_postrouting
+    row (nat_of family) (codes "PREROUTING") (jump_to kube_services ∷ [])
+    ∷ row (nat_of family) (codes "INPUT") []
+    ∷ row (nat_of family) (codes "OUTPUT") (jump_to kube_services ∷ [])
+    ∷ row (nat_of family) (codes "POSTROUTING") (jump_to kube_postrouting ∷ [])
+    ∷ row (nat_of family) mark_masq (rule_of [] target.SetMark ∷ [])
+    ∷ row (nat_of family) kube_postrouting
     (rule_of (match.Marked true ∷ []) target.Return ∷ rule_of [] target.FlipMark ∷ rule_of [] target.Masquerade ∷ [])
-    ∷ row (nat_table family) kube_node_ports node_ports
-    ∷ row (nat_table family) kube_services
+    ∷ row (nat_of family) kube_node_ports node_ports
+    ∷ row (nat_of family) kube_services
     (services ++ rule_of (own_addresses family) (target.Jump kube_node_ports) ∷ [])
     ∷ []
 
@@ -244,14 +233,16 @@ nat_rows setting infos =
 -- the fixed chains of filter, with these rules of the firewall, for what comes in from outside and for Services
 abbrev pub filter_rows_with : Family → List Rule → List Rule → List Rule → List (ChainAt × List Rule)
 filter_rows_with family firewall external services =
-    row (filter_table family) (codes "INPUT") (jump_to kube_proxy_firewall ∷ jump_to kube_external_services ∷ [])
-    ∷ row (filter_table family) (codes "FORWARD")
+    row (filter_of family) (codes "INPUT")
+    (jump_to kube_proxy_firewall ∷ jump_to kube_external_services ∷ [])
+    ∷ row (filter_of family) (codes "FORWARD")
     (jump_to kube_proxy_firewall ∷ jump_to kube_external_services ∷ jump_to kube_services ∷ jump_to kube_forward ∷ [])
-    ∷ row (filter_table family) (codes "OUTPUT") (jump_to kube_proxy_firewall ∷ jump_to kube_services ∷ [])
-    ∷ row (filter_table family) kube_forward (rule_of (match.Marked false ∷ []) target.Accept ∷ [])
-    ∷ row (filter_table family) kube_proxy_firewall firewall
-    ∷ row (filter_table family) kube_external_services external
-    ∷ row (filter_table family) kube_services services
+    ∷ row (filter_of family) (codes "OUTPUT")
+    (jump_to kube_proxy_firewall ∷ jump_to kube_services ∷ [])
+    ∷ row (filter_of family) kube_forward (rule_of (match.Marked false ∷ []) target.Accept ∷ [])
+    ∷ row (filter_of family) kube_proxy_firewall firewall
+    ∷ row (filter_of family) kube_external_services external
+    ∷ row (filter_of family) kube_services services
     ∷ []
 
 -- the shared chains of filter, with the blocks of all ports
@@ -280,7 +271,7 @@ rules_of_key setting i (key.Sep port e) = endpoint_rules setting i e
 
 -- where the chain of a key stands
 abbrev pub place_of_key : Setting → ChainKey → ChainAt
-place_of_key setting k = record { table = nat_table setting.family; chain = setting.name_of k }
+place_of_key setting k = record { table = nat_of setting.family; chain = setting.name_of k }
 
 -- one of a port's chains, and its rules
 abbrev pub row_of_key : Setting → PortInfo → ChainKey → ChainAt × List Rule
@@ -290,7 +281,7 @@ row_of_key setting i k = (place_of_key setting k, rules_of_key setting i k)
 abbrev pub port_rows : Setting → PortInfo → List (ChainAt × List Rule)
 port_rows setting i = map (row_of_key setting i) (own_keys i)
 
--- all chains
+-- all chains of a family's tables
 abbrev pub rows_of : Setting → List PortInfo → List (ChainAt × List Rule)
 rows_of setting infos =
     nat_rows setting infos ++ filter_rows setting.family infos ++ flat_map (port_rows setting) infos

@@ -1,13 +1,12 @@
--- What one Service port contributes to the full table, its own chains and its rules in the shared ones, and the
--- table of all contributions between the fixed rules.
-use Rattle.std.specs.Prelude.{ℕ, List, [], ◌∷◌, ◌++◌, map}
+-- What one Service port contributes to the tables of a family, its own chains and its rules in the
+-- shared ones, and the tables of all contributions between the fixed rules.
+use Rattle.std.specs.Prelude.{List, ◌++◌, map}
 use Rattle.std.specs.List.{flat_map}
 use Rattle.std.specs.FinMap as finite
 use Rattle.kp_base.specs.Keys.{port_key_cmp}
 use Rattle.kp_base.specs.declared.address.Family.{Family}
-use Rattle.kp_base.specs.declared.key.PortKey.{PortKey}
 use Rattle.kp_types.specs.Places.{chain_cmp}
-use Rattle.kp_types.specs.Setting.{Setting}
+use Rattle.kp_types.specs.Setting.{Setting, Settings, view_of}
 use Rattle.kp_types.specs.declared.chain.ChainAt.{ChainAt}
 use Rattle.kp_types.specs.declared.rule.Rule.{Rule}
 use Rattle.kp_object_defs.specs.Objects.{Objects}
@@ -51,10 +50,20 @@ rows_of_ports family ports =
     ++ filter_rows_with family (flat_map (λ p. p.firewall) ports) (flat_map (λ p. p.external) ports)
     (flat_map (λ p. p.refusals) ports) ++ flat_map (λ p. finite.entries p.chains) ports
 
--- the table of the contributions, in order of the ports' names
+-- the tables of a family of the contributions, in order of the ports' names
 abbrev pub table_of_ports : Family → RulesByPort → Chains
 table_of_ports family ports = finite.from_entries (rows_of_ports family (finite.values ports))
 
 -- the contributions of all ports of some objects
 abbrev pub rules_of_objects : Setting → Objects → RulesByPort
 rules_of_objects setting o = rules_by_port setting (port_infos setting.family setting.config o)
+
+-- the tables of all families, of what ports contribute to each
+abbrev pub tables_of_ports : Settings → (Family → RulesByPort) → Chains
+tables_of_ports settings ports =
+    finite.from_entries
+    (flat_map (λ family. rows_of_ports family (finite.values (ports family))) settings.families)
+
+-- what all ports of some objects contribute to the tables of a family of a node
+abbrev pub rules_by_family : Settings → Objects → Family → RulesByPort
+rules_by_family settings o family = rules_of_objects (view_of family settings) o

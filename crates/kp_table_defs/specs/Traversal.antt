@@ -1,6 +1,6 @@
 -- The traversal of a chain as a relation, for readers (iptables(8)): rules, from the first on, take a state to
 -- an outcome. There is no bound on jumps, and no rule is stuck: where a jump goes to no chain, nothing is taken.
-use Rattle.std.specs.Prelude.{◌≡◌, ℕ, Bool, true, false, List, [], ◌∷◌, not, Option, Some, None}
+use Rattle.std.specs.Prelude.{◌≡◌, ℕ, true, false, List, [], ◌∷◌, not, Option, Some}
 use Rattle.kp_base.specs.declared.key.Endpoint.{Endpoint}
 use Rattle.kp_types.specs.declared.chain.TableName.{TableName}
 use Rattle.kp_types.specs.declared.chain.ChainAt.{ChainAt}

@@ -1,10 +1,13 @@
--- The walk of a packet through the tables of one address family (iptables(8)). The order of the hooks is ours: a
--- kernel has the same verdicts, since no rule of the filter asks for the source that POSTROUTING changes. A chain
--- is walked with a bound on the jumps, and what a jump does is a parameter, so that a law can speak of one chain
--- at a time.
+-- The walk of a packet through the tables of its address family (iptables(8), ip6tables(8)). The
+-- order of the hooks is ours: a kernel has the same verdicts, since no rule of the filter asks for the
+-- source that POSTROUTING changes. A chain is walked with a bound on the jumps, and what a jump does is
+-- a parameter, so that a law can speak of one chain at a time. All that follows speaks of the tables as
+-- IPv4 has them; those of the packet's family take their place in the look-up of chains.
 use Rattle.std.specs.Prelude.{ℕ, suc, zero, Bool, true, false, List, [], ◌∷◌, ◌++◌, not, codes, Option, Some, None}
 use Rattle.kp_base.specs.Net.{AddressParts, is_local_address}
 use Rattle.kp_base.specs.declared.key.Endpoint.{Endpoint}
+use Rattle.kp_types.specs.Packets.{family_of_packet}
+use Rattle.kp_types.specs.Places.{place_in}
 use Rattle.kp_types.specs.declared.chain.TableName.{TableName}
 use Rattle.kp_types.specs.declared.chain.TableName.TheVariants.{Nat, Filter}
 use Rattle.kp_types.specs.declared.chain.ChainAt.{ChainAt}
@@ -226,7 +229,8 @@ surroundings_of node_addresses packet draws = record {
   draws = draws;
 }
 
--- the walk of a packet, over the chains that a look-up finds
+-- the walk of a packet, over the chains that a look-up finds in the tables of its family
 abbrev pub walk_of : (ChainAt → Option (List Rule)) → List AddressParts → Packet → (ℕ → ℕ) → RecentParts → Walked
 walk_of at node_addresses packet draws lists =
-    walked_by (journey_of (surroundings_of node_addresses packet draws) at (initial_state packet lists))
+    walked_by (journey_of (surroundings_of node_addresses packet draws)
+    (λ place. at (place_in (family_of_packet packet) place)) (initial_state packet lists))

@@ -61,19 +61,19 @@ same_config a b same = of_facts AreBounded bounded_once make_config (fields_of a
 
 -- the fields of a packet line without the bound of its draws
 abbrev pub Parts : Type 0
-Parts = Packet × Draws × Bool
+Parts = Packet × ℕ × Draws × Bool
 
 abbrev pub parts_of : PacketLine → Parts
-parts_of l = (l.packet, l.draws, l.trail)
+parts_of l = (l.packet, l.source_port, l.draws, l.trail)
 
 abbrev HasLow : Parts → Type 0
-HasLow f = AreLow (listed f.1)
+HasLow f = AreLow (listed f.2)
 
 low_once : (f : Parts) (x y : HasLow f) → x ≡ y
 low_once f x y = λ i k default within. le_prop (x k default within) (y k default within) i
 
 abbrev make_line : (f : Parts) → HasLow f → PacketLine
-make_line f low = record { packet = f.0; draws = f.1; trail = f.2; low = low }
+make_line f low = record { packet = f.0; source_port = f.1; draws = f.2; trail = f.3; low = low }
 
 pub same_packet_line : (a b : PacketLine) → parts_of a ≡ parts_of b → a ≡ b
 same_packet_line a b same = of_facts HasLow low_once make_line (parts_of a) (parts_of b) same a.low b.low

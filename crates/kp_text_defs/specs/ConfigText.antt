@@ -1,13 +1,14 @@
 -- The configuration of a line (this project's choice): what the proxy of one node is told before any event. A member
 -- that is absent has the default of its row.
-use Rattle.std.specs.Prelude.{ℕ, true, false, List, [], codes, None, option_and_then, unwrap_or, Result}
+use Rattle.std.specs.Prelude.{ℕ, true, false, List, [], codes, None, unwrap_or, Result}
 use Rattle.std.specs.List.{filter_map}
 use Rattle.std.proofs.Common.{lit≤}
+use Rattle.kp_base.specs.declared.address.Family.TheVariants.{V4, V6}
 use Rattle.kp_base.specs.declared.config.Config.{Config}
 use Rattle.kp_json.specs.Places.{Place}
 use Rattle.kp_json.specs.declared.fault.BadField.{BadField}
-use Rattle.kp_row_defs.specs.Fields.{text_in, flag_in, whole_in, items_in, v4_address_at, v4_range_of}
-use Rattle.kp_row_defs.specs.Rows.{Rows, done, ◌▸◌, field, each, optional, name_text, v4_range_text, whole, truth_value, v4_address_rows, rows_fault, unless_fault}
+use Rattle.kp_row_defs.specs.Fields.{text_in, flag_in, whole_in, items_in, address_at, ranges_in, range_in_family}
+use Rattle.kp_row_defs.specs.Rows.{Rows, done, ◌▸◌, field, each, optional, name_text, ranges_text, whole, truth_value, address_rows, rows_fault, unless_fault}
 use Rattle.kp_text_defs.specs.Bounds.{between, between_from, between_to}
 
 -- the configuration without a line that says otherwise
@@ -37,9 +38,10 @@ default_config = record {
 abbrev pub config_rows : Rows
 config_rows =
     field (codes "node") optional name_text
-    ▸ each (codes "nodeAddresses") v4_address_rows
-    ▸ field (codes "clusterCIDR") optional v4_range_text
+    ▸ each (codes "nodeAddresses") address_rows
+    ▸ field (codes "clusterCIDR") optional ranges_text
     ▸ field (codes "masqueradeAll") optional truth_value
+    ▸ field (codes "dualStack") optional truth_value
     ▸ field (codes "controller") optional truth_value
     ▸ field (codes "maxEndpointsPerSlice") optional (whole 1 1000)
     ▸ field (codes "maxEvents") optional (whole 1 1000000)
@@ -55,10 +57,10 @@ number_in least most default name p = between least most (unwrap_or (whole_in na
 abbrev pub config_from : Place → Config
 config_from p = record {
   node = unwrap_or (text_in (codes "node") p) (codes "node");
-  addresses = filter_map v4_address_at (items_in (codes "nodeAddresses") p);
-  cluster = option_and_then v4_range_of (text_in (codes "clusterCIDR") p);
-  cluster6 = None;
-  dual = false;
+  addresses = filter_map address_at (items_in (codes "nodeAddresses") p);
+  cluster = range_in_family V4 (ranges_in (codes "clusterCIDR") p);
+  cluster6 = range_in_family V6 (ranges_in (codes "clusterCIDR") p);
+  dual = unwrap_or (flag_in (codes "dualStack") p) false;
   masquerade_all = unwrap_or (flag_in (codes "masqueradeAll") p) false;
   controller = unwrap_or (flag_in (codes "controller") p) true;
   max_per_slice = number_in 1 1000 100 (codes "maxEndpointsPerSlice") p;

@@ -1,18 +1,17 @@
 -- Packets of lines (this project's choice): the first packet of a connection, as the rules see it, and the draws of its
 -- statistic tests.
-use Rattle.std.specs.Prelude.{get_or, ℕ, ◌<◌, ◌^◌, false, List, [], ◌∷◌, map, codes, Option, Some, None, option_map, option_and_then, unwrap_or, Result}
+use Rattle.std.specs.Prelude.{get_or, ℕ, ◌<◌, ◌^◌, false, List, [], ◌∷◌, map, codes, Option, Some, None, option_map, unwrap_or, Result}
 use Rattle.std.proofs.Common.{lit<, lit≤, lt_of_le_of_lt}
 use Rattle.std.proofs.lemmas.List.Elements.{All-map, All-nil}
 use Rattle.kp_base.specs.Net.{AddressParts, v4_address}
-use Rattle.kp_base.specs.Dotted.{address_of}
 use Rattle.kp_base.specs.declared.port.Proto.TheVariants.{Tcp}
 use Rattle.kp_json.specs.Places.{Place, member_at, elements_of}
 use Rattle.kp_json.specs.declared.fault.BadField.{BadField}
 use Rattle.kp_types.specs.declared.packet.Origin.{Origin}
 use Rattle.kp_types.specs.declared.packet.Origin.TheVariants.{Wire, Node}
 use Rattle.kp_types.specs.declared.packet.Packet.{Packet}
-use Rattle.kp_row_defs.specs.Fields.{text_in, flag_in, whole_in, whole_of, chosen, texts_of, protocols}
-use Rattle.kp_row_defs.specs.Rows.{Rows, done, ◌▸◌, field, each_up_to, itself, needed, optional, own_address_text, choice, whole, truth_value, rows_fault, unless_fault}
+use Rattle.kp_row_defs.specs.Fields.{address_in, text_in, flag_in, whole_in, whole_of, chosen, texts_of, protocols}
+use Rattle.kp_row_defs.specs.Rows.{Rows, done, ◌▸◌, field, each_up_to, address_like, itself, needed, optional, address_text, choice, whole, truth_value, rows_fault, unless_fault}
 use Rattle.kp_text_defs.specs.Bounds.{between, between_to}
 use Rattle.kp_text_defs.specs.ListedDraws.{AreLow, listed}
 use Rattle.kp_text_defs.specs.declared.draws.Draws.{Draws}
@@ -27,12 +26,12 @@ origins = (codes "wire", Wire) ∷ (codes "node", Node) ∷ []
 abbrev pub draw_rows : Rows
 draw_rows = itself (whole 0 2147483647) ▸ done
 
--- the rows of a packet
+-- the rows of a packet; its addresses are of one family
 abbrev pub packet_rows : Rows
 packet_rows =
     field (codes "from") optional (choice (texts_of origins))
-    ▸ field (codes "src") needed own_address_text
-    ▸ field (codes "dst") needed own_address_text
+    ▸ field (codes "src") needed address_text
+    ▸ address_like (codes "dst") (codes "src")
     ▸ field (codes "proto") optional (choice (texts_of protocols))
     ▸ field (codes "sport") optional (whole 0 65535)
     ▸ field (codes "dport") needed (whole 1 65535)
@@ -42,16 +41,16 @@ packet_rows =
     ▸ field (codes "trail") optional truth_value
     ▸ done
 
--- the address of a member
-abbrev pub own_address_in : List ℕ → Place → AddressParts
-own_address_in name p = unwrap_or (option_and_then address_of (text_in name p)) (v4_address 0)
+-- the address of a member that is there
+abbrev pub needed_address_in : List ℕ → Place → AddressParts
+needed_address_in name p = unwrap_or (address_in name p) (v4_address 0)
 
 -- a packet
 abbrev pub packet_from : Place → Packet
 packet_from p = record {
   from = chosen origins Wire (text_in (codes "from") p);
-  source = own_address_in (codes "src") p;
-  target = own_address_in (codes "dst") p;
+  source = needed_address_in (codes "src") p;
+  target = needed_address_in (codes "dst") p;
   proto = chosen protocols Tcp (text_in (codes "proto") p);
   port = unwrap_or (whole_in (codes "dport") p) 0;
   now = unwrap_or (whole_in (codes "now") p) 0;
@@ -94,6 +93,7 @@ draws_are_low None None = All-nil _
 abbrev pub packet_line_from : Place → PacketLine
 packet_line_from p = record {
   packet = packet_from p;
+  source_port = unwrap_or (whole_in (codes "sport") p) 0;
   draws = draws_from p;
   trail = unwrap_or (flag_in (codes "trail") p) false;
   low = draws_are_low (member_at p (codes "draws")) (whole_in (codes "seed") p);

@@ -15,7 +15,7 @@ use Rattle.kp_text_defs.specs.StreamNames.{stream_of}
 use Rattle.kp_text_defs.specs.declared.script.Op.{Op}
 use Rattle.kp_text_defs.specs.declared.script.Op.TheVariants as op
 use Rattle.kp_text_defs.specs.declared.script.Shown.{Shown}
-use Rattle.kp_text_defs.specs.declared.script.Shown.TheVariants.{Slices, Endpoints, Nat, Filter, Batch}
+use Rattle.kp_text_defs.specs.declared.script.Shown.TheVariants.{Slices, Endpoints, Nat, Filter, Batch, Nat6, Filter6, Batch6}
 use Rattle.kp_text_defs.specs.declared.script.ScriptLine.{ScriptLine}
 use Rattle.kp_text_defs.specs.declared.stream.Stream.{Stream}
 use Rattle.kp_text_defs.specs.declared.line_refusal.LineRefusal.{LineRefusal}
@@ -66,7 +66,8 @@ read_stream p = unless_fault (row_fault stream_row p) (stream_from p)
 abbrev pub shows : List (List ℕ × Shown)
 shows =
     (codes "slices", Slices) ∷ (codes "endpoints", Endpoints) ∷ (codes "nat", Nat) ∷ (codes "filter", Filter)
-    ∷ (codes "batch", Batch) ∷ []
+    ∷ (codes "batch", Batch) ∷ (codes "nat6", Nat6) ∷ (codes "filter6", Filter6)
+    ∷ (codes "batch6", Batch6) ∷ []
 
 -- the row of what is shown
 abbrev pub show_row : Row

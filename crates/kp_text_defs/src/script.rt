@@ -11,12 +11,18 @@ pub enum Shown {
     Slices,
     /// The endpoints of the EndpointSlices, a line each.
     Endpoints,
-    /// The nat section of the table text.
+    /// The nat section of the table text of IPv4.
     Nat,
-    /// The filter section of the table text.
+    /// The filter section of the table text of IPv4.
     Filter,
-    /// The batch text of the last record.
+    /// The batch text of the last record in IPv4.
     Batch,
+    /// The nat section of the table text of IPv6.
+    Nat6,
+    /// The filter section of the table text of IPv6.
+    Filter6,
+    /// The batch text of the last record in IPv6.
+    Batch6,
 }
 
 /// What a line asks for.

@@ -1,5 +1,6 @@
 pub mod Chains
 pub mod Edits
+pub mod Packets
 pub mod Places
 pub mod Ports
 pub mod Rules

@@ -41,3 +41,14 @@ table_cmp a b = nat_cmp (table_place a) (table_place b)
 -- by table, and then by name
 abbrev pub chain_cmp : ChainAt → ChainAt → Ordering
 chain_cmp a b = ordering_then (table_cmp a.table b.table) (text_cmp a.chain b.chain)
+
+-- the table of a family in place of another family's
+abbrev pub table_in : Family → TableName → TableName
+table_in family Nat = nat_of family
+table_in family Filter = filter_of family
+table_in family Nat6 = nat_of family
+table_in family Filter6 = filter_of family
+
+-- the place of a chain in the tables of a family
+abbrev pub place_in : Family → ChainAt → ChainAt
+place_in family at = record at { table = table_in family at.table }

@@ -1,6 +1,8 @@
--- What decisions, tables and clashes are told beside the objects: the address family, the names of chains,
--- how endpoints are picked, and the configuration as the family sees it (this project's choice).
+-- What decisions, tables and clashes are told beside the objects: the address families, the
+-- names of chains, how endpoints are picked, and the configuration, of which each family sees
+-- its own part (this project's choice).
 use Rattle.std.specs.Prelude.{ℕ, Bool, List, [], ◌∷◌, Option, cond, option_and_then, Some, None}
+use Rattle.std.specs.List.{list_any}
 use Rattle.kp_base.specs.Net.{AddressParts, RangeParts, same_family}
 use Rattle.kp_base.specs.declared.address.Family.{Family}
 use Rattle.kp_base.specs.declared.address.Family.TheVariants.{V4, V6}
@@ -15,7 +17,8 @@ Naming = ChainKey → List ℕ
 abbrev pub Pick : Type 0
 Pick = (ℕ → ℕ) → ℕ → ℕ
 
--- the configuration as a family sees it: of the cluster's ranges its own, and all addresses of the node
+-- the configuration as a family sees it: of the cluster's ranges its own, and all addresses of
+-- the node
 pub record FamilyConfig : Type 0 where
   pub node : List ℕ
   pub addresses : List AddressParts
@@ -23,12 +26,51 @@ pub record FamilyConfig : Type 0 where
   pub masquerade_all : Bool
   pub controller : Bool
 
--- what is told
+-- what is told of one family
 pub record Setting : Type 0 where
   pub family : Family
   pub name_of : Naming
   pub pick : Pick
   pub config : FamilyConfig
+
+-- the configuration of a node, with the cluster's range in each family
+pub record NodeConfig : Type 0 where
+  pub node : List ℕ
+  pub addresses : List AddressParts
+  pub cluster : Family → Option RangeParts
+  pub masquerade_all : Bool
+  pub controller : Bool
+
+-- what is told of a node: the families that it has tables of, in their order, and what is told
+-- of each
+pub record Settings : Type 0 where
+  pub families : List Family
+  pub name_of : Naming
+  pub pick : Pick
+  pub config : NodeConfig
+
+-- the configuration of a node as a family sees it
+abbrev pub config_of_family : Family → NodeConfig → FamilyConfig
+config_of_family family config = record {
+  node = config.node;
+  addresses = config.addresses;
+  cluster = config.cluster family;
+  masquerade_all = config.masquerade_all;
+  controller = config.controller;
+}
+
+-- what is told of one family of a node
+abbrev pub view_of : Family → Settings → Setting
+view_of family settings = record {
+  family = family;
+  name_of = settings.name_of;
+  pick = settings.pick;
+  config = config_of_family family settings.config;
+}
+
+-- whether a node has tables of a family
+abbrev pub has_tables_of : Family → Settings → Bool
+has_tables_of family settings = list_any (same_family family) settings.families
 
 -- a range of a family
 abbrev pub range_in : Family → RangeParts → Option RangeParts
@@ -53,6 +95,16 @@ config_for family config = record {
   node = config.node;
   addresses = config.addresses;
   cluster = cluster_range family config;
+  masquerade_all = config.masquerade_all;
+  controller = config.controller;
+}
+
+-- the configuration of a node, as both families see it
+abbrev pub node_config : Config → NodeConfig
+node_config config = record {
+  node = config.node;
+  addresses = config.addresses;
+  cluster = λ family. cluster_range family config;
   masquerade_all = config.masquerade_all;
   controller = config.controller;
 }

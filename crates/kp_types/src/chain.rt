@@ -9,6 +9,7 @@ ghost use Rattle.std.specs.Hash as fed;
 ghost use Rattle.std.specs.List.{list_all, list_any};
 ghost use Rattle.kp_types.specs.Chains as Chains;
 ghost use Rattle.kp_types.specs.Chains.{is_chain_name};
+ghost use Rattle.kp_types.specs.Places as spec;
 ghost use Rattle.kp_types.specs.Places.{family_of_table};
 
 use arrayvec::ArrayString;
@@ -37,6 +38,26 @@ impl TableName {
         match self {
             TableName::Nat | TableName::Filter => Family::V4,
             TableName::Nat6 | TableName::Filter6 => Family::V6,
+        }
+    }
+
+    /// The nat table of a family.
+    pub fn nat_of(family: Family) -> TableName
+        ensures { result ≡ spec.nat_of family }
+    {
+        match family {
+            Family::V4 => TableName::Nat,
+            Family::V6 => TableName::Nat6,
+        }
+    }
+
+    /// The filter table of a family.
+    pub fn filter_of(family: Family) -> TableName
+        ensures { result ≡ spec.filter_of family }
+    {
+        match family {
+            Family::V4 => TableName::Filter,
+            Family::V6 => TableName::Filter6,
         }
     }
 }

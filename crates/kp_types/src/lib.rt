@@ -5,6 +5,7 @@
 mod chain;
 mod decision;
 mod event;
+mod families;
 mod info;
 pub mod laws;
 mod lists;
@@ -20,6 +21,7 @@ mod walk;
 pub use chain::{ChainAt, ChainKey, ChainName, Clash, PortChain, TableName};
 pub use decision::{ChosenBy, Decision, DoorKind, ListKind, Reason};
 pub use event::{Event, Kind, Object};
+pub use families::{cluster_range, table_families};
 pub use info::{PortInfo, ServiceSources};
 pub use lists::{Candidate, Lists};
 pub use packet::{Origin, Packet};

@@ -4,6 +4,7 @@ use Rattle.std.specs.List.{fold}
 use Rattle.std.specs.FinMap as finite
 use Rattle.kp_base.proofs.KeyOrder.{key_total, key_exact}
 use Rattle.kp_base.specs.Keys.{key_cmp}
+use Rattle.kp_base.specs.declared.address.Family.{Family}
 use Rattle.kp_base.specs.declared.address.Family.TheVariants.{V4}
 use Rattle.kp_base.specs.declared.key.ObjectKey.{ObjectKey}
 use Rattle.kp_types.specs.declared.event.Event.{Event}
@@ -87,23 +88,23 @@ abbrev zone_by : (ObjectKey → Option Node) → List ℕ → Option (List ℕ)
 zone_by node name = option_and_then (λ n. n.zone) (node (node_key name))
 
 -- what a Service is made of, by the objects in order and the nodes that look-ups find
-abbrev sources_by : FamilyConfig → List Slice → List Pod → (ObjectKey → Option Node) → Service
-    → ServiceSources
-sources_by config slices pods node s =
+abbrev sources_by : Family → FamilyConfig → List Slice → List Pod → (ObjectKey → Option Node)
+    → Service → ServiceSources
+sources_by family config slices pods node s =
     cond (is_reconciled config s)
     (record {
       service = s;
-      wanted = desired_from V4 (zone_by node) s pods;
+      wanted = desired_from family (zone_by node) s pods;
       slices = unmanaged (filter (is_of_service s.key) slices);
     })
     (record { service = s; wanted = []; slices = filter (is_of_service s.key) slices })
 
 -- what is known of the ports
-abbrev infos_by : FamilyConfig → List Service → List Slice → List Pod → (ObjectKey → Option Node)
-    → List PortInfo
-infos_by config services slices pods node =
-    infos_from V4 config.node (zone_by node config.node)
-    (map (sources_by config slices pods node) services)
+abbrev infos_by : Family → FamilyConfig → List Service → List Slice → List Pod
+    → (ObjectKey → Option Node) → List PortInfo
+infos_by family config services slices pods node =
+    infos_from family config.node (zone_by node config.node)
+    (map (sources_by family config slices pods node) services)
 
 abbrev pub in_key_order : {X : Type 0} → List (ObjectKey × X) → List X
 in_key_order es = values_of (in_order key_cmp es)
@@ -118,26 +119,31 @@ pub found_are : {X : Type 0} (es : List (ObjectKey × X))
 found_are es = λ i q. finite.get-from_entries key_total es q i
 
 -- the same by objects that are given as lists
-abbrev infos_listed : FamilyConfig → Listed → List PortInfo
-infos_listed config l =
-    infos_by config (in_key_order l.services) (in_key_order l.slices) (in_key_order l.pods)
+abbrev infos_listed : Family → FamilyConfig → Listed → List PortInfo
+infos_listed family config l =
+    infos_by family config (in_key_order l.services) (in_key_order l.slices) (in_key_order l.pods)
     (λ q. finite.find key_cmp q l.nodes)
 
-infos_are : (config : FamilyConfig) (l : Listed)
-    → port_infos V4 config (as_objects l) ≡ infos_listed config l
-infos_are config l =
-    λ i. infos_by config (values_are l.services i) (values_are l.slices i) (values_are l.pods i)
-    (found_are l.nodes i)
+infos_are : (family : Family) (config : FamilyConfig) (l : Listed)
+    → port_infos family config (as_objects l) ≡ infos_listed family config l
+infos_are family config l =
+    λ i. infos_by family config (values_are l.services i) (values_are l.slices i)
+    (values_are l.pods i) (found_are l.nodes i)
 
--- what is known of the ports after events, under a configuration
-abbrev pub infos_after : FamilyConfig → List Event → List PortInfo
-infos_after config events = infos_listed config (listed_after events)
+-- what a family knows of the ports after events, under a configuration
+abbrev pub infos_after : Family → FamilyConfig → List Event → List PortInfo
+infos_after family config events = infos_listed family config (listed_after events)
 
-pub infos_after_are : (config : FamilyConfig) (events : List Event)
-    → port_infos V4 config (objects_after events) ≡ infos_after config events
-infos_after_are config events =
-    ap (port_infos V4 config) (steps_are _ events) ∙ infos_are config (listed_after events)
+pub infos_after_are : (family : Family) (config : FamilyConfig) (events : List Event)
+    → port_infos family config (objects_after events) ≡ infos_after family config events
+infos_after_are family config events =
+    ap (port_infos family config) (steps_are _ events)
+    ∙ infos_are family config (listed_after events)
 
 -- a verdict after events
-pub verdict_is : (events : List Event) (draws : List ℕ) {v : Verdict} → (decided (infos_after setting.config events) (to_web other_pod) draws).verdict ≡ v → verdict_after events draws ≡ v
-verdict_is events draws h = ap (λ ports. (decided ports (to_web other_pod) draws).verdict) (infos_after_are setting.config events) ∙ h
+pub verdict_is : (events : List Event) (draws : List ℕ) {v : Verdict}
+    → (decided (infos_after V4 setting.config events) (to_web other_pod) draws).verdict ≡ v
+    → verdict_after events draws ≡ v
+verdict_is events draws h =
+    ap (λ ports. (decided ports (to_web other_pod) draws).verdict)
+    (infos_after_are V4 setting.config events) ∙ h

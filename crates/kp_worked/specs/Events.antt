@@ -11,7 +11,7 @@ use Rattle.kp_types.specs.declared.verdict.Verdict.{Verdict}
 use Rattle.kp_types.specs.declared.verdict.Verdict.TheVariants.{To, Rejected, LeftAlone}
 use Rattle.kp_choice_defs.specs.Draws.{draw_of_list}
 use Rattle.kp_object_defs.specs.Objects.{objects_after}
-use Rattle.kp_door_defs.specs.Decision.{decision_of}
+use Rattle.kp_door_defs.specs.Decision.{decision_in}
 use Rattle.kp_worked.specs.Setting.{ipv4, setting, default_key, web, ready_at, first, second, third, hinted, slice_of, ep1, ep2, no_lists, other_pod, to_web}
 use Rattle.kp_worked.specs.Decisions.{two}
 use Rattle.kp_worked.specs.Wanted.{selecting, pod_a, pod_b, pod_c}
@@ -19,7 +19,8 @@ use Rattle.kp_worked.specs.Wanted.{selecting, pod_a, pod_b, pod_c}
 -- the verdict on a pod's packet to the Service, after events
 abbrev pub verdict_after : List Event → List ℕ → Verdict
 verdict_after events draws =
-    (decision_of setting (objects_after events) (to_web other_pod) (draw_of_list draws) no_lists).verdict
+    (decision_in setting (objects_after events) (to_web other_pod) (draw_of_list draws)
+    no_lists).verdict
 
 -- the Service is applied
 abbrev pub apply_web : Event

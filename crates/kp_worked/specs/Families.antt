@@ -3,6 +3,7 @@
 use Rattle.std.specs.Prelude.{◌≡◌, ◌^◌, ◌*◌, false, [], ◌∷◌, codes, Some, None}
 use Rattle.std.specs.FinMap.{find}
 use Rattle.kp_base.specs.Net.{RangeParts}
+use Rattle.kp_base.specs.declared.address.Family.{Family}
 use Rattle.kp_base.specs.declared.address.Family.TheVariants.{V4, V6}
 use Rattle.kp_base.specs.declared.config.Config.{Config}
 use Rattle.kp_types.specs.Places.{chain_cmp}
@@ -10,7 +11,8 @@ use Rattle.kp_types.specs.Rules.{rule_of}
 use Rattle.kp_types.specs.declared.chain.TableName.TheVariants.{Nat}
 use Rattle.kp_types.specs.declared.rule.Target.TheVariants.{Jump}
 use Rattle.kp_types.specs.declared.verdict.Verdict.TheVariants.{To}
-use Rattle.kp_choice_defs.specs.Settings.{setting_of}
+use Rattle.kp_types.specs.Setting.{view_of}
+use Rattle.kp_choice_defs.specs.Settings.{setting_of, settings_of}
 use Rattle.kp_table_defs.specs.Layout.{rows_of}
 use Rattle.kp_worked.specs.Setting.{config, setting_under, web, first, infos, ep1, client, to_web}
 use Rattle.kp_worked.specs.Decisions.{two}
@@ -32,6 +34,11 @@ OtherRange = (setting_of V6 config).config.cluster ≡ None
 abbrev pub OtherOwnRange : Type 0
 OtherOwnRange =
     (setting_of V6 (record config { cluster6 = Some range_of_ipv6 })).config.cluster ≡ Some range_of_ipv6
+
+-- what is told of a family of a node is the family's own setting
+abbrev pub ViewIsSetting : Type 0
+ViewIsSetting =
+    (family : Family) (c : Config) → view_of family (settings_of c) ≡ setting_of family c
 
 -- the node's addresses are seen by both
 abbrev pub AllAddresses : Type 0

@@ -1,6 +1,7 @@
 pub mod Setting
 pub mod Decisions
 pub mod DualStack
+pub mod DualTables
 pub mod Lists
 pub mod Entries
 pub mod Wanted

@@ -27,10 +27,10 @@ use Rattle.kp_types.specs.declared.slice.AddressType.TheVariants.{Ipv4}
 use Rattle.kp_types.specs.declared.slice.SliceEndpoint.{SliceEndpoint}
 use Rattle.kp_types.specs.declared.slice.Slice.{Slice}
 use Rattle.kp_types.specs.declared.info.ServiceSources.{ServiceSources}
-use Rattle.kp_types.specs.Setting.{Setting}
+use Rattle.kp_types.specs.Setting.{Setting, Settings}
 use Rattle.kp_choice_defs.specs.Names.{port_chain_prefix}
 use Rattle.kp_choice_defs.specs.Recent.{RecentParts}
-use Rattle.kp_choice_defs.specs.Settings.{setting_of}
+use Rattle.kp_choice_defs.specs.Settings.{setting_of, settings_of}
 use Rattle.kp_object_defs.specs.PortInfo.{PortInfo, infos_from}
 
 -- the IPv4 address of four numbers
@@ -186,6 +186,10 @@ setting_under c = record (setting_of V4 c) { name_of = name_of }
 -- the setting of the node
 abbrev pub setting : Setting
 setting = setting_under config
+
+-- the settings of all families of a configuration, with these names
+abbrev pub settings_under : Config → Settings
+settings_under c = record (settings_of c) { name_of = name_of }
 
 -- the same, where names of chains are their prefixes alone
 abbrev pub plain_setting : Setting

@@ -11,6 +11,7 @@ ghost use Rattle.kp_worked.specs.Entries as entries;
 ghost use Rattle.kp_worked.specs.Events as events;
 ghost use Rattle.kp_worked.specs.Decisions as decisions;
 ghost use Rattle.kp_worked.specs.DualStack as dual;
+ghost use Rattle.kp_worked.specs.DualTables as tables;
 ghost use Rattle.kp_worked.specs.Families as families;
 ghost use Rattle.kp_worked.specs.Lists as lists;
 ghost use Rattle.kp_worked.specs.Masquerades as masquerades;
@@ -170,6 +171,7 @@ pub fn worked_families()
     ensures own { families.OwnRange }
     ensures other { families.OtherRange }
     ensures other_own { families.OtherOwnRange }
+    ensures view { families.ViewIsSetting }
     ensures addresses { families.AllAddresses }
     ensures source { families.KeepsSource }
     ensures mark { families.NoMark }
@@ -314,6 +316,25 @@ pub fn worked_dual_stack()
     ensures known_in_six { dual.KnownInSix }
     ensures known_in_four { dual.KnownInFour }
     ensures no_port_in_six { dual.NoPortInSix }
+{}
+
+/// Walks, decisions, chains and clashes of a node with tables of both families.
+pub fn worked_dual_tables()
+    ensures from_pod { tables.FromPod }
+    ensures from_outside { tables.FromOutside }
+    ensures decided_from_pod { tables.DecidedFromPod }
+    ensures decided_from_outside { tables.DecidedFromOutside }
+    ensures in_four { tables.InFour }
+    ensures without_six { tables.WithoutSix }
+    ensures decided_without_six { tables.DecidedWithoutSix }
+    ensures at_node { tables.AtNode }
+    ensures at_loopback { tables.AtLoopback }
+    ensures decided_at_loopback { tables.DecidedAtLoopback }
+    ensures chain_of_six { tables.ChainOfSix }
+    ensures node_ports_of_six { tables.NodePortsOfSix }
+    ensures no_chain_of_six { tables.NoChainOfSix }
+    ensures no_clash { tables.NoClash }
+    ensures four_first { tables.FourFirst }
 {}
 
 /// Slices as they are now, over syncs.

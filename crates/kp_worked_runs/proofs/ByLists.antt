@@ -1,38 +1,37 @@
 -- What a live run prints, where the maps of objects and of chains are given as lists: in this form
 -- it can be worked out.
-use Rattle.std.proofs.Common.{◌≡◌, ℕ, suc, List, [], ◌∷◌, ◌++◌, take, map, filter, filter_map, not, option_map, get_or, Option, ◌==◌, refl, sym, ap, ◌∙◌}
+use Rattle.std.proofs.Common.{◌≡◌, ℕ, suc, List, [], ◌∷◌, ◌++◌, take, map, filter, filter_map, not, option_map, get_or, slice_get, Option, ◌==◌, refl, sym, ap, ◌∙◌}
 use Rattle.std.specs.List.{flat_map, fold, range_with_len}
 use Rattle.std.specs.FinMap.{find, from_entries}
 use Rattle.std.proofs.lemmas.Grind.{flat_map-append}
-use Rattle.kp_base.specs.declared.address.Family.TheVariants.{V4}
+use Rattle.kp_base.specs.declared.address.Family.{Family}
 use Rattle.kp_types.proofs.ChainOrder.{chain_total}
-use Rattle.kp_types.specs.Places.{chain_cmp, table_place}
+use Rattle.kp_types.specs.Places.{chain_cmp, table_place, nat_of, filter_of}
+use Rattle.kp_types.specs.Setting.{config_of_family, table_families}
 use Rattle.kp_types.specs.declared.chain.ChainAt.{ChainAt}
 use Rattle.kp_types.specs.declared.chain.Clash.{Clash}
 use Rattle.kp_types.specs.declared.chain.TableName.{TableName}
-use Rattle.kp_types.specs.declared.chain.TableName.TheVariants.{Nat, Filter}
+use Rattle.kp_types.specs.declared.event.Event.{Event}
 use Rattle.kp_types.specs.declared.rule.Rule.{Rule}
-use Rattle.kp_choice_defs.specs.Names.{first_clash}
 use Rattle.kp_choice_defs.specs.Recent.{RecentParts}
 use Rattle.kp_object_defs.specs.Objects.{objects_after}
 use Rattle.kp_object_defs.specs.Order.{in_order}
-use Rattle.kp_object_defs.specs.PortInfo.{PortInfo, port_infos}
+use Rattle.kp_object_defs.specs.PortInfo.{PortInfo, infos_by_family}
 use Rattle.kp_object_defs.proofs.InOrder.{entries_in_order}
-use Rattle.kp_door_defs.specs.Decision.{Decided, decision_from}
+use Rattle.kp_door_defs.specs.Decision.{Decided, decision_among}
 use Rattle.kp_table_defs.specs.Edits.{changes_between}
-use Rattle.kp_table_defs.specs.Layout.{rows_of}
 use Rattle.kp_table_defs.specs.Ranks.{built_in_chains, is_built_in}
-use Rattle.kp_table_defs.specs.Rebuild.{clash_of, full_chains, needed_keys}
+use Rattle.kp_table_defs.specs.Rebuild.{clash_of, clashes_among, rows_of_families}
 use Rattle.kp_history_defs.specs.History.{covered, objects_covered}
 use Rattle.kp_history_defs.specs.Runs.{at_number}
-use Rattle.kp_restore_defs.specs.TableText.{section_of, table_lines, text_of_lines}
+use Rattle.kp_restore_defs.specs.TableText.{section_of, table_lines, table_text_of, text_of_lines}
 use Rattle.kp_text_defs.specs.declared.packet.PacketLine.{PacketLine}
 use Rattle.kp_text_defs.specs.Live.{final_text}
 use Rattle.kp_run_defs.specs.declared.live.StreamLine.{StreamLine}
 use Rattle.kp_run_defs.specs.declared.live.Work.{Work}
 use Rattle.kp_run_defs.specs.declared.live.Work.TheVariants.{Feeds, Syncs, Sends}
 use Rattle.kp_run_defs.specs.AnswerText.{draws_at, answer_text}
-use Rattle.kp_run_defs.specs.LegalRuns.{Mark, Shows, Refuses, LiveRun, setting_in, events_in, records_in, final_clash, chains_at}
+use Rattle.kp_run_defs.specs.LegalRuns.{Mark, Shows, Refuses, LiveRun, settings_in, events_in, records_in, final_clash, chains_at}
 use Rattle.kp_run_defs.specs.LiveText.{Answered, walked_at, with_packet_at, with_packet, with_work, with_answer, sync_answer, answers_of, nothing_answered, refused_text, journal_text, record_line, record_text_at, live_lines_text, live_text}
 use Rattle.kp_worked.proofs.Changes.{Rows, found, changes_listed, changes_are}
 use Rattle.kp_worked.proofs.Events.{infos_after, infos_after_are}
@@ -51,57 +50,79 @@ section_by chain_at rows table =
     (filter (λ e. not (is_built_in table e.0.chain))
     (filter (λ e. table_place e.0.table == table_place table) rows)))
 
-abbrev table_by : (ChainAt → Option (List Rule)) → Rows → List (List ℕ)
-table_by chain_at rows = section_by chain_at rows Nat ++ section_by chain_at rows Filter
+abbrev table_by : Family → (ChainAt → Option (List Rule)) → Rows → List (List ℕ)
+table_by family chain_at rows =
+    section_by chain_at rows (nat_of family) ++ section_by chain_at rows (filter_of family)
 
--- the lines of a table that is given as a list of chains
-abbrev pub table_listed : Rows → List (List ℕ)
-table_listed rows = table_by (λ q. find chain_cmp q rows) (in_order chain_cmp rows)
+-- the lines of a family's tables that are given as a list of chains
+abbrev table_listed : Rows → Family → List (List ℕ)
+table_listed rows family = table_by family (λ q. find chain_cmp q rows) (in_order chain_cmp rows)
 
-table_is : (rows : Rows) → table_lines V4 (from_entries rows) ≡ table_listed rows
-table_is rows = λ i. table_by (found rows i) (entries_in_order chain_total rows i)
+table_is : (family : Family) (rows : Rows)
+    → table_lines family (from_entries rows) ≡ table_listed rows family
+table_is family rows = λ i. table_by family (found rows i) (entries_in_order chain_total rows i)
+
+-- texts of lines, one after the other
+texts_are : (lines : Family → List (List ℕ)) (families : List Family)
+    → flat_map (λ family. text_of_lines (lines family)) families
+    ≡ text_of_lines (flat_map lines families)
+texts_are lines [] = refl
+texts_are lines (family ∷ families) =
+    ap (λ more. text_of_lines (lines family) ++ more) (texts_are lines families)
+    ∙ sym (flat_map-append (λ line. line ++ 10 ∷ []) (lines family) (flat_map lines families))
 
 -- ---- Runs
 
 module _ (run : LiveRun) where
-  -- what is known of the ports at a record
-  abbrev pub infos_at : ℕ → List PortInfo
-  infos_at n = infos_after (setting_in run).config (covered (events_in run) run.counts n)
+  -- what each family knows of the ports after events
+  abbrev infos_by : List Event → Family → List PortInfo
+  infos_by events family =
+      infos_after family (config_of_family family (settings_in run).config) events
 
-  infos_are : (n : ℕ)
-      → port_infos V4 (setting_in run).config (objects_covered (events_in run) run.counts n)
-      ≡ infos_at n
-  infos_are n = infos_after_are (setting_in run).config (covered (events_in run) run.counts n)
+  infos_by_are : (events : List Event) (family : Family)
+      → infos_by_family (settings_in run) (objects_after events) family ≡ infos_by events family
+  infos_by_are events family =
+      infos_after_are family (config_of_family family (settings_in run).config) events
 
-  -- the chains of its table
+  -- what it knows of them at a record
+  abbrev infos_at : ℕ → Family → List PortInfo
+  infos_at n family = infos_by (covered (events_in run) run.counts n) family
+
+  infos_are : (n : ℕ) (family : Family)
+      → infos_by_family (settings_in run) (objects_covered (events_in run) run.counts n) family
+      ≡ infos_at n family
+  infos_are n family = infos_by_are (covered (events_in run) run.counts n) family
+
+  -- the chains of its tables
   abbrev pub rows_at : ℕ → Rows
-  rows_at n = rows_of (setting_in run) (infos_at n)
+  rows_at n = rows_of_families (settings_in run) (infos_at n)
 
   chains_are : (n : ℕ) → chains_at run n ≡ from_entries (rows_at n)
-  chains_are n = ap (full_chains (setting_in run)) (infos_are n)
+  chains_are n =
+      λ i. from_entries (rows_of_families (settings_in run) (λ family. infos_are n family i))
 
-  -- the clash of what is known of the ports
-  abbrev pub clash_in : List PortInfo → Option Clash
-  clash_in infos = first_clash (setting_in run).name_of (needed_keys infos)
+  -- the clash of what is known of the ports after events
+  abbrev pub clash_by : List Event → Option Clash
+  clash_by events = slice_get (clashes_among (settings_in run) (infos_by events)) 0
+
+  clash_by_is : (events : List Event)
+      → clash_of (settings_in run) (objects_after events) ≡ clash_by events
+  clash_by_is events =
+      λ i. slice_get (clashes_among (settings_in run) (λ family. infos_by_are events family i)) 0
 
   pub clash_is : (n : ℕ)
-      → clash_of (setting_in run) (objects_covered (events_in run) run.counts n)
-      ≡ clash_in (infos_at n)
-  clash_is n = ap clash_in (infos_are n)
+      → clash_of (settings_in run) (objects_covered (events_in run) run.counts n)
+      ≡ clash_by (covered (events_in run) run.counts n)
+  clash_is n = clash_by_is (covered (events_in run) run.counts n)
 
   -- the same after some first events
   pub clash_after : (n : ℕ)
-      → clash_of (setting_in run) (objects_after (take n (events_in run)))
-      ≡ clash_in (infos_after (setting_in run).config (take n (events_in run)))
-  clash_after n =
-      ap clash_in (infos_after_are (setting_in run).config (take n (events_in run)))
+      → clash_of (settings_in run) (objects_after (take n (events_in run)))
+      ≡ clash_by (take n (events_in run))
+  clash_after n = clash_by_is (take n (events_in run))
 
-  -- what is known of the ports at the end
-  abbrev pub last_infos : List PortInfo
-  last_infos = infos_after (setting_in run).config (events_in run)
-
-  pub final_is : final_clash run ≡ clash_in last_infos
-  final_is = ap clash_in (infos_after_are (setting_in run).config (events_in run))
+  pub final_is : final_clash run ≡ clash_by (events_in run)
+  final_is = clash_by_is (events_in run)
 
   -- ---- Records
 
@@ -121,7 +142,7 @@ module _ (run : LiveRun) where
   -- the decision on a packet at a record
   abbrev decided_listed : ℕ → ℕ → PacketLine → RecentParts → Decided
   decided_listed n number p lists =
-      decision_from (setting_in run) (infos_at n) p.packet (draws_at number p.draws) lists
+      decision_among (settings_in run) (infos_at n) p.packet (draws_at number p.draws) lists
 
   -- a packet's answer, by the decision on it
   abbrev answered_by : Decided → ℕ → StreamLine → PacketLine → Answered → Answered
@@ -135,9 +156,8 @@ module _ (run : LiveRun) where
       → with_packet_at run n line p a
       ≡ answered_by (decided_listed n line.number p (a.lists line.stream)) n line p a
   packet_is n line p a =
-      ap (λ infos.
-      answered_by (decision_from (setting_in run) infos p.packet (draws_at line.number p.draws)
-      (a.lists line.stream)) n line p a) (infos_are n)
+      λ i. answered_by (decision_among (settings_in run) (λ family. infos_are n family i) p.packet
+      (draws_at line.number p.draws) (a.lists line.stream)) n line p a
 
   -- what a packet is answered whose line shows this
   abbrev shown_listed : Mark → StreamLine → PacketLine → Answered → Answered
@@ -173,12 +193,12 @@ module _ (run : LiveRun) where
 
   -- ---- The text
 
-  -- what stands before the table
+  -- what stands before the tables
   abbrev pub lines_listed : List ℕ
   lines_listed =
       flat_map refused_text run.reading.refused ++ journal_text run.reading.streams 1 run.journal
       ++ flat_map record_listed (range_with_len 0 (records_in run)) ++ answers_listed.text
-      ++ final_text (records_in run) (clash_in last_infos)
+      ++ final_text (records_in run) (clash_by (events_in run))
 
   lines_are : live_lines_text run ≡ lines_listed
   lines_are =
@@ -187,12 +207,22 @@ module _ (run : LiveRun) where
       ++ flat_map (λ n. record_is n i) (range_with_len 0 (records_in run)) ++ (answers_are i).text
       ++ final_text (records_in run) (final_is i)
 
-  -- a run prints the lines before its table and those of its table
+  -- the lines of the last tables
+  abbrev tables_listed : List (List ℕ)
+  tables_listed =
+      flat_map (table_listed (rows_at (records_in run))) (table_families run.reading.config)
+
+  tables_are : flat_map (λ family. table_text_of family (chains_at run (records_in run)))
+      (table_families run.reading.config) ≡ text_of_lines tables_listed
+  tables_are =
+      (λ i. flat_map (λ family. text_of_lines
+      ((ap (table_lines family) (chains_are (records_in run))
+      ∙ table_is family (rows_at (records_in run))) i)) (table_families run.reading.config))
+      ∙ texts_are (table_listed (rows_at (records_in run))) (table_families run.reading.config)
+
+  -- a run prints the lines before its tables and those of its tables
   pub prints : (lines table : List (List ℕ)) → lines_listed ≡ text_of_lines lines
-      → table_listed (rows_at (records_in run)) ≡ table
-      → live_text run ≡ text_of_lines (lines ++ table)
+      → tables_listed ≡ table → live_text run ≡ text_of_lines (lines ++ table)
   prints lines table before is =
-      (λ i. (lines_are ∙ before) i
-      ++ text_of_lines
-      ((ap (table_lines V4) (chains_are (records_in run)) ∙ table_is (rows_at (records_in run)) ∙ is) i))
+      (λ i. (lines_are ∙ before) i ++ (tables_are ∙ ap text_of_lines is) i)
       ∙ sym (flat_map-append (λ line. line ++ 10 ∷ []) lines table)

@@ -7,11 +7,10 @@ use Rattle.kp_types.specs.declared.chain.Clash.{Clash}
 use Rattle.kp_types.specs.declared.event.Event.{Event}
 use Rattle.kp_table_defs.specs.Rebuild.{clash_of}
 use Rattle.kp_object_defs.specs.Objects.{objects_after}
-use Rattle.kp_run_defs.specs.LegalRuns.{LiveRun, Refuses, events_in, setting_in}
+use Rattle.kp_run_defs.specs.LegalRuns.{LiveRun, Refuses, events_in, settings_in}
 use Rattle.kp_worked.specs.Events.{apply_web}
-use Rattle.kp_worked.proofs.Events.{infos_after}
 use Rattle.kp_worked_runs.specs.Clashes.{apply_both, sync_shows, turned}
-use Rattle.kp_worked_runs.proofs.ByLists.{clash_after, clash_in}
+use Rattle.kp_worked_runs.proofs.ByLists.{clash_after, clash_by}
 
 -- the run that is refused the other way round
 abbrev run : LiveRun
@@ -32,7 +31,7 @@ none_left zero = refl
 none_left (suc n) = refl
 
 pub never_turned : (n : ℕ)
-    → clash_of (setting_in run) (objects_after (take n (events_in run))) ≡ Some turned → ⊥
+    → clash_of (settings_in run) (objects_after (take n (events_in run))) ≡ Some turned → ⊥
 never_turned zero h =
     let none : None ≡ Some turned = sym (clash_after run 0) ∙ h in cc
 never_turned (suc zero) h =
@@ -40,7 +39,6 @@ never_turned (suc zero) h =
 never_turned (suc (suc n)) h =
     let address : ◌≡◌ {A = ℕ} 183763202 183763459 = ap first_address (
     sym (clash_after run (suc (suc n))
-    ∙ ap (λ rest. clash_in run (infos_after (setting_in run).config
-    (apply_web ∷ apply_both ∷ rest))) (none_left n))
+    ∙ ap (λ rest. clash_by run (apply_web ∷ apply_both ∷ rest)) (none_left n))
     ∙ h) in
     omega (arith, address)

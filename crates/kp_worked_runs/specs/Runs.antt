@@ -53,6 +53,7 @@ feeds event = main (op.Events (event ∷ []))
 abbrev pub sent : PacketLine
 sent = record {
   packet = to_web other_pod;
+  source_port = 0;
   draws = draws.List [];
   trail = false;
   low = All-nil (λ draw. draw < 2 ^ 31);

@@ -5,7 +5,6 @@ use Rattle.kp_base.specs.declared.port.Proto.TheVariants.{Tcp, Sctp}
 use Rattle.kp_json.specs.Answers.{fault_at}
 use Rattle.kp_json.specs.declared.fault.Why.TheVariants.{BadAddress}
 use Rattle.kp_types.specs.declared.pod.Pod.{Pod}
-use Rattle.kp_types.specs.declared.pod.Node.{Node}
 use Rattle.kp_event_defs.specs.PodText.{read_pod, read_node}
 use Rattle.kp_worked_texts.specs.Readings.{Reads, Refuses}
 use Rattle.kp_worked_texts.specs.Services.{local_six}

@@ -47,10 +47,13 @@ pub fn worked_pods()
 /// The members of packets and of settings, and what they are where nothing is said.
 pub fn worked_members()
     ensures packet { lines.AllOfPacket }
+    ensures six { lines.PacketOfSix }
     ensures plain { lines.PlainPacket }
     ensures listed { lines.ListBeforeSeed }
     ensures seeded { lines.SeedAlone }
     ensures setting { lines.AllOfSetting }
     ensures default { lines.DefaultSetting }
     ensures none { lines.NoSetting }
+    ensures packet_faults { lines.PacketFaults }
+    ensures setting_faults { lines.SettingFaults }
 {}

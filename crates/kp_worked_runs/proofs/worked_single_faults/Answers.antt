@@ -3,7 +3,7 @@ use Rattle.kp_types.specs.declared.event.Event.{Event}
 use Rattle.kp_types.specs.declared.event.Event.TheVariants.{Apply, Delete}
 use Rattle.kp_history_defs.specs.declared.fed.Fed.{Fed}
 use Rattle.kp_run_defs.specs.LegalRuns.{Shows, last_syncs}
-use Rattle.kp_run_defs.specs.LiveLines.{setting_read}
+use Rattle.kp_run_defs.specs.LiveLines.{settings_read}
 use Rattle.kp_run_defs.proofs.PodRuns.{no_clash_after, no_clash_at_end}
 use Rattle.kp_worked_runs.specs.Faults.{shows_last}
 use Rattle.kp_worked_runs.proofs.worked_single_faults.Goals as goal
@@ -32,15 +32,15 @@ returns-clause-event c legal =
 pub returns-clause-legal : goal.returns-clause-legal
 returns-clause-legal c =
     let run = shows_last (Shows 3) in
-    let setting = setting_read run.reading in
+    let settings = settings_read run.reading in
     record {
       journal = record { owned = refl; each = (refl, (refl, tt)) };
-      tables = λ n h. no_clash_after setting (sum (take n run.counts)) [];
+      tables = λ n h. no_clash_after settings (sum (take n run.counts)) [];
       covered = record { within = lit≤ tt; all = λ h. refl };
       seen = refl;
       refusals = (λ h. tt, (λ h. tt, (λ h. tt, (λ h. tt, tt))));
       enough =
-          subst (λ clash. 2 + last_syncs clash ≤ 3) (sym (no_clash_at_end setting [])) (lit≤ tt);
+          subst (λ clash. 2 + last_syncs clash ≤ 3) (sym (no_clash_at_end settings [])) (lit≤ tt);
     }
 
 pub returns-clause-packet : goal.returns-clause-packet

@@ -1,5 +1,5 @@
 use Rattle.std.proofs.Common.{◌≤◌, ◌+◌, [], ◌∷◌, codes, sum, take, refl, sym, subst, lit≤}
-use Rattle.kp_run_defs.specs.LiveLines.{setting_read}
+use Rattle.kp_run_defs.specs.LiveLines.{settings_read}
 use Rattle.kp_run_defs.specs.LegalRuns.{last_syncs}
 use Rattle.kp_run_defs.specs.WorkedLive.{run_of, two_streams, mixed, whole_counts, fitting}
 use Rattle.kp_run_defs.proofs.PodRuns.{no_clash_after, no_clash_at_end}
@@ -8,13 +8,13 @@ use Rattle.kp_run_defs.proofs.worked.a_legal_run.Goals as goal
 pub returns : goal.returns
 returns c =
     let names = codes "x" ∷ codes "z" ∷ codes "y" ∷ [] in
-    let setting = setting_read (run_of two_streams mixed whole_counts fitting).reading in
+    let settings = settings_read (run_of two_streams mixed whole_counts fitting).reading in
     record {
       journal = record { owned = refl; each = (refl, (refl, tt)) };
-      tables = λ n h. no_clash_after setting (sum (take n whole_counts)) names;
+      tables = λ n h. no_clash_after settings (sum (take n whole_counts)) names;
       covered = record { within = lit≤ tt; all = λ h. refl };
       seen = refl;
       refusals = (λ h. tt, (λ h. tt, (λ h. tt, (λ h. tt, (λ h. tt, (λ h. tt, tt))))));
       enough =
-          subst (λ clash. 2 + last_syncs clash ≤ 3) (sym (no_clash_at_end setting names)) (lit≤ tt);
+          subst (λ clash. 2 + last_syncs clash ≤ 3) (sym (no_clash_at_end settings names)) (lit≤ tt);
     }

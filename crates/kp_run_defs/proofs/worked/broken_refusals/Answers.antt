@@ -1,5 +1,5 @@
 use Rattle.std.proofs.Common.{◌≡◌, true, false, [], Some, None, refl, sym, ◌∙◌}
-use Rattle.kp_run_defs.specs.LiveLines.{setting_read, nothing_read}
+use Rattle.kp_run_defs.specs.LiveLines.{settings_read, nothing_read}
 use Rattle.kp_run_defs.specs.WorkedLive.{made_up}
 use Rattle.kp_run_defs.proofs.PodRuns.{no_clash_after}
 use Rattle.kp_run_defs.proofs.worked.broken_refusals.Goals as goal
@@ -7,7 +7,7 @@ use Rattle.kp_run_defs.proofs.worked.broken_refusals.Goals as goal
 pub returns-clause-made_up : goal.returns-clause-made_up
 returns-clause-made_up c legal =
     let clash = legal.refusals.0 refl in
-    let none = no_clash_after (setting_read nothing_read) clash.0 [] in
+    let none = no_clash_after (settings_read nothing_read) clash.0 [] in
     let h : None ≡ Some made_up = sym none ∙ clash.1 in cc
 
 pub returns-clause-packet : goal.returns-clause-packet
