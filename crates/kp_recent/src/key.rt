@@ -1,13 +1,18 @@
 //! The parts of the lists, by their names.
-ghost use Rattle.std.specs.Prelude.{◌≡◌};
+ghost use Rattle.std.specs.Prelude.{◌≡◌, ◌∷◌};
+ghost use Rattle.std.specs.Cmp.Rules.{hashing};
+ghost use Rattle.std.proofs.Common.{rules};
+ghost use Rattle.std.specs.Hash as fed;
 ghost use Rattle.kp_choice_defs.specs.Recent.{shard_of};
+ghost use Rattle.kp_recent.specs.Tails.{tail_of};
 
 use kp_base::Address;
 use kp_types::ChainName;
+use std::hash::{Hash, Hasher};
 use std::marker::Model;
 
 /// A part of the list with this name, from 0 to 15.
-#[derive(PartialEq, Eq, PartialOrd, Ord, Hash, Drop)]
+#[derive(PartialEq, Eq, PartialOrd, Ord, Drop)]
 pub struct ListPart {
     list: ChainName,
     part: u8,
@@ -33,4 +38,24 @@ impl ListPart {
             part: (source.number() % 16) as u8,
         }
     }
+}
+
+/// The end of a name tells it well enough, since the names of lists are hashes behind a few words.
+impl Hash for ListPart {
+    ghost hash_input = { λ p. tail_of p.list ∷ fed.u8 p.part };
+
+    ghost respects_eq = { Prim.search (hashing, rules) };
+
+    fn hash<H: Hasher>(&self, state: &mut H) {
+        state.write(tail(self.list.as_str().as_bytes()));
+        self.part.hash(state)
+    }
+}
+
+/// The last eight bytes.
+fn tail(bytes: &[u8]) -> &[u8]
+    ensures { result.now ≡ tail_of bytes.now }
+{
+    let (_, tail) = bytes.split_at(bytes.len().saturating_sub(8));
+    tail
 }

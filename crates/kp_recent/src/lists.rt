@@ -89,17 +89,29 @@ impl RecentLists {
         Ok(())
     }
 
+    /// Whether the source is in the list, with an age of at most so many seconds, as a match of
+    /// `--rcheck --seconds --reap` tells it. Sources of greater age are dropped from the part of
+    /// the list that this source is in. It takes no memory.
+    pub fn look(&mut self, list: &ChainName, source: &Address, now: u64, seconds: u32) -> bool
+        ensures live { result ≡ spec.is_live self.old list.now source.now now seconds }
+        ensures lists { self.new ≡ reaped self.old list.now source.now now seconds }
+    {
+        let key = ListPart::of(list, source);
+        let Some(part) = self.parts.get_mut(&key) else {
+            return false;
+        };
+        let is_live = part.look(source, now, seconds);
+        if part.is_empty() {
+            self.parts.swap_remove(&key);
+        }
+        is_live
+    }
+
     /// Drops the sources of an age of more than so many seconds from the part of the list that
     /// this source is in: `--reap`. It takes no memory.
     pub fn reap(&mut self, list: &ChainName, source: &Address, now: u64, seconds: u32)
         ensures { self.new ≡ reaped self.old list.now source.now now seconds }
     {
-        let key = ListPart::of(list, source);
-        if let Some(part) = self.parts.get_mut(&key) {
-            part.reap(now, seconds);
-            if part.is_empty() {
-                self.parts.swap_remove(&key);
-            }
-        }
+        self.look(list, source, now, seconds);
     }
 }

@@ -65,6 +65,17 @@ impl Part {
         }
     }
 
+    /// Whether the source is there, with at most this age. The sources of greater age are dropped.
+    pub fn look(&mut self, source: &Address, now: u64, seconds: u32) -> bool
+        ensures live { result ≡ has_recent now seconds source.now (shown_in self.old) }
+        ensures sources { shown_in self.new ≡ recent now seconds (shown_in self.old) }
+        ensures cap { self.new.cap ≡ self.old.cap }
+    {
+        let is_live = self.is_live(source, now, seconds);
+        self.reap(now, seconds);
+        is_live
+    }
+
     /// Sets the source at this moment, as the most recent one. A full part loses its least
     /// recently set one.
     pub fn set(&mut self, source: Address, now: u64) -> Result<(), NoMemory>
