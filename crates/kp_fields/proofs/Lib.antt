@@ -1,1 +1,2 @@
+pub mod EmptyText
 pub mod Tests

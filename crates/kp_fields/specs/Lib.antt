@@ -1,1 +1,2 @@
+pub mod FamilyRanges
 pub mod TextForms

@@ -5,7 +5,7 @@ ghost use Rattle.kp_json.specs.Places.{elements_of};
 ghost use Rattle.kp_json.specs.Views.{place_of};
 ghost use Rattle.kp_row_defs.specs.Fields.{address_at, address_in, items_in, range_at};
 ghost use Rattle.kp_row_defs.specs.Reads.{Reads};
-ghost use Rattle.kp_row_defs.specs.Rows.{optional, address_rows, address_text, each, range_text, field_fault, form_fault, list_fault, row_fault, rows_fault};
+ghost use Rattle.kp_row_defs.specs.Rows.{needed, optional, address_rows, address_text, each, range_text, field_fault, form_fault, list_fault, row_fault, rows_fault};
 
 use kp_base::{Address, Cidr, Items};
 use kp_json::{FieldFault, Spot, Why};
@@ -39,6 +39,20 @@ pub fn address_field<'a>(
             _ => Ok(Some(address_here(alloc, &member)?)),
         },
     }
+}
+
+/// The address of a member that has to be there.
+#[tactic(auto, using(crate::proofs::EmptyText::address_of_text))]
+pub fn needed_address<'a>(
+    alloc: Global,
+    spot: &'a Spot<'a>,
+    name: &'a str,
+) -> Result<Address, FieldFault>
+    ensures { Reads Some result (field_fault name.now needed address_text (place_of spot.now))
+        (address_in name.now (place_of spot.now)) }
+{
+    let member = spot.needed(alloc, name)?;
+    address_here(alloc, &member)
 }
 
 /// The addresses of a list that may be absent.

@@ -1,10 +1,10 @@
 //! The members of a packet's line.
-ghost use Rattle.std.specs.Prelude.{◌≡◌, ◌≤◌, false, codes, option_map, unwrap_or, IfSome};
+ghost use Rattle.std.specs.Prelude.{◌≡◌, ◌≤◌, false, codes, option_map, unwrap_or, IfSome, Some};
 ghost use Rattle.serde_json.specs.Data.{string};
 ghost use Rattle.serde_json.specs.Find.{get_member};
-ghost use Rattle.kp_row_defs.specs.Fields.{chosen, flag_in, protocols, text_in, texts_of, whole_in};
-ghost use Rattle.kp_row_defs.specs.Rows.{choice, field_fault, needed, optional, own_address_text, truth_value, whole};
-ghost use Rattle.kp_text_defs.specs.PacketText.{origins, own_address_in};
+ghost use Rattle.kp_row_defs.specs.Fields.{address_in, chosen, flag_in, protocols, text_in, texts_of, whole_in};
+ghost use Rattle.kp_row_defs.specs.Rows.{address_like, address_text, choice, field_fault, needed, optional, row_fault, truth_value, whole};
+ghost use Rattle.kp_text_defs.specs.PacketText.{origins};
 ghost use Rattle.kp_packet_lines.specs.Plain.{members_in};
 ghost use Rattle.kp_packet_lines.specs.Taken.{Takes, place_of};
 
@@ -31,6 +31,7 @@ fn whole_field(object: &PlainObject<'_>, name: &str, least: u64, most: u64) -> O
     ensures number { Takes (λ n. n) result
         (field_fault name.now optional (whole least most) (place_of object.now))
         (whole_in name.now (place_of object.now)) }
+    ensures bounds { IfSome result (λ o. IfSome o (λ n. (least ≤ n) × (n ≤ most))) }
 {
     match object.member(name) {
         None => Some(None),
@@ -39,13 +40,16 @@ fn whole_field(object: &PlainObject<'_>, name: &str, least: u64, most: u64) -> O
     }
 }
 
-/// The source port, which nothing depends on.
-pub(crate) fn source_port(object: &PlainObject<'_>) -> Option<Option<u64>>
+/// The source's port, which is 0 where none is given.
+pub(crate) fn source_port(object: &PlainObject<'_>) -> Option<u16>
     ensures { Takes (λ n. n) result
         (field_fault (codes "sport") optional (whole 0 65535) (place_of object.now))
-        (whole_in (codes "sport") (place_of object.now)) }
+        (unwrap_or (whole_in (codes "sport") (place_of object.now)) 0) }
 {
-    whole_field(object, "sport", 0, 65535)
+    match whole_field(object, "sport", 0, 65535)? {
+        None => Some(0),
+        Some(port) => Some(port as u16),
+    }
 }
 
 pub(crate) fn seed(object: &PlainObject<'_>) -> Option<Option<u64>>
@@ -104,13 +108,38 @@ pub(crate) fn proto(object: &PlainObject<'_>) -> Option<Proto>
     }
 }
 
-pub(crate) fn address(object: &PlainObject<'_>, name: &str) -> Option<Address>
-    ensures { Takes (λ a. a) result
-        (field_fault name.now needed own_address_text (place_of object.now))
-        (own_address_in name.now (place_of object.now)) }
+/// An address of either family. One of IPv4 is read first, so that it costs no more.
+fn address(object: &PlainObject<'_>, name: &str) -> Option<Address>
+    ensures { Takes Some result (field_fault name.now needed address_text (place_of object.now))
+        (address_in name.now (place_of object.now)) }
 {
     let text = text_field(object, name)??;
-    Address::parse(text.as_bytes()).ok()
+    Address::parse_any(text.as_bytes()).ok()
+}
+
+/// The source's address.
+pub(crate) fn source_address(object: &PlainObject<'_>) -> Option<Address>
+    ensures { Takes Some result
+        (field_fault (codes "src") needed address_text (place_of object.now))
+        (address_in (codes "src") (place_of object.now)) }
+{
+    address(object, "src")
+}
+
+/// The destination's address, which is of the family of the source's.
+pub(crate) fn target_address(object: &PlainObject<'_>, source: Address) -> Option<Address>
+    requires { address_in (codes "src") (place_of object.now) ≡ Some source }
+    ensures { Takes Some result
+        (row_fault (address_like (codes "dst") (codes "src")) (place_of object.now))
+        (address_in (codes "dst") (place_of object.now)) }
+{
+    let text = text_field(object, "dst")??;
+    let target = Address::parse_any(text.as_bytes()).ok()?;
+    if target.family() == source.family() {
+        Some(target)
+    } else {
+        None
+    }
 }
 
 /// Whether the trail is asked for.

@@ -8,7 +8,8 @@ ghost use Rattle.kp_packet_lines.specs.Taken.{Takes, place_of};
 
 use crate::draws::{draws_of, listed_draws};
 use crate::fields::{
-    address, moment, origin, proto, seed, source_port, target_port, text_field, trail,
+    moment, origin, proto, seed, source_address, source_port, target_address, target_port,
+    text_field, trail,
 };
 use crate::object::PlainObject;
 use crate::reading::plain_object;
@@ -62,10 +63,10 @@ fn packet_in(alloc: Global, object: PlainObject<'_>) -> Option<PacketLine>
         (packet_line_from (place_of object.entry)) }
 {
     let from = origin(&object)?;
-    let source = address(&object, "src")?;
-    let target = address(&object, "dst")?;
+    let source = source_address(&object)?;
+    let target = target_address(&object, source)?;
     let protocol = proto(&object)?;
-    let _source_port = source_port(&object)?;
+    let from_port = source_port(&object)?;
     let port = target_port(&object)?;
     let now = moment(&object)?;
     let drawn = seed(&object)?;
@@ -81,6 +82,7 @@ fn packet_in(alloc: Global, object: PlainObject<'_>) -> Option<PacketLine>
             port,
             now,
         },
+        source_port: from_port,
         draws,
         trail: has_trail,
     })

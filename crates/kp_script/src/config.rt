@@ -8,7 +8,7 @@ ghost use Rattle.kp_text_defs.specs.ConfigText.{config_from, config_rows, defaul
 
 use kp_base::{Config, Items, NoMemory, Text};
 use kp_fields::{
-    TextForm, copied_text, flag_field, text_field, v4_addresses_field, v4_range_field, whole_field,
+    TextForm, addresses_field, copied_text, flag_field, ranges_field, text_field, whole_field,
 };
 use kp_json::{FieldFault, Spot};
 use std::alloc::Global;
@@ -38,9 +38,10 @@ pub(crate) fn config_of<'a>(alloc: Global, spot: &'a Spot<'a>) -> Result<Config,
         (config_from (place_of spot.now)) }
 {
     let node = node_field(alloc, spot)?;
-    let addresses = v4_addresses_field(alloc, spot, "nodeAddresses")?;
-    let cluster = v4_range_field(alloc, spot, "clusterCIDR")?;
+    let addresses = addresses_field(alloc, spot, "nodeAddresses")?;
+    let (cluster, cluster6) = ranges_field(alloc, spot, "clusterCIDR")?;
     let masquerade_all = flag_or(alloc, spot, "masqueradeAll", false)?;
+    let dual = flag_or(alloc, spot, "dualStack", false)?;
     let controller = flag_or(alloc, spot, "controller", true)?;
     let max_per_slice = count_field(alloc, spot, "maxEndpointsPerSlice", 1000, 100)?;
     let max_events = number_field(alloc, spot, "maxEvents", 1, 1000000, 1000000)?;
@@ -50,8 +51,8 @@ pub(crate) fn config_of<'a>(alloc: Global, spot: &'a Spot<'a>) -> Result<Config,
         node,
         addresses,
         cluster,
-        cluster6: None,
-        dual: false,
+        cluster6,
+        dual,
         masquerade_all,
         controller,
         max_per_slice,

@@ -1,15 +1,17 @@
 //! Lines that send or explain a packet.
-ghost use Rattle.std.specs.Prelude.{◌≡◌, ◌<◌, ◌^◌, codes, option_map, unwrap_or, IfOk, IfSome};
+ghost use Rattle.std.specs.Prelude.{◌≡◌, ◌<◌, ◌^◌, codes, option_map, unwrap_or, IfOk, IfSome, Some};
 ghost use Rattle.kp_json.specs.Views.{place_of};
-ghost use Rattle.kp_row_defs.specs.Fields.{chosen, text_in, texts_of, whole_in};
+ghost use Rattle.kp_row_defs.specs.Fields.{address_in, chosen, text_in, texts_of, whole_in};
 ghost use Rattle.kp_row_defs.specs.Reads.{Reads};
-ghost use Rattle.kp_row_defs.specs.Rows.{choice, each_up_to, field_fault, list_fault, needed, optional, own_address_text, row_fault, rows_fault, whole};
+ghost use Rattle.kp_row_defs.specs.Rows.{address_like, address_text, choice, each_up_to, field_fault, list_fault, needed, optional, row_fault, rows_fault, whole};
 ghost use Rattle.kp_text_defs.specs.ListedDraws.{AreLow, listed};
-ghost use Rattle.kp_text_defs.specs.PacketText.{draw_from, draw_list, draw_rows, draws_of, listed_in, origins, own_address_in, packet_line_from, packet_rows};
+ghost use Rattle.kp_text_defs.specs.PacketText.{draw_from, draw_list, draw_rows, draws_of, listed_in, origins, packet_line_from, packet_rows};
 
 use crate::config::flag_or;
 use kp_base::{Address, Items};
-use kp_fields::{choice_field, needed_port, proto_field, whole_field};
+use kp_fields::{
+    address_here, choice_field, needed_address, needed_port, proto_field, whole_field,
+};
 use kp_json::{FieldFault, Spot, Why};
 use kp_text_defs::{Draws, PacketLine};
 use kp_types::{Origin, Packet};
@@ -24,10 +26,10 @@ pub(crate) fn packet_of<'a>(alloc: Global, spot: &'a Spot<'a>) -> Result<PacketL
         (packet_line_from (place_of spot.now)) }
 {
     let from = origin_field(alloc, spot)?;
-    let source = address_field(alloc, spot, "src")?;
-    let target = address_field(alloc, spot, "dst")?;
+    let source = needed_address(alloc, spot, "src")?;
+    let target = target_field(alloc, spot, source)?;
     let proto = proto_field(alloc, spot, "proto")?;
-    let _sport = whole_field(alloc, spot, "sport", 0, 65535)?;
+    let source_port = source_port_field(alloc, spot)?;
     let port = needed_port(alloc, spot, "dport")?;
     let now = now_field(alloc, spot)?;
     let list = draws_field(alloc, spot)?;
@@ -43,6 +45,7 @@ pub(crate) fn packet_of<'a>(alloc: Global, spot: &'a Spot<'a>) -> Result<PacketL
             port,
             now,
         },
+        source_port,
         draws,
         trail,
     })
@@ -76,23 +79,34 @@ fn origin_of(text: Option<&str>) -> Origin
     }
 }
 
-/// An address that has to be there, of the family that is read.
-fn address_field<'a>(
+/// The destination's address, which is of the family of the source's.
+fn target_field<'a>(
     alloc: Global,
     spot: &'a Spot<'a>,
-    name: &'a str,
+    source: Address,
 ) -> Result<Address, FieldFault>
-    ensures { Reads (λ a. a) result
-        (field_fault name.now needed own_address_text (place_of spot.now))
-        (own_address_in name.now (place_of spot.now)) }
+    requires { address_in (codes "src") (place_of spot.now) ≡ Some source }
+    ensures { Reads Some result
+        (row_fault (address_like (codes "dst") (codes "src")) (place_of spot.now))
+        (address_in (codes "dst") (place_of spot.now)) }
 {
-    let member = spot.needed(alloc, name)?;
-    match member.as_text() {
-        None => Err(member.bad(alloc, Why::WrongType)),
-        Some(text) => match Address::parse(text.as_bytes()) {
-            Ok(address) => Ok(address),
-            Err(_) => Err(member.bad(alloc, Why::BadAddress)),
-        },
+    let member = spot.needed(alloc, "dst")?;
+    let target = address_here(alloc, &member)?;
+    if target.family() != source.family() {
+        return Err(member.bad(alloc, Why::BadAddress));
+    }
+    Ok(target)
+}
+
+/// The source's port, which is 0 where none is given.
+fn source_port_field<'a>(alloc: Global, spot: &'a Spot<'a>) -> Result<u16, FieldFault>
+    ensures { Reads (λ n. n) result
+        (field_fault (codes "sport") optional (whole 0 65535) (place_of spot.now))
+        (unwrap_or (whole_in (codes "sport") (place_of spot.now)) 0) }
+{
+    match whole_field(alloc, spot, "sport", 0, 65535)? {
+        None => Ok(0),
+        Some(port) => Ok(port as u16),
     }
 }
 

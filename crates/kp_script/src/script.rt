@@ -131,7 +131,16 @@ fn shown_field<'a>(alloc: Global, spot: &'a Spot<'a>) -> Result<Shown, FieldFaul
     ensures { Reads (λ s. s) result (row_fault show_row (place_of spot.now))
         (chosen shows Shown.Slices (text_in (codes "what") (place_of spot.now))) }
 {
-    let choices = ["slices", "endpoints", "nat", "filter", "batch"];
+    let choices = [
+        "slices",
+        "endpoints",
+        "nat",
+        "filter",
+        "batch",
+        "nat6",
+        "filter6",
+        "batch6",
+    ];
     let text = needed_choice(alloc, spot, "what", &choices)?;
     Ok(shown_of(text))
 }
@@ -144,6 +153,9 @@ fn shown_of(text: &str) -> Shown
         "nat" => Shown::Nat,
         "filter" => Shown::Filter,
         "batch" => Shown::Batch,
+        "nat6" => Shown::Nat6,
+        "filter6" => Shown::Filter6,
+        "batch6" => Shown::Batch6,
         _ => Shown::Slices,
     }
 }
