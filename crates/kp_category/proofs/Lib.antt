@@ -2,4 +2,3 @@ pub mod Addresses
 pub mod Counting
 pub mod Families
 pub mod Filtered
-pub mod OneFamily

@@ -1,4 +1,5 @@
-//! The endpoints of a Service port, each address and port once, and the lists that it may send to.
+//! The endpoints of a Service port in each family, each address and port once, and the lists that it
+//! may send to.
 #![tactic(auto)]
 
 mod entries;
@@ -6,6 +7,6 @@ mod policies;
 mod reach;
 mod topology;
 
-pub use entries::candidates;
+pub use entries::{candidates, candidates_of, of_family};
 pub use kp_types::{Candidate, Lists};
 pub use policies::categorise;

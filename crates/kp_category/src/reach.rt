@@ -8,6 +8,7 @@ ghost use Rattle.kp_object_defs.specs.PortInfo.{external_in, balancer_in};
 ghost use Rattle.kp_object_defs.specs.PortInfo.{node_port_of, is_reachable_in};
 
 use kp_base::{Address, Family, PortNo};
+use kp_port_info::{balancer_of, external_of};
 use kp_types::{Service, ServiceKind, ServicePort};
 
 /// Whether a port has an external address, a load-balancer address or a node port.
@@ -24,26 +25,6 @@ fn has_external(family: Family, service: &Service) -> bool
     ensures { result ≡ not (is_empty (external_in family service.now)) }
 {
     has_address_in(family, external_of(family, service))
-}
-
-/// The external addresses that a Service gives for a family.
-fn external_of(family: Family, service: &Service) -> &[Address]
-    ensures { result.now ≡ spec.external_of family service.now }
-{
-    match family {
-        Family::V4 => service.external.as_slice(),
-        Family::V6 => service.six.external.as_slice(),
-    }
-}
-
-/// The load balancer's addresses that it gives.
-fn balancer_of(family: Family, service: &Service) -> &[Address]
-    ensures { result.now ≡ spec.balancer_of family service.now }
-{
-    match family {
-        Family::V4 => service.balancer.as_slice(),
-        Family::V6 => service.six.balancer.as_slice(),
-    }
 }
 
 fn has_balancer(family: Family, service: &Service) -> bool

@@ -1,22 +1,21 @@
 -- What is known of ports by their names, one more port or Service at a time.
-use Rattle.std.proofs.Common.{◌≡◌, ℕ, List, [], ◌∷◌, ◌++◌, map, Option, Some, None, option_map, filter_map, refl, sym, ap, ◌∙◌}
+use Rattle.std.proofs.Common.{◌≡◌, ℕ, List, [], ◌∷◌, ◌++◌, map, Option, filter_map, refl, sym, ap, ◌∙◌}
 use Rattle.std.specs.List.{cons_option}
 use Rattle.std.specs.FinMap.{put}
 use Rattle.std.proofs.lemmas.List.{map-append, append_assoc}
 use Rattle.kp_base.specs.Keys.{port_key_cmp}
-use Rattle.kp_base.specs.Net.{AddressParts}
 use Rattle.kp_base.specs.declared.address.Family.{Family}
 use Rattle.kp_types.specs.Setting.{FamilyConfig}
 use Rattle.kp_types.specs.declared.info.ServiceSources.{ServiceSources}
 use Rattle.kp_types.specs.declared.service.Service.{Service}
 use Rattle.kp_types.specs.declared.service.ServicePort.{ServicePort}
-use Rattle.kp_object_defs.specs.Entries.{sources_of, entries_from}
+use Rattle.kp_object_defs.specs.Entries.{sources_of}
 use Rattle.kp_object_defs.specs.Objects.{Objects, zone_of}
 use Rattle.kp_object_defs.specs.Order.{by_key}
-use Rattle.kp_object_defs.specs.PortInfo.{cluster_address_in, info_from, info_of, name_of_port, port_key_of}
+use Rattle.kp_object_defs.specs.PortInfo.{info_of, name_of_port, port_key_of, ports_of}
 use Rattle.kp_object_defs.proofs.InOrder.{insert-put, insert-through, by_key-push}
 use Rattle.kp_object_laws.proofs.PortByKey.{sources_service}
-use Rattle.kp_known_ports.specs.Known.{known_in_part, known_ports, sources_in}
+use Rattle.kp_known_ports.specs.Known.{known_ports}
 
 -- of the values of known ports, those that are there
 pub known_there : {K X Y : Type 0} (f : X → Option Y) (es : List (K × X)) → filter_map (λ o. o) (map (λ (e : K × Option Y). e.1) (map (λ (e : K × X). (e.0, f e.1)) es)) ≡ filter_map f (map (λ (e : K × X). e.1) es)
@@ -35,25 +34,15 @@ module _ (family : Family) (config : FamilyConfig) (o : Objects) (s : Service) w
   abbrev pub with_ports : List ServicePort → List (ServiceSources × ServicePort)
   with_ports ps = map (λ p. (sources_of family config o s, p)) ps
 
-  by_address : (node : List ℕ) (place : Option (List ℕ)) (p : ServicePort) (address : Option AddressParts) → cluster_address_in family (sources_of family config o s).service ≡ address → known_in_part family node place p (option_map (λ _. sources_of family config o s) address) ≡ info_of family node place (sources_of family config o s, p)
-  by_address node place p None at =
-      let from : ServiceSources = sources_of family config o s in
-      sym (ap (option_map (info_from family from.service p place (entries_from family node from (port_key_of from.service p)))) at)
-  by_address node place p (Some a) at = refl
-
-  -- what is known of a port, where its Service takes part, is what is known of it
-  in_part : (node : List ℕ) (zone : Option (List ℕ)) (p : ServicePort) → known_in_part family node zone p (sources_in family config o s) ≡ info_of family node zone (sources_of family config o s, p)
-  in_part node zone p =
-      by_address node zone p (cluster_address_in family s) (ap (cluster_address_in family) (sources_service family config o s))
-
-  -- one more port of the Service
-  pub next_port : (before : List (ServiceSources × ServicePort)) (ps : List ServicePort) (p : ServicePort) → put port_key_cmp (port_key_of s p) (known_in_part family config.node (zone_of o config.node) p (sources_in family config o s)) (known_ports family config.node (zone_of o config.node) (before ++ with_ports ps)) ≡ known_ports family config.node (zone_of o config.node) (before ++ with_ports (ps ++ p ∷ []))
+  -- one more port of the Service, by what its endpoints are taken from
+  pub next_port : (before : List (ServiceSources × ServicePort)) (ps : List ServicePort) (p : ServicePort) → put port_key_cmp (port_key_of (sources_of family config o s).service p) (info_of family config.node (zone_of o config.node) (sources_of family config o s, p)) (known_ports family config.node (zone_of o config.node) (before ++ with_ports ps)) ≡ known_ports family config.node (zone_of o config.node) (before ++ with_ports (ps ++ p ∷ []))
   next_port before ps p =
-      let zone : Option (List ℕ) = zone_of o config.node in
       let from : ServiceSources = sources_of family config o s in
-      let so_far = known_ports family config.node zone (before ++ with_ports ps) in
-      (λ i. put port_key_cmp (port_key_of (sym (sources_service family config o s) i) p) (in_part config.node zone p i) so_far)
-      ∙ known_push family config.node zone (before ++ with_ports ps) (from, p)
-      ∙ ap (known_ports family config.node zone)
+      known_push family config.node (zone_of o config.node) (before ++ with_ports ps) (from, p)
+      ∙ ap (known_ports family config.node (zone_of o config.node))
       (append_assoc before (with_ports ps) (with_ports (p ∷ []))
       ∙ ap (λ rest. before ++ rest) (sym (map-append (λ q. (from, q)) ps (p ∷ []))))
+
+  -- all of them
+  pub all_ports : (before : List (ServiceSources × ServicePort)) → before ++ with_ports s.ports ≡ before ++ ports_of (sources_of family config o s)
+  all_ports before = ap (λ (t : Service). before ++ with_ports t.ports) (sym (sources_service family config o s))

@@ -1,3 +1,4 @@
 pub mod Counted
 pub mod KnownPorts
 pub mod StoredServices
+pub mod TakingPart

@@ -1,13 +1,10 @@
 //! What the endpoints of a Service are taken from.
-ghost use Rattle.std.specs.Prelude.{◌≡◌, map, IfOk};
-ghost use Rattle.kp_base.specs.declared.address.Family.TheVariants.{V4};
+ghost use Rattle.std.specs.Prelude.{◌≡◌, ◌&&◌, map, IfOk};
 ghost use Rattle.kp_types.specs.Setting.{config_for};
 ghost use Rattle.kp_object_defs.specs.Desired as desired;
 ghost use Rattle.kp_object_defs.specs.Entries as spec;
-ghost use Rattle.kp_known_ports.specs.Known.{sources_in};
 
 use kp_base::{Config, Family, Items, NoMemory};
-use kp_port_info::cluster_address;
 use kp_store::{Objects, wanted_of};
 use kp_types::{Service, ServiceKind, Slice, Wanted};
 use std::alloc::Global;
@@ -38,39 +35,23 @@ impl<'a> Model for Sources<'a> {
     } };
 }
 
-/// What the endpoints of a Service are taken from, where it takes part: where it has a cluster
-/// address of IPv4.
-pub fn sources_in_part<'a>(
+/// What the endpoints of a Service in a family are taken from: where the controller makes slices for
+/// it, the endpoints that it wants and the slices that it doesn't manage, or else all slices.
+pub fn sources_of<'a>(
     alloc: Global,
-    objects: &'a Objects,
-    config: &Config,
-    service: &'a Service,
-) -> Result<Option<Sources<'a>>, NoMemory>
-    ensures { IfOk result (λ s. s
-        ≡ sources_in V4 (config_for V4 config.now) objects.now service.now) }
-{
-    match cluster_address(service) {
-        Some(_) => Ok(Some(sources_of(alloc, objects, config, service)?)),
-        None => Ok(None),
-    }
-}
-
-/// What the endpoints of a Service are taken from: where the controller makes slices for it, the
-/// endpoints that it wants and the slices that it doesn't manage, or else all slices.
-fn sources_of<'a>(
-    alloc: Global,
+    family: Family,
     objects: &'a Objects,
     config: &Config,
     service: &'a Service,
 ) -> Result<Sources<'a>, NoMemory>
     ensures { IfOk result (λ s. s
-        ≡ spec.sources_of V4 (config_for V4 config.now) objects.now service.now) }
+        ≡ spec.sources_of family (config_for family config.now) objects.now service.now) }
 {
     let slices = objects.slices_found(alloc, &service.key)?;
     if is_reconciled(config, service) {
         Ok(Sources {
             service,
-            wanted: wanted_of(alloc, objects, service, Family::V4)?,
+            wanted: wanted_of(alloc, objects, service, family)?,
             slices: unmanaged(alloc, slices.as_slice())?,
         })
     } else {
@@ -84,7 +65,7 @@ fn sources_of<'a>(
 
 /// Whether the controller makes slices for a Service.
 fn is_reconciled(config: &Config, service: &Service) -> bool
-    ensures { result ≡ desired.is_reconciled (config_for V4 config.now) service.now }
+    ensures { result ≡ (config.now.controller && desired.has_selector service.now) }
 {
     config.controller
         && !service.selector.as_slice().is_empty()

@@ -8,3 +8,6 @@ pub mod Usable
 pub mod Wanted
 pub mod NamedPods
 pub mod FirstPlaces
+pub mod OneFamily
+pub mod FamilyEntries
+pub mod KeptNames

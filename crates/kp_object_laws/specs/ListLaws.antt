@@ -5,12 +5,15 @@ use Rattle.kp_base.specs.Keys.{endpoint_cmp}
 use Rattle.kp_base.specs.declared.address.Family.{Family}
 use Rattle.kp_base.specs.declared.key.Endpoint.{Endpoint}
 use Rattle.kp_base.specs.declared.key.PortKey.{PortKey}
+use Rattle.kp_types.specs.Setting.{NodeConfig, config_of_family}
 use Rattle.kp_types.specs.declared.info.ServiceSources.{ServiceSources}
 use Rattle.kp_types.specs.declared.lists.Candidate.{Candidate}
 use Rattle.kp_types.specs.declared.lists.Lists.{Lists}
 use Rattle.kp_types.specs.declared.service.Policy.{Policy}
+use Rattle.kp_types.specs.declared.service.Service.{Service}
 use Rattle.kp_object_defs.specs.Desired.{is_empty}
-use Rattle.kp_object_defs.specs.Entries.{counted_once, entries_from}
+use Rattle.kp_object_defs.specs.Entries.{counted_once, entries_from, entries_of, entries_of_both, is_of_family}
+use Rattle.kp_object_defs.specs.Objects.{Objects}
 use Rattle.kp_object_defs.specs.Lists.{is_ready, is_serving_terminating, is_local_policy, has_any_endpoint, lists_from}
 use Rattle.kp_object_defs.specs.Order.{rises}
 
@@ -31,6 +34,19 @@ abbrev pub EntriesInOrder : Type 0
 EntriesInOrder =
     (family : Family) (node : List ℕ) (sources : ServiceSources) (port : PortKey)
     → are_in_order (entries_from family node sources port) ≡ true
+
+-- and those of both families
+abbrev pub EntriesOfBothInOrder : Type 0
+EntriesOfBothInOrder =
+    (config : NodeConfig) (o : Objects) (s : Service) (port : PortKey)
+    → are_in_order (entries_of_both config o s port) ≡ true
+
+-- of the endpoints of a port in both families, those of a family are its endpoints in this family
+abbrev pub EntriesByFamily : Type 0
+EntriesByFamily =
+    (config : NodeConfig) (o : Objects) (s : Service) (port : PortKey) (family : Family)
+    → filter (is_of_family family) (entries_of_both config o s port)
+    ≡ entries_of family (config_of_family family config) o s port
 
 -- a candidate is ready, or still serves
 abbrev pub is_usable : Candidate → Bool

@@ -25,10 +25,13 @@ pub fn wanted_endpoints()
     ensures desired_named { objects.DesiredNamePods }
 {}
 
-/// The endpoints of a Service port stand in order of address and port, each once.
+/// The endpoints of a Service port stand in order of family, address and port, each once. Those of
+/// a family among those of both are its own.
 pub fn endpoints_in_order()
     ensures counted { lists.CountedInOrder }
     ensures entries { lists.EntriesInOrder }
+    ensures both { lists.EntriesOfBothInOrder }
+    ensures by_family { lists.EntriesByFamily }
 {}
 
 /// The lists of a Service port have usable endpoints alone, in order, and are empty only where none

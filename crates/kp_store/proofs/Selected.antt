@@ -3,7 +3,7 @@ use Rattle.std.proofs.Common.{◌≡◌, ℕ, ◌==◌, ◌&&◌, ◌||◌, Bool
 use Rattle.std.specs.List.{list_any, list_all}
 use Rattle.std.specs.Option.{option_to_list}
 use Rattle.std.specs.Cmp.{IsEquivalence}
-use Rattle.std.proofs.lemmas.Bool.{and_parts, eqb-true, or_cases, or_left}
+use Rattle.std.proofs.lemmas.Bool.{and_parts, eqb-true, or_cases, or_left, or_right}
 use Rattle.std.proofs.lemmas.List.Elements.{Contains-append_left, Contains-append_right}
 use Rattle.std.proofs.lemmas.List.Folds.{list_any-append}
 use Rattle.std.proofs.lemmas.Option.{same_Some}
@@ -11,6 +11,8 @@ use Rattle.std.proofs.lemmas.Slice.Eq.{bytes_eq-Decides}
 use Rattle.kp_lemmas.proofs.Members.{any_from, first_in, in_flat_map, in_map, later_in}
 use Rattle.kp_base.specs.Net.{AddressParts, same_address}
 use Rattle.kp_base.specs.Keys.{same_proto}
+use Rattle.kp_base.specs.declared.address.Family.{Family}
+use Rattle.kp_base.specs.declared.address.Family.TheVariants.{V4, V6}
 use Rattle.kp_base.specs.declared.key.Pair.{Pair}
 use Rattle.kp_base.specs.declared.port.Proto.{Proto}
 use Rattle.kp_base.proofs.SameParts.{same_address_exact, same_proto_exact}
@@ -18,9 +20,10 @@ use Rattle.kp_types.specs.declared.pod.Pod.{Pod}
 use Rattle.kp_types.specs.declared.service.Service.{Service}
 use Rattle.kp_types.specs.declared.service.ServicePort.{ServicePort}
 use Rattle.kp_object_defs.specs.Desired.{has_label, has_selector, is_empty, is_external_name, selects}
-use Rattle.kp_store.specs.Destinations.{answers, cluster_addresses, has_address, is_address_of, is_node_port, port_answers}
+use Rattle.kp_object_defs.specs.PortInfo.{balancer_of, external_of}
+use Rattle.kp_store.specs.Destinations.{answers, cluster_addresses, has_address, is_address_in, is_address_of, is_node_port, port_answers}
 use Rattle.kp_store.specs.Indexes.{is_among}
-use Rattle.kp_store.specs.Tags.{label_in, label_tag, node_tag, selected_by, selector_of, selector_tags, tag_at, tags_of, tags_of_pod, tags_of_port}
+use Rattle.kp_store.specs.Tags.{label_in, label_tag, node_tag, selected_by, selector_of, selector_tags, tag_at, tags_in, tags_of, tags_of_pod, tags_of_port}
 use Rattle.kp_store.specs.declared.tags.PodTag.{PodTag}
 use Rattle.kp_store.specs.declared.tags.PodTag.TheVariants.{Labelled, On}
 use Rattle.kp_store.specs.declared.tags.ServiceTag.{ServiceTag}
@@ -52,6 +55,13 @@ any_mapped : {X Y : Type 0} (p : X → Bool) (f : X → Y) (r : Y → Bool) → 
 any_mapped p f r follows xs h =
     let (x, in_xs, is) = passing p xs h in
     any_from r (f x) (map f xs) (in_map f x xs in_xs) (follows x is)
+
+-- ---- addresses
+
+-- an address that a Service gives for a family is one of it
+pub in_family : (family : Family) (target : AddressParts) (s : Service) → is_address_in family target s ≡ true → is_address_of target s ≡ true
+in_family V4 target s h = or_left (is_address_in V4 target s) (is_address_in V6 target s) h
+in_family V6 target s h = or_right (is_address_in V4 target s) (is_address_in V6 target s) h
 
 -- ---- selectors
 
@@ -122,15 +132,6 @@ module _ (same : ServiceTag → ServiceTag → Bool) (laws : IsEquivalence same)
     node = NodePort number proto
 
     module _ (s : Service) (p : ServicePort) where
-      abbrev at_cluster : List ServiceTag
-      at_cluster = map (tag_at p) (cluster_addresses s.cluster)
-
-      abbrev at_external : List ServiceTag
-      at_external = map (tag_at p) s.external
-
-      abbrev at_balancer : List ServiceTag
-      at_balancer = map (tag_at p) s.balancer
-
       abbrev at_node : List ServiceTag
       at_node = option_to_list (option_map (node_tag p) p.node_port)
 
@@ -144,15 +145,26 @@ module _ (same : ServiceTag → ServiceTag → Bool) (laws : IsEquivalence same)
       tagged_node protos None h = absurd (cc)
       tagged_node protos (Some n) h = subst (Contains (node_tag p n ∷ [])) (λ i. NodePort (eqb-true n number h i) (protos i)) (first_in (node_tag p n) [])
 
-      at_address : p.proto ≡ proto → p.port ≡ number → is_address_of target s ≡ true → Contains (at_cluster ++ at_external ++ at_balancer) here
-      at_address protos numbers h =
-          elim (or_cases (has_address target (cluster_addresses s.cluster)) (has_address target s.external || has_address target s.balancer) h) [
-            | inl c ↦ Contains-append_left (at_cluster ++ at_external) at_balancer here (Contains-append_left at_cluster at_external here (tagged_at protos numbers (cluster_addresses s.cluster) c))
+      -- and that of an address that the Service gives for a family
+      tagged_in : p.proto ≡ proto → p.port ≡ number → (family : Family) → is_address_in family target s ≡ true → Contains (tags_in family s p) here
+      tagged_in protos numbers family h =
+          let at_cluster = map (tag_at p) (cluster_addresses family s) in
+          let at_external = map (tag_at p) (external_of family s) in
+          let at_balancer = map (tag_at p) (balancer_of family s) in
+          elim (or_cases (has_address target (cluster_addresses family s)) (has_address target (external_of family s) || has_address target (balancer_of family s)) h) [
+            | inl c ↦ Contains-append_left (at_cluster ++ at_external) at_balancer here (Contains-append_left at_cluster at_external here (tagged_at protos numbers (cluster_addresses family s) c))
             | inr d ↦
-                elim (or_cases (has_address target s.external) (has_address target s.balancer) d) [
-                  | inl e ↦ Contains-append_left (at_cluster ++ at_external) at_balancer here (Contains-append_right at_cluster at_external here (tagged_at protos numbers s.external e))
-                  | inr b ↦ Contains-append_right (at_cluster ++ at_external) at_balancer here (tagged_at protos numbers s.balancer b)
+                elim (or_cases (has_address target (external_of family s)) (has_address target (balancer_of family s)) d) [
+                  | inl e ↦ Contains-append_left (at_cluster ++ at_external) at_balancer here (Contains-append_right at_cluster at_external here (tagged_at protos numbers (external_of family s) e))
+                  | inr b ↦ Contains-append_right (at_cluster ++ at_external) at_balancer here (tagged_at protos numbers (balancer_of family s) b)
                 ]
+          ]
+
+      at_address : p.proto ≡ proto → p.port ≡ number → is_address_of target s ≡ true → Contains (tags_in V4 s p ++ tags_in V6 s p) here
+      at_address protos numbers h =
+          elim (or_cases (is_address_in V4 target s) (is_address_in V6 target s) h) [
+            | inl four ↦ Contains-append_left (tags_in V4 s p) (tags_in V6 s p) here (tagged_in protos numbers V4 four)
+            | inr six ↦ Contains-append_right (tags_in V4 s p) (tags_in V6 s p) here (tagged_in protos numbers V6 six)
           ]
 
       -- a port that answers has one of the two tags
@@ -163,8 +175,8 @@ module _ (same : ServiceTag → ServiceTag → Bool) (laws : IsEquivalence same)
           elim (or_cases ((p.port == number) && is_address_of target s) (is_node_port number p.node_port) parts.1) [
             | inl a ↦
                 let both = and_parts (p.port == number) (is_address_of target s) a in
-                (here, Contains-append_left (at_cluster ++ at_external ++ at_balancer) at_node here (at_address protos (eqb-true p.port number both.0) both.1), first_in here (node ∷ []))
-            | inr n ↦ (node, Contains-append_right (at_cluster ++ at_external ++ at_balancer) at_node node (tagged_node protos p.node_port n), later_in node here (node ∷ []) (first_in node []))
+                (here, Contains-append_left (tags_in V4 s p ++ tags_in V6 s p) at_node here (at_address protos (eqb-true p.port number both.0) both.1), first_in here (node ∷ []))
+            | inr n ↦ (node, Contains-append_right (tags_in V4 s p ++ tags_in V6 s p) at_node node (tagged_node protos p.node_port n), later_in node here (node ∷ []) (first_in node []))
           ]
 
     -- a Service that answers has one of the two tags

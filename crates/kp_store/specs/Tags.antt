@@ -3,12 +3,15 @@ use Rattle.std.specs.Prelude.{ℕ, List, ◌++◌, map, option_map, slice_get}
 use Rattle.std.specs.List.{flat_map}
 use Rattle.std.specs.Option.{option_to_list}
 use Rattle.kp_base.specs.Net.{AddressParts}
+use Rattle.kp_base.specs.declared.address.Family.{Family}
+use Rattle.kp_base.specs.declared.address.Family.TheVariants.{V4, V6}
 use Rattle.kp_base.specs.declared.key.ObjectKey.{ObjectKey}
 use Rattle.kp_base.specs.declared.key.Pair.{Pair}
 use Rattle.kp_types.specs.declared.pod.Pod.{Pod}
 use Rattle.kp_types.specs.declared.service.Service.{Service}
 use Rattle.kp_types.specs.declared.service.ServicePort.{ServicePort}
 use Rattle.kp_types.specs.declared.slice.Slice.{Slice}
+use Rattle.kp_object_defs.specs.PortInfo.{balancer_of, external_of}
 use Rattle.kp_store.specs.Destinations.{cluster_addresses}
 use Rattle.kp_store.specs.declared.tags.Label.{Label}
 use Rattle.kp_store.specs.declared.tags.PodTag.{PodTag}
@@ -57,13 +60,17 @@ tag_at p a = At a p.port p.proto
 abbrev pub node_tag : ServicePort → ℕ → ServiceTag
 node_tag p number = NodePort number p.proto
 
+-- the tags of a port at the addresses that its Service gives for a family
+abbrev pub tags_in : Family → Service → ServicePort → List ServiceTag
+tags_in family s p =
+    map (tag_at p) (cluster_addresses family s)
+    ++ map (tag_at p) (external_of family s)
+    ++ map (tag_at p) (balancer_of family s)
+
 -- the tags of a port of a Service
 abbrev pub tags_of_port : Service → ServicePort → List ServiceTag
 tags_of_port s p =
-    map (tag_at p) (cluster_addresses s.cluster)
-    ++ map (tag_at p) s.external
-    ++ map (tag_at p) s.balancer
-    ++ option_to_list (option_map (node_tag p) p.node_port)
+    tags_in V4 s p ++ tags_in V6 s p ++ option_to_list (option_map (node_tag p) p.node_port)
 
 -- the tags of a Service: the first pair of its selector, and the destinations of its ports
 abbrev pub tags_of : Service → List ServiceTag

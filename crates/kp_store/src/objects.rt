@@ -279,8 +279,8 @@ impl Objects {
         Ok(rarest)
     }
 
-    /// The Services of which a port may answer at an address and number, whatever the family, or
-    /// has the number as its node port, in order of their keys.
+    /// The Services of which a port may answer at an address of either family and a number, or has
+    /// the number as its node port, in order of their keys.
     pub fn services_at(
         &self,
         alloc: Global,

@@ -4,8 +4,9 @@ ghost use Rattle.std.specs.List.{filter};
 ghost use Rattle.kp_object_defs.specs.Desired as Desired;
 ghost use Rattle.kp_store.specs.Destinations as spec;
 
-use kp_base::{Address, Copied, Items, NoMemory, ObjectKey, PortNo, Proto};
+use kp_base::{Address, Copied, Family, Items, NoMemory, ObjectKey, PortNo, Proto};
 use kp_desired::selects;
+use kp_port_info::{balancer_of, external_of};
 use kp_types::{ClusterAddress, Pod, Service};
 use std::alloc::Global;
 
@@ -84,17 +85,27 @@ fn is_node_port(node_port: Option<PortNo>, number: PortNo) -> bool
 fn is_address_of(service: &Service, address: &Address) -> bool
     ensures { result ≡ spec.is_address_of address.now service.now }
 {
-    is_cluster_address(service, address)
-        || has_address(service.external.as_slice(), address)
-        || has_address(service.balancer.as_slice(), address)
+    is_address_in(Family::V4, service, address) || is_address_in(Family::V6, service, address)
 }
 
-/// Whether an address is the cluster address of a Service.
-fn is_cluster_address(service: &Service, address: &Address) -> bool
-    ensures { result ≡ spec.has_address address.now (spec.cluster_addresses service.now.cluster) }
+/// Whether an address is one that a Service gives for a family.
+fn is_address_in(family: Family, service: &Service, address: &Address) -> bool
+    ensures { result ≡ spec.is_address_in family address.now service.now }
 {
-    match service.cluster {
-        ClusterAddress::At(cluster) => cluster == *address,
+    is_cluster_address(family, service, address)
+        || has_address(external_of(family, service), address)
+        || has_address(balancer_of(family, service), address)
+}
+
+/// Whether an address is the cluster address that a Service gives for a family.
+fn is_cluster_address(family: Family, service: &Service, address: &Address) -> bool
+    ensures { result
+        ≡ spec.has_address address.now (spec.cluster_addresses family service.now) }
+{
+    match (family, service.cluster, service.six.cluster) {
+        (Family::V4, ClusterAddress::At(cluster), _) | (Family::V6, _, Some(cluster)) => {
+            cluster == *address
+        }
         _ => false,
     }
 }

@@ -6,7 +6,8 @@ ghost use Rattle.kp_store.specs.Tags as spec;
 ghost use Rattle.kp_store.specs.declared.tags.PodTag.TheVariants.{On};
 
 use crate::indexed::Tagged;
-use kp_base::{Address, Copied, Items, NoMemory, ObjectKey, Pair, PortNo, Proto, Text};
+use kp_base::{Address, Copied, Family, Items, NoMemory, ObjectKey, Pair, PortNo, Proto, Text};
+use kp_port_info::{balancer_of, external_of};
 use kp_types::{ClusterAddress, Pod, Service, ServicePort, Slice};
 use std::alloc::Global;
 
@@ -222,25 +223,42 @@ fn add_tags_of_port(
     ensures { OnOk result (tags.new.items
         ≡ tags.old.items ++ spec.tags_of_port service.now port.now) }
 {
-    add_cluster_tag(tags, service, port)?;
-    add_tags_at(tags, port, service.external.as_slice())?;
-    add_tags_at(tags, port, service.balancer.as_slice())?;
+    add_tags_in(tags, Family::V4, service, port)?;
+    add_tags_in(tags, Family::V6, service, port)?;
     add_node_tag(tags, port)
 }
 
-/// Adds the tag of a port at its cluster address, if it has one.
-fn add_cluster_tag(
+/// Adds the tags of a port at the addresses that its Service gives for a family.
+fn add_tags_in(
     tags: &mut Vec<ServiceTag>,
+    family: Family,
     service: &Service,
     port: &ServicePort,
 ) -> Result<(), NoMemory>
     ensures { OnOk result (tags.new.items
-        ≡ tags.old.items ++ map (spec.tag_at port.now) (cluster_addresses service.now.cluster)) }
+        ≡ tags.old.items ++ spec.tags_in family service.now port.now) }
 {
-    if let ClusterAddress::At(address) = service.cluster {
-        tags.push(ServiceTag::At(address, port.port, port.proto))?;
+    add_cluster_tag(tags, family, service, port)?;
+    add_tags_at(tags, port, external_of(family, service))?;
+    add_tags_at(tags, port, balancer_of(family, service))
+}
+
+/// Adds the tag of a port at its cluster address in a family, if it has one.
+fn add_cluster_tag(
+    tags: &mut Vec<ServiceTag>,
+    family: Family,
+    service: &Service,
+    port: &ServicePort,
+) -> Result<(), NoMemory>
+    ensures { OnOk result (tags.new.items ≡ tags.old.items
+        ++ map (spec.tag_at port.now) (cluster_addresses family service.now)) }
+{
+    match (family, service.cluster, service.six.cluster) {
+        (Family::V4, ClusterAddress::At(address), _) | (Family::V6, _, Some(address)) => {
+            Ok(tags.push(ServiceTag::At(address, port.port, port.proto))?)
+        }
+        _ => Ok(()),
     }
-    Ok(())
 }
 
 /// Adds the tag of a node port, if there is one.

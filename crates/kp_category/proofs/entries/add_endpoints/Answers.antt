@@ -1,13 +1,12 @@
 use Rattle.std.proofs.Common.{◌++◌, ap, ◌∙◌}
 use Rattle.std.specs.Option.{option_to_list}
-use Rattle.kp_base.specs.declared.address.Family.TheVariants.{V4}
 use Rattle.kp_object_defs.specs.Entries.{candidate_of}
 use Rattle.kp_lemmas.proofs.ListFacts.{filter_map_step}
 use Rattle.kp_category.proofs.entries.add_endpoints.Goals as goal
 
 pub loop-endpoint-preserved : goal.loop-endpoint-preserved
 loop-endpoint-preserved c =
-    let make = candidate_of V4 c.args.node.now c.args.number.now in
+    let make = candidate_of c.args.family c.args.node.now c.args.number.now in
     c.in_ok-add_endpoint.ensures
     ∙ ap (λ made. made ++ option_to_list (make c.endpoint-item.result)) c.loop-endpoint.invariant
     ∙ filter_map_step make c.args.found.now.items c.args.endpoints.now c.loop-endpoint.endpoint-index c.endpoint-item.result c.loop-endpoint-test.true c.endpoint-item.is

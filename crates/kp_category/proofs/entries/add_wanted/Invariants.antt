@@ -1,10 +1,9 @@
 -- The candidates of the endpoints so far were added.
 use Rattle.std.proofs.Common.{◌≡◌, ◌++◌, take}
 use Rattle.std.specs.List.{filter_map}
-use Rattle.kp_base.specs.declared.address.Family.TheVariants.{V4}
 use Rattle.kp_object_defs.specs.Entries.{wanted_candidate}
 use Rattle.kp_category.proofs.entries.add_wanted.Given as goal
 
 abbrev pub invariant-loop-endpoint : goal.invariant-loop-endpoint
 invariant-loop-endpoint l =
-    l.found.items ≡ l.initial.found.items ++ filter_map (wanted_candidate V4 l.node l.port) (take l.endpoint-index l.wanted)
+    l.found.items ≡ l.initial.found.items ++ filter_map (wanted_candidate l.family l.node l.port) (take l.endpoint-index l.wanted)

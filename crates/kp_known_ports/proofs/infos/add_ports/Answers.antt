@@ -2,18 +2,18 @@ use Rattle.std.proofs.Common.{◌≡◌, List, [], ◌∷◌, ◌++◌, ◌+◌,
 use Rattle.std.specs.FinMap.{put}
 use Rattle.std.proofs.lemmas.List.{take_more}
 use Rattle.kp_base.specs.Keys.{port_key_cmp}
-use Rattle.kp_base.specs.declared.address.Family.TheVariants.{V4}
 use Rattle.kp_types.specs.Setting.{config_for}
 use Rattle.kp_types.specs.declared.service.ServicePort.{ServicePort}
 use Rattle.kp_object_defs.specs.Objects.{zone_of}
-use Rattle.kp_object_defs.specs.PortInfo.{port_key_of}
-use Rattle.kp_known_ports.specs.Known.{known_in_part, known_ports}
+use Rattle.kp_object_defs.specs.PortInfo.{info_of, port_key_of}
+use Rattle.kp_known_ports.specs.Known.{known_ports}
 use Rattle.kp_known_ports.proofs.KnownPorts.{next_port, with_ports}
 use Rattle.kp_known_ports.proofs.infos.add_ports.Goals as goal
 
 pub loop-port-preserved : goal.loop-port-preserved
 loop-port-preserved g c =
-    let config = config_for V4 c.args.config.now in
+    let family = c.args.family in
+    let config = config_for family c.args.config.now in
     let o = c.args.objects.now in
     let s = c.args.service.now in
     let p = c.port-item.result in
@@ -27,8 +27,8 @@ loop-port-preserved g c =
     record {
       known = λ before h.
           c.in_ok-add_port.ensures
-          ∙ (λ j. put port_key_cmp (port_key_of s p) (known_in_part V4 config.node (c.zone_of-zone.ensures j) p (c.requires.taken j)) (c.loop-port.invariant.known before h j))
-          ∙ next_port V4 config o s before (take i s.ports) p
-          ∙ ap (λ (ps : List ServicePort). known_ports V4 config.node (zone_of o config.node) (before ++ with_ports V4 config o s ps)) next;
+          ∙ (λ j. put port_key_cmp (port_key_of (c.in_ok-sources.ensures j).service p) (info_of family config.node (c.zone_of-zone.ensures j) (c.in_ok-sources.ensures j, p)) (c.loop-port.invariant.known before h j))
+          ∙ next_port family config o s before (take i s.ports) p
+          ∙ ap (λ (ps : List ServicePort). known_ports family config.node (zone_of o config.node) (before ++ with_ports family config o s ps)) next;
       asked = omega (arith, c.loop-port.invariant.asked, c.tick.ensures);
     }

@@ -1,6 +1,5 @@
 -- The ports so far were added to those of before, each after a step.
 use Rattle.std.proofs.Common.{◌≡◌, ◌+◌, List, ◌++◌, take}
-use Rattle.kp_base.specs.declared.address.Family.TheVariants.{V4}
 use Rattle.kp_types.specs.Setting.{config_for}
 use Rattle.kp_types.specs.declared.info.ServiceSources.{ServiceSources}
 use Rattle.kp_types.specs.declared.service.ServicePort.{ServicePort}
@@ -13,9 +12,9 @@ abbrev pub invariant-loop-port : goal.invariant-loop-port
 invariant-loop-port g l = record {
   known :
       (before : List (ServiceSources × ServicePort))
-      → l.initial.known.entries ≡ known_ports V4 l.config.node (zone_of l.objects l.config.node) before
+      → l.initial.known.entries ≡ known_ports l.family l.config.node (zone_of l.objects l.config.node) before
       → l.known.entries
-      ≡ known_ports V4 l.config.node (zone_of l.objects l.config.node)
-      (before ++ with_ports V4 (config_for V4 l.config) l.objects l.service (take l.port-index l.service.ports));
+      ≡ known_ports l.family l.config.node (zone_of l.objects l.config.node)
+      (before ++ with_ports l.family (config_for l.family l.config) l.objects l.service (take l.port-index l.service.ports));
   asked : l.asked ≡ l.fn.asked + l.port-index;
 }

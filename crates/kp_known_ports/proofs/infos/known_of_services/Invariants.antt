@@ -1,11 +1,8 @@
 -- The ports of the Services so far are known, each after a step.
 use Rattle.std.proofs.Common.{◌≡◌, ◌+◌, take, map, flat_map}
-use Rattle.kp_base.specs.declared.address.Family.TheVariants.{V4}
 use Rattle.kp_types.specs.Setting.{config_for}
-use Rattle.kp_object_defs.specs.Entries.{sources_of}
 use Rattle.kp_object_defs.specs.Objects.{zone_of}
-use Rattle.kp_object_defs.specs.PortInfo.{ports_of}
-use Rattle.kp_known_ports.specs.Known.{known_ports}
+use Rattle.kp_known_ports.specs.Known.{known_ports, parts_of}
 use Rattle.kp_known_ports.proofs.Counted.{first_count}
 use Rattle.kp_known_ports.proofs.infos.known_of_services.Given as goal
 
@@ -13,8 +10,8 @@ abbrev pub invariant-loop-service : goal.invariant-loop-service
 invariant-loop-service g l = record {
   known :
       l.known.entries
-      ≡ known_ports V4 l.config.node (zone_of l.objects l.config.node)
-      (flat_map ports_of (map (sources_of V4 (config_for V4 l.config) l.objects)
-      (map (λ s. s.now) (take l.service-index l.services))));
+      ≡ known_ports l.family l.config.node (zone_of l.objects l.config.node)
+      (flat_map (parts_of l.family (config_for l.family l.config) l.objects)
+      (map (λ s. s.now) (take l.service-index l.services)));
   asked : l.asked ≡ l.fn.asked + first_count l.services l.service-index;
 }
