@@ -27,6 +27,7 @@ use Rattle.kp_types.proofs.ChainOrder.{chain_total, chain_exact}
 use Rattle.kp_object_defs.specs.PortInfo.{PortInfo}
 use Rattle.kp_table_defs.specs.Layout as layout
 use Rattle.kp_table_laws.specs.Laws.{AreInOrder}
+use Rattle.kp_chains.specs.Tables.{fixed_rows}
 use Rattle.kp_blocks.specs.Joined.{JoinedChainsAreTheTables, block_rules, blocks_by_port}
 use Rattle.kp_blocks.specs.Joined.{fixed_chains, has_rules, port_block, port_texts, rules_at}
 use Rattle.kp_blocks.specs.Joined.{rules_if_found, with_rules}
@@ -160,7 +161,7 @@ module _ (setting : Setting) (infos : List PortInfo) (at : ChainAt) where
 
   -- the fixed rows of a family
   abbrev fixed : Family → List Row
-  fixed family = layout.nat_rows_with family [] [] ++ layout.filter_rows_with family [] [] []
+  fixed family = fixed_rows family
 
   -- the last rule of KUBE-SERVICES in nat
   abbrev jump : Family → Rule

@@ -9,7 +9,7 @@ use Rattle.kp_base.proofs.KeyOrder.{port_key_total}
 use Rattle.kp_types.specs.Places.{chain_cmp}
 use Rattle.kp_types.specs.declared.chain.ChainAt.{ChainAt}
 use Rattle.kp_types.proofs.ChainOrder.{chain_total}
-use Rattle.kp_writer_laws.specs.LocalLaws.{fixed_rows}
+use Rattle.kp_chains.specs.Tables.{fixed_rows}
 use Rattle.kp_blocks.specs.Joined.{Block, block_rules, joined_rules, rules_if_found, with_rules}
 
 -- entries put in order, from the last

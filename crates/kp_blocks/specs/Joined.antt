@@ -12,6 +12,7 @@ use Rattle.kp_base.specs.declared.address.Family.{Family}
 use Rattle.kp_base.specs.declared.key.ObjectKey.{ObjectKey}
 use Rattle.kp_base.specs.declared.key.PortKey.{PortKey}
 use Rattle.kp_base.specs.declared.port.Proto.TheVariants.{Sctp}
+use Rattle.kp_types.specs.Places.{nat_of, filter_of}
 use Rattle.kp_types.specs.Setting.{Setting}
 use Rattle.kp_types.specs.contracts.chain.ChainAtPartialEq.TheImpl as same
 use Rattle.kp_types.specs.contracts.rule.ChainText as text_row
@@ -24,6 +25,7 @@ use Rattle.kp_object_defs.specs.PortInfo.{PortInfo}
 use Rattle.kp_table_defs.specs.Layout as layout
 use Rattle.kp_table_defs.specs.Rebuild.{Chains, full_chains}
 use Rattle.kp_table_laws.specs.Laws.{AreInOrder}
+use Rattle.kp_chains.specs.Tables.{fixed_rows}
 
 -- a port's rules in the shared chains
 abbrev pub Block : Type 0
@@ -45,11 +47,9 @@ is_port_of service port = eq_by_cmp key_cmp service port.object
 abbrev pub first_port_of : ObjectKey → PortKey
 first_port_of service = record { object = service; port_name = []; proto = Sctp }
 
--- the chains of a table of no ports
+-- the chains of a family's tables of no ports
 abbrev pub fixed_chains : Family → Chains
-fixed_chains family =
-    finite.from_entries (layout.nat_rows_with family [] [] ++ layout.filter_rows_with family [] []
-    [])
+fixed_chains family = finite.from_entries (fixed_rows family)
 
 -- a chain's rules, where there is one
 abbrev pub rules_if_found : Option (List Rule) → List Rule
@@ -113,15 +113,15 @@ text_of row = record { at = row.0; rules = row.1 }
 abbrev pub port_texts : Setting → PortInfo → List ChainText
 port_texts setting i =
     map text_of (
-    layout.row (layout.nat_table setting.family) layout.kube_services
+    layout.row (nat_of setting.family) layout.kube_services
     (layout.service_block setting i)
-    ∷ layout.row (layout.nat_table setting.family) layout.kube_node_ports
+    ∷ layout.row (nat_of setting.family) layout.kube_node_ports
     (layout.node_port_block setting i)
-    ∷ layout.row (layout.filter_table setting.family) layout.kube_proxy_firewall
+    ∷ layout.row (filter_of setting.family) layout.kube_proxy_firewall
     (layout.firewall_block i)
-    ∷ layout.row (layout.filter_table setting.family) layout.kube_external_services
+    ∷ layout.row (filter_of setting.family) layout.kube_external_services
     (layout.external_block setting.family i)
-    ∷ layout.row (layout.filter_table setting.family) layout.kube_services (layout.refusal_block i)
+    ∷ layout.row (filter_of setting.family) layout.kube_services (layout.refusal_block i)
     ∷ [])
 
 -- whether a chain has rules

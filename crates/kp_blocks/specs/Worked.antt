@@ -1,15 +1,15 @@
--- Chains joined from the blocks of two ports, worked out.
+-- Chains joined from the blocks of ports, worked out.
 use Rattle.std.specs.Prelude.{◌≡◌, ◌*◌, ◌^◌, ℕ, true, List, [], ◌∷◌, codes}
 use Rattle.std.specs.FinMap as finite
 use Rattle.kp_base.specs.Net.{RangeParts}
-use Rattle.kp_base.specs.declared.address.Family.TheVariants.{V4}
+use Rattle.kp_base.specs.declared.address.Family.TheVariants.{V4, V6}
 use Rattle.kp_base.specs.declared.key.PortKey.{PortKey}
 use Rattle.kp_base.specs.declared.port.Proto.{Proto}
 use Rattle.kp_base.specs.declared.port.Proto.TheVariants.{Tcp, Udp}
 use Rattle.kp_types.specs.Rules.{rule_of}
 use Rattle.kp_types.specs.declared.chain.ChainAt.{ChainAt}
 use Rattle.kp_types.specs.declared.chain.TableName.{TableName}
-use Rattle.kp_types.specs.declared.chain.TableName.TheVariants.{Nat, Filter}
+use Rattle.kp_types.specs.declared.chain.TableName.TheVariants.{Nat, Filter, Nat6}
 use Rattle.kp_types.specs.declared.rule.ChainText.{ChainText}
 use Rattle.kp_types.specs.declared.rule.Match.TheVariants as match
 use Rattle.kp_types.specs.declared.rule.Rule.{Rule}
@@ -58,10 +58,10 @@ blocks = finite.from_entries ports
 abbrev pub loopback : RangeParts
 loopback = record { base = record { family = V4; number = 127 * 2 ^ 24 }; bits = 8 }
 
--- the packets to the node's own addresses but loopback go to the node ports
-abbrev pub node_ports_jump : Rule
-node_ports_jump =
-    rule_of (match.Dst loopback true ∷ match.DstLocal ∷ []) (target.Jump (codes "KUBE-NODEPORTS"))
+-- the packets to the node's own addresses but those of a range go to the node ports
+abbrev pub node_ports_jump : RangeParts → Rule
+node_ports_jump range =
+    rule_of (match.Dst range true ∷ match.DstLocal ∷ []) (target.Jump (codes "KUBE-NODEPORTS"))
 
 -- KUBE-SERVICES of nat: the rules in order of the ports, and then the jump
 abbrev pub JoinedBeforeJump : Type 0
@@ -69,7 +69,7 @@ JoinedBeforeJump =
     joined_rules V4 blocks (place Nat (codes "KUBE-SERVICES"))
     ≡ rule_to Udp 53 (codes "KUBE-SVC-DNS")
     ∷ rule_to Tcp 80 (codes "KUBE-SVC-WEB")
-    ∷ node_ports_jump
+    ∷ node_ports_jump loopback
     ∷ []
 
 -- KUBE-NODEPORTS: one port's rule
@@ -81,3 +81,23 @@ JoinedOfOne =
 -- KUBE-SERVICES of filter: no port has rules there
 abbrev pub JoinedOfNone : Type 0
 JoinedOfNone = joined_rules V4 blocks (place Filter (codes "KUBE-SERVICES")) ≡ []
+
+-- a port of IPv6
+abbrev pub six_ports : List (PortKey × Block)
+six_ports = (
+  port (codes "dns") Udp,
+  chain Nat6 (codes "KUBE-SERVICES")
+      (rule_to Udp 53 (codes "KUBE-SVC-DNS") ∷ []) ∷ [],
+) ∷ []
+
+-- ::1/128
+abbrev pub loopback_six : RangeParts
+loopback_six = record { base = record { family = V6; number = 1 }; bits = 128 }
+
+-- KUBE-SERVICES of IPv6's nat: the port's rule, and then the jump
+abbrev pub JoinedInSix : Type 0
+JoinedInSix =
+    joined_rules V6 (finite.from_entries six_ports) (place Nat6 (codes "KUBE-SERVICES"))
+    ≡ rule_to Udp 53 (codes "KUBE-SVC-DNS")
+    ∷ node_ports_jump loopback_six
+    ∷ []

@@ -7,11 +7,10 @@ ghost use Rattle.std.specs.Map.Iter.{deref_pair};
 ghost use Rattle.std.specs.Option.{option_copied};
 ghost use Rattle.kp_base.specs.Keys.{port_key_cmp};
 ghost use Rattle.kp_base.specs.contracts.key.PortKeyOrd.TheImpl as order;
-ghost use Rattle.kp_base.specs.declared.address.Family.TheVariants.{V4};
 ghost use Rattle.kp_blocks.specs.Joined as spec;
 
 use crate::fixed::{fixed_rules, place_of_ports};
-use kp_base::{Copied, Items, NoMemory, ObjectKey, PortKey, Proto, Text};
+use kp_base::{Copied, Family, Items, NoMemory, ObjectKey, PortKey, Proto, Text};
 use kp_types::{ChainAt, ChainText, Rule};
 use std::alloc::Global;
 use std::collections::BTreeMap;
@@ -127,12 +126,17 @@ impl Blocks {
         )
     }
 
-    /// The rules of a chain of IPv4: its fixed rules but the last jump to KUBE-NODEPORTS, the
-    /// blocks' rules in order of ports, and that jump, where the chain has it.
-    pub fn joined(&self, alloc: Global, at: &ChainAt) -> Result<Items<Rule>, NoMemory>
-        ensures { IfOk result (λ rules. rules ≡ spec.joined_rules V4 self.now at.now) }
+    /// The rules of a chain in a family's tables: its fixed rules but the last jump to
+    /// KUBE-NODEPORTS, the blocks' rules in order of ports, and that jump, where the chain has it.
+    pub fn joined(
+        &self,
+        alloc: Global,
+        family: Family,
+        at: &ChainAt,
+    ) -> Result<Items<Rule>, NoMemory>
+        ensures { IfOk result (λ rules. rules ≡ spec.joined_rules family self.now at.now) }
     {
-        let fixed = fixed_rules(alloc, at)?;
+        let fixed = fixed_rules(alloc, family, at)?;
         let (before, after) = fixed.as_slice().split_at(place_of_ports(fixed.as_slice()));
         let mut rules = Vec::new(alloc);
         add_rules(&mut rules, before)?;

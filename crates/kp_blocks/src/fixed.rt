@@ -1,18 +1,18 @@
 //! The fixed rules of a chain, and where the ports' rules stand among them.
 ghost use Rattle.std.specs.Prelude.{◌≡◌, IfOk};
-ghost use Rattle.kp_base.specs.declared.address.Family.TheVariants.{V4};
 ghost use Rattle.kp_blocks.specs.Joined as spec;
 
-use kp_base::{Copied, Items, NoMemory, Shared};
+use kp_base::{Copied, Family, Items, NoMemory, Shared};
 use kp_chains::fixed_chains;
 use kp_types::{ChainAt, Rule, Target};
 use std::alloc::Global;
 
-/// The rules that a chain has without ports, or none where it isn't a fixed one.
-pub fn fixed_rules(alloc: Global, at: &ChainAt) -> Result<Shared<Rule>, NoMemory>
-    ensures { IfOk result (λ rules. rules ≡ spec.fixed_rules V4 at.now) }
+/// The rules that a chain of a family's tables has without ports, or none where it isn't a fixed
+/// one.
+pub fn fixed_rules(alloc: Global, family: Family, at: &ChainAt) -> Result<Shared<Rule>, NoMemory>
+    ensures { IfOk result (λ rules. rules ≡ spec.fixed_rules family at.now) }
 {
-    let table = fixed_chains(alloc)?;
+    let table = fixed_chains(alloc, &[family])?;
     match table.chain(at) {
         None => Shared::of(alloc, Items::new(alloc)),
         Some(rules) => rules.copy(alloc),

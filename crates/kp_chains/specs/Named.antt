@@ -4,21 +4,33 @@ use Rattle.std.specs.List.{filter}
 use Rattle.std.specs.BTreeSet.{BTreeSet, contains}
 use Rattle.kp_base.specs.contracts.key.EndpointOrd.TheImpl as endpoint_ord
 use Rattle.kp_base.specs.Net.{RangeParts, single_range}
+use Rattle.kp_base.specs.declared.address.Family.{Family}
+use Rattle.kp_base.specs.declared.config.Config.{Config}
 use Rattle.kp_base.specs.declared.key.Endpoint.{Endpoint}
+use Rattle.kp_types.specs.Places.{nat_of}
 use Rattle.kp_types.specs.Rules.{rule_of}
 use Rattle.kp_types.specs.Setting.{Setting}
+use Rattle.kp_types.specs.declared.chain.ChainKey.TheVariants.{Port, Sep}
 use Rattle.kp_types.specs.declared.chain.PortChain.{PortChain}
 use Rattle.kp_types.specs.declared.chain.PortChain.TheVariants.{Svc, Svl, Ext, Fw}
 use Rattle.kp_types.specs.declared.chain.ChainAt.{ChainAt}
-use Rattle.kp_types.specs.declared.chain.TableName.TheVariants.{Nat}
 use Rattle.kp_types.specs.declared.rule.Match.TheVariants as match
 use Rattle.kp_types.specs.declared.rule.Target.TheVariants as target
 use Rattle.kp_types.specs.declared.rule.Rule.{Rule}
+use Rattle.kp_choice_defs.specs.Names.{chain_name}
 use Rattle.kp_object_defs.specs.Lists.{is_local_policy}
 use Rattle.kp_object_defs.specs.PortInfo.{PortInfo}
 use Rattle.kp_table_defs.specs.Keys.{has_endpoint}
 use Rattle.kp_table_defs.specs.Layout.{row, rules_if, mark_rules, port_chain, external_rules, firewall_chain_rules, jump_to, chance, mark_masq, set_seen}
 use Rattle.kp_chains.specs.declared.named.NamedEndpoint.{NamedEndpoint}
+
+-- the name of a port's chain of a kind, the same in the tables of each family
+abbrev pub name_of_kind : Config → PortInfo → PortChain → List ℕ
+name_of_kind config i kind = chain_name config.name_length (Port kind i.key)
+
+-- the name of the chain of a port's endpoint, the same too
+abbrev pub name_of_endpoint : Config → PortInfo → Endpoint → List ℕ
+name_of_endpoint config i e = chain_name config.name_length (Sep i.key e)
 
 -- an endpoint with the name that a function gives its chain
 abbrev pub named_by : (Endpoint → List ℕ) → Endpoint → NamedEndpoint
@@ -63,7 +75,8 @@ kind_rules setting i cluster local Fw = firewall_chain_rules setting i i.ranges
 abbrev pub kind_row :
     Setting → PortInfo → List NamedEndpoint → List NamedEndpoint → PortChain → ChainAt × List Rule
 kind_row setting i cluster local kind =
-    row Nat (port_chain setting i kind) (kind_rules setting i cluster local kind)
+    row (nat_of setting.family) (port_chain setting i kind)
+    (kind_rules setting i cluster local kind)
 
 -- the endpoints that aren't among others
 abbrev pub not_among : List Endpoint → List NamedEndpoint → List NamedEndpoint
@@ -76,8 +89,8 @@ endpoint_rules i e =
     ∷ rule_of (match.Proto i.key.proto ∷ set_seen e.chain i.affinity) (target.Dnat e.endpoint) ∷ []
 
 -- an endpoint's chain
-abbrev pub endpoint_row : PortInfo → NamedEndpoint → ChainAt × List Rule
-endpoint_row i e = row Nat e.chain (endpoint_rules i e)
+abbrev pub endpoint_row : Family → PortInfo → NamedEndpoint → ChainAt × List Rule
+endpoint_row family i e = row (nat_of family) e.chain (endpoint_rules i e)
 
 -- the rule that sends what comes from a range to a chain
 abbrev pub source_rule : List ℕ → RangeParts → Rule

@@ -1,10 +1,25 @@
--- The table of rows.
-use Rattle.std.specs.Prelude.{List}
+-- The table of rows, and the rows of a family's tables of no objects.
+use Rattle.std.specs.Prelude.{List, [], ◌∷◌, ◌++◌}
 use Rattle.std.specs.FinMap as finite
+use Rattle.kp_base.specs.declared.address.Family.{Family}
 use Rattle.kp_types.specs.declared.chain.ChainAt.{ChainAt}
 use Rattle.kp_types.specs.declared.rule.Rule.{Rule}
-use Rattle.kp_table_defs.specs.Rebuild.{TableParts}
+use Rattle.kp_table_defs.specs.Layout.{nat_rows_with, filter_rows_with}
+use Rattle.kp_table_defs.specs.Rebuild.{Chains, TableParts}
 
 -- the table of rows, which was edited by no batch
 abbrev pub table_with : List (ChainAt × List Rule) → TableParts
 table_with rows = record { chains = finite.from_entries rows; syncs = 0 }
+
+-- chains with those of rows; of two rows with one place the first counts
+abbrev pub chains_with : List (ChainAt × List Rule) → Chains → Chains
+chains_with [] chains = chains
+chains_with (r ∷ rs) chains = finite.insert (chains_with rs chains) r.0 r.1
+
+-- a table with the chains of rows
+abbrev pub with_rows : List (ChainAt × List Rule) → TableParts → TableParts
+with_rows rows table = record table { chains = chains_with rows table.chains }
+
+-- the chains that a family's tables have without objects
+abbrev pub fixed_rows : Family → List (ChainAt × List Rule)
+fixed_rows family = nat_rows_with family [] [] ++ filter_rows_with family [] [] []

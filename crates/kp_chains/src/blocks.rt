@@ -1,6 +1,6 @@
 //! The rules of one port in the shared chains.
 ghost use Rattle.std.specs.Prelude.{◌≡◌, ◌+◌, ◌++◌, ◌∷◌, [], not, map, IfOk, OnOk, OnErr};
-ghost use Rattle.kp_base.specs.declared.address.Family.TheVariants.{V4};
+ghost use Rattle.kp_base.specs.declared.address.Family.{Family};
 ghost use Rattle.kp_choice_defs.specs.Settings.{setting_of};
 ghost use Rattle.kp_object_defs.specs.PortInfo as spec;
 ghost use Rattle.kp_object_defs.specs.Desired.{is_empty};
@@ -10,13 +10,14 @@ ghost use Rattle.kp_types.specs.declared.rule.Match.TheVariants as match;
 ghost use Rattle.kp_types.specs.declared.rule.Target.TheVariants as target;
 ghost use Rattle.kp_table_defs.specs.Layout as layout;
 ghost use Rattle.kp_chains.specs.Blocks.{block_count, blocks_of};
+ghost use Rattle.kp_chains.specs.Named.{name_of_kind};
 
 use crate::count::count_blocks;
 use crate::external::port_chain;
 use crate::keys::has_firewall;
 use crate::rows::outside_loopback;
 use crate::rules::{add_rules_at, rule_at, rule1, rule3};
-use kp_base::{Address, Cidr, Config, Endpoint, Items, NoMemory, PortNo, Steps};
+use kp_base::{Address, Cidr, Config, Endpoint, Family, Items, NoMemory, PortNo, Steps};
 use kp_types::{Match, Policy, PortChain, PortInfo, Rule, Target};
 use std::alloc::Global;
 use std::sync::ledger::Ledger;
@@ -39,28 +40,34 @@ pub struct Blocks {
 /// The rules of one port in the shared chains. A step is taken for each; without memory none is.
 pub fn info_blocks<L: Ledger>(
     alloc: Global,
+    family: Family,
     config: &Config,
     info: &PortInfo,
     steps: &mut Steps<L>,
 ) -> Result<Blocks, NoMemory>
-    ensures blocks { IfOk result (λ b. b ≡ blocks_of (setting_of V4 config.now) info.now) }
+    ensures blocks { IfOk result (λ b. b ≡ blocks_of (setting_of family config.now) info.now) }
     ensures steps { OnOk result (steps.new
-        ≡ steps.old + block_count (blocks_of (setting_of V4 config.now) info.now)) }
+        ≡ steps.old + block_count (blocks_of (setting_of family config.now) info.now)) }
     ensures no_step { OnErr result (steps.new ≡ steps.old) }
 {
-    let blocks = all_blocks(alloc, config, info)?;
+    let blocks = all_blocks(alloc, family, config, info)?;
     count_blocks(steps, &blocks);
     Ok(blocks)
 }
 
 /// The rules, uncounted.
-pub fn all_blocks(alloc: Global, config: &Config, info: &PortInfo) -> Result<Blocks, NoMemory>
-    ensures { IfOk result (λ b. b ≡ blocks_of (setting_of V4 config.now) info.now) }
+pub fn all_blocks(
+    alloc: Global,
+    family: Family,
+    config: &Config,
+    info: &PortInfo,
+) -> Result<Blocks, NoMemory>
+    ensures { IfOk result (λ b. b ≡ blocks_of (setting_of family config.now) info.now) }
 {
     let services = service_block(alloc, config, info)?;
     let node_ports = node_port_block(alloc, config, info)?;
     let firewall = firewall_block(alloc, info)?;
-    let external = external_block(alloc, info)?;
+    let external = external_block(alloc, family, info)?;
     let refusals = refusal_block(alloc, info)?;
     Ok(Blocks {
         services,
@@ -74,7 +81,8 @@ pub fn all_blocks(alloc: Global, config: &Config, info: &PortInfo) -> Result<Blo
 /// In KUBE-SERVICES of nat: the cluster address goes to the chain of the internal traffic policy,
 /// external and load-balancer addresses go to the chains of what comes in from outside.
 fn service_block(alloc: Global, config: &Config, info: &PortInfo) -> Result<Items<Rule>, NoMemory>
-    ensures { IfOk result (λ rs. rs ≡ layout.service_block (setting_of V4 config.now) info.now) }
+    ensures { IfOk result (λ rs. (family : Family) → rs
+        ≡ layout.service_block (setting_of family config.now) info.now) }
 {
     let mut rules = Vec::new(alloc);
     add_cluster_rule(&mut rules, config, info)?;
@@ -86,7 +94,7 @@ fn service_block(alloc: Global, config: &Config, info: &PortInfo) -> Result<Item
 fn add_cluster_rule(rules: &mut Vec<Rule>, config: &Config, info: &PortInfo) -> Result<(), NoMemory>
     ensures { OnOk result (rules.new.items ≡ rules.old.items
         ++ layout.rules_if (not (is_empty (spec.internal_list info.now)))
-        (layout.rule_at info.now (target.Jump (layout.port_chain (setting_of V4 config.now)
+        (layout.rule_at info.now (target.Jump (name_of_kind config.now
         info.now (layout.chain_of_policy info.now.internal))) info.now.address ∷ [])) }
 {
     if list_of(info, info.internal).is_empty() {
@@ -101,9 +109,9 @@ fn add_cluster_rule(rules: &mut Vec<Rule>, config: &Config, info: &PortInfo) -> 
 fn add_outer_rules(rules: &mut Vec<Rule>, config: &Config, info: &PortInfo) -> Result<(), NoMemory>
     ensures { OnOk result (rules.new.items ≡ rules.old.items
         ++ layout.rules_if info.now.lists.has_any
-        (map (layout.rule_at info.now (target.Jump (layout.port_chain (setting_of V4 config.now)
+        (map (layout.rule_at info.now (target.Jump (name_of_kind config.now
         info.now Ext))) info.now.external
-        ++ map (layout.rule_at info.now (target.Jump (layout.port_chain (setting_of V4 config.now)
+        ++ map (layout.rule_at info.now (target.Jump (name_of_kind config.now
         info.now (layout.balancer_chain info.now.ranges)))) info.now.balancer)) }
 {
     if !info.lists.has_any {
@@ -129,7 +137,7 @@ fn add_rules_to(
     addresses: &[Address],
 ) -> Result<(), NoMemory>
     ensures { OnOk result (rules.new.items ≡ rules.old.items
-        ++ map (layout.rule_at info.now (target.Jump (layout.port_chain (setting_of V4 config.now)
+        ++ map (layout.rule_at info.now (target.Jump (name_of_kind config.now
         info.now kind))) addresses.now) }
 {
     if addresses.is_empty() {
@@ -172,8 +180,8 @@ fn balancer_chain(ranges: &Option<Items<Cidr>>) -> PortChain
 
 /// In KUBE-NODEPORTS of nat: the node port, where some endpoint serves.
 fn node_port_block(alloc: Global, config: &Config, info: &PortInfo) -> Result<Items<Rule>, NoMemory>
-    ensures { IfOk result (λ rs. rs
-        ≡ layout.node_port_block (setting_of V4 config.now) info.now) }
+    ensures { IfOk result (λ rs. (family : Family) → rs
+        ≡ layout.node_port_block (setting_of family config.now) info.now) }
 {
     let mut rules = Vec::new(alloc);
     match info.node_port {
@@ -221,8 +229,8 @@ fn refusal_target(has_any: bool) -> Target
 
 /// In KUBE-EXTERNAL-SERVICES of filter: external addresses, load-balancer addresses and the node
 /// port, where the list of the external traffic policy is empty.
-fn external_block(alloc: Global, info: &PortInfo) -> Result<Items<Rule>, NoMemory>
-    ensures { IfOk result (λ rs. rs ≡ layout.external_block V4 info.now) }
+fn external_block(alloc: Global, family: Family, info: &PortInfo) -> Result<Items<Rule>, NoMemory>
+    ensures { IfOk result (λ rs. rs ≡ layout.external_block family info.now) }
 {
     let mut rules = Vec::new(alloc);
     if !list_of(info, info.outer).is_empty() {
@@ -231,24 +239,25 @@ fn external_block(alloc: Global, info: &PortInfo) -> Result<Items<Rule>, NoMemor
     let target = refusal_target(info.lists.has_any);
     add_rules_at(&mut rules, info, &target, info.external.as_slice())?;
     add_rules_at(&mut rules, info, &target, info.balancer.as_slice())?;
-    add_node_port_refusal(&mut rules, info, target)?;
+    add_node_port_refusal(&mut rules, family, info, target)?;
     Ok(Items::from_vec(rules))
 }
 
 /// Adds the refusal of the node port at the node's own addresses, where there is one.
 fn add_node_port_refusal(
     rules: &mut Vec<Rule>,
+    family: Family,
     info: &PortInfo,
     target: Target,
 ) -> Result<(), NoMemory>
     ensures { OnOk result (rules.new.items ≡ rules.old.items
-        ++ layout.node_port_refusal V4 info.now target info.now.node_port) }
+        ++ layout.node_port_refusal family info.now target info.now.node_port) }
 {
     match info.node_port {
         None => Ok(()),
         Some(port) => {
             let to_port = to_node_port(info, port);
-            rules.push(rule3(outside_loopback(), Match::DstLocal, to_port, target))?;
+            rules.push(rule3(outside_loopback(family), Match::DstLocal, to_port, target))?;
             Ok(())
         }
     }

@@ -13,7 +13,7 @@ ghost use Rattle.kp_base.specs.declared.key.Endpoint.{Endpoint};
 
 use crate::named::NamedEndpoint;
 use crate::rules::{mark, rule1, rule2};
-use kp_base::{Cidr, Endpoint, Items, NoMemory};
+use kp_base::{Cidr, Endpoint, Family, Items, NoMemory};
 use kp_types::{ChainAt, ChainText, Match, PortInfo, Rule, TableName, Target};
 use std::alloc::Global;
 use std::collections::BTreeSet;
@@ -21,15 +21,16 @@ use std::collections::BTreeSet;
 /// Adds the chains of endpoints.
 pub fn add_endpoint_chains(
     alloc: Global,
+    family: Family,
     rows: &mut Vec<ChainText>,
     info: &PortInfo,
     endpoints: &[NamedEndpoint],
 ) -> Result<(), NoMemory>
     ensures { OnOk result (rows_of_texts rows.new.items
-        ≡ rows_of_texts rows.old.items ++ map (endpoint_row info.now) endpoints.now) }
+        ≡ rows_of_texts rows.old.items ++ map (endpoint_row family info.now) endpoints.now) }
 {
     for endpoint in endpoints {
-        rows.push(endpoint_chain(alloc, info, endpoint)?)?;
+        rows.push(endpoint_chain(alloc, family, info, endpoint)?)?;
     }
     Ok(())
 }
@@ -37,12 +38,13 @@ pub fn add_endpoint_chains(
 /// Adds the chains of endpoints that aren't among those of the port's cluster list.
 pub fn add_other_chains(
     alloc: Global,
+    family: Family,
     rows: &mut Vec<ChainText>,
     info: &PortInfo,
     endpoints: &[NamedEndpoint],
 ) -> Result<(), NoMemory>
     ensures { OnOk result (rows_of_texts rows.new.items ≡ rows_of_texts rows.old.items
-        ++ map (endpoint_row info.now)
+        ++ map (endpoint_row family info.now)
         (spec.not_among info.now.lists.cluster endpoints.now)) }
 {
     if endpoints.is_empty() {
@@ -50,7 +52,7 @@ pub fn add_other_chains(
     }
     let others = set_of(alloc, info.lists.cluster.as_slice())?;
     for endpoint in endpoints {
-        add_unless_among(alloc, rows, info, &others, endpoint)?;
+        add_unless_among(alloc, family, rows, info, &others, endpoint)?;
     }
     Ok(())
 }
@@ -58,19 +60,20 @@ pub fn add_other_chains(
 /// Adds the chain of an endpoint that isn't among others.
 fn add_unless_among(
     alloc: Global,
+    family: Family,
     rows: &mut Vec<ChainText>,
     info: &PortInfo,
     others: &BTreeSet<Endpoint>,
     endpoint: &NamedEndpoint,
 ) -> Result<(), NoMemory>
     ensures { OnOk result (rows_of_texts rows.new.items ≡ rows_of_texts rows.old.items
-        ++ cond (has others.now endpoint.now.endpoint) [] (endpoint_row info.now endpoint.now
+        ++ cond (has others.now endpoint.now.endpoint) [] (endpoint_row family info.now endpoint.now
         ∷ [])) }
 {
     if others.contains(&endpoint.endpoint) {
         return Ok(());
     }
-    rows.push(endpoint_chain(alloc, info, endpoint)?)?;
+    rows.push(endpoint_chain(alloc, family, info, endpoint)?)?;
     Ok(())
 }
 
@@ -141,14 +144,15 @@ fn set_of(alloc: Global, endpoints: &[Endpoint]) -> Result<BTreeSet<Endpoint>, N
 /// The chain of an endpoint.
 fn endpoint_chain(
     alloc: Global,
+    family: Family,
     info: &PortInfo,
     endpoint: &NamedEndpoint,
 ) -> Result<ChainText, NoMemory>
-    ensures { IfOk result (λ row. row_of row ≡ endpoint_row info.now endpoint.now) }
+    ensures { IfOk result (λ row. row_of row ≡ endpoint_row family info.now endpoint.now) }
 {
     Ok(ChainText {
         at: ChainAt {
-            table: TableName::Nat,
+            table: TableName::nat_of(family),
             chain: endpoint.chain.same(),
         },
         rules: endpoint_rules(alloc, info, endpoint)?,

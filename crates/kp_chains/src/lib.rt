@@ -1,6 +1,6 @@
-//! The chains of a table, laid out as kube-proxy's iptables mode lays them out (Kubernetes
-//! documents on virtual IPs): those of one Service port, its rules in the shared chains, and the
-//! shared chains with the rules of all ports between the fixed rules.
+//! The chains of a family's tables, laid out as kube-proxy's iptables mode lays them out
+//! (Kubernetes documents on virtual IPs): those of one Service port, its rules in the shared
+//! chains, and the shared chains with the rules of all ports between the fixed rules.
 #![tactic(auto)]
 
 mod blocks;
@@ -33,4 +33,4 @@ pub use made::info_rules;
 pub use nat::nat_rows;
 pub use port::port_chains;
 pub use shared::port_block;
-pub use table::table_of;
+pub use table::{put_rows, table_of};

@@ -1,34 +1,34 @@
 //! The chain that chooses among the endpoints of a list.
 ghost use Rattle.std.specs.Prelude.{◌≡◌, ◌++◌, map, IfOk, OnOk};
 ghost use Rattle.std.specs.Option.{option_to_list};
-ghost use Rattle.kp_base.specs.declared.address.Family.TheVariants.{V4};
 ghost use Rattle.kp_choice_defs.specs.Settings.{setting_of};
-ghost use Rattle.kp_types.specs.Setting.{config_for};
+ghost use Rattle.kp_types.specs.Setting.{cluster_range};
 ghost use Rattle.kp_table_defs.specs.Layout as layout;
 ghost use Rattle.kp_chains.specs.Named as spec;
 ghost use Rattle.kp_chains.specs.Named.{choice_of, choices, seen_rules};
 
 use crate::named::NamedEndpoint;
 use crate::rules::{mark, rule_at, rule0, rule1, rule3, to_address, to_port};
-use kp_base::{Cidr, Config, Family, Items, NoMemory};
+use kp_base::{Config, Family, Items, NoMemory};
 use kp_draws::probability;
-use kp_types::{Match, PortInfo, Rule, Target};
+use kp_types::{Match, PortInfo, Rule, Target, cluster_range};
 use std::alloc::Global;
 
 /// The rules of the chain: those of the internal policy's list mark, and then come session
 /// affinity and the choice.
 pub fn list_rules(
     alloc: Global,
+    family: Family,
     config: &Config,
     info: &PortInfo,
     is_internal: bool,
     endpoints: &[NamedEndpoint],
 ) -> Result<Items<Rule>, NoMemory>
     ensures { IfOk result (λ rules. rules
-        ≡ spec.list_rules (setting_of V4 config.now) info.now is_internal endpoints.now) }
+        ≡ spec.list_rules (setting_of family config.now) info.now is_internal endpoints.now) }
 {
     let mut rules = Vec::new(alloc);
-    if let Some(rule) = mark_rule_if(is_internal, config, info) {
+    if let Some(rule) = mark_rule_if(is_internal, family, config, info) {
         rules.push(rule)?;
     }
     add_seen(&mut rules, info.affinity, endpoints)?;
@@ -37,34 +37,34 @@ pub fn list_rules(
 }
 
 /// The rule that marks packets to the cluster address, in the chain of the internal policy.
-fn mark_rule_if(is_internal: bool, config: &Config, info: &PortInfo) -> Option<Rule>
+fn mark_rule_if(is_internal: bool, family: Family, config: &Config, info: &PortInfo) -> Option<Rule>
     ensures { option_to_list result ≡ layout.rules_if is_internal
-        (layout.mark_rules config.now.masquerade_all (config_for V4 config.now).cluster info.now) }
+        (layout.mark_rules config.now.masquerade_all (cluster_range family config.now) info.now) }
 {
     if is_internal {
-        mark_rule(config, info)
+        mark_rule(family, config, info)
     } else {
         None
     }
 }
 
 /// The rule that marks packets to the cluster address: all of them, or those from outside the
-/// cluster's range of IPv4, where there is one.
-fn mark_rule(config: &Config, info: &PortInfo) -> Option<Rule>
+/// cluster's range, where there is one.
+fn mark_rule(family: Family, config: &Config, info: &PortInfo) -> Option<Rule>
     ensures { option_to_list result ≡ layout.mark_rules config.now.masquerade_all
-        (config_for V4 config.now).cluster info.now }
+        (cluster_range family config.now) info.now }
 {
     if config.masquerade_all {
         return Some(rule_at(info, mark(), &info.address));
     }
-    match config.cluster {
-        Some(range) if range.base().family() == Family::V4 => Some(rule3(
+    match cluster_range(config, family) {
+        Some(range) => Some(rule3(
             Match::Src { range, not: true },
             to_address(&info.address),
             to_port(info),
             mark(),
         )),
-        _ => None,
+        None => None,
     }
 }
 

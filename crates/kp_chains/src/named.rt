@@ -1,9 +1,6 @@
 //! Endpoints with the names of their chains.
 ghost use Rattle.std.specs.Prelude.{◌≡◌, map, IfOk};
-ghost use Rattle.kp_base.specs.declared.address.Family.TheVariants.{V4};
-ghost use Rattle.kp_choice_defs.specs.Settings.{setting_of};
-ghost use Rattle.kp_table_defs.specs.Layout as layout;
-ghost use Rattle.kp_chains.specs.Named.{named_by};
+ghost use Rattle.kp_chains.specs.Named.{name_of_endpoint, named_by};
 
 use kp_base::{Config, Endpoint, NoMemory};
 use kp_names::Namer;
@@ -25,8 +22,7 @@ pub fn named(
     endpoints: &[Endpoint],
 ) -> Result<Vec<NamedEndpoint>, NoMemory>
     ensures { IfOk result (λ named. named.items
-        ≡ map (named_by (layout.endpoint_chain (setting_of V4 config.now) info.now))
-        endpoints.now) }
+        ≡ map (named_by (name_of_endpoint config.now info.now)) endpoints.now) }
 {
     let namer = Namer::new(config.name_length);
     Ok(

@@ -1,14 +1,13 @@
 //! Rows of the shared chains.
 ghost use Rattle.std.specs.Prelude.{◌≡◌, ◌++◌, ◌∷◌, [], true, IfOk, OnOk};
 ghost use Rattle.kp_base.specs.Net.{loopback_range};
-ghost use Rattle.kp_base.specs.declared.address.Family.TheVariants.{V4};
 ghost use Rattle.kp_types.specs.Chains.{is_chain_name};
 ghost use Rattle.kp_types.specs.declared.rule.Match.TheVariants as match;
 ghost use Rattle.kp_table_defs.specs.Layout as layout;
 ghost use Rattle.kp_chains.specs.Rows.{rows_of_texts};
 
 use crate::rules::jump;
-use kp_base::{Cidr, Items, NoMemory};
+use kp_base::{Address, Cidr, Family, Items, NoMemory};
 use kp_types::{ChainAt, ChainName, ChainText, Match, Rule, TableName};
 use std::alloc::Global;
 
@@ -61,12 +60,22 @@ pub fn two_jumps(alloc: Global, first: &str, second: &str) -> Result<Items<Rule>
     Ok(Items::from_vec(rules))
 }
 
-/// The packets to addresses other than 127.0.0.0/8.
-pub fn outside_loopback() -> Match
-    ensures { result ≡ match.Dst (loopback_range V4) true }
+/// The packets to addresses of a family other than loopback.
+pub fn outside_loopback(family: Family) -> Match
+    ensures { result ≡ match.Dst (loopback_range family) true }
 {
     Match::Dst {
-        range: Cidr::parse(b"127.0.0.0/8").unwrap(),
+        range: loopback(family),
         not: true,
+    }
+}
+
+/// 127.0.0.0/8 and ::1/128.
+fn loopback(family: Family) -> Cidr
+    ensures { result ≡ loopback_range family }
+{
+    match family {
+        Family::V4 => Cidr::parse(b"127.0.0.0/8").unwrap(),
+        Family::V6 => Cidr::single(Address::v6(1)),
     }
 }

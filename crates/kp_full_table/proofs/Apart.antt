@@ -1,30 +1,33 @@
--- Where the full table has as many chains as it has rows, no two chains that are needed have one
--- name.
-use Rattle.std.proofs.Common.{◌≡◌, inl, inr, ◌≤◌, ◌+◌, ℕ, suc, Bool, true, false, cond, List, [], ◌∷◌, ◌++◌, map, length, Contains, None, is_some, flat_map, refl, sym, ap, ap₂, subst, ◌∙◌, arith}
-use Rattle.std.specs.FinMap.{entries, from_entries, get-from_entries, keys, len, len-entries, len-insert, contains_key}
-use Rattle.std.specs.FinMap.Entries.{is_some-find}
+-- Where each row of a family's tables makes a chain more, no two chains that are needed in the family
+-- have one name.
+use Rattle.std.proofs.Common.{◌≡◌, inl, inr, ◌≤◌, ◌+◌, ◌==◌, ℕ, suc, Bool, true, false, cond, List, [], ◌∷◌, ◌++◌, map, length, Contains, Option, Some, None, is_some, flat_map, refl, sym, ap, ap₂, subst, ◌∙◌, arith}
+use Rattle.std.specs.FinMap.{entries, get, get-insert, keys, len, len-entries, len-insert, contains_key}
 use Rattle.std.specs.Ordering.{eq_by_cmp}
+use Rattle.std.proofs.lemmas.Bool.Decides.{nat_tests}
 use Rattle.std.proofs.lemmas.List.{length-map, map-append}
 use Rattle.std.proofs.lemmas.Simd.{map-map}
-use Rattle.kp_lemmas.proofs.Members.{none_in, in_cases, in_map, any_from}
+use Rattle.kp_lemmas.proofs.Members.{none_in, in_cases, in_map}
 use Rattle.kp_lemmas.proofs.Orders.{tie_of_itself}
-use Rattle.kp_types.specs.Places.{chain_cmp}
+use Rattle.kp_types.specs.Places.{chain_cmp, nat_of}
 use Rattle.kp_types.specs.Setting.{Setting}
 use Rattle.kp_types.specs.declared.chain.ChainAt.{ChainAt}
 use Rattle.kp_types.specs.declared.chain.ChainKey.{ChainKey}
+use Rattle.kp_types.specs.declared.rule.Rule.{Rule}
 use Rattle.kp_types.proofs.ChainOrder.{chain_total}
-use Rattle.kp_choice_defs.specs.Names.{first_clash}
 use Rattle.kp_object_defs.specs.PortInfo.{PortInfo}
 use Rattle.kp_table_defs.specs.Keys.{own_keys}
-use Rattle.kp_table_defs.specs.Layout.{filter_rows, nat_rows, nat_table, place_of_key, port_rows, row_of_key, rows_of}
-use Rattle.kp_table_defs.specs.Rebuild.{full_chains, needed_keys}
+use Rattle.kp_table_defs.specs.Layout.{filter_rows, nat_rows, place_of_key, port_rows, row_of_key, rows_of}
+use Rattle.kp_table_defs.specs.Rebuild.{Chains, clash_among}
 use Rattle.kp_table_laws.proofs.KeyRows.{Row}
 use Rattle.kp_table_laws.proofs.NeededKeys.{no_clash_is_own_names}
-use Rattle.kp_rules.proofs.MapPlaces.{length-keys-le}
+use Rattle.kp_chains.specs.Tables.{chains_with}
 
 -- the places of rows
 abbrev places : List Row → List ChainAt
 places rows = map (λ r. r.0) rows
+
+true_false : true ≡ false → ⊥
+true_false h = absurd (cc)
 
 -- ---- Places that stand once each
 
@@ -39,42 +42,59 @@ unfolding Apart
 apart_behind [] qs h = h
 apart_behind (p ∷ ps) qs h = apart_behind ps qs h.1
 
--- the rows of a place are found
-found : (q : ChainAt) (rows : List Row) → Contains (places rows) q
-    → contains_key (from_entries {R = chain_cmp} rows) q ≡ true
-found q rows c =
-    ap is_some (get-from_entries chain_total rows q)
-    ∙ is_some-find chain_cmp q rows
-    ∙ any_from (eq_by_cmp chain_cmp q) q (places rows) c (tie_of_itself chain_total q)
+module _ (m : Chains) where
+  -- the row of a place is found
+  found_by : (b : Bool) (r : Row) (o : Option (List Rule)) → (b ≡ false → is_some o ≡ true)
+      → is_some (cond b (Some r.1) o) ≡ true
+  found_by true r o later = refl
+  found_by false r o later = later refl
 
-at_most : (rows : List Row) → len (from_entries {R = chain_cmp} rows) ≤ length rows
-at_most rows = omega (
-  arith,
-  length-map (entries (from_entries {R = chain_cmp} rows)) (λ e. e.0),
-  len-entries (from_entries {R = chain_cmp} rows),
-  length-keys-le rows,
-)
+  found : (q : ChainAt) (rows : List Row) → Contains (places rows) q
+      → contains_key (chains_with rows m) q ≡ true
+  found q [] c = absurd (none_in q c)
+  found q (r ∷ rows) c =
+      ap is_some (get-insert chain_total (chains_with rows m) r.0 r.1 q)
+      ∙ found_by (eq_by_cmp chain_cmp q r.0) r (get (chains_with rows m) q) (λ other.
+      elim (in_cases q r.0 (places rows) c) [
+        | inl e ↦ absurd (true_false (sym (tie_of_itself chain_total q)
+            ∙ ap (eq_by_cmp chain_cmp q) (sym e) ∙ other))
+        | inr d ↦ found q rows d
+      ])
 
--- a map that grew lacked the key
-grew : (b : Bool) (n k : ℕ) → suc k ≡ cond b n (n + 1) → n ≤ k → (b ≡ false) × (n ≡ k)
-grew true n k h le = absurd (omega arith)
-grew false n k h le = (refl, omega arith)
+  at_most_one : (b : Bool) (n : ℕ) → cond b n (n + 1) ≤ n + 1
+  at_most_one true n = omega arith
+  at_most_one false n = omega arith
 
--- where rows make as many chains, each place stands once
-apart_rows : (rows : List Row) → length rows ≡ len (from_entries {R = chain_cmp} rows)
-    → Apart (places rows)
-unfolding Apart
-apart_rows [] h = tt
-apart_rows (r ∷ rows) h =
-    let m = from_entries {R = chain_cmp} rows in
-    let new = grew (contains_key m r.0) (len m) (length rows)
-    (h ∙ len-insert chain_total m r.0 r.1) (at_most rows) in (
-      (λ q c same. true_false (sym (found q rows c) ∙ ap (contains_key m) (sym same) ∙ new.0)),
-      apart_rows rows (sym new.1),
-    )
-  where
-    true_false : true ≡ false → ⊥
-    true_false h = absurd (cc)
+  at_most : (rows : List Row) → len (chains_with rows m) ≤ len m + length rows
+  at_most [] = omega arith
+  at_most (r ∷ rows) =
+      let had = chains_with rows m in
+      omega (
+        arith,
+        at_most rows,
+        len-insert chain_total had r.0 r.1,
+        at_most_one (contains_key had r.0) (len had),
+      )
+
+  -- a map that grew lacked the key
+  grew : (b : Bool) (n k : ℕ) → suc k ≡ cond b n (n + 1) → n ≤ k → (b ≡ false) × (n ≡ k)
+  grew true n k h le = absurd (omega arith)
+  grew false n k h le = (refl, omega arith)
+
+  -- where each row makes a chain more, each place stands once
+  apart_rows : (rows : List Row) → len (chains_with rows m) ≡ len m + length rows
+      → Apart (places rows)
+  unfolding Apart
+  apart_rows [] h = tt
+  apart_rows (r ∷ rows) h =
+      let had = chains_with rows m in
+      let more : suc (len m + length rows) ≡ len m + length (r ∷ rows) = omega arith in
+      let grown : suc (len m + length rows) ≡ cond (contains_key had r.0) (len had) (len had + 1) =
+      more ∙ sym h ∙ len-insert chain_total had r.0 r.1 in
+      let new = grew (contains_key had r.0) (len had) (len m + length rows) grown (at_most rows) in (
+        (λ q c same. true_false (sym (found q rows c) ∙ ap (contains_key had) (sym same) ∙ new.0)),
+        apart_rows rows new.1,
+      )
 
 -- of what has places that stand once, no two have one place
 one_of_place : (place : ChainKey → ChainAt) (ks : List ChainKey) → Apart (map place ks)
@@ -106,20 +126,26 @@ port_places setting (i ∷ infos) =
     (port_places setting infos)
     ∙ sym (map-append (place_of_key setting) (own_keys i) (flat_map own_keys infos))
 
--- where each row of the full table is a chain, no two needed chains have one name
-pub none_share : (setting : Setting) (infos : List PortInfo)
-    → length (rows_of setting infos) ≡ length (keys (full_chains setting infos))
-    → first_clash setting.name_of (needed_keys infos) ≡ None
-none_share setting infos h =
+length_keys : (m : Chains) → length (keys m) ≡ len m
+length_keys m = length-map (entries m) (λ e. e.0) ∙ sym (len-entries m)
+
+-- where each row of a family's tables makes a chain more, no two needed chains have one name
+pub none_share : (setting : Setting) (infos : List PortInfo) (before after : Chains)
+    → after ≡ chains_with (rows_of setting infos) before
+    → length (keys after) ≡ length (keys before) + length (rows_of setting infos)
+    → clash_among setting infos ≡ None
+none_share setting infos before after put grown =
     let rows = rows_of setting infos in
     let fixed = nat_rows setting infos ++ filter_rows setting.family infos in
     let own = flat_map (port_rows setting) infos in
-    let all : Apart (places rows) = apart_rows rows
-    (h ∙ length-map (entries (from_entries {R = chain_cmp} rows)) (λ e. e.0)
-    ∙ sym (len-entries (from_entries {R = chain_cmp} rows))) in
+    let all : Apart (places rows) = apart_rows before rows (ap len (sym put)
+    ∙ sym (length_keys after) ∙ grown ∙ ap (λ n. n + length rows) (length_keys before)) in
     let once : Apart (map (place_of_key setting) (flat_map own_keys infos)) =
     subst Apart (port_places setting infos) (apart_behind (places fixed) (places own)
     (subst Apart (map-append (λ (r : Row). r.0) fixed own) all)) in
     (no_clash_is_own_names setting.name_of infos).1 (λ k l ck cl same.
     one_of_place (place_of_key setting) (flat_map own_keys infos) once k l ck cl
-    (ap (λ n. record { table = nat_table setting.family; chain = n }) same))
+    (ap (λ n. record { table = nat_of setting.family; chain = n }) same))
+
+pub one_number : (a b : ℕ) → (a == b) ≡ true → a ≡ b
+one_number a b h = grind (arith, nat_tests)

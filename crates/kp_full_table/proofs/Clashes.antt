@@ -25,3 +25,9 @@ pub told : {X : Type 0} (r : Result X TableFault) (fault : NameFault) (is that :
 told (Ok x) fault is that from same h = tt
 told (Err f) fault is that from same h =
     subst (λ x. TellsClash is x) (sym from) (tells is fault (subst (λ c. names.TellsClash c fault) (sym same) h))
+
+-- so has one that is handed on as it is
+pub handed_on : {X : Type 0} (r : Result X TableFault) (fault : TableFault) (clash : Option Clash)
+    → IsErrAnd r (λ f. f ≡ fault) → TellsClash clash fault → IfErr r (TellsClash clash)
+handed_on (Ok x) fault clash from h = tt
+handed_on (Err f) fault clash from h = subst (TellsClash clash) (sym from) h

@@ -1,7 +1,8 @@
 -- What ports contribute to the full table, as the program keeps it.
 use Rattle.std.specs.Prelude.{◌≡◌, ℕ, ◌+◌, List, [], ◌∷◌, ◌++◌}
-use Rattle.std.specs.List.{flat_map}
-use Rattle.kp_types.specs.Setting.{Setting}
+use Rattle.std.specs.List.{flat_map, sum_by}
+use Rattle.kp_base.specs.declared.address.Family.{Family}
+use Rattle.kp_types.specs.Setting.{Setting, Settings, view_of}
 use Rattle.kp_object_defs.specs.PortInfo.{PortInfo}
 use Rattle.kp_table_defs.specs.Layout.{service_block, node_port_block, firewall_block, external_block, refusal_block, port_rows}
 use Rattle.kp_chains.specs.Rows.{rows_of_texts, rule_count}
@@ -44,3 +45,8 @@ port_rule_count setting i = rule_count (port_rows setting i) + block_count (bloc
 abbrev pub all_rule_count : Setting → List PortInfo → ℕ
 all_rule_count setting [] = 0
 all_rule_count setting (i ∷ is) = port_rule_count setting i + all_rule_count setting is
+
+-- how many rules ports have together in the tables of all families of a node
+abbrev pub families_rule_count : Settings → (Family → List PortInfo) → ℕ
+families_rule_count settings infos =
+    sum_by (λ family. all_rule_count (view_of family settings) (infos family)) settings.families

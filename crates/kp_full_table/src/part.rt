@@ -1,14 +1,12 @@
 //! What ports contribute to the full table: their own chains, and their rules in the shared chains.
 ghost use Rattle.std.specs.Prelude.{◌≡◌, ◌∷◌, ◌++◌, ◌+◌, [], List, IfOk, OnOk, OnErr};
-ghost use Rattle.kp_base.specs.declared.address.Family.TheVariants.{V4};
 ghost use Rattle.kp_choice_defs.specs.Settings.{setting_of};
-ghost use Rattle.kp_base.specs.declared.config.Config.{Config};
 ghost use Rattle.kp_types.specs.Setting.{Setting};
 ghost use Rattle.kp_object_defs.specs.PortInfo as Info;
 ghost use Rattle.kp_full_table.specs.Parts as spec;
 ghost use Rattle.kp_full_table.specs.Parts.{IsPartOf, port_rule_count};
 
-use kp_base::{Config, Items, NoMemory, Steps};
+use kp_base::{Config, Family, Items, NoMemory, Steps};
 use kp_chains::{Blocks, info_rules};
 use kp_types::{ChainText, PortInfo};
 use std::alloc::Global;
@@ -21,19 +19,21 @@ pub struct Part {
     pub blocks: Blocks,
 }
 
-/// What one port contributes. A step is taken for each of its rules; without memory none is.
+/// What one port contributes in a family. A step is taken for each of its rules; without memory
+/// none is.
 pub fn part_of_port<L: Ledger>(
     alloc: Global,
+    family: Family,
     config: &Config,
     info: &PortInfo,
     steps: &mut Steps<L>,
 ) -> Result<Part, NoMemory>
-    ensures part { IfOk result (IsPartOf (setting_of V4 config.now) (info.now ∷ [])) }
+    ensures part { IfOk result (IsPartOf (setting_of family config.now) (info.now ∷ [])) }
     ensures steps { OnOk result (steps.new
-        ≡ steps.old + port_rule_count (setting_of V4 config.now) info.now) }
+        ≡ steps.old + port_rule_count (setting_of family config.now) info.now) }
     ensures no_step { OnErr result (steps.new ≡ steps.old) }
 {
-    let (chains, blocks) = info_rules(alloc, config, info, steps)?;
+    let (chains, blocks) = info_rules(alloc, family, config, info, steps)?;
     Ok(Part {
         chains: Items::from_vec(chains),
         blocks,
@@ -42,7 +42,7 @@ pub fn part_of_port<L: Ledger>(
 
 /// What no port contributes.
 pub fn no_part(alloc: Global) -> Part
-    ensures { (config : Config) → IsPartOf (setting_of V4 config) [] result }
+    ensures { (setting : Setting) → IsPartOf setting [] result }
 {
     Part {
         chains: Items::new(alloc),

@@ -1,5 +1,4 @@
 use Rattle.std.proofs.Common.{◌≡◌, ◌++◌, map, take}
-use Rattle.kp_base.specs.declared.address.Family.TheVariants.{V4}
 use Rattle.kp_choice_defs.specs.Settings.{setting_of}
 use Rattle.kp_chains.specs.Named.{kind_row}
 use Rattle.kp_chains.specs.Rows.{rows_of_texts}
@@ -9,5 +8,5 @@ use Rattle.kp_chains.proofs.chains.add_kind_chains.Given as goal
 abbrev pub invariant-loop-kind : goal.invariant-loop-kind
 invariant-loop-kind l =
     rows_of_texts l.rows.items ≡ rows_of_texts l.fn.rows.items
-    ++ map (kind_row (setting_of V4 l.config) l.info l.cluster l.local)
+    ++ map (kind_row (setting_of l.family l.config) l.info l.cluster l.local)
     (take l.kind-index l.kind-items)

@@ -6,4 +6,4 @@ use Rattle.kp_chains.proofs.endpoints.add_endpoint_chains.Given as goal
 -- the chains of the endpoints so far were added
 abbrev pub invariant-loop-endpoint : goal.invariant-loop-endpoint
 invariant-loop-endpoint l =
-    rows_of_texts l.rows.items ≡ rows_of_texts l.fn.rows.items ++ map (endpoint_row l.info) (take l.endpoint-index l.endpoints)
+    rows_of_texts l.rows.items ≡ rows_of_texts l.fn.rows.items ++ map (endpoint_row l.family l.info) (take l.endpoint-index l.endpoints)

@@ -7,4 +7,4 @@ use Rattle.kp_chains.proofs.endpoints.add_other_chains.Given as goal
 abbrev pub invariant-loop-endpoint : goal.invariant-loop-endpoint
 invariant-loop-endpoint l =
     rows_of_texts l.rows.items
-    ≡ rows_of_texts l.fn.rows.items ++ map (endpoint_row l.info) (not_among l.info.lists.cluster (take l.endpoint-index l.endpoints))
+    ≡ rows_of_texts l.fn.rows.items ++ map (endpoint_row l.family l.info) (not_among l.info.lists.cluster (take l.endpoint-index l.endpoints))

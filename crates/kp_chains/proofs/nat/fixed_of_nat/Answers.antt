@@ -1,5 +1,4 @@
 use Rattle.std.proofs.Common.{take, refl, ap, ◌∙◌, ◌∷◌, ◌++◌, []}
-use Rattle.kp_base.specs.declared.address.Family.TheVariants.{V4}
 use Rattle.kp_types.specs.Rules.{rule_of}
 use Rattle.kp_types.specs.declared.rule.Target.TheVariants.{Jump}
 use Rattle.kp_table_defs.specs.Layout.{nat_rows_with, own_addresses, kube_node_ports}
@@ -10,11 +9,13 @@ use Rattle.kp_chains.proofs.nat.fixed_of_nat.Goals as goal
 
 pub returns : goal.returns
 returns c =
-    let rows = nat_rows_with V4 c.args.node_ports c.args.services in
-    next_row _ _ [] (take 7 rows) _ _ _ _ c.in_ok-add_row-2.ensures
+    let family = c.args.family in
+    let rows = nat_rows_with family c.args.node_ports c.args.services in
+    let at = c.nat_of-table.ensures in
+    next_row _ _ at _ _ [] (take 7 rows) _ _ _ c.in_ok-add_row-2.ensures
     (c.in_ok-services.ensures
-    ∙ ap (λ s. s ++ rule_of (own_addresses V4) (Jump kube_node_ports) ∷ []) c.into_vec.ensures)
-    (next_row _ _ [] (take 6 rows) _ _ _ _ c.in_ok-add_row.ensures refl
-    (more_rows _ _ [] nat_hooks nat_marks c.in_ok-marks_of_nat.ensures
+    ∙ ap (λ s. s ++ rule_of (own_addresses family) (Jump kube_node_ports) ∷ []) c.into_vec.ensures)
+    (next_row _ _ at _ _ [] (take 6 rows) _ _ _ c.in_ok-add_row.ensures refl
+    (more_rows _ _ [] (nat_hooks family) (nat_marks family) c.in_ok-marks_of_nat.ensures
     (c.in_ok-hooks_of_nat.ensures
-    ∙ ap (λ first. rows_of_texts first ++ nat_hooks) c.new-rows.ensures.items)))
+    ∙ ap (λ first. rows_of_texts first ++ nat_hooks family) c.new-rows.ensures.items)))

@@ -6,8 +6,10 @@ use Rattle.kp_chains.proofs.nat.hooks_of_nat.Goals as goal
 
 pub returns : goal.returns
 returns c =
+    let hooks = nat_hooks c.args.family in
     let r = rows_of_texts c.args.rows.now.items in
-    next_row _ _ r (take 3 nat_hooks) _ _ _ _ c.in_ok-add_row-4.ensures c.in_ok-postrouting.ensures
-    (next_row _ _ r (take 2 nat_hooks) _ _ _ _ c.in_ok-add_row-3.ensures c.in_ok-output.ensures
-    (next_row _ _ r (take 1 nat_hooks) _ _ _ _ c.in_ok-add_row-2.ensures c.new-empty.ensures
-    (first_row _ _ _ _ _ _ c.in_ok-add_row.ensures c.in_ok-services.ensures)))
+    let at = c.nat_of-table.ensures in
+    next_row _ _ at _ _ r (take 3 hooks) _ _ _ c.in_ok-add_row-4.ensures c.in_ok-postrouting.ensures
+    (next_row _ _ at _ _ r (take 2 hooks) _ _ _ c.in_ok-add_row-3.ensures c.in_ok-output.ensures
+    (next_row _ _ at _ _ r (take 1 hooks) _ _ _ c.in_ok-add_row-2.ensures c.new-empty.ensures
+    (first_row _ _ at _ _ _ _ _ c.in_ok-add_row.ensures c.in_ok-services.ensures)))

@@ -1,13 +1,12 @@
-use Rattle.kp_chains.proofs.Popped.{popped-drop, popped-take, put_row}
+use Rattle.std.proofs.Common.{ap, ◌∙◌}
+use Rattle.kp_chains.specs.Rows.{rows_of_texts}
+use Rattle.kp_chains.specs.Tables.{with_rows}
+use Rattle.kp_chains.proofs.Popped.{chains_alone}
 use Rattle.kp_chains.proofs.table.table_of.Goals as goal
 
-pub loop-row-preserved : goal.loop-row-preserved
-loop-row-preserved c =
-    let all = c.args.rows.items in
-    let old = c.loop-row.rows.items in
-    let new = c.pop.new.self.items in
-    let row = c.in-Some.row in
-    record {
-      table = put_row _ _ row _ _ c.in_ok-put.ensures.ok c.loop-row.invariant.table (popped-drop all old new row c.in-Some.ensures.items c.loop-row.invariant.left);
-      left = popped-take all old new row c.in-Some.ensures.items c.loop-row.invariant.left;
-    }
+pub returns : goal.returns
+returns c =
+    let rows = rows_of_texts c.args.rows.items in
+    c.in_ok-put_rows.ensures
+    ∙ ap (with_rows rows) c.in_ok-table.ensures
+    ∙ ap (λ m. record { chains = m; syncs = 0 }) (chains_alone rows)

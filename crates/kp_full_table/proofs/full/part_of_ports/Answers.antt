@@ -1,23 +1,22 @@
 use Rattle.std.proofs.Common.{◌+◌, [], ◌∷◌, take, arith}
-use Rattle.kp_base.specs.declared.address.Family.TheVariants.{V4}
 use Rattle.kp_choice_defs.specs.Settings.{setting_of}
 use Rattle.kp_full_table.proofs.PartSteps.{next_part, next_count, some_count}
 use Rattle.kp_full_table.proofs.full.part_of_ports.Goals as goal
 
 pub loop-info-init : goal.loop-info-init
 loop-info-init g c = record {
-  part = c.no_part-part.ensures c.args.config.now;
+  part = c.no_part-part.ensures (setting_of c.args.family c.args.config.now);
   steps = omega arith;
 }
 
 pub returns-in_err-part_of_port-clause-bound : goal.returns-in_err-part_of_port-clause-bound
 returns-in_err-part_of_port-clause-bound g c =
-    let setting = setting_of V4 c.args.config.now in
+    let setting = setting_of c.args.family c.args.config.now in
     omega (arith, c.in_err-part_of_port.ensures.no_step, c.loop-info.invariant.steps, some_count setting c.args.infos.now c.loop-info.info-index)
 
 pub returns-in_err-part-clause-bound : goal.returns-in_err-part-clause-bound
 returns-in_err-part-clause-bound g c =
-    let setting = setting_of V4 c.args.config.now in
+    let setting = setting_of c.args.family c.args.config.now in
     let infos = c.args.infos.now in
     let k = c.loop-info.info-index in
     let counted = next_count setting infos k c.info-item.result c.args.steps.now c.loop-info.steps c.part_of_port.new.steps
@@ -26,7 +25,7 @@ returns-in_err-part-clause-bound g c =
 
 pub loop-info-preserved : goal.loop-info-preserved
 loop-info-preserved g c =
-    let setting = setting_of V4 c.args.config.now in
+    let setting = setting_of c.args.family c.args.config.now in
     let infos = c.args.infos.now in
     let k = c.loop-info.info-index in
     let info = c.info-item.result in

@@ -1,5 +1,4 @@
 use Rattle.std.proofs.Common.{◌≡◌, ◌+◌, take}
-use Rattle.kp_base.specs.declared.address.Family.TheVariants.{V4}
 use Rattle.kp_choice_defs.specs.Settings.{setting_of}
 use Rattle.kp_full_table.specs.Parts.{IsPartOf, all_rule_count}
 use Rattle.kp_full_table.proofs.full.part_of_ports.Given as goal
@@ -7,6 +6,6 @@ use Rattle.kp_full_table.proofs.full.part_of_ports.Given as goal
 -- what the ports so far contribute, with a step for each of their rules
 abbrev pub invariant-loop-info : goal.invariant-loop-info
 invariant-loop-info g l = record {
-  part : IsPartOf (setting_of V4 l.config) (take l.info-index l.infos) l.part;
-  steps : l.steps ≡ l.fn.steps + all_rule_count (setting_of V4 l.config) (take l.info-index l.infos);
+  part : IsPartOf (setting_of l.family l.config) (take l.info-index l.infos) l.part;
+  steps : l.steps ≡ l.fn.steps + all_rule_count (setting_of l.family l.config) (take l.info-index l.infos);
 }

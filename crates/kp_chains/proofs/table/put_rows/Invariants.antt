@@ -1,12 +1,12 @@
 use Rattle.std.proofs.Common.{◌≡◌, take, drop, length, vec_len}
 use Rattle.kp_chains.specs.Rows.{rows_of_texts}
-use Rattle.kp_chains.specs.Tables.{table_with}
-use Rattle.kp_chains.proofs.table.table_of.Given as goal
+use Rattle.kp_chains.specs.Tables.{with_rows}
+use Rattle.kp_chains.proofs.table.put_rows.Given as goal
 
--- the table is that of the rows that were taken off the end
+-- the table has the rows that were taken off the end
 abbrev pub invariant-loop-row : goal.invariant-loop-row
 invariant-loop-row l = record {
-  table : l.table ≡ table_with (rows_of_texts (drop (length l.rows.items) l.fn.rows.items));
+  table : l.table ≡ with_rows (rows_of_texts (drop (length l.rows.items) l.fn.rows.items)) l.fn.table;
   left : l.rows.items ≡ take (length l.rows.items) l.fn.rows.items;
 }
 
