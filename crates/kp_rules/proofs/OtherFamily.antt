@@ -7,7 +7,7 @@ use Rattle.std.proofs.lemmas.List.Elements.{All-cons, All-weaker}
 use Rattle.kp_base.specs.Net.{same_family}
 use Rattle.kp_base.specs.declared.address.Family.{Family}
 use Rattle.kp_base.specs.declared.address.Family.TheVariants.{V4, V6}
-use Rattle.kp_base.proofs.SameParts.{same_family_exact}
+use Rattle.kp_base.proofs.SameParts.{family_itself, same_family_exact}
 use Rattle.kp_types.specs.Places.{family_of_table, nat_of, filter_of}
 use Rattle.kp_types.specs.declared.chain.TableName.{TableName}
 use Rattle.kp_types.specs.declared.chain.ChainAt.{ChainAt}
@@ -20,10 +20,6 @@ use Rattle.kp_rules.proofs.ChangeLists.{Entries, added_changes}
 
 -- ---- Places outside a family's tables
 
-same_itself : (family : Family) → same_family family family ≡ true
-same_itself V4 = refl
-same_itself V6 = refl
-
 -- a place outside a family's tables isn't in one of them
 pub not_in : (family : Family) (table : TableName) → family_of_table table ≡ family → (at : ChainAt)
     → IsOutside family at → is_in table at ≡ false
@@ -31,7 +27,7 @@ not_in family table of at outside =
     false_from_ne_true (is_in table at) (λ inside.
     false≢true (sym outside ∙ ap (λ t. same_family (family_of_table t) family)
     (one_table_from_test at.table table inside) ∙ ap (λ f. same_family f family) of
-    ∙ same_itself family))
+    ∙ family_itself family))
 
 pub nat_family : (family : Family) → family_of_table (nat_of family) ≡ family
 nat_family V4 = refl

@@ -2,18 +2,17 @@
 -- on a way: so no walk gets stuck.
 use Rattle.std.proofs.Common.{◌≡◌, ◌≢◌, ◌≤◌, ◌<◌, ◌+◌, ◌||◌, ℕ, suc, zero, Bool, true, false, cond, List, [], ◌∷◌, Option, Some, None, is_some, bytes_eq, nat_eq, inl, inr, refl, sym, ap, ◌∙◌, subst, arith}
 use Rattle.std.specs.FinMap.{entries, get, get-entries}
-use Rattle.std.specs.List.{list_all, list_any, starts_with, AllByRecursion}
+use Rattle.std.specs.List.{list_all, starts_with, AllByRecursion}
 use Rattle.std.specs.Map.{lookup}
 use Rattle.std.specs.Option.{option_or}
 use Rattle.std.proofs.lemmas.Bool.{false≢true, and_parts, ltb-true}
-use Rattle.std.proofs.lemmas.Slice.Eq.{bytes_eq-Decides}
 use Rattle.kp_types.specs.declared.chain.TableName.{TableName}
 use Rattle.kp_types.specs.declared.chain.ChainAt.{ChainAt}
 use Rattle.kp_types.specs.declared.rule.Rule.{Rule}
 use Rattle.kp_types.specs.declared.rule.Target.{Target}
 use Rattle.kp_types.specs.declared.rule.Target.TheVariants as target
 use Rattle.kp_table_defs.specs.Matching.{WalkState, Surroundings, try_all}
-use Rattle.kp_table_defs.specs.Ranks.{rank_of, shared_ranks, prefix_ranks, is_built_in, built_in_chains, is_above, is_reached, goes_on, jumps_go_on, is_ranked, is_ranked_chain}
+use Rattle.kp_table_defs.specs.Ranks.{rank_of, shared_ranks, prefix_ranks, is_built_in, is_above, is_reached, goes_on, jumps_go_on, is_ranked, is_ranked_chain}
 use Rattle.kp_table_defs.specs.RankedWalk.{RankedWalksEnd}
 use Rattle.kp_table_defs.specs.Rebuild.{Chains}
 use Rattle.kp_table_defs.specs.Walk.{Outcome, Next, Left, Ended, Stuck, and_then, returned_from, target_outcome, target_if, rule_outcome, rules_outcome, found_outcome, chain_outcome, most_chains}
@@ -124,21 +123,13 @@ chain_ends chains h e table (suc n) chain rank rules le r g s =
     chain_ends chains h e table n to higher.0 found.0 (omega (arith, higher.1.1)) higher.1.0 found.1 t)
     e rules (subst (λ o. jumps_go_on chains table o rules ≡ true) r (ranked_there chains (record { table = table; chain = chain }) rules h g)) s))
 
--- ---- the built-in chains
-
-all_any : (P : List ℕ → Bool) (chain : List ℕ) (names : List (List ℕ)) → list_all P names ≡ true → list_any (bytes_eq chain) names ≡ true → P chain ≡ true
-all_any P chain [] h a = absurd (false≢true a)
-all_any P chain (name ∷ names) h a = by (bytes_eq chain name) refl a (all_any P chain names (and_parts _ _ h).1)
-  where
-    by : (b : Bool) → bytes_eq chain name ≡ b → b || list_any (bytes_eq chain) names ≡ true → (list_any (bytes_eq chain) names ≡ true → P chain ≡ true) → P chain ≡ true
-    by true t k rest = ap P ((bytes_eq-Decides chain name).0 t) ∙ (and_parts _ _ h).0
-    by false t k rest = rest k
+-- ---- the chain of a hook
 
 not_stuck : (o : Outcome) → Ends o → o ≢ Stuck
 not_stuck o h e = subst Ends e h
 
 pub ranked_walks_end : RankedWalksEnd
-ranked_walks_end chains ranked table there chain built e s =
-    let found = has_value (get chains (record { table = table; chain = chain })) (all_any (λ chain. is_some (get chains (record { table = table; chain = chain }))) chain (built_in_chains table) there built) in
+ranked_walks_end chains ranked table chain built there e s =
+    let found = has_value (get chains (record { table = table; chain = chain })) there in
     not_stuck _ (chain_ends chains ranked e table most_chains chain 0 found.0 (omega arith)
     (ap (λ b. cond b (Some 0) (option_or (lookup (bytes_eq chain) shared_ranks) (lookup (starts_with nat_eq chain) prefix_ranks))) built) found.1 s)

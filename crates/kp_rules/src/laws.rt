@@ -19,7 +19,7 @@ pub fn same_rules_are_equal()
     ensures { SameRulesAreEqual }
 {}
 
-/// No walk of a hook gets stuck on a ranked table that has its built-in chains.
+/// No walk of a hook gets stuck on a ranked table that has the chain of the hook.
 pub fn ranked_walks_end()
     ensures { RankedWalksEnd }
 {}

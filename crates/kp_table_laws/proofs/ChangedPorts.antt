@@ -7,7 +7,7 @@ use Rattle.std.specs.FinMap.Entries.{is_some-find}
 use Rattle.std.proofs.lemmas.Map.Views.{Contains-from_any, list_any-from_Contains}
 use Rattle.kp_lemmas.proofs.Members.{in_map, from_map, in_flat_map, from_flat_map}
 use Rattle.kp_lemmas.proofs.Orders.{one_from_tie}
-use Rattle.kp_types.specs.Places.{chain_cmp}
+use Rattle.kp_types.specs.Places.{chain_cmp, nat_of}
 use Rattle.kp_types.specs.Setting.{Setting}
 use Rattle.kp_types.specs.declared.chain.ChainAt.{ChainAt}
 use Rattle.kp_types.specs.declared.chain.ChainKey.{ChainKey}
@@ -15,7 +15,7 @@ use Rattle.kp_types.proofs.ChainOrder.{chain_total, chain_exact}
 use Rattle.kp_choice_defs.specs.Names.{first_clash}
 use Rattle.kp_object_defs.specs.PortInfo.{PortInfo}
 use Rattle.kp_table_defs.specs.Keys.{own_keys}
-use Rattle.kp_table_defs.specs.Layout.{nat_table, place_of_key, port_rows, row_of_key}
+use Rattle.kp_table_defs.specs.Layout.{place_of_key, port_rows, row_of_key}
 use Rattle.kp_table_defs.specs.Rebuild.{needed_keys}
 use Rattle.kp_table_laws.specs.Laws.{NoClashOfChangedPorts, StandApart}
 use Rattle.kp_table_laws.proofs.KeyRows.{Row, row_key, row_stands}
@@ -31,7 +31,7 @@ module _ (setting : Setting) where
   -- one name is one place
   one_place : (k l : ChainKey) → setting.name_of k ≡ setting.name_of l
       → place_of_key setting k ≡ place_of_key setting l
-  one_place k l same = ap (λ n. record { table = nat_table setting.family; chain = n }) same
+  one_place k l same = ap (λ n. record { table = nat_of setting.family; chain = n }) same
 
   module _ (kept : List PortInfo) where
     -- the rows of the ports that are kept, and their places

@@ -1,6 +1,8 @@
 pub mod ChangedPorts
 mod Deeper
 pub mod Entries
+pub mod Families
+pub mod FamilyClash
 mod Found
 pub mod KeyRows
 pub mod NeededKeys

@@ -1,18 +1,20 @@
 -- The contributions of ports make the full table.
 use Rattle.std.proofs.Common.{◌≡◌, List, [], ◌∷◌, ◌++◌, map, refl, sym, ap, ◌∙◌}
 use Rattle.std.specs.List.{flat_map}
-use Rattle.std.specs.FinMap.{find, entries, values, from_entries, get-from_entries, same_map}
+use Rattle.std.specs.FinMap.{find, entries, values, from_entries, get, get-from_entries, same_map}
 use Rattle.kp_lemmas.proofs.Booleans.{fact_from_true}
 use Rattle.kp_base.specs.Keys.{port_key_cmp}
 use Rattle.kp_base.proofs.KeyOrder.{port_key_total, port_key_exact}
 use Rattle.kp_types.specs.Places.{chain_cmp}
-use Rattle.kp_types.specs.Setting.{Setting}
+use Rattle.kp_types.specs.Setting.{Setting, config_of_family, view_of}
 use Rattle.kp_types.specs.declared.chain.ChainAt.{ChainAt}
+use Rattle.kp_types.specs.declared.rule.Rule.{Rule}
 use Rattle.kp_types.proofs.ChainOrder.{chain_total, chain_exact}
-use Rattle.kp_object_defs.specs.PortInfo.{PortInfo, port_infos}
+use Rattle.kp_object_defs.specs.PortInfo.{PortInfo, infos_by_family}
 use Rattle.kp_table_defs.specs.Layout.{nat_rows, nat_rows_with, filter_rows, filter_rows_with, port_rows, rows_of}
 use Rattle.kp_table_defs.specs.Parts.{rules_of_port, rules_by_port, rows_of_ports}
-use Rattle.kp_table_laws.specs.Laws.{AreInOrder, PortsMakeTheTable, PortsOfObjectsMakeTheTable}
+use Rattle.kp_table_laws.specs.Families.{PortsMakeTheTables, PortsOfObjectsMakeTheTable}
+use Rattle.kp_table_laws.specs.Laws.{AreInOrder, PortsMakeTheTable}
 use Rattle.kp_table_laws.proofs.Found.{found_in_each, found_before, found_in_map, sorted_entries, sorted_keys}
 use Rattle.kp_table_laws.proofs.PortOrder.{ports_are_in_order}
 
@@ -63,6 +65,28 @@ ports_make_the_table setting infos ordered =
     ∙ same_map chain_total chain_exact (from_entries {R = chain_cmp} joined_rows) (from_entries {R = chain_cmp} (rows_of setting infos))
     (λ q. get-from_entries chain_total joined_rows q ∙ found setting infos q ∙ sym (get-from_entries chain_total (rows_of setting infos) q))
 
+-- rows that are joined of others make the map that those make
+parts_make_one : {A : Type 0} (f g : A → List (ChainAt × List Rule))
+    → ((a : A) → from_entries {R = chain_cmp} (f a) ≡ from_entries {R = chain_cmp} (g a))
+    → (xs : List A)
+    → from_entries {R = chain_cmp} (flat_map f xs) ≡ from_entries {R = chain_cmp} (flat_map g xs)
+parts_make_one f g same xs =
+    same_map chain_total chain_exact _ _ (λ q.
+    get-from_entries chain_total (flat_map f xs) q
+    ∙ found_in_each chain_cmp f g q (λ a. sym (get-from_entries chain_total (f a) q)
+    ∙ ap (λ chains. get chains q) (same a) ∙ get-from_entries chain_total (g a) q) xs
+    ∙ sym (get-from_entries chain_total (flat_map g xs) q))
+
+pub ports_make_the_tables : PortsMakeTheTables
+ports_make_the_tables settings infos ordered =
+    parts_make_one
+    (λ family. rows_of_ports family
+    (values (rules_by_port (view_of family settings) (infos family))))
+    (λ family. rows_of (view_of family settings) (infos family))
+    (λ family. ports_make_the_table (view_of family settings) (infos family) (ordered family))
+    settings.families
+
 pub ports_of_objects_make_the_table : PortsOfObjectsMakeTheTable
-ports_of_objects_make_the_table setting o =
-    ports_make_the_table setting (port_infos setting.family setting.config o) (ports_are_in_order setting.family setting.config o)
+ports_of_objects_make_the_table settings o =
+    ports_make_the_tables settings (infos_by_family settings o)
+    (λ family. ports_are_in_order family (config_of_family family settings.config) o)

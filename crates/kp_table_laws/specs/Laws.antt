@@ -15,8 +15,8 @@ use Rattle.kp_object_defs.specs.Objects.{Objects}
 use Rattle.kp_object_defs.specs.PortInfo.{PortInfo, port_infos}
 use Rattle.kp_table_defs.specs.Keys.{own_keys}
 use Rattle.kp_table_defs.specs.Layout.{place_of_key, port_rows, rules_of_key}
-use Rattle.kp_table_defs.specs.Parts.{rules_by_port, rules_of_objects, table_of_ports}
-use Rattle.kp_table_defs.specs.Rebuild.{full_chains, full_table, needed_keys}
+use Rattle.kp_table_defs.specs.Parts.{rules_by_port, table_of_ports}
+use Rattle.kp_table_defs.specs.Rebuild.{full_chains, needed_keys}
 use Rattle.kp_table_defs.specs.Matching.{Surroundings, WalkState}
 use Rattle.kp_table_defs.specs.Traversal.{Takes}
 use Rattle.kp_table_defs.specs.Walk.{Outcome, Next, Left, Ended, Stuck, chain_outcome, rules_outcome}
@@ -34,12 +34,6 @@ abbrev pub PortsMakeTheTable : Type 0
 PortsMakeTheTable =
     (setting : Setting) (infos : List PortInfo) → AreInOrder infos
     → table_of_ports setting.family (rules_by_port setting infos) ≡ full_chains setting infos
-
--- The contributions of the ports of some objects make the full table of the objects.
-abbrev pub PortsOfObjectsMakeTheTable : Type 0
-PortsOfObjectsMakeTheTable =
-    (setting : Setting) (o : Objects)
-    → table_of_ports setting.family (rules_of_objects setting o) ≡ (full_table setting o).chains
 
 -- each port of a list has a key of its own
 abbrev pub HaveOwnKeys : List PortInfo → Type 0

@@ -17,7 +17,7 @@ use Rattle.kp_door_defs.specs.Decision.{Translation, translation_of, translated,
 use Rattle.kp_door_defs.specs.Filter.{Refusal, Rejects, DropsClosed, DropsNoLocal, Line, filtered}
 use Rattle.kp_door_defs.specs.Marks.{is_from_node}
 use Rattle.kp_table_defs.specs.Matching.{WalkState, Surroundings}
-use Rattle.kp_table_defs.specs.Walk.{Outcome, sent_to, Journey, Translating, after_hook, is_leaving, onward, verdict_by, walked_by, initial_state, surroundings_of, walk_of, postrouting_if}
+use Rattle.kp_table_defs.specs.Walk.{Outcome, sent_to, Journey, Translating, after_hook, is_leaving, onward, verdict_by, walked_by, initial_state, surroundings_of, journey_of, postrouting_if}
 use Rattle.kp_table_defs.specs.Walk.Outcome.{Next}
 use Rattle.kp_walk_laws.specs.Laws.{Agree, IsKnown}
 use Rattle.kp_walk_laws.proofs.Outcomes.{pathless, next_of, ended_of}
@@ -157,8 +157,7 @@ module _ (setting : Setting) (infos : List PortInfo) (packet : Packet) (draws : 
   pub walk_agrees : setting.pick ≡ pick_by_draws → FindsNat setting infos at
       → FindsFilter setting.family infos at
       → ((i : PortInfo) → Contains infos i → IsKnown setting.family i × LeadsTo setting e at s i)
-      → Agree (walk_of at setting.config.addresses packet draws lists)
-      (decision_from setting infos packet draws lists)
+      → Agree (walked_by (journey_of e at s)) (decision_from setting infos packet draws lists)
   walk_agrees by_draws nat filter ports =
       let t : Option Translation = translation_of setting infos packet draws lists in
       let (trail, first) = translated_journey t _

@@ -1,29 +1,31 @@
--- What a look-up finds in the full table.
-use Rattle.std.proofs.Common.{◌≡◌, true, false, cond, List, [], ◌∷◌, ◌++◌, Contains, Option, Some, bytes_eq, codes, flat_map, is_some, map, refl, sym, ap, ap₂, ◌∙◌}
+-- What a look-up finds in the full table of a family.
+use Rattle.std.proofs.Common.{◌≡◌, ℕ, true, false, cond, List, [], ◌∷◌, ◌++◌, Bool, Contains, Option, Some, bytes_eq, flat_map, is_some, map, refl, sym, ap, ◌∙◌}
 use Rattle.std.specs.declared.cmp.Ordering.{Ordering}
 use Rattle.std.specs.declared.cmp.Ordering.TheVariants.{Less, Equal, Greater}
 use Rattle.std.specs.Ordering.{eq_by_cmp, is_eq, ordering_then}
-use Rattle.std.specs.Cmp.{eq_by_cmp_equiv}
+use Rattle.std.specs.Cmp.{eq_by_cmp_equiv, tied_itself}
 use Rattle.std.specs.Cmp.Lexicographic.{texts_ties}
 use Rattle.std.specs.FinMap.{find, get, get-from_entries}
 use Rattle.std.specs.FinMap.Entries.{is_some-find}
-use Rattle.std.specs.List.{list_any}
+use Rattle.std.specs.List.{AllByRecursion, list_any}
+use Rattle.std.specs.Map.{lookup}
+use Rattle.std.specs.Option.{option_or}
 use Rattle.std.proofs.lemmas.Bool.{or_parts}
+use Rattle.std.proofs.lemmas.Cmp.{nat_cmp_total}
 use Rattle.std.proofs.lemmas.Map.Views.{list_any-from_Contains}
 use Rattle.kp_lemmas.proofs.Members.{in_map}
+use Rattle.kp_base.specs.Keys.{text_cmp}
 use Rattle.kp_base.specs.declared.address.Family.{Family}
 use Rattle.kp_base.specs.declared.address.Family.TheVariants.{V4, V6}
 use Rattle.kp_types.specs.Setting.{Setting}
-use Rattle.kp_types.specs.Places.{chain_cmp}
+use Rattle.kp_types.specs.Places.{chain_cmp, filter_of, nat_of, place_in, table_cmp, table_place}
 use Rattle.kp_types.proofs.ChainOrder.{chain_total}
+use Rattle.kp_types.specs.declared.chain.TableName.{TableName}
 use Rattle.kp_types.specs.declared.chain.TableName.TheVariants.{Nat, Filter}
 use Rattle.kp_types.specs.declared.chain.ChainAt.{ChainAt}
-use Rattle.kp_types.specs.Rules.{rule_of}
-use Rattle.kp_types.specs.declared.rule.Match.TheVariants as match
 use Rattle.kp_types.specs.declared.rule.Rule.{Rule}
-use Rattle.kp_types.specs.declared.rule.Target.TheVariants as target
 use Rattle.kp_object_defs.specs.PortInfo.{PortInfo}
-use Rattle.kp_table_defs.specs.Layout.{row, jump_to, own_addresses, mark_masq, kube_postrouting, kube_node_ports, kube_services, kube_forward, kube_proxy_firewall, kube_external_services, service_block, node_port_block, firewall_block, external_block, refusal_block, nat_rows_with, filter_rows_with, port_rows, rows_of}
+use Rattle.kp_table_defs.specs.Layout.{filter_rows, nat_rows, port_rows, rows_of}
 use Rattle.kp_table_defs.specs.Rebuild.{full_chains}
 use Rattle.kp_table_laws.proofs.KeyRows.{Row}
 use Rattle.kp_walk_laws.proofs.FirstHook.{FindsNat}
@@ -51,108 +53,121 @@ pass_over q (r ∷ rows) more h =
     ap (λ b. cond b (Some r.1) (find chain_cmp q (rows ++ more))) (other_place q r.0 parts.0)
     ∙ pass_over q rows more parts.1
 
--- ---- Fixed chains
+-- ---- Rows of one table
 
--- the fixed chains of nat, where their table is written out
-abbrev nat_rows_of : List Rule → List Rule → List Row
-nat_rows_of node_ports services =
-    row Nat (codes "PREROUTING") (jump_to kube_services ∷ [])
-    ∷ row Nat (codes "INPUT") []
-    ∷ row Nat (codes "OUTPUT") (jump_to kube_services ∷ [])
-    ∷ row Nat (codes "POSTROUTING") (jump_to kube_postrouting ∷ [])
-    ∷ row Nat mark_masq (rule_of [] target.SetMark ∷ [])
-    ∷ row Nat kube_postrouting (rule_of (match.Marked true ∷ []) target.Return
-    ∷ rule_of [] target.FlipMark ∷ rule_of [] target.Masquerade ∷ [])
-    ∷ row Nat kube_node_ports node_ports
-    ∷ row Nat kube_services services
-    ∷ []
+-- rows by the names of their chains
+abbrev named : List Row → List (List ℕ × List Rule)
+named rows = map (λ (r : Row). (r.0.chain, r.1)) rows
 
--- those of filter
-abbrev filter_rows_of : List Rule → List Rule → List Rule → List Row
-filter_rows_of firewall external services =
-    row Filter (codes "INPUT") (jump_to kube_proxy_firewall ∷ jump_to kube_external_services ∷ [])
-    ∷ row Filter (codes "FORWARD")
-    (jump_to kube_proxy_firewall ∷ jump_to kube_external_services ∷ jump_to kube_services
-    ∷ jump_to kube_forward ∷ [])
-    ∷ row Filter (codes "OUTPUT") (jump_to kube_proxy_firewall ∷ jump_to kube_services ∷ [])
-    ∷ row Filter kube_forward (rule_of (match.Marked false ∷ []) target.Accept ∷ [])
-    ∷ row Filter kube_proxy_firewall firewall
-    ∷ row Filter kube_external_services external
-    ∷ row Filter kube_services services
-    ∷ []
+-- what is found, or else found later
+found_first : {X : Type 0} (b : Bool) (x : X) (now later : Option X) (found : Option X)
+    → found ≡ option_or now later
+    → cond b (Some x) found ≡ option_or (cond b (Some x) now) later
+found_first true x now later found h = refl
+found_first false x now later found h = h
 
-nat_written : (family : Family) (node_ports services : List Rule)
-    → nat_rows_with family node_ports services
-    ≡ nat_rows_of node_ports (services ++ rule_of (own_addresses family)
-    (target.Jump kube_node_ports) ∷ [])
-nat_written V4 node_ports services = refl
-nat_written V6 node_ports services = refl
+module _ (table : TableName) (chain : List ℕ) where
+  -- the place of the chain in the table
+  abbrev here : ChainAt
+  here = record { table = table; chain = chain }
 
-filter_written : (family : Family) (firewall external services : List Rule)
-    → filter_rows_with family firewall external services ≡ filter_rows_of firewall external services
-filter_written V4 firewall external services = refl
-filter_written V6 firewall external services = refl
+  -- places of one table are told apart by their names
+  named_place : (at : ChainAt) → at.table ≡ table
+      → eq_by_cmp chain_cmp here at ≡ bytes_eq chain at.chain
+  named_place at same =
+      ap (λ t. is_eq (ordering_then (table_cmp table t) (text_cmp chain at.chain))) same
+      ∙ ap (λ o. is_eq (ordering_then o (text_cmp chain at.chain)))
+      (tied_itself nat_cmp_total (table_place table))
+      ∙ sym (texts_ties chain at.chain)
+
+  -- a look-up in rows of the table goes by their names
+  find_named : (rows more : List Row) → AllByRecursion (λ r. r.0.table ≡ table) rows
+      → find chain_cmp here (rows ++ more)
+      ≡ option_or (lookup (bytes_eq chain) (named rows)) (find chain_cmp here more)
+  find_named [] more h = refl
+  find_named (r ∷ rows) more h =
+      ap (λ b. cond b (Some r.1) (find chain_cmp here (rows ++ more))) (named_place r.0 h.0)
+      ∙ found_first (bytes_eq chain r.0.chain) r.1 _ _ _ (find_named rows more h.1)
+
+  -- and passes over those of tables before it
+  find_after : (rows more : List Row)
+      → AllByRecursion (λ r. table_cmp table r.0.table ≡ Greater) rows
+      → find chain_cmp here (rows ++ more) ≡ find chain_cmp here more
+  find_after [] more h = refl
+  find_after (r ∷ rows) more h =
+      ap (λ o. cond (is_eq (ordering_then o (text_cmp chain r.0.chain))) (Some r.1)
+      (find chain_cmp here (rows ++ more))) h.0
+      ∙ find_after rows more h.1
+
+-- the nat table of a family stands before its filter table
+filter_later : (family : Family) → table_cmp (filter_of family) (nat_of family) ≡ Greater
+filter_later V4 = refl
+filter_later V6 = refl
 
 module _ (setting : Setting) (infos : List PortInfo) where
-  -- a look-up in the full table
+  -- a look-up in the tables of the family, of places as IPv4 has them
   abbrev pub look_up : ChainAt → Option (List Rule)
-  look_up q = get (full_chains setting infos) q
+  look_up q = get (full_chains setting infos) (place_in setting.family q)
 
-  -- the fixed chains of nat
-  abbrev pub fixed_nat : List Row
-  fixed_nat =
-      nat_rows_of (flat_map (node_port_block setting) infos)
-      (flat_map (service_block setting) infos ++ rule_of (own_addresses setting.family)
-      (target.Jump kube_node_ports) ∷ [])
-
-  -- and those of filter
-  abbrev pub fixed_filter : List Row
-  fixed_filter =
-      filter_rows_of (flat_map firewall_block infos)
-      (flat_map (external_block setting.family) infos)
-      (flat_map refusal_block infos)
-
-  -- the full table's rows, where the tables of the fixed chains are written out
-  pub rows_written : rows_of setting infos
-      ≡ fixed_nat ++ fixed_filter ++ flat_map (port_rows setting) infos
-  rows_written =
-      ap₂ (λ rs qs. rs ++ qs ++ flat_map (port_rows setting) infos) (nat_written _ _ _)
-      (filter_written _ _ _ _)
-
-  pub in_rows : (q : ChainAt) → look_up q
-      ≡ find chain_cmp q (fixed_nat ++ fixed_filter ++ flat_map (port_rows setting) infos)
-  in_rows q =
-      get-from_entries chain_total (rows_of setting infos) q ∙ ap (find chain_cmp q) rows_written
+  -- the rows behind the fixed ones
+  abbrev own_rows : List Row
+  own_rows = flat_map (port_rows setting) infos
 
   -- a look-up of a place that has a row finds rules
   pub is_found : (q : ChainAt) (rules : List Rule) → Contains (rows_of setting infos) (q, rules)
-      → is_some (look_up q) ≡ true
+      → is_some (get (full_chains setting infos) q) ≡ true
   is_found q rules c =
       ap is_some (get-from_entries chain_total (rows_of setting infos) q)
       ∙ is_some-find chain_cmp q (rows_of setting infos)
       ∙ list_any-from_Contains (eq_by_cmp_equiv chain_total) q
       (map (λ r. r.0) (rows_of setting infos)) (in_map (λ r. r.0) _ (rows_of setting infos) c)
 
+  -- a look-up in nat goes by the names of its fixed chains
+  pub in_nat : (chain : List ℕ)
+      → look_up (record { table = Nat; chain = chain })
+      ≡ option_or (lookup (bytes_eq chain) (named (nat_rows setting infos)))
+      (find chain_cmp (record { table = nat_of setting.family; chain = chain })
+      (filter_rows setting.family infos ++ own_rows))
+  in_nat chain =
+      get-from_entries chain_total (rows_of setting infos) _
+      ∙ find_named (nat_of setting.family) chain (nat_rows setting infos)
+      (filter_rows setting.family infos ++ own_rows)
+      (refl, (refl, (refl, (refl, (refl, (refl, (refl, (refl, tt))))))))
+
+  -- and one in filter by those of its own
+  pub in_filter : (chain : List ℕ)
+      → look_up (record { table = Filter; chain = chain })
+      ≡ option_or (lookup (bytes_eq chain) (named (filter_rows setting.family infos)))
+      (find chain_cmp (record { table = filter_of setting.family; chain = chain }) own_rows)
+  in_filter chain =
+      let later = filter_later setting.family in
+      get-from_entries chain_total (rows_of setting infos) _
+      ∙ find_after (filter_of setting.family) chain (nat_rows setting infos)
+      (filter_rows setting.family infos ++ own_rows)
+      (later, (later, (later, (later, (later, (later, (later, (later, tt))))))))
+      ∙ find_named (filter_of setting.family) chain (filter_rows setting.family infos) own_rows
+      (refl, (refl, (refl, (refl, (refl, (refl, (refl, tt)))))))
+
   -- the shared chains of nat are found
   pub finds_nat : FindsNat setting infos look_up
   finds_nat = record {
-    prerouting = in_rows _;
-    output = in_rows _;
-    postrouting = in_rows _;
-    mark = in_rows _;
-    masquerade = in_rows _;
-    node_ports = in_rows _;
-    services = in_rows _;
+    prerouting = in_nat _;
+    output = in_nat _;
+    postrouting = in_nat _;
+    mark = in_nat _;
+    masquerade = in_nat _;
+    node_ports = in_nat _;
+    services = in_nat _;
   }
 
   -- and those of filter
   pub finds_filter : FindsFilter setting.family infos look_up
   finds_filter = record {
-    input = in_rows _;
-    forward = in_rows _;
-    output = in_rows _;
-    marked = in_rows _;
-    firewall = in_rows _;
-    external = in_rows _;
-    services = in_rows _;
+    input = in_filter _;
+    forward = in_filter _;
+    output = in_filter _;
+    marked = in_filter _;
+    firewall = in_filter _;
+    external = in_filter _;
+    services = in_filter _;
   }

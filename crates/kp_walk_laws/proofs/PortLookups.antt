@@ -1,17 +1,14 @@
 -- What a look-up in the full table finds of ports: the rules of each chain that they need.
 use Rattle.std.proofs.Common.{◌≡◌, ℕ, Bool, true, false, not, List, ◌++◌, Contains, Some, None, flat_map, bytes_eq, refl, sym, ap, ◌∙◌}
-use Rattle.std.specs.FinMap.{find}
+use Rattle.std.specs.FinMap.{get-from_entries}
 use Rattle.std.specs.List.{list_any}
 use Rattle.std.proofs.lemmas.List.Elements.{Contains-append_left, Contains-append_right}
 use Rattle.std.proofs.lemmas.Map.Views.{Contains-from_any}
 use Rattle.kp_lemmas.proofs.Members.{in_filter}
-use Rattle.kp_base.specs.declared.address.Family.{Family}
-use Rattle.kp_base.specs.declared.address.Family.TheVariants.{V4, V6}
 use Rattle.kp_base.specs.declared.key.Endpoint.{Endpoint}
-use Rattle.kp_types.specs.Places.{chain_cmp}
 use Rattle.kp_types.specs.Setting.{Setting}
+use Rattle.kp_types.proofs.ChainOrder.{chain_total}
 use Rattle.kp_types.specs.declared.chain.TableName.TheVariants.{Nat}
-use Rattle.kp_types.specs.declared.chain.ChainAt.{ChainAt}
 use Rattle.kp_types.specs.declared.chain.ChainKey.{ChainKey}
 use Rattle.kp_types.specs.declared.chain.ChainKey.TheVariants as key
 use Rattle.kp_types.specs.declared.chain.PortChain.TheVariants.{Svc, Svl, Ext, Fw}
@@ -22,19 +19,14 @@ use Rattle.kp_choice_defs.proofs.ChainKeys.{one_endpoint}
 use Rattle.kp_object_defs.specs.Lists.{list_by_policy}
 use Rattle.kp_object_defs.specs.PortInfo.{PortInfo}
 use Rattle.kp_table_defs.specs.Keys.{all_endpoints, has_endpoint, own_keys}
-use Rattle.kp_table_defs.specs.Layout.{nat_table, port_rows, rules_of_key}
+use Rattle.kp_table_defs.specs.Layout.{filter_rows, nat_rows, place_of_key, port_rows, rows_of, rules_of_key}
 use Rattle.kp_table_defs.specs.Rebuild.{needed_keys}
 use Rattle.kp_table_laws.specs.Laws.{HaveOwnKeys}
 use Rattle.kp_table_laws.proofs.KeyRows.{own_chains_are_found}
 use Rattle.kp_table_laws.proofs.NeededKeys.{own_kind, own_endpoint}
 use Rattle.kp_walk_laws.specs.Laws.{IsPrefixed}
 use Rattle.kp_walk_laws.proofs.Arrivals.{FindsChains}
-use Rattle.kp_walk_laws.proofs.Lookups.{look_up, fixed_nat, fixed_filter, in_rows, pass_over}
-
--- both families have the nat table of this name
-pub nat_is : (family : Family) → nat_table family ≡ Nat
-nat_is V4 = refl
-nat_is V6 = refl
+use Rattle.kp_walk_laws.proofs.Lookups.{look_up, pass_over}
 
 local_by : (i : PortInfo) (f : Endpoint) → Contains i.lists.local f → (b : Bool)
     → has_endpoint i.lists.cluster f ≡ b → Contains (all_endpoints i) f
@@ -55,7 +47,8 @@ module _ (setting : Setting) (infos : List PortInfo) (prefixed : IsPrefixed sett
   -- a fixed chain has this name
   abbrev is_fixed : List ℕ → Bool
   is_fixed name =
-      list_any (λ r. bytes_eq name r.0.chain) (fixed_nat setting infos ++ fixed_filter setting infos)
+      list_any (λ r. bytes_eq name r.0.chain)
+      (nat_rows setting infos ++ filter_rows setting.family infos)
 
   -- no port's or endpoint's chain has the name of one
   unfixed : (k : ChainKey) → is_fixed (setting.name_of k) ≡ false
@@ -72,12 +65,10 @@ module _ (setting : Setting) (infos : List PortInfo) (prefixed : IsPrefixed sett
         → look_up setting infos (record { table = Nat; chain = setting.name_of k })
         ≡ Some (rules_of_key setting i k)
     finds_key i c k ck =
-        let at : ChainAt = record { table = Nat; chain = setting.name_of k } in
-        in_rows setting infos at
-        ∙ pass_over at (fixed_nat setting infos ++ fixed_filter setting infos)
+        get-from_entries chain_total (rows_of setting infos) (place_of_key setting k)
+        ∙ pass_over (place_of_key setting k)
+        (nat_rows setting infos ++ filter_rows setting.family infos)
         (flat_map (port_rows setting) infos) (unfixed k)
-        ∙ ap (λ t. find chain_cmp (record { table = t; chain = setting.name_of k })
-        (flat_map (port_rows setting) infos)) (sym (nat_is setting.family))
         ∙ own_chains_are_found setting infos own apart i c k ck
 
     -- and so all chains of a port

@@ -8,24 +8,26 @@ use Rattle.kp_base.specs.declared.address.Family.{Family}
 use Rattle.kp_base.specs.declared.address.Family.TheVariants.{V4}
 use Rattle.kp_base.specs.declared.config.Config.{Config}
 use Rattle.kp_types.specs.Chains.{is_chain_name}
-use Rattle.kp_types.specs.Setting.{FamilyConfig, Naming, Setting}
+use Rattle.kp_types.specs.Packets.{family_of_packet}
+use Rattle.kp_types.specs.Setting.{FamilyConfig, Naming, Setting, Settings, has_tables_of, view_of}
 use Rattle.kp_types.specs.declared.chain.ChainKey.{ChainKey}
 use Rattle.kp_types.specs.declared.chain.ChainKey.TheVariants as key
 use Rattle.kp_types.specs.declared.chain.PortChain.{PortChain}
 use Rattle.kp_types.specs.declared.packet.Packet.{Packet}
 use Rattle.kp_choice_defs.specs.Names.{chain_name, first_clash, port_chain_prefix}
 use Rattle.kp_choice_defs.specs.Recent.{RecentParts}
-use Rattle.kp_choice_defs.specs.Settings.{pick_by_draws, setting_of}
+use Rattle.kp_choice_defs.specs.Settings.{pick_by_draws, settings_of}
 use Rattle.kp_object_defs.specs.Desired.{is_empty}
 use Rattle.kp_object_defs.specs.Objects.{Objects}
 use Rattle.kp_object_defs.specs.PortInfo.{PortInfo, is_accessible, port_infos}
-use Rattle.kp_door_defs.specs.Decision.{Decided, decision_from, decision_of}
+use Rattle.kp_door_defs.specs.Decision.{Decided, decision_among, decision_from, decision_of}
 use Rattle.kp_table_defs.specs.Keys.{all_endpoints}
 use Rattle.kp_table_defs.specs.Plain.{HasNoRecent}
-use Rattle.kp_table_defs.specs.Ranks.{has_built_in_chains, is_ranked}
+use Rattle.kp_table_defs.specs.Ranks.{has_chains_of, is_ranked}
 use Rattle.kp_table_defs.specs.StandIn.{stand_in_name}
-use Rattle.kp_table_defs.specs.Rebuild.{Chains, clash_of, full_chains, full_table, needed_keys}
+use Rattle.kp_table_defs.specs.Rebuild.{Chains, clash_among, clash_of, full_chains, full_table, needed_keys}
 use Rattle.kp_table_defs.specs.Walk.{Walked, walk_of}
+use Rattle.kp_table_laws.specs.Families.{chains_of_families}
 use Rattle.kp_table_laws.specs.Laws.{HaveOwnKeys}
 
 -- A port that may be reached from outside the cluster has endpoints in the list of the whole
@@ -52,18 +54,38 @@ pub record Agree (w : Walked) (d : Decided) : Type 0 where
   pub verdict : w.verdict ≡ d.verdict
   pub lists : w.lists ≡ d.lists
 
--- Walking the full table decides each packet as the objects do, where no two chains that are needed
--- have one name.
+-- what the law of walking asks of the ports of a family: keys of their own, what holds of known
+-- ports, and no clash
+pub record IsDecided (setting : Setting) (infos : List PortInfo) : Type 0 where
+  pub own : HaveOwnKeys infos
+  pub known : (i : PortInfo) → Contains infos i → IsKnown setting.family i
+  pub apart : clash_among setting infos ≡ None
+
+-- Walking a family's full table decides each packet of the family as the objects do, where no two
+-- chains that are needed have one name.
 abbrev pub WalkDecides : Type 0
 WalkDecides =
     (setting : Setting) (infos : List PortInfo) (packet : Packet) (draws : ℕ → ℕ)
     (lists : RecentParts)
-    → setting.pick ≡ pick_by_draws → IsPrefixed setting.name_of → HaveOwnKeys infos
-    → ((i : PortInfo) → Contains infos i → IsKnown setting.family i)
-    → first_clash setting.name_of (needed_keys infos) ≡ None
+    → family_of_packet packet ≡ setting.family
+    → setting.pick ≡ pick_by_draws → IsPrefixed setting.name_of → IsDecided setting infos
     → Agree
     (walk_of (λ q. get (full_chains setting infos) q) setting.config.addresses packet draws lists)
     (decision_from setting infos packet draws lists)
+
+-- Walking the tables of all families of a node decides every packet so, where this holds of each
+-- family that it has tables of.
+abbrev pub WalkDecidesAmong : Type 0
+WalkDecidesAmong =
+    (settings : Settings) (infos : Family → List PortInfo) (packet : Packet) (draws : ℕ → ℕ)
+    (lists : RecentParts)
+    → settings.pick ≡ pick_by_draws → IsPrefixed settings.name_of
+    → ((family : Family) → has_tables_of family settings ≡ true
+    → IsDecided (view_of family settings) (infos family))
+    → Agree
+    (walk_of (λ q. get (chains_of_families settings infos) q) settings.config.addresses packet draws
+    lists)
+    (decision_among settings infos packet draws lists)
 
 -- The ports of some objects have keys of their own.
 abbrev pub PortKeysOnce : Type 0
@@ -80,23 +102,23 @@ KnownPorts =
 -- So over objects a clash is all that can be in the way.
 abbrev pub WalkDecidesObjects : Type 0
 WalkDecidesObjects =
-    (setting : Setting) (o : Objects) (packet : Packet) (draws : ℕ → ℕ) (lists : RecentParts)
-    → setting.pick ≡ pick_by_draws → IsPrefixed setting.name_of
-    → clash_of setting o ≡ None
+    (settings : Settings) (o : Objects) (packet : Packet) (draws : ℕ → ℕ) (lists : RecentParts)
+    → settings.pick ≡ pick_by_draws → IsPrefixed settings.name_of
+    → clash_of settings o ≡ None
     → Agree
-    (walk_of (λ q. get (full_table setting o).chains q) setting.config.addresses packet draws lists)
-    (decision_of setting o packet draws lists)
+    (walk_of (λ q. get (full_table settings o).chains q) settings.config.addresses packet draws
+    lists)
+    (decision_of settings o packet draws lists)
 
 -- Under the product's names and picks nothing else is asked.
 abbrev pub ProductDecides : Type 0
 ProductDecides =
-    (family : Family) (config : Config) (o : Objects) (packet : Packet) (draws : ℕ → ℕ)
-    (lists : RecentParts)
-    → clash_of (setting_of family config) o ≡ None
+    (config : Config) (o : Objects) (packet : Packet) (draws : ℕ → ℕ) (lists : RecentParts)
+    → clash_of (settings_of config) o ≡ None
     → Agree
-    (walk_of (λ q. get (full_table (setting_of family config) o).chains q) config.addresses packet
-    draws lists)
-    (decision_of (setting_of family config) o packet draws lists)
+    (walk_of (λ q. get (full_table (settings_of config) o).chains q) config.addresses packet draws
+    lists)
+    (decision_of (settings_of config) o packet draws lists)
 
 -- an endpoint of IPv4, whose numbers are those that an address and a port may have
 pub record IsSmall (f : Endpoint) : Type 0 where
@@ -130,20 +152,34 @@ StandInPrefixed = IsPrefixed stand_in_name
 abbrev pub HashedPrefixed : Type 0
 HashedPrefixed = (length : ℕ) → IsPrefixed (chain_name length)
 
--- Each jump of the full table goes to a chain that it has, of a greater rank, and it has the
+-- Each jump of a family's table goes to a chain that it has, of a greater rank, and it has the
 -- built-in chains.
-pub record IsSound (chains : Chains) : Type 0 where
+pub record IsSound (family : Family) (chains : Chains) : Type 0 where
   pub ranked : is_ranked chains ≡ true
-  pub built_in : has_built_in_chains chains ≡ true
+  pub built_in : has_chains_of family chains ≡ true
 
--- Clash or not, the full table is so.
+-- Clash or not, the full table of a family is so.
 abbrev pub FullTableRanked : Type 0
 FullTableRanked =
     (setting : Setting) (infos : List PortInfo) → IsPrefixed setting.name_of
-    → ((i : PortInfo) → Contains infos i → OffersAny i) → IsSound (full_chains setting infos)
+    → ((i : PortInfo) → Contains infos i → OffersAny i)
+    → IsSound setting.family (full_chains setting infos)
+
+-- So for each family of a node.
+pub record AreSound (settings : Settings) (chains : Chains) : Type 0 where
+  pub ranked : is_ranked chains ≡ true
+  pub built_in : (family : Family) → has_tables_of family settings ≡ true
+      → has_chains_of family chains ≡ true
+
+-- The tables of all families are so, too.
+abbrev pub FullTablesRanked : Type 0
+FullTablesRanked =
+    (settings : Settings) (infos : Family → List PortInfo) → IsPrefixed settings.name_of
+    → ((family : Family) (i : PortInfo) → Contains (infos family) i → OffersAny i)
+    → AreSound settings (chains_of_families settings infos)
 
 -- Over objects nothing else is asked.
 abbrev pub FullTableRankedObjects : Type 0
 FullTableRankedObjects =
-    (setting : Setting) (o : Objects) → IsPrefixed setting.name_of
-    → IsSound (full_table setting o).chains
+    (settings : Settings) (o : Objects) → IsPrefixed settings.name_of
+    → AreSound settings (full_table settings o).chains

@@ -11,7 +11,7 @@ use Rattle.kp_base.specs.declared.port.Proto.TheVariants.{Tcp, Udp}
 use Rattle.kp_base.specs.declared.key.Endpoint.{Endpoint}
 use Rattle.kp_base.specs.declared.config.Config.{Config}
 use Rattle.kp_types.specs.Places.{chain_cmp}
-use Rattle.kp_types.specs.Setting.{Setting}
+use Rattle.kp_types.specs.Setting.{Setting, Settings}
 use Rattle.kp_types.specs.declared.packet.Packet.{Packet}
 use Rattle.kp_types.specs.declared.packet.Origin.TheVariants.{Wire, Node}
 use Rattle.kp_types.specs.declared.service.Policy.TheVariants.{Cluster, Local}
@@ -20,14 +20,15 @@ use Rattle.kp_types.specs.declared.verdict.Verdict.TheVariants.{To, Rejected, Dr
 use Rattle.kp_choice_defs.specs.Draws.{draw_of_list}
 use Rattle.kp_choice_defs.specs.Names.{first_clash}
 use Rattle.kp_choice_defs.specs.Recent.{RecentParts}
-use Rattle.kp_choice_defs.specs.Settings.{setting_of}
+use Rattle.kp_choice_defs.specs.Settings.{setting_of, settings_of}
 use Rattle.kp_object_defs.specs.Desired.{is_empty}
 use Rattle.kp_object_defs.specs.PortInfo.{PortInfo}
-use Rattle.kp_door_defs.specs.Decision.{decision_from}
+use Rattle.kp_door_defs.specs.Decision.{decision_among}
 use Rattle.kp_table_defs.specs.Layout.{rows_of}
-use Rattle.kp_table_defs.specs.Rebuild.{full_chains, needed_keys}
-use Rattle.kp_table_defs.specs.StandIn.{stand_in_setting}
+use Rattle.kp_table_defs.specs.Rebuild.{needed_keys}
+use Rattle.kp_table_defs.specs.StandIn.{stand_in_setting, stand_in_settings}
 use Rattle.kp_table_defs.specs.Walk.{walk_of}
+use Rattle.kp_table_laws.specs.Families.{chains_of_families}
 use Rattle.kp_walk_laws.specs.Laws.{Agree}
 
 -- the address 10.0.0.0 + n
@@ -161,9 +162,13 @@ NoEndpoints = verdict_on [] (packet_from (pod 5) Tcp) [] ≡ Rejected
 abbrev pub OtherProtocol : Type 0
 OtherProtocol = verdict_on three (packet_from (pod 5) Udp) (0 ∷ []) ≡ LeftAlone
 
--- the setting of a configuration under which names are prefixes alone
+-- a configuration under which names are prefixes alone
+abbrev pub prefix_config : Config
+prefix_config = record config { name_length = 0; name_to = lit≤ tt }
+
+-- its setting
 abbrev pub prefixes : Setting
-prefixes = setting_of V4 (record config { name_length = 0; name_to = lit≤ tt })
+prefixes = setting_of V4 prefix_config
 
 -- two Services, one of them without endpoints
 abbrev pub two_ports : List PortInfo
@@ -181,13 +186,18 @@ FirstOfTwo = verdict_in prefixes two_ports (packet_to 1 (pod 5) Tcp) [] ≡ To (
 abbrev pub SecondOfTwo : Type 0
 SecondOfTwo = verdict_in prefixes two_ports (packet_to 2 (pod 5) Tcp) [] ≡ Rejected
 
--- and the walk decides each packet as the objects do
-abbrev pub TwoDecided : Type 0
-TwoDecided =
+-- the walk over the node's tables of some ports decides each packet, of either family, as these do
+abbrev pub IsDecidedBy : Settings → List PortInfo → Type 0
+IsDecidedBy settings infos =
     (packet : Packet) (draws : ℕ → ℕ) (lists : RecentParts)
     → Agree
-    (walk_of (λ q. map.get (full_chains prefixes two_ports) q) config.addresses packet draws lists)
-    (decision_from prefixes two_ports packet draws lists)
+    (walk_of (λ q. map.get (chains_of_families settings (λ family. infos)) q)
+    settings.config.addresses packet draws lists)
+    (decision_among settings (λ family. infos) packet draws lists)
+
+-- and the walk decides each packet as the objects do
+abbrev pub TwoDecided : Type 0
+TwoDecided = IsDecidedBy (settings_of prefix_config) two_ports
 
 -- With endpoints behind both, the lists clash.
 abbrev pub TwoClashed : Type 0
@@ -256,8 +266,5 @@ ClientAtNode =
 -- With session affinity and without it, the walk decides each packet as the objects do.
 abbrev pub EveryDoorDecided : Type 0
 EveryDoorDecided =
-    (affinity : Option ℕ) (packet : Packet) (draws : ℕ → ℕ) (lists : RecentParts)
-    → Agree
-    (walk_of (λ q. map.get (full_chains (stand_in_setting V4 config) (every_door affinity ∷ [])) q)
-    config.addresses packet draws lists)
-    (decision_from (stand_in_setting V4 config) (every_door affinity ∷ []) packet draws lists)
+    (affinity : Option ℕ)
+    → IsDecidedBy (stand_in_settings config) (every_door affinity ∷ [])

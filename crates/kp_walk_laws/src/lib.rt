@@ -3,15 +3,21 @@
 //! Each law is the contract of a function that does nothing.
 #![tactic(auto)]
 
-ghost use Rattle.kp_walk_laws.specs.Laws.{WalkDecides, WalkDecidesObjects, ProductDecides, PortKeysOnce, KnownPorts, StandInApart, StandInNames, FullTablePlain, FullTableRanked, FullTableRankedObjects, StandInPrefixed, HashedPrefixed};
+ghost use Rattle.kp_walk_laws.specs.Laws.{WalkDecides, WalkDecidesAmong, WalkDecidesObjects, ProductDecides, PortKeysOnce, KnownPorts, StandInApart, StandInNames, FullTablePlain, FullTableRanked, FullTablesRanked, FullTableRankedObjects, StandInPrefixed, HashedPrefixed};
 ghost use Rattle.kp_walk_laws.specs.Rows.{OneEndpoint, FirstOfThree, SecondOfThree, ThirdOfThree, ToItself, FromOutside, NoEndpoints, OtherProtocol, TwoUnclashed, FirstOfTwo, SecondOfTwo, TwoDecided, TwoClashed, ClientOutside, PodOutside, NodeOutside, ClientAdmitted, OtherDropped, ClientAtNode, EveryDoorDecided};
 
-/// Walking the full table of any Service ports, with every kind of door, with session affinity or
-/// without it, gives each packet the verdict that the objects give it, and leaves the recent lists
-/// that they leave, where no two chains that are needed have one name.
+/// Walking a family's full table of any Service ports, with every kind of door, with session
+/// affinity or without it, gives each packet of the family the verdict that the objects give it,
+/// and leaves the recent lists that they leave, where no two chains that are needed have one name.
 #[tactic(auto, using(crate::proofs::Theorem::walk_decides_by))]
 pub fn walk_decides()
     ensures { WalkDecides }
+{}
+
+/// So does walking the tables of all families of a node, each packet through those of its own
+/// family; a packet of a family that the node has no tables of is left alone.
+pub fn walk_decides_among()
+    ensures { WalkDecidesAmong }
 {}
 
 /// So it does over objects, whose ports are such as the law asks for.
@@ -52,12 +58,18 @@ pub fn full_table_plain()
     ensures { FullTablePlain }
 {}
 
-/// The full table has the built-in chains, and each of its jumps goes to a chain of a greater rank.
+/// A family's full table has the built-in chains, and each of its jumps goes to a chain of a
+/// greater rank.
 pub fn full_table_ranked()
     ensures { FullTableRanked }
 {}
 
-/// And so has that of any objects.
+/// And so have the tables of all families of a node.
+pub fn full_tables_ranked()
+    ensures { FullTablesRanked }
+{}
+
+/// And so has the full table of any objects.
 pub fn full_table_ranked_objects()
     ensures { FullTableRankedObjects }
 {}

@@ -1,4 +1,5 @@
--- The changes between two tables are those at places in order that hold all at which they differ.
+-- The changes of a family's tables are those at places in order that hold all at which tables
+-- differ.
 use Rattle.std.proofs.Common.{◌≡◌, ◌||◌, Bool, true, false, cond, List, [], ◌∷◌, ◌++◌, map, Option}
 use Rattle.std.proofs.Common.{Some, None, is_some, option_map, refl, sym, ap, subst, ◌∙◌, T}
 use Rattle.std.specs.declared.cmp.Ordering.{Ordering}
@@ -13,10 +14,9 @@ use Rattle.std.specs.FinMap.Entries.{below_all, same_entries}
 use Rattle.kp_lemmas.proofs.Booleans.{fact_of_both}
 use Rattle.kp_lemmas.proofs.Entries.{entries_found}
 use Rattle.kp_lemmas.proofs.Orders.{one_from_tie}
-use Rattle.kp_types.specs.Places.{chain_cmp}
+use Rattle.kp_types.specs.Places.{chain_cmp, filter_of, nat_of}
 use Rattle.kp_types.specs.declared.chain.ChainAt.{ChainAt}
 use Rattle.kp_types.specs.declared.chain.TableName.{TableName}
-use Rattle.kp_types.specs.declared.chain.TableName.TheVariants.{Nat, Filter, Nat6, Filter6}
 use Rattle.kp_types.specs.declared.rule.Edit.{Edit}
 use Rattle.kp_types.specs.declared.rule.Edit.TheVariants.{Remove, Write}
 use Rattle.kp_types.specs.declared.rule.Rule.{Rule}
@@ -184,9 +184,7 @@ module _ (before after : Chains) (places : List ChainAt)
       ∙ (λ i. writes table i ++ removes table i)
 
 pub changes_are_local : ChangesAreLocal
-changes_are_local before after places sorted agree =
+changes_are_local family before after places sorted agree =
     λ i.
-    (of_table before after places sorted agree Nat i
-    ++ of_table before after places sorted agree Filter i)
-    ++ (of_table before after places sorted agree Nat6 i
-    ++ of_table before after places sorted agree Filter6 i)
+    of_table before after places sorted agree (nat_of family) i
+    ++ of_table before after places sorted agree (filter_of family) i

@@ -7,7 +7,6 @@ use Rattle.std.specs.List.Sorted.{IsStrictlySortedBy}
 use Rattle.std.specs.Ordering.{eq_by_cmp}
 use Rattle.kp_base.specs.Keys.{port_key_cmp}
 use Rattle.kp_base.specs.declared.address.Family.{Family}
-use Rattle.kp_base.specs.declared.address.Family.TheVariants.{V4, V6}
 use Rattle.kp_base.specs.declared.key.PortKey.{PortKey}
 use Rattle.kp_types.specs.Places.{chain_cmp, nat_of, filter_of}
 use Rattle.kp_types.specs.Setting.{Setting}
@@ -17,7 +16,7 @@ use Rattle.kp_types.specs.declared.rule.Edit.{Edit}
 use Rattle.kp_types.specs.declared.rule.Rule.{Rule}
 use Rattle.kp_choice_defs.specs.Names.{first_clash}
 use Rattle.kp_object_defs.specs.PortInfo.{PortInfo}
-use Rattle.kp_table_defs.specs.Edits.{changes_between}
+use Rattle.kp_table_defs.specs.Edits.{changes_of}
 use Rattle.kp_table_defs.specs.Layout.{filter_rows_with, nat_rows_with, port_rows}
 use Rattle.kp_table_defs.specs.Rebuild.{Chains, full_chains, needed_keys}
 use Rattle.kp_table_laws.specs.Laws.{AreInOrder, StandApart}
@@ -111,15 +110,12 @@ changes_at_of family before after places =
     table_changes_at before after places (nat_of family)
     ++ table_changes_at before after places (filter_of family)
 
--- the changes at some places, IPv4 before IPv6
-abbrev pub changes_at : Chains → Chains → List ChainAt → List Edit
-changes_at before after places =
-    changes_at_of V4 before after places ++ changes_at_of V6 before after places
-
--- The changes between two tables are those at places in order that hold all at which they differ.
+-- The changes of a family's tables are those at places in order that hold all at which tables
+-- differ.
 abbrev pub ChangesAreLocal : Type 0
 ChangesAreLocal =
-    (before after : Chains) (places : List ChainAt) → IsStrictlySortedBy chain_cmp places
+    (family : Family) (before after : Chains) (places : List ChainAt)
+    → IsStrictlySortedBy chain_cmp places
     → ((at : ChainAt) → list_any (eq_by_cmp chain_cmp at) places ≡ false
     → finite.get after at ≡ finite.get before at)
-    → changes_between before after ≡ changes_at before after places
+    → changes_of family before after ≡ changes_at_of family before after places

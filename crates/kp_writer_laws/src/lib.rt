@@ -35,7 +35,7 @@ pub fn no_clash_is_local()
     ensures changed { NoClashIsLocal }
 {}
 
-/// The changes between two tables are told by any places in order that hold all at which the
+/// The changes of a family's tables are told by any places in order that hold all at which the
 /// tables differ.
 #[tactic(auto, using(crate::proofs::LocalChanges::changes_are_local))]
 pub fn changes_are_local()
