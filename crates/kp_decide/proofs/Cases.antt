@@ -30,6 +30,12 @@ told_translation d made offer choice c same is =
     ∙ ap (option_map (translated_by d offer)) is
     ∙ sym (told_at d offer c)
 
+-- and none by no choice
+pub told_none : (d : Door) (offer : Offer) (c : Option Chosen) → None ≡ option_map choice_of c
+    → None ≡ option_map translation_told
+    (option_map (λ x. record { door = d; offer = offer; chosen = x }) c)
+told_none d offer c is = ap (option_map (translated_by d offer)) is ∙ sym (told_at d offer c)
+
 -- the same door with the same offer chooses alike
 pub same_choice : (setting : Setting) (packet : Packet) (draws : ℕ → ℕ) (lists : RecentParts) {seen d : Door} {made offer : Offer} → seen ≡ d → made ≡ offer → option_map choice_of (chosen_endpoint setting seen.info.key seen.info.affinity packet.source packet.now draws made.endpoints lists) ≡ option_map choice_of (chosen_endpoint setting d.info.key d.info.affinity packet.source packet.now draws offer.endpoints lists)
 same_choice setting packet draws lists door_is offer_is =

@@ -5,7 +5,7 @@ use Rattle.std.specs.FinMap as finite
 use Rattle.std.specs.FinMap.{get}
 use Rattle.kp_lemmas.proofs.Members.{none_passes}
 use Rattle.kp_base.specs.Keys.{port_key_cmp}
-use Rattle.kp_base.specs.declared.address.Family.TheVariants.{V4}
+use Rattle.kp_base.specs.declared.address.Family.{Family}
 use Rattle.kp_base.specs.declared.key.PortKey.{PortKey}
 use Rattle.kp_types.specs.Ports.{is_port}
 use Rattle.kp_types.specs.Setting.{FamilyConfig}
@@ -27,7 +27,7 @@ use Rattle.kp_decide.proofs.FirstFound.{found_in, narrowed, same_append}
 use Rattle.kp_decide.proofs.KeptNames.{is_kept, keys_are, passes_in}
 use Rattle.kp_decide.proofs.Missed.{Shows, no_address_door, no_external, no_firewall, no_node_door, no_service, shown_of}
 
-module _ (config : FamilyConfig) (o : Objects) (own : AreUnderOwnKeys o) (packet : Packet) where
+module _ (family : Family) (config : FamilyConfig) (o : Objects) (own : AreUnderOwnKeys o) (packet : Packet) where
   abbrev may_answer : Service → Bool
   may_answer = answers packet.proto packet.target packet.port
 
@@ -35,69 +35,69 @@ module _ (config : FamilyConfig) (o : Objects) (own : AreUnderOwnKeys o) (packet
   record Missed (i : PortInfo) : Type 0 where
     service : Service
     port : ServicePort
-    shows : Shows V4 service port i
+    shows : Shows family service port i
     miss : port_answers packet.proto packet.target packet.port service port ≡ false
 
-  missed : (key : PortKey) (i : PortInfo) → is_kept o own may_answer key ≡ false → info_at V4 config o key ≡ Some i → Missed i
+  missed : (key : PortKey) (i : PortInfo) → is_kept o own may_answer key ≡ false → info_at family config o key ≡ Some i → Missed i
   missed key i misses known = of_service (get o.services key.object) misses known
     where
-      of_port : (s : Service) (found : Option ServicePort) → find (is_port key.port_name key.proto) s.ports ≡ found → may_answer s ≡ false → option_and_then (λ p. info_of V4 config.node (zone_of o config.node) (sources_of V4 config o s, p)) found ≡ Some i → Missed i
+      of_port : (s : Service) (found : Option ServicePort) → find (is_port key.port_name key.proto) s.ports ≡ found → may_answer s ≡ false → option_and_then (λ p. info_of family config.node (zone_of o config.node) (sources_of family config o s, p)) found ≡ Some i → Missed i
       of_port s None there m k = absurd (cc)
       of_port s (Some p) there m k = record {
         service = s;
         port = p;
-        shows = shown_of V4 config.node (zone_of o config.node) (sources_of V4 config o s) s p i (sources_service V4 config o s) k;
+        shows = shown_of family config.node (zone_of o config.node) (sources_of family config o s) s p i (sources_service family config o s) k;
         miss = none_passes (port_answers packet.proto packet.target packet.port s) p s.ports m (found_in (is_port key.port_name key.proto) s.ports p there);
       }
 
-      of_service : (found : Option Service) → passes_in o own may_answer found ≡ false → option_and_then (info_in V4 config o key) found ≡ Some i → Missed i
+      of_service : (found : Option Service) → passes_in o own may_answer found ≡ false → option_and_then (info_in family config o key) found ≡ Some i → Missed i
       of_service None m k = absurd (cc)
       of_service (Some s) m k = of_port s (port_named key s) refl m k
 
   -- what is known of the ports of the Services that may answer
   abbrev pub some_infos : List PortInfo
   some_infos =
-      filter_map (info_at V4 config o)
+      filter_map (info_at family config o)
       (distinct_in_order port_key_cmp (flat_map port_keys_of (filter may_answer (finite.values o.services))))
 
-  same_find : {D : Type 0} (p : D → Bool) (f : PortInfo → List D) → ((i : PortInfo) → Missed i → find p (f i) ≡ None) → find p (flat_map f some_infos) ≡ find p (flat_map f (port_infos V4 config o))
+  same_find : {D : Type 0} (p : D → Bool) (f : PortInfo → List D) → ((i : PortInfo) → Missed i → find p (f i) ≡ None) → find p (flat_map f some_infos) ≡ find p (flat_map f (port_infos family config o))
   same_find p f none =
-      ap (λ keys. find p (flat_map f (filter_map (info_at V4 config o) keys))) (keys_are o own may_answer)
-      ∙ narrowed p f (info_at V4 config o) (is_kept o own may_answer) (λ key i misses known. none i (missed key i misses known)) (port_keys o)
-      ∙ ap (λ is. find p (flat_map f is)) (sym (infos_by_keys V4 config o own))
+      ap (λ keys. find p (flat_map f (filter_map (info_at family config o) keys))) (keys_are o own may_answer)
+      ∙ narrowed p f (info_at family config o) (is_kept o own may_answer) (λ key i misses known. none i (missed key i misses known)) (port_keys o)
+      ∙ ap (λ is. find p (flat_map f is)) (sym (infos_by_keys family config o own))
 
   abbrev fit : Line → Bool
   fit l = fits config.addresses packet l.door
 
-  firewalls : find fit (flat_map firewall_lines some_infos) ≡ find fit (flat_map firewall_lines (port_infos V4 config o))
-  firewalls = same_find fit firewall_lines (λ i m. no_firewall config packet m.service m.port i m.shows m.miss)
+  firewalls : find fit (flat_map firewall_lines some_infos) ≡ find fit (flat_map firewall_lines (port_infos family config o))
+  firewalls = same_find fit firewall_lines (λ i m. no_firewall family config packet m.service m.port i m.shows m.miss)
 
-  externals : find fit (flat_map external_lines some_infos) ≡ find fit (flat_map external_lines (port_infos V4 config o))
-  externals = same_find fit external_lines (λ i m. no_external config packet m.service m.port i m.shows m.miss)
+  externals : find fit (flat_map external_lines some_infos) ≡ find fit (flat_map external_lines (port_infos family config o))
+  externals = same_find fit external_lines (λ i m. no_external family config packet m.service m.port i m.shows m.miss)
 
-  services : find fit (flat_map service_lines some_infos) ≡ find fit (flat_map service_lines (port_infos V4 config o))
-  services = same_find fit service_lines (λ i m. no_service config packet m.service m.port i m.shows m.miss)
+  services : find fit (flat_map service_lines some_infos) ≡ find fit (flat_map service_lines (port_infos family config o))
+  services = same_find fit service_lines (λ i m. no_service family config packet m.service m.port i m.shows m.miss)
 
-  from_outside : find fit (flat_map firewall_lines some_infos ++ flat_map external_lines some_infos) ≡ find fit (flat_map firewall_lines (port_infos V4 config o) ++ flat_map external_lines (port_infos V4 config o))
-  from_outside = same_append fit (flat_map firewall_lines some_infos) (flat_map external_lines some_infos) (flat_map firewall_lines (port_infos V4 config o)) (flat_map external_lines (port_infos V4 config o)) firewalls externals
+  from_outside : find fit (flat_map firewall_lines some_infos ++ flat_map external_lines some_infos) ≡ find fit (flat_map firewall_lines (port_infos family config o) ++ flat_map external_lines (port_infos family config o))
+  from_outside = same_append fit (flat_map firewall_lines some_infos) (flat_map external_lines some_infos) (flat_map firewall_lines (port_infos family config o)) (flat_map external_lines (port_infos family config o)) firewalls externals
 
-  at_hook : (h : Hook) → find fit (hook_lines h some_infos) ≡ find fit (hook_lines h (port_infos V4 config o))
+  at_hook : (h : Hook) → find fit (hook_lines h some_infos) ≡ find fit (hook_lines h (port_infos family config o))
   at_hook Input = from_outside
   at_hook Forward =
-      same_append fit (flat_map firewall_lines some_infos ++ flat_map external_lines some_infos) (flat_map service_lines some_infos) (flat_map firewall_lines (port_infos V4 config o) ++ flat_map external_lines (port_infos V4 config o)) (flat_map service_lines (port_infos V4 config o))
+      same_append fit (flat_map firewall_lines some_infos ++ flat_map external_lines some_infos) (flat_map service_lines some_infos) (flat_map firewall_lines (port_infos family config o) ++ flat_map external_lines (port_infos family config o)) (flat_map service_lines (port_infos family config o))
       from_outside services
-  at_hook Output = same_append fit (flat_map firewall_lines some_infos) (flat_map service_lines some_infos) (flat_map firewall_lines (port_infos V4 config o)) (flat_map service_lines (port_infos V4 config o)) firewalls services
+  at_hook Output = same_append fit (flat_map firewall_lines some_infos) (flat_map service_lines some_infos) (flat_map firewall_lines (port_infos family config o)) (flat_map service_lines (port_infos family config o)) firewalls services
 
-  at_hooks : (hs : List Hook) → find fit (flat_map (λ h. hook_lines h some_infos) hs) ≡ find fit (flat_map (λ h. hook_lines h (port_infos V4 config o)) hs)
+  at_hooks : (hs : List Hook) → find fit (flat_map (λ h. hook_lines h some_infos) hs) ≡ find fit (flat_map (λ h. hook_lines h (port_infos family config o)) hs)
   at_hooks [] = refl
-  at_hooks (h ∷ hs) = same_append fit (hook_lines h some_infos) (flat_map (λ h. hook_lines h some_infos) hs) (hook_lines h (port_infos V4 config o)) (flat_map (λ h. hook_lines h (port_infos V4 config o)) hs) (at_hook h) (at_hooks hs)
+  at_hooks (h ∷ hs) = same_append fit (hook_lines h some_infos) (flat_map (λ h. hook_lines h some_infos) hs) (hook_lines h (port_infos family config o)) (flat_map (λ h. hook_lines h (port_infos family config o)) hs) (at_hook h) (at_hooks hs)
 
   -- these are enough to decide the packet
-  pub enough : AreEnough config packet some_infos (port_infos V4 config o)
+  pub enough : AreEnough config packet some_infos (port_infos family config o)
   enough = record {
     door =
-        same_append (takes config packet) (flat_map address_doors some_infos) (flat_map (λ i. node_door i i.node_port) some_infos) (flat_map address_doors (port_infos V4 config o)) (flat_map (λ i. node_door i i.node_port) (port_infos V4 config o))
-        (same_find (takes config packet) address_doors (λ i m. no_address_door config packet m.service m.port i m.shows m.miss))
-        (same_find (takes config packet) (λ i. node_door i i.node_port) (λ i m. no_node_door config packet m.service m.port i m.shows m.miss));
+        same_append (takes config packet) (flat_map address_doors some_infos) (flat_map (λ i. node_door i i.node_port) some_infos) (flat_map address_doors (port_infos family config o)) (flat_map (λ i. node_door i i.node_port) (port_infos family config o))
+        (same_find (takes config packet) address_doors (λ i m. no_address_door family config packet m.service m.port i m.shows m.miss))
+        (same_find (takes config packet) (λ i. node_door i i.node_port) (λ i m. no_node_door family config packet m.service m.port i m.shows m.miss));
     line = at_hooks (hooks_of config packet);
   }

@@ -1,12 +1,13 @@
 -- A port that a packet can't be for gives it no door and no line.
-use Rattle.std.proofs.Common.{◌≡◌, ℕ, ◌==◌, ◌&&◌, ◌||◌, Bool, true, false, true≢false, cond, not, List, [], ◌∷◌, ◌++◌, map, filter, Contains, Option, Some, None, option_map, is_some, refl, sym, ap, subst, ◌∙◌}
+use Rattle.std.proofs.Common.{◌≡◌, ℕ, ◌==◌, ◌&&◌, ◌||◌, Bool, true, false, true≢false, cond, not, List, [], ◌∷◌, ◌++◌, map, filter, Contains, Option, Some, None, option_and_then, option_map, is_some, refl, sym, ap, subst, ◌∙◌}
 use Rattle.std.specs.List.{find, list_any}
+use Rattle.std.specs.Option.{option_to_list}
 use Rattle.std.proofs.lemmas.Bool.{and_from, and_parts, or_from, or_left, or_parts, or_right, false_from_ne_true}
 use Rattle.std.proofs.lemmas.Option.{same_Some}
 use Rattle.kp_lemmas.proofs.Members.{none_in, none_passes, from_filter, any_from}
 use Rattle.kp_base.specs.Net.{AddressParts, same_address, same_family}
 use Rattle.kp_base.specs.declared.address.Family.{Family}
-use Rattle.kp_base.specs.declared.address.Family.TheVariants.{V4}
+use Rattle.kp_base.specs.declared.address.Family.TheVariants.{V4, V6}
 use Rattle.kp_types.specs.Ports.{same_proto}
 use Rattle.kp_types.specs.Setting.{FamilyConfig}
 use Rattle.kp_types.specs.declared.packet.Packet.{Packet}
@@ -18,13 +19,14 @@ use Rattle.kp_types.specs.declared.info.ServiceSources.{ServiceSources}
 use Rattle.kp_types.specs.declared.lists.Candidate.{Candidate}
 use Rattle.kp_types.specs.declared.service.ClusterAddress.{ClusterAddress}
 use Rattle.kp_types.specs.declared.service.ClusterAddress.TheVariants.{Absent, Headless, At}
-use Rattle.kp_object_defs.specs.Desired.{is_empty, is_external_name}
+use Rattle.kp_object_defs.specs.Desired.{address_in, is_empty, is_external_name}
 use Rattle.kp_object_defs.specs.Entries.{entries_from}
-use Rattle.kp_object_defs.specs.PortInfo.{PortInfo, address_at, addresses_in, balancer_in, cluster_address_in, external_in, external_list, has_balancer, has_node_port, info_from, info_of, internal_list, node_port_of, port_key_of}
+use Rattle.kp_object_defs.specs.PortInfo.{PortInfo, address_at, addresses_in, balancer_in, balancer_of, cluster_address_in, cluster_of_family, external_in, external_list, external_of, has_balancer, has_node_port, info_from, info_of, internal_list, node_port_of, port_key_of}
 use Rattle.kp_door_defs.specs.Doors.{Door, address_doors, door_at, fits, is_at, node_door, offer_of, takes}
 use Rattle.kp_door_defs.specs.Filter.{DropsClosed, Line, Refusal, external_lines, firewall_lines, line_of, refusal_by, service_lines}
 use Rattle.kp_object_laws.proofs.FirstPlaces.{from_places}
-use Rattle.kp_store.specs.Destinations.{cluster_addresses, has_address, is_address_of, is_node_port, port_answers}
+use Rattle.kp_store.specs.Destinations.{addresses_at, cluster_addresses, has_address, is_address_of, is_node_port, port_answers}
+use Rattle.kp_store.proofs.Selected.{in_family}
 use Rattle.kp_decide.proofs.FirstFound.{none_both, none_found, none_mapped, none_used}
 
 -- an address of a family that is listed is listed
@@ -58,7 +60,7 @@ pub shown_of : (family : Family) (node : List ℕ) (zone : Option (List ℕ)) (s
 shown_of family node zone sources s p i is h =
     subst (λ t. Shows family t p i) is (shown_from family zone sources.service p (entries_from family node sources (port_key_of sources.service p)) (cluster_address_in family sources.service) i refl h)
 
-module _ (config : FamilyConfig) (packet : Packet) (s : Service) (p : ServicePort) (i : PortInfo) (shows : Shows V4 s p i) (miss : port_answers packet.proto packet.target packet.port s p ≡ false) where
+module _ (family : Family) (config : FamilyConfig) (packet : Packet) (s : Service) (p : ServicePort) (i : PortInfo) (shows : Shows family s p i) (miss : port_answers packet.proto packet.target packet.port s p ≡ false) where
   abbrev fitting : Door → Bool
   fitting d = fits config.addresses packet d
 
@@ -91,42 +93,67 @@ module _ (config : FamilyConfig) (packet : Packet) (s : Service) (p : ServicePor
       (or_right ((p.port == packet.port) && is_address_of packet.target s) (is_node_port packet.port p.node_port) (ap (is_node_port packet.port) own ∙ inner.1))) ∙ miss)))
       refl
 
-  -- the cluster address is one of the Service
-  cluster_listed : (name : Bool) (c : ClusterAddress) → cond name None (address_at V4 c) ≡ Some i.address → same_address i.address packet.target ≡ true → has_address packet.target (cluster_addresses c) ≡ true
-  cluster_listed true c h same = absurd (cc)
-  cluster_listed false Absent h same = absurd (cc)
-  cluster_listed false Headless h same = absurd (cc)
-  cluster_listed false (At a) h same =
-      or_left (same_address a packet.target) false (ap (λ b. same_address b packet.target) (in_family (same_family a.family V4) h) ∙ same)
-    where
-      in_family : (b : Bool) → cond b (Some a) None ≡ Some i.address → a ≡ i.address
-      in_family true g = same_Some a i.address g
-      in_family false g = absurd (cc)
+  -- the address of a field in a family is the field's
+  field_has : (a : AddressParts) (b : Bool) → cond b (Some a) None ≡ Some i.address → same_address i.address packet.target ≡ true → has_address packet.target (a ∷ []) ≡ true
+  field_has a true h same =
+      or_left (same_address a packet.target) false (ap (λ b. same_address b packet.target) (same_Some a i.address h) ∙ same)
+  field_has a false h same = absurd (cc)
+
+  -- the cluster address is one that the Service gives for the family
+  first_listed : (c : ClusterAddress) → address_at V4 c ≡ Some i.address → same_address i.address packet.target ≡ true → has_address packet.target (addresses_at c) ≡ true
+  first_listed Absent h same = absurd (cc)
+  first_listed Headless h same = absurd (cc)
+  first_listed (At a) h same = field_has a (same_family a.family V4) h same
+
+  second_listed : (c : Option AddressParts) → option_and_then (address_in V6) c ≡ Some i.address → same_address i.address packet.target ≡ true → has_address packet.target (option_to_list c) ≡ true
+  second_listed None h same = absurd (cc)
+  second_listed (Some a) h same = field_has a (same_family a.family V6) h same
+
+  given_listed : (f : Family) → cluster_of_family f s ≡ Some i.address → same_address i.address packet.target ≡ true → has_address packet.target (cluster_addresses f s) ≡ true
+  given_listed V4 h same = first_listed s.cluster h same
+  given_listed V6 h same = second_listed s.six.cluster h same
+
+  cluster_listed : (name : Bool) → cond name None (cluster_of_family family s) ≡ Some i.address → same_address i.address packet.target ≡ true → has_address packet.target (cluster_addresses family s) ≡ true
+  cluster_listed true h same = absurd (cc)
+  cluster_listed false h same = given_listed family h same
+
+  -- the addresses that the Service gives for the family, by their fields
+  abbrev at_cluster : Bool
+  at_cluster = has_address packet.target (cluster_addresses family s)
+
+  abbrev at_external : Bool
+  at_external = has_address packet.target (external_of family s)
+
+  abbrev at_balancer : Bool
+  at_balancer = has_address packet.target (balancer_of family s)
 
   misses_cluster : fitting (door_at door.Cluster i i.address) ≡ false
   misses_cluster =
       misses_at door.Cluster i.address (λ same.
-      or_left (has_address packet.target (cluster_addresses s.cluster)) (has_address packet.target s.external || has_address packet.target s.balancer) (cluster_listed (is_external_name s.kind) s.cluster shows.address same))
+      in_family family packet.target s
+      (or_left at_cluster (at_external || at_balancer) (cluster_listed (is_external_name s.kind) shows.address same)))
 
   misses_external : list_any fitting (map (door_at door.External i) i.external) ≡ false
   misses_external =
       ap (λ xs. list_any fitting (map (door_at door.External i) xs)) shows.external
-      ∙ none_mapped fitting (door_at door.External i) (external_in V4 s) (λ a c.
+      ∙ none_mapped fitting (door_at door.External i) (external_in family s) (λ a c.
       misses_at door.External a (λ same.
-      or_right (has_address packet.target (cluster_addresses s.cluster)) (has_address packet.target s.external || has_address packet.target s.balancer)
-      (or_left (has_address packet.target s.external) (has_address packet.target s.balancer) (listed V4 packet.target a s.external c same))))
+      in_family family packet.target s
+      (or_right at_cluster (at_external || at_balancer)
+      (or_left at_external at_balancer (listed family packet.target a (external_of family s) c same)))))
 
-  balancer_listed : (b : Bool) (a : AddressParts) → Contains (cond b (addresses_in V4 s.balancer) []) a → same_address a packet.target ≡ true → has_address packet.target s.balancer ≡ true
-  balancer_listed true a c same = listed V4 packet.target a s.balancer c same
+  balancer_listed : (b : Bool) (a : AddressParts) → Contains (cond b (addresses_in family (balancer_of family s)) []) a → same_address a packet.target ≡ true → at_balancer ≡ true
+  balancer_listed true a c same = listed family packet.target a (balancer_of family s) c same
   balancer_listed false a c same = absurd (none_in a c)
 
   misses_balancer : list_any fitting (map (door_at door.Balancer i) i.balancer) ≡ false
   misses_balancer =
       ap (λ xs. list_any fitting (map (door_at door.Balancer i) xs)) shows.balancer
-      ∙ none_mapped fitting (door_at door.Balancer i) (balancer_in V4 s) (λ a c.
+      ∙ none_mapped fitting (door_at door.Balancer i) (balancer_in family s) (λ a c.
       misses_at door.Balancer a (λ same.
-      or_right (has_address packet.target (cluster_addresses s.cluster)) (has_address packet.target s.external || has_address packet.target s.balancer)
-      (or_right (has_address packet.target s.external) (has_address packet.target s.balancer) (balancer_listed (has_balancer s.kind) a c same))))
+      in_family family packet.target s
+      (or_right at_cluster (at_external || at_balancer)
+      (or_right at_external at_balancer (balancer_listed (has_balancer s.kind) a c same)))))
 
   misses_addresses : list_any fitting (address_doors i) ≡ false
   misses_addresses = or_from (fitting (door_at door.Cluster i i.address)) (list_any fitting (map (door_at door.External i) i.external ++ map (door_at door.Balancer i) i.balancer)) misses_cluster (none_both fitting (map (door_at door.External i) i.external) (map (door_at door.Balancer i) i.balancer) misses_external misses_balancer)

@@ -1,8 +1,9 @@
 //! The choice of an endpoint: by session affinity, or else by draws.
 ghost use Rattle.std.specs.Prelude.{◌≡◌, ◌<◌, ℕ, length, option_map, IfSome};
 ghost use Rattle.std.specs.List.{position};
-ghost use Rattle.kp_base.specs.declared.address.Family.TheVariants.{V4};
+ghost use Rattle.kp_base.specs.declared.address.Family.{Family};
 ghost use Rattle.kp_choice_defs.specs.Draws.{IsStated, AreDraws, selected_index};
+ghost use Rattle.kp_choice_defs.specs.Names.{endpoint_chain_name};
 ghost use Rattle.kp_choice_defs.specs.Recent as recent;
 ghost use Rattle.kp_choice_defs.specs.Settings.{setting_of};
 ghost use Rattle.kp_door_defs.specs.Choice as spec;
@@ -22,7 +23,8 @@ pub struct Choice {
     pub by: ChosenBy,
 }
 
-/// The endpoint of a list of a port that a packet goes to. The recent lists stay as they are.
+/// The endpoint of a list of a port that a packet goes to, which no family's setting changes. The
+/// recent lists stay as they are.
 pub fn chosen_endpoint<F: Fn(u64, u32) -> u32>(
     config: &Config,
     number: u64,
@@ -33,10 +35,10 @@ pub fn chosen_endpoint<F: Fn(u64, u32) -> u32>(
     endpoints: &[Endpoint],
 ) -> Option<Choice>
     requires { IsStated (F.pre draws.now) (F.post draws.now) }
-    ensures { (drawn : ℕ → ℕ) → AreDraws (F.post draws.now) number drawn → result
-        ≡ option_map choice_of (spec.chosen_endpoint (setting_of V4 config.now) info.now.key
-        info.now.affinity packet.entry.now.source packet.entry.now.now drawn endpoints.now
-        lists.now) }
+    ensures { (family : Family) (drawn : ℕ → ℕ) → AreDraws (F.post draws.now) number drawn
+        → result ≡ option_map choice_of (spec.chosen_endpoint (setting_of family config.now)
+        info.now.key info.now.affinity packet.entry.now.source packet.entry.now.now drawn
+        endpoints.now lists.now) }
 {
     match info.affinity {
         Some(seconds) => match live_place(config, packet, lists, &info.key, seconds, endpoints) {
@@ -61,7 +63,7 @@ fn live_place(
     endpoints: &[Endpoint],
 ) -> Option<usize>
     ensures place { result ≡ position (λ e. recent.is_live lists.now
-        (spec.recent_name (setting_of V4 config.now) port.now e) packet.entry.now.source
+        (endpoint_chain_name config.now.name_length port.now e) packet.entry.now.source
         packet.entry.now.now seconds) endpoints.now }
     ensures within { IfSome result (λ i. i < length endpoints.now) }
 {

@@ -2,10 +2,10 @@
 ghost use Rattle.std.specs.Prelude.{◌≡◌, ℕ, ◌<◌, List, map, IfOk, None, Some};
 ghost use Rattle.std.specs.List.{filter_map, flat_map};
 ghost use Rattle.kp_base.specs.Keys.{port_key_cmp};
-ghost use Rattle.kp_base.specs.declared.address.Family.TheVariants.{V4};
 ghost use Rattle.kp_choice_defs.specs.Draws.{IsStated, AreDraws};
 ghost use Rattle.kp_choice_defs.specs.Recent.{RecentParts};
-ghost use Rattle.kp_choice_defs.specs.Settings.{setting_of};
+ghost use Rattle.kp_choice_defs.specs.Settings.{setting_of, settings_of};
+ghost use Rattle.kp_types.specs.Setting as setting;
 ghost use Rattle.kp_types.specs.Setting.{config_for};
 ghost use Rattle.kp_types.specs.declared.packet.Packet.{Packet};
 ghost use Rattle.kp_object_defs.specs.Order.{distinct_in_order};
@@ -22,12 +22,12 @@ use crate::filter::filtered;
 use crate::lines::{Line, Refusal};
 use crate::masquerade::is_masqueraded;
 use crate::translation::{Translation, translation_of};
-use kp_base::{Config, Copied, Endpoint, NoMemory, Steps};
+use kp_base::{Config, Copied, Endpoint, Family, NoMemory, Steps};
 use kp_draws::DrawSource;
 use kp_known_ports::infos_of_services;
 use kp_recent::RecentLists;
 use kp_store::Objects;
-use kp_types::{Decision, Packet, PortInfo, Reason, Service, Verdict};
+use kp_types::{Decision, Packet, PortInfo, Reason, Service, Verdict, table_families};
 use std::alloc::Global;
 use std::marker::Brand;
 use std::sync::ledger::{Blank, Ledger};
@@ -46,13 +46,45 @@ pub fn decide<F: Fn(u64, u32) -> u32>(
 ) -> Result<Decision, NoMemory>
     requires { IsStated (F.pre draws.now) (F.post draws.now) }
     ensures { (drawn : ℕ → ℕ) → AreDraws (F.post draws.now) number drawn → IfOk result (λ d. d
-        ≡ told (spec.decision_of (setting_of V4 config.now) objects.now packet.entry.now drawn
+        ≡ told (spec.decision_of (settings_of config.now) objects.now packet.entry.now drawn
         lists.now)) }
 {
-    let infos = infos_at(alloc, objects, config, packet)?;
+    let family = packet.target.family();
+    if !has_tables_of(family, config) {
+        return Ok(left_alone());
+    }
+    decide_in(alloc, family, objects, config, number, packet, draws, lists)
+}
+
+/// Whether the node has tables of a family.
+fn has_tables_of(family: Family, config: &Config) -> bool
+    ensures { result ≡ setting.has_tables_of family (settings_of config.now) }
+{
+    table_families(config).contains(&family)
+}
+
+/// The decision on a packet by what a family knows of the ports.
+fn decide_in<F: Fn(u64, u32) -> u32>(
+    alloc: Global,
+    family: Family,
+    objects: &Objects,
+    config: &Config,
+    number: u64,
+    packet: &Packet,
+    draws: &DrawSource<F>,
+    lists: &RecentLists,
+) -> Result<Decision, NoMemory>
+    requires { IsStated (F.pre draws.now) (F.post draws.now) }
+    ensures { (drawn : ℕ → ℕ) → AreDraws (F.post draws.now) number drawn → IfOk result (λ d. d
+        ≡ told (spec.decision_in (setting_of family config.now) objects.now packet.entry.now
+        drawn lists.now)) }
+{
+    let infos = infos_at(alloc, family, objects, config, packet)?;
     let infos = infos.as_slice();
-    match translation_of(alloc, config, infos, number, packet, draws, lists)? {
-        Some(translation) => decide_translated(alloc, objects, config, packet, translation),
+    match translation_of(alloc, family, config, infos, number, packet, draws, lists)? {
+        Some(translation) => {
+            decide_translated(alloc, family, objects, config, packet, translation)
+        }
         None => decide_untranslated(alloc, config, infos, packet),
     }
 }
@@ -60,20 +92,23 @@ pub fn decide<F: Fn(u64, u32) -> u32>(
 /// What the proxy knows of the ports of the Services that may answer a packet.
 fn infos_at(
     alloc: Global,
+    family: Family,
     objects: &Objects,
     config: &Config,
     packet: &Packet,
 ) -> Result<Vec<PortInfo>, NoMemory>
-    ensures { IfOk result (λ is. AreEnough (config_for V4 config.now) packet.entry.now is.items
-        (known.port_infos V4 (config_for V4 config.now) objects.now)) }
+    ensures { IfOk result (λ is. AreEnough (config_for family config.now) packet.entry.now is.items
+        (known.port_infos family (config_for family config.now) objects.now)) }
 {
     let services = objects.services_at(alloc, packet.proto, &packet.target, packet.port)?;
-    infos_uncounted::<Brand>(alloc, objects, config, services.as_slice(), Blank::new(1))
+    let blank = Blank::new(1);
+    infos_uncounted::<Brand>(alloc, family, objects, config, services.as_slice(), blank)
 }
 
 /// What is known of the ports of some Services of the objects, whose steps nobody counts.
 fn infos_uncounted<A: Ledger>(
     alloc: Global,
+    family: Family,
     objects: &Objects,
     config: &Config,
     services: &[&Service],
@@ -85,16 +120,17 @@ fn infos_uncounted<A: Ledger>(
     requires own_keys { AreUnderOwnKeys objects.now }
     requires stored { AreStored objects.now (map (λ s. s.now) services.now) }
     ensures { IfOk result (λ is. is.items
-        ≡ filter_map (info_at V4 (config_for V4 config.now) objects.now)
+        ≡ filter_map (info_at family (config_for family config.now) objects.now)
         (distinct_in_order port_key_cmp (flat_map port_keys_of (map (λ s. s.now) services.now)))) }
 {
     let mut asked = Steps::<A>::new(blank);
-    infos_of_services(alloc, objects, config, services, &mut asked)
+    infos_of_services(alloc, family, objects, config, services, &mut asked)
 }
 
 /// The decision on a packet that is translated.
 fn decide_translated(
     alloc: Global,
+    family: Family,
     objects: &Objects,
     config: &Config,
     packet: &Packet,
@@ -102,15 +138,15 @@ fn decide_translated(
 ) -> Result<Decision, NoMemory>
     ensures { (t : spec.Translation) (lists : RecentParts) →
         translation.entry ≡ translation_told t → IfOk result (λ d. d
-        ≡ told (spec.decision_by (config_for V4 config.now)
-        (known.port_infos V4 (config_for V4 config.now) objects.now) packet.entry.now lists
+        ≡ told (spec.decision_by (config_for family config.now)
+        (known.port_infos family (config_for family config.now) objects.now) packet.entry.now lists
         (Some t))) }
 {
     let sent = sent_to(packet, &translation.choice.endpoint);
-    let infos = infos_at(alloc, objects, config, &sent)?;
+    let infos = infos_at(alloc, family, objects, config, &sent)?;
     match filtered(alloc, config, infos.as_slice(), &sent)? {
         Some(line) => refused_by(alloc, line),
-        None => passed(alloc, config, packet, translation),
+        None => passed(alloc, family, config, packet, translation),
     }
 }
 
@@ -121,17 +157,24 @@ fn decide_untranslated(
     infos: &[PortInfo],
     packet: &Packet,
 ) -> Result<Decision, NoMemory>
-    ensures { (lists : RecentParts) (all : List PortInfo) →
-        AreEnough (config_for V4 config.now) packet.entry.now infos.now all →
+    ensures { (family : Family) (lists : RecentParts) (all : List PortInfo) →
+        AreEnough (config_for family config.now) packet.entry.now infos.now all →
         IfOk result (λ d. d ≡ told
-        (spec.decision_by (config_for V4 config.now) all packet.entry.now lists None)) }
+        (spec.decision_by (config_for family config.now) all packet.entry.now lists None)) }
 {
     match filtered(alloc, config, infos, packet)? {
         Some(line) => refused_by(alloc, line),
-        None => Ok(Decision {
-            verdict: Verdict::LeftAlone,
-            reason: Reason::NoDoor,
-        }),
+        None => Ok(left_alone()),
+    }
+}
+
+/// The decision where no door takes a packet.
+fn left_alone() -> Decision
+    ensures { (lists : RecentParts) → result ≡ told (spec.left_alone lists) }
+{
+    Decision {
+        verdict: Verdict::LeftAlone,
+        reason: Reason::NoDoor,
     }
 }
 
@@ -175,12 +218,13 @@ fn refused_by(alloc: Global, line: Line<'_>) -> Result<Decision, NoMemory>
 /// The decision on a packet that goes to an endpoint.
 fn passed(
     alloc: Global,
+    family: Family,
     config: &Config,
     packet: &Packet,
     translation: Translation<'_>,
 ) -> Result<Decision, NoMemory>
     ensures { IfOk result (λ d. d
-        ≡ passed_by (config_for V4 config.now) packet.entry.now translation.entry) }
+        ≡ passed_by (config_for family config.now) packet.entry.now translation.entry) }
 {
     let Translation {
         door,
@@ -190,7 +234,7 @@ fn passed(
     Ok(Decision {
         verdict: Verdict::To {
             endpoint: choice.endpoint,
-            masked: is_masqueraded(config, packet, &door, &choice.endpoint),
+            masked: is_masqueraded(family, config, packet, &door, &choice.endpoint),
         },
         reason: Reason::Door {
             kind: door.kind,

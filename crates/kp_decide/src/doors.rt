@@ -2,13 +2,12 @@
 ghost use Rattle.std.specs.Prelude.{◌≡◌, ◌++◌, map, IfOk, OnOk};
 ghost use Rattle.std.specs.List.{find, flat_map};
 ghost use Rattle.kp_base.specs.declared.address.Family.{Family};
-ghost use Rattle.kp_base.specs.declared.address.Family.TheVariants.{V4};
 ghost use Rattle.kp_types.specs.Setting.{config_for};
 ghost use Rattle.kp_door_defs.specs.Doors as spec;
 
 use crate::local::{is_local, is_loopback};
 use crate::offers::offer_of;
-use kp_base::{Address, Config, NoMemory, PortNo};
+use kp_base::{Address, Config, Family, NoMemory, PortNo};
 use kp_types::{DoorKind, Packet, PortInfo};
 use std::alloc::Global;
 use std::marker::Model;
@@ -42,25 +41,33 @@ impl<'a> Model for Door<'a> {
 /// The first door that takes a packet.
 pub fn taking_door<'a>(
     alloc: Global,
+    family: Family,
     config: &Config,
     infos: &'a [PortInfo],
     packet: &Packet,
 ) -> Result<Option<Door<'a>>, NoMemory>
     ensures { IfOk result (λ d. d
-        ≡ spec.taking_door (config_for V4 config.now) infos.now packet.entry.now) }
+        ≡ spec.taking_door (config_for family config.now) infos.now packet.entry.now) }
 {
     let mut doors = Vec::new(alloc);
     add_address_doors(&mut doors, infos)?;
     add_node_doors(&mut doors, infos)?;
-    Ok(first_taking(config, packet, doors))
+    Ok(first_taking(family, config, packet, doors))
 }
 
 /// The first of some doors that takes a packet.
-fn first_taking<'a>(config: &Config, packet: &Packet, doors: Vec<Door<'a>>) -> Option<Door<'a>>
+fn first_taking<'a>(
+    family: Family,
+    config: &Config,
+    packet: &Packet,
+    doors: Vec<Door<'a>>,
+) -> Option<Door<'a>>
     ensures { result
-        ≡ find (spec.takes (config_for V4 config.now) packet.entry.now) doors.entry.items }
+        ≡ find (spec.takes (config_for family config.now) packet.entry.now) doors.entry.items }
 {
-    doors.into_iter().find(|door| takes(config, packet, door))
+    doors
+        .into_iter()
+        .find(|door| takes(family, config, packet, door))
 }
 
 /// Adds the doors of ports at addresses, port by port.
@@ -142,10 +149,10 @@ pub fn add_node_door<'a>(doors: &mut Vec<Door<'a>>, info: &'a PortInfo) -> Resul
 }
 
 /// Whether a door takes a packet: it fits, and offers an endpoint.
-fn takes(config: &Config, packet: &Packet, door: &Door<'_>) -> bool
-    ensures { result ≡ spec.takes (config_for V4 config.now) packet.entry.now door.now }
+fn takes(family: Family, config: &Config, packet: &Packet, door: &Door<'_>) -> bool
+    ensures { result ≡ spec.takes (config_for family config.now) packet.entry.now door.now }
 {
-    fits(config, packet, door) && !offer_of(config, packet, door).endpoints.is_empty()
+    fits(config, packet, door) && !offer_of(family, config, packet, door).endpoints.is_empty()
 }
 
 /// Whether a packet is for a door: its protocol, its destination and its port.

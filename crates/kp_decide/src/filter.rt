@@ -1,7 +1,8 @@
 //! The filter: which packets are refused at Services without endpoints, and at load balancers.
 ghost use Rattle.std.specs.Prelude.{◌≡◌, ◌++◌, IfOk, OnOk};
 ghost use Rattle.std.specs.List.{find, flat_map};
-ghost use Rattle.kp_base.specs.declared.address.Family.TheVariants.{V4};
+ghost use Rattle.kp_base.specs.Net.{is_local_address};
+ghost use Rattle.kp_base.specs.declared.address.Family.{Family};
 ghost use Rattle.kp_types.specs.Setting.{config_for};
 ghost use Rattle.kp_door_defs.specs.Doors as doors;
 ghost use Rattle.kp_door_defs.specs.Filter as spec;
@@ -13,15 +14,15 @@ use kp_base::{Config, NoMemory};
 use kp_types::{Origin, Packet, PortInfo};
 use std::alloc::Global;
 
-/// The first line that a packet fits, hook by hook.
+/// The first line that a packet fits, hook by hook, by what is known of the ports of any family.
 pub fn filtered<'a>(
     alloc: Global,
     config: &Config,
     infos: &'a [PortInfo],
     packet: &Packet,
 ) -> Result<Option<Line<'a>>, NoMemory>
-    ensures { IfOk result (λ l. l
-        ≡ spec.filtered (config_for V4 config.now) infos.now packet.entry.now) }
+    ensures { (family : Family) → IfOk result (λ l. l
+        ≡ spec.filtered (config_for family config.now) infos.now packet.entry.now) }
 {
     let mut lines = Vec::new(alloc);
     add_lines_on_way(alloc, config, &mut lines, infos, packet)?;
@@ -48,7 +49,8 @@ fn add_lines_on_way<'a>(
 ) -> Result<(), NoMemory>
     ensures { OnOk result (lines.new.items ≡ lines.old.items
         ++ flat_map (λ h. spec.hook_lines h infos.now)
-        (spec.hooks_of (config_for V4 config.now) packet.entry.now)) }
+        (spec.hooks_by packet.entry.now.from
+        (is_local_address config.now.addresses packet.entry.now.target))) }
 {
     let local = is_local(config, &packet.target);
     match packet.from {

@@ -1,13 +1,13 @@
-//! The node's own addresses, and the range of the cluster.
+//! The node's own addresses, and the cluster's ranges.
 ghost use Rattle.std.specs.Prelude.{◌≡◌};
 ghost use Rattle.std.specs.List.{list_any};
 ghost use Rattle.kp_base.specs.Net.{same_address, loopback_range, range_contains};
 ghost use Rattle.kp_base.specs.Net.{is_local_address};
-ghost use Rattle.kp_base.specs.declared.address.Family.TheVariants.{V4};
 ghost use Rattle.kp_types.specs.Setting.{config_for};
 ghost use Rattle.kp_door_defs.specs.Doors as spec;
 
-use kp_base::{Address, Cidr, Config, Family};
+use kp_base::{Address, Config, Family};
+use kp_types::cluster_range;
 
 /// Whether an address is the node's own: one of its interfaces, or loopback.
 pub fn is_local(config: &Config, address: &Address) -> bool
@@ -34,21 +34,11 @@ pub fn is_loopback(family: Family, address: &Address) -> bool
     }
 }
 
-/// The cluster's range, where it is an IPv4 one.
-pub fn cluster_range(config: &Config) -> Option<Cidr>
-    ensures { result ≡ (config_for V4 config.now).cluster }
+/// Whether a source is in the cluster's range of a family, where there is one.
+pub fn is_in_cluster(family: Family, config: &Config, source: &Address) -> bool
+    ensures { result ≡ spec.is_in_cluster (config_for family config.now) source.now }
 {
-    match config.cluster {
-        Some(range) if range.base().family() == Family::V4 => Some(range),
-        _ => None,
-    }
-}
-
-/// Whether a source is in the cluster's range, where there is one.
-pub fn is_in_cluster(config: &Config, source: &Address) -> bool
-    ensures { result ≡ spec.is_in_cluster (config_for V4 config.now) source.now }
-{
-    match cluster_range(config) {
+    match cluster_range(config, family) {
         Some(range) => range.contains(source),
         None => false,
     }

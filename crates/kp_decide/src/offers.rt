@@ -2,13 +2,12 @@
 ghost use Rattle.std.specs.Prelude.{◌≡◌};
 ghost use Rattle.std.specs.List.{list_any};
 ghost use Rattle.kp_base.specs.Net.{range_contains};
-ghost use Rattle.kp_base.specs.declared.address.Family.TheVariants.{V4};
 ghost use Rattle.kp_types.specs.Setting.{config_for};
 ghost use Rattle.kp_door_defs.specs.Doors as spec;
 
 use crate::doors::Door;
 use crate::local::{is_in_cluster, is_local};
-use kp_base::{Address, Cidr, Config, Endpoint, Items};
+use kp_base::{Address, Cidr, Config, Endpoint, Family, Items};
 use kp_types::{DoorKind, ListKind, Packet, Policy, PortInfo};
 use std::marker::Model;
 
@@ -31,23 +30,28 @@ impl<'a> Model for Offer<'a> {
 }
 
 /// What a door offers to a packet.
-pub fn offer_of<'a>(config: &Config, packet: &Packet, door: &Door<'a>) -> Offer<'a>
-    ensures { result ≡ spec.offer_of (config_for V4 config.now) packet.entry.now door.now }
+pub fn offer_of<'a>(family: Family, config: &Config, packet: &Packet, door: &Door<'a>) -> Offer<'a>
+    ensures { result ≡ spec.offer_of (config_for family config.now) packet.entry.now door.now }
 {
     let info = door.info;
     match door.kind {
         DoorKind::Cluster => offer_by_policy(info, info.internal),
-        DoorKind::External | DoorKind::Node => outer_offer(config, info, &packet.source),
-        DoorKind::Balancer => balancer_offer(config, info, &packet.source),
+        DoorKind::External | DoorKind::Node => outer_offer(family, config, info, &packet.source),
+        DoorKind::Balancer => balancer_offer(family, config, info, &packet.source),
     }
 }
 
 /// What a load-balancer address offers: nothing to a source outside the ranges.
-fn balancer_offer<'a>(config: &Config, info: &'a PortInfo, source: &Address) -> Offer<'a>
+fn balancer_offer<'a>(
+    family: Family,
+    config: &Config,
+    info: &'a PortInfo,
+    source: &Address,
+) -> Offer<'a>
     ensures { result ≡ spec.offer_if (spec.is_admitted info.now.ranges source.now)
-        (spec.outer_offer (config_for V4 config.now) info.now info.now.outer source.now) }
+        (spec.outer_offer (config_for family config.now) info.now info.now.outer source.now) }
 {
-    let offer = outer_offer(config, info, source);
+    let offer = outer_offer(family, config, info, source);
     if is_admitted(&info.ranges, source) {
         offer
     } else {
@@ -59,12 +63,17 @@ fn balancer_offer<'a>(config: &Config, info: &'a PortInfo, source: &Address) -> 
 }
 
 /// What the external traffic policy offers.
-fn outer_offer<'a>(config: &Config, info: &'a PortInfo, source: &Address) -> Offer<'a>
+fn outer_offer<'a>(
+    family: Family,
+    config: &Config,
+    info: &'a PortInfo,
+    source: &Address,
+) -> Offer<'a>
     ensures { result
-        ≡ spec.outer_offer (config_for V4 config.now) info.now info.now.outer source.now }
+        ≡ spec.outer_offer (config_for family config.now) info.now info.now.outer source.now }
 {
     match info.outer {
-        Policy::Local if !is_in_cluster(config, source) && !is_local(config, source) => {
+        Policy::Local if !is_in_cluster(family, config, source) && !is_local(config, source) => {
             offer_by_policy(info, Policy::Local)
         }
         _ => offer_by_policy(info, Policy::Cluster),

@@ -1,6 +1,5 @@
 //! The translation of a packet: its door, what that offers, and the endpoint that is chosen.
 ghost use Rattle.std.specs.Prelude.{◌≡◌, ℕ, option_map, IfOk};
-ghost use Rattle.kp_base.specs.declared.address.Family.TheVariants.{V4};
 ghost use Rattle.kp_choice_defs.specs.Draws.{IsStated, AreDraws};
 ghost use Rattle.kp_choice_defs.specs.Settings.{setting_of};
 ghost use Rattle.kp_door_defs.specs.Decision as spec;
@@ -9,7 +8,7 @@ ghost use Rattle.kp_decide.specs.Told.{translation_told};
 use crate::choice::{Choice, chosen_endpoint};
 use crate::doors::{Door, taking_door};
 use crate::offers::{Offer, offer_of};
-use kp_base::{Config, NoMemory};
+use kp_base::{Config, Family, NoMemory};
 use kp_draws::DrawSource;
 use kp_recent::RecentLists;
 use kp_types::{Packet, PortInfo};
@@ -26,6 +25,7 @@ pub struct Translation<'a> {
 /// The translation of a packet by the first door that takes it. The recent lists stay as they are.
 pub fn translation_of<'a, F: Fn(u64, u32) -> u32>(
     alloc: Global,
+    family: Family,
     config: &Config,
     infos: &'a [PortInfo],
     number: u64,
@@ -35,17 +35,18 @@ pub fn translation_of<'a, F: Fn(u64, u32) -> u32>(
 ) -> Result<Option<Translation<'a>>, NoMemory>
     requires { IsStated (F.pre draws.now) (F.post draws.now) }
     ensures { (drawn : ℕ → ℕ) → AreDraws (F.post draws.now) number drawn → IfOk result (λ t. t
-        ≡ option_map translation_told (spec.translation_of (setting_of V4 config.now) infos.now
+        ≡ option_map translation_told (spec.translation_of (setting_of family config.now) infos.now
         packet.entry.now drawn lists.now)) }
 {
-    match taking_door(alloc, config, infos, packet)? {
-        Some(door) => Ok(translation_at(config, number, packet, draws, lists, door)),
+    match taking_door(alloc, family, config, infos, packet)? {
+        Some(door) => Ok(translation_at(family, config, number, packet, draws, lists, door)),
         None => Ok(None),
     }
 }
 
 /// The translation at a door.
 fn translation_at<'a, F: Fn(u64, u32) -> u32>(
+    family: Family,
     config: &Config,
     number: u64,
     packet: &Packet,
@@ -55,10 +56,10 @@ fn translation_at<'a, F: Fn(u64, u32) -> u32>(
 ) -> Option<Translation<'a>>
     requires { IsStated (F.pre draws.now) (F.post draws.now) }
     ensures { (drawn : ℕ → ℕ) → AreDraws (F.post draws.now) number drawn → result
-        ≡ option_map translation_told (spec.translation_at (setting_of V4 config.now)
+        ≡ option_map translation_told (spec.translation_at (setting_of family config.now)
         packet.entry.now drawn lists.now door.entry) }
 {
-    let offer = offer_of(config, packet, &door);
+    let offer = offer_of(family, config, packet, &door);
     match chosen_endpoint(
         config,
         number,

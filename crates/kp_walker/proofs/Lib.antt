@@ -1,4 +1,4 @@
-pub mod BuiltIn
+pub mod OwnTables
 pub mod ReadyMatches
 pub mod SetSteps
 pub mod SkippedSets

@@ -5,7 +5,7 @@ use Rattle.kp_table_defs.specs.Matching.{WalkState}
 use Rattle.kp_table_defs.specs.Walk as walk
 use Rattle.kp_walker.specs.Progress.{state_of}
 use Rattle.kp_walker.specs.Sets.{ChainSets}
-use Rattle.kp_walker.specs.Surroundings.{surroundings_of, lookup_of}
+use Rattle.kp_walker.specs.Surroundings.{surroundings_of, chains_of}
 use Rattle.kp_walker.specs.declared.header.Header.{Header}
 use Rattle.kp_walker.specs.declared.hook.Hook.{Hook}
 use Rattle.kp_walker.specs.declared.flow.Flow.{Flow}
@@ -30,9 +30,9 @@ IsThrough Stuck n path = path ≡ []
 -- what a jump does, with at most so many chains on the way
 abbrev pub jump_of : {F : Type 0} → Hook F → (ℕ → ℕ) → ℕ → List ℕ → WalkState → walk.Outcome
 jump_of h draws depth =
-    walk.chain_outcome (surroundings_of h.around.now draws) (lookup_of h.around.now) h.table depth
+    walk.chain_outcome (surroundings_of h.around.now draws) (chains_of h.around.now) h.table depth
 
 -- what of a jump comes to a set that takes memory
 abbrev pub sets_of : {F : Type 0} → Hook F → (ℕ → ℕ) → ℕ → List ℕ → WalkState → RecentParts → Type 0
 sets_of h draws depth =
-    ChainSets (surroundings_of h.around.now draws) (lookup_of h.around.now) h.table depth
+    ChainSets (surroundings_of h.around.now draws) (chains_of h.around.now) h.table depth

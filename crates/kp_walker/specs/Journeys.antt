@@ -1,5 +1,7 @@
 -- What a packet's journey through the hooks means in the walk.
 use Rattle.std.specs.Prelude.{◌≡◌, ℕ, Bool, false, List, [], None}
+use Rattle.kp_types.specs.declared.chain.TableName.{TableName}
+use Rattle.kp_types.specs.declared.chain.TableName.TheVariants.{Nat, Filter}
 use Rattle.kp_types.specs.declared.packet.Packet.{Packet}
 use Rattle.kp_choice_defs.specs.Recent.{RecentParts}
 use Rattle.kp_table_defs.specs.Walk as walk
@@ -14,6 +16,12 @@ abbrev pub stage_of : Stage → walk.Stage
 stage_of Translating = walk.Translating
 stage_of Filtering = walk.Filtering
 stage_of Masquerading = walk.Masquerading
+
+-- the table of a stage's hooks
+abbrev pub table_of : Stage → TableName
+table_of Translating = Nat
+table_of Filtering = Filter
+table_of Masquerading = Nat
 
 -- the journey, with the trail that its recorder has, and these recent lists
 abbrev pub journey_of : {R : Type 0} → (R → List (List (List ℕ))) → Journey R → RecentParts → walk.Journey

@@ -3,6 +3,8 @@
 use Rattle.std.specs.Prelude.{◌≡◌, ℕ, zero, suc, Bool, true, false, List, [], ◌∷◌, Option, Some, None, ◌⊎◌, codes}
 use Rattle.std.specs.List.{list_any}
 use Rattle.kp_base.specs.Net.{AddressParts}
+use Rattle.kp_types.specs.Packets.{family_of_packet}
+use Rattle.kp_types.specs.Places.{place_in}
 use Rattle.kp_types.specs.declared.chain.TableName.{TableName}
 use Rattle.kp_types.specs.declared.chain.TableName.TheVariants.{Nat, Filter}
 use Rattle.kp_types.specs.declared.chain.ChainAt.{ChainAt}
@@ -132,8 +134,9 @@ JourneySets e at s lists =
     HookSets e at Nat (first_hook e.from) start lists
     ⊎ OnwardSets e at (through e at Translating Nat (first_hook e.from) start) lists
 
--- The walk of a packet comes to a set of its source in a list that lacks it, and these are the recent lists by
--- then: as the walk's tests and sets before it left them.
+-- The walk of a packet in the tables of its family comes to a set of its source in a list that lacks it, and
+-- these are the recent lists by then: as the walk's tests and sets before it left them.
 abbrev pub ComesToSet : (ChainAt → Option (List Rule)) → List AddressParts → Packet → (ℕ → ℕ) → RecentParts → RecentParts → Type 0
 ComesToSet at node_addresses packet draws lists left =
-    JourneySets (surroundings_of node_addresses packet draws) at (initial_state packet lists) left
+    JourneySets (surroundings_of node_addresses packet draws)
+    (λ place. at (place_in (family_of_packet packet) place)) (initial_state packet lists) left

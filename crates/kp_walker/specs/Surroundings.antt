@@ -1,11 +1,12 @@
--- What a walk may ask: chains by their places, the node's addresses, the packet as it came, and the draws.
-use Rattle.std.specs.Prelude.{◌≡◌, ℕ, true, List, Option}
+-- What a walk may ask: chains by their places, the node's addresses, the packet as it came, and
+-- the draws.
+use Rattle.std.specs.Prelude.{ℕ, List, Option}
 use Rattle.std.specs.FinMap.{get}
+use Rattle.kp_types.specs.Packets.{family_of_packet}
+use Rattle.kp_types.specs.Places.{place_in}
 use Rattle.kp_types.specs.declared.chain.ChainAt.{ChainAt}
 use Rattle.kp_types.specs.declared.rule.Rule.{Rule}
 use Rattle.kp_table_defs.specs.Matching as matching
-use Rattle.kp_table_defs.specs.Ranks.{is_ranked, has_built_in_chains}
-use Rattle.kp_table_defs.specs.Rebuild.{Chains}
 use Rattle.kp_table_defs.specs.Walk as walk
 use Rattle.kp_walker.specs.declared.hook.Surroundings.{Surroundings}
 
@@ -14,10 +15,9 @@ abbrev pub surroundings_of : {F : Type 0} → Surroundings F → (ℕ → ℕ) �
 surroundings_of around draws = walk.surroundings_of around.node.now around.packet.now draws
 
 -- the look-up of chains
-abbrev pub lookup_of : {F : Type 0} → Surroundings F → ChainAt → Option (List Rule)
-lookup_of around = get around.chains.now.chains
+abbrev pub chains_of : {F : Type 0} → Surroundings F → ChainAt → Option (List Rule)
+chains_of around = get around.chains.now.chains
 
--- what a walk rests on: each jump goes to a chain of greater rank, and the built-in chains are there
-pub record IsSound (chains : Chains) : Type 0 where
-  pub ranked : is_ranked chains ≡ true
-  pub built_in : has_built_in_chains chains ≡ true
+-- the look-up of chains in the tables of the packet's family
+abbrev pub lookup_of : {F : Type 0} → Surroundings F → ChainAt → Option (List Rule)
+lookup_of around = λ place. chains_of around (place_in (family_of_packet around.packet.now) place)

@@ -8,7 +8,7 @@ ghost use Rattle.kp_walker.specs.Flow.{jump_of, sets_of, outcome_of, IsThrough};
 ghost use Rattle.kp_walker.specs.Progress.{state_of};
 ghost use Rattle.kp_walker.specs.Sets.{RuleSets, RulesSet};
 ghost use Rattle.kp_walker.specs.Shorn.{shorn};
-ghost use Rattle.kp_walker.specs.Surroundings.{surroundings_of, lookup_of};
+ghost use Rattle.kp_walker.specs.Surroundings.{surroundings_of, chains_of};
 
 use crate::flow::Flow;
 use crate::hook::Hook;
@@ -35,7 +35,7 @@ impl<F: Fn(u64, u32) -> u32> Hook<'_, F> {
     ) -> Result<Flow, NoMemory>
         requires stated { IsStated (F.pre self.now.around.now.draws.now)
             (F.post self.now.around.now.draws.now) }
-        requires found { option_copied found ≡ lookup_of self.now.around.now
+        requires found { option_copied found ≡ chains_of self.now.around.now
             (record { table = self.now.table; chain = chain.now }) }
         requires new { R.way recorder.old ≡ [] }
         requires room { depth ≤ 8 }
@@ -181,7 +181,7 @@ impl<F: Fn(u64, u32) -> u32> Hook<'_, F> {
 
     /// The chain of this name, to which a rule jumps.
     fn jumped(&self, next: &NextRule<'_>, chain: &ChainName) -> Option<&Chain>
-        ensures { option_copied result ≡ lookup_of self.now.around.now
+        ensures { option_copied result ≡ chains_of self.now.around.now
             (record { table = self.now.table; chain = chain.now }) }
     {
         let chains = self.around.chains;

@@ -1,14 +1,14 @@
 //! The hooks that a packet meets.
 ghost use Rattle.std.specs.Prelude.{◌≡◌, ◌+◌, ◌<◌, ◌≤◌, true, [], length, OnOk, OnErr};
 ghost use Rattle.kp_base.specs.Net.{is_local_address};
-ghost use Rattle.kp_base.specs.declared.address.Family.TheVariants.{V4};
 ghost use Rattle.kp_choice_defs.specs.Draws.{IsStated, AreDraws};
-ghost use Rattle.kp_table_defs.specs.Ranks.{is_built_in};
-ghost use Rattle.kp_types.specs.Places.{family_of_table};
+ghost use Rattle.kp_types.specs.Packets.{family_of_packet};
+ghost use Rattle.kp_types.specs.Places.{table_in};
+ghost use Rattle.kp_table_defs.specs.Ranks.{is_built_in, is_ranked};
 ghost use Rattle.kp_table_defs.specs.Walk as walk;
-ghost use Rattle.kp_walker.specs.Journeys.{stage_of, journey_of, MovesAs, StopsAs};
+ghost use Rattle.kp_walker.specs.Journeys.{stage_of, table_of, journey_of, MovesAs, StopsAs};
 ghost use Rattle.kp_walker.specs.Sets as sets;
-ghost use Rattle.kp_walker.specs.Surroundings.{surroundings_of, lookup_of, IsSound};
+ghost use Rattle.kp_walker.specs.Surroundings.{surroundings_of, lookup_of};
 
 use crate::hook::{Hook, Surroundings};
 use crate::journey::{Journey, Stage};
@@ -17,7 +17,7 @@ use crate::recorder::Recorder;
 use kp_base::NoMemory;
 use kp_recent::RecentLists;
 use kp_rules::laws::ranked_walks_end;
-use kp_types::{ChainAt, ChainName, Origin, TableName};
+use kp_types::{ChainAt, ChainName, Origin, TableName, Verdict};
 
 /// The most chains on a way.
 const MOST_CHAINS: usize = 8;
@@ -30,7 +30,7 @@ impl<F: Fn(u64, u32) -> u32> Surroundings<'_, F> {
         lists: &mut RecentLists,
     ) -> Result<(), NoMemory>
         requires stated { IsStated (F.pre self.now.draws.now) (F.post self.now.draws.now) }
-        requires sound { IsSound self.now.chains.now.chains }
+        requires ranked { is_ranked self.now.chains.now.chains ≡ true }
         requires way { R.way journey.old.recorder ≡ [] }
         requires room { length (R.trail journey.old.recorder) < 4 }
         ensures hook { OnOk result ((draws : _)
@@ -49,7 +49,7 @@ impl<F: Fn(u64, u32) -> u32> Surroundings<'_, F> {
             ≤ length (R.trail journey.old.recorder) + 1 }
     {
         let hook = first_hook(self.packet.from);
-        self.through(Stage::Translating, TableName::Nat, &hook, journey, lists)
+        self.through(Stage::Translating, &hook, journey, lists)
     }
 
     /// The way after the first hook: through the filter, and out of the node.
@@ -59,7 +59,7 @@ impl<F: Fn(u64, u32) -> u32> Surroundings<'_, F> {
         lists: &mut RecentLists,
     ) -> Result<(), NoMemory>
         requires stated { IsStated (F.pre self.now.draws.now) (F.post self.now.draws.now) }
-        requires sound { IsSound self.now.chains.now.chains }
+        requires ranked { is_ranked self.now.chains.now.chains ≡ true }
         requires way { R.way journey.old.recorder ≡ [] }
         requires room { length (R.trail journey.old.recorder) < 2 }
         ensures way_on { OnOk result ((draws : _)
@@ -86,7 +86,7 @@ impl<F: Fn(u64, u32) -> u32> Surroundings<'_, F> {
         lists: &mut RecentLists,
     ) -> Result<(), NoMemory>
         requires stated { IsStated (F.pre self.now.draws.now) (F.post self.now.draws.now) }
-        requires sound { IsSound self.now.chains.now.chains }
+        requires ranked { is_ranked self.now.chains.now.chains ≡ true }
         requires way { R.way journey.old.recorder ≡ [] }
         requires room { length (R.trail journey.old.recorder) < 4 }
         ensures hook { OnOk result ((draws : _)
@@ -101,7 +101,7 @@ impl<F: Fn(u64, u32) -> u32> Surroundings<'_, F> {
     {
         if leaving {
             let hook = ChainName::new("POSTROUTING");
-            self.through(Stage::Masquerading, TableName::Nat, &hook, journey, lists)
+            self.through(Stage::Masquerading, &hook, journey, lists)
         } else {
             Ok(())
         }
@@ -116,7 +116,7 @@ impl<F: Fn(u64, u32) -> u32> Surroundings<'_, F> {
         lists: &mut RecentLists,
     ) -> Result<(), NoMemory>
         requires stated { IsStated (F.pre self.now.draws.now) (F.post self.now.draws.now) }
-        requires sound { IsSound self.now.chains.now.chains }
+        requires ranked { is_ranked self.now.chains.now.chains ≡ true }
         requires way { R.way journey.old.recorder ≡ [] }
         requires room { length (R.trail journey.old.recorder) < 2 }
         requires for_node { for_node
@@ -136,11 +136,11 @@ impl<F: Fn(u64, u32) -> u32> Surroundings<'_, F> {
         match from {
             Origin::Wire => {
                 let hook = routed_hook(for_node);
-                self.through(Stage::Filtering, TableName::Filter, &hook, journey, lists)
+                self.through(Stage::Filtering, &hook, journey, lists)
             }
             Origin::Node => {
                 let hook = ChainName::new("OUTPUT");
-                self.through(Stage::Filtering, TableName::Filter, &hook, journey, lists)?;
+                self.through(Stage::Filtering, &hook, journey, lists)?;
                 self.come_in(for_node, journey, lists)
             }
         }
@@ -154,7 +154,7 @@ impl<F: Fn(u64, u32) -> u32> Surroundings<'_, F> {
         lists: &mut RecentLists,
     ) -> Result<(), NoMemory>
         requires stated { IsStated (F.pre self.now.draws.now) (F.post self.now.draws.now) }
-        requires sound { IsSound self.now.chains.now.chains }
+        requires ranked { is_ranked self.now.chains.now.chains ≡ true }
         requires way { R.way journey.old.recorder ≡ [] }
         requires room { length (R.trail journey.old.recorder) < 4 }
         ensures hook { OnOk result ((draws : _)
@@ -172,25 +172,24 @@ impl<F: Fn(u64, u32) -> u32> Surroundings<'_, F> {
     {
         if for_node {
             let hook = ChainName::new("INPUT");
-            self.through(Stage::Filtering, TableName::Filter, &hook, journey, lists)
+            self.through(Stage::Filtering, &hook, journey, lists)
         } else {
             Ok(())
         }
     }
 
-    /// A hook, unless something stopped the packet before.
+    /// A hook, unless something stopped the packet before. One whose chain isn't there leaves the
+    /// packet alone.
     fn through<R: Recorder>(
         &self,
         stage: Stage,
-        table: TableName,
         chain: &ChainName,
         journey: &mut Journey<R>,
         lists: &mut RecentLists,
     ) -> Result<(), NoMemory>
         requires stated { IsStated (F.pre self.now.draws.now) (F.post self.now.draws.now) }
-        requires sound { IsSound self.now.chains.now.chains }
-        requires family { family_of_table table ≡ V4 }
-        requires built_in { is_built_in table chain.now ≡ true }
+        requires ranked { is_ranked self.now.chains.now.chains ≡ true }
+        requires built_in { is_built_in (table_of stage) chain.now ≡ true }
         requires way { R.way journey.old.recorder ≡ [] }
         requires room { length (R.trail journey.old.recorder) < 4 }
         ensures hook { OnOk result ((draws : _)
@@ -198,11 +197,12 @@ impl<F: Fn(u64, u32) -> u32> Surroundings<'_, F> {
             → MovesAs R.keeps (journey_of R.trail journey.old lists.old)
             (journey_of R.trail journey.new lists.new)
             (walk.through (surroundings_of self.now draws) (lookup_of self.now) (stage_of stage)
-            table chain.now)) }
+            (table_of stage) chain.now)) }
         ensures refused { OnErr result ((draws : _)
             → AreDraws (F.post self.now.draws.now) self.now.number draws
             → StopsAs R.keeps (journey_of R.trail journey.old lists.old) lists.new
-            (sets.HookSets (surroundings_of self.now draws) (lookup_of self.now) table chain.now)) }
+            (sets.HookSets (surroundings_of self.now draws) (lookup_of self.now)
+            (table_of stage) chain.now)) }
         ensures way { OnOk result (R.way journey.new.recorder ≡ []) }
         ensures room { length (R.trail journey.new.recorder)
             ≤ length (R.trail journey.old.recorder) + 1 }
@@ -211,20 +211,37 @@ impl<F: Fn(u64, u32) -> u32> Surroundings<'_, F> {
         if journey.stopped.is_some() {
             return Ok(());
         }
-        let hook = Hook {
-            around: self,
-            table,
-            header: journey.header,
-        };
         let at = ChainAt {
-            table,
+            table: self.table(stage),
             chain: chain.same(),
         };
         let found = self.chains.walked(&at);
+        if found.is_none() {
+            journey.stopped = Some(Verdict::LeftAlone);
+            return Ok(());
+        }
+        let hook = Hook {
+            around: self,
+            table: at.table,
+            header: journey.header,
+        };
         let (mut progress, recorder) = (journey.progress, &mut journey.recorder);
         let flow = hook.run_chain(found, chain, MOST_CHAINS, &mut progress, lists, recorder)?;
         journey.after_hook(stage, flow, progress);
         Ok(())
+    }
+}
+
+impl<F> Surroundings<'_, F> {
+    /// The table of a stage's hooks, among those of the packet's family as it came.
+    fn table(&self, stage: Stage) -> TableName
+        ensures { result ≡ table_in (family_of_packet self.now.packet.now) (table_of stage) }
+    {
+        let family = self.packet.target.family();
+        match stage {
+            Stage::Translating | Stage::Masquerading => TableName::nat_of(family),
+            Stage::Filtering => TableName::filter_of(family),
+        }
     }
 }
 

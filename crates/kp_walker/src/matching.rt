@@ -144,10 +144,7 @@ impl<F: Fn(u64, u32) -> u32> Hook<'_, F> {
         ensures lists { lists.new ≡ recent.reaped lists.old list.now self.now.header.source
             self.now.around.now.packet.now.now seconds }
     {
-        let (source, now) = (&self.header.source, self.around.packet.now);
-        let is_live = lists.is_live(list, source, now, seconds);
-        lists.reap(list, source, now, seconds);
-        is_live
+        lists.look(list, &self.header.source, self.around.packet.now, seconds)
     }
 }
 

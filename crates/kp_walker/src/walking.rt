@@ -2,7 +2,7 @@
 ghost use Rattle.std.specs.Prelude.{◌≡◌, true, OnOk, OnErr, IfOk};
 ghost use Rattle.std.specs.FinMap.{get};
 ghost use Rattle.kp_choice_defs.specs.Draws.{IsStated, AreDraws};
-ghost use Rattle.kp_table_defs.specs.Ranks.{is_ranked, has_built_in_chains};
+ghost use Rattle.kp_table_defs.specs.Ranks.{is_ranked};
 ghost use Rattle.kp_table_defs.specs.Walk.{walk_of};
 ghost use Rattle.kp_walker.specs.Answers.{answered};
 ghost use Rattle.kp_walker.specs.Sets.{ComesToSet};
@@ -16,8 +16,9 @@ use kp_recent::RecentLists;
 use kp_rules::Table;
 use kp_types::{Answer, Packet, Verdict};
 
-/// Walks a packet of this number through the rules of a table, on the node with these addresses:
-/// what becomes of it, and on which way. Only a set of a source that its recent list lacks takes
+/// Walks a packet of this number through the rules that a table has for its address family, on the
+/// node with these addresses: what becomes of it, and on which way. Where the table has none, the
+/// packet is left alone. Only a set of a source that its recent list lacks takes
 /// memory, and where it gets none the lists stay as they are by then.
 pub fn walk<F: Fn(u64, u32) -> u32>(
     table: &Table,
@@ -28,7 +29,6 @@ pub fn walk<F: Fn(u64, u32) -> u32>(
     lists: &mut RecentLists,
 ) -> Result<Answer, NoMemory>
     requires ranked { is_ranked table.now.chains ≡ true }
-    requires built_in { has_built_in_chains table.now.chains ≡ true }
     requires stated { IsStated (F.pre draws.now) (F.post draws.now) }
     ensures walk { IfOk result (λ answer. (drawn : _) → AreDraws (F.post draws.now) number drawn
         → answered answer lists.new
@@ -60,7 +60,6 @@ pub fn verdict_of<F: Fn(u64, u32) -> u32>(
     lists: &mut RecentLists,
 ) -> Result<Verdict, NoMemory>
     requires ranked { is_ranked table.now.chains ≡ true }
-    requires built_in { has_built_in_chains table.now.chains ≡ true }
     requires stated { IsStated (F.pre draws.now) (F.post draws.now) }
     ensures verdict { IfOk result (λ verdict. (drawn : _) → AreDraws (F.post draws.now) number drawn
         → verdict
@@ -87,12 +86,12 @@ impl<F: Fn(u64, u32) -> u32> Surroundings<'_, F> {
     ghost use Rattle.kp_table_defs.specs.Walk as walk;
     ghost use Rattle.kp_walker.specs.Journeys.{journey_of};
     ghost use Rattle.kp_walker.specs.Shorn.{told};
-    ghost use Rattle.kp_walker.specs.Surroundings.{surroundings_of, lookup_of, IsSound};
+    ghost use Rattle.kp_walker.specs.Surroundings.{surroundings_of, chains_of, lookup_of};
 
     /// The whole way of the packet.
     fn go<R: Recorder>(&self, recorder: R, lists: &mut RecentLists) -> Result<Journey<R>, NoMemory>
         requires stated { IsStated (F.pre self.now.draws.now) (F.post self.now.draws.now) }
-        requires sound { IsSound self.now.chains.now.chains }
+        requires ranked { is_ranked self.now.chains.now.chains ≡ true }
         requires trail { R.trail recorder ≡ [] }
         requires way { R.way recorder ≡ [] }
         ensures way_on { IfOk result (λ j. (drawn : _)
@@ -102,7 +101,7 @@ impl<F: Fn(u64, u32) -> u32> Surroundings<'_, F> {
             (walk.initial_state self.now.packet.now lists.old))) }
         ensures refused { OnErr result ((drawn : _)
             → AreDraws (F.post self.now.draws.now) self.now.number drawn
-            → ComesToSet (lookup_of self.now) self.now.node.now self.now.packet.now drawn
+            → ComesToSet (chains_of self.now) self.now.node.now self.now.packet.now drawn
             lists.old lists.new) }
     {
         let mut journey = Journey::new(self.packet, recorder);

@@ -1,35 +1,43 @@
-use Rattle.std.proofs.Common.{◌≡◌, IfOk, option_map, sym, ap, subst, ◌∙◌}
-use Rattle.kp_base.specs.declared.address.Family.TheVariants.{V4}
-use Rattle.kp_choice_defs.specs.Settings.{setting_of}
-use Rattle.kp_object_defs.specs.PortInfo.{port_infos}
-use Rattle.kp_door_defs.specs.Decision.{decision_by, translation_of}
-use Rattle.kp_decide.specs.Enough.{AreEnough}
-use Rattle.kp_decide.specs.Told.{told, translation_told}
-use Rattle.kp_decide.proofs.Cases.{of_none, of_translation, same_translation}
+use Rattle.std.proofs.Common.{◌≡◌, Bool, sym, ap, ◌∙◌}
+use Rattle.std.proofs.lemmas.Result.{IfOk-weaker}
+use Rattle.kp_types.specs.Setting.{has_tables_of, view_of}
+use Rattle.kp_choice_defs.specs.Settings.{setting_of, settings_of}
+use Rattle.kp_object_defs.specs.PortInfo.{infos_by_family}
+use Rattle.kp_door_defs.specs.Decision.{decision_if, decision_in, decision_of}
+use Rattle.kp_types.specs.declared.decision.Decision.{Decision}
+use Rattle.kp_decide.specs.Told.{told}
 use Rattle.kp_decide.proofs.decision.decide.Goals as goal
 
-pub returns-in-Some : goal.returns-in-Some
-returns-in-Some g c draws are =
-    let setting = setting_of V4 c.args.config.now in
+-- the node has no tables of the packet's family
+pub returns-then-not-has_tables_of : goal.returns-then-not-has_tables_of
+returns-then-not-has_tables_of g c draws are =
+    let settings = settings_of c.args.config.now in
     let packet = c.args.packet.now in
     let lists = c.args.lists.now in
-    let all = port_infos V4 setting.config c.args.objects.now in
-    let some = c.as_slice-infos.result.now in
-    let enough : AreEnough setting.config packet some all = subst (λ is. AreEnough setting.config packet is all) (sym c.as_slice-infos.ensures.value) c.in_ok-infos.ensures in
-    of_translation (λ t. IfOk c.decide_translated.result (λ d. d ≡ told (decision_by setting.config all packet lists t)))
-    (translation_of setting all packet draws lists) c.in-Some.translation
-    (sym c.in-Some.is ∙ c.in_ok-translation.ensures draws are ∙ ap (option_map translation_told) (same_translation setting packet draws lists some all enough))
-    (λ t is. c.decide_translated.ensures t lists is)
+    let family = packet.target.family in
+    let by : Bool → Decision = λ b. told (decision_if b (view_of family settings)
+    (infos_by_family settings c.args.objects.now family) packet draws lists) in
+    c.left_alone.ensures lists
+    ∙ ap by (sym c.if-not-has_tables_of.true ∙ c.has_tables_of.ensures
+    ∙ ap (λ f. has_tables_of f settings) c.family-family.ensures)
 
+-- the node has them
 pub returns : goal.returns
 returns g c draws are =
-    let setting = setting_of V4 c.args.config.now in
+    let config = c.args.config.now in
+    let settings = settings_of config in
+    let o = c.args.objects.now in
     let packet = c.args.packet.now in
     let lists = c.args.lists.now in
-    let all = port_infos V4 setting.config c.args.objects.now in
-    let some = c.as_slice-infos.result.now in
-    let enough : AreEnough setting.config packet some all = subst (λ is. AreEnough setting.config packet is all) (sym c.as_slice-infos.ensures.value) c.in_ok-infos.ensures in
-    of_none (λ t. IfOk c.decide_untranslated.result (λ d. d ≡ told (decision_by setting.config all packet lists t)))
-    (translation_of setting all packet draws lists)
-    (sym c.in-None.is ∙ c.in_ok-translation.ensures draws are ∙ ap (option_map translation_told) (same_translation setting packet draws lists some all enough))
-    (c.decide_untranslated.ensures lists all enough)
+    let family = packet.target.family in
+    let by : Bool → Decision = λ b. told (decision_if b (view_of family settings)
+    (infos_by_family settings o family) packet draws lists) in
+    IfOk-weaker c.decide_in.result
+    (λ d. d ≡ told (decision_in (setting_of c.family-family.result config) o packet draws lists))
+    (λ d. d ≡ told (decision_of settings o packet draws lists))
+    (λ d same. same
+    ∙ ap (λ f. told (decision_in (setting_of f config) o packet draws lists))
+    c.family-family.ensures
+    ∙ ap by (sym c.if-not-has_tables_of.false ∙ c.has_tables_of.ensures
+    ∙ ap (λ f. has_tables_of f settings) c.family-family.ensures))
+    (c.decide_in.ensures draws are)

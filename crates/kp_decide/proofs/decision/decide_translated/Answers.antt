@@ -1,6 +1,5 @@
 use Rattle.std.proofs.Common.{◌≡◌, Option, Some, None, sym, ap, ◌∙◌}
 use Rattle.std.proofs.lemmas.Result.{IfOk-weaker}
-use Rattle.kp_base.specs.declared.address.Family.TheVariants.{V4}
 use Rattle.kp_types.specs.Setting.{config_for}
 use Rattle.kp_object_defs.specs.PortInfo.{port_infos}
 use Rattle.kp_door_defs.specs.Decision.{by_filter, decision_by, refused_by, sent_to}
@@ -11,12 +10,13 @@ use Rattle.kp_decide.proofs.decision.decide_translated.Goals as goal
 
 pub returns-in-Some : goal.returns-in-Some
 returns-in-Some c t lists is =
-    let config = config_for V4 c.args.config.now in
+    let family = c.args.family in
+    let config = config_for family c.args.config.now in
     let packet = c.args.packet.now in
-    let all = port_infos V4 config c.args.objects.now in
+    let all = port_infos family config c.args.objects.now in
     let line = c.in-Some.line in
     let found : Some line ≡ filtered config all (sent_to packet t.chosen.endpoint) =
-    sym c.in-Some.is ∙ c.in_ok-line.ensures
+    sym c.in-Some.is ∙ c.in_ok-line.ensures family
     ∙ ap (λ infos. filtered config infos c.sent_to-sent.result) c.as_slice.ensures.value
     ∙ c.in_ok-infos.ensures.line
     ∙ ap (filtered config all) (c.sent_to-sent.ensures ∙ ap (λ (u : Translation). sent_to packet u.choice.endpoint) is) in
@@ -26,11 +26,12 @@ returns-in-Some c t lists is =
 
 pub returns : goal.returns
 returns c t lists is =
-    let config = config_for V4 c.args.config.now in
+    let family = c.args.family in
+    let config = config_for family c.args.config.now in
     let packet = c.args.packet.now in
-    let all = port_infos V4 config c.args.objects.now in
+    let all = port_infos family config c.args.objects.now in
     let found : None ≡ filtered config all (sent_to packet t.chosen.endpoint) =
-    sym c.in-None.is ∙ c.in_ok-line.ensures
+    sym c.in-None.is ∙ c.in_ok-line.ensures family
     ∙ ap (λ infos. filtered config infos c.sent_to-sent.result) c.as_slice.ensures.value
     ∙ c.in_ok-infos.ensures.line
     ∙ ap (filtered config all) (c.sent_to-sent.ensures ∙ ap (λ (u : Translation). sent_to packet u.choice.endpoint) is) in

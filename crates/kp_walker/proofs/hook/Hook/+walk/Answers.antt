@@ -3,7 +3,7 @@ use Rattle.kp_table_defs.specs.Walk.{rules_outcome, returned_from}
 use Rattle.kp_walker.specs.Flow.{jump_of, sets_of, outcome_of, IsThrough}
 use Rattle.kp_walker.specs.Progress.{state_of}
 use Rattle.kp_walker.specs.Shorn.{shorn}
-use Rattle.kp_walker.specs.Surroundings.{surroundings_of, lookup_of}
+use Rattle.kp_walker.specs.Surroundings.{surroundings_of, chains_of}
 use Rattle.kp_walker.proofs.SetSteps.{on_err, rule_here, rule_behind, chain_sets}
 use Rattle.kp_walker.proofs.Steps.{chain_found, nothing_done, none_left, went_on, went_next, ended_here, shorn_returned}
 use Rattle.kp_walker.proofs.hook.Hook.+walk.Goals as goal
@@ -13,7 +13,7 @@ pub run_chain-returns-in-None-clause-outcome : goal.run_chain-returns-in-None-cl
 run_chain-returns-in-None-clause-outcome g t c draws drawn =
     let h = c.args.self.now in
     ap (shorn g.R.Recorder.keeps)
-    (chain_found (surroundings_of h.around.now draws) (lookup_of h.around.now) h.table c.args.depth (c.args.depth - 1)
+    (chain_found (surroundings_of h.around.now draws) (chains_of h.around.now) h.table c.args.depth (c.args.depth - 1)
     c.args.chain.now (state_of h.header c.args.progress.now c.args.lists.now) None (omega arith)
     (sym (ap option_copied c.in-None.is) ∙ c.requires.found))
 
@@ -22,7 +22,7 @@ pub run_chain-returns-then-is_empty-clause-outcome : goal.run_chain-returns-then
 run_chain-returns-then-is_empty-clause-outcome g t c draws drawn =
     let h = c.args.self.now in
     ap (shorn g.R.Recorder.keeps)
-    (nothing_done (surroundings_of h.around.now draws) (lookup_of h.around.now) h.table c.args.depth (c.args.depth - 1)
+    (nothing_done (surroundings_of h.around.now draws) (chains_of h.around.now) h.table c.args.depth (c.args.depth - 1)
     c.args.chain.now (state_of h.header c.args.progress.now c.args.lists.now) c.in-Some.found.now (omega arith)
     (ap (λ rs. length rs == 0) (sym c.rules.ensures) ∙ sym c.is_empty.ensures ∙ c.if-is_empty.true)
     (sym (ap option_copied c.in-Some.is) ∙ c.requires.found))
@@ -38,7 +38,7 @@ run_chain-returns-in_ok-flow-in-Some-clause-outcome g t c draws drawn =
     c.returned_from.ensures.outcome h.header c.run_rules.new.progress c.run_rules.new.lists
     ∙ ap (λ o. shorn keeps (returned_from c.args.chain.now o)) (c.in_ok-flow-in-Some.ensures.outcome draws drawn)
     ∙ shorn_returned keeps c.args.chain.now (rules_outcome e (jump_of h draws less) c.in-Some.found.now s)
-    ∙ ap (shorn keeps) (chain_found e (lookup_of h.around.now) h.table c.args.depth less c.args.chain.now s
+    ∙ ap (shorn keeps) (chain_found e (chains_of h.around.now) h.table c.args.depth less c.args.chain.now s
     (Some c.in-Some.found.now) (omega arith) (sym (ap option_copied c.in-Some.is) ∙ c.requires.found))
 
 -- the chain's rules come to the set
@@ -48,7 +48,7 @@ run_chain-returns-in_err-flow-in-Some-clause-refused g t c = on_err c.from_resid
     let e = surroundings_of h.around.now draws in
     let s = state_of h.header c.args.progress.now c.args.lists.now in
     let less = c.args.depth - 1 in
-    chain_sets e (lookup_of h.around.now) h.table c.args.depth less c.args.chain.now s c.run_rules.new.lists
+    chain_sets e (chains_of h.around.now) h.table c.args.depth less c.args.chain.now s c.run_rules.new.lists
     (Some c.in-Some.found.now) (omega arith) (sym (ap option_copied c.in-Some.is) ∙ c.requires.found)
     (c.in_err-flow-in-Some.ensures.refused draws drawn))
 
