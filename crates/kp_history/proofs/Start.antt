@@ -1,31 +1,43 @@
 -- Before the first sync.
-use Rattle.std.proofs.Common.{◌≡◌, List, [], ◌++◌, None, sym, ap, ◌∙◌, append-nil}
+use Rattle.std.proofs.Common.{◌≡◌, List, [], ◌∷◌, ◌++◌, flat_map, refl, sym, ap, ◌∙◌, append-nil}
 use Rattle.std.specs.FinMap as finite
-use Rattle.kp_base.specs.declared.address.Family.TheVariants.{V4}
+use Rattle.kp_base.specs.declared.address.Family.{Family}
 use Rattle.kp_base.specs.declared.config.Config.{Config}
 use Rattle.kp_types.specs.Places.{chain_cmp}
-use Rattle.kp_types.specs.Setting.{Setting}
-use Rattle.kp_choice_defs.specs.Names.{first_clash}
-use Rattle.kp_choice_defs.specs.Settings.{setting_of}
+use Rattle.kp_types.specs.Setting.{Settings, table_families, view_of}
+use Rattle.kp_types.specs.declared.chain.ChainAt.{ChainAt}
+use Rattle.kp_types.specs.declared.rule.Rule.{Rule}
+use Rattle.kp_choice_defs.specs.Settings.{settings_of}
 use Rattle.kp_object_defs.specs.Objects.{no_objects}
-use Rattle.kp_object_defs.specs.PortInfo.{PortInfo}
+use Rattle.kp_object_defs.specs.PortInfo.{infos_by_family}
+use Rattle.kp_table_defs.specs.Layout.{filter_rows_with, nat_rows_with, rows_of}
+use Rattle.kp_table_defs.specs.Rebuild.{TableParts, full_table}
+use Rattle.kp_chains.specs.Tables.{fixed_rows, table_with}
 use Rattle.kp_history_laws.proofs.Histories.{no_infos}
-use Rattle.kp_table_defs.specs.Layout.{nat_rows_with, filter_rows_with}
-use Rattle.kp_table_defs.specs.Rebuild.{TableParts, clash_of, full_chains, full_table, needed_keys}
 
--- the full table of no objects is that of no ports
-pub first_chains : (setting : Setting) → (full_table setting no_objects).chains ≡ full_chains setting []
-first_chains setting = ap (full_chains setting) (no_infos setting)
+module _ (settings : Settings) where
+  -- the rows of a family without objects
+  abbrev rows_in : Family → List (ChainAt × List Rule)
+  rows_in family = rows_of (view_of family settings) (infos_by_family settings no_objects family)
 
--- and there is no clash
-pub first_no_clash : (setting : Setting) → clash_of setting no_objects ≡ None
-first_no_clash setting = ap (λ (infos : List PortInfo). first_clash setting.name_of (needed_keys infos)) (no_infos setting)
+  -- they are the fixed ones,
+  fixed_are : (family : Family) → fixed_rows family ≡ rows_in family
+  fixed_are family =
+      ap (λ rows. nat_rows_with family [] [] ++ rows)
+      (sym (append-nil (filter_rows_with family [] [] [])))
+      ∙ sym (ap (rows_of (view_of family settings)) (no_infos (view_of family settings)))
 
--- so it is the table of the fixed chains
+  all_fixed : (families : List Family) → flat_map fixed_rows families ≡ flat_map rows_in families
+  all_fixed [] = refl
+  all_fixed (f ∷ fs) = λ i. fixed_are f i ++ all_fixed fs i
+
+-- so the full table of no objects is that of the fixed chains
 pub first_table : (config : Config)
-    → ◌≡◌ {A = TableParts} (record { chains = finite.from_entries {R = chain_cmp} (nat_rows_with V4 [] [] ++ filter_rows_with V4 [] [] []); syncs = 0 }) (full_table (setting_of V4 config) no_objects)
+    → table_with (flat_map fixed_rows (table_families config))
+    ≡ full_table (settings_of config) no_objects
 first_table config = λ i. record {
-  chains = (ap (λ rows. finite.from_entries {R = chain_cmp} (nat_rows_with V4 [] [] ++ rows)) (sym (append-nil (filter_rows_with V4 [] [] [])))
-      ∙ sym (first_chains (setting_of V4 config))) i;
+  chains =
+      finite.from_entries {R = chain_cmp}
+      (all_fixed (settings_of config) (table_families config) i);
   syncs = 0;
 }

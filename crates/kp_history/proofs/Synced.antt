@@ -15,7 +15,7 @@ use Rattle.kp_table_defs.specs.Rebuild.{TableParts, clash_of, full_table}
 use Rattle.kp_history_defs.specs.History.{IsExactHistory, objects_covered}
 use Rattle.kp_history_laws.specs.HistoryLaws.{all_covered, CoversRest, ExactByRecord}
 use Rattle.kp_history_laws.specs.HistoryLaws.{RecordsHaveCounts, RecordsGrow}
-use Rattle.kp_history.specs.Parts.{PlaneParts, HasExactHistory, setting_in, syncs_in, uncovered_in}
+use Rattle.kp_history.specs.Parts.{PlaneParts, HasExactHistory, settings_in, syncs_in, uncovered_in}
 use Rattle.kp_history.specs.Parts.{objects_in, chains_in, last_edits, batch_after, next_edits}
 use Rattle.kp_history.specs.Parts.{next_chains, synced, records_in, next_record}
 use Rattle.kp_history.specs.Invariant.{IsHistory, LeadsToNext}
@@ -54,8 +54,8 @@ module _ (p : PlaneParts) (h : HasExactHistory p) where
   -- the last edits are then those of this sync
   pub last_is_next : last_edits (synced p) ≡ next_edits p
   last_is_next = λ i.
-      changes_between (full_table (setting_in p) (before_next i)).chains
-      (full_table (setting_in p) (objects_next i)).chains
+      changes_between (full_table (settings_in p) (before_next i)).chains
+      (full_table (settings_in p) (objects_next i)).chains
 
   -- one more sync adds its record to those before it
   pub records_next : RecordsGrow → records_in (synced p) ≡ records_in p ++ next_record p ∷ []
@@ -63,13 +63,13 @@ module _ (p : PlaneParts) (h : HasExactHistory p) where
       let longer = length_push p.counts (uncovered_in p) in
       let last : suc (syncs_in p) ≡ syncs_in (synced p) = omega arith in
       let after = ap (objects_covered p.events (synced p).counts) last ∙ objects_next in
-      grow (setting_in p) p.events p.counts (uncovered_in p)
+      grow (settings_in p) p.events p.counts (uncovered_in p)
       ∙ (λ i. records_in p ++ (record {
         sync = suc (syncs_in p);
         events = get_or-append_seam p.counts (uncovered_in p) [] 0 i;
         batch = record {
-          edits = changes_between (full_table (setting_in p) (objects_before i)).chains
-              (full_table (setting_in p) (after i)).chains;
+          edits = changes_between (full_table (settings_in p) (objects_before i)).chains
+              (full_table (settings_in p) (after i)).chains;
         };
       }) ∷ [])
 
@@ -87,14 +87,16 @@ module _ (p : PlaneParts) (h : HasExactHistory p) where
 
   -- the history goes on
   pub exact_next : ExactByRecord → RecordsHaveCounts → RecordsGrow
-      → clash_of (setting_in p) (objects_after p.events) ≡ None → HasExactHistory (synced p)
+      → clash_of (settings_in p) (objects_after p.events) ≡ None → HasExactHistory (synced p)
   exact_next goes_on counts grow no_clash = record {
-    counted = counts (setting_in p) p.events (synced p).counts;
-    exact = subst (IsExactHistory (setting_in p) p.events) (sym (records_next grow))
-        (goes_on (setting_in p) p.events (records_in p) (next_record p) h.exact covers_rest (record {
+    counted = counts (settings_in p) p.events (synced p).counts;
+    exact = subst (IsExactHistory (settings_in p) p.events) (sym (records_next grow))
+        (goes_on (settings_in p) p.events (records_in p) (next_record p) h.exact covers_rest
+        (record {
           is_numbered = ap (λ (n : ℕ). suc n) (sym as_many);
           has_no_clash = no_clash;
-          is_changes = ap (λ o. changes_between (full_table (setting_in p) o).chains (next_chains p))
+          is_changes =
+              ap (λ o. changes_between (full_table (settings_in p) o).chains (next_chains p))
               (sym same_covered);
         }));
   }
@@ -115,7 +117,8 @@ history_next lead goes_on counted_all grow p before after covered batch is all m
     let made_of : fold chains_after_edit before.table.chains batch.edits ≡ next_chains p =
     (λ i. fold chains_after_edit (is.table i).chains (made.edits i))
     ∙ lead (chains_in p) (next_chains p) in
-    let chains = made_of ∙ ap (λ o. (full_table (setting_in p) o).chains) (sym (objects_next p is.exact)) in
+    let chains = made_of
+    ∙ ap (λ o. (full_table (settings_in p) o).chains) (sym (objects_next p is.exact)) in
     let longer = length_push p.counts (uncovered_in p) in
     let one : min (before.table.syncs + 1) (2 ^ 64 - 1) ≡ syncs_in (synced p) =
     omega (arith, ap (λ (t : TableParts). t.syncs) is.table, longer, ap length counted, few) in
@@ -127,5 +130,5 @@ history_next lead goes_on counted_all grow p before after covered batch is all m
           ∙ ap (λ es. Some (record { edits = es })) (made.edits ∙ sym (last_is_next p is.exact))
           ∙ sym (some_batch p.counts (uncovered_in p) (last_edits (synced p)));
       exact = exact_next p is.exact goes_on counted_all grow made.no_clash;
-      no_clash = ap (clash_of (setting_in p)) (objects_next p is.exact) ∙ made.no_clash;
+      no_clash = ap (clash_of (settings_in p)) (objects_next p is.exact) ∙ made.no_clash;
     }

@@ -3,7 +3,7 @@ use Rattle.std.specs.Prelude.{◌≡◌, sum, None}
 use Rattle.kp_types.specs.declared.rule.Batch.{Batch}
 use Rattle.kp_object_defs.specs.Objects.{objects_after}
 use Rattle.kp_table_defs.specs.Rebuild.{clash_of}
-use Rattle.kp_history.specs.Parts.{PlaneParts, HasExactHistory, setting_in, objects_in}
+use Rattle.kp_history.specs.Parts.{PlaneParts, HasExactHistory, settings_in, objects_in}
 use Rattle.kp_history.specs.Parts.{table_in, last_batch_in, next_edits}
 use Rattle.kp_history.specs.declared.history.History.{History}
 
@@ -15,10 +15,10 @@ pub record IsHistory (p : PlaneParts) (h : History) : Type 0 where
   pub table : h.table ≡ table_in p
   pub last : h.last ≡ last_batch_in p
   pub exact : HasExactHistory p
-  pub no_clash : clash_of (setting_in p) (objects_in p) ≡ None
+  pub no_clash : clash_of (settings_in p) (objects_in p) ≡ None
 
 -- what one more sync keeps: all events' objects have no clash, and the batch has the changes from
 -- the chains that stand to those of their full table
 pub record LeadsToNext (p : PlaneParts) (batch : Batch) : Type 0 where
-  pub no_clash : clash_of (setting_in p) (objects_after p.events) ≡ None
+  pub no_clash : clash_of (settings_in p) (objects_after p.events) ≡ None
   pub edits : batch.edits ≡ next_edits p

@@ -1,8 +1,8 @@
 //! The syncs so far.
-use kp_base::{NoMemory, fits_memory};
+use kp_base::{Config, NoMemory, fits_memory};
 use kp_chains::fixed_chains;
 use kp_rules::Table;
-use kp_types::Batch;
+use kp_types::{Batch, table_families};
 use std::alloc::Global;
 
 /// How many events each sync covers more than the one before it, how many all of them cover, the
@@ -28,21 +28,20 @@ impl Drop for History {
 impl History {
     ghost use Rattle.std.specs.Prelude.{◌≡◌, ◌≤◌, ◌-◌, List, [], length, sum, take, None};
     ghost use Rattle.std.specs.Prelude.{IfOk, OnOk, OnErr};
-    ghost use Rattle.kp_base.specs.declared.config.Config.{Config};
     ghost use Rattle.kp_types.specs.declared.event.Event.{Event};
     ghost use Rattle.kp_history.specs.Invariant.{IsHistory, LeadsToNext};
     ghost use Rattle.kp_history.specs.Parts.{PlaneParts, synced, syncs_in};
 
-    /// Before the first sync.
-    pub fn new(alloc: Global) -> Result<History, NoMemory>
-        ensures { (config : Config) (events : List Event) → IfOk result
-            (IsHistory (record { config = config; events = events; counts = [] })) }
+    /// Before the first sync of a node of this configuration.
+    pub fn new(alloc: Global, config: &Config) -> Result<History, NoMemory>
+        ensures { (events : List Event) → IfOk result
+            (IsHistory (record { config = config.now; events = events; counts = [] })) }
     {
         kp_history_laws::exact_histories();
         Ok(History {
             counts: Vec::new(alloc),
             covered: 0,
-            table: fixed_chains(alloc)?,
+            table: fixed_chains(alloc, table_families(config))?,
             last: None,
         })
     }

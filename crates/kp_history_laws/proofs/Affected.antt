@@ -1,14 +1,15 @@
 -- An event leaves the inputs of each port that it doesn't affect.
-use Rattle.std.proofs.Common.{◌≡◌, Bool, true, false, true≢false, cond, ◌&&◌, ◌||◌, List, [], filter, filter_map, Option, Some, None, option_map, option_and_then, refl, sym, ap, ◌∙◌}
+use Rattle.std.proofs.Common.{◌≡◌, Bool, true, false, true≢false, cond, ◌&&◌, ◌||◌, List, [], filter, filter_map, flat_map, Option, Some, None, option_map, option_and_then, refl, sym, ap, ◌∙◌}
 use Rattle.std.specs.Ordering.{eq_by_cmp}
 use Rattle.std.specs.FinMap as finite
 use Rattle.std.specs.FinMap.{get, get-insert, get-remove}
 use Rattle.std.proofs.lemmas.Bool.{or_parts}
 use Rattle.kp_base.specs.Keys.{key_cmp}
+use Rattle.kp_base.specs.declared.address.Family.{Family}
 use Rattle.kp_base.specs.declared.key.ObjectKey.{ObjectKey}
 use Rattle.kp_base.specs.declared.key.PortKey.{PortKey}
 use Rattle.kp_base.proofs.KeyOrder.{key_total, key_exact, key_ties}
-use Rattle.kp_types.specs.Setting.{Setting}
+use Rattle.kp_types.specs.Setting.{FamilyConfig, Settings, both_families, config_of_family, view_of}
 use Rattle.kp_types.specs.declared.info.ServiceSources.{ServiceSources}
 use Rattle.kp_types.specs.declared.pod.Pod.{Pod}
 use Rattle.kp_types.specs.declared.service.Service.{Service}
@@ -19,7 +20,7 @@ use Rattle.kp_types.specs.declared.event.Event.{Event}
 use Rattle.kp_types.specs.declared.event.Event.TheVariants.{Apply, Delete}
 use Rattle.kp_types.specs.declared.event.Kind.TheVariants as kind
 use Rattle.kp_types.specs.declared.event.Object.TheVariants as object
-use Rattle.kp_object_defs.specs.Desired.{is_reconciled, selects, desired_of, desired_endpoints_of}
+use Rattle.kp_object_defs.specs.Desired.{has_selector, is_reconciled, selects, desired_of, desired_endpoints_of}
 use Rattle.kp_object_defs.specs.Entries.{is_of_service, sources_of, entries_from, slices_of, unmanaged}
 use Rattle.kp_object_defs.specs.Objects.{Objects, objects_step, zone_of}
 use Rattle.kp_object_defs.specs.OwnKeys.{AreUnderOwnKeys}
@@ -36,26 +37,29 @@ use Rattle.kp_history_laws.proofs.Ports.{has_filtered, has_either, no_inputs, in
 use Rattle.kp_history_laws.proofs.Values.{passing, passing_inserted, passing_removed}
 
 -- inputs are the same where the Service is, and where each port of it has the same
-same_by : (setting : Setting) (o p : Objects) (key : PortKey) → get p.services key.object ≡ get o.services key.object
-    → ((s : Service) → get o.services key.object ≡ Some s → (port : ServicePort) → inputs_in setting p s port ≡ inputs_in setting o s port)
-    → inputs_of setting p key ≡ inputs_of setting o key
-same_by setting o p key at each =
-    ap (option_and_then (λ s. option_map (inputs_in setting p s) (port_named key s))) at ∙ service _ refl
+same_by : (settings : Settings) (o p : Objects) (key : PortKey) → get p.services key.object ≡ get o.services key.object
+    → ((s : Service) → get o.services key.object ≡ Some s → (port : ServicePort) → inputs_in settings p s port ≡ inputs_in settings o s port)
+    → inputs_of settings p key ≡ inputs_of settings o key
+same_by settings o p key at each =
+    ap (option_and_then (λ s. option_map (inputs_in settings p s) (port_named key s))) at ∙ service _ refl
   where
-    port : (s : Service) → get o.services key.object ≡ Some s → (found : Option ServicePort) → option_map (inputs_in setting p s) found ≡ option_map (inputs_in setting o s) found
+    port : (s : Service) → get o.services key.object ≡ Some s → (found : Option ServicePort) → option_map (inputs_in settings p s) found ≡ option_map (inputs_in settings o s) found
     port s is None = refl
     port s is (Some q) = ap Some (each s is q)
 
     service : (found : Option Service) → get o.services key.object ≡ found
-        → option_and_then (λ s. option_map (inputs_in setting p s) (port_named key s)) found ≡ option_and_then (λ s. option_map (inputs_in setting o s) (port_named key s)) found
+        → option_and_then (λ s. option_map (inputs_in settings p s) (port_named key s)) found ≡ option_and_then (λ s. option_map (inputs_in settings o s) (port_named key s)) found
     service None is = refl
     service (Some s) is = port s is _
 
--- what a port contributes to the table is told by its inputs
-pub same_rules : (setting : Setting) (o p : Objects) (key : PortKey) → inputs_of setting p key ≡ inputs_of setting o key → rules_at setting p key ≡ rules_at setting o key
-same_rules setting o p key same =
-    ap (option_map (rules_of_port setting))
-    (info_by_inputs setting p key ∙ ap (option_and_then (info_by setting key)) same ∙ sym (info_by_inputs setting o key))
+-- what a port contributes to the tables of a family is told by its inputs
+pub same_rules : (settings : Settings) (family : Family) (o p : Objects) (key : PortKey)
+    → inputs_of settings p key ≡ inputs_of settings o key
+    → rules_at (view_of family settings) p key ≡ rules_at (view_of family settings) o key
+same_rules settings family o p key same =
+    ap (option_map (rules_of_port (view_of family settings)))
+    (info_by_inputs settings family p key ∙ ap (option_and_then (info_by family key)) same
+    ∙ sym (info_by_inputs settings family o key))
 
 -- ---- Services
 
@@ -70,25 +74,30 @@ none_passes service None h = refl
 none_passes service (Some s) h = ap (λ b. cond b (Some s) None) h
 
 -- the sources of a Service's endpoints, by its slices
-sources_by_slices : (setting : Setting) (o : Objects) (s : Service) (slices : finite.FinMap key_cmp Slice) → filter (is_of_service s.key) (finite.values slices) ≡ slices_of o s.key
-    → sources_of setting.family setting.config (record o { slices = slices }) s ≡ sources_of setting.family setting.config o s
-sources_by_slices setting o s slices same =
-    ap (λ (xs : List Slice). cond (is_reconciled setting.config s)
-    (let r : ServiceSources = record { service = s; wanted = desired_endpoints_of setting.family o s; slices = unmanaged xs } in r)
+sources_by_slices : (family : Family) (config : FamilyConfig) (o : Objects) (s : Service)
+    (slices : finite.FinMap key_cmp Slice)
+    → filter (is_of_service s.key) (finite.values slices) ≡ slices_of o s.key
+    → sources_of family config (record o { slices = slices }) s ≡ sources_of family config o s
+sources_by_slices family config o s slices same =
+    ap (λ (xs : List Slice). cond (is_reconciled config s)
+    (let r : ServiceSources =
+    record { service = s; wanted = desired_endpoints_of family o s; slices = unmanaged xs } in r)
     (let r : ServiceSources = record { service = s; wanted = []; slices = xs } in r)) same
 
-slices_stay : (setting : Setting) (o : Objects) (slices : finite.FinMap key_cmp Slice) (key : PortKey) → AreUnderOwnKeys o
+slices_stay : (settings : Settings) (o : Objects) (slices : finite.FinMap key_cmp Slice) (key : PortKey) → AreUnderOwnKeys o
     → filter (is_of_service key.object) (finite.values slices) ≡ filter (is_of_service key.object) (finite.values o.slices)
-    → inputs_of setting (record o { slices = slices }) key ≡ inputs_of setting o key
-slices_stay setting o slices key own same =
-    same_by setting o _ key refl (λ s at port.
+    → inputs_of settings (record o { slices = slices }) key ≡ inputs_of settings o key
+slices_stay settings o slices key own same =
+    same_by settings o _ key refl (λ s at port.
     let named : s.key ≡ key.object = own.services key.object s at in
     let of_s : filter (is_of_service s.key) (finite.values slices) ≡ slices_of o s.key =
     ap (λ k. filter (is_of_service k) (finite.values slices)) named ∙ same ∙ sym (ap (λ k. filter (is_of_service k) (finite.values o.slices)) named) in
     λ i. record {
       service = s;
-      entries = entries_from setting.family setting.config.node (sources_by_slices setting o s slices of_s i) (port_key_of s port);
-      zone = zone_of o setting.config.node;
+      entries = flat_map (λ f. entries_from f settings.config.node
+          (sources_by_slices f (config_of_family f settings.config) o s slices of_s i)
+          (port_key_of s port)) both_families;
+      zone = zone_of o settings.config.node;
     })
 
 -- ---- Pods
@@ -105,81 +114,94 @@ abbrev others : Objects → Service → ServiceSources
 others o s = record { service = s; wanted = []; slices = slices_of o s.key }
 
 -- they are the same where the Service selects the same pods, if the controller makes slices for it
-sources_by_pods : (setting : Setting) (o : Objects) (s : Service) (pods : finite.FinMap key_cmp Pod)
-    → (is_reconciled setting.config s ≡ true → filter (selects s) (finite.values pods) ≡ filter (selects s) (finite.values o.pods))
-    → sources_of setting.family setting.config (record o { pods = pods }) s ≡ sources_of setting.family setting.config o s
-sources_by_pods setting o s pods same = by _ refl
+sources_by_pods : (family : Family) (config : FamilyConfig) (o : Objects) (s : Service)
+    (pods : finite.FinMap key_cmp Pod)
+    → (is_reconciled config s ≡ true
+    → filter (selects s) (finite.values pods) ≡ filter (selects s) (finite.values o.pods))
+    → sources_of family config (record o { pods = pods }) s ≡ sources_of family config o s
+sources_by_pods family config o s pods same = by _ refl
   where
-    by : (b : Bool) → is_reconciled setting.config s ≡ b
-        → cond b (managed o s (desired_endpoints_of setting.family (record o { pods = pods }) s)) (others o s) ≡ cond b (managed o s (desired_endpoints_of setting.family o s)) (others o s)
-    by true is = ap (λ xs. managed o s (filter_map (desired_of setting.family (zone_of o) s) xs)) (same is)
+    by : (b : Bool) → is_reconciled config s ≡ b
+        → cond b (managed o s (desired_endpoints_of family (record o { pods = pods }) s)) (others o s)
+        ≡ cond b (managed o s (desired_endpoints_of family o s)) (others o s)
+    by true is = ap (λ xs. managed o s (filter_map (desired_of family (zone_of o) s) xs)) (same is)
     by false is = refl
 
-pods_stay : (setting : Setting) (o : Objects) (pods : finite.FinMap key_cmp Pod) (key : PortKey)
-    → ((s : Service) → get o.services key.object ≡ Some s → is_reconciled setting.config s ≡ true → filter (selects s) (finite.values pods) ≡ filter (selects s) (finite.values o.pods))
-    → inputs_of setting (record o { pods = pods }) key ≡ inputs_of setting o key
-pods_stay setting o pods key same =
-    same_by setting o _ key refl (λ s at port i. record {
+-- whether the controller makes slices for a Service
+abbrev makes_slices : Settings → Service → Bool
+makes_slices settings s = settings.config.controller && has_selector s
+
+pods_stay : (settings : Settings) (o : Objects) (pods : finite.FinMap key_cmp Pod) (key : PortKey)
+    → ((s : Service) → get o.services key.object ≡ Some s → makes_slices settings s ≡ true
+    → filter (selects s) (finite.values pods) ≡ filter (selects s) (finite.values o.pods))
+    → inputs_of settings (record o { pods = pods }) key ≡ inputs_of settings o key
+pods_stay settings o pods key same =
+    same_by settings o _ key refl (λ s at port i. record {
       service = s;
-      entries = entries_from setting.family setting.config.node (sources_by_pods setting o s pods (same s at) i) (port_key_of s port);
-      zone = zone_of o setting.config.node;
+      entries = flat_map (λ f. entries_from f settings.config.node
+          (sources_by_pods f (config_of_family f settings.config) o s pods (same s at) i)
+          (port_key_of s port)) both_families;
+      zone = zone_of o settings.config.node;
     })
 
 -- a Service that the controller makes slices for selects the pod neither before nor after
-neither : (setting : Setting) (o : Objects) (key : ObjectKey) (before after : Option Pod) → is_pod_of setting.config (get o.services key) before after ≡ false
-    → (s : Service) → get o.services key ≡ Some s → is_reconciled setting.config s ≡ true → (selects_some s before || selects_some s after) ≡ false
-neither setting o key before after h s at is =
-    sym (ap (λ b. b && (selects_some s before || selects_some s after)) is) ∙ sym (ap (λ found. is_pod_of setting.config found before after) at) ∙ h
+neither : (settings : Settings) (o : Objects) (key : ObjectKey) (before after : Option Pod)
+    → is_pod_of settings.config.controller (get o.services key) before after ≡ false
+    → (s : Service) → get o.services key ≡ Some s → makes_slices settings s ≡ true
+    → (selects_some s before || selects_some s after) ≡ false
+neither settings o key before after h s at is =
+    sym (ap (λ b. b && (selects_some s before || selects_some s after)) is) ∙ sym (ap (λ found. is_pod_of settings.config.controller found before after) at) ∙ h
 
 -- ---- Events, one law for each kind of object
 
 pub unaffected_service : UnaffectedService
-unaffected_service setting o (Apply (object.Service s)) key own h =
-    same_by setting o _ key
+unaffected_service settings o (Apply (object.Service s)) key own h =
+    same_by settings o _ key
     (get-insert key_total o.services s.key s key.object ∙ ap (λ b. cond b (Some s) (get o.services key.object)) (other_key key.object s.key h)) (λ t at port. refl)
-unaffected_service setting o (Delete kind.Service k) key own h =
-    same_by setting o _ key
+unaffected_service settings o (Delete kind.Service k) key own h =
+    same_by settings o _ key
     (get-remove key_total o.services k key.object ∙ ap (λ b. cond b None (get o.services key.object)) (other_key key.object k h)) (λ t at port. refl)
-unaffected_service setting o (Apply (object.EndpointSlice s)) key own h =
+unaffected_service settings o (Apply (object.EndpointSlice s)) key own h =
     let parts = or_parts _ _ h in
-    slices_stay setting o _ key own
+    slices_stay settings o _ key own
     (passing_inserted key_total key_exact _ o.slices s.key s (none_passes key.object _ parts.0) parts.1)
-unaffected_service setting o (Delete kind.EndpointSlice k) key own h =
-    slices_stay setting o _ key own
+unaffected_service settings o (Delete kind.EndpointSlice k) key own h =
+    slices_stay settings o _ key own
     (passing_removed key_total key_exact _ o.slices k (none_passes key.object _ h))
-unaffected_service setting o (Apply (object.Pod p)) key own h =
-    pods_stay setting o _ key (λ s at is.
-    let parts = or_parts _ _ (neither setting o key.object _ _ h s at is) in
+unaffected_service settings o (Apply (object.Pod p)) key own h =
+    pods_stay settings o _ key (λ s at is.
+    let parts = or_parts _ _ (neither settings o key.object _ _ h s at is) in
     passing_inserted key_total key_exact _ o.pods p.key p (none_selected s _ parts.0) parts.1)
-unaffected_service setting o (Delete kind.Pod k) key own h =
-    pods_stay setting o _ key (λ s at is.
-    let parts = or_parts _ false (neither setting o key.object _ None h s at is) in
+unaffected_service settings o (Delete kind.Pod k) key own h =
+    pods_stay settings o _ key (λ s at is.
+    let parts = or_parts _ false (neither settings o key.object _ None h s at is) in
     passing_removed key_total key_exact _ o.pods k (none_selected s _ parts.0))
-unaffected_service setting o (Apply (object.Node n)) key own h = absurd (true≢false h)
-unaffected_service setting o (Delete kind.Node k) key own h = absurd (true≢false h)
+unaffected_service settings o (Apply (object.Node n)) key own h = absurd (true≢false h)
+unaffected_service settings o (Delete kind.Node k) key own h = absurd (true≢false h)
 
 -- ---- Ports
 
 -- a port that an event doesn't affect is of another Service, or there is none of this name before and after
-module _ (setting : Setting) (o : Objects) (event : Event) (key : PortKey) where
-  no_port : has_port (affected_ports setting o event) key ≡ false → affects setting o event key.object ≡ true
+module _ (settings : Settings) (o : Objects) (event : Event) (key : PortKey) where
+  no_port : has_port (affected_ports settings o event) key ≡ false → affects settings o event key.object ≡ true
       → (has_port (port_keys o) key || has_port (port_keys (objects_step o event)) key) ≡ false
   no_port h is =
       sym (has_either o (objects_step o event) key)
       ∙ sym (ap (λ b. b && has_port (ports_of_either o (objects_step o event)) key) is)
-      ∙ sym (has_filtered (λ k. affects setting o event k.object) _ key) ∙ h
+      ∙ sym (has_filtered (λ k. affects settings o event k.object) _ key) ∙ h
 
-  unaffected_by : AreUnderOwnKeys o → AreUnderOwnKeys (objects_step o event) → has_port (affected_ports setting o event) key ≡ false
-      → (b : Bool) → affects setting o event key.object ≡ b → inputs_of setting (objects_step o event) key ≡ inputs_of setting o key
+  unaffected_by : AreUnderOwnKeys o → AreUnderOwnKeys (objects_step o event) → has_port (affected_ports settings o event) key ≡ false
+      → (b : Bool) → affects settings o event key.object ≡ b → inputs_of settings (objects_step o event) key ≡ inputs_of settings o key
   unaffected_by own own_after h true is =
       let parts = or_parts _ _ (no_port h is) in
-      no_inputs setting _ own_after key parts.1 ∙ sym (no_inputs setting o own key parts.0)
-  unaffected_by own own_after h false is = unaffected_service setting o event key own is
+      no_inputs _ own_after key settings parts.1 ∙ sym (no_inputs o own key settings parts.0)
+  unaffected_by own own_after h false is = unaffected_service settings o event key own is
 
 module _ (own_after : OwnKeysAfterEvent) where
   pub unaffected_inputs : UnaffectedInputs
-  unaffected_inputs setting o event key own h =
-      unaffected_by setting o event key own (own_after o event own) h _ refl
+  unaffected_inputs settings o event key own h =
+      unaffected_by settings o event key own (own_after o event own) h _ refl
 
   pub unaffected_rules : UnaffectedRules
-  unaffected_rules setting o event key own h = same_rules setting o _ key (unaffected_inputs setting o event key own h)
+  unaffected_rules family settings o event key own h =
+      same_rules settings family o _ key (unaffected_inputs settings o event key own h)

@@ -14,7 +14,7 @@ use Rattle.kp_lemmas.proofs.Members.{none_pass}
 use Rattle.kp_base.specs.Keys.{port_key_cmp}
 use Rattle.kp_base.specs.declared.key.PortKey.{PortKey}
 use Rattle.kp_base.proofs.KeyOrder.{port_key_total}
-use Rattle.kp_types.specs.Setting.{Setting}
+use Rattle.kp_types.specs.Setting.{Settings}
 use Rattle.kp_types.specs.contracts.lists.CandidateEq.TheImpl.Laws as candidate_laws
 use Rattle.kp_types.specs.contracts.lists.CandidatePartialEq.TheImpl as same_candidate
 use Rattle.kp_types.specs.contracts.service.ServiceEq.TheImpl.Laws as service_laws
@@ -51,20 +51,20 @@ inputs_exact a b h =
       zone = options_same bytes_eq (λ x y e. (bytes_eq-Decides x y).0 e) a.zone b.zone rest.1 i;
     }
 
-module _ (setting : Setting) (before after : Objects) (own : AreUnderOwnKeys before) (own_after : AreUnderOwnKeys after) (key : PortKey) where
-  unchanged_by : has_port (changed_ports setting before after) key ≡ false → (b : Bool) → has_port (ports_of_either before after) key ≡ b → inputs_of setting after key ≡ inputs_of setting before key
+module _ (settings : Settings) (before after : Objects) (own : AreUnderOwnKeys before) (own_after : AreUnderOwnKeys after) (key : PortKey) where
+  unchanged_by : has_port (changed_ports settings before after) key ≡ false → (b : Bool) → has_port (ports_of_either before after) key ≡ b → inputs_of settings after key ≡ inputs_of settings before key
   unchanged_by h true is =
-      let kept : not (keeps_inputs setting before after key) ≡ false = sym (and-true _)
-      ∙ sym (ap (λ b. not (keeps_inputs setting before after key) && b) is)
-      ∙ sym (has_filtered (λ k. not (keeps_inputs setting before after k)) _ key) ∙ h in
-      sym (options_same same_inputs inputs_exact (inputs_of setting before key) (inputs_of setting after key) (sym (not-not _) ∙ ap not kept))
+      let kept : not (keeps_inputs settings before after key) ≡ false = sym (and-true _)
+      ∙ sym (ap (λ b. not (keeps_inputs settings before after key) && b) is)
+      ∙ sym (has_filtered (λ k. not (keeps_inputs settings before after k)) _ key) ∙ h in
+      sym (options_same same_inputs inputs_exact (inputs_of settings before key) (inputs_of settings after key) (sym (not-not _) ∙ ap not kept))
   unchanged_by h false is =
       let parts = or_parts _ _ (sym (has_either before after key) ∙ is) in
-      no_inputs setting after own_after key parts.1 ∙ sym (no_inputs setting before own key parts.0)
+      no_inputs after own_after key settings parts.1 ∙ sym (no_inputs before own key settings parts.0)
 
 pub unchanged_inputs : UnchangedInputs
-unchanged_inputs setting before after key own own_after h =
-    unchanged_by setting before after own own_after key h _ refl
+unchanged_inputs settings before after key own own_after h =
+    unchanged_by settings before after own own_after key h _ refl
 
 -- ---- Inputs are the same as themselves
 
@@ -78,27 +78,27 @@ inputs_itself inputs =
     ((lists_equiv candidate_laws.laws-law).refl inputs.entries) (option_itself bytes_eq nat_list_eq_equiv.refl inputs.zone))
 
 -- a port with the same inputs keeps them
-kept_by : (setting : Setting) (before after : Objects) (key : PortKey) → inputs_of setting after key ≡ inputs_of setting before key → keeps_inputs setting before after key ≡ true
-kept_by setting before after key same =
-    ap (same_option same_inputs (inputs_of setting before key)) same ∙ option_itself same_inputs inputs_itself (inputs_of setting before key)
+kept_by : (settings : Settings) (before after : Objects) (key : PortKey) → inputs_of settings after key ≡ inputs_of settings before key → keeps_inputs settings before after key ≡ true
+kept_by settings before after key same =
+    ap (same_option same_inputs (inputs_of settings before key)) same ∙ option_itself same_inputs inputs_itself (inputs_of settings before key)
 
 pub changed_inputs : ChangedInputs
-changed_inputs setting before after key has same =
-    let parts = and_parts (not (keeps_inputs setting before after key)) (has_port (ports_of_either before after) key)
-    (sym (has_filtered (λ k. not (keeps_inputs setting before after k)) _ key) ∙ has) in
-    true≢false (sym parts.0 ∙ ap not (kept_by setting before after key same))
+changed_inputs settings before after key has same =
+    let parts = and_parts (not (keeps_inputs settings before after key)) (has_port (ports_of_either before after) key)
+    (sym (has_filtered (λ k. not (keeps_inputs settings before after k)) _ key) ∙ has) in
+    true≢false (sym parts.0 ∙ ap not (kept_by settings before after key same))
 
 -- ---- What the lists hold
 
 pub none_changed : NoneChanged
-none_changed setting o = none_pass (λ key. not (keeps_inputs setting o o key)) (λ key. ap not (kept_by setting o o key refl)) _
+none_changed settings o = none_pass (λ key. not (keeps_inputs settings o o key)) (λ key. ap not (kept_by settings o o key refl)) _
 
 pub affected_hold_changed : UnaffectedInputs → AffectedHoldChanged
-affected_hold_changed unaffected setting o event key own changed = by _ refl
+affected_hold_changed unaffected settings o event key own changed = by _ refl
   where
-    by : (b : Bool) → has_port (affected_ports setting o event) key ≡ b → b ≡ true
+    by : (b : Bool) → has_port (affected_ports settings o event) key ≡ b → b ≡ true
     by true is = refl
-    by false is = absurd (changed_inputs setting o (objects_step o event) key changed (unaffected setting o event key own is))
+    by false is = absurd (changed_inputs settings o (objects_step o event) key changed (unaffected settings o event key own is))
 
 -- ---- In order
 
@@ -133,7 +133,7 @@ either_rise before after =
     distinct_rise (flat_map port_keys_of (values _) ++ flat_map port_keys_of (values _))
 
 pub changed_in_order : ChangedInOrder
-changed_in_order setting before after = rises_filter port_key_cmp (λ key. not (keeps_inputs setting before after key)) _ (either_rise before after)
+changed_in_order settings before after = rises_filter port_key_cmp (λ key. not (keeps_inputs settings before after key)) _ (either_rise before after)
 
 pub affected_in_order : AffectedInOrder
-affected_in_order setting o event = rises_filter port_key_cmp (λ key. affects setting o event key.object) _ (either_rise o (objects_step o event))
+affected_in_order settings o event = rises_filter port_key_cmp (λ key. affects settings o event key.object) _ (either_rise o (objects_step o event))

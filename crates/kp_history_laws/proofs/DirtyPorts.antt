@@ -17,11 +17,12 @@ use Rattle.kp_base.specs.contracts.address.AddressEq.TheImpl.Laws as address_law
 use Rattle.kp_base.specs.contracts.key.EndpointEq.TheImpl.Laws as endpoint_laws
 use Rattle.kp_base.specs.contracts.key.PortKeyEq.TheImpl.Laws as key_laws
 use Rattle.kp_base.specs.contracts.range.CidrEq.TheImpl.Laws as range_laws
+use Rattle.kp_base.specs.declared.address.Family.{Family}
 use Rattle.kp_base.specs.declared.key.PortKey.{PortKey}
 use Rattle.kp_base.proofs.KeyOrder.{port_key_exact, port_key_ties}
 use Rattle.kp_base.proofs.SameParts.{address_test_exact, bool_exact, endpoint_test_exact}
 use Rattle.kp_base.proofs.SameParts.{range_test_exact}
-use Rattle.kp_types.specs.Setting.{Setting}
+use Rattle.kp_types.specs.Setting.{Setting, Settings, view_of}
 use Rattle.kp_types.specs.contracts.service.PolicyEq.TheImpl.Laws as policy_laws
 use Rattle.kp_types.specs.contracts.service.PolicyPartialEq.TheImpl as policy_eq
 use Rattle.kp_types.specs.declared.lists.Lists.{Lists}
@@ -39,7 +40,7 @@ use Rattle.kp_history_laws.specs.DirtyLaws.{DirtyAreChanged, NoneDirty, DirtyInO
 use Rattle.kp_history_laws.specs.EventLaws.{has_port}
 use Rattle.kp_history_laws.specs.PortLaws.{UnchangedInputs}
 use Rattle.kp_history_laws.proofs.Changed.{rises_filter, either_rise}
-use Rattle.kp_history_laws.proofs.Ports.{has_filtered, has_either, no_inputs}
+use Rattle.kp_history_laws.proofs.Ports.{has_filtered, has_either, no_info}
 use Rattle.kp_history_laws.proofs.Ports.{info_by, info_by_inputs}
 
 -- ---- The same is known of equal ports alone
@@ -135,13 +136,13 @@ dirty_infos setting before after key has same =
     (sym (has_filtered (λ k. not (keeps_info setting before after k)) _ key) ∙ has) in
     true≢false (sym parts.0 ∙ ap not (kept_by setting before after key same))
 
--- where the inputs are the same, so is what is known
-same_known : (setting : Setting) (before after : Objects) (key : PortKey)
-    → inputs_of setting after key ≡ inputs_of setting before key
-    → AreKnownAlike setting before after key
-same_known setting before after key same =
-    info_by_inputs setting after key ∙ ap (option_and_then (info_by setting key)) same
-    ∙ sym (info_by_inputs setting before key)
+-- where the inputs are the same, so is what is known in each family
+same_known : (settings : Settings) (family : Family) (before after : Objects) (key : PortKey)
+    → inputs_of settings after key ≡ inputs_of settings before key
+    → AreKnownAlike (view_of family settings) before after key
+same_known settings family before after key same =
+    info_by_inputs settings family after key ∙ ap (option_and_then (info_by family key)) same
+    ∙ sym (info_by_inputs settings family before key)
 
 module _ (setting : Setting) (before after : Objects) (own : AreUnderOwnKeys before)
     (own_after : AreUnderOwnKeys after) (key : PortKey) where
@@ -156,22 +157,22 @@ module _ (setting : Setting) (before after : Objects) (own : AreUnderOwnKeys bef
       (info_at setting.family setting.config after key) (sym (not-not _) ∙ ap not kept))
   clean_by h false is =
       let parts = or_parts _ _ (sym (has_either before after key) ∙ is) in
-      same_known setting before after key
-      (no_inputs setting after own_after key parts.1
-      ∙ sym (no_inputs setting before own key parts.0))
+      no_info after own_after key setting.family setting.config parts.1
+      ∙ sym (no_info before own key setting.family setting.config parts.0)
 
 pub clean_infos : CleanInfos
 clean_infos setting before after key own own_after h =
     clean_by setting before after own own_after key h _ refl
 
 pub dirty_are_changed : UnchangedInputs → DirtyAreChanged
-dirty_are_changed unchanged setting before after key own own_after dirty = by _ refl
+dirty_are_changed unchanged settings family before after key own own_after dirty = by _ refl
   where
-    by : (b : Bool) → has_port (changed_ports setting before after) key ≡ b → b ≡ true
+    by : (b : Bool) → has_port (changed_ports settings before after) key ≡ b → b ≡ true
     by true is = refl
     by false is =
-        absurd (dirty_infos setting before after key dirty
-        (same_known setting before after key (unchanged setting before after key own own_after is)))
+        absurd (dirty_infos (view_of family settings) before after key dirty
+        (same_known settings family before after key
+        (unchanged settings before after key own own_after is)))
 
 pub none_dirty : NoneDirty
 none_dirty setting o =

@@ -1,21 +1,24 @@
 -- Exact histories: how they grow.
-use Rattle.std.proofs.Common.{◌≡◌, ℕ, zero, suc, ◌≤◌, List, [], ◌∷◌, ◌++◌, map, take, length, sum, Some, refl, sym, ap, subst, ◌∙◌, arith, inl, inr, ◌⊎◌}
-use Rattle.std.specs.List.{slice_get}
+use Rattle.std.proofs.Common.{◌≡◌, ℕ, zero, suc, ◌≤◌, List, [], ◌∷◌, ◌++◌, map, take, length, sum, Some, None, refl, sym, ap, subst, ◌∙◌, arith, inl, inr, ◌⊎◌}
+use Rattle.std.specs.List.{slice_get, filter_map, cons_option}
 use Rattle.std.specs.FinMap as finite
 use Rattle.std.proofs.lemmas.List.{take_all, take-append-le, length-append, length-map, length_push, map_push}
 use Rattle.std.proofs.lemmas.List.Sums.{sum_by_push, sum_by-take-le}
 use Rattle.std.proofs.lemmas.Option.{same_Some, slice_get_within}
 use Rattle.kp_lemmas.proofs.Entries.{empty_entries}
 use Rattle.kp_base.specs.Keys.{key_cmp}
+use Rattle.kp_base.specs.declared.address.Family.{Family}
 use Rattle.kp_base.specs.declared.key.ObjectKey.{ObjectKey}
-use Rattle.kp_types.specs.Setting.{Setting}
+use Rattle.kp_types.specs.Setting.{Setting, Settings, view_of}
+use Rattle.kp_types.specs.declared.chain.Clash.{Clash}
 use Rattle.kp_types.specs.declared.event.Event.{Event}
 use Rattle.kp_types.specs.declared.service.Service.{Service}
 use Rattle.kp_types.specs.declared.sync.SyncRecord.{SyncRecord}
 use Rattle.kp_object_defs.specs.Objects.{Objects, no_objects, objects_after, zone_of}
 use Rattle.kp_object_defs.specs.Entries.{sources_of}
-use Rattle.kp_object_defs.specs.PortInfo.{port_infos, infos_from}
+use Rattle.kp_object_defs.specs.PortInfo.{port_infos, infos_by_family, infos_from}
 use Rattle.kp_table_defs.specs.Parts.{rules_by_port, rules_of_objects}
+use Rattle.kp_table_defs.specs.Rebuild.{clash_among, clash_of}
 use Rattle.kp_history_defs.specs.History.{counts_of, objects_covered, IsExactRecord, IsExactHistory}
 use Rattle.kp_history_laws.specs.HistoryLaws.{all_covered, CoversRest, ExactWithoutRecords, ExactByEvents, ExactByRecord, CoveredStays, CoveredByRecord}
 
@@ -28,6 +31,19 @@ no_infos setting =
 
 pub no_rules : (setting : Setting) → rules_of_objects setting no_objects ≡ finite.empty
 no_rules setting = ap (rules_by_port setting) (no_infos setting)
+
+module _ (settings : Settings) where
+  -- no family has a clash
+  none_clash : (families : List Family)
+      → filter_map (λ f. clash_among (view_of f settings) (infos_by_family settings no_objects f))
+      families ≡ []
+  none_clash [] = refl
+  none_clash (f ∷ fs) = λ i.
+      cons_option (clash_among (view_of f settings) (no_infos (view_of f settings) i)) (none_clash fs i)
+
+  pub first_no_clash : clash_of settings no_objects ≡ None
+  first_no_clash =
+      ap (λ (clashes : List Clash). slice_get clashes 0) (none_clash settings.families)
 
 -- ---- One more record
 
@@ -80,35 +96,35 @@ covered_by_record events records r rest = covers_all events records r rest _ (om
 -- ---- Exact histories
 
 pub exact_without_records : ExactWithoutRecords
-exact_without_records setting events = record { within = omega arith; each = λ n r h. absurd (cc) }
+exact_without_records settings events = record { within = omega arith; each = λ n r h. absurd (cc) }
 
 -- an exact record between the same objects
-same_record : (setting : Setting) (a b c d : Objects) (n : ℕ) (r : SyncRecord) → a ≡ c → b ≡ d → IsExactRecord setting c d n r → IsExactRecord setting a b n r
-same_record setting a b c d n r p q h = subst (λ o. IsExactRecord setting o b n r) (sym p) (subst (λ o. IsExactRecord setting c o n r) (sym q) h)
+same_record : (settings : Settings) (a b c d : Objects) (n : ℕ) (r : SyncRecord) → a ≡ c → b ≡ d → IsExactRecord settings c d n r → IsExactRecord settings a b n r
+same_record settings a b c d n r p q h = subst (λ o. IsExactRecord settings o b n r) (sym p) (subst (λ o. IsExactRecord settings c o n r) (sym q) h)
 
 pub exact_by_events : ExactByEvents
-exact_by_events setting events more records h = record {
+exact_by_events settings events more records h = record {
   within = let longer = length-append events more in let le = h.within in omega arith;
   each = λ n r found.
-      same_record setting _ _ _ _ (suc n) r (with_events events more records h.within n) (with_events events more records h.within (suc n)) (h.each n r found);
+      same_record settings _ _ _ _ (suc n) r (with_events events more records h.within n) (with_events events more records h.within (suc n)) (h.each n r found);
 }
 
 pub covered_stays : CoveredStays
-covered_stays setting events more records h = with_events events more records h.within _
+covered_stays settings events more records h = with_events events more records h.within _
 
-module _ (setting : Setting) (events : List Event) (records : List SyncRecord) (r : SyncRecord) (h : IsExactHistory setting events records) (rest : CoversRest events records r)
-    (last : IsExactRecord setting (all_covered events records) (objects_after events) (suc (length records)) r) where
+module _ (settings : Settings) (events : List Event) (records : List SyncRecord) (r : SyncRecord) (h : IsExactHistory settings events records) (rest : CoversRest events records r)
+    (last : IsExactRecord settings (all_covered events records) (objects_after events) (suc (length records)) r) where
   extended_each : (n : ℕ) (q : SyncRecord) → slice_get (records ++ r ∷ []) n ≡ Some q
-      → IsExactRecord setting (objects_covered events (counts_of (records ++ r ∷ [])) n) (objects_covered events (counts_of (records ++ r ∷ [])) (suc n)) (suc n) q
+      → IsExactRecord settings (objects_covered events (counts_of (records ++ r ∷ [])) n) (objects_covered events (counts_of (records ++ r ∷ [])) (suc n)) (suc n) q
   extended_each n q found =
       elim (last_or records r n q found) [
         | inl before ↦
             let inside = slice_get_within records n q before in
-            same_record setting _ _ _ _ (suc n) q (with_record events records r n (omega arith)) (with_record events records r (suc n) (omega arith)) (h.each n q before)
+            same_record settings _ _ _ _ (suc n) q (with_record events records r n (omega arith)) (with_record events records r (suc n) (omega arith)) (h.each n q before)
         | inr (at, is) ↦
-            subst (IsExactRecord setting _ _ (suc n)) is
-            (subst (λ (m : ℕ). IsExactRecord setting (objects_covered events (counts_of (records ++ r ∷ [])) m) (objects_covered events (counts_of (records ++ r ∷ [])) (suc m)) (suc m) r) (sym at)
-            (same_record setting _ _ _ _ _ r (with_record events records r _ (omega arith))
+            subst (IsExactRecord settings _ _ (suc n)) is
+            (subst (λ (m : ℕ). IsExactRecord settings (objects_covered events (counts_of (records ++ r ∷ [])) m) (objects_covered events (counts_of (records ++ r ∷ [])) (suc m)) (suc m) r) (sym at)
+            (same_record settings _ _ _ _ _ r (with_record events records r _ (omega arith))
             (covers_all events records r rest _ at_end) last))
       ]
     where
@@ -116,7 +132,7 @@ module _ (setting : Setting) (events : List Event) (records : List SyncRecord) (
       at_end = let push = length_push records r in omega arith
 
 pub exact_by_record : ExactByRecord
-exact_by_record setting events records r h rest last = record {
+exact_by_record settings events records r h rest last = record {
   within = let all = all_counted events records r rest in omega arith;
-  each = extended_each setting events records r h rest last;
+  each = extended_each settings events records r h rest last;
 }

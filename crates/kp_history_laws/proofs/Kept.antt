@@ -1,5 +1,5 @@
 -- Contributions of ports that are kept, where some are made anew.
-use Rattle.std.proofs.Common.{◌≡◌, Bool, true, false, cond, ◌||◌, List, [], ◌∷◌, map, filter_map, Option, Some, None, option_map, option_and_then, refl, sym, ap, ◌∙◌}
+use Rattle.std.proofs.Common.{◌≡◌, Bool, true, false, cond, ◌||◌, List, [], ◌∷◌, map, filter_map, Option, Some, None, option_map, refl, sym, ap, ◌∙◌}
 use Rattle.std.specs.List.{fold, cons_option}
 use Rattle.std.specs.Ordering.{eq_by_cmp}
 use Rattle.std.specs.FinMap.{find, get, get-insert, get-remove, get-from_entries, same_map}
@@ -7,9 +7,8 @@ use Rattle.kp_lemmas.proofs.Orders.{one_from_tie}
 use Rattle.kp_base.specs.Keys.{port_key_cmp}
 use Rattle.kp_base.specs.declared.key.PortKey.{PortKey}
 use Rattle.kp_base.proofs.KeyOrder.{port_key_total, port_key_exact}
-use Rattle.kp_types.specs.Setting.{Setting}
-use Rattle.kp_object_defs.specs.Objects.{Objects, objects_step}
-use Rattle.kp_object_defs.specs.OwnKeys.{AreUnderOwnKeys}
+use Rattle.kp_types.specs.Setting.{view_of}
+use Rattle.kp_object_defs.specs.Objects.{objects_step}
 use Rattle.kp_object_defs.specs.PortInfo.{PortInfo, port_infos}
 use Rattle.kp_object_defs.specs.PortByKey.{port_keys, info_at}
 use Rattle.kp_object_laws.specs.ObjectLaws.{OwnKeysAfterEvent}
@@ -23,7 +22,7 @@ use Rattle.kp_history_laws.specs.EventLaws.{has_port, UnaffectedRules}
 use Rattle.kp_history_laws.specs.KeptLaws.{RulesByName, EnoughByRules, AffectedAreEnough, ChangedAreEnough}
 use Rattle.kp_history_laws.proofs.Affected.{same_rules}
 use Rattle.kp_history_laws.proofs.Changed.{unchanged_inputs}
-use Rattle.kp_history_laws.proofs.Ports.{no_inputs, info_by, info_by_inputs}
+use Rattle.kp_history_laws.proofs.Ports.{no_info}
 
 -- ---- What is found among the contributions of objects
 
@@ -55,14 +54,6 @@ module _ {X Y : Type 0} (g : PortKey → Option X) (name : X → PortKey) (named
   found q [] = refl
   found q (k ∷ ks) = found_by q k ks (found q ks) (g k) refl _ refl
 
--- of a port that isn't among the ports of the objects nothing is known
-no_info : (setting : Setting) (o : Objects) (key : PortKey) → AreUnderOwnKeys o
-    → has_port (port_keys o) key ≡ false
-    → info_at setting.family setting.config o key ≡ None
-no_info setting o key own none =
-    info_by_inputs setting o key
-    ∙ ap (option_and_then (info_by setting key)) (no_inputs setting o own key none)
-
 module _ (has_key : InfoHasKey) (by_keys : InfosByKeys) where
   pub rules_by_name : RulesByName
   rules_by_name setting o key own =
@@ -73,7 +64,7 @@ module _ (has_key : InfoHasKey) (by_keys : InfosByKeys) where
     where
       by : (b : Bool) → has_port (port_keys o) key ≡ b → cond b (rules_at setting o key) None ≡ rules_at setting o key
       by true is = refl
-      by false is = sym (ap (option_map (rules_of_port setting)) (no_info setting o key own is))
+      by false is = sym (ap (option_map (rules_of_port setting)) (no_info o own key setting.family setting.config is))
 
   pub infos_by_name : InfosByName
   infos_by_name setting o key own =
@@ -90,7 +81,7 @@ module _ (has_key : InfoHasKey) (by_keys : InfosByKeys) where
           → cond b (option_map (λ i. i) (info_at setting.family setting.config o key)) None
           ≡ info_at setting.family setting.config o key
       by true is = all _
-      by false is = sym (no_info setting o key own is)
+      by false is = sym (no_info o own key setting.family setting.config is)
 
 -- ---- Contributions made anew
 
@@ -123,13 +114,17 @@ module _ (by_name : RulesByName) where
       either q false is = sym (others q is)
 
   pub affected_are_enough : OwnKeysAfterEvent → UnaffectedRules → AffectedAreEnough
-  affected_are_enough own_after unaffected setting o event own =
-      enough_by_rules setting o (objects_step o event) (affected_ports setting o event) own (own_after o event own) (λ key h. unaffected setting o event key own h)
+  affected_are_enough own_after unaffected settings family o event own =
+      enough_by_rules (view_of family settings) o (objects_step o event)
+      (affected_ports settings o event) own (own_after o event own)
+      (λ key h. unaffected family settings o event key own h)
 
 -- ---- Changed ports
 
 module _ (by_name : RulesByName) where
   pub changed_are_enough : ChangedAreEnough
-  changed_are_enough setting before after own own_after =
-      enough_by_rules by_name setting before after (changed_ports setting before after) own own_after (λ key h.
-      same_rules setting before after key (unchanged_inputs setting before after key own own_after h))
+  changed_are_enough settings family before after own own_after =
+      enough_by_rules by_name (view_of family settings) before after
+      (changed_ports settings before after) own own_after (λ key h.
+      same_rules settings family before after key
+      (unchanged_inputs settings before after key own own_after h))

@@ -12,22 +12,25 @@ use Rattle.std.proofs.lemmas.List.Folds.{list_any-append}
 use Rattle.std.proofs.lemmas.Slice.Eq.{bytes_eq-Decides}
 use Rattle.kp_lemmas.proofs.Orders.{one_from_tie, tie_of_itself}
 use Rattle.kp_base.specs.Keys.{key_cmp, port_key_cmp, same_proto}
+use Rattle.kp_base.specs.declared.address.Family.{Family}
 use Rattle.kp_base.specs.declared.key.ObjectKey.{ObjectKey}
 use Rattle.kp_base.specs.declared.key.PortKey.{PortKey}
 use Rattle.kp_base.proofs.KeyOrder.{port_key_total, port_key_exact}
 use Rattle.kp_base.proofs.SameParts.{same_proto_exact}
 use Rattle.kp_types.specs.Ports.{is_port}
-use Rattle.kp_types.specs.Setting.{Setting}
+use Rattle.kp_types.specs.Setting.{FamilyConfig, Settings, config_of_family}
 use Rattle.kp_types.specs.declared.info.ServiceSources.{ServiceSources}
+use Rattle.kp_types.specs.declared.lists.Candidate.{Candidate}
 use Rattle.kp_types.specs.declared.service.Service.{Service}
 use Rattle.kp_types.specs.declared.service.ServicePort.{ServicePort}
-use Rattle.kp_object_defs.specs.Entries.{sources_of, entries_from}
+use Rattle.kp_object_defs.specs.Entries.{sources_of, entries_from, entries_of_both, is_of_family}
 use Rattle.kp_object_defs.specs.Objects.{Objects, zone_of}
 use Rattle.kp_object_defs.specs.OwnKeys.{AreUnderOwnKeys}
 use Rattle.kp_object_defs.specs.Order.{in_order, distinct_in_order}
 use Rattle.kp_object_defs.specs.PortInfo.{PortInfo, port_key_of, info_from, info_of, cluster_address_in}
 use Rattle.kp_object_defs.specs.PortByKey.{port_keys_of, port_keys, port_named, info_in, info_at}
 use Rattle.kp_object_defs.proofs.InOrder.{find-in_order}
+use Rattle.kp_object_laws.proofs.FamilyEntries.{entries_of_both_in}
 use Rattle.kp_object_laws.proofs.PortByKey.{sources_service}
 use Rattle.kp_history_defs.specs.Inputs.{PortInputs, inputs_in, inputs_of, ports_of_either}
 use Rattle.kp_history_laws.specs.EventLaws.{has_port}
@@ -96,42 +99,81 @@ among_entries key s has (e ∷ es) h =
     by rest true h = ap (λ b. b || has_port (flat_map port_keys_of (map (λ f. f.1) es)) key) (ap (λ t. has_port (port_keys_of t) key) (same_Some e.1 s h) ∙ has)
     by rest false h = ap (λ b. has_port (port_keys_of e.1) key || b) (rest h) ∙ or-true (has_port (port_keys_of e.1) key)
 
-module _ (setting : Setting) (o : Objects) (own : AreUnderOwnKeys o) (key : PortKey) where
-  -- a port that isn't among the ports of the objects has no inputs
-  pub no_inputs : has_port (port_keys o) key ≡ false → inputs_of setting o key ≡ None
-  no_inputs none = service _ refl
+module _ (o : Objects) (own : AreUnderOwnKeys o) (key : PortKey) where
+  -- a port that isn't among the ports of the objects is found at no Service
+  not_named : {X : Type 0} (of : Service → Option ServicePort → Option X)
+      → ((s : Service) → of s None ≡ None) → has_port (port_keys o) key ≡ false
+      → option_and_then (λ s. of s (port_named key s)) (get o.services key.object) ≡ None
+  not_named {X} of without none = service _ refl
     where
-      port : (s : Service) → get o.services key.object ≡ Some s → (found : Option ServicePort) → port_named key s ≡ found → option_map (inputs_in setting o s) found ≡ None
-      port s at None is = refl
+      port : (s : Service) → get o.services key.object ≡ Some s → (found : Option ServicePort)
+          → port_named key s ≡ found → of s found ≡ None
+      port s at None is = without s
       port s at (Some p) is =
           absurd (true≢false (sym (has_distinct _ key
-          ∙ among_entries key s (named_in s key (own.services key.object s at) s.ports p is) _ (sym (get-entries o.services key.object) ∙ at)) ∙ none))
+          ∙ among_entries key s (named_in s key (own.services key.object s at) s.ports p is) _
+          (sym (get-entries o.services key.object) ∙ at)) ∙ none))
 
-      service : (found : Option Service) → get o.services key.object ≡ found → option_and_then (λ s. option_map (inputs_in setting o s) (port_named key s)) found ≡ None
+      service : (found : Option Service) → get o.services key.object ≡ found
+          → option_and_then (λ s. of s (port_named key s)) found ≡ None
       service None at = refl
       service (Some s) at = port s at _ refl
 
+  -- so it has no inputs,
+  pub no_inputs : (settings : Settings) → has_port (port_keys o) key ≡ false
+      → inputs_of settings o key ≡ None
+  no_inputs settings = not_named (λ s. option_map (inputs_in settings o s)) (λ s. refl)
+
+  -- and nothing is known of it
+  pub no_info : (family : Family) (config : FamilyConfig) → has_port (port_keys o) key ≡ false
+      → info_at family config o key ≡ None
+  no_info family config =
+      not_named (λ s. option_and_then (λ p.
+      info_of family config.node (zone_of o config.node) (sources_of family config o s, p)))
+      (λ s. refl)
+
 -- ---- What is known of a port
 
--- what is known of a port with these inputs
-abbrev pub info_by : Setting → PortKey → PortInputs → Option PortInfo
-info_by setting key inputs =
-    option_and_then (λ p. option_map (info_from setting.family inputs.service p inputs.zone inputs.entries) (cluster_address_in setting.family inputs.service)) (port_named key inputs.service)
+-- what is known in a family of a port with these inputs
+abbrev pub info_by : Family → PortKey → PortInputs → Option PortInfo
+info_by family key inputs =
+    option_and_then (λ p. option_map
+    (info_from family inputs.service p inputs.zone (filter (is_of_family family) inputs.entries))
+    (cluster_address_in family inputs.service)) (port_named key inputs.service)
 
--- the inputs of a port tell what is known of it
-pub info_by_inputs : (setting : Setting) (o : Objects) (key : PortKey) → info_at setting.family setting.config o key ≡ option_and_then (info_by setting key) (inputs_of setting o key)
-info_by_inputs setting o key = service _
+-- the inputs of a port tell what is known of it in each family
+pub info_by_inputs : (settings : Settings) (family : Family) (o : Objects) (key : PortKey)
+    → info_at family (config_of_family family settings.config) o key
+    ≡ option_and_then (info_by family key) (inputs_of settings o key)
+info_by_inputs settings family o key = service _
   where
+    config : FamilyConfig
+    config = config_of_family family settings.config
+
+    zone : Option (List ℕ)
+    zone = zone_of o settings.config.node
+
+    known : (t : Service) (p : ServicePort) → List Candidate → Option PortInfo
+    known t p entries =
+        option_map (info_from family t p zone entries) (cluster_address_in family t)
+
     port : (s : Service) (found : Option ServicePort) → port_named key s ≡ found
-        → option_and_then (λ p. info_of setting.family setting.config.node (zone_of o setting.config.node) (sources_of setting.family setting.config o s, p)) found
-        ≡ option_and_then (info_by setting key) (option_map (inputs_in setting o s) found)
+        → option_and_then (λ p.
+        info_of family config.node (zone_of o config.node) (sources_of family config o s, p)) found
+        ≡ option_and_then (info_by family key) (option_map (inputs_in settings o s) found)
     port s None is = refl
     port s (Some p) is =
-        let from : ServiceSources = sources_of setting.family setting.config o s in
-        let zone : Option (List ℕ) = zone_of o setting.config.node in
-        ap (λ t. option_map (info_from setting.family t p zone (entries_from setting.family setting.config.node from (port_key_of t p))) (cluster_address_in setting.family t)) (sources_service _ setting.config o s)
-        ∙ ap (option_and_then (λ q. option_map (info_from setting.family s q zone (entries_from setting.family setting.config.node from (port_key_of s p))) (cluster_address_in setting.family s))) (sym is)
+        let from : ServiceSources = sources_of family config o s in
+        ap (λ t. known t p (entries_from family config.node from (port_key_of t p)))
+        (sources_service family config o s)
+        ∙ ap (known s p) (sym (entries_of_both_in settings.config o s (port_key_of s p) family))
+        ∙ ap (option_and_then (λ q.
+        known s q (filter (is_of_family family)
+        (entries_of_both settings.config o s (port_key_of s p))))) (sym is)
 
-    service : (found : Option Service) → option_and_then (info_in setting.family setting.config o key) found ≡ option_and_then (info_by setting key) (option_and_then (λ s. option_map (inputs_in setting o s) (port_named key s)) found)
+    service : (found : Option Service)
+        → option_and_then (info_in family config o key) found
+        ≡ option_and_then (info_by family key)
+        (option_and_then (λ s. option_map (inputs_in settings o s) (port_named key s)) found)
     service None = refl
     service (Some s) = port s _ refl

@@ -3,7 +3,7 @@ use Rattle.std.proofs.Common.{◌≡◌, ℕ, suc, ◌+◌, ◌<◌, ◌≤◌, 
 use Rattle.std.proofs.lemmas.Bool.{eqb-true, ltb-true}
 use Rattle.std.proofs.lemmas.List.{append-nil, length-take-le, length_push, take-append-le, take-take}
 use Rattle.std.proofs.lemmas.List.Elements.{filter-append}
-use Rattle.kp_types.specs.Setting.{Setting}
+use Rattle.kp_types.specs.Setting.{Settings}
 use Rattle.kp_types.specs.declared.event.Event.{Event}
 use Rattle.kp_types.specs.declared.sync.SyncRecord.{SyncRecord}
 use Rattle.kp_history_defs.specs.declared.fed.Fed.{Fed}
@@ -13,9 +13,9 @@ use Rattle.kp_history_laws.specs.RunLaws.{RunsJoin, RunsSplit, StreamsKeepOrder,
 
 -- ---- Runs
 
-module _ (setting : Setting) (P : RunState → Type 0) (kept : (s : RunState) (step : Step) → IsAllowed setting s step → P s → P (state_after setting s step)) where
+module _ (settings : Settings) (P : RunState → Type 0) (kept : (s : RunState) (step : Step) → IsAllowed settings s step → P s → P (state_after settings s step)) where
   -- what each step keeps is kept by steps
-  pub kept_by_steps : (steps : List Step) (s t : RunState) → P s → IsRunFrom setting s steps t → P t
+  pub kept_by_steps : (steps : List Step) (s t : RunState) → P s → IsRunFrom settings s steps t → P t
   kept_by_steps [] s t holds is = subst P (sym is) holds
   kept_by_steps (step ∷ steps) s t holds (next, leads, rest) =
       kept_by_steps steps next t (subst P (sym leads.leads) (kept s step leads.allowed holds)) rest
@@ -23,14 +23,14 @@ module _ (setting : Setting) (P : RunState → Type 0) (kept : (s : RunState) (s
 -- ---- Steps before and behind
 
 pub runs_join : RunsJoin
-runs_join setting [] second s t u before behind = subst (λ from. IsRunFrom setting from second u) before behind
-runs_join setting (step ∷ first) second s t u (next, leads, before) behind =
-    (next, leads, runs_join setting first second next t u before behind)
+runs_join settings [] second s t u before behind = subst (λ from. IsRunFrom settings from second u) before behind
+runs_join settings (step ∷ first) second s t u (next, leads, before) behind =
+    (next, leads, runs_join settings first second next t u before behind)
 
 pub runs_split : RunsSplit
-runs_split setting [] second s u all = (s, refl, all)
-runs_split setting (step ∷ first) second s u (next, leads, rest) =
-    let (t, before, behind) = runs_split setting first second next u rest in (t, (next, leads, before), behind)
+runs_split settings [] second s u all = (s, refl, all)
+runs_split settings (step ∷ first) second s u (next, leads, rest) =
+    let (t, before, behind) = runs_split settings first second next u rest in (t, (next, leads, before), behind)
 
 -- ---- Streams
 
@@ -58,19 +58,19 @@ fed_in_order s by e holds stream =
     ∙ filter-append (is_of_stream stream) (s.journal ++ s.queue) (f ∷ [])
     ∙ fed_by s by e stream holds _ refl
 
-taken_in_order : (setting : Setting) (s : RunState) → InOrder s → (queue : List Fed) → s.queue ≡ queue → InOrder (after_take setting queue s)
-taken_in_order setting s holds [] is stream = holds stream
-taken_in_order setting s holds (f ∷ rest) is stream =
+taken_in_order : (settings : Settings) (s : RunState) → InOrder s → (queue : List Fed) → s.queue ≡ queue → InOrder (after_take settings queue s)
+taken_in_order settings s holds [] is stream = holds stream
+taken_in_order settings s holds (f ∷ rest) is stream =
     ap (filter (is_of_stream stream)) (append_assoc s.journal (f ∷ []) rest ∙ ap (λ queue. s.journal ++ queue) (sym is)) ∙ holds stream
 
-step_in_order : (setting : Setting) (s : RunState) (step : Step) → IsAllowed setting s step → InOrder s → InOrder (state_after setting s step)
-step_in_order setting s (Feed by e) allowed holds = fed_in_order s by e holds
-step_in_order setting s Take allowed holds = taken_in_order setting s holds s.queue refl
-step_in_order setting s step allowed holds = holds
+step_in_order : (settings : Settings) (s : RunState) (step : Step) → IsAllowed settings s step → InOrder s → InOrder (state_after settings s step)
+step_in_order settings s (Feed by e) allowed holds = fed_in_order s by e holds
+step_in_order settings s Take allowed holds = taken_in_order settings s holds s.queue refl
+step_in_order settings s step allowed holds = holds
 
 pub streams_keep_order : StreamsKeepOrder
-streams_keep_order setting steps s run =
-    kept_by_steps setting InOrder (step_in_order setting) steps initial s (λ stream. refl) run
+streams_keep_order settings steps s run =
+    kept_by_steps settings InOrder (step_in_order settings) steps initial s (λ stream. refl) run
 
 -- ---- What workers have seen
 
@@ -94,16 +94,16 @@ longer_first : (s : RunState) (n : ℕ) (seen : List SyncRecord) → n ≤ s.pub
 longer_first s n seen told first true = (n, told, refl)
 longer_first s n seen told first false = first
 
-step_seen : (setting : Setting) (s : RunState) (step : Step) → IsAllowed setting s step → IsSeen s → IsSeen (state_after setting s step)
-step_seen setting s (Feed by e) allowed h = record { published = h.published; seen = h.seen }
-step_seen setting s Take allowed h = taken s.queue
+step_seen : (settings : Settings) (s : RunState) (step : Step) → IsAllowed settings s step → IsSeen s → IsSeen (state_after settings s step)
+step_seen settings s (Feed by e) allowed h = record { published = h.published; seen = h.seen }
+step_seen settings s Take allowed h = taken s.queue
   where
-    taken : (queue : List Fed) → IsSeen (after_take setting queue s)
+    taken : (queue : List Fed) → IsSeen (after_take settings queue s)
     taken [] = record { published = h.published; seen = h.seen }
     taken (f ∷ rest) = record { published = h.published; seen = h.seen }
-step_seen setting s Sync allowed h = record {
+step_seen settings s Sync allowed h = record {
   published = more _;
-  seen = λ worker. let (n, told, is) = h.seen worker in (n, told, is ∙ sym (take-append-le n s.records (next_record setting s ∷ []) (within n told)));
+  seen = λ worker. let (n, told, is) = h.seen worker in (n, told, is ∙ sym (take-append-le n s.records (next_record settings s ∷ []) (within n told)));
 }
   where
     within : (n : ℕ) → n ≤ s.published → n ≤ length s.records
@@ -111,32 +111,32 @@ step_seen setting s Sync allowed h = record {
 
     more : (r : SyncRecord) → s.published ≤ length (s.records ++ r ∷ [])
     more r = let most = h.published in let one = length_push s.records r in omega arith
-step_seen setting s Refuse allowed h = h
-step_seen setting s Publish allowed h = record {
+step_seen settings s Refuse allowed h = h
+step_seen settings s Publish allowed h = record {
   published = omega arith;
   seen = λ worker. let (n, told, is) = h.seen worker in (n, within n told, is);
 }
   where
     within : (n : ℕ) → n ≤ s.published → n ≤ length s.records
     within n told = let most = h.published in omega arith
-step_seen setting s (Read worker packet draws lists answer) allowed h = record {
+step_seen settings s (Read worker packet draws lists answer) allowed h = record {
   published = h.published;
   seen = of_worker s worker _ (s.published, omega arith, refl) h.seen;
 }
-step_seen setting s (Tell worker n) allowed h = record {
+step_seen settings s (Tell worker n) allowed h = record {
   published = h.published;
   seen = of_worker s worker _ (longer_first s n _ allowed (h.seen worker) _) h.seen;
 }
 
-pub run_seen : (setting : Setting) (steps : List Step) (s : RunState) → IsRun setting steps s → IsSeen s
-run_seen setting steps s run =
-    kept_by_steps setting IsSeen (step_seen setting) steps initial s (record { published = omega arith; seen = λ worker. (0, omega arith, refl) }) run
+pub run_seen : (settings : Settings) (steps : List Step) (s : RunState) → IsRun settings steps s → IsSeen s
+run_seen settings steps s run =
+    kept_by_steps settings IsSeen (step_seen settings) steps initial s (record { published = omega arith; seen = λ worker. (0, omega arith, refl) }) run
 
 pub seen_is_published : SeenIsPublished
-seen_is_published setting steps s run worker = (run_seen setting steps s run).seen worker
+seen_is_published settings steps s run worker = (run_seen settings steps s run).seen worker
 
 pub published_are_records : PublishedAreRecords
-published_are_records setting steps s run = (run_seen setting steps s run).published
+published_are_records settings steps s run = (run_seen settings steps s run).published
 
 -- ---- What was seen is seen
 
@@ -161,19 +161,19 @@ worker_grows seen worker these more w = by _ refl
     by true is = subst (λ (m : ℕ). BeginsWith these (seen m)) (sym (eqb-true w worker is)) more
     by false is = same_list _
 
-step_grows : (setting : Setting) (s : RunState) (step : Step) → IsAllowed setting s step → IsSeen s → Grows (state_after setting s step).seen s.seen
-step_grows setting s (Feed by e) allowed h w = same_list _
-step_grows setting s Take allowed h w = taken s.queue
+step_grows : (settings : Settings) (s : RunState) (step : Step) → IsAllowed settings s step → IsSeen s → Grows (state_after settings s step).seen s.seen
+step_grows settings s (Feed by e) allowed h w = same_list _
+step_grows settings s Take allowed h w = taken s.queue
   where
-    taken : (queue : List Fed) → BeginsWith ((after_take setting queue s).seen w) (s.seen w)
+    taken : (queue : List Fed) → BeginsWith ((after_take settings queue s).seen w) (s.seen w)
     taken [] = same_list _
     taken (f ∷ rest) = same_list _
-step_grows setting s Sync allowed h w = same_list _
-step_grows setting s Refuse allowed h w = same_list _
-step_grows setting s Publish allowed h w = same_list _
-step_grows setting s (Read worker packet draws lists answer) allowed h w =
+step_grows settings s Sync allowed h w = same_list _
+step_grows settings s Refuse allowed h w = same_list _
+step_grows settings s Publish allowed h w = same_list _
+step_grows settings s (Read worker packet draws lists answer) allowed h w =
     let (n, told, is) = h.seen worker in worker_grows s.seen worker _ (more_of n s.published s.records _ told is) w
-step_grows setting s (Tell worker m) allowed h w = worker_grows s.seen worker _ (by _ refl) w
+step_grows settings s (Tell worker m) allowed h w = worker_grows s.seen worker _ (by _ refl) w
   where
     by : (b : Bool) → nat_lt (length (s.seen worker)) (length (take m s.records)) ≡ b → BeginsWith (cond b (take m s.records) (s.seen worker)) (s.seen worker)
     by true is =
@@ -192,8 +192,8 @@ record HasGrown (before s : RunState) : Type 0 where
   grows : Grows s.seen before.seen
 
 pub seen_only_grows : SeenOnlyGrows
-seen_only_grows setting steps more s t run after =
-    (kept_by_steps setting (HasGrown s) (λ u step allowed h. record {
-      is_seen = step_seen setting u step allowed h.is_seen;
-      grows = λ w. begins_through _ _ _ (step_grows setting u step allowed h.is_seen w) (h.grows w);
-    }) more s t (record { is_seen = run_seen setting steps s run; grows = λ w. same_list _ }) after).grows
+seen_only_grows settings steps more s t run after =
+    (kept_by_steps settings (HasGrown s) (λ u step allowed h. record {
+      is_seen = step_seen settings u step allowed h.is_seen;
+      grows = λ w. begins_through _ _ _ (step_grows settings u step allowed h.is_seen w) (h.grows w);
+    }) more s t (record { is_seen = run_seen settings steps s run; grows = λ w. same_list _ }) after).grows

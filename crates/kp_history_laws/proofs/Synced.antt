@@ -4,16 +4,17 @@ use Rattle.std.specs.FinMap as finite
 use Rattle.std.proofs.lemmas.Bool.{or_parts}
 use Rattle.std.proofs.lemmas.List.Folds.{list_any-append}
 use Rattle.std.proofs.lemmas.List.Sums.{fold_push}
+use Rattle.kp_base.specs.declared.address.Family.{Family}
 use Rattle.kp_base.specs.declared.key.PortKey.{PortKey}
-use Rattle.kp_types.specs.Setting.{Setting}
+use Rattle.kp_types.specs.Setting.{Settings, view_of}
 use Rattle.kp_types.specs.declared.event.Event.{Event}
 use Rattle.kp_types.specs.declared.sync.SyncRecord.{SyncRecord}
 use Rattle.kp_object_defs.specs.Objects.{no_objects, objects_step, objects_after}
 use Rattle.kp_object_laws.specs.ObjectLaws.{OwnKeysAfterEvents}
 use Rattle.kp_table_defs.specs.Edits.{changes_between}
-use Rattle.kp_table_defs.specs.Parts.{RulesByPort, rules_of_objects, table_of_ports}
+use Rattle.kp_table_defs.specs.Parts.{RulesByPort, rules_by_family, tables_of_ports}
 use Rattle.kp_table_defs.specs.Rebuild.{clash_of}
-use Rattle.kp_table_laws.specs.Laws.{PortsOfObjectsMakeTheTable}
+use Rattle.kp_table_laws.specs.Families.{PortsOfObjectsMakeTheTable}
 use Rattle.kp_history_defs.specs.Affected.{affected_ports}
 use Rattle.kp_history_defs.specs.History.{counts_of, covered, IsExactRecord, IsExactHistory}
 use Rattle.kp_history_defs.specs.Inputs.{inputs_of}
@@ -28,61 +29,71 @@ use Rattle.kp_history_laws.proofs.Histories.{no_rules, exact_without_records, ex
 
 -- The records are exact; what is kept is what the ports of the last record's objects contribute; and the ports that
 -- aren't touched have the inputs that they had then.
-module _ (setting : Setting) (events : List Event) (records : List SyncRecord) where
-  pub record IsSynced (kept : RulesByPort) (touched : List PortKey) : Type 0 where
-    pub exact : IsExactHistory setting events records
-    pub kept_rules : kept ≡ rules_of_objects setting (all_covered events records)
-    pub untouched : (key : PortKey) → has_port touched key ≡ false → inputs_of setting (objects_after events) key ≡ inputs_of setting (all_covered events records) key
+module _ (settings : Settings) (events : List Event) (records : List SyncRecord) where
+  pub record IsSynced (kept : Family → RulesByPort) (touched : List PortKey) : Type 0 where
+    pub exact : IsExactHistory settings events records
+    pub kept_rules : (family : Family)
+        → kept family ≡ rules_by_family settings (all_covered events records) family
+    pub untouched : (key : PortKey) → has_port touched key ≡ false → inputs_of settings (objects_after events) key ≡ inputs_of settings (all_covered events records) key
 
-pub nothing_synced : (setting : Setting) → IsSynced setting [] [] finite.empty []
-nothing_synced setting = record {
-  exact = exact_without_records setting [];
-  kept_rules = sym (no_rules setting);
+pub nothing_synced : (settings : Settings) → IsSynced settings [] [] (λ family. finite.empty) []
+nothing_synced settings = record {
+  exact = exact_without_records settings [];
+  kept_rules = λ family. sym (no_rules (view_of family settings));
   untouched = λ key h. refl;
 }
 
-module _ (own : OwnKeysAfterEvents) (unaffected : UnaffectedInputs) (setting : Setting) (events : List Event) (records : List SyncRecord) (kept : RulesByPort) (touched : List PortKey) (h : IsSynced setting events records kept touched) where
+module _ (own : OwnKeysAfterEvents) (unaffected : UnaffectedInputs) (settings : Settings) (events : List Event) (records : List SyncRecord) (kept : Family → RulesByPort) (touched : List PortKey) (h : IsSynced settings events records kept touched) where
   -- one more event is taken
-  taken_untouched : (e : Event) (key : PortKey) → has_port (touched ++ affected_ports setting (objects_after events) e) key ≡ false
-      → inputs_of setting (objects_after (events ++ e ∷ [])) key ≡ inputs_of setting (all_covered (events ++ e ∷ []) records) key
+  taken_untouched : (e : Event) (key : PortKey) → has_port (touched ++ affected_ports settings (objects_after events) e) key ≡ false
+      → inputs_of settings (objects_after (events ++ e ∷ [])) key ≡ inputs_of settings (all_covered (events ++ e ∷ []) records) key
   taken_untouched e key none =
       let parts = or_parts _ _ (sym (list_any-append _ touched _) ∙ none) in
-      ap (λ o. inputs_of setting o key) (fold_push objects_step no_objects events e)
-      ∙ unaffected setting (objects_after events) e key (own events) parts.1
+      ap (λ o. inputs_of settings o key) (fold_push objects_step no_objects events e)
+      ∙ unaffected settings (objects_after events) e key (own events) parts.1
       ∙ h.untouched key parts.0
-      ∙ ap (λ o. inputs_of setting o key) (sym (covered_stays setting events (e ∷ []) records h.exact))
+      ∙ ap (λ o. inputs_of settings o key) (sym (covered_stays settings events (e ∷ []) records h.exact))
 
-  pub taken_synced : (e : Event) → IsSynced setting (events ++ e ∷ []) records kept (touched ++ affected_ports setting (objects_after events) e)
+  pub taken_synced : (e : Event) → IsSynced settings (events ++ e ∷ []) records kept (touched ++ affected_ports settings (objects_after events) e)
   taken_synced e = record {
-    exact = exact_by_events setting events (e ∷ []) records h.exact;
-    kept_rules = h.kept_rules ∙ ap (rules_of_objects setting) (sym (covered_stays setting events (e ∷ []) records h.exact));
+    exact = exact_by_events settings events (e ∷ []) records h.exact;
+    kept_rules = λ family.
+        h.kept_rules family
+        ∙ ap (λ o. rules_by_family settings o family)
+        (sym (covered_stays settings events (e ∷ []) records h.exact));
     untouched = taken_untouched e;
   }
 
-  -- a sync is accepted, and makes this record
-  module _ (enough : EnoughByRules) (joined : PortsOfObjectsMakeTheTable) (r : SyncRecord) (no_clash : clash_of setting (objects_after events) ≡ None)
-      (numbered : r.sync ≡ suc (length records)) (rest : CoversRest events records r)
-      (changes : r.batch.edits ≡ changes_between (table_of_ports setting.family kept) (table_of_ports setting.family (with_rules_of setting (objects_after events) touched kept))) where
-    made_anew : with_rules_of setting (objects_after events) touched kept ≡ rules_of_objects setting (objects_after events)
-    made_anew =
-        ap (with_rules_of setting (objects_after events) touched) h.kept_rules
-        ∙ enough setting (all_covered events records) (objects_after events) touched
-        (own (covered events (counts_of records) (length records))) (own events) (λ key none.
-        same_rules setting _ _ key (h.untouched key none))
+  -- the contributions once those of the touched ports are made anew
+  abbrev new_kept : Family → RulesByPort
+  new_kept family = with_rules_of (view_of family settings) (objects_after events) touched (kept family)
 
-    last_exact : IsExactRecord setting (all_covered events records) (objects_after events) (suc (length records)) r
+  -- a sync is accepted, and makes this record
+  module _ (enough : EnoughByRules) (joined : PortsOfObjectsMakeTheTable) (r : SyncRecord) (no_clash : clash_of settings (objects_after events) ≡ None)
+      (numbered : r.sync ≡ suc (length records)) (rest : CoversRest events records r)
+      (changes : r.batch.edits ≡ changes_between (tables_of_ports settings kept) (tables_of_ports settings new_kept)) where
+    made_anew : (family : Family) → new_kept family ≡ rules_by_family settings (objects_after events) family
+    made_anew family =
+        ap (with_rules_of (view_of family settings) (objects_after events) touched) (h.kept_rules family)
+        ∙ enough (view_of family settings) (all_covered events records) (objects_after events) touched
+        (own (covered events (counts_of records) (length records))) (own events) (λ key none.
+        same_rules settings family _ _ key (h.untouched key none))
+
+    last_exact : IsExactRecord settings (all_covered events records) (objects_after events) (suc (length records)) r
     last_exact = record {
       is_numbered = numbered;
       has_no_clash = no_clash;
       is_changes = changes
-          ∙ ap (λ k. changes_between (table_of_ports setting.family k) (table_of_ports setting.family (with_rules_of setting (objects_after events) touched kept))) h.kept_rules
-          ∙ ap (λ k. changes_between (table_of_ports setting.family (rules_of_objects setting (all_covered events records))) (table_of_ports setting.family k)) made_anew
-          ∙ (λ i. changes_between (joined setting (all_covered events records) i) (joined setting (objects_after events) i));
+          ∙ (λ i. changes_between (tables_of_ports settings (λ family. h.kept_rules family i))
+          (tables_of_ports settings (λ family. made_anew family i)))
+          ∙ (λ i. changes_between (joined settings (all_covered events records) i) (joined settings (objects_after events) i));
     }
 
-    pub synced : IsSynced setting events (records ++ r ∷ []) (with_rules_of setting (objects_after events) touched kept) []
+    pub synced : IsSynced settings events (records ++ r ∷ []) new_kept []
     synced = record {
-      exact = exact_by_record setting events records r h.exact rest last_exact;
-      kept_rules = made_anew ∙ ap (rules_of_objects setting) (sym (covered_by_record events records r rest));
-      untouched = λ key none. ap (λ o. inputs_of setting o key) (sym (covered_by_record events records r rest));
+      exact = exact_by_record settings events records r h.exact rest last_exact;
+      kept_rules = λ family.
+          made_anew family
+          ∙ ap (λ o. rules_by_family settings o family) (sym (covered_by_record events records r rest));
+      untouched = λ key none. ap (λ o. inputs_of settings o key) (sym (covered_by_record events records r rest));
     }

@@ -1,9 +1,10 @@
--- What the list of dirty ports holds, of which something else is known than before.
+-- What the list of dirty ports of a family holds, of which something else is known than before.
 use Rattle.std.specs.Prelude.{◌≡◌, true, false, [], map}
 use Rattle.std.specs.FinMap.{find}
 use Rattle.kp_base.specs.Keys.{port_key_cmp}
+use Rattle.kp_base.specs.declared.address.Family.{Family}
 use Rattle.kp_base.specs.declared.key.PortKey.{PortKey}
-use Rattle.kp_types.specs.Setting.{Setting}
+use Rattle.kp_types.specs.Setting.{Setting, Settings, view_of}
 use Rattle.kp_object_defs.specs.Objects.{Objects}
 use Rattle.kp_object_defs.specs.Order.{rises}
 use Rattle.kp_object_defs.specs.OwnKeys.{AreUnderOwnKeys}
@@ -41,13 +42,13 @@ CleanInfos =
     → has_port (dirty_keys setting before after) key ≡ false
     → AreKnownAlike setting before after key
 
--- Each dirty port is one whose inputs changed.
+-- Each dirty port of a family is one whose inputs changed.
 abbrev pub DirtyAreChanged : Type 0
 DirtyAreChanged =
-    (setting : Setting) (before after : Objects) (key : PortKey)
+    (settings : Settings) (family : Family) (before after : Objects) (key : PortKey)
     → AreUnderOwnKeys before → AreUnderOwnKeys after
-    → has_port (dirty_keys setting before after) key ≡ true
-    → has_port (changed_ports setting before after) key ≡ true
+    → has_port (dirty_keys (view_of family settings) before after) key ≡ true
+    → has_port (changed_ports settings before after) key ≡ true
 
 -- Between the same objects no port is dirty.
 abbrev pub NoneDirty : Type 0

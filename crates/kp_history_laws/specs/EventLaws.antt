@@ -3,8 +3,9 @@ use Rattle.std.specs.Prelude.{◌≡◌, Bool, false, List}
 use Rattle.std.specs.List.{list_any}
 use Rattle.std.specs.Ordering.{eq_by_cmp}
 use Rattle.kp_base.specs.Keys.{port_key_cmp}
+use Rattle.kp_base.specs.declared.address.Family.{Family}
 use Rattle.kp_base.specs.declared.key.PortKey.{PortKey}
-use Rattle.kp_types.specs.Setting.{Setting}
+use Rattle.kp_types.specs.Setting.{Settings, view_of}
 use Rattle.kp_types.specs.declared.event.Event.{Event}
 use Rattle.kp_object_defs.specs.Objects.{Objects, objects_step}
 use Rattle.kp_object_defs.specs.OwnKeys.{AreUnderOwnKeys}
@@ -19,25 +20,27 @@ has_port keys key = list_any (eq_by_cmp port_key_cmp key) keys
 -- An event that doesn't affect the ports of a Service leaves the inputs of each.
 abbrev pub UnaffectedService : Type 0
 UnaffectedService =
-    (setting : Setting) (o : Objects) (event : Event) (key : PortKey)
-    → AreUnderOwnKeys o → affects setting o event key.object ≡ false
-    → inputs_of setting (objects_step o event) key ≡ inputs_of setting o key
+    (settings : Settings) (o : Objects) (event : Event) (key : PortKey)
+    → AreUnderOwnKeys o → affects settings o event key.object ≡ false
+    → inputs_of settings (objects_step o event) key ≡ inputs_of settings o key
 
 -- what holds of each port that an event doesn't affect
-abbrev pub HoldsOfUnaffected : (Setting → Objects → Event → PortKey → Type 0) → Type 0
+abbrev pub HoldsOfUnaffected : (Settings → Objects → Event → PortKey → Type 0) → Type 0
 HoldsOfUnaffected P =
-    (setting : Setting) (o : Objects) (event : Event) (key : PortKey)
-    → AreUnderOwnKeys o → has_port (affected_ports setting o event) key ≡ false
-    → P setting o event key
+    (settings : Settings) (o : Objects) (event : Event) (key : PortKey)
+    → AreUnderOwnKeys o → has_port (affected_ports settings o event) key ≡ false
+    → P settings o event key
 
 -- An event leaves the inputs of each port that isn't among the affected ones.
 abbrev pub UnaffectedInputs : Type 0
 UnaffectedInputs =
-    HoldsOfUnaffected (λ setting o event key.
-    inputs_of setting (objects_step o event) key ≡ inputs_of setting o key)
+    HoldsOfUnaffected (λ settings o event key.
+    inputs_of settings (objects_step o event) key ≡ inputs_of settings o key)
 
--- So it leaves its contribution to the table.
+-- So it leaves its contribution to the tables of each family.
 abbrev pub UnaffectedRules : Type 0
 UnaffectedRules =
-    HoldsOfUnaffected (λ setting o event key.
-    rules_at setting (objects_step o event) key ≡ rules_at setting o key)
+    (family : Family)
+    → HoldsOfUnaffected (λ settings o event key.
+    rules_at (view_of family settings) (objects_step o event) key
+    ≡ rules_at (view_of family settings) o key)

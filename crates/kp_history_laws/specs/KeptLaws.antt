@@ -1,9 +1,10 @@
--- Contributions of ports that are kept are those of the objects, where those of the ports that may
--- have changed are made anew.
+-- Contributions of ports to the tables of a family that are kept are those of the objects, where
+-- those of the ports that may have changed are made anew.
 use Rattle.std.specs.Prelude.{◌≡◌, false, List}
 use Rattle.std.specs.FinMap as finite
+use Rattle.kp_base.specs.declared.address.Family.{Family}
 use Rattle.kp_base.specs.declared.key.PortKey.{PortKey}
-use Rattle.kp_types.specs.Setting.{Setting}
+use Rattle.kp_types.specs.Setting.{Setting, Settings, view_of}
 use Rattle.kp_types.specs.declared.event.Event.{Event}
 use Rattle.kp_object_defs.specs.Objects.{Objects, objects_step}
 use Rattle.kp_object_defs.specs.OwnKeys.{AreUnderOwnKeys}
@@ -37,11 +38,12 @@ EnoughByRules =
 -- So are those that an event affects.
 abbrev pub AffectedAreEnough : Type 0
 AffectedAreEnough =
-    (setting : Setting) (o : Objects) (event : Event) → AreUnderOwnKeys o
-    → AreEnough setting o (objects_step o event) (affected_ports setting o event)
+    (settings : Settings) (family : Family) (o : Objects) (event : Event) → AreUnderOwnKeys o
+    → AreEnough (view_of family settings) o (objects_step o event) (affected_ports settings o event)
 
 -- So are those whose inputs changed.
 abbrev pub ChangedAreEnough : Type 0
 ChangedAreEnough =
-    (setting : Setting) (before after : Objects) → AreUnderOwnKeys before → AreUnderOwnKeys after
-    → AreEnough setting before after (changed_ports setting before after)
+    (settings : Settings) (family : Family) (before after : Objects)
+    → AreUnderOwnKeys before → AreUnderOwnKeys after
+    → AreEnough (view_of family settings) before after (changed_ports settings before after)

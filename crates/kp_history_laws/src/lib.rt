@@ -10,7 +10,7 @@ ghost use Rattle.kp_history_laws.specs.PortLaws as ports;
 ghost use Rattle.kp_history_laws.specs.RunLaws as runs;
 
 /// An event leaves the inputs of each port that it doesn't affect, and its contribution to the
-/// table.
+/// tables of each family.
 pub fn unaffected_ports()
     ensures service { events.UnaffectedService }
     ensures inputs { events.UnaffectedInputs }
@@ -32,8 +32,8 @@ pub fn changed_ports()
     unaffected_ports();
 }
 
-/// The dirty ports are those of which something else is known, and so they are among those whose
-/// inputs changed. They are in order.
+/// The dirty ports of a family are those of which something else is known there, and so they are
+/// among those whose inputs changed. They are in order.
 pub fn dirty_ports()
     ensures dirty { dirty.DirtyInfos }
     ensures clean { dirty.CleanInfos }
@@ -58,8 +58,9 @@ pub fn rules_by_name()
     kp_object_laws::ports_by_key();
 }
 
-/// Contributions that are kept from the objects before are those of the objects after, once those
-/// of the ports that an event affects, or of the ports whose inputs changed, are made anew.
+/// Contributions to a family's tables that are kept from the objects before are those of the
+/// objects after, once those of the ports that an event affects, or of the ports whose inputs
+/// changed, are made anew.
 pub fn kept_rules()
     ensures by_rules { kept.EnoughByRules }
     ensures affected { kept.AffectedAreEnough }

@@ -11,7 +11,7 @@ use Rattle.std.proofs.lemmas.Bool.{and_from, and_parts}
 use Rattle.std.proofs.lemmas.Slice.Eq.{bytes_eq-Decides}
 use Rattle.kp_base.specs.declared.key.ObjectKey.{ObjectKey}
 use Rattle.kp_base.proofs.KeyOrder.{key_ties}
-use Rattle.kp_types.specs.Setting.{Setting}
+use Rattle.kp_types.specs.Setting.{Settings}
 use Rattle.kp_types.specs.declared.event.Event.{Event}
 use Rattle.kp_types.specs.declared.event.Event.TheVariants.{Apply, Delete}
 use Rattle.kp_types.specs.declared.event.Kind.TheVariants as kind
@@ -58,38 +58,38 @@ none_selected : (o : Objects) (service : ObjectKey) → get o.services service �
 none_selected o service at None = refl
 none_selected o service at (Some p) = ap (λ found. selects_pod found p) at
 
-pods_affect : (setting : Setting) (o : Objects) (service : ObjectKey) (before after : Option Pod)
-    → pod_touches setting.config.controller o before after service ≡ true
+pods_affect : (settings : Settings) (o : Objects) (service : ObjectKey) (before after : Option Pod)
+    → pod_touches settings.config.controller o before after service ≡ true
     → (found : Option Service) → get o.services service ≡ found
-    → is_pod_of setting.config found before after ≡ true
-pods_affect setting o service before after h None at =
+    → is_pod_of settings.config.controller found before after ≡ true
+pods_affect settings o service before after h None at =
     let none = none_selected o service at in
     absurd (true≢false (sym (and_parts _ _ h).1 ∙ (λ i. none before i || none after i)))
-pods_affect setting o service before after h (Some s) at =
+pods_affect settings o service before after h (Some s) at =
     let alike = selected_alike o service s at in
-    let parts = and_parts setting.config.controller
+    let parts = and_parts settings.config.controller
     (selects_some s before || selects_some s after)
-    ((λ i. setting.config.controller && (alike before i || alike after i)) ∙ h) in
+    ((λ i. settings.config.controller && (alike before i || alike after i)) ∙ h) in
     and_from _ _ (and_from _ _ parts.0 (has_either s before after _ refl parts.1)) parts.1
 
 pub touched_are_affected : TouchedAreAffected
-touched_are_affected setting o (Apply (object.Service s)) service h = key_ties service s.key ∙ h
-touched_are_affected setting o (Delete kind.Service k) service h = key_ties service k ∙ h
-touched_are_affected setting o (Apply (object.EndpointSlice s)) service h =
+touched_are_affected settings o (Apply (object.Service s)) service h = key_ties service s.key ∙ h
+touched_are_affected settings o (Delete kind.Service k) service h = key_ties service k ∙ h
+touched_are_affected settings o (Apply (object.EndpointSlice s)) service h =
     ap (λ b. b || is_of_service service s) (named_alike service (get o.slices s.key)) ∙ h
-touched_are_affected setting o (Delete kind.EndpointSlice k) service h =
+touched_are_affected settings o (Delete kind.EndpointSlice k) service h =
     named_alike service (get o.slices k) ∙ or_else _ h
-touched_are_affected setting o (Apply (object.Pod p)) service h =
-    pods_affect setting o service (get o.pods p.key) (Some p) h (get o.services service) refl
-touched_are_affected setting o (Delete kind.Pod k) service h =
-    pods_affect setting o service (get o.pods k) None h (get o.services service) refl
-touched_are_affected setting o (Apply (object.Node n)) service h = refl
-touched_are_affected setting o (Delete kind.Node k) service h = refl
+touched_are_affected settings o (Apply (object.Pod p)) service h =
+    pods_affect settings o service (get o.pods p.key) (Some p) h (get o.services service) refl
+touched_are_affected settings o (Delete kind.Pod k) service h =
+    pods_affect settings o service (get o.pods k) None h (get o.services service) refl
+touched_are_affected settings o (Apply (object.Node n)) service h = refl
+touched_are_affected settings o (Delete kind.Node k) service h = refl
 
 -- ---- Zones that count
 
-module _ (setting : Setting) (o : Objects) (event : Event) (service : ObjectKey)
-    (keeps : KeepsZonesFor setting o event service) (name : List ℕ) (zone : Option (List ℕ))
+module _ (settings : Settings) (o : Objects) (event : Event) (service : ObjectKey)
+    (keeps : KeepsZonesFor settings o event service) (name : List ℕ) (zone : Option (List ℕ))
     (after : zone_of (objects_step o event) name ≡ zone) where
   -- the node doesn't touch the Service, as the name is the own node's or not, the controller makes
   -- slices, and the Service selects a pod on the node
@@ -103,56 +103,56 @@ module _ (setting : Setting) (o : Objects) (event : Event) (service : ObjectKey)
       ap (λ z. not (option_eq bytes_eq (zone_of o name) z) && b) (sym after ∙ same)
       ∙ ap (λ t. not t && b) ((options_equiv nat_list_eq_equiv).refl (zone_of o name))
 
-  by_tests : (own controller selected : Bool) → bytes_eq name setting.config.node ≡ own
-      → setting.config.controller ≡ controller → selects_on o name service ≡ selected
+  by_tests : (own controller selected : Bool) → bytes_eq name settings.config.node ≡ own
+      → settings.config.controller ≡ controller → selects_on o name service ≡ selected
       → Stays own controller selected
   by_tests true controller selected is on there =
       same_zone
-      (ap (zone_of (objects_step o event)) ((bytes_eq-Decides name setting.config.node).0 is)
+      (ap (zone_of (objects_step o event)) ((bytes_eq-Decides name settings.config.node).0 is)
       ∙ keeps.own
-      ∙ sym (ap (zone_of o) ((bytes_eq-Decides name setting.config.node).0 is))) true
+      ∙ sym (ap (zone_of o) ((bytes_eq-Decides name settings.config.node).0 is))) true
   by_tests false true true is on there = same_zone (keeps.of_pods on name there) true
   by_tests false true false is on there = and_none _
   by_tests false false selected is on there = and_none _
 
   pub zones_stay :
-      node_touches setting.config.node setting.config.controller o name zone service ≡ false
+      node_touches settings.config.node settings.config.controller o name zone service ≡ false
   zones_stay =
-      by_tests (bytes_eq name setting.config.node) setting.config.controller
+      by_tests (bytes_eq name settings.config.node) settings.config.controller
       (selects_on o name service) refl refl refl
 
 pub zones_count : ZonesCount
-zones_count setting o (Apply (object.Service s)) service own about keeps = absurd (cc)
-zones_count setting o (Apply (object.EndpointSlice s)) service own about keeps = absurd (cc)
-zones_count setting o (Apply (object.Pod p)) service own about keeps = absurd (cc)
-zones_count setting o (Delete kind.Service k) service own about keeps = absurd (cc)
-zones_count setting o (Delete kind.EndpointSlice k) service own about keeps = absurd (cc)
-zones_count setting o (Delete kind.Pod k) service own about keeps = absurd (cc)
-zones_count setting o (Apply (object.Node n)) service own about keeps =
-    zones_stay setting o (Apply (object.Node n)) service keeps n.name n.zone
+zones_count settings o (Apply (object.Service s)) service own about keeps = absurd (cc)
+zones_count settings o (Apply (object.EndpointSlice s)) service own about keeps = absurd (cc)
+zones_count settings o (Apply (object.Pod p)) service own about keeps = absurd (cc)
+zones_count settings o (Delete kind.Service k) service own about keeps = absurd (cc)
+zones_count settings o (Delete kind.EndpointSlice k) service own about keeps = absurd (cc)
+zones_count settings o (Delete kind.Pod k) service own about keeps = absurd (cc)
+zones_count settings o (Apply (object.Node n)) service own about keeps =
+    zones_stay settings o (Apply (object.Node n)) service keeps n.name n.zone
     (ap (option_and_then (λ (n : Node). n.zone)) (put_at o n n.name
     ∙ ap (λ b. cond b (Some n) (get o.nodes (node_key n.name))) (nat_list_eq_equiv.refl n.name)))
-zones_count setting o (Delete kind.Node k) service own about keeps = by (get o.nodes k) refl
+zones_count settings o (Delete kind.Node k) service own about keeps = by (get o.nodes k) refl
   where
     by : (found : Option Node) → get o.nodes k ≡ found
-        → lost_node_touches setting.config.node setting.config.controller o found service
+        → lost_node_touches settings.config.node settings.config.controller o found service
         ≡ false
     by None at = refl
     by (Some n) at =
-        zones_stay setting o (Delete kind.Node k) service keeps n.name None
+        zones_stay settings o (Delete kind.Node k) service keeps n.name None
         (ap (option_and_then (λ (n : Node). n.zone)) (taken_at o k n.name (own.nodes k n at) n.name
         ∙ ap (λ b. cond b None (get o.nodes (node_key n.name))) (nat_list_eq_equiv.refl n.name)))
 
 pub all_zones_stay : AllZonesStay
-all_zones_stay setting o event service own about keeps =
-    zones_count setting o event service own about (record {
-      own = keeps setting.config.node;
+all_zones_stay settings o event service own about keeps =
+    zones_count settings o event service own about (record {
+      own = keeps settings.config.node;
       of_pods = λ on name there. keeps name;
     })
 
 pub own_zone_stays : OwnZoneStays
-own_zone_stays setting o event service own about keeps =
-    zones_count setting o event service own about (record {
+own_zone_stays settings o event service own about keeps =
+    zones_count settings o event service own about (record {
       own = keeps.1;
       of_pods = λ on name there. absurd (true≢false (sym on ∙ keeps.0));
     })

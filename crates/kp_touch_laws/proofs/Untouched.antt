@@ -9,7 +9,7 @@ use Rattle.kp_base.specs.Keys.{key_cmp}
 use Rattle.kp_base.specs.declared.key.ObjectKey.{ObjectKey}
 use Rattle.kp_base.specs.declared.key.PortKey.{PortKey}
 use Rattle.kp_base.proofs.KeyOrder.{key_total, key_exact, key_ties}
-use Rattle.kp_types.specs.Setting.{Setting}
+use Rattle.kp_types.specs.Setting.{Setting, Settings, view_of}
 use Rattle.kp_types.specs.declared.pod.Node.{Node}
 use Rattle.kp_types.specs.declared.pod.Pod.{Pod}
 use Rattle.kp_types.specs.declared.service.Service.{Service}
@@ -20,7 +20,6 @@ use Rattle.kp_types.specs.declared.event.Object.TheVariants as object
 use Rattle.kp_object_defs.specs.Desired.{has_selector}
 use Rattle.kp_object_defs.specs.Objects.{Objects, node_key, objects_step}
 use Rattle.kp_object_defs.specs.OwnKeys.{AreUnderOwnKeys}
-use Rattle.kp_object_defs.specs.PortByKey.{info_at}
 use Rattle.kp_table_defs.specs.Parts.{rules_of_port}
 use Rattle.kp_object_laws.specs.ObjectLaws.{OwnKeysAfterEvent}
 use Rattle.kp_history_defs.specs.Affected.{is_pod_of, is_slice_of, selects_some}
@@ -31,7 +30,7 @@ use Rattle.kp_history_laws.specs.DirtyLaws.{CleanInfos, DirtyAreChanged}
 use Rattle.kp_history_laws.specs.PortLaws.{ChangedInputs}
 use Rattle.kp_touch_defs.specs.Touches.{is_selected, lost_node_touches, names_service, pod_touches, selects_pod}
 use Rattle.kp_touch_laws.specs.TouchLaws.{LeaveByAll, LeavesUntouched, UntouchedInputs}
-use Rattle.kp_touch_laws.specs.TouchLaws.{UntouchedInfos, UntouchedRules}
+use Rattle.kp_touch_laws.specs.TouchLaws.{UntouchedInfos, UntouchedRules, known_at}
 use Rattle.kp_touch_laws.proofs.Zones.{no_zone, node_stays}
 
 -- ---- What doesn't touch a Service doesn't affect it
@@ -52,16 +51,16 @@ both_off true true a b h = h
 both_off true false a b h = refl
 both_off false selector a b h = refl
 
-pods_alike : (setting : Setting) (o : Objects) (service : ObjectKey) (before after : Option Pod)
-    → pod_touches setting.config.controller o before after service ≡ false
+pods_alike : (settings : Settings) (o : Objects) (service : ObjectKey) (before after : Option Pod)
+    → pod_touches settings.config.controller o before after service ≡ false
     → (found : Option Service) → get o.services service ≡ found
-    → is_pod_of setting.config found before after ≡ false
-pods_alike setting o service before after h None at = refl
-pods_alike setting o service before after h (Some s) at =
+    → is_pod_of settings.config.controller found before after ≡ false
+pods_alike settings o service before after h None at = refl
+pods_alike settings o service before after h (Some s) at =
     let alike = selected_alike o service s at in
-    both_off setting.config.controller (has_selector s) (selects_some s before)
+    both_off settings.config.controller (has_selector s) (selects_some s before)
     (selects_some s after)
-    ((λ i. setting.config.controller && (alike before i || alike after i)) ∙ h)
+    ((λ i. settings.config.controller && (alike before i || alike after i)) ∙ h)
 
 or_none : (a : Bool) → a || false ≡ false → a ≡ false
 or_none true h = h
@@ -104,72 +103,75 @@ none_taken o key none m false tie =
 
 module _ (unaffected : UnaffectedService) where
   pub untouched_inputs : UntouchedInputs
-  untouched_inputs setting o (Apply (object.Service s)) key own h =
-      unaffected setting o (Apply (object.Service s)) key own (key_ties key.object s.key ∙ h)
-  untouched_inputs setting o (Delete kind.Service k) key own h =
-      unaffected setting o (Delete kind.Service k) key own (key_ties key.object k ∙ h)
-  untouched_inputs setting o (Apply (object.EndpointSlice s)) key own h =
+  untouched_inputs settings o (Apply (object.Service s)) key own h =
+      unaffected settings o (Apply (object.Service s)) key own (key_ties key.object s.key ∙ h)
+  untouched_inputs settings o (Delete kind.Service k) key own h =
+      unaffected settings o (Delete kind.Service k) key own (key_ties key.object k ∙ h)
+  untouched_inputs settings o (Apply (object.EndpointSlice s)) key own h =
       let parts = or_parts _ _ h in
-      unaffected setting o (Apply (object.EndpointSlice s)) key own
+      unaffected settings o (Apply (object.EndpointSlice s)) key own
       (λ i. (named_alike key.object (get o.slices s.key) ∙ parts.0) i || parts.1 i)
-  untouched_inputs setting o (Delete kind.EndpointSlice k) key own h =
-      unaffected setting o (Delete kind.EndpointSlice k) key own
+  untouched_inputs settings o (Delete kind.EndpointSlice k) key own h =
+      unaffected settings o (Delete kind.EndpointSlice k) key own
       (named_alike key.object (get o.slices k) ∙ or_none _ h)
-  untouched_inputs setting o (Apply (object.Pod p)) key own h =
-      unaffected setting o (Apply (object.Pod p)) key own
-      (pods_alike setting o key.object (get o.pods p.key) (Some p) h
+  untouched_inputs settings o (Apply (object.Pod p)) key own h =
+      unaffected settings o (Apply (object.Pod p)) key own
+      (pods_alike settings o key.object (get o.pods p.key) (Some p) h
       (get o.services key.object) refl)
-  untouched_inputs setting o (Delete kind.Pod k) key own h =
-      unaffected setting o (Delete kind.Pod k) key own
-      (pods_alike setting o key.object (get o.pods k) None h (get o.services key.object) refl)
-  untouched_inputs setting o (Apply (object.Node n)) key own h =
-      node_stays setting o _ key n.name (Some n) (put_at o n) h
-  untouched_inputs setting o (Delete kind.Node k) key own h = by (get o.nodes k) refl h
+  untouched_inputs settings o (Delete kind.Pod k) key own h =
+      unaffected settings o (Delete kind.Pod k) key own
+      (pods_alike settings o key.object (get o.pods k) None h (get o.services key.object) refl)
+  untouched_inputs settings o (Apply (object.Node n)) key own h =
+      node_stays settings o _ key n.name (Some n) (put_at o n) h
+  untouched_inputs settings o (Delete kind.Node k) key own h = by (get o.nodes k) refl h
     where
       by : (found : Option Node) → get o.nodes k ≡ found
-          → lost_node_touches setting.config.node setting.config.controller o found key.object
+          → lost_node_touches settings.config.node settings.config.controller o found key.object
           ≡ false
-          → inputs_of setting (objects_step o (Delete kind.Node k)) key ≡ inputs_of setting o key
+          → inputs_of settings (objects_step o (Delete kind.Node k)) key ≡ inputs_of settings o key
       by None at h =
-          no_zone setting o _ key
+          no_zone settings o _ key
           (λ m. ap (option_and_then (λ (n : Node). n.zone)) (none_taken o k at m _ refl))
       by (Some n) at h =
-          node_stays setting o _ key n.name None (taken_at o k n.name (own.nodes k n at)) h
+          node_stays settings o _ key n.name None (taken_at o k n.name (own.nodes k n at)) h
 
   module _
       (own_after : OwnKeysAfterEvent) (changed : ChangedInputs) (dirty : DirtyAreChanged)
       (clean : CleanInfos) where
     -- a port with the same inputs isn't dirty
     pub untouched_infos : UntouchedInfos
-    untouched_infos setting o event key own h =
-        by (has_port (dirty_keys setting o (objects_step o event)) key) refl
+    untouched_infos family settings o event key own h =
+        by (has_port (dirty_keys view o (objects_step o event)) key) refl
       where
+        view : Setting
+        view = view_of family settings
+
         next : Objects
         next = objects_step o event
 
         after : AreUnderOwnKeys next
         after = own_after o event own
 
-        by : (b : Bool) → has_port (dirty_keys setting o next) key ≡ b
-            → info_at setting.family setting.config next key
-            ≡ info_at setting.family setting.config o key
+        by : (b : Bool) → has_port (dirty_keys view o next) key ≡ b
+            → known_at family settings next key ≡ known_at family settings o key
         by true is =
             absurd
-            (changed setting o next key (dirty setting o next key own after is)
-            (untouched_inputs setting o event key own h))
-        by false is = clean setting o next key own after is
+            (changed settings o next key (dirty settings family o next key own after is)
+            (untouched_inputs settings o event key own h))
+        by false is = clean view o next key own after is
 
     pub untouched_rules : UntouchedRules
-    untouched_rules setting o event key own h =
-        ap (option_map (rules_of_port setting)) (untouched_infos setting o event key own h)
+    untouched_rules family settings o event key own h =
+        ap (option_map (rules_of_port (view_of family settings)))
+        (untouched_infos family settings o event key own h)
 
 -- ---- Events one after the other
 
-module _ {X : Type 0} (of : Setting → Objects → PortKey → X) (own_after : OwnKeysAfterEvent)
+module _ {X : Type 0} (of : Settings → Objects → PortKey → X) (own_after : OwnKeysAfterEvent)
     (leaves : LeavesUntouched of) where
   pub leave_by_all : LeaveByAll of
-  leave_by_all setting o [] key own h = refl
-  leave_by_all setting o (e ∷ es) key own h =
+  leave_by_all settings o [] key own h = refl
+  leave_by_all settings o (e ∷ es) key own h =
       let parts = or_parts _ _ h in
-      leave_by_all setting (objects_step o e) es key (own_after o e own) parts.1
-      ∙ leaves setting o e key own parts.0
+      leave_by_all settings (objects_step o e) es key (own_after o e own) parts.1
+      ∙ leaves settings o e key own parts.0

@@ -1,5 +1,5 @@
 -- Another zone of a node leaves the inputs of the Services that it doesn't touch.
-use Rattle.std.proofs.Common.{◌≡◌, ℕ, ◌&&◌, ◌||◌, Bool, true, false, true≢false, not, cond, bytes_eq, List, [], ◌∷◌, filter, filter_map, Option, Some, None, option_map, option_and_then, refl, sym, ap, ◌∙◌}
+use Rattle.std.proofs.Common.{◌≡◌, ℕ, ◌&&◌, ◌||◌, Bool, true, false, true≢false, not, cond, bytes_eq, List, [], ◌∷◌, filter, filter_map, flat_map, Option, Some, None, option_map, option_and_then, refl, sym, ap, ◌∙◌}
 use Rattle.std.specs.List.{cons_option, list_any}
 use Rattle.std.specs.Cmp.Lexicographic.{nat_list_eq_equiv}
 use Rattle.std.specs.Option.{option_eq}
@@ -11,13 +11,13 @@ use Rattle.kp_lemmas.proofs.Equality.{options_exact}
 use Rattle.kp_base.specs.Keys.{key_cmp}
 use Rattle.kp_base.specs.declared.address.Family.{Family}
 use Rattle.kp_base.specs.declared.key.PortKey.{PortKey}
-use Rattle.kp_types.specs.Setting.{Setting}
+use Rattle.kp_types.specs.Setting.{Settings, both_families, config_of_family}
 use Rattle.kp_types.specs.declared.info.ServiceSources.{ServiceSources}
 use Rattle.kp_types.specs.declared.pod.Node.{Node}
 use Rattle.kp_types.specs.declared.pod.Pod.{Pod}
 use Rattle.kp_types.specs.declared.service.Service.{Service}
 use Rattle.kp_types.specs.declared.slice.Wanted.{Wanted}
-use Rattle.kp_object_defs.specs.Desired.{has_selector, is_reconciled, selects, desired_in_zone, desired_of, desired_endpoints_of}
+use Rattle.kp_object_defs.specs.Desired.{has_selector, selects, desired_in_zone, desired_of, desired_endpoints_of}
 use Rattle.kp_object_defs.specs.Entries.{entries_from, is_named, is_on_node, slices_of, sources_of, unmanaged}
 use Rattle.kp_object_defs.specs.Objects.{Objects, node_key, zone_of}
 use Rattle.kp_object_defs.specs.PortByKey.{port_named}
@@ -85,59 +85,62 @@ found_alike f g None each = refl
 found_alike f g (Some x) each = each x refl
 
 module _
-    (setting : Setting) (o : Objects) (nodes : finite.FinMap key_cmp Node) (key : PortKey) where
+    (settings : Settings) (o : Objects) (nodes : finite.FinMap key_cmp Node) (key : PortKey) where
   -- the objects with other nodes
   abbrev after : Objects
   after = record o { nodes = nodes }
 
-  -- what a Service wants of them
-  abbrev wants_of : Objects → Service → List Wanted
-  wants_of p s = desired_endpoints_of setting.family p s
+  -- the controller makes slices for a Service
+  abbrev makes_slices : Service → Type 0
+  makes_slices s = settings.config.controller && has_selector s ≡ true
+
+  -- in each family a Service wants the same of them
+  abbrev WantsAlike : Service → Type 0
+  WantsAlike s =
+      (family : Family) → desired_endpoints_of family after s ≡ desired_endpoints_of family o s
 
   -- the sources of a Service that the controller makes slices for
   abbrev made : Service → List Wanted → ServiceSources
   made s wanted = record { service = s; wanted = wanted; slices = unmanaged (slices_of o s.key) }
 
   -- the sources of a Service, where the controller makes slices for it and where it doesn't
-  sources_alike : (s : Service)
-      → (is_reconciled setting.config s ≡ true → wants_of after s ≡ wants_of o s)
-      → sources_of setting.family setting.config after s
-      ≡ sources_of setting.family setting.config o s
-  sources_alike s wanted = by (is_reconciled setting.config s) refl
+  sources_alike : (family : Family) (s : Service) → (makes_slices s → WantsAlike s)
+      → sources_of family (config_of_family family settings.config) after s
+      ≡ sources_of family (config_of_family family settings.config) o s
+  sources_alike family s wanted = by (settings.config.controller && has_selector s) refl
     where
       fed : ServiceSources
       fed = record { service = s; wanted = []; slices = slices_of o s.key }
 
-      by : (b : Bool) → is_reconciled setting.config s ≡ b
-          → cond b (made s (wants_of after s)) fed ≡ cond b (made s (wants_of o s)) fed
-      by true is = ap (made s) (wanted is)
+      by : (b : Bool) → settings.config.controller && has_selector s ≡ b
+          → cond b (made s (desired_endpoints_of family after s)) fed
+          ≡ cond b (made s (desired_endpoints_of family o s)) fed
+      by true is = ap (made s) (wanted is family)
       by false is = refl
 
   -- the inputs of the port are the same
   abbrev pub Stays : Type 0
-  Stays = inputs_of setting after key ≡ inputs_of setting o key
+  Stays = inputs_of settings after key ≡ inputs_of settings o key
 
   -- the inputs, where the own zone stays and what the Service wants
-  inputs_alike : zone_of after setting.config.node ≡ zone_of o setting.config.node
-      → ((s : Service) → get o.services key.object ≡ Some s
-      → is_reconciled setting.config s ≡ true → wants_of after s ≡ wants_of o s)
+  inputs_alike : zone_of after settings.config.node ≡ zone_of o settings.config.node
+      → ((s : Service) → get o.services key.object ≡ Some s → makes_slices s → WantsAlike s)
       → Stays
   inputs_alike zone wanted =
       found_alike _ _ (get o.services key.object) (λ s at i.
-      let sources : ServiceSources = sources_alike s (wanted s at) i in
       option_map (λ p. let inputs : PortInputs = record {
         service = s;
-        entries =
-            entries_from setting.family setting.config.node sources (port_key_of s p);
+        entries = flat_map (λ f. entries_from f settings.config.node
+            (sources_alike f s (wanted s at) i) (port_key_of s p)) both_families;
         zone = zone i;
       } in inputs) (port_named key s))
 
   -- no node has another zone
   pub no_zone : ((m : List ℕ) → zone_of after m ≡ zone_of o m) → Stays
   no_zone same =
-      inputs_alike (same setting.config.node) (λ s at is i.
+      inputs_alike (same settings.config.node) (λ s at is family i.
       filter_map
-      (λ pod. desired_in_zone setting.family s pod (option_and_then (λ m. same m i) pod.node))
+      (λ pod. desired_in_zone family s pod (option_and_then (λ m. same m i) pod.node))
       (filter (selects s) (finite.values o.pods)))
 
   -- the zone of a node, if there is one
@@ -169,23 +172,23 @@ module _
         ap (λ found. list_any (selects_pod found) on) (sym at) ∙ none
 
     -- it is another
-    changed : zone_touches setting.config.node setting.config.controller o name key.object ≡ false
+    changed : zone_touches settings.config.node settings.config.controller o name key.object ≡ false
         → Stays
     changed none =
         let parts = or_parts _ _ none in
-        inputs_alike (at_node setting.config.node false (own parts.0)) (λ s at made.
-        let controller = and_parts setting.config.controller (has_selector s) made in
+        inputs_alike (at_node settings.config.node false (own parts.0)) (λ s at made family.
+        let controller = and_parts settings.config.controller (has_selector s) made in
         wanted_elsewhere name (zone_of after) (zone_of o) (λ m e. at_node m false e)
-        setting.family s (finite.values o.pods)
+        family s (finite.values o.pods)
         (selected_none s at
         (ap (λ b. b && selects_on o name key.object) (sym controller.0) ∙ parts.1)))
       where
-        own : bytes_eq name setting.config.node ≡ false
-            → bytes_eq setting.config.node name ≡ false
-        own other = nat_list_eq_equiv.symm setting.config.node name ∙ other
+        own : bytes_eq name settings.config.node ≡ false
+            → bytes_eq settings.config.node name ≡ false
+        own other = nat_list_eq_equiv.symm settings.config.node name ∙ other
 
     pub node_stays :
-        node_touches setting.config.node setting.config.controller o name (zone_in new) key.object
+        node_touches settings.config.node settings.config.controller o name (zone_in new) key.object
         ≡ false
         → Stays
     node_stays none = by (option_eq bytes_eq (zone_of o name) (zone_in new)) refl

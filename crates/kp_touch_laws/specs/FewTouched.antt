@@ -1,7 +1,7 @@
 -- Which Services an event touches at most.
 use Rattle.std.specs.Prelude.{◌≡◌, ℕ, Bool, true, false, List}
 use Rattle.kp_base.specs.declared.key.ObjectKey.{ObjectKey}
-use Rattle.kp_types.specs.Setting.{Setting}
+use Rattle.kp_types.specs.Setting.{Settings}
 use Rattle.kp_types.specs.declared.event.Kind.{Kind}
 use Rattle.kp_types.specs.declared.event.Kind.TheVariants as kind
 use Rattle.kp_types.specs.declared.event.Object.{Object}
@@ -17,8 +17,8 @@ use Rattle.kp_touch_laws.specs.TouchLaws.{touches_in}
 -- An event affects the ports of each Service that it touches.
 abbrev pub TouchedAreAffected : Type 0
 TouchedAreAffected =
-    (setting : Setting) (o : Objects) (event : Event) (service : ObjectKey)
-    → touches_in setting o event service ≡ true → affects setting o event service ≡ true
+    (settings : Settings) (o : Objects) (event : Event) (service : ObjectKey)
+    → touches_in settings o event service ≡ true → affects settings o event service ≡ true
 
 -- whether an object is a node
 abbrev pub is_node : Object → Bool
@@ -45,18 +45,18 @@ KeepsZone o event name = zone_of (objects_step o event) name ≡ zone_of o name
 
 -- An event leaves the zones that count for a Service: that of the proxy's own node and, with the
 -- controller, that of each node on which the Service selects a pod.
-pub record KeepsZonesFor (setting : Setting) (o : Objects) (event : Event) (service : ObjectKey)
+pub record KeepsZonesFor (settings : Settings) (o : Objects) (event : Event) (service : ObjectKey)
     : Type 0 where
-  pub own : KeepsZone o event setting.config.node
-  pub of_pods : setting.config.controller ≡ true → (name : List ℕ)
+  pub own : KeepsZone o event settings.config.node
+  pub of_pods : settings.config.controller ≡ true → (name : List ℕ)
       → selects_on o name service ≡ true → KeepsZone o event name
 
 -- what touches no Service, of events about nodes
-abbrev pub TouchesNone : (Setting → Objects → Event → ObjectKey → Type 0) → Type 0
+abbrev pub TouchesNone : (Settings → Objects → Event → ObjectKey → Type 0) → Type 0
 TouchesNone Leaves =
-    (setting : Setting) (o : Objects) (event : Event) (service : ObjectKey)
-    → AreUnderOwnKeys o → is_about_node event ≡ true → Leaves setting o event service
-    → touches_in setting o event service ≡ false
+    (settings : Settings) (o : Objects) (event : Event) (service : ObjectKey)
+    → AreUnderOwnKeys o → is_about_node event ≡ true → Leaves settings o event service
+    → touches_in settings o event service ≡ false
 
 -- An event about a node touches no Service for which all zones that count stay,
 abbrev pub ZonesCount : Type 0
@@ -64,10 +64,10 @@ ZonesCount = TouchesNone KeepsZonesFor
 
 -- so none where all zones stay,
 abbrev pub AllZonesStay : Type 0
-AllZonesStay = TouchesNone (λ setting o event service. (name : List ℕ) → KeepsZone o event name)
+AllZonesStay = TouchesNone (λ settings o event service. (name : List ℕ) → KeepsZone o event name)
 
 -- and without the controller none where the own zone stays.
 abbrev pub OwnZoneStays : Type 0
 OwnZoneStays =
-    TouchesNone (λ setting o event service.
-    (setting.config.controller ≡ false) × KeepsZone o event setting.config.node)
+    TouchesNone (λ settings o event service.
+    (settings.config.controller ≡ false) × KeepsZone o event settings.config.node)

@@ -7,8 +7,8 @@ ghost use Rattle.kp_touch_laws.specs.KnownObjects.{KnownObjectsStay};
 ghost use Rattle.kp_touch_laws.specs.TouchLaws as touches;
 ghost use Rattle.kp_touch_laws.specs.WorkedTouches as worked;
 
-/// An event leaves the inputs of each port of a Service that it doesn't touch, what is known of the
-/// port, and its contribution to the table. So do events one after the other.
+/// An event leaves the inputs of each port of a Service that it doesn't touch, and in each family
+/// what is known of the port and its contribution to the tables. So do events one after the other.
 pub fn untouched_ports()
     ensures inputs { touches.UntouchedInputs }
     ensures infos { touches.UntouchedInfos }
