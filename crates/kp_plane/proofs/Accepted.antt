@@ -1,10 +1,10 @@
 -- More events change nothing of what syncs cover.
-use Rattle.std.proofs.Common.{◌≡◌, ◌≤◌, ◌-◌, ℕ, List, ◌++◌, take, length, sum, sym, ap, subst, ◌∙◌, arith, Result, Ok, Err, OnOk, OnErr}
+use Rattle.std.proofs.Common.{◌≡◌, ◌≤◌, ◌-◌, ℕ, List, ◌++◌, map, take, length, sum, sym, ap, subst, ◌∙◌, arith, Result, Ok, Err, OnOk, OnErr}
 use Rattle.std.proofs.lemmas.List.{take-append-le, length-append}
 use Rattle.std.proofs.lemmas.List.Sums.{sum_by-take-le}
-use Rattle.kp_base.specs.declared.address.Family.TheVariants.{V4}
 use Rattle.kp_types.specs.declared.event.Event.{Event}
-use Rattle.kp_types.specs.Setting.{both_families}
+use Rattle.kp_types.specs.Setting.{both_families, table_families}
+use Rattle.kp_choice_defs.specs.Settings.{setting_of}
 use Rattle.kp_object_defs.specs.Objects.{objects_after}
 use Rattle.kp_object_defs.specs.SlicesNow.{slices_now}
 use Rattle.kp_table_defs.specs.Edits.{changes_between}
@@ -16,10 +16,10 @@ use Rattle.kp_events.specs.JournalContents as journal
 use Rattle.kp_history.proofs.Synced.{within}
 use Rattle.kp_history.specs.Invariant.{IsHistory}
 use Rattle.kp_history.specs.declared.history.History.{History}
-use Rattle.kp_plane.specs.Parts.{PlaneParts, HasExactHistory, setting_in, syncs_in, batch_after}
+use Rattle.kp_plane.specs.Parts.{PlaneParts, HasExactHistory, settings_in, syncs_in, batch_after}
 use Rattle.kp_plane.specs.Parts.{with_events, records_in}
 use Rattle.kp_history_defs.specs.DirtyPorts.{dirty_ports}
-use Rattle.kp_object_defs.specs.PortByKey.{info_at}
+use Rattle.kp_plane.specs.Families.{AreTold, written_of}
 use Rattle.kp_plane.specs.Invariant.{IsAtPlace, IsPlane, IsPortsAt, IsSlicesAt}
 use Rattle.kp_plane.specs.declared.place.ObjectsAt.{ObjectsAt}
 use Rattle.kp_plane.specs.declared.ports_at.PortsAt.{PortsAt}
@@ -35,15 +35,15 @@ module _ (p : PlaneParts) (more : List Event) where
 
   exact_same : ExactByEvents → RecordsStay → HasExactHistory p → HasExactHistory (with_events p more)
   exact_same goes_on stay h =
-      let same = stay (setting_in p) p.events more p.counts (within p h) in
+      let same = stay (settings_in p) p.events more p.counts (within p h) in
       record {
         counted = ap counts_of same ∙ h.counted;
-        exact = subst (IsExactHistory (setting_in p) (p.events ++ more)) (sym same)
-            (goes_on (setting_in p) p.events more (records_in p) h.exact);
+        exact = subst (IsExactHistory (settings_in p) (p.events ++ more)) (sym same)
+            (goes_on (settings_in p) p.events more (records_in p) h.exact);
       }
 
-  chains_same : HasExactHistory p → (n : ℕ) → chains_covered (setting_in p) (p.events ++ more) p.counts n ≡ chains_covered (setting_in p) p.events p.counts n
-  chains_same h n = ap (λ o. (full_table (setting_in p) o).chains) (covered_same h n)
+  chains_same : HasExactHistory p → (n : ℕ) → chains_covered (settings_in p) (p.events ++ more) p.counts n ≡ chains_covered (settings_in p) p.events p.counts n
+  chains_same h n = ap (λ o. (full_table (settings_in p) o).chains) (covered_same h n)
 
   history_same : ExactByEvents → RecordsStay → (h : History) → IsHistory p h → IsHistory (with_events p more) h
   history_same goes_on stay h is = record {
@@ -52,7 +52,7 @@ module _ (p : PlaneParts) (more : List Event) where
     table = is.table ∙ (λ i. record { chains = sym (chains_same is.exact (syncs_in p)) i; syncs = syncs_in p });
     last = is.last ∙ (λ i. batch_after p.counts (changes_between (sym (chains_same is.exact (syncs_in p - 1)) i) (sym (chains_same is.exact (syncs_in p)) i)));
     exact = exact_same goes_on stay is.exact;
-    no_clash = ap (clash_of (setting_in p)) (covered_same is.exact (syncs_in p)) ∙ is.no_clash;
+    no_clash = ap (clash_of (settings_in p)) (covered_same is.exact (syncs_in p)) ∙ is.no_clash;
   }
 
   place_same : (o : ObjectsAt) → IsAtPlace p.events o → IsAtPlace (p.events ++ more) o
@@ -75,16 +75,16 @@ module _ (p : PlaneParts) (more : List Event) where
   ports_same : HasExactHistory p → (s : PortsAt) → IsPortsAt p s → IsPortsAt (with_events p more) s
   ports_same h s is = record {
     place = place_same s.latest is.place;
-    config = is.config;
-    written = λ key.
-        is.written key
-        ∙ ap (λ o. info_at V4 (setting_in p).config o key) (sym (covered_same h (syncs_in p)));
+    node = is.node;
+    written = subst (λ o. AreTold p.config o (map written_of s.writers.items))
+        (sym (covered_same h (syncs_in p))) is.written;
     untouched = is.untouched;
-    since = since_accepted (setting_in p) p.events (sum p.counts) s.latest.at s.touched more
+    since = since_accepted (settings_in p) p.events (sum p.counts) s.latest.at s.touched more
         is.place.within is.since;
     dirty = is.dirty
-        ∙ (λ i. dirty_ports (setting_in p) (sym (covered_same h (syncs_in p - 1)) i)
-        (sym (covered_same h (syncs_in p)) i));
+        ∙ (λ i. map (λ family. dirty_ports (setting_of family p.config)
+        (sym (covered_same h (syncs_in p - 1)) i) (sym (covered_same h (syncs_in p)) i))
+        (table_families p.config));
   }
 
   -- what holds of a plane's fields still does where more events are accepted

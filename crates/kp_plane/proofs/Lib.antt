@@ -2,8 +2,11 @@ mod Accepted
 mod Between
 mod Collecting
 mod Controlled
+mod Dirty
+mod Each
 mod FewAsked
 mod FewMade
+mod Made
 mod Places
 mod Refreshed
 mod Settled
@@ -15,3 +18,5 @@ mod Synced
 mod Touching
 mod Unchanged
 mod Walks
+mod Writers
+mod WritersBack

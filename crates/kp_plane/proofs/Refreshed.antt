@@ -21,9 +21,11 @@ use Rattle.kp_lemmas.proofs.Orders.{one_from_tie, tie_of_itself}
 use Rattle.std.proofs.Common.{is_some}
 use Rattle.std.specs.FinMap.{FinMap}
 use Rattle.std.specs.declared.cmp.Ordering.{Ordering}
+use Rattle.kp_base.specs.declared.address.Family.{Family}
+use Rattle.kp_base.specs.declared.config.Config.{Config}
 use Rattle.kp_base.specs.declared.key.ObjectKey.{ObjectKey}
 use Rattle.kp_base.specs.declared.key.PortKey.{PortKey}
-use Rattle.kp_types.specs.Setting.{Setting}
+use Rattle.kp_types.specs.Setting.{Setting, config_for}
 use Rattle.kp_types.specs.declared.service.Service.{Service}
 use Rattle.kp_object_defs.specs.Objects.{Objects}
 use Rattle.kp_object_defs.specs.Order.{distinct_in_order}
@@ -221,6 +223,14 @@ pub none_named : (o : Objects) (service : ObjectKey) → finite.get o.services s
     → port_keys_at o service ≡ []
 none_named o service is =
     ap (λ o. distinct_in_order port_key_cmp (flat_map port_keys_of (option_to_list o))) is
+
+-- what objects tell one family they tell another that is the same
+pub told_by : (config : Config) (o : Objects) (service : ObjectKey) {f g : Family} → f ≡ g
+    → filter_map (info_at f (config_for f config) o) (port_keys_at o service)
+    ≡ filter_map (info_at g (config_for g config) o) (port_keys_at o service)
+told_by config o service same =
+    ap (λ family. filter_map (info_at family (config_for family config) o) (port_keys_at o service))
+    same
 
 -- what is made of the ports of one Service
 pub made_one : (setting : Setting) (written : Ports) (o : Objects) (service : ObjectKey)

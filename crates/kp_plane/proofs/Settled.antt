@@ -1,26 +1,26 @@
 -- What holds of ports once a sync is kept.
-use Rattle.std.proofs.Common.{◌≡◌, ◌≤◌, ◌<◌, nat_lt, Bool, true, false, length, sym, ap, subst, ◌∙◌}
-use Rattle.std.proofs.Common.{arith, sum, refl}
+use Rattle.std.proofs.Common.{◌≡◌, ◌≤◌, ◌<◌, nat_lt, Bool, true, false, List, map, length, sym, subst}
+use Rattle.std.proofs.Common.{◌∙◌, arith, sum, refl}
 use Rattle.std.proofs.lemmas.Bool.Decides.{nat_tests}
-use Rattle.std.specs.FinMap as finite
-use Rattle.kp_base.specs.declared.address.Family.TheVariants.{V4}
+use Rattle.kp_types.specs.Setting.{table_families}
+use Rattle.kp_choice_defs.specs.Settings.{setting_of}
 use Rattle.kp_object_defs.specs.Objects.{objects_after}
-use Rattle.kp_object_defs.specs.PortByKey.{info_at}
 use Rattle.kp_history_defs.specs.DirtyPorts.{dirty_ports}
 use Rattle.kp_history.specs.declared.history.History.{History}
 use Rattle.kp_history.proofs.Synced.{all_counted, before_next, objects_next, within}
-use Rattle.kp_writer.specs.Known.{ArePortsOf}
-use Rattle.kp_writer.specs.Written.{Ports, written_ports}
+use Rattle.kp_writer.specs.Written.{WriterParts}
 use Rattle.kp_plane.specs.Collected.{is_collected}
+use Rattle.kp_plane.specs.Families.{AreOfNode, AreTold, KnowUntouched, newest_of, written_of}
 use Rattle.kp_plane.specs.Invariant.{AreTouchedBetween, Holds, IsAtPlace, IsNext, IsPortsAt}
 use Rattle.kp_plane.specs.Invariant.{IsSettled}
-use Rattle.kp_plane.specs.Parts.{PlaneParts, setting_in, synced, uncovered_in}
+use Rattle.kp_plane.specs.Parts.{PlaneParts, settings_in, synced, uncovered_in}
 use Rattle.kp_plane.specs.declared.collected.Collected.{Collected}
 use Rattle.kp_plane.specs.declared.next.Next.{Next}
 use Rattle.kp_plane.specs.declared.place.ObjectsAt.{ObjectsAt}
 use Rattle.kp_plane.specs.declared.ports_at.PortsAt.{PortsAt}
 use Rattle.kp_plane.proofs.Synced.{nothing_new}
 use Rattle.kp_plane.proofs.Touching.{both_answers}
+use Rattle.kp_plane.proofs.Writers.{newest_node}
 
 module _ (p : PlaneParts) (h : History) (s t : PortsAt) (next : Next) (held : Holds p h s)
     (is : IsNext p s next) where
@@ -41,21 +41,34 @@ module _ (p : PlaneParts) (h : History) (s t : PortsAt) (next : Next) (held : Ho
       let all : length p.events ≤ h.covered = grind (arith, nat_tests) in
       omega (arith, few, covered, all)
 
+  abbrev before : List WriterParts
+  before = s.writers.items
+
+  abbrev after : List WriterParts
+  after = t.writers.items
+
+  -- what is written then is what the objects of all events tell, in the node's families
   all_written : (is_new : Bool) → is_new ≡ nat_lt h.covered (length p.events)
-      → IsSettled is_new next.dirty s t
-      → ArePortsOf (setting_in p) (objects_after p.events) (written_ports t.writer)
-  all_written true new settled = λ key.
-      ap (λ (m : Ports). finite.get m key) settled.written
-      ∙ (is.newest (some_new true new refl)).newest key
-  all_written false old settled = λ key.
-      ap (λ (m : Ports). finite.get m key) settled.written
-      ∙ held.ports.written key
-      ∙ ap (λ o. info_at V4 (setting_in p).config o key)
-      (nothing_new p h held.history (none_new false old refl))
+      → IsSettled is_new next.dirty.items s t
+      → AreTold p.config (objects_after p.events) (map written_of after)
+  all_written true new settled =
+      subst (AreTold p.config (objects_after p.events)) (sym settled.written)
+      (is.newest (some_new true new refl)).newest
+  all_written false old settled =
+      subst (AreTold p.config (objects_after p.events)) (sym settled.written)
+      (subst (λ o. AreTold p.config o (map written_of before))
+      (nothing_new p h held.history (none_new false old refl)) held.ports.written)
+
+  all_of_node : (is_new : Bool) → IsSettled is_new next.dirty.items s t
+      → AreOfNode p.config (map written_of after)
+  all_of_node true settled =
+      subst (AreOfNode p.config) (sym settled.written)
+      (newest_node p.config before held.ports.node)
+  all_of_node false settled = subst (AreOfNode p.config) (sym settled.written) held.ports.node
 
   -- nothing was touched since this sync
   all_since : (is_new : Bool) → is_new ≡ nat_lt h.covered (length p.events)
-      → AreTouchedBetween (setting_in p) p.events (sum (synced p).counts) s.latest.at s.touched
+      → AreTouchedBetween (settings_in p) p.events (sum (synced p).counts) s.latest.at s.touched
   all_since true new =
       let up = is.newest (some_new true new refl) in
       let at = up.at in
@@ -69,27 +82,28 @@ module _ (p : PlaneParts) (h : History) (s t : PortsAt) (next : Next) (held : Ho
       let same = none_new false old refl in
       let all = all_counted p held.history.exact in
       let here : sum p.counts ≡ sum (synced p).counts = omega (arith, covered, same, all) in
-      subst (λ from. AreTouchedBetween (setting_in p) p.events from s.latest.at s.touched) here
+      subst (λ from. AreTouchedBetween (settings_in p) p.events from s.latest.at s.touched) here
       held.ports.since
 
   pub settled_ports : (is_new : Bool) → is_new ≡ nat_lt h.covered (length p.events)
-      → IsSettled is_new next.dirty s t → IsPortsAt (synced p) t
+      → IsSettled is_new next.dirty.items s t → IsPortsAt (synced p) t
   settled_ports is_new new settled = record {
     place = subst (IsAtPlace p.events) (sym settled.latest) held.ports.place;
-    config = settled.config ∙ held.ports.config;
-    written = λ key.
-        all_written is_new new settled key
-        ∙ ap (λ o. info_at V4 (setting_in p).config o key) (sym (objects_next p held.history.exact));
-    untouched = λ key none.
-        ap (λ (m : Ports). finite.get m key) settled.newest
-        ∙ held.ports.untouched key
-        (ap (λ (u : Collected). is_collected u key.object) (sym settled.touched) ∙ none)
-        ∙ ap (λ (l : ObjectsAt). info_at V4 (setting_in p).config l.objects key) (sym settled.latest);
-    since = subst (λ (u : Collected). AreTouchedBetween (setting_in p) p.events
+    node = all_of_node is_new settled;
+    written = subst (λ o. AreTold p.config o (map written_of after))
+        (sym (objects_next p held.history.exact)) (all_written is_new new settled);
+    untouched = subst (λ (l : ObjectsAt). KnowUntouched p.config l.objects
+        (is_collected t.touched) (map newest_of after)) (sym settled.latest)
+        (subst (λ (u : Collected). KnowUntouched p.config s.latest.objects (is_collected u)
+        (map newest_of after)) (sym settled.touched)
+        (subst (KnowUntouched p.config s.latest.objects (is_collected s.touched))
+        (sym settled.newest) held.ports.untouched));
+    since = subst (λ (u : Collected). AreTouchedBetween (settings_in p) p.events
         (sum (synced p).counts) t.latest.at u) (sym settled.touched)
-        (subst (λ (l : ObjectsAt). AreTouchedBetween (setting_in p) p.events
+        (subst (λ (l : ObjectsAt). AreTouchedBetween (settings_in p) p.events
         (sum (synced p).counts) l.at s.touched) (sym settled.latest) (all_since is_new new));
     dirty = settled.dirty ∙ is.dirty
-        ∙ (λ i. dirty_ports (setting_in p) (sym (before_next p held.history.exact) i)
-        (sym (objects_next p held.history.exact) i));
+        ∙ (λ i. map (λ family. dirty_ports (setting_of family p.config)
+        (sym (before_next p held.history.exact) i) (sym (objects_next p held.history.exact) i))
+        (table_families p.config));
   }

@@ -1,17 +1,18 @@
 -- What events touch from one place of a journal to another.
-use Rattle.std.proofs.Common.{◌≡◌, ◌≤◌, ◌<◌, ◌+◌, ◌&&◌, ◌||◌, ℕ, Bool, true, false, List, [], ◌∷◌}
+use Rattle.std.proofs.Common.{◌≡◌, ◌≤◌, ◌<◌, ◌+◌, ◌*◌, ◌&&◌, ◌||◌, ℕ, Bool, true, false, List, [], ◌∷◌}
 use Rattle.std.proofs.Common.{◌++◌, take, drop, length, get_or, inl, inr, ◌⊎◌, refl, sym, ap, subst}
 use Rattle.std.proofs.Common.{◌∙◌, arith, filter}
 use Rattle.std.specs.FinMap as finite
 use Rattle.std.specs.List.{fold, sum_by}
 use Rattle.std.proofs.Math.Bool.{or-true}
+use Rattle.std.proofs.Math.Nat.{mul-le-mul_left}
 use Rattle.std.proofs.lemmas.Bool.{and_parts, or_cases}
 use Rattle.std.proofs.lemmas.List.{drop-append-le, length-take-le, take-append-drop, take-append-le}
 use Rattle.std.proofs.lemmas.List.{take-take, take_more}
 use Rattle.std.proofs.lemmas.List.Sums.{fold-append}
 use mathlib.Core.Bool.{or_assoc}
 use Rattle.kp_base.specs.declared.key.ObjectKey.{ObjectKey}
-use Rattle.kp_types.specs.Setting.{Setting}
+use Rattle.kp_types.specs.Setting.{Settings}
 use Rattle.kp_types.specs.declared.event.Event.{Event}
 use Rattle.kp_types.specs.declared.service.Service.{Service}
 use Rattle.kp_object_defs.specs.Objects.{Objects, no_objects, objects_after, objects_step}
@@ -29,16 +30,16 @@ use Rattle.kp_plane.proofs.Touching.{both_answers}
 abbrev count : (Objects → Service → ℕ) → Objects → (ObjectKey → Bool) → ℕ
 count f o touched = sum_by (f o) (filter (λ s. touched s.key) (finite.values o.services))
 
-module _ (setting : Setting) where
+module _ (settings : Settings) where
   -- events and then others touch what either touch
   touches_both : (o : Objects) (es more : List Event) (k : ObjectKey)
-      → touches_one setting o (es ++ more) k
-      ≡ touches_one setting o es k || touches_one setting (fold objects_step o es) more k
+      → touches_one settings o (es ++ more) k
+      ≡ touches_one settings o es k || touches_one settings (fold objects_step o es) more k
   touches_both o [] more k = refl
   touches_both o (e ∷ es) more k =
-      ap (λ b. touches_in setting o e k || b) (touches_both (objects_step o e) es more k)
-      ∙ sym (or_assoc (touches_in setting o e k) (touches_one setting (objects_step o e) es k)
-      (touches_one setting (fold objects_step (objects_step o e) es) more k))
+      ap (λ b. touches_in settings o e k || b) (touches_both (objects_step o e) es more k)
+      ∙ sym (or_assoc (touches_in settings o e k) (touches_one settings (objects_step o e) es k)
+      (touches_one settings (fold objects_step (objects_step o e) es) more k))
 
   module _ (events : List Event) where
     -- the objects at a place are those at a place before it, and then those of the events between
@@ -54,50 +55,50 @@ module _ (setting : Setting) where
     -- what one event more touches
     touches_next : (from at : ℕ) (e : Event) → from ≤ at → at < length events
         → e ≡ get_or events at e → (k : ObjectKey)
-        → touched_between setting events from (at + 1) k
-        ≡ touched_between setting events from at k
-        || (touches_in setting (objects_after (take at events)) e k || false)
+        → touched_between settings events from (at + 1) k
+        ≡ touched_between settings events from at k
+        || (touches_in settings (objects_after (take at events)) e k || false)
     touches_next from at e later few is k =
         let before = objects_after (take from events) in
         let between = drop from (take at events) in
         let all = length-take-le at events (omega (arith, few)) in
-        ap (λ es. touches_one setting before (drop from es) k)
+        ap (λ es. touches_one settings before (drop from es) k)
         (take_more events at e few ∙ ap (λ d. take at events ++ d ∷ []) (sym is))
-        ∙ ap (λ es. touches_one setting before es k)
+        ∙ ap (λ es. touches_one settings before es k)
         (drop-append-le from (take at events) (e ∷ []) (omega (arith, later, all)))
         ∙ touches_both before between (e ∷ []) k
-        ∙ ap (λ o. touches_one setting before between k || (touches_in setting o e k || false))
+        ∙ ap (λ o. touches_one settings before between k || (touches_in settings o e k || false))
         (objects_between from at later)
 
-    module _ (from at : ℕ) (t u : Collected) (is : AreTouchedBetween setting events from at t) where
+    module _ (from at : ℕ) (t u : Collected) (is : AreTouchedBetween settings events from at t) where
       -- one event more, and what it touches
       pub since_more : (e : Event) (o : Objects) (changed : Bool) → at < length events
           → e ≡ get_or events at e → o ≡ objects_after (take at events)
-          → Collects (λ k. changed && touches_in setting o e k) t u
-          → AreTouchedBetween setting events from (at + 1) u
+          → Collects (λ k. changed && touches_in settings o e k) t u
+          → AreTouchedBetween settings events from (at + 1) u
       since_more e o changed few found here adds = record {
         later = let later = is.later in omega (arith, later);
         few = λ k some.
             touches_next from at e is.later few found k
-            ∙ by k (or_cases (changed && touches_in setting o e k) (is_collected t k)
+            ∙ by k (or_cases (changed && touches_in settings o e k) (is_collected t k)
             (sym (adds k) ∙ some));
       }
         where
           by : (k : ObjectKey)
-              → ((changed && touches_in setting o e k) ≡ true) ⊎ (is_collected t k ≡ true)
-              → touched_between setting events from at k
-              || (touches_in setting (objects_after (take at events)) e k || false) ≡ true
+              → ((changed && touches_in settings o e k) ≡ true) ⊎ (is_collected t k ≡ true)
+              → touched_between settings events from at k
+              || (touches_in settings (objects_after (take at events)) e k || false) ≡ true
           by k (inl new) =
-              let touches = (and_parts changed (touches_in setting o e k) new).1 in
-              ap (λ b. touched_between setting events from at k || (b || false))
-              (ap (λ p. touches_in setting p e k) (sym here) ∙ touches)
-              ∙ or-true (touched_between setting events from at k)
+              let touches = (and_parts changed (touches_in settings o e k) new).1 in
+              ap (λ b. touched_between settings events from at k || (b || false))
+              (ap (λ p. touches_in settings p e k) (sym here) ∙ touches)
+              ∙ or-true (touched_between settings events from at k)
           by k (inr old) =
-              ap (λ b. b || (touches_in setting (objects_after (take at events)) e k || false))
+              ap (λ b. b || (touches_in settings (objects_after (take at events)) e k || false))
               (is.few k old)
 
       -- where the same are collected
-      pub since_same : CollectsSame t u → AreTouchedBetween setting events from at u
+      pub since_same : CollectsSame t u → AreTouchedBetween settings events from at u
       since_same same = record {
         later = is.later;
         few = λ k some. is.few k (sym (same k) ∙ some);
@@ -105,7 +106,7 @@ module _ (setting : Setting) where
 
       -- where none are
       pub since_none : ((k : ObjectKey) → is_collected u k ≡ false)
-          → AreTouchedBetween setting events from at u
+          → AreTouchedBetween settings events from at u
       since_none none = record {
         later = is.later;
         few = λ k some. absurd (both_answers (is_collected u k) some (none k));
@@ -113,33 +114,34 @@ module _ (setting : Setting) where
 
     -- where more events were accepted
     pub since_accepted : (from to : ℕ) (t : Collected) (more : List Event) → to ≤ length events
-        → AreTouchedBetween setting events from to t
-        → AreTouchedBetween setting (events ++ more) from to t
+        → AreTouchedBetween settings events from to t
+        → AreTouchedBetween settings (events ++ more) from to t
     since_accepted from to t more within is = record {
       later = is.later;
       few = λ k some.
           let later = is.later in
           let first = take-append-le from events more (omega (arith, later, within)) in
           let last = take-append-le to events more within in
-          (λ i. touches_one setting (objects_after (first i)) (drop from (last i)) k)
+          (λ i. touches_one settings (objects_after (first i)) (drop from (last i)) k)
           ∙ is.few k some;
     }
 
-    -- what the Services count that are collected at the end is at most what those do that events
-    -- touched
+    -- what the Services count that are collected at the end, so many times, is at most what those
+    -- do that events touched
     pub counted_between : (f : Objects → Service → ℕ) (from : ℕ) (here : ObjectsAt) (t : Collected)
-        → (old new : ℕ) → AreTouchedBetween setting events from here.at t → IsAtPlace events here
-        → here.at ≡ length events → AreJoined t
-        → new ≤ old + count f here.objects (is_touched t.joined)
-        → new ≤ old + count f (objects_after events)
-        (touched_between setting events from (length events))
-    counted_between f from here t old new is place at joined counted =
-        let few = more_touched (f here.objects) here.objects (is_touched t.joined)
-        (touched_between setting events from here.at)
-        (λ k some. is.few k (sym (joined k) ∙ some)) in
-        let most : new ≤ old + count f here.objects (touched_between setting events from here.at) =
+        → (times old new : ℕ) → AreTouchedBetween settings events from here.at t
+        → IsAtPlace events here → here.at ≡ length events → AreJoined t
+        → new ≤ old + times * count f here.objects (is_touched t.joined)
+        → new ≤ old + times * count f (objects_after events)
+        (touched_between settings events from (length events))
+    counted_between f from here t times old new is place at joined counted =
+        let few = mul-le-mul_left times (more_touched (f here.objects) here.objects (is_touched t.joined)
+        (touched_between settings events from here.at)
+        (λ k some. is.few k (sym (joined k) ∙ some))) in
+        let most : new ≤ old + times * count f here.objects
+        (touched_between settings events from here.at) =
         omega (arith, few, counted) in
-        subst (λ n. new ≤ old + count f (objects_after events)
-        (touched_between setting events from n)) at
-        (subst (λ o. new ≤ old + count f o (touched_between setting events from here.at))
+        subst (λ n. new ≤ old + times * count f (objects_after events)
+        (touched_between settings events from n)) at
+        (subst (λ o. new ≤ old + times * count f o (touched_between settings events from here.at))
         (at_end events events here place at refl) most)

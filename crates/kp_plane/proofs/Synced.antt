@@ -16,7 +16,7 @@ use Rattle.kp_door_defs.specs.Decision.{decision_of}
 use Rattle.kp_table_defs.specs.Edits.{SameRulesAreEqual, changes_between}
 use Rattle.kp_table_defs.specs.Rebuild.{clash_of, full_table}
 use Rattle.kp_decide.specs.Told.{told}
-use Rattle.kp_history.specs.Parts.{PlaneParts, HasExactHistory, setting_in, uncovered_in}
+use Rattle.kp_history.specs.Parts.{PlaneParts, HasExactHistory, settings_in, uncovered_in}
 use Rattle.kp_history.specs.Parts.{objects_in, chains_in, next_edits, synced}
 use Rattle.kp_history.specs.Invariant.{IsHistory, LeadsToNext}
 use Rattle.kp_history.specs.declared.history.History.{History}
@@ -127,9 +127,9 @@ pub leads_nowhere : SameRulesAreEqual → (p : PlaneParts) (h : History) → IsH
 leads_nowhere rules p h is none {edits} empty =
     let all = nothing_new p h is none in
     record {
-      no_clash = ap (clash_of (setting_in p)) (sym all) ∙ is.no_clash;
+      no_clash = ap (clash_of (settings_in p)) (sym all) ∙ is.no_clash;
       edits = empty ∙ sym (no_changes rules (chains_in p))
-          ∙ ap (λ o. changes_between (chains_in p) (full_table (setting_in p) o).chains) all;
+          ∙ ap (λ o. changes_between (chains_in p) (full_table (settings_in p) o).chains) all;
     }
 
 -- where the last sync covers all, no event is left
@@ -147,9 +147,9 @@ some_left p h is more all =
 
 -- the decision on the objects that the last sync covers
 pub same_decision : (p q : PlaneParts) → p ≡ q → (o : Objects) → o ≡ objects_in p → (packet : Packet) (drawn : ℕ → ℕ) (lists : RecentParts)
-    → told (decision_of (setting_in p) o packet drawn lists) ≡ explained_in q packet drawn lists
+    → told (decision_of (settings_in p) o packet drawn lists) ≡ explained_in q packet drawn lists
 same_decision p q same o is packet drawn lists =
-    ap (λ o. told (decision_of (setting_in p) o packet drawn lists)) is ∙ ap (λ r. explained_in r packet drawn lists) same
+    ap (λ o. told (decision_of (settings_in p) o packet drawn lists)) is ∙ ap (λ r. explained_in r packet drawn lists) same
 
 -- ---- What a sync tells
 
@@ -170,7 +170,7 @@ module _ (p q : PlaneParts) (r : SyncRecord) (next : q ≡ synced p) (numbered :
   }
 
   -- and the next one
-  pub record_next : clash_of (setting_in p) (objects_after p.events) ≡ None → IsNextRecord p r
+  pub record_next : clash_of (settings_in p) (objects_after p.events) ≡ None → IsNextRecord p r
   record_next no_clash = record {
     events = counted;
     exact = record { is_numbered = number; has_no_clash = no_clash; is_changes = edits };

@@ -2,13 +2,14 @@
 use Rattle.std.proofs.Common.{◌≡◌, ◌&&◌, ◌||◌, ◌↔◌, Bool, true, false, refl, sym, ap, ◌∙◌}
 use Rattle.std.specs.Prelude.{IsFalse}
 use Rattle.std.proofs.lemmas.Bool.{or_parts}
+use Rattle.kp_base.specs.declared.address.Family.{Family}
 use Rattle.kp_base.specs.declared.key.ObjectKey.{ObjectKey}
-use Rattle.kp_types.specs.Setting.{Setting}
+use Rattle.kp_types.specs.Setting.{Setting, Settings, view_of}
 use Rattle.kp_types.specs.declared.event.Event.{Event}
 use Rattle.kp_object_defs.specs.Objects.{Objects, objects_step}
 use Rattle.kp_object_defs.specs.OwnKeys.{AreUnderOwnKeys}
 use Rattle.kp_object_defs.specs.PortByKey.{info_at}
-use Rattle.kp_touch_laws.specs.TouchLaws.{UntouchedInfos, touches_in}
+use Rattle.kp_touch_laws.specs.TouchLaws.{UntouchedInfos, known_at, touches_in}
 use Rattle.kp_writer.specs.Written.{Ports}
 use Rattle.kp_plane.specs.Known.{KnowsUntouched, LeavesUntouched}
 
@@ -37,23 +38,6 @@ module _ (setting : Setting) where
       let left = leaves key (sym (same key.object) ∙ none) in
       (left.0, ap (λ o. info_at setting.family setting.config o key) is ∙ left.1)
 
-  -- what an event leaves, where the Services that it touches are added
-  pub leaves_one : UntouchedInfos → (o after : Objects) (t u : ObjectKey → Bool) (e : Event)
-      → (changed : Bool) → AreUnderOwnKeys o → (IsFalse changed ↔ (objects_step o e ≡ o))
-      → after ≡ objects_step o e
-      → ((k : ObjectKey) → u k ≡ (changed && touches_in setting o e k) || t k)
-      → LeavesUntouched setting o t after u
-  leaves_one stay o after t u e true own same is adds = λ key none.
-      let parts = or_parts (touches_in setting o e key.object) (t key.object)
-      (sym (adds key.object) ∙ none) in (
-        parts.1,
-        ap (λ p. info_at setting.family setting.config p key) is
-            ∙ stay setting o e key own parts.0,
-      )
-  leaves_one stay o after t u e false own same is adds = λ key none.
-      let parts = or_parts false (t key.object) (sym (adds key.object) ∙ none) in
-      (parts.1, ap (λ p. info_at setting.family setting.config p key) (is ∙ same.0 refl))
-
   -- what is known of the ports that are left stays known
   pub knows_on : (o p : Objects) (t u : ObjectKey → Bool) (ports : Ports)
       → KnowsUntouched setting o t ports → LeavesUntouched setting o t p u
@@ -66,3 +50,20 @@ module _ (setting : Setting) where
       → ((k : ObjectKey) → t k ≡ u k) → KnowsUntouched setting o t ports
       → KnowsUntouched setting o u ports
   knows_same o t u ports same knows = λ key none. knows key (same key.object ∙ none)
+
+module _ (settings : Settings) (family : Family) where
+  -- what an event leaves in a family, where the Services that it touches are added
+  pub leaves_one : UntouchedInfos → (o after : Objects) (t u : ObjectKey → Bool) (e : Event)
+      → (changed : Bool) → AreUnderOwnKeys o → (IsFalse changed ↔ (objects_step o e ≡ o))
+      → after ≡ objects_step o e
+      → ((k : ObjectKey) → u k ≡ (changed && touches_in settings o e k) || t k)
+      → LeavesUntouched (view_of family settings) o t after u
+  leaves_one stay o after t u e true own same is adds = λ key none.
+      let parts = or_parts (touches_in settings o e key.object) (t key.object)
+      (sym (adds key.object) ∙ none) in (
+        parts.1,
+        ap (λ p. known_at family settings p key) is ∙ stay family settings o e key own parts.0,
+      )
+  leaves_one stay o after t u e false own same is adds = λ key none.
+      let parts = or_parts false (t key.object) (sym (adds key.object) ∙ none) in
+      (parts.1, ap (λ p. known_at family settings p key) (is ∙ same.0 refl))

@@ -14,7 +14,7 @@ use Rattle.kp_table_defs.specs.Edits.{SameRulesAreEqual, is_found_with, write_if
 use Rattle.kp_table_defs.specs.Rebuild.{Chains}
 
 -- nothing comes of elements that give nothing
-none_of : {X Y : Type 0} (f : X → Option Y) (xs : List X) → AllByRecursion (λ x. f x ≡ None) xs → filter_map f xs ≡ []
+pub none_of : {X Y : Type 0} (f : X → Option Y) (xs : List X) → AllByRecursion (λ x. f x ≡ None) xs → filter_map f xs ≡ []
 none_of f [] all = refl
 none_of f (x ∷ xs) all = ap (λ o. cons_option o (filter_map f xs)) all.0 ∙ none_of f xs all.1
 

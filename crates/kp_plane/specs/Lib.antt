@@ -1,5 +1,6 @@
 pub mod Collected
 pub mod Counts
+pub mod Families
 pub mod Invariant
 pub mod Known
 pub mod Notes

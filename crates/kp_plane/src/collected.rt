@@ -27,10 +27,9 @@ impl Drop for Collected {
 
 impl Collected {
     ghost use Rattle.std.specs.Prelude.{◌&&◌, true, false, IsTrue};
-    ghost use Rattle.kp_base.specs.declared.address.Family.TheVariants.{V4};
-    ghost use Rattle.kp_choice_defs.specs.Settings.{setting_of};
     ghost use Rattle.kp_touch_laws.specs.TouchLaws.{touches_in};
     ghost use Rattle.kp_plane.specs.Collected.{AreJoined, Collects, CollectsSame, is_collected};
+    ghost use Rattle.kp_choice_defs.specs.Settings.{settings_of};
 
     /// No Services.
     pub(crate) fn new(alloc: Global) -> Collected
@@ -56,7 +55,7 @@ impl Collected {
             IsFalse changed ↔ (objects_step objects.old event.now ≡ objects.old)) }
         ensures ok { OnOk result (objects.new ≡ objects_step objects.old event.now) }
         ensures adds { IfOk result (λ changed. Collects (λ k. changed
-            && touches_in (setting_of V4 config.now) objects.old event.now k)
+            && touches_in (settings_of config.now) objects.old event.now k)
             self.old self.new) }
         ensures err { OnErr result (objects.new ≡ objects.old) }
         ensures same { OnErr result (CollectsSame self.old self.new) }

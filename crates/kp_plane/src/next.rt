@@ -1,34 +1,38 @@
 //! What one more sync keeps.
-ghost use Rattle.std.specs.Prelude.{◌≡◌, ◌+◌, ◌≤◌, [], length, None, IfOk, IfErr, OnOk, OnErr};
-ghost use Rattle.kp_base.specs.declared.address.Family.TheVariants.{V4};
-ghost use Rattle.kp_choice_defs.specs.Settings.{setting_of};
+ghost use Rattle.std.specs.Prelude.{◌≡◌, ◌+◌, ◌++◌, ◌≤◌, [], length, map, IfOk, IfErr, OnOk, OnErr};
+ghost use Rattle.std.specs.List.{AllByRecursion, flat_map, sum_by};
+ghost use Rattle.kp_types.specs.Setting.{table_families};
+ghost use Rattle.kp_choice_defs.specs.Settings.{settings_of};
 ghost use Rattle.kp_full_table.specs.Faults.{TellsClash};
 ghost use Rattle.kp_object_defs.specs.Objects.{objects_after};
 ghost use Rattle.kp_table_defs.specs.Rebuild.{clash_of};
 ghost use Rattle.kp_writer.specs.Batch.{own_rules_written};
-ghost use Rattle.kp_writer.specs.Own.{own_rule_count};
+ghost use Rattle.kp_writer.specs.Known.{pending_ports};
 ghost use Rattle.kp_writer.specs.Written as written;
 ghost use Rattle.kp_plane.specs.Counts.{IsCounted};
+ghost use Rattle.kp_plane.specs.Families.{HasNoClash, Stands, newest_clash, own_dirty_rules};
 ghost use Rattle.kp_plane.specs.Invariant.{Holds, IsMade, IsNext, IsPortsAt, parts_of};
 ghost use Rattle.kp_plane.specs.Parts as parts;
 ghost use Rattle.kp_plane.specs.Parts.{PlaneParts as Parts};
 
-use crate::ports_at::PortsAt;
+use crate::ports_at::{PortsAt, none_dirty};
 use kp_base::{Config, Items, NoMemory, Steps};
 use kp_events::Journal;
 use kp_full_table::TableFault;
 use kp_history::History;
 use kp_rules::Table;
-use kp_types::Batch;
+use kp_types::{Batch, Edit};
 use kp_writer::{Pending, Writer};
 use std::alloc::Global;
+use std::mem::replace;
 use std::sync::ledger::Ledger;
 
-/// The batch of a sync, and the ports of which something else is known after it than before.
+/// The batch of a sync, and the ports of which each family that the node has tables of knows
+/// something else after it than before.
 #[derive(Drop)]
 pub(crate) struct Next {
     pub(crate) batch: Batch,
-    pub(crate) dirty: Items<Pending>,
+    pub(crate) dirty: Vec<Items<Pending>>,
 }
 
 /// What a sync of all events keeps. Where no event came since the last sync it is nothing, and
@@ -46,7 +50,7 @@ pub(crate) fn next_sync<L: Ledger, A: Ledger>(
     ensures ports { IsPortsAt (parts_of config.now journal.now history.now) ports.new }
     ensures next { IfOk result (IsNext (parts_of config.now journal.now history.now) ports.new) }
     ensures clash { IfErr result (TellsClash
-        (clash_of (setting_of V4 config.now) (objects_after journal.now.events))) }
+        (clash_of (settings_of config.now) (objects_after journal.now.events))) }
     ensures steps { IsCounted
         (parts.uncovered_in (parts_of config.now journal.now history.now))
         (parts.most_steps (parts_of config.now journal.now history.now)) steps.old steps.new }
@@ -58,51 +62,102 @@ pub(crate) fn next_sync<L: Ledger, A: Ledger>(
     kp_object_laws::own_keys();
     kp_rules::laws::same_rules_are_equal();
     kp_history_laws::dirty_ports();
+    kp_table_laws::family_stands_alone();
+    kp_table_laws::no_clash_in_families();
+    kp_table_laws::changes_of_node();
     kp_writer::known_ports();
     kp_writer::known_dirty_ports();
     let events = journal.events();
     if events.len() as u64 == history.covered {
-        return Ok(nothing(alloc));
+        let next = nothing(alloc, config)?;
+        return Ok(next);
     }
     ports.bring_on(alloc, config, events, steps, asked)?;
-    made(alloc, &ports.writer, &history.table, steps)
+    made(alloc, &ports.writers, &history.table, steps)
 }
 
 /// No edit and no dirty port.
-fn nothing(alloc: Global) -> Next
-    ensures edits { result.batch.edits ≡ [] }
-    ensures dirty { result.dirty ≡ [] }
+fn nothing(alloc: Global, config: &Config) -> Result<Next, NoMemory>
+    ensures edits { IfOk result (λ n. n.batch.edits ≡ []) }
+    ensures dirty { IfOk result (λ n. n.dirty.items
+        ≡ map (λ family. []) (table_families config.now)) }
 {
-    Next {
+    let dirty = none_dirty(alloc, config)?;
+    Ok(Next {
         batch: Batch {
             edits: Items::new(alloc),
         },
-        dirty: Items::new(alloc),
-    }
+        dirty,
+    })
 }
 
-/// The batch that leads from what a writer has written, whose table is given, to what it knows now,
-/// and the ports that differ.
+/// What all writers make of a sync, where the table of what they have written is given. Nothing is
+/// kept, so that where one is refused all stay as they were.
 fn made<L: Ledger>(
     alloc: Global,
-    writer: &Writer,
+    writers: &[Writer],
     table: &Table,
     steps: &mut Steps<L>,
 ) -> Result<Next, TableFault>
-    requires table { table.now.chains
-        ≡ written.chains_of writer.now (written.written_ports writer.now) }
-    requires apart { written.clash_of writer.now (written.written_ports writer.now) ≡ None }
-    ensures next { IfOk result (IsMade writer.now) }
-    ensures clash { IfErr result (TellsClash
-        (written.clash_of writer.now (written.newest_ports writer.now))) }
+    requires { AllByRecursion (Stands table.now.chains) writers.now }
+    ensures next { IfOk result (IsMade writers.now) }
+    ensures clash { IfErr result (TellsClash (newest_clash writers.now)) }
     ensures made { IfOk result (λ n. steps.old + own_rules_written n.batch.edits ≤ steps.new) }
-    ensures steps { steps.new ≤ steps.old
-        + own_rule_count (written.setting_in writer.now)
-        (written.dirty_of writer.now (written.newest_ports writer.now)) }
+    ensures steps { steps.new ≤ steps.old + sum_by own_dirty_rules writers.now }
 {
-    let dirty = writer.dirty(alloc)?;
-    let batch = writer.edits(alloc, table, steps)?;
-    Ok(Next { batch, dirty })
+    let dirty = all_dirty(alloc, writers)?;
+    let edits = all_edits(alloc, writers, table, steps)?;
+    Ok(Next {
+        batch: Batch { edits },
+        dirty,
+    })
+}
+
+/// The ports of which each writer knows something else than it has written.
+fn all_dirty(alloc: Global, writers: &[Writer]) -> Result<Vec<Items<Pending>>, NoMemory>
+    ensures { IfOk result (λ dirty. dirty.items ≡ map pending_ports writers.now) }
+{
+    let mut dirty = Vec::new(alloc);
+    for writer in writers {
+        dirty.push(writer.dirty(alloc)?)?;
+    }
+    Ok(dirty)
+}
+
+/// The edits of each writer, which lead from what it has written to what it knows now, one after
+/// the other.
+fn all_edits<L: Ledger>(
+    alloc: Global,
+    writers: &[Writer],
+    table: &Table,
+    steps: &mut Steps<L>,
+) -> Result<Items<Edit>, TableFault>
+    requires { AllByRecursion (Stands table.now.chains) writers.now }
+    ensures edits { IfOk result (λ edits. edits ≡ flat_map written.next_edits writers.now) }
+    ensures no_clash { OnOk result (AllByRecursion HasNoClash writers.now) }
+    ensures clash { IfErr result (TellsClash (newest_clash writers.now)) }
+    ensures made { IfOk result (λ edits. steps.old + own_rules_written edits ≤ steps.new) }
+    ensures steps { steps.new ≤ steps.old + sum_by own_dirty_rules writers.now }
+{
+    let mut edits = Items::new(alloc);
+    for writer in writers {
+        let mut batch = writer.edits(alloc, table, steps)?;
+        let more = replace(&mut batch.edits, Items::new(alloc));
+        edits = joined(edits, more)?;
+    }
+    Ok(edits)
+}
+
+/// Edits and then others. The first of a list cost nothing.
+fn joined(edits: Items<Edit>, more: Items<Edit>) -> Result<Items<Edit>, NoMemory>
+    ensures { IfOk result (λ all. all ≡ edits ++ more) }
+{
+    if edits.as_slice().is_empty() {
+        return Ok(more);
+    }
+    let mut all = edits.into_vec();
+    all.append(&mut more.into_vec())?;
+    Ok(Items::from_vec(all))
 }
 
 /// Keeps what a sync of all events keeps. Where memory is out, all stays.

@@ -20,8 +20,8 @@ impl Drop for ObjectsAt {
 impl ObjectsAt {
     ghost use Rattle.std.specs.Prelude.{◌≡◌, ◌≤◌, List, length, OnOk};
     ghost use Rattle.kp_types.specs.declared.event.Event.{Event};
-    ghost use Rattle.kp_base.specs.declared.address.Family.TheVariants.{V4};
-    ghost use Rattle.kp_choice_defs.specs.Settings.{setting_of};
+    ghost use Rattle.kp_base.specs.declared.address.Family.{Family};
+    ghost use Rattle.kp_choice_defs.specs.Settings.{setting_of, settings_of};
     ghost use Rattle.kp_plane.specs.Collected.{AreJoined, is_collected};
     ghost use Rattle.kp_plane.specs.Invariant.{GoesOnTouching, IsAtPlace};
     ghost use Rattle.kp_plane.specs.Known.{LeavesUntouched};
@@ -71,9 +71,10 @@ impl ObjectsAt {
     ) -> Result<(), NoMemory>
         requires { IsAtPlace events.now self.old }
         ensures place { IsAtPlace events.now self.new }
-        ensures untouched { LeavesUntouched (setting_of V4 config.now) self.old.objects
-            (is_collected touched.old) self.new.objects (is_collected touched.new) }
-        ensures since { GoesOnTouching (setting_of V4 config.now) events.now
+        ensures untouched { (family : Family) → LeavesUntouched (setting_of family config.now)
+            self.old.objects (is_collected touched.old)
+            self.new.objects (is_collected touched.new) }
+        ensures since { GoesOnTouching (settings_of config.now) events.now
             self.old.at touched.old self.new.at touched.new }
         ensures ok { OnOk result (self.new.at ≡ length events.now) }
         ensures joined { OnOk result (AreJoined touched.new) }

@@ -2,17 +2,19 @@
 ghost use Rattle.std.specs.Prelude.{◌≡◌, ◌+◌, ◌≤◌, ℕ, [], ◌∷◌, ◌++◌, length, sum, true};
 ghost use Rattle.std.specs.Prelude.{None, IfOk, IfErr, OnOk, OnErr};
 ghost use Rattle.std.specs.Option.{option_copied};
+ghost use Rattle.kp_base.specs.declared.address.Family.{Family as OneFamily};
 ghost use Rattle.kp_choice_defs.specs.Draws.{IsStated, AreDraws};
 ghost use Rattle.kp_choice_defs.specs.Recent.{RecentParts};
 ghost use Rattle.kp_events.specs.JournalContents.{HasRoom, Refuses};
 ghost use Rattle.kp_full_table.specs.Faults.{TellsClash};
 ghost use Rattle.kp_object_defs.specs.Objects.{objects_after};
+ghost use Rattle.kp_types.specs.Setting.{has_tables_of};
 ghost use Rattle.kp_types.specs.declared.packet.Packet.{Packet};
 ghost use Rattle.kp_plane.specs.Notes.{last_note};
 ghost use Rattle.kp_plane.specs.Parts as parts;
-ghost use Rattle.kp_plane.specs.Parts.{HasExactHistory, IsNextRecord, setting_in};
+ghost use Rattle.kp_plane.specs.Parts.{HasExactHistory, IsNextRecord, settings_in};
 ghost use Rattle.kp_plane.specs.Parts.{decided_in, explained_in, walked_in};
-ghost use Rattle.kp_table_defs.specs.Ranks.{is_ranked, has_built_in_chains};
+ghost use Rattle.kp_table_defs.specs.Ranks.{is_ranked, has_chains_of};
 ghost use Rattle.kp_table_defs.specs.Rebuild.{clash_of};
 ghost use Rattle.kp_walk_laws.specs.Laws.{Agree};
 ghost use Rattle.kp_writer.specs.Batch.{own_rules_written};
@@ -23,7 +25,7 @@ use crate::place::ObjectsAt;
 use crate::ports_at::PortsAt;
 use crate::slices_at::SlicesAt;
 use crate::sync::{sync_copied, sync_counted};
-use kp_base::{Config, Copied, Items, NoMemory, Steps};
+use kp_base::{Config, Copied, Family, Items, NoMemory, Steps};
 use kp_decide::decide;
 use kp_draws::DrawSource;
 use kp_events::{Journal, JournalFault};
@@ -85,7 +87,7 @@ impl Plane {
     pub fn new(alloc: Global, config: Config) -> Result<Plane, NoMemory>
         ensures { IfOk result (λ p. p ≡ record { config = config; events = []; counts = [] }) }
     {
-        let history = History::new(alloc)?;
+        let history = History::new(alloc, &config)?;
         let ports = PortsAt::start(alloc, &config)?;
         let journal = Journal::new(alloc, config.max_events);
         Ok(Plane {
@@ -128,13 +130,14 @@ impl Plane {
     }
 
     /// The table: the full one of the objects that the last sync covers, with a count of the
-    /// syncs. The syncs are an exact history. It can be walked, and sends each packet where the
-    /// objects say.
+    /// syncs. The syncs are an exact history. It can be walked, has the built-in chains of each
+    /// family that the node has tables of, and sends each packet where the objects say.
     pub fn table(&self) -> &Table
         ensures table { result.now ≡ parts.table_in self.now }
         ensures exact { HasExactHistory self.now }
         ensures ranked { is_ranked result.now.chains ≡ true }
-        ensures built_in { has_built_in_chains result.now.chains ≡ true }
+        ensures built_in { (family : OneFamily) → has_tables_of family (settings_in self.now) ≡ true
+            → has_chains_of family result.now.chains ≡ true }
         ensures agree { (packet : Packet) (drawn : ℕ → ℕ) (lists : RecentParts)
             → Agree (walked_in self.now packet drawn lists)
             (decided_in self.now packet drawn lists) }
@@ -183,8 +186,8 @@ impl Plane {
     }
 
     /// Brings the table up to all events, and answers the record of that. It is refused exactly
-    /// where two different chains that the objects need have one name. After a refusal all stays,
-    /// and no event is lost.
+    /// where two different chains that the objects need in one family have one name. After a
+    /// refusal all stays, and no event is lost.
     pub fn sync<L: Ledger, A: Ledger>(
         &mut self,
         alloc: Global,
@@ -196,16 +199,17 @@ impl Plane {
             ≡ parts.records_in self.old ++ r ∷ []) }
         ensures ok { OnOk result (self.new ≡ parts.synced self.old) }
         ensures clash { IfErr result (TellsClash
-            (clash_of (setting_in self.old) (objects_after self.old.events))) }
+            (clash_of (settings_in self.old) (objects_after self.old.events))) }
         ensures err { OnErr result (self.new ≡ self.old) }
 
-        // It costs what changed: at most a step for each rule that the dirty ports have after it, in
-        // their own chains and in the shared ones, and at least one for each rule of a port's own
-        // chains that is written. Dirty are the ports of which something else is known than at the
-        // last sync, also where others were refused since. Of the other count it takes one for each
-        // port that the objects are asked about: these are ports of Services that events touch which
-        // no sync covers yet, each once at most, so none where no event came. Where it is refused it
-        // may have taken some of them, and takes them again at the next sync.
+        // It costs what changed: at most a step for each rule that the dirty ports of each family
+        // have after it, in their own chains and in the shared ones, and at least one for each rule
+        // of a port's own chains that is written. Dirty are the ports of which a family knows
+        // something else than at the last sync, also where others were refused since. Of the other
+        // count it takes one for each port that the objects are asked about: these are ports of
+        // Services that events touch which no sync covers yet, each once at most in each family, so
+        // none where no event came. Where it is refused it may have taken some of them, and takes
+        // them again at the next sync.
         ensures bound { steps.new ≤ steps.old + parts.most_steps self.old }
         ensures made { IfOk result (λ r.
             steps.old + own_rules_written r.batch.edits ≤ steps.new) }
@@ -241,10 +245,10 @@ impl Plane {
         ensures note { IfOk result (λ n. n
             ≡ last_note (parts.uncovered_in self.old) self.new) }
         ensures no_clash { OnOk result (
-            clash_of (setting_in self.old) (objects_after self.old.events) ≡ None) }
+            clash_of (settings_in self.old) (objects_after self.old.events) ≡ None) }
         ensures ok { OnOk result (self.new ≡ parts.synced self.old) }
         ensures clash { IfErr result (TellsClash
-            (clash_of (setting_in self.old) (objects_after self.old.events))) }
+            (clash_of (settings_in self.old) (objects_after self.old.events))) }
         ensures err { OnErr result (self.new ≡ self.old) }
 
         // It costs what `sync` does.
@@ -329,12 +333,16 @@ impl Plane {
         self.slices.slices.copies(alloc)
     }
 
-    /// The ports of which something else is known after the last sync than before it, in order of
-    /// their names, each with what was known of it. Before the first sync there is none.
-    pub fn dirty(&self, alloc: Global) -> Result<Items<DirtyPort>, NoMemory>
-        ensures { IfOk result (λ ports. ports ≡ parts.dirty_in self.now) }
+    /// The ports of which a family knows something else after the last sync than before it, in
+    /// order of their names, each with what was known of it. Before the first sync there is none,
+    /// and none in a family that the node has no tables of.
+    pub fn dirty(&self, alloc: Global, family: Family) -> Result<Items<DirtyPort>, NoMemory>
+        ensures { IfOk result (λ ports. ports ≡ parts.dirty_in family self.now) }
     {
-        told(alloc, self.ports.dirty.as_slice())
+        match self.ports.dirty_of(family) {
+            Some(dirty) => told(alloc, dirty.as_slice()),
+            None => Ok(Items::new(alloc)),
+        }
     }
 
     /// What a plane that ends holds: its events, how many of them each sync covers more than the
@@ -357,10 +365,12 @@ impl Plane {
     }
 
     /// What walking the table rests on: its jumps go to chains of greater ranks, it has the
-    /// built-in chains, and it sends each packet where the objects say.
+    /// built-in chains of each family that the node has tables of, and it sends each packet where
+    /// the objects say.
     fn decides(&self)
         ensures ranked { is_ranked (parts.chains_in self.now) ≡ true }
-        ensures built_in { has_built_in_chains (parts.chains_in self.now) ≡ true }
+        ensures built_in { (family : OneFamily) → has_tables_of family (settings_in self.now) ≡ true
+            → has_chains_of family (parts.chains_in self.now) ≡ true }
         ensures agree { (packet : Packet) (drawn : ℕ → ℕ) (lists : RecentParts)
             → Agree (walked_in self.now packet drawn lists)
             (decided_in self.now packet drawn lists) }

@@ -1,21 +1,26 @@
 //! What is known of ports at a place of the journal.
-ghost use Rattle.std.specs.Prelude.{◌≡◌, ◌+◌, ◌≤◌, ℕ, cond, [], List, length, IfOk, OnOk};
-ghost use Rattle.kp_base.specs.declared.address.Family.TheVariants.{V4};
+ghost use Rattle.std.specs.Prelude.{◌≡◌, ◌+◌, ◌*◌, ◌≤◌, ℕ, [], List, length, map, slice_get};
+ghost use Rattle.std.specs.Prelude.{IfOk, OnOk};
+ghost use Rattle.std.specs.Option.{option_copied};
+ghost use Rattle.kp_base.specs.Keys.{family_place};
+ghost use Rattle.kp_base.specs.declared.address.Family.{Family as OneFamily};
 ghost use Rattle.kp_base.specs.declared.key.PortKey.{PortKey as Port};
 ghost use Rattle.kp_types.specs.declared.event.Event.{Event as OneEvent};
-ghost use Rattle.kp_choice_defs.specs.Settings.{setting_of};
+ghost use Rattle.kp_types.specs.Setting as setting;
+ghost use Rattle.kp_choice_defs.specs.Settings.{settings_of};
 ghost use Rattle.kp_object_defs.specs.Objects.{objects_after};
-ghost use Rattle.kp_writer.specs.Written.{newest_ports, written_ports};
 ghost use Rattle.kp_plane.specs.Collected.{is_collected};
-ghost use Rattle.kp_plane.specs.Known.{AreDirty, KnowsUntouched, rules_of, touched_count};
+ghost use Rattle.kp_plane.specs.Families.{AreNew, AreOfNode, HaveDirty, KnowUntouched, newest_of};
+ghost use Rattle.kp_plane.specs.Families.{rules_in, written_of};
+ghost use Rattle.kp_plane.specs.Known.{touched_count};
 ghost use Rattle.kp_plane.specs.Invariant.{AreTouchedBetween, IsAtPlace, IsBroughtOn, IsPortsAt};
 ghost use Rattle.kp_plane.specs.Invariant.{IsSettled, IsUpToDate, touched_between};
 
 use crate::collected::Collected;
 use crate::place::ObjectsAt;
-use crate::refresh::refresh;
-use kp_base::{Config, Items, NoMemory, Steps};
-use kp_types::Event;
+use crate::refresh::refresh_families;
+use kp_base::{Config, Family, Items, NoMemory, Steps};
+use kp_types::{Event, table_families};
 use kp_writer::{Pending, Writer};
 use std::alloc::Global;
 use std::sync::ledger::Ledger;
@@ -24,12 +29,14 @@ use std::sync::ledger::Ledger;
 pub(crate) struct PortsAt {
     /// The objects of the latest sync, which may have been refused.
     pub(crate) latest: ObjectsAt,
-    /// The Services of whose ports the writer may know something else than these objects tell.
+    /// The Services of whose ports a writer may know something else than these objects tell.
     pub(crate) touched: Collected,
-    /// What was written of each port at the last sync, and what is known of it now.
-    pub(crate) writer: Writer,
-    /// The ports of which something else is known after the last sync than before it.
-    pub(crate) dirty: Items<Pending>,
+    /// What was written of each port at the last sync, and what is known of it now: by one writer
+    /// of each family that the node has tables of, in their order.
+    pub(crate) writers: Vec<Writer>,
+    /// The ports of which each of these families knows something else after the last sync than
+    /// before it.
+    pub(crate) dirty: Vec<Items<Pending>>,
 }
 
 impl Drop for PortsAt {
@@ -37,7 +44,7 @@ impl Drop for PortsAt {
         let PortsAt {
             latest,
             touched,
-            writer,
+            writers,
             dirty,
         } = self;
     }
@@ -52,21 +59,22 @@ impl PortsAt {
         kp_history_laws::dirty_ports();
         let latest = ObjectsAt::start(alloc);
         let touched = Collected::new(alloc);
-        let writer = Writer::new(alloc, config)?;
-        let dirty = Items::new(alloc);
+        let writers = new_writers(alloc, config)?;
+        let dirty = none_dirty(alloc, config)?;
         Ok(PortsAt {
             latest,
             touched,
-            writer,
+            writers,
             dirty,
         })
     }
 
-    /// Goes on to the journal's end, and brings what is known of the ports of touched Services up
-    /// to it. It takes at most a step for each rule that dirty ports have in the shared chains. Of the
-    /// other count it takes one for each port that the objects are asked about: at most one for each
-    /// port of a Service that an event touches since those that were touched before were counted.
-    /// Where memory is out, it stands on the way there.
+    /// Goes on to the journal's end, and brings what each family knows of the ports of touched
+    /// Services up to it. It takes at most a step for each rule that a family's dirty ports have in
+    /// its shared chains. Of the other count it takes one for each port that the objects are asked
+    /// about: in each family at most one for each port of a Service that an event touches since
+    /// those that were touched before were counted. Where memory is out, it stands on the way
+    /// there.
     pub(crate) fn bring_on<L: Ledger, A: Ledger>(
         &mut self,
         alloc: Global,
@@ -75,32 +83,32 @@ impl PortsAt {
         steps: &mut Steps<L>,
         asked: &mut Steps<A>,
     ) -> Result<(), NoMemory>
-        requires config { self.old.writer.config ≡ config.now }
+        requires node { AreOfNode config.now (map written_of self.old.writers.items) }
         requires place { IsAtPlace events.now self.old.latest }
-        requires untouched { KnowsUntouched (setting_of V4 config.now) self.old.latest.objects
-            (is_collected self.old.touched) (newest_ports self.old.writer) }
-        ensures goes_on { IsBroughtOn (setting_of V4 config.now) events.now self.old self.new }
-        ensures ok { OnOk result (IsUpToDate (setting_of V4 config.now) events.now self.new) }
+        requires untouched { KnowUntouched config.now self.old.latest.objects
+            (is_collected self.old.touched) (map newest_of self.old.writers.items) }
+        ensures goes_on { IsBroughtOn config.now events.now self.old self.new }
+        ensures ok { OnOk result (IsUpToDate config.now events.now self.new) }
         ensures more { steps.old ≤ steps.new }
-        ensures steps { (dirty : List Port) → AreDirty (setting_of V4 config.now)
-            (written_ports self.old.writer) (objects_after events.now) dirty
-            → steps.new ≤ steps.old
-            + rules_of (setting_of V4 config.now) (objects_after events.now) dirty }
-        ensures asked { (from : ℕ) → AreTouchedBetween (setting_of V4 config.now) events.now from
+        ensures steps { (dirty : OneFamily → List Port) → HaveDirty config.now
+            (map written_of self.old.writers.items) (objects_after events.now) dirty
+            → steps.new ≤ steps.old + rules_in config.now (objects_after events.now) dirty
+            (setting.table_families config.now) }
+        ensures asked { (from : ℕ) → AreTouchedBetween (settings_of config.now) events.now from
             self.old.latest.at self.old.touched
-            → asked.new ≤ asked.old + touched_count (objects_after events.now)
-            (touched_between (setting_of V4 config.now) events.now from (length events.now)) }
+            → asked.new ≤ asked.old + length (setting.table_families config.now)
+            * touched_count (objects_after events.now)
+            (touched_between (settings_of config.now) events.now from (length events.now)) }
     {
         kp_object_laws::own_keys();
         self.latest
             .advance_touching(alloc, config, events, &mut self.touched)?;
-        let objects = &self.latest.objects;
-        refresh(
+        refresh_families(
             alloc,
             config,
-            objects,
+            &self.latest.objects,
             &self.touched.joined,
-            &mut self.writer,
+            &mut self.writers,
             steps,
             asked,
         )?;
@@ -108,14 +116,64 @@ impl PortsAt {
         Ok(())
     }
 
+    /// The ports of which a family knows something else after the last sync than before it, where
+    /// the node has tables of the family.
+    pub(crate) fn dirty_of(&self, family: Family) -> Option<&Items<Pending>>
+        ensures { option_copied result ≡ slice_get self.now.dirty.items (family_place family) }
+    {
+        self.dirty.get(place_of(family))
+    }
+
     /// Takes over which ports were dirty at a sync and, where it covers new events, that what is
     /// known now is written. It takes no memory.
-    pub(crate) fn settle(&mut self, alloc: Global, is_new: bool, dirty: Items<Pending>)
-        ensures { IsSettled is_new dirty self.old self.new }
+    pub(crate) fn settle(&mut self, alloc: Global, is_new: bool, dirty: Vec<Items<Pending>>)
+        ensures { IsSettled is_new dirty.items self.old self.new }
     {
         if is_new {
-            self.writer.keep(alloc);
+            keep_all(alloc, &mut self.writers);
         }
         self.dirty = dirty;
+    }
+}
+
+/// A writer of each family that the node has tables of, which has written nothing and knows of no
+/// port.
+fn new_writers(alloc: Global, config: &Config) -> Result<Vec<Writer>, NoMemory>
+    ensures { IfOk result (λ writers. AreNew config.now writers.items) }
+{
+    let families = table_families(config);
+    let mut writers = Vec::new(alloc);
+    for family in families {
+        writers.push(Writer::new(alloc, *family, config)?)?;
+    }
+    Ok(writers)
+}
+
+/// No dirty port in any family that the node has tables of.
+pub(crate) fn none_dirty(alloc: Global, config: &Config) -> Result<Vec<Items<Pending>>, NoMemory>
+    ensures { IfOk result (λ dirty. dirty.items
+        ≡ map (λ family. []) (setting.table_families config.now)) }
+{
+    let families = table_families(config);
+    Ok(families.iter().map(|_| Items::new(alloc)).collect(alloc)?)
+}
+
+/// The place of a family among those that a node has tables of.
+fn place_of(family: Family) -> usize
+    ensures { result ≡ family_place family }
+{
+    match family {
+        Family::V4 => 0,
+        Family::V6 => 1,
+    }
+}
+
+/// Takes over that what writers know now is written.
+fn keep_all(alloc: Global, writers: &mut [Writer])
+    ensures written { map written_of writers.new ≡ map newest_of writers.old }
+    ensures newest { map newest_of writers.new ≡ map newest_of writers.old }
+{
+    for writer in writers.iter_mut() {
+        writer.keep(alloc);
     }
 }

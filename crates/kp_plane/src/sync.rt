@@ -1,7 +1,6 @@
 //! One more sync.
 ghost use Rattle.std.specs.Prelude.{◌≡◌, ◌+◌, ◌≤◌, not, None, count_by, IfOk, IfErr, OnOk, OnErr};
-ghost use Rattle.kp_base.specs.declared.address.Family.TheVariants.{V4};
-ghost use Rattle.kp_choice_defs.specs.Settings.{setting_of};
+ghost use Rattle.kp_choice_defs.specs.Settings.{settings_of};
 ghost use Rattle.kp_full_table.specs.Faults.{TellsClash};
 ghost use Rattle.kp_object_defs.specs.Objects.{objects_after};
 ghost use Rattle.kp_table_defs.specs.Edits.{is_write};
@@ -39,9 +38,9 @@ pub(crate) fn sync_copied<L: Ledger, A: Ledger>(
     ensures edits { IfOk result (λ b. b.edits
         ≡ parts.next_edits (parts_of config.now journal.now history.old)) }
     ensures no_clash { OnOk result (
-        clash_of (setting_of V4 config.now) (objects_after journal.now.events) ≡ None) }
+        clash_of (settings_of config.now) (objects_after journal.now.events) ≡ None) }
     ensures clash { IfErr result (TellsClash
-        (clash_of (setting_of V4 config.now) (objects_after journal.now.events))) }
+        (clash_of (settings_of config.now) (objects_after journal.now.events))) }
     ensures steps { IsCounted
         (parts.uncovered_in (parts_of config.now journal.now history.old))
         (parts.most_steps (parts_of config.now journal.now history.old)) steps.old steps.new }
@@ -76,9 +75,9 @@ pub(crate) fn sync_counted<L: Ledger, A: Ledger>(
     ensures removed { IfOk result (λ (_, removed). removed ≡ count_by (λ e. not (is_write e))
         (parts.next_edits (parts_of config.now journal.now history.old))) }
     ensures no_clash { OnOk result (
-        clash_of (setting_of V4 config.now) (objects_after journal.now.events) ≡ None) }
+        clash_of (settings_of config.now) (objects_after journal.now.events) ≡ None) }
     ensures clash { IfErr result (TellsClash
-        (clash_of (setting_of V4 config.now) (objects_after journal.now.events))) }
+        (clash_of (settings_of config.now) (objects_after journal.now.events))) }
     ensures steps { IsCounted
         (parts.uncovered_in (parts_of config.now journal.now history.old))
         (parts.most_steps (parts_of config.now journal.now history.old)) steps.old steps.new }

@@ -15,7 +15,7 @@ use Rattle.std.proofs.lemmas.List.Elements.{Contains-append_right}
 use Rattle.kp_lemmas.proofs.Members.{any_from, from_filter, from_flat_map, from_map, in_filter}
 use Rattle.kp_lemmas.proofs.Members.{in_flat_map, in_map}
 use Rattle.kp_lemmas.proofs.Orders.{one_from_tie, tie_of_itself}
-use Rattle.kp_types.specs.Places.{chain_cmp}
+use Rattle.kp_types.specs.Places.{chain_cmp, nat_of}
 use Rattle.kp_types.specs.Setting.{Setting}
 use Rattle.kp_types.specs.declared.chain.ChainAt.{ChainAt}
 use Rattle.kp_types.specs.declared.chain.ChainKey.{ChainKey}
@@ -23,7 +23,7 @@ use Rattle.kp_types.proofs.ChainOrder.{chain_total, chain_exact}
 use Rattle.kp_choice_defs.specs.Names.{first_clash}
 use Rattle.kp_object_defs.specs.PortInfo.{PortInfo}
 use Rattle.kp_table_defs.specs.Keys.{own_keys}
-use Rattle.kp_table_defs.specs.Layout.{filter_rows, nat_rows, nat_table, place_of_key, port_rows}
+use Rattle.kp_table_defs.specs.Layout.{filter_rows, nat_rows, place_of_key, port_rows}
 use Rattle.kp_table_defs.specs.Layout.{row_of_key, rows_of}
 use Rattle.kp_table_defs.specs.Rebuild.{Chains, full_chains, needed_keys}
 use Rattle.kp_table_laws.specs.Laws.{HaveOwnNames, StandApart}
@@ -85,7 +85,7 @@ module _ (setting : Setting) where
   own_names is apart k l ck cl same =
       one_of_value (place_of_key setting) (flat_map own_keys is)
       (subst AreApart (places_of_rows is) apart) k l ck cl
-      (ap (λ n. record { table = nat_table setting.family; chain = n }) same)
+      (ap (λ n. record { table = nat_of setting.family; chain = n }) same)
 
   -- the chains of ports
   abbrev pub rows : List PortInfo → List Row

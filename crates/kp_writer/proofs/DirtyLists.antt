@@ -40,7 +40,7 @@ module _ (test : PortKey → Bool) where
   abbrev pub passed : Ports → PortKey → Option PortInfo
   passed m k = cond (test k) (get m k) None
 
-  one_passed : (b : Bool) (i : PortInfo) (is : List PortInfo)
+  pub one_passed : (b : Bool) (i : PortInfo) (is : List PortInfo)
       → cons_option (cond b (Some i) None) is ≡ cond b (i ∷ is) is
   one_passed true i is = refl
   one_passed false i is = refl
@@ -60,7 +60,7 @@ module _ (test : PortKey → Bool) where
       → filter_map (passed m) (keys m) ≡ filter (λ i. test i.key) (values m)
   by_keys m own = by_entries m own (entries m) (entries_found port_key_total m)
 
-  in_either : (b : Bool) {o : Option PortInfo} → o ≡ None → cond b o None ≡ None
+  pub in_either : (b : Bool) {o : Option PortInfo} → o ≡ None → cond b o None ≡ None
   in_either true h = h
   in_either false h = refl
 

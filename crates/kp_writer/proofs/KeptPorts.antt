@@ -6,12 +6,9 @@ use Rattle.std.specs.Ordering.{eq_by_cmp}
 use Rattle.std.specs.FinMap.{empty, get, get-empty, get-insert, get-remove, insert, remove}
 use Rattle.kp_lemmas.proofs.Orders.{one_from_tie}
 use Rattle.kp_base.specs.Keys.{port_key_cmp}
-use Rattle.kp_base.specs.declared.address.Family.TheVariants.{V4}
-use Rattle.kp_base.specs.declared.config.Config.{Config}
 use Rattle.kp_base.specs.declared.key.PortKey.{PortKey}
 use Rattle.kp_base.proofs.KeyOrder.{port_key_total, port_key_exact}
 use Rattle.kp_types.specs.Setting.{Setting}
-use Rattle.kp_choice_defs.specs.Settings.{setting_of}
 use Rattle.kp_object_defs.specs.PortInfo.{PortInfo}
 use Rattle.kp_history_defs.specs.DirtyPorts.{same_info}
 use Rattle.kp_blocks.specs.Joined.{Block, BlocksByPort, port_block}
@@ -68,21 +65,17 @@ blocks_left s m bs port are k =
 
 -- ---- What is kept
 
--- blocks of ports under a configuration
-abbrev Under : Config → Ports → BlocksByPort → Type 0
-Under config ports blocks = AreBlocksOf (setting_of V4 config) ports blocks
-
-moved : (c d : Config) (m n : Ports) (bs cs : BlocksByPort) → d ≡ c → n ≡ m → cs ≡ bs
-    → Under c m bs → Under d n cs
-moved c d m n bs cs config ports blocks are =
-    subst (λ e. Under e n cs) (sym config) (subst (λ p. Under c p cs) (sym ports) (subst (Under c m)
-    (sym blocks) are))
+moved : (s t : Setting) (m n : Ports) (bs cs : BlocksByPort) → t ≡ s → n ≡ m → cs ≡ bs
+    → AreBlocksOf s m bs → AreBlocksOf t n cs
+moved s t m n bs cs setting ports blocks are =
+    subst (λ u. AreBlocksOf u n cs) (sym setting)
+    (subst (λ p. AreBlocksOf s p cs) (sym ports) (subst (AreBlocksOf s m) (sym blocks) are))
 
 module _ (w v : WriterParts) (bs cs os ns : BlocksByPort) (kept : IsKept w bs os)
-    (config : v.config ≡ w.config) where
-  -- old blocks by the same configuration
+    (setting : setting_in v ≡ setting_in w) where
+  -- old blocks of the same family and configuration
   olds : AreOldBlocks (setting_in w) v.ports ns → AreOldBlocks (setting_in v) v.ports ns
-  olds = subst (λ c. AreOldBlocks (setting_of V4 c) v.ports ns) (sym config)
+  olds = subst (λ s. AreOldBlocks s v.ports ns) (sym setting)
 
   -- where the newest are written
   pub settled_kept : written_ports v ≡ newest_ports w → newest_ports v ≡ newest_ports w → cs ≡ bs
@@ -90,8 +83,8 @@ module _ (w v : WriterParts) (bs cs os ns : BlocksByPort) (kept : IsKept w bs os
   settled_kept written newest blocks = record {
     written = subst AreUnderOwnKeys (sym written) kept.newest;
     newest = subst AreUnderOwnKeys (sym newest) kept.newest;
-    blocks = moved w.config v.config (newest_ports w) (newest_ports v) bs cs config newest blocks
-        kept.blocks;
+    blocks = moved (setting_in w) (setting_in v) (newest_ports w) (newest_ports v) bs cs setting
+        newest blocks kept.blocks;
     old = none_old (setting_in v) v.ports ns (λ k.
         (λ n. not (option_eq same_info (get (written n) k) (get (newest n) k)))
         ∙ ap not (itself (get (newest_ports w) k)));
@@ -112,8 +105,8 @@ module _ (w v : WriterParts) (bs cs os ns : BlocksByPort) (kept : IsKept w bs os
     stays_kept newest blocks = record {
       written = subst AreUnderOwnKeys (sym written) kept.written;
       newest = subst AreUnderOwnKeys (sym newest) kept.newest;
-      blocks = moved w.config v.config (newest_ports w) (newest_ports v) bs cs config newest blocks
-          kept.blocks;
+      blocks = moved (setting_in w) (setting_in v) (newest_ports w) (newest_ports v) bs cs setting
+          newest blocks kept.blocks;
       old = old_beside (λ k other. ap (λ m. get m k) newest);
     }
 
@@ -123,8 +116,8 @@ module _ (w v : WriterParts) (bs cs os ns : BlocksByPort) (kept : IsKept w bs os
     left_kept newest blocks = record {
       written = subst AreUnderOwnKeys (sym written) kept.written;
       newest = subst AreUnderOwnKeys (sym newest) (own_left (newest_ports w) port kept.newest);
-      blocks = moved w.config v.config (remove (newest_ports w) port) (newest_ports v)
-          (remove bs port) cs config newest blocks
+      blocks = moved (setting_in w) (setting_in v) (remove (newest_ports w) port) (newest_ports v)
+          (remove bs port) cs setting newest blocks
           (blocks_left (setting_in w) (newest_ports w) bs port kept.blocks);
       old = old_beside (λ k other.
           ap (λ m. get m k) newest ∙ others_left (newest_ports w) port k other);
@@ -138,8 +131,8 @@ module _ (w v : WriterParts) (bs cs os ns : BlocksByPort) (kept : IsKept w bs os
   put_kept i aside block made written newest blocks = record {
     written = subst AreUnderOwnKeys (sym written) kept.written;
     newest = subst AreUnderOwnKeys (sym newest) (own_put (newest_ports w) i kept.newest);
-    blocks = moved w.config v.config (insert (newest_ports w) i.key i) (newest_ports v)
-        (insert bs i.key (port_block (setting_in w) i)) cs config newest
+    blocks = moved (setting_in w) (setting_in v) (insert (newest_ports w) i.key i) (newest_ports v)
+        (insert bs i.key (port_block (setting_in w) i)) cs setting newest
         (blocks ∙ ap (insert bs i.key) made)
         (blocks_put (setting_in w) (newest_ports w) bs i kept.blocks);
     old = old_beside i.key aside written (λ k other.

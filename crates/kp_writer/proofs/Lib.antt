@@ -1,6 +1,7 @@
 mod ClashTest
 pub mod DirtyLists
 mod EitherWay
+mod Families
 mod KeptBlocks
 mod KeptPorts
 pub mod KnownPorts
@@ -9,8 +10,8 @@ mod MorePlaces
 mod NextPlaces
 mod OldBlocks
 pub mod OneList
-mod OtherFamily
 mod OwnKeys
+mod OwnTables
 mod OwnValues
 mod PendingPorts
 mod Present
@@ -26,4 +27,4 @@ mod SyncPlaces
 mod SyncTables
 mod Totals
 mod WriterEdits
-mod WrittenRules
+pub mod WrittenRules

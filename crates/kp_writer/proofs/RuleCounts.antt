@@ -4,8 +4,6 @@ use Rattle.std.proofs.Common.{◌∙◌}
 use Rattle.std.specs.FinMap.{get}
 use Rattle.std.proofs.lemmas.List.Concat.{flat_map-append}
 use Rattle.std.proofs.lemmas.List.Elements.{filter-append}
-use Rattle.kp_base.specs.declared.address.Family.TheVariants.{V4}
-use Rattle.kp_base.specs.declared.config.Config.{Config}
 use Rattle.kp_choice_defs.specs.Settings.{setting_of}
 use Rattle.kp_types.specs.Setting.{Setting}
 use Rattle.kp_object_defs.specs.PortInfo.{PortInfo}
@@ -15,7 +13,7 @@ use Rattle.kp_chains.proofs.Counts.{count-append}
 use Rattle.kp_writer.specs.Own.{own_rule_count}
 use Rattle.kp_writer.specs.Old.{is_known, unwritten}
 use Rattle.kp_writer.specs.Shared.{shared_rule_count}
-use Rattle.kp_writer.specs.Written.{Ports}
+use Rattle.kp_writer.specs.Written.{Ports, WriterParts, setting_in, written_ports}
 
 -- the rules of ports' own chains
 pub own_parts : (setting : Setting) (is js : List PortInfo)
@@ -45,9 +43,10 @@ unwritten_parts setting written is js =
     ap (shared_rule_count setting) (filter-append (λ i. not (is_known (get written i.key) i)) is js)
     ∙ shared_parts setting (unwritten written is) (unwritten written js)
 
--- by the same configuration, where the same was written
-pub put_count : (now was : Config) → now ≡ was → (m n : Ports) → m ≡ n → (i : PortInfo)
-    → shared_rule_count (setting_of V4 now) (unwritten m (i ∷ []))
-    ≡ shared_rule_count (setting_of V4 was) (unwritten n (i ∷ []))
-put_count now was same m n ports i =
-    λ k. shared_rule_count (setting_of V4 (same k)) (unwritten (ports k) (i ∷ []))
+-- in the same family and by the same configuration, where the same was written
+pub put_count : (v w : WriterParts) → v.family ≡ w.family → v.config ≡ w.config
+    → written_ports v ≡ written_ports w → (i : PortInfo)
+    → shared_rule_count (setting_in v) (unwritten (written_ports v) (i ∷ []))
+    ≡ shared_rule_count (setting_in w) (unwritten (written_ports w) (i ∷ []))
+put_count v w family config ports i =
+    λ k. shared_rule_count (setting_of (family k) (config k)) (unwritten (ports k) (i ∷ []))

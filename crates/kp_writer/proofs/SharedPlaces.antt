@@ -1,28 +1,31 @@
 -- What stands at a place once the shared chains are joined.
-use Rattle.std.proofs.Common.{◌≡◌, ◌||◌, ◌⊎◌, inl, inr, Bool, true, false, cond, not, List}
+use Rattle.std.proofs.Common.{◌≡◌, ◌||◌, ◌⊎◌, inl, inr, ℕ, Bool, true, false, cond, not, List}
 use Rattle.std.proofs.Common.{[], ◌∷◌, Contains, Some, is_some, refl, sym, ap}
-use Rattle.std.proofs.Common.{◌++◌, drop, true≢false, ◌∙◌}
+use Rattle.std.proofs.Common.{drop, true≢false, ◌∙◌}
 use Rattle.std.specs.List.{AllByRecursion, fold}
 use Rattle.std.specs.Ordering.{eq_by_cmp}
 use Rattle.std.specs.FinMap.{find, get, get-from_entries, get-insert}
 use Rattle.std.proofs.lemmas.Bool.{or_parts}
 use Rattle.kp_lemmas.proofs.Members.{in_cases, none_in}
 use Rattle.kp_lemmas.proofs.Orders.{one_from_tie, tie_of_itself}
-use Rattle.kp_base.specs.declared.address.Family.TheVariants.{V4}
-use Rattle.kp_types.specs.Places.{chain_cmp}
+use Rattle.kp_base.specs.declared.address.Family.{Family}
+use Rattle.kp_base.specs.declared.address.Family.TheVariants.{V4, V6}
+use Rattle.kp_types.specs.Places.{chain_cmp, family_of_table}
 use Rattle.kp_types.specs.Setting.{Setting}
 use Rattle.kp_types.specs.declared.chain.ChainAt.{ChainAt}
-use Rattle.kp_types.specs.declared.chain.TableName.TheVariants.{Nat, Filter}
+use Rattle.kp_types.specs.declared.chain.TableName.{TableName}
 use Rattle.kp_types.specs.declared.rule.Rule.{Rule}
 use Rattle.kp_types.proofs.ChainOrder.{chain_total, chain_exact}
 use Rattle.kp_table_defs.specs.Edits.{same_rules}
-use Rattle.kp_table_defs.specs.Layout as layout
 use Rattle.kp_rules.proofs.ChangesLead.{same_rules_exact}
 use Rattle.kp_chains.specs.declared.blocks.Blocks.{Blocks}
 use Rattle.kp_blocks.specs.Joined.{BlocksByPort, fixed_chains, joined_rules}
+use Rattle.kp_writer_laws.specs.LocalLaws.{fixed_rows}
 use Rattle.kp_writer.specs.Next.{NextParts}
-use Rattle.kp_writer.specs.Shared.{Change, blocks_if, differ, join_if, touch_by, with_shared}
+use Rattle.kp_writer.specs.Shared.{Change, blocks_if, differ, external, firewall, join_if}
+use Rattle.kp_writer.specs.Shared.{node_ports, refusals, services, touch_by, with_shared}
 use Rattle.kp_writer.specs.declared.shared.Touched.{Touched}
+use Rattle.kp_writer.proofs.Families.{in_each}
 
 -- ---- Which chains are touched
 
@@ -55,29 +58,38 @@ module _ (setting : Setting) (flag : Touched → Bool) (rules : Blocks → List 
 
 -- ---- What stands where shared chains are joined
 
-module _ (blocks : BlocksByPort) where
+-- a chain that is joined in a table of a family is one of the family's
+pub join_at : (family : Family) (blocks : BlocksByPort) {table own : TableName} → table ≡ own
+    → family_of_table own ≡ family → (n m : NextParts) (touched : Bool) (chain : List ℕ)
+    → m ≡ join_if (family_of_table table) blocks n touched (record { table = table; chain = chain })
+    → m ≡ join_if family blocks n touched (record { table = own; chain = chain })
+join_at family blocks same of n m touched chain is =
+    is
+    ∙ (λ i. join_if ((ap family_of_table same ∙ of) i) blocks n touched
+    (record { table = same i; chain = chain }))
+
+module _ (family : Family) (blocks : BlocksByPort) where
   -- a chain that is joined, or what stood there, where it isn't the chain or that isn't touched
   abbrev pub JoinedOr : NextParts → NextParts → Bool → ChainAt → ChainAt → Type 0
   JoinedOr n m b at q =
-      ((q ≡ at) × (get m.places q ≡ Some (Some (joined_rules V4 blocks q))))
+      ((q ≡ at) × (get m.places q ≡ Some (Some (joined_rules family blocks q))))
       ⊎ ((q ≡ at → b ≡ false) × (get m.places q ≡ get n.places q))
 
   joined_by : (n : NextParts) (at q : ChainAt) (t : Bool) → eq_by_cmp chain_cmp q at ≡ t
-      → JoinedOr n (join_if blocks n true at) true at q
+      → JoinedOr n (join_if family blocks n true at) true at q
   joined_by n at q true tie =
       let same = one_from_tie chain_exact q at tie in
       inl (
         same,
-        get-insert chain_total n.places at (Some (joined_rules V4 blocks at)) q
-            ∙ ap (λ b. cond b (Some (Some (joined_rules V4 blocks at))) (get n.places q)) tie
-            ∙ ap (λ p. Some (Some (joined_rules V4 blocks p))) (sym same),
+        get-insert chain_total n.places at (Some (joined_rules family blocks at)) q
+            ∙ ap (λ b. cond b (Some (Some (joined_rules family blocks at))) (get n.places q)) tie
+            ∙ ap (λ p. Some (Some (joined_rules family blocks p))) (sym same),
       )
   joined_by n at q false tie =
       inr (
         (λ same. absurd (other same)),
-        get-insert chain_total n.places at
-            (Some (joined_rules V4 blocks at)) q
-            ∙ ap (λ b. cond b (Some (Some (joined_rules V4 blocks at))) (get n.places q)) tie,
+        get-insert chain_total n.places at (Some (joined_rules family blocks at)) q
+            ∙ ap (λ b. cond b (Some (Some (joined_rules family blocks at))) (get n.places q)) tie,
       )
     where
       other : q ≡ at → ⊥
@@ -86,45 +98,71 @@ module _ (blocks : BlocksByPort) where
           same) ∙ tie)
 
   pub found_joined : (n : NextParts) (b : Bool) (at q : ChainAt)
-      → JoinedOr n (join_if blocks n b at) b at q
+      → JoinedOr n (join_if family blocks n b at) b at q
   found_joined n true at q = joined_by n at q (eq_by_cmp chain_cmp q at) refl
   found_joined n false at q = inr ((λ same. refl), refl)
 
 -- ---- All shared chains
 
--- the rows of a table of no ports
-abbrev fixed_rows : List (ChainAt × List Rule)
-fixed_rows = layout.nat_rows_with V4 [] [] ++ layout.filter_rows_with V4 [] [] []
+-- a place is that of a fixed chain of a family's tables
+abbrev pub IsFixed : Family → ChainAt → Type 0
+IsFixed family at =
+    (family_of_table at.table ≡ family) × (is_some (get (fixed_chains family) at) ≡ true)
 
--- a fixed chain is one of the table of no ports
-fixed_by : (at : ChainAt) → is_some (find chain_cmp at fixed_rows) ≡ true
-    → is_some (get (fixed_chains V4) at) ≡ true
-fixed_by at h = ap is_some (get-from_entries chain_total fixed_rows at) ∙ h
+fixed_by : (family : Family) (at : ChainAt) → family_of_table at.table ≡ family
+    → is_some (find chain_cmp at (fixed_rows family)) ≡ true → IsFixed family at
+fixed_by family at of h = (of, ap is_some (get-from_entries chain_total (fixed_rows family) at) ∙ h)
+
+-- the shared chains are fixed ones
+fixed_services : (family : Family) → IsFixed family (services family)
+fixed_services =
+    in_each (λ f. IsFixed f (services f)) (fixed_by V4 (services V4) refl refl)
+    (fixed_by V6 (services V6) refl refl)
+
+fixed_node_ports : (family : Family) → IsFixed family (node_ports family)
+fixed_node_ports =
+    in_each (λ f. IsFixed f (node_ports f)) (fixed_by V4 (node_ports V4) refl refl)
+    (fixed_by V6 (node_ports V6) refl refl)
+
+fixed_firewall : (family : Family) → IsFixed family (firewall family)
+fixed_firewall =
+    in_each (λ f. IsFixed f (firewall f)) (fixed_by V4 (firewall V4) refl refl)
+    (fixed_by V6 (firewall V6) refl refl)
+
+fixed_external : (family : Family) → IsFixed family (external family)
+fixed_external =
+    in_each (λ f. IsFixed f (external f)) (fixed_by V4 (external V4) refl refl)
+    (fixed_by V6 (external V6) refl refl)
+
+fixed_refusals : (family : Family) → IsFixed family (refusals family)
+fixed_refusals =
+    in_each (λ f. IsFixed f (refusals f)) (fixed_by V4 (refusals V4) refl refl)
+    (fixed_by V6 (refusals V6) refl refl)
 
 -- the shared chains, the last first, with whether each is touched
-abbrev pub shared_flags : Touched → List (ChainAt × Bool)
-shared_flags t =
-    (record { table = Filter; chain = layout.kube_services }, t.refusals)
-    ∷ (record { table = Filter; chain = layout.kube_external_services }, t.external)
-    ∷ (record { table = Filter; chain = layout.kube_proxy_firewall }, t.firewall)
-    ∷ (record { table = Nat; chain = layout.kube_node_ports }, t.node_ports)
-    ∷ (record { table = Nat; chain = layout.kube_services }, t.services) ∷ []
+abbrev pub shared_flags : Family → Touched → List (ChainAt × Bool)
+shared_flags family t =
+    (refusals family, t.refusals)
+    ∷ (external family, t.external)
+    ∷ (firewall family, t.firewall)
+    ∷ (node_ports family, t.node_ports)
+    ∷ (services family, t.services) ∷ []
 
-module _ (blocks : BlocksByPort) (start : NextParts) where
+module _ (family : Family) (blocks : BlocksByPort) (start : NextParts) where
   -- a shared chain that was joined, or what stood before, where the place isn't one of those that
   -- were joined so far, or that wasn't touched
   abbrev pub Joins : NextParts → List (ChainAt × Bool) → ChainAt → Type 0
   Joins m done q =
-      ((is_some (get (fixed_chains V4) q) ≡ true)
-      × (get m.places q ≡ Some (Some (joined_rules V4 blocks q))))
+      ((is_some (get (fixed_chains family) q) ≡ true)
+      × (get m.places q ≡ Some (Some (joined_rules family blocks q))))
       ⊎ (AllByRecursion (λ d. q ≡ d.0 → d.1 ≡ false) done × (get m.places q ≡ get start.places q))
 
   one_more : (n : NextParts) (done : List (ChainAt × Bool)) (b : Bool) (at q : ChainAt)
-      → is_some (get (fixed_chains V4) at) ≡ true → Joins n done q
-      → Joins (join_if blocks n b at) ((at, b) ∷ done) q
+      → IsFixed family at → Joins n done q
+      → Joins (join_if family blocks n b at) ((at, b) ∷ done) q
   one_more n done b at q fixed so =
-      elim (found_joined blocks n b at q) [
-        | inl h ↦ inl (ap (λ p. is_some (get (fixed_chains V4) p)) h.0 ∙ fixed, h.1)
+      elim (found_joined family blocks n b at q) [
+        | inl h ↦ inl (ap (λ p. is_some (get (fixed_chains family) p)) h.0 ∙ fixed.1, h.1)
         | inr h ↦ elim so [
           | inl s ↦ inl (s.0, h.1 ∙ s.1)
           | inr s ↦ inr ((h.0, s.0), h.1 ∙ s.1)
@@ -132,36 +170,33 @@ module _ (blocks : BlocksByPort) (start : NextParts) where
       ]
 
   pub found_shared : (t : Touched) (q : ChainAt)
-      → Joins (with_shared blocks t start) (shared_flags t) q
+      → Joins (with_shared family blocks t start) (shared_flags family t) q
   found_shared t q =
-      one_more _ (drop 1 (shared_flags t)) t.refusals _ q (fixed_by _ refl)
-      (one_more _ (drop 2 (shared_flags t)) t.external _ q (fixed_by _ refl)
-      (one_more _ (drop 3 (shared_flags t)) t.firewall _ q (fixed_by _ refl)
-      (one_more _ (drop 4 (shared_flags t)) t.node_ports _ q (fixed_by _ refl)
-      (one_more start [] t.services _ q (fixed_by _ refl) (inr (tt, refl))))))
+      let flags = shared_flags family t in
+      one_more _ (drop 1 flags) t.refusals _ q (fixed_refusals family)
+      (one_more _ (drop 2 flags) t.external _ q (fixed_external family)
+      (one_more _ (drop 3 flags) t.firewall _ q (fixed_firewall family)
+      (one_more _ (drop 4 flags) t.node_ports _ q (fixed_node_ports family)
+      (one_more start [] t.services _ q (fixed_services family) (inr (tt, refl))))))
 
   -- what each join of a fixed chain leaves, all leave
   pub through_joins : (P : NextParts → Type 0)
-      → ((n : NextParts) (b : Bool) (at : ChainAt) → is_some (get (fixed_chains V4) at) ≡ true
-      → P n → P (join_if blocks n b at))
-      → (t : Touched) → P start → P (with_shared blocks t start)
+      → ((n : NextParts) (b : Bool) (at : ChainAt) → IsFixed family at → P n
+      → P (join_if family blocks n b at))
+      → (t : Touched) → P start → P (with_shared family blocks t start)
   through_joins P one t h =
-      let services : ChainAt = record { table = Nat; chain = layout.kube_services } in
-      let node_ports : ChainAt = record { table = Nat; chain = layout.kube_node_ports } in
-      let firewall : ChainAt = record { table = Filter; chain = layout.kube_proxy_firewall } in
-      let external : ChainAt = record { table = Filter; chain = layout.kube_external_services } in
-      let refusals : ChainAt = record { table = Filter; chain = layout.kube_services } in
-      one _ t.refusals refusals (fixed_by refusals refl)
-      (one _ t.external external (fixed_by external refl)
-      (one _ t.firewall firewall (fixed_by firewall refl)
-      (one _ t.node_ports node_ports (fixed_by node_ports refl)
-      (one start t.services services (fixed_by services refl) h))))
+      one _ t.refusals (refusals family) (fixed_refusals family)
+      (one _ t.external (external family) (fixed_external family)
+      (one _ t.firewall (firewall family) (fixed_firewall family)
+      (one _ t.node_ports (node_ports family) (fixed_node_ports family)
+      (one start t.services (services family) (fixed_services family) h))))
 
-  still_free : (n : NextParts) (b : Bool) (at : ChainAt) → (join_if blocks n b at).free ≡ n.free
+  still_free : (n : NextParts) (b : Bool) (at : ChainAt)
+      → (join_if family blocks n b at).free ≡ n.free
   still_free n true at = refl
   still_free n false at = refl
 
   -- so they leave whether each port's chain found its place free
-  pub shared_free : (t : Touched) → (with_shared blocks t start).free ≡ start.free
+  pub shared_free : (t : Touched) → (with_shared family blocks t start).free ≡ start.free
   shared_free t =
       through_joins (λ n. n.free ≡ start.free) (λ n b at fixed h. still_free n b at ∙ h) t refl

@@ -2,7 +2,7 @@
 -- ports has there, and at the others of these places the tables agree.
 use Rattle.std.proofs.Common.{◌≡◌, inl, inr, Bool, true, false, cond, not, List, [], ◌∷◌, ◌++◌}
 use Rattle.std.proofs.Common.{map, filter, flat_map, Contains, Option, Some, None, is_some, refl}
-use Rattle.std.proofs.Common.{sym, ap, subst, unwrap_or, ◌∙◌}
+use Rattle.std.proofs.Common.{sym, ap, subst, unwrap_or, codes, ◌∙◌, ℕ}
 use Rattle.std.specs.List.{list_any}
 use Rattle.std.specs.Ordering.{eq_by_cmp}
 use Rattle.std.specs.FinMap.{empty, find, get, get-empty, get-from_entries}
@@ -13,19 +13,17 @@ use Rattle.std.proofs.lemmas.Simd.{map-map}
 use Rattle.kp_lemmas.proofs.Members.{any_from, from_filter, from_flat_map, in_filter, in_flat_map}
 use Rattle.kp_lemmas.proofs.Members.{in_map}
 use Rattle.kp_lemmas.proofs.Orders.{one_from_tie, tie_of_itself}
-use Rattle.kp_base.specs.declared.address.Family.TheVariants.{V4}
-use Rattle.kp_base.specs.declared.config.Config.{Config}
-use Rattle.kp_types.specs.Places.{chain_cmp}
+use Rattle.kp_base.specs.declared.address.Family.{Family}
+use Rattle.kp_base.specs.declared.address.Family.TheVariants.{V4, V6}
+use Rattle.kp_types.specs.Places.{chain_cmp, nat_of}
 use Rattle.kp_types.specs.Setting.{Setting}
 use Rattle.kp_types.specs.declared.chain.ChainAt.{ChainAt}
 use Rattle.kp_types.specs.declared.chain.ChainKey.{ChainKey}
 use Rattle.kp_types.specs.declared.chain.ChainKey.TheVariants as key
 use Rattle.kp_types.specs.declared.chain.PortChain.TheVariants.{Svc, Svl, Ext, Fw}
-use Rattle.kp_types.specs.declared.chain.TableName.TheVariants.{Nat}
 use Rattle.kp_types.specs.declared.rule.Rule.{Rule}
 use Rattle.kp_types.proofs.ChainOrder.{chain_total, chain_exact}
-use Rattle.kp_choice_defs.specs.Names.{first_clash}
-use Rattle.kp_choice_defs.specs.Settings.{setting_of}
+use Rattle.kp_choice_defs.specs.Names.{first_clash, port_chain_prefix}
 use Rattle.kp_object_defs.specs.PortInfo.{PortInfo}
 use Rattle.kp_table_defs.specs.Keys.{own_keys}
 use Rattle.kp_table_defs.specs.Layout.{place_of_key, port_rows, row_of_key, rows_of}
@@ -41,30 +39,36 @@ use Rattle.kp_writer.specs.Next.{NextParts}
 use Rattle.kp_writer.specs.Own.{places_of, written}
 use Rattle.kp_writer.proofs.ClashTest.{differs, gone, key_at, old_key, old_places}
 use Rattle.kp_writer.proofs.ClashTest.{rows, split}
+use Rattle.kp_writer.proofs.Families.{in_each}
 use Rattle.kp_writer.proofs.NextPlaces.{Row, found_left, found_written}
 
-module _ (config : Config) where
-  abbrev s : Setting
-  s = setting_of V4 config
+-- at a place in a family's nat there is no fixed chain
+abbrev Unfixed : List ℕ → Family → Type 0
+Unfixed name family =
+    find chain_cmp (record { table = nat_of family; chain = name }) (fixed_rows family) ≡ None
+
+module _ (s : Setting) where
+  -- at a name that begins as none of theirs
+  under : (prefix : List ℕ) → ((rest : List ℕ) → Unfixed (prefix ++ rest) V4)
+      → ((rest : List ℕ) → Unfixed (prefix ++ rest) V6) → (name : List ℕ)
+      → (rest : List ℕ) × (name ≡ prefix ++ rest) → Unfixed name s.family
+  under prefix four six name (rest, is) =
+      subst (λ n. Unfixed n s.family) (sym is)
+      (in_each (Unfixed (prefix ++ rest)) (four rest) (six rest) s.family)
 
   module _ (prefixed : IsPrefixed s.name_of) where
     -- a fixed chain stands at no place of a port's chain
-    pub unfixed : (k : ChainKey) → find chain_cmp (place_of_key s k) (fixed_rows V4) ≡ None
+    pub unfixed : (k : ChainKey) → Unfixed (s.name_of k) s.family
     unfixed (key.Port Svc port) =
-        ap (λ n. find chain_cmp (record { table = Nat; chain = n }) (fixed_rows V4))
-        (prefixed.port Svc port).1
+        under (port_chain_prefix Svc) (λ r. refl) (λ r. refl) _ (prefixed.port Svc port)
     unfixed (key.Port Svl port) =
-        ap (λ n. find chain_cmp (record { table = Nat; chain = n }) (fixed_rows V4))
-        (prefixed.port Svl port).1
+        under (port_chain_prefix Svl) (λ r. refl) (λ r. refl) _ (prefixed.port Svl port)
     unfixed (key.Port Ext port) =
-        ap (λ n. find chain_cmp (record { table = Nat; chain = n }) (fixed_rows V4))
-        (prefixed.port Ext port).1
+        under (port_chain_prefix Ext) (λ r. refl) (λ r. refl) _ (prefixed.port Ext port)
     unfixed (key.Port Fw port) =
-        ap (λ n. find chain_cmp (record { table = Nat; chain = n }) (fixed_rows V4))
-        (prefixed.port Fw port).1
+        under (port_chain_prefix Fw) (λ r. refl) (λ r. refl) _ (prefixed.port Fw port)
     unfixed (key.Sep port e) =
-        ap (λ n. find chain_cmp (record { table = Nat; chain = n }) (fixed_rows V4))
-        (prefixed.endpoint port e).1
+        under (codes "KUBE-SEP-") (λ r. refl) (λ r. refl) _ (prefixed.endpoint port e)
 
     -- so the full table has there what ports have
     pub own_place : (is : List PortInfo) (k : ChainKey)
@@ -219,7 +223,7 @@ module _ (config : Config) where
 
       -- at the other places that aren't fixed chains' both tables agree
       pub elsewhere : (q : ChainAt) → get next.places q ≡ None
-          → find chain_cmp q (fixed_rows V4) ≡ None
+          → find chain_cmp q (fixed_rows s.family) ≡ None
           → get (full_chains s before) q ≡ get (full_chains s after) q
       elsewhere q unlisted fixed =
           elim (found_written (full_chains s before) start (rows s changed) q) [

@@ -9,15 +9,12 @@ use Rattle.std.proofs.lemmas.Map.Views.{Contains-from_any}
 use Rattle.kp_lemmas.proofs.Members.{in_map}
 use Rattle.kp_lemmas.proofs.Orders.{one_from_tie}
 use Rattle.kp_base.specs.Keys.{port_key_cmp}
-use Rattle.kp_base.specs.declared.address.Family.TheVariants.{V4}
-use Rattle.kp_base.specs.declared.config.Config.{Config}
 use Rattle.kp_base.specs.declared.key.PortKey.{PortKey}
 use Rattle.kp_base.proofs.KeyOrder.{port_key_exact}
 use Rattle.kp_types.specs.declared.chain.ChainAt.{ChainAt}
 use Rattle.kp_types.specs.declared.rule.ChainText.{ChainText}
 use Rattle.kp_types.specs.declared.rule.Rule.{Rule}
 use Rattle.kp_types.specs.Setting.{Setting}
-use Rattle.kp_choice_defs.specs.Settings.{setting_of}
 use Rattle.kp_object_defs.specs.PortInfo.{PortInfo}
 use Rattle.kp_table_defs.specs.Rebuild.{full_chains}
 use Rattle.kp_blocks.specs.Joined.{block_rules, fixed_chains, fixed_rules}
@@ -37,41 +34,39 @@ by_port : (s : Setting) (q : ChainAt) (is : List PortInfo)
 by_port s q [] = refl
 by_port s q (i ∷ is) = ap (λ rs. block_rules q (port_block s i) ++ rs) (by_port s q is)
 
-module _ (config : Config) (before after : Ports) (own : AreUnderOwnKeys before)
+module _ (s : Setting) (before after : Ports) (own : AreUnderOwnKeys before)
     (its : AreUnderOwnKeys after) (changed : PortKey → Bool)
     (alike : (k : PortKey) → changed k ≡ false → get before k ≡ get after k) (keys : List PortKey)
     (each : (k : PortKey) → list_any (eq_by_cmp port_key_cmp k) keys ≡ changed k) where
-  abbrev s : Setting
-  s = setting_of V4 config
-
   -- what is known of a port before and after
   abbrev pub change : PortKey → Change
   change k = (get before k, get after k)
 
   same_of : (q : ChainAt)
       → AllByRecursion (λ d. q ≡ d.0 → d.1 ≡ false)
-      (shared_flags (touched_by s (map change keys)))
+      (shared_flags s.family (touched_by s (map change keys)))
       → (k : PortKey) (b : Bool) → changed k ≡ b
-      → rules_if (rules_in config q) (get before k) ≡ rules_if (rules_in config q) (get after k)
-  same_of q off k false is = ap (rules_if (rules_in config q)) (alike k is)
+      → rules_if (rules_in s q) (get before k) ≡ rules_if (rules_in s q) (get after k)
+  same_of q off k false is = ap (rules_if (rules_in s q)) (alike k is)
   same_of q off k true is =
-      same_in config (map change keys) (change k)
+      same_in s (map change keys) (change k)
       (in_map change k keys (Contains-from_any (one_from_tie port_key_exact) k keys (each k ∙ is)))
       q off
 
   -- the tables agree at a fixed chain that isn't touched
-  pub fixed_agree : (q : ChainAt) → is_some (get (fixed_chains V4) q) ≡ true
+  pub fixed_agree : (q : ChainAt) → is_some (get (fixed_chains s.family) q) ≡ true
       → AllByRecursion (λ d. q ≡ d.0 → d.1 ≡ false)
-      (shared_flags (touched_by s (map change keys)))
+      (shared_flags s.family (touched_by s (map change keys)))
       → get (full_chains s (values before)) q ≡ get (full_chains s (values after)) q
   fixed_agree q fixed off =
       let joined : (List (List ChainText)) → Option (List Rule) = λ bs.
-      Some (with_rules (fixed_rules V4 q) (flat_map (block_rules q) bs)) in
-      let rules : List Rule → Option (List Rule) = λ rs. Some (with_rules (fixed_rules V4 q) rs) in
+      Some (with_rules (fixed_rules s.family q) (flat_map (block_rules q) bs)) in
+      let rules : List Rule → Option (List Rule) = λ rs.
+      Some (with_rules (fixed_rules s.family q) rs) in
       joined_chains_are_the_tables s (values before) q (in_order before own) fixed
       ∙ ap joined (blocks_in_order s (values before) (in_order before own))
       ∙ ap rules (by_port s q (values before)
-      ∙ same_together (rules_in config q) before after (λ k. same_of q off k (changed k) refl)
+      ∙ same_together (rules_in s q) before after (λ k. same_of q off k (changed k) refl)
       ∙ sym (by_port s q (values after)))
       ∙ sym (ap joined (blocks_in_order s (values after) (in_order after its)))
       ∙ sym (joined_chains_are_the_tables s (values after) q (in_order after its) fixed)

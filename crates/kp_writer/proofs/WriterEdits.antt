@@ -11,20 +11,23 @@ use Rattle.kp_types.specs.Setting.{Setting}
 use Rattle.kp_types.specs.declared.rule.Edit.{Edit}
 use Rattle.kp_object_defs.specs.PortInfo.{PortInfo}
 use Rattle.kp_table_defs.specs.Rebuild.{Chains}
+use Rattle.kp_table_laws.specs.Families.{HasTablesOf}
 use Rattle.kp_walk_laws.specs.Laws.{HashedPrefixed}
 use Rattle.kp_history_defs.specs.DirtyPorts.{same_info}
 use Rattle.kp_history_laws.proofs.DirtyPorts.{infos_exact}
 use Rattle.kp_blocks.specs.Joined.{BlocksByPort}
 use Rattle.kp_tracker.specs.Tracked.{IsPending, is_changed}
 use Rattle.kp_writer.specs.Batch.{own_rules_written}
-use Rattle.kp_writer.specs.Next.{NextParts, edits_at}
+use Rattle.kp_writer.specs.Next.{NextParts, edits_of}
 use Rattle.kp_writer.specs.Own.{own_rule_count, with_own}
 use Rattle.kp_writer.specs.Shared.{touched_by, with_shared}
 use Rattle.kp_writer.specs.Sync.{changes_of, infos_at, sync_next}
-use Rattle.kp_writer.specs.Written.{AreUnderOwnKeys, IsKept, Ports, WriterParts, chains_of, clash_of}
-use Rattle.kp_writer.specs.Written.{dirty_of, newest_ports, next_edits, setting_in, written_ports}
+use Rattle.kp_writer.specs.Written.{AreUnderOwnKeys, IsKept, Ports, WriterParts}
+use Rattle.kp_writer.specs.Written.{chains_of, clash_of, dirty_of, newest_ports, next_edits}
+use Rattle.kp_writer.specs.Written.{setting_in, written_ports}
 use Rattle.kp_writer.proofs.ClashTest.{differs, no_clash}
 use Rattle.kp_writer.proofs.DirtyLists.{of_keys, same_passed}
+use Rattle.kp_writer.proofs.OwnTables.{edits_alike, next_alike}
 use Rattle.kp_writer.proofs.OwnValues.{own_values}
 use Rattle.kp_writer.proofs.SharedPlaces.{shared_free}
 use Rattle.kp_writer.proofs.SyncLaw.{sync_edits}
@@ -75,13 +78,15 @@ module _ (v w : WriterParts) (is : v ≡ w) (blocks kept_old : BlocksByPort)
       (subst (λ ds. new ≤ old + own_rule_count s ds) (dirty after kept.newest) h)
 
   pub least_steps : (was : Chains) (next : NextParts) (edits : List Edit) (old new : ℕ)
-      → next ≡ sync_next was blocks s before after keys → edits ≡ edits_at was (entries next.places)
+      → next ≡ sync_next was blocks s before after keys
+      → edits ≡ edits_of v.family was (entries next.places)
       → old + own_rule_count s (infos_at after keys) ≤ new → old + own_rules_written edits ≤ new
   least_steps was next edits old new made are h =
       omega (
         arith,
         h,
-        ap own_rules_written (are ∙ ap (λ (n : NextParts). edits_at was (entries n.places)) made),
+        ap own_rules_written
+            (are ∙ ap (λ (n : NextParts). edits_of v.family was (entries n.places)) made),
         written_rules was blocks s before after keys,
       )
 
@@ -111,19 +116,30 @@ module _ (v w : WriterParts) (is : v ≡ w) (blocks kept_old : BlocksByPort)
   -- ---- The edits
 
   module _ (hashed : HashedPrefixed) (was : Chains) (next : NextParts)
-      (table : was ≡ chains_of w (written_ports w)) (none : clash_of w (written_ports w) ≡ None)
+      (table : HasTablesOf w.family was (chains_of w (written_ports w)))
+      (none : clash_of w (written_ports w) ≡ None)
       (made : next ≡ sync_next was blocks s before after keys) where
-    stood : was ≡ chains_of v before
-    stood = table ∙ ap (λ u. chains_of u (written_ports u)) (sym is)
+    abbrev mine : Chains
+    mine = chains_of v before
+
+    stood : HasTablesOf v.family was mine
+    stood = subst (λ u. HasTablesOf u.family was (chains_of u (written_ports u))) (sym is) table
 
     none_before : clash_of v before ≡ None
     none_before = ap (λ u. clash_of u (written_ports u)) is ∙ none
 
-    own_chains : with_own was s (infos_at before keys) (infos_at after keys)
-        ≡ with_own (chains_of v before) s (filter (differs stays) (values before))
+    -- what stands once the ports that differ have their chains
+    own_chains : with_own mine s (infos_at before keys) (infos_at after keys)
+        ≡ with_own mine s (filter (differs stays) (values before))
         (filter (differs stays) (values after))
     own_chains =
-        λ n. with_own (stood n) s (differing before kept.written n) (differing after kept.newest n)
+        λ n. with_own mine s (differing before kept.written n) (differing after kept.newest n)
+
+    -- and once the shared chains are joined
+    next_is : next
+        ≡ with_shared v.family blocks (touched_by s (changes_of before after keys))
+        (with_own mine s (infos_at before keys) (infos_at after keys))
+    next_is = made ∙ next_alike was mine s stood blocks before after keys
 
     -- where each port's chain finds its place free, none clash
     pub free_is_clear : next.free ≡ true → clash_of w (newest_ports w) ≡ None
@@ -131,19 +147,21 @@ module _ (v w : WriterParts) (is : v ≡ w) (blocks kept_old : BlocksByPort)
         ap (λ u. clash_of u (newest_ports u)) (sym is)
         ∙ no_clash s (values before) (values after) stays same apart none_before
         (ap (λ (n : NextParts). n.free) (sym own_chains)
-        ∙ sym (shared_free blocks (with_own was s (infos_at before keys) (infos_at after keys))
+        ∙ sym (shared_free v.family blocks
+        (with_own mine s (infos_at before keys) (infos_at after keys))
         (touched_by s (changes_of before after keys)))
-        ∙ ap (λ (n : NextParts). n.free) (sym made) ∙ free)
+        ∙ ap (λ (n : NextParts). n.free) (sym next_is) ∙ free)
 
     -- and where none clash, the edits are the changes
-    pub next_edits_are : (edits : List Edit) → edits ≡ edits_at was (entries next.places)
+    pub next_edits_are : (edits : List Edit) → edits ≡ edits_of v.family was (entries next.places)
         → clash_of w (newest_ports w) ≡ None → edits ≡ next_edits w
     next_edits_are edits are clear =
         are
-        ∙ ap (λ (n : NextParts). edits_at was (entries n.places)) made
-        ∙ (λ n. edits_at (stood n) (entries (with_shared blocks
+        ∙ edits_alike was mine s stood (entries next.places)
+        ∙ ap (λ (n : NextParts). edits_of v.family mine (entries n.places)) next_is
+        ∙ (λ n. edits_of v.family mine (entries (with_shared v.family blocks
         (touched_by s (changes_of before after keys)) (own_chains n)).places))
-        ∙ sync_edits v.config (hashed v.config.name_length) before after kept.written kept.newest
+        ∙ sync_edits s (hashed v.config.name_length) before after kept.written kept.newest
         changed alike keys pending.each blocks kept.blocks stays same (own_values after kept.newest)
         apart none_before (ap (λ u. clash_of u (newest_ports u)) is ∙ clear)
         ∙ ap next_edits is

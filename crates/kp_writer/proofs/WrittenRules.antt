@@ -1,12 +1,14 @@
 -- The batch of a sync writes at most the rules of the own chains of ports that differ.
 use Rattle.std.proofs.Common.{◌≡◌, ℕ, ◌+◌, ◌==◌, ◌≤◌, arith, Bool, true, false, cond, List, []}
 use Rattle.std.proofs.Common.{◌∷◌, ◌++◌, length, Option, Some, None, is_some, refl, sym, ap, subst}
+use Rattle.std.proofs.Common.{◌∙◌}
 use Rattle.std.specs.declared.cmp.Ordering.{Ordering}
 use Rattle.std.specs.declared.cmp.Ordering.TheVariants.{Less, Equal, Greater}
 use Rattle.std.specs.List.{cons_option, filter_map, flat_map, fold}
 use Rattle.std.specs.FinMap.{entries, entries-insert, get, insert}
 use Rattle.std.specs.FinMap.Entries.{by_order, put}
 use Rattle.kp_lemmas.proofs.Entries.{empty_entries}
+use Rattle.kp_base.specs.declared.address.Family.{Family}
 use Rattle.kp_base.specs.declared.address.Family.TheVariants.{V4, V6}
 use Rattle.kp_base.specs.declared.key.PortKey.{PortKey}
 use Rattle.kp_types.specs.Places.{chain_cmp, table_place}
@@ -23,16 +25,16 @@ use Rattle.kp_table_defs.specs.Edits.{is_found_with}
 use Rattle.kp_table_defs.specs.Rebuild.{Chains}
 use Rattle.kp_rules.specs.Changes.{is_in, write_if_found}
 use Rattle.kp_chains.specs.Rows.{rule_count}
-use Rattle.kp_blocks.specs.Joined.{BlocksByPort, joined_rules}
+use Rattle.kp_blocks.specs.Joined.{BlocksByPort, fixed_chains, joined_rules}
 use Rattle.kp_writer.specs.Batch.{is_fixed, own_rules_of, own_rules_written}
-use Rattle.kp_writer.specs.Next.{NextParts, Place, edits_at, edits_of, leave, remove_of, table_edits}
-use Rattle.kp_writer.specs.Next.{write, write_of}
+use Rattle.kp_writer.specs.Next.{NextParts, Place, edits_of, leave, remove_of, table_edits, write}
+use Rattle.kp_writer.specs.Next.{write_of}
 use Rattle.kp_writer.specs.Own.{left, own_rule_count, places_of, unchanged, with_own}
 use Rattle.kp_writer.specs.Shared.{join_if, touched_by, with_shared}
 use Rattle.kp_writer.specs.Sync.{changes_of, infos_at, sync_next}
 use Rattle.kp_writer.specs.Written.{Ports}
 use Rattle.kp_writer.specs.declared.shared.Touched.{Touched}
-use Rattle.kp_writer.proofs.SharedPlaces.{through_joins}
+use Rattle.kp_writer.proofs.SharedPlaces.{IsFixed, through_joins}
 
 -- ---- Places
 
@@ -57,10 +59,11 @@ one_more : (o : Option Edit) (es : List Edit)
 one_more None es = omega arith
 one_more (Some e) es = refl
 
-both_lists : (es fs : List Edit)
+-- edits, one after another
+pub own_rules_written-append : (es fs : List Edit)
     → own_rules_written (es ++ fs) ≡ own_rules_written es + own_rules_written fs
-both_lists [] fs = omega arith
-both_lists (e ∷ es) fs = omega (arith, both_lists es fs)
+own_rules_written-append [] fs = omega arith
+own_rules_written-append (e ∷ es) fs = omega (arith, own_rules_written-append es fs)
 
 if_changed : (b : Bool) (at : ChainAt) (rules : List Rule)
     → if_written (cond b None (Some (Write at rules))) ≤ cond (is_fixed at) 0 (length rules)
@@ -127,20 +130,24 @@ in_table : (was : Chains) (ps : List Place) (t : TableName)
 in_table was ps t =
     omega (
       arith,
-      both_lists (filter_map (write_of was t) ps) (filter_map (remove_of was t) ps),
+      own_rules_written-append (filter_map (write_of was t) ps) (filter_map (remove_of was t) ps),
       removes was t ps,
     )
 
-at_places : (was : Chains) (ps : List Place)
-    → own_rules_written (edits_at was ps) ≤ own_rules_in ps
-at_places was ps =
+at_places : (family : Family) (was : Chains) (ps : List Place)
+    → own_rules_written (edits_of family was ps) ≤ own_rules_in ps
+at_places V4 was ps =
     omega (
       arith,
-      both_lists (edits_of V4 was ps) (edits_of V6 was ps),
-      both_lists (table_edits was ps Nat) (table_edits was ps Filter),
-      both_lists (table_edits was ps Nat6) (table_edits was ps Filter6),
+      own_rules_written-append (table_edits was ps Nat) (table_edits was ps Filter),
       in_table was ps Nat,
       in_table was ps Filter,
+      writes was ps,
+    )
+at_places V6 was ps =
+    omega (
+      arith,
+      own_rules_written-append (table_edits was ps Nat6) (table_edits was ps Filter6),
       in_table was ps Nat6,
       in_table was ps Filter6,
       writes was ps,
@@ -191,34 +198,38 @@ all_written was n (r ∷ rows) =
       at_most (is_fixed r.0) (length r.1),
     )
 
-joined : (blocks : BlocksByPort) (n : NextParts) (b : Bool) (at : ChainAt) → is_fixed at ≡ true
-    → standing (join_if blocks n b at) ≤ standing n
-joined blocks n true at fixed =
-    omega (
-      arith,
-      more_at n at (Some (joined_rules V4 blocks at)),
-      ap (λ f. cond f 0 (length (joined_rules V4 blocks at))) fixed,
-    )
-joined blocks n false at fixed = omega arith
+module _ (family : Family) (blocks : BlocksByPort) where
+  joined : (n : NextParts) (b : Bool) (at : ChainAt) → IsFixed family at
+      → standing (join_if family blocks n b at) ≤ standing n
+  joined n true at fixed =
+      let mine : is_fixed at ≡ true =
+      ap (λ f. is_some (get (fixed_chains f) at)) fixed.0 ∙ fixed.1 in
+      omega (
+        arith,
+        more_at n at (Some (joined_rules family blocks at)),
+        ap (λ f. cond f 0 (length (joined_rules family blocks at))) mine,
+      )
+  joined n false at fixed = omega arith
 
-all_joined : (blocks : BlocksByPort) (n : NextParts) (t : Touched)
-    → standing (with_shared blocks t n) ≤ standing n
-all_joined blocks n t =
-    through_joins blocks n (λ m. standing m ≤ standing n)
-    (λ m b at fixed h. omega (arith, joined blocks m b at fixed, h)) t (omega arith)
+  all_joined : (n : NextParts) (t : Touched)
+      → standing (with_shared family blocks t n) ≤ standing n
+  all_joined n t =
+      through_joins family blocks n (λ m. standing m ≤ standing n)
+      (λ m b at fixed h. omega (arith, joined m b at fixed, h)) t (omega arith)
 
 -- they are at most the rules of the ports that differ
 pub written_rules : (was : Chains) (blocks : BlocksByPort) (s : Setting) (before after : Ports)
     (keys : List PortKey)
-    → own_rules_written (edits_at was (entries (sync_next was blocks s before after keys).places))
+    → own_rules_written
+    (edits_of s.family was (entries (sync_next was blocks s before after keys).places))
     ≤ own_rule_count s (infos_at after keys)
 written_rules was blocks s before after keys =
     let gone = left s unchanged (infos_at before keys) in
     let own = with_own was s (infos_at before keys) (infos_at after keys) in
     omega (
       arith,
-      at_places was (entries (sync_next was blocks s before after keys).places),
-      all_joined blocks own (touched_by s (changes_of before after keys)),
+      at_places s.family was (entries (sync_next was blocks s before after keys).places),
+      all_joined s.family blocks own (touched_by s (changes_of before after keys)),
       all_written was gone (flat_map (port_rows s) (infos_at after keys)),
       all_left unchanged (flat_map (places_of s) (infos_at before keys)),
       ap own_rules_in (empty_entries chain_cmp),

@@ -1,15 +1,15 @@
 -- How much of ports' own chains a batch writes.
 use Rattle.std.specs.Prelude.{ℕ, ◌+◌, List, [], ◌∷◌, Bool, cond, length, is_some}
 use Rattle.std.specs.FinMap as finite
-use Rattle.kp_base.specs.declared.address.Family.TheVariants.{V4}
+use Rattle.kp_types.specs.Places.{family_of_table}
 use Rattle.kp_types.specs.declared.chain.ChainAt.{ChainAt}
 use Rattle.kp_types.specs.declared.rule.Edit.{Edit}
 use Rattle.kp_types.specs.declared.rule.Edit.TheVariants.{Write, Remove}
 use Rattle.kp_blocks.specs.Joined.{fixed_chains}
 
--- whether a chain is one of a table of no ports, as the shared chains are
+-- whether a chain is one of its family's tables of no ports, as the shared chains are
 abbrev pub is_fixed : ChainAt → Bool
-is_fixed at = is_some (finite.get (fixed_chains V4) at)
+is_fixed at = is_some (finite.get (fixed_chains (family_of_table at.table)) at)
 
 -- how many rules of a port's own chain an edit writes
 abbrev pub own_rules_of : Edit → ℕ

@@ -4,7 +4,6 @@ use Rattle.std.specs.Coded.{Coded, code_by, coded×, coded_list, coded_option, c
 use Rattle.std.specs.List.{filter_map}
 use Rattle.std.specs.FinMap as finite
 use Rattle.kp_base.specs.declared.address.Family.{Family}
-use Rattle.kp_base.specs.declared.address.Family.TheVariants.{V4, V6}
 use Rattle.kp_types.specs.Places.{chain_cmp, nat_of, filter_of}
 use Rattle.kp_types.specs.contracts.chain.ChainAt as place_row
 use Rattle.kp_types.specs.contracts.rule.Rule as rule_row
@@ -76,7 +75,3 @@ table_edits before places table =
 abbrev pub edits_of : Family → Chains → List Place → List Edit
 edits_of family before places =
     table_edits before places (nat_of family) ++ table_edits before places (filter_of family)
-
--- the edits at places, IPv4 before IPv6
-abbrev pub edits_at : Chains → List Place → List Edit
-edits_at before places = edits_of V4 before places ++ edits_of V6 before places

@@ -1,11 +1,12 @@
 -- Which shared chains are joined: those where the rules of a changed port differ.
-use Rattle.std.specs.Prelude.{ℕ, ◌+◌, ◌||◌, Bool, true, false, List, [], ◌∷◌, Option, Some, None, not}
+use Rattle.std.specs.Prelude.{ℕ, ◌+◌, ◌||◌, Bool, true, false, List, [], ◌∷◌, Option, Some, None}
+use Rattle.std.specs.Prelude.{not}
 use Rattle.std.specs.List.{find, fold}
-use Rattle.kp_base.specs.declared.address.Family.TheVariants.{V4}
+use Rattle.kp_base.specs.declared.address.Family.{Family}
+use Rattle.kp_types.specs.Places.{filter_of, nat_of}
 use Rattle.kp_types.specs.Setting.{Setting}
 use Rattle.kp_types.specs.contracts.chain.ChainAtPartialEq.TheImpl as same
 use Rattle.kp_types.specs.declared.chain.ChainAt.{ChainAt}
-use Rattle.kp_types.specs.declared.chain.TableName.TheVariants.{Nat, Filter}
 use Rattle.kp_types.specs.declared.rule.ChainText.{ChainText}
 use Rattle.kp_types.specs.declared.rule.Rule.{Rule}
 use Rattle.kp_object_defs.specs.PortInfo.{PortInfo}
@@ -50,30 +51,30 @@ stands_at at c = same.ghosts.eq c.at at
 abbrev pub chain_rules : ChainAt → Block → List Rule
 chain_rules at block = rules_found (find (stands_at at) block)
 
--- the shared chains
-abbrev pub services : ChainAt
-services = record { table = Nat; chain = layout.kube_services }
+-- the shared chains of a family
+abbrev pub services : Family → ChainAt
+services family = record { table = nat_of family; chain = layout.kube_services }
 
-abbrev pub node_ports : ChainAt
-node_ports = record { table = Nat; chain = layout.kube_node_ports }
+abbrev pub node_ports : Family → ChainAt
+node_ports family = record { table = nat_of family; chain = layout.kube_node_ports }
 
-abbrev pub firewall : ChainAt
-firewall = record { table = Filter; chain = layout.kube_proxy_firewall }
+abbrev pub firewall : Family → ChainAt
+firewall family = record { table = filter_of family; chain = layout.kube_proxy_firewall }
 
-abbrev pub external : ChainAt
-external = record { table = Filter; chain = layout.kube_external_services }
+abbrev pub external : Family → ChainAt
+external family = record { table = filter_of family; chain = layout.kube_external_services }
 
-abbrev pub refusals : ChainAt
-refusals = record { table = Filter; chain = layout.kube_services }
+abbrev pub refusals : Family → ChainAt
+refusals family = record { table = filter_of family; chain = layout.kube_services }
 
 -- the rules that a block has in each of them
-abbrev pub blocks_in : Block → Blocks
-blocks_in block = record {
-  services = chain_rules services block;
-  node_ports = chain_rules node_ports block;
-  firewall = chain_rules firewall block;
-  external = chain_rules external block;
-  refusals = chain_rules refusals block;
+abbrev pub blocks_in : Family → Block → Blocks
+blocks_in family block = record {
+  services = chain_rules (services family) block;
+  node_ports = chain_rules (node_ports family) block;
+  firewall = chain_rules (firewall family) block;
+  external = chain_rules (external family) block;
+  refusals = chain_rules (refusals family) block;
 }
 
 -- whether the rules of a chain differ
@@ -114,19 +115,19 @@ shared_rule_count setting [] = 0
 shared_rule_count setting (i ∷ is) =
     block_count (blocks_of setting i) + shared_rule_count setting is
 
--- a shared chain is joined where it is touched
-abbrev pub join_if : BlocksByPort → NextParts → Bool → ChainAt → NextParts
-join_if blocks n true at = join n at (joined_rules V4 blocks at)
-join_if blocks n false at = n
+-- a shared chain of a family is joined where it is touched
+abbrev pub join_if : Family → BlocksByPort → NextParts → Bool → ChainAt → NextParts
+join_if family blocks n true at = join n at (joined_rules family blocks at)
+join_if family blocks n false at = n
 
 -- what stands with the shared chains that are touched
-abbrev pub with_shared : BlocksByPort → Touched → NextParts → NextParts
-with_shared blocks t n =
-    join_if blocks
-    (join_if blocks
-    (join_if blocks
-    (join_if blocks
-    (join_if blocks n t.services services) t.node_ports node_ports)
-    t.firewall firewall)
-    t.external external)
-    t.refusals refusals
+abbrev pub with_shared : Family → BlocksByPort → Touched → NextParts → NextParts
+with_shared family blocks t n =
+    join_if family blocks
+    (join_if family blocks
+    (join_if family blocks
+    (join_if family blocks
+    (join_if family blocks n t.services (services family)) t.node_ports (node_ports family))
+    t.firewall (firewall family))
+    t.external (external family))
+    t.refusals (refusals family)

@@ -25,5 +25,5 @@ changes_of before after keys = map (λ k. (finite.get before k, finite.get after
 abbrev pub sync_next :
     Chains → BlocksByPort → Setting → Ports → Ports → List PortKey → NextParts
 sync_next was blocks setting before after keys =
-    with_shared blocks (touched_by setting (changes_of before after keys))
+    with_shared setting.family blocks (touched_by setting (changes_of before after keys))
     (with_own was setting (infos_at before keys) (infos_at after keys))

@@ -1,15 +1,14 @@
 //! What a port has in the shared chains.
 ghost use Rattle.std.specs.Prelude.{◌≡◌, ◌+◌, ◌≤◌, ◌++◌, ◌∷◌, [], true, IfOk, OnOk};
 ghost use Rattle.std.specs.List.{filter};
-ghost use Rattle.kp_base.specs.declared.address.Family.TheVariants.{V4};
 ghost use Rattle.kp_choice_defs.specs.Settings.{setting_of};
 ghost use Rattle.kp_types.specs.Chains.{is_chain_name};
-ghost use Rattle.kp_types.specs.declared.chain.TableName.TheVariants.{Filter};
+ghost use Rattle.kp_types.specs.Places.{filter_of};
 ghost use Rattle.kp_table_defs.specs.Layout as layout;
 ghost use Rattle.kp_chains.specs.Blocks.{block_count, blocks_of};
 ghost use Rattle.kp_blocks.specs.Joined.{has_rules, port_block, text_of};
 
-use kp_base::{Config, Items, NoMemory, Steps};
+use kp_base::{Config, Family, Items, NoMemory, Steps};
 use kp_chains::info_blocks;
 use kp_types::{ChainAt, ChainName, ChainText, PortInfo, Rule, TableName};
 use std::alloc::Global;
@@ -20,27 +19,25 @@ use std::sync::ledger::Ledger;
 /// each.
 pub fn block_of<L: Ledger>(
     alloc: Global,
+    family: Family,
     config: &Config,
     info: &PortInfo,
     steps: &mut Steps<L>,
 ) -> Result<Items<ChainText>, NoMemory>
     ensures block { IfOk result (λ block. block
-        ≡ port_block (setting_of V4 config.now) info.now) }
+        ≡ port_block (setting_of family config.now) info.now) }
     ensures more { steps.old ≤ steps.new }
     ensures steps { steps.new
-        ≤ steps.old + block_count (blocks_of (setting_of V4 config.now) info.now) }
+        ≤ steps.old + block_count (blocks_of (setting_of family config.now) info.now) }
 {
-    let blocks = info_blocks(alloc, config, info, steps)?;
+    let nat = TableName::nat_of(family);
+    let blocks = info_blocks(alloc, family, config, info, steps)?;
     let mut block = Vec::with_capacity(alloc, 1)?;
-    add(&mut block, TableName::Nat, "KUBE-SERVICES", blocks.services)?;
-    add(
-        &mut block,
-        TableName::Nat,
-        "KUBE-NODEPORTS",
-        blocks.node_ports,
-    )?;
+    add(&mut block, nat, "KUBE-SERVICES", blocks.services)?;
+    add(&mut block, nat, "KUBE-NODEPORTS", blocks.node_ports)?;
     add_filter(
         &mut block,
+        family,
         blocks.firewall,
         blocks.external,
         blocks.refusals,
@@ -49,21 +46,24 @@ pub fn block_of<L: Ledger>(
     Ok(Items::from_vec(block))
 }
 
-/// Adds the rules of filter.
+/// Adds the rules of a family's filter.
 fn add_filter(
     block: &mut Vec<ChainText>,
+    family: Family,
     firewall: Items<Rule>,
     external: Items<Rule>,
     refusals: Items<Rule>,
 ) -> Result<(), NoMemory>
     ensures { OnOk result (block.new.items ≡ block.old.items
-        ++ filter has_rules (text_of (layout.row Filter layout.kube_proxy_firewall firewall)
-        ∷ text_of (layout.row Filter layout.kube_external_services external)
-        ∷ text_of (layout.row Filter layout.kube_services refusals) ∷ [])) }
+        ++ filter has_rules (
+        text_of (layout.row (filter_of family) layout.kube_proxy_firewall firewall)
+        ∷ text_of (layout.row (filter_of family) layout.kube_external_services external)
+        ∷ text_of (layout.row (filter_of family) layout.kube_services refusals) ∷ [])) }
 {
-    add(block, TableName::Filter, "KUBE-PROXY-FIREWALL", firewall)?;
-    add(block, TableName::Filter, "KUBE-EXTERNAL-SERVICES", external)?;
-    add(block, TableName::Filter, "KUBE-SERVICES", refusals)?;
+    let table = TableName::filter_of(family);
+    add(block, table, "KUBE-PROXY-FIREWALL", firewall)?;
+    add(block, table, "KUBE-EXTERNAL-SERVICES", external)?;
+    add(block, table, "KUBE-SERVICES", refusals)?;
     Ok(())
 }
 

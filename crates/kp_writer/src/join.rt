@@ -1,25 +1,29 @@
 //! The shared chains that are joined.
 ghost use Rattle.std.specs.Prelude.{◌≡◌, true, OnOk};
 ghost use Rattle.kp_types.specs.Chains.{is_chain_name};
+ghost use Rattle.kp_types.specs.Places.{family_of_table};
 ghost use Rattle.kp_writer.specs.Shared as spec;
 
 use crate::next::NextChains;
 use crate::shared::Touched;
-use kp_base::NoMemory;
+use kp_base::{Family, NoMemory};
 use kp_blocks::Blocks;
 use kp_types::{ChainAt, ChainName, TableName};
 use std::alloc::Global;
 
-/// The shared chains that are touched are joined from the blocks, and no others.
+/// The shared chains of a family that are touched are joined from the blocks, and no others.
 pub fn join_touched(
     alloc: Global,
+    family: Family,
     blocks: &Blocks,
     touched: &Touched,
     next: &mut NextChains,
 ) -> Result<(), NoMemory>
-    ensures { OnOk result (next.new ≡ spec.with_shared blocks.now touched.now next.old) }
+    ensures { OnOk result (next.new
+        ≡ spec.with_shared family blocks.now touched.now next.old) }
 {
-    let (nat, filter) = (TableName::Nat, TableName::Filter);
+    let nat = TableName::nat_of(family);
+    let filter = TableName::filter_of(family);
     join_if(alloc, blocks, next, touched.services, nat, "KUBE-SERVICES")?;
     join_if(
         alloc,
@@ -65,7 +69,8 @@ fn join_if(
     chain: &str,
 ) -> Result<(), NoMemory>
     requires { is_chain_name chain.now ≡ true }
-    ensures { OnOk result (next.new ≡ spec.join_if blocks.now next.old touched
+    ensures { OnOk result (next.new
+        ≡ spec.join_if (family_of_table table) blocks.now next.old touched
         (record { table = table; chain = chain.now })) }
 {
     if touched {
@@ -84,13 +89,14 @@ fn join(
     chain: &str,
 ) -> Result<(), NoMemory>
     requires { is_chain_name chain.now ≡ true }
-    ensures { OnOk result (next.new ≡ spec.join_if blocks.now next.old true
+    ensures { OnOk result (next.new
+        ≡ spec.join_if (family_of_table table) blocks.now next.old true
         (record { table = table; chain = chain.now })) }
 {
     let at = ChainAt {
         table,
         chain: ChainName::new(chain),
     };
-    let rules = blocks.joined(alloc, &at)?;
+    let rules = blocks.joined(alloc, table.family(), &at)?;
     next.join(alloc, at, rules)
 }

@@ -4,7 +4,6 @@ ghost use Rattle.std.specs.BTreeMap.{IsOrdered};
 ghost use Rattle.std.specs.FinMap as finite;
 ghost use Rattle.std.specs.List.{filter_map};
 ghost use Rattle.std.specs.Option.{option_copied, option_to_list};
-ghost use Rattle.kp_base.specs.declared.address.Family.TheVariants.{V6};
 ghost use Rattle.kp_table_defs.specs.Edits as Edits;
 ghost use Rattle.kp_types.specs.contracts.chain.ChainAtOrd.TheImpl as order;
 ghost use Rattle.kp_chains.specs.Rows.{row_of};
@@ -92,14 +91,14 @@ impl NextChains {
         Ok(())
     }
 
-    /// The edits of a table at these places: in the tables of IPv4 and then in those of IPv6, nat
-    /// before filter, a write of each chain that is new or whose rules differ, and then a remove of
-    /// each that is gone, each by name.
-    pub fn edits(&self, alloc: Global, table: &Table) -> Result<Batch, NoMemory>
+    /// The edits of a family's tables at these places: in nat and then in filter a write of each
+    /// chain that is new or whose rules differ, and then a remove of each that is gone, each by
+    /// name.
+    pub fn edits(&self, alloc: Global, family: Family, table: &Table) -> Result<Batch, NoMemory>
         ensures { IfOk result (λ b. b.edits
-            ≡ spec.edits_at table.now.chains (finite.entries self.now.places)) }
+            ≡ spec.edits_of family table.now.chains (finite.entries self.now.places)) }
     {
-        edits_at(alloc, table, &self.places)
+        edits_of(alloc, family, table, &self.places)
     }
 }
 
@@ -121,53 +120,29 @@ fn is_free(before: &Table, at: &ChainAt, next: Option<&Option<Shared<Rule>>>) ->
     }
 }
 
-/// The edits at places, which stand in order.
-fn edits_at(
+/// The edits of a family's tables at places, which stand in order.
+fn edits_of(
     alloc: Global,
+    family: Family,
     table: &Table,
     places: &BTreeMap<ChainAt, Option<Shared<Rule>>>,
 ) -> Result<Batch, NoMemory>
     ensures edits { IfOk result (λ b. b.edits
-        ≡ spec.edits_at table.now.chains places.now.entries) }
+        ≡ spec.edits_of family table.now.chains places.now.entries) }
     ensures in_order { IsOrdered order.ghosts.cmp places.now }
 {
     let mut edits = Vec::with_capacity(alloc, places.len())?;
-    add_edits(alloc, table, places, TableName::Nat, &mut edits)?;
-    add_edits(alloc, table, places, TableName::Filter, &mut edits)?;
-    add_six(alloc, table, places, &mut edits)?;
+    add_edits(alloc, table, places, TableName::nat_of(family), &mut edits)?;
+    add_edits(
+        alloc,
+        table,
+        places,
+        TableName::filter_of(family),
+        &mut edits,
+    )?;
     Ok(Batch {
         edits: Items::from_vec(edits),
     })
-}
-
-/// Adds the edits of the tables of IPv6, where a place is in one of them.
-fn add_six(
-    alloc: Global,
-    before: &Table,
-    places: &BTreeMap<ChainAt, Option<Shared<Rule>>>,
-    edits: &mut Vec<Edit>,
-) -> Result<(), NoMemory>
-    ensures { OnOk result (edits.new.items ≡ edits.old.items
-        ++ spec.edits_of V6 before.now.chains places.now.entries) }
-{
-    if !has_six(places) {
-        return Ok(());
-    }
-    add_edits(alloc, before, places, TableName::Nat6, edits)?;
-    add_edits(alloc, before, places, TableName::Filter6, edits)
-}
-
-/// Whether a place is in a table of IPv6. These stand after all others, so that the last one tells.
-fn has_six(places: &BTreeMap<ChainAt, Option<Shared<Rule>>>) -> bool
-    ensures { result ≡ false → Changes.AreOutside V6 (map (λ p. p.0) places.now.entries) }
-{
-    match places.last_key_value() {
-        None => false,
-        Some((last, _)) => match last.table.family() {
-            Family::V4 => false,
-            Family::V6 => true,
-        },
-    }
 }
 
 /// Adds the edits of one table.

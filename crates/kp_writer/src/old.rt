@@ -1,6 +1,5 @@
 //! The blocks of what was written of ports, where something else is known now.
 ghost use Rattle.std.specs.Prelude.{◌≡◌, OnOk, OnErr};
-ghost use Rattle.std.specs.FinMap as finite;
 ghost use Rattle.std.specs.Option.{option_copied};
 ghost use Rattle.kp_writer.specs.Old as spec;
 ghost use Rattle.kp_writer.specs.Written as written;
@@ -55,7 +54,8 @@ pub fn written_block<'a>(
     }
 }
 
-/// Sets the block of what was written of a port aside, before something else is known of it. Where memory is out, all stays.
+/// Sets the block of what was written of a port aside, before something else is known of it.
+/// Where memory is out, all stays.
 pub fn set_aside(
     alloc: Global,
     ports: &Tracker<PortKey, Known>,

@@ -1,15 +1,14 @@
 //! The chains of ports, before and after.
 ghost use Rattle.std.specs.Prelude.{◌≡◌, ◌+◌, ◌≤◌, map, OnOk};
 ghost use Rattle.std.specs.List.{fold};
-ghost use Rattle.kp_base.specs.declared.address.Family.TheVariants.{V4};
 ghost use Rattle.kp_choice_defs.specs.Settings.{setting_of};
 ghost use Rattle.kp_table_defs.specs.Layout.{place_of_key, port_rows};
-ghost use Rattle.kp_chains.specs.Rows.{row_of, rows_of_texts, rule_count};
+ghost use Rattle.kp_chains.specs.Rows.{rows_of_texts, rule_count};
 ghost use Rattle.kp_writer.specs.Next as next_spec;
 ghost use Rattle.kp_writer.specs.Own as spec;
 
 use crate::next::NextChains;
-use kp_base::{Config, NoMemory, Steps};
+use kp_base::{Config, Family, NoMemory, Steps};
 use kp_chains::{info_chains, own_keys};
 use kp_names::Namer;
 use kp_rules::Table;
@@ -20,15 +19,16 @@ use std::sync::ledger::Ledger;
 /// The chains of ports are gone. No rule is made.
 pub fn leave_all(
     alloc: Global,
+    family: Family,
     config: &Config,
     infos: &[&PortInfo],
     next: &mut NextChains,
 ) -> Result<(), NoMemory>
-    ensures { OnOk result (next.new ≡ spec.left (setting_of V4 config.now) next.old
+    ensures { OnOk result (next.new ≡ spec.left (setting_of family config.now) next.old
         (map (λ i. i.now) infos.now)) }
 {
     for info in infos {
-        leave_port(alloc, config, info, next)?;
+        leave_port(alloc, family, config, info, next)?;
     }
     Ok(())
 }
@@ -36,26 +36,27 @@ pub fn leave_all(
 /// The chains of one port are gone.
 fn leave_port(
     alloc: Global,
+    family: Family,
     config: &Config,
     info: &PortInfo,
     next: &mut NextChains,
 ) -> Result<(), NoMemory>
     ensures { OnOk result (next.new ≡ fold next_spec.leave next.old
-        (spec.places_of (setting_of V4 config.now) info.now)) }
+        (spec.places_of (setting_of family config.now) info.now)) }
 {
     let keys = own_keys(alloc, info)?;
     for key in &keys {
-        next.leave(place_of(config, key))?;
+        next.leave(place_of(family, config, key))?;
     }
     Ok(())
 }
 
 /// Where the chain of a key stands.
-fn place_of(config: &Config, key: &ChainKey) -> ChainAt
-    ensures { result ≡ place_of_key (setting_of V4 config.now) key.now }
+fn place_of(family: Family, config: &Config, key: &ChainKey) -> ChainAt
+    ensures { result ≡ place_of_key (setting_of family config.now) key.now }
 {
     ChainAt {
-        table: TableName::Nat,
+        table: TableName::nat_of(family),
         chain: Namer::new(config.name_length).chain_name(key),
     }
 }
@@ -63,6 +64,7 @@ fn place_of(config: &Config, key: &ChainKey) -> ChainAt
 /// Ports have their chains. A step is taken for each rule.
 pub fn write_all<L: Ledger>(
     alloc: Global,
+    family: Family,
     config: &Config,
     before: &Table,
     infos: &[&PortInfo],
@@ -70,14 +72,14 @@ pub fn write_all<L: Ledger>(
     steps: &mut Steps<L>,
 ) -> Result<(), NoMemory>
     ensures next { OnOk result (next.new ≡ spec.written before.now.chains
-        (setting_of V4 config.now) next.old (map (λ i. i.now) infos.now)) }
+        (setting_of family config.now) next.old (map (λ i. i.now) infos.now)) }
     ensures made { OnOk result (steps.new ≡ steps.old + spec.own_rule_count
-        (setting_of V4 config.now) (map (λ i. i.now) infos.now)) }
+        (setting_of family config.now) (map (λ i. i.now) infos.now)) }
     ensures steps { steps.new ≤ steps.old + spec.own_rule_count
-        (setting_of V4 config.now) (map (λ i. i.now) infos.now) }
+        (setting_of family config.now) (map (λ i. i.now) infos.now) }
 {
     for info in infos {
-        write_port(alloc, config, before, info, next, steps)?;
+        write_port(alloc, family, config, before, info, next, steps)?;
     }
     Ok(())
 }
@@ -85,6 +87,7 @@ pub fn write_all<L: Ledger>(
 /// One port has its chains.
 fn write_port<L: Ledger>(
     alloc: Global,
+    family: Family,
     config: &Config,
     before: &Table,
     info: &PortInfo,
@@ -92,13 +95,13 @@ fn write_port<L: Ledger>(
     steps: &mut Steps<L>,
 ) -> Result<(), NoMemory>
     ensures next { OnOk result (next.new ≡ fold (next_spec.write before.now.chains) next.old
-        (port_rows (setting_of V4 config.now) info.now)) }
+        (port_rows (setting_of family config.now) info.now)) }
     ensures made { OnOk result (steps.new
-        ≡ steps.old + rule_count (port_rows (setting_of V4 config.now) info.now)) }
+        ≡ steps.old + rule_count (port_rows (setting_of family config.now) info.now)) }
     ensures steps { steps.new
-        ≤ steps.old + rule_count (port_rows (setting_of V4 config.now) info.now) }
+        ≤ steps.old + rule_count (port_rows (setting_of family config.now) info.now) }
 {
-    let rows = info_chains(alloc, config, info, steps)?;
+    let rows = info_chains(alloc, family, config, info, steps)?;
     write_rows(alloc, before, rows, next)
 }
 

@@ -1,6 +1,5 @@
 //! A port of which something else is known than was written.
 ghost use Rattle.std.specs.Prelude.{◌≡◌, IfOk};
-ghost use Rattle.std.specs.Option.{option_copied};
 
 use crate::known::Known;
 use kp_base::{Copied, Items, NoMemory, PortKey};

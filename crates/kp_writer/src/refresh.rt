@@ -28,6 +28,7 @@ pub fn copies(alloc: Global, ports: &[&PortKey]) -> Result<Vec<PortKey>, NoMemor
 
 /// Takes over that ports are gone.
 pub fn drop_all(alloc: Global, writer: &mut Writer, mut ports: Vec<PortKey>) -> Result<(), NoMemory>
+    ensures family { writer.new.family ≡ writer.old.family }
     ensures config { writer.new.config ≡ writer.old.config }
     ensures written { written_ports writer.new ≡ written_ports writer.old }
     ensures newest { OnOk result (newest_ports writer.new
@@ -50,6 +51,7 @@ pub fn put_all<L: Ledger>(
     mut infos: Vec<PortInfo>,
     steps: &mut Steps<L>,
 ) -> Result<(), NoMemory>
+    ensures family { writer.new.family ≡ writer.old.family }
     ensures config { writer.new.config ≡ writer.old.config }
     ensures written { written_ports writer.new ≡ written_ports writer.old }
     ensures newest { OnOk result (newest_ports writer.new
@@ -75,6 +77,7 @@ fn put_if<L: Ledger>(
     info: PortInfo,
     steps: &mut Steps<L>,
 ) -> Result<(), NoMemory>
+    ensures family { writer.new.family ≡ writer.old.family }
     ensures config { writer.new.config ≡ writer.old.config }
     ensures written { written_ports writer.new ≡ written_ports writer.old }
     ensures newest { OnOk result (newest_ports writer.new

@@ -4,17 +4,17 @@ ghost use Rattle.std.specs.FinMap as finite;
 ghost use Rattle.std.specs.List.{find};
 ghost use Rattle.std.specs.Option.{option_copied};
 ghost use Rattle.kp_base.specs.Keys.{port_key_cmp};
-ghost use Rattle.kp_base.specs.declared.address.Family.TheVariants.{V4};
 ghost use Rattle.kp_base.specs.declared.config.Config.{Config};
 ghost use Rattle.kp_choice_defs.specs.Settings.{setting_of};
 ghost use Rattle.kp_types.specs.Chains.{is_chain_name};
+ghost use Rattle.kp_types.specs.Places.{filter_of, nat_of};
 ghost use Rattle.kp_tracker.specs.Tracked as tracked;
 ghost use Rattle.kp_writer.specs.Shared as spec;
 ghost use Rattle.kp_writer.specs.Written.{AreBlocksOf, AreOldBlocks};
 
 use crate::known::Known;
 use crate::old::written_block;
-use kp_base::{Items, PortKey};
+use kp_base::{Family, Items, PortKey};
 use kp_blocks::Blocks;
 use kp_tracker::Tracker;
 use kp_types::{ChainAt, ChainName, ChainText, Rule, TableName};
@@ -29,18 +29,19 @@ pub struct Touched {
     pub refusals: bool,
 }
 
-/// Which shared chains the changes of ports touch. Nothing is made: the blocks of what was written
-/// and of what is known now are at hand.
+/// Which shared chains of a family the changes of ports touch. Nothing is made: the blocks of what
+/// was written and of what is known now are at hand.
 pub fn touched_by(
+    family: Family,
     ports: &Tracker<PortKey, Known>,
     blocks: &Blocks,
     aside: &Blocks,
     keys: &[&PortKey],
 ) -> Touched
-    ensures { (config : Config) → AreBlocksOf (setting_of V4 config)
+    ensures { (config : Config) → AreBlocksOf (setting_of family config)
         (tracked.newest port_key_cmp ports.now) blocks.now
-        → AreOldBlocks (setting_of V4 config) ports.now aside.now
-        → result ≡ spec.touched_by (setting_of V4 config) (map (λ k. (
+        → AreOldBlocks (setting_of family config) ports.now aside.now
+        → result ≡ spec.touched_by (setting_of family config) (map (λ k. (
           finite.get (tracked.published port_key_cmp ports.now) k.now,
           finite.get (tracked.newest port_key_cmp ports.now) k.now,
         )) keys.now) }
@@ -48,7 +49,7 @@ pub fn touched_by(
     let mut touched = untouched();
     for key in keys {
         let before = rules_of(written_block(ports, blocks, aside, key));
-        touched = touch(touched, before, rules_of(blocks.block(key)));
+        touched = touch(family, touched, before, rules_of(blocks.block(key)));
     }
     touched
 }
@@ -77,18 +78,38 @@ fn rules_of<'a>(block: Option<&'a Items<ChainText>>) -> &'a [ChainText]
 }
 
 /// Which chains are touched, with those where a port's rules after differ from those before.
-fn touch(touched: Touched, before: &[ChainText], after: &[ChainText]) -> Touched
-    ensures { result
-        ≡ spec.touch touched (spec.blocks_in before.now) (spec.blocks_in after.now) }
+fn touch(family: Family, touched: Touched, before: &[ChainText], after: &[ChainText]) -> Touched
+    ensures { result ≡ spec.touch touched
+        (spec.blocks_in family before.now) (spec.blocks_in family after.now) }
 {
-    let (nat, filter) = (TableName::Nat, TableName::Filter);
     Touched {
-        services: touched.services || differs(before, after, nat, "KUBE-SERVICES"),
-        node_ports: touched.node_ports || differs(before, after, nat, "KUBE-NODEPORTS"),
-        firewall: touched.firewall || differs(before, after, filter, "KUBE-PROXY-FIREWALL"),
-        external: touched.external || differs(before, after, filter, "KUBE-EXTERNAL-SERVICES"),
-        refusals: touched.refusals || differs(before, after, filter, "KUBE-SERVICES"),
+        services: touched.services || nat_differs(family, before, after, "KUBE-SERVICES"),
+        node_ports: touched.node_ports || nat_differs(family, before, after, "KUBE-NODEPORTS"),
+        firewall: touched.firewall || filter_differs(family, before, after, "KUBE-PROXY-FIREWALL"),
+        external: touched.external
+            || filter_differs(family, before, after, "KUBE-EXTERNAL-SERVICES"),
+        refusals: touched.refusals || filter_differs(family, before, after, "KUBE-SERVICES"),
     }
+}
+
+/// Whether two blocks have different rules in a chain of a family's nat.
+fn nat_differs(family: Family, before: &[ChainText], after: &[ChainText], chain: &str) -> bool
+    requires { is_chain_name chain.now ≡ true }
+    ensures { result ≡ spec.differ
+        (spec.chain_rules (record { table = nat_of family; chain = chain.now }) before.now)
+        (spec.chain_rules (record { table = nat_of family; chain = chain.now }) after.now) }
+{
+    differs(before, after, TableName::nat_of(family), chain)
+}
+
+/// The same in a chain of its filter.
+fn filter_differs(family: Family, before: &[ChainText], after: &[ChainText], chain: &str) -> bool
+    requires { is_chain_name chain.now ≡ true }
+    ensures { result ≡ spec.differ
+        (spec.chain_rules (record { table = filter_of family; chain = chain.now }) before.now)
+        (spec.chain_rules (record { table = filter_of family; chain = chain.now }) after.now) }
+{
+    differs(before, after, TableName::filter_of(family), chain)
 }
 
 /// Whether two blocks have different rules in a chain.

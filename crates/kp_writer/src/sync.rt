@@ -1,7 +1,6 @@
 //! What stands after a sync, made from the ports that differ.
 ghost use Rattle.std.specs.Prelude.{◌≡◌, ◌+◌, ◌≤◌, map, IfOk, OnOk};
 ghost use Rattle.kp_base.specs.Keys.{port_key_cmp};
-ghost use Rattle.kp_base.specs.declared.address.Family.TheVariants.{V4};
 ghost use Rattle.kp_choice_defs.specs.Settings.{setting_of};
 ghost use Rattle.kp_tracker.specs.Tracked as tracked;
 ghost use Rattle.kp_writer.specs.Own.{own_rule_count, with_own};
@@ -14,7 +13,7 @@ use crate::known::Known;
 use crate::next::NextChains;
 use crate::own::{leave_all, write_all};
 use crate::shared::touched_by;
-use kp_base::{Config, NoMemory, PortKey, Steps};
+use kp_base::{Config, Family, NoMemory, PortKey, Steps};
 use kp_blocks::Blocks;
 use kp_rules::Table;
 use kp_tracker::Tracker;
@@ -26,6 +25,7 @@ use std::sync::ledger::Ledger;
 /// ports have in their own chains.
 pub fn next_chains<L: Ledger>(
     alloc: Global,
+    family: Family,
     config: &Config,
     ports: &Tracker<PortKey, Known>,
     blocks: &Blocks,
@@ -34,27 +34,28 @@ pub fn next_chains<L: Ledger>(
     table: &Table,
     steps: &mut Steps<L>,
 ) -> Result<NextChains, NoMemory>
-    requires blocks { AreBlocksOf (setting_of V4 config.now)
+    requires blocks { AreBlocksOf (setting_of family config.now)
         (tracked.newest port_key_cmp ports.now) blocks.now }
-    requires old { AreOldBlocks (setting_of V4 config.now) ports.now aside.now }
+    requires old { AreOldBlocks (setting_of family config.now) ports.now aside.now }
     ensures next { IfOk result (λ next. next ≡ spec.sync_next table.now.chains blocks.now
-        (setting_of V4 config.now) (tracked.published port_key_cmp ports.now)
+        (setting_of family config.now) (tracked.published port_key_cmp ports.now)
         (tracked.newest port_key_cmp ports.now) (map (λ k. k.now) keys.now)) }
-    ensures made { OnOk result (steps.old + own_rule_count (setting_of V4 config.now)
+    ensures made { OnOk result (steps.old + own_rule_count (setting_of family config.now)
         (spec.infos_at (tracked.newest port_key_cmp ports.now) (map (λ k. k.now) keys.now))
         ≤ steps.new) }
-    ensures steps { steps.new ≤ steps.old + own_rule_count (setting_of V4 config.now)
+    ensures steps { steps.new ≤ steps.old + own_rule_count (setting_of family config.now)
         (spec.infos_at (tracked.newest port_key_cmp ports.now) (map (λ k. k.now) keys.now)) }
 {
-    let mut next = own_chains(alloc, config, ports, keys, table, steps)?;
-    let touched = touched_by(ports, blocks, aside, keys);
-    join_touched(alloc, blocks, &touched, &mut next)?;
+    let mut next = own_chains(alloc, family, config, ports, keys, table, steps)?;
+    let touched = touched_by(family, ports, blocks, aside, keys);
+    join_touched(alloc, family, blocks, &touched, &mut next)?;
     Ok(next)
 }
 
 /// What stands after at the places of the ports' own chains.
 fn own_chains<L: Ledger>(
     alloc: Global,
+    family: Family,
     config: &Config,
     ports: &Tracker<PortKey, Known>,
     keys: &[&PortKey],
@@ -62,19 +63,19 @@ fn own_chains<L: Ledger>(
     steps: &mut Steps<L>,
 ) -> Result<NextChains, NoMemory>
     ensures next { IfOk result (λ next. next ≡ with_own table.now.chains
-        (setting_of V4 config.now)
+        (setting_of family config.now)
         (spec.infos_at (tracked.published port_key_cmp ports.now) (map (λ k. k.now) keys.now))
         (spec.infos_at (tracked.newest port_key_cmp ports.now) (map (λ k. k.now) keys.now))) }
     ensures made { OnOk result (steps.new ≡ steps.old + own_rule_count
-        (setting_of V4 config.now)
+        (setting_of family config.now)
         (spec.infos_at (tracked.newest port_key_cmp ports.now) (map (λ k. k.now) keys.now))) }
-    ensures steps { steps.new ≤ steps.old + own_rule_count (setting_of V4 config.now)
+    ensures steps { steps.new ≤ steps.old + own_rule_count (setting_of family config.now)
         (spec.infos_at (tracked.newest port_key_cmp ports.now) (map (λ k. k.now) keys.now)) }
 {
     let gone = written_infos(alloc, ports, keys)?;
     let made = newest_infos(alloc, ports, keys)?;
     let mut next = NextChains::new(alloc);
-    leave_all(alloc, config, &gone, &mut next)?;
-    write_all(alloc, config, table, &made, &mut next, steps)?;
+    leave_all(alloc, family, config, &gone, &mut next)?;
+    write_all(alloc, family, config, table, &made, &mut next, steps)?;
     Ok(next)
 }

@@ -1,4 +1,4 @@
-//! What was written of ports, and the edits to what is known of them now.
+//! What was written of ports in a family's tables, and the edits to what is known of them now.
 ghost use Rattle.std.specs.Prelude.{◌≡◌, ◌+◌, ◌≤◌, ◌∷◌, [], cond, true, None, Some, map, IfOk};
 ghost use Rattle.std.specs.Prelude.{IfErr, OnOk, OnErr};
 ghost use Rattle.std.specs.FinMap as finite;
@@ -6,6 +6,7 @@ ghost use Rattle.std.specs.List.{filter};
 ghost use Rattle.std.specs.Option.{option_copied};
 ghost use Rattle.kp_blocks.specs.Joined.{is_port_of, port_block};
 ghost use Rattle.kp_full_table.specs.Faults.{TellsClash};
+ghost use Rattle.kp_table_laws.specs.Families.{HasTablesOf};
 ghost use Rattle.kp_writer.specs.Batch.{own_rules_written};
 ghost use Rattle.kp_writer.specs.Known.{pending_ports};
 ghost use Rattle.kp_writer.specs.Old.{is_known as is_told, unwritten};
@@ -23,7 +24,7 @@ use crate::old::{is_known, set_aside, written_block};
 use crate::pending::Pending;
 use crate::refresh::{copies, drop_all, put_all};
 use crate::sync::next_chains;
-use kp_base::{Config, Copied, Items, NoMemory, ObjectKey, PortKey, Steps};
+use kp_base::{Config, Copied, Family, Items, NoMemory, ObjectKey, PortKey, Steps};
 use kp_blocks::Blocks;
 use kp_full_table::{TableFault, check_names};
 use kp_rules::Table;
@@ -34,11 +35,12 @@ use std::marker::Model;
 use std::mem::replace;
 use std::sync::ledger::Ledger;
 
-/// What was written of each port, and what is known of it now. Contracts see both, and the
-/// configuration; the blocks of the shared chains are a function of these. Where something else is
-/// known of a port than was written, the block of what was written is kept too, so that none is made
-/// where that is known again.
+/// What was written of each port in the tables of one family, and what is known of it now.
+/// Contracts see both, the family and the configuration; the blocks of the shared chains are a
+/// function of these. Where something else is known of a port than was written, the block of what
+/// was written is kept too, so that none is made where that is known again.
 pub struct Writer {
+    family: Family,
     config: Config,
     ports: Tracker<PortKey, Known>,
     blocks: Blocks,
@@ -48,6 +50,7 @@ pub struct Writer {
 impl Drop for Writer {
     fn drop(self) {
         let Writer {
+            family: _,
             config,
             ports,
             blocks,
@@ -58,26 +61,27 @@ impl Drop for Writer {
 
 /// The blocks are those of the newest ports, and those set aside of what was written.
 impl Model for Writer {
-    ghost use Rattle.kp_writer.specs.Written.{IsKept, WriterParts, writer_code};
+    ghost use Rattle.kp_writer.specs.Written.{IsKept, WriterParts, parts, writer_code};
 
     ghost Value = { WriterParts };
 
     ghost coded = { writer_code };
 
-    ghost view = { λ w. record { config = w.config; ports = w.ports } };
+    ghost view = { λ w. parts w.family w.config w.ports };
 
-    ghost invariant = { λ w. IsKept (record { config = w.config; ports = w.ports }) w.blocks
-        w.aside };
+    ghost invariant = { λ w. IsKept (parts w.family w.config w.ports) w.blocks w.aside };
 }
 
 impl Writer {
     /// Nothing was written, and no port is known.
-    pub fn new(alloc: Global, config: &Config) -> Result<Writer, NoMemory>
+    pub fn new(alloc: Global, family: Family, config: &Config) -> Result<Writer, NoMemory>
+        ensures family { IfOk result (λ w. w.family ≡ family) }
         ensures config { IfOk result (λ w. w.config ≡ config.now) }
         ensures written { IfOk result (λ w. spec.written_ports w ≡ finite.empty) }
         ensures newest { IfOk result (λ w. spec.newest_ports w ≡ finite.empty) }
     {
         Ok(Writer {
+            family,
             config: config.copy(alloc)?,
             ports: Tracker::new(alloc),
             blocks: Blocks::new(alloc),
@@ -85,15 +89,23 @@ impl Writer {
         })
     }
 
-    /// Takes over what is known of a port. Where something else was written, it takes at most a step
-    /// for each rule that the port has in the shared chains, else none. Where memory is out, all
-    /// stays.
+    /// The family whose tables it writes.
+    pub fn family(&self) -> Family
+        ensures { result ≡ self.now.family }
+    {
+        self.family
+    }
+
+    /// Takes over what is known of a port. Where something else was written, it takes at most a
+    /// step for each rule that the port has in the shared chains, else none. Where memory is out,
+    /// all stays.
     pub fn put<L: Ledger>(
         &mut self,
         alloc: Global,
         info: PortInfo,
         steps: &mut Steps<L>,
     ) -> Result<(), NoMemory>
+        ensures family { self.new.family ≡ self.old.family }
         ensures config { self.new.config ≡ self.old.config }
         ensures written { spec.written_ports self.new ≡ spec.written_ports self.old }
         ensures newest { OnOk result (spec.newest_ports self.new
@@ -125,7 +137,7 @@ impl Writer {
     {
         match self.block_at_hand(info) {
             Some(block) => block.copy(alloc),
-            None => block_of(alloc, &self.config, info, steps),
+            None => block_of(alloc, self.family, &self.config, info, steps),
         }
     }
 
@@ -144,6 +156,7 @@ impl Writer {
 
     /// Takes over that a port is gone. Where memory is out, all stays.
     pub fn drop_port(&mut self, alloc: Global, port: &PortKey) -> Result<(), NoMemory>
+        ensures family { self.new.family ≡ self.old.family }
         ensures config { self.new.config ≡ self.old.config }
         ensures written { spec.written_ports self.new ≡ spec.written_ports self.old }
         ensures newest { OnOk result (spec.newest_ports self.new
@@ -173,9 +186,9 @@ impl Writer {
 
     /// Takes over what is known of the ports of a Service: those that aren't given are gone. Of two
     /// of one name the first counts. Ports of other Services stay, and where such are given they
-    /// are passed over. It takes at most a step for each rule in the shared chains that those have of
-    /// which something else was written. Where memory is out, ports of the Service may be gone or
-    /// new.
+    /// are passed over. It takes at most a step for each rule in the shared chains that those have
+    /// of which something else was written. Where memory is out, ports of the Service may be gone
+    /// or new.
     pub fn refresh<L: Ledger>(
         &mut self,
         alloc: Global,
@@ -183,6 +196,7 @@ impl Writer {
         infos: Vec<PortInfo>,
         steps: &mut Steps<L>,
     ) -> Result<(), NoMemory>
+        ensures family { self.new.family ≡ self.old.family }
         ensures config { self.new.config ≡ self.old.config }
         ensures written { spec.written_ports self.new ≡ spec.written_ports self.old }
         ensures newest { OnOk result (IsRefreshed service.now infos.items
@@ -217,18 +231,20 @@ impl Writer {
         dirty_ports(alloc, &self.ports, &pending)
     }
 
-    /// The edits that lead from the full table of what was written, which is given, to that of what
-    /// is known now: exactly the changes between the two. It is refused exactly where two different
-    /// chains that are needed have one name, and tells the least such pair, or where memory is out.
-    /// It takes at most a step for each rule that the dirty ports have in their own chains, and at
-    /// least one for each rule of a port's own chains that the edits write.
+    /// The edits that lead from the family's tables of what was written, which stand in the table
+    /// that is given, to those of what is known now: exactly the changes between the two. It is
+    /// refused exactly where two different chains that are needed have one name, and tells the
+    /// least such pair, or where memory is out. It takes at most a step for each rule that the
+    /// dirty ports have in their own chains, and at least one for each rule of a port's own chains
+    /// that the edits write.
     pub fn edits<L: Ledger>(
         &self,
         alloc: Global,
         table: &Table,
         steps: &mut Steps<L>,
     ) -> Result<Batch, TableFault>
-        requires table { table.now.chains ≡ spec.chains_of self.now (spec.written_ports self.now) }
+        requires table { HasTablesOf self.now.family table.now.chains
+            (spec.chains_of self.now (spec.written_ports self.now)) }
         requires apart { spec.clash_of self.now (spec.written_ports self.now) ≡ None }
         ensures batch { IfOk result (λ b. b.edits ≡ spec.next_edits self.now) }
         ensures no_clash { OnOk result (
@@ -244,6 +260,7 @@ impl Writer {
         let keys = self.ports.pending(alloc)?;
         let next = next_chains(
             alloc,
+            self.family,
             &self.config,
             &self.ports,
             &self.blocks,
@@ -253,7 +270,7 @@ impl Writer {
             steps,
         )?;
         self.check_names(alloc, next.all_free())?;
-        Ok(next.edits(alloc, table)?)
+        Ok(next.edits(alloc, self.family, table)?)
     }
 
     /// Checks that no two chains that the newest ports need have one name. Where each chain of a
@@ -276,6 +293,7 @@ impl Writer {
 
     /// Takes over that the newest ports are written. It takes no memory.
     pub fn keep(&mut self, alloc: Global)
+        ensures family { self.new.family ≡ self.old.family }
         ensures config { self.new.config ≡ self.old.config }
         ensures written { spec.written_ports self.new ≡ spec.newest_ports self.old }
         ensures newest { spec.newest_ports self.new ≡ spec.newest_ports self.old }

@@ -1,5 +1,4 @@
 use Rattle.std.proofs.Common.{arith}
-use Rattle.kp_base.specs.declared.address.Family.TheVariants.{V4}
 use Rattle.kp_choice_defs.specs.Settings.{setting_of}
 use Rattle.kp_writer.specs.Written.{newest_ports}
 use Rattle.kp_plane.proofs.Refreshed.{few_of_services, none_known}
@@ -8,7 +7,7 @@ use Rattle.kp_plane.proofs.refresh.refresh_all.Goals as goal
 
 pub refresh_keys-requires-clause-others : goal.refresh_keys-requires-clause-others
 refresh_keys-requires-clause-others g c =
-    none_known (setting_of V4 c.args.config.now) c.args.objects.now
+    none_known (setting_of c.args.writer.now.family c.args.config.now) c.args.objects.now
     (newest_ports c.args.writer.now) c.in_ok-all.all c.in_ok-all.ensures.ports
     c.in_ok-all.ensures.services
 

@@ -1,5 +1,4 @@
 use Rattle.std.proofs.Common.{◌≡◌, map, take}
-use Rattle.kp_base.specs.declared.address.Family.TheVariants.{V4}
 use Rattle.kp_choice_defs.specs.Settings.{setting_of}
 use Rattle.kp_writer.specs.Own.{left}
 use Rattle.kp_writer.proofs.own.leave_all.Given as goal
@@ -8,4 +7,4 @@ use Rattle.kp_writer.proofs.own.leave_all.Given as goal
 abbrev pub invariant-loop-info : goal.invariant-loop-info
 invariant-loop-info l =
     l.next
-    ≡ left (setting_of V4 l.config) l.fn.next (map (λ i. i.now) (take l.info-index l.infos))
+    ≡ left (setting_of l.family l.config) l.fn.next (map (λ i. i.now) (take l.info-index l.infos))

@@ -1,6 +1,5 @@
 use Rattle.std.proofs.Common.{◌≡◌, map, take}
 use Rattle.std.specs.List.{fold}
-use Rattle.kp_base.specs.declared.address.Family.TheVariants.{V4}
 use Rattle.kp_choice_defs.specs.Settings.{setting_of}
 use Rattle.kp_table_defs.specs.Layout.{place_of_key}
 use Rattle.kp_writer.specs.Next.{leave}
@@ -10,4 +9,5 @@ use Rattle.kp_writer.proofs.own.leave_port.Given as goal
 abbrev pub invariant-loop-key : goal.invariant-loop-key
 invariant-loop-key l =
     l.next
-    ≡ fold leave l.fn.next (map (place_of_key (setting_of V4 l.config)) (take l.key-index l.key-items))
+    ≡ fold leave l.fn.next
+    (map (place_of_key (setting_of l.family l.config)) (take l.key-index l.key-items))

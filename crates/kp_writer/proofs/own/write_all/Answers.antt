@@ -1,5 +1,4 @@
 use Rattle.std.proofs.Common.{arith}
-use Rattle.kp_base.specs.declared.address.Family.TheVariants.{V4}
 use Rattle.kp_choice_defs.specs.Settings.{setting_of}
 use Rattle.kp_table_defs.specs.Layout.{port_rows}
 use Rattle.kp_writer.specs.Next.{write}
@@ -10,7 +9,7 @@ use Rattle.kp_writer.proofs.own.write_all.Goals as goal
 
 pub returns-in_err-write_port-clause-steps : goal.returns-in_err-write_port-clause-steps
 returns-in_err-write_port-clause-steps g c =
-    let s = setting_of V4 c.args.config.now in
+    let s = setting_of c.args.family c.args.config.now in
     let info = c.info-item.result in
     omega (
       arith,
@@ -23,7 +22,7 @@ returns-in_err-write_port-clause-steps g c =
 
 pub loop-info-preserved : goal.loop-info-preserved
 loop-info-preserved g c =
-    let s = setting_of V4 c.args.config.now in
+    let s = setting_of c.args.family c.args.config.now in
     let before = c.args.before.now.chains in
     let info = c.info-item.result in
     record {

@@ -15,6 +15,7 @@ loop-port-preserved c =
     let port = c.in-Some.port in
     let so_far = c.loop-port.invariant in
     record {
+      family = c.drop_port.ensures.family ∙ so_far.family;
       config = c.drop_port.ensures.config ∙ so_far.config;
       written = c.drop_port.ensures.written ∙ so_far.written;
       newest =

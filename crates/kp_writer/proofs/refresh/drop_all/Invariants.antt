@@ -6,6 +6,7 @@ use Rattle.kp_writer.proofs.refresh.drop_all.Given as goal
 -- the ports that were taken off the end are gone
 abbrev pub invariant-loop-port : goal.invariant-loop-port
 invariant-loop-port l = record {
+  family : l.writer.family ≡ l.fn.writer.family;
   config : l.writer.config ≡ l.fn.writer.config;
   written : written_ports l.writer ≡ written_ports l.fn.writer;
   newest : newest_ports l.writer

@@ -21,11 +21,12 @@ loop-info-preserved g c =
     let service = c.args.service.now in
     let s = setting_in c.args.writer.now in
     let written = written_ports c.args.writer.now in
-    let one = put_count c.loop-info.writer.config c.args.writer.now.config so_far.config
-    (written_ports c.loop-info.writer) written so_far.written info in
+    let one = put_count c.loop-info.writer c.args.writer.now so_far.family so_far.config
+    so_far.written info in
     let split = ap (λ is. shared_rule_count s (unwritten written is)) c.in-Some.ensures.items in
     let parts = unwritten_parts s written new (info ∷ []) in
     record {
+      family = c.put_if.ensures.family ∙ so_far.family;
       config = c.put_if.ensures.config ∙ so_far.config;
       written = c.put_if.ensures.written ∙ so_far.written;
       newest =
@@ -61,8 +62,8 @@ returns-in_err-put_if-clause-steps g c =
     let so_far = c.loop-info.invariant in
     let s = setting_in c.args.writer.now in
     let written = written_ports c.args.writer.now in
-    let one = put_count c.loop-info.writer.config c.args.writer.now.config so_far.config
-    (written_ports c.loop-info.writer) written so_far.written info in
+    let one = put_count c.loop-info.writer c.args.writer.now so_far.family so_far.config
+    so_far.written info in
     let split = ap (λ is. shared_rule_count s (unwritten written is)) c.in-Some.ensures.items in
     let parts = unwritten_parts s written c.pop.new.self.items (info ∷ []) in
     omega (arith, one, split, parts, c.put_if.ensures.steps, so_far.steps)

@@ -8,6 +8,7 @@ use Rattle.kp_writer.proofs.refresh.put_all.Given as goal
 -- those that were taken off the end are put
 abbrev pub invariant-loop-info : goal.invariant-loop-info
 invariant-loop-info g l = record {
+  family : l.writer.family ≡ l.fn.writer.family;
   config : l.writer.config ≡ l.fn.writer.config;
   written : written_ports l.writer ≡ written_ports l.fn.writer;
   newest : newest_ports l.writer

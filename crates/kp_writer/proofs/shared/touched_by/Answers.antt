@@ -2,7 +2,6 @@ use Rattle.std.proofs.Common.{ap, Bor, map, ◌∙◌}
 use Rattle.std.proofs.lemmas.List.{take_all}
 use Rattle.std.specs.FinMap.{get}
 use Rattle.kp_base.specs.Keys.{port_key_cmp}
-use Rattle.kp_base.specs.declared.address.Family.TheVariants.{V4}
 use Rattle.kp_base.specs.declared.key.PortKey.{PortKey}
 use Rattle.kp_choice_defs.specs.Settings.{setting_of}
 use Rattle.kp_tracker.specs.Tracked.{newest, published}
@@ -14,7 +13,7 @@ use Rattle.kp_writer.proofs.shared.touched_by.Goals as goal
 
 pub loop-key-preserved : goal.loop-key-preserved
 loop-key-preserved c = λ config are old.
-    let s = setting_of V4 config in
+    let s = setting_of c.args.family config in
     let show : Bor PortKey → spec.Change = λ k. (
       get (published port_key_cmp c.args.ports.now) k.now,
       get (newest port_key_cmp c.args.ports.now) k.now,
@@ -24,8 +23,8 @@ loop-key-preserved c = λ config are old.
     ∙ ap spec.block_found (c.written_block.ensures
     ∙ block_written s c.args.ports.now c.args.blocks.now c.args.aside.now are old key) in
     let has = c.rules_of.ensures ∙ ap spec.block_found (c.block.ensures ∙ are key) in
-    let before = ap spec.blocks_in had ∙ kept_blocks config (show c.key-item.result).0 in
-    let after = ap spec.blocks_in has ∙ kept_blocks config (show c.key-item.result).1 in
+    let before = ap (spec.blocks_in s.family) had ∙ kept_blocks s (show c.key-item.result).0 in
+    let after = ap (spec.blocks_in s.family) has ∙ kept_blocks s (show c.key-item.result).1 in
     fold_next show c.args.keys.now c.loop-key.key-index c.key-item.result
     c.loop-key-test.true c.key-item.is (spec.touch_by s) spec.untouched c.loop-key.touched
     c.touch-touched.result (c.loop-key.invariant config are old)
@@ -38,5 +37,5 @@ returns c = λ config are old.
       get (newest port_key_cmp c.args.ports.now) k.now,
     ) in
     c.loop-key.invariant config are old
-    ∙ ap (λ ks. spec.touched_by (setting_of V4 config) (map show ks))
+    ∙ ap (λ ks. spec.touched_by (setting_of c.args.family config) (map show ks))
     (take_all c.loop-key.key-index c.args.keys.now c.loop-key-test.false)

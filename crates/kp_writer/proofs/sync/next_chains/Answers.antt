@@ -2,7 +2,6 @@ use Rattle.std.proofs.Common.{Bor, sym, ap, ◌∙◌}
 use Rattle.std.specs.FinMap.{get}
 use Rattle.std.proofs.lemmas.Simd.{map-map}
 use Rattle.kp_base.specs.Keys.{port_key_cmp}
-use Rattle.kp_base.specs.declared.address.Family.TheVariants.{V4}
 use Rattle.kp_base.specs.declared.key.PortKey.{PortKey}
 use Rattle.kp_choice_defs.specs.Settings.{setting_of}
 use Rattle.kp_tracker.specs.Tracked.{newest, published}
@@ -11,11 +10,11 @@ use Rattle.kp_writer.proofs.sync.next_chains.Goals as goal
 
 pub returns-clause-next : goal.returns-clause-next
 returns-clause-next g c =
-    let s = setting_of V4 c.args.config.now in
+    let s = setting_of c.args.family c.args.config.now in
     let before = published port_key_cmp c.args.ports.now in
     let after = newest port_key_cmp c.args.ports.now in
     let change : PortKey → Change = λ k. (get before k, get after k) in
     let touched = c.touched_by-touched.ensures c.args.config.now c.requires.blocks c.requires.old
     ∙ ap (touched_by s) (sym (map-map change (λ (k : Bor PortKey). k.now) c.args.keys.now)) in
     c.in_ok-join_touched.ensures
-    ∙ (λ i. with_shared c.args.blocks.now (touched i) (c.in_ok-next.ensures.next i))
+    ∙ (λ i. with_shared c.args.family c.args.blocks.now (touched i) (c.in_ok-next.ensures.next i))

@@ -1,7 +1,6 @@
 use Rattle.std.proofs.Common.{◌&&◌}
 use Rattle.std.proofs.lemmas.Result.{IfOk-weaker}
-use Rattle.kp_base.specs.declared.address.Family.TheVariants.{V4}
-use Rattle.kp_choice_defs.specs.Settings.{setting_of}
+use Rattle.kp_choice_defs.specs.Settings.{settings_of}
 use Rattle.kp_touch_laws.specs.TouchLaws.{touches_in}
 use Rattle.kp_plane.proofs.Collecting.{none_more, one_apart}
 use Rattle.kp_plane.proofs.collected.Collected.apply_touching.Goals as goal
@@ -17,6 +16,6 @@ returns-then-has_all-clause-adds c =
     IfOk-weaker c.apply_changing.result _ _
     (λ changed is.
     none_more c.args.self.now
-    (λ k. changed && touches_in (setting_of V4 c.args.config.now) c.args.objects.now c.args.event.now k)
+    (λ k. changed && touches_in (settings_of c.args.config.now) c.args.objects.now c.args.event.now k)
     (c.has_all.ensures c.if-has_all.true))
     c.apply_changing.ensures.changed

@@ -1,6 +1,5 @@
 use Rattle.std.proofs.Common.{◌<◌, ◌+◌, ℕ, length, get_or, take, refl, sym, ap, subst, ◌∙◌, arith}
-use Rattle.kp_base.specs.declared.address.Family.TheVariants.{V4}
-use Rattle.kp_choice_defs.specs.Settings.{setting_of}
+use Rattle.kp_choice_defs.specs.Settings.{setting_of, settings_of}
 use Rattle.kp_object_defs.specs.OwnKeys.{AreUnderOwnKeys}
 use Rattle.kp_plane.specs.Collected.{is_collected}
 use Rattle.kp_plane.specs.Invariant.{AreTouchedBetween}
@@ -13,7 +12,8 @@ pub loop-at-init : goal.loop-at-init
 loop-at-init c = record {
   place = c.requires;
   at = refl;
-  untouched = leaves_all (setting_of V4 c.args.config.now) c.args.self.now.objects
+  untouched = λ family.
+      leaves_all (setting_of family c.args.config.now) c.args.self.now.objects
       (is_collected c.args.touched.now);
   since = λ from is. is;
 }
@@ -26,7 +26,7 @@ loop-at-preserved c =
     let after = c.apply_touching.new.objects in
     let inv = c.loop-at.invariant in
     let few : before.at < length events = omega (arith, inv.at, c.loop-at-test.true) in
-    let setting = setting_of V4 c.args.config.now in
+    let settings = settings_of c.args.config.now in
     let own = subst AreUnderOwnKeys (sym inv.place.objects)
     (c.own_keys.ensures.after_events (take before.at events)) in
     let found = c.index-events-at.is ∙ ap (λ (n : ℕ). get_or events n event) (sym inv.at) in
@@ -35,16 +35,17 @@ loop-at-preserved c =
       place = next_place events before (record { objects = after; at = c.loop-at.at + 1 }) event
           inv.place few found c.in_ok-apply_touching.ensures.ok (sym next);
       at = refl;
-      untouched = leaves_both setting c.args.self.now.objects before.objects after
-          (is_collected c.args.touched.now) (is_collected c.loop-at.touched)
-          (is_collected c.apply_touching.new.self) inv.untouched
-          (leaves_one setting c.untouched_ports.ensures.infos before.objects after
+      untouched = λ family.
+          leaves_both (setting_of family c.args.config.now) c.args.self.now.objects before.objects
+          after (is_collected c.args.touched.now) (is_collected c.loop-at.touched)
+          (is_collected c.apply_touching.new.self) (inv.untouched family)
+          (leaves_one settings family c.untouched_ports.ensures.infos before.objects after
           (is_collected c.loop-at.touched) (is_collected c.apply_touching.new.self) event _ own
           c.in_ok-apply_touching.ensures.changed c.in_ok-apply_touching.ensures.ok
           c.in_ok-apply_touching.ensures.adds);
       since = λ from is.
-          subst (λ n. AreTouchedBetween setting events from n c.apply_touching.new.self) next
-          (since_more setting events from before.at c.loop-at.touched c.apply_touching.new.self
+          subst (λ n. AreTouchedBetween settings events from n c.apply_touching.new.self) next
+          (since_more settings events from before.at c.loop-at.touched c.apply_touching.new.self
           (inv.since from is) event before.objects _ few found inv.place.objects
           c.in_ok-apply_touching.ensures.adds);
     }
@@ -58,25 +59,25 @@ returns-in_err-apply_touching-clause-place c =
     }
 
 pub returns-in_err-apply_touching-clause-untouched : goal.returns-in_err-apply_touching-clause-untouched
-returns-in_err-apply_touching-clause-untouched c =
-    leaves_same (setting_of V4 c.args.config.now) c.args.self.now.objects c.loop-at.self.objects
+returns-in_err-apply_touching-clause-untouched c = λ family.
+    leaves_same (setting_of family c.args.config.now) c.args.self.now.objects c.loop-at.self.objects
     c.apply_touching.new.objects (is_collected c.args.touched.now) (is_collected c.loop-at.touched)
-    (is_collected c.apply_touching.new.self) c.loop-at.invariant.untouched
+    (is_collected c.apply_touching.new.self) (c.loop-at.invariant.untouched family)
     c.in_err-apply_touching.ensures.err c.in_err-apply_touching.ensures.same
 
 pub returns-in_err-apply_touching-clause-since : goal.returns-in_err-apply_touching-clause-since
 returns-in_err-apply_touching-clause-since c = λ from is.
-    since_same (setting_of V4 c.args.config.now) c.args.events.now from c.loop-at.self.at
+    since_same (settings_of c.args.config.now) c.args.events.now from c.loop-at.self.at
     c.loop-at.touched c.apply_touching.new.self (c.loop-at.invariant.since from is)
     c.in_err-apply_touching.ensures.same
 
 pub returns-clause-untouched : goal.returns-clause-untouched
-returns-clause-untouched c =
-    leaves_same (setting_of V4 c.args.config.now) c.args.self.now.objects c.loop-at.self.objects
+returns-clause-untouched c = λ family.
+    leaves_same (setting_of family c.args.config.now) c.args.self.now.objects c.loop-at.self.objects
     c.loop-at.self.objects (is_collected c.args.touched.now) (is_collected c.loop-at.touched)
-    (is_collected c.join.new.self) c.loop-at.invariant.untouched refl c.join.ensures.same
+    (is_collected c.join.new.self) (c.loop-at.invariant.untouched family) refl c.join.ensures.same
 
 pub returns-clause-since : goal.returns-clause-since
 returns-clause-since c = λ from is.
-    since_same (setting_of V4 c.args.config.now) c.args.events.now from c.loop-at.self.at
+    since_same (settings_of c.args.config.now) c.args.events.now from c.loop-at.self.at
     c.loop-at.touched c.join.new.self (c.loop-at.invariant.since from is) c.join.ensures.same

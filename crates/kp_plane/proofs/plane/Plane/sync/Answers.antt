@@ -1,13 +1,12 @@
 use Rattle.std.proofs.Common.{rules, ◌≡◌, ◌≤◌, ◌+◌, None, IfErr, [], ◌∷◌, ◌++◌, sym, ap, subst, ◌∙◌}
-use Rattle.kp_base.specs.declared.address.Family.TheVariants.{V4}
-use Rattle.kp_choice_defs.specs.Settings.{setting_of}
+use Rattle.kp_choice_defs.specs.Settings.{settings_of}
 use Rattle.kp_full_table.specs.Faults.{TellsClash}
 use Rattle.kp_object_defs.specs.Objects.{objects_after}
 use Rattle.kp_table_defs.specs.Rebuild.{clash_of}
 use Rattle.kp_store.proofs.OwnObjects.{either_way}
 use Rattle.kp_types.specs.declared.sync.SyncRecord.{SyncRecord}
 use Rattle.kp_plane.specs.Invariant.{parts_of}
-use Rattle.kp_plane.specs.Parts.{most_asked, most_steps, next_edits, records_in, setting_in}
+use Rattle.kp_plane.specs.Parts.{most_asked, most_steps, next_edits, records_in, settings_in, uncovered_in}
 use Rattle.kp_plane.proofs.Synced.{parts_next, plane_kept, plane_next, record_added, record_next}
 use Rattle.kp_plane.proofs.plane.Plane.sync.Goals as goal
 
@@ -36,11 +35,11 @@ returns-clause-ok g c =
 
 pub returns-in_err-batch-clause-clash : goal.returns-in_err-batch-clause-clash
 returns-in_err-batch-clause-clash g c =
-    let told : IfErr c.from_residual.result (TellsClash (clash_of (setting_of V4 c.self.inside.config)
+    let told : IfErr c.from_residual.result (TellsClash (clash_of (settings_of c.self.inside.config)
     (objects_after c.self.inside.journal.events))) =
     search rules in
     subst (λ q. IfErr c.from_residual.result
-    (TellsClash (clash_of (setting_in q) (objects_after q.events)))) c.self.view_is told
+    (TellsClash (clash_of (settings_in q) (objects_after q.events)))) c.self.view_is told
 
 pub returns-in_err-batch-clause-bound : goal.returns-in_err-batch-clause-bound
 returns-in_err-batch-clause-bound g c =
@@ -78,7 +77,7 @@ returns-clause-record g c =
     (parts_next p old c.self.view_is h c.sync_copied.new.ports c.in_ok-batch.ensures.ok)
     c.syncs.ensures c.uncovered-events.ensures
     (c.in_ok-batch.ensures.edits ∙ ap next_edits c.self.view_is)
-    (subst (λ q. clash_of (setting_in q) (objects_after q.events) ≡ None) c.self.view_is
+    (subst (λ q. clash_of (settings_in q) (objects_after q.events) ≡ None) c.self.view_is
     c.in_ok-batch.ensures.no_clash)
 
 pub returns-clause-added : goal.returns-clause-added
@@ -99,3 +98,13 @@ returns-clause-added g c =
     ∙ ap (λ s. records_in old ++ s ∷ [])
     (sym (record_added old (parts_of s.config s.journal h) r next c.syncs.ensures
     c.uncovered-events.ensures (c.in_ok-batch.ensures.edits ∙ ap next_edits c.self.view_is)))
+
+pub returns-clause-unchanged : goal.returns-clause-unchanged
+returns-clause-unchanged g c =
+    subst (λ q. uncovered_in q ≡ 0 → c.sync_copied.new.steps ≡ c.args.steps.now) c.self.view_is
+    c.sync_copied.ensures.steps.unchanged
+
+pub returns-clause-unasked : goal.returns-clause-unasked
+returns-clause-unasked g c =
+    subst (λ q. uncovered_in q ≡ 0 → c.sync_copied.new.asked ≡ c.args.asked.now) c.self.view_is
+    c.sync_copied.ensures.asked.unchanged

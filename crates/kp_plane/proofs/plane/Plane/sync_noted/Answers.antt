@@ -1,6 +1,5 @@
 use Rattle.std.proofs.Common.{rules, ◌≡◌, ◌≤◌, ◌+◌, None, IfErr, ℕ, List, not, count_by, sym, ap, subst, ◌∙◌}
-use Rattle.kp_base.specs.declared.address.Family.TheVariants.{V4}
-use Rattle.kp_choice_defs.specs.Settings.{setting_of}
+use Rattle.kp_choice_defs.specs.Settings.{settings_of}
 use Rattle.kp_full_table.specs.Faults.{TellsClash}
 use Rattle.kp_object_defs.specs.Objects.{objects_after}
 use Rattle.kp_table_defs.specs.Rebuild.{clash_of}
@@ -8,7 +7,7 @@ use Rattle.kp_store.proofs.OwnObjects.{either_way}
 use Rattle.kp_table_defs.specs.Edits.{is_write}
 use Rattle.kp_history.proofs.Synced.{last_is_next}
 use Rattle.kp_plane.specs.Invariant.{parts_of}
-use Rattle.kp_plane.specs.Parts.{last_edits, most_asked, most_steps, setting_in}
+use Rattle.kp_plane.specs.Parts.{last_edits, most_asked, most_steps, settings_in, uncovered_in}
 use Rattle.kp_plane.proofs.Synced.{parts_next, plane_kept, plane_next}
 use Rattle.kp_plane.proofs.plane.Plane.sync_noted.Goals as goal
 
@@ -52,15 +51,15 @@ returns-clause-note g c =
 
 pub returns-in_err-written-clause-clash : goal.returns-in_err-written-clause-clash
 returns-in_err-written-clause-clash g c =
-    let told : IfErr c.from_residual.result (TellsClash (clash_of (setting_of V4 c.self.inside.config)
+    let told : IfErr c.from_residual.result (TellsClash (clash_of (settings_of c.self.inside.config)
     (objects_after c.self.inside.journal.events))) =
     search rules in
     subst (λ q. IfErr c.from_residual.result
-    (TellsClash (clash_of (setting_in q) (objects_after q.events)))) c.self.view_is told
+    (TellsClash (clash_of (settings_in q) (objects_after q.events)))) c.self.view_is told
 
 pub returns-clause-no_clash : goal.returns-clause-no_clash
 returns-clause-no_clash g c =
-    subst (λ q. clash_of (setting_in q) (objects_after q.events) ≡ None) c.self.view_is
+    subst (λ q. clash_of (settings_in q) (objects_after q.events) ≡ None) c.self.view_is
     c.in_ok-written.ensures.no_clash
 
 pub returns-in_err-written-clause-bound : goal.returns-in_err-written-clause-bound
@@ -82,3 +81,13 @@ pub returns-clause-asked : goal.returns-clause-asked
 returns-clause-asked g c =
     subst (λ q. c.sync_counted.new.asked ≤ c.args.asked.now + most_asked q) c.self.view_is
     c.sync_counted.ensures.asked.bound
+
+pub returns-clause-unchanged : goal.returns-clause-unchanged
+returns-clause-unchanged g c =
+    subst (λ q. uncovered_in q ≡ 0 → c.sync_counted.new.steps ≡ c.args.steps.now) c.self.view_is
+    c.sync_counted.ensures.steps.unchanged
+
+pub returns-clause-unasked : goal.returns-clause-unasked
+returns-clause-unasked g c =
+    subst (λ q. uncovered_in q ≡ 0 → c.sync_counted.new.asked ≡ c.args.asked.now) c.self.view_is
+    c.sync_counted.ensures.asked.unchanged

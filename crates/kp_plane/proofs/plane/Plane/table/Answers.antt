@@ -1,5 +1,5 @@
 use Rattle.std.proofs.Common.{ap, ◌∙◌}
-use Rattle.kp_table_defs.specs.Ranks.{is_ranked, has_built_in_chains}
+use Rattle.kp_table_defs.specs.Ranks.{has_chains_of, is_ranked}
 use Rattle.kp_table_defs.specs.Rebuild.{TableParts}
 use Rattle.kp_plane.specs.Parts.{table_in}
 use Rattle.kp_plane.proofs.plane.Plane.table.Goals as goal
@@ -14,7 +14,7 @@ returns-clause-ranked c =
     ∙ c.decides.ensures.ranked
 
 pub returns-clause-built_in : goal.returns-clause-built_in
-returns-clause-built_in c =
-    ap (λ (t : TableParts). has_built_in_chains t.chains)
+returns-clause-built_in c = λ family has.
+    ap (λ (t : TableParts). has_chains_of family t.chains)
     (c.self.invariant.holds.history.table ∙ ap table_in c.self.view_is)
-    ∙ c.decides.ensures.built_in
+    ∙ c.decides.ensures.built_in family has

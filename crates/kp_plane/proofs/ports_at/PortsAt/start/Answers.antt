@@ -8,10 +8,9 @@ returns c = λ events.
     record {
       latest = c.start-latest.result;
       touched = c.new-touched.result;
-      writer = c.in_ok-writer.writer;
-      dirty = c.new-dirty.result;
+      writers = c.in_ok-writers.writers;
+      dirty = c.in_ok-dirty.dirty;
     } in
     first_ports c.dirty_ports.ensures.none c.args.config.now events s
     (c.start-latest.ensures.place events) c.start-latest.ensures.start c.new-touched.ensures
-    c.in_ok-writer.ensures.config
-    c.in_ok-writer.ensures.written c.in_ok-writer.ensures.newest c.new-dirty.ensures
+    c.in_ok-writers.ensures c.in_ok-dirty.ensures

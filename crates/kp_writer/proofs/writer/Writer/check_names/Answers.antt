@@ -7,13 +7,13 @@ use Rattle.kp_object_defs.specs.PortInfo.{PortInfo}
 use Rattle.kp_table_defs.specs.Rebuild.{needed_keys}
 use Rattle.kp_full_table.specs.Faults.{TellsClash}
 use Rattle.kp_writer.specs.Sync.{infos_at}
-use Rattle.kp_writer.specs.Written.{WriterParts, clash_of, newest_ports, setting_in}
+use Rattle.kp_writer.specs.Written.{clash_of, newest_ports, parts, setting_in}
 use Rattle.kp_writer.proofs.OwnValues.{all_found}
 use Rattle.kp_writer.proofs.writer.Writer.check_names.Goals as goal
 
 pub returns-clause-no_clash : goal.returns-clause-no_clash
 returns-clause-no_clash c =
-    let v : WriterParts = record { config = c.self.inside.config; ports = c.self.inside.ports } in
+    let v = parts c.self.inside.family c.self.inside.config c.self.inside.ports in
     let all = ap (map (λ (i : Bor PortInfo). i.now)) c.deref-2.ensures.value ∙ c.in_ok-infos.ensures
     ∙ ap (λ (ks : List (Bor PortKey)). infos_at (newest_ports v) (map (λ k. k.now) ks))
     c.deref.ensures.value
@@ -26,7 +26,7 @@ returns-clause-no_clash c =
 
 pub returns-clause-clash : goal.returns-clause-clash
 returns-clause-clash c =
-    let v : WriterParts = record { config = c.self.inside.config; ports = c.self.inside.ports } in
+    let v = parts c.self.inside.family c.self.inside.config c.self.inside.ports in
     let all = ap (map (λ (i : Bor PortInfo). i.now)) c.deref-2.ensures.value ∙ c.in_ok-infos.ensures
     ∙ ap (λ (ks : List (Bor PortKey)). infos_at (newest_ports v) (map (λ k. k.now) ks))
     c.deref.ensures.value

@@ -1,11 +1,11 @@
 use Rattle.std.proofs.lemmas.Result.{IfOk-weaker}
-use Rattle.kp_writer.specs.Written.{WriterParts}
+use Rattle.kp_writer.specs.Written.{parts}
 use Rattle.kp_writer.proofs.PendingPorts.{dirty_are}
 use Rattle.kp_writer.proofs.writer.Writer.dirty.Goals as goal
 
 pub returns : goal.returns
 returns c =
-    let v : WriterParts = record { config = c.self.inside.config; ports = c.self.inside.ports } in
+    let v = parts c.self.inside.family c.self.inside.config c.self.inside.ports in
     IfOk-weaker c.dirty_ports.result _ _
     (λ dirty are. dirty_are v c.args.self.now c.self.view_is c.deref.result.now
     c.in_ok-pending.pending.items c.deref.ensures.value c.in_ok-pending.ensures dirty are)
