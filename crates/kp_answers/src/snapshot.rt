@@ -1,7 +1,7 @@
 //! Answers from a table.
 ghost use Rattle.std.specs.Prelude.{◌≡◌, ◌<◌, ◌^◌, ◌++◌, true, IfOk, OnOk, OnErr, string_bytes};
 ghost use Rattle.kp_run_defs.specs.AnswerText.{answer_text, draws_at};
-ghost use Rattle.kp_table_defs.specs.Ranks.{is_ranked, has_built_in_chains};
+ghost use Rattle.kp_table_defs.specs.Ranks.{is_ranked};
 ghost use Rattle.kp_walker.specs.Answers.{answered};
 
 use crate::draws::draw_at;
@@ -36,7 +36,6 @@ impl Snapshot<'_> {
         text: &mut String,
     ) -> Result<(), NoMemory>
         requires ranked { is_ranked self.now.table.now.chains ≡ true }
-        requires built_in { has_built_in_chains self.now.table.now.chains ≡ true }
         ensures text { OnOk result (string_bytes text.new
             ≡ string_bytes text.old ++ answer_in self.now number line.now lists.old) }
         ensures lists { OnOk result (lists.new
@@ -63,7 +62,6 @@ impl Snapshot<'_> {
         lists: &mut RecentLists,
     ) -> Result<Verdict, NoMemory>
         requires ranked { is_ranked self.now.table.now.chains ≡ true }
-        requires built_in { has_built_in_chains self.now.table.now.chains ≡ true }
         ensures verdict { IfOk result (λ verdict. verdict
             ≡ (walk_in self.now number line.now lists.old).verdict) }
         ensures lists { OnOk result (lists.new
@@ -87,7 +85,6 @@ impl Snapshot<'_> {
         lists: &mut RecentLists,
     ) -> Result<Answer, NoMemory>
         requires ranked { is_ranked self.now.table.now.chains ≡ true }
-        requires built_in { has_built_in_chains self.now.table.now.chains ≡ true }
         ensures walk { IfOk result (λ answer. answered answer lists.new
             ≡ walk_in self.now number line.now lists.old) }
         ensures refused { OnErr result (IsOnWay self.now number line.now lists.old lists.new) }

@@ -4,10 +4,9 @@ use Rattle.std.proofs.lemmas.List.{append-nil, append_cancel_left, map-append}
 use Rattle.std.specs.FinMap.{get}
 use Rattle.std.specs.Option.{option_to_list}
 use mathlib.Core.List.{IsPrefix}
-use Rattle.kp_base.specs.declared.address.Family.TheVariants.{V4}
-use Rattle.kp_choice_defs.specs.Settings.{setting_of}
+use Rattle.kp_choice_defs.specs.Settings.{settings_of}
 use Rattle.kp_lemmas.specs.Lists.{is_empty}
-use Rattle.kp_types.specs.Setting.{Setting}
+use Rattle.kp_types.specs.Setting.{Settings}
 use Rattle.kp_types.specs.declared.sync.SyncRecord.{SyncRecord}
 use Rattle.kp_object_defs.specs.Objects.{objects_after}
 use Rattle.kp_table_defs.specs.Rebuild.{clash_of}
@@ -35,11 +34,11 @@ added : (journal fs grown : List Fed) → journal ++ fs ≡ grown → length fs 
 added journal fs grown is =
     let longer : length journal + length fs ≡ length grown = sym (length-append journal fs) ∙ ap length is in omega (arith, longer)
 
-module _ (setting : Setting) where
+module _ (settings : Settings) where
   -- events of the queue's front are taken
   record Takes (s : RunState) (fs rest : List Fed) : Type 0 where
     pub to : RunState
-    pub run : IsRunFrom setting s (replicate (length fs) Take) to
+    pub run : IsRunFrom settings s (replicate (length fs) Take) to
     pub journal : to.journal ≡ s.journal ++ fs
     pub queue : to.queue ≡ rest
     pub records : to.records ≡ s.records
@@ -55,11 +54,11 @@ module _ (setting : Setting) where
     published = refl;
   }
   takes s (f ∷ fs) rest is =
-      let next : RunState = after_take setting (f ∷ (fs ++ rest)) s in
+      let next : RunState = after_take settings (f ∷ (fs ++ rest)) s in
       let more : Takes next fs rest = takes next fs rest refl in
       record {
         to = more.to;
-        run = (next, record { allowed = ap is_empty is; leads = ap (λ q. after_take setting q s) (sym is) }, more.run);
+        run = (next, record { allowed = ap is_empty is; leads = ap (λ q. after_take settings q s) (sym is) }, more.run);
         journal = more.journal ∙ append_assoc s.journal (f ∷ []) fs;
         queue = more.queue;
         records = more.records;
@@ -68,44 +67,44 @@ module _ (setting : Setting) where
 
 module _ (exact : HistoryIsExact) (shown : PublishedAreRecords) (only : ExactIsRecords) (have : RecordsHaveCounts) (stay : RecordsStay) (join : RunsJoin) where
   -- a run goes on by steps behind events that are taken
-  joined : (setting : Setting) (steps last : List Step) (s : RunState) (fs rest : List Fed) (n : ℕ) → length fs ≡ n → IsRun setting steps s
-      → (more : Takes setting s fs rest) (t : RunState) → IsRunFrom setting more.to last t → IsRun setting (steps ++ (replicate n Take ++ last)) t
-  joined setting steps last s fs rest n many run more t then =
-      join setting steps (replicate n Take ++ last) initial s t run
-      (subst (λ (m : ℕ). IsRunFrom setting s (replicate m Take ++ last) t) many
-      (join setting (replicate (length fs) Take) last s more.to t more.run then))
+  joined : (settings : Settings) (steps last : List Step) (s : RunState) (fs rest : List Fed) (n : ℕ) → length fs ≡ n → IsRun settings steps s
+      → (more : Takes settings s fs rest) (t : RunState) → IsRunFrom settings more.to last t → IsRun settings (steps ++ (replicate n Take ++ last)) t
+  joined settings steps last s fs rest n many run more t then =
+      join settings steps (replicate n Take ++ last) initial s t run
+      (subst (λ (m : ℕ). IsRunFrom settings s (replicate m Take ++ last) t) many
+      (join settings (replicate (length fs) Take) last s more.to t more.run then))
 
   pub syncs_are_steps : SyncsAreSteps
   syncs_are_steps config steps s before after sync run at queued grows is =
-      let setting : Setting = setting_of V4 config in
+      let settings : Settings = settings_of config in
       let fs : List Fed = grows.journal.0 in
       let waits : List Fed = option_to_list after.taken.waits in
       let grown : s.journal ++ fs ≡ after.taken.journal = ap (λ js. js ++ fs) at.journal ∙ grows.journal.1 in
-      let more : Takes setting s fs (waits ++ queued.0) =
-      takes setting s fs (waits ++ queued.0) (left_of s.journal fs after.taken.journal s.queue waits queued.0 grown queued.1) in
+      let more : Takes settings s fs (waits ++ queued.0) =
+      takes settings s fs (waits ++ queued.0) (left_of s.journal fs after.taken.journal s.queue waits queued.0 grown queued.1) in
       let t : RunState = more.to in
       let here : t.journal ≡ after.taken.journal = more.journal ∙ grown in
-      let u : RunState = after_sync setting t in
+      let u : RunState = after_sync settings t in
       let v : RunState = record u { published = length u.records } in
-      let few : s.published ≤ length s.records = shown setting steps s run in
-      let one : length u.records ≡ length t.records + 1 = length-append t.records (next_record setting t ∷ []) in
+      let few : s.published ≤ length s.records = shown settings steps s run in
+      let one : length u.records ≡ length t.records + 1 = length-append t.records (next_record settings t ∷ []) in
       let same : length t.records ≡ length s.records = ap length more.records in
       let stood = more.published in
-      let whole : IsRun setting (steps ++ (replicate (length after.taken.journal - length before.taken.journal) Take ++ Sync ∷ Publish ∷ [])) v =
-      joined setting steps (Sync ∷ Publish ∷ []) s fs (waits ++ queued.0) (length after.taken.journal - length before.taken.journal)
+      let whole : IsRun settings (steps ++ (replicate (length after.taken.journal - length before.taken.journal) Take ++ Sync ∷ Publish ∷ [])) v =
+      joined settings steps (Sync ∷ Publish ∷ []) s fs (waits ++ queued.0) (length after.taken.journal - length before.taken.journal)
       (added before.taken.journal fs after.taken.journal grows.journal.1) run more v (
         u,
-        record { allowed = ap (λ js. clash_of setting (objects_after (events_of js))) here ∙ is.no_clash; leads = refl },
+        record { allowed = ap (λ js. clash_of settings (objects_after (events_of js))) here ∙ is.no_clash; leads = refl },
         (v, record { allowed = omega (arith, few, one, same, stood); leads = refl }, refl),
       ) in
       let counted : counts_of t.records ≡ before.taken.counts =
-      ap counts_of (more.records ∙ at.records) ∙ have setting (events_of before.taken.journal) before.taken.counts in
+      ap counts_of (more.records ∙ at.records) ∙ have settings (events_of before.taken.journal) before.taken.counts in
       let counts : counts_of v.records ≡ after.taken.counts =
-      map-append (λ (r : SyncRecord). r.events) t.records (next_record setting t ∷ [])
+      map-append (λ (r : SyncRecord). r.events) t.records (next_record settings t ∷ [])
       ∙ ((λ i. counted i ++ (length (here i) - sum (counted i)) ∷ [])
       ∙ (ap (λ (n : ℕ). before.taken.counts ++ (n - sum before.taken.counts) ∷ []) (sym (events_length after.taken.journal)) ∙ sym is.counts)) in
       let records : v.records ≡ records_at config after.taken =
-      only setting (events_of v.journal) v.records (exact setting _ v whole) ∙ (λ i. sync_records setting (events_of (here i)) (counts i)) in (
+      only settings (events_of v.journal) v.records (exact settings _ v whole) ∙ (λ i. sync_records settings (events_of (here i)) (counts i)) in (
         v,
         whole,
         record {
@@ -118,44 +117,44 @@ module _ (exact : HistoryIsExact) (shown : PublishedAreRecords) (only : ExactIsR
 
   pub refusals_are_steps : RefusalsAreSteps
   refusals_are_steps config steps s before after clash run at queued grows is =
-      let setting : Setting = setting_of V4 config in
+      let settings : Settings = settings_of config in
       let fs : List Fed = grows.journal.0 in
       let waits : List Fed = option_to_list after.taken.waits in
       let grown : s.journal ++ fs ≡ after.taken.journal = ap (λ js. js ++ fs) at.journal ∙ grows.journal.1 in
-      let more : Takes setting s fs (waits ++ queued.0) =
-      takes setting s fs (waits ++ queued.0) (left_of s.journal fs after.taken.journal s.queue waits queued.0 grown queued.1) in
+      let more : Takes settings s fs (waits ++ queued.0) =
+      takes settings s fs (waits ++ queued.0) (left_of s.journal fs after.taken.journal s.queue waits queued.0 grown queued.1) in
       let here : more.to.journal ≡ after.taken.journal = more.journal ∙ grown in
-      let counted : counts_of s.records ≡ before.taken.counts = ap counts_of at.records ∙ have setting (events_of before.taken.journal) before.taken.counts in
+      let counted : counts_of s.records ≡ before.taken.counts = ap counts_of at.records ∙ have settings (events_of before.taken.journal) before.taken.counts in
       let covers : sum before.taken.counts ≤ length (events_of before.taken.journal) =
-      subst (λ (x : List ℕ × List Fed). sum x.0 ≤ length (events_of x.1)) (λ i. (counted i, at.journal i)) (exact setting steps s run).within in
+      subst (λ (x : List ℕ × List Fed). sum x.0 ≤ length (events_of x.1)) (λ i. (counted i, at.journal i)) (exact settings steps s run).within in
       let events : events_of before.taken.journal ++ events_of fs ≡ events_of after.taken.journal =
       sym (map-append (λ (f : Fed). f.event) before.taken.journal fs) ∙ ap events_of grows.journal.1 in (
         more.to,
-        joined setting steps (Refuse ∷ []) s fs (waits ++ queued.0) (length after.taken.journal - length before.taken.journal)
+        joined settings steps (Refuse ∷ []) s fs (waits ++ queued.0) (length after.taken.journal - length before.taken.journal)
             (added before.taken.journal fs after.taken.journal grows.journal.1) run more more.to (
               more.to,
-              record { allowed = ap (λ js. is_some (clash_of setting (objects_after (events_of js)))) here ∙ ap is_some is.is_clash; leads = refl },
+              record { allowed = ap (λ js. is_some (clash_of settings (objects_after (events_of js)))) here ∙ ap is_some is.is_clash; leads = refl },
               refl,
             ),
         record {
           journal = here;
           waits = (queued.0, sym more.queue);
           records =
-              more.records ∙ (at.records ∙ (sym (stay setting (events_of before.taken.journal) (events_of fs) before.taken.counts covers)
-              ∙ (λ i. sync_records setting (events i) (sym is.counts i))));
+              more.records ∙ (at.records ∙ (sym (stay settings (events_of before.taken.journal) (events_of fs) before.taken.counts covers)
+              ∙ (λ i. sync_records settings (events i) (sym is.counts i))));
           published = more.published ∙ (at.published ∙ ap (λ o. length (records_of o.published)) (sym is.outlet));
         },
       )
 
 pub walks_are_reads : WalksAreReads
 walks_are_reads config s seen number line lists same =
-    ap (λ rs. walk_of (λ at. get (table_after (setting_of V4 config) rs).chains at) config.addresses line.packet (draws_at number line.draws) lists) (sym same)
+    ap (λ rs. walk_of (λ at. get (table_after (settings_of config) rs).chains at) config.addresses line.packet (draws_at number line.draws) lists) (sym same)
 
 pub new_hubs_stand_at_the_start : NewHubsStandAtTheStart
 new_hubs_stand_at_the_start config h journal none counts published = record {
   journal = sym journal;
   waits = subst (λ (w : Option Fed). IsPrefix (option_to_list w) []) (sym none) ([], refl);
-  records = ap (λ cs. sync_records (setting_of V4 config) (events_of h.taken.journal) cs) (sym counts);
+  records = ap (λ cs. sync_records (settings_of config) (events_of h.taken.journal) cs) (sym counts);
   published = ap length (sym published);
 }
 

@@ -5,10 +5,9 @@ use Rattle.std.proofs.lemmas.List.{append-nil, map-append}
 use Rattle.std.proofs.lemmas.List.Sums.{fold-append}
 use Rattle.std.specs.Option.{option_to_list}
 use mathlib.Core.List.{IsPrefix}
-use Rattle.kp_base.specs.declared.address.Family.TheVariants.{V4}
 use Rattle.kp_base.specs.declared.config.Config.{Config}
 use Rattle.kp_types.specs.declared.sync.SyncRecord.{SyncRecord}
-use Rattle.kp_choice_defs.specs.Settings.{setting_of}
+use Rattle.kp_choice_defs.specs.Settings.{settings_of}
 use Rattle.kp_object_defs.specs.Objects.{objects_after}
 use Rattle.kp_table_defs.specs.Rebuild.{clash_of}
 use Rattle.kp_full_table.specs.declared.fault.TableFault.{TableFault}
@@ -19,7 +18,7 @@ use Rattle.kp_history_laws.specs.HistoryLaws.{RecordsStay}
 use Rattle.kp_feed.specs.declared.rule.Ended.{Ended}
 use Rattle.kp_feed.specs.Passes.{QueueId}
 use Rattle.kp_feed.specs.Taking.{Taker}
-use Rattle.kp_plane.specs.Parts.{IsNextRecord, PlaneParts, setting_in, records_in, synced, uncovered_in, with_events}
+use Rattle.kp_plane.specs.Parts.{IsNextRecord, PlaneParts, settings_in, records_in, synced, uncovered_in, with_events}
 use Rattle.kp_hub.specs.declared.notes.RecordNote.{RecordNote}
 use Rattle.kp_hub.specs.Growing.{TakesMore}
 use Rattle.kp_hub.specs.Taken.{Taken, IsTaken, note_of, plane_of, records_at, with_sync}
@@ -38,7 +37,7 @@ module _ (config : Config) (queue : QueueId) (t : Taken) (plane : PlaneParts) (t
   records_stay stay f journal counts grown same waits feeders ended =
       let events : events_of journal ≡ events_of t.journal ++ f.event ∷ [] = ap events_of grown ∙ map-append (λ (x : Fed). x.event) t.journal (f ∷ []) in
       (λ i. records_in (record { config = config; events = events i; counts = same i }))
-      ∙ stay (setting_in (plane_of config t)) (events_of t.journal) (f.event ∷ []) t.counts (omega (arith, is.covers, events_length t.journal))
+      ∙ stay (settings_in (plane_of config t)) (events_of t.journal) (f.event ∷ []) t.counts (omega (arith, is.covers, events_length t.journal))
 
   -- more was taken, where the taker has taken more
   pub takes_from : (u : Taken) (plane' : PlaneParts) (taker' : Taker) (notes' : List RecordNote)
@@ -116,17 +115,17 @@ module _ (config : Config) (queue : QueueId) (t : Taken) (plane : PlaneParts) (t
 
   -- whose objects have no clash
   pub no_clash : (r : SyncRecord) → IsNextRecord plane r
-      → clash_of (setting_of V4 config) (objects_after (events_of t.journal)) ≡ None
+      → clash_of (settings_of config) (objects_after (events_of t.journal)) ≡ None
   no_clash r next =
-      subst (λ (p : PlaneParts). clash_of (setting_in p) (objects_after p.events) ≡ None) is.plane_is
+      subst (λ (p : PlaneParts). clash_of (settings_in p) (objects_after p.events) ≡ None) is.plane_is
       next.exact.has_no_clash
 
   -- or there is a fault
   pub tells_clash : (fault : TableFault)
-      → TellsClash (clash_of (setting_in plane) (objects_after plane.events)) fault
-      → TellsClash (clash_of (setting_of V4 config) (objects_after (events_of t.journal))) fault
+      → TellsClash (clash_of (settings_in plane) (objects_after plane.events)) fault
+      → TellsClash (clash_of (settings_of config) (objects_after (events_of t.journal))) fault
   tells_clash fault tells =
-      subst (λ (p : PlaneParts). TellsClash (clash_of (setting_in p) (objects_after p.events)) fault)
+      subst (λ (p : PlaneParts). TellsClash (clash_of (settings_in p) (objects_after p.events)) fault)
       is.plane_is tells
 
   -- a sync is made

@@ -11,3 +11,4 @@ pub mod Readiness
 pub mod Readings
 pub mod States
 pub mod Syncing
+pub mod Refused

@@ -2,22 +2,15 @@
 use Rattle.std.proofs.Common.{◌≡◌, suc, ◌+◌, ◌<◌, ◌&&◌, List, [], ◌∷◌, ◌++◌, length, take, slice_get, Some, refl, ap, subst, ◌∙◌, arith}
 use Rattle.std.proofs.lemmas.Option.{slice_get_within}
 use Rattle.kp_types.specs.declared.sync.SyncRecord.{SyncRecord}
-use Rattle.kp_table_defs.specs.Ranks.{is_ranked, has_built_in_chains}
-use Rattle.kp_table_defs.specs.Rebuild.{Chains, TableParts}
-use Rattle.kp_history_defs.specs.History.{counts_of, chains_covered, objects_covered, table_from}
+use Rattle.kp_table_defs.specs.Ranks.{is_ranked}
+use Rattle.kp_table_defs.specs.Rebuild.{TableParts}
+use Rattle.kp_history_defs.specs.History.{counts_of, objects_covered, table_from}
 use Rattle.kp_history_laws.specs.HistoryLaws.{ExactTables}
-use Rattle.kp_walk_laws.specs.Laws.{FullTableRankedObjects, HashedPrefixed, IsSound}
+use Rattle.kp_walk_laws.specs.Laws.{FullTableRankedObjects, HashedPrefixed}
 use Rattle.kp_publish.specs.Entries.{IsReady}
-use Rattle.kp_plane.specs.Parts.{PlaneParts, HasExactHistory, records_in, setting_in}
+use Rattle.kp_plane.specs.Parts.{PlaneParts, HasExactHistory, records_in, settings_in}
 use Rattle.kp_hub.specs.Ready.{AreReady}
 use Rattle.kp_hub.specs.State.{first_table}
-
--- chains whose jumps go to greater ranks, with those that are built in
-ready_from : (t : TableParts) (chains : Chains) → t.chains ≡ chains → IsSound chains → IsReady t
-ready_from t chains same is = record {
-  ranked = ap is_ranked same ∙ is.ranked;
-  built_in = ap has_built_in_chains same ∙ is.built_in;
-}
 
 pub records_ready : ExactTables → FullTableRankedObjects → HashedPrefixed → (p : PlaneParts) → HasExactHistory p
     → AreReady (first_table p.config) (records_in p)
@@ -26,9 +19,9 @@ records_ready tables ranked prefixed p exact n r is =
     let within : n < length rs = slice_get_within rs n r is in
     let covered = counts_of rs in (
       (exact.exact.each n r is).is_numbered,
-      ready_from (table_from (first_table p.config) (take (suc n) rs)) (chains_covered (setting_in p) p.events covered (suc n))
-          (tables (setting_in p) p.events rs (suc n) exact.exact (omega (arith, within)))
-          (ranked (setting_in p) (objects_covered p.events covered (suc n)) (prefixed p.config.name_length)),
+      ap is_ranked (tables (settings_in p) p.events rs (suc n) exact.exact (omega (arith, within)))
+          ∙ (ranked (settings_in p) (objects_covered p.events covered (suc n))
+          (prefixed p.config.name_length)).ranked,
     )
 
 -- the first record behind others is at their number

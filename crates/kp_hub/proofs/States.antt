@@ -6,9 +6,8 @@ use Rattle.std.proofs.Math.Seq.{take-length}
 use Rattle.std.specs.List.{AllByRecursion}
 use mathlib.Core.List.{IsPrefix}
 use Rattle.kp_lemmas.proofs.ListFacts.{all_append, all_weaker}
-use Rattle.kp_base.specs.declared.address.Family.TheVariants.{V4}
 use Rattle.kp_base.specs.declared.config.Config.{Config}
-use Rattle.kp_choice_defs.specs.Settings.{setting_of}
+use Rattle.kp_choice_defs.specs.Settings.{settings_of}
 use Rattle.kp_types.specs.declared.chain.Clash.{Clash}
 use Rattle.kp_types.specs.declared.sync.SyncRecord.{SyncRecord}
 use Rattle.kp_object_defs.specs.Objects.{objects_after}
@@ -19,7 +18,7 @@ use Rattle.kp_history_defs.specs.Runs.{events_of}
 use Rattle.kp_publish.specs.Entries.{records_of, is_ended}
 use Rattle.kp_publish.specs.Pending.{Keeps}
 use Rattle.kp_feed.specs.Passes.{Feeder}
-use Rattle.kp_plane.specs.Parts.{setting_in, uncovered_in}
+use Rattle.kp_plane.specs.Parts.{settings_in, uncovered_in}
 use Rattle.kp_hub.specs.declared.notes.Refusal.{Refusal}
 use Rattle.kp_hub.specs.Taken.{Taken, plane_of, records_at, with_sync}
 use Rattle.kp_hub.specs.Growing.{TakesMore}
@@ -30,7 +29,7 @@ use Rattle.kp_hub.proofs.Intakes.{events_length}
 
 -- there are as many records as counts
 pub records_length : (config : Config) (t : Taken) → length (records_at config t) ≡ length t.counts
-records_length config t = length-map-range_with_len (record_at (setting_in (plane_of config t)) (events_of t.journal) t.counts) 0 (length t.counts)
+records_length config t = length-map-range_with_len (record_at (settings_in (plane_of config t)) (events_of t.journal) t.counts) 0 (length t.counts)
 
 -- a refusal stays one where the journal grows
 refusal_stays : (config : Config) (journal more : List Fed) → IsPrefix journal more → (r : Refusal) → IsRefusal config journal r → IsRefusal config more r
@@ -43,7 +42,7 @@ refusal_stays config journal more p r is =
     ∙ take-append-le r.events (events_of journal) (events_of p.0) within) in
     let here = is.within in record {
       within = omega (arith, longer, here);
-      clash = ap (λ es. clash_of (setting_of V4 config) (objects_after es)) first ∙ is.clash;
+      clash = ap (λ es. clash_of (settings_of config) (objects_after es)) first ∙ is.clash;
     }
 
 -- nothing was taken or published yet
@@ -57,7 +56,7 @@ state_new config streams start h waiting first feeders counts newest none refusa
   publishes = record {
     is_open = ap is_ended newest;
     records = (λ i. records_of (newest i) ++ none i)
-        ∙ sym (ap (λ cs. sync_records (setting_of V4 config) (events_of h.taken.journal) cs) counts);
+        ∙ sym (ap (λ cs. sync_records (settings_of config) (events_of h.taken.journal) cs) counts);
   };
   keeps = record {
     refusals = subst (AllByRecursion (IsRefusal config h.taken.journal)) (sym refusals) tt;
@@ -190,7 +189,7 @@ module _ (config : Config) (streams : ℕ) (start : TableParts) (h : HubState) (
       → IsRefusal config h.taken.journal (record { events = length h.taken.journal; clash = clash })
   whole_refusal clash found = record {
     within = omega arith;
-    clash = ap (λ es. clash_of (setting_of V4 config) (objects_after es))
+    clash = ap (λ es. clash_of (settings_of config) (objects_after es))
         (ap (λ n. take n (events_of h.taken.journal)) (sym (events_length h.taken.journal))
         ∙ take-length (events_of h.taken.journal))
         ∙ found;

@@ -2,10 +2,9 @@
 use Rattle.std.specs.Prelude.{◌≡◌, ◌-◌, ℕ, List, [], ◌∷◌, ◌++◌, None, length, replicate}
 use Rattle.std.specs.Option.{option_to_list}
 use mathlib.Core.List.{IsPrefix}
-use Rattle.kp_base.specs.declared.address.Family.TheVariants.{V4}
 use Rattle.kp_base.specs.declared.config.Config.{Config}
 use Rattle.kp_choice_defs.specs.Recent.{RecentParts}
-use Rattle.kp_choice_defs.specs.Settings.{setting_of}
+use Rattle.kp_choice_defs.specs.Settings.{settings_of}
 use Rattle.kp_types.specs.declared.chain.Clash.{Clash}
 use Rattle.kp_types.specs.declared.event.Event.{Event}
 use Rattle.kp_history_defs.specs.Runs.{RunState, Step, Take, Sync, Refuse, Publish, IsRun}
@@ -39,7 +38,7 @@ steps_of before after last =
 -- a run that stands where a hub does goes on by steps to where the hub stands later
 abbrev pub LeadsOn : Config → List Step → List Step → HubState → Type 0
 LeadsOn config steps more after =
-    (t : RunState) × IsRun (setting_of V4 config) (steps ++ more) t × StandsAt config t after
+    (t : RunState) × IsRun (settings_of config) (steps ++ more) t × StandsAt config t after
 
 -- A hub that took nothing and made no record stands where a run begins.
 abbrev pub NewHubsStandAtTheStart : Type 0
@@ -57,7 +56,7 @@ FeedsAreSteps =
 abbrev pub SyncsAreSteps : Type 0
 SyncsAreSteps =
     (config : Config) (steps : List Step) (s : RunState) (before after : HubState) (sync : ℕ)
-    → IsRun (setting_of V4 config) steps s → StandsAt config s before
+    → IsRun (settings_of config) steps s → StandsAt config s before
     → WasQueued s after.taken → TakesMore before.taken after.taken
     → Accepts config sync before after
     → LeadsOn config steps (steps_of before after (Sync ∷ Publish ∷ [])) after
@@ -66,7 +65,7 @@ SyncsAreSteps =
 abbrev pub RefusalsAreSteps : Type 0
 RefusalsAreSteps =
     (config : Config) (steps : List Step) (s : RunState) (before after : HubState) (clash : Clash)
-    → IsRun (setting_of V4 config) steps s → StandsAt config s before
+    → IsRun (settings_of config) steps s → StandsAt config s before
     → WasQueued s after.taken → TakesMore before.taken after.taken
     → Refuses config clash before after
     → LeadsOn config steps (steps_of before after (Refuse ∷ [])) after
@@ -78,4 +77,4 @@ WalksAreReads =
     (config : Config) (s : RunState) (seen : List Entry) (number : ℕ) (line : PacketLine)
     (lists : RecentParts) → published_records s ≡ records_of seen
     → walk_after (first_table config) config seen number line lists
-    ≡ answer_of (setting_of V4 config) s line.packet (draws_at number line.draws) lists
+    ≡ answer_of (settings_of config) s line.packet (draws_at number line.draws) lists

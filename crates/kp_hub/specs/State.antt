@@ -2,9 +2,8 @@
 use Rattle.std.specs.Prelude.{◌≡◌, ◌≤◌, ℕ, List, ◌++◌, Some, false, length, refl, take}
 use Rattle.std.specs.Coded.{Coded, code_by, coded×, coded_ℕ, coded_list}
 use Rattle.std.specs.List.{AllByRecursion}
-use Rattle.kp_base.specs.declared.address.Family.TheVariants.{V4}
 use Rattle.kp_base.specs.declared.config.Config.{Config}
-use Rattle.kp_choice_defs.specs.Settings.{setting_of}
+use Rattle.kp_choice_defs.specs.Settings.{settings_of}
 use Rattle.kp_types.specs.declared.sync.SyncRecord.{SyncRecord}
 use Rattle.kp_object_defs.specs.Objects.{Objects, no_objects, objects_after}
 use Rattle.kp_table_defs.specs.Rebuild.{TableParts, clash_of, full_table}
@@ -52,7 +51,7 @@ state_in taken outlet refusals accepted refused = record {
 
 -- the table of no objects
 abbrev pub first_table : Config → TableParts
-first_table config = full_table (setting_of V4 config) no_objects
+first_table config = full_table (settings_of config) no_objects
 
 -- the objects after the first events of a journal
 abbrev pub objects_at : List Fed → ℕ → Objects
@@ -61,7 +60,7 @@ objects_at journal n = objects_after (take n (events_of journal))
 -- A refusal is by a clash of the objects after the first events of the journal.
 pub record IsRefusal (config : Config) (journal : List Fed) (r : Refusal) : Type 0 where
   pub within : r.events ≤ length journal
-  pub clash : clash_of (setting_of V4 config) (objects_at journal r.events) ≡ Some r.clash
+  pub clash : clash_of (settings_of config) (objects_at journal r.events) ≡ Some r.clash
 
 -- ---- What the lock keeps, by parts
 

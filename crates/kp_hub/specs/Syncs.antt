@@ -1,9 +1,8 @@
 -- What one sync under the lock does, by its answer.
 use Rattle.std.specs.Prelude.{◌≡◌, ◌≤◌, ◌<◌, ◌+◌, ◌⊎◌, ℕ, List, [], ◌∷◌, ◌++◌, Option, Some, None, length}
 use mathlib.Core.List.{IsPrefix}
-use Rattle.kp_base.specs.declared.address.Family.TheVariants.{V4}
 use Rattle.kp_base.specs.declared.config.Config.{Config}
-use Rattle.kp_choice_defs.specs.Settings.{setting_of}
+use Rattle.kp_choice_defs.specs.Settings.{settings_of}
 use Rattle.kp_types.specs.declared.chain.Clash.{Clash}
 use Rattle.kp_object_defs.specs.Objects.{objects_after}
 use Rattle.kp_table_defs.specs.Rebuild.{clash_of}
@@ -19,7 +18,7 @@ use Rattle.kp_hub.specs.Taken.{Taken, records_at, with_sync}
 
 -- the clash of the objects after all events of a journal, if there is one
 abbrev pub clash_after : Config → List Fed → Option Clash
-clash_after config journal = clash_of (setting_of V4 config) (objects_after (events_of journal))
+clash_after config journal = clash_of (settings_of config) (objects_after (events_of journal))
 
 -- the counts of the syncs, with one more that covers the whole journal
 abbrev pub counts_with_sync : Config → List ℕ → Taken → List ℕ

@@ -1,8 +1,7 @@
 //! What was taken from the queue, and the syncs that cover it.
 ghost use Rattle.std.specs.Prelude.{◌≡◌, ◌+◌, ◌<◌, ◌≤◌, ◌++◌, ◌∷◌, [], true, false, length, map};
 ghost use Rattle.std.specs.Prelude.{None, IfOk, IfErr, IsTrue, ◌↔◌, OnOk, OnErr};
-ghost use Rattle.kp_base.specs.declared.address.Family.TheVariants.{V4};
-ghost use Rattle.kp_choice_defs.specs.Settings.{setting_of};
+ghost use Rattle.kp_choice_defs.specs.Settings.{settings_of};
 ghost use Rattle.std.specs.List.{AllByRecursion};
 ghost use Rattle.kp_feed.specs.Calls as calls;
 ghost use Rattle.kp_feed.specs.Feeding.{AreWhole};
@@ -163,9 +162,9 @@ impl<J: Sharing> Intake<J> {
         ensures record { IfOk result (λ r. records_at J.config self.new
             ≡ records_at J.config self.old ++ r ∷ []) }
         ensures covers { OnOk result (CoversAll self.new) }
-        ensures no_clash { OnOk result (clash_of (setting_of V4 J.config)
+        ensures no_clash { OnOk result (clash_of (settings_of J.config)
             (objects_after (events_of self.old.journal)) ≡ None) }
-        ensures clash { IfErr result (TellsClash (clash_of (setting_of V4 J.config)
+        ensures clash { IfErr result (TellsClash (clash_of (settings_of J.config)
             (objects_after (events_of self.old.journal)))) }
         ensures err { OnErr result (self.new ≡ self.old) }
     {
@@ -297,7 +296,7 @@ fn sync_for_nobody(alloc: Global, plane: &mut Plane) -> Result<SyncRecord, Table
     ensures added { IfOk result (λ r. parts.records_in plane.new
         ≡ parts.records_in plane.old ++ r ∷ []) }
     ensures ok { OnOk result (plane.new ≡ parts.synced plane.old) }
-    ensures clash { IfErr result (TellsClash (clash_of (parts.setting_in plane.old)
+    ensures clash { IfErr result (TellsClash (clash_of (parts.settings_in plane.old)
         (objects_after plane.old.events))) }
     ensures err { OnErr result (plane.new ≡ plane.old) }
 {
@@ -321,7 +320,7 @@ fn sync_counted<L: Ledger, A: Ledger>(
     ensures added { IfOk result (λ r. parts.records_in plane.new
         ≡ parts.records_in plane.old ++ r ∷ []) }
     ensures ok { OnOk result (plane.new ≡ parts.synced plane.old) }
-    ensures clash { IfErr result (TellsClash (clash_of (parts.setting_in plane.old)
+    ensures clash { IfErr result (TellsClash (clash_of (parts.settings_in plane.old)
         (objects_after plane.old.events))) }
     ensures err { OnErr result (plane.new ≡ plane.old) }
 {

@@ -118,7 +118,7 @@ module _ (reading : Reading) (start : TableParts) (queue : QueueId) (n : ℕ)
   abbrev whole_text : (ℕ → List Told) → List ℕ
   whole_text told =
       head_text reading journal notes ++ (telling refusals told reading.lines).text
-      ++ end_text (length notes) clash table
+      ++ end_text reading.config (length notes) clash table
 
   module _ (w0 w1 : Option (List ℕ)) (f0 f1 : ℕ) where
     whole_by : (result : Result Bool LiveFault)

@@ -9,7 +9,7 @@ use Rattle.std.proofs.lemmas.Slice.Eq.{bytes_eq-Decides}
 use Rattle.std.proofs.lemmas.Option.{get_or_from_slice_get, slice_get_cases, slice_get-get_or, slice_get-map}
 use Rattle.kp_lemmas.proofs.ListFacts.{all_weaker}
 use Rattle.kp_pack_laws.proofs.Shuffles.{all_unmapped}
-use Rattle.kp_base.specs.declared.address.Family.TheVariants.{V4}
+use Rattle.kp_types.specs.Setting.{table_families}
 use Rattle.kp_types.specs.declared.chain.Clash.{Clash}
 use Rattle.kp_types.specs.declared.sync.SyncRecord.{SyncRecord}
 use Rattle.kp_choice_defs.specs.Names.{same_chain_key}
@@ -234,15 +234,17 @@ prints_run : (run : LiveRun) (journal : List Fed) (notes : List RecordNote)
     → legal.chains_at run (records_in run) ≡ table.chains
     → text.live_text run
     ≡ head_text run.reading journal notes ++ (telling refusals told run.reading.lines).text
-    ++ end_text (length notes) clash table
+    ++ end_text run.reading.config (length notes) clash table
 prints_run run journal notes refusals clash table told fed noted answered count refused chains =
     append_assoc (flat_map text.refused_text run.reading.refused
     ++ text.journal_text run.reading.streams 1 run.journal ++ text.records_text run
     ++ (text.answers_of run).text) (final_text (records_in run) (final_clash run))
-    (table_text_of V4 (legal.chains_at run (records_in run)))
+    (flat_map (λ family. table_text_of family (legal.chains_at run (records_in run)))
+    (table_families run.reading.config))
     ∙ (λ i. flat_map text.refused_text run.reading.refused
     ++ text.journal_text run.reading.streams 1 (fed i) ++ noted i ++ answered i
-    ++ (final_text (count i) (refused i) ++ table_text_of V4 (chains i)))
+    ++ (final_text (count i) (refused i)
+    ++ flat_map (λ family. table_text_of family (chains i)) (table_families run.reading.config)))
 
 -- the clash that a refused sync prints is one that a refusal has
 same_is : (a b : Clash) → same_clash a b ≡ true → a ≡ b

@@ -6,14 +6,13 @@ use Rattle.std.specs.FinMap.{get}
 use Rattle.std.proofs.lemmas.List.{length-map}
 use Rattle.std.proofs.lemmas.List.FromFn.{length-map-range_with_len}
 use Rattle.std.proofs.lemmas.Option.{slice_get-get_or}
-use Rattle.kp_base.specs.declared.address.Family.TheVariants.{V4}
 use Rattle.kp_base.specs.declared.config.Config.{Config}
-use Rattle.kp_types.specs.Setting.{Setting}
+use Rattle.kp_types.specs.Setting.{Settings}
 use Rattle.kp_types.specs.declared.chain.Clash.{Clash}
 use Rattle.kp_types.specs.declared.event.Event.{Event}
 use Rattle.kp_types.specs.declared.sync.SyncRecord.{SyncRecord}
 use Rattle.kp_choice_defs.specs.Recent.{RecentParts}
-use Rattle.kp_choice_defs.specs.Settings.{setting_of}
+use Rattle.kp_choice_defs.specs.Settings.{settings_of}
 use Rattle.kp_door_defs.specs.Decision.{decision_of}
 use Rattle.kp_object_defs.specs.Objects.{objects_after}
 use Rattle.kp_table_defs.specs.Rebuild.{Chains, TableParts, clash_of}
@@ -21,10 +20,7 @@ use Rattle.kp_history_defs.specs.declared.fed.Fed.{Fed}
 use Rattle.kp_history_defs.specs.History.{chains_covered, counts_of, objects_covered, record_at, table_after, table_from}
 use Rattle.kp_history_defs.specs.Runs.{events_of}
 use Rattle.kp_history.specs.Parts.{HasExactHistory, PlaneParts}
-use Rattle.kp_choice_defs.specs.Names.{first_clash}
-use Rattle.kp_object_defs.specs.PortInfo.{PortInfo}
-use Rattle.kp_table_defs.specs.Rebuild.{needed_keys}
-use Rattle.kp_history_laws.proofs.Histories.{no_infos}
+use Rattle.kp_history_laws.proofs.Histories.{first_no_clash}
 use Rattle.kp_history_laws.specs.HistoryLaws.{ExactTables}
 use Rattle.kp_walk_laws.specs.Laws.{Agree, ProductDecides}
 use Rattle.kp_text_defs.specs.Live.{record_text}
@@ -70,8 +66,8 @@ run_of reading journal notes marks = record {
 
 module _ (reading : Reading) (journal : List Fed) (notes : List RecordNote)
     (exact : HasExactHistory (plane_told reading.config journal notes)) where
-  abbrev setting : Setting
-  setting = setting_of V4 reading.config
+  abbrev settings : Settings
+  settings = settings_of reading.config
 
   abbrev events : List Event
   events = events_of journal
@@ -85,24 +81,23 @@ module _ (reading : Reading) (journal : List Fed) (notes : List RecordNote)
   -- there are as many records as notes
   pub records_count : length records ≡ length notes
   records_count =
-      length-map-range_with_len (record_at setting events counts) 0 (length counts)
+      length-map-range_with_len (record_at settings events counts) 0 (length counts)
       ∙ length-map notes (λ (n : RecordNote). n.events)
 
   -- ---- Tables
 
   later_table : (n : ℕ) → n < length notes
-      → clash_of setting (objects_covered events counts (suc n)) ≡ None
+      → clash_of settings (objects_covered events counts (suc n)) ≡ None
   later_table n lt =
-      let r = record_at setting events counts 0 in
+      let r = record_at settings events counts 0 in
       let there = slice_get-get_or records n r (omega (arith, lt, records_count)) in
-      ap (λ cs. clash_of setting (objects_covered events cs (suc n))) (sym exact.counted)
+      ap (λ cs. clash_of settings (objects_covered events cs (suc n))) (sym exact.counted)
       ∙ (exact.exact.each n (get_or records n r) there).has_no_clash
 
   no_clash_at : (n : ℕ) → n ≤ length notes
-      → clash_of setting (objects_covered events counts n) ≡ None
+      → clash_of settings (objects_covered events counts n) ≡ None
   no_clash_at zero le =
-      ap (λ (infos : List PortInfo). first_clash setting.name_of (needed_keys infos))
-      (no_infos setting)
+      first_no_clash settings
   no_clash_at (suc n) le = later_table n (omega (arith, le))
 
   pub have_tables : (marks : ℕ → Mark) (n : ℕ) → n ≤ records_in (run_of reading journal notes marks)
@@ -128,10 +123,10 @@ module _ (reading : Reading) (journal : List Fed) (notes : List RecordNote)
       → Walks start reading.config records (run_of reading journal notes marks)
   walks_decide tables decides start is marks =
       let chains_are : (n : ℕ) → n ≤ length records
-      → (table_from start (take n records)).chains ≡ chains_covered setting events counts n =
+      → (table_from start (take n records)).chains ≡ chains_covered settings events counts n =
       λ n le. ap (λ t. (table_from t (take n records)).chains) is
-      ∙ tables setting events records n exact.exact le
-      ∙ ap (λ cs. chains_covered setting events cs n) exact.counted in
+      ∙ tables settings events records n exact.exact le
+      ∙ ap (λ cs. chains_covered settings events cs n) exact.counted in
       let walks : (n number : ℕ) (p : PacketLine) (lists : RecentParts) → n ≤ length records
       → walk_from start reading.config records n number p lists
       ≡ walked_at (run_of reading journal notes marks) n number p lists =
@@ -142,7 +137,7 @@ module _ (reading : Reading) (journal : List Fed) (notes : List RecordNote)
       → Agree (walked_at (run_of reading journal notes marks) n number p lists)
       (decided_at (run_of reading journal notes marks) n number p lists) =
       λ n number p lists le.
-      decides V4 reading.config (objects_covered events counts n) p.packet
+      decides reading.config (objects_covered events counts n) p.packet
       (draws_at number p.draws) lists (no_clash_at n (omega (arith, le, records_count))) in
       record {
         verdict = λ n number p lists le.
@@ -159,6 +154,6 @@ module _ (reading : Reading) (journal : List Fed) (notes : List RecordNote)
       → notes_text 0 notes ≡ records_text (run_of reading journal notes marks)
   notes_print marks are =
       ap (notes_text 0)
-      (are ∙ map_twice note_of (record_at setting events counts) (range_with_len 0 (length counts)))
-      ∙ noted_by (λ n. note_of (record_at setting events counts n))
+      (are ∙ map_twice note_of (record_at settings events counts) (range_with_len 0 (length counts)))
+      ∙ noted_by (λ n. note_of (record_at settings events counts n))
       (record_text_at (run_of reading journal notes marks)) (λ n. refl) 0 (length counts)

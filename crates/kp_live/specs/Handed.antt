@@ -45,6 +45,6 @@ pub record IsRunOf
   pub runs : RunsReading reading run
   pub text : live_text run
       ≡ head_text reading journal notes ++ (telling refusals told reading.lines).text
-      ++ end_text (length notes) clash table
+      ++ end_text reading.config (length notes) clash table
   pub refused : is_refused_run run
       ≡ prints_refusal reading (telling refusals told reading.lines).denied clash

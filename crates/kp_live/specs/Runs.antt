@@ -2,7 +2,8 @@
 -- its hub handed out.
 use Rattle.std.specs.Prelude.{◌≡◌, ◌≤◌, ◌+◌, ◌&&◌, ◌||◌, ℕ, suc, nat_lt, Bool, true, false, cond, List, [], ◌∷◌, ◌++◌, map, length, Option, Some, is_some, IfSome, slice_get, bytes_eq}
 use Rattle.std.specs.List.{flat_map, fold, list_any}
-use Rattle.kp_base.specs.declared.address.Family.TheVariants.{V4}
+use Rattle.kp_base.specs.declared.config.Config.{Config}
+use Rattle.kp_types.specs.Setting.{table_families}
 use Rattle.kp_types.specs.declared.chain.Clash.{Clash}
 use Rattle.kp_choice_defs.specs.Names.{same_chain_key}
 use Rattle.kp_text_defs.specs.declared.line_refusal.LineRefusal.TheVariants.{ChainClash}
@@ -125,9 +126,11 @@ head_text reading journal notes =
     flat_map refused_text reading.refused ++ journal_text reading.streams 1 journal
     ++ notes_text 0 notes
 
--- and what it prints behind that
-abbrev pub end_text : ℕ → Option Clash → TableParts → List ℕ
-end_text records clash table = final_text records clash ++ table_text_of V4 table.chains
+-- and what it prints after that: how it ended, and the tables of each family of the node
+abbrev pub end_text : Config → ℕ → Option Clash → TableParts → List ℕ
+end_text config records clash table =
+    final_text records clash
+    ++ flat_map (λ family. table_text_of family table.chains) (table_families config)
 
 -- whether something that a run prints is a refusal
 abbrev pub prints_refusal : Reading → Bool → Option Clash → Bool

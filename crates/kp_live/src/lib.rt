@@ -11,6 +11,7 @@ mod parts;
 mod refusals;
 mod stream;
 mod streams;
+mod tables;
 
 pub use fault::LiveFault;
 pub use mode::live;

@@ -2,11 +2,9 @@
 ghost use Rattle.std.specs.Prelude.{◌≡◌, ◌++◌, ◌∷◌, ◌||◌, [], ℕ, List, false, length, get_or};
 ghost use Rattle.std.specs.Prelude.{IfOk, Ok};
 ghost use Rattle.std.specs.List.{flat_map};
-ghost use Rattle.kp_base.specs.declared.address.Family.TheVariants.{V4};
 ghost use Rattle.kp_run_defs.specs.LiveText as spec;
 ghost use Rattle.kp_streams.specs.Streams.{reading_in};
 ghost use Rattle.kp_text_defs.specs.declared.line_refusal.LineRefusal.TheVariants.{ChainClash};
-ghost use Rattle.kp_restore_defs.specs.TableText.{table_text_of};
 ghost use Rattle.kp_text_defs.specs.Live.{event_text, final_text, record_text};
 ghost use Rattle.kp_text_defs.specs.Printed.{packet_text};
 ghost use Rattle.kp_text_defs.specs.Refusals.{refusal_text};
@@ -19,14 +17,14 @@ use crate::answers::{Answer, Answers, ToldOn, is_answered};
 use crate::fault::LiveFault;
 use crate::output::{write, write_made};
 use crate::refusals::kept_clash;
-use kp_base::{Copied, Items, NoMemory, Text};
+use crate::tables::print_tables;
+use kp_base::{Config, Copied, Items, NoMemory, Text};
 use kp_hub::{Fed, Finished, RecordNote, Refusal, Sharing};
 use kp_io::Sink;
 use kp_report::{push_answer, push_event, push_final, push_record, push_refusal};
-use kp_restore::{Table, table_text};
 use kp_script::LineRefusal;
 use kp_streams::{RefusedLine, StreamLine, StreamLines};
-use kp_types::{Clash, Verdict};
+use kp_types::{Clash, Verdict, table_families};
 use std::alloc::Global;
 
 /// Writes the text of a run whose streams were answered so, and answers whether a line or the sync
@@ -41,7 +39,8 @@ pub(crate) fn print<J: Sharing, K: Sink>(
     ensures printed { (told : ℕ → List Told) → runs.AreOf told answers.now
         → Prints result (runs.head_text (reading_in lines.now) done.now.journal done.now.notes
         ++ (runs.telling done.now.refusals told (reading_in lines.now).lines).text
-        ++ runs.end_text (length done.now.notes) done.now.clash done.now.table)
+        ++ runs.end_text (reading_in lines.now).config (length done.now.notes) done.now.clash
+        done.now.table)
         (K.written sink.old) (K.written sink.new) (K.faults sink.old) (K.faults sink.new) }
     ensures refused { (told : ℕ → List Told) → runs.AreOf told answers.now
         → IfOk result (λ refused. refused ≡ runs.prints_refusal (reading_in lines.now)
@@ -60,7 +59,7 @@ pub(crate) fn print<J: Sharing, K: Sink>(
         sink,
     ) {
         Ok(denied) => said(
-            print_end(alloc, done, sink),
+            print_end(alloc, lines.config(), done, sink),
             has_refusal(lines, denied, &done.clash),
         ),
         Err(fault) => Err(fault),
@@ -399,18 +398,19 @@ fn print_clash<K: Sink>(
     print_refusal(alloc, number, &why, text, sink)
 }
 
-/// Writes how the run ended, and its last table.
+/// Writes how the run ended, and its last tables.
 fn print_end<J: Sharing, K: Sink>(
     alloc: Global,
+    config: &Config,
     done: &Finished<J>,
     sink: &mut K,
 ) -> Result<(), LiveFault>
     ensures { Prints result
-        (runs.end_text (length done.now.notes) done.now.clash done.now.table)
+        (runs.end_text config.now (length done.now.notes) done.now.clash done.now.table)
         (K.written sink.old) (K.written sink.new) (K.faults sink.old) (K.faults sink.new) }
 {
     match print_final(alloc, &done.notes, &done.clash, sink) {
-        Ok(()) => print_table(alloc, &done.table, sink),
+        Ok(()) => print_tables(alloc, table_families(config), &done.table, sink),
         Err(fault) => Err(fault),
     }
 }
@@ -429,15 +429,4 @@ fn print_final<K: Sink>(
     let records = notes.as_slice().len() as u64;
     let made = push_final(&mut text, records, clash.as_ref());
     write_made(made, text.as_bytes(), sink)
-}
-
-/// Writes a table.
-fn print_table<K: Sink>(alloc: Global, table: &Table, sink: &mut K) -> Result<(), LiveFault>
-    ensures { Prints result (table_text_of V4 table.now.chains)
-        (K.written sink.old) (K.written sink.new) (K.faults sink.old) (K.faults sink.new) }
-{
-    match table_text(alloc, table) {
-        Ok(text) => write(sink, text.as_str().as_bytes()),
-        Err(NoMemory) => Err(LiveFault::NoMemory),
-    }
 }

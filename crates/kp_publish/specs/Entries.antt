@@ -3,7 +3,7 @@ use Rattle.std.specs.Prelude.{◌≡◌, ◌<◌, ◌^◌, Bool, true, false, Li
 use mathlib.Core.List.{IsPrefix}
 use Rattle.kp_types.specs.declared.sync.SyncRecord.{SyncRecord}
 use Rattle.kp_table_defs.specs.Rebuild.{TableParts}
-use Rattle.kp_table_defs.specs.Ranks.{is_ranked, has_built_in_chains}
+use Rattle.kp_table_defs.specs.Ranks.{is_ranked}
 use Rattle.kp_history_defs.specs.History.{table_from}
 use Rattle.kp_publish.specs.declared.entry.Entry.{Entry}
 use Rattle.kp_publish.specs.declared.entry.Entry.TheVariants.{Record, End}
@@ -30,10 +30,9 @@ pub record GoesOnFrom (later earlier : List Entry) : Type 0 where
 abbrev pub table_of : TableParts → List Entry → TableParts
 table_of start log = table_from start (records_of log)
 
--- Readers may walk it: it is ranked, and has its built-in chains.
-pub record IsReady (t : TableParts) : Type 0 where
-  pub ranked : is_ranked t.chains ≡ true
-  pub built_in : has_built_in_chains t.chains ≡ true
+-- Readers may walk it: it is ranked.
+abbrev pub IsReady : TableParts → Type 0
+IsReady t = is_ranked t.chains ≡ true
 
 -- A record goes behind an open history: readers may walk the table after it, and its number is a
 -- 64-bit one.

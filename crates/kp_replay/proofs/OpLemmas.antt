@@ -16,7 +16,7 @@ use Rattle.kp_plane.specs.Parts as parts
 use Rattle.kp_plane.specs.Parts.{PlaneParts, decided_in, explained_in, walked_in}
 use Rattle.kp_plane.specs.Notes.{last_note}
 use Rattle.kp_plane.specs.declared.note.SyncNote.{SyncNote}
-use Rattle.kp_run_defs.specs.ReplayText.{no_sources, config_line, draws_at, answer_text, packet_line, explain_line, sync_line, setting_in}
+use Rattle.kp_run_defs.specs.ReplayText.{no_sources, config_line, draws_at, answer_text, packet_line, explain_line, sync_line, settings_in}
 use Rattle.kp_replay.specs.declared.replay.Replay.{Replay}
 use Rattle.kp_replay.specs.Steps.{HasNoEvents, Takes, standing_of}
 
@@ -48,10 +48,10 @@ explained number p r plane d sync before now syncs stays same text = record {
 -- a sync that is not refused
 pub synced : (number : ℕ) (r : Replay) (plane : PlaneParts) (note : SyncNote) (before now : List ℕ)
     → note ≡ last_note (parts.uncovered_in r.plane) plane
-    → clash_of (parts.setting_in r.plane) (objects_after r.plane.events) ≡ None
+    → clash_of (parts.settings_in r.plane) (objects_after r.plane.events) ≡ None
     → plane ≡ parts.synced r.plane
     → now ≡ before ++ sync_text note.sync note.events note.written note.removed
-    → Takes (sync_line number (clash_of (setting_in (standing_of r)) (objects_after r.plane.events)) (standing_of r)) (record r { plane = plane }) before now
+    → Takes (sync_line number (clash_of (settings_in (standing_of r)) (objects_after r.plane.events)) (standing_of r)) (record r { plane = plane }) before now
 synced number r plane note before now noted no_clash next text =
     subst (λ c. Takes (sync_line number c (standing_of r)) (record r { plane = plane }) before now) (sym no_clash)
     (record {

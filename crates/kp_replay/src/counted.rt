@@ -104,10 +104,10 @@ impl Replay {
         totals: &mut Totals,
     ) -> Result<(), NoMemory>
         ensures next { OnOk result (standing_of self.new ≡ (spec.sync_line number
-            (clash_of (spec.setting_in (standing_of self.old))
+            (clash_of (spec.settings_in (standing_of self.old))
             (objects_after (standing_of self.old).events)) (standing_of self.old)).next) }
         ensures totals { OnOk result (totals.new ≡ sums.sync_totals
-            (clash_of (spec.setting_in (standing_of self.old))
+            (clash_of (spec.settings_in (standing_of self.old))
             (objects_after (standing_of self.old).events)) (standing_of self.old) totals.old) }
     {
         match noted::<Brand, Brand>(alloc, &mut self.plane, Blank::new(1), Blank::new(1)) {

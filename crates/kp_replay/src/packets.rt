@@ -5,7 +5,7 @@ ghost use Rattle.kp_choice_defs.specs.Recent.{RecentParts};
 ghost use Rattle.kp_plane.specs.Parts as parts;
 ghost use Rattle.kp_plane.specs.Parts.{decided_in, explained_in, walked_in};
 ghost use Rattle.kp_run_defs.specs.ReplayText as spec;
-ghost use Rattle.kp_table_defs.specs.Ranks.{is_ranked, has_built_in_chains};
+ghost use Rattle.kp_table_defs.specs.Ranks.{is_ranked};
 ghost use Rattle.kp_text_defs.specs.declared.packet.PacketLine.{PacketLine};
 ghost use Rattle.kp_walk_laws.specs.Laws.{Agree};
 
@@ -60,7 +60,6 @@ impl Replay {
 pub(crate) fn snapshot_of(plane: &Plane) -> Snapshot<'_>
     ensures sync { result.sync ≡ parts.syncs_in plane.now }
     ensures ranked { is_ranked result.table.now.chains ≡ true }
-    ensures built_in { has_built_in_chains result.table.now.chains ≡ true }
     ensures walked { (number : ℕ) (line : PacketLine) (lists : RecentParts)
         → walk_in result number line lists
         ≡ walked_in plane.now line.packet (spec.draws_at number line.draws) lists }

@@ -1,14 +1,15 @@
 //! What lines show.
-ghost use Rattle.std.specs.Prelude.{◌≡◌, ◌++◌, string_bytes, OnOk};
+ghost use Rattle.std.specs.Prelude.{◌≡◌, ◌++◌, string_bytes, IfOk, OnOk};
+ghost use Rattle.kp_restore_defs.specs.BatchText.{batch_text_of};
 ghost use Rattle.kp_run_defs.specs.ReplayText as spec;
 
 use crate::replay::Replay;
-use kp_base::NoMemory;
+use kp_base::{Family, NoMemory, Text};
 use kp_print::push;
 use kp_report::push_slices;
-use kp_restore::{batch_text, section_text};
+use kp_restore::{batch_text, batch_text_six, section_text};
 use kp_script::Shown;
-use kp_types::TableName;
+use kp_types::{Batch, TableName};
 use std::alloc::Global;
 
 impl Replay {
@@ -31,7 +32,10 @@ impl Replay {
             Shown::Endpoints => self.push_slices_now(alloc, true, text),
             Shown::Nat => self.push_section(alloc, TableName::Nat, text),
             Shown::Filter => self.push_section(alloc, TableName::Filter, text),
-            Shown::Batch => self.push_last_batch(alloc, text),
+            Shown::Batch => self.push_last_batch(alloc, Family::V4, text),
+            Shown::Nat6 => self.push_section_if(alloc, TableName::Nat6, text),
+            Shown::Filter6 => self.push_section_if(alloc, TableName::Filter6, text),
+            Shown::Batch6 => self.push_last_batch(alloc, Family::V6, text),
         }
     }
 
@@ -64,18 +68,51 @@ impl Replay {
         push(text, section.as_str())
     }
 
-    /// Adds the batch of the last sync, where there was one.
-    fn push_last_batch(&self, alloc: Global, text: &mut String) -> Result<(), NoMemory>
+    /// Adds the section of a table of IPv6, where the node has such tables.
+    fn push_section_if(
+        &self,
+        alloc: Global,
+        which: TableName,
+        text: &mut String,
+    ) -> Result<(), NoMemory>
         ensures { OnOk result (string_bytes text.new ≡ string_bytes text.old
-            ++ spec.batch_shown (standing_of self.now).counts
+            ++ spec.section_if (standing_of self.now).config.dual
+            (spec.chains_in (standing_of self.now)) which) }
+    {
+        if self.plane.config().dual {
+            self.push_section(alloc, which, text)
+        } else {
+            Ok(())
+        }
+    }
+
+    /// Adds a family's part of the batch of the last sync, where there was one.
+    fn push_last_batch(
+        &self,
+        alloc: Global,
+        family: Family,
+        text: &mut String,
+    ) -> Result<(), NoMemory>
+        ensures { OnOk result (string_bytes text.new ≡ string_bytes text.old
+            ++ spec.batch_shown family (standing_of self.now).counts
             (spec.last_edits (standing_of self.now))) }
     {
         match self.plane.last_batch() {
             None => Ok(()),
             Some(batch) => {
-                let batch = batch_text(alloc, batch)?;
+                let batch = part_text(alloc, family, batch)?;
                 push(text, batch.as_str())
             }
         }
+    }
+}
+
+/// The text of the edits of a family's tables.
+fn part_text(alloc: Global, family: Family, batch: &Batch) -> Result<Text, NoMemory>
+    ensures { IfOk result (λ t. t ≡ batch_text_of family batch.now.edits) }
+{
+    match family {
+        Family::V4 => batch_text(alloc, batch),
+        Family::V6 => batch_text_six(alloc, batch),
     }
 }

@@ -27,7 +27,7 @@ impl Replay {
         text: &mut String,
     ) -> Result<(), NoMemory>
         ensures { OnOk result (Takes (spec.sync_line number
-            (clash_of (spec.setting_in (standing_of self.old))
+            (clash_of (spec.settings_in (standing_of self.old))
             (objects_after (standing_of self.old).events)) (standing_of self.old))
             self.new (string_bytes text.old) (string_bytes text.new)) }
     {
@@ -57,10 +57,10 @@ pub(crate) fn noted<L: Ledger, A: Ledger>(
     requires some_ports { 0 < ports.parts }
     ensures note { IfOk result (λ n. n ≡ last_note (parts.uncovered_in plane.old) plane.new) }
     ensures no_clash { OnOk result (
-        clash_of (parts.setting_in plane.old) (objects_after plane.old.events) ≡ None) }
+        clash_of (parts.settings_in plane.old) (objects_after plane.old.events) ≡ None) }
     ensures ok { OnOk result (plane.new ≡ parts.synced plane.old) }
     ensures clash { IfErr result (TellsClash
-        (clash_of (parts.setting_in plane.old) (objects_after plane.old.events))) }
+        (clash_of (parts.settings_in plane.old) (objects_after plane.old.events))) }
     ensures err { OnErr result (plane.new ≡ plane.old) }
 {
     let mut steps = Steps::<L>::new(rules);

@@ -1,7 +1,6 @@
 -- The changes between two canonical tables that agree on the built-in chains are a canonical batch.
 use Rattle.std.proofs.Common.{◌≡◌, Bool, true, false, ◌==◌, ◌&&◌, not, cond, List, [], ◌∷◌, ◌++◌, bytes_eq, filter, fold, Option, Some, None, is_some, T, refl, sym, ap, ◌∙◌}
 use Rattle.std.specs.Ordering.{nat_cmp, is_lt, ordering_then}
-use Rattle.std.specs.declared.cmp.Ordering.{Ordering}
 use Rattle.std.specs.declared.cmp.Ordering.TheVariants.{Less}
 use Rattle.std.specs.FinMap.{entries, entries_sorted, get}
 use Rattle.std.specs.FinMap.Entries.{is_sorted, below_all}
@@ -28,7 +27,7 @@ use Rattle.kp_rules.proofs.OtherFamily.{no_changes_beside}
 use Rattle.kp_rules.proofs.ChangesLead.{In_option, all_filter_map, changes_lead, same_rules_exact}
 use Rattle.kp_restore_defs.specs.RuleText.{is_canonical_rule}
 use Rattle.kp_restore_defs.specs.TableText.{may_stand, is_canonical_chain, is_chain_of, is_canonical_table}
-use Rattle.kp_restore_defs.specs.BatchText.{place_of, kind_place, edit_cmp, are_in_order, is_same_place, edit_each_once, is_canonical_edit, is_canonical_batch}
+use Rattle.kp_restore_defs.specs.BatchText.{place_of, edit_cmp, are_in_order, is_same_place, edit_each_once, is_canonical_edit, is_canonical_batch}
 use Rattle.kp_restore_defs.specs.BatchesBetween.{HaveSameBuiltIn, ChangesAreCanonical, ReadChangesLeadOver}
 use Rattle.kp_restore.proofs.Tests.{all_true, none_of}
 use Rattle.kp_restore.proofs.BatchEdits.{tied_table, stands_before, stands_apart}

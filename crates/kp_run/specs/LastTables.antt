@@ -4,7 +4,7 @@ use Rattle.kp_io.specs.Lines.{lines_of}
 use Rattle.kp_io.specs.Told.{Grows}
 use Rattle.kp_object_defs.specs.Objects.{objects_after}
 use Rattle.kp_table_defs.specs.Rebuild.{full_table}
-use Rattle.kp_run_defs.specs.LegalRuns.{LiveRun, chains_at, events_in, records_in, setting_in}
+use Rattle.kp_run_defs.specs.LegalRuns.{LiveRun, chains_at, events_in, records_in, settings_in}
 use Rattle.kp_run_defs.specs.LiveLines.{reading_of}
 use Rattle.kp_run_defs.specs.LiveText.{live_text}
 use Rattle.kp_run.specs.Outcome.{Outside, EndsLive}
@@ -18,4 +18,4 @@ LastLiveTable =
     → (run : LiveRun) × (run.reading ≡ reading_of (lines_of text))
     × Grows old.output.written new.output.written (live_text run)
     × (chains_at run (records_in run)
-    ≡ (full_table (setting_in run) (objects_after (events_in run))).chains)
+    ≡ (full_table (settings_in run) (objects_after (events_in run))).chains)

@@ -7,21 +7,24 @@ use Rattle.std.proofs.lemmas.List.Elements.{Contains-append_cases}
 use Rattle.kp_lemmas.proofs.Members.{from_all, from_filter_map}
 use Rattle.kp_base.specs.declared.address.Family.{Family}
 use Rattle.kp_base.specs.declared.address.Family.TheVariants.{V4, V6}
+use Rattle.kp_types.specs.Edits.{edits_of_family}
 use Rattle.kp_types.specs.Places.{filter_of, nat_of}
+use Rattle.kp_types.specs.Setting.{Setting, view_of}
 use Rattle.kp_types.specs.declared.chain.ChainAt.{ChainAt}
 use Rattle.kp_types.specs.declared.chain.TableName.{TableName}
 use Rattle.kp_types.specs.declared.rule.Edit.{Edit}
 use Rattle.kp_types.specs.declared.rule.Edit.TheVariants.{Write, Remove}
 use Rattle.kp_types.specs.declared.rule.Rule.{Rule}
-use Rattle.kp_object_defs.specs.PortInfo.{port_infos}
-use Rattle.kp_table_defs.specs.Edits.{chains_after_edit, chains_in, changes_between, changes_of, is_found_with, table_changes, write_if_changed}
+use Rattle.kp_object_defs.specs.PortInfo.{PortInfo, infos_by_family}
+use Rattle.kp_table_defs.specs.Edits.{ChangesLeadOver, chains_after_edit, chains_in, changes_between, changes_of, is_found_with, table_changes, write_if_changed}
 use Rattle.kp_table_defs.specs.Ranks.{is_ranked}
-use Rattle.kp_table_defs.specs.Rebuild.{Chains, full_table}
-use Rattle.kp_restore_defs.specs.BatchText.{batch_text_of, is_canonical_batch, BatchTextsDiffer}
-use Rattle.kp_restore_defs.specs.BatchesBetween.{ChangesAreCanonical, HaveSameBuiltIn, ReadChangesLeadOver}
-use Rattle.kp_restore_defs.specs.TableText.{is_canonical_table, jumps_to_declared}
-use Rattle.kp_restore.proofs.Changes.{own_changes}
-use Rattle.kp_text_laws.specs.TableLaws.{ChangesReadBack, FullTableReadsBack, FullTablesHaveSameBuiltIn, IsReadableTable, NoneJumpsTo, edits_between}
+use Rattle.kp_table_defs.specs.Rebuild.{Chains, full_chains, full_table}
+use Rattle.kp_restore_defs.specs.BatchText.{is_canonical_batch, BatchTextsDiffer}
+use Rattle.kp_restore_defs.specs.BatchesBetween.{ChangesAreCanonical}
+use Rattle.kp_restore_defs.specs.TableText.{jumps_to_declared}
+use Rattle.kp_table_laws.proofs.Families.{changes_of_family}
+use Rattle.kp_text_laws.specs.TableLaws.{ChangesReadBack, FullTableReadsBack, FullTablesHaveSameBuiltIn, NoneJumpsTo, OwnTableCanonical, edits_between}
+use Rattle.kp_text_laws.proofs.OwnEdits.{part_leads, part_of_changes, text_of_part}
 use Rattle.kp_text_laws.proofs.Tables.{declared}
 
 -- ---- Removed chains
@@ -78,30 +81,31 @@ closed_by before after ranked to c at rules r stands in_rules same_table jumps =
     ∙ sym (ap (jumps_to_declared after at.table) jumps) ∙ goes in
     true≢false (sym found ∙ removed before after to c)
 
-pub changes_read_back_by : ChangesAreCanonical → ReadChangesLeadOver → BatchTextsDiffer
-    → FullTableReadsBack → FullTablesHaveSameBuiltIn → ChangesReadBack
-changes_read_back_by fits back differ readable same setting o p v4 printable of_o of_p =
-    let before : Chains = (full_table setting o).chains in
-    let after : Chains = (full_table setting p).chains in
-    let fit_before : is_canonical_table setting.family before ≡ true =
-    (readable setting o v4 printable of_o).canonical in
-    let of_after : IsReadableTable setting.family after = readable setting p v4 printable of_p in
-    let fit_after : is_canonical_table setting.family after ≡ true = of_after.canonical in
-    let same_fixed : HaveSameBuiltIn before after =
-    same setting (port_infos setting.family setting.config o)
-    (port_infos setting.family setting.config p) in
-    let edits : List Edit = edits_between setting o p in
-    let is : edits ≡ changes_of setting.family before after =
-    own_changes setting.family before after fit_before fit_after in
-    let fit : is_canonical_batch setting.family edits ≡ true =
-    ap (is_canonical_batch setting.family) is
-    ∙ fits setting.family before after fit_before fit_after same_fixed in
-    let ranked : is_ranked after ≡ true = of_after.ranked in
-    let leads : fold chains_after_edit before edits ≡ after =
-    back setting.family before after fit_before fit_after same_fixed edits fit
-    (ap (batch_text_of setting.family) is) in record {
+pub changes_read_back_by : ChangesAreCanonical → ChangesLeadOver → BatchTextsDiffer
+    → OwnTableCanonical → FullTableReadsBack → FullTablesHaveSameBuiltIn → ChangesReadBack
+changes_read_back_by fits lead differ own back same settings o p family has printable of_o of_p =
+    let infos_o : Family → List PortInfo = infos_by_family settings o in
+    let infos_p : Family → List PortInfo = infos_by_family settings p in
+    let before : Chains = (full_table settings o).chains in
+    let after : Chains = (full_table settings p).chains in
+    let setting : Setting = view_of family settings in
+    let edits : List Edit = edits_between settings o p in
+    let part : List Edit = edits_of_family family edits in
+    let is : part ≡ changes_of family (full_chains setting (infos_o family))
+    (full_chains setting (infos_p family)) =
+    part_of_changes before after family
+    ∙ changes_of_family settings infos_o infos_p family has in
+    let fit : is_canonical_batch family part ≡ true =
+    ap (is_canonical_batch family) is
+    ∙ fits family _ _ (own setting o printable of_o) (own setting p printable of_p)
+    (same setting (infos_o family) (infos_p family)) in
+    let leads : fold chains_after_edit before edits ≡ after = lead before after in
+    let ranked : is_ranked after ≡ true = (back settings p family has printable of_p).ranked in
+    record {
       canonical = fit;
-      only = λ others h e. differ setting.family others edits h fit e;
+      only = λ others h e. differ family others part h fit (e ∙ sym (text_of_part family edits));
+      own = λ q of. part_leads family edits before before (λ r within. refl) q of
+          ∙ ap (λ (m : Chains). get m q) leads;
       leads = leads;
       ranked = ap is_ranked leads ∙ ranked;
       closed = closed_by before after ranked;

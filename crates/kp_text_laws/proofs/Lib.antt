@@ -1,6 +1,8 @@
 pub mod CanonicalRules
 pub mod ChainNames
 pub mod ObjectBounds
+pub mod OwnEdits
+pub mod OwnTables
 pub mod PortBounds
 pub mod Tables
 pub mod Batches

@@ -1,16 +1,19 @@
 -- What lines are read as, and where a replay stands, is within its bounds.
-use Rattle.std.proofs.Common.{◌≡◌, ℕ, Bool, true, false, cond, List, [], ◌∷◌, ◌++◌, Option, Some, None, option_and_then, Result, Ok, Err, codes, inl, inr, refl, ap, subst}
+use Rattle.std.proofs.Common.{◌≡◌, ℕ, Bool, true, false, cond, List, [], ◌∷◌, ◌++◌, Option, Some, None, unwrap_or, Result, Ok, Err, codes, inl, inr, refl, sym, ap, subst, ◌∙◌}
 use Rattle.std.specs.List.{fold}
 use Rattle.std.proofs.lemmas.List.Elements.{Contains-append_cases}
 use Rattle.kp_lemmas.proofs.Members.{none_in}
-use Rattle.kp_lemmas.proofs.Options.{from_and_then}
+use Rattle.kp_base.specs.Net.{AddressParts, v4_address}
+use Rattle.kp_base.specs.declared.address.Family.TheVariants.{V4, V6}
+use Rattle.kp_base.proofs.SameParts.{same_family_exact}
 use Rattle.kp_json.specs.Places.{Place, member_at, needed_at, text_at}
 use Rattle.kp_json.specs.declared.fault.BadField.{BadField}
 use Rattle.kp_types.specs.declared.chain.Clash.{Clash}
 use Rattle.kp_types.specs.declared.event.Event.{Event}
 use Rattle.kp_event_defs.specs.EventText.{Refused, read_events}
-use Rattle.kp_row_defs.specs.Fields.{text_in, v4_range_of}
+use Rattle.kp_row_defs.specs.Fields.{ranges_in}
 use Rattle.kp_text_defs.specs.JsonText.{json_of}
+use Rattle.kp_text_defs.specs.PacketText.{needed_address_in, packet_rows}
 use Rattle.kp_text_defs.specs.ScriptLines.{Command, as_op, command_of, config, config_op, event, explain, of_events, of_members, op_at, op_named, op_of, or_refusal, packet, read_script, read_stream, show, sync, with_stream, ◌>>=◌}
 use Rattle.kp_text_defs.specs.declared.line_refusal.LineRefusal.{LineRefusal}
 use Rattle.kp_text_defs.specs.declared.line_refusal.LineRefusal.TheVariants.{BadJson, TooLongLine}
@@ -19,11 +22,12 @@ use Rattle.kp_text_defs.specs.declared.script.Op.TheVariants as op
 use Rattle.kp_text_defs.specs.declared.script.ScriptLine.{ScriptLine}
 use Rattle.kp_text_defs.specs.declared.stream.Stream.{Stream}
 use Rattle.kp_run_defs.specs.ReplayText.{Progress, Standing, after_line, at_start, events_line, op_line, quiet, read_line, refuse, script_line, short_line, sync_line}
-use Rattle.kp_text_laws.specs.Bounds.{AreBoundedEvents, IsBoundedConfig}
+use Rattle.kp_text_laws.specs.Bounds.{AreBoundedEvents, IsBoundedConfig, is_bounded_address}
 use Rattle.kp_text_laws.specs.BoundLaws.{ReadIsBounded}
-use Rattle.kp_text_laws.specs.ShownLaws.{ConfigIsBounded, IsBoundedOp, IsBoundedStanding, LinesAreBounded, ReplaysAreBounded}
-use Rattle.kp_text_laws.proofs.ReadAddresses.{some_from, v4_text_range}
+use Rattle.kp_text_laws.specs.ShownLaws.{ConfigIsBounded, IsBoundedOp, IsBoundedPacket, IsBoundedStanding, LinesAreBounded, PacketIsBounded, ReplaysAreBounded}
+use Rattle.kp_text_laws.proofs.ReadAddresses.{family_range, member_address, member_ranges}
 use Rattle.kp_text_laws.proofs.ReadObjects.{by_ok, read_by}
+use Rattle.kp_text_laws.proofs.ReadRows.{address_there, like_there, row_fine}
 
 -- ---- Operations
 
@@ -39,13 +43,28 @@ from_members (Ok y) x e = let same : y ≡ x = cc in ap (λ z. Ok z) same
 pub config_is_bounded : ConfigIsBounded
 config_is_bounded p c e =
     let (fine, is) = read_by _ _ c e in
+    let ranges = member_ranges (codes "clusterCIDR") p in
     subst IsBoundedConfig is (record {
-      cluster = some_from _ (option_and_then v4_range_of (text_in (codes "clusterCIDR") p))
-          (λ r found.
-          let (text, of_text, read) = from_and_then v4_range_of
-          (text_in (codes "clusterCIDR") p) r found in
-          v4_text_range text r read);
-      cluster6 = refl;
+      cluster = family_range V4 (ranges_in (codes "clusterCIDR") p) ranges;
+      cluster6 = family_range V6 (ranges_in (codes "clusterCIDR") p) ranges;
+    })
+
+pub packet_is_bounded : PacketIsBounded
+packet_is_bounded p line e =
+    let (fine, is) = read_by _ _ line e in
+    let (a, of_a) = address_there (codes "src") p (row_fine 1 packet_rows p _ refl fine) in
+    let (b, of_b, alike) = like_there (codes "dst") (codes "src") p a of_a
+    (row_fine 2 packet_rows p _ refl fine) in
+    let source : needed_address_in (codes "src") p ≡ a =
+    ap (λ o. unwrap_or o (v4_address 0)) of_a in
+    let target : needed_address_in (codes "dst") p ≡ b =
+    ap (λ o. unwrap_or o (v4_address 0)) of_b in
+    subst IsBoundedPacket is (record {
+      source = ap is_bounded_address source ∙ member_address (codes "src") p a of_a;
+      target = ap is_bounded_address target ∙ member_address (codes "dst") p b of_b;
+      one_family = ap (λ (x : AddressParts). x.family) source
+          ∙ same_family_exact a.family b.family alike
+          ∙ sym (ap (λ (x : AddressParts). x.family) target);
     })
 
 made_op : {A : Type 0} (of : A → Op) (r : Result A BadField) (o : Op)
@@ -72,8 +91,8 @@ module _ (read_is_bounded : ReadIsBounded) where
       (λ q. of_events (read_events q)) o e in
       events_op q _ o refl made
   command_op first p sync o e = by_ok IsBoundedOp e tt
-  command_op first p packet o e = made_op op.Packet _ o (λ x h. tt) e
-  command_op first p explain o e = made_op op.Explain _ o (λ x h. tt) e
+  command_op first p packet o e = made_op op.Packet _ o (packet_is_bounded p) e
+  command_op first p explain o e = made_op op.Explain _ o (packet_is_bounded p) e
   command_op first p show o e = made_op op.Show _ o (λ x h. tt) e
 
   place_op : (first : Bool) (p : Place) (m : Option Place) (o : Op) → op_at first p m ≡ Ok o

@@ -1,19 +1,24 @@
 -- What a value without a fault by its rows says of its numbers and of its elements.
-use Rattle.std.proofs.Common.{◌≡◌, ℕ, zero, suc, ◌&&◌, Bool, true, false, cond, nat_le, nat_lt, List, [], ◌∷◌, ◌++◌, map, length, Contains, Option, Some, None, option_map, option_and_then, unwrap_or, Ok, Err, ok_or, refl, sym, ap, subst, ◌∙◌, arith, inl, inr}
+use Rattle.std.proofs.Common.{◌≡◌, ℕ, zero, suc, ◌&&◌, Bool, true, false, cond, nat_le, nat_lt, List, [], ◌∷◌, ◌++◌, map, length, Contains, Option, Some, None, is_some, option_map, option_and_then, unwrap_or, Ok, Err, ok_or, refl, sym, ap, subst, ◌∙◌, arith, inl, inr}
 use Rattle.std.specs.Result.{result_err}
 use Rattle.std.proofs.lemmas.Bool.{and_parts}
 use Rattle.std.proofs.lemmas.Bool.Decides.{nat_tests}
 use Rattle.std.proofs.lemmas.Option.{same_Some}
 use Rattle.serde_json.specs.Data.{Items}
+use Rattle.serde_json.specs.Find.{as_str}
 use Rattle.kp_lemmas.proofs.Members.{none_in, in_cases}
 use Rattle.kp_json.specs.Answers.{◌>>=◌, fault_at, too_many_at}
 use Rattle.kp_json.specs.Places.{Place, elements_at, elements_of, field_at, member_at, places_of_items, whole_at, within}
 use Rattle.kp_json.specs.declared.fault.BadField.{BadField}
-use Rattle.kp_json.specs.declared.fault.Why.TheVariants.{OutOfRange}
+use Rattle.kp_json.specs.declared.fault.Why.{Why}
+use Rattle.kp_json.specs.declared.fault.Why.TheVariants.{BadAddress, OutOfRange}
+use Rattle.kp_base.specs.Net.{AddressParts, same_family}
+use Rattle.kp_base.specs.Six.{any_address_of}
 use Rattle.kp_base.specs.declared.port.Proto.{Proto}
+use Rattle.kp_fields.proofs.EmptyText.{address_of_text}
 use Rattle.kp_restore_defs.specs.RuleText.{is_port_number}
-use Rattle.kp_row_defs.specs.Fields.{inner, items_in, nowhere, whole_in, whole_of}
-use Rattle.kp_row_defs.specs.Rows.{Form, Presence, Row, Rows, ◌▸◌, done, each, each_port, each_up_to, field, first_in, form_fault, inside, needed, on_member, on_ok, optional, or_then, port_id, ports_fault, row_fault, rows_fault, twin_fault, unless_empty, whole, whole_or_text}
+use Rattle.kp_row_defs.specs.Fields.{address_in, inner, items_in, not_empty, nowhere, text_of, whole_in, whole_of}
+use Rattle.kp_row_defs.specs.Rows.{Form, Presence, Row, Rows, ◌▸◌, address_like, address_text, done, each, each_port, each_up_to, field, first_in, form_fault, inside, is_address_like, is_address_text, is_like, needed, on_member, on_ok, optional, or_then, port_id, ports_fault, row_fault, rows_fault, twin_fault, unless_empty, whole, whole_or_text}
 
 -- neither of two faults
 pub neither : (a b : Option BadField) → or_then a b ≡ None → (a ≡ None) × (b ≡ None)
@@ -78,6 +83,68 @@ there_by : {M : Type 0} (e f : BadField) (form : Form) (o : Option M) (m : Optio
 there_by e f form None m h = absurd (cc)
 there_by e f form (Some ms) None h = absurd (cc)
 there_by e f form (Some ms) (Some q) h = (q, refl)
+
+-- ---- Addresses
+
+-- the text at a place that passes a test
+text_by : (test : List ℕ → Bool) (why : Why) (q : Place) (e : BadField) (o : Option (List ℕ))
+    → on_ok (ok_or o e) (λ text. cond (test text) None (Some (fault_at why q.path))) ≡ None
+    → (text : List ℕ) × (o ≡ Some text) × (test text ≡ true)
+text_by test why q e None h = absurd (cc)
+text_by test why q e (Some text) h = (text, refl, passed (test text) h)
+  where
+    passed : (b : Bool) → cond b None (Some (fault_at why q.path)) ≡ None → b ≡ true
+    passed true h = refl
+    passed false h = absurd (cc)
+
+-- the address of a place is that of its member
+member_is : (name : List ℕ) (p q : Place) (text : List ℕ) → member_at p name ≡ Some q
+    → as_str q.value ≡ Some text → address_in name p ≡ any_address_of text
+member_is name p q text found is =
+    ap (λ m. option_and_then any_address_of (option_and_then not_empty (option_and_then text_of m)))
+    found
+    ∙ ap (λ o. option_and_then any_address_of (option_and_then not_empty o)) is
+    ∙ sym (address_of_text text)
+
+-- an address that has to be there is there, where there is no fault
+pub address_there : (name : List ℕ) (p : Place)
+    → row_fault (field name needed address_text) p ≡ None
+    → (a : AddressParts) × (address_in name p ≡ Some a)
+address_there name p h =
+    let (q, found) = there_by _ _ address_text _ _ h in
+    let (text, is, passes) = text_by is_address_text BadAddress q _ _
+    (value_by _ _ address_text q _ _ h found) in
+    let (a, read) = there (any_address_of text) passes in
+    (a, member_is name p q text found is ∙ read)
+  where
+    there : (o : Option AddressParts) → is_some o ≡ true → (a : AddressParts) × (o ≡ Some a)
+    there None none = absurd (cc)
+    there (Some a) some = (a, refl)
+
+like_by : (other : AddressParts) (o : Option AddressParts)
+    → unwrap_or (option_map (is_like (Some other)) o) false ≡ true
+    → (a : AddressParts) × (o ≡ Some a) × (same_family other.family a.family ≡ true)
+like_by other None h = absurd (cc)
+like_by other (Some a) h = (a, refl, h)
+
+placed_by : {M : Type 0} (e f : BadField) (faults : Place → Option BadField) (o : Option M)
+    (m : Option Place)
+    → on_member (ok_or o e >>= λ ms. Ok m) (Some f) faults ≡ None
+    → (q : Place) × (m ≡ Some q) × (faults q ≡ None)
+placed_by e f faults None m h = absurd (cc)
+placed_by e f faults (Some ms) None h = absurd (cc)
+placed_by e f faults (Some ms) (Some q) h = (q, refl, h)
+
+-- so is one of the family of another that is there
+pub like_there : (name other : List ℕ) (p : Place) (a : AddressParts) → address_in other p ≡ Some a
+    → row_fault (address_like name other) p ≡ None
+    → (b : AddressParts) × (address_in name p ≡ Some b) × (same_family a.family b.family ≡ true)
+like_there name other p a of_a h =
+    let (q, found, fine) = placed_by _ _ _ _ _ h in
+    let (text, is, passes) = text_by _ BadAddress q _ _ fine in
+    let (b, read, alike) = like_by a (any_address_of text)
+    (ap (λ o. is_address_like o text) (sym of_a) ∙ passes) in
+    (b, member_is name p q text found is ∙ read, alike)
 
 -- ---- Numbers
 

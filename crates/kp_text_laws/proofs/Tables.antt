@@ -1,19 +1,17 @@
--- The full table has a text of its own, and all full tables have the same built-in chains.
-use Rattle.std.proofs.Common.{◌≡◌, ℕ, ◌||◌, Bool, true, false, List, [], ◌∷◌, Contains, Option, Some, None, codes, is_some, cond, option_and_then, refl, sym, ap, subst, ◌∙◌}
+-- The tables of each family have a text of their own in the full table, and all full tables of a
+-- family have the same built-in chains.
+use Rattle.std.proofs.Common.{◌≡◌, ℕ, ◌||◌, ◌++◌, Bool, true, false, List, [], ◌∷◌, Contains, Option, Some, None, flat_map, is_some, cond, option_and_then, inl, inr, refl, sym, ap, subst, ◌∙◌}
 use Rattle.std.specs.List.{list_all, list_any, AllByRecursion}
-use Rattle.std.specs.FinMap.{entries, find, get, get-entries}
-use Rattle.std.specs.Ordering.{eq_by_cmp}
+use Rattle.std.specs.FinMap.{entries, find, get, get-from_entries}
 use Rattle.std.specs.Str.{bytes_eq}
 use Rattle.std.proofs.lemmas.Bool.{and_from, and_parts}
 use Rattle.std.proofs.lemmas.Slice.Eq.{bytes_eq-Decides}
 use Rattle.kp_lemmas.proofs.Members.{all_from, from_all, from_filter}
-use Rattle.kp_lemmas.proofs.Orders.{one_from_tie}
 use Rattle.kp_types.specs.Chains.{is_chain_name}
-use Rattle.kp_types.specs.Places.{chain_cmp, family_of_table}
-use Rattle.kp_types.specs.Setting.{Setting, cluster_range, range_in}
+use Rattle.kp_types.specs.Places.{chain_cmp, family_of_table, filter_of, nat_of}
+use Rattle.kp_types.specs.Setting.{Setting, cluster_range, range_in, view_of}
 use Rattle.kp_types.specs.declared.chain.ChainAt.{ChainAt}
 use Rattle.kp_types.specs.declared.chain.TableName.{TableName}
-use Rattle.kp_types.specs.declared.chain.TableName.TheVariants.{Nat, Filter, Nat6, Filter6}
 use Rattle.kp_types.specs.declared.rule.Rule.{Rule}
 use Rattle.kp_types.specs.declared.rule.Target.{Target}
 use Rattle.kp_types.specs.declared.rule.Target.TheVariants as target
@@ -23,26 +21,26 @@ use Rattle.kp_base.specs.declared.address.Family.{Family}
 use Rattle.kp_base.specs.declared.address.Family.TheVariants.{V4, V6}
 use Rattle.kp_base.specs.declared.config.Config.{Config}
 use Rattle.kp_base.proofs.SameParts.{same_family_exact}
-use Rattle.kp_choice_defs.specs.Settings.{setting_of}
-use Rattle.kp_object_defs.specs.PortInfo.{PortInfo, port_infos}
+use Rattle.kp_choice_defs.specs.Settings.{settings_of}
+use Rattle.kp_object_defs.specs.PortInfo.{PortInfo, infos_by_family, port_infos}
 use Rattle.kp_object_defs.proofs.InOrder.{entries_in_order}
-use Rattle.kp_table_defs.specs.Keys.{own_keys}
-use Rattle.kp_table_defs.specs.Layout.{port_rows, row_of_key, rows_of}
-use Rattle.kp_table_defs.specs.Ranks.{goes_on, has_chains_of, is_built_in, built_in_chains, is_ranked_chain, jumps_go_on}
+use Rattle.kp_table_defs.specs.Layout.{external_block, filter_rows_with, firewall_block, nat_rows_with, node_port_block, port_rows, refusal_block, rows_of, service_block}
+use Rattle.kp_table_defs.specs.Ranks.{goes_on, is_built_in, built_in_chains, is_ranked_chain, jumps_go_on}
 use Rattle.kp_table_defs.specs.Rebuild.{Chains, TableParts, full_chains, full_table}
 use Rattle.kp_restore_defs.specs.RuleText.{is_canonical_range, is_canonical_rule}
-use Rattle.kp_restore_defs.specs.TableText.{is_canonical_chain, is_canonical_table, is_chain_of, jumps_to_declared, TableTextsDiffer}
-use Rattle.kp_walk_laws.specs.Laws.{FullTableRanked, FullTableRankedObjects, HashedPrefixed, IsSound, KnownPorts}
+use Rattle.kp_restore_defs.specs.TableText.{is_canonical_chain, is_canonical_part, is_canonical_table, is_chain_of, jumps_to_declared, TableTextsDiffer}
+use Rattle.kp_restore.proofs.Families.{which_table}
+use Rattle.kp_walk_laws.specs.Laws.{FullTableRanked, FullTableRankedObjects, HashedPrefixed, KnownPorts}
+use Rattle.kp_table_laws.specs.Families.{HasTablesOf}
 use Rattle.kp_table_laws.proofs.Entries.{from_in_order}
+use Rattle.kp_table_laws.proofs.Families.{family_stands_alone, none_found, rows_stand_in_family}
 use Rattle.kp_table_laws.proofs.KeyRows.{Row}
-use Rattle.kp_walk_laws.proofs.Lookups.{finds_filter, finds_nat, fixed_filter, fixed_nat, in_rows, rows_written}
-use Rattle.kp_walk_laws.proofs.Passing.{Pass, pass_both, pass_map, pass_pieces}
-use Rattle.kp_walk_laws.proofs.PortLookups.{nat_is}
 use Rattle.kp_text_laws.specs.BoundLaws.{PortsAreBounded}
-use Rattle.kp_text_laws.specs.TableLaws.{FullChainsCanonical, FullTableCanonical, FullTableReadsBack, FullTablesHaveSameBuiltIn, IsReadableTable, ProductIsPrintable, RebuiltReadsBack}
+use Rattle.kp_text_laws.specs.TableLaws.{FullChainsCanonical, FullTableCanonical, FullTableReadsBack, FullTablesHaveSameBuiltIn, IsReadableTable, OwnTableCanonical, ProductIsPrintable, RebuiltReadsBack}
 use Rattle.kp_text_laws.specs.Bounds.{IsBoundedConfig, is_bounded_range, passes_if_some}
 use Rattle.kp_text_laws.proofs.ChainNames.{hashed_names}
 use Rattle.kp_text_laws.proofs.CanonicalRules.{row_fits, rows_fit}
+use Rattle.kp_text_laws.proofs.OwnTables.{part_alike, text_alike}
 
 -- ---- Jumps of a ranked table
 
@@ -80,65 +78,62 @@ row_of_entry setting infos r c =
     from_in_order chain_cmp chain_exact (rows_of setting infos) r
     (subst (λ es. Contains es r) (entries_in_order chain_total (rows_of setting infos)) c)
 
--- the rows of the full table are of the tables of IPv4
-rows_are_v4 : (setting : Setting) (infos : List PortInfo)
-    → list_all (is_chain_of V4) (rows_of setting infos) ≡ true
-rows_are_v4 setting infos =
-    let nat : Pass (is_chain_of V4) (fixed_nat setting infos) = record { all = refl } in
-    let filter : Pass (is_chain_of V4) (fixed_filter setting infos) = record { all = refl } in
-    ap (list_all (is_chain_of V4)) (rows_written setting infos)
-    ∙ (pass_both (pass_both nat filter) (pass_pieces (port_rows setting) infos (λ i c.
-    pass_map (row_of_key setting i) (own_keys i)
-    (λ k d. ap (λ t. same_family (family_of_table t) V4) (nat_is setting.family))))).all
-
--- and so are its chains
-chains_are_v4 : (setting : Setting) (infos : List PortInfo)
-    → list_all (is_chain_of V4) (entries (full_chains setting infos)) ≡ true
-chains_are_v4 setting infos =
-    all_from _ _ (λ r c. from_all (is_chain_of V4) (rows_of setting infos)
-    (rows_are_v4 setting infos) r (row_of_entry setting infos r c))
+-- all chains of a family stand in its tables
+chains_stand : (setting : Setting) (infos : List PortInfo)
+    → list_all (is_chain_of setting.family) (entries (full_chains setting infos)) ≡ true
+chains_stand setting infos =
+    all_from _ _ (λ r c. from_all (is_chain_of setting.family) (rows_of setting infos)
+    (rows_stand_in_family setting infos) r (row_of_entry setting infos r c))
 
 pub full_chains_canonical_by : FullTableRanked → FullChainsCanonical
 full_chains_canonical_by is_sound setting infos printable any bounded =
     let chains : Chains = full_chains setting infos in
-    let sound : IsSound chains = is_sound setting infos printable.prefixed any in
+    let sound = is_sound setting infos printable.prefixed any in
     all_from _ _ (λ r c. chain_fits chains _ r (from_all _ _ sound.ranked r c)
     (from_all (row_fits setting.family) (rows_of setting infos)
     (rows_fit setting printable.named printable.cluster infos bounded) r
     (row_of_entry setting infos r c)))
 
 pub full_table_canonical_by : FullTableRanked → FullChainsCanonical → FullTableCanonical
-full_table_canonical_by is_sound canonical setting infos v4 printable any bounded =
+full_table_canonical_by is_sound canonical setting infos printable any bounded =
     let chains : Chains = full_chains setting infos in
-    let sound : IsSound chains = is_sound setting infos printable.prefixed any in
-    let built_in : has_chains_of setting.family chains ≡ true =
-    subst (λ f. has_chains_of f chains ≡ true) (sym v4) sound.built_in in
-    let own : list_all (is_chain_of setting.family) (entries chains) ≡ true =
-    subst (λ f. list_all (is_chain_of f) (entries chains) ≡ true) (sym v4)
-    (chains_are_v4 setting infos) in
-    and_from _ _ (and_from _ _ built_in (all_from _ _ (λ r c.
+    let sound = is_sound setting infos printable.prefixed any in
+    and_from _ _ (and_from _ _ sound.built_in (all_from _ _ (λ r c.
     from_all _ (entries chains) (canonical setting infos printable any bounded) r
-    (from_filter (is_chain_of setting.family) r (entries chains) c).0))) own
+    (from_filter (is_chain_of setting.family) r (entries chains) c).0)))
+    (chains_stand setting infos)
 
-pub full_table_reads_back_by : FullTableCanonical → FullTableRankedObjects → KnownPorts
-    → PortsAreBounded → TableTextsDiffer → FullTableReadsBack
-full_table_reads_back_by canonical is_sound known ports differ setting o v4 printable bounded =
-    let infos : List PortInfo = port_infos setting.family setting.config o in
-    let chains : Chains = (full_table setting o).chains in
-    let sound : IsSound chains = is_sound setting o printable.prefixed in
-    let fit : is_canonical_table setting.family chains ≡ true = canonical setting infos v4 printable
+pub own_table_canonical_by : FullTableCanonical → KnownPorts → PortsAreBounded
+    → OwnTableCanonical
+own_table_canonical_by canonical known ports setting o printable bounded =
+    canonical setting (port_infos setting.family setting.config o) printable
     (λ i c. (known setting.family setting.config o i c).any)
-    (λ i c. ports setting.family setting.config o i bounded c) in record {
-      canonical = fit;
-      only = λ other h same. differ setting.family other chains h fit same;
+    (λ i c. ports setting.family setting.config o i bounded c)
+
+pub full_table_reads_back_by : OwnTableCanonical → FullTableRankedObjects → TableTextsDiffer
+    → FullTableReadsBack
+full_table_reads_back_by canonical is_sound differ settings o family has printable bounded =
+    let infos : Family → List PortInfo = infos_by_family settings o in
+    let chains : Chains = (full_table settings o).chains in
+    let own : Chains = full_chains (view_of family settings) (infos family) in
+    let alike : HasTablesOf family chains own = family_stands_alone settings infos family has in
+    let sound = is_sound settings o printable.prefixed in
+    let fit : is_canonical_table family own ≡ true =
+    canonical (view_of family settings) o printable bounded in record {
+      canonical = part_alike family chains own alike
+          ∙ (and_parts (is_canonical_part family own) _ fit).0;
+      only = λ other h same q of.
+          ap (λ (m : Chains). get m q)
+          (differ family other own h fit (same ∙ text_alike family chains own alike))
+          ∙ sym (alike q of);
       ranked = sound.ranked;
-      built_in = sound.built_in;
+      built_in = sound.built_in family has;
     }
 
 pub rebuilt_reads_back_by : FullTableReadsBack → ProductIsPrintable → RebuiltReadsBack
-rebuilt_reads_back_by back printable config o t configured bounded is =
-    subst (λ (u : TableParts). IsReadableTable V4 u.chains) (sym is)
-    (back (setting_of V4 config) o refl (printable V4 config configured) bounded)
+rebuilt_reads_back_by back printable config o t family configured bounded has is =
+    subst (λ (u : TableParts). IsReadableTable family u.chains) (sym is)
+    (back (settings_of config) o family has (printable family config configured) bounded)
 
 -- ---- Built-in chains
 
@@ -155,65 +150,72 @@ one_of P chain (name ∷ names) all h =
     named_by P chain name _ all.0 refl (λ other. one_of P chain names all.1
     (sym (ap (λ b. b || list_any (bytes_eq chain) names) other) ∙ h))
 
--- a chain of another table isn't found among those of IPv4
-not_among : (q : ChainAt) → same_family (family_of_table q.table) V4 ≡ false → (es : List Row)
-    → list_all (is_chain_of V4) es ≡ true → find chain_cmp q es ≡ None
-not_among q other [] h = refl
-not_among q other (e ∷ es) h =
-    let parts = and_parts (is_chain_of V4 e) (list_all (is_chain_of V4) es) h in
-    ap (λ b. cond b (Some e.1) (find chain_cmp q es)) (differ parts.0 _ refl)
-    ∙ not_among q other es parts.1
-  where
-    differ : is_chain_of V4 e ≡ true → (b : Bool) → eq_by_cmp chain_cmp q e.0 ≡ b → b ≡ false
-    differ own true is =
-        sym own ∙ ap (λ (at : ChainAt). same_family (family_of_table at.table) V4)
-        (sym (one_from_tie chain_exact q e.0 is)) ∙ other
-    differ own false is = refl
+module _ (node_ports services firewall external refused : List Rule) (more : List Row) where
+  -- fixed chains with these rules, and other chains
+  abbrev fixed : Family → List Row
+  fixed family =
+      nat_rows_with family node_ports services
+      ++ filter_rows_with family firewall external refused ++ more
 
-not_there : (setting : Setting) (infos : List PortInfo) (at : ChainAt)
-    → same_family (family_of_table at.table) V4 ≡ false
-    → get (full_chains setting infos) at ≡ None
-not_there setting infos at other =
-    get-entries (full_chains setting infos) at
-    ∙ not_among at other (entries (full_chains setting infos)) (chains_are_v4 setting infos)
+  -- a built-in chain is found with the same rules among any
+  abbrev IsFixed : Family → TableName → List ℕ → Type 0
+  IsFixed family table name =
+      let at : ChainAt = record { table = table; chain = name } in
+      find chain_cmp at (fixed family)
+      ≡ find chain_cmp at (nat_rows_with family [] [] ++ filter_rows_with family [] [] [])
 
-module _ (setting : Setting) (before after : List PortInfo) where
-  -- a chain is the same in both tables
-  abbrev IsSame : ChainAt → Type 0
-  IsSame at = get (full_chains setting before) at ≡ get (full_chains setting after) at
+  nat_fixed : (family : Family) (chain : List ℕ) → is_built_in (nat_of family) chain ≡ true
+      → IsFixed family (nat_of family) chain
+  nat_fixed V4 chain h =
+      one_of (IsFixed V4 (nat_of V4)) chain (built_in_chains (nat_of V4))
+      (refl, (refl, (refl, (refl, tt)))) h
+  nat_fixed V6 chain h =
+      one_of (IsFixed V6 (nat_of V6)) chain (built_in_chains (nat_of V6))
+      (refl, (refl, (refl, (refl, tt)))) h
 
-  same_in : (table : TableName) (chain : List ℕ) → is_built_in table chain ≡ true
-      → IsSame (record { table = table; chain = chain })
-  same_in Nat chain h =
-      let b = finds_nat setting before in
-      let a = finds_nat setting after in
-      let input : ChainAt = record { table = Nat; chain = codes "INPUT" } in
-      let before_input : get (full_chains setting before) input ≡ Some [] =
-      in_rows setting before input in
-      let after_input : get (full_chains setting after) input ≡ Some [] =
-      in_rows setting after input in
-      one_of (λ name. IsSame (record { table = Nat; chain = name })) chain (built_in_chains Nat) (
-        b.prerouting ∙ sym a.prerouting,
-        (
-          before_input ∙ sym after_input,
-          (
-            b.output ∙ sym a.output,
-            (b.postrouting ∙ sym a.postrouting, tt),
-          ),
-        ),
-      ) h
-  same_in Filter chain h =
-      let b = finds_filter setting before in
-      let a = finds_filter setting after in
-      one_of (λ name. IsSame (record { table = Filter; chain = name })) chain
-      (built_in_chains Filter)
-      (b.input ∙ sym a.input, (b.forward ∙ sym a.forward, (b.output ∙ sym a.output, tt))) h
-  same_in Nat6 chain h = not_there setting before _ refl ∙ sym (not_there setting after _ refl)
-  same_in Filter6 chain h = not_there setting before _ refl ∙ sym (not_there setting after _ refl)
+  filter_fixed : (family : Family) (chain : List ℕ) → is_built_in (filter_of family) chain ≡ true
+      → IsFixed family (filter_of family) chain
+  filter_fixed V4 chain h =
+      one_of (IsFixed V4 (filter_of V4)) chain (built_in_chains (filter_of V4))
+      (refl, (refl, (refl, tt))) h
+  filter_fixed V6 chain h =
+      one_of (IsFixed V6 (filter_of V6)) chain (built_in_chains (filter_of V6))
+      (refl, (refl, (refl, tt))) h
+
+  chain_fixed : (family : Family) (table : TableName) (chain : List ℕ)
+      → same_family (family_of_table table) family ≡ true → is_built_in table chain ≡ true
+      → IsFixed family table chain
+  chain_fixed family table chain of h =
+      elim (which_table family table of) [
+        | inl is ↦
+            subst (λ t. IsFixed family t chain) (sym is)
+            (nat_fixed family chain (ap (λ t. is_built_in t chain) (sym is) ∙ h))
+        | inr is ↦
+            subst (λ t. IsFixed family t chain) (sym is)
+            (filter_fixed family chain (ap (λ t. is_built_in t chain) (sym is) ∙ h))
+      ]
+
+module _ (setting : Setting) (at : ChainAt) (built_in : is_built_in at.table at.chain ≡ true) where
+  -- a built-in chain is that of the fixed chains alone, or of another family's table and not there
+  found_by : (infos : List PortInfo) (b : Bool)
+      → same_family (family_of_table at.table) setting.family ≡ b
+      → get (full_chains setting infos) at
+      ≡ cond b (find chain_cmp at (nat_rows_with setting.family [] []
+      ++ filter_rows_with setting.family [] [] [])) None
+  found_by infos true of =
+      get-from_entries chain_total (rows_of setting infos) at
+      ∙ chain_fixed (flat_map (node_port_block setting) infos)
+      (flat_map (service_block setting) infos) (flat_map firewall_block infos)
+      (flat_map (external_block setting.family) infos) (flat_map refusal_block infos)
+      (flat_map (port_rows setting) infos) setting.family at.table at.chain of built_in
+  found_by infos false other =
+      get-from_entries chain_total (rows_of setting infos) at
+      ∙ none_found setting.family at other (rows_of setting infos)
+      (rows_stand_in_family setting infos)
 
 pub full_tables_have_same_built_in_by : FullTablesHaveSameBuiltIn
 full_tables_have_same_built_in_by setting before after at h =
-    same_in setting before after at.table at.chain h
+    found_by setting at h before _ refl ∙ sym (found_by setting at h after _ refl)
 
 -- ---- The product's setting
 

@@ -1,6 +1,5 @@
 use Rattle.std.proofs.Common.{◌≡◌, Result, Err, IfErr, List, [], ◌∷◌, ◌++◌, None, length, ap, sym, refl, subst, ◌∙◌, rules}
-use Rattle.kp_base.specs.declared.address.Family.TheVariants.{V4}
-use Rattle.kp_choice_defs.specs.Settings.{setting_of}
+use Rattle.kp_choice_defs.specs.Settings.{settings_of}
 use Rattle.kp_types.specs.declared.sync.SyncRecord.{SyncRecord}
 use Rattle.kp_object_defs.specs.Objects.{objects_after}
 use Rattle.kp_table_defs.specs.Rebuild.{clash_of}
@@ -26,8 +25,8 @@ returns-in_err-record-clause-clash g c =
     let config = g.J.Sharing.config in
     let is : c.from_residual.result ≡ Err c.in_err-record.field-0.0 = search rules in
     subst (λ (r : Result SyncRecord TableFault). IfErr r
-    (TellsClash (clash_of (setting_of V4 config) (objects_after (events_of c.args.self.now.journal))))) (sym is)
-    (subst (λ (t : Taken). TellsClash (clash_of (setting_of V4 config) (objects_after (events_of t.journal))) c.in_err-record.field-0.0)
+    (TellsClash (clash_of (settings_of config) (objects_after (events_of c.args.self.now.journal))))) (sym is)
+    (subst (λ (t : Taken). TellsClash (clash_of (settings_of config) (objects_after (events_of t.journal))) c.in_err-record.field-0.0)
     c.self.view_is
     (tells_clash config g.J.Sharing.queue (taken_in s.origins.items s.waits s.plane s.taker) s.plane s.taker s.notes.items c.self.invariant.1
     c.in_err-record.field-0.0 c.in_err-record.ensures.clash))
@@ -60,6 +59,6 @@ returns-clause-record g c =
 pub returns-clause-no_clash : goal.returns-clause-no_clash
 returns-clause-no_clash g c =
     let s = c.self.inside in
-    subst (λ (t : Taken). clash_of (setting_of V4 g.J.Sharing.config) (objects_after (events_of t.journal)) ≡ None) c.self.view_is
+    subst (λ (t : Taken). clash_of (settings_of g.J.Sharing.config) (objects_after (events_of t.journal)) ≡ None) c.self.view_is
     (no_clash g.J.Sharing.config g.J.Sharing.queue (taken_in s.origins.items s.waits s.plane s.taker) s.plane s.taker s.notes.items
     c.self.invariant.1 c.in_ok-record.record c.in_ok-record.ensures.record)

@@ -1,6 +1,7 @@
-use Rattle.std.proofs.Common.{List, ◌∷◌, [], ◌++◌, ap, sym, subst, ◌∙◌}
+use Rattle.std.proofs.Common.{◌≡◌, List, ◌∷◌, [], ◌++◌, None, ap, sym, subst, ◌∙◌}
 use Rattle.kp_types.specs.declared.sync.SyncRecord.{SyncRecord}
-use Rattle.kp_hub.specs.State.{IsHubState, state_in}
+use Rattle.kp_hub.specs.State.{HubState, IsHubState, state_in}
+use Rattle.kp_hub.specs.Syncs.{clash_after}
 use Rattle.kp_hub.specs.Taken.{Taken}
 use Rattle.kp_hub.proofs.States.{fewer_published, state_records}
 use Rattle.kp_hub.proofs.state.Held.make.Goals as goal
@@ -37,3 +38,8 @@ returns-clause-waits g c =
     fewer_published g.J.Sharing.config g.J.Sharing.streams g.J.Publication.start
     (state_in c.record.new.self s.publisher s.refusals.items s.accepted.total s.refused.total) c.put.new.waiting.items now
     c.in_ok-record.record c.reserve.new.self.items c.put.ensures
+
+pub returns-clause-no_clash : goal.returns-clause-no_clash
+returns-clause-no_clash g c =
+    subst (λ (h : HubState). clash_after g.J.Sharing.config h.taken.journal ≡ None) c.self.view_is
+    c.in_ok-record.ensures.no_clash
