@@ -3,7 +3,7 @@ ghost use Rattle.std.specs.Prelude.{◌≡◌};
 ghost use Rattle.kp_publish.specs.Entries.{StandsFor};
 
 use crate::pushing::{number_in, push};
-use kp_base::{Copied, NoMemory};
+use kp_base::{Copied, Family, NoMemory};
 use kp_chains::fixed_chains;
 use kp_publish::{Opened, Publication, Publisher, Reader, publication};
 use kp_rules::Table;
@@ -144,7 +144,7 @@ fn last_seen<J: Publication + Send + Sync, R: Threads + Wait + Sync>(
 
 #[test]
 fn counts_never_fall(rt: HostRuntime) -> Result<(), NoMemory> {
-    let start = fixed_chains(rt.alloc())?;
+    let start = fixed_chains(rt.alloc(), &[Family::V4])?;
     let seen = last_seen::<Brand, _>(&rt, rt.alloc(), Opened::new(), &start)?;
     assert!(rt; seen == (true, Some(RECORDS), Some(RECORDS), RECORDS));
     Ok(())

@@ -3,8 +3,11 @@ ghost use Rattle.std.specs.Prelude.{◌≡◌, ◌<◌};
 
 use crate::lines::unfolded;
 use crate::ports::{config_of, lists_of};
-use kp_base::{Address, Config, Items, NoMemory, ObjectKey, PortKey, PortNo, Proto, Steps, Text};
-use kp_full_table::{TableFault, table_of_infos};
+use kp_base::{
+    Address, Config, Family, Items, NoMemory, ObjectKey, PortKey, PortNo, Proto, Steps, Text,
+};
+use kp_chains::fixed_chains;
+use kp_full_table::TableFault;
 use kp_restore::{batch_text, table_text};
 use kp_rules::laws::changes_lead_over;
 use kp_rules::{Batch, Table};
@@ -60,7 +63,7 @@ drop api
 sync *filter|:KUBE-SERVICES - [0:0]|COMMIT|
 ";
 
-/// A writer, and the table that it wrote.
+/// A writer of a family, and the table that it wrote.
 struct Synced {
     writer: Writer,
     table: Table,
@@ -87,14 +90,9 @@ impl Model for Synced {
 
 impl Synced {
     /// A writer that wrote nothing, and the table of no ports.
-    fn new<L: Ledger>(alloc: Global, config: &Config, rules: Blank) -> Result<Synced, TableFault>
-        requires name { rules.name ≡ L.name }
-        requires parts { rules.parts ≡ L.parts }
-        requires some { 0 < rules.parts }
-    {
-        let mut steps = Steps::<L>::new(rules);
-        let table = table_of_infos(alloc, config, &[], &mut steps)?;
-        let writer = Writer::new(alloc, config)?;
+    fn new(alloc: Global, family: Family, config: &Config) -> Result<Synced, NoMemory> {
+        let table = fixed_chains(alloc, &[family])?;
+        let writer = Writer::new(alloc, family, config)?;
         Ok(Synced { writer, table })
     }
 
@@ -209,11 +207,7 @@ fn take(alloc: Global, synced: &mut Synced, row: &str) -> Result<bool, Fail> {
 /// A writer that wrote nothing.
 fn unwritten(alloc: Global) -> Result<Synced, Fail> {
     let config = config_of(alloc, unfolded(alloc, CONFIG)?.as_str())?;
-    Ok(
-        Synced::new::<Brand>(alloc, &config, Blank::new(1))
-            .ok()
-            .ok_or("a writer")?,
-    )
+    Ok(Synced::new(alloc, Family::V4, &config)?)
 }
 
 #[test]

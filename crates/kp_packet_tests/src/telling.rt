@@ -3,7 +3,7 @@ ghost use Rattle.std.specs.Prelude.{◌≡◌};
 ghost use Rattle.kp_publish.specs.Entries.{StandsFor};
 
 use crate::pushing::push;
-use kp_base::{Copied, NoMemory};
+use kp_base::{Copied, Family, NoMemory};
 use kp_chains::fixed_chains;
 use kp_publish::{Opened, Publication, Publisher, Reader, laws, publication};
 use kp_rules::Table;
@@ -69,7 +69,7 @@ fn told<J: Publication, R: Wait>(
 
 #[test]
 fn a_reader_sees_all_that_it_was_told(rt: HostRuntime) -> Result<(), NoMemory> {
-    let start = fixed_chains(rt.alloc())?;
+    let start = fixed_chains(rt.alloc(), &[Family::V4])?;
     let counts = told::<Brand, _>(&rt, rt.alloc(), Opened::new(), &start)?;
     assert!(rt; counts == (1, 2));
     Ok(())

@@ -3,7 +3,7 @@
 ghost use Rattle.std.specs.Prelude.{◌≡◌, ◌<◌};
 
 use crate::lines::{op_of, whole_script};
-use kp_base::{Config, Items, NoMemory, Steps};
+use kp_base::{Config, Family, Items, NoMemory, Steps};
 use kp_plane::{DirtyPort, Plane, SyncRecord, TableFault};
 use kp_print::{push, push_labelled};
 use kp_script::Op;
@@ -14,8 +14,8 @@ use std::sync::ledger::{Blank, Ledger};
 use std::test::Fail;
 
 /// A Service that gets an endpoint, nothing, a second endpoint beside a Service without a cluster
-/// address, and none, before an event that no sync covers.
-const SCRIPT: &str = r#"{"op":"config",@node}
+/// address, and none; a Service of IPv6 alone; and an event that no sync covers.
+const SCRIPT: &str = r#"{"op":"config",@node,"dualStack":true}
 {@service}
 {@slice,"endpoints":[{@one}]}
 {"op":"sync"}
@@ -26,18 +26,23 @@ const SCRIPT: &str = r#"{"op":"config",@node}
 {"op":"sync"}
 {"type":"DELETED","object":{@slice}}
 {"op":"sync"}
+{"apiVersion":"v1","kind":"Service","metadata":{"name":"six"},
+ "spec":{"clusterIP":"fd00:10:96::a","ports":[{"port":80}]}}
+{"op":"sync"}
 {@slice,"endpoints":[{@one}]}"#;
 
-/// What each sync records, how many of how many events it covers, and its dirty ports with the
-/// port number and the endpoints that were known before; and what the plane holds at its end. The
-/// first sync writes KUBE-SERVICES, the Service's chain and the endpoint's. The third writes the
-/// Service's chain and the second endpoint's. The fourth removes three chains, and takes the
-/// Service's rule from KUBE-SERVICES of nat to that of filter.
+/// What each sync records, how many of how many events it covers, and its dirty ports of both
+/// families with the port number and the endpoints that were known before; and what the plane holds
+/// at its end. The first sync writes KUBE-SERVICES, the Service's chain and the endpoint's. The
+/// third writes the Service's chain and the second endpoint's. The fourth removes three chains, and
+/// takes the Service's rule from KUBE-SERVICES of nat to that of filter. The fifth writes that of
+/// filter in IPv6.
 const TOLD: &str = "sync 1, events 2, edits 3, covers 2 of 2; web new
 sync 2, events 0, edits 0, covers 2 of 2;
 sync 3, events 2, edits 2, covers 4 of 4; web port 80, endpoints 1
 sync 4, events 1, edits 5, covers 5 of 5; web port 80, endpoints 2
-events 6, syncs 4, counts 2 0 2 1
+sync 5, events 1, edits 1, covers 6 of 6; six new
+events 7, syncs 5, counts 2 0 2 1 1
 ";
 
 /// A sync by counters of its own.
@@ -68,7 +73,8 @@ fn sync(alloc: Global, plane: &mut Plane, text: &mut String) -> Result<(), Fail>
     push_labelled(text, ", covers ", plane.covered())?;
     push_labelled(text, " of ", plane.journal().events().len() as u64)?;
     push(text, ";")?;
-    push_dirty(text, plane.dirty(alloc)?.as_slice())?;
+    push_dirty(text, plane.dirty(alloc, Family::V4)?.as_slice())?;
+    push_dirty(text, plane.dirty(alloc, Family::V6)?.as_slice())?;
     Ok(push(text, "\n")?)
 }
 

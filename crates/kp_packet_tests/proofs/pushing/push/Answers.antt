@@ -1,6 +1,5 @@
-use Rattle.std.proofs.Common.{◌≡◌, ◌+◌, ◌<◌, ◌^◌, true, rules, arith}
+use Rattle.std.proofs.Common.{◌+◌, ◌<◌, ◌^◌, rules, arith, sym, ◌∙◌}
 use Rattle.std.proofs.lemmas.Bool.Decides.{nat_tests}
-use Rattle.kp_table_defs.specs.Ranks.{is_ranked, has_built_in_chains}
 use Rattle.kp_packet_tests.proofs.Pushes.{stands_after}
 use Rattle.kp_packet_tests.proofs.pushing.push.Goals as goal
 
@@ -8,4 +7,6 @@ use Rattle.kp_packet_tests.proofs.pushing.push.Goals as goal
 pub publish-requires-clause-stands : goal.publish-requires-clause-stands
 publish-requires-clause-stands g c =
     let room : c.args.own.now.syncs + 1 < 2 ^ 64 = first_of (search rules, grind (arith, nat_tests), omega arith) in
-    stands_after g.J.Publication.start c.args.own.now c.apply.new.self c.args.publisher.now.newest (record { sync = c.in-Some.sync; events = 1; batch = c.in_ok-batch.batch }) c.requires c.in_ok-apply.ensures.ok (c.can_walk.ensures.ranked c.if-not-can_walk.false) (c.can_walk.ensures.built_in c.if-not-can_walk.false) room
+    stands_after g.J.Publication.start c.args.own.now c.apply.new.self c.args.publisher.now.newest
+    (record { sync = c.in-Some.sync; events = 1; batch = c.in_ok-batch.batch }) c.requires
+    c.in_ok-apply.ensures.ok (sym c.can_walk.ensures ∙ c.if-not-can_walk.false) room
