@@ -2,7 +2,7 @@
 # Adds changes to the lines of a made cluster, which standard input has: so many times one Pod's
 # event and a sync.
 #   bench/cluster.sh SERVICES PODS 0 | bench/changes.sh KIND TIMES [THEN]
-# KIND says what an event does: `move` gives a ready Pod another address, so that its Service keeps
+# KIND says what an event does: `move` gives a ready Pod other addresses, so that its Service keeps
 # an endpoint; `last` makes the only ready Pod of a Service unready, and then ready again; `beat` says
 # what is known, with another version. THEN is `nothing`, `explain` or `slices`: what follows each
 # sync; or `unsynced`, where no sync follows.
@@ -44,9 +44,19 @@ function choose(   i) {
     }
 }
 
+# a Pod that has other addresses, also in its list
+function moved(pod, n,   four, six) {
+    four = "{\"ip\":\"10.244."
+    six = "{\"ip\":\"fd00:10:244:"
+    pod = with(pod, "\"podIP\":\"10.244.", "\"podIP\":\"10." 100 + n % 99 ".")
+    if (index(pod, four)) pod = with(pod, four, "{\"ip\":\"10." 100 + n % 99 ".")
+    if (index(pod, six)) pod = with(pod, six, sprintf("{\"ip\":\"fd00:10:%x:", 768 + n % 99))
+    return pod
+}
+
 # the n-th event of a Pod
 function event(pod, n) {
-    if (kind == "move") return with(pod, "\"podIP\":\"10.244.", "\"podIP\":\"10." 100 + n % 99 ".")
+    if (kind == "move") return moved(pod, n)
     if (kind == "last") return n % 2 ? pod : with(pod, "\"status\":\"True\"", "\"status\":\"False\"")
     return with(pod, "\"metadata\":{", "\"metadata\":{\"resourceVersion\":\"" n "\",")
 }

@@ -4,8 +4,9 @@
 # again. An object, a command or a packet is one line.
 #   bench/cluster.sh SERVICES PODS [PACKETS [SEED [LISTS]]]
 # PACKETS are those after each sync, four a Service if left out; SEED is 1 if left out. With LISTS 1
-# Services have clusterIPs and ipFamilies, and pods podIPs, as those of every cluster have; it is 0
-# if left out.
+# Services have clusterIPs and ipFamilies, and pods podIPs, as those of every cluster have; with 2
+# these have addresses of both families, and so has the node its tables; it is 0 if left out. Packets
+# are of IPv4.
 set -eu
 if [ $# -lt 2 ] || [ $# -gt 5 ]; then
     echo "usage: bench/cluster.sh SERVICES PODS [PACKETS [SEED [LISTS]]]" >&2
@@ -41,7 +42,9 @@ function service(i,   more, own) {
     if (i % 4 == 1) more = ",\"sessionAffinity\":\"ClientIP\""
     if (i % 4 == 2) more = ",\"internalTrafficPolicy\":\"Local\""
     if (i % 4 == 3) more = ",\"trafficDistribution\":\"PreferClose\""
-    if (lists) more = more ",\"clusterIPs\":[\"" own "\"],\"ipFamilies\":[\"IPv4\"]"
+    if (lists == 1) more = more ",\"clusterIPs\":[\"" own "\"],\"ipFamilies\":[\"IPv4\"]"
+    if (lists == 2) more = more ",\"clusterIPs\":[\"" own "\",\"" sprintf("fd00:10:96::%x", i + 1) \
+        "\"],\"ipFamilies\":[\"IPv4\",\"IPv6\"]"
     print "{\"apiVersion\":\"v1\",\"kind\":\"Service\",\"metadata\":{\"name\":\"s" i "\"},\"spec\":{" \
         "\"clusterIP\":\"" own "\",\"ports\":[{\"port\":80,\"targetPort\":8080}]," \
         "\"selector\":{\"app\":\"s" i "\"}" more "}}"
@@ -50,7 +53,9 @@ function service(i,   more, own) {
 # three new numbers: its Service, its node, and whether it is ready
 function pod(j,   app, node, ready, own, more) {
     own = address(10, 244, j + 1)
-    if (lists) more = ",\"podIPs\":[{\"ip\":\"" own "\"}]"
+    if (lists == 1) more = ",\"podIPs\":[{\"ip\":\"" own "\"}]"
+    if (lists == 2) more = ",\"podIPs\":[{\"ip\":\"" own "\"},{\"ip\":\"" \
+        sprintf("fd00:10:244::%x", j + 1) "\"}]"
     app = word() % services
     node = 1 + word() % 3
     ready = word() % 8 ? "True" : "False"
@@ -70,8 +75,12 @@ function send(from,   k) {
 
 BEGIN {
     state = seed % 2147483646 + 1
-    print "{\"op\":\"config\",\"node\":\"n1\",\"nodeAddresses\":[\"10.0.0.1\"]," \
-        "\"clusterCIDR\":\"10.244.0.0/16\"}"
+    if (lists == 2)
+        print "{\"op\":\"config\",\"node\":\"n1\",\"nodeAddresses\":[\"10.0.0.1\",\"fd00::1\"]," \
+            "\"clusterCIDR\":\"10.244.0.0/16,fd00:10:244::/48\",\"dualStack\":true}"
+    else
+        print "{\"op\":\"config\",\"node\":\"n1\",\"nodeAddresses\":[\"10.0.0.1\"]," \
+            "\"clusterCIDR\":\"10.244.0.0/16\"}"
     for (i = 1; i <= 3; i++)
         print "{\"apiVersion\":\"v1\",\"kind\":\"Node\",\"metadata\":{\"name\":\"n" i "\"," \
             "\"labels\":{\"topology.kubernetes.io/zone\":\"" substr("abc", i, 1) "\"}}}"

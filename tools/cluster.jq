@@ -117,17 +117,26 @@ def said_of_addresses($node; $given):
                 "; those of bridges and the like aren't in the API: --address adds them"
                 else "" end));
 
-# $proxy: kube-proxy's setting or null; $range: the one that the line has, or null
-def said_of_range($proxy; $range; $given):
-    (if $range != null then empty
+# the range of each family that is named first, or null
+def chosen_ranges($proxy; $given):
+    [$given.range, $proxy.clusterCIDR? | ranges] | {v4: (map(.v4 | values) | first),
+        v6: (map(.v6 | values) | first)};
+
+# $proxy: kube-proxy's setting or null; $chosen: the ranges of the line; $dual: whether it has tables
+# of IPv6
+def said_of_ranges($proxy; $chosen; $dual):
+    (if ($chosen.v4 // $chosen.v6) != null then empty
      elif $proxy == null then
         "kube-proxy's ConfigMap didn't come"
-     else "kube-proxy has no IPv4 clusterCIDR" end
+     else "kube-proxy has no clusterCIDR" end
         | "\(.): without --cluster-cidr no source counts as a Pod's"),
-    (($given.range, $proxy.clusterCIDR?) | ranges.v6 | select(. != null)
-        | "the range \(.) is left out: the tables are of IPv4"),
-    ($proxy.clusterCIDR? | ranges.v4 | select(. != null and . != $range)
-        | "kube-proxy's clusterCIDR \(.) is left out for --cluster-cidr \($range)");
+    ($chosen | select($dual and .v4 != null and .v6 == null)
+        | "there is no clusterCIDR of IPv6: no source of IPv6 counts as a Pod's"),
+    ($chosen | select(.v6 != null and .v4 == null)
+        | "there is no clusterCIDR of IPv4: no source of IPv4 counts as a Pod's"),
+    ($proxy.clusterCIDR? | ranges | to_entries[] | select(.value != null)
+        | select(.value != $chosen[.key])
+        | "kube-proxy's clusterCIDR \(.value) is left out for --cluster-cidr \($chosen[.key])");
 
 def said_of_mode($proxy):
     ($proxy.mode? | select(IN(null, "", "iptables") | not)
@@ -140,10 +149,7 @@ def said_of_services($sliced; $controller):
     (map(select(.type != "ExternalName")
             | select($controller | not) // select(.selects | not)
             | .name | select(in($sliced) | not))
-        | select(. != []) | "Services without an EndpointSlice: \(some_of)"),
-    (map(select(.addresses | . != [] and all(contains(":"))) | .name)
-        | select(. != [])
-        | "Services of IPv6 alone, to which no packet can be sent: \(some_of)");
+        | select(. != []) | "Services without an EndpointSlice: \(some_of)");
 
 def said_of_others:
     group_by(.[1:])[]
@@ -157,20 +163,24 @@ def setting($node; $given):
     | (notes_of("slice") | reduce .[] as $it ({}; .[$it[1]] = true)) as $sliced
     | (notes_of("proxy") | last | if . then .[1] else null end) as $proxy
     | ($sliced == {} or $given.controller) as $controller
-    | (first(($given.range, $proxy.clusterCIDR?) | ranges.v4 | values) // null) as $range
+    | chosen_ranges($proxy; $given) as $chosen
+    | [$chosen.v4, $chosen.v6 | values] as $ranges
+    | (($nodes[$node] // [] | map(select(is_address))) + $given.addresses) as $addresses
+    | ($addresses + $ranges + (notes_of("service") | map(.[2].addresses[]))
+        | any(contains(":"))) as $dual
     | if $nodes | has($node) | not then
         {failure: (if $nodes == {} then "no Node came, so \($node) isn't there"
             else "there is no Node \($node); there are: \($nodes | keys | some_of)" end)}
       else
-        {line: ({op: "config", node: $node,
-                nodeAddresses: (($nodes[$node] | map(select(is_address))) + $given.addresses)}
-            + (if $range then {clusterCIDR: $range} else {} end)
+        {line: ({op: "config", node: $node, nodeAddresses: $addresses}
+            + (if $ranges == [] then {} else {clusterCIDR: ($ranges | join(","))} end)
             + (if $given.masquerade_all or $proxy.masqueradeAll? == "true"
                 then {masqueradeAll: true} else {} end)
+            + (if $dual then {dualStack: true} else {} end)
             + (if $controller then {} else {controller: false} end)),
          said: [
             ($nodes[$node] | said_of_addresses($node; $given)),
-            said_of_range($proxy; $range; $given),
+            said_of_ranges($proxy; $chosen; $dual),
             said_of_mode($proxy),
             ($sliced | select(. == {}) | "no EndpointSlices came: endpoints come from Pods"),
             (notes_of("service") | map({name: .[1]} + .[2])

@@ -1,11 +1,12 @@
 """Real connections through printed tables: a node whose tables they are, and hosts around it.
 
 The node, each pod of this node, the pods of another node and the clients outside stand in network
-namespaces of their own, each joined to the node alone. Each packet that was asked is sent as a connection or
-a datagram, and what became of it is compared with what was told.
+namespaces of their own, each joined to the node alone, and have addresses of both families. Each packet that
+was asked is sent as a connection or a datagram, and what became of it is compared with what was told.
 
-    hosts.py LINES ANSWERS RESTORE < TABLES
+    hosts.py LINES ANSWERS VARIANT TABLES TABLES6
 """
+import ipaddress
 import json
 import os
 import re
@@ -14,16 +15,23 @@ import subprocess
 import sys
 import time
 
-NODE = "192.168.1.11"
+NODE = ["192.168.1.11", "fd00:1::11"]
 HOSTS = {
-    "outside": ["198.51.100.7", "192.0.2.7"],
-    "pod-10": ["10.244.1.10"],
-    "pod-11": ["10.244.1.11"],
-    "pod-30": ["10.244.1.30"],
-    "pods-of-n2": ["10.244.2.10", "10.244.2.11", "10.244.2.53"],
+    "outside": ["198.51.100.7", "192.0.2.7", "2001:db8:7::7", "2001:db8:2::7"],
+    "pod-10": ["10.244.1.10", "fd00:10:244:1::10"],
+    "pod-11": ["10.244.1.11", "fd00:10:244:1::11"],
+    "pod-30": ["10.244.1.30", "fd00:10:244:1::30"],
+    "pods-of-n2": [
+        "10.244.2.10", "10.244.2.11", "10.244.2.53",
+        "fd00:10:244:2::10", "fd00:10:244:2::11", "fd00:10:244:2::53",
+    ],
 }
+# where hosts send what is not for them; a masked source is one of these
+GATEWAYS = ["169.254.1.1", "fd00:fe::1"]
 SERVING = ["pod-10", "pod-11", "pods-of-n2"]
 SERVED = [("tcp", 8080), ("udp", 53)]
+# on the node there is something of its own at the node ports of loopback addresses
+SERVED_BY_NODE = ["127.0.0.1", "::1"], [("tcp", 30080)]
 TRIES = 64
 # a connection is asked for again after one second
 SECONDS = 2.5
@@ -34,16 +42,17 @@ ATTEMPTS = 3
 SERVER = """
 import socket, sys, threading
 def told(own, peer):
-    return f"{own[0]}:{own[1]} {peer[0]}".encode()
+    return f"{own[0]} {own[1]} {peer[0]}".encode()
 def serve(address, proto, port):
+    family = socket.AF_INET6 if ":" in address else socket.AF_INET
     if proto == "tcp":
-        listener = socket.create_server((address, port), backlog=64)
+        listener = socket.create_server((address, port), family=family, backlog=64)
         print("ready", flush=True)
         while True:
             it, peer = listener.accept()
             it.sendall(told(it.getsockname(), peer))
             it.close()
-    it = socket.socket(socket.AF_INET, socket.SOCK_DGRAM)
+    it = socket.socket(family, socket.SOCK_DGRAM)
     it.bind((address, port))
     print("ready", flush=True)
     while True:
@@ -58,7 +67,8 @@ for place in sys.argv[1:]:
 CLIENT = """
 import socket, sys
 source, target, proto, port, seconds = sys.argv[1:]
-it = socket.socket(socket.AF_INET, socket.SOCK_STREAM if proto == "tcp" else socket.SOCK_DGRAM)
+family = socket.AF_INET6 if ":" in source else socket.AF_INET
+it = socket.socket(family, socket.SOCK_STREAM if proto == "tcp" else socket.SOCK_DGRAM)
 it.settimeout(float(seconds))
 it.bind((source, 0))
 try:
@@ -78,6 +88,16 @@ def run(*words, **more):
     return subprocess.run(words, check=True, text=True, **more)
 
 
+def single(address):
+    """The range of an address alone."""
+    return f"{address}/{ipaddress.ip_address(address).max_prefixlen}"
+
+
+def endpoint_of(address, port):
+    """An endpoint as answers write it."""
+    return f"[{address}]:{port}" if ":" in address else f"{address}:{port}"
+
+
 class Hosts:
     """The namespaces and the servers in them, until `close`."""
 
@@ -95,36 +115,44 @@ class Hosts:
     def make(self, host):
         run("ip", "netns", "add", self.name(host))
         self.made.append(host)
+        # an address is used at once: no other host has it
+        self.set(host, "net.ipv6.conf.all.accept_dad=0", "net.ipv6.conf.default.accept_dad=0")
         run(*self.inside(host, "ip", "link", "set", "lo", "up"))
+
+    def set(self, host, *settings):
+        run(*self.inside(host, "sysctl", "-qw", *settings))
 
     def open(self):
         self.make("node")
-        run(*self.inside("node", "ip", "address", "add", f"{NODE}/32", "dev", "lo"))
-        run(*self.inside("node", "sysctl", "-qw", "net.ipv4.ip_forward=1"))
-        run(*self.inside("node", "sysctl", "-qw", "net.ipv4.conf.all.rp_filter=0"))
-        run(*self.inside("node", "sysctl", "-qw", "net.ipv4.conf.default.rp_filter=0"))
+        for address in NODE:
+            run(*self.inside("node", "ip", "address", "add", single(address), "dev", "lo"))
+        self.set("node", "net.ipv4.ip_forward=1", "net.ipv6.conf.all.forwarding=1")
+        self.set("node", "net.ipv4.conf.all.rp_filter=0", "net.ipv4.conf.default.rp_filter=0")
         # a kernel keeps rejections to one host back where there are many
-        run(*self.inside("node", "sysctl", "-qw", "net.ipv4.icmp_ratelimit=0"))
+        self.set("node", "net.ipv4.icmp_ratelimit=0", "net.ipv6.icmp.ratelimit=0")
         for number, (host, addresses) in enumerate(HOSTS.items()):
             self.join(host, addresses, f"to-host-{number}")
-        run(*self.inside("node", "ip", "route", "add", "default", "dev", "to-host-0"))
+        for family in ("-4", "-6"):
+            route = ("ip", family, "route", "add", "default", "dev", "to-host-0")
+            run(*self.inside("node", *route))
 
     def join(self, host, addresses, link):
         """Makes a host with these addresses, joined to the node alone."""
         self.make(host)
         run("ip", "link", "add", link, "netns", self.name("node"), "type", "veth",
             "peer", "name", "eth0", "netns", self.name(host))
-        run(*self.inside("node", "ip", "address", "add", "169.254.1.1/32", "dev", link))
         run(*self.inside("node", "ip", "link", "set", link, "up"))
         run(*self.inside(host, "ip", "link", "set", "eth0", "up"))
-        run(*self.inside(host, "ip", "route", "add", "169.254.1.1", "dev", "eth0"))
-        run(*self.inside(host, "ip", "route", "add", "default", "via", "169.254.1.1", "dev", "eth0"))
         for address in addresses:
-            run(*self.inside(host, "ip", "address", "add", f"{address}/32", "dev", "eth0"))
-            run(*self.inside("node", "ip", "route", "add", address, "dev", link))
+            run(*self.inside(host, "ip", "address", "add", single(address), "dev", "eth0"))
+            run(*self.inside("node", "ip", "route", "add", single(address), "dev", link))
+        for gateway in GATEWAYS:
+            run(*self.inside("node", "ip", "address", "add", single(gateway), "dev", link))
+            run(*self.inside(host, "ip", "route", "add", single(gateway), "dev", "eth0"))
+            run(*self.inside(host, "ip", "route", "add", "default", "via", gateway, "dev", "eth0"))
 
-    def serve(self, host, addresses):
-        places = [f"{a},{proto},{port}" for a in addresses for proto, port in SERVED]
+    def serve(self, host, addresses, served):
+        places = [f"{a},{proto},{port}" for a in addresses for proto, port in served]
         server = subprocess.Popen(self.inside(host, sys.executable, "-c", SERVER, *places),
                                   stdout=subprocess.PIPE, text=True)
         self.servers.append(server)
@@ -141,10 +169,10 @@ class Hosts:
                    stdout=subprocess.PIPE).stdout.strip()
         if not said.startswith("to "):
             return said
-        _, endpoint, peer = said.split()
-        if endpoint == f"{packet['dst']}:{packet['dport']}":
+        _, address, port, peer = said.split()
+        if (address, port) == (packet["dst"], str(packet["dport"])):
             return "left alone" if peer == packet["src"] else f"left alone, from {peer}"
-        return f"to {endpoint}" + ("" if peer == packet["src"] else " masked")
+        return f"to {endpoint_of(address, port)}" + ("" if peer == packet["src"] else " masked")
 
     def close(self):
         for server in self.servers:
@@ -177,16 +205,19 @@ def sent(hosts, packet, wanted):
 
 
 def main():
-    lines, answers, restore = sys.argv[1:]
+    lines, answers, variant, *tables = sys.argv[1:]
     with open(lines, encoding="utf-8") as it, open(answers, encoding="utf-8") as other:
         packets = asked(it.read(), other.read())
     hosts = Hosts(f"kproxy{os.getpid()}")
     failed = 0
     try:
         hosts.open()
-        run(*hosts.inside("node", restore), input=sys.stdin.read())
+        for tool, text in zip(("iptables", "ip6tables"), tables):
+            with open(text, encoding="utf-8") as it:
+                run(*hosts.inside("node", f"{tool}-{variant}-restore"), stdin=it)
         for host in SERVING:
-            hosts.serve(host, HOSTS[host])
+            hosts.serve(host, HOSTS[host], SERVED)
+        hosts.serve("node", *SERVED_BY_NODE)
         for packet, wanted in packets:
             for _ in range(ATTEMPTS):
                 seen = sent(hosts, packet, wanted)
@@ -195,7 +226,7 @@ def main():
                 time.sleep(1)
             else:
                 failed = 1
-                print(f"checks: connections by {restore}: {json.dumps(packet)}: told "
+                print(f"checks: connections by {variant}: {json.dumps(packet)}: told "
                       f"{sorted(wanted)}, seen {sorted(seen)}")
     finally:
         hosts.close()

@@ -6,6 +6,7 @@ import copy
 import random
 
 SOURCES = ["10.244.1.2", "10.244.2.3", "192.0.2.7", "198.51.100.7", "10.0.0.1"]
+SOURCES6 = ["fd00:10:244:1::2", "fd00:10:244:2::3", "2001:db8:7::7", "2001:db9::7", "fd00::1"]
 NODES = ["n1", "n2", "n3", "n4"]  # the first is the proxy's own
 ZONES = ["a", "b", "c"]
 ZONE = "topology.kubernetes.io/zone"
@@ -15,6 +16,8 @@ CONTROLLER = "endpointslice-controller.k8s.io"
 # how many Services there are at most, and how long the hash in a chain's name is: names of two
 # characters clash now and then
 SIZES = [(60, 16), (60, 16), (20, 2), (32, 2)]
+# what the names of slices of IPv6 end with
+SIX = "vw"
 # how many changes come before a sync
 COUNTS = [0, 1, 1, 1, 1, 1, 2, 2, 3, 8]
 
@@ -115,9 +118,11 @@ class Cluster:
         self.objects = {}
 
     def setting(self, length):
-        addresses = ["10.0.0.1", "10.0.0.2"]
+        addresses = ["10.0.0.1", "10.0.0.2", "fd00::1", "fd00::2"]
         setting = {"op": "config", "node": NODES[0], "nodeAddresses": addresses}
-        setting |= {"clusterCIDR": "10.244.0.0/16"} if self.rng.random() < 0.7 else {}
+        setting |= {"dualStack": True} if self.rng.random() < 0.6 else {}
+        ranges = ["10.244.0.0/16", "10.244.0.0/16,fd00:10:244::/48", "fd00:10:244::/48"]
+        setting |= {"clusterCIDR": self.rng.choice(ranges)} if self.rng.random() < 0.8 else {}
         setting |= {"masqueradeAll": True} if self.rng.random() < 0.2 else {}
         setting |= {"maxEndpointsPerSlice": self.rng.choice([2, 3, 100]), "nameLength": length}
         return setting | {"controller": self.controller}
@@ -281,14 +286,15 @@ def are_distinct(ports):
 
 
 def slice_choices(name):
-    """A slice is mostly of the Service that it is named after."""
+    """A slice is mostly of the Service that it is named after, and of the family of its name."""
     own = name.partition("-")[0]
     labels = [{OF_SERVICE: "s0"}, {OF_SERVICE: own, MANAGER: CONTROLLER}]
-    return SLICE | {"metadata.labels": [{OF_SERVICE: own}] * 8 + labels}
+    choices = SLICE | {"metadata.labels": [{OF_SERVICE: own}] * 8 + labels}
+    return choices | {"addressType": ["IPv6"] * 12 + ["IPv4"]} if name[-1] in SIX else choices
 
 
 def slice_name(cluster, rng):
-    return f"{rng.choice(cluster.names)}-{rng.choice('xxy')}"
+    return f"{rng.choice(cluster.names)}-{rng.choice('xxy' + SIX)}"
 
 
 def more_endpoints(cluster, rng):
@@ -302,10 +308,11 @@ def more_endpoints(cluster, rng):
 
 def endpoint(name, rng):
     """One of a few addresses for each Service, some of which it has in common with others; now and
-    then one of IPv6, whatever family its slice is of."""
+    then one of the family that its slice isn't of."""
     network, number = int(name[1:-2]) // 2, rng.randint(2, 6)
     four, six = f"10.244.{network}.{number}", f"fd00:10:244:{network:x}::{number}"
-    made = {"addresses": [six if rng.random() < 0.1 else four]}
+    own, other = (six, four) if name[-1] in SIX else (four, six)
+    made = {"addresses": [other if rng.random() < 0.1 else own]}
     for member in ENDPOINT:
         change(made, member, ENDPOINT, rng)
     return made

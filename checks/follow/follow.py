@@ -66,7 +66,8 @@ def show(what):
     return {"op": "show", "what": what}
 
 
-TABLES = [show("nat"), show("filter")]
+TABLES = [show(what) for what in ("nat", "filter", "nat6", "filter6")]
+BATCHES = [show("batch"), show("batch6")]
 SLICES = [show("slices"), show("endpoints")]
 
 
@@ -185,7 +186,7 @@ def doors_of(item, setting):
     for port in spec.get("ports", []):
         proto = port.get("protocol", "TCP")
         for address in addresses:
-            if address != "None" and ":" not in address:
+            if address != "None":
                 yield address, port["port"], proto
         for address in setting["nodeAddresses"]:
             if port.get("nodePort"):
@@ -198,7 +199,8 @@ def questions(rng, present, doors, number):
     values = []
     for _ in range(ASKED if doors else 0):
         address, port, proto = rng.choice(rng.choice([present, doors]))
-        value = {"src": rng.choice(changes.SOURCES), "dst": address, "dport": port, "proto": proto}
+        sources = changes.SOURCES6 if ":" in address else changes.SOURCES
+        value = {"src": rng.choice(sources), "dst": address, "dport": port, "proto": proto}
         value["draws"] = [rng.getrandbits(31) for _ in range(rng.randint(0, 6))]
         value["now"] = number * 1_000_000 + rng.randint(0, 60)
         value |= {"from": "node"} if rng.random() < 0.2 else {}
@@ -233,7 +235,7 @@ def with_questions(values, places):
         lines += TABLES if line in asked else []
         own.append(len(lines))
         lines.append(value)
-        lines += [show("batch"), *TABLES, *SLICES, *asked[line]] if line in asked else []
+        lines += [*BATCHES, *TABLES, *SLICES, *asked[line]] if line in asked else []
     return lines, own
 
 
@@ -253,21 +255,28 @@ def fresh_run(program, place, setting, covered):
 def check_place(program, setting, place, answers):
     """What the program says at a place, beginning with the tables before its sync, is what fresh
     runs say. A refused sync leaves what one of the objects before has, and the events after it."""
-    before, (said, batch), answers = answers[:2], answers[2:4], answers[4:]
+    before, said, batches, answers = answers[:4], answers[4], answers[5:7], answers[7:]
     made, wanted = fresh_run(program, place, setting, place.objects)
     if is_refused(made):
         compare(said, made)
         made, wanted = fresh_run(program, place, setting, place.covered)
     else:
         demand(not is_refused(said), f"{said!r}, and a fresh sync is accepted")
-        counts = check_batch(before, batch, answers[:2])
+        counts = check_batch(before, batches, answers[:4])
         compare(said, f"sync {place.accepted}: events {place.events}, {counts}\n")
-    names = ["nat", "filter", "slices", "endpoints", *map(json.dumps, place.asked)]
+    names = ["nat", "filter", "nat6", "filter6", "slices", "endpoints"]
+    names += map(json.dumps, place.asked)
     if setting.get("controller", True):
-        answers[2:4] = slices_told(place.covered, *answers[2:4])
-        wanted[2:4] = slices_told(place.covered, *wanted[2:4])
+        answers[4:6] = slices_told(place.covered, *answers[4:6])
+        wanted[4:6] = slices_told(place.covered, *wanted[4:6])
     for name, answer, other in zip(names, answers, wanted):
         compare(answer, other, f"{name}: ")
+
+
+def chains_of_both(four, six):
+    """The chains of printed tables of both families."""
+    chains = {(*place, "4"): rules for place, rules in chains_of(four).items()}
+    return chains | {(*place, "6"): rules for place, rules in chains_of(six).items()}
 
 
 def chains_of(text):
@@ -287,9 +296,11 @@ def chains_of(text):
     return chains
 
 
-def check_batch(before, batch, after):
-    """The batch takes the tables to those after it, and no more than that. Its counts."""
-    old, new, edits = chains_of("".join(before)), chains_of("".join(after)), chains_of(batch)
+def check_batch(before, batches, after):
+    """The batches of both families take the tables to those after them, and no more than that.
+    Their counts."""
+    old, new = (chains_of_both("".join(it[:2]), "".join(it[2:])) for it in (before, after))
+    edits = chains_of_both(*batches)
     edited = {place: rules for place, rules in (old | edits).items() if rules is not None}
     for place in old.keys() | new.keys() | edits.keys():
         demand(edited.get(place) == new.get(place), f"the batch leaves another {' '.join(place)}")

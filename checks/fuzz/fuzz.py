@@ -7,7 +7,7 @@
     numbers and to 127 levels, doesn't read it.
     However the input is cut into pieces, and for 1 and for 4 workers, the text is the same.
     With a bookmark in place of each refused line the text is the same, but for the refusals.
-    kp_restore_echo reads the tables at the end, and prints them as they were.
+    kp_restore_echo reads the tables of each family at the end, and prints them as they were.
     Where streams run at once the program ends well. Of some scripts what is written then is judged,
     too: it is a legal run (../live/runs.py says of what), and the last tables of a stream alone are
     those of a replay.
@@ -48,6 +48,7 @@ F_SETPIPE_SZ = 1031
 BLANKS = b" \t\r"
 BOOKMARK = b'{"type":"BOOKMARK","object":{}}'
 TABLES = [b'{"op":"show","what":"nat"}', b'{"op":"show","what":"filter"}']
+TABLES6 = [b'{"op":"show","what":"nat6"}', b'{"op":"show","what":"filter6"}']
 REFUSED = re.compile(r"^line (\d+): refused: (.*)\n", re.M)
 
 PATH = r' "(?:[^"\\]|\\.)*"'
@@ -58,7 +59,8 @@ WHY = "|".join([
     rf"too many at{PATH}: \d+|longer than 16777216 bytes|journal full at \d+",
     "chain name KUBE-.* of .* and of .*",
 ])  # fmt: skip
-VERDICT = r"(?:(?:to [\d.]+:\d+|rejected)(?: masked)?|dropped|left alone)"
+ENDPOINT = r"(?:[\d.]+|\[[\da-f:.]+\]):\d+"
+VERDICT = rf"(?:(?:to {ENDPOINT}|rejected)(?: masked)?|dropped|left alone)"
 RULES = r"(?:(?::|-A |-X )[A-Z].*\n)+COMMIT\n"
 NAT, FILTER = ":PREROUTING ACCEPT", ":INPUT ACCEPT"  # with which whole tables begin
 # what stands after the beginning of an answer, which has the numbers of the line and of the sync
@@ -73,6 +75,7 @@ FORMS = {
     "batch": f"(?:\\*nat\n(?!{NAT}){RULES})?(?:\\*filter\n(?!{FILTER}){RULES})?",
     "slices": r"(?:slice \S+: .*, endpoints \d+\n)*",
     "endpoints": r"(?:endpoint \S+ \d+: .*\n)*",
+    "nothing": "",
 }
 FORMS = {name: re.compile(form) for name, form in FORMS.items()}
 
@@ -113,9 +116,10 @@ class Program:
         """The status and the text of a run whose input comes whole, or in pieces."""
         return self.ended([self.path, *words], pipe_of(pieces) if pieces else file_of(data))
 
-    def echoed(self, text):
+    def echoed(self, text, *words):
         """What is printed of tables that are read again."""
-        status, said = self.ended([self.echo], file_of(text.encode(errors="surrogateescape")))
+        given = file_of(text.encode(errors="surrogateescape"))
+        status, said = self.ended([self.echo, *words], given)
         return said if status == 0 else f"{said}status {status}"
 
     @staticmethod
@@ -220,6 +224,7 @@ class Answers:
 
     def __init__(self):
         self.syncs = self.events = 0
+        self.has_six = False  # whether there are tables of IPv6
 
     def to(self, number, line, why):
         """The beginning of each part of the answer to the next line, and the form of the rest. The
@@ -241,8 +246,11 @@ class Answers:
         if op == "explain":
             return [(f"explain {at}: ", op)]
         if op == "show":
-            return [("", value["what"])]
-        if op != "config":
+            table = value["what"].removesuffix("6")
+            return [("", table if table == value["what"] or self.has_six else "nothing")]
+        if op == "config":
+            self.has_six = value.get("dualStack") is True
+        else:
             self.events += len(runs.events_of(value))
         return []
 
@@ -287,9 +295,11 @@ def check_script(program, data, rng):
     again = program.run(["replay", "--workers", "4"], data, pieces_of(data, rng))
     compare("pieces and workers", check_status("replay in pieces", again), text)
     marked = [BOOKMARK if at in refused else line for at, line in enumerate(lines, 1)]
-    tables = check_marked(program, marked, REFUSED.sub("", text))
+    tables, tables6 = check_marked(program, marked, REFUSED.sub("", text))
     if program.echo:
         compare("echo", program.echoed(tables), tables)
+    if program.echo and tables6:
+        compare("echo of IPv6", program.echoed(tables6, "-6"), tables6)
     ended = program.run(["live"], data)
     check_status("live", ended)
     if rng.random() < JUDGED:
@@ -297,11 +307,13 @@ def check_script(program, data, rng):
 
 
 def check_marked(program, marked, wanted):
-    """Refused lines changed nothing. The tables after all lines."""
-    data = b"\n".join([*marked, *TABLES, b""])
+    """Refused lines changed nothing. The tables of each family after all lines."""
+    data = b"\n".join([*marked, *TABLES, *TABLES6, b""])
     text = check_status("replay of what is read", program.run(["replay"], data))
     compare("what refused lines leave", text[: len(wanted)], wanted)
-    return text[len(wanted) :]
+    tables = text[len(wanted) :]
+    place = tables.find("*nat\n", 1)
+    return (tables, "") if place < 0 else (tables[:place], tables[place:])
 
 
 def check_live(program, data, marked, status, text):
@@ -312,7 +324,8 @@ def check_live(program, data, marked, status, text):
     demand(not fault, f"live: {fault}")
     if set(script.streams) <= {"main"}:
         lines = [BOOKMARK if at in script.refused else line for at, line in enumerate(marked, 1)]
-        ended = program.run(["replay"], b"\n".join([*lines, b'{"op":"sync"}', *TABLES, b""]))[1]
+        asked = [*lines, b'{"op":"sync"}', *TABLES, *TABLES6, b""]
+        ended = program.run(["replay"], b"\n".join(asked))[1]
         compare("live tables", text[text.find("*nat\n") :], ended[ended.find("*nat\n") :])
 
 

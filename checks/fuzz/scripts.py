@@ -25,12 +25,16 @@ ADDRESSES = ["0.0.0.0", "255.255.255.255", "10.0.0.256", "010.0.0.1", "10.0.0", 
 ADDRESSES += ["10.96.0.10", "10.244.0.2", "127.0.0.1", "::", "::1", "1::2::3", "fe80::1%eth0"]
 ADDRESSES += ["::ffff:192.0.2.1", "1:2:3:4:5:6:7::", "2001:DB8:0:0:1:0:0:1", "None", "none"]
 RANGES = ["0.0.0.0/0", "10.0.0.0/8", "10.0.0.1/8", "10.0.0.0/33", "10.0.0.0/08", "::/0", "::1/128"]
-RANGES += ["::/129", "10.0.0.0/", "/8", "10.0.0.0/-1"]
+RANGES += ["::/129", "10.0.0.0/", "/8", "10.0.0.0/-1", "10.0.0.0/8,::/0", "::/0,10.0.0.0/8"]
+RANGES += ["10.0.0.0/8,", "10.0.0.0/8, ::/0", "10.0.0.0/8,10.0.0.0/8", "::/0,::/0", "::/0,,::/0"]
 WORDS = ["TCP", "UDP", "SCTP", "tcp", "Local", "Cluster", "ClientIP", "IPv4", "IPv6", "FQDN"]
 WORDS += ["True", "Service", "EndpointSlice", "Pod", "Node", "List", "Secret", "v1", "ADDED"]
 WORDS += ["DELETED", "BOOKMARK", "ERROR", "sync", "config", "event", "packet", "explain", "show"]
+WORDS += ["nat6", "filter6", "batch6", "nat"]
 OTHERS = [None, True, False, [], {}, [None], [[]], [{}], {"": {}}, ["a", 1], {"a": None}]
 VALUES = [NUMBERS, NAMES, ADDRESSES, RANGES, WORDS, OTHERS]
+
+SHOWN = ["slices", "endpoints", "nat", "filter", "batch", "nat6", "filter6", "batch6"]
 
 # What bytes are put in: parts of lines and of characters, and numbers at their ends.
 BYTES = [b"\n", b"\r", b"\r\n", b"\n\n", b"\0", b" ", b"\t", b"\x0b", b"\x7f", b"\x80", b"\xff"]
@@ -125,15 +129,16 @@ def sync(cluster, rng):
 
 
 def show(cluster, rng):
-    return [{"op": "show", "what": rng.choice(["slices", "endpoints", "nat", "filter", "batch"])}]
+    return [{"op": "show", "what": rng.choice(SHOWN)}]
 
 
 def packet(cluster, rng):
     """A packet, or what would become of it; mostly to a door that is there."""
-    config = {"nodeAddresses": ["10.0.0.1", "10.0.0.2"]}
+    config = {"nodeAddresses": ["10.0.0.1", "10.0.0.2", "fd00::1", "::1"]}
     doors = [door for item in cluster.objects.values() for door in doors_of(item, config)]
     address, port, proto = rng.choice(doors or [("10.96.0.10", 80, "TCP")])
-    value = {"op": rng.choice(["packet", "packet", "explain"]), "src": rng.choice(changes.SOURCES)}
+    sources = changes.SOURCES6 if ":" in address else changes.SOURCES
+    value = {"op": rng.choice(["packet", "packet", "explain"]), "src": rng.choice(sources)}
     value |= {"dst": address, "dport": port, "proto": proto}
     value |= {"from": rng.choice(["node", "wire"])} if rng.random() < 0.3 else {}
     value |= {"sport": rng.choice([0, 65535])} if rng.random() < 0.1 else {}

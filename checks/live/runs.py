@@ -328,7 +328,9 @@ def records_and_table(program, script, run):
     for length in run.covered()[1:]:
         lines += [*lines_of(script, run.journal[start:length]), b'{"op":"sync"}']
         start = length
-    lines += [b'{"op":"show","what":"nat"}', b'{"op":"show","what":"filter"}']
+    # what is shown of IPv6 is nothing where the node has no tables of it
+    shown = ["nat", "filter", "nat6", "filter6"]
+    lines += [json.dumps({"op": "show", "what": what}).encode() for what in shown]
     said, start, table = program.replay(lines).partition("*nat\n")
     return [f"record {line.removeprefix('sync ')}" for line in said.split("\n")[:-1]], start + table
 
@@ -484,8 +486,11 @@ def shuffled(rng, parts):
 
 
 def config_line(rng, short):
-    config = {"op": "config", "node": "n1", "nodeAddresses": ["10.0.0.1", "10.0.0.2"]}
-    config |= {"clusterCIDR": "10.244.0.0/16"} if rng.random() < 0.7 else {}
+    config = {"op": "config", "node": "n1"}
+    config["nodeAddresses"] = ["10.0.0.1", "10.0.0.2", "fd00::1"]
+    config |= {"dualStack": True} if rng.random() < 0.5 else {}
+    ranges = ["10.244.0.0/16", "10.244.0.0/16,fd00:10:244::/48"]
+    config |= {"clusterCIDR": rng.choice(ranges)} if rng.random() < 0.7 else {}
     config |= {"masqueradeAll": True} if rng.random() < 0.2 else {}
     config |= {"controller": False} if rng.random() < 0.2 else {}
     config |= {"maxEndpointsPerSlice": 2} if rng.random() < 0.3 else {}
@@ -534,6 +539,8 @@ def service(rng):
     port = {"name": "http", "port": 80, "targetPort": rng.choice([8080, "http"])}
     spec = {"type": rng.choice(["ClusterIP", "NodePort", "LoadBalancer"]), "ports": [port]}
     spec |= {"clusterIP": f"10.96.0.{10 + index}"} if rng.random() < 0.95 else {"clusterIP": "None"}
+    if spec["clusterIP"] != "None" and rng.random() < 0.6:
+        spec["clusterIPs"] = [spec["clusterIP"], f"fd00:10:96::{10 + index:x}"]
     spec |= {"selector": {"app": SERVICES[index]}} if rng.random() < 0.3 else {}
     if rng.random() < 0.6:
         spec["sessionAffinity"] = "ClientIP"
@@ -541,7 +548,7 @@ def service(rng):
     spec |= {"internalTrafficPolicy": "Local"} if rng.random() < 0.2 else {}
     spec |= {"externalTrafficPolicy": "Local"} if rng.random() < 0.3 else {}
     spec |= {"trafficDistribution": "PreferClose"} if rng.random() < 0.2 else {}
-    spec |= {"externalIPs": ["203.0.113.5"]} if rng.random() < 0.3 else {}
+    spec |= {"externalIPs": ["203.0.113.5", "2001:db8::5"]} if rng.random() < 0.3 else {}
     if spec["type"] != "ClusterIP":
         port["nodePort"] = 30080 + index
     if rng.random() < 0.3:
@@ -552,11 +559,13 @@ def service(rng):
 
 
 def slice_of_endpoints(rng):
-    name = rng.choice(SERVICES)
+    name, end = rng.choice(SERVICES), rng.choice("xyz")
+    network = "fd00:10:244:{}::{}" if end == "z" else "10.244.{}.{}"
     endpoints = []
     for _ in range(rng.randint(0, 4)):
         number = rng.randint(1, 3)
-        endpoint = {"addresses": [f"10.244.{number}.{rng.randint(2, 4)}"], "nodeName": f"n{number}"}
+        address = network.format(number, rng.randint(2, 4))
+        endpoint = {"addresses": [address], "nodeName": f"n{number}"}
         endpoint["zone"] = ZONES[number - 1]
         if rng.random() < 0.3:
             words = ["ready", "serving", "terminating"]
@@ -569,8 +578,8 @@ def slice_of_endpoints(rng):
     return {
         "apiVersion": "discovery.k8s.io/v1",
         "kind": "EndpointSlice",
-        "metadata": {"name": f"{name}-{rng.choice('xy')}", "labels": labels},
-        "addressType": "IPv4",
+        "metadata": {"name": f"{name}-{end}", "labels": labels},
+        "addressType": "IPv6" if end == "z" else "IPv4",
         "ports": ports,
         "endpoints": endpoints,
     }
@@ -584,12 +593,14 @@ def pod(rng):
     ports = [{"name": "http", "containerPort": 8080}, {"name": "http", "containerPort": 9090}]
     ready = [{"type": "Ready", "status": rng.choice(["True", "True", "False"])}]
     status = {"phase": rng.choice(["Running", "Running", "Failed"]), "conditions": ready}
+    addresses = [f"10.244.{number}.{place}", f"fd00:10:244:{number}::{place}"]
+    status["podIPs"] = [{"ip": address} for address in addresses[: rng.choice([1, 2])]]
     return {
         "apiVersion": "v1",
         "kind": "Pod",
         "metadata": metadata,
         "spec": {"nodeName": f"n{number}", "containers": [{"ports": [rng.choice(ports)]}]},
-        "status": status | {"podIP": f"10.244.{number}.{place}"},
+        "status": status,
     }
 
 
@@ -602,8 +613,11 @@ def node(rng):
 def packet(rng):
     doors = [f"10.96.0.{10 + rng.randrange(3)}"] * 4 + ["203.0.113.5", "203.0.113.9", "10.0.0.1"]
     sources = ["10.244.9.9", "10.244.1.2", "192.0.2.7", "198.51.100.7"]
+    if rng.random() < 0.35:
+        sources = ["fd00:10:244:9::9", "fd00:10:244:1::2", "2001:db8:7::7", "fd00::1"]
+        doors = [f"fd00:10:96::{10 + rng.randrange(3):x}"] * 4 + ["2001:db8::5", "fd00::1", "::1"]
     value = {"op": "packet", "src": rng.choice(sources), "dst": rng.choice(doors), "dport": 80}
-    if value["dst"] == "10.0.0.1":
+    if value["dst"] in ("10.0.0.1", "fd00::1", "::1"):
         value["dport"] = 30080 + rng.randrange(3)
     elif rng.random() < 0.1:
         value |= {"proto": "UDP", "dport": 53}
