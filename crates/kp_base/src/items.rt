@@ -2,7 +2,7 @@
 ghost use Rattle.std.specs.Prelude.{◌≡◌, ◌<◌, ◌^◌, [], ◌∷◌, ◌++◌, length, OnOk, OnErr, IfErr};
 ghost use Rattle.std.specs.Cmp.Lexicographic.{pointwise, lists_per, lists_equiv};
 
-use crate::memory::{Copied, NoMemory};
+use crate::memory::{Copied, NoMemory, handed_back};
 use std::alloc::Global;
 use std::marker::Model;
 
@@ -50,7 +50,7 @@ impl<T> Items<T> {
     {
         match self.inner.push(item) {
             Ok(()) => Ok(()),
-            Err(refused) => Err((NoMemory, refused.value)),
+            Err(refused) => Err(handed_back(refused)),
         }
     }
 

@@ -30,7 +30,7 @@ pub use grammar::{is_label_value, is_name, is_port_name};
 pub use items::{Items, fits_memory};
 pub use kept::Kept;
 pub use key::{Endpoint, ObjectKey, Pair, PortKey};
-pub use memory::{Copied, NoMemory};
+pub use memory::{Copied, NoMemory, handed_back};
 pub use port::{PortNo, Proto};
 pub use range::{BadCidr, Cidr};
 pub use shared::Shared;
