@@ -90,8 +90,9 @@ fn add_number<'a>(
     if numbers.contains_key(&name) {
         return Ok(());
     }
+    // The refusal holds a borrowed name beside what it owns, which no call can take.
     match numbers.insert(name, port.port) {
         Ok(_) => Ok(()),
-        Err(_) => Err(NoMemory),
+        Err(_) => Err(NoMemory::told_by_library()),
     }
 }

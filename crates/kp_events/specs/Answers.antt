@@ -11,14 +11,21 @@ use Rattle.kp_events.specs.declared.fault.EventFault.TheVariants.{NotEvent, Unsu
 -- the fault of a field
 abbrev pub of_field_fault : FieldFault → EventFault
 of_field_fault (field.Bad b) = Bad b
-of_field_fault field.NoMemory = NoMemory
+of_field_fault (field.NoMemory refused) = NoMemory refused
+
+-- memory ran out
+abbrev pub IsWant : EventFault → Type 0
+IsWant NotEvent = ⊥
+IsWant (UnsupportedKind kind) = ⊥
+IsWant (Bad b) = ⊥
+IsWant (NoMemory refused) = Unit {0}
 
 -- reading refuses the text for the reason that was told
 abbrev pub Told : {Y : Type 0} → EventFault → Result Y Refused → Type 0
 Told NotEvent read = read ≡ Err not_event
 Told (UnsupportedKind kind) read = read ≡ Err (unsupported kind)
 Told (Bad b) read = read ≡ Err (bad_field b)
-Told NoMemory read = Unit {0}
+Told (NoMemory refused) read = Unit {0}
 
 -- what was answered, seen by a view, is what reading gives
 abbrev pub GivesEvents : {X Y : Type 0} → (X → Y) → Result X EventFault → Result Y Refused → Type 0

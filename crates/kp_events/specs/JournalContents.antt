@@ -29,4 +29,4 @@ HasRoom journal n = length journal.events + n ≤ journal.most
 -- why n events were refused: they don't fit, or there was no memory for them
 abbrev pub Refuses : Contents → ℕ → JournalFault → Type 0
 Refuses journal n (JournalFull count) = (count ≡ length journal.events) × (journal.most < length journal.events + n)
-Refuses journal n NoMemory = HasRoom journal n
+Refuses journal n (NoMemory refused) = HasRoom journal n

@@ -1,5 +1,5 @@
 //! Why a text is no list of events.
-use kp_base::Text;
+use kp_base::{NoMemory, Text};
 use kp_json::{BadField, FieldFault};
 use std::alloc::AllocFailed;
 
@@ -12,7 +12,7 @@ pub enum EventFault {
     UnsupportedKind { kind: Text },
     /// A field is refused.
     Bad(BadField),
-    NoMemory,
+    NoMemory(NoMemory),
 }
 
 impl From<FieldFault> for EventFault {
@@ -24,18 +24,28 @@ impl From<FieldFault> for EventFault {
     fn from(fault: FieldFault) -> EventFault {
         match fault {
             FieldFault::Bad(field) => EventFault::Bad(field),
-            FieldFault::NoMemory => EventFault::NoMemory,
+            FieldFault::NoMemory(refused) => EventFault::NoMemory(refused),
         }
     }
 }
 
-impl<T: Drop> From<AllocFailed<T>> for EventFault {
+impl From<NoMemory> for EventFault {
     ghost use Rattle.kp_events.specs.declared.fault.EventFault.TheVariants.{NoMemory};
     ghost use Rattle.std.specs.Prelude.{◌≡◌};
 
-    ghost from_gives = { λ _ e. e ≡ NoMemory };
+    ghost from_gives = { λ refused e. e ≡ NoMemory refused };
 
-    fn from(_refused: AllocFailed<T>) -> EventFault {
-        EventFault::NoMemory
+    fn from(refused: NoMemory) -> EventFault {
+        EventFault::NoMemory(refused)
+    }
+}
+
+impl<T: Drop> From<AllocFailed<T>> for EventFault {
+    ghost use Rattle.kp_events.specs.Answers.{IsWant};
+
+    ghost from_gives = { λ _ e. IsWant e };
+
+    fn from(refused: AllocFailed<T>) -> EventFault {
+        EventFault::NoMemory(NoMemory::from(refused))
     }
 }

@@ -1,7 +1,7 @@
 //! The journal of accepted events.
 ghost use Rattle.std.specs.Prelude.{◌≡◌, ◌≤◌, [], ◌∷◌, length, OnOk, OnErr, IfErr};
 
-use kp_base::Items;
+use kp_base::{Items, NoMemory, handed_back};
 use kp_types::Event;
 use std::alloc::Global;
 use std::marker::Model;
@@ -14,7 +14,7 @@ pub enum JournalFault {
         /// How many are held.
         count: u64,
     },
-    NoMemory,
+    NoMemory(NoMemory),
 }
 
 /// The events that were accepted, oldest first, up to a greatest number.
@@ -74,9 +74,13 @@ impl Journal {
         }
         match self.events.append(&mut more) {
             Ok(()) => Ok(()),
-            Err(_) => Err((JournalFault::NoMemory, Items::from_vec(more))),
+            Err(refused) => {
+                let fault = JournalFault::NoMemory(refused.into());
+                Err((fault, Items::from_vec(more)))
+            }
         }
     }
+
     /// Adds an event, or gives it back.
     pub fn push_one(&mut self, event: Event) -> Result<(), (JournalFault, Event)>
         ensures ok { OnOk result (self.new ≡ with_events self.old (event ∷ [])) }
@@ -93,7 +97,10 @@ impl Journal {
         }
         match self.events.push(event) {
             Ok(()) => Ok(()),
-            Err(refused) => Err((JournalFault::NoMemory, refused.value)),
+            Err(refused) => {
+                let (refused, event) = handed_back(refused);
+                Err((JournalFault::NoMemory(refused), event))
+            }
         }
     }
 

@@ -73,6 +73,6 @@ fn unsupported(alloc: Global, text: &str) -> EventFault
 {
     match Text::of(alloc, text) {
         Ok(kind) => EventFault::UnsupportedKind { kind },
-        Err(_) => EventFault::NoMemory,
+        Err(refused) => EventFault::NoMemory(refused),
     }
 }

@@ -33,10 +33,7 @@ pub(crate) fn object_of<'a>(
 fn kept<X: Drop>(alloc: Global, object: X) -> Result<Kept<X>, FieldFault>
     ensures { Reads (λ k. k) result None object }
 {
-    match Kept::of(alloc, object) {
-        Ok(kept) => Ok(kept),
-        Err(_) => Err(FieldFault::NoMemory),
-    }
+    Ok(Kept::of(alloc, object)?)
 }
 
 /// The key of an object of this kind, of which nothing else is read. A Node's namespace is empty.

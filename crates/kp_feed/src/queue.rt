@@ -47,10 +47,10 @@ pub fn feed_queue(
     let mut passes = Items::new(alloc);
     for feeder in 0..feeders {
         let pass = feed.new_feeder(&mut taker, feeder);
-        if passes.push(pass).is_err() {
+        if let Err((refused, _)) = passes.push(pass) {
             let Feed { queue } = feed;
             queue.destroy();
-            return Err(NoMemory);
+            return Err(refused);
         }
     }
     Ok((feed, passes, taker))
@@ -97,7 +97,8 @@ impl Feed {
                 pass.count = number;
                 Ok(number)
             }
-            Err(refused) => Err((NoMemory, refused.event)),
+            // The queue hands back the event alone.
+            Err(back) => Err((NoMemory::told_by_library(), back.event)),
         }
     }
 

@@ -142,7 +142,7 @@ pub fn is_text(text: Option<&str>, wanted: &str) -> bool
 pub fn copied_text(alloc: Global, text: &str) -> Result<Text, FieldFault>
     ensures { Reads (λ t. t) result None text.now }
 {
-    Text::of(alloc, text).map_err(|_| FieldFault::NoMemory)
+    Ok(Text::of(alloc, text)?)
 }
 
 /// A copy of a text, if there is one.

@@ -12,7 +12,7 @@ use Rattle.kp_full_table.specs.Faults.{fault_of, TellsClash}
 
 tells : (clash : Option Clash) (fault : NameFault) → names.TellsClash clash fault → TellsClash clash (fault_of fault)
 tells clash (ChainClash c) h = h
-tells clash NoMemory h = tt
+tells clash (NoMemory refused) h = tt
 
 -- the clash of the same keys by names of the same length
 pub same_clash : (n m : ℕ) (keys needed : List ChainKey) → m ≡ n → keys ≡ needed

@@ -118,7 +118,7 @@ module _ (settings : Settings) (infos : Family → List PortInfo) where
     pub first_told : (fault : TableFault) → clashes_among (with_families (take k fs)) infos ≡ []
         → TellsClash (clash_among (view_of f settings) (infos f)) fault
         → TellsClash (slice_get (clashes_among (with_families fs) infos) 0) fault
-    first_told NoMemory so_far told = tt
+    first_told (NoMemory refused) so_far told = tt
     first_told (ChainClash c) so_far told =
         let later : List Family = drop (suc k) fs in
         ap (λ cs. slice_get cs 0) (

@@ -9,9 +9,9 @@ use Rattle.kp_full_table.specs.declared.fault.TableFault.TheVariants.{ChainClash
 -- the fault of a table whose names are refused
 abbrev pub fault_of : NameFault → TableFault
 fault_of (name.ChainClash clash) = ChainClash clash
-fault_of name.NoMemory = NoMemory
+fault_of (name.NoMemory refused) = NoMemory refused
 
 -- the fault has this clash, if it isn't want of memory
 abbrev pub TellsClash : Option Clash → TableFault → Type 0
 TellsClash clash (ChainClash c) = clash ≡ Some c
-TellsClash clash NoMemory = ⊤
+TellsClash clash (NoMemory refused) = ⊤

@@ -8,17 +8,17 @@ use kp_types::Clash;
 pub enum TableFault {
     /// Two different chains that are needed have one name.
     ChainClash(Clash),
-    NoMemory,
+    NoMemory(NoMemory),
 }
 
 impl From<NoMemory> for TableFault {
     ghost use Rattle.std.specs.Prelude.{◌≡◌};
     ghost use Rattle.kp_full_table.specs.declared.fault.TableFault.TheVariants.{NoMemory};
 
-    ghost from_gives = { λ _ fault. fault ≡ NoMemory };
+    ghost from_gives = { λ refused fault. fault ≡ NoMemory refused };
 
-    fn from(_error: NoMemory) -> TableFault {
-        TableFault::NoMemory
+    fn from(refused: NoMemory) -> TableFault {
+        TableFault::NoMemory(refused)
     }
 }
 
@@ -31,7 +31,7 @@ impl From<NameFault> for TableFault {
     fn from(fault: NameFault) -> TableFault {
         match fault {
             NameFault::ChainClash(clash) => TableFault::ChainClash(clash),
-            NameFault::NoMemory => TableFault::NoMemory,
+            NameFault::NoMemory(refused) => TableFault::NoMemory(refused),
         }
     }
 }

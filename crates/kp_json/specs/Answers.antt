@@ -25,9 +25,14 @@ fault_at kind where_it_is = record { why = kind; path = where_it_is; count = 0 }
 abbrev pub too_many_at : List ℕ → ℕ → BadField
 too_many_at where_it_is n = record { why = TooMany; path = where_it_is; count = n }
 
+-- memory ran out
+abbrev pub IsWant : FieldFault → Type 0
+IsWant (NoMemory refused) = Unit {0}
+IsWant (Bad b) = ⊥
+
 -- What a call answered, seen by view, is what reading gives, unless memory ran out.
 abbrev pub Fails : {Y : Type 0} → FieldFault → Result Y BadField → Type 0
-Fails NoMemory read = Unit {0}
+Fails (NoMemory refused) read = Unit {0}
 Fails (Bad b) read = read ≡ Err b
 
 -- a call answers what reading gives, seen by view
@@ -37,5 +42,5 @@ Gives view (Err e) read = Fails e read
 
 -- a fault is this one, unless memory ran out
 abbrev pub IsFault : FieldFault → BadField → Type 0
-IsFault NoMemory bad = Unit {0}
+IsFault (NoMemory refused) bad = Unit {0}
 IsFault (Bad b) bad = b ≡ bad

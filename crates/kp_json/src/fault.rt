@@ -1,5 +1,6 @@
 //! Why a text or a field was refused.
 use crate::path::PathText;
+use kp_base::NoMemory;
 use std::alloc::{AllocError, AllocFailed};
 
 /// Why no tree was made of a text.
@@ -7,7 +8,7 @@ use std::alloc::{AllocError, AllocFailed};
 pub enum JsonFault {
     /// The bytes are no JSON text of at most 127 levels.
     BadJson,
-    NoMemory,
+    NoMemory(NoMemory),
 }
 
 /// What is wrong with a field.
@@ -37,27 +38,36 @@ pub struct BadField {
 #[derive(Debug, Drop)]
 pub enum FieldFault {
     Bad(BadField),
-    NoMemory,
+    NoMemory(NoMemory),
 }
 
-impl From<AllocError> for FieldFault {
+impl From<NoMemory> for FieldFault {
     ghost use Rattle.kp_json.specs.declared.fault.FieldFault.TheVariants.{NoMemory};
     ghost use Rattle.std.specs.Prelude.{◌≡◌};
 
-    ghost from_gives = { λ _ e. e ≡ NoMemory };
+    ghost from_gives = { λ refused e. e ≡ NoMemory refused };
 
-    fn from(_refused: AllocError) -> FieldFault {
-        FieldFault::NoMemory
+    fn from(refused: NoMemory) -> FieldFault {
+        FieldFault::NoMemory(refused)
+    }
+}
+
+impl From<AllocError> for FieldFault {
+    ghost use Rattle.kp_json.specs.Answers.{IsWant};
+
+    ghost from_gives = { λ _ e. IsWant e };
+
+    fn from(refused: AllocError) -> FieldFault {
+        FieldFault::NoMemory(NoMemory::from(refused))
     }
 }
 
 impl<T: Drop> From<AllocFailed<T>> for FieldFault {
-    ghost use Rattle.kp_json.specs.declared.fault.FieldFault.TheVariants.{NoMemory};
-    ghost use Rattle.std.specs.Prelude.{◌≡◌};
+    ghost use Rattle.kp_json.specs.Answers.{IsWant};
 
-    ghost from_gives = { λ _ e. e ≡ NoMemory };
+    ghost from_gives = { λ _ e. IsWant e };
 
-    fn from(_refused: AllocFailed<T>) -> FieldFault {
-        FieldFault::NoMemory
+    fn from(refused: AllocFailed<T>) -> FieldFault {
+        FieldFault::NoMemory(NoMemory::from(refused))
     }
 }

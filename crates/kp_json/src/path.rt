@@ -4,7 +4,8 @@ ghost use Rattle.kp_json.specs.Answers.{Gives};
 ghost use Rattle.kp_json.specs.Paths.{way_path, member_path, item_path};
 
 use crate::fault::FieldFault;
-use std::alloc::{AllocError, Global};
+use kp_base::NoMemory;
+use std::alloc::Global;
 use std::marker::Model;
 
 /// A text, which contracts see as the list of its bytes: a path, or a copy of a text of a tree.
@@ -66,7 +67,7 @@ impl<'a> Way<'a> {
         Ok(PathText { inner: text })
     }
 
-    fn write(&self, alloc: Global, text: &mut String) -> Result<(), AllocError>
+    fn write(&self, alloc: Global, text: &mut String) -> Result<(), NoMemory>
         requires { string_bytes text.old ≡ [] }
         ensures { OnOk result (string_bytes text.new ≡ way_path self.now) }
     {
@@ -84,18 +85,20 @@ impl<'a> Way<'a> {
     }
 }
 
-fn write_member(text: &mut String, name: &str) -> Result<(), AllocError>
+fn write_member(text: &mut String, name: &str) -> Result<(), NoMemory>
     ensures { OnOk result (string_bytes text.new ≡ member_path (string_bytes text.old) name.now) }
 {
     if !text.is_empty() {
         text.push_str(".")?;
     }
-    text.push_str(name)
+    text.push_str(name)?;
+    Ok(())
 }
 
-fn write_item(alloc: Global, text: &mut String, index: u64) -> Result<(), AllocError>
+fn write_item(alloc: Global, text: &mut String, index: u64) -> Result<(), NoMemory>
     ensures { OnOk result (string_bytes text.new ≡ item_path (string_bytes text.old) index) }
 {
     let step = format!(in alloc; "[{index}]")?;
-    text.push_str(step.as_str())
+    text.push_str(step.as_str())?;
+    Ok(())
 }

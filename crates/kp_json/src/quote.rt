@@ -2,13 +2,14 @@
 ghost use Rattle.std.specs.Prelude.{◌≡◌, IfOk, string_bytes};
 ghost use Rattle.json.specs.Print.{quoted};
 
+use kp_base::NoMemory;
 use serde_json::Value;
-use std::alloc::{AllocError, Global};
+use std::alloc::Global;
 
 /// The text as a JSON string, in quotation marks and with escapes.
-pub fn quoted_text(alloc: Global, text: &str) -> Result<String, AllocError>
+pub fn quoted_text(alloc: Global, text: &str) -> Result<String, NoMemory>
     ensures { IfOk result (λ s. string_bytes s ≡ quoted text.now) }
 {
     let value = Value::String(String::from_str(alloc, text)?);
-    value.to_string(alloc)
+    Ok(value.to_string(alloc)?)
 }

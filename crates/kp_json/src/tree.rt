@@ -7,6 +7,7 @@ ghost use Rattle.kp_json.specs.Views.{data_of, place_of};
 use crate::fault::JsonFault;
 use crate::path::Way;
 use crate::spot::Spot;
+use kp_base::NoMemory;
 use serde_json::Value;
 use std::alloc::Global;
 
@@ -21,9 +22,10 @@ pub fn read_tree(alloc: Global, bytes: &[u8]) -> Result<Tree, JsonFault>
     ensures ok { IfOk result (λ t. ReadsAs bytes.now (data_of t)) }
     ensures bad { result ≡ Err JsonFault.BadJson → (d : Data) → ReadsAs bytes.now d → ⊥ }
 {
+    // The error says that it was memory, and doesn't hold the refusal.
     match Value::from_slice(alloc, bytes) {
         Ok(value) => Ok(Tree { value }),
-        Err(error) if error.is_memory() => Err(JsonFault::NoMemory),
+        Err(error) if error.is_memory() => Err(JsonFault::NoMemory(NoMemory::told_by_library())),
         Err(_) => Err(JsonFault::BadJson),
     }
 }

@@ -11,7 +11,7 @@ use Rattle.kp_names.specs.declared.namesakes.Namesakes.{Namesakes}
 -- the fault has this clash
 abbrev pub TellsClash : Option Clash → NameFault → Type 0
 TellsClash clash (ChainClash c) = clash ≡ Some c
-TellsClash clash NoMemory = ⊤
+TellsClash clash (NoMemory refused) = ⊤
 
 -- the clash of the keys at two places
 abbrev pub clash_at : (ChainKey → List ℕ) → List ChainKey → ℕ × ℕ → Option Clash

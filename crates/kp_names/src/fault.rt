@@ -7,16 +7,16 @@ use kp_types::Clash;
 pub enum NameFault {
     /// Two different chains have one name.
     ChainClash(Clash),
-    NoMemory,
+    NoMemory(NoMemory),
 }
 
 impl From<NoMemory> for NameFault {
     ghost use Rattle.std.specs.Prelude.{◌≡◌};
     ghost use Rattle.kp_names.specs.declared.fault.NameFault.TheVariants.{NoMemory};
 
-    ghost from_gives = { λ _ fault. fault ≡ NoMemory };
+    ghost from_gives = { λ refused fault. fault ≡ NoMemory refused };
 
-    fn from(_error: NoMemory) -> NameFault {
-        NameFault::NoMemory
+    fn from(refused: NoMemory) -> NameFault {
+        NameFault::NoMemory(refused)
     }
 }

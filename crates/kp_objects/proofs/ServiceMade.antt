@@ -44,7 +44,7 @@ read_as p parts differ none is =
 pub made_gives : (p : Place) (r : Result Service FieldFault) (parts : Parts) (differ : distinct_ports parts.1.ports ≡ true) → rows_fault service_rows p ≡ None
     → parts_at p ≡ parts → Reads (λ s. s) r None (made_of parts differ) → Gives (λ s. s) r (read_service p)
 made_gives p (Ok s) parts differ none is h = read_as p parts differ none is ∙ ap Ok (sym h.1)
-made_gives p (Err NoMemory) parts differ none is h = tt
+made_gives p (Err (NoMemory refused)) parts differ none is h = tt
 made_gives p (Err (Bad e)) parts differ none is h = absurd (cc)
 
 -- the parts as they were made

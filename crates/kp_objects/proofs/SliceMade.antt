@@ -16,7 +16,7 @@ use Rattle.kp_objects.specs.declared.slice.metadata.Metadata.{Metadata}
 
 gives : (r : Result Slice FieldFault) (fault : Option BadField) (value : Slice) → Reads (λ s. s) r fault value → Gives (λ s. s) r (unless_fault fault value)
 gives (Ok s) fault value (none, is) = ap (λ f. unless_fault f value) none ∙ ap Ok (sym is)
-gives (Err NoMemory) fault value h = tt
+gives (Err (NoMemory refused)) fault value h = tt
 gives (Err (Bad e)) fault value h = ap (λ f. unless_fault f value) h
 
 -- what is read with the metadata and the address type of the place is what reading gives

@@ -69,4 +69,4 @@ module _ (ws : List WriterParts) (i : ℕ) (w : WriterParts) (few : i < length w
   first_told none (ChainClash clash) told =
       first_of (λ v. written.clash_of v (newest_ports v)) ws i w clash few none
       (ap (λ v. written.clash_of v (newest_ports v)) (sym is) ∙ told)
-  first_told none NoMemory told = tt
+  first_told none (NoMemory refused) told = tt

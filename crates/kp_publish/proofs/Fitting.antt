@@ -1,6 +1,7 @@
 -- What a publisher says stays true of its copies.
-use Rattle.std.proofs.Common.{◌≡◌, false, List, [], ◌∷◌, ◌++◌, Option, None, refl, ap, sym, ◌∙◌}
+use Rattle.std.proofs.Common.{◌≡◌, ◌==◌, true, false, List, [], ◌∷◌, ◌++◌, length, Option, None, refl, ap, sym, ◌∙◌, arith}
 use Rattle.std.specs.List.{fold}
+use Rattle.std.proofs.lemmas.Bool.Decides.{nat_tests}
 use Rattle.kp_publish.specs.declared.entry.Entry.{Entry}
 use Rattle.kp_publish.specs.declared.entry.Entry.TheVariants.{End}
 use Rattle.kp_publish.specs.Entries.{records_of, is_ended}
@@ -48,10 +49,17 @@ fits_first published newest shown kept p s k = record {
 }
 
 -- where nothing is held and nothing logged, readers take all
-pub none_kept : (shown : List Entry) (logged : List (List Entry)) (held : Option (List Entry)) → held ≡ None → logged ≡ []
+pub none_kept : (shown : List Entry) (logged : List (List Entry × List Entry))
+    (held : Option (List Entry × List Entry)) → held ≡ None → logged ≡ []
     → newest_of after shown logged held ≡ shown
 none_kept shown logged held h l = rw (h, l) refl
 
-pub all_kept : (shown : List Entry) (logged : List (List Entry)) (held : Option (List Entry)) → held ≡ None
+pub all_kept : (shown : List Entry) (logged : List (List Entry × List Entry))
+    (held : Option (List Entry × List Entry)) → held ≡ None
     → fold after shown logged ≡ newest_of after shown logged held
 all_kept shown logged held h = rw h refl
+
+-- an addition to all that was shown and is pending is made
+pub taken_in : (kept before later : List Entry) → kept ≡ before → after kept (before, later) ≡ later
+taken_in kept before later same =
+    let long : (length kept == length before) ≡ true = rw same (grind (arith, nat_tests)) in rw long refl

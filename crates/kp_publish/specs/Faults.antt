@@ -8,6 +8,6 @@ use Rattle.kp_publish.specs.Pending.{Keeps}
 
 -- it comes back and all else is as before, or it is kept after those that are pending
 abbrev pub IsKeptOrBack : PublishFault → SyncRecord → Keeps → Keeps → Type 0
-IsKeptOrBack (NoMemoryBack back) next before now =
+IsKeptOrBack (NoMemoryBack back refused) next before now =
     (back ≡ next) × (now ≡ record before { refusals = now.refusals })
-IsKeptOrBack NoMemoryPending next before now = now.newest ≡ before.newest ++ Record next ∷ []
+IsKeptOrBack (NoMemoryPending refused) next before now = now.newest ≡ before.newest ++ Record next ∷ []

@@ -1,5 +1,5 @@
 -- What a publisher has taken in and not published.
-use Rattle.std.specs.Prelude.{◌≡◌, false, ℕ, List, refl, Option, Some, None}
+use Rattle.std.specs.Prelude.{◌≡◌, ◌==◌, cond, false, length, ℕ, List, refl, Option, Some, None}
 use Rattle.std.specs.List.{fold}
 use Rattle.std.specs.Coded.{Coded, code_by, coded×, coded_ℕ, coded_list}
 use Rattle.atomic_table.specs.Seated.{TableId, table_id_coded}
@@ -23,9 +23,10 @@ keeps_code =
     (coded× table_id_coded coded_ℕ))) (λ k. (k.published, (k.newest, (k.pair, k.refusals))))
     (λ p. record { published = p.0; newest = p.1.0; pair = p.1.1.0; refusals = p.1.1.1 }) (λ _. refl)
 
--- An addition is the history after it.
-abbrev pub after : List Entry → List Entry → List Entry
-after before addition = addition
+-- An addition is the history before it and the one after it. What is shown becomes the latter
+-- where it is as long as the former, and else it stays.
+abbrev pub after : List Entry → List Entry × List Entry → List Entry
+after shown addition = cond (length shown == length addition.0) addition.1 shown
 
 -- the newest history: the published one, then what is pending, and then the one held
 abbrev pub newest_of : {O : Type 0} → (List Entry → O → List Entry) → List Entry → List O → Option O → List Entry

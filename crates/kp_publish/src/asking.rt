@@ -1,5 +1,5 @@
 //! What a writer is asked for, and how often it had no memory.
-ghost use Rattle.std.specs.Prelude.{◌≡◌, ◌≤◌, [], drop, fold, IfSome, OnOk, OnErr};
+ghost use Rattle.std.specs.Prelude.{◌≡◌, ◌≤◌, [], drop, fold, None, OnOk, OnErr};
 ghost use Rattle.kp_io.specs.Faults.{Rose};
 ghost use Rattle.kp_publish.specs.Pending.{after, newest_of};
 
@@ -43,29 +43,32 @@ impl Refusals {
         self.count = self.count.saturating_add(1);
     }
 
-    /// Hands what is held to the writer, and gives it back where there is no room.
+    /// Hands what is held to the writer. Where there is no room it stays held.
     pub(crate) fn settle<J: Publication>(
         &mut self,
         writer: &mut Writer<Shown<J>, Addition<J>, (), Unruled>,
-        held: Option<Addition<J>>,
-    ) -> Option<Addition<J>>
+        held: &mut Option<Addition<J>>,
+    ) -> Result<(), NoMemory>
         ensures desk { writer.new.desk ≡ writer.old.desk }
         ensures newest { newest_of after writer.new.desk.shown.value
-            (drop writer.new.behind writer.new.log.items) result
+            (drop writer.new.behind writer.new.log.items) held.new
             ≡ newest_of after writer.old.desk.shown.value
-            (drop writer.old.behind writer.old.log.items) held }
+            (drop writer.old.behind writer.old.log.items) held.old }
+        ensures handed { OnOk result (held.new ≡ None) }
         ensures later { self.old ≤ self.new }
-        ensures cause { IfSome result (λ back. Rose self.old self.new) }
+        ensures cause { OnErr result (Rose self.old self.new) }
     {
-        match held {
-            None => None,
-            Some(addition) => match writer.append(addition) {
-                Ok(()) => None,
-                Err(back) => {
-                    self.add();
-                    Some(back)
-                }
-            },
+        let Some(addition) = held.take() else {
+            return Ok(());
+        };
+        match writer.append(addition) {
+            Ok(()) => Ok(()),
+            Err(back) => {
+                self.add();
+                *held = Some(back);
+                // The writer hands back the addition alone.
+                Err(NoMemory::told_by_library())
+            }
         }
     }
 
@@ -89,9 +92,9 @@ impl Refusals {
         });
         match shown {
             Ok(()) => Ok(()),
-            Err(_) => {
+            Err(refused) => {
                 self.add();
-                Err(NoMemory)
+                Err(NoMemory::from(refused))
             }
         }
     }

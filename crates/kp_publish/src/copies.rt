@@ -97,7 +97,11 @@ impl<J: Publication> Copies<J, Shown<J>, Addition<J>> {
     }
 
     /// Takes in a record, behind those that are pending. It comes back where there is no room.
-    pub(crate) fn take_in<R: Wait>(&mut self, rt: &R, next: SyncRecord) -> Result<(), SyncRecord>
+    pub(crate) fn take_in<R: Wait>(
+        &mut self,
+        rt: &R,
+        next: SyncRecord,
+    ) -> Result<(), (NoMemory, SyncRecord)>
         requires open { is_ended self.old.newest ≡ false }
         requires number { next.sync ≡ length (records_of self.old.newest) + 1 }
         requires ready { IsReady (table_from J.start (records_of self.old.newest ++ next ∷ [])) }
@@ -105,19 +109,20 @@ impl<J: Publication> Copies<J, Shown<J>, Addition<J>> {
         ensures ok { OnOk result (self.new.newest ≡ self.old.newest ++ Record next ∷ []) }
         ensures err { OnErr result (self.new
             ≡ record self.old { refusals = self.new.refusals }) }
-        ensures back { IfErr result (λ r. r ≡ next) }
+        ensures back { IfErr result (λ e. e.1 ≡ next) }
         ensures later { self.old.refusals ≤ self.new.refusals }
         ensures cause { OnErr result (Rose self.old.refusals self.new.refusals) }
     {
-        let held = self.held.take();
-        self.held = self.refusals.settle(&mut self.writer, held);
-        if self.held.is_some() {
-            return Err(next);
+        match self.refusals.settle(&mut self.writer, &mut self.held) {
+            Ok(()) => {}
+            Err(refused) => return Err((refused, next)),
         }
         let after = self.newest.with_record(rt, &self.head, &next);
         let addition = Addition::new(next, self.newest.again(), after.again());
         self.newest = after;
-        self.held = self.refusals.settle(&mut self.writer, Some(addition));
+        self.held = Some(addition);
+        // Where there is no room for it now, the next call asks again.
+        let _ = self.refusals.settle(&mut self.writer, &mut self.held);
         Ok(())
     }
 
@@ -131,11 +136,7 @@ impl<J: Publication> Copies<J, Shown<J>, Addition<J>> {
         ensures later { self.old.refusals ≤ self.new.refusals }
         ensures cause { OnErr result (Rose self.old.refusals self.new.refusals) }
     {
-        let last = self.held.take();
-        self.held = self.refusals.settle(&mut self.writer, last);
-        if self.held.is_some() {
-            return Err(NoMemory);
-        }
+        self.refusals.settle(&mut self.writer, &mut self.held)?;
         self.refusals.show(rt, &mut self.writer)?;
         self.published = self.newest.again();
         Ok(())

@@ -1,5 +1,6 @@
 //! What was seen of a history.
-ghost use Rattle.std.specs.Prelude.{◌≡◌, ◌-◌, ◌<◌, ◌≤◌, ◌^◌, ◌++◌, ◌∷◌, ◌⊎◌, ◌↔◌, [], false, length, IfSome, IsTrue};
+ghost use Rattle.std.specs.Prelude.{◌≡◌, ◌==◌, ◌-◌, ◌<◌, ◌≤◌, ◌^◌, ◌++◌, ◌∷◌, ◌⊎◌, ◌↔◌, [], false, length};
+ghost use Rattle.std.specs.Prelude.{IfSome, IsTrue};
 ghost use mathlib.Core.List.{IsPrefix};
 ghost use Rattle.kp_publish.specs.Entries.{records_of, is_ended, GoesOnFrom};
 ghost use Rattle.kp_publish.specs.declared.entry.Entry.TheVariants.{Record, End};
@@ -95,7 +96,8 @@ impl<J: Publication> Front<J> {
 
     /// Whether it is the same front as another.
     pub(crate) fn is_same(&self, other: &Front<J>) -> bool
-        ensures { IsTrue result → self.now ≡ other.now }
+        ensures same { IsTrue result → self.now ≡ other.now }
+        ensures long { result ≡ (length self.now == length other.now) }
     {
         let mut both = self.seen.again();
         both.learn(&other.seen);

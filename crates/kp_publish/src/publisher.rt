@@ -80,9 +80,9 @@ impl<J: Publication> Publisher<J> {
         match self.copies.take_in(rt, next) {
             Ok(()) => match self.copies.publish(rt) {
                 Ok(()) => Ok(number),
-                Err(_) => Err(PublishFault::NoMemoryPending),
+                Err(refused) => Err(PublishFault::NoMemoryPending(refused)),
             },
-            Err(next) => Err(PublishFault::NoMemoryBack(next)),
+            Err((refused, next)) => Err(PublishFault::NoMemoryBack(next, refused)),
         }
     }
 
@@ -96,7 +96,8 @@ impl<J: Publication> Publisher<J> {
         ensures pending { OnErr result (self.new.newest ≡ self.old.newest) }
     {
         if self.copies.newest().count() == u64::MAX {
-            return Err(NoMemory);
+            // There is no number for the end.
+            return Err(NoMemory::beyond_counts());
         }
         self.copies.publish(rt)?;
         self.copies.end(rt);

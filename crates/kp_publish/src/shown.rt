@@ -11,7 +11,7 @@ use left_right::Absorb;
 use std::alloc::AllocError;
 use std::marker::Model;
 
-/// A record, and the history before and after it. Contracts see it as the latter.
+/// A record, and the history before and after it. Contracts see it as those two.
 #[derive(Drop)]
 pub struct Addition<J: Publication> {
     next: SyncRecord,
@@ -24,9 +24,9 @@ impl<J: Publication> Model for Addition<J> {
     ghost use Rattle.kp_publish.specs.declared.entry.Entry.{Entry};
     ghost use Rattle.kp_publish.specs.Entries.{Adds};
 
-    ghost Value = { List Entry };
+    ghost Value = { List Entry × List Entry };
 
-    ghost view = { λ a. a.after };
+    ghost view = { λ a. (a.before, a.after) };
 
     ghost invariant = { λ a. Adds J.start a.before a.next a.after };
 }
@@ -35,7 +35,7 @@ impl<J: Publication> Addition<J> {
     /// The record, after one history and before the other.
     pub(crate) fn new(next: SyncRecord, before: Front<J>, after: Front<J>) -> Addition<J>
         requires { Adds J.start before next after }
-        ensures { result ≡ after }
+        ensures { result ≡ (before, after) }
     {
         Addition {
             next,
@@ -110,15 +110,16 @@ impl<J: Publication> Absorb<Addition<J>> for Shown<J> {
         addition: &Addition<J>,
         _other: &Shown<J>,
     ) -> Result<(), AllocError> {
-        // Additions come in order, but the trait doesn't say it.
+        // Additions come in order, but the trait doesn't say it: others change nothing.
         if !self.front.is_same(&addition.before) {
-            return Err(AllocError);
+            return Ok(());
         }
         match self.table.apply(&addition.next.batch) {
             Ok(()) => {
                 self.front = addition.after.again();
                 Ok(())
             }
+            // The trait has this error for a growth that is refused.
             Err(_) => Err(AllocError),
         }
     }

@@ -41,9 +41,9 @@ pub fn publication<J: Publication, R: Wait>(
     let writer = Writer::new(alloc, first, second, readers as usize)?;
     match readers_of(alloc, &writer, readers, &front) {
         Ok(made) => Ok((Publisher::new(Copies::new(head, writer, front)), made)),
-        Err(_) => {
+        Err(refused) => {
             writer.take(rt);
-            Err(NoMemory)
+            Err(refused)
         }
     }
 }
@@ -63,8 +63,9 @@ fn readers_of<J: Publication>(
     let mut made = Items::new(alloc);
     for turn in 0..readers {
         let reader = Reader::new(writer.factory().reader()?, front.again());
-        if made.push(reader).is_err() {
-            return Err(NoMemory);
+        match made.push(reader) {
+            Ok(()) => {}
+            Err((refused, _)) => return Err(refused),
         }
     }
     Ok(made)

@@ -9,16 +9,16 @@ pub enum TextFault {
     /// that is ended.
     BadText { line: u64 },
     /// Memory ran out.
-    NoMemory,
+    NoMemory(NoMemory),
 }
 
 impl From<NoMemory> for TextFault {
     ghost use Rattle.std.specs.Prelude.{◌≡◌};
     ghost use Rattle.kp_restore.specs.declared.fault.TextFault.TheVariants.{NoMemory};
 
-    ghost from_gives = { λ _ e. e ≡ NoMemory };
+    ghost from_gives = { λ refused e. e ≡ NoMemory refused };
 
-    fn from(_error: NoMemory) -> TextFault {
-        TextFault::NoMemory
+    fn from(refused: NoMemory) -> TextFault {
+        TextFault::NoMemory(refused)
     }
 }

@@ -23,7 +23,7 @@ fn main(rt: HostRuntime) -> io::Result<ExitCode> {
             eprintln!(rt; "line {line} is bad")?;
             Ok(ExitCode::FAILURE)
         }
-        Err(TextFault::NoMemory) => Ok(ExitCode::from(2)),
+        Err(TextFault::NoMemory(_)) => Ok(ExitCode::from(2)),
     }
 }
 

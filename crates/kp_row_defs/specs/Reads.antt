@@ -7,7 +7,7 @@ use Rattle.kp_json.specs.declared.fault.FieldFault.TheVariants.{Bad, NoMemory}
 
 -- the fault that was told is this one
 abbrev pub Refuses : FieldFault → Option BadField → Type 0
-Refuses NoMemory fault = Unit {0}
+Refuses (NoMemory refused) fault = Unit {0}
 Refuses (Bad b) fault = fault ≡ Some b
 
 -- what was answered, seen by a view, is the value, or the fault where there is one

@@ -1,10 +1,12 @@
 -- Which events leave the objects as they are: an apply of an object that is stored as it is, and a
 -- delete of one that isn't there.
-use Rattle.std.specs.Prelude.{◌≡◌, Bool, Some}
+use Rattle.std.specs.Prelude.{◌≡◌, Bool, false, Some}
 use Rattle.std.specs.FinMap as finite
 use Rattle.kp_base.specs.declared.key.ObjectKey.{ObjectKey}
 use Rattle.kp_types.specs.declared.event.Kind.{Kind}
 use Rattle.kp_types.specs.declared.event.Kind.TheVariants as kind
+use Rattle.kp_types.specs.declared.event.Event.{Event}
+use Rattle.kp_types.specs.declared.event.Event.TheVariants.{Apply, Delete}
 use Rattle.kp_types.specs.declared.event.Object.{Object}
 use Rattle.kp_types.specs.declared.event.Object.TheVariants as object
 use Rattle.kp_object_defs.specs.Objects.{Objects, node_key}
@@ -22,3 +24,8 @@ is_there o kind.Service key = finite.contains_key o.services key
 is_there o kind.EndpointSlice key = finite.contains_key o.slices key
 is_there o kind.Pod key = finite.contains_key o.pods key
 is_there o kind.Node key = finite.contains_key o.nodes key
+
+-- an event deletes what isn't there
+abbrev pub DeletesNothing : Objects → Event → Type 0
+DeletesNothing o (Apply object) = ⊥
+DeletesNothing o (Delete kind key) = is_there o kind key ≡ false

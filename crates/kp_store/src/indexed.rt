@@ -1,5 +1,5 @@
 //! Objects of one kind by their keys, with an index of what they are found by.
-ghost use Rattle.std.specs.Prelude.{◌≡◌, List, length, map, IfOk, OnOk, OnErr, option_copied};
+ghost use Rattle.std.specs.Prelude.{◌≡◌, List, false, length, map, IfOk, IsOk, OnOk, OnErr, option_copied};
 ghost use Rattle.std.specs.List.{filter, filter_map, list_any};
 ghost use Rattle.std.specs.Ordering.{eq_by_cmp};
 ghost use Rattle.std.specs.FinMap as finite;
@@ -149,9 +149,11 @@ impl<X: Tagged<T>, T: Eq + Hash + Copied> Indexed<X, T> {
         }
     }
 
-    /// Takes out the object of a key, if there is one. Where memory is out, all stays.
+    /// Takes out the object of a key, if there is one. Where memory is out, all stays. A key without
+    /// an object takes no memory.
     pub fn take(&mut self, alloc: Global, key: &ObjectKey) -> Result<(), NoMemory>
         ensures ok { OnOk result (self.new ≡ finite.remove self.old key.now) }
+        ensures absent { finite.contains_key self.old key.now ≡ false → IsOk result }
         ensures err { OnErr result (self.new ≡ self.old) }
     {
         let old = tags_at(alloc, &self.objects, key)?;
@@ -168,8 +170,9 @@ fn tags_at<X: Tagged<T>, T: Eq + Hash + Copied>(
     objects: &Hashed<ObjectKey, X>,
     key: &ObjectKey,
 ) -> Result<Items<T>, NoMemory>
-    ensures { IfOk result (λ ts. (t : T) → is_among T.eq ts t
+    ensures tags { IfOk result (λ ts. (t : T) → is_among T.eq ts t
         ≡ is_tagged T.eq X.tags t (finite.get objects.now key.now)) }
+    ensures absent { finite.contains_key objects.now key.now ≡ false → IsOk result }
 {
     match objects.get(key) {
         Some(object) => object.tags(alloc),

@@ -1,5 +1,5 @@
 //! The objects of the cluster.
-ghost use Rattle.std.specs.Prelude.{◌≡◌, ◌≤◌, ◌-◌, length, map, IfOk, OnOk, OnErr, option_copied};
+ghost use Rattle.std.specs.Prelude.{◌≡◌, ◌≤◌, ◌-◌, false, length, map, IfOk, IsOk, OnOk, OnErr, option_copied};
 ghost use Rattle.std.specs.List.{filter};
 ghost use Rattle.std.specs.FinMap as finite;
 ghost use Rattle.kp_object_defs.specs.Desired.{selects};
@@ -11,6 +11,7 @@ ghost use Rattle.kp_object_defs.specs.OwnKeys.{AreUnderOwnKeys};
 ghost use Rattle.kp_store.specs.Destinations.{answers};
 ghost use Rattle.kp_store.specs.LookUps as find;
 ghost use Rattle.kp_store.specs.Rarest.{IsRarest};
+ghost use Rattle.kp_store.specs.Unchanged.{DeletesNothing, is_there};
 
 use crate::hashed::Hashed;
 use crate::indexed::Indexed;
@@ -89,9 +90,11 @@ impl Objects {
         Ok(objects)
     }
 
-    /// Applies one more event. Where memory is out, all stays.
+    /// Applies one more event. Where memory is out, all stays. A delete of what isn't there takes
+    /// none.
     pub fn apply(&mut self, alloc: Global, event: &Event) -> Result<(), NoMemory>
         ensures ok { OnOk result (self.new ≡ objects_step self.old event.now) }
+        ensures absent { DeletesNothing self.old event.now → IsOk result }
         ensures err { OnErr result (self.new ≡ self.old) }
     {
         match event {
@@ -116,6 +119,7 @@ impl Objects {
     /// Takes out an object, if it is there.
     fn take(&mut self, alloc: Global, kind: Kind, key: &ObjectKey) -> Result<(), NoMemory>
         ensures ok { OnOk result (self.new ≡ without_object self.old kind key.now) }
+        ensures absent { is_there self.old kind key.now ≡ false → IsOk result }
         ensures err { OnErr result (self.new ≡ self.old) }
     {
         match kind {

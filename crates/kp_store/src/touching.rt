@@ -1,5 +1,5 @@
 //! Which Services an event touches.
-ghost use Rattle.std.specs.Prelude.{◌≡◌, ◌&&◌, ◌↔◌, IfOk, IsFalse, OnErr, OnOk};
+ghost use Rattle.std.specs.Prelude.{◌≡◌, ◌&&◌, ◌↔◌, IfOk, IsFalse, IsOk, OnErr, OnOk};
 ghost use Rattle.std.specs.Prelude.{bytes_eq, option_copied};
 ghost use Rattle.std.specs.Option.{option_eq};
 ghost use Rattle.kp_base.specs.declared.key.ObjectKey.{ObjectKey};
@@ -16,8 +16,8 @@ use std::alloc::Global;
 
 impl Objects {
     /// Applies one more event, and adds the Services that it touches. Tells whether any object
-    /// changed: an event that leaves all as they are touches nothing. Where memory is out, the
-    /// objects stay, and all that were touched still are.
+    /// changed: an event that leaves all as they are touches nothing, and takes no memory. Where
+    /// memory is out, the objects stay, and all that were touched still are.
     pub fn apply_touching(
         &mut self,
         alloc: Global,
@@ -31,6 +31,7 @@ impl Objects {
         ensures adds { IfOk result (λ changed. AddsTo (λ k. changed
             && spec.touches config.now.node config.now.controller self.old event.now k)
             touched.old touched.new) }
+        ensures idle { objects_step self.old event.now ≡ self.old → IsOk result }
         ensures err { OnErr result (self.new ≡ self.old) }
         ensures stay { OnErr result (StaysIn touched.old touched.new) }
     {

@@ -21,7 +21,7 @@ use Rattle.kp_run_defs.specs.declared.live.Work.TheVariants.{Feeds, Syncs, Sends
 use Rattle.kp_run_defs.specs.LiveLines.{Reading, nothing_read, is_past_streams, events_fed, refuse_line, accept_line, accept_within, add_work, add_op, next_line, after_script, after_short, after_live_line, reading_of}
 use Rattle.kp_run_defs.specs.ReplayText.{is_blank}
 use Rattle.kp_streams.specs.Streams.{after_given, reading_given}
-use Rattle.kp_streams.specs.WholeInput.{HasRead, ReadsWhole}
+use Rattle.kp_streams.specs.WholeInput.{HasRead, LosesFront, ReadsWhole}
 
 -- ---- Lines and lines as they are given
 
@@ -145,3 +145,16 @@ read_all r old taken input left end after read none takes ended short =
     whole INPUT_LIMIT taken r input end read.given refl read.stands
     (handed_all read.given input (to_come old left) after read.handed none)
     (taken_more old.taken taken input left end read.taken takes) ended short
+
+-- ---- What a source has lost
+
+-- nothing yet
+pub lost_none : (left : Option (List ℕ)) → LosesFront left left
+lost_none left = (0, omega arith, taken_none left)
+
+-- what was taken before, and by one more call of the reader
+pub lost_more : (taken now : ℕ) (first left next : Option (List ℕ)) → now ≤ INPUT_LIMIT + 1
+    → FromTold (LosesTaken 0 taken) first left → FromTold (LosesTaken taken now) left next
+    → LosesFront first next
+lost_more taken now first left next short before takes =
+    (now, short, taken_more taken now first left next before takes)

@@ -13,7 +13,7 @@ reading_in s = record {
   config = s.config;
   streams = s.streams;
   accepted = s.accepted;
-  lines = s.lines;
+  lines = s.lines.items;
   refused = s.refused;
 }
 

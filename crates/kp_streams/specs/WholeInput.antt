@@ -1,5 +1,5 @@
 -- How far the input of a live run was read (this project's choice).
-use Rattle.std.specs.Prelude.{◌≡◌, ◌≤◌, ◌<◌, ℕ, true, List, length, Option, IfSome, Result, IsErrOf}
+use Rattle.std.specs.Prelude.{◌≡◌, ◌+◌, ◌≤◌, ◌<◌, ℕ, true, List, length, Option, IfSome, Result, IsErrOf}
 use Rattle.std.specs.Io.KnownBytes.{IsAtEnd}
 use Rattle.kp_io.specs.Faults.{Rose}
 use Rattle.kp_io.specs.Lines.{lines_of}
@@ -19,6 +19,11 @@ pub record ReadsWhole (reading : Reading) (text : List ℕ) : Type 0 where
 -- an input has more bytes than it may, where that is told
 abbrev pub IsTooLong : Option (List ℕ) → Type 0
 IsTooLong left = IfSome left (λ text. INPUT_LIMIT < length text)
+
+-- bytes were taken from the front of an input, one more at most than it may have
+abbrev pub LosesFront : Option (List ℕ) → Option (List ℕ) → Type 0
+LosesFront before after =
+    (taken : ℕ) × (taken ≤ INPUT_LIMIT + 1) × FromTold (LosesTaken 0 taken) before after
 
 -- The count of a source's faults did not fall, a fault of reading is told only where it rose, and
 -- any other answer leaves it as it was.

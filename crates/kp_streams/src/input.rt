@@ -3,7 +3,7 @@ ghost use Rattle.std.specs.Prelude.{◌≡◌, Err, IfOk, IfSome, OnOk};
 ghost use Rattle.std.specs.Io.KnownBytes.{IsAtEnd};
 ghost use Rattle.kp_io.specs.Reader.{fresh_reader};
 ghost use Rattle.kp_run_defs.specs.LiveLines.{nothing_read};
-ghost use Rattle.kp_streams.specs.WholeInput.{HasInputCause, IsTooLong, ReadsWhole};
+ghost use Rattle.kp_streams.specs.WholeInput.{HasInputCause, IsTooLong, LosesFront, ReadsWhole};
 ghost use Rattle.kp_streams.specs.Streams.{reading_in};
 ghost use Rattle.kp_streams.specs.declared.input.InputFault.TheVariants as fault;
 
@@ -16,7 +16,7 @@ use std::alloc::Global;
 #[derive(Clone, Copy, Debug, PartialEq, Eq)]
 pub enum InputFault {
     /// There is no memory for what is kept of it.
-    NoMemory,
+    NoMemory(NoMemory),
     /// A read of the source failed.
     ReadFault,
     /// It has more than 4,294,967,296 bytes.
@@ -24,18 +24,20 @@ pub enum InputFault {
 }
 
 impl From<NoMemory> for InputFault {
-    ghost from_gives = { λ _ e. e ≡ fault.NoMemory };
+    ghost from_gives = { λ refused e. e ≡ fault.NoMemory refused };
 
-    fn from(_refused: NoMemory) -> InputFault {
-        InputFault::NoMemory
+    fn from(refused: NoMemory) -> InputFault {
+        InputFault::NoMemory(refused)
     }
 }
 
 /// Reads the lines of a source to its end. A line that is too long is refused, and reading goes on
-/// behind it.
+/// behind it. Whatever it answers, the source has lost what was read, and no more.
+#[tactic(auto, using(crate::proofs::ReadLines::lost_none))]
 pub fn read_input<S: Source>(alloc: Global, source: &mut S) -> Result<StreamLines, InputFault>
     ensures whole { IfOk result (λ s. IfSome (S.left source.old) (ReadsWhole (reading_in s))) }
     ensures ended { OnOk result (IsAtEnd (S.left source.new)) }
+    ensures left { LosesFront (S.left source.old) (S.left source.new) }
     ensures cause { HasInputCause result (S.faults source.old) (S.faults source.new) }
     ensures long { result ≡ Err fault.InputTooLong → IsTooLong (S.left source.old) }
 {
@@ -66,6 +68,7 @@ fn take_lines<S: Source>(
     requires start { reading_in lines.old ≡ nothing_read }
     ensures whole { OnOk result (IfSome (S.left source.old) (ReadsWhole (reading_in lines.new))) }
     ensures ended { OnOk result (IsAtEnd (S.left source.new)) }
+    ensures left { LosesFront (S.left source.old) (S.left source.new) }
     ensures cause { HasInputCause result (S.faults source.old) (S.faults source.new) }
     ensures long { result ≡ Err fault.InputTooLong → IsTooLong (S.left source.old) }
 {
@@ -76,7 +79,7 @@ fn take_lines<S: Source>(
             Ok(NextLine::End { lines: _ }) => return Ok(()),
             Err(LineFault::ReadFault) => return Err(InputFault::ReadFault),
             Err(LineFault::InputTooLong) => return Err(InputFault::InputTooLong),
-            Err(LineFault::NoMemory) => return Err(InputFault::NoMemory),
+            Err(LineFault::NoMemory(refused)) => return Err(InputFault::NoMemory(refused)),
         }
     }
 }

@@ -1,6 +1,6 @@
 //! Lines that are read one by one, and the streams that they belong to.
 ghost use Rattle.std.specs.Prelude.{◌≡◌, ◌+◌, ◌-◌, ◌<◌, ◌≤◌, ◌^◌, cond, false, length, nat_lt};
-ghost use Rattle.std.specs.Prelude.{IfOk, None, OnOk, Some};
+ghost use Rattle.std.specs.Prelude.{IfOk, None, OnErr, OnOk, Some};
 ghost use Rattle.std.specs.Option.{option_copied};
 ghost use Rattle.kp_run_defs.specs.LiveLines as spec;
 ghost use Rattle.kp_run_defs.specs.ReplayText as replay;
@@ -26,7 +26,7 @@ pub struct StreamLines {
     streams: StreamNames,
     /// How many events were accepted.
     accepted: u64,
-    lines: Items<StreamLine>,
+    lines: Vec<StreamLine>,
     refused: Items<RefusedLine>,
     /// What lines are read with, one after another.
     scratch: Scratch,
@@ -59,7 +59,7 @@ impl StreamLines {
             config: default_config(alloc)?,
             streams: StreamNames::new(alloc),
             accepted: 0,
-            lines: Items::new(alloc),
+            lines: Vec::new(alloc),
             refused: Items::new(alloc),
             scratch: Scratch::new(alloc),
         })
@@ -94,12 +94,34 @@ impl StreamLines {
         self.refused.as_slice()
     }
 
-    /// Reads one more line, of which nothing is given where it is too long. Without memory what was
-    /// read is of no more use.
+    /// Reads one more line, of which nothing is given where it is too long. Where memory is out the
+    /// line wasn't read, and all stays.
     pub fn take_line(&mut self, alloc: Global, given: Option<&[u8]>) -> Result<(), NoMemory>
         requires { (reading_in self.old).number < 2 ^ 64 - 1 }
-        ensures { OnOk result (reading_in self.new
+        ensures ok { OnOk result (reading_in self.new
             ≡ after_given (reading_in self.old) (option_copied given.entry)) }
+        ensures err { OnErr result (reading_in self.new ≡ reading_in self.old) }
+    {
+        let (number, fresh) = (self.number, self.fresh);
+        match self.take_next(alloc, given) {
+            Ok(()) => Ok(()),
+            Err(refused) => {
+                self.number = number;
+                self.fresh = fresh;
+                Err(refused)
+            }
+        }
+    }
+
+    /// Reads it. Where memory is out it is counted all the same, and may not be the first any more.
+    fn take_next(&mut self, alloc: Global, given: Option<&[u8]>) -> Result<(), NoMemory>
+        requires { (reading_in self.old).number < 2 ^ 64 - 1 }
+        ensures ok { OnOk result (reading_in self.new
+            ≡ after_given (reading_in self.old) (option_copied given.entry)) }
+        ensures err { OnErr result (reading_in self.new ≡ record (reading_in self.old) {
+          number = self.new.number;
+          fresh = self.new.fresh;
+        }) }
     {
         self.number += 1;
         match given {
@@ -111,8 +133,10 @@ impl StreamLines {
 
     /// Refuses the line as too long.
     fn refuse_long(&mut self) -> Result<(), NoMemory>
-        ensures { OnOk result (reading_in self.new ≡ spec.refuse_line TooLongLine
+        ensures ok { OnOk result (reading_in self.new ≡ spec.refuse_line TooLongLine
             (record (reading_in self.old) { fresh = false })) }
+        ensures err { OnErr result
+            (reading_in self.new ≡ record (reading_in self.old) { fresh = false }) }
     {
         self.fresh = false;
         self.refuse(LineRefusal::TooLongLine)
@@ -120,34 +144,39 @@ impl StreamLines {
 
     /// Reads a line that is neither too long nor blank.
     fn take_script(&mut self, alloc: Global, bytes: &[u8]) -> Result<(), NoMemory>
-        ensures { OnOk result (reading_in self.new
+        ensures ok { OnOk result (reading_in self.new
             ≡ spec.add_script (script.line_of bytes.now (reading_in self.old).fresh)
             (record (reading_in self.old) { fresh = false })) }
+        ensures err { OnErr result
+            (reading_in self.new ≡ record (reading_in self.old) { fresh = false }) }
     {
         let first = self.fresh;
         self.fresh = false;
         match line_with(alloc, bytes, first, &mut self.scratch) {
             Ok(line) => self.add_line(alloc, line),
             Err(ScriptFault::Refused(refusal)) => self.refuse(refusal),
-            Err(ScriptFault::NoMemory) => Err(NoMemory),
+            Err(ScriptFault::NoMemory(refused)) => Err(refused),
         }
     }
 
     /// Refuses the line.
     fn refuse(&mut self, why: LineRefusal) -> Result<(), NoMemory>
-        ensures { OnOk result (reading_in self.new ≡ spec.refuse_line why (reading_in self.old)) }
+        ensures ok { OnOk result
+            (reading_in self.new ≡ spec.refuse_line why (reading_in self.old)) }
+        ensures err { OnErr result (reading_in self.new ≡ reading_in self.old) }
     {
         let number = self.number;
         match self.refused.push(RefusedLine { number, why }) {
             Ok(()) => Ok(()),
-            Err(_) => Err(NoMemory),
+            Err((refused, _)) => Err(refused),
         }
     }
 
     /// Adds a line that reads, or refuses what isn't for live.
     fn add_line(&mut self, alloc: Global, line: ScriptLine) -> Result<(), NoMemory>
-        ensures { OnOk result (reading_in self.new
+        ensures ok { OnOk result (reading_in self.new
             ≡ spec.add_op (stream_name line.by) line.op (reading_in self.old)) }
+        ensures err { OnErr result (reading_in self.new ≡ reading_in self.old) }
     {
         let name = line.by;
         match line.op {
@@ -165,8 +194,9 @@ impl StreamLines {
 
     /// Refuses a command that isn't for live.
     fn refuse_op(&mut self, alloc: Global, name: &str) -> Result<(), NoMemory>
-        ensures { OnOk result (reading_in self.new
+        ensures ok { OnOk result (reading_in self.new
             ≡ spec.refuse_line (NotLive name.now) (reading_in self.old)) }
+        ensures err { OnErr result (reading_in self.new ≡ reading_in self.old) }
     {
         let op = Text::of(alloc, name)?;
         self.refuse(LineRefusal::NotLive { op })
@@ -174,8 +204,9 @@ impl StreamLines {
 
     /// Adds work of the stream of this name, or refuses the line.
     fn add_work(&mut self, alloc: Global, name: &str, work: Work) -> Result<(), NoMemory>
-        ensures { OnOk result (reading_in self.new
+        ensures ok { OnOk result (reading_in self.new
             ≡ spec.add_work name.now work (reading_in self.old)) }
+        ensures err { OnErr result (reading_in self.new ≡ reading_in self.old) }
     {
         let place = self.streams.place_of(name);
         if place.is_none() && self.streams.is_full() {
@@ -202,24 +233,24 @@ impl StreamLines {
         requires few { place ≡ None → length (reading_in self.old).streams < spec.stream_limit }
         requires events { accepted ≡ (reading_in self.old).accepted
             + length (spec.events_fed work) }
-        ensures { OnOk result (reading_in self.new
+        ensures ok { OnOk result (reading_in self.new
             ≡ spec.accept_at place name.now work (reading_in self.old)) }
+        ensures err { OnErr result (reading_in self.new ≡ reading_in self.old) }
     {
+        // The room is taken before a stream is added, so that all stays where there is none.
+        self.lines.reserve(1)?;
         let stream = match place {
             Some(place) => place,
             None => self.streams.add(alloc, name)?,
         };
         self.accepted = accepted;
         let number = self.number;
-        let line = StreamLine {
+        self.lines.push_reserved(StreamLine {
             number,
             stream,
             work,
-        };
-        match self.lines.push(line) {
-            Ok(()) => Ok(()),
-            Err(_) => Err(NoMemory),
-        }
+        });
+        Ok(())
     }
 }
 

@@ -1,5 +1,5 @@
 //! The names of streams.
-ghost use Rattle.std.specs.Prelude.{◌≡◌, ◌<◌, ◌≤◌, ◌++◌, [], ◌∷◌, length, not, nat_lt, IfOk, OnOk};
+ghost use Rattle.std.specs.Prelude.{◌≡◌, ◌<◌, ◌≤◌, ◌++◌, [], ◌∷◌, length, not, nat_lt, IfOk, OnErr, OnOk};
 ghost use Rattle.kp_run_defs.specs.LiveLines.{stream_at, stream_limit};
 
 use kp_base::{Items, NoMemory, Text};
@@ -65,13 +65,14 @@ impl StreamNames {
     pub(crate) fn add(&mut self, alloc: Global, name: &str) -> Result<u32, NoMemory>
         requires { length self.old < stream_limit }
         ensures added { OnOk result (self.new ≡ self.old ++ name.now ∷ []) }
+        ensures kept { OnErr result (self.new ≡ self.old) }
         ensures place { IfOk result (λ place. place ≡ length self.old) }
     {
         let place = self.names.as_slice().len() as u32;
         let name = Text::of(alloc, name)?;
         match self.names.push(name) {
             Ok(()) => Ok(place),
-            Err(_) => Err(NoMemory),
+            Err((refused, _)) => Err(refused),
         }
     }
 }

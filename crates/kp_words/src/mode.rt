@@ -30,8 +30,9 @@ pub fn read_words(alloc: Global, words: &[String]) -> Result<Option<Mode>, NoMem
     }
     match matches_of(alloc, words) {
         Ok(matches) => Ok(mode_of_matches(matches.get_str("workers"), matches.get_strs("others"))),
-        // Words of such a form are refused for want of memory alone.
-        Err(_) => Err(NoMemory),
+        // Words of such a form are refused for want of memory alone, and the error doesn't hold the
+        // refusal.
+        Err(_) => Err(NoMemory::told_by_library()),
     }
 }
 

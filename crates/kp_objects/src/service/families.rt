@@ -3,7 +3,7 @@ ghost use Rattle.std.specs.Prelude.{◌≡◌, ◌++◌, [], ◌∷◌, None, co
 ghost use Rattle.std.specs.List.{list_any};
 ghost use Rattle.kp_base.specs.declared.address.Family.TheVariants.{V6};
 ghost use Rattle.kp_base.specs.Net.{same_family};
-ghost use Rattle.kp_json.specs.declared.fault.FieldFault.TheVariants.{NoMemory};
+ghost use Rattle.kp_json.specs.Answers.{IsWant};
 ghost use Rattle.kp_lemmas.specs.Lists.{first_places};
 ghost use Rattle.kp_row_defs.specs.Reads.{Reads};
 ghost use Rattle.kp_event_defs.specs.FamilyParts as parts;
@@ -116,7 +116,7 @@ fn add_once(found: &mut Vec<Family>, family: Family) -> Result<(), FieldFault>
     ensures ok { OnOk result (found.new.items
         ≡ cond (list_any (same_family family) found.old.items) found.old.items
         (found.old.items ++ family ∷ [])) }
-    ensures err { IfErr result (λ e. e ≡ NoMemory) }
+    ensures err { IfErr result IsWant }
 {
     if !has_family(found, family) {
         found.push(family)?;

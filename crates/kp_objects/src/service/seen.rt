@@ -1,7 +1,7 @@
 //! The names and protocols of the ports that were read so far.
 ghost use Rattle.std.specs.Prelude.{◌≡◌, ◌||◌, ℕ, List, not, false, IfOk, OnOk, IfErr};
 ghost use Rattle.kp_base.specs.declared.port.Proto.{Proto as SpecProto};
-ghost use Rattle.kp_json.specs.declared.fault.FieldFault.TheVariants.{NoMemory};
+ghost use Rattle.kp_json.specs.Answers.{IsWant};
 ghost use Rattle.kp_row_defs.specs.Rows.{same_id};
 ghost use Rattle.kp_objects.specs.SeenIds.{has_id};
 
@@ -41,7 +41,7 @@ impl SeenPorts {
             (λ is_new. is_new ≡ not (has_id self.old (port.now.name, port.now.proto))) }
         ensures added { OnOk result ((id : List ℕ × SpecProto) → has_id self.new id
             ≡ (same_id id (port.now.name, port.now.proto) || has_id self.old id)) }
-        ensures err { IfErr result (λ e. e ≡ NoMemory) }
+        ensures err { IfErr result IsWant }
     {
         let name = copied_text(alloc, port.name.as_str())?;
         let id = PortId {

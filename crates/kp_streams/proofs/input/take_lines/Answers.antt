@@ -8,7 +8,7 @@ use Rattle.kp_io.specs.Told.{FromTold}
 use Rattle.kp_io.specs.declared.next_line.TheConstants.{INPUT_LIMIT}
 use Rattle.kp_streams.specs.Streams.{reading_in}
 use Rattle.kp_streams.specs.WholeInput.{HasRead}
-use Rattle.kp_streams.proofs.ReadLines.{at_end, read_all, read_more}
+use Rattle.kp_streams.proofs.ReadLines.{at_end, lost_more, read_all, read_more}
 use Rattle.kp_streams.proofs.input.take_lines.Goals as goal
 
 -- the line that was given was read
@@ -27,7 +27,7 @@ lines-preserved-in-Continue-1 g c =
     (sym c.bytes.ensures) answer in
     record {
       read =
-          subst (λ r. HasRead r new first end) (sym c.in_ok-take_line-in-Ok-Line.ensures)
+          subst (λ r. HasRead r new first end) (sym c.in_ok-take_line-in-Ok-Line.ensures.ok)
           (read_more (reading_in c.lines.lines) reader new c.in-Ok-Line.field-0-0
           (Some c.bytes.result.now) first left end c.lines.invariant.read counts.0 counts.1 given
           c.in-Ok-Line.ensures.input.all
@@ -52,7 +52,7 @@ lines-preserved g c =
     let end = g.S.Source.left c.next_line.new.source in
     record {
       read =
-          subst (λ r. HasRead r new first end) (sym c.in_ok-take_line-in-Err-TooLongLine.ensures)
+          subst (λ r. HasRead r new first end) (sym c.in_ok-take_line-in-Err-TooLongLine.ensures.ok)
           (read_more (reading_in c.lines.lines) reader new c.in-Err-TooLongLine.field-0-0 None
           first left end c.lines.invariant.read counts.0 counts.1 answer
           c.in-Err-TooLongLine.ensures.input.all
@@ -83,3 +83,46 @@ returns-in-Ok-End-clause-whole g c =
     (or_left reader.ended (nat_lt INPUT_LIMIT reader.taken) was))))
     (λ was. c.in-Ok-End.ensures.ended was counts.3))
     limit
+
+-- what was taken is what is no longer left
+pub returns-in-Ok-End-clause-left : goal.returns-in-Ok-End-clause-left
+returns-in-Ok-End-clause-left g c =
+    lost_more c.lines.reader.taken c.next_line.new.self.taken
+    (g.S.Source.left c.args.source.now) (g.S.Source.left c.lines.source)
+    (g.S.Source.left c.next_line.new.source) c.in-Ok-End.ensures.bounded.input
+    c.lines.invariant.read.taken c.in-Ok-End.ensures.input.all
+
+pub returns-in-Err-ReadFault-clause-left : goal.returns-in-Err-ReadFault-clause-left
+returns-in-Err-ReadFault-clause-left g c =
+    lost_more c.lines.reader.taken c.next_line.new.self.taken
+    (g.S.Source.left c.args.source.now) (g.S.Source.left c.lines.source)
+    (g.S.Source.left c.next_line.new.source) c.in-Err-ReadFault.ensures.bounded.input
+    c.lines.invariant.read.taken c.in-Err-ReadFault.ensures.input.all
+
+pub returns-in-Err-InputTooLong-clause-left : goal.returns-in-Err-InputTooLong-clause-left
+returns-in-Err-InputTooLong-clause-left g c =
+    lost_more c.lines.reader.taken c.next_line.new.self.taken
+    (g.S.Source.left c.args.source.now) (g.S.Source.left c.lines.source)
+    (g.S.Source.left c.next_line.new.source) c.in-Err-InputTooLong.ensures.bounded.input
+    c.lines.invariant.read.taken c.in-Err-InputTooLong.ensures.input.all
+
+pub returns-in-Err-NoMemory-clause-left : goal.returns-in-Err-NoMemory-clause-left
+returns-in-Err-NoMemory-clause-left g c =
+    lost_more c.lines.reader.taken c.next_line.new.self.taken
+    (g.S.Source.left c.args.source.now) (g.S.Source.left c.lines.source)
+    (g.S.Source.left c.next_line.new.source) c.in-Err-NoMemory.ensures.bounded.input
+    c.lines.invariant.read.taken c.in-Err-NoMemory.ensures.input.all
+
+pub returns-in_err-take_line-in-Ok-Line-clause-left : goal.returns-in_err-take_line-in-Ok-Line-clause-left
+returns-in_err-take_line-in-Ok-Line-clause-left g c =
+    lost_more c.lines.reader.taken c.next_line.new.self.taken
+    (g.S.Source.left c.args.source.now) (g.S.Source.left c.lines.source)
+    (g.S.Source.left c.next_line.new.source) c.in-Ok-Line.ensures.bounded.input
+    c.lines.invariant.read.taken c.in-Ok-Line.ensures.input.all
+
+pub returns-in_err-take_line-in-Err-TooLongLine-clause-left : goal.returns-in_err-take_line-in-Err-TooLongLine-clause-left
+returns-in_err-take_line-in-Err-TooLongLine-clause-left g c =
+    lost_more c.lines.reader.taken c.next_line.new.self.taken
+    (g.S.Source.left c.args.source.now) (g.S.Source.left c.lines.source)
+    (g.S.Source.left c.next_line.new.source) c.in-Err-TooLongLine.ensures.bounded.input
+    c.lines.invariant.read.taken c.in-Err-TooLongLine.ensures.input.all

@@ -5,8 +5,8 @@ use Rattle.kp_publish.specs.declared.entry.Entry.{Entry}
 use Rattle.kp_publish.proofs.Beginnings.{prefix_same}
 use Rattle.kp_publish.proofs.front.Front.is_same.Goals as goal
 
-pub returns : goal.returns
-returns g c same =
+pub returns-clause-same : goal.returns-clause-same
+returns-clause-same g c same =
     let both = c.learn.new.self.log in
     let this : IsPrefix c.self.inside.seen.log both = subst (λ (l : List Entry). IsPrefix l both) (ap (λ s. s.log) c.again-both.ensures) c.learn.ensures.2 in
     let counts : c.self.inside.entries ≡ c.other.inside.entries = grind (arith, nat_tests) in

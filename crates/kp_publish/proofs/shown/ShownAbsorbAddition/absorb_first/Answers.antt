@@ -9,5 +9,5 @@ invariant_of-self g c =
     let start = g.J.Publication.start in
     let add = c.addition.inside in
     let stands : StandsFor start (table_after_batch c.self.inside.table add.next.batch.edits) add.after =
-    stands_next start c.self.inside.table c.self.inside.front add.before add.after add.next c.self.invariant (c.if-not-is_same.ensures refl) c.addition.invariant in
+    stands_next start c.self.inside.table c.self.inside.front add.before add.after add.next c.self.invariant (c.if-not-is_same.ensures.same refl) c.addition.invariant in
     rw (c.in-Ok.ensures.ok, c.again.ensures) stands

@@ -12,7 +12,7 @@ invariant_of-self-in-Ok g c = λ t k.
     let all = c.in_ok-add_all.ensures.ok t k ∙ ap (λ us. is_tag_of same us key t k || has same c.self.inside.index t k) (c.as_slice.ensures ∙ tagged) in
     c.trim.ensures t k
     ∙ (λ i. not (is_lost same (c.as_slice-in-Ok.ensures i) ((c.as_slice-in-Ok-2.ensures ∙ tagged) i) key t k) && all i)
-    ∙ put_ok same g.X.Tagged.tags c.self.inside.objects key c.args.object c.in_ok-old.old c.self.inside.index c.self.invariant c.in_ok-old.ensures t k
+    ∙ put_ok same g.X.Tagged.tags c.self.inside.objects key c.args.object c.in_ok-old.old c.self.inside.index c.self.invariant c.in_ok-old.ensures.tags t k
     ∙ ap (λ m. is_tagged same g.X.Tagged.tags t (finite.get m k)) (sym (c.in-Ok.ensures.ok ∙ ap (λ at. finite.insert c.self.inside.objects at c.args.object) c.in_ok-copy.ensures))
 
 pub invariant_of-self-in-Err : goal.invariant_of-self-in-Err
@@ -22,5 +22,5 @@ invariant_of-self-in-Err g c = λ t k.
     let all = c.in_ok-add_all.ensures.ok t k ∙ ap (λ us. is_tag_of same us key t k || has same c.self.inside.index t k) c.as_slice.ensures in
     c.trim-in-Err.ensures t k
     ∙ (λ i. not (is_lost same (c.as_slice-in-Err.ensures i) (c.as_slice-in-Err-2.ensures i) key t k) && all i)
-    ∙ put_err same g.X.Tagged.tags c.self.inside.objects key c.in_ok-new.new c.in_ok-old.old c.self.inside.index c.self.invariant c.in_ok-old.ensures t k
+    ∙ put_err same g.X.Tagged.tags c.self.inside.objects key c.in_ok-new.new c.in_ok-old.old c.self.inside.index c.self.invariant c.in_ok-old.ensures.tags t k
     ∙ ap (λ m. is_tagged same g.X.Tagged.tags t (finite.get m k)) (sym c.in-Err.ensures.err)
