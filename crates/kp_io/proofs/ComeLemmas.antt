@@ -74,7 +74,7 @@ by_fault : (fault : LineFault) (line : List ℕ) (before after : Option (List (O
 by_fault (TooLongLine number) line before after other p = absurd (other number refl)
 by_fault ReadFault line before after other p = p
 by_fault InputTooLong line before after other p = p
-by_fault NoMemory line before after other p = p
+by_fault (NoMemory refused) line before after other p = p
 
 pub fault_answers : (fault : LineFault) (line : List ℕ) (was now : ReaderState) (old part : LinePart) (was_chunk chunk : List ℕ) (before left : Option (List ℕ)) → ((number : ℕ) → fault ≡ TooLongLine number → ⊥) → Holds was old was_chunk → Holds now part chunk → Gathers (Err fault) part chunk (told_from old was_chunk before) left → Answers (Err fault) line (to_come was before) (to_come now left)
 fault_answers fault line was now old part was_chunk chunk before left other holds next p =
@@ -85,7 +85,7 @@ pub fault_counts : (fault : LineFault) (old new : ReaderState) → ((number : �
 fault_counts (TooLongLine number) old new other p = absurd (other number refl)
 fault_counts ReadFault old new other p = p
 fault_counts InputTooLong old new other p = p
-fault_counts NoMemory old new other p = p
+fault_counts (NoMemory refused) old new other p = p
 
 -- a text that is not read stays
 pub told_same : {X : Type 0} (a : Option X) → FromTold (λ old new. new ≡ old) a a

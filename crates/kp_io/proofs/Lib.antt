@@ -3,4 +3,5 @@ pub mod FeedLemmas
 pub mod GatherLemmas
 pub mod HandedOut
 pub mod LineLemmas
+pub mod PassLemmas
 pub mod Told

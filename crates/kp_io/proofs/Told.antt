@@ -1,8 +1,8 @@
 -- One step after another, of contents that are told or not.
-use Rattle.std.proofs.Common.{◌≡◌, ℕ, ◌+◌, List, [], ◌++◌, take, drop, Option, None, Some, ap, sym, ◌∙◌, append_assoc, append-nil, subst}
+use Rattle.std.proofs.Common.{◌≡◌, ℕ, ◌+◌, List, [], ◌++◌, take, drop, arith, Option, None, Some, ap, sym, ◌∙◌, append_assoc, append-nil, subst}
 use Rattle.std.proofs.Math.Seq.{take-add}
 use Rattle.std.specs.Io.KnownBytes.{Consumes}
-use Rattle.kp_io.specs.Told.{FromTold, ToTold, Grows}
+use Rattle.kp_io.specs.Told.{FromTold, ToTold, Grows, NoLess}
 
 -- where a content is told from its start on, two steps are one
 pub FromTold-trans : {X Y Z : Type 0} (P : X → Y → Type 0) (Q : Y → Z → Type 0) (R : X → Z → Type 0) → ((x : X) (y : Y) (z : Z) → P x y → Q y z → R x z) → (a : Option X) (b : Option Y) (c : Option Z) → FromTold P a b → FromTold Q b c → FromTold R a c
@@ -35,6 +35,11 @@ ToTold-trans P Q R join (Some x) (Some y) (Some z) p q = join x y z p q
 pub Grows-nil : (a : Option (List ℕ)) → Grows a a []
 Grows-nil None = tt
 Grows-nil (Some x) = sym (append-nil x)
+
+-- nothing was flushed
+pub NoLess-same : (a : Option ℕ) → NoLess a a
+NoLess-same None = tt
+NoLess-same (Some n) = omega arith
 
 -- some bytes were added, and then more
 pub Grows-trans : (a b c : Option (List ℕ)) (xs ys : List ℕ) → Grows a b xs → Grows b c ys → Grows a c (xs ++ ys)

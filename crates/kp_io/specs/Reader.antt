@@ -1,5 +1,5 @@
 -- A reader of lines, over a source of bytes (this project's choice).
-use Rattle.std.specs.Prelude.{◌≡◌, ℕ, ◌+◌, ◌-◌, ◌≤◌, ◌<◌, ◌↔◌, ◌||◌, nat_lt, Bool, true, false, if◌then◌else◌, List, [], ◌∷◌, ◌++◌, length, map, take, count_by, Option, None, Some, option_map, Result, Ok, Err, IsErrOf}
+use Rattle.std.specs.Prelude.{◌≡◌, ℕ, ◌+◌, ◌-◌, ◌≤◌, ◌<◌, ◌↔◌, ◌||◌, nat_lt, Bool, true, false, if◌then◌else◌, List, [], ◌∷◌, ◌++◌, length, map, take, drop, count_by, Option, None, Some, option_map, Result, Ok, Err, IsErrOf}
 use Rattle.std.specs.List.{list_any, after_first}
 use Rattle.kp_io.specs.Faults.{Rose}
 use Rattle.kp_io.specs.Lines.{is_line_feed, ended_lines, given_of, given_lines}
@@ -15,18 +15,24 @@ use Rattle.kp_io.specs.declared.next_line.NextLine.TheVariants.{Line, End}
 
 -- how far a reader has come: the bytes that it took and has not handed out, whether they go on a line that
 -- is too long, of which the bytes before were dropped, the last line, where the last answer was one, how many
--- lines and how many bytes there were, and whether the source has ended
+-- bytes it asks for at most, how many lines and how many bytes there were, and whether the source has ended
 pub record ReaderState : Type 0 where
   pub held : List ℕ
   pub skipping : Bool
   pub line : List ℕ
+  pub room : ℕ
   pub number : ℕ
   pub taken : ℕ
   pub ended : Bool
 
 -- a reader that has taken nothing
+abbrev pub fresh_with : ℕ → ReaderState
+fresh_with room =
+    record { held = []; skipping = false; line = []; room = room; number = 0; taken = 0; ended = false }
+
+-- the same, with a buffer of the usual size
 abbrev pub fresh_reader : ReaderState
-fresh_reader = record { held = []; skipping = false; line = []; number = 0; taken = 0; ended = false }
+fresh_reader = fresh_with BUFFER_SIZE
 
 -- what a reader gives of a text, by whether that goes on a line that is too long
 abbrev pub given_behind : Bool → List ℕ → List (Option (List ℕ))
@@ -38,6 +44,15 @@ given_behind false text = given_lines text
 abbrev pub to_come : ReaderState → Option (List ℕ) → Option (List (Option (List ℕ)))
 to_come reader left =
     option_map (λ bytes. if reader.ended then [] else given_behind reader.skipping (reader.held ++ bytes)) left
+
+-- a reader that has passed over so many bytes and lines
+abbrev pub passed : ℕ → ℕ → ReaderState → ReaderState
+passed bytes lines reader =
+    record reader { held = drop bytes reader.held; line = []; number = reader.number + lines }
+
+-- these lines are the first that were to come, and the rest is to come
+abbrev pub GivesShort : List (List ℕ) → Option (List (Option (List ℕ))) → Option (List (Option (List ℕ))) → Type 0
+GivesShort lines before after = FromTold (λ old new. old ≡ map Some lines ++ new) before after
 
 -- this was given of the first lines of a text, where that is told, and the rest is to come
 abbrev pub HandedOut : List (Option (List ℕ)) → Option (List ℕ) → Option (List (Option (List ℕ))) → Type 0
@@ -53,7 +68,7 @@ Answers (Ok (End lines)) line before after = FromTold (λ old new. (old ≡ []) 
 Answers (Err (TooLongLine number)) line before after = FromTold (λ old new. old ≡ None ∷ new) before after
 Answers (Err ReadFault) line before after = FromTold (λ old new. new ≡ old) before after
 Answers (Err InputTooLong) line before after = FromTold (λ old new. new ≡ old) before after
-Answers (Err NoMemory) line before after = FromTold (λ old new. new ≡ old) before after
+Answers (Err (NoMemory refused)) line before after = FromTold (λ old new. new ≡ old) before after
 
 -- the number of the line before stays, there is no last line, and the end was not met
 abbrev pub Stays : ReaderState → ReaderState → Type 0
@@ -69,7 +84,7 @@ Counts (Err (TooLongLine number)) old new =
     (number ≡ old.number + 1) × (new.number ≡ number) × (new.line ≡ [])
 Counts (Err ReadFault) old new = Stays old new
 Counts (Err InputTooLong) old new = Stays old new
-Counts (Err NoMemory) old new = Stays old new
+Counts (Err (NoMemory refused)) old new = Stays old new
 
 -- a line has no line feed, and no more bytes than it may have
 pub record IsShortLine (line : List ℕ) : Type 0 where
@@ -84,13 +99,13 @@ answers_unasked reader =
 
 -- ---- Memory and input
 
--- Each line took a byte at least. One byte at most goes past the input limit, a line and a buffer are held
--- at most, and of a line that is too long one buffer.
+-- Each line took a byte at least. One byte at most goes past the input limit, a line and what is asked for
+-- at a time are held at most, and of a line that is too long only the latter.
 pub record IsBounded (reader : ReaderState) : Type 0 where
   pub lines : reader.number ≤ reader.taken
   pub input : reader.taken ≤ INPUT_LIMIT + 1
-  pub memory : length reader.held ≤ LINE_LIMIT + BUFFER_SIZE
-  pub dropped : reader.skipping ≡ true → length reader.held ≤ BUFFER_SIZE
+  pub memory : length reader.held ≤ LINE_LIMIT + reader.room
+  pub dropped : reader.skipping ≡ true → length reader.held ≤ reader.room
 
 -- a text loses the bytes that were taken between two counts of them
 pub record LosesTaken (before now : ℕ) (xs ys : List ℕ) : Type 0 where

@@ -1,7 +1,7 @@
 //! The search for the end of a line, from one read of the source to the next.
 ghost use Rattle.std.specs.Prelude.{◌≡◌, ◌+◌, ◌≤◌, ◌<◌, ℕ, [], Ok, Err, true, false, length};
 ghost use Rattle.std.specs.Prelude.{IfOk, OnOk, OnErr, IsErrOf};
-ghost use Rattle.std.specs.List.{list_any, position, before_first, after_first};
+ghost use Rattle.std.specs.List.{list_any, before_first, after_first};
 ghost use Rattle.std.specs.Io.KnownBytes.{IsAtEnd};
 ghost use Rattle.kp_io.specs.Lines.{is_line_feed};
 ghost use Rattle.kp_io.specs.Told.{FromTold};
@@ -9,18 +9,11 @@ ghost use Rattle.kp_io.specs.Gather.{longer, part_size, told_from, feeds_of, IsP
 ghost use Rattle.kp_io.specs.Reader.{feeds_up_to, TakesInput, HasReadCause, AsksUntilFeed};
 ghost use Rattle.kp_io.specs.declared.next_line.LineFault.TheVariants.{ReadFault, TooLongLine};
 
-use crate::chunk::{BUFFER_SIZE, Chunk};
+use crate::chunk::Chunk;
 use crate::line_part::LinePart;
 use crate::next_line::{INPUT_LIMIT, LineFault};
 use crate::source::Source;
 use kp_base::NoMemory;
-
-/// Where the first line feed stands, if there is one.
-fn line_feed_at(bytes: &[u8]) -> Option<usize>
-    ensures { result ≡ position is_line_feed bytes.now }
-{
-    bytes.iter().position(|byte| *byte == b'\n')
-}
 
 /// Moves the bytes before the chunk's first line feed behind those that were gathered, and takes
 /// the line feed away. Says whether there is one; else all bytes move.
@@ -32,7 +25,7 @@ fn gather(part: &mut LinePart, chunk: &mut Chunk) -> Result<bool, NoMemory>
     ensures err { OnErr result ((part.new ≡ part.old) × (chunk.new ≡ chunk.old)) }
 {
     let bytes = chunk.as_slice();
-    match line_feed_at(bytes) {
+    match chunk.line_feed() {
         Some(at) => {
             let (line, _) = bytes.split_at(at);
             part.add(line)?;
@@ -48,34 +41,37 @@ fn gather(part: &mut LinePart, chunk: &mut Chunk) -> Result<bool, NoMemory>
     }
 }
 
-/// How many bytes a reader asks for that took so many: no more than it may take, and then one more,
-/// which tells that there are too many.
-fn bytes_to_ask(taken: u64) -> usize
-    requires { taken ≤ INPUT_LIMIT }
+/// How many bytes a reader asks for that has room for so many and took so many: no more than it may
+/// take, and then one more, which tells that there are too many.
+fn bytes_to_ask(room: usize, taken: u64) -> usize
+    requires room { 0 < room }
+    requires taken { taken ≤ INPUT_LIMIT }
     ensures some { 0 < result }
-    ensures buffer { result ≤ BUFFER_SIZE }
+    ensures room { result ≤ room }
     ensures limit { taken < INPUT_LIMIT → taken + result ≤ INPUT_LIMIT }
     ensures over { taken + result ≤ INPUT_LIMIT + 1 }
 {
     if taken == INPUT_LIMIT {
         return 1;
     }
-    BUFFER_SIZE.min((INPUT_LIMIT - taken) as usize)
+    room.min((INPUT_LIMIT - taken) as usize)
 }
 
-/// Gathers bytes up to the next line feed, and reads while there is none. Says whether there was
-/// one before the source ended.
+/// Gathers bytes up to the next line feed, and reads, at most so many at a time, while there is
+/// none. Says whether there was one before the source ended.
 pub(crate) fn gather_line<S: Source>(
     part: &mut LinePart,
     chunk: &mut Chunk,
+    room: usize,
     taken: &mut u64,
     source: &mut S,
 ) -> Result<bool, LineFault>
     requires part { IsPart part.old }
+    requires room { 0 < room }
     requires taken { taken.old ≤ INPUT_LIMIT }
-    requires chunk { length chunk.old ≤ BUFFER_SIZE }
+    requires chunk { length chunk.old ≤ room }
     ensures part { IsPart part.new }
-    ensures chunk { length chunk.new ≤ BUFFER_SIZE }
+    ensures chunk { length chunk.new ≤ room }
     ensures gathers { Gathers result part.new chunk.new
         (told_from part.old chunk.old (S.left source.old)) (S.left source.new) }
     ensures size { feeds_of result + part_size part.new + length chunk.new + taken.old
@@ -97,7 +93,7 @@ pub(crate) fn gather_line<S: Source>(
         if gather(part, chunk)? {
             return Ok(true);
         }
-        let count = chunk.fill(bytes_to_ask(*taken), source)?;
+        let count = chunk.fill(bytes_to_ask(room, *taken), source)?;
         if count == 0 {
             return Ok(false);
         }

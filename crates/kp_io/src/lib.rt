@@ -2,6 +2,7 @@
 //! were taken.
 #![tactic(auto)]
 
+mod buffered_sink;
 mod chunk;
 mod gather;
 mod laws;
@@ -17,6 +18,7 @@ mod source;
 mod sure_sink;
 mod sure_source;
 
+pub use buffered_sink::BufferedSink;
 pub use chunk::BUFFER_SIZE;
 pub use laws::limits_are_numbers;
 pub use line_reader::LineReader;

@@ -60,6 +60,17 @@ impl LinePart {
         Ok(())
     }
 
+    /// Drops what was gathered, and says how many bytes these were.
+    pub(crate) fn pass(&mut self) -> usize
+        requires { self.old.skipping ≡ false }
+        ensures count { result ≡ length self.old.bytes }
+        ensures next { self.new ≡ no_part }
+    {
+        let count = self.bytes.len();
+        self.bytes.clear();
+        count
+    }
+
     /// Hands the line out in the place of no bytes, and begins the next one. Says whether the line
     /// may have so many bytes.
     pub(crate) fn hand_out(&mut self, line: &mut Vec<u8>) -> bool

@@ -2,7 +2,7 @@
 ghost use Rattle.std.specs.Prelude.{◌≡◌, ◌≤◌, [], min, length, IfOk, OnOk, OnErr};
 ghost use Rattle.kp_io.specs.Faults.{HasCause};
 ghost use Rattle.kp_io.specs.Memory.{told_bytes, told_flushed, fresh_sink, fresh_plan, KeepsTelling, Meets};
-ghost use Rattle.kp_io.specs.Told.{Grows, TakesFront, FlushesOn, IsFlushed};
+ghost use Rattle.kp_io.specs.Told.{Grows, NoLess, TakesFront, FlushesOn, IsFlushed};
 
 use crate::plan::Plan;
 use crate::sink::Sink;
@@ -65,6 +65,8 @@ impl Sink for MemorySink {
 
     ghost flushed = { λ s. told_flushed s.sink };
 
+    ghost kept_back = { λ s. 0 };
+
     ghost faults = { λ s. s.plan.faults };
 
     fn write(&mut self, bytes: &[u8]) -> Result<usize, Failed>
@@ -80,6 +82,16 @@ impl Sink for MemorySink {
     {
         self.plan.meet()?;
         self.sink.write(bytes)
+    }
+
+    fn hand_on(&mut self) -> Result<(), Failed>
+        ensures kept { Grows (told_bytes self.old.sink) (told_bytes self.new.sink) [] }
+        ensures flushed { NoLess (told_flushed self.old.sink) (told_flushed self.new.sink) }
+        ensures cause { HasCause self.old.plan.faults self.new.plan.faults result }
+        ensures sure { result ≡ Ok tt }
+        ensures same { self.new ≡ self.old }
+    {
+        Ok(())
     }
 
     fn flush(&mut self) -> Result<(), Failed>

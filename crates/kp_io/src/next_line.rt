@@ -1,8 +1,9 @@
 //! What a reader of lines answers.
 ghost use Rattle.std.specs.Prelude.{◌≡◌};
-ghost use Rattle.kp_io.specs.declared.next_line.LineFault.TheVariants.{ReadFault, NoMemory};
+ghost use Rattle.kp_io.specs.declared.next_line.LineFault.TheVariants as fault;
 
 use crate::source::Failed;
+use kp_base::NoMemory;
 
 /// An answer that isn't a fault.
 #[derive(Clone, Copy, Debug, PartialEq, Eq)]
@@ -30,21 +31,21 @@ pub enum LineFault {
     /// More bytes than the limit were taken.
     InputTooLong,
     /// There is no memory for the line. What was taken is kept, and the next call goes on.
-    NoMemory,
+    NoMemory(NoMemory),
 }
 
 impl From<Failed> for LineFault {
-    ghost from_gives = { λ _ e. e ≡ ReadFault };
+    ghost from_gives = { λ _ e. e ≡ fault.ReadFault };
 
     fn from(_failed: Failed) -> LineFault {
         LineFault::ReadFault
     }
 }
 
-impl From<kp_base::NoMemory> for LineFault {
-    ghost from_gives = { λ _ e. e ≡ NoMemory };
+impl From<NoMemory> for LineFault {
+    ghost from_gives = { λ refused e. e ≡ fault.NoMemory refused };
 
-    fn from(_refused: kp_base::NoMemory) -> LineFault {
-        LineFault::NoMemory
+    fn from(refused: NoMemory) -> LineFault {
+        LineFault::NoMemory(refused)
     }
 }

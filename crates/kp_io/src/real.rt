@@ -1,6 +1,6 @@
 //! The real ends: std's readers and writers. What they give and take is the outside, of which
 //! nothing is told; their failures are counted.
-ghost use Rattle.std.specs.Prelude.{◌≡◌, ◌≢◌, ◌≤◌, None, length, IfErr, IfOk};
+ghost use Rattle.std.specs.Prelude.{◌≡◌, ◌≢◌, ◌≤◌, ◌⊎◌, Ok, None, true, false, length, IfErr, IfOk, IsErr};
 ghost use Rattle.std.specs.Io.{ReadsAtMost};
 ghost use Rattle.std.specs.Io.KnownBytes.{Keeps, ReadConsumes, WriteAppends};
 ghost use Rattle.std.specs.IoError.{error_kind};
@@ -97,12 +97,13 @@ fn write_again<W: Write>(writer: &mut W, bytes: &[u8]) -> io::Result<usize>
     Err(Error::from(ErrorKind::TimedOut))
 }
 
-/// A sink over a writer of std, of whose content it tells nothing. Hand it a writer with a buffer,
-/// so that many small writes are cheap.
+/// A sink over a writer of std, of whose content it tells nothing. It keeps no bytes back, and it
+/// keeps whether nobody reads them any more.
 #[derive(Drop)]
 pub struct RealSink<W> {
     writer: W,
     faults: u64,
+    closed: bool,
 }
 
 impl<W> Model for RealSink<W> {
@@ -110,7 +111,7 @@ impl<W> Model for RealSink<W> {
 
     ghost Value = { Counted W };
 
-    ghost view = { λ s. record { inner = s.writer; faults = s.faults } };
+    ghost view = { λ s. record { inner = s.writer; faults = s.faults; closed = s.closed } };
 }
 
 impl<W: Write> RealSink<W> {
@@ -118,17 +119,35 @@ impl<W: Write> RealSink<W> {
     pub fn new(writer: W) -> RealSink<W>
         ensures writer { result.inner ≡ writer }
         ensures faults { result.faults ≡ 0 }
+        ensures closed { result.closed ≡ false }
     {
-        RealSink { writer, faults: 0 }
+        RealSink {
+            writer,
+            faults: 0,
+            closed: false,
+        }
     }
 
-    /// Counts a failure.
-    fn fail(&mut self) -> Failed
+    /// Whether a write has failed since nobody reads the bytes any more, as when the other end of a
+    /// pipe was closed.
+    pub fn is_closed(&self) -> bool
+        ensures { result ≡ self.now.closed }
+    {
+        self.closed
+    }
+
+    /// Counts a failure of this kind.
+    fn fail(&mut self, kind: ErrorKind) -> Failed
         ensures inner { self.new.inner ≡ self.old.inner }
         ensures rose { Rose self.old.faults self.new.faults }
         ensures later { self.old.faults ≤ self.new.faults }
+        ensures closed { self.new.closed ≡ true
+            → (self.old.closed ≡ true) ⊎ (kind ≡ ErrorKind.BrokenPipe) }
     {
         self.faults = self.faults.saturating_add(1);
+        if kind == ErrorKind::BrokenPipe {
+            self.closed = true;
+        }
         Failed
     }
 }
@@ -138,6 +157,8 @@ impl<W: Write> Sink for RealSink<W> {
 
     ghost flushed = { λ s. None };
 
+    ghost kept_back = { λ s. 0 };
+
     ghost faults = { λ s. s.faults };
 
     fn write(&mut self, bytes: &[u8]) -> Result<usize, Failed>
@@ -145,21 +166,31 @@ impl<W: Write> Sink for RealSink<W> {
         ensures cause { HasCause self.old.faults self.new.faults result }
         ensures passed { WriteAppends (W.contents self.old.inner) (W.contents self.new.inner)
             result bytes.now }
+        ensures closed { self.new.closed ≡ true → (self.old.closed ≡ true) ⊎ IsErr result }
     {
         match write_again(&mut self.writer, bytes) {
-            Ok(0) if !bytes.is_empty() => Err(self.fail()),
+            Ok(0) if !bytes.is_empty() => Err(self.fail(ErrorKind::WriteZero)),
             Ok(count) => Ok(count),
-            Err(_) => Err(self.fail()),
+            Err(error) => Err(self.fail(error.kind())),
         }
+    }
+
+    fn hand_on(&mut self) -> Result<(), Failed>
+        ensures cause { HasCause self.old.faults self.new.faults result }
+        ensures sure { result ≡ Ok tt }
+        ensures same { self.new ≡ self.old }
+    {
+        Ok(())
     }
 
     fn flush(&mut self) -> Result<(), Failed>
         ensures cause { HasCause self.old.faults self.new.faults result }
         ensures passed { Keeps (W.contents self.old.inner) (W.contents self.new.inner) }
+        ensures closed { self.new.closed ≡ true → (self.old.closed ≡ true) ⊎ IsErr result }
     {
         match self.writer.flush() {
             Ok(()) => Ok(()),
-            Err(_) => Err(self.fail()),
+            Err(error) => Err(self.fail(error.kind())),
         }
     }
 }

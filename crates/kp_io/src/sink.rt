@@ -1,7 +1,7 @@
 //! Where bytes go.
-ghost use Rattle.std.specs.Prelude.{◌<◌, List, ℕ, Option, [], length, take, OnOk, OnErr};
+ghost use Rattle.std.specs.Prelude.{◌≡◌, ◌<◌, List, ℕ, Option, [], length, take, OnOk, OnErr};
 ghost use Rattle.kp_io.specs.Faults.{HasCause};
-ghost use Rattle.kp_io.specs.Told.{Grows, TakesFront, FlushesOn, IsFlushed};
+ghost use Rattle.kp_io.specs.Told.{Grows, NoLess, TakesFront, FlushesOn, IsFlushed};
 
 use crate::source::Failed;
 
@@ -13,7 +13,10 @@ pub trait Sink {
     /// How many of these bytes were flushed, where the sink tells it.
     ghost flushed: { Self → Option ℕ };
 
-    /// How often a write or a flush has failed.
+    /// How many of these bytes it keeps back, to hand them on together with others.
+    ghost kept_back: { Self → ℕ };
+
+    /// How often a call has failed.
     ghost faults: { Self → ℕ };
 
     /// Takes bytes from the front of the piece, and answers how many. It takes at least one of a
@@ -23,9 +26,17 @@ pub trait Sink {
         ensures flushed { FlushesOn (flushed self.old) (flushed self.new) (written self.new) }
         ensures cause { HasCause (faults self.old) (faults self.new) result };
 
-    /// Hands on what was written so far.
+    /// Hands on what it keeps back.
+    fn hand_on(&mut self) -> Result<(), Failed>
+        ensures out { OnOk result (kept_back self.new ≡ 0) }
+        ensures kept { Grows (written self.old) (written self.new) [] }
+        ensures flushed { NoLess (flushed self.old) (flushed self.new) }
+        ensures cause { HasCause (faults self.old) (faults self.new) result };
+
+    /// Hands on what was written so far, and has it handed on from there.
     fn flush(&mut self) -> Result<(), Failed>
         ensures whole { OnOk result (IsFlushed (flushed self.new) (written self.new)) }
+        ensures out { OnOk result (kept_back self.new ≡ 0) }
         ensures kept { Grows (written self.old) (written self.new) [] }
         ensures flushed { FlushesOn (flushed self.old) (flushed self.new) (written self.new) }
         ensures cause { HasCause (faults self.old) (faults self.new) result };

@@ -2,7 +2,7 @@
 ghost use Rattle.std.specs.Prelude.{◌≡◌, ◌≤◌, Ok, [], min, length, IfOk, OnOk};
 ghost use Rattle.kp_io.specs.Faults.{HasCause};
 ghost use Rattle.kp_io.specs.Memory.{told_bytes, told_flushed, fresh_sink, KeepsTelling};
-ghost use Rattle.kp_io.specs.Told.{Grows, TakesFront, FlushesOn, IsFlushed};
+ghost use Rattle.kp_io.specs.Told.{Grows, NoLess, TakesFront, FlushesOn, IsFlushed};
 
 use crate::sink::Sink;
 use crate::source::Failed;
@@ -68,6 +68,8 @@ impl Sink for SureSink {
 
     ghost flushed = { told_flushed };
 
+    ghost kept_back = { λ s. 0 };
+
     ghost faults = { λ s. 0 };
 
     fn write(&mut self, bytes: &[u8]) -> Result<usize, Failed>
@@ -85,6 +87,16 @@ impl Sink for SureSink {
             self.complete = false;
         }
         Ok(count)
+    }
+
+    fn hand_on(&mut self) -> Result<(), Failed>
+        ensures kept { Grows (told_bytes self.old) (told_bytes self.new) [] }
+        ensures flushed { NoLess (told_flushed self.old) (told_flushed self.new) }
+        ensures cause { HasCause 0 0 result }
+        ensures sure { result ≡ Ok tt }
+        ensures same { self.new ≡ self.old }
+    {
+        Ok(())
     }
 
     fn flush(&mut self) -> Result<(), Failed>

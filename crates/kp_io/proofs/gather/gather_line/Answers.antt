@@ -153,7 +153,7 @@ loop-chunk-preserved g c =
     let empty = c.in_ok-gather.ensures.rest ∙ after_first-none c.loop-chunk.chunk unfound in
     record {
       part = gathered_is c.loop-chunk.part c.gather.new.part c.loop-chunk.chunk was.part c.in_ok-gather.ensures.part;
-      room = omega (arith, c.in_ok-count.ensures.count.0, c.in_ok-count.ensures.count.1, c.bytes_to_ask.ensures.buffer);
+      room = omega (arith, c.in_ok-count.ensures.count.0, c.in_ok-count.ensures.count.1, c.bytes_to_ask.ensures.room);
       kept =
           kept_read c.gather.new.part c.gather.new.chunk c.fill.new.self told left now empty
           (kept_none c.loop-chunk.part c.gather.new.part c.loop-chunk.chunk c.gather.new.chunk told left was.part unfound c.in_ok-gather.ensures.part c.in_ok-gather.ensures.rest was.kept)

@@ -4,7 +4,6 @@ use Rattle.kp_io.specs.Gather.{IsPart, part_size, given_from, told_from, LosesRe
 use Rattle.kp_io.specs.Lines.{is_line_feed}
 use Rattle.kp_io.specs.Reader.{feeds_up_to, AsksUntilFeed}
 use Rattle.kp_io.specs.Told.{FromTold}
-use Rattle.kp_io.specs.declared.chunk.TheConstants.{BUFFER_SIZE}
 use Rattle.kp_io.specs.declared.next_line.TheConstants.{INPUT_LIMIT}
 use Rattle.kp_io.proofs.gather.gather_line.Given as goal
 
@@ -12,7 +11,7 @@ use Rattle.kp_io.proofs.gather.gather_line.Given as goal
 abbrev pub invariant-loop-chunk : goal.invariant-loop-chunk
 invariant-loop-chunk g l = record {
   part : IsPart l.part;
-  room : length l.chunk ≤ BUFFER_SIZE;
+  room : length l.chunk ≤ l.room;
   kept : FromTold (λ come rest. come ≡ given_from l.part (l.chunk ++ rest)) (told_from l.initial.part l.initial.chunk (g.S.Source.left l.initial.source)) (g.S.Source.left l.source);
   size : part_size l.part + length l.chunk + l.initial.taken ≤ part_size l.initial.part + length l.initial.chunk + l.taken;
   feeds : FromTold (λ xs ys. feeds_up_to INPUT_LIMIT l.initial.chunk l.initial.taken xs ≡ feeds_up_to INPUT_LIMIT l.chunk l.taken ys) (g.S.Source.left l.initial.source) (g.S.Source.left l.source);

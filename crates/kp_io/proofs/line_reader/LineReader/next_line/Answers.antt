@@ -32,8 +32,8 @@ returns-clause-answer g c =
     let part = c.gather_line.new.part in
     let chunk = c.gather_line.new.chunk in
     let next = c.hand_out.ensures.next c.in_ok-whole.ensures.part in
-    let was : ReaderState = record { held = inside.part.bytes ++ inside.chunk; skipping = inside.part.skipping; line = inside.line.items; number = inside.number; taken = inside.taken; ended = inside.ended } in
-    let now : ReaderState = record { held = c.hand_out.new.self.bytes ++ chunk; skipping = c.hand_out.new.self.skipping; line = c.hand_out.new.line.items; number = inside.number + 1; taken = c.gather_line.new.taken; ended = not c.in_ok-whole.whole } in
+    let was : ReaderState = record { held = inside.part.bytes ++ inside.chunk; skipping = inside.part.skipping; line = inside.line.items; room = inside.room; number = inside.number; taken = inside.taken; ended = inside.ended } in
+    let now : ReaderState = record { held = c.hand_out.new.self.bytes ++ chunk; skipping = c.hand_out.new.self.skipping; line = c.hand_out.new.line.items; room = inside.room; number = inside.number + 1; taken = c.gather_line.new.taken; ended = not c.in_ok-whole.whole } in
     let before = to_come was (g.S.Source.left c.args.source.now) in
     let after = to_come now (g.S.Source.left c.gather_line.new.source) in
     let come : FromTold (λ come rest. come ≡ given_part part ∷ rest) before after =
