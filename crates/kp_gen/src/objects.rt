@@ -1,6 +1,7 @@
 //! Nodes and Services.
-ghost use Rattle.std.specs.Prelude.{◌≡◌, ◌<◌, ◌++◌, OnOk, string_bytes};
+ghost use Rattle.std.specs.Prelude.{◌≡◌, ◌<◌, ◌++◌, OnErr, OnOk, string_bytes};
 ghost use Rattle.kp_gen_defs.specs.Script as spec;
+ghost use Rattle.kp_print.specs.Fronts.{HasFront};
 
 use crate::pieces::push_all;
 use itoa::Buffer;
@@ -13,8 +14,9 @@ const FIRST_SERVICE: u32 = 0x0a60_0001;
 /// Adds a Node.
 pub(crate) fn push_node(text: &mut String, place: u64) -> Result<(), NoMemory>
     requires { place < 3 }
-    ensures { OnOk result (string_bytes text.new
+    ensures added { OnOk result (string_bytes text.new
         ≡ string_bytes text.old ++ spec.node_line place) }
+    ensures front { OnErr result (HasFront text.new text.old) }
 {
     let mut digits = Buffer::new();
     push_all(
@@ -43,8 +45,9 @@ fn zone(place: u64) -> &'static str
 /// Adds a Service.
 pub(crate) fn push_service(text: &mut String, place: u64) -> Result<(), NoMemory>
     requires { place < 10000 }
-    ensures { OnOk result (string_bytes text.new
+    ensures added { OnOk result (string_bytes text.new
         ≡ string_bytes text.old ++ spec.service_line place) }
+    ensures front { OnErr result (HasFront text.new text.old) }
 {
     let address = service_address(place);
     let mut buffer = Buffer::new();

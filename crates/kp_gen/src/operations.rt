@@ -1,6 +1,7 @@
 //! The configuration, syncs and packets.
-ghost use Rattle.std.specs.Prelude.{◌≡◌, ◌*◌, ◌<◌, ◌≤◌, ◌++◌, OnOk, string_bytes};
+ghost use Rattle.std.specs.Prelude.{◌≡◌, ◌*◌, ◌<◌, ◌≤◌, ◌++◌, OnErr, OnOk, string_bytes};
 ghost use Rattle.kp_gen_defs.specs.Script as spec;
+ghost use Rattle.kp_print.specs.Fronts.{HasFront};
 
 use crate::objects::service_address;
 use crate::pieces::push_all;
@@ -11,7 +12,8 @@ use kp_print::push;
 
 /// Adds the configuration.
 pub(crate) fn push_config(text: &mut String) -> Result<(), NoMemory>
-    ensures { OnOk result (string_bytes text.new ≡ string_bytes text.old ++ spec.config_line) }
+    ensures added { OnOk result (string_bytes text.new ≡ string_bytes text.old ++ spec.config_line) }
+    ensures front { OnErr result (HasFront text.new text.old) }
 {
     push(
         text,
@@ -21,7 +23,8 @@ pub(crate) fn push_config(text: &mut String) -> Result<(), NoMemory>
 
 /// Adds a sync.
 pub(crate) fn push_sync(text: &mut String) -> Result<(), NoMemory>
-    ensures { OnOk result (string_bytes text.new ≡ string_bytes text.old ++ spec.sync_line) }
+    ensures added { OnOk result (string_bytes text.new ≡ string_bytes text.old ++ spec.sync_line) }
+    ensures front { OnErr result (HasFront text.new text.old) }
 {
     push(text, r#"{"op":"sync"}"#)
 }
@@ -36,8 +39,9 @@ pub(crate) fn push_packet(
     requires near { since ≤ 20000 }
     requires within { place < 4 * plan.services }
     requires few { plan.services ≤ 10000 }
-    ensures { OnOk result (string_bytes text.new
+    ensures added { OnOk result (string_bytes text.new
         ≡ string_bytes text.old ++ spec.packet_line plan since place) }
+    ensures front { OnErr result (HasFront text.new text.old) }
 {
     push_client(text, plan.seed, place / 4, place % 4, since + place % 4)
 }
@@ -52,8 +56,9 @@ fn push_client(
 ) -> Result<(), NoMemory>
     requires few { service < 10000 }
     requires four { client < 4 }
-    ensures { OnOk result (string_bytes text.new
+    ensures added { OnOk result (string_bytes text.new
         ≡ string_bytes text.old ++ spec.client_line seed service client now) }
+    ensures front { OnErr result (HasFront text.new text.old) }
 {
     let address = service_address(service);
     let mut client_digits = Buffer::new();

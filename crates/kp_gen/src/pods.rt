@@ -1,6 +1,7 @@
 //! Pods, and their deletes.
-ghost use Rattle.std.specs.Prelude.{◌≡◌, ◌<◌, ◌++◌, OnOk, string_bytes};
+ghost use Rattle.std.specs.Prelude.{◌≡◌, ◌<◌, ◌++◌, OnErr, OnOk, string_bytes};
 ghost use Rattle.kp_gen_defs.specs.Script as spec;
+ghost use Rattle.kp_print.specs.Fronts.{HasFront};
 
 use crate::pieces::push_all;
 use itoa::Buffer;
@@ -19,8 +20,9 @@ const FIRST_POD: u32 = 0x0af4_0001;
 pub(crate) fn push_pod(text: &mut String, plan: ScriptPlan, place: u64) -> Result<(), NoMemory>
     requires some { 0 < plan.services }
     requires few { place < 60000 }
-    ensures { OnOk result (string_bytes text.new
+    ensures added { OnOk result (string_bytes text.new
         ≡ string_bytes text.old ++ spec.pod_line plan place) }
+    ensures front { OnErr result (HasFront text.new text.old) }
 {
     let service = word(plan.seed, 3 * place) as u64 % plan.services;
     let node = word(plan.seed, 3 * place + 1) as u64 % 3;
@@ -49,8 +51,9 @@ fn push_placed_pod(
 ) -> Result<(), NoMemory>
     requires few { place < 60000 }
     requires node { node < 3 }
-    ensures { OnOk result (string_bytes text.new
+    ensures added { OnOk result (string_bytes text.new
         ≡ string_bytes text.old ++ spec.placed_pod_line place service node ready) }
+    ensures front { OnErr result (HasFront text.new text.old) }
 {
     let address = pod_address(place);
     let mut digits = Buffer::new();
@@ -90,8 +93,9 @@ fn status_word(holds: bool) -> &'static str
 
 /// Adds the delete of a Pod, as a watch tells it.
 pub(crate) fn push_delete(text: &mut String, place: u64) -> Result<(), NoMemory>
-    ensures { OnOk result (string_bytes text.new
+    ensures added { OnOk result (string_bytes text.new
         ≡ string_bytes text.old ++ spec.delete_line place) }
+    ensures front { OnErr result (HasFront text.new text.old) }
 {
     let mut digits = Buffer::new();
     push_all(

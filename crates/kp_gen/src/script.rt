@@ -1,6 +1,7 @@
 //! The parts of a script, and their lines.
-ghost use Rattle.std.specs.Prelude.{◌≡◌, ◌≤◌, ◌<◌, ◌++◌, OnOk, string_bytes};
+ghost use Rattle.std.specs.Prelude.{◌≡◌, ◌≤◌, ◌<◌, ◌++◌, OnErr, OnOk, string_bytes};
 ghost use Rattle.kp_gen_defs.specs.Script as spec;
+ghost use Rattle.kp_print.specs.Fronts.{HasFront};
 
 use crate::objects::{push_node, push_service};
 use crate::operations::{push_config, push_packet, push_sync};
@@ -50,8 +51,9 @@ pub fn push_line(
 ) -> Result<(), NoMemory>
     requires plan { spec.IsPlan plan }
     requires within { place < spec.lines_in plan part }
-    ensures { OnOk result (string_bytes text.new
+    ensures added { OnOk result (string_bytes text.new
         ≡ string_bytes text.old ++ spec.line_in plan part place) }
+    ensures front { OnErr result (HasFront text.new text.old) }
 {
     match part {
         ScriptPart::Config => push_config(text),

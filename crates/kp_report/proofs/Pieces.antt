@@ -16,3 +16,7 @@ pub three_labelled : (old mid late new a m b n c o : List ℕ) → mid ≡ old +
 three_labelled old mid late new a m b n c o first second third =
     two_added old late new (a ++ m ++ b ++ n) (c ++ o) (two_labelled old mid late a m b n first second) third
     ∙ ap (λ l. old ++ l) (sym (append_assoc (a ++ m ++ b ++ n) c o))
+
+-- what stood before a piece stands before what comes after it
+pub front_on : (old mid new a : List ℕ) → mid ≡ old ++ a → (rest : List ℕ) × (new ≡ mid ++ rest) → (rest : List ℕ) × (new ≡ old ++ rest)
+front_on old mid new a first (rest, later) = (a ++ rest, two_added old mid new a rest first later)

@@ -1,7 +1,8 @@
 //! Answers to packets.
-ghost use Rattle.std.specs.Prelude.{◌≡◌, ◌++◌, IfOk, OnOk, string_bytes};
+ghost use Rattle.std.specs.Prelude.{◌≡◌, ◌++◌, IfOk, OnErr, OnOk, string_bytes};
 ghost use Rattle.kp_types.specs.declared.verdict.Verdict.TheVariants.{To};
 ghost use Rattle.kp_text_defs.specs.Printed as spec;
+ghost use Rattle.kp_print.specs.Fronts.{HasFront};
 
 use kp_base::{Endpoint, NoMemory, Text};
 use kp_print::{push, push_endpoint, push_labelled};
@@ -29,8 +30,9 @@ pub fn push_answer(
     sync: u64,
     verdict: &Verdict,
 ) -> Result<(), NoMemory>
-    ensures { OnOk result (string_bytes text.new
+    ensures added { OnOk result (string_bytes text.new
         ≡ string_bytes text.old ++ spec.packet_text number sync verdict.now) }
+    ensures front { OnErr result (HasFront text.new text.old) }
 {
     push_labelled(text, "packet ", number)?;
     push_labelled(text, " at ", sync)?;
@@ -41,8 +43,9 @@ pub fn push_answer(
 
 /// Adds a verdict.
 pub(crate) fn push_verdict(text: &mut String, verdict: &Verdict) -> Result<(), NoMemory>
-    ensures { OnOk result (string_bytes text.new
+    ensures added { OnOk result (string_bytes text.new
         ≡ string_bytes text.old ++ spec.verdict_text verdict.now) }
+    ensures front { OnErr result (HasFront text.new text.old) }
 {
     match verdict {
         Verdict::To { endpoint, masked } => push_to(text, endpoint, *masked),
@@ -53,8 +56,9 @@ pub(crate) fn push_verdict(text: &mut String, verdict: &Verdict) -> Result<(), N
 }
 
 fn push_to(text: &mut String, endpoint: &Endpoint, masked: bool) -> Result<(), NoMemory>
-    ensures { OnOk result (string_bytes text.new
+    ensures added { OnOk result (string_bytes text.new
         ≡ string_bytes text.old ++ spec.verdict_text (To endpoint.now masked)) }
+    ensures front { OnErr result (HasFront text.new text.old) }
 {
     push(text, "to ")?;
     push_endpoint(text, endpoint)?;

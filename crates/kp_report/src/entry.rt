@@ -1,7 +1,8 @@
 //! Endpoints of slices.
-ghost use Rattle.std.specs.Prelude.{◌≡◌, ◌++◌, OnOk, string_bytes};
+ghost use Rattle.std.specs.Prelude.{◌≡◌, ◌++◌, OnErr, OnOk, string_bytes};
 ghost use Rattle.std.specs.List.{flat_map};
 ghost use Rattle.kp_text_defs.specs.Slices as spec;
+ghost use Rattle.kp_print.specs.Fronts.{HasFront};
 
 use crate::key::push_object;
 use crate::slice::text_or_dash;
@@ -11,8 +12,9 @@ use kp_types::{Slice, SliceEndpoint};
 
 /// Adds the lines of a slice's endpoints.
 pub(crate) fn push_slice_entries(text: &mut String, slice: &Slice) -> Result<(), NoMemory>
-    ensures { OnOk result (string_bytes text.new
+    ensures added { OnOk result (string_bytes text.new
         ≡ string_bytes text.old ++ spec.slice_entries_text slice.now) }
+    ensures front { OnErr result (HasFront text.new text.old) }
 {
     let mut place = 0;
     for entry in slice.endpoints.as_slice() {
@@ -29,8 +31,9 @@ fn push_entry(
     place: u64,
     entry: &SliceEndpoint,
 ) -> Result<(), NoMemory>
-    ensures { OnOk result (string_bytes text.new
+    ensures added { OnOk result (string_bytes text.new
         ≡ string_bytes text.old ++ spec.entry_text key.now place entry.now) }
+    ensures front { OnErr result (HasFront text.new text.old) }
 {
     push(text, "endpoint ")?;
     push_object(text, key)?;
@@ -44,8 +47,9 @@ fn push_entry(
 }
 
 fn push_address_or_dash(text: &mut String, address: Option<Address>) -> Result<(), NoMemory>
-    ensures { OnOk result (string_bytes text.new
+    ensures added { OnOk result (string_bytes text.new
         ≡ string_bytes text.old ++ spec.address_or_dash address) }
+    ensures front { OnErr result (HasFront text.new text.old) }
 {
     match address {
         Some(address) => push_address(text, &address),
@@ -55,8 +59,9 @@ fn push_address_or_dash(text: &mut String, address: Option<Address>) -> Result<(
 
 /// Adds the conditions of an endpoint.
 fn push_state(text: &mut String, entry: &SliceEndpoint) -> Result<(), NoMemory>
-    ensures { OnOk result (string_bytes text.new
+    ensures added { OnOk result (string_bytes text.new
         ≡ string_bytes text.old ++ spec.state_text entry.now) }
+    ensures front { OnErr result (HasFront text.new text.old) }
 {
     push(text, letter_if(entry.ready, "r"))?;
     push(text, letter_if(entry.serving, "s"))?;
@@ -71,8 +76,9 @@ fn letter_if(holds: bool, letter: &'static str) -> &'static str
 
 /// Adds where an endpoint is, and the zones that it is meant for.
 fn push_place(text: &mut String, entry: &SliceEndpoint) -> Result<(), NoMemory>
-    ensures { OnOk result (string_bytes text.new
+    ensures added { OnOk result (string_bytes text.new
         ≡ string_bytes text.old ++ spec.place_text entry.now) }
+    ensures front { OnErr result (HasFront text.new text.old) }
 {
     push(text, " node ")?;
     push(text, text_or_dash(entry.node.as_ref()))?;
@@ -84,8 +90,9 @@ fn push_place(text: &mut String, entry: &SliceEndpoint) -> Result<(), NoMemory>
 
 /// Adds texts with commas between them, or a dash where there are none.
 fn push_hints(text: &mut String, hints: &[Text]) -> Result<(), NoMemory>
-    ensures { OnOk result (string_bytes text.new
+    ensures added { OnOk result (string_bytes text.new
         ≡ string_bytes text.old ++ spec.texts_or_dash hints.now) }
+    ensures front { OnErr result (HasFront text.new text.old) }
 {
     let Some((first, rest)) = hints.split_first() else {
         return push(text, "-");
@@ -95,8 +102,9 @@ fn push_hints(text: &mut String, hints: &[Text]) -> Result<(), NoMemory>
 }
 
 fn push_more_hints(text: &mut String, hints: &[Text]) -> Result<(), NoMemory>
-    ensures { OnOk result (string_bytes text.new
+    ensures added { OnOk result (string_bytes text.new
         ≡ string_bytes text.old ++ flat_map spec.next_text hints.now) }
+    ensures front { OnErr result (HasFront text.new text.old) }
 {
     for hint in hints {
         push(text, ",")?;

@@ -1,6 +1,7 @@
 //! Decisions with their reasons.
-ghost use Rattle.std.specs.Prelude.{◌≡◌, ◌++◌, IfOk, OnOk, string_bytes, codes};
+ghost use Rattle.std.specs.Prelude.{◌≡◌, ◌++◌, IfOk, OnErr, OnOk, string_bytes, codes};
 ghost use Rattle.kp_text_defs.specs.Answers as spec;
+ghost use Rattle.kp_print.specs.Fronts.{HasFront};
 
 use crate::answer::push_verdict;
 use crate::key::push_port;
@@ -31,8 +32,9 @@ pub fn push_explain(
     sync: u64,
     decision: &Decision,
 ) -> Result<(), NoMemory>
-    ensures { OnOk result (string_bytes text.new
+    ensures added { OnOk result (string_bytes text.new
         ≡ string_bytes text.old ++ spec.explain_text number sync decision.now) }
+    ensures front { OnErr result (HasFront text.new text.old) }
 {
     push_labelled(text, "explain ", number)?;
     push_labelled(text, " at ", sync)?;
@@ -45,8 +47,9 @@ pub fn push_explain(
 
 /// Adds a reason.
 fn push_reason(text: &mut String, reason: &Reason) -> Result<(), NoMemory>
-    ensures { OnOk result (string_bytes text.new
+    ensures added { OnOk result (string_bytes text.new
         ≡ string_bytes text.old ++ spec.reason_text reason.now) }
+    ensures front { OnErr result (HasFront text.new text.old) }
 {
     match reason {
         Reason::Door {
@@ -69,8 +72,9 @@ fn push_reason(text: &mut String, reason: &Reason) -> Result<(), NoMemory>
 
 /// Adds a door, and what keeps a packet from its endpoints.
 fn push_shut(text: &mut String, kind: DoorKind, port: &PortKey, words: &str) -> Result<(), NoMemory>
-    ensures { OnOk result (string_bytes text.new
+    ensures added { OnOk result (string_bytes text.new
         ≡ string_bytes text.old ++ (spec.door_text kind port.now ++ words.now)) }
+    ensures front { OnErr result (HasFront text.new text.old) }
 {
     push_door(text, kind, port)?;
     push(text, words)
@@ -78,8 +82,9 @@ fn push_shut(text: &mut String, kind: DoorKind, port: &PortKey, words: &str) -> 
 
 /// Adds a door of a Service port.
 fn push_door(text: &mut String, kind: DoorKind, port: &PortKey) -> Result<(), NoMemory>
-    ensures { OnOk result (string_bytes text.new
+    ensures added { OnOk result (string_bytes text.new
         ≡ string_bytes text.old ++ spec.door_text kind port.now) }
+    ensures front { OnErr result (HasFront text.new text.old) }
 {
     push(text, "door ")?;
     push(text, door_word(kind))?;
@@ -95,8 +100,9 @@ fn push_choice(
     by: ChosenBy,
     place: u64,
 ) -> Result<(), NoMemory>
-    ensures { OnOk result (string_bytes text.new
+    ensures added { OnOk result (string_bytes text.new
         ≡ string_bytes text.old ++ spec.choice_text list size by place) }
+    ensures front { OnErr result (HasFront text.new text.old) }
 {
     push(text, " list ")?;
     push(text, list_word(list))?;

@@ -1,8 +1,9 @@
 //! Objects, Service ports and chains by their names, and texts in quotes.
-ghost use Rattle.std.specs.Prelude.{◌≡◌, ◌++◌, OnOk, string_bytes};
+ghost use Rattle.std.specs.Prelude.{◌≡◌, ◌++◌, OnErr, OnOk, string_bytes};
 ghost use Rattle.kp_choice_defs.specs.Names.{port_name_text};
 ghost use Rattle.kp_text_defs.specs.Keys as spec;
 ghost use Rattle.kp_types.specs.declared.chain.ChainKey.TheVariants.{Sep};
+ghost use Rattle.kp_print.specs.Fronts.{HasFront};
 
 use kp_base::{Endpoint, NoMemory, ObjectKey, PortKey, Proto};
 use kp_print::{push, push_endpoint};
@@ -12,8 +13,9 @@ use std::alloc::Global;
 
 /// Adds a text as a JSON string (RFC 8259, 7), as `serde_json` writes it.
 pub(crate) fn push_quoted(alloc: Global, text: &mut String, quoted: &str) -> Result<(), NoMemory>
-    ensures { OnOk result (string_bytes text.new
+    ensures added { OnOk result (string_bytes text.new
         ≡ string_bytes text.old ++ spec.json_text quoted.now) }
+    ensures front { OnErr result (HasFront text.new text.old) }
 {
     let value = Value::String(String::from_str(alloc, quoted)?);
     push(text, value.to_string(alloc)?.as_str())
@@ -32,8 +34,9 @@ pub(crate) fn proto_word(proto: Proto) -> &'static str
 
 /// Adds an object: `namespace/name`.
 pub(crate) fn push_object(text: &mut String, key: &ObjectKey) -> Result<(), NoMemory>
-    ensures { OnOk result (string_bytes text.new
+    ensures added { OnOk result (string_bytes text.new
         ≡ string_bytes text.old ++ spec.object_text key.now) }
+    ensures front { OnErr result (HasFront text.new text.old) }
 {
     push(text, key.namespace.as_str())?;
     push(text, "/")?;
@@ -42,8 +45,9 @@ pub(crate) fn push_object(text: &mut String, key: &ObjectKey) -> Result<(), NoMe
 
 /// Adds a Service port.
 pub(crate) fn push_port(text: &mut String, port: &PortKey) -> Result<(), NoMemory>
-    ensures { OnOk result (string_bytes text.new
+    ensures added { OnOk result (string_bytes text.new
         ≡ string_bytes text.old ++ spec.port_text port.now) }
+    ensures front { OnErr result (HasFront text.new text.old) }
 {
     push_object(text, &port.object)?;
     push_port_name(text, port.port_name.as_str())?;
@@ -53,8 +57,9 @@ pub(crate) fn push_port(text: &mut String, port: &PortKey) -> Result<(), NoMemor
 
 /// Adds a colon and the name of a port, if it has one.
 fn push_port_name(text: &mut String, name: &str) -> Result<(), NoMemory>
-    ensures { OnOk result (string_bytes text.new
+    ensures added { OnOk result (string_bytes text.new
         ≡ string_bytes text.old ++ port_name_text name.now) }
+    ensures front { OnErr result (HasFront text.new text.old) }
 {
     if name.is_empty() {
         return Ok(());
@@ -65,8 +70,9 @@ fn push_port_name(text: &mut String, name: &str) -> Result<(), NoMemory>
 
 /// Adds what a chain is for.
 pub(crate) fn push_chain_key(text: &mut String, key: &ChainKey) -> Result<(), NoMemory>
-    ensures { OnOk result (string_bytes text.new
+    ensures added { OnOk result (string_bytes text.new
         ≡ string_bytes text.old ++ spec.chain_key_text key.now) }
+    ensures front { OnErr result (HasFront text.new text.old) }
 {
     match key {
         ChainKey::Port { kind: _, port } => push_port(text, port),
@@ -75,8 +81,9 @@ pub(crate) fn push_chain_key(text: &mut String, key: &ChainKey) -> Result<(), No
 }
 
 fn push_endpoint_key(text: &mut String, port: &PortKey, endpoint: &Endpoint) -> Result<(), NoMemory>
-    ensures { OnOk result (string_bytes text.new
+    ensures added { OnOk result (string_bytes text.new
         ≡ string_bytes text.old ++ spec.chain_key_text (Sep port.now endpoint.now)) }
+    ensures front { OnErr result (HasFront text.new text.old) }
 {
     push_port(text, port)?;
     push(text, " ")?;

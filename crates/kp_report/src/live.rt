@@ -1,7 +1,8 @@
 //! The lines of a live run.
-ghost use Rattle.std.specs.Prelude.{◌≡◌, ◌++◌, IfOk, OnOk, string_bytes, option_map, codes};
+ghost use Rattle.std.specs.Prelude.{◌≡◌, ◌++◌, IfOk, OnErr, OnOk, string_bytes, option_map, codes};
 ghost use Rattle.kp_text_defs.specs.Keys.{object_text};
 ghost use Rattle.kp_text_defs.specs.Live as spec;
+ghost use Rattle.kp_print.specs.Fronts.{HasFront};
 
 use crate::key::{push_chain_key, push_object};
 use crate::sync::push_counts;
@@ -34,8 +35,9 @@ pub fn push_event(
     number: u64,
     event: &Event,
 ) -> Result<(), NoMemory>
-    ensures { OnOk result (string_bytes text.new
+    ensures added { OnOk result (string_bytes text.new
         ≡ string_bytes text.old ++ spec.event_text place stream.now number event.now) }
+    ensures front { OnErr result (HasFront text.new text.old) }
 {
     push_labelled(text, "event ", place)?;
     push(text, ": ")?;
@@ -48,8 +50,9 @@ pub fn push_event(
 
 /// Adds a change.
 fn push_change(text: &mut String, event: &Event) -> Result<(), NoMemory>
-    ensures { OnOk result (string_bytes text.new
+    ensures added { OnOk result (string_bytes text.new
         ≡ string_bytes text.old ++ spec.change_text event.now) }
+    ensures front { OnErr result (HasFront text.new text.old) }
 {
     match event {
         Event::Apply(object) => {
@@ -65,8 +68,9 @@ fn push_change(text: &mut String, event: &Event) -> Result<(), NoMemory>
 
 /// Adds the object that is applied.
 fn push_applied(text: &mut String, object: &Object) -> Result<(), NoMemory>
-    ensures { OnOk result (string_bytes text.new
+    ensures added { OnOk result (string_bytes text.new
         ≡ string_bytes text.old ++ spec.applied_text object.now) }
+    ensures front { OnErr result (HasFront text.new text.old) }
 {
     match object {
         Object::Service(service) => push_named(text, Kind::Service, &service.get().key),
@@ -78,8 +82,9 @@ fn push_applied(text: &mut String, object: &Object) -> Result<(), NoMemory>
 
 /// Adds an object by its kind and key.
 fn push_named(text: &mut String, kind: Kind, key: &ObjectKey) -> Result<(), NoMemory>
-    ensures { OnOk result (string_bytes text.new
+    ensures added { OnOk result (string_bytes text.new
         ≡ string_bytes text.old ++ spec.named_text kind key.now) }
+    ensures front { OnErr result (HasFront text.new text.old) }
 {
     match kind {
         Kind::Service => push_namespaced(text, "Service ", key),
@@ -90,16 +95,18 @@ fn push_named(text: &mut String, kind: Kind, key: &ObjectKey) -> Result<(), NoMe
 }
 
 fn push_namespaced(text: &mut String, kind: &str, key: &ObjectKey) -> Result<(), NoMemory>
-    ensures { OnOk result (string_bytes text.new
+    ensures added { OnOk result (string_bytes text.new
         ≡ string_bytes text.old ++ (kind.now ++ object_text key.now)) }
+    ensures front { OnErr result (HasFront text.new text.old) }
 {
     push(text, kind)?;
     push_object(text, key)
 }
 
 fn push_node(text: &mut String, name: &str) -> Result<(), NoMemory>
-    ensures { OnOk result (string_bytes text.new
+    ensures added { OnOk result (string_bytes text.new
         ≡ string_bytes text.old ++ (codes "Node " ++ name.now)) }
+    ensures front { OnErr result (HasFront text.new text.old) }
 {
     push(text, "Node ")?;
     push(text, name)
@@ -129,8 +136,9 @@ pub fn push_record(
     written: u64,
     removed: u64,
 ) -> Result<(), NoMemory>
-    ensures { OnOk result (string_bytes text.new
+    ensures added { OnOk result (string_bytes text.new
         ≡ string_bytes text.old ++ spec.record_text number events written removed) }
+    ensures front { OnErr result (HasFront text.new text.old) }
 {
     push_labelled(text, "record ", number)?;
     push_counts(text, events, written, removed)
@@ -147,8 +155,9 @@ pub fn live_sync_text(alloc: Global, number: u64, sync: u64) -> Result<Text, NoM
 
 /// Adds the line of a sync of a live run.
 pub fn push_live_sync(text: &mut String, number: u64, sync: u64) -> Result<(), NoMemory>
-    ensures { OnOk result (string_bytes text.new
+    ensures added { OnOk result (string_bytes text.new
         ≡ string_bytes text.old ++ spec.live_sync_text number sync) }
+    ensures front { OnErr result (HasFront text.new text.old) }
 {
     push_labelled(text, "sync ", number)?;
     push_labelled(text, ": record ", sync)?;
@@ -167,8 +176,9 @@ pub fn final_text(alloc: Global, sync: u64, clash: Option<&Clash>) -> Result<Tex
 
 /// Adds the last line of a live run before its table.
 pub fn push_final(text: &mut String, sync: u64, clash: Option<&Clash>) -> Result<(), NoMemory>
-    ensures { OnOk result (string_bytes text.new
+    ensures added { OnOk result (string_bytes text.new
         ≡ string_bytes text.old ++ spec.final_text sync (option_map (λ c. c.now) clash.entry)) }
+    ensures front { OnErr result (HasFront text.new text.old) }
 {
     push(text, "final: ")?;
     push_end(text, sync, clash)?;
@@ -177,8 +187,9 @@ pub fn push_final(text: &mut String, sync: u64, clash: Option<&Clash>) -> Result
 
 /// Adds how a live run ended.
 fn push_end(text: &mut String, sync: u64, clash: Option<&Clash>) -> Result<(), NoMemory>
-    ensures { OnOk result (string_bytes text.new
+    ensures added { OnOk result (string_bytes text.new
         ≡ string_bytes text.old ++ spec.end_text sync (option_map (λ c. c.now) clash.entry)) }
+    ensures front { OnErr result (HasFront text.new text.old) }
 {
     match clash {
         Some(clash) => {
@@ -191,8 +202,9 @@ fn push_end(text: &mut String, sync: u64, clash: Option<&Clash>) -> Result<(), N
 
 /// Adds two chains that have one name.
 pub(crate) fn push_clash(text: &mut String, clash: &Clash) -> Result<(), NoMemory>
-    ensures { OnOk result (string_bytes text.new
+    ensures added { OnOk result (string_bytes text.new
         ≡ string_bytes text.old ++ spec.clash_text clash.now) }
+    ensures front { OnErr result (HasFront text.new text.old) }
 {
     push(text, "chain name ")?;
     push(text, clash.name.as_str())?;

@@ -1,7 +1,8 @@
 //! Refusals of lines.
-ghost use Rattle.std.specs.Prelude.{◌≡◌, ◌++◌, IfOk, OnOk, string_bytes, codes, decimal};
+ghost use Rattle.std.specs.Prelude.{◌≡◌, ◌++◌, IfOk, OnErr, OnOk, string_bytes, codes, decimal};
 ghost use Rattle.kp_text_defs.specs.Keys.{json_text};
 ghost use Rattle.kp_text_defs.specs.Refusals as spec;
+ghost use Rattle.kp_print.specs.Fronts.{HasFront};
 
 use crate::key::push_quoted;
 use crate::live::push_clash;
@@ -27,8 +28,9 @@ pub fn push_refusal(
     number: u64,
     refusal: &LineRefusal,
 ) -> Result<(), NoMemory>
-    ensures { OnOk result (string_bytes text.new
+    ensures added { OnOk result (string_bytes text.new
         ≡ string_bytes text.old ++ spec.refusal_text number refusal.now) }
+    ensures front { OnErr result (HasFront text.new text.old) }
 {
     push_labelled(text, "line ", number)?;
     push(text, ": refused: ")?;
@@ -38,8 +40,9 @@ pub fn push_refusal(
 
 /// Adds why a line is refused.
 fn push_words(alloc: Global, text: &mut String, refusal: &LineRefusal) -> Result<(), NoMemory>
-    ensures { OnOk result (string_bytes text.new
+    ensures added { OnOk result (string_bytes text.new
         ≡ string_bytes text.old ++ spec.refusal_words refusal.now) }
+    ensures front { OnErr result (HasFront text.new text.old) }
 {
     match refusal {
         LineRefusal::BadJson => push(text, "bad json"),
@@ -66,8 +69,9 @@ fn push_around(
     quoted: &Text,
     behind: &str,
 ) -> Result<(), NoMemory>
-    ensures { OnOk result (string_bytes text.new ≡ string_bytes text.old
+    ensures added { OnOk result (string_bytes text.new ≡ string_bytes text.old
         ++ (before.now ++ json_text quoted.now ++ behind.now)) }
+    ensures front { OnErr result (HasFront text.new text.old) }
 {
     push(text, before)?;
     push_quoted(alloc, text, quoted.as_str())?;
@@ -75,16 +79,18 @@ fn push_around(
 }
 
 fn push_full(text: &mut String, count: u64) -> Result<(), NoMemory>
-    ensures { OnOk result (string_bytes text.new
+    ensures added { OnOk result (string_bytes text.new
         ≡ string_bytes text.old ++ (codes "journal full at " ++ decimal count)) }
+    ensures front { OnErr result (HasFront text.new text.old) }
 {
     push_labelled(text, "journal full at ", count)
 }
 
 /// Adds a member that is refused.
 fn push_bad_field(alloc: Global, text: &mut String, bad: &BadField) -> Result<(), NoMemory>
-    ensures { OnOk result (string_bytes text.new
+    ensures added { OnOk result (string_bytes text.new
         ≡ string_bytes text.old ++ spec.bad_field_text bad.now) }
+    ensures front { OnErr result (HasFront text.new text.old) }
 {
     push(text, why_words(bad.why))?;
     push_quoted(alloc, text, bad.path.as_str())?;
@@ -108,8 +114,9 @@ fn why_words(why: Why) -> &'static str
 
 /// Adds how many elements there are, where they are too many.
 fn push_count(text: &mut String, why: Why, count: u64) -> Result<(), NoMemory>
-    ensures { OnOk result (string_bytes text.new
+    ensures added { OnOk result (string_bytes text.new
         ≡ string_bytes text.old ++ spec.count_text why count) }
+    ensures front { OnErr result (HasFront text.new text.old) }
 {
     match why {
         Why::TooMany => push_behind_colon(text, count),
@@ -124,8 +131,9 @@ fn push_count(text: &mut String, why: Why, count: u64) -> Result<(), NoMemory>
 }
 
 fn push_behind_colon(text: &mut String, count: u64) -> Result<(), NoMemory>
-    ensures { OnOk result (string_bytes text.new
+    ensures added { OnOk result (string_bytes text.new
         ≡ string_bytes text.old ++ (codes ": " ++ decimal count)) }
+    ensures front { OnErr result (HasFront text.new text.old) }
 {
     push_labelled(text, ": ", count)
 }

@@ -1,7 +1,8 @@
 //! EndpointSlices.
-ghost use Rattle.std.specs.Prelude.{◌≡◌, ◌++◌, IfOk, OnOk, string_bytes, option_map, true, false};
+ghost use Rattle.std.specs.Prelude.{◌≡◌, ◌++◌, IfOk, OnErr, OnOk, string_bytes, option_map, true, false};
 ghost use Rattle.std.specs.List.{flat_map};
 ghost use Rattle.kp_text_defs.specs.Slices as spec;
+ghost use Rattle.kp_print.specs.Fronts.{HasFront};
 
 use crate::entry::push_slice_entries;
 use crate::key::{proto_word, push_object};
@@ -21,8 +22,9 @@ pub fn slices_text(alloc: Global, slices: &Items<Slice>, entries: bool) -> Resul
 
 /// Adds the lines of slices, or of their endpoints.
 pub fn push_slices(text: &mut String, slices: &[Slice], entries: bool) -> Result<(), NoMemory>
-    ensures { OnOk result (string_bytes text.new
+    ensures added { OnOk result (string_bytes text.new
         ≡ string_bytes text.old ++ spec.slices_text slices.now entries) }
+    ensures front { OnErr result (HasFront text.new text.old) }
 {
     if entries {
         push_all_entries(text, slices)
@@ -32,8 +34,9 @@ pub fn push_slices(text: &mut String, slices: &[Slice], entries: bool) -> Result
 }
 
 fn push_all_entries(text: &mut String, slices: &[Slice]) -> Result<(), NoMemory>
-    ensures { OnOk result (string_bytes text.new
+    ensures added { OnOk result (string_bytes text.new
         ≡ string_bytes text.old ++ spec.slices_text slices.now true) }
+    ensures front { OnErr result (HasFront text.new text.old) }
 {
     for slice in slices {
         push_slice_entries(text, slice)?;
@@ -42,8 +45,9 @@ fn push_all_entries(text: &mut String, slices: &[Slice]) -> Result<(), NoMemory>
 }
 
 fn push_all_slices(text: &mut String, slices: &[Slice]) -> Result<(), NoMemory>
-    ensures { OnOk result (string_bytes text.new
+    ensures added { OnOk result (string_bytes text.new
         ≡ string_bytes text.old ++ spec.slices_text slices.now false) }
+    ensures front { OnErr result (HasFront text.new text.old) }
 {
     for slice in slices {
         push_slice(text, slice)?;
@@ -53,8 +57,9 @@ fn push_all_slices(text: &mut String, slices: &[Slice]) -> Result<(), NoMemory>
 
 /// Adds the line of a slice.
 fn push_slice(text: &mut String, slice: &Slice) -> Result<(), NoMemory>
-    ensures { OnOk result (string_bytes text.new
+    ensures added { OnOk result (string_bytes text.new
         ≡ string_bytes text.old ++ spec.slice_text slice.now) }
+    ensures front { OnErr result (HasFront text.new text.old) }
 {
     push_head(text, slice)?;
     push_tail(text, slice)
@@ -62,8 +67,9 @@ fn push_slice(text: &mut String, slice: &Slice) -> Result<(), NoMemory>
 
 /// Adds what a slice has.
 fn push_tail(text: &mut String, slice: &Slice) -> Result<(), NoMemory>
-    ensures { OnOk result (string_bytes text.new
+    ensures added { OnOk result (string_bytes text.new
         ≡ string_bytes text.old ++ spec.slice_tail_text slice.now) }
+    ensures front { OnErr result (HasFront text.new text.old) }
 {
     push(text, ", ports ")?;
     push_ports(text, slice.ports.as_slice())?;
@@ -77,8 +83,9 @@ fn push_tail(text: &mut String, slice: &Slice) -> Result<(), NoMemory>
 
 /// Adds what a slice is of.
 fn push_head(text: &mut String, slice: &Slice) -> Result<(), NoMemory>
-    ensures { OnOk result (string_bytes text.new
+    ensures added { OnOk result (string_bytes text.new
         ≡ string_bytes text.old ++ spec.slice_head_text slice.now) }
+    ensures front { OnErr result (HasFront text.new text.old) }
 {
     push(text, "slice ")?;
     push_object(text, &slice.key)?;
@@ -118,8 +125,9 @@ pub(crate) fn text_or_dash(text: Option<&Text>) -> &str
 
 /// Adds ports with commas between them, or a dash where there are none.
 fn push_ports(text: &mut String, ports: &[SlicePort]) -> Result<(), NoMemory>
-    ensures { OnOk result (string_bytes text.new
+    ensures added { OnOk result (string_bytes text.new
         ≡ string_bytes text.old ++ spec.slice_ports_text ports.now) }
+    ensures front { OnErr result (HasFront text.new text.old) }
 {
     let Some((first, rest)) = ports.split_first() else {
         return push(text, "-");
@@ -129,8 +137,9 @@ fn push_ports(text: &mut String, ports: &[SlicePort]) -> Result<(), NoMemory>
 }
 
 fn push_more_ports(text: &mut String, ports: &[SlicePort]) -> Result<(), NoMemory>
-    ensures { OnOk result (string_bytes text.new
+    ensures added { OnOk result (string_bytes text.new
         ≡ string_bytes text.old ++ flat_map spec.next_port_text ports.now) }
+    ensures front { OnErr result (HasFront text.new text.old) }
 {
     for port in ports {
         push(text, ",")?;
@@ -141,8 +150,9 @@ fn push_more_ports(text: &mut String, ports: &[SlicePort]) -> Result<(), NoMemor
 
 /// Adds a port of a slice.
 fn push_port(text: &mut String, port: &SlicePort) -> Result<(), NoMemory>
-    ensures { OnOk result (string_bytes text.new
+    ensures added { OnOk result (string_bytes text.new
         ≡ string_bytes text.old ++ spec.slice_port_text port.now) }
+    ensures front { OnErr result (HasFront text.new text.old) }
 {
     push(text, port.name.as_str())?;
     push(text, ":")?;
@@ -152,8 +162,9 @@ fn push_port(text: &mut String, port: &SlicePort) -> Result<(), NoMemory>
 }
 
 fn push_number_or_star(text: &mut String, port: Option<PortNo>) -> Result<(), NoMemory>
-    ensures { OnOk result (string_bytes text.new
+    ensures added { OnOk result (string_bytes text.new
         ≡ string_bytes text.old ++ spec.number_or_star port) }
+    ensures front { OnErr result (HasFront text.new text.old) }
 {
     match port {
         Some(port) => push_number(text, port.get() as u64),

@@ -1,6 +1,7 @@
 //! Syncs, and the line where the words don't fit.
-ghost use Rattle.std.specs.Prelude.{◌≡◌, ◌++◌, IfOk, OnOk, string_bytes};
+ghost use Rattle.std.specs.Prelude.{◌≡◌, ◌++◌, IfOk, OnErr, OnOk, string_bytes};
 ghost use Rattle.kp_text_defs.specs.Printed as spec;
+ghost use Rattle.kp_print.specs.Fronts.{HasFront};
 
 use kp_base::{NoMemory, Text};
 use kp_print::{push, push_labelled};
@@ -29,8 +30,9 @@ pub fn push_sync(
     written: u64,
     removed: u64,
 ) -> Result<(), NoMemory>
-    ensures { OnOk result (string_bytes text.new
+    ensures added { OnOk result (string_bytes text.new
         ≡ string_bytes text.old ++ spec.sync_text number events written removed) }
+    ensures front { OnErr result (HasFront text.new text.old) }
 {
     push_labelled(text, "sync ", number)?;
     push_counts(text, events, written, removed)
@@ -43,8 +45,9 @@ pub(crate) fn push_counts(
     written: u64,
     removed: u64,
 ) -> Result<(), NoMemory>
-    ensures { OnOk result (string_bytes text.new
+    ensures added { OnOk result (string_bytes text.new
         ≡ string_bytes text.old ++ spec.counts_text events written removed) }
+    ensures front { OnErr result (HasFront text.new text.old) }
 {
     push_labelled(text, ": events ", events)?;
     push_labelled(text, ", written ", written)?;

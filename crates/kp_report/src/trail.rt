@@ -1,7 +1,8 @@
 //! Trails of packets.
-ghost use Rattle.std.specs.Prelude.{◌≡◌, ◌++◌, IfOk, OnOk, string_bytes};
+ghost use Rattle.std.specs.Prelude.{◌≡◌, ◌++◌, IfOk, OnErr, OnOk, string_bytes};
 ghost use Rattle.std.specs.List.{flat_map};
 ghost use Rattle.kp_text_defs.specs.Answers as spec;
+ghost use Rattle.kp_print.specs.Fronts.{HasFront};
 
 use kp_base::{NoMemory, Text};
 use kp_print::{push, push_labelled};
@@ -20,8 +21,9 @@ pub fn trail_text(alloc: Global, number: u64, trail: &Trail) -> Result<Text, NoM
 
 /// Adds the line of a packet's trail.
 pub fn push_trail(text: &mut String, number: u64, trail: &Trail) -> Result<(), NoMemory>
-    ensures { OnOk result (string_bytes text.new
+    ensures added { OnOk result (string_bytes text.new
         ≡ string_bytes text.old ++ spec.trail_text number trail.now) }
+    ensures front { OnErr result (HasFront text.new text.old) }
 {
     push_labelled(text, "trail ", number)?;
     push(text, ": ")?;
@@ -31,8 +33,9 @@ pub fn push_trail(text: &mut String, number: u64, trail: &Trail) -> Result<(), N
 
 /// Adds traversals with commas between them, or a word where there are none.
 fn push_passes(text: &mut String, passes: &[Pass]) -> Result<(), NoMemory>
-    ensures { OnOk result (string_bytes text.new
+    ensures added { OnOk result (string_bytes text.new
         ≡ string_bytes text.old ++ spec.passes_text passes.now) }
+    ensures front { OnErr result (HasFront text.new text.old) }
 {
     let Some((first, rest)) = passes.split_first() else {
         return push(text, "none");
@@ -42,8 +45,9 @@ fn push_passes(text: &mut String, passes: &[Pass]) -> Result<(), NoMemory>
 }
 
 fn push_more_passes(text: &mut String, passes: &[Pass]) -> Result<(), NoMemory>
-    ensures { OnOk result (string_bytes text.new
+    ensures added { OnOk result (string_bytes text.new
         ≡ string_bytes text.old ++ flat_map spec.next_pass_text passes.now) }
+    ensures front { OnErr result (HasFront text.new text.old) }
 {
     for pass in passes {
         push(text, ", ")?;
@@ -54,8 +58,9 @@ fn push_more_passes(text: &mut String, passes: &[Pass]) -> Result<(), NoMemory>
 
 /// Adds names with spaces between them.
 fn push_chains(text: &mut String, chains: &[ChainName]) -> Result<(), NoMemory>
-    ensures { OnOk result (string_bytes text.new
+    ensures added { OnOk result (string_bytes text.new
         ≡ string_bytes text.old ++ spec.chains_text chains.now) }
+    ensures front { OnErr result (HasFront text.new text.old) }
 {
     let Some((first, rest)) = chains.split_first() else {
         return Ok(());
@@ -65,8 +70,9 @@ fn push_chains(text: &mut String, chains: &[ChainName]) -> Result<(), NoMemory>
 }
 
 fn push_more_chains(text: &mut String, chains: &[ChainName]) -> Result<(), NoMemory>
-    ensures { OnOk result (string_bytes text.new
+    ensures added { OnOk result (string_bytes text.new
         ≡ string_bytes text.old ++ flat_map spec.next_chain_text chains.now) }
+    ensures front { OnErr result (HasFront text.new text.old) }
 {
     for chain in chains {
         push(text, " ")?;

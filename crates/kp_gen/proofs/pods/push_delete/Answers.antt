@@ -1,4 +1,4 @@
 use Rattle.kp_gen.proofs.pods.push_delete.Goals as goal
 
-pub returns : goal.returns
-returns c = rw c.format.ensures.text at c.push_all.ensures
+pub returns-clause-added : goal.returns-clause-added
+returns-clause-added c = rw c.format.ensures.text at c.push_all.ensures.added

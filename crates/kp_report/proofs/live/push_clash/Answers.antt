@@ -1,0 +1,8 @@
+use Rattle.std.proofs.lemmas.Result.{on_err_weaker}
+use Rattle.kp_report.proofs.Pieces.{front_on}
+use Rattle.kp_report.proofs.live.push_clash.Goals as goal
+
+pub returns-clause-front : goal.returns-clause-front
+returns-clause-front c = on_err_weaker c.push_chain_key-2.result
+    (λ h. front_on _ _ _ _ c.in_ok-push.ensures.added (front_on _ _ _ _ c.in_ok-push-2.ensures.added (front_on _ _ _ _ c.in_ok-push-3.ensures.added (front_on _ _ _ _ c.in_ok-push_chain_key.ensures.added (front_on _ _ _ _ c.in_ok-push-4.ensures.added h)))))
+    c.push_chain_key-2.ensures.front

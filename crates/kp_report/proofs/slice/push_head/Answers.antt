@@ -1,0 +1,8 @@
+use Rattle.std.proofs.lemmas.Result.{on_err_weaker}
+use Rattle.kp_report.proofs.Pieces.{front_on}
+use Rattle.kp_report.proofs.slice.push_head.Goals as goal
+
+pub returns-clause-front : goal.returns-clause-front
+returns-clause-front c = on_err_weaker c.push-7.result
+    (λ h. front_on _ _ _ _ c.in_ok-push.ensures.added (front_on _ _ _ _ c.in_ok-push_object.ensures.added (front_on _ _ _ _ c.in_ok-push-2.ensures.added (front_on _ _ _ _ c.in_ok-push-3.ensures.added (front_on _ _ _ _ c.in_ok-push-4.ensures.added (front_on _ _ _ _ c.in_ok-push-5.ensures.added (front_on _ _ _ _ c.in_ok-push-6.ensures.added h)))))))
+    c.push-7.ensures.front
