@@ -2,9 +2,7 @@
 ghost use Rattle.std.specs.Prelude.{◌≡◌, ◌<◌, ◌^◌, All};
 ghost use Rattle.kp_choice_defs.specs.Draws as spec;
 
-use rand_chacha::ChaCha8Rng;
-use rand_core::SeedableRng;
-use rand_core::utils::NextWord;
+use crate::block::{key_of, word_at};
 
 /// The draw that a list lacks: the greatest one, which no test of 1/n with n from 2 matches.
 const MISSING: u32 = 2_147_483_647;
@@ -25,10 +23,7 @@ pub fn draw_of_seed(seed: u64, stream: u64, k: u32) -> u32
     ensures value { result ≡ spec.draw_of_seed seed stream k }
     ensures low { result < 2 ^ 31 }
 {
-    let mut key = [0; 32];
-    key[..8].copy_from_slice(&seed.to_le_bytes());
-    let mut words = ChaCha8Rng::from_seed(key);
-    words.set_stream(stream);
-    words.set_word_pos(k as u128);
-    words.next_word() >> 1
+    let mut bytes = [0; 32];
+    bytes[..8].copy_from_slice(&seed.to_le_bytes());
+    word_at(&key_of(&bytes), stream, k) >> 1
 }

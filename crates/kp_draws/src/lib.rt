@@ -1,6 +1,7 @@
 //! Random numbers of the statistic match, and the selection of an endpoint by them.
 #![tactic(auto)]
 
+mod block;
 mod draws;
 pub mod laws;
 mod source;

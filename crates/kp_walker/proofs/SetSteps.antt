@@ -47,12 +47,12 @@ rule_here e jump sets s to rules from place rule limit left heading next set =
     (inl (subst (λ r. RuleSets e sets r s left) (at_place rules place rule next.here) set)))
 
 -- the rules behind one that goes on come to the set
-pub rule_behind : (e : Surroundings) (jump : List ℕ → WalkState → Outcome) (sets : List ℕ → WalkState → RecentParts → Type 0) (s then : WalkState) (to : Destination) (rules : List Rule) (from place : ℕ) (rule : Rule) (limit : Option ℕ) (left : RecentParts) → to ≡ destination_in e s → IsNext to rules from place rule limit → rule_outcome e jump rule s ≡ walk.Next then → RulesSet e jump sets (drop (place + 1) rules) then left → RulesSet e jump sets (drop from rules) s left
-rule_behind e jump sets s then to rules from place rule limit left heading next on set =
+pub rule_behind : (e : Surroundings) (jump : List ℕ → WalkState → Outcome) (sets : List ℕ → WalkState → RecentParts → Type 0) (s : WalkState) (to : Destination) (rules : List Rule) (from place : ℕ) (rule : Rule) (limit : Option ℕ) (left : RecentParts) → to ≡ destination_in e s → IsNext to rules from place rule limit → OnNext (rule_outcome e jump rule s) (λ t. RulesSet e jump sets (drop (place + 1) rules) t left) → RulesSet e jump sets (drop from rules) s left
+rule_behind e jump sets s to rules from place rule limit left heading next set =
     set_further e s jump sets left rules from place (ap (λ d. next_for d rules from) (sym heading) ∙ next.next)
     (subst (λ xs. RulesSet e jump sets xs s left) (sym (at_drop_more (λ xs. xs) rules place rule next.within))
-    (inr (subst (λ o. OnNext o (λ t. RulesSet e jump sets (drop (place + 1) rules) t left))
-    (sym on ∙ ap (λ r. rule_outcome e jump r s) (at_place rules place rule next.here)) set)))
+    (inr (subst (λ r. OnNext (rule_outcome e jump r s) (λ t. RulesSet e jump sets (drop (place + 1) rules) t left))
+    (at_place rules place rule next.here) set)))
 
 -- a chain comes to the set where the rules that its look-up finds do, with room for one chain less
 pub chain_sets : (e : Surroundings) (at : ChainAt → Option (List Rule)) (table : TableName) (n less : ℕ) (chain : List ℕ) (s : WalkState) (left : RecentParts) (found : Option (List Rule)) → less + 1 ≡ n → found ≡ at (record { table = table; chain = chain }) → FoundSets e (chain_outcome e at table less) (ChainSets e at table less) found s left → ChainSets e at table n chain s left

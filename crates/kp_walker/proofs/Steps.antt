@@ -44,7 +44,7 @@ pub at_place : (rules : List Rule) (place : ℕ) (rule : Rule) → slice_get rul
 at_place rules place rule here = sym (ap (λ o. unwrap_or o rule) here) ∙ unwrap_or-slice_get rules place rule
 
 -- the rules from a place on are the next one that may match the packet, and then those behind it
-rules_from : (e : Surroundings) (jump : List ℕ → WalkState → Outcome) (s : WalkState) (rules : List Rule) (from place : ℕ) (rule : Rule) (limit : Option ℕ) → IsNext (destination_in e s) rules from place rule limit → rules_outcome e jump (drop from rules) s ≡ and_then (rule_outcome e jump rule s) (rules_outcome e jump (drop (place + 1) rules))
+pub rules_from : (e : Surroundings) (jump : List ℕ → WalkState → Outcome) (s : WalkState) (rules : List Rule) (from place : ℕ) (rule : Rule) (limit : Option ℕ) → IsNext (destination_in e s) rules from place rule limit → rules_outcome e jump (drop from rules) s ≡ and_then (rule_outcome e jump rule s) (rules_outcome e jump (drop (place + 1) rules))
 rules_from e jump s rules from place rule limit is =
     passed_over e s jump rules from place is.next
     ∙ at_drop_more (λ rs. rules_outcome e jump rs s) rules place rule is.within
@@ -61,15 +61,8 @@ went_next keeps (walk.Left s) then is = cc
 went_next keeps (walk.Ended end path s) then is = cc
 went_next keeps walk.Stuck then is = cc
 
--- a rule that goes on leaves the rest to the rules behind it
-pub went_on : (keeps : Bool) (e : Surroundings) (jump : List ℕ → WalkState → Outcome) (s then : WalkState) (to : Destination) (rules : List Rule) (from place : ℕ) (rule : Rule) (limit : Option ℕ) → to ≡ destination_in e s → IsNext to rules from place rule limit → walk.Next then ≡ shorn keeps (rule_outcome e jump rule s) → rules_outcome e jump (drop (place + 1) rules) then ≡ rules_outcome e jump (drop from rules) s
-went_on keeps e jump s then to rules from place rule limit heading is next =
-    ap (λ o. and_then o (rules_outcome e jump (drop (place + 1) rules)))
-    (sym (went_next keeps (rule_outcome e jump rule s) then next))
-    ∙ sym (rules_from e jump s rules from place rule limit (subst (λ d. IsNext d rules from place rule limit) heading is))
-
 -- an outcome other than Next stays
-stays : (keeps : Bool) (header : Header) (flow : Flow) (p : Progress) (path : List (List ℕ)) (lists : RecentParts) (o : Outcome) (next : WalkState → Outcome) → (flow ≡ Next → ⊥) → outcome_of header flow p path lists ≡ shorn keeps o → outcome_of header flow p path lists ≡ shorn keeps (and_then o next)
+pub stays : (keeps : Bool) (header : Header) (flow : Flow) (p : Progress) (path : List (List ℕ)) (lists : RecentParts) (o : Outcome) (next : WalkState → Outcome) → (flow ≡ Next → ⊥) → outcome_of header flow p path lists ≡ shorn keeps o → outcome_of header flow p path lists ≡ shorn keeps (and_then o next)
 stays keeps header Next p path lists o next other is = absurd (other refl)
 stays keeps header Left p path lists (walk.Next s) next other is = cc
 stays keeps header Ended p path lists (walk.Next s) next other is = cc
@@ -77,12 +70,6 @@ stays keeps header Stuck p path lists (walk.Next s) next other is = cc
 stays keeps header flow p path lists (walk.Left s) next other is = is
 stays keeps header flow p path lists (walk.Ended end way s) next other is = is
 stays keeps header flow p path lists walk.Stuck next other is = is
-
--- a rule that doesn't go on is the outcome of the rules from a place on
-pub ended_here : (keeps : Bool) (e : Surroundings) (jump : List ℕ → WalkState → Outcome) (s : WalkState) (to : Destination) (rules : List Rule) (from place : ℕ) (rule : Rule) (limit : Option ℕ) (header : Header) (flow : Flow) (p : Progress) (path : List (List ℕ)) (lists : RecentParts) → to ≡ destination_in e s → IsNext to rules from place rule limit → (flow ≡ Next → ⊥) → outcome_of header flow p path lists ≡ shorn keeps (rule_outcome e jump rule s) → outcome_of header flow p path lists ≡ shorn keeps (rules_outcome e jump (drop from rules) s)
-ended_here keeps e jump s to rules from place rule limit header flow p path lists heading next other is =
-    stays keeps header flow p path lists (rule_outcome e jump rule s) (rules_outcome e jump (drop (place + 1) rules)) other is
-    ∙ ap (shorn keeps) (sym (rules_from e jump s rules from place rule limit (subst (λ d. IsNext d rules from place rule limit) heading next)))
 
 -- behind a jump nothing more is told of an outcome
 pub shorn_returned : (keeps : Bool) (chain : List ℕ) (o : Outcome) → shorn keeps (walk.returned_from chain (shorn keeps o)) ≡ shorn keeps (walk.returned_from chain o)

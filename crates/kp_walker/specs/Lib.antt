@@ -1,5 +1,6 @@
 pub mod Answers
 pub mod Flow
+pub mod Held
 pub mod Journeys
 pub mod Next
 pub mod Progress

@@ -2,17 +2,16 @@
 ghost use Rattle.std.specs.Prelude.{◌≡◌, ◌≤◌, ◌<◌, [], OnOk, OnErr, IfOk};
 ghost use Rattle.std.specs.Option.{option_copied};
 ghost use Rattle.kp_choice_defs.specs.Draws.{IsStated, AreDraws};
-ghost use Rattle.kp_rules.specs.Limits.{limit_of};
-ghost use Rattle.kp_table_defs.specs.Walk.{rules_outcome, rule_outcome};
+ghost use Rattle.kp_table_defs.specs.Walk.{rules_outcome, target_outcome};
 ghost use Rattle.kp_walker.specs.Flow.{jump_of, sets_of, outcome_of, IsThrough};
 ghost use Rattle.kp_walker.specs.Progress.{state_of};
-ghost use Rattle.kp_walker.specs.Sets.{RuleSets, RulesSet};
+ghost use Rattle.kp_walker.specs.Sets.{RulesSet, TargetSets};
 ghost use Rattle.kp_walker.specs.Shorn.{shorn};
 ghost use Rattle.kp_walker.specs.Surroundings.{surroundings_of, chains_of};
 
 use crate::flow::Flow;
 use crate::hook::Hook;
-use crate::next::{NextRule, next_rule};
+use crate::next::NextRule;
 use crate::progress::Progress;
 use crate::recorder::Recorder;
 use kp_base::NoMemory;
@@ -68,8 +67,8 @@ impl<F: Fn(u64, u32) -> u32> Hook<'_, F> {
         }
     }
 
-    /// Walks the rules that may match the packet, in order, up to the first that ends the walk of
-    /// the chain.
+    /// Walks the rules that match the packet, in order, up to the first that ends the walk of the
+    /// chain.
     #[cycle(walk)]
     fn run_rules<R: Recorder>(
         &self,
@@ -100,8 +99,8 @@ impl<F: Fn(u64, u32) -> u32> Hook<'_, F> {
     {
         let to = self.destination();
         let mut from = 0;
-        while let Some(next) = next_rule(chain, from, &to) {
-            let flow = self.run_rule(&next, depth, progress, lists, recorder)?;
+        while let Some(next) = self.next_held(chain, from, &to, progress, lists)? {
+            let flow = self.run_target(&next, depth, progress, lists, recorder)?;
             match flow {
                 Flow::Next => from = next.place + 1,
                 _ => return Ok(flow),
@@ -110,9 +109,9 @@ impl<F: Fn(u64, u32) -> u32> Hook<'_, F> {
         Ok(Flow::Next)
     }
 
-    /// Walks one rule: its target, where its matches hold.
+    /// Does what a rule's target says.
     #[cycle(walk)]
-    fn run_rule<R: Recorder>(
+    fn run_target<R: Recorder>(
         &self,
         next: &NextRule<'_>,
         depth: usize,
@@ -124,24 +123,19 @@ impl<F: Fn(u64, u32) -> u32> Hook<'_, F> {
             (F.post self.now.around.now.draws.now) }
         requires new { R.way recorder.old ≡ [] }
         requires room { depth < 8 }
-        requires ready { next.now.limit ≡ limit_of next.now.rule.now }
         ensures outcome { IfOk result (λ flow. (draws : _)
             → AreDraws (F.post self.now.around.now.draws.now) self.now.around.now.number draws
             → outcome_of self.now.header flow progress.new (R.way recorder.new) lists.new
             ≡ shorn R.keeps
-            (rule_outcome (surroundings_of self.now.around.now draws)
-            (jump_of self.now draws depth) next.now.rule.now
+            (target_outcome (jump_of self.now draws depth) next.now.rule.now.target
             (state_of self.now.header progress.old lists.old))) }
         ensures way { IfOk result (λ flow. IsThrough flow depth (R.way recorder.new)) }
         ensures refused { OnErr result ((draws : _)
             → AreDraws (F.post self.now.around.now.draws.now) self.now.around.now.number draws
-            → RuleSets (surroundings_of self.now.around.now draws) (sets_of self.now draws depth)
-            next.now.rule.now (state_of self.now.header progress.old lists.old) lists.new) }
+            → TargetSets (sets_of self.now draws depth) next.now.rule.now.target
+            (state_of self.now.header progress.old lists.old) lists.new) }
         ensures trail { R.trail recorder.new ≡ R.trail recorder.old }
     {
-        if !self.try_rule(next.rule, next.limit, progress, lists)? {
-            return Ok(Flow::Next);
-        }
         match &next.rule.target {
             Target::Jump(chain) => {
                 let found = self.jumped(next, chain);

@@ -4,6 +4,7 @@
 mod chains;
 mod flow;
 mod header;
+mod held;
 mod hook;
 mod hooks;
 mod journey;

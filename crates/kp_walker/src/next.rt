@@ -16,8 +16,25 @@ pub(crate) struct NextRule<'a> {
     pub(crate) limit: Option<u32>,
 }
 
-/// The first rule at or after a place that may match packets to this destination.
+/// The first rule at or after a place that may match packets to this destination. A rule whose only
+/// match is a draw asks for no destination, so none has to be looked for.
 pub(crate) fn next_rule<'a>(chain: &'a Chain, from: u64, to: &Destination) -> Option<NextRule<'a>>
+    ensures next { IfSome result (λ n. IsNext to.now chain.now from n.place n.rule.now n.limit) }
+    ensures none { result ≡ None → next_for to.now chain.now from ≡ None }
+{
+    match chain.limit(from) {
+        None => next_asking(chain, from, to),
+        Some(limit) => Some(NextRule {
+            chain,
+            place: from,
+            rule: rule_at(chain.rules(), from),
+            limit: Some(limit),
+        }),
+    }
+}
+
+/// The same, by what rules ask for.
+fn next_asking<'a>(chain: &'a Chain, from: u64, to: &Destination) -> Option<NextRule<'a>>
     ensures next { IfSome result (λ n. IsNext to.now chain.now from n.place n.rule.now n.limit) }
     ensures none { result ≡ None → next_for to.now chain.now from ≡ None }
 {

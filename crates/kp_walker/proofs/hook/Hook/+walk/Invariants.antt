@@ -15,8 +15,8 @@ decreases-run_chain g l = 3 * l.depth
 abbrev pub decreases-run_rules : goal.decreases-run_rules
 decreases-run_rules g l = 3 * l.depth + 2
 
-abbrev pub decreases-run_rule : goal.decreases-run_rule
-decreases-run_rule g l = 3 * l.depth + 1
+abbrev pub decreases-run_target : goal.decreases-run_target
+decreases-run_target g l = 3 * l.depth + 1
 
 -- the rules from a place on do what all do from the start
 abbrev pub invariant-run_rules-loop-next : goal.invariant-run_rules-loop-next

@@ -1,0 +1,12 @@
+use Rattle.rand_chacha.specs.Block.{column_round}
+use Rattle.kp_draws.proofs.block.column_round.Goals as goal
+
+pub returns : goal.returns
+unfolding column_round
+returns c =
+    rw (
+      ← c.quarter_round-a0.ensures,
+      ← c.quarter_round-a1.ensures,
+      ← c.quarter_round-a2.ensures,
+      ← c.quarter_round-a3.ensures,
+    )
