@@ -14,32 +14,32 @@ use Rattle.kp_lemmas.proofs.Orders.{equal_from_test}
 use Rattle.kp_choice_defs.specs.Recent.{Sighting, Shard, RecentParts, is_of, is_within, shard_cmp, shard_of, sightings, with_sightings}
 use Rattle.kp_part_laws.specs.Unseen.{IsUnseen, OthersUnseen, PartsUnseen, between, kept_parts}
 
-part_total : IsTotalOrder shard_cmp
+pub part_total : IsTotalOrder shard_cmp
 part_total = then_total (on_total (λ k. k.list) text_total) (on_total (λ k. k.part) nat_cmp_total)
 
-part_exact : IsAntisymmetric shard_cmp
+pub part_exact : IsAntisymmetric shard_cmp
 part_exact a b h = ap (λ (p : List ℕ × ℕ). record { list = p.0; part = p.1 }) (exact_pairs text_cmp nat_cmp text_exact nat_cmp-IsAntisymmetric (a.list, a.part) (b.list, b.part) h)
 
-one_part : (a b : Shard) → eq_by_cmp shard_cmp a b ≡ true → a ≡ b
+pub one_part : (a b : Shard) → eq_by_cmp shard_cmp a b ≡ true → a ≡ b
 one_part a b h = part_exact a b (equal_from_test (shard_cmp a b) h)
 
-abbrev Held : Type 0
+abbrev pub Held : Type 0
 Held = Option (List Sighting)
 
 -- A change that does something of its own at each shard, and nothing at those of a source's part.
-module _ (source : AddressParts) (change : RecentParts → RecentParts) (own : Shard → Held → Held)
+module _ (source : AddressParts) (change : RecentParts → RecentParts) (own : ℕ → Shard → Held → Held)
     (sized : (lists : RecentParts) → (change lists).size ≡ lists.size)
-    (does : (lists : RecentParts) (q : Shard) → get (change lists).parts q ≡ own q (get lists.parts q))
-    (stays : (q : Shard) (h : Held) → q.part ≡ source.number % 16 → own q h ≡ h) where
+    (does : (lists : RecentParts) (q : Shard) → get (change lists).parts q ≡ own lists.size q (get lists.parts q))
+    (stays : (size : ℕ) (q : Shard) (h : Held) → q.part ≡ source.number % 16 → own size q h ≡ h) where
   same_sightings : (lists : RecentParts) (list : List ℕ)
       → sightings (change lists) (shard_of list source) ≡ sightings lists (shard_of list source)
-  same_sightings lists list = ap (λ h. unwrap_or h []) (does lists (shard_of list source) ∙ stays (shard_of list source) _ refl)
+  same_sightings lists list = ap (λ h. unwrap_or h []) (does lists (shard_of list source) ∙ stays lists.size (shard_of list source) _ refl)
 
   module _ (k : Shard) (at : k.part ≡ source.number % 16) (h : Held) where
     -- at the shard itself what is put there is found, and elsewhere what the change does
-    put_by : (b : Bool) (q : Shard) (old : Held) → eq_by_cmp shard_cmp q k ≡ b → cond b h (own q old) ≡ own q (cond b h old)
-    put_by true q old same = sym (stays q h (ap (λ (x : Shard). x.part) (one_part q k same) ∙ at))
-    put_by false q old same = refl
+    put_by : (size : ℕ) (b : Bool) (q : Shard) (old : Held) → eq_by_cmp shard_cmp q k ≡ b → cond b h (own size q old) ≡ own size q (cond b h old)
+    put_by size true q old same = sym (stays size q h (ap (λ (x : Shard). x.part) (one_part q k same) ∙ at))
+    put_by size false q old same = refl
 
   inserted_same : (lists : RecentParts) (k : Shard) → k.part ≡ source.number % 16 → (v : List Sighting)
       → insert (change lists).parts k v ≡ (change (record lists { parts = insert lists.parts k v })).parts
@@ -47,8 +47,8 @@ module _ (source : AddressParts) (change : RecentParts → RecentParts) (own : S
       same_map part_total part_exact _ _ (λ q.
       get-insert part_total (change lists).parts k v q
       ∙ ap (λ o. cond (eq_by_cmp shard_cmp q k) (Some v) o) (does lists q)
-      ∙ put_by k at (Some v) (eq_by_cmp shard_cmp q k) q (get lists.parts q) refl
-      ∙ ap (own q) (sym (get-insert part_total lists.parts k v q))
+      ∙ put_by k at (Some v) lists.size (eq_by_cmp shard_cmp q k) q (get lists.parts q) refl
+      ∙ ap (own lists.size q) (sym (get-insert part_total lists.parts k v q))
       ∙ sym (does (record lists { parts = insert lists.parts k v }) q))
 
   removed_same : (lists : RecentParts) (k : Shard) → k.part ≡ source.number % 16
@@ -57,8 +57,8 @@ module _ (source : AddressParts) (change : RecentParts → RecentParts) (own : S
       same_map part_total part_exact _ _ (λ q.
       get-remove part_total (change lists).parts k q
       ∙ ap (λ o. cond (eq_by_cmp shard_cmp q k) None o) (does lists q)
-      ∙ put_by k at None (eq_by_cmp shard_cmp q k) q (get lists.parts q) refl
-      ∙ ap (own q) (sym (get-remove part_total lists.parts k q))
+      ∙ put_by k at None lists.size (eq_by_cmp shard_cmp q k) q (get lists.parts q) refl
+      ∙ ap (own lists.size q) (sym (get-remove part_total lists.parts k q))
       ∙ sym (does (record lists { parts = remove lists.parts k }) q))
 
   with_same : (lists : RecentParts) (k : Shard) → k.part ≡ source.number % 16 → (ss : List Sighting)
@@ -92,15 +92,15 @@ kept_by false h e = absurd (cc)
 
 pub parts_unseen : PartsUnseen
 parts_unseen keeps source kept =
-    pointwise_unseen source (kept_parts keeps) (λ q h. cond (keeps q.part) h None) (λ lists. refl)
+    pointwise_unseen source (kept_parts keeps) (λ size q h. cond (keeps q.part) h None) (λ lists. refl)
     (λ lists q. get-retain_keys lists.parts (λ at. keeps at.part) q (λ x same. ap (λ (y : Shard). keeps y.part) (sym (part_exact q x same))))
-    (λ q h at. kept_by (keeps q.part) h (ap keeps at ∙ kept))
+    (λ size q h at. kept_by (keeps q.part) h (ap keeps at ∙ kept))
 
-or_none : (h : Held) → option_or h None ≡ h
+pub or_none : (h : Held) → option_or h None ≡ h
 or_none None = refl
 or_none (Some x) = refl
 
-found_beside : (es fs : List (Shard × List Sighting)) (q : Shard)
+pub found_beside : (es fs : List (Shard × List Sighting)) (q : Shard)
     → find shard_cmp q (es ++ fs) ≡ option_or (find shard_cmp q es) (find shard_cmp q fs)
 found_beside [] fs q = refl
 found_beside (e ∷ es) fs q =
@@ -118,9 +118,9 @@ found_between es fs gs q =
 
 pub others_unseen : OthersUnseen
 others_unseen before behind source lack_before lack_behind =
-    pointwise_unseen source (between before behind) (λ q h. option_or (option_or (get before.parts q) h) (get behind.parts q)) (λ lists. refl)
+    pointwise_unseen source (between before behind) (λ size q h. option_or (option_or (get before.parts q) h) (get behind.parts q)) (λ lists. refl)
     (λ lists q.
     get-from_entries part_total (entries before.parts ++ entries lists.parts ++ entries behind.parts) q
     ∙ found_between (entries before.parts) (entries lists.parts) (entries behind.parts) q
     ∙ (λ i. option_or (option_or (sym (get-entries before.parts q) i) (sym (get-entries lists.parts q) i)) (sym (get-entries behind.parts q) i)))
-    (λ q h at. (λ i. option_or (option_or (lack_before q at i) h) (lack_behind q at i)) ∙ or_none h)
+    (λ size q h at. (λ i. option_or (option_or (lack_before q at i) h) (lack_behind q at i)) ∙ or_none h)

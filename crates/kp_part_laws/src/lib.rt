@@ -2,6 +2,7 @@
 //! and changes that part alone. Each law is the contract of a function that does nothing.
 #![tactic(auto)]
 
+ghost use Rattle.kp_part_laws.specs.Beside.{SideBySide};
 ghost use Rattle.kp_part_laws.specs.Unseen.{WalksUnseen, DecidesUnseen, PartsUnseen, OthersUnseen};
 
 /// A change of recent lists that the calls for a packet's source can't tell makes no difference to
@@ -25,4 +26,10 @@ pub fn parts_unseen()
 #[tactic(auto, using(crate::proofs::Pointwise::others_unseen))]
 pub fn others_unseen()
     ensures { OthersUnseen }
+{}
+
+/// Workers who each have parts of the recent lists, and do the items that look at these in order,
+/// are one thread that does all items in order: so are their answers and their lists.
+pub fn side_by_side<A, B>()
+    ensures { SideBySide A B }
 {}

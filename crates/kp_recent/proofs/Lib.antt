@@ -1,6 +1,7 @@
 pub mod Falling
 pub mod Parts
 pub mod Put
+pub mod Shelves
 pub mod Shown
 pub mod Sources
 pub mod Turn

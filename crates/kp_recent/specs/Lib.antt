@@ -1,3 +1,4 @@
 pub mod Held
 pub mod Moments
+pub mod Shelves
 pub mod Tails

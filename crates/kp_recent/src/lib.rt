@@ -4,5 +4,6 @@
 mod key;
 mod lists;
 mod part;
+mod shelf;
 
 pub use lists::RecentLists;
