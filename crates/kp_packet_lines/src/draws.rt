@@ -7,6 +7,7 @@ ghost use Rattle.kp_packet_lines.specs.Taken.{Takes, place_of};
 
 use crate::numbers::LowNumbers;
 use crate::object::{Plain, PlainObject};
+use crate::untaken::Untaken;
 use kp_base::Items;
 use kp_text_defs::Draws;
 use std::alloc::Global;
@@ -15,17 +16,15 @@ use std::alloc::Global;
 const MAX_DRAWS: usize = 1000;
 
 /// The list of draws, or nothing where there is none.
-pub(crate) fn listed_draws(object: PlainObject<'_>) -> Option<Option<LowNumbers>>
+pub(crate) fn listed_draws(object: PlainObject<'_>) -> Result<Option<LowNumbers>, Untaken>
     ensures { Takes (option_map (λ d. d.numbers)) result
         (row_fault (each_up_to 1000 (codes "draws") draw_rows) (place_of object.entry))
         (listed_in (place_of object.entry)) }
 {
     match object.into_member("draws") {
-        None => Some(None),
-        Some(Plain::Numbers(list)) if list.numbers.as_slice().len() <= MAX_DRAWS => Some(Some(
-            list,
-        )),
-        Some(_) => None,
+        None => Ok(None),
+        Some(Plain::Numbers(list)) if list.numbers.as_slice().len() <= MAX_DRAWS => Ok(Some(list)),
+        Some(_) => Err(Untaken::Unread),
     }
 }
 

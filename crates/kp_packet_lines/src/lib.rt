@@ -9,9 +9,11 @@ mod numbers;
 mod object;
 mod reading;
 mod stream;
+mod untaken;
 
 pub use json::Scratch;
 pub use line::packet_line;
 pub use numbers::LowNumbers;
 pub use object::{Plain, PlainObject};
 pub use reading::plain_object;
+pub use untaken::Untaken;

@@ -26,4 +26,4 @@ by_read bs (Some d) is utf8 none = absurd (none d (utf8, is))
 pub tree_refused : (bs : List ℕ) (fault : JsonFault) → (fault ≡ json.BadJson → (d : Data) → ReadsAs bs d → ⊥)
     → Told {Y = Data} (of_json_fault fault) (or_refusal BadJson (json_of bs))
 tree_refused bs json.BadJson none = ap (or_refusal BadJson) (json_none bs (λ utf8. by_read bs (read bs) refl utf8 (none refl)))
-tree_refused bs json.NoMemory none = tt
+tree_refused bs (json.NoMemory refused) none = tt

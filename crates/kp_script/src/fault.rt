@@ -1,4 +1,5 @@
 //! Why a script line was not read.
+use kp_base::NoMemory;
 use kp_events::EventFault;
 use kp_json::FieldFault;
 use kp_text_defs::LineRefusal;
@@ -8,7 +9,7 @@ use kp_text_defs::LineRefusal;
 pub enum ScriptFault {
     /// The line is refused, for this reason.
     Refused(LineRefusal),
-    NoMemory,
+    NoMemory(NoMemory),
 }
 
 impl From<FieldFault> for ScriptFault {
@@ -20,7 +21,7 @@ impl From<FieldFault> for ScriptFault {
     fn from(fault: FieldFault) -> ScriptFault {
         match fault {
             FieldFault::Bad(field) => ScriptFault::Refused(LineRefusal::Bad(field)),
-            FieldFault::NoMemory => ScriptFault::NoMemory,
+            FieldFault::NoMemory(refused) => ScriptFault::NoMemory(refused),
         }
     }
 }
@@ -38,7 +39,7 @@ impl From<EventFault> for ScriptFault {
                 ScriptFault::Refused(LineRefusal::UnsupportedKind { kind })
             }
             EventFault::Bad(field) => ScriptFault::Refused(LineRefusal::Bad(field)),
-            EventFault::NoMemory => ScriptFault::NoMemory,
+            EventFault::NoMemory(refused) => ScriptFault::NoMemory(refused),
         }
     }
 }

@@ -42,7 +42,8 @@ pub fn line_with(
     ensures { GivesScript (λ line. line) result (line_of bytes.now first) }
 {
     match packet_line(alloc, bytes, scratch) {
-        Some(line) => Ok(line),
+        Some(Ok(line)) => Ok(line),
+        Some(Err(refusal)) => Err(ScriptFault::Refused(refusal)),
         None => line_of(alloc, bytes, first),
     }
 }
@@ -61,7 +62,7 @@ fn json_fault(fault: JsonFault) -> ScriptFault
 {
     match fault {
         JsonFault::BadJson => ScriptFault::Refused(LineRefusal::BadJson),
-        JsonFault::NoMemory => ScriptFault::NoMemory,
+        JsonFault::NoMemory(refused) => ScriptFault::NoMemory(refused),
     }
 }
 
@@ -165,6 +166,6 @@ fn unknown_op(alloc: Global, name: &str) -> ScriptFault
 {
     match Text::of(alloc, name) {
         Ok(op) => ScriptFault::Refused(LineRefusal::UnknownOp { op }),
-        Err(_) => ScriptFault::NoMemory,
+        Err(refused) => ScriptFault::NoMemory(refused),
     }
 }

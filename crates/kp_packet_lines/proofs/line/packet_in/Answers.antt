@@ -9,13 +9,13 @@ use Rattle.kp_packet_lines.proofs.line.packet_in.Goals as goal
 pub returns : goal.returns
 returns c =
     let list = c.in_ok-list.ensures in
-    let drawn = c.in_ok-drawn.ensures in
+    let drawn = c.in_ok-drawn.ensures.seed in
     let read = c.draws_of-draws.ensures.draws ∙ (λ i. draws_of (list.1 i) (drawn.1 i)) in (
       λ i. or_then (c.in_ok-from.ensures.0 i) (or_then (c.in_ok-source.ensures.0 i)
           (or_then (c.in_ok-target.ensures.0 i) (or_then (c.in_ok-protocol.ensures.0 i)
           (or_then (c.in_ok-from_port.ensures.0 i) (or_then (c.in_ok-port.ensures.0 i)
           (or_then (c.in_ok-now.ensures.0 i) (or_then (list.0 i) (or_then (drawn.0 i)
-          (or_then (c.in_ok-has_trail.ensures.0 i) None))))))))),
+          (or_then (c.in_ok-has_trail.ensures.trail.0 i) None))))))))),
       same_packet_line _ _ (λ i. (
         record {
           from = c.in_ok-from.ensures.1 i;
@@ -27,6 +27,6 @@ returns c =
         },
         c.in_ok-from_port.ensures.1 i,
         read i,
-        c.in_ok-has_trail.ensures.1 i,
+        c.in_ok-has_trail.ensures.trail.1 i,
       )),
     )
