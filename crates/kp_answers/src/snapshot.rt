@@ -1,5 +1,6 @@
 //! Answers from a table.
 ghost use Rattle.std.specs.Prelude.{◌≡◌, ◌<◌, ◌^◌, ◌++◌, true, IfOk, OnOk, OnErr, string_bytes};
+ghost use Rattle.kp_print.specs.Fronts.{HasFront};
 ghost use Rattle.kp_run_defs.specs.AnswerText.{answer_text, draws_at};
 ghost use Rattle.kp_table_defs.specs.Ranks.{is_ranked};
 ghost use Rattle.kp_walker.specs.Answers.{answered};
@@ -27,7 +28,8 @@ impl Snapshot<'_> {
 
     /// Adds what the line of this number is answered: where the rules of a table that can be walked
     /// send its packet, and its trail where the line asks for it. Its source may be remembered.
-    /// Without memory the recent lists are those of the walk, or as they stood on its way.
+    /// Without memory the recent lists are those of the walk, or as they stood on its way, and what
+    /// was in the text stands.
     pub fn answer(
         &self,
         number: u64,
@@ -41,6 +43,7 @@ impl Snapshot<'_> {
         ensures lists { OnOk result (lists.new
             ≡ (walk_in self.now number line.now lists.old).lists) }
         ensures refused { OnErr result (IsPartly self.now number line.now lists.old lists.new) }
+        ensures front { OnErr result (HasFront text.new text.old) }
     {
         if line.trail {
             let answer = self.walk(number, line, lists)?;

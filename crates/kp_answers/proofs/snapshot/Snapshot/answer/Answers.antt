@@ -11,7 +11,7 @@ returns-in_ok-push_answer-clause-text c =
     (walk_in c.args.self.now c.args.number c.args.line.now c.args.lists.now)
     (string_bytes c.args.text.now) (string_bytes c.push_answer.new.text)
     (string_bytes c.push_trail.new.text) c.in_ok-answer.answer c.walk.new.lists
-    c.if-line.true c.in_ok-answer.ensures.walk c.in_ok-push_answer.ensures) c.push_trail.ensures
+    c.if-line.true c.in_ok-answer.ensures.walk c.in_ok-push_answer.ensures.added) c.push_trail.ensures.added
 
 pub returns-in_ok-verdict-clause-text : goal.returns-in_ok-verdict-clause-text
 returns-in_ok-verdict-clause-text c =
@@ -20,4 +20,4 @@ returns-in_ok-verdict-clause-text c =
     (walk_in c.args.self.now c.args.number c.args.line.now c.args.lists.now)
     (string_bytes c.args.text.now) (string_bytes c.args.text.now)
     (string_bytes c.push_answer-else-line.new.text) c.in_ok-verdict.verdict
-    c.if-line.false c.in_ok-verdict.ensures.verdict) c.push_answer-else-line.ensures
+    c.if-line.false c.in_ok-verdict.ensures.verdict) c.push_answer-else-line.ensures.added

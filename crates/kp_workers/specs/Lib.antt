@@ -1,0 +1,3 @@
+pub mod Texts
+pub mod Walks
+pub mod Workers

@@ -1,0 +1,47 @@
+//! Answers from recent lists that workers share out.
+ghost use Rattle.std.specs.Prelude.{◌≡◌, ◌++◌, true, IfOk, OnOk, string_bytes};
+ghost use Rattle.kp_answers.specs.Walks.{answer_in, walk_in};
+ghost use Rattle.kp_table_defs.specs.Ranks.{is_ranked};
+
+use crate::part_lists::{PartLists, part_of};
+use crate::worker::worker_of;
+use kp_answers::{PacketLine, Snapshot};
+use kp_base::NoMemory;
+use kp_types::Verdict;
+
+impl PartLists {
+    /// Adds what the line of this number is answered, as the snapshot answers it.
+    pub fn answer(
+        &mut self,
+        snapshot: &Snapshot<'_>,
+        number: u64,
+        line: &PacketLine,
+        text: &mut String,
+    ) -> Result<(), NoMemory>
+        requires ranked { is_ranked snapshot.now.table.now.chains ≡ true }
+        ensures text { OnOk result (string_bytes text.new
+            ≡ string_bytes text.old ++ answer_in snapshot.now number line.now self.old) }
+        ensures lists { OnOk result (self.new
+            ≡ (walk_in snapshot.now number line.now self.old).lists) }
+    {
+        let place = worker_of(self.workers.len(), part_of(&line.packet.source));
+        snapshot.answer(number, line, &mut self.workers[place].lists, text)
+    }
+
+    /// What becomes of the packet of the line of this number, as the snapshot tells it.
+    pub fn verdict_of(
+        &mut self,
+        snapshot: &Snapshot<'_>,
+        number: u64,
+        line: &PacketLine,
+    ) -> Result<Verdict, NoMemory>
+        requires ranked { is_ranked snapshot.now.table.now.chains ≡ true }
+        ensures verdict { IfOk result (λ verdict. verdict
+            ≡ (walk_in snapshot.now number line.now self.old).verdict) }
+        ensures lists { OnOk result (self.new
+            ≡ (walk_in snapshot.now number line.now self.old).lists) }
+    {
+        let place = worker_of(self.workers.len(), part_of(&line.packet.source));
+        snapshot.verdict_of(number, line, &mut self.workers[place].lists)
+    }
+}
