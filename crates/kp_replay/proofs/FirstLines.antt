@@ -21,7 +21,7 @@ use Rattle.kp_replay.specs.Steps.{HasNoEvents, IsReady, MayTake, given_line}
 -- ---- What is read from a later line
 
 -- no configuration
-abbrev NotConfig : Op → Type 0
+abbrev pub NotConfig : Op → Type 0
 NotConfig (op.Config c) = ⊥
 NotConfig (op.Events events) = ⊤
 NotConfig op.Sync = ⊤
@@ -50,7 +50,7 @@ at_free : (p : Place) (at : Option Place) → IfOk (op_at false p at) NotConfig
 at_free p None = events_free (read_events p)
 at_free p (Some q) = bound NotConfig (of_members (text_at q)) (op_named false p) (λ name. bound NotConfig (command_of name) (op_of false p) (op_free p))
 
-abbrev IsFree : ScriptLine → Type 0
+abbrev pub IsFree : ScriptLine → Type 0
 IsFree line = NotConfig line.op
 
 line_free : (stream : Stream) (r : Result Op LineRefusal) → IfOk r NotConfig → IfOk (r >>= with_stream stream) IsFree
@@ -64,7 +64,7 @@ script_free p =
     bound IsFree (of_members (read_stream p)) (λ stream. op_at false p (member_at p (codes "op")) >>= with_stream stream) (λ stream.
     line_free stream (op_at false p (member_at p (codes "op"))) (at_free p (member_at p (codes "op")))))
 
-later_free : (bytes : List ℕ) → IfOk (line_of bytes false) IsFree
+pub later_free : (bytes : List ℕ) → IfOk (line_of bytes false) IsFree
 later_free bytes = bound IsFree (or_refusal BadJson (json_of bytes)) (λ d. read_script false (record { value = d; path = [] })) (λ d. script_free (record { value = d; path = [] }))
 
 -- ---- What a line may ask for
@@ -100,7 +100,7 @@ sync_fresh : (number : ℕ) (clash : Option Clash) (s : Standing) → (sync_line
 sync_fresh number (Some clash) s = refl
 sync_fresh number None s = refl
 
-op_fresh : (number : ℕ) (o : Op) (s : Standing) → (op_line number o s).next.fresh ≡ s.fresh
+pub op_fresh : (number : ℕ) (o : Op) (s : Standing) → (op_line number o s).next.fresh ≡ s.fresh
 op_fresh number (op.Config c) s = refl
 op_fresh number (op.Events events) s = events_fresh number events _ s
 op_fresh number op.Sync s = sync_fresh number _ s
@@ -112,7 +112,7 @@ read_fresh : (number : ℕ) (r : Result ScriptLine LineRefusal) (s : Standing) �
 read_fresh number (Err refusal) s = refl
 read_fresh number (Ok line) s = op_fresh number line.op s
 
-no_longer : (s : Standing) → s.fresh ≡ false → IsReady s
+pub no_longer : (s : Standing) → s.fresh ≡ false → IsReady s
 no_longer s h = λ e. absurd (cc)
 
 either : (b : Bool) (x y : Line) → IsReady x.next → IsReady y.next → IsReady (cond b x y).next

@@ -1,4 +1,11 @@
+pub mod AnsweringLemmas
+pub mod CutLemmas
 pub mod FirstLines
+pub mod GroupLemmas
 pub mod OkLemmas
 pub mod OpLemmas
+pub mod ReadLemmas
+pub mod SeenLemmas
+pub mod StepLemmas
 pub mod SumLemmas
+pub mod TogetherLemmas

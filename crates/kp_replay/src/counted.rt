@@ -67,7 +67,7 @@ impl Replay {
         match line_with(alloc, bytes, first, &mut self.scratch) {
             Ok(line) => self.count_op(alloc, number, line.op, text, totals),
             Err(ScriptFault::Refused(refusal)) => self.refuse(alloc, number, &refusal, text),
-            Err(ScriptFault::NoMemory) => Err(NoMemory),
+            Err(ScriptFault::NoMemory(refused)) => Err(refused),
         }
     }
 
@@ -118,7 +118,7 @@ impl Replay {
             Err(TableFault::ChainClash(clash)) => {
                 self.refuse(alloc, number, &LineRefusal::ChainClash(clash), text)
             }
-            Err(TableFault::NoMemory) => Err(NoMemory),
+            Err(TableFault::NoMemory(refused)) => Err(refused),
         }
     }
 
@@ -134,7 +134,9 @@ impl Replay {
         ensures totals { OnOk result (totals.new ≡ sums.with_packet
             (spec.decided number line.now (standing_of self.old)).verdict totals.old) }
     {
-        let verdict = snapshot_of(&self.plane).verdict_of(number, line, &mut self.lists)?;
+        let verdict = self
+            .lists
+            .verdict_of(&snapshot_of(&self.plane), number, line)?;
         add_packet(totals, &verdict);
         Ok(())
     }

@@ -1,12 +1,18 @@
-//! Where a replay of lines stands, and the lines that it takes to the plane, printed or counted.
+//! Where a replay of lines stands, and the lines that it takes to the plane: printed, counted, or in
+//! groups that workers read and answer beside each other.
 #![tactic(auto)]
 
+mod answering;
 mod counted;
+mod group;
 mod packets;
+mod reads;
 mod replay;
 mod shown;
 mod syncs;
+mod together;
 mod totals;
 
+pub use group::{Group, group_of};
 pub use replay::Replay;
 pub use totals::no_totals;

@@ -35,7 +35,8 @@ impl Replay {
         ensures { OnOk result (Takes (spec.packet_line number line.now (standing_of self.old))
             self.new (string_bytes text.old) (string_bytes text.new)) }
     {
-        snapshot_of(&self.plane).answer(number, line, &mut self.lists, text)
+        self.lists
+            .answer(&snapshot_of(&self.plane), number, line, text)
     }
 
     /// Tells where the objects say that a packet goes, and why. Nothing is remembered.
@@ -50,7 +51,13 @@ impl Replay {
             self.new (string_bytes text.old) (string_bytes text.new)) }
     {
         let sync = self.plane.syncs();
-        let decision = decision_on(alloc, &mut self.plane, number, line, &self.lists)?;
+        let decision = decision_on(
+            alloc,
+            &mut self.plane,
+            number,
+            line,
+            self.lists.own(&line.packet.source),
+        )?;
         push_explain(text, number, sync, &decision)
     }
 }

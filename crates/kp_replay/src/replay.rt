@@ -6,10 +6,10 @@ ghost use Rattle.kp_run_defs.specs.ReplayText as spec;
 
 use kp_base::{Config, Items, NoMemory};
 use kp_plane::{JournalFault, Plane};
-use kp_recent::RecentLists;
 use kp_report::push_refusal;
 use kp_script::{LineRefusal, Op, Scratch, ScriptFault, default_config, line_with};
 use kp_types::Event;
+use kp_workers::PartLists;
 use std::alloc::Global;
 
 /// Where a replay of lines stands: its events, records and tables, the sources that packets came
@@ -18,7 +18,7 @@ pub struct Replay {
     /// Whether no line but blank ones was read.
     pub(crate) fresh: bool,
     pub(crate) plane: Plane,
-    pub(crate) lists: RecentLists,
+    pub(crate) lists: PartLists,
     pub(crate) refused: bool,
     /// What lines are read with, one after another.
     pub(crate) scratch: Scratch,
@@ -41,12 +41,13 @@ impl Replay {
     ghost use Rattle.kp_replay.specs.Steps.{standing_of, given_line};
     ghost use Rattle.kp_replay.specs.Steps.{IsReady, Takes, HasNoEvents, MayTake};
 
-    /// Before the first line.
-    pub fn new(alloc: Global) -> Result<Replay, NoMemory>
+    /// Before the first line, with so many workers for groups of lines.
+    pub fn new(alloc: Global, workers: usize) -> Result<Replay, NoMemory>
+        requires { 0 < workers }
         ensures { IfOk result (λ r. standing_of r ≡ spec.beginning) }
     {
         let config = default_config(alloc)?;
-        let lists = RecentLists::new(alloc, config.recent_size)?;
+        let lists = PartLists::new(alloc, config.recent_size, workers)?;
         Ok(Replay {
             fresh: true,
             plane: Plane::new(alloc, config)?,
@@ -115,7 +116,7 @@ impl Replay {
         match line_with(alloc, bytes, first, &mut self.scratch) {
             Ok(line) => self.take_op(alloc, number, line.op, text),
             Err(ScriptFault::Refused(refusal)) => self.refuse(alloc, number, &refusal, text),
-            Err(ScriptFault::NoMemory) => Err(NoMemory),
+            Err(ScriptFault::NoMemory(refused)) => Err(refused),
         }
     }
 
@@ -135,7 +136,7 @@ impl Replay {
     }
 
     /// Does what a line asks for.
-    fn take_op(
+    pub(crate) fn take_op(
         &mut self,
         alloc: Global,
         number: u64,
@@ -162,7 +163,7 @@ impl Replay {
         ensures { OnOk result (standing_of self.new
             ≡ (spec.config_line config (standing_of self.old)).next) }
     {
-        self.lists = RecentLists::new(alloc, config.recent_size)?;
+        self.lists = PartLists::new(alloc, config.recent_size, self.lists.workers())?;
         self.plane = Plane::new(alloc, config)?;
         Ok(())
     }
@@ -184,7 +185,7 @@ impl Replay {
             Err((JournalFault::JournalFull { count }, _)) => {
                 self.refuse(alloc, number, &LineRefusal::JournalFull { count }, text)
             }
-            Err((JournalFault::NoMemory, _)) => Err(NoMemory),
+            Err((JournalFault::NoMemory(refused), _)) => Err(refused),
         }
     }
 }

@@ -36,7 +36,7 @@ impl Replay {
             Err(TableFault::ChainClash(clash)) => {
                 self.refuse(alloc, number, &LineRefusal::ChainClash(clash), text)
             }
-            Err(TableFault::NoMemory) => Err(NoMemory),
+            Err(TableFault::NoMemory(refused)) => Err(refused),
         }
     }
 }

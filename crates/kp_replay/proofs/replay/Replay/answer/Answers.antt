@@ -7,7 +7,7 @@ pub returns : goal.returns
 returns c =
     let snapshot = c.snapshot_of.ensures in
     both_ok _ _ _ c.answer.result c.answer.ensures.lists c.answer.ensures.text (λ lists text.
-    answered c.args.number c.args.line.now c.args.self.now c.snapshot_of.result c.answer.new.lists
+    answered c.args.number c.args.line.now c.args.self.now c.snapshot_of.result c.answer.new.self
     (string_bytes c.args.text.now) (string_bytes c.answer.new.text)
     snapshot.sync (snapshot.walked c.args.number c.args.line.now c.args.self.now.lists)
     (snapshot.decided c.args.number c.args.line.now c.args.self.now.lists) lists text)

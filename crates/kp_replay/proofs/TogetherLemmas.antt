@@ -1,0 +1,104 @@
+-- Groups of lines: which may come, and what their two halves do.
+use Rattle.std.proofs.Common.{◌≡◌, ℕ, zero, suc, Bool, true, false, cond, ◌&&◌, List, [], ◌∷◌, ◌++◌, take, drop, ap, refl, sym, ◌∙◌, append_assoc}
+use Rattle.std.specs.Prelude.{Result, Ok, Err, IfOk}
+use Rattle.std.specs.List.{list_all}
+use Rattle.std.proofs.lemmas.Bool.{and_parts}
+use Rattle.std.proofs.lemmas.List.{take-append-drop}
+use Rattle.kp_run_defs.specs.ReplayText.{Standing, is_blank, short_line}
+use Rattle.kp_text_defs.specs.ScriptLines.{line_of}
+use Rattle.kp_text_defs.specs.declared.line_refusal.LineRefusal.{LineRefusal}
+use Rattle.kp_text_defs.specs.declared.script.Op.{Op}
+use Rattle.kp_text_defs.specs.declared.script.Op.TheVariants as op
+use Rattle.kp_text_defs.specs.declared.script.ScriptLine.{ScriptLine}
+use Rattle.kp_replay.specs.Groups.{AreLater, lines_from, may_come_later, reads_from, reads_line, said_by, said_of, says_later}
+use Rattle.kp_replay.specs.Steps.{MayTake}
+use Rattle.kp_replay.specs.declared.reads.Read.{Read}
+use Rattle.kp_replay.specs.declared.reads.Said.{Said}
+use Rattle.kp_replay.specs.declared.reads.Said.TheVariants.{Nothing}
+use Rattle.kp_replay.proofs.FirstLines.{IsFree, NotConfig, later_free}
+use Rattle.kp_replay.proofs.GroupLemmas.{line_says, lines_say, reads_both, still_begun}
+
+-- ---- What may come
+
+op_later : (o : Op) → NotConfig o → may_come_later o ≡ true
+op_later (op.Config c) h = absurd h
+op_later (op.Events events) h = refl
+op_later op.Sync h = refl
+op_later (op.Packet p) h = refl
+op_later (op.Explain p) h = refl
+op_later (op.Show what) h = refl
+
+result_later : (r : Result ScriptLine LineRefusal) → IfOk r IsFree → says_later (said_of r) ≡ true
+result_later (Ok line) h = op_later line.op h
+result_later (Err refusal) h = refl
+
+blank_or : (blank : Bool) (said : Said) → says_later said ≡ true
+    → says_later (cond blank Nothing said) ≡ true
+blank_or true said h = refl
+blank_or false said h = h
+
+-- lines that aren't the first ask for no configuration
+pub later_reads : (number : ℕ) (lines : List (List ℕ)) → AreLater (reads_from number lines)
+later_reads number [] = refl
+later_reads number (bytes ∷ lines) =
+    let one = blank_or (is_blank bytes) (said_of (line_of bytes false))
+    (result_later (line_of bytes false) (later_free bytes)) in
+    λ i. one i && later_reads (suc number) lines i
+
+-- so they may come
+pub may_take_later : (s : Standing) (o : Op) → may_come_later o ≡ true → MayTake s o
+may_take_later s (op.Config c) h = absurd (cc)
+may_take_later s (op.Events events) h = tt
+may_take_later s op.Sync h = tt
+may_take_later s (op.Packet p) h = tt
+may_take_later s (op.Explain p) h = tt
+may_take_later s (op.Show what) h = tt
+
+-- what holds of all holds of a rest
+pub all_dropped : {X : Type 0} (p : X → Bool) (n : ℕ) (xs : List X) → list_all p xs ≡ true
+    → list_all p (drop n xs) ≡ true
+all_dropped p zero xs h = h
+all_dropped p (suc n) [] h = h
+all_dropped p (suc n) (x ∷ xs) h =
+    all_dropped p n xs (and_parts (p x) (list_all p xs) h).1
+
+-- a line after the first is no longer the first
+short_begun : (number : ℕ) (bytes : List ℕ) (s : Standing) → s.fresh ≡ false
+    → (short_line number bytes s).next.fresh ≡ false
+short_begun number bytes s begun =
+    ap (λ line. line.next.fresh) (line_says number bytes s begun)
+    ∙ still_begun number (said_by bytes) s ∙ begun
+
+-- nor is it after lines
+pub lines_begun : (number : ℕ) (lines : List (List ℕ)) (s : Standing) → s.fresh ≡ false
+    → (lines_from number lines s).next.fresh ≡ false
+lines_begun number [] s begun = begun
+lines_begun number (bytes ∷ lines) s begun =
+    lines_begun (suc number) lines (short_line number bytes s).next (short_begun number bytes s begun)
+
+-- ---- The lines of a group
+
+module _ (number : ℕ) (lines : List (List ℕ)) (s mid end : Standing) (reads : List Read) (n : ℕ)
+    (before first last : List ℕ) (begun : s.fresh ≡ false) (are : reads ≡ reads_from number lines)
+    (stands : mid ≡ (reads_line (take n reads) s).next)
+    (text : first ≡ before ++ (reads_line (take n reads) s).text)
+    (stands_last : end ≡ (reads_line (drop n reads) mid).next)
+    (text_last : last ≡ first ++ (reads_line (drop n reads) mid).text) where
+  whole : lines_from number lines s ≡ reads_line (take n reads ++ drop n reads) s
+  whole =
+      lines_say number lines s begun
+      ∙ ap (λ rs. reads_line rs s) (sym are ∙ sym (take-append-drop n reads))
+
+  -- those that are answered together, and then the others, are all
+  pub group_stands : end ≡ (lines_from number lines s).next
+  group_stands =
+      stands_last ∙ ap (λ u. (reads_line (drop n reads) u).next) stands
+      ∙ ap (λ line. line.next) (sym (whole ∙ reads_both (take n reads) (drop n reads) s))
+
+  pub group_text : last ≡ before ++ (lines_from number lines s).text
+  group_text =
+      let front = reads_line (take n reads) s in
+      let back = reads_line (drop n reads) front.next in
+      text_last ∙ (λ i. text i ++ (reads_line (drop n reads) (stands i)).text)
+      ∙ append_assoc before front.text back.text
+      ∙ ap (λ line. before ++ line.text) (sym (whole ∙ reads_both (take n reads) (drop n reads) s))

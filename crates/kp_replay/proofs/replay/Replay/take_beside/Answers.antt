@@ -1,0 +1,50 @@
+use Rattle.std.proofs.Common.{◌≡◌, ◌++◌, true, map, take, drop, ap, ◌∙◌, rules}
+use Rattle.std.specs.List.{list_all}
+use Rattle.kp_replay.specs.Groups.{is_aside, reads_line, says_later}
+use Rattle.kp_replay.specs.Steps.{standing_of}
+use Rattle.kp_replay.specs.declared.reads.Read.{Read}
+use Rattle.kp_replay.proofs.OkLemmas.{on_ok}
+use Rattle.kp_replay.proofs.TogetherLemmas.{all_dropped, group_stands, group_text, later_reads}
+use Rattle.kp_replay.proofs.replay.Replay.take_beside.Goals as goal
+
+pub answer_reads-requires-clause-aside : goal.answer_reads-requires-clause-aside
+answer_reads-requires-clause-aside g c κs within =
+    let items : c.as_slice-2.result.now ≡ take c.aside_len.result c.in_ok-reads.reads.items = search rules in
+    let front : list_all is_aside (take c.aside_len.result c.in_ok-reads.reads.items) ≡ true = search rules in
+    ap (list_all is_aside) items ∙ front
+
+pub take_reads-requires : goal.take_reads-requires
+take_reads-requires g c =
+    let later = λ (r : Read). says_later r.said in
+    ap (list_all later) c.in_ok-others.ensures.tail
+    ∙ all_dropped later c.aside_len.result c.in_ok-reads.reads.items
+    (ap (list_all later) c.in_ok-reads.ensures
+    ∙ later_reads c.args.number (map (λ line. line.now) c.args.lines.now))
+
+pub returns : goal.returns
+returns g c =
+    let reads = c.in_ok-reads.reads.items in
+    let lines = map (λ line. line.now) c.args.lines.now in
+    let n = c.aside_len.result in
+    let s = standing_of c.args.self.now in
+    let mid = standing_of c.answer_reads.new.self in
+    let end = standing_of c.take_reads.new.self in
+    let before = c.args.text.now.items in
+    let first = c.answer_reads.new.text.items in
+    let last = c.take_reads.new.text.items in
+    let items : c.as_slice-2.result.now ≡ take n reads = search rules in
+    let rest = c.in_ok-others.ensures.tail in
+    let took = c.in_ok-answer_reads.ensures in
+    let stands = took.stands ∙ ap (λ rs. (reads_line rs s).next) items in
+    let text = took.text ∙ ap (λ rs. before ++ (reads_line rs s).text) items in
+    on_ok _ _ c.take_reads.result c.take_reads.ensures (λ others.
+    let stands_last = others.stands ∙ ap (λ rs. (reads_line rs mid).next) rest in
+    let text_last = others.text ∙ ap (λ rs. first ++ (reads_line rs mid).text) rest in
+    record {
+      stands =
+          group_stands c.args.number lines s mid end reads n before first last c.requires.begun
+          c.in_ok-reads.ensures stands text stands_last text_last;
+      text =
+          group_text c.args.number lines s mid end reads n before first last c.requires.begun
+          c.in_ok-reads.ensures stands text stands_last text_last;
+    })

@@ -1,0 +1,10 @@
+use Rattle.std.proofs.Common.{ap, sym, ◌∙◌}
+use Rattle.kp_replay.specs.Groups.{says_later}
+use Rattle.kp_replay.specs.Steps.{standing_of}
+use Rattle.kp_replay.proofs.TogetherLemmas.{may_take_later}
+use Rattle.kp_replay.proofs.replay.Replay.take_read.Goals as goal
+
+pub take_op-requires : goal.take_op-requires
+take_op-requires c =
+    may_take_later (standing_of c.args.self.now) c.in-Asks.op
+    (ap says_later (sym c.in-Asks.is) ∙ c.requires)

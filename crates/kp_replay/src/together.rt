@@ -1,0 +1,214 @@
+//! Groups of lines, which are read and answered beside each other.
+ghost use Rattle.std.specs.Prelude.{◌≡◌, ◌<◌, ◌≤◌, ◌+◌, ◌^◌, ◌||◌, false, true, not, length, map, take, string_bytes, OnOk};
+ghost use Rattle.std.specs.List.{list_any};
+ghost use Rattle.kp_replay.specs.Groups.{AreAside, is_aside, is_packet, is_refused};
+
+use crate::answering::Answering;
+use crate::packets::snapshot_of;
+use crate::reads::{Read, Said, read_lines};
+use crate::replay::Replay;
+use kp_base::NoMemory;
+use kp_gate::Gate;
+use kp_script::Op;
+use kp_workers::answer_all;
+use std::alloc::Global;
+use std::thread::Threads;
+
+/// The fewest lines that are answered beside each other.
+const FEWEST: usize = 256;
+
+impl Replay {
+    ghost use Rattle.kp_replay.specs.Groups.{lines_from, read_line, reads_line, says_later};
+    ghost use Rattle.kp_replay.specs.Groups.{AreAside, AreLater};
+    ghost use Rattle.kp_replay.specs.Steps.{standing_of, Takes};
+
+    /// Whether a line was read that isn't blank.
+    pub fn has_begun(&self) -> bool
+        ensures { (standing_of self.now).fresh ≡ not result }
+    {
+        !self.fresh
+    }
+
+    /// Takes lines, of which the first has this number, as one after the other. They are read beside
+    /// each other, and so are packets answered up to the first line that asks for something else.
+    /// Without memory the replay and the text are of no more use.
+    pub fn take_group<R: Threads + Sync, G: Gate<R> + Sync>(
+        &mut self,
+        rt: &R,
+        alloc: Global,
+        gate: &G,
+        number: u64,
+        lines: &[&[u8]],
+        text: &mut Vec<u8>,
+    ) -> Result<(), NoMemory>
+        requires begun { (standing_of self.old).fresh ≡ false }
+        requires few { number + length lines.now < 2 ^ 64 }
+        ensures { OnOk result (Takes
+            (lines_from number (map (λ line. line.now) lines.now) (standing_of self.old))
+            self.new text.old.items text.new.items) }
+    {
+        if lines.len() < FEWEST {
+            self.take_lines(alloc, number, lines, text)
+        } else {
+            self.take_beside(rt, alloc, gate, number, lines, text)
+        }
+    }
+
+    /// Takes lines beside each other, as far as they ask for packets or are refused.
+    fn take_beside<R: Threads + Sync, G: Gate<R> + Sync>(
+        &mut self,
+        rt: &R,
+        alloc: Global,
+        gate: &G,
+        number: u64,
+        lines: &[&[u8]],
+        text: &mut Vec<u8>,
+    ) -> Result<(), NoMemory>
+        requires begun { (standing_of self.old).fresh ≡ false }
+        requires few { number + length lines.now < 2 ^ 64 }
+        ensures { OnOk result (Takes
+            (lines_from number (map (λ line. line.now) lines.now) (standing_of self.old))
+            self.new text.old.items text.new.items) }
+    {
+        let most = lines.len().div_ceil(self.lists.workers()).max(1);
+        let mut reads = read_lines(rt, alloc, number, lines, most)?;
+        let others = reads.split_off(aside_len(reads.as_slice()))?;
+        self.answer_reads(rt, alloc, gate, reads.as_slice(), text)?;
+        self.take_reads(alloc, others, text)
+    }
+
+    /// Takes lines one after the other.
+    fn take_lines(
+        &mut self,
+        alloc: Global,
+        number: u64,
+        lines: &[&[u8]],
+        text: &mut Vec<u8>,
+    ) -> Result<(), NoMemory>
+        requires begun { (standing_of self.old).fresh ≡ false }
+        requires few { number + length lines.now < 2 ^ 64 }
+        ensures { OnOk result (Takes
+            (lines_from number (map (λ line. line.now) lines.now) (standing_of self.old))
+            self.new text.old.items text.new.items) }
+    {
+        let mut printed = String::new(alloc);
+        let mut next = number;
+        for line in lines {
+            self.take_line(alloc, next, Some(line), &mut printed)?;
+            next += 1;
+        }
+        text.extend_from_slice(printed.as_bytes())?;
+        Ok(())
+    }
+
+    /// Answers lines that ask for packets or are refused, beside each other.
+    fn answer_reads<R: Threads + Sync, G: Gate<R> + Sync>(
+        &mut self,
+        rt: &R,
+        alloc: Global,
+        gate: &G,
+        reads: &[Read],
+        text: &mut Vec<u8>,
+    ) -> Result<(), NoMemory>
+        requires aside { AreAside reads.now }
+        ensures { OnOk result (Takes (reads_line reads.now (standing_of self.old))
+            self.new text.old.items text.new.items) }
+    {
+        self.refused = either(self.refused, any_refused(reads));
+        let work = Answering {
+            alloc,
+            snapshot: snapshot_of(&self.plane),
+        };
+        answer_all(rt, alloc, gate, &work, reads, &mut self.lists, text)
+    }
+
+    /// Does what lines ask for, one after the other.
+    fn take_reads(
+        &mut self,
+        alloc: Global,
+        reads: Vec<Read>,
+        text: &mut Vec<u8>,
+    ) -> Result<(), NoMemory>
+        requires { AreLater reads.items }
+        ensures { OnOk result (Takes (reads_line reads.items (standing_of self.old))
+            self.new text.old.items text.new.items) }
+    {
+        let mut printed = String::new(alloc);
+        for read in reads {
+            self.take_read(alloc, read, &mut printed)?;
+        }
+        text.extend_from_slice(printed.as_bytes())?;
+        Ok(())
+    }
+
+    /// Does what a line asks for.
+    fn take_read(&mut self, alloc: Global, read: Read, text: &mut String) -> Result<(), NoMemory>
+        requires { says_later read.said ≡ true }
+        ensures { OnOk result (Takes (read_line read (standing_of self.old))
+            self.new (string_bytes text.old) (string_bytes text.new)) }
+    {
+        let Read { number, said } = read;
+        match said {
+            Said::Nothing => Ok(()),
+            Said::Asks(op) => self.take_op(alloc, number, op, text),
+            Said::Refused(refusal) => self.refuse(alloc, number, &refusal, text),
+        }
+    }
+}
+
+/// Whether a line is refused.
+fn any_refused(reads: &[Read]) -> bool
+    ensures { result ≡ list_any is_refused reads.now }
+{
+    reads.iter().any(|read: &Read| is_refused(read))
+}
+
+fn either(a: bool, b: bool) -> bool
+    ensures { result ≡ (a || b) }
+{
+    a || b
+}
+
+/// Whether this line is refused.
+fn is_refused(read: &Read) -> bool
+    ensures { result ≡ is_refused read.now }
+{
+    match read.said {
+        Said::Nothing | Said::Asks(_) => false,
+        Said::Refused(_) => true,
+    }
+}
+
+/// Whether a line may be answered beside others: it changes nothing but the recent lists.
+fn is_aside(read: &Read) -> bool
+    ensures { result ≡ is_aside read.now }
+{
+    match &read.said {
+        Said::Nothing | Said::Refused(_) => true,
+        Said::Asks(op) => is_packet(op),
+    }
+}
+
+fn is_packet(op: &Op) -> bool
+    ensures { result ≡ is_packet op.now }
+{
+    match op {
+        Op::Packet(_) => true,
+        Op::Config(_) | Op::Events(_) | Op::Sync | Op::Explain(_) | Op::Show(_) => false,
+    }
+}
+
+/// How many lines at the front may be answered beside each other.
+fn aside_len(reads: &[Read]) -> usize
+    ensures within { result ≤ length reads.now }
+    ensures front { AreAside (take result reads.now) }
+{
+    let mut count = 0;
+    for read in reads {
+        if !is_aside(read) {
+            return count;
+        }
+        count += 1;
+    }
+    count
+}
