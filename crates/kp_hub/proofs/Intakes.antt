@@ -39,6 +39,13 @@ module _ (config : Config) (queue : QueueId) (t : Taken) (plane : PlaneParts) (t
       (λ i. records_in (record { config = config; events = events i; counts = same i }))
       ∙ stay (settings_in (plane_of config t)) (events_of t.journal) (f.event ∷ []) t.counts (omega (arith, is.covers, events_length t.journal))
 
+  -- the plane has room for an event where the journal has
+  pub plane_room : length t.journal < config.max_events
+      → length plane.events < plane.config.max_events
+  plane_room room =
+      subst (λ (p : PlaneParts). length p.events < p.config.max_events) (sym is.plane_is)
+      (omega (arith, events_length t.journal, room))
+
   -- more was taken, where the taker has taken more
   pub takes_from : (u : Taken) (plane' : PlaneParts) (taker' : Taker) (notes' : List RecordNote)
       → IsTaken config queue u plane' taker' notes' → IsPrefix t.journal u.journal

@@ -85,7 +85,7 @@ gives_up_same config before after same = record {
 pub tells_some : (config : Config) (before after : HubState) (fault : TableFault)
     → Fails config fault before after → IsClashOfSome config fault
 tells_some config before after (ChainClash clash) fails = (after.taken.journal, fails.is_clash)
-tells_some config before after NoMemory fails = tt
+tells_some config before after (NoMemory refused) fails = tt
 
 -- ---- Events are taken first
 
@@ -120,7 +120,7 @@ module _ (config : Config) (before first after : HubState)
     refusals = is.refusals
         ∙ ap (λ rs. rs ++ record { events = length after.taken.journal; clash = clash } ∷ []) refusals_stay;
   }
-  fails_taken NoMemory is = record {
+  fails_taken (NoMemory refused) is = record {
     counts = given is.counts;
     refusals = is.refusals ∙ refusals_stay;
   }

@@ -63,13 +63,13 @@ pub record GivesUp (config : Config) (before after : HubState) : Type 0 where
 -- which of these a fault tells
 abbrev pub Fails : Config → TableFault → HubState → HubState → Type 0
 Fails config (ChainClash clash) before after = Refuses config clash before after
-Fails config NoMemory before after = GivesUp config before after
+Fails config (NoMemory refused) before after = GivesUp config before after
 
 -- a fault tells the clash of the objects after some events
 abbrev pub IsClashOfSome : Config → TableFault → Type 0
 IsClashOfSome config (ChainClash clash) =
     (journal : List Fed) × (clash_after config journal ≡ Some clash)
-IsClashOfSome config NoMemory = Unit {0}
+IsClashOfSome config (NoMemory refused) = Unit {0}
 
 -- what the books then count
 abbrev pub CountsAccepted : HubState → HubState → Type 0
@@ -79,13 +79,13 @@ CountsAccepted before after =
 abbrev pub CountsFault : TableFault → HubState → HubState → Type 0
 CountsFault (ChainClash clash) before after =
     (after.accepted ≡ before.accepted) × (after.refused ≡ before.refused + 1)
-CountsFault NoMemory before after =
+CountsFault (NoMemory refused) before after =
     (after.accepted ≡ before.accepted) × (after.refused ≡ before.refused)
 
 -- a refused sync that was kept is not counted yet
 abbrev pub IsUncounted : TableFault → HubState → Type 0
 IsUncounted (ChainClash clash) h = h.refused < length h.refusals
-IsUncounted NoMemory h = Unit {0}
+IsUncounted (NoMemory refused) h = Unit {0}
 
 -- The pass of an accepted sync, which is newer than all that it knew: the front that it learned
 -- last has just so many records; it counts the sync, and has counted no more than there are records.
@@ -102,4 +102,4 @@ pub record IsTold (sync : ℕ) (before after : Worker) : Type 0 where
 -- the pass of a sync that wasn't accepted: it counts a refused one
 abbrev pub IsDenied : TableFault → Worker → Worker → Type 0
 IsDenied (ChainClash clash) before after = after ≡ record before { refused = before.refused + 1 }
-IsDenied NoMemory before after = after ≡ before
+IsDenied (NoMemory refused) before after = after ≡ before

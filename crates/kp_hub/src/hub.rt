@@ -7,6 +7,7 @@ ghost use Rattle.kp_feed.specs.Calls as calls;
 ghost use Rattle.kp_feed.specs.Feeding.{Delivers};
 ghost use Rattle.kp_history_defs.specs.declared.fed.Fed.{Fed};
 ghost use Rattle.kp_history_defs.specs.Runs.{is_of_stream};
+ghost use Rattle.kp_print.specs.Fronts.{HasFront};
 ghost use Rattle.kp_publish.specs.Entries.{records_of};
 ghost use Rattle.kp_run_defs.specs.LegalRuns.{last_syncs};
 ghost use Rattle.kp_hub.specs.Finishing.{IsEnd};
@@ -95,9 +96,9 @@ impl<J: Sharing, A: Ledger, C: Ledger> Hub<J, A, C> {
                 };
                 Ok((hub, feeders, workers))
             }
-            Err(_) => {
+            Err(refused) => {
                 feed.finish(rt, feeders, taker);
-                Err(NoMemory)
+                Err(refused)
             }
         }
     }
@@ -126,7 +127,8 @@ impl<J: Sharing, A: Ledger, C: Ledger> Hub<J, A, C> {
 
     /// Adds what the line of this number is answered by a published table, with its trail where the
     /// line asks for it, and gives the number of that table's sync. The table goes on from all that
-    /// the pass saw before or learned of. It takes no lock.
+    /// the pass saw before or learned of. It takes no lock. Without memory what was in the text
+    /// stands.
     pub fn walk<R: Wait>(
         rt: &R,
         pass: &mut WorkerPass<J, A, C>,
@@ -143,6 +145,7 @@ impl<J: Sharing, A: Ledger, C: Ledger> Hub<J, A, C> {
             ≡ (walk_after J.start J.config pass.new.seen number line.now lists.old).lists) }
         ensures refused { OnErr result (HasWalked J.start J.config pass.new.seen number line.now
             lists.old lists.new) }
+        ensures front { OnErr result (HasFront text.new text.old) }
     {
         pass.answer(rt, number, line, lists, text)
     }

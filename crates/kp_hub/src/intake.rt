@@ -123,9 +123,9 @@ impl<J: Sharing> Intake<J> {
         };
         match accept(&mut self.plane, &mut self.origins, fed) {
             Ok(()) => Ok(true),
-            Err(back) => {
+            Err((refused, back)) => {
                 self.waits = Some(back);
-                Err(NoMemory)
+                Err(refused)
             }
         }
     }
@@ -168,8 +168,8 @@ impl<J: Sharing> Intake<J> {
             (objects_after (events_of self.old.journal)))) }
         ensures err { OnErr result (self.new ≡ self.old) }
     {
-        if self.notes.reserve(1).is_err() {
-            return Err(TableFault::NoMemory);
+        if let Err(refused) = self.notes.reserve(1) {
+            return Err(TableFault::NoMemory(NoMemory::from(refused)));
         }
         let record = sync_for_nobody(alloc, &mut self.plane)?;
         self.notes.push_reserved(noted(&record));
@@ -236,7 +236,7 @@ impl<J: Sharing> Intake<J> {
         let (events, _counts, table) = plane.into_parts();
         match joined(alloc, origins.as_slice(), events) {
             Ok(journal) => (taker, Ok((journal, Items::from_vec(notes), table))),
-            Err(_) => (taker, Err(NoMemory)),
+            Err(refused) => (taker, Err(refused)),
         }
     }
 

@@ -1,5 +1,5 @@
 //! One event, from the queue into the journal.
-ghost use Rattle.std.specs.Prelude.{◌≡◌, ◌++◌, ◌∷◌, [], List, None, length};
+ghost use Rattle.std.specs.Prelude.{◌≡◌, ◌<◌, ◌++◌, ◌∷◌, [], List, None, length};
 ghost use Rattle.std.specs.Prelude.{IfNone, IfSome, IfErr, OnOk, OnErr};
 ghost use Rattle.std.specs.Option.{option_to_list};
 ghost use mathlib.Core.List.{IsPrefix};
@@ -9,8 +9,9 @@ ghost use Rattle.kp_plane.specs.Parts.{with_events};
 ghost use Rattle.kp_hub.specs.Taken.{fed_of};
 
 use crate::notes::Origin;
+use kp_base::NoMemory;
 use kp_feed::{Fed, Feed, TakePass};
-use kp_plane::Plane;
+use kp_plane::{JournalFault, Plane};
 use std::sync::Wait;
 
 /// The event that waits, or else the front of the queue. Where there is none, all was taken.
@@ -36,19 +37,25 @@ pub(crate) fn next<R: Wait>(
     }
 }
 
-/// Accepts an event, and keeps who fed it. Where memory is out it comes back, and all stays.
-pub(crate) fn accept(plane: &mut Plane, origins: &mut Vec<Origin>, fed: Fed) -> Result<(), Fed>
-    requires { length origins.old.items ≡ length plane.old.events }
+/// Accepts an event, for which the journal has room, and keeps who fed it. Where memory is out it
+/// comes back, and all stays.
+pub(crate) fn accept(
+    plane: &mut Plane,
+    origins: &mut Vec<Origin>,
+    fed: Fed,
+) -> Result<(), (NoMemory, Fed)>
+    requires origins { length origins.old.items ≡ length plane.old.events }
+    requires room { length plane.old.events < plane.old.config.max_events }
     ensures plane { OnOk result (plane.new ≡ with_events plane.old (fed.event ∷ [])) }
     ensures journal { OnOk result (fed_of origins.new.items plane.new.events
         ≡ fed_of origins.old.items plane.old.events ++ fed ∷ []) }
     ensures stays { OnErr result (plane.new ≡ plane.old) }
     ensures kept { OnErr result (origins.new.items ≡ origins.old.items) }
-    ensures back { IfErr result (λ back. back ≡ fed) }
+    ensures back { IfErr result (λ e. e.1 ≡ fed) }
     ensures as_many { length origins.new.items ≡ length plane.new.events }
 {
-    if origins.reserve(1).is_err() {
-        return Err(fed);
+    if let Err(refused) = origins.reserve(1) {
+        return Err((NoMemory::from(refused), fed));
     }
     let Fed {
         feeder,
@@ -60,10 +67,14 @@ pub(crate) fn accept(plane: &mut Plane, origins: &mut Vec<Origin>, fed: Fed) -> 
             origins.push_reserved(Origin { feeder, number });
             Ok(())
         }
-        Err((_, event)) => Err(Fed {
-            feeder,
-            number,
-            event,
-        }),
+        Err((JournalFault::JournalFull { count: _ }, _)) => unreachable!(),
+        Err((JournalFault::NoMemory(refused), event)) => {
+            let back = Fed {
+                feeder,
+                number,
+                event,
+            };
+            Err((refused, back))
+        }
     }
 }

@@ -45,10 +45,10 @@ fn publish_first<J: Publication, R: Wait>(
     };
     match publisher.push_and_publish(rt, next) {
         Ok(_) => Ok(()),
-        Err(PublishFault::NoMemoryPending) => Err(NoMemory),
-        Err(PublishFault::NoMemoryBack(next)) => {
+        Err(PublishFault::NoMemoryPending(refused)) => Err(refused),
+        Err(PublishFault::NoMemoryBack(next, refused)) => {
             let _ = waiting.push_front(next);
-            Err(NoMemory)
+            Err(refused)
         }
     }
 }

@@ -2,6 +2,7 @@
 ghost use Rattle.std.specs.Prelude.{◌≡◌, ◌+◌, ◌≤◌, ◌<◌, ◌++◌, [], length};
 ghost use Rattle.std.specs.Prelude.{IfOk, OnOk, OnErr, string_bytes};
 ghost use mathlib.Core.List.{IsPrefix};
+ghost use Rattle.kp_print.specs.Fronts.{HasFront};
 ghost use Rattle.kp_publish.specs.Entries.{records_of, StandsFor};
 ghost use Rattle.kp_hub.specs.Known.{known, new_worker};
 ghost use Rattle.kp_hub.specs.Reading.{answer_after, HasWalked, OnTheWay, Reads, walk_after};
@@ -133,6 +134,7 @@ impl<J: Sharing, A: Ledger, C: Ledger> WorkerPass<J, A, C> {
             ≡ (walk_after J.start J.config self.new.seen number line.now lists.old).lists) }
         ensures refused { OnErr result (HasWalked J.start J.config self.new.seen number line.now
             lists.old lists.new) }
+        ensures front { OnErr result (HasFront text.new text.old) }
     {
         let Some(reader) = self.reader.take() else {
             unreachable!()

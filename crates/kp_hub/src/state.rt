@@ -135,7 +135,7 @@ impl<J: Sharing, A: Ledger, C: Ledger> Held<J, A, C> {
                 self.tell_refused(pass);
                 Err(TableFault::ChainClash(clash))
             }
-            Err(TableFault::NoMemory) => Err(TableFault::NoMemory),
+            Err(TableFault::NoMemory(refused)) => Err(TableFault::NoMemory(refused)),
         }
     }
 
@@ -210,9 +210,9 @@ impl<J: Sharing, A: Ledger, C: Ledger> Held<J, A, C> {
         let mut held = self;
         match held.sync_and_publish(rt, alloc, &feed) {
             Ok(clash) => held.into_finished(rt, alloc, feed, clash),
-            Err(_) => {
+            Err(refused) => {
                 held.give_up(rt, alloc, feed);
-                Err(NoMemory)
+                Err(refused)
             }
         }
     }
@@ -278,20 +278,22 @@ impl<J: Sharing, A: Ledger, C: Ledger> Held<J, A, C> {
         let closed = close(&mut publisher, rt);
         let (taker, parts) = intake.into_parts(alloc);
         feed.finish(rt, Items::new(alloc), taker);
-        match (closed, parts) {
-            (Ok(()), Ok((journal, notes, table))) => Ok(Finished {
-                journal,
-                notes,
-                refusals: Items::from_vec(refusals),
-                clash,
-                table,
-                publisher,
-            }),
-            _ => {
-                publisher.into_table(rt);
-                Err(NoMemory)
+        let refused = match (closed, parts) {
+            (Ok(()), Ok((journal, notes, table))) => {
+                return Ok(Finished {
+                    journal,
+                    notes,
+                    refusals: Items::from_vec(refusals),
+                    clash,
+                    table,
+                    publisher,
+                });
             }
-        }
+            (Err(refused), _) => refused,
+            (_, Err(refused)) => refused,
+        };
+        publisher.into_table(rt);
+        Err(refused)
     }
 
     /// Ends the publisher and the queue.
@@ -333,7 +335,7 @@ impl<J: Sharing, A: Ledger, C: Ledger> Held<J, A, C> {
         match self.record(rt, alloc) {
             Ok(_) => Ok(None),
             Err(TableFault::ChainClash(clash)) => Ok(Some(clash)),
-            Err(TableFault::NoMemory) => Err(NoMemory),
+            Err(TableFault::NoMemory(refused)) => Err(refused),
         }
     }
 
@@ -385,7 +387,7 @@ impl<J: Sharing, A: Ledger, C: Ledger> Held<J, A, C> {
                 self.refuse(alloc, &clash)?;
                 Err(TableFault::ChainClash(clash))
             }
-            Err(TableFault::NoMemory) => Err(TableFault::NoMemory),
+            Err(TableFault::NoMemory(refused)) => Err(TableFault::NoMemory(refused)),
         }
     }
 
@@ -403,8 +405,8 @@ impl<J: Sharing, A: Ledger, C: Ledger> Held<J, A, C> {
         ensures err { OnErr result (self.new ≡ self.old) }
     {
         // The room for the record, should it have to wait, is taken before it is made.
-        if self.waiting.reserve(1).is_err() {
-            return Err(TableFault::NoMemory);
+        if let Err(refused) = self.waiting.reserve(1) {
+            return Err(TableFault::NoMemory(NoMemory::from(refused)));
         }
         let record = self.intake.record(alloc)?;
         put(&mut self.waiting, record);

@@ -40,9 +40,9 @@ pub(crate) fn outlet_of<J: Sharing, A: Ledger, C: Ledger, R: Wait>(
     let node = &plane.config().addresses;
     match workers_of(alloc, &publisher, readers, node, accepted, refused) {
         Ok(passes) => Ok((publisher, passes)),
-        Err(_) => {
+        Err(refused) => {
             publisher.into_table(rt);
-            Err(NoMemory)
+            Err(refused)
         }
     }
 }
@@ -70,7 +70,7 @@ fn workers_of<J: Sharing, A: Ledger, C: Ledger>(
         let pass = worker_of(alloc, publisher, reader, node, accepted, refused)?;
         match passes.push(pass) {
             Ok(()) => {}
-            Err(_) => return Err(NoMemory),
+            Err((refused, _)) => return Err(refused),
         }
     }
     Ok(passes)

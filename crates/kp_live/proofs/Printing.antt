@@ -1,16 +1,17 @@
 -- Pieces that are written one behind another.
-use Rattle.std.proofs.Common.{◌≡◌, ◌<◌, ◌≤◌, ◌+◌, ◌⊎◌, inl, inr, ℕ, zero, suc, Bool, true, false, List, [], ◌∷◌, ◌++◌, length, take, drop, get_or, refl, ap, sym, subst, ◌∙◌, arith, add-one, add-zero, append_assoc, append-nil}
-use Rattle.std.specs.Prelude.{Option, Result, Ok, Err, IfSome, IsErrOf, OnOk, OnErr, nat_le, slice_get}
+use Rattle.std.proofs.Common.{◌≡◌, ◌<◌, ◌≤◌, ◌+◌, ℕ, zero, suc, Bool, true, false, List, [], ◌∷◌, ◌++◌, length, take, drop, get_or, refl, ap, sym, subst, ◌∙◌, arith, add-one, add-zero, append_assoc, append-nil}
+use Rattle.std.specs.Prelude.{Option, Result, Ok, Err, IfSome, OnOk, OnErr, nat_le, slice_get}
 use Rattle.std.specs.List.{flat_map}
 use Rattle.std.proofs.lemmas.Bool.{leb-true, leb-false}
 use Rattle.std.proofs.Math.Seq.{take-append-add, take-append_seam, take-suc}
 use Rattle.std.proofs.lemmas.Grind.{flat_map-append}
 use Rattle.std.proofs.lemmas.List.{flat_map_more, length-take-le, take-append-drop, take-append-le, take_all}
+use Rattle.kp_base.specs.declared.memory.NoMemory as memory
 use Rattle.kp_io.specs.Faults.{Rose}
 use Rattle.kp_io.specs.Told.{Grows}
 use Rattle.kp_io.proofs.Told.{Grows-nil, Grows-trans}
 use Rattle.kp_live.specs.declared.fault.LiveFault.{LiveFault}
-use Rattle.kp_live.specs.declared.fault.LiveFault.TheVariants.{NoMemory, WriteFault}
+use Rattle.kp_live.specs.declared.fault.LiveFault.TheVariants.{NoMemory}
 use Rattle.kp_history_defs.specs.declared.fed.Fed.{Fed}
 use Rattle.kp_text_defs.specs.Live.{event_text, record_text}
 use Rattle.kp_run_defs.specs.LiveText.{journal_text}
@@ -52,21 +53,22 @@ prints_nothing x written faults = record {
   later = omega arith;
   sure = refl;
   failed = λ is. absurd (cc is);
-  wanted = λ is. absurd (cc is);
-  other = λ fault is. absurd (cc is);
+  wanted = λ refused is. absurd (cc is);
+  other = tt;
 }
 
 -- there was no memory before anything was written
 pub prints_unmade : {T : Type 0} (text : List ℕ) (written : Option (List ℕ)) (faults : ℕ)
-    → Prints {T = T} (Err NoMemory) text written written faults faults
-prints_unmade text written faults = record {
+    (refused : memory.NoMemory)
+    → Prints {T = T} (Err (NoMemory refused)) text written written faults faults
+prints_unmade text written faults refused = record {
   whole = tt;
   front = (0, Grows-nil written);
   later = omega arith;
   sure = tt;
   failed = λ is. absurd (cc is);
-  wanted = λ is. refl;
-  other = λ fault is. inr (cc is);
+  wanted = λ again is. refl;
+  other = tt;
 }
 
 -- the rest behind a first part
@@ -79,8 +81,8 @@ prints_then x (Ok y) a b w0 w1 w2 f0 f1 f2 first second = record {
   later = omega (arith, first.later, second.later);
   sure = second.sure ∙ first.sure;
   failed = λ is. absurd (cc is);
-  wanted = λ is. absurd (cc is);
-  other = λ fault is. absurd (cc is);
+  wanted = λ refused is. absurd (cc is);
+  other = tt;
 }
 prints_then x (Err e) a b w0 w1 w2 f0 f1 f2 first second = record {
   whole = tt;
@@ -88,7 +90,7 @@ prints_then x (Err e) a b w0 w1 w2 f0 f1 f2 first second = record {
   later = omega (arith, first.later, second.later);
   sure = tt;
   failed = λ is. subst (λ f. Rose f f2) first.sure (second.failed is);
-  wanted = λ is. second.wanted is ∙ first.sure;
+  wanted = λ refused is. second.wanted refused is ∙ first.sure;
   other = second.other;
 }
 
@@ -101,8 +103,8 @@ prints_stopped {T = T} {U = U} e a b w0 w1 f0 f1 first = record {
   later = first.later;
   sure = tt;
   failed = λ is. first.failed (same_fault is);
-  wanted = λ is. first.wanted (same_fault is);
-  other = λ fault is. first.other fault (same_fault is);
+  wanted = λ refused is. first.wanted refused (same_fault is);
+  other = first.other;
 }
   where
     same_fault : {fault : LiveFault} → ◌≡◌ {A = Result U LiveFault} (Err e) (Err fault)
@@ -132,8 +134,8 @@ prints_any x y text w0 w1 f0 f1 all = record {
   later = all.later;
   sure = all.sure;
   failed = λ is. absurd (cc is);
-  wanted = λ is. absurd (cc is);
-  other = λ fault is. absurd (cc is);
+  wanted = λ refused is. absurd (cc is);
+  other = tt;
 }
 
 -- one more piece was written
@@ -184,8 +186,8 @@ prints_said (Ok u) b text w0 w1 f0 f1 all = record {
   later = all.later;
   sure = all.sure;
   failed = λ is. absurd (cc is);
-  wanted = λ is. absurd (cc is);
-  other = λ fault is. absurd (cc is);
+  wanted = λ refused is. absurd (cc is);
+  other = tt;
 }
 prints_said (Err e) b text w0 w1 f0 f1 all = record {
   whole = tt;
@@ -193,8 +195,8 @@ prints_said (Err e) b text w0 w1 f0 f1 all = record {
   later = all.later;
   sure = tt;
   failed = λ is. all.failed (ap Err (cc is));
-  wanted = λ is. all.wanted (ap Err (cc is));
-  other = λ fault is. all.other fault (ap Err (cc is));
+  wanted = λ refused is. all.wanted refused (ap Err (cc is));
+  other = all.other;
 }
 
 pub prints_flag : (q : Result Bool LiveFault) (r : Result (Unit {0}) LiveFault) (b : Bool)

@@ -1,5 +1,5 @@
 -- Streams that ran beside each other have ended.
-use Rattle.std.proofs.Common.{◌≡◌, ◌<◌, ◌≤◌, ◌+◌, ◌⊎◌, inl, inr, ℕ, zero, suc, Bool, true, false, List, [], ◌∷◌, ◌++◌, map, length, take, drop, get_or, All, refl, ap, sym, subst, ◌∙◌, arith}
+use Rattle.std.proofs.Common.{◌≡◌, ◌<◌, ◌≤◌, ◌+◌, ◌⊎◌, inl, inr, ℕ, zero, suc, List, [], ◌∷◌, ◌++◌, map, length, take, drop, get_or, All, refl, ap, sym, subst, ◌∙◌, arith}
 use Rattle.std.specs.Prelude.{Option, Some, None, IfOk, IfSome, OnOk, Result, Ok, Err, option_map, slice_get}
 use Rattle.std.specs.List.{AllByRecursion, filter}
 use Rattle.std.proofs.Math.Seq.{take-append_seam}
@@ -7,6 +7,7 @@ use Rattle.std.proofs.lemmas.List.{length-append, length-map}
 use Rattle.std.proofs.lemmas.List.Elements.{All-from_recursion}
 use Rattle.std.proofs.lemmas.Option.{none-some, same_Some, slice_get-get_or, slice_get-map, slice_get_cases}
 use Rattle.kp_base.specs.declared.config.Config.{Config}
+use Rattle.kp_base.specs.declared.memory.NoMemory.{NoMemory}
 use Rattle.kp_table_defs.specs.Rebuild.{TableParts}
 use Rattle.kp_feed.specs.Calls.{new_feeder, new_feeders}
 use Rattle.kp_feed.specs.Passes.{Feeder, QueueId}
@@ -123,14 +124,14 @@ module _ {X : Type 0} (standing : X → Stand) (lines : X → List StreamLine) (
         sym (length-map cs (λ x. (standing x).feeder)) ∙ kepts,
       )
 
-  module _ (failed : X → Bool) (fs : List X)
+  module _ (refused : X → Option NoMemory) (fs : List X)
       (new : AllByRecursion (λ x. IsAtStart reading.config (standing x)) ss)
       (cut : (i : ℕ) → IfSome (slice_get cs i)
       (λ x. lines x ≡ filter (is_line_of i) reading.lines)) (count : length fs ≡ length cs)
       (ran : (i : ℕ) → IfSome (slice_get cs i) (λ x. IfSome (slice_get fs i)
-      (λ t. failed t ≡ false
+      (λ t. refused t ≡ None
       → RunsOn start reading.config (lines x) (standing x) (standing t))))
-      (whole : AllByRecursion (λ x. failed x ≡ false) fs) where
+      (whole : AllByRecursion (λ x. refused x ≡ None) fs) where
     at_end : (i : ℕ) (t x y : X) → slice_get fs i ≡ Some t → slice_get cs i ≡ Some x
         → slice_get ss i ≡ Some y → StandsAtEnd start reading queue i (standing t)
     at_end i t x y is_t is_x is_y =
@@ -149,11 +150,11 @@ module _ {X : Type 0} (standing : X → Stand) (lines : X → List StreamLine) (
         (behind_none start reading.config (standing y)
         (all_at (λ z. IsAtStart reading.config (standing z)) ss i y new is_y) f.2) in
         let runs : RunsOn start reading.config (lines x) (standing x) (standing t) =
-        some_is (λ z. failed z ≡ false
+        some_is (λ z. refused z ≡ None
         → RunsOn start reading.config (lines x) (standing x) (standing z)) (slice_get fs i) t is_t
-        (some_is (λ z. IfSome (slice_get fs i) (λ v. failed v ≡ false
+        (some_is (λ z. IfSome (slice_get fs i) (λ v. refused v ≡ None
         → RunsOn start reading.config (lines z) (standing z) (standing v))) (slice_get cs i) x is_x
-        (ran i)) (all_at (λ z. failed z ≡ false) fs i t whole is_t) in record {
+        (ran i)) (all_at (λ z. refused z ≡ None) fs i t whole is_t) in record {
           behind =
               subst (λ l. StandsBehind start reading.config l (standing t))
               (some_is (λ z. lines z ≡ filter (is_line_of i) reading.lines) (slice_get cs i) x is_x

@@ -7,6 +7,6 @@ use Rattle.kp_live.specs.declared.fault.LiveFault.TheVariants as of_live
 
 -- the fault of a run whose input wasn't read to its end
 abbrev pub fault_of_input : InputFault → LiveFault
-fault_of_input of_input.NoMemory = of_live.NoMemory
+fault_of_input (of_input.NoMemory refused) = of_live.NoMemory refused
 fault_of_input of_input.ReadFault = of_live.ReadFault
 fault_of_input of_input.InputTooLong = of_live.InputTooLong

@@ -1,5 +1,6 @@
 -- What a live run has written.
-use Rattle.std.specs.Prelude.{◌≡◌, ◌≤◌, ◌⊎◌, ℕ, Bool, List, [], length, take, Option, Result, Ok, Err, IfOk, OnOk, OnErr, IsErrOf}
+use Rattle.std.specs.Prelude.{◌≡◌, ◌≤◌, ◌⊎◌, ℕ, Bool, List, [], length, take, Option, Result, Ok, Err, IfOk, IfErr, OnOk, OnErr, IsErrOf, ⊤}
+use Rattle.kp_base.specs.declared.memory.NoMemory as memory
 use Rattle.kp_io.specs.Faults.{Rose}
 use Rattle.kp_io.specs.Lines.{lines_of}
 use Rattle.kp_io.specs.Told.{Grows}
@@ -8,11 +9,18 @@ use Rattle.kp_run_defs.specs.LiveLines.{Reading, reading_of}
 use Rattle.kp_run_defs.specs.LegalRuns.{LiveRun, IsLegalRun}
 use Rattle.kp_run_defs.specs.LiveText.{live_text, is_refused_run}
 use Rattle.kp_live.specs.declared.fault.LiveFault.{LiveFault}
-use Rattle.kp_live.specs.declared.fault.LiveFault.TheVariants.{NoMemory, WriteFault}
+use Rattle.kp_live.specs.declared.fault.LiveFault.TheVariants.{InputTooLong, NoMemory, ReadFault, WriteFault}
 
 -- a front of a text was written
 abbrev pub GrowsFront : Option (List ℕ) → Option (List ℕ) → List ℕ → Type 0
 GrowsFront written now text = (n : ℕ) × Grows written now (take n text)
+
+-- what may keep a text from being written whole
+abbrev pub IsOfPrinting : LiveFault → Type 0
+IsOfPrinting WriteFault = ⊤
+IsOfPrinting (NoMemory refused) = ⊤
+IsOfPrinting ReadFault = ⊥
+IsOfPrinting InputTooLong = ⊥
 
 -- A text was written whole, or a front of it, by a call that only wants memory or fails to write.
 -- A fault of writing is told only where the count of them rose; without one it stays.
@@ -23,9 +31,8 @@ pub record Prints {T : Type 0} (result : Result T LiveFault) (text : List ℕ)
   pub later : before ≤ after
   pub sure : OnOk result (after ≡ before)
   pub failed : IsErrOf result WriteFault → Rose before after
-  pub wanted : IsErrOf result NoMemory → after ≡ before
-  pub other : (fault : LiveFault) → IsErrOf result fault
-      → (fault ≡ WriteFault) ⊎ (fault ≡ NoMemory)
+  pub wanted : (refused : memory.NoMemory) → IsErrOf result (NoMemory refused) → after ≡ before
+  pub other : IfErr result IsOfPrinting
 
 -- a flag for what was written
 abbrev pub said_of : Result (Unit {0}) LiveFault → Bool → Result Bool LiveFault
@@ -64,9 +71,8 @@ pub record EndsRun (result : Result Bool LiveFault) (reading : Reading)
   pub later : before ≤ after
   pub sure : OnOk result (after ≡ before)
   pub failed : IsErrOf result WriteFault → Rose before after
-  pub wanted : IsErrOf result NoMemory → after ≡ before
-  pub other : (fault : LiveFault) → IsErrOf result fault
-      → (fault ≡ WriteFault) ⊎ (fault ≡ NoMemory)
+  pub wanted : (refused : memory.NoMemory) → IsErrOf result (NoMemory refused) → after ≡ before
+  pub other : IfErr result IsOfPrinting
 
 -- the text of a legal run of the input was written, where that is told, which is no longer than may
 -- be read

@@ -213,7 +213,8 @@ impl Answers {
             → HasText self.old before told bytes → Holds self.new (told ++ Says bytes ∷ [])) }
     {
         let Ok(bytes) = u32::try_from(self.text.len() - before) else {
-            return Err(NoMemory);
+            // The answer has more bytes than a piece counts.
+            return Err(NoMemory::beyond_counts());
         };
         Ok(self.pieces.push(Piece::Text(bytes))?)
     }

@@ -7,7 +7,7 @@ use kp_streams::InputFault;
 #[derive(Clone, Copy, Debug, PartialEq, Eq)]
 pub enum LiveFault {
     /// There was no memory.
-    NoMemory,
+    NoMemory(NoMemory),
     /// A read of the source failed.
     ReadFault,
     /// The source has more than 4,294,967,296 bytes.
@@ -20,10 +20,10 @@ impl From<NoMemory> for LiveFault {
     ghost use Rattle.std.specs.Prelude.{◌≡◌};
     ghost use Rattle.kp_live.specs.declared.fault.LiveFault.TheVariants as fault;
 
-    ghost from_gives = { λ _ e. e ≡ fault.NoMemory };
+    ghost from_gives = { λ refused e. e ≡ fault.NoMemory refused };
 
-    fn from(_refused: NoMemory) -> LiveFault {
-        LiveFault::NoMemory
+    fn from(refused: NoMemory) -> LiveFault {
+        LiveFault::NoMemory(refused)
     }
 }
 
@@ -35,7 +35,7 @@ impl From<InputFault> for LiveFault {
 
     fn from(fault: InputFault) -> LiveFault {
         match fault {
-            InputFault::NoMemory => LiveFault::NoMemory,
+            InputFault::NoMemory(refused) => LiveFault::NoMemory(refused),
             InputFault::ReadFault => LiveFault::ReadFault,
             InputFault::InputTooLong => LiveFault::InputTooLong,
         }

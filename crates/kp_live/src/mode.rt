@@ -3,6 +3,7 @@ ghost use Rattle.std.specs.Prelude.{◌≡◌, ◌≤◌, ◌<◌, ◌⊎◌, �
 ghost use Rattle.std.specs.Prelude.{OnErr, length, replicate};
 ghost use Rattle.std.specs.Io.KnownBytes.{IsAtEnd};
 ghost use Rattle.std.specs.List.{AllByRecursion};
+ghost use Rattle.kp_base.specs.declared.memory.NoMemory.{NoMemory};
 ghost use Rattle.kp_feed.specs.Calls.{new_feeders};
 ghost use Rattle.kp_hub.specs.Finishing.{records_told};
 ghost use Rattle.kp_hub.specs.Known.{new_worker};
@@ -11,7 +12,7 @@ ghost use Rattle.kp_io.specs.Faults.{Rose};
 ghost use Rattle.kp_io.specs.Lines.{lines_of};
 ghost use Rattle.kp_run_defs.specs.LiveLines.{reading_of, running_streams};
 ghost use Rattle.kp_streams.specs.Streams.{reading_in};
-ghost use Rattle.kp_streams.specs.WholeInput.{IsTooLong};
+ghost use Rattle.kp_streams.specs.WholeInput.{IsTooLong, LosesFront};
 ghost use Rattle.kp_live.specs.declared.fault.LiveFault.TheVariants as fault;
 ghost use Rattle.kp_live.specs.Runs as runs;
 ghost use Rattle.kp_live.specs.Streams.{GoesOnFromAll};
@@ -49,6 +50,7 @@ pub fn live<S: Source, K: Sink, R: Threads + Wait + Sync, G: Gate<R> + Sync>(
         (λ text. WritesFront (reading_of (lines_of text)) (K.written sink.old)
         (K.written sink.new))) }
     ensures ended { OnOk result (IsAtEnd (S.left source.new)) }
+    ensures left { LosesFront (S.left source.old) (S.left source.new) }
     ensures read { result ≡ Err fault.ReadFault → Rose (S.faults source.old) (S.faults source.new) }
     ensures long { result ≡ Err fault.InputTooLong → IsTooLong (S.left source.old) }
     ensures unwritten { (result ≡ Err fault.ReadFault) ⊎ (result ≡ Err fault.InputTooLong)
@@ -57,7 +59,8 @@ pub fn live<S: Source, K: Sink, R: Threads + Wait + Sync, G: Gate<R> + Sync>(
     ensures failed { result ≡ Err fault.WriteFault
         → Rose (K.faults sink.old) (K.faults sink.new) }
     ensures sure { OnOk result (K.faults sink.new ≡ K.faults sink.old) }
-    ensures wanted { result ≡ Err fault.NoMemory → K.faults sink.new ≡ K.faults sink.old }
+    ensures wanted { (refused : NoMemory) → result ≡ Err (fault.NoMemory refused)
+        → K.faults sink.new ≡ K.faults sink.old }
     ensures source_sure { OnOk result (S.faults source.new ≡ S.faults source.old) }
     ensures source_kept { OnErr result ((result ≡ Err fault.ReadFault)
         ⊎ (S.faults source.new ≡ S.faults source.old)) }
@@ -117,13 +120,13 @@ fn run_opened<
 {
     let (hub, feeders, workers) = match Hub::<J, A, C>::new(rt, alloc, opening) {
         Ok(parts) => parts,
-        Err(NoMemory) => return Err(LiveFault::NoMemory),
+        Err(refused) => return Err(LiveFault::NoMemory(refused)),
     };
     match ended_streams(rt, alloc, &hub, gate, lines, feeders, workers) {
         Ok(ended) => end_and_print(rt, alloc, hub, ended, lines, sink),
-        Err(_) => {
+        Err(refused) => {
             give_up(rt, alloc, hub);
-            Err(LiveFault::NoMemory)
+            Err(LiveFault::NoMemory(refused))
         }
     }
 }
@@ -182,7 +185,7 @@ fn end_and_print<J: Sharing, A: Ledger, C: Ledger, K: Sink, R: Wait>(
     } = ended;
     let done = match hub.finish(rt, alloc, feeders, workers.as_mut_slice()) {
         Ok(done) => done,
-        Err(NoMemory) => return Err(LiveFault::NoMemory),
+        Err(refused) => return Err(LiveFault::NoMemory(refused)),
     };
     meet(rt, workers.as_mut_slice(), &done);
     let printed = print(alloc, lines, answers.as_slice(), &done, sink);

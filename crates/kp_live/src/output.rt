@@ -30,6 +30,6 @@ pub(crate) fn write_made<K: Sink>(
 {
     match made {
         Ok(()) => write(sink, bytes),
-        Err(_) => Err(LiveFault::NoMemory),
+        Err(refused) => Err(LiveFault::NoMemory(refused)),
     }
 }

@@ -236,7 +236,7 @@ fn print_answers<K: Sink>(
             let mut told = told;
             print_lines(alloc, lines, told.as_mut_slice(), refusals, sink)
         }
-        Err(NoMemory) => Err(LiveFault::NoMemory),
+        Err(refused) => Err(LiveFault::NoMemory(refused)),
     }
 }
 
@@ -379,7 +379,7 @@ fn print_denied<K: Sink>(
     let mut text = String::new(alloc);
     match clash.copy(alloc) {
         Ok(clash) => print_clash(alloc, number, clash, &mut text, sink),
-        Err(NoMemory) => Err(LiveFault::NoMemory),
+        Err(refused) => Err(LiveFault::NoMemory(refused)),
     }
 }
 

@@ -1,5 +1,5 @@
 //! What one stream does with its lines.
-ghost use Rattle.std.specs.Prelude.{◌≡◌, ◌++◌, ◌∷◌, [], List, IfOk, OnOk, map, false};
+ghost use Rattle.std.specs.Prelude.{◌≡◌, ◌++◌, ◌∷◌, [], List, None, IfOk, OnOk, map};
 ghost use Rattle.kp_run_defs.specs.ReplayText.{no_sources};
 ghost use Rattle.kp_run_defs.specs.declared.live.StreamLine.{StreamLine};
 ghost use Rattle.kp_live.specs.Streams.{PacketTold, RunsOn, StandsBehind, SyncTold};
@@ -133,14 +133,15 @@ impl<J: Sharing, A: Ledger, C: Ledger> Standing<J, A, C> {
         ensures answers { self.new.answers ≡ self.old.answers }
     {
         if self.feeder.count() == u64::MAX {
-            return Err(NoMemory);
+            // There is no number for one more.
+            return Err(NoMemory::beyond_counts());
         }
         self.begin(rt, gate);
         let fed = hub.feed(rt, &mut self.feeder, event);
         self.end(rt, gate);
         match fed {
             Ok(_) => Ok(()),
-            Err(_) => Err(NoMemory),
+            Err((refused, _)) => Err(refused),
         }
     }
 
@@ -165,7 +166,7 @@ impl<J: Sharing, A: Ledger, C: Ledger> Standing<J, A, C> {
         match synced {
             Ok(sync) => self.answers.add_sync(number, sync),
             Err(TableFault::ChainClash(clash)) => self.answers.add_refusal(clash),
-            Err(TableFault::NoMemory) => Err(NoMemory),
+            Err(TableFault::NoMemory(refused)) => Err(refused),
         }
     }
 
@@ -232,12 +233,12 @@ impl<J: Sharing, A: Ledger, C: Ledger> Standing<J, A, C> {
     }
 }
 
-/// A stream: its lines, where it stands, and whether memory ran out.
+/// A stream: its lines, where it stands, and why it stopped where memory ran out.
 #[derive(Drop)]
 pub(crate) struct Stream<'a, J: Sharing, A: Ledger, C: Ledger> {
     pub(crate) lines: Vec<&'a StreamLine>,
     pub(crate) standing: Standing<J, A, C>,
-    pub(crate) failed: bool,
+    pub(crate) refused: Option<NoMemory>,
 }
 
 impl<'a, J: Sharing, A: Ledger, C: Ledger> Stream<'a, J, A, C> {
@@ -260,7 +261,7 @@ impl<'a, J: Sharing, A: Ledger, C: Ledger> Stream<'a, J, A, C> {
         gate: &G,
     )
         requires queue { self.old.standing.feeder.queue ≡ J.queue }
-        ensures { self.new.failed ≡ false → RunsOn J.start J.config
+        ensures { self.new.refused ≡ None → RunsOn J.start J.config
             (map (λ l. l.now) self.old.lines.items) self.old.standing self.new.standing }
     {
         let taken = take_all(
@@ -271,7 +272,10 @@ impl<'a, J: Sharing, A: Ledger, C: Ledger> Stream<'a, J, A, C> {
             self.lines.as_slice(),
             &mut self.standing,
         );
-        self.failed = taken.is_err();
+        self.refused = match taken {
+            Ok(()) => None,
+            Err(refused) => Some(refused),
+        };
     }
 }
 

@@ -1,5 +1,5 @@
 //! All streams at once.
-ghost use Rattle.std.specs.Prelude.{◌≡◌, ◌++◌, ◌∷◌, [], ℕ, false, map, replicate, length, All, slice_get};
+ghost use Rattle.std.specs.Prelude.{◌≡◌, ◌++◌, ◌∷◌, [], ℕ, None, map, replicate, length, All, slice_get};
 ghost use Rattle.std.specs.Prelude.{IfOk, IfSome, OnOk};
 ghost use Rattle.std.specs.List.{AllByRecursion, filter};
 ghost use Rattle.kp_hub.specs.Known.{new_worker};
@@ -59,12 +59,13 @@ fn stream_of<'a, J: Sharing, A: Ledger, C: Ledger>(
     ensures lines { IfOk result (λ s. s.lines.items ≡ []) }
 {
     let Ok(place) = u32::try_from(place) else {
-        return Err(NoMemory);
+        // There are 64 streams at most. No clause of the feeders says so.
+        return Err(NoMemory::beyond_counts());
     };
     Ok(Stream {
         lines: Vec::new(alloc),
         standing: Standing::new(alloc, config, place, feeder, worker)?,
-        failed: false,
+        refused: None,
     })
 }
 
@@ -98,7 +99,7 @@ pub(crate) fn run_all<
 >(rt: &R, alloc: Global, hub: &Hub<J, A, C>, gate: &G, streams: &mut [Stream<'_, J, A, C>])
     requires queue { All (λ s. s.standing.feeder.queue ≡ J.queue) streams.old }
     ensures { (i : ℕ) → IfSome (slice_get streams.old i) (λ s. IfSome (slice_get streams.new i)
-        (λ t. t.failed ≡ false → RunsOn J.start J.config (map (λ l. l.now) s.lines.items)
+        (λ t. t.refused ≡ None → RunsOn J.start J.config (map (λ l. l.now) s.lines.items)
         s.standing t.standing)) }
 {
     let count = streams.len();
@@ -131,7 +132,7 @@ pub(crate) fn take_apart<J: Sharing, A: Ledger, C: Ledger>(
         (λ e. e.workers.items ≡ map (λ s. s.standing.worker) streams.entry.items) }
     ensures answers { IfOk result
         (λ e. e.answers.items ≡ map (λ s. s.standing.answers) streams.entry.items) }
-    ensures whole { OnOk result (AllByRecursion (λ s. s.failed ≡ false) streams.entry.items) }
+    ensures whole { OnOk result (AllByRecursion (λ s. s.refused ≡ None) streams.entry.items) }
 {
     let mut ended = Ended {
         feeders: Items::new(alloc),
@@ -155,15 +156,16 @@ fn add_parts<J: Sharing, A: Ledger, C: Ledger>(
         ≡ ended.old.workers.items ++ stream.entry.standing.worker ∷ []) }
     ensures answers { OnOk result (ended.new.answers.items
         ≡ ended.old.answers.items ++ stream.entry.standing.answers ∷ []) }
-    ensures whole { OnOk result (stream.entry.failed ≡ false) }
+    ensures whole { OnOk result (stream.entry.refused ≡ None) }
 {
-    if stream.failed {
-        return Err(NoMemory);
+    match stream.refused {
+        Some(refused) => return Err(refused),
+        None => {}
     }
     let (feeder, worker, told) = stream.standing.into_parts();
     match ended.feeders.push(feeder) {
         Ok(()) => {}
-        Err(_) => return Err(NoMemory),
+        Err((refused, _)) => return Err(refused),
     }
     ended.workers.push(worker)?;
     ended.answers.push(told)?;

@@ -43,7 +43,7 @@ fn print_table<K: Sink>(
 {
     match text_of(alloc, family, table) {
         Ok(text) => write(sink, text.as_str().as_bytes()),
-        Err(NoMemory) => Err(LiveFault::NoMemory),
+        Err(refused) => Err(LiveFault::NoMemory(refused)),
     }
 }
 

@@ -11,4 +11,4 @@ returns-in-Ok-clause-journal c =
     let origins : c.push_reserved.new.self.items ≡ os ++ o ∷ [] =
     c.push_reserved.ensures.items ∙ ap (λ (l : List Origin). l ++ o ∷ []) c.reserve.ensures.items in
     (λ i. fed_of (origins i) (c.in-Ok.ensures.ok i).events)
-    ∙ fed_snoc os c.args.plane.now.events o c.args.fed.event c.requires
+    ∙ fed_snoc os c.args.plane.now.events o c.args.fed.event c.requires.origins

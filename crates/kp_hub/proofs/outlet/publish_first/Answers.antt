@@ -30,10 +30,10 @@ returns-in-Ok-clause-records g c =
 pub returns-in-Err-NoMemoryPending-clause-open : goal.returns-in-Err-NoMemoryPending-clause-open
 returns-in-Err-NoMemoryPending-clause-open g c =
     open_still c.args.publisher.now.newest c.push_and_publish.new.self.newest c.in-Some.next c.requires.«open»
-    (kept_pending c.in-Err-NoMemoryPending.field-0 c.in-Some.next c.args.publisher.now c.push_and_publish.new.self c.in-Err-NoMemoryPending.field-0-is c.in-Err-NoMemoryPending.ensures.record)
+    (kept_pending c.in-Err-NoMemoryPending.field-0 _ c.in-Some.next c.args.publisher.now c.push_and_publish.new.self c.in-Err-NoMemoryPending.field-0-is c.in-Err-NoMemoryPending.ensures.record)
 
 pub returns-in-Err-NoMemoryPending-clause-records : goal.returns-in-Err-NoMemoryPending-clause-records
 returns-in-Err-NoMemoryPending-clause-records g c =
     records_still c.args.publisher.now.newest c.push_and_publish.new.self.newest c.in-Some.next c.requires.«open»
-    (kept_pending c.in-Err-NoMemoryPending.field-0 c.in-Some.next c.args.publisher.now c.push_and_publish.new.self c.in-Err-NoMemoryPending.field-0-is c.in-Err-NoMemoryPending.ensures.record)
+    (kept_pending c.in-Err-NoMemoryPending.field-0 _ c.in-Some.next c.args.publisher.now c.push_and_publish.new.self c.in-Err-NoMemoryPending.field-0-is c.in-Err-NoMemoryPending.ensures.record)
     c.pop_front.new.self.items c.args.waiting.now.items c.in-Some.ensures.items

@@ -1,4 +1,4 @@
-use Rattle.std.proofs.Common.{◌≡◌, ◌++◌, false, map, length, take, drop, ap, sym, subst, ◌∙◌, arith}
+use Rattle.std.proofs.Common.{◌≡◌, ◌++◌, None, map, length, take, drop, ap, sym, subst, ◌∙◌, arith}
 use Rattle.std.specs.Prelude.{IfOk, IfSome, OnOk, replicate, slice_get}
 use Rattle.std.specs.List.{AllByRecursion, filter}
 use Rattle.kp_hub.specs.Known.{new_worker}
@@ -57,24 +57,24 @@ returns g c =
     (λ e. e.workers.items ≡ map (λ s. s.standing.worker) fs)
     (λ e. e.answers.items ≡ map (λ s. s.standing.answers) fs)
     (λ e. HaveEnded g.J.Publication.start r J.queue J.streams e.feeders e.workers.items
-    e.answers.items) (AllByRecursion (λ s. s.failed ≡ false) fs)
+    e.answers.items) (AllByRecursion (λ s. s.refused ≡ None) fs)
     (λ e a b d w. have_ended (λ s. s.standing) (λ s. map (λ l. l.now) s.lines.items)
     g.J.Publication.start r J.queue J.streams ss cs
     (c.in_ok-streams.ensures.feeders ∙ c.requires.feeders)
     (ap (map (λ s. s.standing)) (c.as_mut_slice-2.ensures.value ∙ cut_is)
     ∙ c.in_ok-cut_lines.ensures.standing
     ∙ ap (map (λ s. s.standing)) c.as_mut_slice.ensures.value)
-    (λ s. s.failed) fs
+    (λ s. s.refused) fs
     (subst (λ cf. AllByRecursion (λ s. IsAtStart cf s.standing) ss) c.config.ensures
     c.in_ok-streams.ensures.new)
     (λ i. subst (λ l. IfSome (slice_get l i)
-    (λ x. map (λ l. l.now) x.lines.items ≡ filter (is_line_of i) c.args.lines.now.lines))
+    (λ x. map (λ l. l.now) x.lines.items ≡ filter (is_line_of i) c.args.lines.now.lines.items))
     (sym (c.as_mut_slice-2.ensures.value ∙ cut_is))
     (subst (λ ls. IfSome (slice_get ds i)
     (λ x. map (λ l. l.now) x.lines.items ≡ filter (is_line_of i) ls)) c.lines.ensures
     (c.in_ok-cut_lines.ensures.lines i))) kept
     (λ i. subst (λ cf. IfSome (slice_get cs i) (λ s. IfSome (slice_get fs i)
-    (λ t. t.failed ≡ false
+    (λ t. t.refused ≡ None
     → RunsOn g.J.Publication.start cf (map (λ l. l.now) s.lines.items) s.standing t.standing)))
     (sym c.requires.config) (c.run_all.ensures i)) w e.feeders e.workers.items e.answers.items a b
     d)
@@ -84,5 +84,5 @@ returns g c =
     ≡ map (λ s. s.standing.worker) l)) back c.take_apart.ensures.workers)
     (subst (λ l. IfOk c.take_apart.result (λ e. e.answers.items
     ≡ map (λ s. s.standing.answers) l)) back c.take_apart.ensures.answers)
-    (subst (λ l. OnOk c.take_apart.result (AllByRecursion (λ s. s.failed ≡ false) l)) back
+    (subst (λ l. OnOk c.take_apart.result (AllByRecursion (λ s. s.refused ≡ None) l)) back
     c.take_apart.ensures.whole)

@@ -1,4 +1,4 @@
-use Rattle.std.proofs.Common.{◌≡◌, false, arith, ap, length}
+use Rattle.std.proofs.Common.{◌≡◌, None, arith, ap, length}
 use Rattle.std.specs.Vec.Iter.{into_iter_items}
 use Rattle.kp_live.proofs.Cutting.{moves, whole_moves}
 use Rattle.kp_live.proofs.streams.take_apart.Goals as goal
@@ -24,7 +24,7 @@ loop-stream-preserved g c =
           c.add_parts.new.ended.answers.items _ c.loop-stream.invariant.answers is
           c.in_ok-add_parts.ensures.answers;
       whole =
-          whole_moves (λ s. s.failed ≡ false) (into_iter_items c.loop-stream.stream-iterator)
+          whole_moves (λ s. s.refused ≡ None) (into_iter_items c.loop-stream.stream-iterator)
           (into_iter_items c.next.new.self) c.in-Some.stream c.args.streams.items
           c.loop-stream.invariant.whole is c.in_ok-add_parts.ensures.whole;
       left =

@@ -1,4 +1,4 @@
-use Rattle.std.proofs.Common.{◌≡◌, ◌++◌, false, map, length}
+use Rattle.std.proofs.Common.{◌≡◌, ◌++◌, None, map, length}
 use Rattle.std.specs.List.{AllByRecursion}
 use Rattle.std.specs.Vec.Iter.{into_iter_items, into_iter_len}
 use Rattle.kp_live.proofs.streams.take_apart.Given as goal
@@ -14,7 +14,7 @@ invariant-loop-stream g l = record {
   answers : l.ended.answers.items
       ++ map (λ s. s.standing.answers) (into_iter_items l.stream-iterator)
       ≡ map (λ s. s.standing.answers) l.fn.streams.items;
-  whole : AllByRecursion (λ s. s.failed ≡ false) (into_iter_items l.stream-iterator)
-      → AllByRecursion (λ s. s.failed ≡ false) l.fn.streams.items;
+  whole : AllByRecursion (λ s. s.refused ≡ None) (into_iter_items l.stream-iterator)
+      → AllByRecursion (λ s. s.refused ≡ None) l.fn.streams.items;
   left : into_iter_len l.stream-iterator ≡ length (into_iter_items l.stream-iterator);
 }

@@ -5,11 +5,20 @@ use Rattle.kp_plane.specs.Parts.{PlaneParts, records_in}
 use Rattle.kp_hub.specs.Growing.{TakesMore}
 use Rattle.kp_hub.specs.Taken.{Taken, fed_of, records_at, taken_in}
 use Rattle.kp_hub.proofs.Growth.{prefix_same}
-use Rattle.kp_hub.proofs.Intakes.{records_stay, taken_next, taken_waits, takes_from}
+use Rattle.kp_hub.proofs.Intakes.{plane_room, records_stay, taken_next, taken_waits, takes_from}
 use Rattle.kp_hub.proofs.intake.Intake.take_one.Goals as goal
 
 pub returns-in_default-clause-records : goal.returns-in_default-clause-records
 returns-in_default-clause-records g c = ap (records_at g.J.Sharing.config) c.self.view_is
+
+pub accept-requires-clause-room : goal.accept-requires-clause-room
+accept-requires-clause-room g c =
+    let s = c.self.inside in
+    plane_room g.J.Sharing.config g.J.Sharing.queue
+    (taken_in s.origins.items s.waits s.plane s.taker) s.plane s.taker s.notes.items
+    c.self.invariant.1
+    (subst (λ (u : Taken). length u.journal < g.J.Sharing.config.max_events) (sym c.self.view_is)
+    c.requires.room)
 
 pub returns-in-Ok-clause-more : goal.returns-in-Ok-clause-more
 returns-in-Ok-clause-more g c =

@@ -10,7 +10,7 @@ use Rattle.kp_hub.proofs.state.Held.record.Goals as goal
 
 pub returns-in_err-publish-in-Ok-clause-err : goal.returns-in_err-publish-in-Ok-clause-err
 returns-in_err-publish-in-Ok-clause-err g c =
-    let is : c.from_residual.result ≡ Err NoMemory = search rules in
+    let is : c.from_residual.result ≡ Err (NoMemory c.in_err-publish-in-Ok.field-0.0) = search rules in
     subst (λ (r : Result ℕ TableFault). IfErr r (λ fault.
     Fails g.J.Sharing.config fault c.args.self.now c.publish.new.self)) (sym is)
     (unpublished g.J.Sharing.config c.args.self.now c.make.new.self c.publish.new.self
