@@ -7,7 +7,7 @@ use Rattle.std.proofs.Math.Seq.{take-append_seam}
 use Rattle.std.proofs.lemmas.List.Sums.{fold-append}
 use Rattle.kp_io.specs.Told.{Grows, FromTold}
 use Rattle.kp_io.specs.Lines.{lines_of, ended_lines, given_of, given_lines}
-use Rattle.kp_io.specs.Reader.{ReaderState, LosesTaken, GivesEnded, TakesFeeds, HoldsNoLine, fresh_reader, to_come, feeds_up_to, HandedOut, answers_unasked}
+use Rattle.kp_io.specs.Reader.{ReaderState, LosesTaken, GivesEnded, TakesFeeds, HoldsNoLine, fresh_reader, fresh_with, to_come, feeds_up_to, HandedOut, answers_unasked}
 use Rattle.kp_io.specs.declared.next_line.TheConstants.{INPUT_LIMIT, LINE_LIMIT}
 use Rattle.kp_io.proofs.HandedOut.{handed_none, handed_given, handed_all, handed_at_fault, taken_more, feeds_none_yet, feeds_next}
 use Rattle.kp_io.proofs.Told.{Grows-nil, Grows-trans, FromTold-map}
@@ -34,10 +34,28 @@ lines_given r (bytes ∷ lines) =
     ∙ ap (λ l. fold after_given (with_line r l) (map given_of lines)) (line_given (suc r.number) bytes r.at)
 
 -- the replay of a text whose lines were given so
-whole_text : (text : List ℕ) (given : List (Option (List ℕ))) → given_lines text ≡ given → replay_of (lines_of text) ≡ replay_given given
+pub whole_text : (text : List ℕ) (given : List (Option (List ℕ))) → given_lines text ≡ given → replay_of (lines_of text) ≡ replay_given given
 whole_text text given all = lines_given at_start (lines_of text) ∙ ap replay_given all
 
 -- ---- From one line to the next
+
+-- what is handed on or flushed was written before
+pub grows_on : (written now later : Option (List ℕ)) (text : List ℕ) → Grows written now text
+    → Grows now later [] → Grows written later text
+grows_on written now later text grown kept =
+    subst (Grows written later) (append-nil text) (Grows-trans written now later text [] grown kept)
+
+pub come_on : (s : Standing) (n : ℕ) (left : Option (List ℕ))
+    (rest : Option (List (Option (List ℕ)))) (written now later : Option (List ℕ))
+    → Come s n left rest written now → Grows now later [] → Come s n left rest written later
+come_on s n left rest written now later come kept = record {
+  given = come.given;
+  handed = come.handed;
+  stands = come.stands;
+  ready = come.ready;
+  grown = grows_on written now later (replay_given come.given).text come.grown kept;
+  counted = come.counted;
+}
 
 -- before the first line
 pub come_none : (s : Standing) (left written : Option (List ℕ)) → s ≡ beginning → Come s 0 left (to_come fresh_reader left) written written
@@ -100,7 +118,7 @@ text_grows p (one ∷ ones) =
     let more = text_grows (after_given p one) ones in
     (step.text ++ more.0, more.1 ∙ append_assoc p.text step.text more.0)
 
-all_text : (given more : List (Option (List ℕ))) → (ys : List ℕ) × ((replay_given (given ++ more)).text ≡ (replay_given given).text ++ ys)
+pub all_text : (given more : List (Option (List ℕ))) → (ys : List ℕ) × ((replay_given (given ++ more)).text ≡ (replay_given given).text ++ ys)
 all_text given more =
     let grows = text_grows (replay_given given) more in
     (grows.0, ap (λ p. p.text) (fold-append after_given at_start given more) ∙ grows.1)
@@ -117,7 +135,7 @@ front_of given (Some text) (Some more) written now handed grown =
 pub come_front : (s : Standing) (n : ℕ) (left : Option (List ℕ)) (rest : Option (List (Option (List ℕ)))) (written now : Option (List ℕ)) → Come s n left rest written now → WritesFront left written now
 come_front s n left rest written now come = front_of come.given left rest written now come.handed come.grown
 
-part_is : (a b z : List ℕ) (k : ℕ) → (a ++ b) ++ z ≡ (a ++ take k b) ++ (drop k b ++ z)
+pub part_is : (a b z : List ℕ) (k : ℕ) → (a ++ b) ++ z ≡ (a ++ take k b) ++ (drop k b ++ z)
 part_is a b z k =
     ap (λ x. (a ++ x) ++ z) (sym (take-append-drop k b))
     ∙ ap (λ x. x ++ z) (sym (append_assoc a (take k b) (drop k b)))
@@ -159,7 +177,8 @@ CountsFeeds reader first left =
     FromTold (λ xs ys. feeds_up_to INPUT_LIMIT [] 0 xs ≡ feeds_up_to INPUT_LIMIT reader.held reader.taken ys + reader.number) first left
 
 -- before the first line
-pub counts_none : (reader : ReaderState) (left : Option (List ℕ)) → reader ≡ fresh_reader → CountsFeeds reader left left
+pub counts_none : (reader : ReaderState) (left : Option (List ℕ))
+    → reader ≡ fresh_with reader.room → CountsFeeds reader left left
 counts_none reader left fresh = subst (λ r. CountsFeeds r left left) (sym fresh) (feeds_none_yet INPUT_LIMIT left)
 
 -- one more call
@@ -167,7 +186,7 @@ pub counts_more : (old new : ReaderState) (first left end : Option (List ℕ)) �
 counts_more old new first left end counts takes =
     feeds_next INPUT_LIMIT old.held new.held old.taken new.taken old.number new.number first left end counts takes
 
-numbers : (p : Progress) (given : List (Option (List ℕ))) → (fold after_given p given).number ≡ length given + p.number
+pub numbers : (p : Progress) (given : List (Option (List ℕ))) → (fold after_given p given).number ≡ length given + p.number
 numbers p [] = sym (zero-add p.number)
 numbers p (one ∷ ones) = numbers (after_given p one) ones ∙ one_later (length ones) p.number
   where

@@ -2,27 +2,24 @@
 use Rattle.std.proofs.Common.{◌≡◌, ℕ, Bool, true, false, List, [], refl, sym, ◌∙◌, subst, append-nil, take, inl, inr}
 use Rattle.std.specs.Prelude.{Option, Some, None, IfSome}
 use Rattle.std.specs.Io.KnownBytes.{IsAtEnd}
+use Rattle.kp_base.specs.declared.memory.NoMemory as memory
 use Rattle.kp_io.specs.Told.{FromTold, Grows, IsFlushed}
 use Rattle.kp_io.specs.Faults.{Rose}
 use Rattle.kp_io.specs.Lines.{lines_of}
 use Rattle.kp_io.specs.declared.next_line.TheConstants.{INPUT_LIMIT}
-use Rattle.kp_io.proofs.Told.{Grows-nil, Grows-trans, FromTold-map}
+use Rattle.kp_io.proofs.Told.{Grows-nil, FromTold-map}
 use Rattle.kp_text_defs.specs.Printed.{usage_text}
 use Rattle.kp_run_defs.specs.ReplayText.{replay_of}
 use Rattle.kp_run.specs.declared.status.Status.{Status}
-use Rattle.kp_run.specs.declared.status.Status.TheVariants.{Usage, ReadFault, InputTooLong}
+use Rattle.kp_run.specs.declared.status.Status.TheVariants.{NoMemory, Usage, ReadFault, InputTooLong}
 use Rattle.kp_run.specs.Outcome.{Output, Outside, GrowsFront, WritesAll, WritesEnded, WritesFront, WritesRead, IsTooLong, Ends, EndsWhole, EndsUsage, EndsLine, EndsPrinted, IsStatusOr, status_if, ends_of, source_of, sink_of}
-use Rattle.kp_run.proofs.ComeLemmas.{front_is}
+use Rattle.kp_run.proofs.ComeLemmas.{front_is, grows_on}
 
 -- a count that rose after it had stayed rose since the beginning
 pub same_rose : (w a b : ℕ) → a ≡ w → Rose a b → Rose w b
 same_rose w a b same rose = subst (λ n. Rose n b) same rose
 
--- ---- A flush writes nothing
-
-pub grows_on : (written now later : Option (List ℕ)) (text : List ℕ) → Grows written now text → Grows now later [] → Grows written later text
-grows_on written now later text grown kept =
-    subst (Grows written later) (append-nil text) (Grows-trans written now later text [] grown kept)
+-- ---- What is handed on or flushed was written before
 
 -- nothing was written yet
 pub none_written : (text : List ℕ) (written : Option (List ℕ)) → GrowsFront written written text
@@ -71,6 +68,17 @@ module _ (result : Status) (left end written now later : Option (List ℕ)) (was
       (ends_as refused first last (all_on refused left written now later all kept, h.1.0, (sure.0, h.1.1 ∙ sure.1), at_end))
   ends_whole refused told is all front sure at_end kept (inr h) =
       subst (λ s. Ends s first last) (sym h.0) (same_rose w a b sure.1 h.1, fronts_on left written now later front kept)
+
+  -- memory was wanted
+  pub ends_wanted : (refused : memory.NoMemory) → WritesFront left written now
+      → (read ≡ r) × (a ≡ w) → Grows now later []
+      → IsStatusOr result (NoMemory refused) (b ≡ a) (Rose a b) → Ends result first last
+  ends_wanted refused front sure kept (inl h) =
+      subst (λ s. Ends s first last) (sym h.0)
+      (fronts_on left written now later front kept, (sure.0, h.1 ∙ sure.1))
+  ends_wanted refused front sure kept (inr h) =
+      subst (λ s. Ends s first last) (sym h.0)
+      (same_rose w a b sure.1 h.1, fronts_on left written now later front kept)
 
   -- a read failed
   pub ends_failed : Rose r read → WritesFront left written now → WritesRead left end written now

@@ -1,7 +1,10 @@
 pub mod ComeLemmas
 pub mod EndLemmas
+pub mod HeldLemmas
+pub mod HeldSteps
 pub mod LastLemmas
 pub mod LiveLemmas
 pub mod PlanLemmas
 pub mod Replays
+pub mod StandLemmas
 pub mod SumLemmas

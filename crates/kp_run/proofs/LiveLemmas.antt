@@ -1,7 +1,8 @@
 -- How a live run ends: what was written, and then a flush.
-use Rattle.std.proofs.Common.{◌≡◌, ℕ, Bool, true, false, List, [], sym, ◌∙◌, subst, inl, inr}
+use Rattle.std.proofs.Common.{◌≡◌, ℕ, Bool, true, false, List, [], take, sym, ◌∙◌, subst, inl, inr}
 use Rattle.std.specs.Prelude.{◌⊎◌, Option, Some, None, IfSome}
 use Rattle.std.specs.Io.KnownBytes.{IsAtEnd}
+use Rattle.kp_base.specs.declared.memory.NoMemory as memory
 use Rattle.kp_io.specs.Told.{Grows, IsFlushed}
 use Rattle.kp_io.specs.Faults.{Rose}
 use Rattle.kp_io.specs.Lines.{lines_of}
@@ -9,10 +10,11 @@ use Rattle.kp_run_defs.specs.LiveLines.{reading_of}
 use Rattle.kp_run_defs.specs.LiveText.{live_text}
 use Rattle.kp_live.specs.Written as live
 use Rattle.kp_run.specs.declared.status.Status.{Status}
-use Rattle.kp_run.specs.declared.status.Status.TheVariants.{ReadFault, InputTooLong}
+use Rattle.kp_run.specs.declared.status.Status.TheVariants.{NoMemory, ReadFault, InputTooLong}
 use Rattle.kp_run.specs.Outcome.{Outside, IsTooLong, EndsLive, EndsLiveWhole, IsStatusOr, status_if}
 use Rattle.kp_run.specs.Outcome.{ends_of, source_of, sink_of}
-use Rattle.kp_run.proofs.EndLemmas.{same_rose, grows_on, whole_front}
+use Rattle.kp_run.proofs.ComeLemmas.{grows_on}
+use Rattle.kp_run.proofs.EndLemmas.{same_rose, whole_front}
 
 -- of two things, one of which is not so, the other is
 pub other_of : {A B : Type 0} → A ⊎ B → (A → ⊥) → B
@@ -51,6 +53,15 @@ whole_is_front refused (Some text) written now all =
     let w = all.writes in
     inr (w.run, w.runs, whole_front (live_text w.run) written now w.grown)
 
+front_on : (left written now later : Option (List ℕ)) → Front left written now
+    → Grows now later [] → Front left written later
+front_on None written now later front kept = tt
+front_on (Some text) written now later (inl none) kept =
+    inl (grows_on written now later [] none kept)
+front_on (Some text) written now later (inr run) kept =
+    let front = run.2 in
+    inr (run.0, run.1, (front.0, grows_on written now later (take front.0 (live_text run.0)) front.1 kept))
+
 none_is_front : (left written now : Option (List ℕ)) → Grows written now [] → Front left written now
 none_is_front None written now kept = tt
 none_is_front (Some text) written now kept = inl kept
@@ -88,6 +99,17 @@ module _ (result : Status) (left end written now later : Option (List ℕ)) (was
         whole_is_front refused left written later
             (whole_on refused left written now later all kept),
       )
+
+  -- memory was wanted
+  pub live_wanted : (refused : memory.NoMemory) → Front left written now
+      → (read ≡ r) × (a ≡ w) → Grows now later []
+      → IsStatusOr result (NoMemory refused) (b ≡ a) (Rose a b) → EndsLive result first last
+  live_wanted refused front sure kept (inl h) =
+      subst (λ s. EndsLive s first last) (sym h.0)
+      (front_on left written now later front kept, (sure.0, h.1 ∙ sure.1))
+  live_wanted refused front sure kept (inr h) =
+      subst (λ s. EndsLive s first last) (sym h.0)
+      (same_rose w a b sure.1 h.1, front_on left written now later front kept)
 
   -- a read failed
   pub live_failed : Rose r read → a ≡ w → Grows written later []

@@ -6,7 +6,7 @@ use Rattle.kp_run.specs.declared.status.Status.TheVariants.{Done, NoMemory, Usag
 -- the exit status of an outcome
 abbrev pub code_of : Status → ℕ
 code_of Done = 0
-code_of NoMemory = 1
+code_of (NoMemory refused) = 1
 code_of Usage = 2
 code_of LinesRefused = 3
 code_of ReadFault = 4

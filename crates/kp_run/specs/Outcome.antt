@@ -131,7 +131,7 @@ EndsRead old new =
 abbrev pub Ends : Status → Outside → Outside → Type 0
 Ends Done old new = EndsWhole false old new
 Ends LinesRefused old new = EndsWhole true old new
-Ends NoMemory old new = EndsFront old new × IsSure old new
+Ends (NoMemory refused) old new = EndsFront old new × IsSure old new
 Ends Usage old new = ⊥
 Ends ReadFault old new =
     Rose old.input.faults new.input.faults × EndsFront old new × EndsRead old new
@@ -149,6 +149,10 @@ status_if false = Done
 abbrev pub IsStatusOr : Status → Status → Type 0 → Type 0 → Type 0
 IsStatusOr result given P Q = ((result ≡ given) × P) ⊎ ((result ≡ WriteFault) × Q)
 
+-- a sink keeps nothing back of what it was given, unless a write failed
+abbrev pub IsHandedOn : Status → ℕ → Type 0
+IsHandedOn result back = (result ≡ WriteFault) ⊎ (back ≡ 0)
+
 -- a line was written and flushed, and nothing failed
 abbrev pub EndsPrinted : List ℕ → Output → Output → Type 0
 EndsPrinted line old new = Grows old.written new.written line × IsOut new × (new.faults ≡ old.faults)
@@ -159,7 +163,7 @@ EndsUsage Usage old new = EndsPrinted usage_text old new
 EndsUsage WriteFault old new =
     Rose old.faults new.faults × GrowsFront old.written new.written usage_text
 EndsUsage Done old new = ⊥
-EndsUsage NoMemory old new = ⊥
+EndsUsage (NoMemory refused) old new = ⊥
 EndsUsage LinesRefused old new = ⊥
 EndsUsage ReadFault old new = ⊥
 EndsUsage InputTooLong old new = ⊥
@@ -167,7 +171,7 @@ EndsUsage InputTooLong old new = ⊥
 -- how a run ends whose words ask for nothing that is served: by the usage line, or with no memory for the
 -- words, before anything was written
 abbrev pub EndsUnserved : Status → Output → Output → Type 0
-EndsUnserved NoMemory old new = new ≡ old
+EndsUnserved (NoMemory refused) old new = new ≡ old
 EndsUnserved status old new = EndsUsage status old new
 
 -- ---- The generator
@@ -177,7 +181,7 @@ EndsUnserved status old new = EndsUsage status old new
 abbrev pub EndsLine : Bool → List ℕ → Status → Output → Output → Type 0
 EndsLine refused line Done old new = (refused ≡ false) × EndsPrinted line old new
 EndsLine refused line LinesRefused old new = (refused ≡ true) × EndsPrinted line old new
-EndsLine refused line NoMemory old new =
+EndsLine refused line (NoMemory wanted) old new =
     GrowsFront old.written new.written line × (new.faults ≡ old.faults)
 EndsLine refused line Usage old new = ⊥
 EndsLine refused line ReadFault old new = ⊥
@@ -222,7 +226,7 @@ EndsUnread old new =
 abbrev pub EndsLive : Status → Outside → Outside → Type 0
 EndsLive Done old new = EndsLiveWhole false old new
 EndsLive LinesRefused old new = EndsLiveWhole true old new
-EndsLive NoMemory old new = EndsLiveFront old new × IsSure old new
+EndsLive (NoMemory refused) old new = EndsLiveFront old new × IsSure old new
 EndsLive Usage old new = ⊥
 EndsLive ReadFault old new = Rose old.input.faults new.input.faults × EndsUnread old new
 EndsLive WriteFault old new = Rose old.output.faults new.output.faults × EndsLiveFront old new

@@ -4,15 +4,17 @@ ghost use Rattle.kp_io.specs.Faults.{Rose};
 ghost use Rattle.kp_io.specs.Told.{Grows, IsFlushed};
 ghost use Rattle.kp_run.specs.Outcome as outcome;
 ghost use Rattle.kp_run.specs.declared.ending.Stop.{Stop};
+ghost use Rattle.kp_run.specs.declared.status.Status.TheVariants as status;
 
 use crate::status::Status;
+use kp_base::NoMemory;
 use kp_io::{Sink, write_whole};
 use kp_report::usage_text;
 
 /// Why a replay stopped before the end of its input.
 #[derive(Clone, Copy, Debug, PartialEq, Eq)]
 pub(crate) enum Stop {
-    NoMemory,
+    NoMemory(NoMemory),
     Write,
     Read,
     InputTooLong,
@@ -34,6 +36,21 @@ pub(crate) fn write_text<K: Sink>(sink: &mut K, text: &[u8]) -> Result<(), Stop>
     }
 }
 
+/// Hands on what the sink keeps back.
+pub(crate) fn hand_on<K: Sink>(sink: &mut K) -> Result<(), Stop>
+    ensures out { OnOk result (K.kept_back sink.new ≡ 0) }
+    ensures kept { Grows (K.written sink.old) (K.written sink.new) [] }
+    ensures later { K.faults sink.old ≤ K.faults sink.new }
+    ensures sure { OnOk result (K.faults sink.new ≡ K.faults sink.old) }
+    ensures write { OnErr result (Rose (K.faults sink.old) (K.faults sink.new)) }
+    ensures other { (stop : Stop) → result ≡ Err stop → stop ≡ Stop.Write }
+{
+    match sink.hand_on() {
+        Ok(()) => Ok(()),
+        Err(_) => Err(Stop::Write),
+    }
+}
+
 /// The status of an input that was read to its end.
 pub(crate) fn if_refused(refused: bool) -> Status
     ensures { result ≡ outcome.status_if refused }
@@ -45,8 +62,24 @@ pub(crate) fn if_refused(refused: bool) -> Status
     }
 }
 
+/// Hands on what the sink keeps back, where memory ran out. The status tells that, or a fault of
+/// the sink.
+pub(crate) fn handed_on<K: Sink>(sink: &mut K, refused: NoMemory) -> Status
+    ensures out { outcome.IsHandedOn result (K.kept_back sink.new) }
+    ensures kept { Grows (K.written sink.old) (K.written sink.new) [] }
+    ensures cases { outcome.IsStatusOr result (status.NoMemory refused)
+        (K.faults sink.new ≡ K.faults sink.old)
+        (Rose (K.faults sink.old) (K.faults sink.new)) }
+{
+    match sink.hand_on() {
+        Ok(()) => Status::NoMemory(refused),
+        Err(_) => Status::WriteFault,
+    }
+}
+
 /// Flushes the sink. The status is the one given, or a fault of the sink.
 pub(crate) fn flushed<K: Sink>(sink: &mut K, status: Status) -> Status
+    ensures out { outcome.IsHandedOn result (K.kept_back sink.new) }
     ensures kept { Grows (K.written sink.old) (K.written sink.new) [] }
     ensures later { K.faults sink.old ≤ K.faults sink.new }
     ensures cases { outcome.IsStatusOr result status
@@ -62,7 +95,8 @@ pub(crate) fn flushed<K: Sink>(sink: &mut K, status: Status) -> Status
 
 /// Writes the usage line.
 pub fn usage<K: Sink>(sink: &mut K) -> Status
-    ensures { outcome.EndsUsage result
+    ensures out { outcome.IsHandedOn result (K.kept_back sink.new) }
+    ensures ends { outcome.EndsUsage result
         (outcome.sink_of (K.written sink.old) (K.flushed sink.old) (K.faults sink.old))
         (outcome.sink_of (K.written sink.new) (K.flushed sink.new) (K.faults sink.new)) }
 {

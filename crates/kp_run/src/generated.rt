@@ -43,7 +43,7 @@ impl Counting {
         ensures { IfOk result (λ c. counted_in c ≡ spec.count_start) }
     {
         Ok(Counting {
-            replay: Replay::new(alloc)?,
+            replay: Replay::new(alloc, 1)?,
             number: 0,
             totals: no_totals(),
             line: String::new(alloc),
@@ -135,32 +135,36 @@ fn sums_of_script(alloc: Global, plan: ScriptPlan) -> Result<Sums, NoMemory>
     let sums = counting.end();
     match taken {
         Ok(()) => Ok(sums),
-        Err(NoMemory) => Err(NoMemory),
+        Err(refused) => Err(refused),
     }
 }
 
 /// Replays a generated script, and writes the one line of what came of it.
 pub fn generate<K: Sink>(alloc: Global, plan: ScriptPlan, sink: &mut K) -> Status
     requires { script.IsPlan plan }
-    ensures { outcome.EndsGen plan result
+    ensures out { K.kept_back sink.old ≡ 0
+        → outcome.IsHandedOn result (K.kept_back sink.new) }
+    ensures ends { outcome.EndsGen plan result
         (outcome.sink_of (K.written sink.old) (K.flushed sink.old) (K.faults sink.old))
         (outcome.sink_of (K.written sink.new) (K.flushed sink.new) (K.faults sink.new)) }
 {
     match sums_of_script(alloc, plan) {
         Ok(sums) => write_sums(alloc, &sums, sink),
-        Err(NoMemory) => Status::NoMemory,
+        Err(refused) => Status::NoMemory(refused),
     }
 }
 
 /// Writes the line of sums.
 fn write_sums<K: Sink>(alloc: Global, sums: &Sums, sink: &mut K) -> Status
-    ensures { outcome.EndsLine sums.now.refused (totals_text sums.now.totals) result
+    ensures out { K.kept_back sink.old ≡ 0
+        → outcome.IsHandedOn result (K.kept_back sink.new) }
+    ensures ends { outcome.EndsLine sums.now.refused (totals_text sums.now.totals) result
         (outcome.sink_of (K.written sink.old) (K.flushed sink.old) (K.faults sink.old))
         (outcome.sink_of (K.written sink.new) (K.flushed sink.new) (K.faults sink.new)) }
 {
     let text = match totals_text(alloc, &sums.totals) {
         Ok(text) => text,
-        Err(NoMemory) => return Status::NoMemory,
+        Err(refused) => return Status::NoMemory(refused),
     };
     match write_text(sink, text.as_str().as_bytes()) {
         Ok(()) => flushed(sink, if_refused(sums.refused)),

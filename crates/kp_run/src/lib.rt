@@ -4,6 +4,7 @@
 
 mod ending;
 mod generated;
+mod held;
 pub mod laws;
 mod lines;
 mod program;

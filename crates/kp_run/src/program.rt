@@ -8,7 +8,6 @@ use crate::generated::generate;
 use crate::lines::replay_one;
 use crate::status::Status;
 use crate::streams::run_live;
-use kp_base::NoMemory;
 use kp_gate::Gate;
 use kp_gen::ScriptPlan;
 use kp_io::{Sink, Source};
@@ -21,9 +20,9 @@ use std::thread::Threads;
 /// of the source to its end, and writes what they print to the sink; for `live` it reads them, runs
 /// their streams beside each other, and writes the text of that run; for `gen` it writes the one
 /// line of a generated script; where the words don't fit, it writes the usage line. It reads the
-/// source for `replay` and `live` alone. Without memory for words that don't fit it writes nothing.
-/// For `live` alone it waits and starts threads by its runtime, and calls of the streams pass the
-/// gate.
+/// source for `replay` and `live` alone, and hands on what is known before it asks for more. Without
+/// memory for words that don't fit it writes nothing. For `live` alone it waits and starts threads by
+/// its runtime, and calls of the streams pass the gate.
 pub fn run<S: Source, K: Sink, R: Threads + Wait + Sync, G: Gate<R> + Sync>(
     rt: &R,
     alloc: Global,
@@ -37,6 +36,8 @@ pub fn run<S: Source, K: Sink, R: Threads + Wait + Sync, G: Gate<R> + Sync>(
         (outcome.sink_of (K.written sink.old) (K.flushed sink.old) (K.faults sink.old)))
         (outcome.ends_of (outcome.source_of (S.left source.new) (S.faults source.new))
         (outcome.sink_of (K.written sink.new) (K.flushed sink.new) (K.faults sink.new))) }
+    ensures out { K.kept_back sink.old ≡ 0
+        → outcome.IsHandedOn result (K.kept_back sink.new) }
     ensures unread { outcome.reads_source (mode_of (map string_bytes words.now)) ≡ false
         → source.new ≡ source.old }
 {
@@ -62,6 +63,6 @@ pub fn run<S: Source, K: Sink, R: Threads + Wait + Sync, G: Gate<R> + Sync>(
         ),
         Ok(Some(Mode::Live)) => run_live(rt, alloc, source, sink, gate),
         Ok(None) => usage(sink),
-        Err(NoMemory) => Status::NoMemory,
+        Err(refused) => Status::NoMemory(refused),
     }
 }

@@ -1,7 +1,7 @@
 //! A live run of lines.
 ghost use Rattle.kp_run.specs.Outcome as outcome;
 
-use crate::ending::{flushed, if_refused};
+use crate::ending::{flushed, handed_on, if_refused};
 use crate::status::Status;
 use kp_gate::Gate;
 use kp_io::{Sink, Source};
@@ -19,7 +19,8 @@ pub(crate) fn run_live<S: Source, K: Sink, R: Threads + Wait + Sync, G: Gate<R> 
     sink: &mut K,
     gate: &G,
 ) -> Status
-    ensures { outcome.EndsLive result
+    ensures out { outcome.IsHandedOn result (K.kept_back sink.new) }
+    ensures ends { outcome.EndsLive result
         (outcome.ends_of (outcome.source_of (S.left source.old) (S.faults source.old))
         (outcome.sink_of (K.written sink.old) (K.flushed sink.old) (K.faults sink.old)))
         (outcome.ends_of (outcome.source_of (S.left source.new) (S.faults source.new))
@@ -27,7 +28,7 @@ pub(crate) fn run_live<S: Source, K: Sink, R: Threads + Wait + Sync, G: Gate<R> 
 {
     match live(rt, alloc, source, sink, gate) {
         Ok(refused) => flushed(sink, if_refused(refused)),
-        Err(LiveFault::NoMemory) => Status::NoMemory,
+        Err(LiveFault::NoMemory(refused)) => handed_on(sink, refused),
         Err(LiveFault::WriteFault) => Status::WriteFault,
         Err(LiveFault::ReadFault) => flushed(sink, Status::ReadFault),
         Err(LiveFault::InputTooLong) => flushed(sink, Status::InputTooLong),

@@ -35,7 +35,8 @@ pub returns-in-Ok-clause-write : goal.returns-in-Ok-clause-write
 returns-in-Ok-clause-write g c = c.write_text.ensures.write
 
 pub returns-in-Ok-clause-memory : goal.returns-in-Ok-clause-memory
-returns-in-Ok-clause-memory g c = λ stopped. let other = c.write_text.ensures.other NoMemory stopped in absurd (cc)
+returns-in-Ok-clause-memory g c = λ refused stopped.
+    let other = c.write_text.ensures.other (NoMemory refused) stopped in absurd (cc)
 
 pub returns-in-Ok-clause-read : goal.returns-in-Ok-clause-read
 returns-in-Ok-clause-read g c = λ stopped. let other = c.write_text.ensures.other Read stopped in absurd (cc)

@@ -11,7 +11,7 @@ returns-clause-counted c =
     both_ok _ _ _ c.count_line.result c.count_line.ensures.next c.count_line.ensures.totals (λ leads adds.
     counted_more (counted_in c.args.self.now) (c.args.self.now.number + 1) c.as_bytes.result.now (line_in c.args.plan c.args.part c.args.place)
     (standing_of c.count_line.new.self) c.count_line.new.totals (add-one c.args.self.now.number)
-    (c.as_bytes.ensures.value ∙ c.in_ok-push_line.ensures ∙ ap (λ t. t ++ line_in c.args.plan c.args.part c.args.place) c.clear.ensures.bytes) leads adds)
+    (c.as_bytes.ensures.value ∙ c.in_ok-push_line.ensures.added ∙ ap (λ t. t ++ line_in c.args.plan c.args.part c.args.place) c.clear.ensures.bytes) leads adds)
 
 pub returns-clause-ready : goal.returns-clause-ready
 returns-clause-ready c =

@@ -1,0 +1,113 @@
+-- How far the program has come after lines that it took together.
+use Rattle.std.proofs.Common.{◌≡◌, ◌+◌, arith, ℕ, suc, List, [], ◌∷◌, ◌++◌, length, map, take, drop, ap, sym, refl, ◌∙◌, subst, append-nil, append_assoc}
+use Rattle.std.specs.Prelude.{Option, Some, None}
+use Rattle.std.specs.List.{fold}
+use Rattle.std.proofs.lemmas.List.Sums.{fold-append}
+use Rattle.kp_io.specs.Reader.{GivesShort, HandedOut}
+use Rattle.kp_io.specs.Told.{Grows}
+use Rattle.kp_io.proofs.Told.{Grows-trans}
+use Rattle.kp_io.specs.Lines.{lines_of}
+use Rattle.kp_run_defs.specs.ReplayText.{Progress, Standing, at_start, replay_of, short_line}
+use Rattle.kp_replay.specs.Groups.{lines_from}
+use Rattle.kp_replay.specs.Steps.{IsReady}
+use Rattle.kp_replay.proofs.FirstLines.{next_ready}
+use Rattle.kp_run.specs.Given.{after_given, replay_given}
+use Rattle.kp_run.specs.Outcome.{Come, GrowsFront, TakesLine, WritesFront}
+use Rattle.kp_run.proofs.ComeLemmas.{all_text, front_is, numbers, part_is, whole_text}
+
+-- ---- Lines as they are given
+
+-- what lines that are given lead to is what they do one after the other
+stands_at : (p : Progress) (lines : List (List ℕ))
+    → (fold after_given p (map Some lines)).at ≡ (lines_from (suc p.number) lines p.at).next
+stands_at p [] = refl
+stands_at p (bytes ∷ lines) = stands_at (after_given p (Some bytes)) lines
+
+text_at : (p : Progress) (lines : List (List ℕ)) → (fold after_given p (map Some lines)).text
+    ≡ p.text ++ (lines_from (suc p.number) lines p.at).text
+text_at p [] = sym (append-nil p.text)
+text_at p (bytes ∷ lines) =
+    let one = short_line (suc p.number) bytes p.at in
+    text_at (after_given p (Some bytes)) lines
+    ∙ append_assoc p.text one.text (lines_from (suc (suc p.number)) lines one.next).text
+
+length-some : (lines : List (List ℕ)) → length (map Some lines) ≡ length lines
+length-some [] = refl
+length-some (bytes ∷ lines) = ap suc (length-some lines)
+
+-- after lines the next one may come
+ready_after : (number : ℕ) (lines : List (List ℕ)) (s : Standing) → IsReady s
+    → IsReady (lines_from number lines s).next
+ready_after number [] s ready = ready
+ready_after number (bytes ∷ lines) s ready =
+    ready_after (suc number) lines (short_line number bytes s).next
+    (next_ready number (Some bytes) s ready)
+
+-- lines are the first that are given
+given_more : (given : List (Option (List ℕ))) (lines : List (List ℕ)) (a : Option (List ℕ))
+    (b c : Option (List (Option (List ℕ)))) → HandedOut given a b → GivesShort lines b c
+    → HandedOut (given ++ map Some lines) a c
+given_more given lines None b c p q = tt
+given_more given lines (Some x) None c p q = absurd p
+given_more given lines (Some x) (Some y) None p q = absurd q
+given_more given lines (Some x) (Some y) (Some z) p q =
+    p ∙ ap (λ rest. given ++ rest) q ∙ sym (append_assoc given (map Some lines) z)
+
+module _ (s : Standing) (n : ℕ) (lines : List (List ℕ)) (left : Option (List ℕ))
+    (rest after : Option (List (Option (List ℕ)))) (written now later : Option (List ℕ))
+    (come : Come s n left rest written now) (gives : GivesShort lines rest after) where
+  abbrev p : Progress
+  p = replay_given come.given
+
+  abbrev q : Progress
+  q = fold after_given p (map Some lines)
+
+  all_given : replay_given (come.given ++ map Some lines) ≡ q
+  all_given = fold-append after_given at_start come.given (map Some lines)
+
+  same : lines_from (suc n) lines s ≡ lines_from (suc p.number) lines p.at
+  same = λ i. lines_from (suc (sym come.counted i)) lines (come.stands i)
+
+  -- after them
+  pub come_group : (t : Standing) → TakesLine (lines_from (suc n) lines s) t now later
+      → Come t (n + length lines) left after written later
+  come_group t takes = record {
+    given = come.given ++ map Some lines;
+    handed = given_more come.given lines left rest after come.handed gives;
+    stands =
+        takes.stands ∙ ap (λ l. l.next) same ∙ sym (stands_at p lines)
+        ∙ ap (λ r. r.at) (sym all_given);
+    ready = subst IsReady (sym takes.stands) (ready_after (suc n) lines s come.ready);
+    grown =
+        subst (Grows written later)
+        (ap (λ l. p.text ++ l.text) same ∙ sym (text_at p lines)
+        ∙ ap (λ r. r.text) (sym all_given))
+        (Grows-trans written now later p.text (lines_from (suc n) lines s).text
+        come.grown takes.grown);
+    counted =
+        ap (λ r. r.number) all_given
+        ∙ omega (arith, numbers p (map Some lines), length-some lines, come.counted);
+  }
+
+  front_within : (a : Option (List ℕ)) (b : Option (List (Option (List ℕ))))
+      → HandedOut (come.given ++ map Some lines) a b
+      → GrowsFront now later (lines_from (suc n) lines s).text → WritesFront a written later
+  front_within None b handed front = tt
+  front_within (Some text) None handed front = absurd handed
+  front_within (Some text) (Some more) handed front =
+      let step = lines_from (suc n) lines s in
+      let all = all_text (come.given ++ map Some lines) more in
+      let seen : q.text ≡ p.text ++ step.text =
+      text_at p lines ∙ ap (λ l. p.text ++ l.text) (sym same) in
+      front_is (replay_of (lines_of text)).text (p.text ++ take front.0 step.text)
+      (drop front.0 step.text ++ all.0) written later
+      (ap (λ r. r.text) (whole_text text ((come.given ++ map Some lines) ++ more) handed)
+      ∙ all.1 ∙ ap (λ r. r.text ++ all.0) all_given ∙ ap (λ t. t ++ all.0) seen
+      ∙ part_is p.text step.text all.0 front.0)
+      (Grows-trans written now later p.text (take front.0 step.text) come.grown front.1)
+
+  -- within them
+  pub come_part_group : GrowsFront now later (lines_from (suc n) lines s).text
+      → WritesFront left written later
+  come_part_group front =
+      front_within left after (given_more come.given lines left rest after come.handed gives) front

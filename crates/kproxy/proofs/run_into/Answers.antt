@@ -1,5 +1,0 @@
-use Rattle.kp_run.proofs.Replays.{no_usage}
-use Rattle.kproxy.proofs.run_into.Goals as goal
-
-pub returns : goal.returns
-returns g c = λ asks usage. no_usage _ c.run.result _ _ asks c.run.ensures.ends usage
