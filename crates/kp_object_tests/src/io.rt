@@ -2,8 +2,8 @@
 use crate::keys::is_number;
 use kp_base::{Items, NoMemory};
 use kp_io::{
-    LINE_LIMIT, LineFault, LineReader, MemorySink, MemorySource, NextLine, RealSink, RealSource,
-    Sink, Source, SureSink, SureSource, write_whole,
+    BufferedSink, Failed, LINE_LIMIT, LineFault, LineReader, MemorySink, MemorySource, NextLine,
+    RealSink, RealSource, Sink, Source, SureSink, SureSource, write_whole,
 };
 use std::alloc::Global;
 use std::io::BufWriter;
@@ -91,6 +91,18 @@ fn a_failed_read_is_told_and_changes_nothing(rt: HostRuntime) -> Result<(), Fail
     Ok(())
 }
 
+#[test]
+fn whole_lines_that_are_held_are_lent(rt: HostRuntime) -> Result<(), Fail> {
+    let mut reader = LineReader::with_room(rt.alloc(), 12)?;
+    let mut source = SureSource::new(bytes_of(rt.alloc(), b"one\ntwo\nthree\n")?, 65536);
+    assert!(rt; !reader.answers_unasked() && reader.held_lines().is_empty());
+    assert!(rt; answers(&mut reader, &mut source, "1 one") && reader.answers_unasked());
+    // of the third line four bytes are held
+    assert!(rt; reader.held_lines() == b"two\n".as_slice());
+    assert!(rt; answers(&mut reader, &mut source, "2 two") && !reader.answers_unasked());
+    Ok(())
+}
+
 /// Three lines, of which the second has so many bytes.
 fn three_lines(alloc: Global, length: usize) -> Result<Items<u8>, NoMemory> {
     let mut text = Vec::from_slice(alloc, b"one\n")?;
@@ -158,6 +170,36 @@ fn goes_on(sink: &mut MemorySink) -> bool {
         && is_written(sink, b"c")
         && is_flushed(sink)
         && sink.written() == b"abc".as_slice()
+}
+
+/// Whether a buffer before a sink that takes two bytes a call, and refuses the third call, keeps what
+/// it is given until it is told to hand it on, and then loses nothing.
+fn keeps_together(sink: &mut BufferedSink<MemorySink>) -> bool {
+    is_written(sink, b"abcdef")
+        && sink.sink().written().is_empty()
+        && sink.hand_on() == Err(Failed)
+        && sink.sink().written() == b"abcd".as_slice()
+        && is_written(sink, b"g")
+        && sink.hand_on() == Ok(())
+        && sink.sink().written() == b"abcdefg".as_slice()
+}
+
+/// Whether a buffer hands on a text as soon as it has 65,536 bytes, and the rest by a flush.
+fn hands_on_in_pieces(sink: &mut BufferedSink<SureSink>, text: &[u8]) -> bool {
+    is_written(sink, text)
+        && sink.sink().written().len() == 131_072
+        && is_flushed(sink)
+        && sink.sink().written() == text
+}
+
+#[test]
+fn a_buffer_keeps_bytes_together(rt: HostRuntime) -> Result<(), Fail> {
+    let sink = MemorySink::new(rt.alloc(), 2, 0, calls(rt.alloc(), 3, 3)?)?;
+    assert!(rt; keeps_together(&mut BufferedSink::new(rt.alloc(), sink)?));
+    let text = Vec::from_elem(rt.alloc(), b'x', 131_073)?;
+    let sink = SureSink::new(rt.alloc(), 65536, 0)?;
+    assert!(rt; hands_on_in_pieces(&mut BufferedSink::new(rt.alloc(), sink)?, &text));
+    Ok(())
 }
 
 #[test]

@@ -10,6 +10,7 @@ use kp_types::{Event, Kind};
 use std::alloc::Global;
 use std::sync::Wait;
 use std::sync::atomic::{AtomicU32, Ordering};
+use std::test::Fail;
 use std::thread;
 use std::thread::Threads;
 use std::vec::IntoIter;
@@ -140,12 +141,12 @@ fn four_of(
 }
 
 #[test]
-fn each_feeders_order_is_kept(rt: HostRuntime) -> Result<(), NoMemory> {
+fn each_feeders_order_is_kept(rt: HostRuntime) -> Result<(), Fail> {
     let alloc = rt.alloc();
     let (queue, passes, taker) = feed_queue(alloc, 4)?;
     let Some(((a, b), (c, d))) = four_of(&queue, passes) else {
         queue.finish(&rt, Items::new(alloc), taker);
-        return Err(NoMemory);
+        return Err(Fail::from("four passes"));
     };
     let count = AtomicU32::new(0);
     let (rt, feed, done) = (&rt, &queue, &count);

@@ -5,12 +5,27 @@ ghost use Rattle.kp_publish.specs.declared.entry.Entry.TheVariants.{Record};
 
 use arrayvec::ArrayVec;
 use kp_base::{Items, NoMemory, Shared};
-use kp_publish::{Publication, Publisher, SyncRecord};
+use kp_publish::{Publication, PublishFault, Publisher, SyncRecord};
 use kp_rules::Table;
 use kp_types::{Batch, ChainAt, ChainName, Edit, Match, Rule, TableName, Target};
 use kp_walker::can_walk;
 use std::alloc::Global;
 use std::sync::Wait;
+
+/// Why no record was pushed: there was no memory, the table counts no further, or it can't be
+/// walked.
+#[derive(Clone, Copy, Debug)]
+pub enum PushFault {
+    NoMemory(NoMemory),
+    NoNumber,
+    NotRanked,
+}
+
+impl From<NoMemory> for PushFault {
+    fn from(refused: NoMemory) -> PushFault {
+        PushFault::NoMemory(refused)
+    }
+}
 
 /// The chain that each record writes.
 fn place() -> ChainAt {
@@ -24,7 +39,7 @@ fn only<T: Drop>(alloc: Global, item: T) -> Result<Items<T>, NoMemory> {
     let mut items = Items::new(alloc);
     match items.push(item) {
         Ok(()) => Ok(items),
-        Err(_) => Err(NoMemory),
+        Err((refused, _)) => Err(refused),
     }
 }
 
@@ -58,17 +73,17 @@ pub fn push<J: Publication, R: Wait>(
     alloc: Global,
     publisher: &mut Publisher<J>,
     own: &mut Table,
-) -> Result<u64, NoMemory>
+) -> Result<u64, PushFault>
     requires { StandsFor J.start own.old publisher.old.newest }
     ensures { OnOk result (StandsFor J.start own.new publisher.new.newest) }
 {
     let Some(sync) = own.syncs().checked_add(1) else {
-        return Err(NoMemory);
+        return Err(PushFault::NoNumber);
     };
     let batch = batch_of(alloc, sync)?;
     own.apply(&batch)?;
     if !can_walk(own) {
-        return Err(NoMemory);
+        return Err(PushFault::NotRanked);
     }
     let next = SyncRecord {
         sync,
@@ -85,7 +100,7 @@ fn publish<J: Publication, R: Wait>(
     publisher: &mut Publisher<J>,
     own: &Table,
     next: SyncRecord,
-) -> Result<u64, NoMemory>
+) -> Result<u64, PushFault>
     requires open { is_ended publisher.old.newest ≡ false }
     requires number { next.sync ≡ own.now.syncs }
     requires stands { StandsFor J.start own.now (publisher.old.newest ++ Record next ∷ []) }
@@ -93,6 +108,7 @@ fn publish<J: Publication, R: Wait>(
 {
     match publisher.push_and_publish(rt, next) {
         Ok(number) => Ok(number),
-        Err(_) => Err(NoMemory),
+        Err(PublishFault::NoMemoryBack(_, refused)) => Err(PushFault::NoMemory(refused)),
+        Err(PublishFault::NoMemoryPending(refused)) => Err(PushFault::NoMemory(refused)),
     }
 }

@@ -3,7 +3,7 @@ ghost use Rattle.std.specs.Prelude.{◌≡◌};
 ghost use Rattle.kp_publish.specs.Entries.{StandsFor};
 
 use crate::pushing::{number_in, push};
-use kp_base::{Copied, Family, NoMemory};
+use kp_base::{Copied, Family};
 use kp_chains::fixed_chains;
 use kp_publish::{Opened, Publication, Publisher, Reader, publication};
 use kp_rules::Table;
@@ -12,6 +12,7 @@ use std::alloc::Global;
 use std::marker::Brand;
 use std::sync::Wait;
 use std::sync::atomic::{AtomicU32, Ordering};
+use std::test::Fail;
 use std::thread;
 use std::thread::Threads;
 
@@ -122,19 +123,19 @@ fn last_seen<J: Publication + Send + Sync, R: Threads + Wait + Sync>(
     alloc: Global,
     opened: Opened,
     start: &Table,
-) -> Result<(bool, Option<u64>, Option<u64>, u64), NoMemory>
+) -> Result<(bool, Option<u64>, Option<u64>, u64), Fail>
     requires book { opened ≡ J.book }
     requires start { start.now ≡ J.start }
 {
     if start.syncs() != 0 || !can_walk(start) {
-        return Err(NoMemory);
+        return Err(Fail::from("a table without syncs that can be walked"));
     }
     let own = start.copy(alloc)?;
     let (mut publisher, readers) = publication::<J, R>(rt, alloc, opened, start, 2)?;
     let mut readers = readers.into_vec().into_iter();
     let (Some(first), Some(second)) = (readers.next(), readers.next()) else {
         publisher.into_table(rt);
-        return Err(NoMemory);
+        return Err(Fail::from("two readers"));
     };
     let (first, second, both) = enter_both(rt, first, second);
     let done = AtomicU32::new(0);
@@ -143,7 +144,7 @@ fn last_seen<J: Publication + Send + Sync, R: Threads + Wait + Sync>(
 }
 
 #[test]
-fn counts_never_fall(rt: HostRuntime) -> Result<(), NoMemory> {
+fn counts_never_fall(rt: HostRuntime) -> Result<(), Fail> {
     let start = fixed_chains(rt.alloc(), &[Family::V4])?;
     let seen = last_seen::<Brand, _>(&rt, rt.alloc(), Opened::new(), &start)?;
     assert!(rt; seen == (true, Some(RECORDS), Some(RECORDS), RECORDS));

@@ -186,7 +186,7 @@ fn told(alloc: Global, answer: Result<Batch, TableFault>) -> Result<String, Fail
                 .replace(alloc, "\n", "|")?,
         ),
         Err(TableFault::ChainClash(clash)) => Ok(clash_text(alloc, &clash)?),
-        Err(TableFault::NoMemory) => Err(Fail::from(NoMemory)),
+        Err(TableFault::NoMemory(refused)) => Err(Fail::from(refused)),
     }
 }
 

@@ -3,7 +3,7 @@ ghost use Rattle.std.specs.Prelude.{◌≡◌};
 ghost use Rattle.kp_publish.specs.Entries.{StandsFor};
 
 use crate::pushing::push;
-use kp_base::{Copied, Family, NoMemory};
+use kp_base::{Copied, Family};
 use kp_chains::fixed_chains;
 use kp_publish::{Opened, Publication, Publisher, Reader, laws, publication};
 use kp_rules::Table;
@@ -11,6 +11,7 @@ use kp_walker::can_walk;
 use std::alloc::Global;
 use std::marker::Brand;
 use std::sync::Wait;
+use std::test::Fail;
 
 /// How many records a reader sees that learned what is published, and the reader again.
 fn count_told<J: Publication, R: Wait>(
@@ -32,7 +33,7 @@ fn counts_told<J: Publication, R: Wait>(
     publisher: &mut Publisher<J>,
     own: Table,
     reader: Reader<J>,
-) -> Result<(u64, u64), NoMemory>
+) -> Result<(u64, u64), Fail>
     requires { StandsFor J.start own publisher.old.newest }
 {
     let mut own = own;
@@ -50,25 +51,25 @@ fn told<J: Publication, R: Wait>(
     alloc: Global,
     opened: Opened,
     start: &Table,
-) -> Result<(u64, u64), NoMemory>
+) -> Result<(u64, u64), Fail>
     requires book { opened ≡ J.book }
     requires start { start.now ≡ J.start }
 {
     if start.syncs() != 0 || !can_walk(start) {
-        return Err(NoMemory);
+        return Err(Fail::from("a table without syncs that can be walked"));
     }
     let own = start.copy(alloc)?;
     let (mut publisher, readers) = publication::<J, R>(rt, alloc, opened, start, 1)?;
     let counts = match readers.into_vec().pop() {
         Some(reader) => counts_told(rt, alloc, &mut publisher, own, reader),
-        None => Err(NoMemory),
+        None => Err(Fail::from("a reader")),
     };
     publisher.into_table(rt);
     counts
 }
 
 #[test]
-fn a_reader_sees_all_that_it_was_told(rt: HostRuntime) -> Result<(), NoMemory> {
+fn a_reader_sees_all_that_it_was_told(rt: HostRuntime) -> Result<(), Fail> {
     let start = fixed_chains(rt.alloc(), &[Family::V4])?;
     let counts = told::<Brand, _>(&rt, rt.alloc(), Opened::new(), &start)?;
     assert!(rt; counts == (1, 2));

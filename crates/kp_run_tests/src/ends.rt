@@ -1,5 +1,7 @@
 //! Runs over ends in memory, with their statuses and what was written.
-use crate::inputs::{AFFINITY, Case, ENDPOINTS, RECENT, REFUSED, REJECTED, TERMINATING, case_of};
+use crate::inputs::{
+    AFFINITY, CLASHES, Case, ENDPOINTS, RECENT, REFUSED, REJECTED, SHOWN, TERMINATING, case_of,
+};
 use crate::lines::words_of;
 use kp_base::Items;
 use kp_gate::{Gate, OpenGate};
@@ -10,6 +12,9 @@ use std::process::Abort;
 use std::sync::Wait;
 use std::test::Fail;
 use std::thread::Threads;
+
+/// The words of a replay with one worker, and with four.
+pub(crate) const REPLAYS: [&str; 2] = ["kproxy replay", "kproxy replay --workers=4"];
 
 /// How a run ended, and the bytes that it wrote.
 #[derive(Drop)]
@@ -27,18 +32,30 @@ fn failing(alloc: Global, call: u64) -> Result<Items<u64>, Fail> {
     Ok(Items::from_vec(calls))
 }
 
-/// A run whose reads give one byte each and whose writes take at most so many, and of which one
-/// read and one write fail.
+/// A run whose reads give one byte each and whose writes take at most 64, and of which one read and
+/// one write fail.
 fn planned_run<R: Threads + Wait + Sync + AllocGlobal>(
     rt: &R,
     line: &str,
     input: &str,
     calls: (u64, u64),
 ) -> Result<Ended, Fail> {
+    failing_run(rt, line, input, (1, 64), calls)
+}
+
+/// A run whose reads and writes take at most so many bytes, and of which the read and the write or
+/// flush of these numbers fail, from 1, or none for 0.
+pub(crate) fn failing_run<R: Threads + Wait + Sync + AllocGlobal>(
+    rt: &R,
+    line: &str,
+    input: &str,
+    pieces: (u64, u64),
+    calls: (u64, u64),
+) -> Result<Ended, Fail> {
     let alloc = rt.alloc();
     let bytes = Items::from_vec(Vec::from_slice(alloc, input.as_bytes())?);
-    let mut source = MemorySource::new(bytes, 1, failing(alloc, calls.0)?);
-    let mut sink = MemorySink::new(alloc, 64, 4096, failing(alloc, calls.1)?)?;
+    let mut source = MemorySource::new(bytes, pieces.0.max(1), failing(alloc, calls.0)?);
+    let mut sink = MemorySink::new(alloc, pieces.1.max(1), 4096, failing(alloc, calls.1)?)?;
     let words = words_of(alloc, line)?;
     let status = run(
         rt,
@@ -72,7 +89,7 @@ pub(crate) fn sure_run<R: Threads + Wait + Sync + AllocGlobal, G: Gate<R> + Sync
 }
 
 /// Whether a run ended so, with this text.
-fn is_end(run: &Ended, status: Status, text: &str) -> bool {
+pub(crate) fn is_end(run: &Ended, status: Status, text: &str) -> bool {
     run.status == status && run.written.as_slice() == text.as_bytes()
 }
 
@@ -84,20 +101,26 @@ fn check_whole<R: Abort + Threads + Wait + Sync + AllocGlobal>(
 ) -> Result<(), Fail> {
     let alloc = rt.alloc();
     let case = case_of(alloc, rows, 100)?;
-    for piece in [1u64, 7, 4096] {
-        let words = "kproxy replay --workers=4";
-        let whole = sure_run(rt, words, &case.input, piece, &OpenGate)?;
-        assert!(rt; is_end(&whole, status, &case.printed), "{piece}: {rows}");
+    for words in REPLAYS {
+        for piece in [1u64, 7, 4096] {
+            let whole = sure_run(rt, words, &case.input, piece, &OpenGate)?;
+            assert!(rt;
+                is_end(&whole, status, &case.printed),
+                "{words} {piece}: {rows}"
+            );
+        }
     }
     Ok(())
 }
 
 #[test]
 fn a_replay_prints_its_text_in_any_pieces(rt: HostRuntime) -> Result<(), Fail> {
-    for rows in [ENDPOINTS, REJECTED, TERMINATING, RECENT, AFFINITY] {
+    for rows in [ENDPOINTS, REJECTED, TERMINATING, RECENT, AFFINITY, SHOWN] {
         check_whole(&rt, rows, Status::Done)?;
     }
-    check_whole(&rt, REFUSED, Status::LinesRefused)?;
+    for rows in [REFUSED, CLASHES] {
+        check_whole(&rt, rows, Status::LinesRefused)?;
+    }
     let usage = planned_run(&rt, "kproxy lives", "", (0, 0))?;
     assert!(rt; usage.status == Status::Usage);
     Ok(())

@@ -49,6 +49,22 @@ record: events 1, written 2, removed 2
 events 4, syncs 3, refusals 1
 ";
 
+/// Why the lines weren't all taken: there was no memory or no number for an event, one isn't read,
+/// or there is no stream.
+#[derive(Clone, Copy, Debug)]
+enum Stuck {
+    NoMemory(NoMemory),
+    NoNumber,
+    NoLine,
+    NoStream,
+}
+
+impl From<NoMemory> for Stuck {
+    fn from(refused: NoMemory) -> Stuck {
+        Stuck::NoMemory(refused)
+    }
+}
+
 /// Feeds the events of a line, and tells their numbers.
 fn feed_all<J: Sharing, A: Ledger, C: Ledger, R: Wait>(
     rt: &R,
@@ -56,16 +72,17 @@ fn feed_all<J: Sharing, A: Ledger, C: Ledger, R: Wait>(
     feeder: &mut FeedPass,
     events: Items<Event>,
     text: &mut String,
-) -> Result<(), NoMemory>
+) -> Result<(), Stuck>
     requires { feeder.old.queue ≡ J.queue }
     ensures { feeder.new.queue ≡ J.queue }
 {
     for event in events.into_vec() {
         if feeder.count() == u64::MAX {
-            return Err(NoMemory);
+            return Err(Stuck::NoNumber);
         }
-        let Ok(number) = hub.feed(rt, feeder, event) else {
-            return Err(NoMemory);
+        let number = match hub.feed(rt, feeder, event) {
+            Ok(number) => number,
+            Err((refused, _)) => return Err(Stuck::NoMemory(refused)),
         };
         push_labelled(text, "fed ", number)?;
         push(text, "\n")?;
@@ -80,13 +97,13 @@ fn sync<J: Sharing, A: Ledger, C: Ledger, R: Wait>(
     hub: &Hub<J, A, C>,
     worker: &mut WorkerPass<J, A, C>,
     text: &mut String,
-) -> Result<(), NoMemory> {
+) -> Result<(), Stuck> {
     match hub.sync(rt, alloc, worker) {
         Ok(number) => push_labelled(text, "sync ", number)?,
         Err(TableFault::ChainClash(_)) => push(text, "refused")?,
-        Err(TableFault::NoMemory) => return Err(NoMemory),
+        Err(TableFault::NoMemory(refused)) => return Err(Stuck::NoMemory(refused)),
     }
-    push(text, "\n")
+    Ok(push(text, "\n")?)
 }
 
 /// Takes the line of this number, and tells what it is answered.
@@ -99,12 +116,12 @@ fn take<J: Sharing, A: Ledger, C: Ledger, R: Wait>(
     number: u64,
     line: &str,
     text: &mut String,
-) -> Result<(), NoMemory>
+) -> Result<(), Stuck>
     requires { feeder.old.queue ≡ J.queue }
     ensures { feeder.new.queue ≡ J.queue }
 {
     let Ok(line) = read(alloc, number, line) else {
-        return Err(NoMemory);
+        return Err(Stuck::NoLine);
     };
     let ScriptLine { by: _by, op } = line;
     match op {
@@ -112,7 +129,7 @@ fn take<J: Sharing, A: Ledger, C: Ledger, R: Wait>(
         Op::Packet(packet) => {
             let mut lists = RecentLists::new(alloc, 100)?;
             let (sync, verdict) = Hub::verdict_of(rt, worker, number, &packet, &mut lists)?;
-            push_answer(text, number, sync, &verdict)
+            Ok(push_answer(text, number, sync, &verdict)?)
         }
         _ => sync(rt, alloc, hub, worker, text),
     }
@@ -127,7 +144,7 @@ fn take_all<J: Sharing, A: Ledger, C: Ledger, R: Wait>(
     worker: &mut WorkerPass<J, A, C>,
     script: &String,
     text: &mut String,
-) -> Result<(), NoMemory>
+) -> Result<(), Stuck>
     requires { feeder.old.queue ≡ J.queue }
     ensures { feeder.new.queue ≡ J.queue }
 {
@@ -150,16 +167,16 @@ fn take_by_first<J: Sharing, A: Ledger, C: Ledger, R: Wait>(
     worker: Option<&mut WorkerPass<J, A, C>>,
     script: &String,
     text: &mut String,
-) -> Result<(), NoMemory>
+) -> Result<(), Stuck>
     requires { AllByRecursion (λ p. p.queue ≡ J.queue) feeders.old }
     ensures { AllByRecursion (λ p. p.queue ≡ J.queue) feeders.new }
 {
     let Some(worker) = worker else {
-        return Err(NoMemory);
+        return Err(Stuck::NoStream);
     };
     match feeders.first_mut() {
         Some(feeder) => take_all(rt, alloc, hub, feeder, worker, script, text),
-        None => Err(NoMemory),
+        None => Err(Stuck::NoStream),
     }
 }
 
@@ -185,7 +202,7 @@ fn told<J: Sharing, A: Ledger, C: Ledger, R: Wait>(
     opening: Opening,
     script: &String,
     text: &mut String,
-) -> Result<(), NoMemory>
+) -> Result<(), Stuck>
     requires config { opening.config ≡ J.config }
     requires book { opening.book ≡ J.book }
     requires queue { opening.queue ≡ J.queue }
@@ -211,7 +228,7 @@ fn told<J: Sharing, A: Ledger, C: Ledger, R: Wait>(
     let told = push_done(text, &done);
     done.end(rt);
     taken?;
-    told
+    Ok(told?)
 }
 
 #[test]

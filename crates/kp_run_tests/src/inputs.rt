@@ -140,3 +140,110 @@ pub(crate) const REFUSED: &str = r#"{"op":"config","node":"n1","nodeAddresses":[
 => sync 1: events 0, written 0, removed 0
 {"op":"packet",
 => line 3: refused: bad json"#;
+
+/// Two endpoints whose chains have one name: syncs of them are refused, and their events stay.
+pub(crate) const CLASHES: &str = r#"{"op":"config","node":"n1","nodeAddresses":["10.0.0.1"],
+ "clusterCIDR":"10.244.0.0/16","nameLength":0}
+{"apiVersion":"v1","kind":"Service","metadata":{"name":"web"},
+ "spec":{"clusterIP":"10.96.0.10","ports":[{"port":80,"targetPort":8080}]}}
+{"apiVersion":"discovery.k8s.io/v1","kind":"EndpointSlice",
+ "metadata":{"name":"web-x","labels":{"kubernetes.io/service-name":"web"}},"addressType":"IPv4",
+ "ports":[{"port":8080}],"endpoints":[{"addresses":["10.244.1.2"],"nodeName":"n1"},
+ {"addresses":["10.244.2.3"],"nodeName":"n2"}]}
+{"op":"sync"}
+=> line 4: refused: chain name KUBE-SEP- of default/web/TCP 10.244.1.2:8080 and of
+  default/web/TCP 10.244.2.3:8080
+{"apiVersion":"discovery.k8s.io/v1","kind":"EndpointSlice",
+ "metadata":{"name":"web-x","labels":{"kubernetes.io/service-name":"web"}},"addressType":"IPv4",
+ "ports":[{"port":8080}],"endpoints":[{"addresses":["10.244.1.2"],"nodeName":"n1"}]}
+{"op":"sync"}
+=> sync 1: events 3, written 3, removed 0
+{"apiVersion":"discovery.k8s.io/v1","kind":"EndpointSlice",
+ "metadata":{"name":"web-x","labels":{"kubernetes.io/service-name":"web"}},"addressType":"IPv4",
+ "ports":[{"port":8080}],"endpoints":[{"addresses":["10.244.1.2"],"nodeName":"n1"},
+ {"addresses":["10.244.2.3"],"nodeName":"n2"}]}
+{"op":"sync"}
+=> line 8: refused: chain name KUBE-SEP- of default/web/TCP 10.244.1.2:8080 and of
+  default/web/TCP 10.244.2.3:8080
+{"op":"packet","src":"10.244.9.9","dst":"10.96.0.10","dport":80,"draws":[]}
+=> packet 9 at 1: to 10.244.1.2:8080"#;
+
+/// A List of a Node, a Service, a Pod of it and a slice that the controller keeps, and what it
+/// makes of them: the slice's second endpoint has no Pod, and goes.
+pub(crate) const SHOWN: &str = r#"{"op":"config","node":"n1","nodeAddresses":["10.0.0.1"],
+ "clusterCIDR":"10.244.0.0/16"}
+{"apiVersion":"v1","kind":"List","metadata":{"resourceVersion":""},"items":[
+ {"apiVersion":"v1","kind":"Node","metadata":{"name":"n1",
+ "labels":{"topology.kubernetes.io/zone":"a"}}},
+ {"apiVersion":"v1","kind":"Service","metadata":{"name":"web"},
+ "spec":{"clusterIP":"10.96.0.10","ports":[{"port":80,"targetPort":"http"}],
+ "selector":{"app":"web"}}},
+ {"apiVersion":"v1","kind":"Pod","metadata":{"name":"a","labels":{"app":"web"}},
+ "spec":{"nodeName":"n1","containers":[{"name":"c",
+ "ports":[{"name":"http","containerPort":8080}]}]},
+ "status":{"phase":"Running","podIP":"10.244.1.2",
+ "conditions":[{"type":"Ready","status":"True"}]}},
+ {"apiVersion":"discovery.k8s.io/v1","kind":"EndpointSlice","metadata":{"name":"web-abc12",
+ "labels":{"kubernetes.io/service-name":"web",
+ "endpointslice.kubernetes.io/managed-by":"endpointslice-controller.k8s.io"}},
+ "addressType":"IPv4","ports":[{"name":"","port":8080,"protocol":"TCP"}],
+ "endpoints":[{"addresses":["10.244.1.2"],"nodeName":"n1","zone":"a",
+ "targetRef":{"kind":"Pod","name":"a"}},{"addresses":["10.244.1.9"],"nodeName":"n1","zone":"a",
+ "targetRef":{"kind":"Pod","name":"z"}}]}]}
+{"op":"sync"}
+=> sync 1: events 4, written 3, removed 0
+{"op":"show","what":"endpoints"}
+=> endpoint default/web-abc12 1: 10.244.1.2 rs- node n1 zone a hints -
+{"op":"packet","src":"10.244.9.9","dst":"10.96.0.10","dport":80,"draws":[]}
+=> packet 5 at 1: to 10.244.1.2:8080"#;
+
+/// A live run of one stream, whose last sync is refused, and all that it prints: no record is made,
+/// and the tables are those of no objects.
+pub(crate) const LIVE: &str = r#"{"op":"config","node":"n1","nodeAddresses":["10.0.0.1"],
+ "clusterCIDR":"10.244.0.0/16","nameLength":0}
+{"apiVersion":"v1","kind":"Service","metadata":{"name":"web"},
+ "spec":{"clusterIP":"10.96.0.10","ports":[{"port":80,"targetPort":8080}]}}
+{"apiVersion":"discovery.k8s.io/v1","kind":"EndpointSlice",
+ "metadata":{"name":"web-x","labels":{"kubernetes.io/service-name":"web"}},"addressType":"IPv4",
+ "ports":[{"port":8080}],"endpoints":[{"addresses":["10.244.1.2"],"nodeName":"n1"},
+ {"addresses":["10.244.2.3"],"nodeName":"n2"}]}
+=> event 1: main 1 apply Service default/web
+=> event 2: main 2 apply EndpointSlice default/web-x
+=> final: refused: chain name KUBE-SEP- of default/web/TCP 10.244.1.2:8080 and of
+  default/web/TCP 10.244.2.3:8080
+=> *nat
+=> :PREROUTING ACCEPT [0:0]
+=> :INPUT ACCEPT [0:0]
+=> :OUTPUT ACCEPT [0:0]
+=> :POSTROUTING ACCEPT [0:0]
+=> :KUBE-MARK-MASQ - [0:0]
+=> :KUBE-NODEPORTS - [0:0]
+=> :KUBE-POSTROUTING - [0:0]
+=> :KUBE-SERVICES - [0:0]
+=> -A PREROUTING -j KUBE-SERVICES
+=> -A OUTPUT -j KUBE-SERVICES
+=> -A POSTROUTING -j KUBE-POSTROUTING
+=> -A KUBE-MARK-MASQ -j MARK --or-mark 0x4000
+=> -A KUBE-POSTROUTING -m mark ! --mark 0x4000/0x4000 -j RETURN
+=> -A KUBE-POSTROUTING -j MARK --xor-mark 0x4000
+=> -A KUBE-POSTROUTING -j MASQUERADE
+=> -A KUBE-SERVICES ! -d 127.0.0.0/8 -m addrtype --dst-type LOCAL -j KUBE-NODEPORTS
+=> COMMIT
+=> *filter
+=> :INPUT ACCEPT [0:0]
+=> :FORWARD ACCEPT [0:0]
+=> :OUTPUT ACCEPT [0:0]
+=> :KUBE-EXTERNAL-SERVICES - [0:0]
+=> :KUBE-FORWARD - [0:0]
+=> :KUBE-PROXY-FIREWALL - [0:0]
+=> :KUBE-SERVICES - [0:0]
+=> -A INPUT -j KUBE-PROXY-FIREWALL
+=> -A INPUT -j KUBE-EXTERNAL-SERVICES
+=> -A FORWARD -j KUBE-PROXY-FIREWALL
+=> -A FORWARD -j KUBE-EXTERNAL-SERVICES
+=> -A FORWARD -j KUBE-SERVICES
+=> -A FORWARD -j KUBE-FORWARD
+=> -A OUTPUT -j KUBE-PROXY-FIREWALL
+=> -A OUTPUT -j KUBE-SERVICES
+=> -A KUBE-FORWARD -m mark --mark 0x4000/0x4000 -j ACCEPT
+=> COMMIT"#;
