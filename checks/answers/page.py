@@ -137,7 +137,9 @@ class Call:
         """Its answers that say no; "?" is one of a type that isn't known here."""
         words = set(re.findall(r"\w+", self.result))
         told = set().union(*(faults.get(it, {it} & SINGLE) for it in words))
-        told |= {"?"} if "Result" in words and not told else set()
+        if "Result" in words and not told:
+            # what is told of a value that may be absent is an answer with a refusal of its own
+            told = {"Err"} if re.match(r"\s*Option<Result<", self.result) else {"?"}
         return told | ({"None"} if "Option" in words else set())
 
     def may_change(self):
@@ -228,9 +230,9 @@ class Row:
     def cause_faults(self, call):
         if "**not said**" in self.cause or "*free*" in self.cause and self.answers <= WANTS_MEMORY:
             return []
-        # of `None` inside an accepted answer the clauses on accepted calls speak
+        # of `None` and `Err` inside an accepted answer the clauses on accepted calls speak
         refuses = {it for it in self.named(self.cause) if not call.is_on_accepted(it)}
-        if refuses or self.answers <= WANTS_MEMORY | {"None"} and self.named(self.cause):
+        if refuses or self.answers <= WANTS_MEMORY | {"None", "Err"} and self.named(self.cause):
             return []
         return [f"has no clause that speaks of {', '.join(sorted(self.answers))}"]
 

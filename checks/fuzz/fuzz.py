@@ -5,7 +5,7 @@
     lines and syncs are right, and each sync covers the events since the one before.
     A line is bad JSON exactly where Python's reader, held to UTF-8, to whole characters, to finite
     numbers and to 127 levels, doesn't read it.
-    However the input is cut into pieces, and for 1 and for 4 workers, the text is the same.
+    However the input is cut into pieces, and for 1, 3 and 4 workers, the text is the same.
     With a bookmark in place of each refused line the text is the same, but for the refusals.
     kp_restore_echo reads the tables of each family at the end, and prints them as they were.
     Where streams run at once the program ends well. Of some scripts what is written then is judged,
@@ -38,6 +38,7 @@ from scripts import MOST_BYTES, random_script
 
 SECONDS = 60
 MOST_LEVELS = 127
+FEWEST = 256  # lines that workers share
 MOST_FAULTS = 5
 JUDGED = 0.25  # of the live runs are judged, which takes the most time
 SHRINKING = 30  # seconds in which a smaller script is looked for
@@ -294,6 +295,9 @@ def check_script(program, data, rng):
     check_answers(lines, refused, text)
     again = program.run(["replay", "--workers", "4"], data, pieces_of(data, rng))
     compare("pieces and workers", check_status("replay in pieces", again), text)
+    if len(lines) >= FEWEST:
+        shared = program.run(["replay", "--workers", "3"], data)
+        compare("workers", check_status("replay by workers", shared), text)
     marked = [BOOKMARK if at in refused else line for at, line in enumerate(lines, 1)]
     tables, tables6 = check_marked(program, marked, REFUSED.sub("", text))
     if program.echo:

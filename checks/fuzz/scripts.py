@@ -1,5 +1,6 @@
-"""Random scripts of every form of line. A third has faults in members, and a third in bytes. The
-same seed makes the same script. Their objects are those of ../follow, a few of each kind."""
+"""Random scripts of every form of line. A third has faults in members, a third in bytes, and one of
+ten has crowds of packets. The same seed makes the same script. Their objects are those of
+../follow, a few of each kind."""
 
 import copy
 import json
@@ -15,6 +16,9 @@ from follow import doors_of
 LENGTHS = [2, 5, 10, 20, 40]
 # of every so many scripts one has a line of this many bytes, or of one more
 LONG, MOST_BYTES = 500, 16_777_216
+# of every so many scripts one has packets in crowds of so many lines, which workers share
+CROWDED, CROWD, CROWDS = 10, 600, 3
+QUESTION = b'{"op":"packet","src":"10.0.0.1","dst":"10.96.0.10","dport":80}'
 
 # What a member is in place of what it should be, or beside it: bounds and what is past them.
 NUMBERS = [0, 1, -1, 53, 65535, 65536, 2**31 - 1, 2**31, 2**32, 2**63, 2**64 - 1, 2**64, 10**300]
@@ -68,8 +72,23 @@ def random_script(seed):
     if seed % LONG == 0:
         long = MOST_BYTES + rng.randint(0, 1)
         lines.insert(rng.randint(0, len(lines)), b'{"op":"sync"}'.ljust(long))
+    if seed % CROWDED == 4:
+        lines = crowded(lines, rng)
     data = b"\n".join(lines) + rng.choice([b"\n", b"\n", b""])
     return bytes_mutated(data, rng) if seed % 3 == 2 and len(data) < MOST_BYTES else data
+
+
+def crowded(lines, rng):
+    """The lines with many packets after some of them, and few other lines among these."""
+    others = [*lines, b"", b'{"op":"packet","op":"sync"}', QUESTION, QUESTION[:-1]]
+    others = [line for line in others if len(line) < 1000]
+    packets = [line for line in others if line.startswith(b'{"op":"packet"')]
+    for place in sorted(rng.choices(range(len(lines) + 1), k=CROWDS), reverse=True):
+        crowd = rng.choices(packets, k=CROWD)
+        for _ in range(rng.choice([0, 0, 1, 5])):
+            crowd[rng.randrange(CROWD)] = rng.choice(others)
+        lines = [*lines[:place], *crowd, *lines[place:]]
+    return lines
 
 
 def of_stream(value, name):
