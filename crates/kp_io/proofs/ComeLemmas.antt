@@ -4,8 +4,6 @@ use Rattle.std.specs.Prelude.{if◌then◌else◌, ◌||◌, nat_lt}
 use Rattle.std.specs.List.{list_any}
 use Rattle.std.proofs.Math.Seq.{take-append_seam}
 use Rattle.std.proofs.lemmas.Bool.Decides.{nat_tests}
-use Rattle.std.proofs.lemmas.List.{take-append-drop}
-use Rattle.std.proofs.lemmas.List.Folds.{list_any-append}
 use Rattle.kp_io.specs.Gather.{LinePart, IsPart, no_part, part_size, given_part, given_from, told_from, feeds_of, Gathers}
 use Rattle.kp_io.specs.Lines.{is_line_feed}
 use Rattle.kp_io.specs.Reader.{ReaderState, given_behind, to_come, up_to, feeds_up_to, Answers, Counts, Stays, AsksUntilFeed}
@@ -16,6 +14,7 @@ use Rattle.kp_io.specs.declared.next_line.NextLine.{NextLine}
 use Rattle.kp_io.specs.declared.next_line.NextLine.TheVariants.{Line}
 use Rattle.kp_io.proofs.FeedLemmas.{feeds_behind}
 use Rattle.kp_io.proofs.GatherLemmas.{given_last, no_feed_first}
+use Rattle.kp_io.proofs.LineLemmas.{feedless-take}
 use Rattle.kp_io.proofs.Told.{FromTold-map}
 
 -- a reader that holds a part and a chunk, and has not met the end
@@ -112,10 +111,6 @@ pub one_feed : (whole : Bool) → whole ≡ true → feeds_of (Ok whole) ≡ 1
 one_feed true h = refl
 one_feed false h = absurd (cc)
 
-first_or : (b c : Bool) → (b || c) ≡ false → b ≡ false
-first_or true c h = h
-first_or false c h = refl
-
 module _ (limit : ℕ) where
   -- no line is held where nothing is held behind a part of one
   pub holds_none_read : (bytes : List ℕ) (taken : ℕ) → list_any is_line_feed bytes ≡ false → list_any is_line_feed (up_to limit (bytes ++ []) taken []) ≡ false
@@ -123,8 +118,7 @@ module _ (limit : ℕ) where
       let all = (bytes ++ []) ++ [] in
       let room = limit + length (bytes ++ []) - taken in
       let same : all ≡ bytes = append-nil (bytes ++ []) ∙ append-nil bytes in
-      first_or (list_any is_line_feed (take room all)) (list_any is_line_feed (drop room all))
-      (sym (list_any-append is_line_feed (take room all) (drop room all)) ∙ ap (list_any is_line_feed) (take-append-drop room all ∙ same) ∙ h)
+      feedless-take room all (ap (list_any is_line_feed) same ∙ h)
 
   -- nor where one byte goes past the limit
   pub holds_none_over : (bytes chunk : List ℕ) (taken : ℕ) → list_any is_line_feed bytes ≡ false → length chunk ≡ 1 → taken ≡ limit + 1 → list_any is_line_feed (up_to limit (bytes ++ chunk) taken []) ≡ false

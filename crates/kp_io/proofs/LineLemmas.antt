@@ -1,12 +1,24 @@
 -- Texts, lines and line feeds.
-use Rattle.std.proofs.Common.{nat_lt, is_some, position, map, Some, None, ◌≡◌, ℕ, suc, ◌+◌, ◌<◌, Bool, true, false, not, cond, List, [], ◌∷◌, ◌++◌, length, take, drop, refl, ap, sym, ◌∙◌, arith}
+use Rattle.std.proofs.Common.{◌||◌, nat_lt, is_some, position, map, Some, None, ◌≡◌, ℕ, suc, ◌+◌, ◌<◌, Bool, true, false, not, cond, List, [], ◌∷◌, ◌++◌, length, take, drop, refl, ap, sym, ◌∙◌, arith}
 use Rattle.std.specs.List.{list_any, position_or_len, before_first, after_first, slice_split}
 use Rattle.std.proofs.lemmas.Bool.Decides.{nat_tests}
 use Rattle.std.proofs.lemmas.Grind.{common_steps}
 use Rattle.std.proofs.lemmas.List.Splits.{slice_split_first, slice_split-cons_no, length-slice_split}
 use Rattle.std.proofs.Math.Seq.{take-append_seam, take-append-add, drop-append-add}
-use Rattle.std.proofs.lemmas.List.{take_all, length-append}
+use Rattle.std.proofs.lemmas.List.{take_all, take-append-drop, length-append}
+use Rattle.std.proofs.lemmas.List.Folds.{list_any-append}
 use Rattle.kp_io.specs.Lines.{is_line_feed, without_empty_last, lines_of, given_of, given_lines}
+
+-- the front of a text with no line feed has none
+pub feedless-take : (n : ℕ) (text : List ℕ) → list_any is_line_feed text ≡ false
+    → list_any is_line_feed (take n text) ≡ false
+feedless-take n text h =
+    first_or (list_any is_line_feed (take n text)) (list_any is_line_feed (drop n text))
+    (sym (list_any-append is_line_feed (take n text) (drop n text)) ∙ ap (list_any is_line_feed) (take-append-drop n text) ∙ h)
+  where
+    first_or : (b c : Bool) → (b || c) ≡ false → b ≡ false
+    first_or true c h = h
+    first_or false c h = refl
 
 -- a line's first line feed is the one behind it
 pub position_or_len-line : (line rest : List ℕ) → list_any is_line_feed line ≡ false → position_or_len is_line_feed (line ++ 10 ∷ rest) ≡ length line

@@ -1,10 +1,10 @@
 -- Whole lines that are passed over: what comes after them, and how many line feeds are to come.
 use Rattle.std.proofs.Common.{◌≡◌, ℕ, zero, suc, ◌+◌, ◌-◌, ◌<◌, ◌≤◌, Bool, true, false, cond, List, [], ◌∷◌, ◌++◌, length, take, drop, Option, None, Some, refl, ap, sym, ◌∙◌, append_assoc, append-nil, length-append, subst, inl, inr, arith}
-use Rattle.std.specs.Prelude.{map, count_by, ⊤, ◌||◌, if◌then◌else◌, nat_lt, slice_index}
+use Rattle.std.specs.Prelude.{map, count_by, ⊤, ◌||◌, if◌then◌else◌, nat_le, nat_lt, slice_index}
 use Rattle.std.specs.List.{list_any, slice_split, onto_first}
 use Rattle.std.proofs.Math.Seq.{take-append_seam, take-append-add, take-suc, drop-append-add}
 use Rattle.std.proofs.lemmas.Bool.Decides.{nat_tests}
-use Rattle.std.proofs.lemmas.List.{map-append, take-append-drop, take-append-le, length-take-le}
+use Rattle.std.proofs.lemmas.List.{drop-take, map-append, take-append-drop, take-append-le, length-take-le}
 use Rattle.std.proofs.lemmas.List.Folds.{list_any-append}
 use Rattle.std.proofs.lemmas.List.Splits.{slice_split-cons_yes, slice_split-cons_no, length-slice_split}
 use Rattle.kp_io.specs.Lines.{IsWhole, is_line_feed, without_empty_last, lines_of, ended_lines, given_of, given_lines}
@@ -12,7 +12,7 @@ use Rattle.kp_io.specs.Reader.{ReaderState, GivesShort, TakesFeeds, passed, to_c
 use Rattle.kp_io.specs.Told.{FromTold}
 use Rattle.kp_io.specs.declared.next_line.TheConstants.{INPUT_LIMIT, LINE_LIMIT}
 use Rattle.kp_io.proofs.FeedLemmas.{feeds-append}
-use Rattle.kp_io.proofs.LineLemmas.{without_empty_last-more}
+use Rattle.kp_io.proofs.LineLemmas.{feedless-take, without_empty_last-more}
 
 -- ---- Pieces
 
@@ -131,10 +131,6 @@ whole_feed text (inr (front, is)) some =
     or_true true = refl
     or_true false = refl
 
-first_or : (b c : Bool) → (b || c) ≡ false → b ≡ false
-first_or true c h = h
-first_or false c h = refl
-
 -- bytes of one line, and then whole lines from its front: all of the former are among them
 pub part_within : (part chunk : List ℕ) (bytes : ℕ) → list_any is_line_feed part ≡ false
     → IsWhole (take bytes (part ++ chunk)) → bytes ≤ length (part ++ chunk) → 0 < bytes
@@ -148,10 +144,7 @@ part_within part chunk bytes none whole within some = by_less (nat_lt bytes (len
         let few : length (take bytes (part ++ chunk)) ≡ bytes = length-take-le bytes (part ++ chunk) within in
         let feed = whole_feed (take bytes (part ++ chunk)) whole (omega (arith, few, some)) in
         let front = ap (list_any is_line_feed) (take-append-le bytes part chunk less) in
-        let feedless =
-        first_or (list_any is_line_feed (take bytes part)) (list_any is_line_feed (drop bytes part))
-        (sym (list_any-append is_line_feed (take bytes part) (drop bytes part)) ∙ ap (list_any is_line_feed) (take-append-drop bytes part) ∙ none) in
-        let clash : true ≡ false = sym feed ∙ front ∙ feedless in
+        let clash : true ≡ false = sym feed ∙ front ∙ feedless-take bytes part none in
         absurd (cc)
 
 -- what is left of a part and a chunk after such lines
@@ -237,3 +230,28 @@ pub whole_at : (text : List ℕ) (end : ℕ) → 0 < end → end ≤ length text
 whole_at text end some within feed =
     let next : end ≡ suc (end - 1) = omega (arith, some) in
     inr (take (end - 1) text, ap (λ n. take n text) next ∙ take-suc text (end - 1) 0 (omega (arith, within, some)) ∙ ap (λ b. take (end - 1) text ++ b ∷ []) feed)
+
+-- whole lines but their first bytes are whole lines, or nothing is left
+whole-drop : (count : ℕ) (text : List ℕ) → IsWhole text → IsWhole (drop count text)
+whole-drop zero text h = h
+whole-drop (suc n) [] h = inl refl
+whole-drop (suc n) (x ∷ xs) h = whole-drop n xs (but_first h)
+  where
+    but_first : IsWhole (x ∷ xs) → IsWhole xs
+    but_first (inl none) = absurd (cc)
+    but_first (inr ([], is)) = inl (ap (drop 1) is)
+    but_first (inr (y ∷ front, is)) = inr (front, ap (drop 1) is)
+
+-- and so they are at the front of a text without its first bytes
+pub whole-later : (count n : ℕ) (text : List ℕ) → IsWhole (take n text)
+    → IsWhole (take (n - count) (drop count text))
+whole-later count n text h = by_count (nat_le count n) refl
+  where
+    by_count : (b : Bool) → nat_le count n ≡ b → IsWhole (take (n - count) (drop count text))
+    by_count true e =
+        let all : n ≡ count + (n - count) = grind (arith, nat_tests) in
+        subst IsWhole (ap (λ k. drop count (take k text)) all ∙ drop-take count (n - count) text)
+        (whole-drop count (take n text) h)
+    by_count false e =
+        let none : n - count ≡ 0 = grind (arith, nat_tests) in
+        subst (λ k. IsWhole (take k (drop count text))) (sym none) (inl refl)

@@ -21,12 +21,14 @@ pub(crate) struct Chunk {
     start: usize,
     end: usize,
     feed: Option<usize>,
+    /// Where the whole lines of the last read end, which is looked for once.
+    lines_end: usize,
 }
 
 impl Model for Chunk {
     ghost use Rattle.std.specs.Prelude.{ℕ, ◌-◌, ◌<◌, ◌≤◌, ◌≡◌, List, take, drop, vec_len};
     ghost use Rattle.std.specs.List.{position};
-    ghost use Rattle.kp_io.specs.Lines.{is_line_feed};
+    ghost use Rattle.kp_io.specs.Lines.{IsWhole, is_line_feed};
 
     ghost Value = { List ℕ };
 
@@ -34,7 +36,9 @@ impl Model for Chunk {
 
     ghost invariant = { λ c.
         (c.start ≤ c.end) × (c.end ≤ vec_len c.buffer) × (0 < vec_len c.buffer)
-        × (c.feed ≡ position is_line_feed (take (c.end - c.start) (drop c.start c.buffer.items))) };
+        × (c.feed ≡ position is_line_feed (take (c.end - c.start) (drop c.start c.buffer.items)))
+        × (c.lines_end ≤ c.end)
+        × IsWhole (take (c.lines_end - c.start) (drop c.start c.buffer.items)) };
 }
 
 impl Chunk {
@@ -48,6 +52,7 @@ impl Chunk {
             start: 0,
             end: 0,
             feed: None,
+            lines_end: 0,
         })
     }
 
@@ -78,7 +83,7 @@ impl Chunk {
         ensures whole { IsWhole result.now }
     {
         let bytes = self.as_slice();
-        let (lines, _) = bytes.split_at(end_of_lines(bytes));
+        let (lines, _) = bytes.split_at(self.lines_end.saturating_sub(self.start));
         lines
     }
 
@@ -106,10 +111,12 @@ impl Chunk {
         self.start = 0;
         self.end = 0;
         self.feed = None;
+        self.lines_end = 0;
         let most = most.min(self.buffer.len());
         let (room, _) = self.buffer.split_at_mut(most);
         self.end = source.read(room)?;
         self.feed = line_feed_at(&self.buffer[..self.end]);
+        self.lines_end = end_of_lines(&self.buffer[..self.end]);
         Ok(self.end)
     }
 }
