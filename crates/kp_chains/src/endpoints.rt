@@ -94,7 +94,7 @@ fn copied(alloc: Global, endpoints: &[Endpoint]) -> Result<Vec<Endpoint>, NoMemo
 }
 
 /// Adds the endpoints that aren't among others.
-fn add_others(
+pub fn add_others(
     alloc: Global,
     all: &mut Vec<Endpoint>,
     others: &[Endpoint],

@@ -23,7 +23,7 @@ mod table;
 
 pub use blocks::{Blocks, info_blocks};
 pub use chains::info_chains;
-pub use endpoints::all_endpoints;
+pub use endpoints::{add_others, all_endpoints};
 pub use external::port_chain;
 pub use filter::filter_rows;
 pub use fixed::fixed_chains;

@@ -1,5 +1,5 @@
 //! What the controller does at a sync.
-ghost use Rattle.std.specs.Prelude.{◌≡◌, map, OnOk};
+ghost use Rattle.std.specs.Prelude.{◌≡◌, map, IfOk, OnOk};
 ghost use Rattle.std.specs.List.{filter, fold};
 ghost use Rattle.kp_object_defs.specs.Desired as desired;
 ghost use Rattle.kp_object_defs.specs.OwnKeys.{AreUnderOwnKeys};
@@ -25,8 +25,26 @@ use std::alloc::Global;
 /// with a selector is packed, in order of their keys, in IPv4 and then in IPv6. Where the
 /// controller is off, all stays. Since all is as the controller left it but for the touched
 /// Services, only these are packed, and only slices near to them are looked at for those that are
-/// left over; after it all is as the controller leaves it.
+/// left over; after it all is as the controller leaves it. Without memory the slices are let go.
 pub fn control(
+    alloc: Global,
+    config: &Config,
+    objects: &Objects,
+    touched: &Touched,
+    mut slices: SliceMap,
+) -> Result<SliceMap, NoMemory>
+    requires own_keys { AreUnderOwnKeys objects.now }
+    requires controlled { IsControlledBut (is_touched touched.now) config.now objects.now slices }
+    ensures ok { IfOk result (λ made. made
+        ≡ controller_step both_families config.now objects.now slices) }
+    ensures controlled { IfOk result (IsControlledBut none config.now objects.now) }
+{
+    settle_if_on(alloc, config, objects, touched, &mut slices)?;
+    Ok(slices)
+}
+
+/// Does so where the controller is on.
+fn settle_if_on(
     alloc: Global,
     config: &Config,
     objects: &Objects,

@@ -1,7 +1,9 @@
 -- Lines in pieces.
-use Rattle.std.proofs.Common.{◌≡◌, ℕ, List, [], ◌∷◌, ◌++◌, codes, decimal, refl, sym, ap, ◌∙◌, append_assoc}
+use Rattle.std.proofs.Common.{◌≡◌, ℕ, List, [], ◌∷◌, ◌++◌, codes, decimal, refl, sym, ap, ◌∙◌, append-nil, append_assoc}
 use Rattle.std.specs.List.{flat_map}
 use Rattle.std.proofs.lemmas.Grind.{flat_map-append}
+use Rattle.kp_base.specs.declared.port.Proto.{Proto}
+use Rattle.kp_base.specs.declared.port.Proto.TheVariants.{Tcp, Udp, Sctp}
 use Rattle.kp_types.specs.declared.rule.Match.{Match}
 use Rattle.kp_types.specs.declared.rule.Match.TheVariants as match
 use Rattle.kp_types.specs.declared.rule.Target.{Target}
@@ -10,6 +12,7 @@ use Rattle.kp_types.specs.declared.rule.Rule.{Rule}
 use Rattle.kp_choice_defs.specs.Draws.{probability_text_of}
 use Rattle.kp_restore_defs.specs.RuleText.{joined, match_words, target_words, rule_line}
 use Rattle.kp_rule_text.specs.Lines.{spaced, match_text, target_text}
+use Rattle.kp_rule_text.specs.Reading.{port_words}
 use Rattle.kp_lemmas.proofs.ListFacts.{added_twice}
 
 -- the first word of a list that has more
@@ -63,6 +66,14 @@ line_added old s1 s2 s3 s4 new chain rule a b c d e =
     (added_twice s1 s2 new chain (32 ∷ (ms ++ t)) b (added_twice s2 s3 new (32 ∷ []) (ms ++ t) c (added_twice s3 s4 new ms t d e)))
     ∙ ap (λ l. old ++ l) (sym (line_is chain rule))
 
+-- what stood before the pieces of a line stands before what comes after them
+pub line_front : (old s1 s2 s3 s4 new a b c d : List ℕ) → s1 ≡ old ++ a → s2 ≡ s1 ++ b → s3 ≡ s2 ++ c → s4 ≡ s3 ++ d → (rest : List ℕ) × (new ≡ s4 ++ rest) → (rest : List ℕ) × (new ≡ old ++ rest)
+line_front old s1 s2 s3 s4 new a b c d e f g h (rest, is) = (
+  a ++ (b ++ (c ++ (d ++ rest))),
+  added_twice old s1 new a (b ++ (c ++ (d ++ rest))) e
+      (added_twice s1 s2 new b (c ++ (d ++ rest)) f (added_twice s2 s3 new c (d ++ rest) g (added_twice s3 s4 new d rest h is))),
+)
+
 -- ---- pieces of a match or a target that are added one after the other
 
 pub statistic_added : (old s1 s2 new : List ℕ) (p : ℕ) → s1 ≡ old ++ codes "-m statistic --mode random --probability " → s2 ≡ s1 ++ probability_text_of p → new ≡ s2 ++ codes " " → new ≡ old ++ match_text (match.Statistic p)
@@ -70,15 +81,25 @@ statistic_added old s1 s2 new p a b c =
     added_twice old s1 new (codes "-m statistic --mode random --probability ") (probability_text_of p ++ codes " ") a
     (added_twice s1 s2 new (probability_text_of p) (codes " ") b c)
 
-seen_text : (list : List ℕ) (seconds : ℕ) → codes "-m recent --name " ++ (list ++ (codes " --rcheck --seconds " ++ (decimal seconds ++ codes " --reap "))) ≡ match_text (match.Seen list seconds)
+seen_text : (list : List ℕ) (seconds : ℕ) → codes "-m recent --name " ++ (list ++ ((codes " --rcheck --seconds " ++ decimal seconds) ++ codes " --reap ")) ≡ match_text (match.Seen list seconds)
 seen_text list seconds =
     sym (ap (λ l. codes "-m recent --name " ++ l)
     (append_assoc list (32 ∷ []) _ ∙ ap (λ l. list ++ (codes " --rcheck --seconds " ++ l)) (append_assoc (decimal seconds) (32 ∷ []) (codes "--reap "))))
 
-pub seen_added : (old s1 s2 s3 s4 new list : List ℕ) (seconds : ℕ) → s1 ≡ old ++ codes "-m recent --name " → s2 ≡ s1 ++ list → s3 ≡ s2 ++ codes " --rcheck --seconds " → s4 ≡ s3 ++ decimal seconds → new ≡ s4 ++ codes " --reap " → new ≡ old ++ match_text (match.Seen list seconds)
-seen_added old s1 s2 s3 s4 new list seconds a b c d e =
-    let last = decimal seconds ++ codes " --reap " in
-    let timed = codes " --rcheck --seconds " ++ last in
-    added_twice old s1 new (codes "-m recent --name ") (list ++ timed) a
-    (added_twice s1 s2 new list timed b (added_twice s2 s3 new (codes " --rcheck --seconds ") last c (added_twice s3 s4 new (decimal seconds) (codes " --reap ") d e)))
+pub seen_added : (old s1 s2 s3 new list : List ℕ) (seconds : ℕ) → s1 ≡ old ++ codes "-m recent --name " → s2 ≡ s1 ++ list → s3 ≡ s2 ++ (codes " --rcheck --seconds " ++ decimal seconds) → new ≡ s3 ++ codes " --reap " → new ≡ old ++ match_text (match.Seen list seconds)
+seen_added old s1 s2 s3 new list seconds a b c d =
+    let timed = codes " --rcheck --seconds " ++ decimal seconds in
+    added_twice old s1 new (codes "-m recent --name ") (list ++ (timed ++ codes " --reap ")) a
+    (added_twice s1 s2 new list (timed ++ codes " --reap ") b (added_twice s2 s3 new timed (codes " --reap ") c d))
     ∙ ap (λ l. old ++ l) (seen_text list seconds)
+
+-- a port behind its protocol
+port_text : (proto : Proto) (port : ℕ) → ((match_text (match.Proto proto) ++ port_words proto) ++ decimal port) ++ codes " " ≡ match_text (match.Port proto port)
+port_text Tcp port = ap (λ l. codes "-p tcp -m tcp --dport " ++ l) (sym (append-nil (decimal port ++ codes " ")))
+port_text Udp port = ap (λ l. codes "-p udp -m udp --dport " ++ l) (sym (append-nil (decimal port ++ codes " ")))
+port_text Sctp port = ap (λ l. codes "-p sctp -m sctp --dport " ++ l) (sym (append-nil (decimal port ++ codes " ")))
+
+pub port_added : (old s1 new : List ℕ) (proto : Proto) (port : ℕ) → s1 ≡ old ++ ((match_text (match.Proto proto) ++ port_words proto) ++ decimal port) → new ≡ s1 ++ codes " " → new ≡ old ++ match_text (match.Port proto port)
+port_added old s1 new proto port a b =
+    added_twice old s1 new ((match_text (match.Proto proto) ++ port_words proto) ++ decimal port) (codes " ") a b
+    ∙ ap (λ l. old ++ l) (port_text proto port)

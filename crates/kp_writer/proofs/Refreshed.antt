@@ -1,8 +1,9 @@
 -- Ports where those of one Service are made anew.
-use Rattle.std.proofs.Common.{◌≡◌, ℕ, ◌||◌, ◌&&◌, Bool, true, false, cond, List, [], ◌∷◌, drop}
-use Rattle.std.proofs.Common.{Option, Some, None, filter, zero, suc, refl, sym, ap, ◌∙◌}
+use Rattle.std.proofs.Common.{◌≡◌, ℕ, ◌||◌, ◌&&◌, Bool, true, false, cond, List, [], ◌∷◌, drop, length}
+use Rattle.std.proofs.Common.{Option, Some, None, filter, zero, suc, ◌⊎◌, inl, inr, refl, sym, ap, ◌∙◌}
 use Rattle.std.specs.FinMap.{get, get-insert, get-remove, insert, keys}
 use Rattle.std.specs.Ordering.{eq_by_cmp}
+use Rattle.std.proofs.Math.Seq.{drop-length}
 use Rattle.std.proofs.lemmas.Bool.{or_parts}
 use Rattle.kp_lemmas.proofs.Orders.{one_from_tie}
 use Rattle.kp_base.specs.Keys.{port_key_cmp}
@@ -13,7 +14,7 @@ use Rattle.kp_object_defs.specs.PortInfo.{PortInfo}
 use Rattle.kp_object_defs.proofs.InOrder.{first_some}
 use Rattle.kp_writer_laws.specs.LocalLaws.{info_of, is_one_of}
 use Rattle.kp_blocks.specs.Joined.{is_port_of}
-use Rattle.kp_writer.specs.Refresh.{IsRefreshed, OthersStay, with_infos, without}
+use Rattle.kp_writer.specs.Refresh.{IsPartlyRefreshed, IsRefreshed, OnlyGo, OthersStay, with_infos, without}
 use Rattle.kp_writer.specs.Written.{Ports}
 use Rattle.kp_writer.proofs.DirtyLists.{not_found}
 use Rattle.kp_writer.proofs.OneList.{filter_has}
@@ -45,6 +46,17 @@ pub others_known : (m now : Ports) (n : ℕ) (ks : List PortKey) → now ≡ wit
 others_known m now n ks is key h =
     ap (λ p. get p key) is ∙ got_without m (drop n ks) key
     ∙ ap (λ b. cond b None (get m key)) (none_dropped n ks key h)
+
+either_way : (b : Bool) (now told before : Option PortInfo) → now ≡ cond b told before
+    → (now ≡ before) ⊎ (now ≡ told)
+either_way true now told before h = inr h
+either_way false now told before h = inl h
+
+-- none is known otherwise
+pub only_go : (m now : Ports) (ks : List PortKey) → now ≡ without m ks → OnlyGo m now
+only_go m now ks is key =
+    either_way (is_one_of ks key) (get now key) None (get m key)
+    (ap (λ p. get p key) is ∙ got_without m ks key)
 
 -- ---- Ports that are put
 
@@ -142,3 +154,24 @@ module _ (service : ObjectKey) (infos : List PortInfo) (old mid new : Ports) whe
     refreshed key =
         ap (λ p. get p key) put ∙ got_infos service mid key infos
         ∙ by_key key (is_port_of service key) refl
+
+-- ---- Some of it
+
+-- some ports are gone, and none is put
+pub none_put : (infos : List PortInfo) (old mid : Ports) → OnlyGo old mid
+    → IsPartlyRefreshed infos old mid
+none_put infos old mid only = (length infos, λ key. told key (only key))
+  where
+    told : (key : PortKey) → (get mid key ≡ get old key) ⊎ (get mid key ≡ None)
+        → (get mid key ≡ get old key) ⊎ (get mid key ≡ info_of (drop (length infos) infos) key)
+    told key (inl same) = inl same
+    told key (inr gone) = inr (gone ∙ ap (λ is. info_of is key) (sym (drop-length infos)))
+
+-- all are gone, and some are put
+pub some_put : (service : ObjectKey) (infos : List PortInfo) (old new : Ports) (left : ℕ)
+    → IsRefreshed service (drop left infos) old new → IsPartlyRefreshed infos old new
+some_put service infos old new left is = (
+  left,
+  λ key. either_way (is_port_of service key) (get new key) (info_of (drop left infos) key)
+      (get old key) (is key),
+)

@@ -1,5 +1,5 @@
 -- Ports where those of one Service are made anew.
-use Rattle.std.specs.Prelude.{◌≡◌, false, cond, List, [], ◌∷◌}
+use Rattle.std.specs.Prelude.{◌≡◌, ◌⊎◌, ℕ, false, cond, None, List, [], ◌∷◌, drop}
 use Rattle.std.specs.FinMap as finite
 use Rattle.kp_base.specs.declared.key.ObjectKey.{ObjectKey}
 use Rattle.kp_base.specs.declared.key.PortKey.{PortKey}
@@ -32,3 +32,17 @@ abbrev pub OthersStay : ObjectKey → Ports → Ports → Type 0
 OthersStay service before after =
     (key : PortKey) → is_port_of service key ≡ false
     → finite.get after key ≡ finite.get before key
+
+-- Each port is known as before, or is gone.
+abbrev pub OnlyGo : Ports → Ports → Type 0
+OnlyGo before after =
+    (key : PortKey)
+    → (finite.get after key ≡ finite.get before key) ⊎ (finite.get after key ≡ None)
+
+-- Each port is known as before, or as the last of those that are given tell, from one on.
+abbrev pub IsPartlyRefreshed : List PortInfo → Ports → Ports → Type 0
+IsPartlyRefreshed infos before after =
+    (left : ℕ)
+    × ((key : PortKey)
+    → (finite.get after key ≡ finite.get before key)
+    ⊎ (finite.get after key ≡ info_of (drop left infos) key))

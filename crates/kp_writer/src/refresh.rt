@@ -1,5 +1,6 @@
 //! What is known of the ports of one Service, taken over together.
-ghost use Rattle.std.specs.Prelude.{◌≡◌, ◌+◌, ◌≤◌, ◌∷◌, [], cond, map, false, IfOk, OnOk, OnErr};
+ghost use Rattle.std.specs.Prelude.{◌≡◌, ◌+◌, ◌≤◌, ◌∷◌, [], ℕ, cond, drop, map, false, IfOk};
+ghost use Rattle.std.specs.Prelude.{OnOk, OnErr};
 ghost use Rattle.std.specs.FinMap as finite;
 ghost use Rattle.kp_base.specs.declared.key.PortKey.{PortKey as Key};
 ghost use Rattle.kp_writer_laws.specs.LocalLaws.{is_one_of};
@@ -35,6 +36,7 @@ pub fn drop_all(alloc: Global, writer: &mut Writer, mut ports: Vec<PortKey>) -> 
         ≡ spec.without (newest_ports writer.old) ports.items) }
     ensures others { (key : Key) → is_one_of ports.items key ≡ false
         → finite.get (newest_ports writer.new) key ≡ finite.get (newest_ports writer.old) key }
+    ensures only { spec.OnlyGo (newest_ports writer.old) (newest_ports writer.new) }
 {
     while let Some(port) = ports.pop() {
         writer.drop_port(alloc, &port)?;
@@ -56,6 +58,8 @@ pub fn put_all<L: Ledger>(
     ensures written { written_ports writer.new ≡ written_ports writer.old }
     ensures newest { OnOk result (newest_ports writer.new
         ≡ spec.with_infos service.now (newest_ports writer.old) infos.items) }
+    ensures part { OnErr result ((left : ℕ) × (newest_ports writer.new
+        ≡ spec.with_infos service.now (newest_ports writer.old) (drop left infos.items))) }
     ensures others { spec.OthersStay service.now
         (newest_ports writer.old) (newest_ports writer.new) }
     ensures more { steps.old ≤ steps.new }

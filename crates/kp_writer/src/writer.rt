@@ -11,7 +11,7 @@ ghost use Rattle.kp_writer.specs.Batch.{own_rules_written};
 ghost use Rattle.kp_writer.specs.Known.{pending_ports};
 ghost use Rattle.kp_writer.specs.Old.{is_known as is_told, unwritten};
 ghost use Rattle.kp_writer.specs.Own.{own_rule_count};
-ghost use Rattle.kp_writer.specs.Refresh.{IsRefreshed, OthersStay};
+ghost use Rattle.kp_writer.specs.Refresh.{IsPartlyRefreshed, IsRefreshed, OthersStay};
 ghost use Rattle.kp_writer.specs.Shared.{shared_rule_count};
 ghost use Rattle.kp_writer.specs.Written as spec;
 
@@ -187,8 +187,8 @@ impl Writer {
     /// Takes over what is known of the ports of a Service: those that aren't given are gone. Of two
     /// of one name the first counts. Ports of other Services stay, and where such are given they
     /// are passed over. It takes at most a step for each rule in the shared chains that those have
-    /// of which something else was written. Where memory is out, ports of the Service may be gone
-    /// or new.
+    /// of which something else was written. Where memory is out, each port of the Service is as it
+    /// was, gone or new.
     pub fn refresh<L: Ledger>(
         &mut self,
         alloc: Global,
@@ -200,6 +200,8 @@ impl Writer {
         ensures config { self.new.config ≡ self.old.config }
         ensures written { spec.written_ports self.new ≡ spec.written_ports self.old }
         ensures newest { OnOk result (IsRefreshed service.now infos.items
+            (spec.newest_ports self.old) (spec.newest_ports self.new)) }
+        ensures part { OnErr result (IsPartlyRefreshed infos.items
             (spec.newest_ports self.old) (spec.newest_ports self.new)) }
         ensures others { OthersStay service.now
             (spec.newest_ports self.old) (spec.newest_ports self.new) }

@@ -1,3 +1,5 @@
+use Rattle.std.proofs.Common.{◌∙◌, length, rules}
+use Rattle.kp_chains.specs.Tables.{HasLastRows}
 use Rattle.kp_chains.proofs.Popped.{popped-drop, popped-take, put_row}
 use Rattle.kp_chains.proofs.table.put_rows.Goals as goal
 
@@ -12,3 +14,10 @@ loop-row-preserved c =
           (popped-drop all old new row c.in-Some.ensures.items c.loop-row.invariant.left);
       left = popped-take all old new row c.in-Some.ensures.items c.loop-row.invariant.left;
     }
+
+pub returns-in_err-put-clause-err : goal.returns-in_err-put-clause-err
+returns-in_err-put-clause-err c =
+    let part : HasLastRows c.args.rows.items c.args.table.now c.put.new.self =
+    (length c.loop-row.rows.items, c.in_err-put.ensures.err ∙ c.loop-row.invariant.table)
+    in
+    search rules

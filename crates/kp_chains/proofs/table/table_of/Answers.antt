@@ -7,6 +7,6 @@ use Rattle.kp_chains.proofs.table.table_of.Goals as goal
 pub returns : goal.returns
 returns c =
     let rows = rows_of_texts c.args.rows.items in
-    c.in_ok-put_rows.ensures
+    c.in_ok-put_rows.ensures.ok
     ∙ ap (with_rows rows) c.in_ok-table.ensures
     ∙ ap (λ m. record { chains = m; syncs = 0 }) (chains_alone rows)

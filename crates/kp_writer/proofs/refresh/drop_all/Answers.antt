@@ -1,9 +1,9 @@
-use Rattle.std.proofs.Common.{length, ap, sym, ◌∙◌}
+use Rattle.std.proofs.Common.{drop, length, ap, sym, ◌∙◌}
 use Rattle.std.specs.FinMap.{remove}
 use Rattle.kp_chains.proofs.Popped.{popped-drop, popped-take}
 use Rattle.kp_writer.specs.Refresh.{without}
 use Rattle.kp_writer.specs.Written.{newest_ports}
-use Rattle.kp_writer.proofs.Refreshed.{others_known}
+use Rattle.kp_writer.proofs.Refreshed.{only_go, others_known}
 use Rattle.kp_writer.proofs.refresh.drop_all.Goals as goal
 
 -- one port more
@@ -35,4 +35,15 @@ pub returns-in_err-drop_port-clause-others : goal.returns-in_err-drop_port-claus
 returns-in_err-drop_port-clause-others c =
     others_known (newest_ports c.args.writer.now) (newest_ports c.drop_port.new.self)
     (length c.loop-port.ports.items) c.args.ports.items
+    (c.in_err-drop_port.ensures.err ∙ c.loop-port.invariant.newest)
+
+pub returns-clause-only : goal.returns-clause-only
+returns-clause-only c =
+    only_go (newest_ports c.args.writer.now) (newest_ports c.loop-port.writer)
+    (drop (length c.loop-port.ports.items) c.args.ports.items) c.loop-port.invariant.newest
+
+pub returns-in_err-drop_port-clause-only : goal.returns-in_err-drop_port-clause-only
+returns-in_err-drop_port-clause-only c =
+    only_go (newest_ports c.args.writer.now) (newest_ports c.drop_port.new.self)
+    (drop (length c.loop-port.ports.items) c.args.ports.items)
     (c.in_err-drop_port.ensures.err ∙ c.loop-port.invariant.newest)

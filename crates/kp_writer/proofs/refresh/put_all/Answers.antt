@@ -1,4 +1,4 @@
-use Rattle.std.proofs.Common.{[], ◌∷◌, arith, cond, drop, length, ap, sym, ◌∙◌}
+use Rattle.std.proofs.Common.{[], ◌∷◌, arith, cond, drop, length, ap, sym, ◌∙◌, ◌≡◌, ℕ, rules}
 use Rattle.std.specs.FinMap.{insert}
 use Rattle.kp_chains.proofs.Popped.{popped-drop, popped-take}
 use Rattle.kp_blocks.specs.Joined.{is_port_of}
@@ -67,3 +67,14 @@ returns-in_err-put_if-clause-steps g c =
     let split = ap (λ is. shared_rule_count s (unwritten written is)) c.in-Some.ensures.items in
     let parts = unwritten_parts s written c.pop.new.self.items (info ∷ []) in
     omega (arith, one, split, parts, c.put_if.ensures.steps, so_far.steps)
+
+pub returns-in_err-put_if-clause-part : goal.returns-in_err-put_if-clause-part
+returns-in_err-put_if-clause-part g c =
+    let part
+    : (left : ℕ) × (newest_ports c.put_if.new.writer
+    ≡ with_infos c.args.service.now (newest_ports c.args.writer.now)
+    (drop left c.args.infos.items)) = (
+      length c.loop-info.infos.items,
+      c.in_err-put_if.ensures.err ∙ c.loop-info.invariant.newest,
+    ) in
+    search rules
