@@ -32,13 +32,13 @@ module _ (family : Family) (config : FamilyConfig) (o : Objects) (own : AreUnder
   may_answer = answers packet.proto packet.target packet.port
 
   -- what is known of a port that the packet can't be for
-  record Missed (i : PortInfo) : Type 0 where
-    service : Service
-    port : ServicePort
-    shows : Shows family service port i
-    miss : port_answers packet.proto packet.target packet.port service port ≡ false
+  pub record Missed (i : PortInfo) : Type 0 where
+    pub service : Service
+    pub port : ServicePort
+    pub shows : Shows family service port i
+    pub miss : port_answers packet.proto packet.target packet.port service port ≡ false
 
-  missed : (key : PortKey) (i : PortInfo) → is_kept o own may_answer key ≡ false → info_at family config o key ≡ Some i → Missed i
+  pub missed : (key : PortKey) (i : PortInfo) → is_kept o own may_answer key ≡ false → info_at family config o key ≡ Some i → Missed i
   missed key i misses known = of_service (get o.services key.object) misses known
     where
       of_port : (s : Service) (found : Option ServicePort) → find (is_port key.port_name key.proto) s.ports ≡ found → may_answer s ≡ false → option_and_then (λ p. info_of family config.node (zone_of o config.node) (sources_of family config o s, p)) found ≡ Some i → Missed i

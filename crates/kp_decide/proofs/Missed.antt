@@ -80,7 +80,7 @@ module _ (family : Family) (config : FamilyConfig) (packet : Packet) (s : Servic
   own_node_port false own n h = absurd (cc)
 
   -- nor at its node port
-  misses_node : (own : Option ℕ) → i.node_port ≡ own → list_any fitting (node_door i own) ≡ false
+  pub misses_node : (own : Option ℕ) → i.node_port ≡ own → list_any fitting (node_door i own) ≡ false
   misses_node None is = refl
   misses_node (Some n) is =
       or_from (fitting (record { kind = door.Node; info = i; address = None; number = n })) false
@@ -155,7 +155,8 @@ module _ (family : Family) (config : FamilyConfig) (packet : Packet) (s : Servic
       (or_right at_cluster (at_external || at_balancer)
       (or_right at_external at_balancer (balancer_listed (has_balancer s.kind) a c same)))))
 
-  misses_addresses : list_any fitting (address_doors i) ≡ false
+  -- nor at any of its addresses
+  pub misses_addresses : list_any fitting (address_doors i) ≡ false
   misses_addresses = or_from (fitting (door_at door.Cluster i i.address)) (list_any fitting (map (door_at door.External i) i.external ++ map (door_at door.Balancer i) i.balancer)) misses_cluster (none_both fitting (map (door_at door.External i) i.external) (map (door_at door.Balancer i) i.balancer) misses_external misses_balancer)
 
   none_taken : (ds : List Door) → list_any fitting ds ≡ false → find (takes config packet) ds ≡ None

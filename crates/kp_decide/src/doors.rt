@@ -71,7 +71,10 @@ fn first_taking<'a>(
 }
 
 /// Adds the doors of ports at addresses, port by port.
-fn add_address_doors<'a>(doors: &mut Vec<Door<'a>>, infos: &'a [PortInfo]) -> Result<(), NoMemory>
+pub fn add_address_doors<'a>(
+    doors: &mut Vec<Door<'a>>,
+    infos: &'a [PortInfo],
+) -> Result<(), NoMemory>
     ensures { OnOk result (doors.new.items
         ≡ doors.old.items ++ flat_map spec.address_doors infos.now) }
 {
@@ -82,7 +85,7 @@ fn add_address_doors<'a>(doors: &mut Vec<Door<'a>>, infos: &'a [PortInfo]) -> Re
 }
 
 /// Adds the doors of a port at addresses.
-fn add_doors_of<'a>(doors: &mut Vec<Door<'a>>, info: &'a PortInfo) -> Result<(), NoMemory>
+pub fn add_doors_of<'a>(doors: &mut Vec<Door<'a>>, info: &'a PortInfo) -> Result<(), NoMemory>
     ensures { OnOk result (doors.new.items ≡ doors.old.items ++ spec.address_doors info.now) }
 {
     doors.push(door_at(DoorKind::Cluster, info, info.address))?;
@@ -119,7 +122,7 @@ pub fn door_at<'a>(kind: DoorKind, info: &'a PortInfo, address: Address) -> Door
 }
 
 /// Adds the doors of node ports.
-fn add_node_doors<'a>(doors: &mut Vec<Door<'a>>, infos: &'a [PortInfo]) -> Result<(), NoMemory>
+pub fn add_node_doors<'a>(doors: &mut Vec<Door<'a>>, infos: &'a [PortInfo]) -> Result<(), NoMemory>
     ensures { OnOk result (doors.new.items
         ≡ doors.old.items ++ flat_map (λ i. spec.node_door i i.node_port) infos.now) }
 {

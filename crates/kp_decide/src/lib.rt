@@ -13,4 +13,5 @@ mod offers;
 mod translation;
 
 pub use decision::decide;
+pub use doors::{Door, add_address_doors, add_doors_of, add_node_door, add_node_doors};
 pub use kp_types::{ChosenBy, Decision, DoorKind, ListKind, Reason};

@@ -8,3 +8,5 @@ mod sources;
 
 pub use infos::{infos_of_services, port_infos};
 pub use kp_types::PortInfo;
+pub use ports::info_of;
+pub use sources::{Sources, sources_of};

@@ -35,7 +35,7 @@ pub fn add_port(
 }
 
 /// What is known of a port of a Service, on a node in a zone.
-fn info_of(
+pub fn info_of(
     alloc: Global,
     family: Family,
     config: &Config,

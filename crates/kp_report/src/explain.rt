@@ -112,7 +112,8 @@ fn push_choice(
     push_labelled(text, " place ", place)
 }
 
-fn door_word(kind: DoorKind) -> &'static str
+/// The word for a kind of door.
+pub fn door_word(kind: DoorKind) -> &'static str
     ensures { result.now ≡ spec.door_kind_text kind }
 {
     match kind {

@@ -12,7 +12,7 @@ use serde_json::Value;
 use std::alloc::Global;
 
 /// Adds a text as a JSON string (RFC 8259, 7), as `serde_json` writes it.
-pub(crate) fn push_quoted(alloc: Global, text: &mut String, quoted: &str) -> Result<(), NoMemory>
+pub fn push_quoted(alloc: Global, text: &mut String, quoted: &str) -> Result<(), NoMemory>
     ensures added { OnOk result (string_bytes text.new
         ≡ string_bytes text.old ++ spec.json_text quoted.now) }
     ensures front { OnErr result (HasFront text.new text.old) }
@@ -33,7 +33,7 @@ pub(crate) fn proto_word(proto: Proto) -> &'static str
 }
 
 /// Adds an object: `namespace/name`.
-pub(crate) fn push_object(text: &mut String, key: &ObjectKey) -> Result<(), NoMemory>
+pub fn push_object(text: &mut String, key: &ObjectKey) -> Result<(), NoMemory>
     ensures added { OnOk result (string_bytes text.new
         ≡ string_bytes text.old ++ spec.object_text key.now) }
     ensures front { OnErr result (HasFront text.new text.old) }
@@ -44,7 +44,7 @@ pub(crate) fn push_object(text: &mut String, key: &ObjectKey) -> Result<(), NoMe
 }
 
 /// Adds a Service port.
-pub(crate) fn push_port(text: &mut String, port: &PortKey) -> Result<(), NoMemory>
+pub fn push_port(text: &mut String, port: &PortKey) -> Result<(), NoMemory>
     ensures added { OnOk result (string_bytes text.new
         ≡ string_bytes text.old ++ spec.port_text port.now) }
     ensures front { OnErr result (HasFront text.new text.old) }

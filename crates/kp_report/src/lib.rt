@@ -14,7 +14,8 @@ mod totals;
 mod trail;
 
 pub use answer::{answer_text, push_answer};
-pub use explain::{explain_text, push_explain};
+pub use explain::{door_word, explain_text, push_explain};
+pub use key::{push_object, push_port, push_quoted};
 pub use live::{
     event_text, final_text, live_sync_text, push_event, push_final, push_live_sync, push_record,
     record_text,
