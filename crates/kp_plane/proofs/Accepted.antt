@@ -17,10 +17,12 @@ use Rattle.kp_history.proofs.Synced.{within}
 use Rattle.kp_history.specs.Invariant.{IsHistory}
 use Rattle.kp_history.specs.declared.history.History.{History}
 use Rattle.kp_plane.specs.Parts.{PlaneParts, HasExactHistory, settings_in, syncs_in, batch_after}
-use Rattle.kp_plane.specs.Parts.{with_events, records_in}
+use Rattle.kp_plane.specs.Parts.{objects_before, with_events, records_in}
+use Rattle.kp_plane.specs.Past.{LeadPastOthers}
+use Rattle.kp_store.specs.Touched.{is_touched}
 use Rattle.kp_history_defs.specs.DirtyPorts.{dirty_ports}
 use Rattle.kp_plane.specs.Families.{AreTold, written_of}
-use Rattle.kp_plane.specs.Invariant.{IsAtPlace, IsPlane, IsPortsAt, IsSlicesAt}
+use Rattle.kp_plane.specs.Invariant.{IsAtPlace, IsPlane, IsPortsAt, IsSlicesAt, may_have_touched}
 use Rattle.kp_plane.specs.declared.place.ObjectsAt.{ObjectsAt}
 use Rattle.kp_plane.specs.declared.ports_at.PortsAt.{PortsAt}
 use Rattle.kp_plane.specs.declared.slices_at.SlicesAt.{SlicesAt}
@@ -81,6 +83,13 @@ module _ (p : PlaneParts) (more : List Event) where
     untouched = is.untouched;
     since = since_accepted (settings_in p) p.events (sum p.counts) s.latest.at s.touched more
         is.place.within is.since;
+    past = subst (λ o. LeadPastOthers (settings_in p) o s.latest.objects (may_have_touched s))
+        (sym (covered_same h (syncs_in p))) is.past;
+    last = subst (λ o. LeadPastOthers (settings_in p) o
+        (objects_covered (p.events ++ more) p.counts (syncs_in p)) (is_touched s.last))
+        (sym (covered_same h (syncs_in p - 1)))
+        (subst (λ o. LeadPastOthers (settings_in p) (objects_before p) o (is_touched s.last))
+        (sym (covered_same h (syncs_in p))) is.last);
     dirty = is.dirty
         ∙ (λ i. map (λ family. dirty_ports (setting_of family p.config)
         (sym (covered_same h (syncs_in p - 1)) i) (sym (covered_same h (syncs_in p)) i))

@@ -34,6 +34,8 @@ use Rattle.kp_history.specs.Parts.{next_edits}
 use Rattle.kp_history.specs.declared.history.History.{History}
 use Rattle.kp_history.proofs.Synced.{within}
 use Rattle.kp_touch_laws.specs.TouchLaws.{touches_one}
+use Rattle.kp_store.specs.Touched.{is_touched}
+use Rattle.kp_store.specs.declared.touched.Touched.{Touched}
 use Rattle.kp_writer.specs.Known.{ArePortsOf, DirtyNewest, IsBetween, KnownDirtyPorts, KnownPorts}
 use Rattle.kp_writer.specs.Known.{pending_ports}
 use Rattle.kp_writer.specs.Own.{own_rule_count}
@@ -47,7 +49,8 @@ use Rattle.kp_plane.specs.Invariant.{Holds, IsAtPlace, IsBroughtOn, IsMade, IsNe
 use Rattle.kp_plane.specs.Invariant.{IsUpToDate, touched_between}
 use Rattle.kp_plane.specs.Known.{AreDirty, rules_of, touched_count}
 use Rattle.kp_plane.specs.Parts.{PlaneParts, dirty_infos, is_touched_since, most_asked, most_steps}
-use Rattle.kp_plane.specs.Parts.{next_dirty, objects_in, settings_in, syncs_in}
+use Rattle.kp_plane.specs.Parts.{next_dirty, objects_before, objects_in, settings_in, syncs_in}
+use Rattle.kp_plane.specs.Past.{LeadPastOthers}
 use Rattle.kp_plane.specs.declared.next.Next.{Next}
 use Rattle.kp_plane.specs.declared.place.ObjectsAt.{ObjectsAt}
 use Rattle.kp_plane.specs.declared.ports_at.PortsAt.{PortsAt}
@@ -67,6 +70,10 @@ brought_on p s t is on = record {
   written = subst (AreTold p.config (objects_in p)) (sym on.written) is.written;
   untouched = on.untouched;
   since = on.since (sum p.counts) is.since;
+  past = λ k none.
+      let left = on.past (objects_in p) k none in left.1 (is.past k left.0);
+  last = subst (λ (t : Touched). LeadPastOthers (settings_in p) (objects_before p) (objects_in p)
+      (is_touched t)) (sym on.last) is.last;
   dirty = on.dirty ∙ is.dirty;
 }
 

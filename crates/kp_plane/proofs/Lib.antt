@@ -7,6 +7,7 @@ mod Each
 mod FewAsked
 mod FewMade
 mod Made
+mod PastEvents
 mod Places
 mod Refreshed
 mod Settled

@@ -1,6 +1,6 @@
 -- What holds of ports once a sync is kept.
 use Rattle.std.proofs.Common.{◌≡◌, ◌≤◌, ◌<◌, nat_lt, Bool, true, false, List, map, length, sym, subst}
-use Rattle.std.proofs.Common.{◌∙◌, arith, sum, refl}
+use Rattle.std.proofs.Common.{◌∙◌, ap, arith, sum, refl}
 use Rattle.std.proofs.lemmas.Bool.Decides.{nat_tests}
 use Rattle.kp_types.specs.Setting.{table_families}
 use Rattle.kp_choice_defs.specs.Settings.{setting_of}
@@ -8,17 +8,23 @@ use Rattle.kp_object_defs.specs.Objects.{objects_after}
 use Rattle.kp_history_defs.specs.DirtyPorts.{dirty_ports}
 use Rattle.kp_history.specs.declared.history.History.{History}
 use Rattle.kp_history.proofs.Synced.{all_counted, before_next, objects_next, within}
+use Rattle.kp_base.specs.declared.key.ObjectKey.{ObjectKey}
+use Rattle.kp_store.specs.Touched.{is_touched}
+use Rattle.kp_store.specs.declared.touched.Touched.{Touched}
 use Rattle.kp_writer.specs.Written.{WriterParts}
 use Rattle.kp_plane.specs.Collected.{is_collected}
 use Rattle.kp_plane.specs.Families.{AreOfNode, AreTold, KnowUntouched, newest_of, written_of}
 use Rattle.kp_plane.specs.Invariant.{AreTouchedBetween, Holds, IsAtPlace, IsNext, IsPortsAt}
-use Rattle.kp_plane.specs.Invariant.{IsSettled}
-use Rattle.kp_plane.specs.Parts.{PlaneParts, settings_in, synced, uncovered_in}
+use Rattle.kp_plane.specs.Invariant.{IsSettled, touched_between}
+use Rattle.kp_plane.specs.Parts.{PlaneParts, objects_in, settings_in, synced, uncovered_in}
+use Rattle.kp_plane.specs.Past.{LeadPastOthers}
 use Rattle.kp_plane.specs.declared.collected.Collected.{Collected}
 use Rattle.kp_plane.specs.declared.next.Next.{Next}
 use Rattle.kp_plane.specs.declared.place.ObjectsAt.{ObjectsAt}
 use Rattle.kp_plane.specs.declared.ports_at.PortsAt.{PortsAt}
-use Rattle.kp_plane.proofs.Synced.{nothing_new}
+use Rattle.kp_plane.proofs.PastEvents.{neither, past_none, untold}
+use Rattle.kp_plane.proofs.Since.{none_between}
+use Rattle.kp_plane.proofs.Synced.{at_end, nothing_new}
 use Rattle.kp_plane.proofs.Touching.{both_answers}
 use Rattle.kp_plane.proofs.Writers.{newest_node}
 
@@ -85,6 +91,42 @@ module _ (p : PlaneParts) (h : History) (s t : PortsAt) (next : Next) (held : Ho
       subst (λ from. AreTouchedBetween (settings_in p) p.events from s.latest.at s.touched) here
       held.ports.since
 
+  -- the latest objects are those of all events
+  latest_all : (is_new : Bool) → is_new ≡ nat_lt h.covered (length p.events)
+      → s.latest.objects ≡ objects_after p.events
+  latest_all true new =
+      at_end p.events p.events s.latest held.ports.place (is.newest (some_new true new refl)).at refl
+  latest_all false old =
+      let same = none_new false old refl in
+      let covered = held.history.covered in
+      let later = held.ports.since.later in
+      let few = held.ports.place.within in
+      at_end p.events p.events s.latest held.ports.place (omega (arith, same, covered, later, few))
+      refl
+
+  -- none of the Services is still to be looked at
+  none_touched : (is_new : Bool) → is_new ≡ nat_lt h.covered (length p.events) → (k : ObjectKey)
+      → is_collected s.touched k ≡ false
+  none_touched true new k = (is.newest (some_new true new refl)).none k
+  none_touched false old k =
+      let same = none_new false old refl in
+      let covered = held.history.covered in
+      let few = held.ports.place.within in
+      let none = none_between (settings_in p) p.events (sum p.counts) s.latest.at
+      (omega (arith, same, covered, few)) few k in
+      untold (is_collected s.touched k)
+      (touched_between (settings_in p) p.events (sum p.counts) s.latest.at k)
+      (held.ports.since.few k) none
+
+  -- the events of this sync lead past the others
+  last_past : (is_new : Bool) → is_new ≡ nat_lt h.covered (length p.events)
+      → IsSettled is_new next.dirty.items s t
+      → LeadPastOthers (settings_in p) (objects_in p) s.latest.objects (is_touched t.last)
+  last_past is_new new settled = λ k none.
+      held.ports.past k (neither (is_touched s.since k) (is_collected s.touched k)
+      (ap (λ (u : Touched). is_touched u k) (sym settled.last) ∙ none)
+      (none_touched is_new new k))
+
   pub settled_ports : (is_new : Bool) → is_new ≡ nat_lt h.covered (length p.events)
       → IsSettled is_new next.dirty.items s t → IsPortsAt (synced p) t
   settled_ports is_new new settled = record {
@@ -102,6 +144,15 @@ module _ (p : PlaneParts) (h : History) (s t : PortsAt) (next : Next) (held : Ho
         (sum (synced p).counts) t.latest.at u) (sym settled.touched)
         (subst (λ (l : ObjectsAt). AreTouchedBetween (settings_in p) p.events
         (sum (synced p).counts) l.at s.touched) (sym settled.latest) (all_since is_new new));
+    past = λ k none.
+        past_none (settings_in p) (objects_in (synced p)) t.latest.objects k
+        (ap (λ (l : ObjectsAt). l.objects) settled.latest
+        ∙ latest_all is_new new ∙ sym (objects_next p held.history.exact));
+    last = subst (λ o. LeadPastOthers (settings_in p) o (objects_in (synced p)) (is_touched t.last))
+        (sym (before_next p held.history.exact))
+        (subst (λ o. LeadPastOthers (settings_in p) (objects_in p) o (is_touched t.last))
+        (latest_all is_new new ∙ sym (objects_next p held.history.exact))
+        (last_past is_new new settled));
     dirty = settled.dirty ∙ is.dirty
         ∙ (λ i. map (λ family. dirty_ports (setting_of family p.config)
         (sym (before_next p held.history.exact) i) (sym (objects_next p held.history.exact) i))

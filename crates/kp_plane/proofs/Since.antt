@@ -7,10 +7,9 @@ use Rattle.std.specs.List.{fold, sum_by}
 use Rattle.std.proofs.Math.Bool.{or-true}
 use Rattle.std.proofs.Math.Nat.{mul-le-mul_left}
 use Rattle.std.proofs.lemmas.Bool.{and_parts, or_cases}
-use Rattle.std.proofs.lemmas.List.{drop-append-le, length-take-le, take-append-drop, take-append-le}
-use Rattle.std.proofs.lemmas.List.{take-take, take_more}
+use Rattle.std.proofs.lemmas.List.{drop-append-le, drop_all, length-take-le, take-append-drop}
+use Rattle.std.proofs.lemmas.List.{take-append-le, take-take, take_more}
 use Rattle.std.proofs.lemmas.List.Sums.{fold-append}
-use mathlib.Core.Bool.{or_assoc}
 use Rattle.kp_base.specs.declared.key.ObjectKey.{ObjectKey}
 use Rattle.kp_types.specs.Setting.{Settings}
 use Rattle.kp_types.specs.declared.event.Event.{Event}
@@ -22,6 +21,7 @@ use Rattle.kp_plane.specs.Collected.{AreJoined, Collects, CollectsSame, is_colle
 use Rattle.kp_plane.specs.Invariant.{AreTouchedBetween, IsAtPlace, touched_between}
 use Rattle.kp_plane.specs.declared.collected.Collected.{Collected}
 use Rattle.kp_plane.specs.declared.place.ObjectsAt.{ObjectsAt}
+use Rattle.kp_plane.proofs.PastEvents.{touches_both}
 use Rattle.kp_plane.proofs.Refreshed.{more_touched}
 use Rattle.kp_plane.proofs.Synced.{at_end}
 use Rattle.kp_plane.proofs.Touching.{both_answers}
@@ -31,16 +31,6 @@ abbrev count : (Objects → Service → ℕ) → Objects → (ObjectKey → Bool
 count f o touched = sum_by (f o) (filter (λ s. touched s.key) (finite.values o.services))
 
 module _ (settings : Settings) where
-  -- events and then others touch what either touch
-  touches_both : (o : Objects) (es more : List Event) (k : ObjectKey)
-      → touches_one settings o (es ++ more) k
-      ≡ touches_one settings o es k || touches_one settings (fold objects_step o es) more k
-  touches_both o [] more k = refl
-  touches_both o (e ∷ es) more k =
-      ap (λ b. touches_in settings o e k || b) (touches_both (objects_step o e) es more k)
-      ∙ sym (or_assoc (touches_in settings o e k) (touches_one settings (objects_step o e) es k)
-      (touches_one settings (fold objects_step (objects_step o e) es) more k))
-
   module _ (events : List Event) where
     -- the objects at a place are those at a place before it, and then those of the events between
     objects_between : (from to : ℕ) → from ≤ to
@@ -51,6 +41,14 @@ module _ (settings : Settings) where
         sym (fold-append objects_step no_objects (take from events) between)
         ∙ ap (λ es. objects_after (es ++ between)) (sym (take-take from to events later))
         ∙ ap objects_after (take-append-drop from (take to events))
+
+    -- no event touches anything between a place and itself
+    pub none_between : (from to : ℕ) → to ≤ from → to ≤ length events → (k : ObjectKey)
+        → touched_between settings events from to k ≡ false
+    none_between from to later few k =
+        let all = length-take-le to events few in
+        ap (λ es. touches_one settings (objects_after (take from events)) es k)
+        (drop_all from (take to events) (omega (arith, later, all)))
 
     -- what one event more touches
     touches_next : (from at : ℕ) (e : Event) → from ≤ at → at < length events
@@ -66,7 +64,7 @@ module _ (settings : Settings) where
         (take_more events at e few ∙ ap (λ d. take at events ++ d ∷ []) (sym is))
         ∙ ap (λ es. touches_one settings before es k)
         (drop-append-le from (take at events) (e ∷ []) (omega (arith, later, all)))
-        ∙ touches_both before between (e ∷ []) k
+        ∙ touches_both settings before between (e ∷ []) k
         ∙ ap (λ o. touches_one settings before between k || (touches_in settings o e k || false))
         (objects_between from at later)
 

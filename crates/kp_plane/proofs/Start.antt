@@ -1,6 +1,6 @@
 -- Before the first event.
 use Rattle.std.proofs.Common.{◌≡◌, ◌≤◌, ℕ, Bool, length, subst, arith, List, [], ◌∷◌, None, false, sym}
-use Rattle.std.proofs.Common.{ap, take, map, ◌∙◌}
+use Rattle.std.proofs.Common.{ap, refl, take, map, ◌∙◌}
 use Rattle.std.specs.FinMap as finite
 use Rattle.std.specs.List.{AllByRecursion}
 use Rattle.std.specs.Option.{option_and_then}
@@ -10,7 +10,7 @@ use Rattle.kp_base.specs.declared.key.PortKey.{PortKey}
 use Rattle.kp_base.specs.declared.config.Config.{Config}
 use Rattle.kp_types.specs.Setting.{Setting, table_families}
 use Rattle.kp_types.specs.declared.event.Event.{Event}
-use Rattle.kp_choice_defs.specs.Settings.{setting_of}
+use Rattle.kp_choice_defs.specs.Settings.{setting_of, settings_of}
 use Rattle.kp_object_defs.specs.Objects.{Objects, no_objects, objects_after}
 use Rattle.kp_object_defs.specs.PortByKey.{info_at, info_in}
 use Rattle.kp_history_defs.specs.DirtyPorts.{dirty_port, dirty_ports}
@@ -26,6 +26,7 @@ use Rattle.kp_plane.specs.Invariant.{IsAtPlace, IsPlane, IsPortsAt, IsSlicesAt}
 use Rattle.kp_plane.specs.declared.place.ObjectsAt.{ObjectsAt}
 use Rattle.kp_plane.specs.declared.ports_at.PortsAt.{PortsAt}
 use Rattle.kp_plane.specs.declared.slices_at.SlicesAt.{SlicesAt}
+use Rattle.kp_plane.proofs.PastEvents.{past_none}
 use Rattle.kp_plane.proofs.Touching.{both_answers}
 
 -- what holds of all fields then
@@ -110,6 +111,8 @@ first_ports clean config events s place at untouched new dirty =
         later = omega (arith, at);
         few = λ k some. absurd (both_answers (is_collected s.touched k) some (untouched k));
       };
+      past = λ k none. past_none (settings_of config) no_objects s.latest.objects k first;
+      last = λ k none. past_none (settings_of config) no_objects no_objects k refl;
       dirty = dirty ∙ (λ i. map (λ family.
           sym (none_dirty clean (setting_of family config) no_objects) i) (table_families config));
     }

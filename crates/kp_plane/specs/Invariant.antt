@@ -1,6 +1,6 @@
 -- What holds of a plane's fields, by the parts that contracts see.
 use Rattle.std.specs.Prelude.{◌≡◌, ◌≤◌, ◌<◌, ◌+◌, ℕ, List, length, sum, take, drop}
-use Rattle.std.specs.Prelude.{Bool, true, false, cond, map, None}
+use Rattle.std.specs.Prelude.{◌||◌, Bool, true, false, cond, map, None}
 use Rattle.std.specs.List.{AllByRecursion, flat_map}
 use Rattle.kp_base.specs.declared.config.Config.{Config}
 use Rattle.kp_base.specs.declared.key.ObjectKey.{ObjectKey}
@@ -23,8 +23,9 @@ use Rattle.kp_writer.specs.Written.{WriterParts}
 use Rattle.kp_plane.specs.Collected.{is_collected}
 use Rattle.kp_plane.specs.Families.{AreOfNode, AreTold, HasNoClash, KnowUntouched}
 use Rattle.kp_plane.specs.Families.{newest_of, written_of}
-use Rattle.kp_plane.specs.Parts.{PlaneParts, dirty_after, objects_in, settings_in}
+use Rattle.kp_plane.specs.Parts.{PlaneParts, dirty_after, objects_before, objects_in, settings_in}
 use Rattle.kp_plane.specs.Parts.{uncovered_in}
+use Rattle.kp_plane.specs.Past.{GoesOnPast, LeadPastOthers}
 use Rattle.kp_plane.specs.declared.collected.Collected.{Collected}
 use Rattle.kp_plane.specs.declared.next.Next.{Next}
 use Rattle.kp_plane.specs.declared.place.ObjectsAt.{ObjectsAt}
@@ -96,10 +97,15 @@ GoesOnTouching settings events at before to after =
     (from : ℕ) → AreTouchedBetween settings events from at before
     → AreTouchedBetween settings events from to after
 
+-- an event since the last accepted sync may have touched the Service of this key
+abbrev pub may_have_touched : PortsAt → ObjectKey → Bool
+may_have_touched s service = is_touched s.since service || is_collected s.touched service
+
 -- What is known of ports: in each family that the node has tables of the writer knows, by the names
 -- of ports whose Service wasn't touched, what the latest objects tell, which stand at a place of
 -- the journal at or after what the last sync covers; an event between these touched each Service
--- that was; what it wrote is what the objects tell that the last sync covers.
+-- that was; what it wrote is what the objects tell that the last sync covers. From these events
+-- lead past all Services but some, and those of the last sync past all but others.
 pub record IsPortsAt (p : PlaneParts) (s : PortsAt) : Type 0 where
   pub place : IsAtPlace p.events s.latest
   pub node : AreOfNode p.config (map written_of s.writers.items)
@@ -107,6 +113,8 @@ pub record IsPortsAt (p : PlaneParts) (s : PortsAt) : Type 0 where
   pub untouched : KnowUntouched p.config s.latest.objects (is_collected s.touched)
       (map newest_of s.writers.items)
   pub since : AreTouchedBetween (settings_in p) p.events (sum p.counts) s.latest.at s.touched
+  pub past : LeadPastOthers (settings_in p) (objects_in p) s.latest.objects (may_have_touched s)
+  pub last : LeadPastOthers (settings_in p) (objects_before p) (objects_in p) (is_touched s.last)
   pub dirty : s.dirty.items ≡ map (λ family. dirty_after family p) (table_families p.config)
 
 -- what is known of ports at a later place of the journal, where nothing was written
@@ -117,6 +125,9 @@ pub record IsBroughtOn
       (map newest_of after.writers.items)
   pub since : GoesOnTouching (settings_of config) events before.latest.at before.touched
       after.latest.at after.touched
+  pub past : GoesOnPast (settings_of config) before.latest.objects (may_have_touched before)
+      after.latest.objects (may_have_touched after)
+  pub last : after.last ≡ before.last
   pub written : map written_of after.writers.items ≡ map written_of before.writers.items
   pub dirty : after.dirty.items ≡ before.dirty.items
 
@@ -131,6 +142,8 @@ pub record IsSettled (is_new : Bool) (told : List (List DirtyPort)) (before afte
     : Type 0 where
   pub latest : after.latest ≡ before.latest
   pub touched : after.touched ≡ before.touched
+  pub since : (key : ObjectKey) → is_touched after.since key ≡ false
+  pub last : after.last ≡ before.since
   pub written : map written_of after.writers.items
       ≡ cond is_new (map newest_of before.writers.items) (map written_of before.writers.items)
   pub newest : map newest_of after.writers.items ≡ map newest_of before.writers.items

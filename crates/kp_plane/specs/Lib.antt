@@ -5,3 +5,4 @@ pub mod Invariant
 pub mod Known
 pub mod Notes
 pub mod Parts
+pub mod Past

@@ -17,6 +17,7 @@ pub use kp_events::{Journal, JournalFault};
 pub use kp_full_table::TableFault;
 pub use kp_history_defs::DirtyPort;
 pub use kp_rules::Table;
+pub use kp_store::{Objects, Touched};
 pub use kp_types::{Batch, Decision, SyncRecord};
 pub use note::SyncNote;
 pub use plane::Plane;

@@ -25,6 +25,7 @@ impl ObjectsAt {
     ghost use Rattle.kp_plane.specs.Collected.{AreJoined, is_collected};
     ghost use Rattle.kp_plane.specs.Invariant.{GoesOnTouching, IsAtPlace};
     ghost use Rattle.kp_plane.specs.Known.{LeavesUntouched};
+    ghost use Rattle.kp_plane.specs.Past.{GoesOnPast};
 
     /// Before the first event.
     pub(crate) fn start(alloc: Global) -> ObjectsAt
@@ -76,6 +77,8 @@ impl ObjectsAt {
             self.new.objects (is_collected touched.new) }
         ensures since { GoesOnTouching (settings_of config.now) events.now
             self.old.at touched.old self.new.at touched.new }
+        ensures past { GoesOnPast (settings_of config.now) self.old.objects
+            (is_collected touched.old) self.new.objects (is_collected touched.new) }
         ensures ok { OnOk result (self.new.at ≡ length events.now) }
         ensures joined { OnOk result (AreJoined touched.new) }
     {

@@ -14,6 +14,8 @@ ghost use Rattle.kp_plane.specs.Notes.{last_note};
 ghost use Rattle.kp_plane.specs.Parts as parts;
 ghost use Rattle.kp_plane.specs.Parts.{HasExactHistory, IsNextRecord, settings_in};
 ghost use Rattle.kp_plane.specs.Parts.{decided_in, explained_in, walked_in};
+ghost use Rattle.kp_plane.specs.Past.{LeadPastOthers};
+ghost use Rattle.kp_store.specs.Touched.{is_touched};
 ghost use Rattle.kp_table_defs.specs.Ranks.{is_ranked, has_chains_of};
 ghost use Rattle.kp_table_defs.specs.Rebuild.{clash_of};
 ghost use Rattle.kp_walk_laws.specs.Laws.{Agree};
@@ -34,6 +36,7 @@ use kp_history::History;
 use kp_history_defs::DirtyPort;
 use kp_recent::RecentLists;
 use kp_rules::Table;
+use kp_store::{Objects, Touched};
 use kp_types::{Batch, Decision, Event, Packet, Slice, SyncRecord};
 use kp_writer::told;
 use std::alloc::Global;
@@ -122,9 +125,10 @@ impl Plane {
         self.history.covered
     }
 
-    /// How many syncs were accepted.
+    /// How many syncs were accepted. They cover events that there are.
     pub fn syncs(&self) -> u64
-        ensures { result ≡ parts.syncs_in self.now }
+        ensures count { result ≡ parts.syncs_in self.now }
+        ensures within { sum self.now.counts ≤ length self.now.events }
     {
         self.history.counts.len() as u64
     }
@@ -343,6 +347,23 @@ impl Plane {
             Some(dirty) => told(alloc, dirty.as_slice()),
             None => Ok(Items::new(alloc)),
         }
+    }
+
+    /// The objects that the last sync covers, where no event came after it.
+    pub fn objects(&self) -> &Objects
+        requires { parts.uncovered_in self.now ≡ 0 }
+        ensures { result.now ≡ parts.objects_in self.now }
+    {
+        &self.ports.latest.objects
+    }
+
+    /// The Services that events touched between the last sync and the one before it: past each
+    /// other one events lead from the objects of the one to those of the other.
+    pub fn touched(&self) -> &Touched
+        ensures { LeadPastOthers (settings_in self.now) (parts.objects_before self.now)
+            (parts.objects_in self.now) (is_touched result.now) }
+    {
+        &self.ports.last
     }
 
     /// What a plane that ends holds: its events, how many of them each sync covers more than the

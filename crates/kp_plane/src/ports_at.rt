@@ -20,9 +20,11 @@ use crate::collected::Collected;
 use crate::place::ObjectsAt;
 use crate::refresh::refresh_families;
 use kp_base::{Config, Family, Items, NoMemory, Steps};
+use kp_store::Touched;
 use kp_types::{Event, table_families};
 use kp_writer::{Pending, Writer};
 use std::alloc::Global;
+use std::mem::swap;
 use std::sync::ledger::Ledger;
 
 /// The objects after the first events of a journal, and what is known of ports by them.
@@ -31,6 +33,10 @@ pub(crate) struct PortsAt {
     pub(crate) latest: ObjectsAt,
     /// The Services of whose ports a writer may know something else than these objects tell.
     pub(crate) touched: Collected,
+    /// The others that events touched since the last accepted sync.
+    pub(crate) since: Touched,
+    /// Those that events touched between this sync and the one before it.
+    pub(crate) last: Touched,
     /// What was written of each port at the last sync, and what is known of it now: by one writer
     /// of each family that the node has tables of, in their order.
     pub(crate) writers: Vec<Writer>,
@@ -44,6 +50,8 @@ impl Drop for PortsAt {
         let PortsAt {
             latest,
             touched,
+            since,
+            last,
             writers,
             dirty,
         } = self;
@@ -59,11 +67,15 @@ impl PortsAt {
         kp_history_laws::dirty_ports();
         let latest = ObjectsAt::start(alloc);
         let touched = Collected::new(alloc);
+        let since = Touched::new(alloc);
+        let last = Touched::new(alloc);
         let writers = new_writers(alloc, config)?;
         let dirty = none_dirty(alloc, config)?;
         Ok(PortsAt {
             latest,
             touched,
+            since,
+            last,
             writers,
             dirty,
         })
@@ -103,6 +115,7 @@ impl PortsAt {
         kp_object_laws::own_keys();
         self.latest
             .advance_touching(alloc, config, events, &mut self.touched)?;
+        self.since.join(alloc, &self.touched.joined)?;
         refresh_families(
             alloc,
             config,
@@ -124,11 +137,13 @@ impl PortsAt {
         self.dirty.get(place_of(family))
     }
 
-    /// Takes over which ports were dirty at a sync and, where it covers new events, that what is
-    /// known now is written. It takes no memory.
+    /// Takes over which ports were dirty at a sync, which Services were touched before it and, where
+    /// it covers new events, that what is known now is written. It takes no memory.
     pub(crate) fn settle(&mut self, alloc: Global, is_new: bool, dirty: Vec<Items<Pending>>)
         ensures { IsSettled is_new dirty.items self.old self.new }
     {
+        swap(&mut self.last, &mut self.since);
+        self.since = Touched::new(alloc);
         if is_new {
             keep_all(alloc, &mut self.writers);
         }

@@ -5,6 +5,7 @@ use kp_controller::{SliceMap, control};
 use kp_store::Touched;
 use kp_types::Event;
 use std::alloc::Global;
+use std::mem::replace;
 
 /// The slices after the first events of a journal, and after the first syncs.
 pub(crate) struct SlicesAt {
@@ -98,18 +99,14 @@ impl SlicesAt {
         kp_object_laws::own_keys();
         kp_settle_laws::controlled_between_syncs();
         let covered = self.covered + counts[self.syncs] as usize;
-        let mut slices = self.with_events(alloc, config, events, covered)?;
-        control(
-            alloc,
-            config,
-            &slices.place.objects,
-            &slices.touched,
-            &mut slices.slices,
-        )?;
-        slices.touched = Touched::new(alloc);
-        slices.covered = covered;
-        slices.syncs += 1;
-        Ok(slices)
+        let mut fed = self.with_events(alloc, config, events, covered)?;
+        let held = replace(&mut fed.slices, SliceMap::new(alloc));
+        let slices = control(alloc, config, &fed.place.objects, &fed.touched, held)?;
+        fed.slices = slices;
+        fed.touched = Touched::new(alloc);
+        fed.covered = covered;
+        fed.syncs += 1;
+        Ok(fed)
     }
 
     /// Goes on to a later place of the journal, over no sync.

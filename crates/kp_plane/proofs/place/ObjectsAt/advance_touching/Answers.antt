@@ -3,6 +3,7 @@ use Rattle.kp_choice_defs.specs.Settings.{setting_of, settings_of}
 use Rattle.kp_object_defs.specs.OwnKeys.{AreUnderOwnKeys}
 use Rattle.kp_plane.specs.Collected.{is_collected}
 use Rattle.kp_plane.specs.Invariant.{AreTouchedBetween}
+use Rattle.kp_plane.proofs.PastEvents.{past_all, past_both, past_one, past_same}
 use Rattle.kp_plane.proofs.Places.{next_place}
 use Rattle.kp_plane.proofs.Since.{since_more, since_same}
 use Rattle.kp_plane.proofs.Touching.{leaves_all, leaves_both, leaves_one, leaves_same}
@@ -14,6 +15,8 @@ loop-at-init c = record {
   at = refl;
   untouched = λ family.
       leaves_all (setting_of family c.args.config.now) c.args.self.now.objects
+      (is_collected c.args.touched.now);
+  past = past_all (settings_of c.args.config.now) c.args.self.now.objects
       (is_collected c.args.touched.now);
   since = λ from is. is;
 }
@@ -43,6 +46,13 @@ loop-at-preserved c =
           (is_collected c.loop-at.touched) (is_collected c.apply_touching.new.self) event _ own
           c.in_ok-apply_touching.ensures.changed c.in_ok-apply_touching.ensures.ok
           c.in_ok-apply_touching.ensures.adds);
+      past = past_both settings c.args.self.now.objects before.objects
+          (is_collected c.args.touched.now) (is_collected c.loop-at.touched) inv.past after
+          (is_collected c.apply_touching.new.self)
+          (past_one settings before.objects after (is_collected c.loop-at.touched)
+          (is_collected c.apply_touching.new.self) event _
+          c.in_ok-apply_touching.ensures.changed c.in_ok-apply_touching.ensures.ok
+          c.in_ok-apply_touching.ensures.adds);
       since = λ from is.
           subst (λ n. AreTouchedBetween settings events from n c.apply_touching.new.self) next
           (since_more settings events from before.at c.loop-at.touched c.apply_touching.new.self
@@ -65,6 +75,13 @@ returns-in_err-apply_touching-clause-untouched c = λ family.
     (is_collected c.apply_touching.new.self) (c.loop-at.invariant.untouched family)
     c.in_err-apply_touching.ensures.err c.in_err-apply_touching.ensures.same
 
+pub returns-in_err-apply_touching-clause-past : goal.returns-in_err-apply_touching-clause-past
+returns-in_err-apply_touching-clause-past c =
+    past_same (settings_of c.args.config.now) c.args.self.now.objects c.loop-at.self.objects
+    (is_collected c.args.touched.now) (is_collected c.loop-at.touched) c.loop-at.invariant.past
+    c.apply_touching.new.objects (is_collected c.apply_touching.new.self)
+    c.in_err-apply_touching.ensures.err c.in_err-apply_touching.ensures.same
+
 pub returns-in_err-apply_touching-clause-since : goal.returns-in_err-apply_touching-clause-since
 returns-in_err-apply_touching-clause-since c = λ from is.
     since_same (settings_of c.args.config.now) c.args.events.now from c.loop-at.self.at
@@ -76,6 +93,12 @@ returns-clause-untouched c = λ family.
     leaves_same (setting_of family c.args.config.now) c.args.self.now.objects c.loop-at.self.objects
     c.loop-at.self.objects (is_collected c.args.touched.now) (is_collected c.loop-at.touched)
     (is_collected c.join.new.self) (c.loop-at.invariant.untouched family) refl c.join.ensures.same
+
+pub returns-clause-past : goal.returns-clause-past
+returns-clause-past c =
+    past_same (settings_of c.args.config.now) c.args.self.now.objects c.loop-at.self.objects
+    (is_collected c.args.touched.now) (is_collected c.loop-at.touched) c.loop-at.invariant.past
+    c.loop-at.self.objects (is_collected c.join.new.self) refl c.join.ensures.same
 
 pub returns-clause-since : goal.returns-clause-since
 returns-clause-since c = λ from is.

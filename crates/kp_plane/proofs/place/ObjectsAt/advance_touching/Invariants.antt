@@ -5,6 +5,7 @@ use Rattle.kp_choice_defs.specs.Settings.{setting_of, settings_of}
 use Rattle.kp_plane.specs.Collected.{is_collected}
 use Rattle.kp_plane.specs.Invariant.{GoesOnTouching, IsAtPlace}
 use Rattle.kp_plane.specs.Known.{LeavesUntouched}
+use Rattle.kp_plane.specs.Past.{GoesOnPast}
 use Rattle.kp_plane.proofs.place.ObjectsAt.advance_touching.Given as goal
 
 abbrev pub invariant-loop-at : goal.invariant-loop-at
@@ -13,6 +14,8 @@ invariant-loop-at l = record {
   at : l.self.at ≡ l.at;
   untouched : (family : Family) → LeavesUntouched (setting_of family l.config) l.fn.self.objects
       (is_collected l.fn.touched) l.self.objects (is_collected l.touched);
+  past : GoesOnPast (settings_of l.config) l.fn.self.objects (is_collected l.fn.touched)
+      l.self.objects (is_collected l.touched);
   since : GoesOnTouching (settings_of l.config) l.events l.fn.self.at l.fn.touched
       l.self.at l.touched;
 }

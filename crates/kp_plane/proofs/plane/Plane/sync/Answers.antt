@@ -75,7 +75,7 @@ returns-clause-record g c =
     } in
     record_next old (parts_of s.config s.journal h) r
     (parts_next p old c.self.view_is h c.sync_copied.new.ports c.in_ok-batch.ensures.ok)
-    c.syncs.ensures c.uncovered-events.ensures
+    c.syncs.ensures.count c.uncovered-events.ensures
     (c.in_ok-batch.ensures.edits ∙ ap next_edits c.self.view_is)
     (subst (λ q. clash_of (settings_in q) (objects_after q.events) ≡ None) c.self.view_is
     c.in_ok-batch.ensures.no_clash)
@@ -96,7 +96,7 @@ returns-clause-added g c =
     ap records_in next
     ∙ c.records_grow.ensures
     ∙ ap (λ s. records_in old ++ s ∷ [])
-    (sym (record_added old (parts_of s.config s.journal h) r next c.syncs.ensures
+    (sym (record_added old (parts_of s.config s.journal h) r next c.syncs.ensures.count
     c.uncovered-events.ensures (c.in_ok-batch.ensures.edits ∙ ap next_edits c.self.view_is)))
 
 pub returns-clause-unchanged : goal.returns-clause-unchanged

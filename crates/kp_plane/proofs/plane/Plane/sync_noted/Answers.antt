@@ -43,7 +43,7 @@ returns-clause-note g c =
     sym (last_is_next p c.self.invariant.holds.history.exact)
     ∙ ap (λ (counts : List ℕ). last_edits (record p { counts = counts })) (sym next.history.counts) in
     λ i. record {
-      sync = c.syncs.ensures i;
+      sync = c.syncs.ensures.count i;
       events = c.uncovered-events.ensures i;
       written = (c.in_ok-written.ensures.written ∙ ap (count_by is_write) made) i;
       removed = (c.in_ok-written.ensures.removed ∙ ap (count_by (λ e. not (is_write e))) made) i;

@@ -1,5 +1,6 @@
 use Rattle.std.proofs.Common.{◌≡◌, ◌≤◌, ◌+◌, ◌*◌, length, map, take, refl, sym, ap, subst, ◌∙◌, arith}
 use Rattle.std.specs.List.{AllByRecursion}
+use Rattle.std.proofs.lemmas.Bool.{or_parts}
 use Rattle.std.proofs.lemmas.List.{length-map}
 use Rattle.kp_types.specs.Setting.{table_families}
 use Rattle.kp_choice_defs.specs.Settings.{settings_of}
@@ -11,6 +12,7 @@ use Rattle.kp_plane.specs.Collected.{is_collected}
 use Rattle.kp_plane.specs.Families.{AreTold, KnowUntouched, newest_of, rules_in, written_of}
 use Rattle.kp_plane.specs.Known.{touched_count}
 use Rattle.kp_plane.proofs.Between.{made_at_end}
+use Rattle.kp_plane.proofs.PastEvents.{past_added, past_with, untold}
 use Rattle.kp_plane.proofs.Since.{counted_between, since_none}
 use Rattle.kp_plane.proofs.Synced.{at_end}
 use Rattle.kp_plane.proofs.WritersBack.{counted_before, written_back}
@@ -50,9 +52,39 @@ returns-in_err-advance_touching-clause-goes_on g c =
           after.self.objects (is_collected s.touched) (is_collected after.touched)
           c.advance_touching.ensures.untouched c.requires.untouched;
       since = c.advance_touching.ensures.since;
+      past = past_with (settings_of c.args.config.now) s.latest.objects after.self.objects
+          (is_collected s.touched) (is_collected after.touched) c.advance_touching.ensures.past
+          (is_touched s.since) (is_touched s.since) (λ k none. none);
+      last = refl;
       written = refl;
       dirty = refl;
     }
+
+pub returns-in_err-join-clause-goes_on : goal.returns-in_err-join-clause-goes_on
+returns-in_err-join-clause-goes_on g c =
+    let s = c.args.self.now in
+    let after = c.advance_touching.new in
+    record {
+      place = c.advance_touching.ensures.place;
+      untouched = know_on c.args.config.now (map newest_of s.writers.items) s.latest.objects
+          after.self.objects (is_collected s.touched) (is_collected after.touched)
+          c.advance_touching.ensures.untouched c.requires.untouched;
+      since = c.advance_touching.ensures.since;
+      past = past_with (settings_of c.args.config.now) s.latest.objects after.self.objects
+          (is_collected s.touched) (is_collected after.touched) c.advance_touching.ensures.past
+          (is_touched s.since) (is_touched c.join.new.self)
+          (λ k. untold (is_touched s.since k) (is_touched c.join.new.self k)
+          (c.in_err-join.ensures.err k));
+      last = refl;
+      written = refl;
+      dirty = refl;
+    }
+
+pub returns-in_err-join-clause-steps : goal.returns-in_err-join-clause-steps
+returns-in_err-join-clause-steps g c = λ dirty are. omega arith
+
+pub returns-in_err-join-clause-asked : goal.returns-in_err-join-clause-asked
+returns-in_err-join-clause-asked g c = λ from is. omega arith
 
 pub returns-in_err-advance_touching-clause-steps : goal.returns-in_err-advance_touching-clause-steps
 returns-in_err-advance_touching-clause-steps g c = λ dirty are. omega arith
@@ -75,6 +107,13 @@ returns-in_err-refresh_families-clause-goes_on g c =
           (is_touched after.touched.joined) (is_collected after.touched)
           c.in_ok-advance_touching.ensures.joined c.refresh_families.ensures.untouched);
       since = c.advance_touching.ensures.since;
+      past = past_with (settings_of c.args.config.now) c.args.self.now.latest.objects
+          after.self.objects (is_collected c.args.self.now.touched) (is_collected after.touched)
+          c.advance_touching.ensures.past (is_touched c.args.self.now.since)
+          (is_touched c.join.new.self)
+          (λ k none. (or_parts (is_touched after.touched.joined k)
+          (is_touched c.args.self.now.since k) (sym (c.in_ok-join.ensures.ok k) ∙ none)).1);
+      last = refl;
       written = ap (map written_of) same ∙ c.refresh_families.ensures.written
           ∙ ap (map written_of) c.deref_mut.ensures.value;
       dirty = refl;
@@ -124,6 +163,13 @@ returns-clause-goes_on g c =
           since_none (settings_of c.args.config.now) c.args.events.now from
           after.self.at after.touched c.new.result
           (c.advance_touching.ensures.since from is) c.new.ensures;
+      past = past_added (settings_of c.args.config.now) c.args.self.now.latest.objects
+          after.self.objects (is_collected c.args.self.now.touched) (is_collected after.touched)
+          c.advance_touching.ensures.past (is_touched c.args.self.now.since)
+          (is_touched c.join.new.self) (is_collected c.new.result)
+          (is_touched after.touched.joined) c.in_ok-advance_touching.ensures.joined
+          c.in_ok-join.ensures.ok;
+      last = refl;
       written = ap (map written_of) same ∙ c.refresh_families.ensures.written
           ∙ ap (map written_of) c.deref_mut.ensures.value;
       dirty = refl;

@@ -8,6 +8,8 @@ returns c = λ events.
     record {
       latest = c.start-latest.result;
       touched = c.new-touched.result;
+      since = c.new-since.result;
+      last = c.new-last.result;
       writers = c.in_ok-writers.writers;
       dirty = c.in_ok-dirty.dirty;
     } in
