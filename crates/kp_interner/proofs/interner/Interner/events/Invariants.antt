@@ -1,0 +1,6 @@
+-- The events so far.
+use Rattle.std.proofs.Common.{◌≡◌, take}
+use Rattle.kp_interner.proofs.interner.Interner.events.Given as goal
+
+abbrev pub invariant-loop-event : goal.invariant-loop-event
+invariant-loop-event l = l.same.items ≡ take l.event-index l.events
