@@ -168,6 +168,14 @@ module _ (workers : List Worker) (alike : AreLike (lists_of workers)) (count par
       stay_alike workers renewed (length-set workers place on)
       (set_keeps workers place on old (same ∙ ap (λ (y : Worker). y.lists.size) here)) alike
 
+  -- nor that of all lists
+  pub size_after : on.lists.size ≡ old.lists.size
+      → (together (lists_of renewed)).size ≡ all.size
+  size_after same =
+      size_stays workers renewed (length-set workers place on)
+      (set_keeps workers place on old (same ∙ ap (λ (y : Worker). y.lists.size) here))
+      ∙ ap (λ (l : RecentParts). l.size) (sym whole)
+
   module _ {B : Type 0} (step : RecentParts → B × RecentParts) (local : IsInPart part step) where
     step_after : on.lists ≡ (step old.lists).1
         → step all ≡ ((step old.lists).0, together (lists_of renewed))

@@ -1,5 +1,5 @@
 -- How texts in a row are kept: as one text, and the length of each.
-use Rattle.std.specs.Prelude.{◌≡◌, ℕ, List, [], map, length, get_or, string_bytes, IfSome, slice_get}
+use Rattle.std.specs.Prelude.{◌≡◌, ℕ, List, [], ◌++◌, map, length, get_or, string_bytes, IfSome, slice_get}
 use Rattle.std.specs.List.{concat}
 use Rattle.kp_workers.specs.declared.texts.Texts.{Texts}
 use Rattle.kp_workers.specs.declared.texts.TextsOn.{TextsOn}
@@ -25,3 +25,7 @@ pub record Keeps (kept : Kept) (told : List (List ℕ)) : Type 0 where
 pub record AreKept (all : List Kept) (told : List (List (List ℕ))) : Type 0 where
   pub long : length told ≡ length all
   pub each : (w : ℕ) → IfSome (slice_get all w) (λ kept. Keeps kept (get_or told w []))
+
+-- what stood in a list stands, and after it there may be more
+abbrev pub BeginsWith : {A : Type 0} → List A → List A → Type 0
+BeginsWith {A} all front = (rest : List A) × (all ≡ front ++ rest)

@@ -1,6 +1,7 @@
 //! Answers from recent lists that workers share out.
-ghost use Rattle.std.specs.Prelude.{◌≡◌, ◌++◌, true, IfOk, OnOk, string_bytes};
+ghost use Rattle.std.specs.Prelude.{◌≡◌, ◌++◌, true, IfOk, OnErr, OnOk, string_bytes};
 ghost use Rattle.kp_answers.specs.Walks.{answer_in, walk_in};
+ghost use Rattle.kp_print.specs.Fronts.{HasFront};
 ghost use Rattle.kp_table_defs.specs.Ranks.{is_ranked};
 
 use crate::part_lists::{PartLists, part_of};
@@ -10,7 +11,8 @@ use kp_base::NoMemory;
 use kp_types::Verdict;
 
 impl PartLists {
-    /// Adds what the line of this number is answered, as the snapshot answers it.
+    /// Adds what the line of this number is answered, as the snapshot answers it. Without memory
+    /// the lists may be anything of their size.
     pub fn answer(
         &mut self,
         snapshot: &Snapshot<'_>,
@@ -23,12 +25,15 @@ impl PartLists {
             ≡ string_bytes text.old ++ answer_in snapshot.now number line.now self.old) }
         ensures lists { OnOk result (self.new
             ≡ (walk_in snapshot.now number line.now self.old).lists) }
+        ensures size { self.new.size ≡ self.old.size }
+        ensures front { OnErr result (HasFront text.new text.old) }
     {
         let place = worker_of(self.workers.len(), part_of(&line.packet.source));
         snapshot.answer(number, line, &mut self.workers[place].lists, text)
     }
 
-    /// What becomes of the packet of the line of this number, as the snapshot tells it.
+    /// What becomes of the packet of the line of this number, as the snapshot tells it. Without
+    /// memory the lists may be anything of their size.
     pub fn verdict_of(
         &mut self,
         snapshot: &Snapshot<'_>,
@@ -40,6 +45,7 @@ impl PartLists {
             ≡ (walk_in snapshot.now number line.now self.old).verdict) }
         ensures lists { OnOk result (self.new
             ≡ (walk_in snapshot.now number line.now self.old).lists) }
+        ensures size { self.new.size ≡ self.old.size }
     {
         let place = worker_of(self.workers.len(), part_of(&line.packet.source));
         snapshot.verdict_of(number, line, &mut self.workers[place].lists)

@@ -1,8 +1,8 @@
 //! Workers beside each other.
-ghost use Rattle.std.specs.Prelude.{◌≡◌, ◌<◌, ◌++◌, List, ℕ, IfOk, OnOk, length, map};
+ghost use Rattle.std.specs.Prelude.{◌≡◌, ◌<◌, ◌++◌, List, ℕ, IfOk, OnErr, OnOk, length, map};
 ghost use Rattle.std.specs.List.{concat};
 ghost use Rattle.kp_part_laws.specs.Beside.{IsInPart, in_turn, one_by_one};
-ghost use Rattle.kp_workers.specs.Texts.{AreKept, left_in};
+ghost use Rattle.kp_workers.specs.Texts.{AreKept, BeginsWith, left_in};
 ghost use Rattle.kp_part_laws.specs.Beside as spec;
 ghost use Rattle.kp_workers.specs.Workers.{EachHasDone, EachKeepsSize, NoneRefused};
 ghost use Rattle.kp_workers.specs.Workers.{done_own, kept_of};
@@ -19,7 +19,8 @@ use std::thread::Threads;
 
 /// Adds what items are answered, which is what they are answered one after the other. Each worker
 /// does its own in a thread of its own, and passes the gate around each; one worker alone takes no
-/// thread and passes no gate.
+/// thread and passes no gate. Without memory the lists may be anything of their size, and some of
+/// the answers may be added.
 pub fn answer_all<T: Sync, W: Work<T> + Sync, R: Threads + Sync, G: Gate<R> + Sync>(
     rt: &R,
     alloc: Global,
@@ -34,6 +35,8 @@ pub fn answer_all<T: Sync, W: Work<T> + Sync, R: Threads + Sync, G: Gate<R> + Sy
         ++ concat (one_by_one (W.step work.now) items.now lists.old).0) }
     ensures lists { OnOk result
         (lists.new ≡ (one_by_one (W.step work.now) items.now lists.old).1) }
+    ensures size { lists.new.size ≡ lists.old.size }
+    ensures front { OnErr result (BeginsWith out.new.items out.old.items) }
 {
     run_all(rt, gate, work, items, &mut lists.workers);
     push_in_turn(alloc, work, items, lists.workers.as_slice(), out)
@@ -101,6 +104,7 @@ fn push_in_turn<T, W: Work<T>>(
     ensures told { OnOk result ((told : List (List (List ℕ))) → AreKept (kept_of workers.now) told
         → out.new.items ≡ out.old.items ++ concat (in_turn
         (λ x. spec.worker_of (length workers.now) (W.part work.now x)) items.now told)) }
+    ensures front { OnErr result (BeginsWith out.new.items out.old.items) }
 {
     let mut tellers = tellers_of(alloc, workers)?;
     for item in items {

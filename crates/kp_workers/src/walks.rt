@@ -1,9 +1,11 @@
 //! Packets that are walked beside each other.
-ghost use Rattle.std.specs.Prelude.{◌≡◌, ◌<◌, ◌≤◌, ℕ, true, None, IfOk, OnOk, length, map};
+ghost use Rattle.std.specs.Prelude.{◌≡◌, ◌<◌, ◌≤◌, ◌⊎◌, ℕ, true, None, IfOk, OnErr, OnOk, length};
+ghost use Rattle.std.specs.Prelude.{map};
 ghost use Rattle.std.specs.FinMap.{get};
 ghost use Rattle.std.specs.List.{AllByRecursion};
 ghost use Rattle.kp_choice_defs.specs.Draws.{IsStated};
 ghost use Rattle.kp_part_laws.specs.Beside.{in_turn, one_by_one};
+ghost use Rattle.kp_recent.specs.Held.{no_sources};
 ghost use Rattle.kp_table_defs.specs.Ranks.{is_ranked};
 ghost use Rattle.kp_workers.specs.Walks.{EachDid, HasWalkedAny, HaveDraws};
 ghost use Rattle.kp_workers.specs.Walks.{all_told, part_in, walk_step};
@@ -37,7 +39,7 @@ const MOST_WORKERS: u32 = 16;
 /// these addresses: the answers and the recent lists of walking them one after the other. Each of
 /// 1 to 64 workers walks, in a thread of its own, the packets whose sources are in its parts of the
 /// lists, and passes the gate around each; one worker alone takes no thread and passes no gate.
-/// Without memory the lists hold what some of the walks left.
+/// Without memory the lists are as before, or without a source.
 pub fn walk_all<F: Fn(u64, u32) -> u32 + Sync, R: Threads + Sync, G: Gate<R> + Sync>(
     rt: &R,
     alloc: Global,
@@ -55,9 +57,11 @@ pub fn walk_all<F: Fn(u64, u32) -> u32 + Sync, R: Threads + Sync, G: Gate<R> + S
     requires drawn { HaveDraws (F.post draws.now) packets.now drawn }
     requires some { 0 < workers }
     requires limit { workers ≤ 64 }
-    ensures { IfOk result (λ answers.
+    ensures answers { IfOk result (λ answers.
         one_by_one (walk_step (get table.now.chains) node.now drawn) packets.now lists.old
         ≡ (all_told answers, lists.new)) }
+    ensures refused { OnErr result
+        ((lists.new ≡ lists.old) ⊎ (lists.new ≡ no_sources lists.old.size)) }
 {
     let count = workers.min(MOST_WORKERS) as usize;
     let ground = Ground { table, node, draws };

@@ -1,6 +1,7 @@
-use Rattle.std.proofs.Common.{sym}
+use Rattle.std.proofs.Common.{◌∙◌, ap, sym}
 use Rattle.std.proofs.lemmas.Result.{on_ok_weaker}
-use Rattle.kp_workers.proofs.BesideLemmas.{answered, stay_alike}
+use Rattle.kp_choice_defs.specs.Recent.{RecentParts}
+use Rattle.kp_workers.proofs.BesideLemmas.{answered, size_stays, stay_alike}
 use Rattle.kp_workers.proofs.beside.answer_all.Goals as goal
 
 pub invariant_of-lists : goal.invariant_of-lists
@@ -27,3 +28,9 @@ returns-clause-lists g c =
     c.args.out.now.items c.push_in_turn.new.out.items c.as_slice.result.now c.args.lists.now
     c.as_slice.ensures.value (sym c.lists.view_is) c.push_in_turn.ensures.none
     c.push_in_turn.ensures.told)
+
+pub returns-clause-size : goal.returns-clause-size
+returns-clause-size g c =
+    size_stays c.lists.inside.workers.items c.run_all.new.workers.items c.run_all.ensures.long
+    c.run_all.ensures.sizes
+    ∙ ap (λ (l : RecentParts). l.size) c.lists.view_is

@@ -1,4 +1,4 @@
-use Rattle.std.proofs.Common.{◌≡◌, ◌<◌, ◌∙◌, ap, sym, subst, length}
+use Rattle.std.proofs.Common.{◌≡◌, ◌<◌, ◌++◌, ◌∙◌, ap, append_assoc, sym, subst, length}
 use Rattle.std.proofs.lemmas.List.{length-set}
 use Rattle.std.proofs.lemmas.Nat.{mod_below}
 use Rattle.kp_part_laws.specs.Beside.{worker_of}
@@ -25,4 +25,10 @@ loop-item-preserved g c =
           c.index_mut.ensures.value c.next.result.now c.loop-item.out.items
           c.extend_from_slice.new.self.items _ c.next.ensures
           c.in_ok-extend_from_slice.ensures.items (c.loop-item.invariant.told told kept);
+      front = (
+        c.loop-item.invariant.front.0 ++ c.next.result.now,
+        c.in_ok-extend_from_slice.ensures.items
+            ∙ ap (λ bytes. bytes ++ c.next.result.now) c.loop-item.invariant.front.1
+            ∙ append_assoc c.args.out.now.items c.loop-item.invariant.front.0 c.next.result.now,
+      );
     }

@@ -1,7 +1,7 @@
 use Rattle.std.proofs.Common.{◌≡◌, ◌++◌, ℕ, List, map, drop, length}
 use Rattle.std.specs.List.{concat}
 use Rattle.kp_part_laws.specs.Beside.{in_turn, worker_of}
-use Rattle.kp_workers.specs.Texts.{AreKept, left_in}
+use Rattle.kp_workers.specs.Texts.{AreKept, BeginsWith, left_in}
 use Rattle.kp_workers.specs.Workers.{kept_of}
 use Rattle.kp_workers.proofs.beside.push_in_turn.Given as goal
 
@@ -17,4 +17,5 @@ invariant-loop-item g l = record {
       ≡ l.out.items ++ concat (in_turn
       (λ x. worker_of (length l.workers) (g.W.Work.part l.work x))
       (drop l.item-index l.items) rest));
+  front : BeginsWith l.out.items l.initial.out.items;
 }

@@ -25,8 +25,8 @@ unite-requires-clause-sized g c =
     c.in_ok-values-2.values _ c.in_ok-values-2.ensures.lists
     (ap (λ (l : RecentParts). l.size) c.in_ok-values.ensures.rest)
 
-pub returns : goal.returns
-returns g c =
+pub returns-clause-answers : goal.returns-clause-answers
+returns-clause-answers g c =
     let asked : 0 < c.args.workers = search rules in
     let some : 0 < c.min-count.result = omega (arith, c.min-count.ensures, asked) in
     let have : HaveDraws (λ number k draw. g.F.Fn.post c.args.draws.now (number, (k, tt)) draw)
