@@ -20,8 +20,8 @@ use Rattle.kp_run_defs.specs.ReplayText.{Standing, beginning, is_blank, is_too_l
 use Rattle.kp_run_defs.specs.declared.live.StreamLine.{StreamLine}
 use Rattle.kp_run_defs.specs.declared.live.Work.{Work}
 use Rattle.kp_run_defs.specs.declared.live.Work.TheVariants.{Feeds, Syncs, Sends}
-use Rattle.kp_replay.specs.Steps.{MayTake, HasNoEvents}
-use Rattle.kp_replay.proofs.FirstLines.{may_take}
+use Rattle.kp_line_laws.specs.Lines.{MayTake, HasNoEvents}
+use Rattle.kp_line_laws.proofs.FirstLines.{may_take}
 
 -- ---- Lists
 
