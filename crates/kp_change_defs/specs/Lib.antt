@@ -1,0 +1,5 @@
+pub mod ChangeText
+pub mod DoorChanges
+pub mod DoorText
+pub mod DoorValues
+pub mod ValueText

@@ -1,0 +1,12 @@
+pub mod Alike
+pub mod Chosen
+pub mod Decides
+pub mod DoorKinds
+pub mod Filtered
+pub mod FirstDoor
+pub mod FirstOf
+pub mod Lines
+pub mod NamedChains
+pub mod OfObjects
+pub mod Offers
+pub mod SameValues
