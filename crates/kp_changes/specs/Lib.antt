@@ -1,0 +1,5 @@
+pub mod Bare
+pub mod Beside
+pub mod Counted
+pub mod Lines
+pub mod Stored
