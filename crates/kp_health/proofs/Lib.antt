@@ -1,0 +1,4 @@
+pub mod Counting
+pub mod Heads
+pub mod KnownAnswers
+pub mod Numbers

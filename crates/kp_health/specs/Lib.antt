@@ -1,0 +1,3 @@
+pub mod BothFamilies
+pub mod Counted
+pub mod Known

@@ -1,0 +1,3 @@
+pub mod AcceptRules
+pub mod HealthPorts
+pub mod HealthText

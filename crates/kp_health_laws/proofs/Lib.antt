@@ -1,0 +1,5 @@
+pub mod AcceptWalks
+pub mod FullTables
+pub mod Jumps
+pub mod Trails
+pub mod Untouched

@@ -1,0 +1,3 @@
+pub mod AcceptLaws
+pub mod UntouchedHealth
+pub mod Worked
