@@ -1,0 +1,80 @@
+-- What each mode makes of a sync.
+use Rattle.std.proofs.Common.{◌≡◌, ◌-◌, ℕ, Bool, false, List, ◌++◌, ap, sym, subst, ◌∙◌}
+use Rattle.std.specs.Prelude.{OnOk, Result, Ok, Err, string_bytes}
+use Rattle.kp_base.specs.declared.address.Family.TheVariants.{V4, V6}
+use Rattle.kp_base.specs.declared.config.Config.{Config}
+use Rattle.kp_base.specs.declared.key.ObjectKey.{ObjectKey}
+use Rattle.kp_base.specs.declared.memory.NoMemory.{NoMemory}
+use Rattle.kp_choice_defs.specs.Settings.{settings_of}
+use Rattle.kp_object_defs.specs.Objects.{Objects}
+use Rattle.kp_object_defs.specs.OwnKeys.{AreUnderOwnKeys}
+use Rattle.kp_object_defs.specs.PortInfo.{infos_by_family}
+use Rattle.kp_object_laws.specs.ObjectLaws.{OwnKeysAfterEvents}
+use Rattle.kp_history_defs.specs.History.{covered, objects_covered}
+use Rattle.kp_history_defs.specs.declared.dirty.DirtyPort.{DirtyPort}
+use Rattle.kp_change_defs.specs.ChangeText.{change_text}
+use Rattle.kp_changes.specs.Lines as changes
+use Rattle.kp_health.specs.Known.{Answers, AreKnown, AreKnownBut}
+use Rattle.kp_health_defs.specs.HealthPorts.{health_at}
+use Rattle.kp_health_laws.specs.UntouchedHealth.{HealthByAll}
+use Rattle.kp_plane.specs.Parts.{PlaneParts, dirty_in, objects_before, objects_in, settings_in}
+use Rattle.kp_plane.specs.Parts.{syncs_in}
+use Rattle.kp_plane.specs.Past.{LeadPastOthers}
+use Rattle.kp_modes.specs.Modes.{changing}
+
+-- what holds after an Ok, by what does
+pub on_ok : {T E : Type 0} (P Q : Type 0) (r : Result T E) → OnOk r P → (P → Q) → OnOk r Q
+on_ok P Q (Ok x) is f = f is
+on_ok P Q (Err e) is f = tt
+
+-- what holds anyhow does after an Ok
+pub anyhow : {T E : Type 0} (r : Result T E) (P : Type 0) → P → OnOk r P
+anyhow (Ok x) P is = is
+anyhow (Err e) P is = tt
+
+-- the objects that syncs cover stand under their own keys
+own_covered : OwnKeysAfterEvents → (p : PlaneParts) (n : ℕ)
+    → AreUnderOwnKeys (objects_covered p.events p.counts n)
+own_covered own p n = own (covered p.events p.counts n)
+
+-- the lines of all dirty ports tell what the sync changed
+pub changed : OwnKeysAfterEvents → (p : PlaneParts) (config : Config) (o : Objects)
+    → (four six : List DirtyPort) {E : Type 0} (r : Result (Unit {0}) E) (old new : List ℕ)
+    → config ≡ p.config → o ≡ objects_in p → four ≡ dirty_in V4 p → six ≡ dirty_in V6 p
+    → ((before : Objects) → AreUnderOwnKeys before → AreUnderOwnKeys o
+    → four ≡ changes.dirty_in config before o V4 → six ≡ changes.dirty_in config before o V6
+    → OnOk r (new ≡ old ++ change_text (settings_of config)
+    (infos_by_family (settings_of config) before) (infos_by_family (settings_of config) o)))
+    → OnOk r (new ≡ old ++ changing.synced p.config (objects_before p) (objects_in p))
+changed own p config o four six r old new is are first second added =
+    on_ok _ _ r
+    (added (objects_before p) (own_covered own p (syncs_in p - 1))
+    (subst AreUnderOwnKeys (sym are) (own_covered own p (syncs_in p)))
+    (first ∙ (λ i. changes.dirty_in (sym is i) (objects_before p) (sym are i) V4))
+    (second ∙ (λ i. changes.dirty_in (sym is i) (objects_before p) (sym are i) V6)))
+    (λ text. text ∙ (λ i. old ++ changing.synced (is i) (objects_before p) (are i)))
+
+module _ (p : PlaneParts) where
+  -- what the others' health ports answered they still do
+  pub known_but : OwnKeysAfterEvents → HealthByAll → (test : ObjectKey → Bool) (answers : Answers)
+      → LeadPastOthers (settings_in p) (objects_before p) (objects_in p) test
+      → AreKnown p.config (objects_before p) answers
+      → AreKnownBut test p.config (objects_in p) answers
+  known_but own by_all test answers past known = λ key none.
+      let led = past key none in
+      known key
+      ∙ sym (ap (λ o. health_at p.config o key) led.leads
+      ∙ by_all p.config (objects_before p) led.events key (own_covered own p (syncs_in p - 1))
+      led.past)
+
+  -- so all are known once those of the touched Services are made anew
+  pub known_all : (config : Config) (o : Objects) (test : ObjectKey → Bool) (old new : Answers)
+      → config ≡ p.config → o ≡ objects_in p
+      → AreKnownBut test p.config (objects_in p) old
+      → (AreKnownBut test config o old → AreKnown config o new)
+      → AreKnown p.config (objects_in p) new
+  known_all config o test old new is are known made =
+      subst (λ q. AreKnown p.config q new) are
+      (subst (λ c. AreKnown c o new) is
+      (made (subst (λ c. AreKnownBut test c o old) (sym is)
+      (subst (λ q. AreKnownBut test p.config q old) (sym are) known))))

@@ -1,0 +1,42 @@
+//! What each sync changed for those who connect.
+ghost use Rattle.std.specs.Prelude.{⊤};
+ghost use Rattle.kp_modes.specs.Modes as modes;
+
+use kp_base::{Config, Family, NoMemory};
+use kp_changes::push_changes;
+use kp_mode::Mode;
+use kp_plane::Plane;
+use std::alloc::Global;
+
+/// The mode `changes`. A plane tells which ports a sync changed, so nothing is kept.
+#[derive(Drop)]
+pub struct Changing;
+
+impl Mode for Changing {
+    ghost mode = { modes.changing };
+
+    ghost stands = { λ kept config objects. ⊤ };
+
+    fn synced(&mut self, alloc: Global, plane: &Plane, text: &mut String) -> Result<(), NoMemory> {
+        kp_object_laws::own_keys();
+        let four = plane.dirty(alloc, Family::V4)?;
+        let six = plane.dirty(alloc, Family::V6)?;
+        push_changes(
+            alloc,
+            plane.config(),
+            plane.objects(),
+            four.as_slice(),
+            six.as_slice(),
+            text,
+        )
+    }
+
+    fn ending(
+        &mut self,
+        _alloc: Global,
+        _config: &Config,
+        _text: &mut String,
+    ) -> Result<(), NoMemory> {
+        Ok(())
+    }
+}

@@ -1,0 +1,72 @@
+//! What the node's health ports answer after each sync.
+ghost use Rattle.kp_base.specs.declared.config.Config.{Config as OneConfig};
+ghost use Rattle.kp_object_defs.specs.Objects.{no_objects};
+ghost use Rattle.kp_health.specs.Known.{AreKnown};
+ghost use Rattle.kp_modes.specs.Modes as modes;
+
+use kp_base::{Config, NoMemory};
+use kp_health::HealthCounts;
+use kp_mode::Mode;
+use kp_plane::Plane;
+use kp_print::push;
+use kp_restore::batch_text;
+use std::alloc::Global;
+use std::marker::Model;
+
+/// The mode `health`. It keeps what the health ports answered at the last sync, and makes anew what
+/// those of touched Services do. Contracts see the answers.
+pub struct Healthy {
+    answers: HealthCounts,
+}
+
+impl Drop for Healthy {
+    fn drop(self) {
+        let Healthy { answers } = self;
+    }
+}
+
+impl Model for Healthy {
+    ghost use Rattle.kp_health.specs.Known.{Answers, answers_code};
+
+    ghost Value = { Answers };
+
+    ghost coded = { answers_code };
+
+    ghost view = { λ h. h.answers };
+}
+
+impl Healthy {
+    /// Before any sync there is no health port.
+    pub fn new(alloc: Global) -> Healthy
+        ensures { (config : OneConfig) → AreKnown config no_objects result }
+    {
+        Healthy {
+            answers: HealthCounts::new(alloc),
+        }
+    }
+}
+
+impl Mode for Healthy {
+    ghost mode = { modes.healthy };
+
+    ghost stands = { λ kept config objects. AreKnown config objects kept };
+
+    fn synced(&mut self, alloc: Global, plane: &Plane, text: &mut String) -> Result<(), NoMemory> {
+        kp_object_laws::own_keys();
+        kp_health_laws::untouched_health();
+        self.answers
+            .update(alloc, plane.config(), plane.objects(), plane.touched())?;
+        self.answers.push_lines(alloc, text)
+    }
+
+    fn ending(
+        &mut self,
+        alloc: Global,
+        _config: &Config,
+        text: &mut String,
+    ) -> Result<(), NoMemory> {
+        let batch = self.answers.batch(alloc)?;
+        let batch = batch_text(alloc, &batch)?;
+        push(text, batch.as_str())
+    }
+}

@@ -1,0 +1,9 @@
+//! The modes beside a replay.
+#![tactic(auto)]
+
+mod changing;
+mod healthy;
+
+pub use changing::Changing;
+pub use healthy::Healthy;
+pub use kp_mode::{Mode, Replaying};
