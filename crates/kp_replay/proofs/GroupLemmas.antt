@@ -13,7 +13,7 @@ use Rattle.kp_replay.specs.Groups.{AreAside, and_then, is_aside, is_refused, lin
 use Rattle.kp_replay.specs.declared.reads.Read.{Read}
 use Rattle.kp_replay.specs.declared.reads.Said.{Said}
 use Rattle.kp_replay.specs.declared.reads.Said.TheVariants.{Nothing, Asks, Refused}
-use Rattle.kp_replay.proofs.FirstLines.{op_fresh}
+use Rattle.kp_line_laws.proofs.FirstLines.{op_fresh}
 
 -- ---- What lines say
 

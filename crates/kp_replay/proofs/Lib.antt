@@ -1,7 +1,8 @@
 pub mod AnsweringLemmas
 pub mod CutLemmas
-pub mod FirstLines
 pub mod GroupLemmas
+pub mod ModeLemmas
+pub mod KeptLemmas
 pub mod OkLemmas
 pub mod OpLemmas
 pub mod ReadLemmas

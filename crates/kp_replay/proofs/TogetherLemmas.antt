@@ -15,7 +15,7 @@ use Rattle.kp_replay.specs.Steps.{MayTake}
 use Rattle.kp_replay.specs.declared.reads.Read.{Read}
 use Rattle.kp_replay.specs.declared.reads.Said.{Said}
 use Rattle.kp_replay.specs.declared.reads.Said.TheVariants.{Nothing}
-use Rattle.kp_replay.proofs.FirstLines.{IsFree, NotConfig, later_free}
+use Rattle.kp_line_laws.proofs.FirstLines.{IsFree, NotConfig, later_free}
 use Rattle.kp_replay.proofs.GroupLemmas.{line_says, lines_say, reads_both, still_begun}
 
 -- ---- What may come

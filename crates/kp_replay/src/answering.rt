@@ -1,5 +1,6 @@
 //! What lines of a group are answered, each by the worker who has the lists of its source.
-ghost use Rattle.std.specs.Prelude.{◌≡◌, ◌++◌, true, string_bytes, OnOk};
+ghost use Rattle.std.specs.Prelude.{◌≡◌, ◌++◌, true, string_bytes, OnErr, OnOk};
+ghost use Rattle.kp_print.specs.Fronts.{HasFront};
 ghost use Rattle.kp_replay.specs.Answering.{part_of_op, step_of_op};
 ghost use Rattle.kp_table_defs.specs.Ranks.{is_ranked};
 
@@ -73,6 +74,7 @@ fn answer_op(
     ensures lists { OnOk result
         (lists.new ≡ (step_of_op snapshot.now number op.now lists.old).1) }
     ensures size { lists.new.size ≡ lists.old.size }
+    ensures front { OnErr result (HasFront text.new text.old) }
 {
     match op {
         Op::Packet(line) => snapshot.answer(number, line, lists, text),

@@ -1,6 +1,7 @@
 //! Lines that are counted in place of printed.
-ghost use Rattle.std.specs.Prelude.{◌≡◌, OnOk};
+ghost use Rattle.std.specs.Prelude.{◌≡◌, OnErr, OnOk};
 ghost use Rattle.kp_object_defs.specs.Objects.{objects_after};
+ghost use Rattle.kp_print.specs.Fronts.{HasFront};
 ghost use Rattle.kp_table_defs.specs.Rebuild.{clash_of};
 ghost use Rattle.kp_run_defs.specs.GenText as sums;
 ghost use Rattle.kp_run_defs.specs.ReplayText as spec;
@@ -21,9 +22,10 @@ use std::sync::ledger::Blank;
 const LONGEST_LINE: usize = 16_777_216;
 
 impl Replay {
-    ghost use Rattle.kp_replay.specs.Steps.{standing_of, IsReady, MayTake};
+    ghost use Rattle.kp_replay.specs.Steps.{standing_of, IsReady, LosesNothing, MayTake};
 
     /// Takes the line of this number and adds up what it did. A refused line may leave a text.
+    /// Without memory no event and no record is lost, and nothing is added up.
     pub fn count_line(
         &mut self,
         alloc: Global,
@@ -37,6 +39,9 @@ impl Replay {
             ≡ (spec.line_at number bytes.now (standing_of self.old)).next) }
         ensures totals { OnOk result (totals.new
             ≡ sums.line_totals number bytes.now (standing_of self.old) totals.old) }
+        ensures kept { OnErr result (LosesNothing (standing_of self.old) (standing_of self.new)) }
+        ensures front { OnErr result (HasFront text.new text.old) }
+        ensures unadded { OnErr result (totals.new ≡ totals.old) }
     {
         if bytes.len() > LONGEST_LINE {
             return self.refuse_long(alloc, number, text);
@@ -61,6 +66,9 @@ impl Replay {
             ≡ (spec.script_line number bytes.now (standing_of self.old)).next) }
         ensures totals { OnOk result (totals.new
             ≡ sums.script_totals number bytes.now (standing_of self.old) totals.old) }
+        ensures kept { OnErr result (LosesNothing (standing_of self.old) (standing_of self.new)) }
+        ensures front { OnErr result (HasFront text.new text.old) }
+        ensures unadded { OnErr result (totals.new ≡ totals.old) }
     {
         let first = self.fresh;
         self.fresh = false;
@@ -85,6 +93,9 @@ impl Replay {
             ≡ (spec.op_line number op (standing_of self.old)).next) }
         ensures totals { OnOk result (totals.new
             ≡ sums.op_totals number op (standing_of self.old) totals.old) }
+        ensures kept { OnErr result (LosesNothing (standing_of self.old) (standing_of self.new)) }
+        ensures front { OnErr result (HasFront text.new text.old) }
+        ensures unadded { OnErr result (totals.new ≡ totals.old) }
     {
         match op {
             Op::Config(config) => self.take_config(alloc, config),
@@ -109,6 +120,9 @@ impl Replay {
         ensures totals { OnOk result (totals.new ≡ sums.sync_totals
             (clash_of (spec.settings_in (standing_of self.old))
             (objects_after (standing_of self.old).events)) (standing_of self.old) totals.old) }
+        ensures kept { OnErr result (LosesNothing (standing_of self.old) (standing_of self.new)) }
+        ensures front { OnErr result (HasFront text.new text.old) }
+        ensures unadded { OnErr result (totals.new ≡ totals.old) }
     {
         match noted::<Brand, Brand>(alloc, &mut self.plane, Blank::new(1), Blank::new(1)) {
             Ok(note) => {
@@ -133,6 +147,8 @@ impl Replay {
             ≡ (spec.packet_line number line.now (standing_of self.old)).next) }
         ensures totals { OnOk result (totals.new ≡ sums.with_packet
             (spec.decided number line.now (standing_of self.old)).verdict totals.old) }
+        ensures kept { OnErr result (LosesNothing (standing_of self.old) (standing_of self.new)) }
+        ensures unadded { OnErr result (totals.new ≡ totals.old) }
     {
         let verdict = self
             .lists

@@ -5,6 +5,7 @@
 mod answering;
 mod counted;
 mod group;
+mod modes;
 mod packets;
 mod reads;
 mod replay;

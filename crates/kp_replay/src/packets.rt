@@ -1,9 +1,10 @@
 //! Packets of a replay.
-ghost use Rattle.std.specs.Prelude.{◌≡◌, ◌<◌, ◌^◌, ℕ, true, string_bytes, IfOk, OnOk};
+ghost use Rattle.std.specs.Prelude.{◌≡◌, ◌<◌, ◌^◌, ℕ, true, string_bytes, IfOk, OnErr, OnOk};
 ghost use Rattle.kp_answers.specs.Walks.{walk_in};
 ghost use Rattle.kp_choice_defs.specs.Recent.{RecentParts};
 ghost use Rattle.kp_plane.specs.Parts as parts;
 ghost use Rattle.kp_plane.specs.Parts.{decided_in, explained_in, walked_in};
+ghost use Rattle.kp_print.specs.Fronts.{HasFront};
 ghost use Rattle.kp_run_defs.specs.ReplayText as spec;
 ghost use Rattle.kp_table_defs.specs.Ranks.{is_ranked};
 ghost use Rattle.kp_text_defs.specs.declared.packet.PacketLine.{PacketLine};
@@ -22,7 +23,7 @@ use kp_types::Decision;
 use std::alloc::Global;
 
 impl Replay {
-    ghost use Rattle.kp_replay.specs.Steps.{standing_of, Takes};
+    ghost use Rattle.kp_replay.specs.Steps.{standing_of, LosesNothing, Takes};
 
     /// Answers a packet by where the rules send it, which is where the objects say that it goes,
     /// and tells its trail where the line asks for it. Its source may be remembered.
@@ -32,8 +33,10 @@ impl Replay {
         line: &PacketLine,
         text: &mut String,
     ) -> Result<(), NoMemory>
-        ensures { OnOk result (Takes (spec.packet_line number line.now (standing_of self.old))
+        ensures takes { OnOk result (Takes (spec.packet_line number line.now (standing_of self.old))
             self.new (string_bytes text.old) (string_bytes text.new)) }
+        ensures kept { OnErr result (LosesNothing (standing_of self.old) (standing_of self.new)) }
+        ensures front { OnErr result (HasFront text.new text.old) }
     {
         self.lists
             .answer(&snapshot_of(&self.plane), number, line, text)
@@ -47,8 +50,10 @@ impl Replay {
         line: &PacketLine,
         text: &mut String,
     ) -> Result<(), NoMemory>
-        ensures { OnOk result (Takes (spec.explain_line number line.now (standing_of self.old))
+        ensures takes { OnOk result (Takes (spec.explain_line number line.now (standing_of self.old))
             self.new (string_bytes text.old) (string_bytes text.new)) }
+        ensures kept { OnErr result (LosesNothing (standing_of self.old) (standing_of self.new)) }
+        ensures front { OnErr result (HasFront text.new text.old) }
     {
         let sync = self.plane.syncs();
         let decision = decision_on(

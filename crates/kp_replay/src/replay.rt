@@ -1,10 +1,12 @@
 //! Where a replay stands, and the lines that it takes.
 ghost use Rattle.std.specs.Prelude.{◌≡◌, ◌<◌, ◌-◌, ◌^◌, [], false, length, string_bytes};
-ghost use Rattle.std.specs.Prelude.{None, IfOk, OnOk};
+ghost use Rattle.std.specs.Prelude.{None, IfOk, OnErr, OnOk};
 ghost use Rattle.std.specs.Option.{option_copied};
+ghost use Rattle.kp_print.specs.Fronts.{HasFront};
 ghost use Rattle.kp_run_defs.specs.ReplayText as spec;
 
 use kp_base::{Config, Items, NoMemory};
+use kp_interner::Interner;
 use kp_plane::{JournalFault, Plane};
 use kp_report::push_refusal;
 use kp_script::{LineRefusal, Op, Scratch, ScriptFault, default_config, line_with};
@@ -22,6 +24,8 @@ pub struct Replay {
     pub(crate) refused: bool,
     /// What lines are read with, one after another.
     pub(crate) scratch: Scratch,
+    /// The texts that objects share.
+    pub(crate) interner: Interner,
 }
 
 /// One call on each way out of what owns a replay.
@@ -33,13 +37,14 @@ impl Drop for Replay {
             lists,
             refused,
             scratch,
+            interner,
         } = self;
     }
 }
 
 impl Replay {
     ghost use Rattle.kp_replay.specs.Steps.{standing_of, given_line};
-    ghost use Rattle.kp_replay.specs.Steps.{IsReady, Takes, HasNoEvents, MayTake};
+    ghost use Rattle.kp_replay.specs.Steps.{HasNoEvents, IsReady, LosesNothing, MayTake, Takes};
 
     /// Before the first line, with so many workers for groups of lines.
     pub fn new(alloc: Global, workers: usize) -> Result<Replay, NoMemory>
@@ -54,6 +59,7 @@ impl Replay {
             lists,
             refused: false,
             scratch: Scratch::new(alloc),
+            interner: Interner::new(alloc),
         })
     }
 
@@ -65,7 +71,8 @@ impl Replay {
     }
 
     /// Takes the line of this number, or refuses it as too long where nothing of it is given, and
-    /// adds what it prints to the text. Without memory the replay and the text are of no more use.
+    /// adds what it prints to the text. Without memory no event and no record is lost, and some of
+    /// what it prints may stand in the text.
     pub fn take_line(
         &mut self,
         alloc: Global,
@@ -74,9 +81,11 @@ impl Replay {
         text: &mut String,
     ) -> Result<(), NoMemory>
         requires { IsReady (standing_of self.old) }
-        ensures { OnOk result (Takes
+        ensures takes { OnOk result (Takes
             (given_line number (option_copied given.entry) (standing_of self.old))
             self.new (string_bytes text.old) (string_bytes text.new)) }
+        ensures kept { OnErr result (LosesNothing (standing_of self.old) (standing_of self.new)) }
+        ensures front { OnErr result (HasFront text.new text.old) }
     {
         match given {
             None => self.refuse_long(alloc, number, text),
@@ -92,8 +101,10 @@ impl Replay {
         number: u64,
         text: &mut String,
     ) -> Result<(), NoMemory>
-        ensures { OnOk result (Takes (given_line number None (standing_of self.old))
+        ensures takes { OnOk result (Takes (given_line number None (standing_of self.old))
             self.new (string_bytes text.old) (string_bytes text.new)) }
+        ensures kept { OnErr result (LosesNothing (standing_of self.old) (standing_of self.new)) }
+        ensures front { OnErr result (HasFront text.new text.old) }
     {
         self.fresh = false;
         self.refuse(alloc, number, &LineRefusal::TooLongLine, text)
@@ -108,8 +119,10 @@ impl Replay {
         text: &mut String,
     ) -> Result<(), NoMemory>
         requires { IsReady (standing_of self.old) }
-        ensures { OnOk result (Takes (spec.script_line number bytes.now (standing_of self.old))
+        ensures takes { OnOk result (Takes (spec.script_line number bytes.now (standing_of self.old))
             self.new (string_bytes text.old) (string_bytes text.new)) }
+        ensures kept { OnErr result (LosesNothing (standing_of self.old) (standing_of self.new)) }
+        ensures front { OnErr result (HasFront text.new text.old) }
     {
         let first = self.fresh;
         self.fresh = false;
@@ -128,8 +141,10 @@ impl Replay {
         refusal: &LineRefusal,
         text: &mut String,
     ) -> Result<(), NoMemory>
-        ensures { OnOk result (Takes (spec.refuse number refusal.now (standing_of self.old))
+        ensures takes { OnOk result (Takes (spec.refuse number refusal.now (standing_of self.old))
             self.new (string_bytes text.old) (string_bytes text.new)) }
+        ensures kept { OnErr result (LosesNothing (standing_of self.old) (standing_of self.new)) }
+        ensures front { OnErr result (HasFront text.new text.old) }
     {
         self.refused = true;
         push_refusal(alloc, text, number, refusal)
@@ -144,8 +159,10 @@ impl Replay {
         text: &mut String,
     ) -> Result<(), NoMemory>
         requires { MayTake (standing_of self.old) op }
-        ensures { OnOk result (Takes (spec.op_line number op (standing_of self.old))
+        ensures takes { OnOk result (Takes (spec.op_line number op (standing_of self.old))
             self.new (string_bytes text.old) (string_bytes text.new)) }
+        ensures kept { OnErr result (LosesNothing (standing_of self.old) (standing_of self.new)) }
+        ensures front { OnErr result (HasFront text.new text.old) }
     {
         match op {
             Op::Config(config) => self.take_config(alloc, config),
@@ -160,11 +177,13 @@ impl Replay {
     /// Takes a configuration, which stands before all events.
     pub(crate) fn take_config(&mut self, alloc: Global, config: Config) -> Result<(), NoMemory>
         requires { HasNoEvents (standing_of self.old) }
-        ensures { OnOk result (standing_of self.new
+        ensures stands { OnOk result (standing_of self.new
             ≡ (spec.config_line config (standing_of self.old)).next) }
+        ensures kept { OnErr result (LosesNothing (standing_of self.old) (standing_of self.new)) }
     {
-        self.lists = PartLists::new(alloc, config.recent_size, self.lists.workers())?;
+        let lists = PartLists::new(alloc, config.recent_size, self.lists.workers())?;
         self.plane = Plane::new(alloc, config)?;
+        self.lists = lists;
         Ok(())
     }
 
@@ -176,10 +195,13 @@ impl Replay {
         events: Items<Event>,
         text: &mut String,
     ) -> Result<(), NoMemory>
-        ensures { OnOk result (Takes (spec.events_line number events
+        ensures takes { OnOk result (Takes (spec.events_line number events
             (spec.has_room (standing_of self.old) (length events)) (standing_of self.old))
             self.new (string_bytes text.old) (string_bytes text.new)) }
+        ensures kept { OnErr result (LosesNothing (standing_of self.old) (standing_of self.new)) }
+        ensures front { OnErr result (HasFront text.new text.old) }
     {
+        let events = self.interner.events(alloc, &events)?;
         match self.plane.accept(events) {
             Ok(()) => Ok(()),
             Err((JournalFault::JournalFull { count }, _)) => {

@@ -1,5 +1,6 @@
 //! What lines show.
-ghost use Rattle.std.specs.Prelude.{◌≡◌, ◌++◌, string_bytes, IfOk, OnOk};
+ghost use Rattle.std.specs.Prelude.{◌≡◌, ◌++◌, string_bytes, IfOk, OnErr, OnOk};
+ghost use Rattle.kp_print.specs.Fronts.{HasFront};
 ghost use Rattle.kp_restore_defs.specs.BatchText.{batch_text_of};
 ghost use Rattle.kp_run_defs.specs.ReplayText as spec;
 
@@ -24,8 +25,10 @@ impl Replay {
         what: Shown,
         text: &mut String,
     ) -> Result<(), NoMemory>
-        ensures { OnOk result (Takes (spec.print (spec.shown_text what (standing_of self.old))
+        ensures takes { OnOk result (Takes (spec.print (spec.shown_text what (standing_of self.old))
             (standing_of self.old)) self.new (string_bytes text.old) (string_bytes text.new)) }
+        ensures stays { standing_of self.new ≡ standing_of self.old }
+        ensures front { OnErr result (HasFront text.new text.old) }
     {
         match what {
             Shown::Slices => self.push_slices_now(alloc, false, text),
@@ -49,6 +52,7 @@ impl Replay {
         ensures kept { standing_of self.new ≡ standing_of self.old }
         ensures text { OnOk result (string_bytes text.new ≡ string_bytes text.old
             ++ slices_text (spec.slices_in (standing_of self.old)) entries) }
+        ensures front { OnErr result (HasFront text.new text.old) }
     {
         let slices = self.plane.slices(alloc)?;
         push_slices(text, slices.as_slice(), entries)
@@ -61,8 +65,9 @@ impl Replay {
         which: TableName,
         text: &mut String,
     ) -> Result<(), NoMemory>
-        ensures { OnOk result (string_bytes text.new ≡ string_bytes text.old
+        ensures text { OnOk result (string_bytes text.new ≡ string_bytes text.old
             ++ section_text_of (spec.chains_in (standing_of self.now)) which) }
+        ensures front { OnErr result (HasFront text.new text.old) }
     {
         let section = section_text(alloc, self.plane.table(), which)?;
         push(text, section.as_str())
@@ -75,9 +80,10 @@ impl Replay {
         which: TableName,
         text: &mut String,
     ) -> Result<(), NoMemory>
-        ensures { OnOk result (string_bytes text.new ≡ string_bytes text.old
+        ensures text { OnOk result (string_bytes text.new ≡ string_bytes text.old
             ++ spec.section_if (standing_of self.now).config.dual
             (spec.chains_in (standing_of self.now)) which) }
+        ensures front { OnErr result (HasFront text.new text.old) }
     {
         if self.plane.config().dual {
             self.push_section(alloc, which, text)
@@ -93,9 +99,10 @@ impl Replay {
         family: Family,
         text: &mut String,
     ) -> Result<(), NoMemory>
-        ensures { OnOk result (string_bytes text.new ≡ string_bytes text.old
+        ensures text { OnOk result (string_bytes text.new ≡ string_bytes text.old
             ++ spec.batch_shown family (standing_of self.now).counts
             (spec.last_edits (standing_of self.now))) }
+        ensures front { OnErr result (HasFront text.new text.old) }
     {
         match self.plane.last_batch() {
             None => Ok(()),

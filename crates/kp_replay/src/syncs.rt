@@ -5,6 +5,7 @@ ghost use Rattle.kp_object_defs.specs.Objects.{objects_after};
 ghost use Rattle.kp_table_defs.specs.Rebuild.{clash_of};
 ghost use Rattle.kp_plane.specs.Notes.{last_note};
 ghost use Rattle.kp_plane.specs.Parts as parts;
+ghost use Rattle.kp_print.specs.Fronts.{HasFront};
 ghost use Rattle.kp_run_defs.specs.ReplayText as spec;
 
 use crate::replay::Replay;
@@ -17,7 +18,7 @@ use std::marker::Brand;
 use std::sync::ledger::{Blank, Ledger};
 
 impl Replay {
-    ghost use Rattle.kp_replay.specs.Steps.{standing_of, Takes};
+    ghost use Rattle.kp_replay.specs.Steps.{standing_of, LosesNothing, Takes};
 
     /// Makes the tables of the events by now, or tells which two chains have one name.
     pub(crate) fn sync(
@@ -26,10 +27,12 @@ impl Replay {
         number: u64,
         text: &mut String,
     ) -> Result<(), NoMemory>
-        ensures { OnOk result (Takes (spec.sync_line number
+        ensures takes { OnOk result (Takes (spec.sync_line number
             (clash_of (spec.settings_in (standing_of self.old))
             (objects_after (standing_of self.old).events)) (standing_of self.old))
             self.new (string_bytes text.old) (string_bytes text.new)) }
+        ensures kept { OnErr result (LosesNothing (standing_of self.old) (standing_of self.new)) }
+        ensures front { OnErr result (HasFront text.new text.old) }
     {
         match noted::<Brand, Brand>(alloc, &mut self.plane, Blank::new(1), Blank::new(1)) {
             Ok(note) => push_sync(text, note.sync, note.events, note.written, note.removed),

@@ -1,7 +1,10 @@
 //! Groups of lines, which are read and answered beside each other.
-ghost use Rattle.std.specs.Prelude.{◌≡◌, ◌<◌, ◌≤◌, ◌+◌, ◌^◌, ◌||◌, false, true, not, length, map, take, string_bytes, OnOk};
+ghost use Rattle.std.specs.Prelude.{◌≡◌, ◌<◌, ◌≤◌, ◌+◌, ◌^◌, ◌||◌, false, true, not, length, map};
+ghost use Rattle.std.specs.Prelude.{take, string_bytes, OnErr, OnOk};
 ghost use Rattle.std.specs.List.{list_any};
+ghost use Rattle.kp_print.specs.Fronts.{HasFront};
 ghost use Rattle.kp_replay.specs.Groups.{AreAside, is_aside, is_packet, is_refused};
+ghost use Rattle.kp_workers.specs.Texts.{BeginsWith};
 
 use crate::answering::Answering;
 use crate::packets::snapshot_of;
@@ -20,7 +23,7 @@ const FEWEST: usize = 256;
 impl Replay {
     ghost use Rattle.kp_replay.specs.Groups.{lines_from, read_line, reads_line, says_later};
     ghost use Rattle.kp_replay.specs.Groups.{AreAside, AreLater};
-    ghost use Rattle.kp_replay.specs.Steps.{standing_of, Takes};
+    ghost use Rattle.kp_replay.specs.Steps.{standing_of, LosesNothing, Takes};
 
     /// Whether a line was read that isn't blank.
     pub fn has_begun(&self) -> bool
@@ -31,7 +34,8 @@ impl Replay {
 
     /// Takes lines, of which the first has this number, as one after the other. They are read beside
     /// each other, and so are packets answered up to the first line that asks for something else.
-    /// Without memory the replay and the text are of no more use.
+    /// Without memory no event and no record is lost, and some of what they print may stand in the
+    /// text.
     pub fn take_group<R: Threads + Sync, G: Gate<R> + Sync>(
         &mut self,
         rt: &R,
@@ -43,9 +47,11 @@ impl Replay {
     ) -> Result<(), NoMemory>
         requires begun { (standing_of self.old).fresh ≡ false }
         requires few { number + length lines.now < 2 ^ 64 }
-        ensures { OnOk result (Takes
+        ensures takes { OnOk result (Takes
             (lines_from number (map (λ line. line.now) lines.now) (standing_of self.old))
             self.new text.old.items text.new.items) }
+        ensures kept { OnErr result (LosesNothing (standing_of self.old) (standing_of self.new)) }
+        ensures front { OnErr result (BeginsWith text.new.items text.old.items) }
     {
         if lines.len() < FEWEST {
             self.take_lines(alloc, number, lines, text)
@@ -66,9 +72,11 @@ impl Replay {
     ) -> Result<(), NoMemory>
         requires begun { (standing_of self.old).fresh ≡ false }
         requires few { number + length lines.now < 2 ^ 64 }
-        ensures { OnOk result (Takes
+        ensures takes { OnOk result (Takes
             (lines_from number (map (λ line. line.now) lines.now) (standing_of self.old))
             self.new text.old.items text.new.items) }
+        ensures kept { OnErr result (LosesNothing (standing_of self.old) (standing_of self.new)) }
+        ensures front { OnErr result (BeginsWith text.new.items text.old.items) }
     {
         let most = lines.len().div_ceil(self.lists.workers()).max(1);
         let mut reads = read_lines(rt, alloc, number, lines, most)?;
@@ -87,9 +95,11 @@ impl Replay {
     ) -> Result<(), NoMemory>
         requires begun { (standing_of self.old).fresh ≡ false }
         requires few { number + length lines.now < 2 ^ 64 }
-        ensures { OnOk result (Takes
+        ensures takes { OnOk result (Takes
             (lines_from number (map (λ line. line.now) lines.now) (standing_of self.old))
             self.new text.old.items text.new.items) }
+        ensures kept { OnErr result (LosesNothing (standing_of self.old) (standing_of self.new)) }
+        ensures front { OnErr result (BeginsWith text.new.items text.old.items) }
     {
         let mut printed = String::new(alloc);
         let mut next = number;
@@ -111,8 +121,10 @@ impl Replay {
         text: &mut Vec<u8>,
     ) -> Result<(), NoMemory>
         requires aside { AreAside reads.now }
-        ensures { OnOk result (Takes (reads_line reads.now (standing_of self.old))
+        ensures takes { OnOk result (Takes (reads_line reads.now (standing_of self.old))
             self.new text.old.items text.new.items) }
+        ensures kept { LosesNothing (standing_of self.old) (standing_of self.new) }
+        ensures front { OnErr result (BeginsWith text.new.items text.old.items) }
     {
         self.refused = either(self.refused, any_refused(reads));
         let work = Answering {
@@ -130,8 +142,10 @@ impl Replay {
         text: &mut Vec<u8>,
     ) -> Result<(), NoMemory>
         requires { AreLater reads.items }
-        ensures { OnOk result (Takes (reads_line reads.items (standing_of self.old))
+        ensures takes { OnOk result (Takes (reads_line reads.items (standing_of self.old))
             self.new text.old.items text.new.items) }
+        ensures kept { OnErr result (LosesNothing (standing_of self.old) (standing_of self.new)) }
+        ensures front { OnErr result (BeginsWith text.new.items text.old.items) }
     {
         let mut printed = String::new(alloc);
         for read in reads {
@@ -144,8 +158,10 @@ impl Replay {
     /// Does what a line asks for.
     fn take_read(&mut self, alloc: Global, read: Read, text: &mut String) -> Result<(), NoMemory>
         requires { says_later read.said ≡ true }
-        ensures { OnOk result (Takes (read_line read (standing_of self.old))
+        ensures takes { OnOk result (Takes (read_line read (standing_of self.old))
             self.new (string_bytes text.old) (string_bytes text.new)) }
+        ensures kept { OnErr result (LosesNothing (standing_of self.old) (standing_of self.new)) }
+        ensures front { OnErr result (HasFront text.new text.old) }
     {
         let Read { number, said } = read;
         match said {

@@ -1,4 +1,5 @@
-use Rattle.std.proofs.Common.{◌≡◌, ◌∙◌, ◌||◌, ap}
+use Rattle.std.proofs.Common.{◌≡◌, ◌∙◌, ◌||◌, ap, refl}
+use Rattle.kp_replay.proofs.KeptLemmas.{stays}
 use Rattle.kp_replay.proofs.AnsweringLemmas.{answered_all, read_in_part}
 use Rattle.kp_replay.proofs.OkLemmas.{both_ok}
 use Rattle.kp_replay.proofs.replay.Replay.answer_reads.Goals as goal
@@ -6,8 +7,8 @@ use Rattle.kp_replay.proofs.replay.Replay.answer_reads.Goals as goal
 pub answer_all-requires-clause-local : goal.answer_all-requires-clause-local
 answer_all-requires-clause-local g c κs within = read_in_part c.snapshot_of.result
 
-pub returns : goal.returns
-returns g c =
+pub returns-clause-takes : goal.returns-clause-takes
+returns-clause-takes g c =
     let snapshot = c.snapshot_of.ensures in
     both_ok _ _ _ c.answer_all.result c.answer_all.ensures.lists c.answer_all.ensures.text (λ lists text.
     answered_all c.args.self.now c.snapshot_of.result snapshot.sync
@@ -17,3 +18,7 @@ returns g c =
     c.args.text.now.items c.answer_all.new.out.items
     (c.either-self.ensures ∙ ap (λ refused. c.args.self.now.refused || refused) c.any_refused.ensures)
     lists text)
+
+pub returns-clause-kept : goal.returns-clause-kept
+returns-clause-kept g c =
+    stays refl refl refl

@@ -1,6 +1,6 @@
 use Rattle.std.proofs.Common.{false}
 use Rattle.kp_replay.specs.Steps.{standing_of}
-use Rattle.kp_replay.proofs.FirstLines.{may_take}
+use Rattle.kp_line_laws.proofs.FirstLines.{may_take}
 use Rattle.kp_replay.proofs.replay.Replay.count_script.Goals as goal
 
 pub count_op-requires : goal.count_op-requires

@@ -1,5 +1,7 @@
 use Rattle.std.proofs.Common.{◌≡◌, ◌++◌, true, map, take, drop, ap, ◌∙◌, rules}
 use Rattle.std.specs.List.{list_all}
+use Rattle.std.proofs.lemmas.Result.{on_err_weaker}
+use Rattle.kp_replay.proofs.KeptLemmas.{begins_on, goes_on_kept}
 use Rattle.kp_replay.specs.Groups.{is_aside, reads_line, says_later}
 use Rattle.kp_replay.specs.Steps.{standing_of}
 use Rattle.kp_replay.specs.declared.reads.Read.{Read}
@@ -21,8 +23,8 @@ take_reads-requires g c =
     (ap (list_all later) c.in_ok-reads.ensures
     ∙ later_reads c.args.number (map (λ line. line.now) c.args.lines.now))
 
-pub returns : goal.returns
-returns g c =
+pub returns-clause-takes : goal.returns-clause-takes
+returns-clause-takes g c =
     let reads = c.in_ok-reads.reads.items in
     let lines = map (λ line. line.now) c.args.lines.now in
     let n = c.aside_len.result in
@@ -34,10 +36,10 @@ returns g c =
     let last = c.take_reads.new.text.items in
     let items : c.as_slice-2.result.now ≡ take n reads = search rules in
     let rest = c.in_ok-others.ensures.tail in
-    let took = c.in_ok-answer_reads.ensures in
+    let took = c.in_ok-answer_reads.ensures.takes in
     let stands = took.stands ∙ ap (λ rs. (reads_line rs s).next) items in
     let text = took.text ∙ ap (λ rs. before ++ (reads_line rs s).text) items in
-    on_ok _ _ c.take_reads.result c.take_reads.ensures (λ others.
+    on_ok _ _ c.take_reads.result c.take_reads.ensures.takes (λ others.
     let stands_last = others.stands ∙ ap (λ rs. (reads_line rs mid).next) rest in
     let text_last = others.text ∙ ap (λ rs. first ++ (reads_line rs mid).text) rest in
     record {
@@ -48,3 +50,14 @@ returns g c =
           group_text c.args.number lines s mid end reads n before first last c.requires.begun
           c.in_ok-reads.ensures stands text stands_last text_last;
     })
+
+pub returns-clause-kept : goal.returns-clause-kept
+returns-clause-kept g c =
+    on_err_weaker c.take_reads.result (goes_on_kept (standing_of c.args.self.now)
+    (standing_of c.answer_reads.new.self) (standing_of c.take_reads.new.self)
+    c.in_ok-answer_reads.ensures.kept) c.take_reads.ensures.kept
+
+pub returns-clause-front : goal.returns-clause-front
+returns-clause-front g c =
+    on_err_weaker c.take_reads.result (begins_on c.args.text.now.items c.answer_reads.new.text.items
+    c.take_reads.new.text.items (_, c.in_ok-answer_reads.ensures.takes.text)) c.take_reads.ensures.front

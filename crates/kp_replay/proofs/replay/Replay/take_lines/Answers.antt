@@ -1,7 +1,8 @@
-use Rattle.std.proofs.Common.{◌+◌, map, take, ap, ◌∙◌, arith}
+use Rattle.std.proofs.Common.{◌+◌, map, refl, take, ap, refl, ◌∙◌, arith, rules}
 use Rattle.std.specs.Prelude.{string_bytes}
+use Rattle.kp_replay.proofs.KeptLemmas.{begins_as, goes_on_kept, lines_kept}
 use Rattle.kp_replay.specs.Steps.{standing_of}
-use Rattle.kp_replay.proofs.FirstLines.{no_longer}
+use Rattle.kp_line_laws.proofs.FirstLines.{no_longer}
 use Rattle.kp_replay.proofs.StepLemmas.{lines_stand, lines_text}
 use Rattle.kp_replay.proofs.TogetherLemmas.{lines_begun}
 use Rattle.kp_replay.proofs.replay.Replay.take_lines.Goals as goal
@@ -14,7 +15,7 @@ pub loop-line-preserved : goal.loop-line-preserved
 loop-line-preserved c =
     let at = c.loop-line in
     let had = at.invariant in
-    let took = c.in_ok-take_line.ensures in
+    let took = c.in_ok-take_line.ensures.takes in
     let start = standing_of c.args.self.now in
     let lines = c.args.lines.now in
     let stands =
@@ -35,3 +36,32 @@ loop-line-preserved c =
           c.requires.begun;
       next = omega (arith, had.next);
     }
+
+pub returns-in_err-take_line-clause-kept : goal.returns-in_err-take_line-clause-kept
+returns-in_err-take_line-clause-kept c =
+    let at = c.loop-line in
+    let start = standing_of c.args.self.now in
+    let kept = goes_on_kept start (standing_of at.self) (standing_of c.take_line.new.self)
+    (lines_kept c.args.number (map (λ l. l.now) (take at.line-index c.args.lines.now)) start
+    (standing_of at.self) c.requires.begun at.invariant.stands)
+    c.in_err-take_line.ensures.kept in
+    search rules
+
+pub returns-in_err-extend_from_slice-clause-kept : goal.returns-in_err-extend_from_slice-clause-kept
+returns-in_err-extend_from_slice-clause-kept c =
+    let at = c.loop-line in
+    let kept = lines_kept c.args.number (map (λ l. l.now) (take at.line-index c.args.lines.now))
+    (standing_of c.args.self.now) (standing_of at.self) c.requires.begun at.invariant.stands in
+    search rules
+
+pub returns-in_err-take_line-clause-front : goal.returns-in_err-take_line-clause-front
+returns-in_err-take_line-clause-front c =
+    let text = c.args.text.now.items in
+    let front = begins_as text text refl in
+    search rules
+
+pub returns-in_err-extend_from_slice-clause-front : goal.returns-in_err-extend_from_slice-clause-front
+returns-in_err-extend_from_slice-clause-front c =
+    let front = begins_as c.extend_from_slice.new.self.items c.args.text.now.items
+    c.in_err-extend_from_slice.ensures.items in
+    search rules

@@ -1,9 +1,10 @@
-use Rattle.std.proofs.Common.{ap, length, sym, ◌∙◌, arith}
+use Rattle.std.proofs.Common.{ap, length, refl, sym, subst, ◌∙◌, arith, rules}
 use Rattle.std.specs.Prelude.{string_bytes}
 use Rattle.std.specs.List.{list_all}
 use Rattle.std.specs.Vec.Iter.{into_iter_items}
 use Rattle.kp_replay.specs.Groups.{says_later}
-use Rattle.kp_replay.specs.Steps.{standing_of}
+use Rattle.kp_replay.specs.Steps.{LosesNothing, standing_of}
+use Rattle.kp_replay.proofs.KeptLemmas.{begins_as, goes_on_kept, read_kept}
 use Rattle.kp_replay.proofs.StepLemmas.{first_later, goes_on, rest_later}
 use Rattle.kp_replay.proofs.replay.Replay.take_reads.Goals as goal
 
@@ -17,7 +18,7 @@ pub loop-read-preserved : goal.loop-read-preserved
 loop-read-preserved c =
     let at = c.loop-read in
     let is = c.in-Some.ensures.steps.0 in
-    let took = c.in_ok-take_read.ensures in
+    let took = c.in_ok-take_read.ensures.takes in
     record {
       lines =
           goes_on (string_bytes at.printed) (string_bytes c.take_read.new.text) (standing_of at.self)
@@ -26,5 +27,24 @@ loop-read-preserved c =
       later =
           rest_later (into_iter_items at.read-iterator) c.in-Some.read
           (into_iter_items c.next.new.self) at.invariant.later is;
+      kept =
+          goes_on_kept (standing_of c.args.self.now) (standing_of at.self)
+          (standing_of c.take_read.new.self) at.invariant.kept
+          (subst (LosesNothing (standing_of at.self)) (sym took.stands)
+          (read_kept c.in-Some.read (standing_of at.self)
+          (first_later (into_iter_items at.read-iterator) c.in-Some.read
+          (into_iter_items c.next.new.self) at.invariant.later is)));
       left = let long = ap length is in omega (arith, c.in-Some.ensures.steps.1, long, at.invariant.left);
     }
+
+pub returns-in_err-take_read-clause-kept : goal.returns-in_err-take_read-clause-kept
+returns-in_err-take_read-clause-kept c =
+    let kept = goes_on_kept (standing_of c.args.self.now) (standing_of c.loop-read.self)
+    (standing_of c.take_read.new.self) c.loop-read.invariant.kept c.in_err-take_read.ensures.kept in
+    search rules
+
+pub returns-in_err-take_read-clause-front : goal.returns-in_err-take_read-clause-front
+returns-in_err-take_read-clause-front c =
+    let text = c.args.text.now.items in
+    let front = begins_as text text refl in
+    search rules

@@ -1,5 +1,5 @@
 use Rattle.kp_replay.specs.Steps.{standing_of}
-use Rattle.kp_replay.proofs.FirstLines.{may_take}
+use Rattle.kp_line_laws.proofs.FirstLines.{may_take}
 use Rattle.std.proofs.Common.{false}
 use Rattle.kp_replay.proofs.replay.Replay.take_script.Goals as goal
 
