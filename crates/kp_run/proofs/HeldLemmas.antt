@@ -7,11 +7,14 @@ use Rattle.kp_io.specs.Reader.{GivesShort, HandedOut}
 use Rattle.kp_io.specs.Told.{Grows}
 use Rattle.kp_io.proofs.Told.{Grows-trans}
 use Rattle.kp_io.specs.Lines.{lines_of}
-use Rattle.kp_run_defs.specs.ReplayText.{Progress, Standing, at_start, replay_of, short_line}
+use Rattle.kp_run_defs.specs.ReplayText.{Line, Progress, Standing, at_start, short_line}
+use Rattle.kp_mode_defs.specs.Mode.{replay_in, replaying}
+use Rattle.kp_mode_defs.proofs.Alike.{line_alone}
 use Rattle.kp_replay.specs.Groups.{lines_from}
 use Rattle.kp_replay.specs.Steps.{IsReady}
-use Rattle.kp_replay.proofs.FirstLines.{next_ready}
+use Rattle.kp_line_laws.proofs.FirstLines.{next_ready}
 use Rattle.kp_run.specs.Given.{after_given, replay_given}
+use Rattle.kp_run.specs.Texts.{by_lines}
 use Rattle.kp_run.specs.Outcome.{Come, GrowsFront, TakesLine, WritesFront}
 use Rattle.kp_run.proofs.ComeLemmas.{all_text, front_is, numbers, part_is, whole_text}
 
@@ -19,16 +22,19 @@ use Rattle.kp_run.proofs.ComeLemmas.{all_text, front_is, numbers, part_is, whole
 
 -- what lines that are given lead to is what they do one after the other
 stands_at : (p : Progress) (lines : List (List ℕ))
-    → (fold after_given p (map Some lines)).at ≡ (lines_from (suc p.number) lines p.at).next
+    → (fold (after_given replaying) p (map Some lines)).at ≡ (lines_from (suc p.number) lines p.at).next
 stands_at p [] = refl
-stands_at p (bytes ∷ lines) = stands_at (after_given p (Some bytes)) lines
+stands_at p (bytes ∷ lines) = stands_at (after_given replaying p (Some bytes)) lines
 
-text_at : (p : Progress) (lines : List (List ℕ)) → (fold after_given p (map Some lines)).text
+text_at : (p : Progress) (lines : List (List ℕ)) → (fold (after_given replaying) p (map Some lines)).text
     ≡ p.text ++ (lines_from (suc p.number) lines p.at).text
 text_at p [] = sym (append-nil p.text)
 text_at p (bytes ∷ lines) =
     let one = short_line (suc p.number) bytes p.at in
-    text_at (after_given p (Some bytes)) lines
+    text_at (after_given replaying p (Some bytes)) lines
+    ∙ ap (λ (text : List ℕ). (p.text ++ text)
+    ++ (lines_from (suc (suc p.number)) lines one.next).text)
+    (ap (λ (l : Line). l.text) (line_alone p.at one))
     ∙ append_assoc p.text one.text (lines_from (suc (suc p.number)) lines one.next).text
 
 length-some : (lines : List (List ℕ)) → length (map Some lines) ≡ length lines
@@ -55,22 +61,22 @@ given_more given lines (Some x) (Some y) (Some z) p q =
 
 module _ (s : Standing) (n : ℕ) (lines : List (List ℕ)) (left : Option (List ℕ))
     (rest after : Option (List (Option (List ℕ)))) (written now later : Option (List ℕ))
-    (come : Come s n left rest written now) (gives : GivesShort lines rest after) where
+    (come : Come replaying s n left rest written now) (gives : GivesShort lines rest after) where
   abbrev p : Progress
-  p = replay_given come.given
+  p = replay_given replaying come.given
 
   abbrev q : Progress
-  q = fold after_given p (map Some lines)
+  q = fold (after_given replaying) p (map Some lines)
 
-  all_given : replay_given (come.given ++ map Some lines) ≡ q
-  all_given = fold-append after_given at_start come.given (map Some lines)
+  all_given : replay_given replaying (come.given ++ map Some lines) ≡ q
+  all_given = fold-append (after_given replaying) at_start come.given (map Some lines)
 
   same : lines_from (suc n) lines s ≡ lines_from (suc p.number) lines p.at
   same = λ i. lines_from (suc (sym come.counted i)) lines (come.stands i)
 
   -- after them
   pub come_group : (t : Standing) → TakesLine (lines_from (suc n) lines s) t now later
-      → Come t (n + length lines) left after written later
+      → Come replaying t (n + length lines) left after written later
   come_group t takes = record {
     given = come.given ++ map Some lines;
     handed = given_more come.given lines left rest after come.handed gives;
@@ -86,28 +92,28 @@ module _ (s : Standing) (n : ℕ) (lines : List (List ℕ)) (left : Option (List
         come.grown takes.grown);
     counted =
         ap (λ r. r.number) all_given
-        ∙ omega (arith, numbers p (map Some lines), length-some lines, come.counted);
+        ∙ omega (arith, numbers replaying p (map Some lines), length-some lines, come.counted);
   }
 
   front_within : (a : Option (List ℕ)) (b : Option (List (Option (List ℕ))))
       → HandedOut (come.given ++ map Some lines) a b
-      → GrowsFront now later (lines_from (suc n) lines s).text → WritesFront a written later
+      → GrowsFront now later (lines_from (suc n) lines s).text → WritesFront (by_lines replaying) a written later
   front_within None b handed front = tt
   front_within (Some text) None handed front = absurd handed
   front_within (Some text) (Some more) handed front =
       let step = lines_from (suc n) lines s in
-      let all = all_text (come.given ++ map Some lines) more in
+      let all = all_text replaying (come.given ++ map Some lines) more in
       let seen : q.text ≡ p.text ++ step.text =
       text_at p lines ∙ ap (λ l. p.text ++ l.text) (sym same) in
-      front_is (replay_of (lines_of text)).text (p.text ++ take front.0 step.text)
+      front_is (replay_in replaying (lines_of text)).text (p.text ++ take front.0 step.text)
       (drop front.0 step.text ++ all.0) written later
-      (ap (λ r. r.text) (whole_text text ((come.given ++ map Some lines) ++ more) handed)
+      (ap (λ r. r.text) (whole_text replaying text ((come.given ++ map Some lines) ++ more) handed)
       ∙ all.1 ∙ ap (λ r. r.text ++ all.0) all_given ∙ ap (λ t. t ++ all.0) seen
       ∙ part_is p.text step.text all.0 front.0)
       (Grows-trans written now later p.text (take front.0 step.text) come.grown front.1)
 
   -- within them
   pub come_part_group : GrowsFront now later (lines_from (suc n) lines s).text
-      → WritesFront left written later
+      → WritesFront (by_lines replaying) left written later
   come_part_group front =
       front_within left after (given_more come.given lines left rest after come.handed gives) front

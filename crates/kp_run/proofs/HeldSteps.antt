@@ -1,27 +1,109 @@
--- What is taken of the lines that a reader holds, where nothing is.
-use Rattle.std.proofs.Common.{◌≡◌, ◌+◌, ℕ, List, [], sym, refl, add-zero}
-use Rattle.std.specs.Prelude.{Option, Some, None}
-use Rattle.kp_io.specs.Reader.{GivesShort, ReaderState, TakesFeeds, to_come}
-use Rattle.kp_io.proofs.Told.{Grows-nil}
+-- A group of the lines that a reader holds: how the replay stands after it.
+use Rattle.std.proofs.Common.{◌≡◌, ◌+◌, ◌≤◌, arith, ℕ, suc, List, length, take, ap, sym, ◌∙◌, subst, add-one, length-append}
+use Rattle.std.specs.Prelude.{Option, Result, Ok, Err, IfErr, OnOk, OnErr, count_by}
+use Rattle.kp_io.specs.Lines.{IsFront, IsWhole, ended_lines, is_line_feed}
+use Rattle.kp_io.specs.Reader.{GivesShort, LosesTaken, ReaderState, TakesFeeds, passed, to_come}
+use Rattle.kp_io.specs.Told.{FromTold, Grows}
+use Rattle.kp_io.specs.declared.next_line.TheConstants.{LINE_LIMIT}
+use Rattle.kp_restore_defs.specs.TableText.{text_of_lines}
 use Rattle.kp_run_defs.specs.ReplayText.{Standing}
-use Rattle.kp_run.specs.Held.{TakesMore}
+use Rattle.kp_replay.specs.Groups.{lines_from}
+use Rattle.kp_run.specs.Held.{AnswersGroup}
+use Rattle.kp_run.specs.Outcome.{Come, GrowsFront, Input, Output, Outside, ends_of}
+use Rattle.kp_run.specs.Stand.{GoesOn, Stands, Stops, StopsOutput}
+use Rattle.kp_mode_defs.specs.Mode.{replaying}
+use Rattle.kp_run.specs.Texts.{by_lines}
+use Rattle.kp_run.specs.declared.ending.Stop.{Stop}
+use Rattle.kp_run.proofs.ComeLemmas.{counts_more}
+use Rattle.kp_run.proofs.HeldLemmas.{come_group, come_part_group}
+use Rattle.kp_run.proofs.HeldTexts.{ended_again, feeds_in, front_within, whole_lines}
+use Rattle.kp_run.proofs.StandLemmas.{stops_output}
 
-gives_none : (rest : Option (List (Option (List ℕ)))) → GivesShort [] rest rest
-gives_none None = tt
-gives_none (Some lines) = refl
+-- the reader comes further
+pub further_group : {T E : Type 0} (old : ReaderState) (bytes count : ℕ) (new : ReaderState)
+    → new ≡ passed bytes count old → (result : Result T E)
+    → OnOk result (old.number ≤ new.number)
+further_group old bytes count new passes (Ok done) =
+    let more : new.number ≡ old.number + count = ap (λ r. r.number) passes in omega (arith, more)
+further_group old bytes count new passes (Err stop) = tt
 
-feeds_same : (reader : ReaderState) (left : Option (List ℕ)) → TakesFeeds reader reader left left
-feeds_same reader None = tt
-feeds_same reader (Some text) = refl
+module _ (old : ReaderState) (number : ℕ) (held : List ℕ) (bytes count : ℕ) (s t : Standing)
+    (text : List ℕ) (group : AnswersGroup (number + 1) held bytes count s t text)
+    (at : number ≡ old.number) (front : IsFront held old.held) where
+  same_text : take bytes old.held ≡ text_of_lines group.lines
+  same_text = front_within bytes held old.held front group.within ∙ group.front
 
-pub nothing_more : (reader : ReaderState) (s : Standing) (written : Option (List ℕ)) → TakesMore reader reader s s written written
-nothing_more reader s written = record {
-  lines = [];
-  come = λ left. gives_none (to_come reader left);
-  counted = sym (add-zero reader.number);
-  taken = refl;
-  ended = refl;
-  room = refl;
-  feeds = feeds_same reader;
-  takes = record { stands = refl; grown = Grows-nil written };
-}
+  next : number + 1 ≡ suc old.number
+  next = add-one number ∙ ap suc at
+
+  -- the reader may pass over it
+  pub within_held : bytes ≤ length old.held
+  within_held = omega (arith, group.within, ap length front.1, length-append held front.0)
+
+  pub whole_held : IsWhole (take bytes old.held)
+  whole_held = subst IsWhole (sym same_text) (whole_lines group.lines)
+
+  pub count_held : count ≡ count_by is_line_feed (take bytes old.held)
+  count_held =
+      group.counted ∙ sym (feeds_in group.lines group.feedless)
+      ∙ ap (count_by is_line_feed) (sym same_text)
+
+  module _ (new : ReaderState) (passes : new ≡ passed bytes count old)
+      (gives : (left : Option (List ℕ)) → GivesShort (ended_lines (take bytes old.held))
+      (to_come old left) (to_come new left))
+      (first : Outside) (from : Input) (was now : Output)
+      (stands : Stands replaying first s old (ends_of from was)) where
+    come : GivesShort group.lines (to_come old from.left) (to_come new from.left)
+    come =
+        subst (λ lines. GivesShort lines (to_come old from.left) (to_come new from.left))
+        (ap ended_lines same_text ∙ ended_again group.lines group.feedless) (gives from.left)
+
+    told : text ≡ (lines_from (suc old.number) group.lines s).text
+    told = group.text ∙ ap (λ n. (lines_from n group.lines s).text) next
+
+    counted : new.number ≡ old.number + length group.lines
+    counted = ap (λ r. r.number) passes ∙ ap (λ n. old.number + n) group.counted
+
+    -- it was taken and written
+    after_group : ((left : Option (List ℕ)) → TakesFeeds old new left left)
+        → Grows was.written now.written text → now.faults ≡ was.faults
+        → Stands replaying first t new (ends_of from now)
+    after_group feeds grown wrote = record {
+      come =
+          subst (λ k. Come replaying t k first.input.left (to_come new from.left) first.output.written now.written) (sym counted)
+          (come_group s old.number group.lines first.input.left (to_come old from.left)
+          (to_come new from.left) first.output.written was.written now.written stands.come come t
+          (record {
+            stands = group.stands ∙ ap (λ n. (lines_from n group.lines s).next) next;
+            grown = subst (Grows was.written now.written) told grown;
+          }));
+      taken =
+          subst (λ n. FromTold (LosesTaken 0 n) first.input.left from.left)
+          (sym (ap (λ r. r.taken) passes)) stands.taken;
+      feeds = λ open_.
+          counts_more old new first.input.left from.left from.left
+          (stands.feeds (sym (ap (λ r. r.ended) passes) ∙ open_)) (feeds from.left);
+      ended = λ ended. stands.ended (sym (ap (λ r. r.ended) passes) ∙ ended);
+      room = subst (λ r. r ≤ LINE_LIMIT) (sym (ap (λ r. r.room) passes)) stands.room;
+      sure = (stands.sure.0, wrote ∙ stands.sure.1);
+    }
+
+    -- it can't be written
+    stops_group : (stop : Stop) → GrowsFront was.written now.written text
+        → StopsOutput stop was.faults now.faults → Stops (by_lines replaying) stop first (ends_of from now)
+    stops_group stop part cause =
+        stops_output (by_lines replaying) stop first from was now stands.sure.0 stands.sure.1
+        (come_part_group s old.number group.lines first.input.left (to_come old from.left)
+        (to_come new from.left) first.output.written was.written now.written stands.come come
+        (subst (GrowsFront was.written now.written) told part)) cause
+
+    -- by whether it could be
+    pub goes_group : {T : Type 0} (result : Result T Stop)
+        → ((left : Option (List ℕ)) → TakesFeeds old new left left)
+        → OnOk result (Grows was.written now.written text)
+        → OnErr result (GrowsFront was.written now.written text)
+        → OnOk result (now.faults ≡ was.faults)
+        → IfErr result (λ stop. StopsOutput stop was.faults now.faults)
+        → GoesOn replaying first result t new (ends_of from now)
+    goes_group (Ok done) feeds grown part wrote cause = after_group feeds grown wrote
+    goes_group (Err stop) feeds grown part wrote cause = stops_group stop part cause

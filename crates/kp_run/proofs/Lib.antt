@@ -2,9 +2,12 @@ pub mod ComeLemmas
 pub mod EndLemmas
 pub mod HeldLemmas
 pub mod HeldSteps
+pub mod HeldTexts
 pub mod LastLemmas
 pub mod LiveLemmas
+pub mod ModeEnds
 pub mod PlanLemmas
 pub mod Replays
 pub mod StandLemmas
 pub mod SumLemmas
+pub mod Unhindered

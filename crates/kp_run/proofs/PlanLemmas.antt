@@ -5,13 +5,15 @@ use Rattle.std.specs.Str.Parse.{digits_value}
 use Rattle.std.proofs.lemmas.Bool.Decides.{nat_tests}
 use Rattle.kp_gen_defs.specs.Script.{IsPlan}
 use Rattle.kp_words.specs.declared.mode.Mode.{Mode}
-use Rattle.kp_words.specs.declared.mode.Mode.TheVariants.{Replay, Live, Gen}
+use Rattle.kp_words.specs.declared.mode.Mode.TheVariants.{Replay, Changes, Health, Live, Gen}
 use Rattle.kp_words.specs.Words.{is_number, within, number_of, replay_with, gen_of, named_mode, workers_word, mode_of_two, mode_of_three, mode_of_four, mode_of_rest, mode_of}
 
 -- the numbers of `gen` are within the bounds of a script
 abbrev pub Fits : Option Mode → Type 0
 Fits None = ⊤
 Fits (Some (Replay workers)) = ⊤
+Fits (Some Changes) = ⊤
+Fits (Some Health) = ⊤
 Fits (Some Live) = ⊤
 Fits (Some (Gen seed services pods)) = IsPlan (record { seed = seed; services = services; pods = pods })
 
@@ -65,7 +67,10 @@ workers_fit word = if_fits (bytes_eq (take 10 word) (codes "--workers=")) (repla
 
 named_fits : (name : List ℕ) → Fits (named_mode name)
 named_fits name =
-    if_fits (bytes_eq name (codes "replay")) _ _ tt (if_fits (bytes_eq name (codes "live")) (Some Live) None tt tt)
+    if_fits (bytes_eq name (codes "replay")) _ _ tt
+    (if_fits (bytes_eq name (codes "changes")) _ _ tt
+    (if_fits (bytes_eq name (codes "health")) _ _ tt
+    (if_fits (bytes_eq name (codes "live")) (Some Live) None tt tt)))
 
 two_fit : (first second : List ℕ) → Fits (mode_of_two first second)
 two_fit first second =

@@ -1,34 +1,43 @@
 -- How a replay stands, from one call of its reader to the next.
-use Rattle.std.proofs.Common.{◌≡◌, ℕ, ◌+◌, ◌<◌, ◌≤◌, Bool, true, false, List, [], ◌∷◌, Ok, Err, Result, Option, Some, None, refl, sym, ◌∙◌, subst, arith}
-use Rattle.std.specs.Prelude.{IfSome, nat_lt}
+use Rattle.std.proofs.Common.{◌≡◌, ℕ, ◌+◌, ◌<◌, ◌≤◌, Bool, true, false, List, [], ◌∷◌, Ok, Err, Result, Option, Some, None, refl, ap, sym, ◌∙◌, subst, arith}
+use Rattle.std.specs.Prelude.{nat_lt}
 use Rattle.std.specs.Io.KnownBytes.{IsAtEnd}
 use Rattle.std.proofs.lemmas.Bool.Decides.{nat_tests}
 use Rattle.kp_io.specs.Faults.{Rose}
-use Rattle.kp_io.specs.Reader.{ReaderState, Answers, Counts, TakesInput, LosesTaken, to_come}
+use Rattle.kp_io.specs.Reader.{ReaderState, Answers, Counts, HoldsNoLine, TakesInput, LosesTaken, fresh_with, to_come}
 use Rattle.kp_io.specs.Told.{FromTold, Grows}
 use Rattle.kp_io.specs.declared.next_line.LineFault.{LineFault}
-use Rattle.kp_io.specs.declared.next_line.LineFault.TheVariants.{TooLongLine, ReadFault, InputTooLong}
+use Rattle.kp_io.specs.declared.next_line.LineFault.TheVariants.{TooLongLine, ReadFault, InputTooLong, NoMemory}
 use Rattle.kp_io.specs.declared.next_line.NextLine.{NextLine}
 use Rattle.kp_io.specs.declared.next_line.NextLine.TheVariants.{Line, End}
 use Rattle.kp_io.specs.declared.next_line.TheConstants.{INPUT_LIMIT, LINE_LIMIT}
-use Rattle.kp_io.proofs.HandedOut.{taken_more}
-use Rattle.kp_run_defs.specs.ReplayText.{Standing}
-use Rattle.kp_replay.specs.Steps.{given_line}
-use Rattle.kp_run.specs.Held.{TakesMore, TakesPart}
+use Rattle.kp_io.proofs.HandedOut.{taken_more, taken_none}
+use Rattle.kp_base.specs.declared.memory.NoMemory as memory
+use Rattle.kp_run_defs.specs.ReplayText.{Standing, beginning}
+use Rattle.kp_mode_defs.specs.Mode.{Mode as Adds, replay_in}
+use Rattle.kp_run.specs.Given.{given_in}
 use Rattle.kp_run.specs.Next.{TakesNext}
-use Rattle.kp_run.specs.Outcome.{Come, GrowsFront, IsTooLong, TakesLine, WritesAll, WritesFront, WritesRead}
-use Rattle.kp_run.proofs.ComeLemmas.{CountsFeeds, by_end, come_all, come_ended, come_front, come_more, come_on, come_part, counts_more, ended_unasked, too_long}
-use Rattle.kp_run.proofs.HeldLemmas.{come_group, come_part_group}
+use Rattle.kp_run.specs.Outcome.{Come, EndsFront, GrowsFront, Input, Output, Outside, TakesLine, WritesRead, ends_of, source_of}
+use Rattle.kp_run.specs.Stand.{ComesToEnd, Stands, Stops, StopsOutput, TakesStep}
+use Rattle.kp_run.specs.Texts.{Texts, by_lines}
+use Rattle.kp_run.specs.declared.ending.Stop.{Stop}
+use Rattle.kp_run.specs.declared.ending.Stop.TheVariants as why
+use Rattle.kp_run.proofs.ComeLemmas.{by_end, come_all, come_ended, come_front, come_more, come_none, come_on, come_part, counts_more, counts_none, ended_unasked, too_long}
+use Rattle.kp_run.proofs.EndLemmas.{same_rose}
 
--- where a replay stands between two lines
-pub record Stands {S : Type 0} (left : S → Option (List ℕ)) (faults : S → ℕ) (first : S) (start : Option (List ℕ)) (fails : ℕ) (s : Standing) (reader : ReaderState) (source : S) (written : Option (List ℕ)) (failed : ℕ) : Type 0 where
-  pub come : Come s reader.number (left first) (to_come reader (left source)) start written
-  pub taken : FromTold (LosesTaken 0 reader.taken) (left first) (left source)
-  pub feeds : reader.ended ≡ false → CountsFeeds reader (left first) (left source)
-  pub ended : reader.ended ≡ true → IsAtEnd (left source)
-  pub room : reader.room ≤ LINE_LIMIT
-  pub read : faults source ≡ faults first
-  pub wrote : failed ≡ fails
+-- before the first line
+pub stands_first : (m : Adds) (s : Standing) (reader : ReaderState) (first : Outside) → s ≡ beginning
+    → reader ≡ fresh_with reader.room → reader.room ≤ LINE_LIMIT → Stands m first s reader first
+stands_first m s reader first start fresh room = record {
+  come =
+      subst (λ r. Come m s r.number first.input.left (to_come r first.input.left) first.output.written first.output.written)
+      (sym fresh) (come_none m s first.input.left first.output.written start);
+  taken = subst (λ r. FromTold (LosesTaken 0 r.taken) first.input.left first.input.left) (sym fresh) (taken_none first.input.left);
+  feeds = λ _open. counts_none reader first.input.left fresh;
+  ended = λ ended. let h = ap (λ r. r.ended) (sym fresh) ∙ ended in absurd (cc);
+  room = room;
+  sure = (refl, refl);
+}
 
 -- an answer that tells no fault is within the limit of the input
 within_limit : {T : Type 0} (x : T) (old new : ℕ) (a b : Option (List ℕ))
@@ -42,191 +51,206 @@ within_limit x old new a b input = by_more (nat_lt INPUT_LIMIT new) refl
         absurd (cc)
     by_more false h = grind (arith, nat_tests)
 
+-- an output that stopped, before which nothing had failed
+pub stops_output : (t : Texts) (stop : Stop) (first : Outside) (input : Input) (was now : Output)
+    → input.faults ≡ first.input.faults → was.faults ≡ first.output.faults
+    → EndsFront t first (ends_of input now) → StopsOutput stop was.faults now.faults
+    → Stops t stop first (ends_of input now)
+stops_output t (why.NoMemory wanted) first input was now read wrote front cause =
+    (front, (read, cause ∙ wrote))
+stops_output t why.Write first input was now read wrote front cause =
+    (front, same_rose first.output.faults was.faults now.faults wrote cause)
+stops_output t why.Read first input was now read wrote front cause = absurd cause
+stops_output t why.InputTooLong first input was now read wrote front cause = absurd cause
+
+-- a step that took a line
+pub took : (m : Adds) {first : Outside} {t : Option ℕ} {number : ℕ} {s : Standing} {reader : ReaderState} {now : Outside}
+    → t ≡ Some number → TakesStep m first (Ok t) s reader now → Stands m first s reader now
+took m {first = first} {s = s} {reader = reader} {now = now} is step = subst (λ o. TakesStep m first (Ok o) s reader now) is step
+
+-- a step that came to the end
+pub came : (m : Adds) (first : Outside) {t : Option ℕ} (s : Standing) (reader : ReaderState) (now : Outside)
+    → t ≡ None → TakesStep m first (Ok t) s reader now → ComesToEnd m s first now
+came m first s reader now is step = subst (λ o. TakesStep m first (Ok o) s reader now) is step
+
+-- memory is wanted where a replay stands
+pub stops_same : (m : Adds) (wanted : memory.NoMemory) {first : Outside} {s : Standing} {reader : ReaderState}
+    {now : Outside} → Stands m first s reader now
+    → Stops (by_lines m) (why.NoMemory wanted) first now
+stops_same m wanted {first = first} {s = s} {reader = reader} {now = now} stands = (
+  come_front m s reader.number first.input.left (to_come reader now.input.left) first.output.written now.output.written stands.come,
+  stands.sure,
+)
+
+-- the reader gave this as the next line, and no read has failed
+pub record Gives (old new : ReaderState) (before after : Option (List (Option (List ℕ)))) (failed fails : ℕ) (one : Option (List ℕ)) (number : ℕ) : Type 0 where
+  pub open_ : old.ended ≡ false
+  pub gives : FromTold (λ xs ys. xs ≡ one ∷ ys) before after
+  pub next_one : number ≡ old.number + 1
+  pub counted : new.number ≡ number
+  pub sure : failed ≡ fails
+
 -- ---- A call of the reader, before which what is known was handed on
 
-module _ {S : Type 0} {left : S → Option (List ℕ)} {faults : S → ℕ} {first : S}
-    {start : Option (List ℕ)} {fails : ℕ} {s : Standing} {old new : ReaderState} {before after : S}
-    {written : Option (List ℕ)} (later : Option (List ℕ)) {failed f : ℕ}
-    {told : Result NextLine LineFault}
-    (was : Stands left faults first start fails s old before written failed)
-    (next : TakesNext left faults told old new before after) (kept : Grows written later [])
-    (same : f ≡ failed) where
-  on : Come s old.number (left first) (to_come old (left before)) start later
-  on = come_on s old.number (left first) (to_come old (left before)) start written later was.come kept
+module _ (m : Adds) {S : Type 0} (left : S → Option (List ℕ)) (faults : S → ℕ) {first : Outside} {s : Standing}
+    {old : ReaderState} {before : S} {was : Output}
+    (stands : Stands m first s old (ends_of (source_of (left before) (faults before)) was)) where
+  -- what is known can't be handed on
+  pub stops_unread : (stop : Stop) (after : S) (later : Output) → after ≡ before
+      → Grows was.written later.written [] → stop ≡ why.Write → Rose was.faults later.faults
+      → Stops (by_lines m) stop first (ends_of (source_of (left after) (faults after)) later)
+  stops_unread stop after later same kept is rose =
+      let come =
+      come_on m s old.number first.input.left (to_come old (left before)) first.output.written was.written later.written stands.come kept in
+      subst (λ t. Stops (by_lines m) t first (ends_of (source_of (left after) (faults after)) later)) (sym is) (
+        come_front m s old.number first.input.left (to_come old (left before)) first.output.written later.written come,
+        same_rose first.output.faults was.faults later.faults stands.sure.1 rose,
+      )
 
-  taken_on : FromTold (LosesTaken 0 new.taken) (left first) (left after)
-  taken_on =
-      taken_more old.taken new.taken (left first) (left before) (left after) was.taken
-      next.input.all
+  module _ {new : ReaderState} {after : S} (later : Output) {told : Result NextLine LineFault}
+      (next : TakesNext left faults told old new before after)
+      (kept : Grows was.written later.written []) (same : later.faults ≡ was.faults) where
+    abbrev pub Now : Output → Outside
+    Now now = ends_of (source_of (left after) (faults after)) now
 
-  not_ended : ((lines : ℕ) → told ≡ Ok (End lines) → ⊥) → old.ended ≡ false
-  not_ended other =
-      by_end (old.ended ≡ false) old.ended (λ yes. absurd (other old.number (next.again yes)))
-      (λ no. no)
+    on : Come m s old.number first.input.left (to_come old (left before)) first.output.written later.written
+    on =
+        come_on m s old.number first.input.left (to_come old (left before)) first.output.written was.written later.written stands.come kept
 
-  -- no read failed unless that is told
-  pub kept_as : (t : Result NextLine LineFault) → told ≡ t → (t ≡ Err ReadFault → ⊥)
-      → faults after ≡ faults first
-  kept_as t is other = next.cause.kept (λ failed. other (sym is ∙ failed)) ∙ was.read
+    taken_on : FromTold (LosesTaken 0 new.taken) first.input.left (left after)
+    taken_on =
+        taken_more old.taken new.taken first.input.left (left before) (left after) stands.taken next.input.all
 
-  pub later_read : faults first ≤ faults after
-  later_read = subst (λ n. n ≤ faults after) was.read next.cause.later
+    not_ended : ((lines : ℕ) → told ≡ Ok (End lines) → ⊥) → old.ended ≡ false
+    not_ended other =
+        by_end (old.ended ≡ false) old.ended (λ yes. absurd (other old.number (next.again yes)))
+        (λ no. no)
 
-  -- nothing more was written
-  pub front_on : WritesFront (left first) start later
-  front_on = come_front s old.number (left first) (to_come old (left before)) start later on
+    -- no read failed unless that is told
+    read_as : (t : Result NextLine LineFault) → told ≡ t → (t ≡ Err ReadFault → ⊥)
+        → faults after ≡ first.input.faults
+    read_as t is other = next.cause.kept (λ failed. other (sym is ∙ failed)) ∙ stands.sure.0
 
-  after_one : (one : Option (List ℕ)) (number : ℕ) (t : Standing) (last : Option (List ℕ)) (g : ℕ)
-      → old.ended ≡ false
-      → FromTold (λ xs ys. xs ≡ one ∷ ys) (to_come old (left before)) (to_come new (left after))
-      → number ≡ old.number + 1 → new.number ≡ number → faults after ≡ faults first
-      → TakesLine (given_line number one s) t later last → g ≡ f
-      → Stands left faults first start fails t new after last g
-  after_one one number t last g open_ gives count numbered read takes wrote = record {
-    come =
-        subst (λ k. Come t k (left first) (to_come new (left after)) start last) (sym numbered)
-        (come_more s t old.number number one (left first) (to_come old (left before))
-        (to_come new (left after)) start later last on count gives takes);
-    taken = taken_on;
-    feeds = λ is_open.
-        counts_more old new (left first) (left before) (left after) (was.feeds open_)
-        (next.feeds is_open);
-    ended = λ ended. next.ended open_ ended;
-    room = subst (λ r. r ≤ LINE_LIMIT) (sym next.room) was.room;
-    read = read;
-    wrote = wrote ∙ same ∙ was.wrote;
-  }
+    wrote_on : later.faults ≡ first.output.faults
+    wrote_on = same ∙ stands.sure.1
 
-  module _ {number : ℕ} {bytes : List ℕ} (is : told ≡ Ok (Line number)) (line : bytes ≡ new.line) where
-    pub line_counts : (number ≡ old.number + 1) × (new.number ≡ number)
-    line_counts = subst (λ t. Counts t old new) is next.counts
-
-    line_gives : FromTold (λ xs ys. xs ≡ Some bytes ∷ ys) (to_come old (left before))
-        (to_come new (left after))
-    line_gives =
-        subst (λ b. FromTold (λ xs ys. xs ≡ Some b ∷ ys) (to_come old (left before)) (to_come new (left after)))
-        (sym line)
-        (subst (λ t. Answers t new.line (to_come old (left before)) (to_come new (left after))) is next.answer)
-
-    -- after a line
-    pub after_line : {t : Standing} {last : Option (List ℕ)} {g : ℕ}
-        → TakesLine (given_line number (Some bytes) s) t later last → g ≡ f
-        → Stands left faults first start fails t new after last g
-    after_line {t = t} {last = last} {g = g} takes wrote =
-        after_one (Some bytes) number t last g
-        (not_ended (λ lines ended. let clash = sym is ∙ ended in absurd (cc)))
-        line_gives line_counts.0 line_counts.1 (kept_as (Ok (Line number)) is (λ e. absurd (cc)))
-        takes wrote
-
-    -- within a line
-    pub front_line : (last : Option (List ℕ))
-        → GrowsFront later last (given_line number (Some bytes) s).text
-        → WritesFront (left first) start last
-    front_line last front =
-        come_part s old.number number (Some bytes) (left first) (to_come old (left before))
-        (to_come new (left after)) start later last on line_counts.0 line_gives front
-
-  module _ {number : ℕ} (is : told ≡ Err (TooLongLine number)) where
-    pub long_counts : (number ≡ old.number + 1) × (new.number ≡ number) × (new.line ≡ [])
-    long_counts = subst (λ t. Counts t old new) is next.counts
-
-    long_gives : FromTold (λ xs ys. xs ≡ None ∷ ys) (to_come old (left before))
-        (to_come new (left after))
-    long_gives =
-        subst (λ t. Answers t new.line (to_come old (left before)) (to_come new (left after))) is next.answer
-
-    -- after a line that is too long
-    pub after_long : {t : Standing} {last : Option (List ℕ)} {g : ℕ}
-        → TakesLine (given_line number None s) t later last → g ≡ f
-        → Stands left faults first start fails t new after last g
-    after_long {t = t} {last = last} {g = g} takes wrote =
-        after_one None number t last g
-        (not_ended (λ lines ended. let clash = sym is ∙ ended in absurd (cc)))
-        long_gives long_counts.0 long_counts.1
-        (kept_as (Err (TooLongLine number)) is (λ e. absurd (cc))) takes wrote
-
-    -- within its refusal
-    pub front_long : (last : Option (List ℕ))
-        → GrowsFront later last (given_line number None s).text
-        → WritesFront (left first) start last
-    front_long last front =
-        come_part s old.number number None (left first) (to_come old (left before))
-        (to_come new (left after)) start later last on long_counts.0 long_gives front
-
-  module _ {lines : ℕ} (is : told ≡ Ok (End lines)) where
-    -- the source is at its end
-    pub at_end : IsAtEnd (left after)
-    at_end =
-        let counts = subst (λ t. Counts t old new) is next.counts in
-        by_end (IsAtEnd (left after)) old.ended
-        (λ yes. subst (λ x. IsAtEnd (left x)) (sym (next.unasked (ended_unasked old yes))) (was.ended yes))
-        (λ no. next.ended no counts.3)
-
-    -- all was written
-    pub all_end : IfSome (left first) (λ text. WritesAll s.refused text start later)
-    all_end =
-        let input = subst (λ t. TakesInput t old.taken new.taken (left before) (left after)) is next.input in
-        come_all s old.number new.taken (left first) (to_come old (left before))
-        (to_come new (left after)) (left after) start later on
-        (subst (λ t. Answers t new.line (to_come old (left before)) (to_come new (left after))) is next.answer)
-        taken_on at_end (within_limit (End lines) old.taken new.taken (left before) (left after) input)
-
-  module _ (is : told ≡ Err ReadFault) where
-    -- a read failed
-    pub rose_read : Rose (faults first) (faults after)
-    rose_read = subst (λ n. Rose n (faults after)) was.read (next.cause.failed is)
+    -- nothing more was written
+    front_on : EndsFront (by_lines m) first (Now later)
+    front_on = come_front m s old.number first.input.left (to_come old (left before)) first.output.written later.written on
 
     -- exactly what was read is answered
-    pub read_end : WritesRead (left first) (left after) start later
-    read_end =
-        let counts = subst (λ t. Counts t old new) is next.counts in
-        let open_ = not_ended (λ lines ended. let clash = sym is ∙ ended in absurd (cc)) in
-        come_ended old new s (to_come old (left before)) (left first) (left before) (left after)
-        start later on was.taken (was.feeds open_) counts.0 next.input.all (next.feeds counts.2)
-        (next.handed.read is)
+    read_to : old.ended ≡ false → new.number ≡ old.number → new.ended ≡ false
+        → HoldsNoLine new.held new.taken
+        → WritesRead (replay_in m) first.input.left (left after) first.output.written later.written
+    read_to open_ number is_open none =
+        come_ended m old new s (to_come old (left before)) first.input.left (left before) (left after)
+        first.output.written later.written on stands.taken (stands.feeds open_) number
+        next.input.all (next.feeds is_open) none
 
-  module _ (is : told ≡ Err InputTooLong) where
+    -- ---- A line, or nothing of one that is too long
+
+    abbrev pub GivesNow : Option (List ℕ) → ℕ → Type 0
+    GivesNow one number =
+        Gives old new (to_come old (left before)) (to_come new (left after)) (faults after) first.input.faults one number
+
+    pub gives_line : (number : ℕ) (bytes : List ℕ) → told ≡ Ok (Line number) → bytes ≡ new.line
+        → GivesNow (Some bytes) number
+    gives_line number bytes is line =
+        let counts = subst (λ t. Counts t old new) is next.counts in record {
+          open_ = not_ended (λ lines ended. let clash = sym is ∙ ended in absurd (cc));
+          gives =
+              subst (λ b. FromTold (λ xs ys. xs ≡ Some b ∷ ys) (to_come old (left before)) (to_come new (left after)))
+              (sym line)
+              (subst (λ t. Answers t new.line (to_come old (left before)) (to_come new (left after))) is next.answer);
+          next_one = counts.0;
+          counted = counts.1;
+          sure = read_as (Ok (Line number)) is (λ e. absurd (cc));
+        }
+
+    pub gives_none : (number : ℕ) → told ≡ Err (TooLongLine number) → GivesNow None number
+    gives_none number is =
+        let counts = subst (λ t. Counts t old new) is next.counts in record {
+          open_ = not_ended (λ lines ended. let clash = sym is ∙ ended in absurd (cc));
+          gives =
+              subst (λ t. Answers t new.line (to_come old (left before)) (to_come new (left after))) is next.answer;
+          next_one = counts.0;
+          counted = counts.1;
+          sure = read_as (Err (TooLongLine number)) is (λ e. absurd (cc));
+        }
+
+    module _ {one : Option (List ℕ)} {number : ℕ} (given : GivesNow one number) (last : Output) where
+      -- after it
+      pub after_given : (t : Standing)
+          → TakesLine (given_in m number one s) t later.written last.written
+          → last.faults ≡ later.faults → Stands m first t new (Now last)
+      after_given t takes wrote = record {
+        come =
+            subst (λ k. Come m t k first.input.left (to_come new (left after)) first.output.written last.written) (sym given.counted)
+            (come_more m s t old.number number one first.input.left (to_come old (left before))
+            (to_come new (left after)) first.output.written later.written last.written on
+            given.next_one given.gives takes);
+        taken = taken_on;
+        feeds = λ is_open.
+            counts_more old new first.input.left (left before) (left after)
+            (stands.feeds given.open_) (next.feeds is_open);
+        ended = λ ended. next.ended given.open_ ended;
+        room = subst (λ r. r ≤ LINE_LIMIT) (sym next.room) stands.room;
+        sure = (given.sure, wrote ∙ wrote_on);
+      }
+
+      -- within it
+      pub stops_given : (stop : Stop)
+          → GrowsFront later.written last.written (given_in m number one s).text
+          → StopsOutput stop later.faults last.faults → Stops (by_lines m) stop first (Now last)
+      stops_given stop front cause =
+          stops_output (by_lines m) stop first (source_of (left after) (faults after)) later last given.sure wrote_on
+          (come_part m s old.number number one first.input.left (to_come old (left before))
+          (to_come new (left after)) first.output.written later.written last.written on given.next_one given.gives front)
+          cause
+
+    -- ---- No line
+
+    -- the end
+    pub comes_to_end : (lines : ℕ) → told ≡ Ok (End lines) → ComesToEnd m s first (Now later)
+    comes_to_end lines is =
+        let counts = subst (λ t. Counts t old new) is next.counts in
+        let input = subst (λ t. TakesInput t old.taken new.taken (left before) (left after)) is next.input in
+        let at_end =
+        by_end (IsAtEnd (left after)) old.ended
+        (λ yes. subst (λ x. IsAtEnd (left x)) (sym (next.unasked (ended_unasked old yes))) (stands.ended yes))
+        (λ no. next.ended no counts.3) in (
+          come_all m s old.number new.taken first.input.left (to_come old (left before))
+              (to_come new (left after)) (left after) first.output.written later.written on
+              (subst (λ t. Answers t new.line (to_come old (left before)) (to_come new (left after))) is next.answer)
+              taken_on at_end (within_limit (End lines) old.taken new.taken (left before) (left after) input),
+          (read_as (Ok (End lines)) is (λ e. absurd (cc)), wrote_on),
+          at_end,
+        )
+
+    -- a read failed
+    pub stops_read : told ≡ Err ReadFault → Stops (by_lines m) why.Read first (Now later)
+    stops_read is =
+        let counts = subst (λ t. Counts t old new) is next.counts in
+        let open_ = not_ended (λ lines ended. let clash = sym is ∙ ended in absurd (cc)) in (
+          front_on,
+          subst (λ n. Rose n (faults after)) stands.sure.0 (next.cause.failed is),
+          wrote_on,
+          read_to open_ counts.0 counts.2 (next.handed.read is),
+        )
+
     -- the input is too long
-    pub long_input : IsTooLong (left first)
-    long_input =
-        too_long INPUT_LIMIT (left first) (left after) new.taken taken_on (next.input.limit.0 is)
-
-    -- exactly what may be read is answered
-    pub long_end : WritesRead (left first) (left after) start later
-    long_end =
+    pub stops_long : told ≡ Err InputTooLong → Stops (by_lines m) why.InputTooLong first (Now later)
+    stops_long is =
         let counts = subst (λ t. Counts t old new) is next.counts in
-        let open_ = not_ended (λ lines ended. let clash = sym is ∙ ended in absurd (cc)) in
-        come_ended old new s (to_come old (left before)) (left first) (left before) (left after)
-        start later on was.taken (was.feeds open_) counts.0 next.input.all (next.feeds counts.2)
-        (next.handed.long is)
+        let open_ = not_ended (λ lines ended. let clash = sym is ∙ ended in absurd (cc)) in (
+          front_on,
+          too_long INPUT_LIMIT first.input.left (left after) new.taken taken_on (next.input.limit.0 is),
+          (read_as (Err InputTooLong) is (λ e. absurd (cc)), wrote_on),
+          read_to open_ counts.0 counts.2 (next.handed.long is),
+        )
 
--- ---- Lines that the reader held
-
-module _ {S : Type 0} {left : S → Option (List ℕ)} {faults : S → ℕ} {first : S}
-    {start : Option (List ℕ)} {fails : ℕ} {s : Standing} {reader : ReaderState} {source : S}
-    {written later : Option (List ℕ)} {failed : ℕ}
-    (was : Stands left faults first start fails s reader source written failed) where
-  -- after them
-  pub after_group : {t : Standing} {new : ReaderState} {f : ℕ}
-      → TakesMore reader new s t written later → f ≡ failed
-      → Stands left faults first start fails t new source later f
-  after_group {t = t} {new = new} more same = record {
-    come =
-        subst (λ k. Come t k (left first) (to_come new (left source)) start later) (sym more.counted)
-        (come_group s reader.number more.lines (left first) (to_come reader (left source))
-        (to_come new (left source)) start written later was.come (more.come (left source)) t more.takes);
-    taken = subst (λ n. FromTold (LosesTaken 0 n) (left first) (left source)) (sym more.taken) was.taken;
-    feeds = λ open_.
-        counts_more reader new (left first) (left source) (left source)
-        (was.feeds (sym more.ended ∙ open_)) (more.feeds (left source));
-    ended = λ ended. was.ended (sym more.ended ∙ ended);
-    room = subst (λ r. r ≤ LINE_LIMIT) (sym more.room) was.room;
-    read = was.read;
-    wrote = same ∙ was.wrote;
-  }
-
-  -- within them
-  pub front_group : TakesPart reader s written later → WritesFront (left first) start later
-  front_group part =
-      come_part_group s reader.number part.lines (left first) (to_come reader (left source))
-      (part.rest (left source)) start written later was.come (part.come (left source)) part.front
+    -- memory is wanted for a line
+    pub stops_wanted : (wanted : memory.NoMemory) → told ≡ Err (NoMemory wanted)
+        → Stops (by_lines m) (why.NoMemory wanted) first (Now later)
+    stops_wanted wanted is =
+        (front_on, (read_as (Err (NoMemory wanted)) is (λ e. absurd (cc)), wrote_on))

@@ -9,7 +9,7 @@ use Rattle.kp_run_defs.specs.ReplayText.{Standing, Progress, line_at, short_line
 use Rattle.kp_text_defs.specs.declared.totals.Totals.{Totals}
 use Rattle.kp_text_defs.specs.declared.line_refusal.LineRefusal.TheVariants.{TooLongLine}
 use Rattle.kp_replay.specs.Steps.{IsReady}
-use Rattle.kp_replay.proofs.FirstLines.{next_ready}
+use Rattle.kp_line_laws.proofs.FirstLines.{next_ready}
 use Rattle.kp_run.specs.Sums.{CountsAlongReplay}
 
 pub line_more : {A B : Type 0} (f : B → A → B) (a : B) (g : ℕ → A) (n : ℕ) → fold f a (map g (range_with_len 0 (n + 1))) ≡ f (fold f a (map g (range_with_len 0 n))) (g n)

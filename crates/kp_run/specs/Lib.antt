@@ -1,7 +1,10 @@
 pub mod Codes
+pub mod Complete
 pub mod Given
 pub mod Held
 pub mod LastTables
 pub mod Next
 pub mod Outcome
+pub mod Stand
 pub mod Sums
+pub mod Texts

@@ -12,24 +12,27 @@ use Rattle.kp_text_defs.specs.Printed.{usage_text}
 use Rattle.kp_gen_defs.specs.declared.plan.ScriptPlan.{ScriptPlan}
 use Rattle.kp_run_defs.specs.GenText.{gen_of, gen_text}
 use Rattle.kp_run_defs.specs.LiveLines.{reading_of}
-use Rattle.kp_run_defs.specs.ReplayText.{Standing, Line, replay_of}
+use Rattle.kp_run_defs.specs.ReplayText.{Progress, Standing, Line}
+use Rattle.kp_mode_defs.specs.Mode.{Mode as Adds}
 use Rattle.kp_live.specs.Written as live
+use Rattle.kp_modes.specs.Modes.{changing, healthy}
 use Rattle.kp_run.specs.declared.status.Status.{Status}
 use Rattle.kp_run.specs.declared.status.Status.TheVariants.{Done, NoMemory, Usage, LinesRefused, ReadFault, WriteFault, InputTooLong}
 use Rattle.kp_replay.specs.Steps.{IsReady}
 use Rattle.kp_run.specs.Given.{replay_given}
+use Rattle.kp_run.specs.Texts.{Texts, in_mode, replayed}
 
 -- ---- On the way
 
--- How far the program has come: the lines that were given, where it stands after them, ready for the next one, and
--- what it has written.
-pub record Come (s : Standing) (number : ℕ) (input : Option (List ℕ)) (rest : Option (List (Option (List ℕ)))) (written now : Option (List ℕ)) : Type 0 where
+-- How far the program has come in a mode: the lines that were given, where it stands after them, ready for the next
+-- one, and what it has written.
+pub record Come (m : Adds) (s : Standing) (number : ℕ) (input : Option (List ℕ)) (rest : Option (List (Option (List ℕ)))) (written now : Option (List ℕ)) : Type 0 where
   pub given : List (Option (List ℕ))
   pub handed : HandedOut given input rest
-  pub stands : s ≡ (replay_given given).at
+  pub stands : s ≡ (replay_given m given).at
   pub ready : IsReady s
-  pub grown : Grows written now (replay_given given).text
-  pub counted : (replay_given given).number ≡ number
+  pub grown : Grows written now (replay_given m given).text
+  pub counted : (replay_given m given).number ≡ number
 
 -- the program stands where a line leads, and has written what the line prints
 pub record TakesLine (line : Line) (new : Standing) (written now : Option (List ℕ)) : Type 0 where
@@ -38,9 +41,9 @@ pub record TakesLine (line : Line) (new : Standing) (written now : Option (List 
 
 -- The whole text of an input was written, and this is whether a line of it was refused. The input is no longer
 -- than may be read.
-pub record WritesAll (refused : Bool) (text : List ℕ) (written now : Option (List ℕ)) : Type 0 where
-  pub grown : Grows written now (replay_of (lines_of text)).text
-  pub told : refused ≡ (replay_of (lines_of text)).at.refused
+pub record WritesAll (t : Texts) (refused : Bool) (text : List ℕ) (written now : Option (List ℕ)) : Type 0 where
+  pub grown : Grows written now (t.whole (lines_of text))
+  pub told : refused ≡ (t.progress (lines_of text)).at.refused
   pub short : length text ≤ INPUT_LIMIT
 
 -- a front of a text was written
@@ -48,19 +51,19 @@ abbrev pub GrowsFront : Option (List ℕ) → Option (List ℕ) → List ℕ →
 GrowsFront written now text = (n : ℕ) × Grows written now (take n text)
 
 -- a front of the whole text of an input, where that is told, was written
-abbrev pub WritesFront : Option (List ℕ) → Option (List ℕ) → Option (List ℕ) → Type 0
-WritesFront left written now = IfSome left (λ text. GrowsFront written now (replay_of (lines_of text)).text)
+abbrev pub WritesFront : Texts → Option (List ℕ) → Option (List ℕ) → Option (List ℕ) → Type 0
+WritesFront t left written now = IfSome left (λ text. GrowsFront written now (t.whole (lines_of text)))
 
 -- What was written is the text of the lines that a line feed ends in the bytes that an input lost, as far as these
 -- stand within a limit.
-pub record WritesEnded (limit : ℕ) (written now : Option (List ℕ)) (text rest : List ℕ) : Type 0 where
+pub record WritesEnded (progress : List (List ℕ) → Progress) (limit : ℕ) (written now : Option (List ℕ)) (text rest : List ℕ) : Type 0 where
   pub lost : List ℕ
   pub front : text ≡ lost ++ rest
-  pub grown : Grows written now (replay_of (ended_lines (take limit lost))).text
+  pub grown : Grows written now (progress (ended_lines (take limit lost))).text
 
 -- where the input is told, exactly the text of the lines was written that ended in what was read of it
-abbrev pub WritesRead : Option (List ℕ) → Option (List ℕ) → Option (List ℕ) → Option (List ℕ) → Type 0
-WritesRead left end written now = FromTold (WritesEnded INPUT_LIMIT written now) left end
+abbrev pub WritesRead : (List (List ℕ) → Progress) → Option (List ℕ) → Option (List ℕ) → Option (List ℕ) → Option (List ℕ) → Type 0
+WritesRead progress left end written now = FromTold (WritesEnded progress INPUT_LIMIT written now) left end
 
 -- an input has more bytes than may be read
 abbrev pub IsTooLong : Option (List ℕ) → Type 0
@@ -107,19 +110,19 @@ IsSure old new = (new.input.faults ≡ old.input.faults) × (new.output.faults �
 
 -- the whole text was written and flushed, this is whether a line was refused, nothing failed, and where the source
 -- tells what it has left, that is nothing
-abbrev pub EndsWhole : Bool → Outside → Outside → Type 0
-EndsWhole refused old new =
-    IfSome old.input.left (λ text. WritesAll refused text old.output.written new.output.written) × IsOut new.output
+abbrev pub EndsWhole : Texts → Bool → Outside → Outside → Type 0
+EndsWhole t refused old new =
+    IfSome old.input.left (λ text. WritesAll t refused text old.output.written new.output.written) × IsOut new.output
     × IsSure old new × IsAtEnd new.input.left
 
 -- a front of the whole text was written
-abbrev pub EndsFront : Outside → Outside → Type 0
-EndsFront old new = WritesFront old.input.left old.output.written new.output.written
+abbrev pub EndsFront : Texts → Outside → Outside → Type 0
+EndsFront t old new = WritesFront t old.input.left old.output.written new.output.written
 
 -- exactly the text of the lines was written that ended in what was read, it is flushed, and no write has failed
-abbrev pub EndsRead : Outside → Outside → Type 0
-EndsRead old new =
-    WritesRead old.input.left new.input.left old.output.written new.output.written
+abbrev pub EndsRead : Texts → Outside → Outside → Type 0
+EndsRead t old new =
+    WritesRead t.progress old.input.left new.input.left old.output.written new.output.written
     × IsOut new.output × (new.output.faults ≡ old.output.faults)
 
 -- What holds of each status: where the run read its input to its end and wrote all, the whole text was written
@@ -128,17 +131,25 @@ EndsRead old new =
 -- fault of a read is told only where the count of its faults rose and no write has failed, one of a write only where
 -- the count of its faults rose, an input that is too long only where it is and nothing has failed, and want of
 -- memory, which is free else, only where nothing has failed.
+abbrev pub EndsOf : Texts → Status → Outside → Outside → Type 0
+EndsOf t Done old new = EndsWhole t false old new
+EndsOf t LinesRefused old new = EndsWhole t true old new
+EndsOf t (NoMemory refused) old new = EndsFront t old new × IsSure old new
+EndsOf t Usage old new = ⊥
+EndsOf t ReadFault old new =
+    Rose old.input.faults new.input.faults × EndsFront t old new × EndsRead t old new
+EndsOf t WriteFault old new = Rose old.output.faults new.output.faults × EndsFront t old new
+EndsOf t InputTooLong old new =
+    IsTooLong old.input.left × (new.input.faults ≡ old.input.faults) × EndsFront t old new
+    × EndsRead t old new
+
+-- for a replay
 abbrev pub Ends : Status → Outside → Outside → Type 0
-Ends Done old new = EndsWhole false old new
-Ends LinesRefused old new = EndsWhole true old new
-Ends (NoMemory refused) old new = EndsFront old new × IsSure old new
-Ends Usage old new = ⊥
-Ends ReadFault old new =
-    Rose old.input.faults new.input.faults × EndsFront old new × EndsRead old new
-Ends WriteFault old new = Rose old.output.faults new.output.faults × EndsFront old new
-Ends InputTooLong old new =
-    IsTooLong old.input.left × (new.input.faults ≡ old.input.faults) × EndsFront old new
-    × EndsRead old new
+Ends = EndsOf replayed
+
+-- and for a mode
+abbrev pub EndsIn : Adds → Status → Outside → Outside → Type 0
+EndsIn m = EndsOf (in_mode m)
 
 -- the status of an input that was read to its end
 abbrev pub status_if : Bool → Status
@@ -239,6 +250,8 @@ EndsLive InputTooLong old new =
 abbrev pub asks_replay : Option Mode → Bool
 asks_replay None = false
 asks_replay (Some (mode.Replay workers)) = true
+asks_replay (Some mode.Changes) = false
+asks_replay (Some mode.Health) = false
 asks_replay (Some mode.Live) = false
 asks_replay (Some (mode.Gen seed services pods)) = false
 
@@ -246,6 +259,8 @@ asks_replay (Some (mode.Gen seed services pods)) = false
 abbrev pub reads_source : Option Mode → Bool
 reads_source None = false
 reads_source (Some (mode.Replay workers)) = true
+reads_source (Some mode.Changes) = true
+reads_source (Some mode.Health) = true
 reads_source (Some mode.Live) = true
 reads_source (Some (mode.Gen seed services pods)) = false
 
@@ -254,6 +269,8 @@ reads_source (Some (mode.Gen seed services pods)) = false
 abbrev pub Runs : Option Mode → Status → Outside → Outside → Type 0
 Runs None status old new = EndsUnserved status old.output new.output
 Runs (Some (mode.Replay workers)) status old new = Ends status old new
+Runs (Some mode.Changes) status old new = EndsIn changing status old new
+Runs (Some mode.Health) status old new = EndsIn healthy status old new
 Runs (Some mode.Live) status old new = EndsLive status old new
 Runs (Some (mode.Gen seed services pods)) status old new =
     EndsGen (record { seed = seed; services = services; pods = pods }) status old.output new.output

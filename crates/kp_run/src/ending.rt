@@ -3,6 +3,8 @@ ghost use Rattle.std.specs.Prelude.{◌≡◌, ◌≤◌, [], Err, OnOk, OnErr};
 ghost use Rattle.kp_io.specs.Faults.{Rose};
 ghost use Rattle.kp_io.specs.Told.{Grows, IsFlushed};
 ghost use Rattle.kp_run.specs.Outcome as outcome;
+ghost use Rattle.kp_run.specs.Stand.{EndsOrStops};
+ghost use Rattle.kp_run.specs.Texts.{Texts};
 ghost use Rattle.kp_run.specs.declared.ending.Stop.{Stop};
 ghost use Rattle.kp_run.specs.declared.status.Status.TheVariants as status;
 
@@ -90,6 +92,25 @@ pub(crate) fn flushed<K: Sink>(sink: &mut K, status: Status) -> Status
     match sink.flush() {
         Ok(()) => status,
         Err(_) => Status::WriteFault,
+    }
+}
+
+/// Ends a replay that has come to the end of its input, of which this is whether a line was refused,
+/// or was stopped.
+pub(crate) fn ended<K: Sink>(sink: &mut K, refused: bool, all: Result<(), Stop>) -> Status
+    ensures out { outcome.IsHandedOn result (K.kept_back sink.new) }
+    ensures ends { (t : Texts) (first : outcome.Outside) (input : outcome.Input)
+        → EndsOrStops t refused all first (outcome.ends_of input
+        (outcome.sink_of (K.written sink.old) (K.flushed sink.old) (K.faults sink.old)))
+        → outcome.EndsOf t result first (outcome.ends_of input
+        (outcome.sink_of (K.written sink.new) (K.flushed sink.new) (K.faults sink.new))) }
+{
+    match all {
+        Ok(()) => flushed(sink, if_refused(refused)),
+        Err(Stop::NoMemory(wanted)) => handed_on(sink, wanted),
+        Err(Stop::Write) => Status::WriteFault,
+        Err(Stop::Read) => flushed(sink, Status::ReadFault),
+        Err(Stop::InputTooLong) => flushed(sink, Status::InputTooLong),
     }
 }
 

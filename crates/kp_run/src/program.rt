@@ -5,24 +5,28 @@ ghost use Rattle.kp_run.specs.Outcome as outcome;
 
 use crate::ending::usage;
 use crate::generated::generate;
-use crate::lines::replay_one;
+use crate::lines::{replay_in, replay_one};
+use crate::many::replay_many;
 use crate::status::Status;
 use crate::streams::run_live;
 use kp_gate::Gate;
 use kp_gen::ScriptPlan;
 use kp_io::{Sink, Source};
+use kp_modes::{Changing, Healthy};
 use kp_words::{Mode, read_words};
 use std::alloc::Global;
 use std::sync::Wait;
 use std::thread::Threads;
 
 /// Runs the program on its words, of which the first is its name. For `replay` it reads the lines
-/// of the source to its end, and writes what they print to the sink; for `live` it reads them, runs
-/// their streams beside each other, and writes the text of that run; for `gen` it writes the one
-/// line of a generated script; where the words don't fit, it writes the usage line. It reads the
-/// source for `replay` and `live` alone, and hands on what is known before it asks for more. Without
-/// memory for words that don't fit it writes nothing. For `live` alone it waits and starts threads by
-/// its runtime, and calls of the streams pass the gate.
+/// of the source to its end, and writes what they print to the sink; for `changes` and `health` it
+/// does so too, and adds what each sync changed or what health ports answer; for `live` it reads
+/// them, runs their streams beside each other, and writes the text of that run; for `gen` it writes
+/// the one line of a generated script; where the words don't fit, it writes the usage line. It reads
+/// no source for `gen` and for words that don't fit, and hands on what is known before it asks for
+/// more. Without memory for such words it writes nothing. For `live` alone it waits by its runtime;
+/// for `live`, and for `replay` with more than one worker, it starts threads by it, and calls of
+/// streams and workers pass the gate.
 pub fn run<S: Source, K: Sink, R: Threads + Wait + Sync, G: Gate<R> + Sync>(
     rt: &R,
     alloc: Global,
@@ -42,8 +46,8 @@ pub fn run<S: Source, K: Sink, R: Threads + Wait + Sync, G: Gate<R> + Sync>(
         → source.new ≡ source.old }
 {
     match read_words(alloc, words) {
-        // One worker answers all lines, whatever the number that is asked for.
-        Ok(Some(Mode::Replay { workers: _ })) => replay_one(alloc, source, sink),
+        Ok(Some(Mode::Replay { workers: 1 })) => replay_one(alloc, source, sink),
+        Ok(Some(Mode::Replay { workers })) => replay_many(rt, alloc, workers, source, sink, gate),
         Ok(
             Some(
                 Mode::Gen {
@@ -61,6 +65,8 @@ pub fn run<S: Source, K: Sink, R: Threads + Wait + Sync, G: Gate<R> + Sync>(
             },
             sink,
         ),
+        Ok(Some(Mode::Changes)) => replay_in(alloc, &mut Changing, source, sink),
+        Ok(Some(Mode::Health)) => replay_in(alloc, &mut Healthy::new(alloc), source, sink),
         Ok(Some(Mode::Live)) => run_live(rt, alloc, source, sink, gate),
         Ok(None) => usage(sink),
         Err(refused) => Status::NoMemory(refused),

@@ -13,6 +13,10 @@ use std::alloc::Global;
 pub enum Mode {
     /// It answers the lines of its input, in order, with so many workers.
     Replay { workers: u64 },
+    /// It answers them, and tells what each sync changed.
+    Changes,
+    /// It answers them, and tells what health probes of the node would see after each sync.
+    Health,
     /// It runs the streams of its input side by side.
     Live,
     /// It generates a script from a seed, with so many Services and pods, and prints what came of
@@ -55,6 +59,8 @@ fn named_mode(name: &str) -> Option<Mode>
 {
     match name {
         "replay" => Some(Mode::Replay { workers: 1 }),
+        "changes" => Some(Mode::Changes),
+        "health" => Some(Mode::Health),
         "live" => Some(Mode::Live),
         _ => None,
     }
