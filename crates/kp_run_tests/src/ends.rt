@@ -5,7 +5,7 @@ use crate::inputs::{
 use crate::lines::words_of;
 use kp_base::Items;
 use kp_gate::{Gate, OpenGate};
-use kp_io::{MemorySink, MemorySource, SureSink, SureSource};
+use kp_io::{BufferedSink, MemorySink, MemorySource, SureSink, SureSource};
 use kp_run::{Status, run};
 use std::alloc::Global;
 use std::process::Abort;
@@ -52,10 +52,42 @@ pub(crate) fn failing_run<R: Threads + Wait + Sync + AllocGlobal>(
     pieces: (u64, u64),
     calls: (u64, u64),
 ) -> Result<Ended, Fail> {
+    gated_run(rt, line, input, pieces, calls, &OpenGate)
+}
+
+/// The same, whose calls pass a gate.
+pub(crate) fn gated_run<R: Threads + Wait + Sync + AllocGlobal, G: Gate<R> + Sync>(
+    rt: &R,
+    line: &str,
+    input: &str,
+    pieces: (u64, u64),
+    calls: (u64, u64),
+    gate: &G,
+) -> Result<Ended, Fail> {
     let alloc = rt.alloc();
     let bytes = Items::from_vec(Vec::from_slice(alloc, input.as_bytes())?);
     let mut source = MemorySource::new(bytes, pieces.0.max(1), failing(alloc, calls.0)?);
     let mut sink = MemorySink::new(alloc, pieces.1.max(1), 4096, failing(alloc, calls.1)?)?;
+    let words = words_of(alloc, line)?;
+    let status = run(rt, alloc, words.as_slice(), &mut source, &mut sink, gate);
+    let written = Vec::from_slice(alloc, sink.written())?;
+    Ok(Ended { status, written })
+}
+
+/// The same over a buffer before the sink, and a source that never fails: what is told as written
+/// is what came through.
+pub(crate) fn buffered_run<R: Threads + Wait + Sync + AllocGlobal>(
+    rt: &R,
+    line: &str,
+    input: &str,
+    pieces: (u64, u64),
+    call: u64,
+) -> Result<Ended, Fail> {
+    let alloc = rt.alloc();
+    let bytes = Items::from_vec(Vec::from_slice(alloc, input.as_bytes())?);
+    let mut source = SureSource::new(bytes, pieces.0.max(1));
+    let sink = MemorySink::new(alloc, pieces.1.max(1), 4096, failing(alloc, call)?)?;
+    let mut sink = BufferedSink::new(alloc, sink)?;
     let words = words_of(alloc, line)?;
     let status = run(
         rt,
@@ -65,7 +97,7 @@ pub(crate) fn failing_run<R: Threads + Wait + Sync + AllocGlobal>(
         &mut sink,
         &OpenGate,
     );
-    let written = Vec::from_slice(alloc, sink.written())?;
+    let written = Vec::from_slice(alloc, sink.sink().written())?;
     Ok(Ended { status, written })
 }
 

@@ -1,6 +1,6 @@
 //! Reads and writes that fail at every call of a run, and what is written then: of a replay, with
 //! one worker and with four, and of a live run.
-use crate::ends::{REPLAYS, failing_run, is_end, sure_run};
+use crate::ends::{REPLAYS, buffered_run, failing_run, is_end, sure_run};
 use crate::inputs::{CLASHES, Case, ENDPOINTS, LIVE, case_of};
 use kp_gate::OpenGate;
 use kp_run::Status;
@@ -16,7 +16,7 @@ const READ: u64 = 64;
 const CALLS: u64 = 10_000;
 
 /// How many lines have come to their ends in the first bytes of a text, so many.
-fn lines_in(text: &str, bytes: u64) -> u64 {
+pub(crate) fn lines_in(text: &str, bytes: u64) -> u64 {
     let text = text.as_bytes();
     let (front, _) = text.split_at((bytes as usize).min(text.len()));
     front.iter().filter(|byte: &&u8| **byte == b'\n').count() as u64
@@ -59,17 +59,21 @@ fn check_reads<R: Abort + Threads + Wait + Sync + AllocGlobal>(
 }
 
 /// Each write of a run fails in turn, and its flush: a front is written, which grows from one to
-/// the next.
+/// the next. So it is with a buffer before the sink.
 fn check_writes<R: Abort + Threads + Wait + Sync + AllocGlobal>(
     rt: &R,
     words: &str,
     rows: &str,
     status: Status,
+    buffered: bool,
 ) -> Result<(), Fail> {
     let case = case_of(rt.alloc(), rows, 100)?;
     let mut before = 0;
     for call in 1..CALLS {
-        let ended = failing_run(rt, words, &case.input, (READ, 7), (0, call))?;
+        let ended = match buffered {
+            true => buffered_run(rt, words, &case.input, (READ, 7), call)?,
+            false => failing_run(rt, words, &case.input, (READ, 7), (0, call))?,
+        };
         if ended.status != Status::WriteFault {
             assert!(rt; is_end(&ended, status, &case.printed), "{words} {call}");
             return Ok(());
@@ -95,10 +99,18 @@ fn each_failed_read_of_a_replay_leaves_the_lines_before(rt: HostRuntime) -> Resu
 #[test]
 fn each_failed_write_of_a_replay_leaves_a_front(rt: HostRuntime) -> Result<(), Fail> {
     for words in REPLAYS {
-        check_writes(&rt, words, ENDPOINTS, Status::Done)?;
-        check_writes(&rt, words, CLASHES, Status::LinesRefused)?;
+        check_writes(&rt, words, ENDPOINTS, Status::Done, false)?;
+        check_writes(&rt, words, CLASHES, Status::LinesRefused, false)?;
     }
     Ok(())
+}
+
+#[test]
+fn each_failed_write_after_a_buffer_leaves_a_front(rt: HostRuntime) -> Result<(), Fail> {
+    for words in REPLAYS {
+        check_writes(&rt, words, ENDPOINTS, Status::Done, true)?;
+    }
+    check_writes(&rt, "kproxy live", LIVE, Status::LinesRefused, true)
 }
 
 /// Nothing is written before the input is read to its end, so that a live run whose read failed has
@@ -122,7 +134,7 @@ fn each_failed_read_of_a_live_run_leaves_nothing(rt: HostRuntime) -> Result<(), 
 
 #[test]
 fn each_failed_write_of_a_live_run_leaves_a_front(rt: HostRuntime) -> Result<(), Fail> {
-    check_writes(&rt, "kproxy live", LIVE, Status::LinesRefused)
+    check_writes(&rt, "kproxy live", LIVE, Status::LinesRefused, false)
 }
 
 #[test]

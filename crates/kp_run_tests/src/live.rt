@@ -11,10 +11,10 @@ use std::sync::atomic::{AtomicU32, Ordering};
 use std::test::Fail;
 use std::thread::Threads;
 
-/// A gate that holds chosen calls, and counts what passes it: each call of a stream passes as it
-/// arrives and as it leaves.
+/// A gate that holds chosen calls, and counts what passes it: each call of a stream or a worker
+/// passes as it arrives and as it leaves.
 #[derive(Drop)]
-struct CountingGate {
+pub(crate) struct CountingGate {
     holds: HoldGate,
     /// The passages of the first stream, those of the second, and those of both out of turn.
     first: AtomicU32,
@@ -34,9 +34,8 @@ impl CountingGate {
         }
     }
 
-    /// Whether so many calls of each stream have passed twice, in turn, and no hold ended by its
-    /// turns.
-    fn has_passed(&self, calls: (u32, u32)) -> bool {
+    /// Whether so many calls of each have passed twice, in turn, and no hold ended by its turns.
+    pub(crate) fn has_passed(&self, calls: (u32, u32)) -> bool {
         self.first.load(Ordering::SeqCst) == calls.0.wrapping_mul(2)
             && self.second.load(Ordering::SeqCst) == calls.1.wrapping_mul(2)
             && self.strayed.load(Ordering::SeqCst) == 0
@@ -75,7 +74,7 @@ fn hold_of(word: &str) -> Result<Hold, Fail> {
 }
 
 /// The gate with the holds that these words tell.
-fn counting_gate(alloc: Global, words: &str) -> Result<CountingGate, Fail> {
+pub(crate) fn counting_gate(alloc: Global, words: &str) -> Result<CountingGate, Fail> {
     let mut holds = Vec::new(alloc);
     for word in words.split_whitespace() {
         holds.push(hold_of(word)?)?;
