@@ -112,7 +112,7 @@ class Call:
             if text[at] in "([":
                 at = end_of(text, at)
             elif text[at] == "{":
-                clause = re.search(r"\b(requires|ensures)\*?\s*(\w*)\s*$", text[begun:at])
+                clause = re.search(r"\b(ghost|requires|ensures)\*?\s*(\w*):?\s*$", text[begun:at])
                 if result is None:
                     result = text[begun : begun + clause.start() if clause else at]
                 if not clause:

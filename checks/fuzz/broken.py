@@ -71,10 +71,14 @@ def printed(pattern, other, mode="replay", workers=None):
     return change
 
 
-def after_a_refusal(run, words, data, pieces):
-    """Says that a chain more was written where a line was refused before."""
-    status, text = run(words, data, pieces)
-    return status, re.sub(r"(?s)(refused: .*written )", r"\g<1>1", text)
+def after(word):
+    """Says that more chains were written where a word stands before."""
+
+    def change(run, words, data, pieces):
+        status, text = run(words, data, pieces)
+        return status, re.sub(rf"(?s)({word}.*written )", r"\g<1>1", text)
+
+    return change
 
 
 # ---- how it ends
@@ -111,7 +115,12 @@ PROGRAMS = {
         printed(f"^({PACKET})(.*\n)({PACKET})(?!\\2)(.*\n)", r"\1\4\3\2", workers="4"),
         "pieces and workers",
     ),
-    "keeps something of a refused line": (after_a_refusal, "what refused lines leave"),
+    "sends a packet elsewhere than it explains": (
+        printed(rf"^(explain .*\n{PACKET}).*$", r"\1dropped"),
+        "verdict",
+    ),
+    "keeps something of a refused line": (after("refused"), "what marked lines leave"),
+    "keeps something of an explanation": (after("explain"), "what marked lines leave"),
     "prints an address without its length": (printed(r"/32 ", " "), "echo"),
     "prints a rule twice in another table": (
         printed(r"^COMMIT\n\*filter\n(?=:INPUT)", r"-A KUBE-SVC-X -j ACCEPT\n\g<0>"),

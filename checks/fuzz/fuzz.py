@@ -6,13 +6,19 @@
     A line is bad JSON exactly where Python's reader, held to UTF-8, to whole characters, to finite
     numbers and to 127 levels, doesn't read it.
     However the input is cut into pieces, and for 1, 3 and 4 workers, the text is the same.
-    With a bookmark in place of each refused line the text is the same, but for the refusals.
-    kp_restore_echo reads the tables of each family at the end, and prints them as they were.
+    A packet goes where an explanation of the same one, right before it, says: the explanation goes
+    by the objects and the packet by the table.
+    With a bookmark in place of each line that is refused, shows something or explains something,
+    the text is the same, but for what these lines print.
+    kp_restore_echo reads the tables of each family at the end, and prints them as they were; and
+    packets go where these say (walk.py walks their rules).
+    In the other modes over the same lines the text is the same, but for what these add.
     Where streams run at once the program ends well. Of some scripts what is written then is judged,
     too: it is a legal run (../live/runs.py says of what), and the last tables of a stream alone are
     those of a replay.
 
     fuzz.py check PROGRAM ECHO COUNT FIRST    runs random scripts, by the seeds from FIRST on
+    fuzz.py find PROGRAM ECHO COUNT FIRST     tells which of these is the first that shows a fault
     fuzz.py judge PROGRAM ECHO SCRIPT         runs a script
     fuzz.py script SEED                       prints the random script of a seed
 """
@@ -27,6 +33,7 @@ import signal
 import subprocess
 import sys
 import time
+from functools import lru_cache
 from itertools import islice
 from multiprocessing import Pool
 from pathlib import Path
@@ -34,19 +41,26 @@ from pathlib import Path
 sys.path.append(str(Path(__file__).resolve().parent.parent / "live"))
 
 import runs
-from scripts import MOST_BYTES, random_script
+from scripts import MOST_BYTES, random_script, to_door
+from walk import Tables, Unknown, Walk
 
 SECONDS = 60
 MOST_LEVELS = 127
 FEWEST = 256  # lines that workers share
 MOST_FAULTS = 5
-JUDGED = 0.25  # of the live runs are judged, which takes the most time
+JUDGED = 0.1  # of the live runs are judged, which takes the most time
+WALKED = 10  # packets by the last tables
+IN_MODES = 0.25  # of the scripts run in another mode as well
+# how the lines begin that a mode adds, and the form of what it adds at the end
+RULES_AT_END = r"(?:\*filter\n:KUBE-NODEPORTS .*\n(?:-A .*\n)+COMMIT\n)?"
+MODES = {"changes": ("change", ""), "health": ("health", RULES_AT_END)}
 SHRINKING = 30  # seconds in which a smaller script is looked for
 # a pipe holds so many pieces of at most so many bytes
 PIECES, PIECE = 256, 4096
 F_SETPIPE_SZ = 1031
 
 BLANKS = b" \t\r"
+NO_VALUE = object()
 BOOKMARK = b'{"type":"BOOKMARK","object":{}}'
 TABLES = [b'{"op":"show","what":"nat"}', b'{"op":"show","what":"filter"}']
 TABLES6 = [b'{"op":"show","what":"nat6"}', b'{"op":"show","what":"filter6"}']
@@ -186,21 +200,19 @@ def pieces_of(data, rng):
 # ---- what lines ask for
 
 
-def is_json(line):
-    """Whether a line is a JSON value that is read."""
+@lru_cache(maxsize=256)
+def value_of(line):
+    """The value of a line, or NO_VALUE where it isn't JSON that is read."""
     try:
-        value = json.loads(
-            line.decode(),
-            parse_constant=finite,
-            parse_float=finite,
-            parse_int=finite,
-            object_pairs_hook=tuple,
-        )
+        text = line.decode()
+        value = json.loads(text, parse_constant=finite, parse_float=finite, parse_int=whole)
         # few lines are so deep or have such characters that all of a value is looked at
-        is_plain = line.count(b"[") + line.count(b"{") <= MOST_LEVELS and b"\\u" not in line
-        return is_plain or levels_of(value) <= MOST_LEVELS
+        is_plain = text.count("[") + text.count("{") <= MOST_LEVELS and "\\u" not in text
+        if not is_plain and levels_of(json.loads(text, object_pairs_hook=tuple)) > MOST_LEVELS:
+            return NO_VALUE
+        return value
     except (ValueError, RecursionError):
-        return False
+        return NO_VALUE
 
 
 def finite(text):
@@ -209,6 +221,11 @@ def finite(text):
     if not math.isfinite(number):
         raise ValueError
     return number
+
+
+def whole(text):
+    finite(text)
+    return int(text)
 
 
 def levels_of(value):
@@ -226,49 +243,71 @@ class Answers:
     def __init__(self):
         self.syncs = self.events = 0
         self.has_six = False  # whether there are tables of IPv6
+        self.explained = None, None  # what the line before explains, and its verdict
 
     def to(self, number, line, why):
-        """The beginning of each part of the answer to the next line, and the form of the rest. The
-        line is refused so, or isn't."""
+        """The form of the answer to the next line, the beginning of each of its parts and the form
+        of the part's rest. The line is refused so, or isn't."""
         is_long = len(line) > MOST_BYTES
         demand((why == "longer than 16777216 bytes") == is_long, f"answers: line {number}: {why}")
-        is_bad = not is_long and not is_json(line)
+        value = NO_VALUE if is_long else value_of(line)
+        is_bad = not is_long and value is NO_VALUE
         demand((why == "bad json") == is_bad, f"answers: line {number} is bad JSON: {is_bad}")
         if why:
-            return [(f"line {number}: refused: ", "refused")]
-        value = json.loads(line)
+            return "refused", [(f"line {number}: refused: ", "refused")]
         op, at = value.get("op"), f"{number} at {self.syncs}"
         if op == "sync":
             self.syncs, events, self.events = self.syncs + 1, self.events, 0
-            return [(f"sync {self.syncs}: events {events}", op)]
+            return op, [(f"sync {self.syncs}: events {events}", op)]
         if op == "packet":
             trail = [(f"trail {number}: ", "trail")] if value.get("trail") else []
-            return [(f"packet {at}: ", op), *trail]
+            return op, [(f"packet {at}: ", op), *trail]
         if op == "explain":
-            return [(f"explain {at}: ", op)]
+            return op, [(f"explain {at}: ", op)]
         if op == "show":
             table = value["what"].removesuffix("6")
-            return [("", table if table == value["what"] or self.has_six else "nothing")]
+            return op, [("", table if table == value["what"] or self.has_six else "nothing")]
         if op == "config":
             self.has_six = value.get("dualStack") is True
         else:
             self.events += len(runs.events_of(value))
-        return []
+        return op, []
+
+    def compare(self, op, line, rest):
+        """A packet has the verdict of the explanation before it, where both have the same draws."""
+        value = value_of(line) if op in ("packet", "explain") else {}
+        asked = {name: it for name, it in value.items() if name not in ("op", "trail")}
+        verdict = re.split("[;\n]", rest)[0]
+        has_draws = "draws" in asked or "seed" not in asked  # seeds draw by the line's number
+        if op == "packet" and has_draws and asked == self.explained[0]:
+            other = self.explained[1]
+            demand(verdict == other, f"verdict: {verdict!r}, and it is explained as {other!r}")
+        self.explained = (asked, verdict) if op == "explain" else (None, None)
 
 
 def check_answers(lines, refused, text):
-    """Each line has its answer, and there is no other."""
-    answers, place = Answers(), 0
+    """Each line has its answer, and there is no other. The lines with a bookmark in place of each
+    that changes nothing, and what the others print."""
+    answers, place, marked, printed = Answers(), 0, [], []
     for number, line in enumerate(lines, 1):
-        if not line.strip(BLANKS):
+        if len(line) <= MOST_BYTES and not line.strip(BLANKS):
             demand(number not in refused, f"answers: line {number} is blank")
+            marked.append(line)
             continue
-        for beginning, form in answers.to(number, line, refused.get(number)):
+        op, parts = answers.to(number, line, refused.get(number))
+        start = place
+        for beginning, form in parts:
             begins = text.startswith(beginning, place)
             found = begins and FORMS[form].match(text, place + len(beginning))
             demand(found, f"answers: line {number}: {text[place : place + 200]!r} is no {form}")
+            if place == start:
+                answers.compare(op, line, text[place + len(beginning) : found.end()])
             place = found.end()
+        is_asking = op in ("refused", "explain", "show")
+        marked.append(BOOKMARK if is_asking else line)
+        printed.append("" if is_asking else text[start:place])
     demand(place == len(text), f"answers: after all lines: {text[place : place + 200]!r}")
+    return marked, "".join(printed)
 
 
 # ---- running
@@ -292,14 +331,15 @@ def check_script(program, data, rng):
     """Raises what isn't so of a script."""
     text = check_status("replay", program.run(["replay", "--workers", "1"], data))
     lines, refused = lines_of(data), {int(line): why for line, why in REFUSED.findall(text)}
-    check_answers(lines, refused, text)
+    marked, printed = check_answers(lines, refused, text)
     again = program.run(["replay", "--workers", "4"], data, pieces_of(data, rng))
     compare("pieces and workers", check_status("replay in pieces", again), text)
     if len(lines) >= FEWEST:
         shared = program.run(["replay", "--workers", "3"], data)
         compare("workers", check_status("replay by workers", shared), text)
-    marked = [BOOKMARK if at in refused else line for at, line in enumerate(lines, 1)]
-    tables, tables6 = check_marked(program, marked, REFUSED.sub("", text))
+    if rng.random() < IN_MODES:
+        check_mode(program, data, text, rng.choice(list(MODES)))
+    tables, tables6 = check_marked(program, marked, printed, rng)
     if program.echo:
         compare("echo", program.echoed(tables), tables)
     if program.echo and tables6:
@@ -310,14 +350,43 @@ def check_script(program, data, rng):
         check_live(program, data, marked, *ended)
 
 
-def check_marked(program, marked, wanted):
-    """Refused lines changed nothing. The tables of each family after all lines."""
-    data = b"\n".join([*marked, *TABLES, *TABLES6, b""])
+def check_mode(program, data, replayed, mode):
+    """A mode prints what a replay prints, and what it adds."""
+    word, ending = MODES[mode]
+    text = check_status(mode, program.run([mode], data))
+    text = re.sub(f"^{word} .*\n", "", text, flags=re.M)
+    compare(mode, text[: len(replayed)], replayed)
+    rest = text[len(replayed) :]
+    demand(re.fullmatch(ending, rest), f"{mode}: ends with {rest[-200:]!r}")
+
+
+def check_marked(program, marked, wanted, rng):
+    """The lines that are marked changed nothing. After all lines and a sync packets go where the
+    tables say. The tables of each family then."""
+    first = next((line for line in marked if line.strip(BLANKS)), b"")
+    value = value_of(first) if first else {}
+    setting = value if value is not NO_VALUE and value.get("op") == "config" else {}
+    packets = [to_door(setting, rng) for _ in range(WALKED)]
+    asked = [json.dumps(it).encode() for it in packets]
+    data = b"\n".join([*marked, b'{"op":"sync"}', *TABLES, *TABLES6, *asked, b""])
     text = check_status("replay of what is read", program.run(["replay"], data))
-    compare("what refused lines leave", text[: len(wanted)], wanted)
-    tables = text[len(wanted) :]
-    place = tables.find("*nat\n", 1)
-    return (tables, "") if place < 0 else (tables[:place], tables[place:])
+    compare("what marked lines leave", text[: len(wanted)], wanted)
+    whole = text[len(wanted) :].partition("\n")[2]  # without what the sync prints
+    end, six = whole.find("\npacket ") + 1, whole.find("*nat\n", 1)
+    texts = whole[:end] if six < 0 else whole[:six], "" if six < 0 else whole[six:end]
+    check_walks(packets, setting, texts, whole[end:])
+    return texts
+
+
+def check_walks(packets, setting, texts, said):
+    """Packets go where the tables of each family say."""
+    tables = [Tables(text) for text in texts]
+    for packet, verdict in zip(packets, re.findall(r": (.*)\n", said), strict=True):
+        try:
+            wanted = Walk(tables[":" in packet["dst"]], setting, packet).verdict()
+        except Unknown:
+            continue
+        demand(verdict == wanted, f"walk: {verdict!r}, and not {wanted!r}: {json.dumps(packet)}")
 
 
 def check_live(program, data, marked, status, text):
@@ -413,14 +482,31 @@ def check(path, echo, count, first):
     return int(bool(faults))
 
 
+def shown(seed):
+    """The fault that a seed's script shows, or nothing."""
+    return fault_of(built, random_script(seed), seed)
+
+
+def find(path, echo, count, first):
+    """Tells which random script is the first that shows a fault."""
+    seeds = range(first, first + count)
+    with Pool(len(os.sched_getaffinity(0)), begin, (path, echo)) as pool:
+        faults = enumerate(pool.imap(shown, seeds), 1)
+        place, fault = next(((place, it) for place, it in faults if it), (0, ""))
+    if fault:
+        print(f"script {place} shows it: {fault}")
+    return int(not fault)
+
+
 def main(words):
     """Does what the words ask for; the status."""
     mode, *words = words
     if mode == "script":
         sys.stdout.buffer.write(random_script(int(words[0])))
         return 0
-    if mode == "check":
-        return check(words[0], words[1], int(words[2]), int(words[3]))
+    if mode in ("check", "find"):
+        how = check if mode == "check" else find
+        return how(words[0], words[1], int(words[2]), int(words[3]))
     begin(*words[:2])
     fault = fault_of(built, Path(words[2]).read_bytes(), 0)
     print(fault or "as it should be")

@@ -1,8 +1,7 @@
 """Random scripts of every form of line. A third has faults in members, a third in bytes, and one of
-ten has crowds of packets. The same seed makes the same script. Their objects are those of
+twenty has crowds of packets. The same seed makes the same script. Their objects are those of
 ../follow, a few of each kind."""
 
-import copy
 import json
 import random
 import sys
@@ -14,10 +13,15 @@ import changes
 from follow import doors_of
 
 LENGTHS = [2, 5, 10, 20, 40]
-# of every so many scripts one has a line of this many bytes, or of one more
+# of every so many scripts one has a line of this many bytes, or of some more or less
 LONG, MOST_BYTES = 500, 16_777_216
+MORE = [-1, 0, 0, 1, 1, 2, 600_000]
 # of every so many scripts one has packets in crowds of so many lines, which workers share
-CROWDED, CROWD, CROWDS = 10, 600, 3
+CROWDED, CROWD, CROWDS = 20, 600, 3
+# a Service that others are beside, and its doors: a cluster's, an external and a load balancer's
+SERVED = "s9"
+DOORS = ["10.96.0.19", "203.0.113.5", "203.0.113.9"]
+DOORS6 = ["fd00:10:96::13", "2001:db8::5", "2001:db8::9"]
 QUESTION = b'{"op":"packet","src":"10.0.0.1","dst":"10.96.0.10","dport":80}'
 
 # What a member is in place of what it should be, or beside it: bounds and what is past them.
@@ -58,7 +62,7 @@ def random_script(seed):
     cluster = changes.Cluster(rng, rng.randint(1, 4), rng.random() < 0.6)
     values = [setting(cluster, rng)] if rng.random() < 0.9 else []
     streams = rng.choice([0, 0, 0, 2, 5, 70])
-    steps = beginning(cluster) if rng.random() < 0.7 else []
+    steps = beginning(cluster) if rng.random() < 0.8 else []
     for step in steps + rng.choices(STEPS, k=rng.choice(LENGTHS)):
         more = step(cluster, rng)
         if streams:
@@ -70,8 +74,8 @@ def random_script(seed):
     for _ in range(rng.choice([0, 0, 1, 4])):
         lines.insert(rng.randint(0, len(lines)), rng.choice([b"", b" \t", b"\r"]))
     if seed % LONG == 0:
-        long = MOST_BYTES + rng.randint(0, 1)
-        lines.insert(rng.randint(0, len(lines)), b'{"op":"sync"}'.ljust(long))
+        line = rng.choice([b'{"op":"sync"}', QUESTION, QUESTION, b""])
+        lines.insert(rng.randint(0, len(lines)), line.ljust(MOST_BYTES + rng.choice(MORE)))
     if seed % CROWDED == 4:
         lines = crowded(lines, rng)
     data = b"\n".join(lines) + rng.choice([b"\n", b"\n", b""])
@@ -119,7 +123,34 @@ def beginning(cluster):
     """The steps to some Services with endpoints and a sync."""
     ends = changes.made_pod if cluster.controller else changes.more_endpoints
     count = len(cluster.names)
-    return [changes.made_service] * count * 2 + [ends] * count * 4 + [sync]
+    return [changes.made_service] * count * 2 + [ends] * count * 4 + [served, sync]
+
+
+def served(cluster, rng):
+    """A Service that has ready endpoints in both families, with all kinds of doors."""
+    service = changes.made("Service", SERVED, changes.service_choices(SERVED), rng)
+    service["spec"] |= {
+        "type": "LoadBalancer",
+        "clusterIPs": [DOORS[0], DOORS6[0]],
+        "externalIPs": [DOORS[1], DOORS6[1]],
+        "ports": [{"name": "http", "port": 80, "protocol": "TCP", "nodePort": 30090}],
+    }
+    service["status"] = {"loadBalancer": {"ingress": [{"ip": DOORS[2]}, {"ip": DOORS6[2]}]}}
+    service["spec"].pop("ipFamilies", None)
+    service["spec"].pop("selector", None)
+    items = [service]
+    for name, first in ((f"{SERVED}-x", "10.244.4."), (f"{SERVED}-v", "fd00:10:244:4::")):
+        item = changes.made("EndpointSlice", name, changes.slice_choices(name), rng)
+        item["metadata"]["labels"] = {changes.OF_SERVICE: SERVED}
+        item |= {"addressType": "IPv6" if ":" in first else "IPv4"}
+        item |= {"ports": [{"name": "http", "port": 8080}]}
+        ends = rng.sample(range(2, 9), rng.choice([1, 2, 3, 4, 6]))
+        nodes = changes.NODES[:2]
+        item["endpoints"] = [
+            {"addresses": [f"{first}{end}"], "nodeName": rng.choice(nodes)} for end in ends
+        ]
+        items.append(item)
+    return cluster.put(*items)
 
 
 def change(cluster, rng):
@@ -154,7 +185,9 @@ def show(cluster, rng):
 def packet(cluster, rng):
     """A packet, or what would become of it; mostly to a door that is there."""
     config = {"nodeAddresses": ["10.0.0.1", "10.0.0.2", "fd00::1", "::1"]}
-    doors = [door for item in cluster.objects.values() for door in doors_of(item, config)]
+    items = cluster.named("Service", SERVED) if rng.random() < 0.5 else []
+    items = items or cluster.objects.values()
+    doors = [door for item in items for door in doors_of(item, config)]
     address, port, proto = rng.choice(doors or [("10.96.0.10", 80, "TCP")])
     sources = changes.SOURCES6 if ":" in address else changes.SOURCES
     value = {"op": rng.choice(["packet", "packet", "explain"]), "src": rng.choice(sources)}
@@ -163,11 +196,35 @@ def packet(cluster, rng):
     value |= {"sport": rng.choice([0, 65535])} if rng.random() < 0.1 else {}
     value |= {"now": rng.choice([rng.randint(0, 300), 2**64 - 1])} if rng.random() < 0.7 else {}
     value |= {"seed": rng.getrandbits(rng.choice([1, 64]))} if rng.random() < 0.5 else {}
-    if rng.random() < 0.5:
-        value["draws"] = [rng.getrandbits(31) for _ in range(rng.choice([0, 1, 6]))]
+    if rng.random() < 0.7:
+        value["draws"] = [rng.getrandbits(31) for _ in range(rng.choice([0, 1, 6, 6]))]
     value |= {"trail": True} if rng.random() < 0.3 else {}
     before = [{"op": "sync"}] * rng.choice([0, 0, 1])
+    if value["op"] == "packet" and rng.random() < 0.5:
+        before.append(value | {"op": "explain"})
     return before + [value] * rng.choice([1, 1, 2])  # the second one may go by affinity
+
+
+def to_door(setting, rng):
+    """A packet to where a door may be, mostly to one of the Service that is served."""
+    six = setting.get("dualStack") is True and rng.random() < 0.4
+    own = [it for it in setting.get("nodeAddresses") or [] if (":" in it) == six]
+    own += ["::1" if six else "127.0.0.1"]
+    served = DOORS6 if six else DOORS
+    number = 10 + rng.randrange(4)
+    others = [f"fd00:10:96::{number:x}" if six else f"10.96.0.{number}", served[1], served[2]]
+    is_served = rng.random() < 0.6
+    address, port = rng.choice(served[:3] if is_served else others), 80
+    if rng.random() < 0.25:
+        address, port = rng.choice(own), 30090 if is_served else 30000 + rng.randrange(60)
+    elif not is_served:
+        port = rng.choice(changes.PORT["port"])
+    proto = "TCP" if is_served else rng.choice(changes.PORT["protocol"])
+    pod = f"{'fd00:10:244:4::' if six else '10.244.4.'}{rng.randint(2, 8)}"
+    sources = [*(changes.SOURCES6 if six else changes.SOURCES), pod, rng.choice(own)]
+    value = {"op": "packet", "src": rng.choice(sources), "dst": address, "dport": port}
+    value |= {"proto": proto, "from": rng.choice(["wire", "wire", "node"])}
+    return value | {"draws": [rng.getrandbits(31) for _ in range(6)]}
 
 
 def refused(cluster, rng):
@@ -183,8 +240,8 @@ def refused(cluster, rng):
     return [rng.choice(values)]
 
 
-STEPS = [new_object] * 4 + [change] * 5 + [all_objects, wrapped_event]
-STEPS += [sync] * 4 + [packet] * 4 + [show] * 2 + [refused]
+STEPS = [new_object] * 4 + [served] + [change] * 5 + [all_objects, wrapped_event]
+STEPS += [sync] * 4 + [packet] * 6 + [show] * 2 + [refused]
 
 
 # ---- faults
@@ -192,7 +249,7 @@ STEPS += [sync] * 4 + [packet] * 4 + [show] * 2 + [refused]
 
 def faulty(value, rng):
     """A copy of a value in which one member is another one, is lost, or stands elsewhere."""
-    value = copy.deepcopy(value)
+    value = changes.copied(value)
     holders = list(holders_of(value))
     if not holders:
         return value
@@ -205,7 +262,7 @@ def faulty(value, rng):
         holder[key] = rng.choice(rng.choice(VALUES))
     elif how < 0.8:
         other = rng.choice(holders)
-        holder[key] = copy.deepcopy(rng.choice([other, *members_of(other)]))
+        holder[key] = changes.copied(rng.choice([other, *members_of(other)]))
     elif isinstance(holder, dict):
         holder[rng.choice([*NAMES, *WORDS, key.upper()])] = holder.pop(key)
     else:
