@@ -74,7 +74,7 @@ abbrev three_of : ℕ × List ℕ → Option AddressParts
 three_of p = option_and_then (two_of p.0) (number_before_dot p.1)
 
 -- fewer or more than four numbers are no address
-one_short : (x : Option ℕ) → four_numbers (x ∷ []) ≡ None
+pub one_short : (x : Option ℕ) → four_numbers (x ∷ []) ≡ None
 one_short None = refl
 one_short (Some a) = refl
 

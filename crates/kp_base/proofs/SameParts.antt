@@ -1,8 +1,9 @@
 -- The tests of protocols, families, addresses, ranges and endpoints are true at equal ones alone,
 -- and the derived tests are these tests.
 use Rattle.std.proofs.Common.{◌≡◌, true, false, ◌==◌, ◌&&◌, bytes_eq, refl, sym, ap, ◌∙◌}
+use Rattle.std.specs.Cmp.{nat_eq_equiv}
 use Rattle.std.specs.contracts.prelude.BoolPartialEq.TheImpl as bool_eq
-use Rattle.std.proofs.lemmas.Bool.{false≢true, and_parts, eqb-true}
+use Rattle.std.proofs.lemmas.Bool.{false≢true, and_from, and_parts, eqb-true}
 use Rattle.std.proofs.lemmas.Map.Views.{exact_unsigned_eq}
 use Rattle.std.proofs.lemmas.Slice.Eq.{bytes_eq-Decides}
 use Rattle.kp_lemmas.specs.Exact.{IsExact}
@@ -44,10 +45,13 @@ same_address_exact a b h =
     let both = and_parts _ _ h in
     λ i. record { family = same_family_exact a.family b.family both.0 i; number = eqb-true a.number b.number both.1 i }
 
--- a family is itself
+-- a family is itself, and so is an address
 pub family_itself : (f : Family) → same_family f f ≡ true
 family_itself V4 = refl
 family_itself V6 = refl
+
+pub address_itself : (a : AddressParts) → same_address a a ≡ true
+address_itself a = and_from _ _ (family_itself a.family) (nat_eq_equiv.refl a.number)
 
 -- ---- the derived tests are these
 

@@ -3,7 +3,7 @@
 use Rattle.std.proofs.Common.{◌≡◌, Bool, true, false, true≢false, ◌&&◌, ◌==◌, not, List, map, Contains, Option, Some, None, refl, sym, ap, ◌∙◌}
 use Rattle.std.specs.List.{find, list_any}
 use Rattle.std.proofs.lemmas.List.Elements.{Contains-append_left, Contains-append_right}
-use Rattle.kp_lemmas.proofs.Members.{in_filter, in_map, none_passes}
+use Rattle.kp_lemmas.proofs.Members.{in_filter, in_map, none_passes, passing}
 use Rattle.kp_base.specs.Net.{AddressParts}
 use Rattle.kp_base.specs.declared.address.Family.{Family}
 use Rattle.kp_base.specs.declared.key.PortKey.{PortKey}
@@ -16,7 +16,7 @@ use Rattle.kp_change_defs.specs.DoorChanges.{DoorChange, change_from, change_to,
 use Rattle.kp_change_defs.specs.DoorValues.{DoorValues, same_values, values_of}
 use Rattle.kp_change_laws.specs.Laws.{fits_changed}
 use Rattle.kp_change_laws.proofs.SameValues.{not_absent, one_door, values_exact}
-use Rattle.kp_change_laws.proofs.DoorKinds.{found, of_port, passing, seen_of, shown, shows}
+use Rattle.kp_change_laws.proofs.DoorKinds.{found, of_port, seen_of, shown, shows}
 
 -- two options with the same values are one
 one_option : {X : Type 0} (o p : Option X) → ((x : X) → o ≡ Some x → p ≡ Some x)

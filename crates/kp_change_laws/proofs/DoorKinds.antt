@@ -3,9 +3,9 @@
 use Rattle.std.proofs.Common.{◌≡◌, inl, inr, ℕ, Bool, true, false, cond, List, [], ◌∷◌, ◌++◌, map, Contains, Option, Some, None, option_and_then, refl, sym, ap, subst, ◌∙◌}
 use Rattle.std.specs.List.{find, list_any}
 use Rattle.std.proofs.lemmas.List.Elements.{Contains-append_left, Contains-append_right, Contains-append_cases}
-use Rattle.std.proofs.lemmas.List.Folds.{Any-from_list_any}
 use Rattle.std.proofs.lemmas.Option.{same_Some}
 use Rattle.kp_lemmas.proofs.Members.{any_from, first_in, from_map, in_cases, later_in, none_in}
+use Rattle.kp_lemmas.proofs.Members.{passing}
 use Rattle.kp_base.specs.Net.{AddressParts}
 use Rattle.kp_types.specs.declared.packet.Packet.{Packet}
 use Rattle.kp_types.specs.declared.decision.DoorKind.{DoorKind}
@@ -30,12 +30,6 @@ found p (y ∷ ys) x h = by (p y) refl h (found p ys x)
         let same : y ≡ x = same_Some y x g in
         (subst (Contains (y ∷ ys)) same (first_in y ys), ap p (sym same) ∙ e)
     by false e g later = let (c, passes) = later g in (later_in x y ys c, passes)
-
--- where some element passes, there is one
-pub passing : {X : Type 0} (p : X → Bool) (xs : List X) → list_any p xs ≡ true
-    → (x : X) × Contains xs x × (p x ≡ true)
-passing p xs h =
-    let (k, x, below, at, passes) = Any-from_list_any p xs h in (x, (k, below, at), passes)
 
 -- ---- Doors of one kind
 

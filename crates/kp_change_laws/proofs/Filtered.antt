@@ -3,6 +3,7 @@ use Rattle.std.proofs.Common.{◌≡◌, Bool, List, [], ◌∷◌, ◌++◌, Co
 use Rattle.std.specs.List.{find, flat_map}
 use Rattle.std.specs.Option.{option_or}
 use Rattle.std.proofs.lemmas.List.Folds.{find-append}
+use Rattle.kp_lemmas.proofs.Options.{none_of_map}
 use Rattle.kp_base.specs.declared.address.Family.{Family}
 use Rattle.kp_base.specs.declared.key.PortKey.{PortKey}
 use Rattle.kp_base.proofs.KeyOrder.{port_key_exact, port_key_total}
@@ -23,10 +24,6 @@ use Rattle.kp_change_laws.proofs.DoorKinds.{seen, seen_of}
 use Rattle.kp_change_laws.proofs.Lines.{Refused, external_from, external_line, firewall_from, firewall_line, fits_line, not_closed, refused_of, service_from, service_line}
 
 -- ---- Searches in lists, one behind the other
-
-none_mapped : {X S : Type 0} (f : X → S) (o : Option X) → option_map f o ≡ None → o ≡ None
-none_mapped f None h = refl
-none_mapped f (Some x) h = absurd (cc)
 
 either_same : {X S : Type 0} (f : X → S) (o p q r : Option X)
     → option_map f o ≡ option_map f q
@@ -117,7 +114,7 @@ module _ (config : FamilyConfig) (family : Family) (before after : List PortInfo
       external_line config.addresses packet i (not_closed config.addresses packet i
       (sym (firewall_line config.addresses packet family i (all.each i c))
       ∙ ap (option_map refused_of) (none_in_each (fits_line config.addresses packet) firewall_lines
-      infos (none_mapped refused_of _ none) i c)))
+      infos (none_of_map refused_of _ none) i c)))
 
   external_same : line_in firewall_lines after ≡ None
       → line_in external_lines after ≡ line_in external_lines before

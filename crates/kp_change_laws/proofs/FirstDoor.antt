@@ -4,6 +4,7 @@ use Rattle.std.specs.List.{find, flat_map, list_any}
 use Rattle.std.specs.Option.{option_or}
 use Rattle.std.proofs.lemmas.List.Folds.{find-append}
 use Rattle.kp_lemmas.proofs.Members.{first_in, later_in}
+use Rattle.kp_lemmas.proofs.Options.{map_or}
 use Rattle.kp_base.specs.Net.{AddressParts}
 use Rattle.kp_base.specs.declared.address.Family.{Family}
 use Rattle.kp_base.specs.declared.key.PortKey.{PortKey}
@@ -18,7 +19,7 @@ use Rattle.kp_table_laws.specs.Laws.{AreInOrder}
 use Rattle.kp_change_defs.specs.DoorChanges.{info_named}
 use Rattle.kp_change_defs.specs.DoorValues.{DoorValues, values_at}
 use Rattle.kp_change_laws.proofs.Alike.{IsKnownSo}
-use Rattle.kp_change_laws.proofs.FirstOf.{first_found, map_or, same_values_had}
+use Rattle.kp_change_laws.proofs.FirstOf.{first_found, same_values_had}
 use Rattle.kp_change_laws.proofs.DoorKinds.{doors_of_kind, of_kind, seen, seen_of}
 use Rattle.kp_change_laws.proofs.Offers.{Sight, offer_from, sight_from, sight_of, sights}
 

@@ -20,11 +20,6 @@ use Rattle.kp_change_defs.specs.DoorChanges.{info_named}
 
 -- ---- The first of pieces
 
-pub map_or : {Y S : Type 0} (f : Y → S) (o p : Option Y)
-    → option_map f (option_or o p) ≡ option_or (option_map f o) (option_map f p)
-map_or f None p = refl
-map_or f (Some y) p = refl
-
 module _ {X Y S : Type 0} (p : Y → Bool) (f : Y → S) (g : X → List Y) where
   -- what is found first in the piece of an element
   abbrev pub first_in : X → Option S

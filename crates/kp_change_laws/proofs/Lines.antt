@@ -8,6 +8,7 @@ use Rattle.std.proofs.lemmas.List.{map-append}
 use Rattle.std.proofs.lemmas.List.Folds.{find-append}
 use Rattle.std.proofs.lemmas.Simd.{map-map}
 use Rattle.kp_lemmas.proofs.Members.{first_in, later_in}
+use Rattle.kp_lemmas.proofs.Options.{map_or}
 use Rattle.kp_base.specs.Net.{AddressParts, RangeParts}
 use Rattle.kp_base.specs.declared.address.Family.{Family}
 use Rattle.kp_base.specs.declared.key.Endpoint.{Endpoint}
@@ -27,7 +28,6 @@ use Rattle.kp_change_defs.specs.declared.DoorState.{DoorState}
 use Rattle.kp_change_defs.specs.declared.DoorState.TheVariants.{Absent, Open, NoLocalEndpoints, NoEndpoints, Closed}
 use Rattle.kp_change_defs.specs.DoorValues.{DoorValues, admits_nobody, state_of_list, values_at}
 use Rattle.kp_change_laws.proofs.FirstDoor.{Views, moved}
-use Rattle.kp_change_laws.proofs.FirstOf.{map_or}
 use Rattle.kp_change_laws.proofs.DoorKinds.{IsOf, doors_of_kind, of_kind, seen}
 
 -- what a line does, and at which door of which port

@@ -3,7 +3,7 @@
 use Rattle.std.proofs.Common.{◌≡◌, inl, inr, ℕ, Bool, true, false, List, [], ◌∷◌, ◌++◌, Contains, Option, Some, None, refl, sym, ap, subst, ◌∙◌}
 use Rattle.std.specs.List.{flat_map, list_any}
 use Rattle.std.proofs.lemmas.List.Elements.{Contains-append_left, Contains-append_right}
-use Rattle.kp_lemmas.proofs.Members.{in_flat_map, in_map, none_in, in_cases}
+use Rattle.kp_lemmas.proofs.Members.{in_flat_map, in_map, none_in, in_cases, passing}
 use Rattle.kp_base.specs.Net.{same_family}
 use Rattle.kp_base.specs.declared.address.Family.{Family}
 use Rattle.kp_base.specs.declared.key.PortKey.{PortKey}
@@ -24,7 +24,6 @@ use Rattle.kp_change_defs.specs.ChangeText.{change_line, change_lines, change_te
 use Rattle.kp_change_defs.specs.DoorChanges.{DoorChange, door_changes, info_named, names_of, ports_in}
 use Rattle.kp_change_laws.specs.Laws.{AreKnown, FitsNoChange, IsUntouched, ObjectsDecideAsBefore, SilenceDecidesAsBefore}
 use Rattle.kp_change_laws.proofs.Decides.{decides_as_before_by}
-use Rattle.kp_change_laws.proofs.DoorKinds.{passing}
 use Rattle.kp_change_laws.proofs.Filtered.{named_in}
 
 known_of : (family : Family) (config : FamilyConfig) (o : Objects)

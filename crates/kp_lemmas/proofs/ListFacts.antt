@@ -1,6 +1,7 @@
 -- Lists: what holds of all elements, and lists that are made element by element. A map of a map is
 -- std's `map-map` (lemmas.Simd); tests of joined and of mapped lists are its `list_all-append` and
 -- `list_all-map`.
+use mathlib.Core.List.{IsPrefix}
 use Rattle.std.proofs.Common.{◌≡◌, ℕ, zero, suc, ◌+◌, ◌<◌, Bool, true, false, not, cond, List, [], ◌∷◌, ◌++◌, map, filter, take, length, get_or, Option, Some, None, refl, sym, ap, ◌∙◌, append_assoc}
 use Rattle.std.specs.List.{list_all, filter_map, cons_option, AllByRecursion}
 use Rattle.std.specs.Option.{option_to_list}
@@ -110,3 +111,35 @@ pub map_some : {X Y : Type 0} (f : X → Y) (xs : List X)
     → not (is_empty xs) ≡ not (is_empty (map f xs))
 map_some f [] = refl
 map_some f (x ∷ xs) = refl
+
+-- ---- lists that filters leave
+
+-- a filter that all pass leaves the list
+pub filter_all : {X : Type 0} (p : X → Bool) (xs : List X) → list_all p xs ≡ true → filter p xs ≡ xs
+filter_all p [] h = refl
+filter_all p (x ∷ xs) h =
+    let k = and_parts (p x) (list_all p xs) h in
+    ap (λ b. cond b (x ∷ filter p xs) (filter p xs)) k.0 ∙ ap (λ l. x ∷ l) (filter_all p xs k.1)
+
+-- a weaker filter before a stronger one changes nothing
+pub filter_within : {X : Type 0} (weak strong : X → Bool)
+    → ((x : X) → strong x ≡ true → weak x ≡ true) → (xs : List X)
+    → filter strong (filter weak xs) ≡ filter strong xs
+filter_within weak strong follows [] = refl
+filter_within {X} weak strong follows (x ∷ xs) =
+    by (weak x) (strong x) refl refl (filter_within weak strong follows xs)
+  where
+    by : (w s : Bool) → weak x ≡ w → strong x ≡ s
+        → filter strong (filter weak xs) ≡ filter strong xs
+        → filter strong (cond w (x ∷ filter weak xs) (filter weak xs)) ≡ cond s (x ∷ filter strong xs) (filter strong xs)
+    by true s is at rest =
+        ap (λ b. cond b (x ∷ filter strong (filter weak xs)) (filter strong (filter weak xs))) at
+        ∙ ap (λ ys. cond s (x ∷ ys) ys) rest
+    by false true is at rest = let h : false ≡ true = sym is ∙ follows x at in absurd (cc)
+    by false false is at rest = rest
+
+-- what begins the beginning of a list begins the list
+pub prefix_through : {A : Type 0} (xs ys zs : List A) → IsPrefix xs ys → IsPrefix ys zs
+    → IsPrefix xs zs
+prefix_through xs ys zs p q =
+    (p.0 ++ q.0, sym (append_assoc xs p.0 q.0) ∙ ap (λ l. l ++ q.0) p.1 ∙ q.1)

@@ -2,6 +2,7 @@
 use Rattle.std.proofs.Common.{◌≡◌, ◌⊎◌, inl, inr, Bool, true, false, cond, refl, sym, ap, subst, ◌∙◌, suc, zero, Option, Some, None, List, [], ◌∷◌, map, reverse, Contains, filter, filter_map, flat_map, arith, le_of_suc-le-suc, suc-le-suc, zero-lt-suc}
 use Rattle.std.specs.List.{cons_option, list_all, list_any}
 use Rattle.std.proofs.lemmas.Bool.{and_from, and_parts, or_parts, or_left, or_right}
+use Rattle.std.proofs.lemmas.List.Folds.{Any-from_list_any}
 use Rattle.std.proofs.lemmas.List.Elements.{Contains-append_left, Contains-append_right, Contains-append_cases}
 use Rattle.std.proofs.lemmas.List.Sorted.{Contains-permutation, IsPermutation-sym, IsPermutation-reverse}
 use Rattle.kp_lemmas.proofs.ListFacts.{test_append}
@@ -114,6 +115,12 @@ any_from test x (y ∷ ys) c h =
       | inl e ↦ or_left (test y) (list_any test ys) (ap test e ∙ h)
       | inr d ↦ or_right (test y) (list_any test ys) (any_from test x ys d h)
     ]
+
+-- where some element passes, there is one
+pub passing : {X : Type 0} (p : X → Bool) (xs : List X) → list_any p xs ≡ true
+    → (x : X) × Contains xs x × (p x ≡ true)
+passing p xs h =
+    let (k, x, below, at, passes) = Any-from_list_any p xs h in (x, (k, below, at), passes)
 
 -- what holds of all elements is a test of the list
 pub all_from : {A : Type 0} (test : A → Bool) (xs : List A) → ((x : A) → Contains xs x → test x ≡ true) → list_all test xs ≡ true

@@ -5,7 +5,7 @@ use Rattle.std.specs.Ordering.{nat_cmp, ordering_then}
 use Rattle.std.proofs.lemmas.Bool.{and_from, and_parts}
 use Rattle.std.proofs.lemmas.List.{map-append}
 use Rattle.std.proofs.lemmas.List.Elements.{filter-append}
-use Rattle.kp_lemmas.proofs.ListFacts.{test_append}
+use Rattle.kp_lemmas.proofs.ListFacts.{filter_all, test_append}
 use Rattle.kp_base.specs.Net.{same_family}
 use Rattle.kp_base.specs.Keys.{endpoint_cmp, family_place}
 use Rattle.kp_base.specs.declared.address.Family.{Family}
@@ -24,15 +24,7 @@ use Rattle.kp_object_laws.specs.ListLaws.{are_in_order, endpoints_of, EntriesByF
 use Rattle.kp_object_laws.proofs.Lists.{entries_in_order}
 use Rattle.kp_object_laws.proofs.OneFamily.{entries_of_family}
 
--- a list of which all pass a test
-all_stay : {A : Type 0} (p : A → Bool) (xs : List A) → list_all p xs ≡ true → filter p xs ≡ xs
-all_stay p [] h = refl
-all_stay p (x ∷ xs) h =
-    let parts = and_parts (p x) (list_all p xs) h in
-    ap (λ b. cond b (x ∷ filter p xs) (filter p xs)) parts.0
-    ∙ ap (λ rest. x ∷ rest) (all_stay p xs parts.1)
-
--- and one of which all pass a test that none of the others passes
+-- a list of which all pass a test that none of the others passes
 none_stays : {A : Type 0} (p q : A → Bool) → ((x : A) → q x ≡ true → p x ≡ false)
     → (xs : List A) → list_all q xs ≡ true → filter p xs ≡ []
 none_stays p q apart [] h = refl
@@ -54,7 +46,7 @@ pub of_family_of_both : (lists : Family → List Candidate)
     → filter (is_of_family family) (flat_map lists both_families) ≡ lists family
 of_family_of_both lists own V4 =
     filter-append (is_of_family V4) (lists V4) (lists V6 ++ [])
-    ∙ (λ i. all_stay (is_of_family V4) (lists V4) (own V4) i
+    ∙ (λ i. filter_all (is_of_family V4) (lists V4) (own V4) i
     ++ filter (is_of_family V4) (append-nil (lists V6) i))
     ∙ ap (λ rest. lists V4 ++ rest)
     (none_stays (is_of_family V4) (is_of_family V6) (of_other V4 V6 refl) (lists V6) (own V6))
@@ -64,7 +56,7 @@ of_family_of_both lists own V6 =
     ∙ (λ i.
     none_stays (is_of_family V6) (is_of_family V4) (of_other V6 V4 refl) (lists V4) (own V4) i
     ++ filter (is_of_family V6) (append-nil (lists V6) i))
-    ∙ all_stay (is_of_family V6) (lists V6) (own V6)
+    ∙ filter_all (is_of_family V6) (lists V6) (own V6)
 
 -- ---- In order
 

@@ -5,6 +5,7 @@ use Rattle.std.specs.Ordering.{eq_by_cmp}
 use Rattle.std.specs.Cmp.{IsEquivalence}
 use Rattle.std.specs.FinMap as finite
 use Rattle.std.specs.FinMap.{FinMap, contains_key, get}
+use Rattle.kp_lemmas.proofs.ListFacts.{filter_within}
 use Rattle.kp_lemmas.proofs.Orders.{one_from_tie}
 use Rattle.kp_base.specs.Keys.{key_cmp}
 use Rattle.kp_base.specs.declared.key.ObjectKey.{ObjectKey}
@@ -17,7 +18,7 @@ use Rattle.kp_store.specs.LookUps.{selects_if}
 use Rattle.kp_store.specs.Tags.{selected_by, tags_of}
 use Rattle.kp_store.specs.declared.tags.ServiceTag.{ServiceTag}
 use Rattle.kp_store.proofs.Found.{passes, found_passes}
-use Rattle.kp_store.proofs.Selected.{filter_within, has_label_of}
+use Rattle.kp_store.proofs.Selected.{has_label_of}
 
 -- a test beside a truth value
 pub any_and : {X : Type 0} (p : X → Bool) (b : Bool) (xs : List X) → list_any (λ x. p x && b) xs ≡ list_any p xs && b

@@ -1,5 +1,5 @@
 -- What a look-up is for is among what is found by tags.
-use Rattle.std.proofs.Common.{◌≡◌, ℕ, ◌==◌, ◌&&◌, ◌||◌, Bool, true, false, ◌≤◌, ◌-◌, zero, suc, length, arith, cond, not, List, [], ◌∷◌, ◌++◌, map, filter, flat_map, bytes_eq, Option, Some, None, option_map, slice_get, refl, sym, ap, subst, ◌∙◌, Contains, inl, inr}
+use Rattle.std.proofs.Common.{◌≡◌, ℕ, ◌==◌, ◌&&◌, ◌||◌, Bool, true, false, ◌≤◌, ◌-◌, zero, suc, length, arith, not, List, [], ◌∷◌, ◌++◌, map, flat_map, bytes_eq, Option, Some, None, option_map, slice_get, refl, sym, ap, subst, ◌∙◌, Contains, inl, inr}
 use Rattle.std.specs.List.{list_any, list_all}
 use Rattle.std.specs.Option.{option_to_list}
 use Rattle.std.specs.Cmp.{IsEquivalence}
@@ -8,7 +8,7 @@ use Rattle.std.proofs.lemmas.List.Elements.{Contains-append_left, Contains-appen
 use Rattle.std.proofs.lemmas.List.Folds.{list_any-append}
 use Rattle.std.proofs.lemmas.Option.{same_Some}
 use Rattle.std.proofs.lemmas.Slice.Eq.{bytes_eq-Decides}
-use Rattle.kp_lemmas.proofs.Members.{any_from, first_in, in_flat_map, in_map, later_in}
+use Rattle.kp_lemmas.proofs.Members.{any_from, first_in, in_flat_map, in_map, later_in, passing}
 use Rattle.kp_base.specs.Net.{AddressParts, same_address}
 use Rattle.kp_base.specs.Keys.{same_proto}
 use Rattle.kp_base.specs.declared.address.Family.{Family}
@@ -31,26 +31,7 @@ use Rattle.kp_store.specs.declared.tags.ServiceTag.TheVariants.{Selector, At, No
 
 -- ---- lists
 
--- a weaker test before a stronger one changes nothing
-pub filter_within : {X : Type 0} (weak strong : X → Bool) → ((x : X) → strong x ≡ true → weak x ≡ true) → (xs : List X) → filter strong (filter weak xs) ≡ filter strong xs
-filter_within weak strong follows [] = refl
-filter_within {X} weak strong follows (x ∷ xs) = by (weak x) (strong x) refl refl (filter_within weak strong follows xs)
-  where
-    by : (w s : Bool) → weak x ≡ w → strong x ≡ s → filter strong (filter weak xs) ≡ filter strong xs → filter strong (cond w (x ∷ filter weak xs) (filter weak xs)) ≡ cond s (x ∷ filter strong xs) (filter strong xs)
-    by true s is at rest = ap (λ b. cond b (x ∷ filter strong (filter weak xs)) (filter strong (filter weak xs))) at ∙ ap (λ ys. cond s (x ∷ ys) ys) rest
-    by false true is at rest = let h : false ≡ true = sym is ∙ follows x at in absurd (cc)
-    by false false is at rest = rest
-
--- an element that passes
-passing : {X : Type 0} (p : X → Bool) (xs : List X) → list_any p xs ≡ true → (x : X) × Contains xs x × (p x ≡ true)
-passing p [] h = absurd (cc)
-passing p (x ∷ xs) h =
-    elim (or_cases (p x) (list_any p xs) h) [
-      | inl a ↦ (x, first_in x xs, a)
-      | inr b ↦ let (y, in_xs, is) = passing p xs b in (y, later_in y x xs in_xs, is)
-    ]
-
--- and it makes one that passes
+-- an element that passes makes one that passes
 any_mapped : {X Y : Type 0} (p : X → Bool) (f : X → Y) (r : Y → Bool) → ((x : X) → p x ≡ true → r (f x) ≡ true) → (xs : List X) → list_any p xs ≡ true → list_any r (map f xs) ≡ true
 any_mapped p f r follows xs h =
     let (x, in_xs, is) = passing p xs h in

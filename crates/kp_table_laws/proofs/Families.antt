@@ -16,7 +16,6 @@ use Rattle.kp_lemmas.proofs.Orders.{one_from_tie}
 use Rattle.kp_base.specs.Net.{same_family}
 use Rattle.kp_base.specs.declared.address.Family.{Family}
 use Rattle.kp_base.specs.declared.address.Family.TheVariants.{V4, V6}
-use Rattle.kp_base.specs.declared.config.Config.{Config}
 use Rattle.kp_base.proofs.SameParts.{family_itself, same_family_exact}
 use Rattle.kp_types.specs.Places.{chain_cmp, family_of_table, filter_of, nat_of, table_in, table_place}
 use Rattle.kp_types.specs.Setting.{Settings, both_families, has_tables_of, view_of}
@@ -27,6 +26,7 @@ use Rattle.kp_types.specs.declared.rule.Edit.{Edit}
 use Rattle.kp_types.specs.declared.rule.Edit.TheVariants.{Remove, Write}
 use Rattle.kp_types.specs.declared.rule.Rule.{Rule}
 use Rattle.kp_types.proofs.ChainOrder.{chain_exact, chain_total, one_table_from_test}
+use Rattle.kp_types.proofs.TableFamilies.{filter_is_own, nat_is_own}
 use Rattle.kp_choice_defs.specs.Settings.{settings_of}
 use Rattle.kp_object_defs.specs.PortInfo.{PortInfo}
 use Rattle.kp_table_defs.specs.Edits.{chains_in, changes_between, changes_of, is_found_with, remove_if_gone, table_changes, write_if_changed}
@@ -39,14 +39,6 @@ use Rattle.kp_table_laws.proofs.KeyRows.{Row}
 
 -- ---- Tables of a family
 
-pub nat_is_own : (family : Family) → family_of_table (nat_of family) ≡ family
-nat_is_own V4 = refl
-nat_is_own V6 = refl
-
-pub filter_is_own : (family : Family) → family_of_table (filter_of family) ≡ family
-filter_is_own V4 = refl
-filter_is_own V6 = refl
-
 pub table_is_own : (family : Family) (table : TableName)
     → family_of_table (table_in family table) ≡ family
 table_is_own family Nat = nat_is_own family
@@ -57,14 +49,6 @@ table_is_own family Filter6 = filter_is_own family
 -- the families of a node
 abbrev families_by : Bool → List Family
 families_by dual = cond dual both_families (V4 ∷ [])
-
-v4_first : (dual : Bool) → list_any (same_family V4) (families_by dual) ≡ true
-v4_first true = refl
-v4_first false = refl
-
--- each node has tables of IPv4
-pub has_v4 : (config : Config) → has_tables_of V4 (settings_of config) ≡ true
-has_v4 config = v4_first config.dual
 
 -- ---- Rows of a family
 

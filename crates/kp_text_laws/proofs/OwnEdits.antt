@@ -2,11 +2,12 @@
 -- it leads.
 use Rattle.std.proofs.Common.{◌≡◌, ◌++◌, ◌==◌, Bool, true, false, cond, List, [], ◌∷◌, Contains, Some, None, inl, inr, refl, sym, ap, ◌∙◌}
 use Rattle.std.specs.FinMap.{get, get-insert, get-remove}
-use Rattle.std.specs.List.{filter, fold}
+use Rattle.std.specs.List.{fold}
 use Rattle.std.specs.Ordering.{eq_by_cmp}
 use Rattle.std.proofs.lemmas.Bool.{false≢true, false_from_ne_true}
 use Rattle.std.proofs.lemmas.List.{append-nil}
 use Rattle.std.proofs.lemmas.List.Elements.{Contains-append_cases, filter-append}
+use Rattle.kp_lemmas.proofs.ListFacts.{filter_all, filter_within}
 use Rattle.kp_lemmas.proofs.Members.{all_from, from_filter, from_filter_map, without_elements}
 use Rattle.kp_lemmas.proofs.Orders.{one_from_tie}
 use Rattle.kp_base.specs.Net.{same_family}
@@ -20,13 +21,12 @@ use Rattle.kp_types.specs.declared.chain.TableName.{TableName}
 use Rattle.kp_types.specs.declared.rule.Edit.{Edit}
 use Rattle.kp_types.specs.declared.rule.Edit.TheVariants.{Write, Remove}
 use Rattle.kp_types.proofs.ChainOrder.{chain_exact, chain_total, one_table_from_test}
+use Rattle.kp_types.proofs.TableFamilies.{filter_is_own, nat_is_own}
 use Rattle.kp_table_defs.specs.Edits.{chains_after_edit, chains_in, changes_between, changes_of, remove_if_gone, table_changes, write_if_changed}
 use Rattle.kp_table_defs.specs.Rebuild.{Chains}
 use Rattle.kp_restore_defs.specs.BatchText.{batch_text_of, edits_in, section_if_edited}
 use Rattle.kp_restore_defs.specs.TableText.{text_of_lines}
-use Rattle.kp_restore.proofs.Tests.{filter_all}
 use Rattle.kp_table_laws.specs.Families.{HasTablesOf}
-use Rattle.kp_table_laws.proofs.Families.{filter_is_own, nat_is_own}
 use Rattle.kp_table_laws.proofs.KeyRows.{Row}
 
 -- ---- Which edits
@@ -91,23 +91,11 @@ module _ (before after : Chains) where
 
 -- ---- What is printed
 
-kept_within : {A : Type 0} (p q : A → Bool) → ((x : A) → q x ≡ true → p x ≡ true) → (xs : List A)
-    → filter q (filter p xs) ≡ filter q xs
-kept_within p q within [] = refl
-kept_within {A} p q within (x ∷ xs) = by (p x) (q x) refl refl (kept_within p q within xs)
-  where
-    by : (a b : Bool) → p x ≡ a → q x ≡ b → filter q (filter p xs) ≡ filter q xs
-        → filter q (cond a (x ∷ filter p xs) (filter p xs)) ≡ cond b (x ∷ filter q xs) (filter q xs)
-    by true b h k rest = λ i. cond (k i) (x ∷ rest i) (rest i)
-    by false true h k rest = absurd (false≢true (sym h ∙ within x k))
-    by false false h k rest =
-        rest
-
 module _ (family : Family) (edits : List Edit) where
   in_table : (table : TableName) → family_of_table table ≡ family
       → edits_in table (edits_of_family family edits) ≡ edits_in table edits
   in_table table of =
-      kept_within (is_edit_in family) (λ e. table_place (place_of e).table == table_place table)
+      filter_within (is_edit_in family) (λ e. table_place (place_of e).table == table_place table)
       (λ e h. ap (λ f. same_family f family)
       (ap family_of_table (one_table_from_test (place_of e).table table h) ∙ of)
       ∙ family_itself family) edits

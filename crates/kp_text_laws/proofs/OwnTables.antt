@@ -14,12 +14,13 @@ use Rattle.kp_types.specs.declared.rule.Rule.{Rule}
 use Rattle.kp_types.specs.declared.rule.Target.{Target}
 use Rattle.kp_types.specs.declared.rule.Target.TheVariants as target
 use Rattle.kp_types.proofs.ChainOrder.{chain_exact, chain_total}
+use Rattle.kp_types.proofs.TableFamilies.{filter_is_own, nat_is_own}
 use Rattle.kp_table_defs.specs.Ranks.{built_in_chains, has_built_in, has_chains_of, is_built_in}
 use Rattle.kp_table_defs.specs.Rebuild.{Chains}
 use Rattle.kp_restore_defs.specs.RuleText.{is_canonical_rule}
 use Rattle.kp_restore_defs.specs.TableText.{is_canonical_chain, is_canonical_part, is_chain_of, jumps_to_declared, section_lines, section_of, table_text_of, text_of_lines}
 use Rattle.kp_table_laws.specs.Families.{HasTablesOf}
-use Rattle.kp_table_laws.proofs.Families.{chains_alike, filter_is_own, kept_alike, nat_is_own}
+use Rattle.kp_table_laws.proofs.Families.{chains_alike, kept_alike}
 use Rattle.kp_table_laws.proofs.KeyRows.{Row}
 
 -- two tests that agree where a third holds

@@ -5,7 +5,10 @@
 
 ghost use Rattle.kp_text_laws.specs.BoundLaws.{ObjectsAreBounded, PortsAreBounded, ReadIsBounded};
 ghost use Rattle.kp_text_laws.specs.ShownLaws as shown;
-ghost use Rattle.kp_text_laws.specs.TableLaws.{ChangesReadBack, FullChainsCanonical, FullTableCanonical, FullTableReadsBack, FullTablesHaveSameBuiltIn, OwnTableCanonical, ProductIsPrintable, RebuiltReadsBack};
+ghost use Rattle.kp_text_laws.specs.TableLaws.{ChangesReadBack, FullChainsCanonical};
+ghost use Rattle.kp_text_laws.specs.TableLaws.{FullTableCanonical, FullTableReadsBack};
+ghost use Rattle.kp_text_laws.specs.TableLaws.{FullTablesHaveSameBuiltIn, OwnTableCanonical};
+ghost use Rattle.kp_text_laws.specs.TableLaws.{ProductIsPrintable, RebuiltReadsBack};
 
 /// Events that are read have their numbers within their bounds, and so have the objects after them
 /// and what is known of the objects' ports.

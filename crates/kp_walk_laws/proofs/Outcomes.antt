@@ -6,6 +6,7 @@ use Rattle.std.proofs.lemmas.List.Folds.{find-append}
 use Rattle.std.proofs.lemmas.Option.{same_Some}
 pub use Rattle.kp_lemmas.proofs.Members.{first_in, later_in}
 use Rattle.kp_lemmas.proofs.Members.{none_in, in_cases}
+use Rattle.kp_lemmas.proofs.Options.{map_or, none_of_map}
 use Rattle.kp_types.specs.declared.rule.Rule.{Rule}
 use Rattle.kp_types.specs.declared.walk.Ending.{Ending}
 use Rattle.kp_table_defs.specs.Matching.{WalkState, Surroundings}
@@ -59,16 +60,6 @@ or_next_append : (a b : Option Outcome) (s : WalkState) (next : WalkState → Ou
     → and_then (or_next a s) next ≡ or_next (option_or a b) s
 or_next_append None b s next last h = h refl
 or_next_append (Some o) b s next last h = (last o refl).stays next
-
--- a function of what was found in the first of two, or else in the second
-map_or : {X Y : Type 0} (f : X → Y) (a b : Option X)
-    → option_map f (option_or a b) ≡ option_or (option_map f a) (option_map f b)
-map_or f None b = refl
-map_or f (Some x) b = refl
-
-none_of_map : {X Y : Type 0} (f : X → Y) (a : Option X) → option_map f a ≡ None → a ≡ None
-none_of_map f None h = refl
-none_of_map f (Some x) h = absurd (cc)
 
 -- ---- Outcomes without their paths
 

@@ -26,6 +26,7 @@ use Rattle.kp_types.specs.declared.rule.Target.{Target}
 use Rattle.kp_types.specs.declared.rule.Target.TheVariants as target
 use Rattle.kp_types.specs.declared.service.Policy.{Policy}
 use Rattle.kp_types.specs.declared.service.Policy.TheVariants.{Cluster, Local}
+use Rattle.kp_types.proofs.TableFamilies.{filter_is_own, nat_is_own}
 use Rattle.kp_choice_defs.specs.AddressText.{endpoint_text}
 use Rattle.kp_choice_defs.specs.Names.{hash_text, port_text, port_chain_prefix}
 use Rattle.kp_object_defs.specs.Desired.{is_empty}
@@ -38,7 +39,7 @@ use Rattle.kp_table_defs.specs.Rebuild.{Chains, full_chains, rows_of_families}
 use Rattle.kp_table_defs.specs.StandIn.{hex_text}
 use Rattle.kp_table_laws.specs.Families.{HasTablesOf, chains_of_families}
 use Rattle.kp_table_laws.proofs.Entries.{from_in_order}
-use Rattle.kp_table_laws.proofs.Families.{family_stands_alone, filter_is_own, nat_is_own}
+use Rattle.kp_table_laws.proofs.Families.{family_stands_alone}
 use Rattle.kp_table_laws.proofs.KeyRows.{Row, row_stands}
 use Rattle.kp_table_laws.proofs.NeededKeys.{key_cases, own_kind, own_endpoint}
 use Rattle.kp_walk_laws.specs.Laws.{OffersAny, IsPrefixed, StandInPrefixed, HashedPrefixed, FullTableRanked, FullTableRankedObjects, FullTablesRanked}

@@ -1,6 +1,6 @@
 -- Lists of entries by their keys, and what finite maps give for their keys together.
 use Rattle.std.proofs.Common.{◌≡◌, false, List, [], ◌∷◌, ◌++◌, map, flat_map, Option, Some, None}
-use Rattle.std.proofs.Common.{is_some, refl, sym, ap, ◌∙◌, T}
+use Rattle.std.proofs.Common.{refl, sym, ap, ◌∙◌, T}
 use Rattle.std.specs.declared.cmp.Ordering.{Ordering}
 use Rattle.std.specs.declared.cmp.Ordering.TheVariants.{Less}
 use Rattle.std.specs.List.{AllByRecursion, cons_option, filter_map, list_any}
@@ -12,6 +12,7 @@ use Rattle.std.specs.FinMap.{get-entries, is_sorted, keys, values}
 use Rattle.std.specs.FinMap.Entries.{below_all, is_some-find}
 use Rattle.kp_lemmas.proofs.Booleans.{both_facts}
 use Rattle.kp_lemmas.proofs.Entries.{entries_found}
+use Rattle.kp_lemmas.proofs.Options.{none_of}
 use Rattle.kp_lemmas.proofs.Orders.{less_from_fact}
 use Rattle.kp_writer_laws.proofs.LocalChanges.{same_given}
 
@@ -34,10 +35,6 @@ module _ {K X : Type 0} (R : K → K → Ordering) where
   pub not_found : (es : List (K × X)) (k : K) → list_any (eq_by_cmp R k) (map (λ e. e.0) es) ≡ false
       → find R k es ≡ None
   not_found es k h = none_of (find R k es) (is_some-find R k es ∙ h)
-    where
-      none_of : (o : Option X) → is_some o ≡ false → o ≡ None
-      none_of None is = refl
-      none_of (Some x) is = absurd (cc)
 
 -- ---- What is given for the keys of a map, in order
 

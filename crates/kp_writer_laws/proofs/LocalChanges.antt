@@ -13,11 +13,11 @@ use Rattle.std.specs.FinMap.{keys}
 use Rattle.std.specs.FinMap.Entries.{below_all, same_entries}
 use Rattle.kp_lemmas.proofs.Booleans.{fact_of_both}
 use Rattle.kp_lemmas.proofs.Entries.{entries_found}
+use Rattle.kp_lemmas.proofs.Options.{none_of}
 use Rattle.kp_lemmas.proofs.Orders.{one_from_tie}
 use Rattle.kp_types.specs.Places.{chain_cmp, filter_of, nat_of}
 use Rattle.kp_types.specs.declared.chain.ChainAt.{ChainAt}
 use Rattle.kp_types.specs.declared.chain.TableName.{TableName}
-use Rattle.kp_types.specs.declared.rule.Edit.{Edit}
 use Rattle.kp_types.specs.declared.rule.Edit.TheVariants.{Remove, Write}
 use Rattle.kp_types.specs.declared.rule.Rule.{Rule}
 use Rattle.kp_types.proofs.ChainOrder.{chain_total, chain_exact}
@@ -118,6 +118,11 @@ module _ {K X : Type 0} (R : K → K → Ordering) (gives : K → Option X) wher
 
 -- ---- Changes at places
 
+-- what gives nothing gives nothing either way
+pub in_either : {X : Type 0} (b : Bool) {o : Option X} → o ≡ None → cond b o None ≡ None
+in_either true h = h
+in_either false h = refl
+
 module _ (before after : Chains) (places : List ChainAt)
     (sorted : IsStrictlySortedBy chain_cmp places)
     (agree : (at : ChainAt) → list_any (eq_by_cmp chain_cmp at) places ≡ false → get after at
@@ -127,20 +132,12 @@ module _ (before after : Chains) (places : List ChainAt)
       → is_some (get m at) ≡ false
   not_there m at h = contains_key-keys m at ∙ h
 
-  none_of : {X : Type 0} (o : Option X) → is_some o ≡ false → o ≡ None
-  none_of None h = refl
-  none_of (Some x) h = absurd (cc)
-
   no_write : (o : Option (List Rule)) (at : ChainAt) → get before at ≡ o
       → write_if_found before at o ≡ None
   no_write None at h = refl
   no_write (Some rules) at h =
       ap (λ found. cond (is_found_with rules found) None (Some (Write at rules))) h
       ∙ ap (λ b. cond b None (Some (Write at rules))) ((same_rules_exact rules rules).1 refl)
-
-  in_either : (b : Bool) {o : Option Edit} → o ≡ None → cond b o None ≡ None
-  in_either true h = h
-  in_either false h = refl
 
   writes : (table : TableName) → filter_map (write_at before after table) (keys after)
       ≡ filter_map (write_at before after table) places

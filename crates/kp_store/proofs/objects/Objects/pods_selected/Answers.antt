@@ -3,6 +3,7 @@ use Rattle.std.proofs.lemmas.Bool.{ltb-false, ltb-true}
 use Rattle.std.proofs.lemmas.Option.{slice_get-get_or}
 use Rattle.std.proofs.lemmas.Result.{IfOk-weaker}
 use Rattle.std.specs.FinMap as finite
+use Rattle.kp_lemmas.proofs.ListFacts.{filter_within}
 use Rattle.kp_lemmas.proofs.Members.{none_pass}
 use Rattle.kp_types.specs.declared.pod.Pod.{Pod}
 use Rattle.kp_object_defs.specs.Desired.{selects}
@@ -11,7 +12,7 @@ use Rattle.kp_store.specs.Indexes.{is_among}
 use Rattle.kp_store.specs.Tags.{tags_of_pod}
 use Rattle.kp_store.specs.contracts.tags.PodTagPartialEq.TheImpl as tag_eq
 use Rattle.kp_store.specs.contracts.tags.PodTagEq.TheImpl.Laws as tag_laws
-use Rattle.kp_store.proofs.Selected.{filter_within, has_term, none_selected}
+use Rattle.kp_store.proofs.Selected.{has_term, none_selected}
 use Rattle.kp_store.proofs.objects.Objects.pods_selected.Goals as goal
 
 pub returns-in_ok-found-in-Some : goal.returns-in_ok-found-in-Some

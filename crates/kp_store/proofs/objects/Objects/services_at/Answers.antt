@@ -1,12 +1,13 @@
 use Rattle.std.proofs.Common.{List, map, filter, ap, ◌∙◌, Bor}
 use Rattle.std.proofs.lemmas.Result.{IfOk-weaker}
 use Rattle.std.specs.FinMap as finite
+use Rattle.kp_lemmas.proofs.ListFacts.{filter_within}
 use Rattle.kp_types.specs.declared.service.Service.{Service}
 use Rattle.kp_object_defs.specs.Objects.{Objects}
 use Rattle.kp_store.specs.Destinations.{answers}
 use Rattle.kp_store.specs.contracts.tags.ServiceTagPartialEq.TheImpl as tag_eq
 use Rattle.kp_store.specs.contracts.tags.ServiceTagEq.TheImpl.Laws as tag_laws
-use Rattle.kp_store.proofs.Selected.{filter_within, has_destination}
+use Rattle.kp_store.proofs.Selected.{has_destination}
 use Rattle.kp_store.proofs.objects.Objects.services_at.Goals as goal
 
 pub returns-clause-found : goal.returns-clause-found
