@@ -94,6 +94,11 @@ pub none_last : (ss : Pairs) → last_entry ss ≡ None → ss ≡ []
 none_last [] none = refl
 none_last (t ∷ ss) none = absurd (omega (arith, beyond (t ∷ ss) (length (t ∷ ss) - 1) none))
 
+-- the last of a part that is up to a moment is up to it
+pub up_to_last : (m : ℕ) (ss : Pairs) (s : AddressParts × ℕ) → AreUpTo m (ss ++ s ∷ []) → s.1 ≤ m
+up_to_last m [] s up = up.0
+up_to_last m (t ∷ ss) s up = up_to_last m ss s up.1
+
 module _ (now seconds : ℕ) where
   -- what is no older than a source that is not too old is not too old
   within_later : (m n : ℕ) → m ≤ n → is_recent now seconds m ≡ true → is_recent now seconds n ≡ true
@@ -102,11 +107,6 @@ module _ (now seconds : ℕ) where
   -- one that is not too old is kept
   kept_first : (s : AddressParts × ℕ) (ss : Pairs) → is_recent now seconds s.1 ≡ true → recent_pairs now seconds ss ≡ ss → recent_pairs now seconds (s ∷ ss) ≡ s ∷ ss
   kept_first s ss w h = ap (λ b. cond b (s ∷ recent_pairs now seconds ss) (recent_pairs now seconds ss)) w ∙ ap (λ xs. s ∷ xs) h
-
-  -- the last of a part that is up to a moment is up to it
-  up_to_last : (m : ℕ) (ss : Pairs) (s : AddressParts × ℕ) → AreUpTo m (ss ++ s ∷ []) → s.1 ≤ m
-  up_to_last m [] s up = up.0
-  up_to_last m (t ∷ ss) s up = up_to_last m ss s up.1
 
   kept_before : (ss : Pairs) (s : AddressParts × ℕ) → AreFalling (ss ++ s ∷ []) → is_recent now seconds s.1 ≡ true → recent_pairs now seconds (ss ++ s ∷ []) ≡ ss ++ s ∷ []
   kept_before [] s fall w = kept_first s [] w refl

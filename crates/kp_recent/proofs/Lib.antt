@@ -1,4 +1,5 @@
 pub mod Falling
+pub mod Hinting
 pub mod Parts
 pub mod Put
 pub mod Shelves

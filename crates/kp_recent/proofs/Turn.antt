@@ -1,24 +1,18 @@
 -- What a turn makes of a part.
-use Rattle.std.proofs.Common.{◌≡◌, ℕ, zero, suc, ◌-◌, ◌<◌, ◌≤◌, Bool, true, false, cond, ◌&&◌, ◌==◌, [], ◌∷◌, ◌++◌, take, drop, length, Option, Some, None, if◌then◌else◌, refl, ap, sym, ◌∙◌, subst, arith, append_assoc, length-append}
+use Rattle.std.proofs.Common.{◌≡◌, ℕ, zero, suc, ◌-◌, ◌<◌, ◌≤◌, Bool, true, false, cond, [], ◌∷◌, ◌++◌, take, drop, length, Option, Some, None, if◌then◌else◌, refl, ap, sym, ◌∙◌, subst, arith, append_assoc, length-append}
 use Rattle.std.specs.List.{IsDistinct, AllByRecursion, slice_get}
 use Rattle.std.proofs.lemmas.List.Elements.{filter-append}
 use Rattle.std.specs.Option.{option_map_or}
 use Rattle.std.specs.Map.{keys_of, lookup_entry, remove_entry}
-use Rattle.std.proofs.lemmas.Bool.Decides.{nat_tests}
 use Rattle.std.proofs.lemmas.Option.{none-some, same_Some}
 use Rattle.std.proofs.lemmas.Map.Keys.{IsDistinct-head, IsDistinct-tail}
 use Rattle.lru.specs.LruCache.{last_entry, promoted}
 use Rattle.kp_base.specs.contracts.address.AddressPartialEq.TheImpl as address_eq
 use Rattle.kp_base.specs.Net.{AddressParts, same_address}
-use Rattle.kp_base.proofs.SameParts.{family_itself}
+use Rattle.kp_base.proofs.SameParts.{address_itself}
 use Rattle.kp_recent.specs.Moments.{Pairs, is_recent, recent_pairs, AreFalling, AreUpTo, turned}
 use Rattle.kp_recent.proofs.Falling.{last_is, up_to_later}
 use Rattle.kp_recent.proofs.Sources.{address_test, same_swap}
-
--- ---- addresses
-
-self_same : (a : AddressParts) → same_address a a ≡ true
-self_same a = ap (λ b. b && (a.number == a.number)) (family_itself a.family) ∙ grind (arith, nat_tests)
 
 -- ---- the last source goes to the front
 
@@ -28,7 +22,7 @@ all_last P (x ∷ xs) s all = all_last P xs s all.1
 
 -- what is there but once is found last
 found_last : (xs : Pairs) (s : AddressParts × ℕ) → IsDistinct same_address (keys_of (xs ++ s ∷ [])) → (lookup_entry (same_address s.0) (xs ++ s ∷ []) ≡ Some s) × (remove_entry (same_address s.0) (xs ++ s ∷ []) ≡ xs)
-found_last [] s once = (ap (λ b. cond b (Some s) None) (self_same s.0), ap (λ b. cond b [] (s ∷ [])) (self_same s.0))
+found_last [] s once = (ap (λ b. cond b (Some s) None) (address_itself s.0), ap (λ b. cond b [] (s ∷ [])) (address_itself s.0))
 found_last (x ∷ xs) s once =
     let other = same_swap s.0 x.0 ∙ (all_last (λ k. same_address x.0 k ≡ false) xs s (IsDistinct-head same_address x.0 (keys_of (xs ++ s ∷ [])) once)) in
     let rest = found_last xs s (IsDistinct-tail same_address x.0 (keys_of (xs ++ s ∷ [])) once) in

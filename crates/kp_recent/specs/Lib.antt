@@ -1,4 +1,5 @@
 pub mod Held
+pub mod Hinted
 pub mod Moments
 pub mod Shelves
 pub mod Tails

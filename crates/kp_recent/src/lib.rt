@@ -1,6 +1,7 @@
 //! Lists of the sources that were seen of late, as session affinity asks for them.
 #![tactic(auto)]
 
+mod hints;
 mod key;
 mod lists;
 mod part;

@@ -1,13 +1,15 @@
 //! One part of a list: the sources of it, the most recently set first.
-ghost use Rattle.std.specs.Prelude.{◌≡◌, ◌==◌, ◌<◌, ◌≤◌, [], IfOk, OnOk, OnErr, IsOk, IsTrue, length, take, true, IfSome, IfNone, if◌then◌else◌};
+ghost use Rattle.std.specs.Prelude.{◌≡◌, ◌==◌, ◌<◌, ℕ, ◌≤◌, [], IfOk, OnOk, OnErr, IsOk, IsTrue, length, take, true, IfSome, IfNone, if◌then◌else◌};
 ghost use Rattle.std.specs.List.{IsDistinct, list_any};
 ghost use Rattle.std.specs.Map.{keys_of};
 ghost use Rattle.std.specs.Int.NonZero.{non_zero_usize_get};
 ghost use Rattle.kp_base.specs.Net.{same_address};
 ghost use Rattle.lru.specs.LruCache.{lru_cache, last_entry};
 ghost use Rattle.kp_choice_defs.specs.Recent.{is_of};
+ghost use Rattle.kp_recent.specs.Hinted.{AreHinted};
 ghost use Rattle.kp_recent.specs.Moments.{AreUpTo, AreFalling, shown_in, has_recent, recent, recent_pairs, is_recent, turned, with_set};
 
+use crate::hints::Hints;
 use kp_base::{Address, NoMemory};
 use lru::LruCache;
 use std::alloc::Global;
@@ -17,6 +19,7 @@ use std::num::NonZeroUsize;
 /// The sources of a part with the moments at which they were set. Contracts see the cache.
 #[derive(Drop)]
 pub struct Part {
+    hints: Hints,
     seen: LruCache<Address, u64>,
     /// Set only where no moment is later than one before it, so that the oldest are the last.
     falling: bool,
@@ -26,13 +29,15 @@ impl Model for Part {
     ghost use Rattle.std.specs.Prelude.{ℕ, ◌≡◌, true};
     ghost use Rattle.kp_base.specs.Net.{AddressParts};
     ghost use Rattle.lru.specs.LruCache.{LruCache};
+    ghost use Rattle.kp_recent.specs.Hinted.{AreHinted};
     ghost use Rattle.kp_recent.specs.Moments.{AreFalling};
 
     ghost Value = { LruCache AddressParts ℕ };
 
     ghost view = { λ p. p.seen };
 
-    ghost invariant = { λ p. p.falling ≡ true → AreFalling p.seen.entries };
+    ghost invariant = { λ p. (p.falling ≡ true → AreFalling p.seen.entries)
+        × AreHinted p.hints.marks p.hints.since p.seen.entries };
 }
 
 impl Part {
@@ -41,6 +46,7 @@ impl Part {
         ensures { IfOk result (λ p. p ≡ lru_cache [] (non_zero_usize_get size)) }
     {
         Ok(Part {
+            hints: Hints::none(),
             seen: LruCache::sparse(alloc, size)?,
             falling: true,
         })
@@ -54,6 +60,17 @@ impl Part {
 
     /// Whether the source is there, with at most this age.
     pub fn is_live(&self, source: &Address, now: u64, seconds: u32) -> bool
+        ensures { result ≡ has_recent now seconds source.now (shown_in self.now) }
+    {
+        if self.hints.may_have(source) {
+            self.has_recent(source, now, seconds)
+        } else {
+            false
+        }
+    }
+
+    /// The same, by a look at the sources.
+    fn has_recent(&self, source: &Address, now: u64, seconds: u32) -> bool
         ensures { result ≡ has_recent now seconds source.now (shown_in self.now) }
     {
         if self.seen.len() == 0 {
@@ -89,6 +106,7 @@ impl Part {
         let is_latest = none_is_later(&self.seen, now);
         self.seen.put(source, now)?;
         self.falling = self.falling && is_latest;
+        self.hints.set(&source, now);
         Ok(())
     }
 
@@ -97,11 +115,35 @@ impl Part {
         ensures sources { shown_in self.new ≡ recent now seconds (shown_in self.old) }
         ensures cap { self.new.cap ≡ self.old.cap }
     {
+        if self.hints.are_recent(now, seconds) {
+            return;
+        }
+        self.drop_past(now, seconds);
+    }
+
+    /// The same, by a look at the sources.
+    fn drop_past(&mut self, now: u64, seconds: u32)
+        ensures sources { shown_in self.new ≡ recent now seconds (shown_in self.old) }
+        ensures cap { self.new.cap ≡ self.old.cap }
+    {
         if self.falling {
             drop_last_old(&mut self.seen, now, seconds);
+            self.hints.since = least_moment(&self.seen, self.hints.since);
         } else {
             self.falling = drop_old(&mut self.seen, now, seconds);
         }
+    }
+}
+
+/// The least moment of a part whose moments fall, or this one where it has none.
+fn least_moment(seen: &LruCache<Address, u64>, since: u64) -> u64
+    requires { AreFalling seen.now.entries }
+    ensures { (marks : ℕ) → AreHinted marks since seen.now.entries
+        → AreHinted marks result seen.now.entries }
+{
+    match last_of(seen) {
+        Some((_, moment)) => moment,
+        None => since,
     }
 }
 

@@ -1,22 +1,13 @@
-use Rattle.std.proofs.Common.{◌∙◌, ap}
-use Rattle.kp_recent.specs.Moments.{recent, shown_in}
-use Rattle.kp_recent.proofs.Falling.{falling_filter}
+use Rattle.std.proofs.Common.{◌∙◌, ap, sym}
+use Rattle.kp_recent.specs.Moments.{recent, shown_in, sightings_of}
 use Rattle.kp_recent.proofs.Shown.{recent_is}
 use Rattle.kp_recent.proofs.part.Part.reap.Goals as goal
 
--- moments go on falling along what is kept
-pub invariant_of-self : goal.invariant_of-self
-invariant_of-self c h =
-    rw c.drop_last_old.ensures (falling_filter _ c.self.inside.seen.entries (c.self.invariant h))
-
-pub returns-then-self-clause-sources : goal.returns-then-self-clause-sources
-returns-then-self-clause-sources c =
-    ap shown_in c.drop_last_old.ensures
-    ∙ recent_is c.args.now c.args.seconds c.self.inside.seen.entries
-    ∙ ap (λ s. recent c.args.now c.args.seconds (shown_in s)) c.self.view_is
-
-pub returns-else-self-clause-sources : goal.returns-else-self-clause-sources
-returns-else-self-clause-sources c =
-    ap shown_in c.drop_old-self-inside.ensures.entries
-    ∙ recent_is c.args.now c.args.seconds c.self.inside.seen.entries
+-- none is too old
+pub returns-then-are_recent-clause-sources : goal.returns-then-are_recent-clause-sources
+returns-then-are_recent-clause-sources c =
+    let es = c.self.inside.seen.entries in
+    ap shown_in (sym c.self.view_is)
+    ∙ ap sightings_of (sym (c.are_recent.ensures es c.self.invariant.1 c.if-are_recent.true))
+    ∙ recent_is c.args.now c.args.seconds es
     ∙ ap (λ s. recent c.args.now c.args.seconds (shown_in s)) c.self.view_is

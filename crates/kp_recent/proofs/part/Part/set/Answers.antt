@@ -2,6 +2,7 @@ use Rattle.std.proofs.Common.{◌≡◌, ◌<◌, length, true, false, is_some, 
 use Rattle.std.specs.List.{list_any}
 use Rattle.kp_base.specs.Net.{same_address}
 use Rattle.kp_choice_defs.specs.Recent.{is_of}
+use Rattle.kp_recent.specs.Hinted.{AreHinted}
 use Rattle.kp_recent.specs.Moments.{AreFalling, sightings_of, shown_in, with_set}
 use Rattle.kp_recent.proofs.Falling.{falling_set}
 use Rattle.kp_recent.proofs.Put.{put_is, found_moment, set_some}
@@ -16,14 +17,17 @@ returns-in_err-put-clause-known c known =
     let there = sym (there_is c.args.source es) ∙ ap (λ s. list_any (is_of c.args.source) (shown_in s)) c.self.view_is ∙ known in
     absurd (let no : false ≡ true = c.in_err-put.ensures.succeeds (ap is_some (found_moment c.args.source es) ∙ there) in cc)
 
--- the new source is no older than the first, so moments go on falling
+-- the new source is no older than the first, so moments go on falling, and it has its hints
 pub invariant_of-self-2 : goal.invariant_of-self-2
-invariant_of-self-2 c h =
+invariant_of-self-2 c =
     let placed = ap (λ s. s.entries) c.in_ok-put.ensures.entries ∙ put_is c.self.inside.seen c.args.source c.args.now c.none_is_later-is_latest.ensures.fits c.none_is_later-is_latest.ensures.some in
-    elim c.if-self.branch [
-      | then-self w ↦ subst AreFalling (sym placed) (falling_set (same_address c.args.source) _ c.args.source c.args.now c.self.inside.seen.entries (c.self.invariant w.if-self.true) (c.none_is_later-is_latest.ensures.later (sym w.self-is ∙ h)))
-      | else-self w ↦ absurd (let no : true ≡ false = sym h ∙ w.self-is ∙ w.if-self.false in cc)
-    ]
+    let es = c.self.inside.seen.entries in (
+      λ h. elim c.if-self.branch [
+        | then-self w ↦ subst AreFalling (sym placed) (falling_set (same_address c.args.source) _ c.args.source c.args.now es (c.self.invariant.0 w.if-self.true) (c.none_is_later-is_latest.ensures.later (sym w.self-is ∙ h)))
+        | else-self w ↦ absurd (let no : true ≡ false = sym h ∙ w.self-is ∙ w.if-self.false in cc)
+      ],
+      subst (AreHinted c.set.new.self.marks c.set.new.self.since) (sym placed) (c.set.ensures es c.self.inside.seen.cap c.self.invariant.1),
+    )
 
 pub returns-clause-ok : goal.returns-clause-ok
 returns-clause-ok c =
