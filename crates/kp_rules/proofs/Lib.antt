@@ -9,6 +9,5 @@ mod PlacesFound
 mod Placing
 mod RankedPlaces
 mod RankedWalk
-mod ReadyLimits
 mod SameValues
 pub mod Skipping

@@ -1,6 +1,5 @@
 //! A chain's rules, with what finds those that may match a packet.
-ghost use Rattle.std.specs.Prelude.{◌≡◌, slice_get, IfOk};
-ghost use Rattle.std.specs.Option.{option_and_then};
+ghost use Rattle.std.specs.Prelude.{◌≡◌, map, IfOk};
 ghost use Rattle.kp_rules.specs.Destinations as Destinations;
 ghost use Rattle.kp_rules.specs.Limits as Limits;
 
@@ -8,7 +7,7 @@ use crate::destination::Destination;
 use crate::index::{
     KeyedPlace, earlier, element, keyed_places, next_keyed, next_other, other_places,
 };
-use crate::limits::{limit_at, limits_of};
+use crate::limits::limits_of;
 use crate::slots::set;
 use kp_base::{NoMemory, Shared};
 use kp_types::Rule;
@@ -99,12 +98,12 @@ impl Chain {
         )
     }
 
-    /// The limit of the draw of the rule at this place, where a draw is its only match: it matches
-    /// exactly at draws below it. A walk needs not read such a rule's matches.
-    pub fn limit(&self, place: u64) -> Option<u32>
-        ensures { result ≡ option_and_then Limits.limit_of (slice_get self.now place) }
+    /// For each rule the limit of its draw, where a draw is its only match: it matches exactly at
+    /// draws below it. A walk needs not read such a rule's matches.
+    pub fn limits(&self) -> &[Option<u32>]
+        ensures { result.now ≡ map Limits.limit_of self.now }
     {
-        limit_at(self.limits.as_slice(), place as usize)
+        self.limits.as_slice()
     }
 
     /// The slot of the chain.

@@ -1,9 +1,7 @@
 //! Limits of draws, ready to compare.
-ghost use Rattle.std.specs.Prelude.{◌≡◌, map, slice_get, IfOk};
-ghost use Rattle.std.specs.Option.{option_and_then};
+ghost use Rattle.std.specs.Prelude.{◌≡◌, map, IfOk};
 ghost use Rattle.kp_rules.specs.Limits as Limits;
 
-use crate::index::element;
 use kp_base::NoMemory;
 use kp_draws::threshold;
 use kp_types::{Match, Rule};
@@ -41,15 +39,5 @@ fn limit_of_match(matched: &Match) -> Option<u32>
     match matched {
         Match::Statistic { p } if *p <= 10_000_000_000 => Some(threshold(*p)),
         _ => None,
-    }
-}
-
-/// The limit at an index, if there is one.
-pub(crate) fn limit_at(limits: &[Option<u32>], i: usize) -> Option<u32>
-    ensures { result ≡ option_and_then (λ limit. limit) (slice_get limits.now i) }
-{
-    match element(limits, i) {
-        None => None,
-        Some(limit) => *limit,
     }
 }

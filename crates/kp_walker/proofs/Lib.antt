@@ -1,5 +1,5 @@
+pub mod DrawnRules
 pub mod HeldSteps
-pub mod LimitedPlaces
 pub mod OwnTables
 pub mod ReadyMatches
 pub mod SetSteps

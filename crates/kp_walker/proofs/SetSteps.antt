@@ -9,15 +9,9 @@ use Rattle.kp_types.specs.declared.verdict.Verdict.{Verdict}
 use Rattle.kp_choice_defs.specs.Recent.{RecentParts}
 use Rattle.kp_table_defs.specs.Matching.{WalkState, Surroundings, Tried, try_match}
 use Rattle.kp_table_defs.specs.Walk as walk
-use Rattle.kp_table_defs.specs.Walk.{Outcome, chain_outcome, rule_outcome}
-use Rattle.kp_rules.specs.Destinations.{next_for}
-use Rattle.kp_rules.specs.Skipped.{destination_in}
-use Rattle.kp_rules.specs.declared.destination.Destination.{Destination}
+use Rattle.kp_table_defs.specs.Walk.{chain_outcome}
 use Rattle.kp_walker.specs.Journeys.{StopsAs}
-use Rattle.kp_walker.specs.Next.{IsNext}
-use Rattle.kp_walker.specs.Sets.{OnHeld, OnNext, MatchSets, MatchesSet, RuleSets, RulesSet, FoundSets, ChainSets, ThroughSets, HookSets}
-use Rattle.kp_walker.proofs.SkippedSets.{set_further}
-use Rattle.kp_walker.proofs.Steps.{at_place}
+use Rattle.kp_walker.specs.Sets.{OnHeld, MatchSets, MatchesSet, FoundSets, ChainSets, ThroughSets, HookSets}
 
 -- what stands behind an error
 pub on_err : {A E P : Type 0} (r : Result A E) → P → OnErr r P
@@ -38,21 +32,6 @@ match_behind e ms i m s t left more here tried holds sets =
     subst (λ xs. MatchesSet e xs s left) (sym (at_drop_more (λ xs. xs) ms i m more))
     (inr (subst (λ x. OnHeld (try_match e x s).holds (MatchesSet e (drop (i + 1) ms) (try_match e x s).state left)) here
     (subst (λ (z : Tried). OnHeld z.holds (MatchesSet e (drop (i + 1) ms) z.state left)) tried held)))
-
--- the next rule that may match the packet comes to the set
-pub rule_here : (e : Surroundings) (jump : List ℕ → WalkState → Outcome) (sets : List ℕ → WalkState → RecentParts → Type 0) (s : WalkState) (to : Destination) (rules : List Rule) (from place : ℕ) (rule : Rule) (limit : Option ℕ) (left : RecentParts) → to ≡ destination_in e s → IsNext to rules from place rule limit → RuleSets e sets rule s left → RulesSet e jump sets (drop from rules) s left
-rule_here e jump sets s to rules from place rule limit left heading next set =
-    set_further e s jump sets left rules from place (ap (λ d. next_for d rules from) (sym heading) ∙ next.next)
-    (subst (λ xs. RulesSet e jump sets xs s left) (sym (at_drop_more (λ xs. xs) rules place rule next.within))
-    (inl (subst (λ r. RuleSets e sets r s left) (at_place rules place rule next.here) set)))
-
--- the rules behind one that goes on come to the set
-pub rule_behind : (e : Surroundings) (jump : List ℕ → WalkState → Outcome) (sets : List ℕ → WalkState → RecentParts → Type 0) (s : WalkState) (to : Destination) (rules : List Rule) (from place : ℕ) (rule : Rule) (limit : Option ℕ) (left : RecentParts) → to ≡ destination_in e s → IsNext to rules from place rule limit → OnNext (rule_outcome e jump rule s) (λ t. RulesSet e jump sets (drop (place + 1) rules) t left) → RulesSet e jump sets (drop from rules) s left
-rule_behind e jump sets s to rules from place rule limit left heading next set =
-    set_further e s jump sets left rules from place (ap (λ d. next_for d rules from) (sym heading) ∙ next.next)
-    (subst (λ xs. RulesSet e jump sets xs s left) (sym (at_drop_more (λ xs. xs) rules place rule next.within))
-    (inr (subst (λ r. OnNext (rule_outcome e jump r s) (λ t. RulesSet e jump sets (drop (place + 1) rules) t left))
-    (at_place rules place rule next.here) set)))
 
 -- a chain comes to the set where the rules that its look-up finds do, with room for one chain less
 pub chain_sets : (e : Surroundings) (at : ChainAt → Option (List Rule)) (table : TableName) (n less : ℕ) (chain : List ℕ) (s : WalkState) (left : RecentParts) (found : Option (List Rule)) → less + 1 ≡ n → found ≡ at (record { table = table; chain = chain }) → FoundSets e (chain_outcome e at table less) (ChainSets e at table less) found s left → ChainSets e at table n chain s left

@@ -1,6 +1,5 @@
 -- Chains and rules, one step at a time.
 use Rattle.std.proofs.lemmas.Bool.{eqb-true}
-use Rattle.std.proofs.lemmas.List.{at_drop_more}
 use Rattle.std.proofs.lemmas.Option.{unwrap_or-slice_get}
 use Rattle.std.proofs.Common.{◌≡◌, ℕ, zero, suc, ◌+◌, Bool, true, false, List, [], ◌∷◌, ◌++◌, Option, Some, None, is_some, drop, get_or, length, ◌==◌, slice_get, unwrap_or, refl, sym, ap, subst, ◌∙◌, arith}
 use Rattle.kp_types.specs.declared.chain.ChainAt.{ChainAt}
@@ -12,14 +11,13 @@ use Rattle.kp_types.specs.declared.rule.Rule.{Rule}
 use Rattle.kp_choice_defs.specs.Recent.{RecentParts}
 use Rattle.kp_table_defs.specs.Matching.{Surroundings, WalkState}
 use Rattle.kp_table_defs.specs.Walk as walk
-use Rattle.kp_table_defs.specs.Walk.{Outcome, chain_outcome, found_outcome, rules_outcome, rule_outcome, and_then}
+use Rattle.kp_table_defs.specs.Walk.{Outcome, chain_outcome, found_outcome, rules_outcome, and_then}
 use Rattle.kp_rules.specs.Destinations.{next_for}
 use Rattle.kp_rules.specs.Skipped.{destination_in}
 use Rattle.kp_rules.specs.declared.destination.Destination.{Destination}
-use Rattle.kp_rules.proofs.Skipping.{passed_over, passed_all}
+use Rattle.kp_rules.proofs.Skipping.{passed_all}
 use Rattle.kp_walker.specs.Flow.{outcome_of}
 use Rattle.kp_walker.specs.Journeys.{MovesAs, beginning}
-use Rattle.kp_walker.specs.Next.{IsNext}
 use Rattle.kp_walker.specs.Shorn.{path_if, trail_if, shorn, told}
 use Rattle.kp_walker.specs.declared.flow.Flow.{Flow}
 use Rattle.kp_walker.specs.declared.header.Header.{Header}
@@ -43,14 +41,7 @@ nothing_done e at table n less chain s (r ∷ rs) room none look = absurd (omega
 pub at_place : (rules : List Rule) (place : ℕ) (rule : Rule) → slice_get rules place ≡ Some rule → rule ≡ get_or rules place rule
 at_place rules place rule here = sym (ap (λ o. unwrap_or o rule) here) ∙ unwrap_or-slice_get rules place rule
 
--- the rules from a place on are the next one that may match the packet, and then those behind it
-pub rules_from : (e : Surroundings) (jump : List ℕ → WalkState → Outcome) (s : WalkState) (rules : List Rule) (from place : ℕ) (rule : Rule) (limit : Option ℕ) → IsNext (destination_in e s) rules from place rule limit → rules_outcome e jump (drop from rules) s ≡ and_then (rule_outcome e jump rule s) (rules_outcome e jump (drop (place + 1) rules))
-rules_from e jump s rules from place rule limit is =
-    passed_over e s jump rules from place is.next
-    ∙ at_drop_more (λ rs. rules_outcome e jump rs s) rules place rule is.within
-    ∙ ap (λ r. and_then (rule_outcome e jump r s) (rules_outcome e jump (drop (place + 1) rules))) (sym (at_place rules place rule is.here))
-
--- and where there is none, all is done
+-- where no rule is left that may match the packet, all is done
 pub none_left : (e : Surroundings) (jump : List ℕ → WalkState → Outcome) (s : WalkState) (to : Destination) (rules : List Rule) (from : ℕ) → to ≡ destination_in e s → next_for to rules from ≡ None → rules_outcome e jump (drop from rules) s ≡ walk.Next s
 none_left e jump s to rules from heading none = passed_all e s jump rules from (ap (λ d. next_for d rules from) (sym heading) ∙ none)
 

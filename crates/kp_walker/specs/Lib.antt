@@ -1,4 +1,5 @@
 pub mod Answers
+pub mod Drawing
 pub mod Flow
 pub mod Held
 pub mod Journeys

@@ -7,6 +7,7 @@ ghost use Rattle.kp_walker.specs.Progress.{state_of};
 ghost use Rattle.kp_walker.specs.Sets.{RulesSet};
 ghost use Rattle.kp_walker.specs.Surroundings.{surroundings_of};
 
+use crate::drawing::Drawn;
 use crate::hook::Hook;
 use crate::next::{NextRule, next_rule};
 use crate::progress::Progress;
@@ -16,7 +17,8 @@ use kp_rules::{Chain, Destination};
 
 impl<F: Fn(u64, u32) -> u32> Hook<'_, F> {
     /// The first rule at or after a place whose matches hold. Those before it are tried in one
-    /// loop, since long lists of endpoints are rules that fail.
+    /// loop, and those that only draw in a smaller one, since long lists of endpoints are rules
+    /// that fail.
     pub(crate) fn next_held<'a>(
         &self,
         chain: &'a Chain,
@@ -45,12 +47,18 @@ impl<F: Fn(u64, u32) -> u32> Hook<'_, F> {
             (state_of self.now.header progress.old lists.old) lists.new) }
     {
         let mut place = from;
-        while let Some(next) = next_rule(chain, place, to) {
-            if self.try_rule(next.rule, next.limit, progress, lists)? {
+        loop {
+            let after = match self.draw_on(chain, place, progress) {
+                Drawn::Matched(next) => return Ok(Some(next)),
+                Drawn::Over(after) => after,
+            };
+            let Some(next) = next_rule(chain, after, to) else {
+                return Ok(None);
+            };
+            if self.try_rule(next.rule, progress, lists)? {
                 return Ok(Some(next));
             }
             place = next.place + 1;
         }
-        Ok(None)
     }
 }

@@ -2,6 +2,7 @@
 #![tactic(auto)]
 
 mod chains;
+mod drawing;
 mod flow;
 mod header;
 mod held;

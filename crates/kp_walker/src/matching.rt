@@ -1,8 +1,7 @@
 //! The matches of a rule.
-ghost use Rattle.std.specs.Prelude.{◌≡◌, nat_lt, OnOk, OnErr, IfOk};
-ghost use Rattle.kp_choice_defs.specs.Draws.{IsStated, AreDraws, draw_at, draw_matches};
+ghost use Rattle.std.specs.Prelude.{◌≡◌, OnOk, OnErr, IfOk};
+ghost use Rattle.kp_choice_defs.specs.Draws.{IsStated, AreDraws, draw_matches};
 ghost use Rattle.kp_choice_defs.specs.Recent as recent;
-ghost use Rattle.kp_rules.specs.Limits.{limit_of};
 ghost use Rattle.kp_table_defs.specs.Matching as walk;
 ghost use Rattle.kp_walker.specs.Progress.{state_of, tried_of};
 ghost use Rattle.kp_walker.specs.Sets.{MatchSets, MatchesSet};
@@ -16,17 +15,15 @@ use kp_recent::RecentLists;
 use kp_types::{ChainName, Match, Rule};
 
 impl<F: Fn(u64, u32) -> u32> Hook<'_, F> {
-    /// Tries the matches of a rule with this limit of its draw.
+    /// Tries the matches of a rule.
     pub(crate) fn try_rule(
         &self,
         rule: &Rule,
-        limit: Option<u32>,
         progress: &mut Progress,
         lists: &mut RecentLists,
     ) -> Result<bool, NoMemory>
         requires stated { IsStated (F.pre self.now.around.now.draws.now)
             (F.post self.now.around.now.draws.now) }
-        requires limit { limit ≡ limit_of rule.now }
         ensures ok { IfOk result (λ holds. (draws : _)
             → AreDraws (F.post self.now.around.now.draws.now) self.now.around.now.number draws
             → tried_of self.now.header holds progress.new lists.new
@@ -37,25 +34,7 @@ impl<F: Fn(u64, u32) -> u32> Hook<'_, F> {
             → MatchesSet (surroundings_of self.now.around.now draws) rule.now.matches.items
             (state_of self.now.header progress.old lists.old) lists.new) }
     {
-        match limit {
-            None => self.try_all(rule.matches.as_slice(), progress, lists),
-            Some(limit) => Ok(self.try_limit(limit, progress)),
-        }
-    }
-
-    /// Compares the next draw with a limit.
-    fn try_limit(&self, limit: u32, progress: &mut Progress) -> bool
-        requires { IsStated (F.pre self.now.around.now.draws.now)
-            (F.post self.now.around.now.draws.now) }
-        ensures { (draws lists : _)
-            → AreDraws (F.post self.now.around.now.draws.now) self.now.around.now.number draws
-            → tried_of self.now.header result progress.new lists
-            ≡ walk.tried_as (walk.with_draw (state_of self.now.header progress.old lists))
-            (nat_lt (draw_at draws progress.old.used) limit) }
-    {
-        let draw = self.around.draws.draw(self.around.number, progress.used);
-        progress.use_draw();
-        draw < limit
+        self.try_all(rule.matches.as_slice(), progress, lists)
     }
 
     /// Tries matches from the left, up to the first that fails.

@@ -6,54 +6,37 @@ ghost use Rattle.kp_walker.specs.Next.{IsNext};
 use kp_rules::{Chain, Destination};
 use kp_types::Rule;
 
-/// A rule to be walked: its chain and its place there, and the limit of its draw, where a draw is
-/// its only match.
+/// A rule to be walked: its chain and its place there.
 #[derive(Drop)]
 pub(crate) struct NextRule<'a> {
     pub(crate) chain: &'a Chain,
     pub(crate) place: u64,
     pub(crate) rule: &'a Rule,
-    pub(crate) limit: Option<u32>,
 }
 
-/// The first rule at or after a place that may match packets to this destination. A rule whose only
-/// match is a draw asks for no destination, so none has to be looked for.
-pub(crate) fn next_rule<'a>(chain: &'a Chain, from: u64, to: &Destination) -> Option<NextRule<'a>>
-    ensures next { IfSome result (λ n. IsNext to.now chain.now from n.place n.rule.now n.limit) }
-    ensures none { result ≡ None → next_for to.now chain.now from ≡ None }
-{
-    match chain.limit(from) {
-        None => next_asking(chain, from, to),
-        Some(limit) => Some(NextRule {
+impl<'a> NextRule<'a> {
+    /// The rule at a place of a chain.
+    pub(crate) fn at(chain: &'a Chain, place: u64) -> NextRule<'a>
+        requires { place < length chain.now }
+        ensures place { result.place ≡ place }
+        ensures rule { slice_get chain.now place ≡ Some result.rule.now }
+        ensures fits { place + 1 < 2 ^ 64 }
+    {
+        NextRule {
             chain,
-            place: from,
-            rule: rule_at(chain.rules(), from),
-            limit: Some(limit),
-        }),
+            place,
+            rule: &chain.rules()[place as usize],
+        }
     }
 }
 
-/// The same, by what rules ask for.
-fn next_asking<'a>(chain: &'a Chain, from: u64, to: &Destination) -> Option<NextRule<'a>>
-    ensures next { IfSome result (λ n. IsNext to.now chain.now from n.place n.rule.now n.limit) }
+/// The first rule at or after a place that may match packets to this destination.
+pub(crate) fn next_rule<'a>(chain: &'a Chain, from: u64, to: &Destination) -> Option<NextRule<'a>>
+    ensures next { IfSome result (λ n. IsNext to.now chain.now from n.place n.rule.now) }
     ensures none { result ≡ None → next_for to.now chain.now from ≡ None }
 {
     match chain.next_for(from, to) {
         None => None,
-        Some(place) => Some(NextRule {
-            chain,
-            place,
-            rule: rule_at(chain.rules(), place),
-            limit: chain.limit(place),
-        }),
+        Some(place) => Some(NextRule::at(chain, place)),
     }
-}
-
-/// The rule at a place.
-fn rule_at(rules: &[Rule], place: u64) -> &Rule
-    requires { place < length rules.now }
-    ensures rule { slice_get rules.now place ≡ Some result.now }
-    ensures fits { place + 1 < 2 ^ 64 }
-{
-    &rules[place as usize]
 }
