@@ -1,5 +1,5 @@
 //! The chains of a port's endpoints.
-ghost use Rattle.std.specs.Prelude.{◌≡◌, ◌++◌, ◌∷◌, [], cond, false, map, not, IfOk, OnOk};
+ghost use Rattle.std.specs.Prelude.{◌≡◌, ◌++◌, ◌∷◌, [], List, cond, false, map, not, IfOk, OnErr, OnOk};
 ghost use Rattle.std.specs.List.{filter};
 ghost use Rattle.kp_table_defs.specs.Keys as keys;
 ghost use Rattle.kp_table_defs.specs.Layout as layout;
@@ -93,15 +93,17 @@ fn copied(alloc: Global, endpoints: &[Endpoint]) -> Result<Vec<Endpoint>, NoMemo
     Ok(endpoints.iter().copied().collect(alloc)?)
 }
 
-/// Adds the endpoints that aren't among others.
+/// Adds the endpoints that aren't among others. Without memory some of them may be added.
 pub fn add_others(
     alloc: Global,
     all: &mut Vec<Endpoint>,
     others: &[Endpoint],
     endpoints: &[Endpoint],
 ) -> Result<(), NoMemory>
-    ensures { OnOk result (all.new.items ≡ all.old.items
+    ensures added { OnOk result (all.new.items ≡ all.old.items
         ++ filter (λ e. not (keys.has_endpoint others.now e)) endpoints.now) }
+    ensures front { OnErr result
+        ((some : List Endpoint) × (all.new.items ≡ all.old.items ++ some)) }
 {
     if endpoints.is_empty() {
         return Ok(());
@@ -119,8 +121,9 @@ fn push_unless_among(
     others: &BTreeSet<Endpoint>,
     endpoint: &Endpoint,
 ) -> Result<(), NoMemory>
-    ensures { OnOk result (all.new.items ≡ all.old.items
+    ensures added { OnOk result (all.new.items ≡ all.old.items
         ++ cond (has others.now endpoint.now) [] (endpoint.now ∷ [])) }
+    ensures kept { OnErr result (all.new.items ≡ all.old.items) }
 {
     if others.contains(endpoint) {
         return Ok(());

@@ -1,5 +1,5 @@
 //! Doors: the destinations that Service ports answer on, and which of them takes a packet.
-ghost use Rattle.std.specs.Prelude.{◌≡◌, ◌++◌, map, IfOk, OnOk};
+ghost use Rattle.std.specs.Prelude.{◌≡◌, ◌++◌, List, map, IfOk, OnErr, OnOk};
 ghost use Rattle.std.specs.List.{find, flat_map};
 ghost use Rattle.kp_base.specs.declared.address.Family.{Family};
 ghost use Rattle.kp_types.specs.Setting.{config_for};
@@ -70,13 +70,15 @@ fn first_taking<'a>(
         .find(|door| takes(family, config, packet, door))
 }
 
-/// Adds the doors of ports at addresses, port by port.
+/// Adds the doors of ports at addresses, port by port. Without memory some of them may be added.
 pub fn add_address_doors<'a>(
     doors: &mut Vec<Door<'a>>,
     infos: &'a [PortInfo],
 ) -> Result<(), NoMemory>
-    ensures { OnOk result (doors.new.items
+    ensures added { OnOk result (doors.new.items
         ≡ doors.old.items ++ flat_map spec.address_doors infos.now) }
+    ensures front { OnErr result
+        ((some : List spec.Door) × (doors.new.items ≡ doors.old.items ++ some)) }
 {
     for info in infos {
         add_doors_of(doors, info)?;
@@ -84,24 +86,29 @@ pub fn add_address_doors<'a>(
     Ok(())
 }
 
-/// Adds the doors of a port at addresses.
+/// Adds the doors of a port at addresses. Without memory some of them may be added.
 pub fn add_doors_of<'a>(doors: &mut Vec<Door<'a>>, info: &'a PortInfo) -> Result<(), NoMemory>
-    ensures { OnOk result (doors.new.items ≡ doors.old.items ++ spec.address_doors info.now) }
+    ensures added { OnOk result
+        (doors.new.items ≡ doors.old.items ++ spec.address_doors info.now) }
+    ensures front { OnErr result
+        ((some : List spec.Door) × (doors.new.items ≡ doors.old.items ++ some)) }
 {
     doors.push(door_at(DoorKind::Cluster, info, info.address))?;
     add_doors_at(doors, DoorKind::External, info, info.external.as_slice())?;
     add_doors_at(doors, DoorKind::Balancer, info, info.balancer.as_slice())
 }
 
-/// Adds the doors of a port at some addresses.
+/// Adds the doors of a port at some addresses. Without memory some of them may be added.
 pub fn add_doors_at<'a>(
     doors: &mut Vec<Door<'a>>,
     kind: DoorKind,
     info: &'a PortInfo,
     addresses: &[Address],
 ) -> Result<(), NoMemory>
-    ensures { OnOk result (doors.new.items
+    ensures added { OnOk result (doors.new.items
         ≡ doors.old.items ++ map (spec.door_at kind info.now) addresses.now) }
+    ensures front { OnErr result
+        ((some : List spec.Door) × (doors.new.items ≡ doors.old.items ++ some)) }
 {
     for address in addresses {
         doors.push(door_at(kind, info, *address))?;
@@ -121,10 +128,12 @@ pub fn door_at<'a>(kind: DoorKind, info: &'a PortInfo, address: Address) -> Door
     }
 }
 
-/// Adds the doors of node ports.
+/// Adds the doors of node ports. Without memory some of them may be added.
 pub fn add_node_doors<'a>(doors: &mut Vec<Door<'a>>, infos: &'a [PortInfo]) -> Result<(), NoMemory>
-    ensures { OnOk result (doors.new.items
+    ensures added { OnOk result (doors.new.items
         ≡ doors.old.items ++ flat_map (λ i. spec.node_door i i.node_port) infos.now) }
+    ensures front { OnErr result
+        ((some : List spec.Door) × (doors.new.items ≡ doors.old.items ++ some)) }
 {
     for info in infos {
         add_node_door(doors, info)?;
@@ -132,10 +141,11 @@ pub fn add_node_doors<'a>(doors: &mut Vec<Door<'a>>, infos: &'a [PortInfo]) -> R
     Ok(())
 }
 
-/// Adds the door of a node port, if there is one.
+/// Adds the door of a node port, if there is one. Without memory the doors stay.
 pub fn add_node_door<'a>(doors: &mut Vec<Door<'a>>, info: &'a PortInfo) -> Result<(), NoMemory>
-    ensures { OnOk result (doors.new.items
+    ensures added { OnOk result (doors.new.items
         ≡ doors.old.items ++ spec.node_door info.now info.now.node_port) }
+    ensures kept { OnErr result (doors.new.items ≡ doors.old.items) }
 {
     match info.node_port {
         Some(number) => {

@@ -14,7 +14,7 @@ returns-in_ok-add_doors_at c =
     on_ok_weaker c.add_lines.result
     (λ same.
     same
-    ∙ ap (λ doors. before ++ map (line_of DropsClosed) doors) c.in_ok-add_doors_at.ensures
+    ∙ ap (λ doors. before ++ map (line_of DropsClosed) doors) c.in_ok-add_doors_at.ensures.added
     ∙ ap (λ lines. before ++ lines)
     ((λ i. map (line_of DropsClosed) (c.new-doors.ensures.items i ++ map (door_at door.Balancer info) (c.as_slice.ensures i)))
     ∙ map-map (line_of DropsClosed) (door_at door.Balancer info) info.balancer
