@@ -11,7 +11,7 @@ use Rattle.kp_choice_defs.specs.Settings.{settings_of}
 use Rattle.kp_object_defs.specs.Objects.{no_objects}
 use Rattle.kp_object_defs.specs.PortInfo.{infos_by_family}
 use Rattle.kp_table_defs.specs.Layout.{filter_rows_with, nat_rows_with, rows_of}
-use Rattle.kp_table_defs.specs.Rebuild.{TableParts, full_table}
+use Rattle.kp_table_defs.specs.Rebuild.{full_table}
 use Rattle.kp_chains.specs.Tables.{fixed_rows, table_with}
 use Rattle.kp_history_laws.proofs.Histories.{no_infos}
 

@@ -1,9 +1,11 @@
 //! The syncs so far.
-use kp_base::{Config, NoMemory, fits_memory};
+use crate::stale::Stale;
+use kp_base::{Config, Items, NoMemory, fits_memory};
 use kp_chains::fixed_chains;
 use kp_rules::Table;
-use kp_types::{Batch, table_families};
+use kp_types::{Batch, Edit, table_families};
 use std::alloc::Global;
+use std::mem::replace;
 
 /// How many events each sync covers more than the one before it, how many all of them cover, the
 /// table after them, and the batch of the last.
@@ -12,6 +14,8 @@ pub struct History {
     pub covered: u64,
     pub table: Table,
     pub last: Option<Batch>,
+    /// Edits of batches before it.
+    stale: Stale<Edit>,
 }
 
 impl Drop for History {
@@ -21,6 +25,7 @@ impl Drop for History {
             covered,
             table,
             last,
+            stale,
         } = self;
     }
 }
@@ -43,12 +48,14 @@ impl History {
             covered: 0,
             table: fixed_chains(alloc, table_families(config))?,
             last: None,
+            stale: Stale::new(alloc),
         })
     }
 
     /// Makes the edits of a sync, after which so many events are covered, and keeps its batch. It
-    /// costs what these edits do: no other chain is looked at. Where memory is out, all stays.
-    pub fn record(&mut self, covered: u64, batch: Batch) -> Result<(), NoMemory>
+    /// costs what these edits do: no other chain is looked at, and of the batches before as many
+    /// edits are let go. Where memory is out, all stays.
+    pub fn record(&mut self, alloc: Global, covered: u64, batch: Batch) -> Result<(), NoMemory>
         requires { self.old.covered ≤ covered }
         ensures ok { (p : PlaneParts) → IsHistory p self.old → covered ≡ length p.events
             → LeadsToNext p batch → OnOk result (IsHistory (synced p) self.new) }
@@ -63,7 +70,9 @@ impl History {
         self.counts.push_reserved(covered - self.covered);
         fits_memory(self.counts.as_slice());
         self.covered = covered;
-        self.last = Some(batch);
+        let made = batch.edits.as_slice().len();
+        let before = replace(&mut self.last, Some(batch));
+        self.stale.take_in(made, edits_of(alloc, before));
         Ok(())
     }
 
@@ -88,7 +97,16 @@ impl History {
             covered,
             table,
             last,
+            stale,
         } = self;
         (counts, table)
+    }
+}
+
+/// The edits of a batch, if there is one.
+fn edits_of(alloc: Global, batch: Option<Batch>) -> Items<Edit> {
+    match batch {
+        None => Items::new(alloc),
+        Some(mut batch) => replace(&mut batch.edits, Items::new(alloc)),
     }
 }

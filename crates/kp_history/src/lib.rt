@@ -2,5 +2,7 @@
 #![tactic(auto)]
 
 mod history;
+mod stale;
 
 pub use history::History;
+pub use stale::Stale;

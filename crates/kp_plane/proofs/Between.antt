@@ -1,5 +1,5 @@
 -- What a writer makes between what the last sync covers and all events.
-use Rattle.std.proofs.Common.{◌≡◌, ◌≤◌, ◌<◌, ◌+◌, ◌*◌, ◌++◌, ℕ, true, List, [], ◌∷◌, None, filter_map}
+use Rattle.std.proofs.Common.{◌≡◌, ◌≤◌, ◌<◌, ◌+◌, ◌*◌, ◌++◌, ℕ, true, List, [], ◌∷◌, filter_map}
 use Rattle.std.proofs.Common.{flat_map, length, map, not, slice_get, sum, sum_by, take, drop, refl, sym}
 use Rattle.std.proofs.Common.{ap, subst, ◌∙◌, arith, le_refl, Result, Ok, Err, OnErr}
 use Rattle.std.specs.List.{AllByRecursion}

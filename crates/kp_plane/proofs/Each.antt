@@ -1,7 +1,6 @@
 -- What holds of each of some elements, and lists that are made of each by what it is of.
 use Rattle.std.proofs.Common.{◌≡◌, ◌<◌, ◌+◌, ◌++◌, ℕ, zero, suc, List, [], ◌∷◌, map, flat_map, set}
-use Rattle.std.proofs.Common.{replicate}
-use Rattle.std.proofs.Common.{length, get_or, Option, refl, sym, ap, ◌∙◌, arith}
+use Rattle.std.proofs.Common.{length, get_or, Option, refl, sym, ◌∙◌, arith}
 use Rattle.std.specs.List.{AllByRecursion, cons_option, filter_map, sum_by}
 use Rattle.std.proofs.lemmas.List.Sums.{sum_by-cons}
 
@@ -71,8 +70,3 @@ sum_of_both f g (x ∷ xs) =
     let second = sum_by-cons g x xs in
     let rest = sum_of_both f g xs in
     omega (arith, both, first, second, rest)
-
--- the same of each is so many times the same
-pub same_of_each : {X Y : Type 0} (y : Y) (xs : List X) → replicate (length xs) y ≡ map (λ x. y) xs
-same_of_each y [] = refl
-same_of_each y (x ∷ xs) = ap (λ ys. y ∷ ys) (same_of_each y xs)

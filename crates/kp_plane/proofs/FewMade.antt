@@ -1,6 +1,6 @@
 -- What is made of the ports of different Services is at most what dirty ports have.
 use Rattle.std.proofs.Common.{◌≡◌, ◌≤◌, ◌+◌, ◌||◌, ◌&&◌, ◌⊎◌, inl, inr, ℕ, Bool, true, false}
-use Rattle.std.proofs.Common.{true≢false, not, cond, List, [], ◌∷◌, ◌++◌, map, filter, Option, Some}
+use Rattle.std.proofs.Common.{true≢false, not, cond, List, [], ◌∷◌, map, filter, Option, Some}
 use Rattle.std.proofs.Common.{None, flat_map, append-nil, refl, sym, ap, ◌∙◌, arith}
 use Rattle.std.proofs.Math.Bool.{or-true}
 use Rattle.std.specs.FinMap as finite
@@ -22,7 +22,6 @@ use Rattle.kp_types.specs.Setting.{Setting}
 use Rattle.kp_types.specs.declared.service.Service.{Service}
 use Rattle.kp_types.specs.declared.service.ServicePort.{ServicePort}
 use Rattle.kp_object_defs.specs.Objects.{Objects}
-use Rattle.kp_object_defs.specs.Order.{distinct_in_order}
 use Rattle.kp_object_defs.specs.OwnKeys.{AreUnderOwnKeys}
 use Rattle.kp_object_defs.specs.PortByKey.{info_at, port_keys_of}
 use Rattle.kp_object_defs.specs.PortInfo.{PortInfo, port_key_of}
@@ -31,12 +30,12 @@ use Rattle.kp_history_defs.specs.DirtyPorts.{same_info}
 use Rattle.kp_store.specs.Indexes.{Keys}
 use Rattle.kp_blocks.specs.Joined.{is_port_of}
 use Rattle.kp_writer_laws.specs.LocalLaws.{is_one_of}
-use Rattle.kp_writer_laws.proofs.LocalChanges.{same_given}
+use Rattle.kp_writer_laws.proofs.LocalChanges.{in_either, same_given}
 use Rattle.kp_writer.specs.Known.{port_keys_at}
 use Rattle.kp_writer.specs.Old.{is_known, unwritten}
 use Rattle.kp_writer.specs.Shared.{shared_rule_count}
 use Rattle.kp_writer.specs.Written.{Ports}
-use Rattle.kp_writer.proofs.DirtyLists.{keys_rise}
+use Rattle.kp_writer.proofs.DirtyLists.{keys_rise, one_passed}
 use Rattle.kp_writer.proofs.KnownPorts.{itself}
 use Rattle.kp_writer.proofs.OneList.{distinct_has, distinct_rise, filter_has}
 use Rattle.kp_writer.proofs.RuleCounts.{shared_parts}
@@ -168,24 +167,15 @@ module _ (setting : Setting) (written : Ports) (o : Objects) (own : AreUnderOwnK
   abbrev made : PortKey → Option PortInfo
   made k = cond (differs k) (known k) None
 
-  nothing : (b : Bool) {i : Option PortInfo} → i ≡ None → cond b i None ≡ None
-  nothing true is = is
-  nothing false is = refl
-
-  put_if : (b : Bool) (i : PortInfo) (is : List PortInfo)
-      → cons_option (cond b (Some i) None) is ≡ cond b (i ∷ is) is
-  put_if true i is = refl
-  put_if false i is = refl
-
   one_made : (k : PortKey) (is : List PortInfo) (i : Option PortInfo) → known k ≡ i
       → unwritten written (cons_option i is) ≡ cons_option (made k) (unwritten written is)
   one_made k is None at =
-      ap (λ i. cons_option i (unwritten written is)) (sym (nothing (differs k) at))
+      ap (λ i. cons_option i (unwritten written is)) (sym (in_either (differs k) at))
   one_made k is (Some i) at =
       let key = has_key setting.family setting.config o k i own at in
       (λ n. cond (not (is_known (finite.get written (key n)) i))
       (i ∷ unwritten written is) (unwritten written is))
-      ∙ sym (put_if (not (is_known (finite.get written k) i)) i (unwritten written is))
+      ∙ sym (one_passed (not (is_known (finite.get written k) i)) i (unwritten written is))
       ∙ (λ n. cons_option
       (cond (not (option_eq same_info (finite.get written k) (sym at n))) (sym at n) None)
       (unwritten written is))

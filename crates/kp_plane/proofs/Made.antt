@@ -1,13 +1,12 @@
 -- What writers make of a sync, one after the other.
 use Rattle.std.proofs.Common.{◌≡◌, ◌<◌, ◌≤◌, ◌+◌, ◌++◌, ℕ, zero, suc, List, [], ◌∷◌, take, length, get_or}
-use Rattle.std.proofs.Common.{flat_map, filter_map, slice_get, sum_by, Option, Some, None, refl, sym, ap}
+use Rattle.std.proofs.Common.{flat_map, filter_map, slice_get, sum_by, Option, Some, None, sym, ap}
 use Rattle.std.proofs.Common.{subst, ◌∙◌, arith, append-nil}
 use Rattle.std.specs.List.{AllByRecursion, cons_option}
 use Rattle.std.proofs.lemmas.List.{take_more}
 use Rattle.std.proofs.lemmas.List.Concat.{flat_map-append}
 use Rattle.std.proofs.lemmas.List.Sums.{sum_by_more, sum_by_more_le}
 use Rattle.kp_lemmas.proofs.ListFacts.{all_append}
-use Rattle.kp_types.specs.declared.chain.Clash.{Clash}
 use Rattle.kp_table_defs.specs.Rebuild.{Chains}
 use Rattle.kp_full_table.specs.Faults.{TellsClash}
 use Rattle.kp_full_table.specs.declared.fault.TableFault.{TableFault}

@@ -2,9 +2,9 @@
 use Rattle.std.proofs.Common.{◌≡◌, ◌||◌, ◌+◌, Bool, true, false, List, [], ◌∷◌, ◌++◌, map, refl, sym}
 use Rattle.std.proofs.Common.{ap, ◌∙◌, ◌≤◌, Option, None, cond}
 use Rattle.std.proofs.Common.{Some, ℕ, append-nil, filter, flat_map, inl, inr, ◌⊎◌}
-use Rattle.std.specs.List.{Contains, cons_option, filter_map, list_any, sum_by}
+use Rattle.std.specs.List.{Contains, filter_map, list_any, sum_by}
 use Rattle.std.specs.Ordering.{eq_by_cmp}
-use Rattle.std.specs.Option.{option_and_then, option_to_list}
+use Rattle.std.specs.Option.{option_and_then}
 use Rattle.std.specs.Cmp.{eq_by_cmp_equiv}
 use Rattle.std.specs.FinMap as finite
 use Rattle.std.specs.FinMap.{contains_key-keys}
@@ -28,10 +28,9 @@ use Rattle.kp_base.specs.declared.key.PortKey.{PortKey}
 use Rattle.kp_types.specs.Setting.{Setting, config_for}
 use Rattle.kp_types.specs.declared.service.Service.{Service}
 use Rattle.kp_object_defs.specs.Objects.{Objects}
-use Rattle.kp_object_defs.specs.Order.{distinct_in_order}
-use Rattle.kp_object_defs.specs.PortByKey.{info_at, info_in, port_keys_of}
+use Rattle.kp_object_defs.specs.PortByKey.{info_at, info_in}
 use Rattle.kp_object_defs.specs.PortInfo.{PortInfo}
-use Rattle.kp_known_ports.specs.Known.{AreStored, port_count}
+use Rattle.kp_known_ports.specs.Known.{AreStored}
 use Rattle.kp_store.specs.Indexes.{Keys}
 use Rattle.kp_store.specs.Touched.{is_touched}
 use Rattle.kp_store.specs.declared.touched.Touched.{Touched}
@@ -45,7 +44,7 @@ use Rattle.kp_writer.specs.Written.{Ports}
 use Rattle.kp_writer.proofs.RuleCounts.{unwritten_parts}
 use Rattle.kp_object_defs.specs.OwnKeys.{AreUnderOwnKeys}
 use Rattle.kp_plane.specs.Known.{IsKnown, KnowsOthers, KnowsService, KnowsUntouched}
-use Rattle.kp_plane.specs.Known.{asked_count, infos_in, is_port_of_one, made_count}
+use Rattle.kp_plane.specs.Known.{infos_in, is_port_of_one, made_count}
 use Rattle.kp_plane.proofs.FewAsked.{few_of_all, few_of_passing}
 use Rattle.kp_plane.proofs.Sums.{sum_all, sum_more}
 use Rattle.kp_plane.proofs.Touching.{both_answers}
@@ -208,21 +207,6 @@ module _ (o : Objects) (own : AreUnderOwnKeys o) (service : ObjectKey) (s : Serv
       only_one : (t : Service) → (s ≡ t) ⊎ Contains [] t → s ≡ t
       only_one t (inl e) = e
       only_one t (inr none) = absurd (none_in t none)
-
-  -- it has these ports
-  pub one_counted : port_count (s ∷ []) ≡ asked_count o (service ∷ [])
-  one_counted = ap (λ o. port_count (cons_option o [])) (sym is)
-
-  pub one_named : distinct_in_order port_key_cmp (flat_map port_keys_of (s ∷ []))
-      ≡ port_keys_at o service
-  one_named =
-      ap (λ o. distinct_in_order port_key_cmp (flat_map port_keys_of (option_to_list o))) (sym is)
-
--- where there is none, it has no ports
-pub none_named : (o : Objects) (service : ObjectKey) → finite.get o.services service ≡ None
-    → port_keys_at o service ≡ []
-none_named o service is =
-    ap (λ o. distinct_in_order port_key_cmp (flat_map port_keys_of (option_to_list o))) is
 
 -- what objects tell one family they tell another that is the same
 pub told_by : (config : Config) (o : Objects) (service : ObjectKey) {f g : Family} → f ≡ g

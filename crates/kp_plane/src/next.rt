@@ -178,7 +178,7 @@ pub(crate) fn keep(
     let Next { batch, dirty } = next;
     let covered = journal.events().len() as u64;
     let is_new = history.covered < covered;
-    history.record(covered, batch)?;
+    history.record(alloc, covered, batch)?;
     ports.settle(alloc, is_new, dirty);
     Ok(())
 }

@@ -20,11 +20,12 @@ use crate::collected::Collected;
 use crate::place::ObjectsAt;
 use crate::refresh::refresh_families;
 use kp_base::{Config, Family, Items, NoMemory, Steps};
+use kp_history::Stale;
 use kp_store::Touched;
 use kp_types::{Event, table_families};
 use kp_writer::{Pending, Writer};
 use std::alloc::Global;
-use std::mem::swap;
+use std::mem::{replace, swap};
 use std::sync::ledger::Ledger;
 
 /// The objects after the first events of a journal, and what is known of ports by them.
@@ -43,6 +44,8 @@ pub(crate) struct PortsAt {
     /// The ports of which each of these families knows something else after the last sync than
     /// before it.
     pub(crate) dirty: Vec<Items<Pending>>,
+    /// Such ports of the syncs before it.
+    pub(crate) stale: Stale<Pending>,
 }
 
 impl Drop for PortsAt {
@@ -54,6 +57,7 @@ impl Drop for PortsAt {
             last,
             writers,
             dirty,
+            stale,
         } = self;
     }
 }
@@ -71,6 +75,7 @@ impl PortsAt {
         let last = Touched::new(alloc);
         let writers = new_writers(alloc, config)?;
         let dirty = none_dirty(alloc, config)?;
+        let stale = Stale::new(alloc);
         Ok(PortsAt {
             latest,
             touched,
@@ -78,6 +83,7 @@ impl PortsAt {
             last,
             writers,
             dirty,
+            stale,
         })
     }
 
@@ -137,17 +143,17 @@ impl PortsAt {
         self.dirty.get(place_of(family))
     }
 
-    /// Takes over which ports were dirty at a sync, which Services were touched before it and, where
-    /// it covers new events, that what is known now is written. It takes no memory.
+    /// Takes over which ports were dirty at a sync, which Services were touched before it and,
+    /// where it covers new events, that what is known now is written. It is never refused.
     pub(crate) fn settle(&mut self, alloc: Global, is_new: bool, dirty: Vec<Items<Pending>>)
         ensures { IsSettled is_new dirty.items self.old self.new }
     {
         swap(&mut self.last, &mut self.since);
         self.since = Touched::new(alloc);
+        take_over(&mut self.dirty, &mut self.stale, dirty);
         if is_new {
             keep_all(alloc, &mut self.writers);
         }
-        self.dirty = dirty;
     }
 }
 
@@ -190,5 +196,30 @@ fn keep_all(alloc: Global, writers: &mut [Writer])
 {
     for writer in writers.iter_mut() {
         writer.keep(alloc);
+    }
+}
+
+/// Takes over which ports were dirty at a sync. Those of the one before are let go little by little.
+fn take_over(dirty: &mut Vec<Items<Pending>>, stale: &mut Stale<Pending>, next: Vec<Items<Pending>>)
+    ensures { dirty.new ≡ next }
+{
+    let made = count(&next);
+    let before = replace(dirty, next);
+    take_in_all(stale, made, before);
+}
+
+/// How many ports stand in lists.
+fn count(lists: &[Items<Pending>]) -> usize {
+    let mut count: usize = 0;
+    for list in lists {
+        count = count.saturating_add(list.as_slice().len());
+    }
+    count
+}
+
+/// Takes in the dirty ports of the sync before, where those of the last one are so many.
+fn take_in_all(stale: &mut Stale<Pending>, made: usize, before: Vec<Items<Pending>>) {
+    for list in before {
+        stale.take_in(made, list);
     }
 }

@@ -1,4 +1,4 @@
-use Rattle.std.proofs.Common.{rules, ◌≡◌, ◌<◌, ◌-◌, ◌++◌, ◌∷◌, ◌^◌, [], length, Some, refl, subst}
+use Rattle.std.proofs.Common.{rules, ◌≡◌, ◌<◌, ◌-◌, ◌++◌, ◌∷◌, ◌^◌, [], length, refl, subst}
 use Rattle.kp_history.specs.declared.history.History.{History}
 use Rattle.kp_history.proofs.Synced.{history_next}
 use Rattle.kp_history.proofs.history.History.record.Goals as goal
@@ -11,7 +11,8 @@ returns-clause-ok c = λ p is all made.
       counts = c.push_reserved.new.self;
       covered = c.args.covered;
       table = c.apply.new.self;
-      last = Some c.args.batch;
+      last = c.replace-before.new.dest;
+      stale = c.take_in.new.self;
     } in
     let pushed : c.push_reserved.new.self.items ≡ before.counts.items ++ (c.args.covered - before.covered) ∷ [] =
     search rules in
@@ -19,4 +20,5 @@ returns-clause-ok c = λ p is all made.
     subst (λ l. length l < 2 ^ 64) c.as_slice.ensures.value c.fits_memory.ensures in
     history_next c.changes_lead_over.ensures c.exact_histories.ensures.by_record
     c.sync_records.ensures.counts c.sync_records.ensures.grow p before after c.args.covered
-    c.args.batch is all made pushed few refl c.in_ok-apply.ensures.ok refl
+    c.args.batch is all made pushed few refl c.in_ok-apply.ensures.ok
+    c.replace-before.ensures.after

@@ -1,8 +1,8 @@
-use Rattle.std.proofs.Common.{map, Some, None, refl, sym, ap, ◌∙◌}
+use Rattle.std.proofs.Common.{sym, ap, ◌∙◌}
 use Rattle.std.proofs.lemmas.Result.{IfOk-weaker}
 use Rattle.std.specs.Option.{option_copied}
 use Rattle.kp_plane.specs.Invariant.{parts_of}
-use Rattle.kp_plane.specs.Parts.{dirty_after, dirty_in}
+use Rattle.kp_plane.specs.Parts.{dirty_in}
 use Rattle.kp_plane.proofs.Dirty.{found, listed}
 use Rattle.kp_plane.proofs.plane.Plane.dirty.Goals as goal
 

@@ -1,7 +1,6 @@
 use Rattle.std.proofs.Common.{◌≡◌, ◌≤◌, ◌+◌, ◌*◌, length, map, take, refl, sym, ap, subst, ◌∙◌, arith}
 use Rattle.std.specs.List.{AllByRecursion}
 use Rattle.std.proofs.lemmas.Bool.{or_parts}
-use Rattle.std.proofs.lemmas.List.{length-map}
 use Rattle.kp_types.specs.Setting.{table_families}
 use Rattle.kp_choice_defs.specs.Settings.{settings_of}
 use Rattle.kp_object_defs.specs.Objects.{objects_after}
@@ -16,7 +15,7 @@ use Rattle.kp_plane.proofs.PastEvents.{past_added, past_with, untold}
 use Rattle.kp_plane.proofs.Since.{counted_between, since_none}
 use Rattle.kp_plane.proofs.Synced.{at_end}
 use Rattle.kp_plane.proofs.WritersBack.{counted_before, written_back}
-use Rattle.kp_plane.proofs.Writers.{families_of, know_all, know_on, know_same, of_each}
+use Rattle.kp_plane.proofs.Writers.{know_all, know_on, know_same, of_each}
 use Rattle.kp_plane.proofs.ports_at.PortsAt.bring_on.Goals as goal
 
 pub refresh_families-requires-clause-config : goal.refresh_families-requires-clause-config

@@ -12,6 +12,7 @@ returns c = λ events.
       last = c.new-last.result;
       writers = c.in_ok-writers.writers;
       dirty = c.in_ok-dirty.dirty;
+      stale = c.new-stale.result;
     } in
     first_ports c.dirty_ports.ensures.none c.args.config.now events s
     (c.start-latest.ensures.place events) c.start-latest.ensures.start c.new-touched.ensures
