@@ -1,5 +1,5 @@
 -- Answers that are known by the objects: what keeps them, and their order.
-use Rattle.std.proofs.Common.{◌≡◌, ◌||◌, ◌++◌, Bool, true, false, cond, List, [], ◌∷◌, map, Option, Some, None, option_and_then, option_map, filter_map, is_some, refl, sym, ap, ◌∙◌, T}
+use Rattle.std.proofs.Common.{◌≡◌, ◌||◌, ◌++◌, Bool, true, false, cond, List, [], ◌∷◌, map, Option, Some, None, option_and_then, option_map, filter_map, is_some, inl, inr, ◌⊎◌, refl, sym, ap, ◌∙◌, T}
 use Rattle.std.specs.FinMap.{contains_key, empty, entries, entries_sorted, find, get, get-empty, get-entries, get-insert, get-remove, insert, is_sorted, keys, remove, values}
 use Rattle.std.specs.FinMap.Entries.{below_all, same_entries}
 use Rattle.std.specs.List.{cons_option, list_any}
@@ -27,7 +27,7 @@ use Rattle.kp_store.proofs.Unions.{among_keys}
 use Rattle.kp_health_defs.specs.HealthPorts.{health_at, health_in, healths}
 use Rattle.kp_health_defs.specs.declared.health.Health.{Health}
 use Rattle.kp_health.specs.BothFamilies.{entries_of_sources}
-use Rattle.kp_health.specs.Known.{Answers, AreKnown, AreKnownBut, IsKnownAt}
+use Rattle.kp_health.specs.Known.{Answers, AreKnown, AreKnownBut, AreNewer, IsKnownAt}
 
 -- ---- One answer
 
@@ -64,6 +64,54 @@ module _ (config : Config) (o : Objects) (answers : Answers) (key : ObjectKey) w
   take_made here =
       get-remove key_total answers key key
       ∙ ap (λ b. cond b None (get answers key)) (tie_of_itself key_total key) ∙ here
+
+  -- what stands under another key is as before
+  newer_at : (b : Bool) (k : ObjectKey) → eq_by_cmp key_cmp k key ≡ b → (v old new : Option Health)
+      → new ≡ cond (eq_by_cmp key_cmp k key) v old → v ≡ health_at config o key
+      → (new ≡ old) ⊎ (new ≡ health_at config o k)
+  newer_at true k tie v old new is here =
+      inr (is ∙ ap (λ b. cond b v old) tie ∙ here
+      ∙ ap (health_at config o) (sym (one_from_tie key_exact k key tie)))
+  newer_at false k tie v old new is here = inl (is ∙ ap (λ b. cond b v old) tie)
+
+  pub put_newer : (health : Health) → Some health ≡ health_at config o key
+      → AreNewer config o answers (insert answers key health)
+  put_newer health here = record {
+    each = λ k.
+        newer_at (eq_by_cmp key_cmp k key) k refl (Some health) (get answers k)
+        (get (insert answers key health) k) (get-insert key_total answers key health k) here;
+  }
+
+  pub take_newer : None ≡ health_at config o key
+      → AreNewer config o answers (remove answers key)
+  take_newer here = record {
+    each = λ k.
+        newer_at (eq_by_cmp key_cmp k key) k refl None (get answers k)
+        (get (remove answers key) k) (get-remove key_total answers key k) here;
+  }
+
+-- ---- Answers that are as before or known
+
+module _ (config : Config) (o : Objects) where
+  -- all are as before
+  pub newer_same : (old new : Answers) → new ≡ old → AreNewer config o old new
+  newer_same old new same = record { each = λ k. inl (ap (λ m. get m k) same) }
+
+  -- all are known
+  pub newer_all : (old new : Answers) → AreKnown config o new → AreNewer config o old new
+  newer_all old new known = record { each = λ k. inr (known k) }
+
+  -- and so they are after two steps
+  pub newer_on : (old middle new : Answers) → AreNewer config o old middle
+      → AreNewer config o middle new → AreNewer config o old new
+  newer_on old middle new first then = record { each = λ k. by k (first.each k) (then.each k) }
+    where
+      by : (k : ObjectKey) → (get middle k ≡ get old k) ⊎ IsKnownAt config o middle k
+          → (get new k ≡ get middle k) ⊎ IsKnownAt config o new k
+          → (get new k ≡ get old k) ⊎ IsKnownAt config o new k
+      by k before (inr known) = inr known
+      by k (inl before) (inl same) = inl (same ∙ before)
+      by k (inr known) (inl same) = inr (same ∙ known)
 
 -- ---- Services that aren't there
 

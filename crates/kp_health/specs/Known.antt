@@ -1,5 +1,5 @@
 -- What the health ports of Services answer, as it is kept.
-use Rattle.std.specs.Prelude.{◌≡◌, Bool, false}
+use Rattle.std.specs.Prelude.{◌≡◌, ◌⊎◌, Bool, false}
 use Rattle.std.specs.Coded.{Coded}
 use Rattle.std.specs.FinMap as finite
 use Rattle.kp_base.specs.Keys.{key_cmp}
@@ -31,3 +31,13 @@ AreKnown config o answers = (key : ObjectKey) → IsKnownAt config o answers key
 abbrev pub AreKnownBut : (ObjectKey → Bool) → Config → Objects → Answers → Type 0
 AreKnownBut test config o answers =
     (key : ObjectKey) → test key ≡ false → IsKnownAt config o answers key
+
+-- each answer is as before, or is that of the health port now
+pub record AreNewer (config : Config) (o : Objects) (old new : Answers) : Type 0 where
+  pub each :
+      (key : ObjectKey) → (finite.get new key ≡ finite.get old key) ⊎ IsKnownAt config o new key
+
+-- each answer is that of the health port by the first of these objects, or by the second
+abbrev pub AreBetween : Config → Objects → Objects → Answers → Type 0
+AreBetween config before now answers =
+    (key : ObjectKey) → IsKnownAt config before answers key ⊎ IsKnownAt config now answers key

@@ -11,7 +11,7 @@ ghost use Rattle.kp_print.specs.Fronts.{HasFront};
 ghost use Rattle.kp_store.specs.Touched.{is_touched};
 ghost use Rattle.kp_health_defs.specs.AcceptRules.{health_batch_in};
 ghost use Rattle.kp_health_defs.specs.HealthText.{health_lines};
-ghost use Rattle.kp_health.specs.Known.{AreKnown, AreKnownBut, IsKnownAt};
+ghost use Rattle.kp_health.specs.Known.{AreKnown, AreKnownBut, AreNewer, IsKnownAt};
 
 use crate::accept::health_batch;
 use crate::entries::health_at;
@@ -23,6 +23,7 @@ use kp_types::Batch;
 use std::alloc::Global;
 use std::collections::BTreeMap;
 use std::marker::Model;
+use std::mem::replace;
 
 /// What the health ports of Services answer. Contracts see a finite map from the Services.
 pub struct HealthCounts {
@@ -60,7 +61,8 @@ impl HealthCounts {
 
     /// Makes the answers for the Services that were touched anew, by the objects as they are now,
     /// where those for all others are known by them. Where memory is out, the others still are, so
-    /// that the same call can be made again.
+    /// that the same call can be made again, and each of the touched is as before or made anew.
+    #[tactic(auto, using(crate::proofs::KnownAnswers::newer_same, crate::proofs::KnownAnswers::newer_all))]
     pub fn update(
         &mut self,
         alloc: Global,
@@ -72,10 +74,12 @@ impl HealthCounts {
             → OnOk result (AreKnown config.now objects.now self.new) }
         ensures err { AreKnownBut (is_touched touched.now) config.now objects.now self.old
             → OnErr result (AreKnownBut (is_touched touched.now) config.now objects.now self.new) }
+        ensures newer { AreNewer config.now objects.now self.old self.new }
     {
         if touched.all {
-            self.forget();
-            self.make_all(alloc, config, objects)?;
+            let mut made = HealthCounts::new(alloc);
+            made.make_all(alloc, config, objects)?;
+            self.take_over(made);
             Ok(())
         } else {
             let keys = touched.keys.keys(alloc)?;
@@ -84,11 +88,11 @@ impl HealthCounts {
         }
     }
 
-    /// Lets all answers go.
-    fn forget(&mut self)
-        ensures { self.new ≡ finite.empty }
+    /// Lets all answers go, and has others in their place.
+    fn take_over(&mut self, others: HealthCounts)
+        ensures { self.new ≡ others }
     {
-        self.answers.clear();
+        let _gone = replace(self, others);
     }
 
     /// Makes the answers for all Services.
@@ -106,7 +110,9 @@ impl HealthCounts {
         Ok(())
     }
 
-    /// Makes the answers for listed Services. What was known stays known.
+    /// Makes the answers for listed Services. What was known stays known, and what isn't made anew
+    /// is as before.
+    #[tactic(auto, using(crate::proofs::KnownAnswers::newer_same))]
     fn make_listed(
         &mut self,
         alloc: Global,
@@ -119,6 +125,7 @@ impl HealthCounts {
             → IsKnownAt config.now objects.now self.new k) }
         ensures kept { (k : Key) → IsKnownAt config.now objects.now self.old k
             → IsKnownAt config.now objects.now self.new k }
+        ensures newer { AreNewer config.now objects.now self.old self.new }
     {
         for service in services {
             self.make(alloc, config, objects, service)?;
@@ -126,7 +133,9 @@ impl HealthCounts {
         Ok(())
     }
 
-    /// Makes the answers for the Services of keys. What was known stays known.
+    /// Makes the answers for the Services of keys. What was known stays known, and what isn't made
+    /// anew is as before.
+    #[tactic(auto, using(crate::proofs::KnownAnswers::newer_same))]
     fn make_each(
         &mut self,
         alloc: Global,
@@ -139,6 +148,7 @@ impl HealthCounts {
             → IsKnownAt config.now objects.now self.new k) }
         ensures kept { (k : Key) → IsKnownAt config.now objects.now self.old k
             → IsKnownAt config.now objects.now self.new k }
+        ensures newer { AreNewer config.now objects.now self.old self.new }
     {
         for key in keys {
             self.make(alloc, config, objects, *key)?;
@@ -146,7 +156,9 @@ impl HealthCounts {
         Ok(())
     }
 
-    /// Makes the answer for the Service of a key. What was known stays known.
+    /// Makes the answer for the Service of a key. What was known stays known, and the other answers
+    /// are as before.
+    #[tactic(auto, using(crate::proofs::KnownAnswers::newer_same))]
     fn make(
         &mut self,
         alloc: Global,
@@ -157,6 +169,7 @@ impl HealthCounts {
         ensures made { OnOk result (IsKnownAt config.now objects.now self.new key.now) }
         ensures kept { (k : Key) → IsKnownAt config.now objects.now self.old k
             → IsKnownAt config.now objects.now self.new k }
+        ensures newer { AreNewer config.now objects.now self.old self.new }
     {
         match health_at(alloc, config, objects, key)? {
             Some(health) => {

@@ -18,8 +18,12 @@ pub trait Mode {
     /// What is kept is of these objects, under a configuration.
     ghost stands: { Self → config_row.Config → objects.Objects → Type 0 };
 
+    /// Each part of what is kept is of the first of these objects or of the second.
+    ghost between: { Self → config_row.Config → objects.Objects → objects.Objects → Type 0 };
+
     /// Adds what follows the line of a sync that was just accepted. Where memory is out, the text
-    /// keeps what stood in it.
+    /// keeps what stood in it, and each part of what is kept is of the objects before that sync or
+    /// of those that it covers.
     fn synced(&mut self, alloc: Global, plane: &Plane, text: &mut String) -> Result<(), NoMemory>
         requires covered { parts.uncovered_in plane.now ≡ 0 }
         requires stands { stands self.old plane.now.config (parts.objects_before plane.now) }
@@ -28,12 +32,14 @@ pub trait Mode {
             (parts.objects_in plane.now)) }
         ensures stands { OnOk result
             (stands self.new plane.now.config (parts.objects_in plane.now)) }
-        ensures front { OnErr result (HasFront text.new text.old) };
+        ensures front { OnErr result (HasFront text.new text.old) }
+        ensures between { OnErr result (between self.new plane.now.config
+            (parts.objects_before plane.now) (parts.objects_in plane.now)) };
 
     /// Adds what stands at the end of an input. Where memory is out, the text keeps what stood in
     /// it.
-    fn ending(&mut self, alloc: Global, config: &Config, text: &mut String) -> Result<(), NoMemory>
-        ensures text { (o : objects.Objects) → stands self.old config.now o
+    fn ending(&self, alloc: Global, config: &Config, text: &mut String) -> Result<(), NoMemory>
+        ensures text { (o : objects.Objects) → stands self.now config.now o
             → OnOk result (string_bytes text.new
             ≡ string_bytes text.old ++ mode.ending config.now o) }
         ensures front { OnErr result (HasFront text.new text.old) };
@@ -48,6 +54,8 @@ impl Mode for Replaying {
 
     ghost stands = { λ kept config objects. ⊤ };
 
+    ghost between = { λ kept config before now. ⊤ };
+
     fn synced(
         &mut self,
         _alloc: Global,
@@ -57,12 +65,7 @@ impl Mode for Replaying {
         Ok(())
     }
 
-    fn ending(
-        &mut self,
-        _alloc: Global,
-        _config: &Config,
-        _text: &mut String,
-    ) -> Result<(), NoMemory> {
+    fn ending(&self, _alloc: Global, _config: &Config, _text: &mut String) -> Result<(), NoMemory> {
         Ok(())
     }
 }

@@ -1,6 +1,9 @@
 -- What each mode makes of a sync.
-use Rattle.std.proofs.Common.{◌≡◌, ◌-◌, ℕ, Bool, false, List, ◌++◌, ap, sym, subst, ◌∙◌}
-use Rattle.std.specs.Prelude.{OnOk, Result, Ok, Err, string_bytes}
+use Rattle.std.proofs.Common.{◌≡◌, ◌-◌, ◌⊎◌, inl, inr, ℕ, Bool, false, List, ◌++◌, ap, sym}
+use Rattle.std.proofs.Common.{subst, ◌∙◌}
+use Rattle.std.specs.FinMap.{get}
+use Rattle.std.specs.Prelude.{OnOk, Result}
+use Rattle.std.proofs.lemmas.Result.{on_ok_weaker}
 use Rattle.kp_base.specs.declared.address.Family.TheVariants.{V4, V6}
 use Rattle.kp_base.specs.declared.config.Config.{Config}
 use Rattle.kp_base.specs.declared.key.ObjectKey.{ObjectKey}
@@ -14,23 +17,13 @@ use Rattle.kp_history_defs.specs.History.{covered, objects_covered}
 use Rattle.kp_history_defs.specs.declared.dirty.DirtyPort.{DirtyPort}
 use Rattle.kp_change_defs.specs.ChangeText.{change_text}
 use Rattle.kp_changes.specs.Lines as changes
-use Rattle.kp_health.specs.Known.{Answers, AreKnown, AreKnownBut}
+use Rattle.kp_health.specs.Known.{Answers, AreBetween, AreKnown, AreKnownBut, AreNewer, IsKnownAt}
 use Rattle.kp_health_defs.specs.HealthPorts.{health_at}
 use Rattle.kp_health_laws.specs.UntouchedHealth.{HealthByAll}
 use Rattle.kp_plane.specs.Parts.{PlaneParts, dirty_in, objects_before, objects_in, settings_in}
 use Rattle.kp_plane.specs.Parts.{syncs_in}
 use Rattle.kp_plane.specs.Past.{LeadPastOthers}
 use Rattle.kp_modes.specs.Modes.{changing}
-
--- what holds after an Ok, by what does
-pub on_ok : {T E : Type 0} (P Q : Type 0) (r : Result T E) → OnOk r P → (P → Q) → OnOk r Q
-on_ok P Q (Ok x) is f = f is
-on_ok P Q (Err e) is f = tt
-
--- what holds anyhow does after an Ok
-pub anyhow : {T E : Type 0} (r : Result T E) (P : Type 0) → P → OnOk r P
-anyhow (Ok x) P is = is
-anyhow (Err e) P is = tt
 
 -- the objects that syncs cover stand under their own keys
 own_covered : OwnKeysAfterEvents → (p : PlaneParts) (n : ℕ)
@@ -47,12 +40,12 @@ pub changed : OwnKeysAfterEvents → (p : PlaneParts) (config : Config) (o : Obj
     (infos_by_family (settings_of config) before) (infos_by_family (settings_of config) o)))
     → OnOk r (new ≡ old ++ changing.synced p.config (objects_before p) (objects_in p))
 changed own p config o four six r old new is are first second added =
-    on_ok _ _ r
+    on_ok_weaker r
+    (λ text. text ∙ (λ i. old ++ changing.synced (is i) (objects_before p) (are i)))
     (added (objects_before p) (own_covered own p (syncs_in p - 1))
     (subst AreUnderOwnKeys (sym are) (own_covered own p (syncs_in p)))
     (first ∙ (λ i. changes.dirty_in (sym is i) (objects_before p) (sym are i) V4))
     (second ∙ (λ i. changes.dirty_in (sym is i) (objects_before p) (sym are i) V6)))
-    (λ text. text ∙ (λ i. old ++ changing.synced (is i) (objects_before p) (are i)))
 
 module _ (p : PlaneParts) where
   -- what the others' health ports answered they still do
@@ -78,3 +71,21 @@ module _ (p : PlaneParts) where
       (subst (λ c. AreKnown c o new) is
       (made (subst (λ c. AreKnownBut test c o old) (sym is)
       (subst (λ q. AreKnownBut test p.config q old) (sym are) known))))
+
+  -- where some of these are made, each answer is that of the sync before or of this one
+  pub between : (config : Config) (o : Objects) (old new : Answers)
+      → config ≡ p.config → o ≡ objects_in p
+      → AreKnown p.config (objects_before p) old → AreNewer config o old new
+      → AreBetween p.config (objects_before p) (objects_in p) new
+  between config o old new is are known newer =
+      let made : AreNewer p.config (objects_in p) old new =
+      subst (λ q. AreNewer p.config q old new) are
+      (subst (λ c. AreNewer c o old new) is newer) in
+      λ key. one key (made.each key)
+    where
+      one : (key : ObjectKey)
+          → (get new key ≡ get old key) ⊎ IsKnownAt p.config (objects_in p) new key
+          → IsKnownAt p.config (objects_before p) new key
+          ⊎ IsKnownAt p.config (objects_in p) new key
+      one key (inl same) = inl (same ∙ known key)
+      one key (inr now) = inr now

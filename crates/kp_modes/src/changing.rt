@@ -17,6 +17,8 @@ impl Mode for Changing {
 
     ghost stands = { λ kept config objects. ⊤ };
 
+    ghost between = { λ kept config before now. ⊤ };
+
     fn synced(&mut self, alloc: Global, plane: &Plane, text: &mut String) -> Result<(), NoMemory> {
         kp_object_laws::own_keys();
         let four = plane.dirty(alloc, Family::V4)?;
@@ -31,12 +33,7 @@ impl Mode for Changing {
         )
     }
 
-    fn ending(
-        &mut self,
-        _alloc: Global,
-        _config: &Config,
-        _text: &mut String,
-    ) -> Result<(), NoMemory> {
+    fn ending(&self, _alloc: Global, _config: &Config, _text: &mut String) -> Result<(), NoMemory> {
         Ok(())
     }
 }

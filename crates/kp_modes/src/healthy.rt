@@ -1,7 +1,7 @@
 //! What the node's health ports answer after each sync.
 ghost use Rattle.kp_base.specs.declared.config.Config.{Config as OneConfig};
 ghost use Rattle.kp_object_defs.specs.Objects.{no_objects};
-ghost use Rattle.kp_health.specs.Known.{AreKnown};
+ghost use Rattle.kp_health.specs.Known.{AreBetween, AreKnown};
 ghost use Rattle.kp_modes.specs.Modes as modes;
 
 use kp_base::{Config, NoMemory};
@@ -51,6 +51,8 @@ impl Mode for Healthy {
 
     ghost stands = { λ kept config objects. AreKnown config objects kept };
 
+    ghost between = { λ kept config before now. AreBetween config before now kept };
+
     fn synced(&mut self, alloc: Global, plane: &Plane, text: &mut String) -> Result<(), NoMemory> {
         kp_object_laws::own_keys();
         kp_health_laws::untouched_health();
@@ -59,12 +61,7 @@ impl Mode for Healthy {
         self.answers.push_lines(alloc, text)
     }
 
-    fn ending(
-        &mut self,
-        alloc: Global,
-        _config: &Config,
-        text: &mut String,
-    ) -> Result<(), NoMemory> {
+    fn ending(&self, alloc: Global, _config: &Config, text: &mut String) -> Result<(), NoMemory> {
         let batch = self.answers.batch(alloc)?;
         let batch = batch_text(alloc, &batch)?;
         push(text, batch.as_str())

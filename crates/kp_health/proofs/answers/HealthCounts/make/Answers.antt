@@ -1,6 +1,8 @@
-use Rattle.std.proofs.Common.{sym, ap, ◌∙◌}
+use Rattle.std.proofs.Common.{sym, ap, subst, ◌∙◌}
 use Rattle.std.specs.FinMap.{get, insert}
-use Rattle.kp_health.proofs.KnownAnswers.{put_kept, put_made, take_kept, take_made}
+use Rattle.kp_health.specs.Known.{AreNewer}
+use Rattle.kp_health.proofs.KnownAnswers.{put_kept, put_made, put_newer}
+use Rattle.kp_health.proofs.KnownAnswers.{take_kept, take_made, take_newer}
 use Rattle.kp_health.proofs.answers.HealthCounts.make.Goals as goal
 
 pub returns-in_ok-put-in-Some-clause-made : goal.returns-in_ok-put-in-Some-clause-made
@@ -34,3 +36,19 @@ returns-in-None-clause-kept c k known =
     ap (λ m. get m k) c.take.ensures
     ∙ take_kept c.args.config.now c.args.objects.now c.args.self.now c.args.key.now
     (sym c.in-None.is ∙ c.in_ok-health.ensures) k known
+
+pub returns-in_ok-put-in-Some-clause-newer : goal.returns-in_ok-put-in-Some-clause-newer
+returns-in_ok-put-in-Some-clause-newer c =
+    let old = c.args.self.now in
+    let health = c.in-Some.health in
+    subst (AreNewer c.args.config.now c.args.objects.now old)
+    (sym (c.in_ok-put-in-Some.ensures.ok
+    ∙ ap (λ q. insert old q health) c.in_ok-copy-in-Some.ensures))
+    (put_newer c.args.config.now c.args.objects.now old c.args.key.now health
+    (sym c.in-Some.is ∙ c.in_ok-health.ensures))
+
+pub returns-in-None-clause-newer : goal.returns-in-None-clause-newer
+returns-in-None-clause-newer c =
+    subst (AreNewer c.args.config.now c.args.objects.now c.args.self.now) (sym c.take.ensures)
+    (take_newer c.args.config.now c.args.objects.now c.args.self.now c.args.key.now
+    (sym c.in-None.is ∙ c.in_ok-health.ensures))

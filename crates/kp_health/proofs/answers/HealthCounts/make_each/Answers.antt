@@ -4,7 +4,7 @@ use Rattle.std.specs.Ordering.{eq_by_cmp}
 use Rattle.std.proofs.lemmas.List.{map-append, take_more}
 use Rattle.kp_base.specs.Keys.{key_cmp}
 use Rattle.kp_base.specs.declared.key.ObjectKey.{ObjectKey}
-use Rattle.kp_health.proofs.KnownAnswers.{one_more}
+use Rattle.kp_health.proofs.KnownAnswers.{newer_on, one_more}
 use Rattle.kp_health.proofs.answers.HealthCounts.make_each.Goals as goal
 
 pub loop-key-preserved : goal.loop-key-preserved
@@ -23,4 +23,11 @@ loop-key-preserved c =
           c.in_ok-make.ensures.made c.in_ok-make.ensures.kept k
           (ap (list_any (eq_by_cmp key_cmp k)) next ∙ among);
       kept = λ k known. c.in_ok-make.ensures.kept k (c.loop-key.invariant.kept k known);
+      newer = newer_on c.args.config.now c.args.objects.now c.args.self.now c.loop-key.self
+          c.make.new.self c.loop-key.invariant.newer c.make.ensures.newer;
     }
+
+pub returns-in_err-make-clause-newer : goal.returns-in_err-make-clause-newer
+returns-in_err-make-clause-newer c =
+    newer_on c.args.config.now c.args.objects.now c.args.self.now c.loop-key.self
+    c.make.new.self c.loop-key.invariant.newer c.make.ensures.newer

@@ -3,7 +3,7 @@ use Rattle.std.specs.List.{list_any}
 use Rattle.std.specs.Ordering.{eq_by_cmp}
 use Rattle.std.proofs.lemmas.List.{take_more}
 use Rattle.kp_base.specs.Keys.{key_cmp}
-use Rattle.kp_health.proofs.KnownAnswers.{one_more}
+use Rattle.kp_health.proofs.KnownAnswers.{newer_on, one_more}
 use Rattle.kp_health.proofs.answers.HealthCounts.make_listed.Goals as goal
 
 pub loop-service-preserved : goal.loop-service-preserved
@@ -20,4 +20,11 @@ loop-service-preserved c =
           c.in_ok-make.ensures.made c.in_ok-make.ensures.kept k
           (ap (list_any (eq_by_cmp key_cmp k)) next ∙ among);
       kept = λ k known. c.in_ok-make.ensures.kept k (c.loop-service.invariant.kept k known);
+      newer = newer_on c.args.config.now c.args.objects.now c.args.self.now c.loop-service.self
+          c.make.new.self c.loop-service.invariant.newer c.make.ensures.newer;
     }
+
+pub returns-in_err-make-clause-newer : goal.returns-in_err-make-clause-newer
+returns-in_err-make-clause-newer c =
+    newer_on c.args.config.now c.args.objects.now c.args.self.now c.loop-service.self
+    c.make.new.self c.loop-service.invariant.newer c.make.ensures.newer

@@ -1,17 +1,17 @@
 use Rattle.std.proofs.Common.{◌++◌, ap, subst, sym, ◌∙◌}
 use Rattle.std.specs.Prelude.{string_bytes}
+use Rattle.std.proofs.lemmas.Result.{on_ok_weaker}
 use Rattle.kp_base.specs.declared.address.Family.TheVariants.{V4}
 use Rattle.kp_health.specs.Known.{AreKnown}
 use Rattle.kp_restore_defs.specs.BatchText.{batch_text_of}
-use Rattle.kp_modes.proofs.Synced.{on_ok}
 use Rattle.kp_modes.proofs.healthy.HealthyMode.ending.Goals as goal
 
 pub returns-clause-text : goal.returns-clause-text
 returns-clause-text c = λ o known.
     let config = c.args._config.now in
-    on_ok _ _ c.push.result c.push.ensures.added (λ added.
+    on_ok_weaker c.push.result (λ added.
     added
     ∙ ap (λ text. string_bytes c.args.text.now ++ text)
     (c.as_str.ensures ∙ c.in_ok-batch-2.ensures
     ∙ ap (batch_text_of V4) (c.in_ok-batch.ensures config o
-    (subst (AreKnown config o) (sym c.self.view_is) known))))
+    (subst (AreKnown config o) (sym c.self.view_is) known)))) c.push.ensures.added
