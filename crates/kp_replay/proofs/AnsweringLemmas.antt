@@ -8,8 +8,7 @@ use Rattle.kp_choice_defs.specs.Recent.{RecentParts}
 use Rattle.kp_part_laws.specs.Beside.{IsInPart, one_by_one}
 use Rattle.kp_plane.specs.Parts as parts
 use Rattle.kp_plane.specs.Parts.{decided_in, walked_in}
-use Rattle.kp_run_defs.specs.ReplayText.{Standing, answer_text, draws_at, op_line, packet_line}
-use Rattle.kp_text_defs.specs.declared.line_refusal.LineRefusal.{LineRefusal}
+use Rattle.kp_run_defs.specs.ReplayText.{answer_text, draws_at, op_line, packet_line}
 use Rattle.kp_text_defs.specs.declared.packet.PacketLine.{PacketLine}
 use Rattle.kp_text_defs.specs.declared.script.Op.{Op}
 use Rattle.kp_text_defs.specs.declared.script.Op.TheVariants as op
@@ -19,7 +18,7 @@ use Rattle.kp_replay.specs.Groups.{AreAside, is_aside, is_packet, is_refused, re
 use Rattle.kp_replay.specs.Steps.{Takes, standing_of}
 use Rattle.kp_replay.specs.declared.reads.Read.{Read}
 use Rattle.kp_replay.specs.declared.reads.Said.{Said}
-use Rattle.kp_replay.specs.declared.reads.Said.TheVariants.{Nothing, Asks, Refused}
+use Rattle.kp_replay.specs.declared.reads.Said.TheVariants.{Nothing, Asks, Refused, Unread}
 use Rattle.kp_replay.specs.declared.replay.Replay.{Replay}
 use Rattle.kp_workers.proofs.AnswerLemmas.{answer_in_part}
 use Rattle.kp_replay.proofs.GroupLemmas.{Asides, asides, or_none, with_lists}
@@ -40,6 +39,7 @@ said_in_part : (s : Snapshot) (number : ℕ) (said : Said)
 said_in_part s number Nothing = λ change lists unseen. refl
 said_in_part s number (Asks o) = op_in_part s number o
 said_in_part s number (Refused refusal) = λ change lists unseen. refl
+said_in_part s number (Unread refused) = λ change lists unseen. refl
 
 -- a line
 pub read_in_part : (s : Snapshot) (read : Read) → IsInPart (part_of read) (step_of s read)
@@ -94,6 +94,7 @@ module _ (r : Replay) (s : Snapshot) (syncs : s.sync ≡ parts.syncs_in r.plane)
   said_aside number Nothing h lists refused =
       λ i. record { text = []; next = with_lists (standing_of r) lists (sym (or_none refused) i) }
   said_aside number (Asks o) h lists refused = op_aside number o h lists refused
+  said_aside number (Unread refusal) h lists refused = absurd (cc)
   said_aside number (Refused refusal) h lists refused = λ i. record {
     text = (step_of s (record { number = number; said = Refused refusal }) lists).0;
     next = with_lists (standing_of r) lists (sym (or_one refused) i);

@@ -1,5 +1,5 @@
 -- Lines that are taken together do what they do one after the other.
-use Rattle.std.proofs.Common.{◌≡◌, ℕ, suc, Bool, true, false, cond, ◌&&◌, ◌||◌, List, [], ◌∷◌, ◌++◌, ap, sym, refl, ◌∙◌, append_assoc}
+use Rattle.std.proofs.Common.{◌≡◌, ℕ, suc, Bool, true, false, cond, ◌&&◌, ◌||◌, List, [], ◌∷◌, ◌++◌, sym, refl, ◌∙◌, append_assoc}
 use Rattle.std.specs.Prelude.{Result, Ok, Err}
 use Rattle.std.specs.List.{concat, list_all, list_any}
 use Rattle.kp_choice_defs.specs.Recent.{RecentParts}
@@ -12,7 +12,7 @@ use Rattle.kp_part_laws.specs.Beside.{one_by_one}
 use Rattle.kp_replay.specs.Groups.{AreAside, and_then, is_aside, is_refused, lines_from, read_line, reads_from, reads_line, said_by, said_line, said_of}
 use Rattle.kp_replay.specs.declared.reads.Read.{Read}
 use Rattle.kp_replay.specs.declared.reads.Said.{Said}
-use Rattle.kp_replay.specs.declared.reads.Said.TheVariants.{Nothing, Asks, Refused}
+use Rattle.kp_replay.specs.declared.reads.Said.TheVariants.{Nothing, Asks, Refused, Unread}
 use Rattle.kp_line_laws.proofs.FirstLines.{op_fresh}
 
 -- ---- What lines say
@@ -40,6 +40,7 @@ pub still_begun : (number : ℕ) (said : Said) (s : Standing) → (said_line num
 still_begun number Nothing s = refl
 still_begun number (Asks o) s = op_fresh number o s
 still_begun number (Refused refusal) s = refl
+still_begun number (Unread refused) s = refl
 
 -- ---- One after the other
 

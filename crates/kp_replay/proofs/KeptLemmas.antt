@@ -18,10 +18,10 @@ use Rattle.kp_replay.specs.Groups.{AreLater, lines_from, may_come_later, read_li
 use Rattle.kp_replay.specs.Steps.{LosesNothing, standing_of}
 use Rattle.kp_replay.specs.declared.reads.Read.{Read}
 use Rattle.kp_replay.specs.declared.reads.Said.{Said}
-use Rattle.kp_replay.specs.declared.reads.Said.TheVariants.{Nothing, Asks, Refused}
+use Rattle.kp_replay.specs.declared.reads.Said.TheVariants.{Nothing, Asks, Refused, Unread}
 use Rattle.kp_replay.specs.declared.replay.Replay.{Replay}
 use Rattle.kp_replay.proofs.GroupLemmas.{lines_say}
-use Rattle.kp_replay.proofs.TogetherLemmas.{later_reads}
+use Rattle.kp_replay.proofs.ReadLemmas.{later_reads}
 
 -- ---- Fronts
 
@@ -102,6 +102,7 @@ said_kept : (number : ℕ) (said : Said) (s : Standing) → says_later said ≡ 
 said_kept number Nothing s h = stays refl refl refl
 said_kept number (Asks o) s h = op_kept number o s h
 said_kept number (Refused refusal) s h = stays refl refl refl
+said_kept number (Unread refused) s h = stays refl refl refl
 
 -- lines that were read lose nothing
 pub read_kept : (read : Read) (s : Standing) → says_later read.said ≡ true

@@ -2,7 +2,7 @@
 use Rattle.std.proofs.Common.{◌≡◌, ◌<◌, ◌≤◌, ◌-◌, ℕ, nat_lt, Bool, true, false, List, [], ◌∷◌, ◌++◌}
 use Rattle.std.proofs.Common.{cond, length, sum, take, inl, inr, ◌⊎◌, refl, sym, ap, subst, ◌∙◌, arith}
 use Rattle.std.proofs.Common.{le_refl}
-use Rattle.std.specs.Prelude.{OnErr, Option, Some, None, Result, Ok, Err}
+use Rattle.std.specs.Prelude.{Option, Some, None, Result, Ok, Err}
 use Rattle.std.proofs.lemmas.Bool.Decides.{nat_tests}
 use Rattle.std.proofs.lemmas.List.{append-nil, append_assoc, length_push, take-append-le}
 use Rattle.std.proofs.lemmas.List.Sums.{sum_by-take-le, sum_by_push}
@@ -19,7 +19,7 @@ use Rattle.kp_text_defs.specs.declared.script.ScriptLine.{ScriptLine}
 use Rattle.kp_run_defs.specs.ReplayText.{Line, Standing, events_line, is_blank, objects_in, op_line}
 use Rattle.kp_run_defs.specs.ReplayText.{quiet, read_line, script_line, sync_line, syncs_in}
 use Rattle.kp_run_defs.specs.ReplayText.{uncovered_in}
-use Rattle.kp_mode_defs.specs.Mode.{Mode, added, line_in}
+use Rattle.kp_mode_defs.specs.Mode.{Mode, line_in}
 use Rattle.kp_mode.specs.Follows.{Follows}
 use Rattle.kp_replay.specs.Steps.{IsReady, LosesNothing, MayTake, given_line}
 use Rattle.kp_line_laws.proofs.FirstLines.{may_take}
@@ -192,11 +192,6 @@ sync_kept s next is = (
   begins_as next.events s.events is.events,
   (uncovered_in s ∷ [], is.counts),
 )
-
--- what holds anyhow does after a refusal
-pub on_err : {T E : Type 0} (r : Result T E) (P : Type 0) → P → OnErr r P
-on_err (Ok x) P is = tt
-on_err (Err e) P is = is
 
 -- ---- What a mode adds
 

@@ -1,104 +1,105 @@
--- What pieces of lines read as, in a row.
-use Rattle.std.proofs.Common.{◌≡◌, ℕ, zero, suc, ◌+◌, ◌*◌, ◌/◌, ◌%◌, ◌<◌, ◌≤◌, min, Bool, true, false, ◌&&◌, List, [], ◌∷◌, ◌++◌, length, take, drop, ap, refl, sym, ◌∙◌, subst, append-nil, append_assoc, add-zero, arith}
-use Rattle.std.specs.Prelude.{map, get_or, is_ok, IfOk, Result, Ok, Err}
-use Rattle.std.specs.List.{flat_map, list_all}
-use Rattle.std.proofs.Math.Nat.{suc-mul, zero-mul}
-use Rattle.std.proofs.Math.Seq.{take-suc}
+-- What lines say that were read in the place of others.
+use Rattle.std.proofs.Common.{◌≡◌, ℕ, zero, suc, Bool, true, false, cond, ◌&&◌, List, [], ◌∷◌, take, drop, ap, refl, ◌∙◌, subst, add-zero, arith}
+use Rattle.std.specs.Prelude.{get_or, Result, Ok, Err, IfOk}
+use Rattle.std.specs.List.{list_all}
 use Rattle.std.proofs.lemmas.Bool.{and_parts}
-use Rattle.std.proofs.lemmas.Grind.{flat_map-append}
-use Rattle.std.proofs.lemmas.Nat.{div-add-mod', mod_below}
-use Rattle.std.proofs.lemmas.List.{drop-take, length-take, take-append-drop, take-take, take_all}
-use Rattle.kp_base.specs.declared.memory.NoMemory.{NoMemory}
-use Rattle.kp_replay.specs.Groups.{read_in, read_of, reads_from}
+use Rattle.kp_run_defs.specs.ReplayText.{is_blank}
+use Rattle.kp_text_defs.specs.ScriptLines.{line_of}
+use Rattle.kp_text_defs.specs.declared.line_refusal.LineRefusal.{LineRefusal}
+use Rattle.kp_text_defs.specs.declared.script.Op.{Op}
+use Rattle.kp_text_defs.specs.declared.script.Op.TheVariants as op
+use Rattle.kp_text_defs.specs.declared.script.ScriptLine.{ScriptLine}
+use Rattle.kp_line_laws.proofs.FirstLines.{IsFree, NotConfig, later_free}
+use Rattle.kp_replay.specs.Groups.{AreAside, AreLater, AreReadAs, IsReadAs, WereRead, is_aside, may_come_later, may_go_aside, reads_from, said_by, said_of, says_later, was_read}
 use Rattle.kp_replay.specs.declared.reads.Read.{Read}
+use Rattle.kp_replay.specs.declared.reads.Said.{Said}
+use Rattle.kp_replay.specs.declared.reads.Said.TheVariants.{Nothing, Asks, Refused, Unread}
 
--- lines, and then more lines
-pub reads_more : (number : ℕ) (xs ys : List (List ℕ))
-    → reads_from number (xs ++ ys) ≡ reads_from number xs ++ reads_from (number + length xs) ys
-reads_more number [] ys = ap (λ n. reads_from n ys) (sym (add-zero number))
-reads_more number (x ∷ xs) ys =
-    let further : suc number + length xs ≡ number + length (x ∷ xs) = omega arith in
-    ap (λ reads. read_of number x ∷ reads)
-    (reads_more (suc number) xs ys ∙ ap (λ n. reads_from (suc number) xs ++ reads_from n ys) further)
+-- ---- What was read
 
--- a front and what stands after it, within a longer front
-fronts : {X : Type 0} (n size : ℕ) (xs : List X)
-    → take n xs ++ take size (drop n xs) ≡ take (n + size) xs
-fronts n size xs =
-    let front : take n (take (n + size) xs) ≡ take n xs = take-take n (n + size) xs (omega arith) in
-    (λ i. sym front i ++ sym (drop-take n size xs) i) ∙ take-append-drop n (take (n + size) xs)
+-- the lines after the first
+others : (number : ℕ) (line : List ℕ) (lines : List (List ℕ)) (read : Read) (reads : List Read)
+    → AreReadAs number (line ∷ lines) (read ∷ reads) → AreReadAs (suc number) lines reads
+others number line lines read reads are = record {
+  long = omega (arith, are.long);
+  each = λ i d below.
+      subst (λ n. IsReadAs n (get_or lines i []) (get_or reads i d)) (omega arith)
+      (are.each (suc i) d (omega (arith, below)));
+}
 
--- so many pieces of a size have room for all
-covers : (q r size count len : ℕ) → q * size + r ≡ len → r < size → count ≡ q + min 1 r
-    → len ≤ count * size
-covers q zero size count len split below is =
-    let same : q + min 1 zero ≡ q = omega arith in
-    omega (arith, split, ap (λ k. k * size) (is ∙ same))
-covers q (suc r) size count len split below is =
-    let further : q + min 1 (suc r) ≡ suc q = omega arith in
-    omega (arith, split, below, ap (λ k. k * size) (is ∙ further) ∙ suc-mul q size)
+first : (number : ℕ) (line : List ℕ) (lines : List (List ℕ)) (read : Read) (reads : List Read)
+    → AreReadAs number (line ∷ lines) (read ∷ reads) → IsReadAs number line read
+first number line lines read reads are =
+    subst (λ n. IsReadAs n line read) (add-zero number) (are.each 0 read (omega arith))
 
--- each piece was read, where all were
-ok_at : (rs : List (Result (List Read) NoMemory)) → list_all is_ok rs ≡ true → (n : ℕ)
-    → get_or rs n (Ok []) ≡ Ok (read_in (get_or rs n (Ok [])))
-ok_at [] all n = refl
-ok_at (Ok reads ∷ rs) all zero = refl
-ok_at (Ok reads ∷ rs) all (suc n) = ok_at rs all n
-ok_at (Err refused ∷ rs) all n = absurd (cc)
+-- lines that were all read say what stands in their places
+pub all_read : (number : ℕ) (lines : List (List ℕ)) (reads : List Read)
+    → AreReadAs number lines reads → WereRead reads → reads ≡ reads_from number lines
+all_read number [] [] are were = refl
+all_read number [] (read ∷ reads) are were = absurd (omega (arith, are.long))
+all_read number (line ∷ lines) [] are were = absurd (omega (arith, are.long))
+all_read number (line ∷ lines) (read ∷ reads) are were =
+    let parts = and_parts (was_read read.said) (list_all (λ r. was_read r.said) reads) were in
+    λ i. first number line lines read reads are parts.0 i
+    ∷ all_read (suc number) lines reads (others number line lines read reads are) parts.1 i
 
-module _ (number size : ℕ) (lines : List (List ℕ)) (rs : List (Result (List Read) NoMemory))
-    (all : list_all is_ok rs ≡ true)
-    (within : (n : ℕ) → n < length rs → n * size ≤ length lines)
-    (each : (n : ℕ) → n < length rs → IfOk (get_or rs n (Ok []))
-    (λ reads. reads ≡ reads_from (number + n * size) (take size (drop (n * size) lines)))) where
-  piece_at : (n : ℕ) → n < length rs → read_in (get_or rs n (Ok []))
-      ≡ reads_from (number + n * size) (take size (drop (n * size) lines))
-  piece_at n below =
-      subst (λ r. IfOk r (λ reads. reads
-      ≡ reads_from (number + n * size) (take size (drop (n * size) lines))))
-      (ok_at rs all n) (each n below)
+aside_read : (said : Said) → may_go_aside said ≡ true → was_read said ≡ true
+aside_read Nothing h = refl
+aside_read (Asks o) h = refl
+aside_read (Refused refusal) h = refl
+aside_read (Unread refused) h = absurd (cc)
 
-  so_far : (n : ℕ) → n ≤ length rs
-      → flat_map read_in (take n rs) ≡ reads_from number (take (n * size) lines)
-  so_far zero up_to = ap (λ k. reads_from number (take k lines)) (sym (zero-mul size))
-  so_far (suc n) up_to =
-      let below : n < length rs = omega (arith, up_to) in
-      let r = get_or rs n (Ok []) in
-      let done = take (n * size) lines in
-      let next = take size (drop (n * size) lines) in
-      let place : n * size ≡ length done =
-      omega (arith, within n below, length-take (n * size) lines) in
-      let further = sym (suc-mul n size) in
-      ap (flat_map read_in) (take-suc rs n (Ok []) below)
-      ∙ flat_map-append read_in (take n rs) (r ∷ [])
-      ∙ (λ i. so_far n (omega (arith, up_to)) i ++ (append-nil (read_in r) ∙ piece_at n below) i)
-      ∙ ap (λ k. reads_from number done ++ reads_from (number + k) next) place
-      ∙ sym (reads_more number done next)
-      ∙ ap (reads_from number) (fronts (n * size) size lines ∙ ap (λ k. take k lines) further)
+-- lines were read that may be answered beside each other, and so all were where those after them were
+pub both_read : (n : ℕ) (reads : List Read) → AreAside (take n reads) → WereRead (drop n reads)
+    → WereRead reads
+both_read zero reads aside were = were
+both_read (suc n) [] aside were = refl
+both_read (suc n) (read ∷ reads) aside were =
+    let parts = and_parts (is_aside read) (list_all is_aside (take n reads)) aside in
+    λ i. aside_read read.said parts.0 i && both_read n reads parts.1 were i
 
-  -- all pieces together are all lines
-  pub pieces_together : 0 < size → length rs ≡ length lines / size + min 1 (length lines % size)
-      → flat_map read_in rs ≡ reads_from number lines
-  pieces_together some count =
-      sym (ap (flat_map read_in) (take_all (length rs) rs (omega arith)))
-      ∙ so_far (length rs) (omega arith)
-      ∙ ap (reads_from number) (take_all (length rs * size) lines
-      (covers (length lines / size) (length lines % size) size (length rs) (length lines)
-      (div-add-mod' (length lines) size) (mod_below (length lines) size some) count))
+-- ---- What may come
 
--- ---- Pieces in a row
+op_later : (o : Op) → NotConfig o → may_come_later o ≡ true
+op_later (op.Config c) h = absurd h
+op_later (op.Events events) h = refl
+op_later op.Sync h = refl
+op_later (op.Packet p) h = refl
+op_later (op.Explain p) h = refl
+op_later (op.Show what) h = refl
 
-module _ (all new reads : List Read) (left rest pieces : List (Result (List Read) NoMemory))
-    (read : List Read) (is : left ≡ Ok read ∷ rest) (row : all ++ flat_map read_in left ≡ reads)
-    (added : new ≡ all ++ read) where
-  -- one more piece
-  pub row_more : new ++ flat_map read_in rest ≡ reads
-  row_more =
-      ap (λ xs. xs ++ flat_map read_in rest) added
-      ∙ append_assoc all read (flat_map read_in rest)
-      ∙ ap (λ ps. all ++ flat_map read_in ps) (sym is)
-      ∙ row
+result_later : (r : Result ScriptLine LineRefusal) → IfOk r IsFree → says_later (said_of r) ≡ true
+result_later (Ok line) h = op_later line.op h
+result_later (Err refusal) h = refl
 
-  pub ok_more : (list_all is_ok left ≡ true → list_all is_ok pieces ≡ true)
-      → list_all is_ok rest ≡ true → list_all is_ok pieces ≡ true
-  ok_more then ok = then (ap (list_all is_ok) is ∙ ok)
+blank_or : (blank : Bool) (said : Said) → says_later said ≡ true
+    → says_later (cond blank Nothing said) ≡ true
+blank_or true said h = refl
+blank_or false said h = h
+
+-- a line that isn't the first asks for no configuration
+line_later : (bytes : List ℕ) → says_later (said_by bytes) ≡ true
+line_later bytes =
+    blank_or (is_blank bytes) (said_of (line_of bytes false))
+    (result_later (line_of bytes false) (later_free bytes))
+
+pub later_reads : (number : ℕ) (lines : List (List ℕ)) → AreLater (reads_from number lines)
+later_reads number [] = refl
+later_reads number (line ∷ lines) = λ i. line_later line i && later_reads (suc number) lines i
+
+said_later : (bytes : List ℕ) (said : Said) → (was_read said ≡ true → said ≡ said_by bytes)
+    → says_later said ≡ true
+said_later bytes Nothing is = refl
+said_later bytes (Asks o) is = ap says_later (is refl) ∙ line_later bytes
+said_later bytes (Refused refusal) is = refl
+said_later bytes (Unread refused) is = refl
+
+-- nor do more of them
+pub reads_later : (number : ℕ) (lines : List (List ℕ)) (reads : List Read)
+    → AreReadAs number lines reads → AreLater reads
+reads_later number lines [] are = refl
+reads_later number [] (read ∷ reads) are = absurd (omega (arith, are.long))
+reads_later number (line ∷ lines) (read ∷ reads) are =
+    let one = said_later line read.said
+    (λ was. ap (λ r. r.said) (first number line lines read reads are was)) in
+    λ i. one i && reads_later (suc number) lines reads (others number line lines read reads are) i

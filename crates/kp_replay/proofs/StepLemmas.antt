@@ -1,13 +1,12 @@
 -- One more line of a group, as loops take them.
-use Rattle.std.proofs.Common.{◌≡◌, ℕ, zero, suc, ◌+◌, ◌<◌, Bool, true, false, List, [], ◌∷◌, ◌++◌, length, take, ap, refl, sym, ◌∙◌, append-nil, append_assoc, add-zero, arith}
+use Rattle.std.proofs.Common.{◌≡◌, ℕ, suc, ◌+◌, ◌<◌, true, ◌&&◌, List, [], ◌∷◌, ◌++◌, length, take, ap, refl, sym, ◌∙◌, append-nil, append_assoc, add-zero, arith}
 use Rattle.std.specs.Prelude.{map, get_or}
 use Rattle.std.specs.List.{list_all}
 use Rattle.std.proofs.lemmas.Bool.{and_parts}
 use Rattle.std.proofs.lemmas.List.{length-take, map-append, take_more}
 use Rattle.kp_run_defs.specs.ReplayText.{Line, Standing, short_line}
-use Rattle.kp_replay.specs.Groups.{AreLater, and_then, lines_from, read_line, read_of, reads_from, reads_line, says_later}
+use Rattle.kp_replay.specs.Groups.{AreLater, and_then, lines_from, read_line, reads_line, says_later, was_read, WereRead}
 use Rattle.kp_replay.specs.declared.reads.Read.{Read}
-use Rattle.kp_replay.proofs.ReadLemmas.{reads_more}
 
 -- ---- Lists
 
@@ -19,23 +18,6 @@ texts_more now xs i d below =
 pub length-map : {X : Type 0} (now : X → List ℕ) (xs : List X) → length (map now xs) ≡ length xs
 length-map now [] = refl
 length-map now (x ∷ xs) = ap suc (length-map now xs)
-
--- ---- Lines that are read
-
--- one more line is read
-pub one_read : {X : Type 0} (now : X → List ℕ) (number : ℕ) (xs : List X) (i : ℕ) (d : X)
-    (next : ℕ) (reads new : List Read) (read : Read) → i < length xs → next ≡ number + i
-    → reads ≡ reads_from number (map now (take i xs))
-    → read ≡ read_of next (now (get_or xs i d)) → new ≡ reads ++ read ∷ []
-    → new ≡ reads_from number (map now (take (i + 1) xs))
-one_read now number xs i d next reads new read below at before is added =
-    let first = map now (take i xs) in
-    let place : next ≡ number + length first =
-    at ∙ ap (λ k. number + k)
-    (sym (length-map now (take i xs) ∙ omega (arith, below, length-take i xs))) in
-    added ∙ (λ j. before j ++ (is ∙ ap (λ n. read_of n (now (get_or xs i d))) place) j ∷ [])
-    ∙ sym (reads_more number first (now (get_or xs i d) ∷ []))
-    ∙ ap (reads_from number) (sym (texts_more now xs i d below))
 
 -- ---- Lines that are taken
 
@@ -69,6 +51,13 @@ pub rest_later : (left : List Read) (read : Read) (rest : List Read) → AreLate
 rest_later left read rest all is =
     (and_parts (says_later read.said) (list_all (λ r. says_later r.said) rest)
     (ap (list_all (λ r. says_later r.said)) (sym is) ∙ all)).1
+
+-- all were read, where the others were
+pub rest_read : (left : List Read) (read : Read) (rest reads : List Read)
+    → left ≡ read ∷ rest → was_read read.said ≡ true → (WereRead left → WereRead reads)
+    → WereRead rest → WereRead reads
+rest_read left read rest reads is one then were =
+    then (ap (list_all (λ r. was_read r.said)) is ∙ (λ i. one i && were i))
 
 -- lines, and then more lines
 lines_both : (number : ℕ) (xs ys : List (List ℕ)) (s : Standing) → lines_from number (xs ++ ys) s

@@ -1,51 +1,19 @@
 -- Groups of lines: which may come, and what their two halves do.
-use Rattle.std.proofs.Common.{◌≡◌, ℕ, zero, suc, Bool, true, false, cond, ◌&&◌, List, [], ◌∷◌, ◌++◌, take, drop, ap, refl, sym, ◌∙◌, append_assoc}
-use Rattle.std.specs.Prelude.{Result, Ok, Err, IfOk}
+use Rattle.std.proofs.Common.{◌≡◌, ℕ, zero, suc, Bool, true, false, List, [], ◌∷◌, ◌++◌, take, drop, ap, sym, ◌∙◌, append_assoc}
 use Rattle.std.specs.List.{list_all}
 use Rattle.std.proofs.lemmas.Bool.{and_parts}
 use Rattle.std.proofs.lemmas.List.{take-append-drop}
-use Rattle.kp_run_defs.specs.ReplayText.{Standing, is_blank, short_line}
-use Rattle.kp_text_defs.specs.ScriptLines.{line_of}
-use Rattle.kp_text_defs.specs.declared.line_refusal.LineRefusal.{LineRefusal}
+use Rattle.kp_run_defs.specs.ReplayText.{Standing, short_line}
 use Rattle.kp_text_defs.specs.declared.script.Op.{Op}
 use Rattle.kp_text_defs.specs.declared.script.Op.TheVariants as op
-use Rattle.kp_text_defs.specs.declared.script.ScriptLine.{ScriptLine}
-use Rattle.kp_replay.specs.Groups.{AreLater, lines_from, may_come_later, reads_from, reads_line, said_by, said_of, says_later}
+use Rattle.kp_replay.specs.Groups.{lines_from, may_come_later, reads_from, reads_line, said_by}
 use Rattle.kp_replay.specs.Steps.{MayTake}
 use Rattle.kp_replay.specs.declared.reads.Read.{Read}
-use Rattle.kp_replay.specs.declared.reads.Said.{Said}
-use Rattle.kp_replay.specs.declared.reads.Said.TheVariants.{Nothing}
-use Rattle.kp_line_laws.proofs.FirstLines.{IsFree, NotConfig, later_free}
 use Rattle.kp_replay.proofs.GroupLemmas.{line_says, lines_say, reads_both, still_begun}
 
 -- ---- What may come
 
-op_later : (o : Op) → NotConfig o → may_come_later o ≡ true
-op_later (op.Config c) h = absurd h
-op_later (op.Events events) h = refl
-op_later op.Sync h = refl
-op_later (op.Packet p) h = refl
-op_later (op.Explain p) h = refl
-op_later (op.Show what) h = refl
-
-result_later : (r : Result ScriptLine LineRefusal) → IfOk r IsFree → says_later (said_of r) ≡ true
-result_later (Ok line) h = op_later line.op h
-result_later (Err refusal) h = refl
-
-blank_or : (blank : Bool) (said : Said) → says_later said ≡ true
-    → says_later (cond blank Nothing said) ≡ true
-blank_or true said h = refl
-blank_or false said h = h
-
--- lines that aren't the first ask for no configuration
-pub later_reads : (number : ℕ) (lines : List (List ℕ)) → AreLater (reads_from number lines)
-later_reads number [] = refl
-later_reads number (bytes ∷ lines) =
-    let one = blank_or (is_blank bytes) (said_of (line_of bytes false))
-    (result_later (line_of bytes false) (later_free bytes)) in
-    λ i. one i && later_reads (suc number) lines i
-
--- so they may come
+-- lines that ask for no configuration may come
 pub may_take_later : (s : Standing) (o : Op) → may_come_later o ≡ true → MayTake s o
 may_take_later s (op.Config c) h = absurd (cc)
 may_take_later s (op.Events events) h = tt

@@ -9,7 +9,7 @@ use Rattle.kp_text_defs.specs.declared.script.Op.{Op}
 use Rattle.kp_text_defs.specs.declared.script.Op.TheVariants as op
 use Rattle.kp_replay.specs.declared.reads.Read.{Read}
 use Rattle.kp_replay.specs.declared.reads.Said.{Said}
-use Rattle.kp_replay.specs.declared.reads.Said.TheVariants.{Nothing, Asks, Refused}
+use Rattle.kp_replay.specs.declared.reads.Said.TheVariants.{Nothing, Asks, Refused, Unread}
 
 -- the part of recent lists that a packet's line looks at
 abbrev pub part_of_packet : PacketLine → ℕ
@@ -33,6 +33,7 @@ abbrev pub part_of_said : Said → ℕ
 part_of_said Nothing = 0
 part_of_said (Asks o) = part_of_op o
 part_of_said (Refused refusal) = 0
+part_of_said (Unread refused) = 0
 
 abbrev pub part_of : Read → ℕ
 part_of read = part_of_said read.said
@@ -53,6 +54,7 @@ abbrev pub step_of_said : Snapshot → ℕ → Said → RecentParts → List ℕ
 step_of_said s number Nothing = unanswered
 step_of_said s number (Asks o) = step_of_op s number o
 step_of_said s number (Refused refusal) = λ lists. (refusal_text number refusal, lists)
+step_of_said s number (Unread refused) = unanswered
 
 abbrev pub step_of : Snapshot → Read → RecentParts → List ℕ × RecentParts
 step_of s read = step_of_said s read.number read.said

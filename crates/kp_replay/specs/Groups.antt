@@ -1,7 +1,6 @@
 -- Lines that are taken together: what they say, and what they do one after the other.
-use Rattle.std.specs.Prelude.{◌≡◌, ℕ, suc, Bool, true, false, cond, List, [], ◌∷◌, ◌++◌, Result, Ok, Err}
+use Rattle.std.specs.Prelude.{◌≡◌, ◌<◌, ℕ, suc, ◌+◌, Bool, true, false, cond, List, [], ◌∷◌, ◌++◌, length, get_or, Result, Ok, Err}
 use Rattle.std.specs.List.{list_all}
-use Rattle.kp_base.specs.declared.memory.NoMemory.{NoMemory}
 use Rattle.kp_run_defs.specs.ReplayText.{Line, Standing, is_blank, op_line, quiet, refuse, short_line}
 use Rattle.kp_text_defs.specs.ScriptLines.{line_of}
 use Rattle.kp_text_defs.specs.declared.line_refusal.LineRefusal.{LineRefusal}
@@ -10,7 +9,7 @@ use Rattle.kp_text_defs.specs.declared.script.Op.TheVariants as op
 use Rattle.kp_text_defs.specs.declared.script.ScriptLine.{ScriptLine}
 use Rattle.kp_replay.specs.declared.reads.Read.{Read}
 use Rattle.kp_replay.specs.declared.reads.Said.{Said}
-use Rattle.kp_replay.specs.declared.reads.Said.TheVariants.{Nothing, Asks, Refused}
+use Rattle.kp_replay.specs.declared.reads.Said.TheVariants.{Nothing, Asks, Refused, Unread}
 
 -- ---- What lines say
 
@@ -32,10 +31,28 @@ abbrev pub reads_from : ℕ → List (List ℕ) → List Read
 reads_from number [] = []
 reads_from number (bytes ∷ lines) = read_of number bytes ∷ reads_from (suc number) lines
 
--- what was read of a piece of lines
-abbrev pub read_in : Result (List Read) NoMemory → List Read
-read_in (Ok reads) = reads
-read_in (Err refused) = []
+-- there was memory to read it
+abbrev pub was_read : Said → Bool
+was_read Nothing = true
+was_read (Asks o) = true
+was_read (Refused refusal) = true
+was_read (Unread refused) = false
+
+-- a line says this, if there was memory to read it
+abbrev pub IsSaidBy : List ℕ → Said → Type 0
+IsSaidBy bytes said = was_read said ≡ true → said ≡ said_by bytes
+
+abbrev pub IsReadAs : ℕ → List ℕ → Read → Type 0
+IsReadAs number bytes read = was_read read.said ≡ true → read ≡ read_of number bytes
+
+-- each of these lines says what stands in its place, if there was memory to read it
+pub record AreReadAs (number : ℕ) (lines : List (List ℕ)) (reads : List Read) : Type 0 where
+  pub long : length reads ≡ length lines
+  pub each : (i : ℕ) (d : Read) → i < length reads
+      → IsReadAs (number + i) (get_or lines i []) (get_or reads i d)
+
+abbrev pub WereRead : List Read → Type 0
+WereRead reads = list_all (λ read. was_read read.said) reads ≡ true
 
 -- ---- What lines do
 
@@ -44,6 +61,7 @@ abbrev pub said_line : ℕ → Said → Standing → Line
 said_line number Nothing s = quiet s
 said_line number (Asks o) s = op_line number o s
 said_line number (Refused refusal) s = refuse number refusal s
+said_line number (Unread refused) s = quiet s
 
 abbrev pub read_line : Read → Standing → Line
 read_line read s = said_line read.number read.said s
@@ -75,6 +93,7 @@ abbrev pub says_later : Said → Bool
 says_later Nothing = true
 says_later (Asks o) = may_come_later o
 says_later (Refused refusal) = true
+says_later (Unread refused) = true
 
 abbrev pub AreLater : List Read → Type 0
 AreLater reads = list_all (λ read. says_later read.said) reads ≡ true
@@ -94,6 +113,7 @@ abbrev pub may_go_aside : Said → Bool
 may_go_aside Nothing = true
 may_go_aside (Asks o) = is_packet o
 may_go_aside (Refused refusal) = true
+may_go_aside (Unread refused) = false
 
 abbrev pub is_aside : Read → Bool
 is_aside read = may_go_aside read.said
@@ -102,6 +122,7 @@ abbrev pub is_refusal : Said → Bool
 is_refusal Nothing = false
 is_refusal (Asks o) = false
 is_refusal (Refused refusal) = true
+is_refusal (Unread refused) = false
 
 abbrev pub is_refused : Read → Bool
 is_refused read = is_refusal read.said

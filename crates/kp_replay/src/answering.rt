@@ -30,7 +30,7 @@ impl Work<Read> for Answering<'_> {
 
     fn part(&self, read: &Read) -> usize {
         match &read.said {
-            Said::Nothing | Said::Refused(_) => 0,
+            Said::Nothing | Said::Refused(_) | Said::Unread(_) => 0,
             Said::Asks(op) => part_of_op(op),
         }
     }
@@ -42,7 +42,7 @@ impl Work<Read> for Answering<'_> {
         text: &mut String,
     ) -> Result<(), NoMemory> {
         match &read.said {
-            Said::Nothing => Ok(()),
+            Said::Nothing | Said::Unread(_) => Ok(()),
             Said::Asks(op) => answer_op(&self.snapshot, read.number, op, lists, text),
             Said::Refused(refusal) => push_refusal(self.alloc, text, read.number, refusal),
         }

@@ -5,6 +5,7 @@ ghost use Rattle.kp_restore_defs.specs.TableText.{text_of_lines};
 ghost use Rattle.kp_restore.specs.Pieces.{no_line_feed};
 
 use kp_base::NoMemory;
+use memchr::memchr;
 use std::alloc::Global;
 
 /// The most lines of a group.
@@ -66,7 +67,7 @@ fn packet_like(bytes: &[u8]) -> Option<(&[u8], &[u8])>
 fn line_feed(bytes: &[u8]) -> Option<usize>
     ensures { result ≡ position (λ byte. byte == 10) bytes.now }
 {
-    bytes.iter().position(|byte| *byte == b'\n')
+    memchr(b'\n', bytes)
 }
 
 /// Whether bytes begin as a packet's line, or a blank one.

@@ -15,5 +15,6 @@ mod together;
 mod totals;
 
 pub use group::{Group, group_of};
+pub use reads::Reads;
 pub use replay::Replay;
 pub use totals::no_totals;

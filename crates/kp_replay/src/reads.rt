@@ -1,10 +1,10 @@
 //! Lines that are read beside each other.
-ghost use Rattle.std.specs.Prelude.{◌≡◌, ◌<◌, ◌+◌, ◌^◌, true, is_ok, length, map, IfOk, OnOk};
-ghost use Rattle.std.specs.List.{flat_map, list_all};
-ghost use Rattle.kp_replay.specs.Groups.{read_in, read_of, reads_from, said_by};
+ghost use Rattle.std.specs.Prelude.{◌≡◌, ◌<◌, ◌≤◌, ◌+◌, ◌^◌, [], ℕ, length, map, get_or};
+ghost use Rattle.std.specs.Prelude.{slice_index_or, OnOk};
+ghost use Rattle.kp_replay.specs.Groups.{AreReadAs, IsReadAs, IsSaidBy};
 
 use crate::replay::is_blank;
-use kp_base::{Items, NoMemory};
+use kp_base::NoMemory;
 use kp_script::{LineRefusal, Op, Scratch, ScriptFault, line_with};
 use std::alloc::Global;
 use std::thread;
@@ -17,6 +17,8 @@ pub(crate) enum Said {
     Nothing,
     Asks(Op),
     Refused(LineRefusal),
+    /// There was no memory to read it.
+    Unread(NoMemory),
 }
 
 /// A line that was read, and its number.
@@ -26,86 +28,120 @@ pub(crate) struct Read {
     pub(crate) said: Said,
 }
 
-/// Reads lines, of which the first has this number, in pieces of at most so many lines, each in a
-/// thread of its own.
+/// The lines of a group as they were read. Their memory serves the next group.
+#[derive(Drop)]
+pub struct Reads {
+    pub(crate) all: Vec<Read>,
+}
+
+impl Reads {
+    /// None.
+    pub fn new(alloc: Global) -> Reads {
+        Reads {
+            all: Vec::new(alloc),
+        }
+    }
+}
+
+/// Reads lines, of which the first has this number, in the place of others: in pieces of at most so
+/// many lines, each in a thread of its own.
 pub(crate) fn read_lines<R: Threads + Sync>(
     rt: &R,
     alloc: Global,
     number: u64,
     lines: &[&[u8]],
     most: usize,
-) -> Result<Vec<Read>, NoMemory>
+    reads: &mut Vec<Read>,
+) -> Result<(), NoMemory>
     requires some { 0 < most }
     requires few { number + length lines.now < 2 ^ 64 }
-    ensures { IfOk result (λ reads. reads.items
-        ≡ reads_from number (map (λ line. line.now) lines.now)) }
+    ensures { OnOk result (AreReadAs number (map (λ line. line.now) lines.now) reads.new.items) }
 {
-    let pieces = thread::map_chunks(
-        rt,
-        alloc,
-        lines,
-        most,
-        &|start: usize, piece: &[&[u8]]| -> Result<Items<Read>, NoMemory>
-            requires { number + start + length piece.now < 2 ^ 64 }
-            ensures { IfOk result (λ reads. reads
-                ≡ reads_from (number + start) (map (λ line. line.now) piece.entry.now)) }
-        { read_piece(alloc, number + start as u64, piece) },
-    )?;
-    joined(alloc, pieces)
+    reads.resize_with(lines.len(), || unread_yet())?;
+    read_all(rt, alloc, number, lines, most, reads.as_mut_slice());
+    Ok(())
 }
 
-/// Reads lines one after the other, with memory that is kept from line to line.
-fn read_piece(alloc: Global, number: u64, lines: &[&[u8]]) -> Result<Items<Read>, NoMemory>
-    requires { number + length lines.now < 2 ^ 64 }
-    ensures { IfOk result (λ reads. reads
-        ≡ reads_from number (map (λ line. line.now) lines.now)) }
+/// What stands in the place of a line until it is read.
+fn unread_yet() -> Read {
+    Read {
+        number: 0,
+        said: Said::Nothing,
+    }
+}
+
+/// Reads lines in the place of as many others.
+fn read_all<R: Threads + Sync>(
+    rt: &R,
+    alloc: Global,
+    number: u64,
+    lines: &[&[u8]],
+    most: usize,
+    reads: &mut [Read],
+)
+    requires some { 0 < most }
+    requires few { number + length lines.now < 2 ^ 64 }
+    requires long { length reads.old ≡ length lines.now }
+    ensures { AreReadAs number (map (λ line. line.now) lines.now) reads.new }
+{
+    thread::for_each_chunk_mut(
+        rt,
+        reads,
+        most,
+        &|start: usize, piece: &mut [Read]|
+            requires few { number + length lines.now < 2 ^ 64 }
+            requires within { start + length piece.now ≤ length lines.now }
+            ensures long { length piece.exit.now ≡ length piece.entry.now }
+            ensures each { (k : ℕ) (d : Read) → k < length piece.entry.now → IsReadAs
+                (number + (start + k)) (get_or (map (λ line. line.now) lines.entry.now) (start + k) [])
+                (slice_index_or piece.exit.now k d) }
+        { read_piece(alloc, number, lines, start, piece) },
+    );
+}
+
+/// Reads the lines from a place on, in the place of others, with memory that is kept from line to
+/// line.
+fn read_piece(alloc: Global, number: u64, lines: &[&[u8]], start: usize, reads: &mut [Read])
+    requires few { number + length lines.now < 2 ^ 64 }
+    requires within { start + length reads.old ≤ length lines.now }
+    ensures long { length reads.new ≡ length reads.old }
+    ensures each { (k : ℕ) (d : Read) → k < length reads.old → IsReadAs
+        (number + (start + k)) (get_or (map (λ line. line.now) lines.now) (start + k) [])
+        (slice_index_or reads.new k d) }
 {
     let mut scratch = Scratch::new(alloc);
-    let mut reads = Vec::with_capacity(alloc, lines.len())?;
-    let mut next = number;
-    for line in lines {
-        reads.push(read_line(alloc, next, line, &mut scratch)?)?;
-        next += 1;
+    for k in 0..reads.len() {
+        let place = start + k;
+        let read = read_line(alloc, number + place as u64, lines[place], &mut scratch);
+        put(&mut reads[k], read);
     }
-    Ok(Items::from_vec(reads))
+}
+
+/// Puts a line in the place of another.
+fn put(place: &mut Read, read: Read)
+    ensures { place.new ≡ read }
+{
+    *place = read;
 }
 
 /// Reads a line.
-fn read_line(
-    alloc: Global,
-    number: u64,
-    bytes: &[u8],
-    scratch: &mut Scratch,
-) -> Result<Read, NoMemory>
-    ensures { IfOk result (λ read. read ≡ read_of number bytes.now) }
+fn read_line(alloc: Global, number: u64, bytes: &[u8], scratch: &mut Scratch) -> Read
+    ensures { IsReadAs number bytes.now result }
 {
-    let said = said_by(alloc, bytes, scratch)?;
-    Ok(Read { number, said })
+    let said = said_by(alloc, bytes, scratch);
+    Read { number, said }
 }
 
 /// What a line says.
-fn said_by(alloc: Global, bytes: &[u8], scratch: &mut Scratch) -> Result<Said, NoMemory>
-    ensures { IfOk result (λ said. said ≡ said_by bytes.now) }
+fn said_by(alloc: Global, bytes: &[u8], scratch: &mut Scratch) -> Said
+    ensures { IsSaidBy bytes.now result }
 {
     if is_blank(bytes) {
-        return Ok(Said::Nothing);
+        return Said::Nothing;
     }
     match line_with(alloc, bytes, false, scratch) {
-        Ok(line) => Ok(Said::Asks(line.op)),
-        Err(ScriptFault::Refused(refusal)) => Ok(Said::Refused(refusal)),
-        Err(ScriptFault::NoMemory(refused)) => Err(refused),
+        Ok(line) => Said::Asks(line.op),
+        Err(ScriptFault::Refused(refusal)) => Said::Refused(refusal),
+        Err(ScriptFault::NoMemory(refused)) => Said::Unread(refused),
     }
-}
-
-/// The pieces in a row, unless memory ran out for one of them.
-fn joined(alloc: Global, pieces: Vec<Result<Items<Read>, NoMemory>>) -> Result<Vec<Read>, NoMemory>
-    ensures all { OnOk result (list_all is_ok pieces.items ≡ true) }
-    ensures reads { IfOk result (λ reads. reads.items ≡ flat_map read_in pieces.items) }
-{
-    let mut all = Vec::new(alloc);
-    for piece in pieces {
-        let mut reads = piece?.into_vec();
-        all.append(&mut reads)?;
-    }
-    Ok(all)
 }

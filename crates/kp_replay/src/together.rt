@@ -8,7 +8,7 @@ ghost use Rattle.kp_workers.specs.Texts.{BeginsWith};
 
 use crate::answering::Answering;
 use crate::packets::snapshot_of;
-use crate::reads::{Read, Said, read_lines};
+use crate::reads::{Read, Reads, Said, read_lines};
 use crate::replay::Replay;
 use kp_base::NoMemory;
 use kp_gate::Gate;
@@ -18,11 +18,11 @@ use std::alloc::Global;
 use std::thread::Threads;
 
 /// The fewest lines that are answered beside each other.
-const FEWEST: usize = 256;
+const FEWEST: usize = 512;
 
 impl Replay {
     ghost use Rattle.kp_replay.specs.Groups.{lines_from, read_line, reads_line, says_later};
-    ghost use Rattle.kp_replay.specs.Groups.{AreAside, AreLater};
+    ghost use Rattle.kp_replay.specs.Groups.{AreAside, AreLater, WereRead, was_read};
     ghost use Rattle.kp_replay.specs.Steps.{standing_of, LosesNothing, Takes};
 
     /// Whether a line was read that isn't blank.
@@ -33,9 +33,9 @@ impl Replay {
     }
 
     /// Takes lines, of which the first has this number, as one after the other. They are read beside
-    /// each other, and so are packets answered up to the first line that asks for something else.
-    /// Without memory no event and no record is lost, and some of what they print may stand in the
-    /// text.
+    /// each other, in memory that serves the next group too, and so are packets answered up to the
+    /// first line that asks for something else. Without memory no event and no record is lost, and
+    /// some of what they print may stand in the text.
     pub fn take_group<R: Threads + Sync, G: Gate<R> + Sync>(
         &mut self,
         rt: &R,
@@ -43,6 +43,7 @@ impl Replay {
         gate: &G,
         number: u64,
         lines: &[&[u8]],
+        reads: &mut Reads,
         text: &mut Vec<u8>,
     ) -> Result<(), NoMemory>
         requires begun { (standing_of self.old).fresh ≡ false }
@@ -56,7 +57,7 @@ impl Replay {
         if lines.len() < FEWEST {
             self.take_lines(alloc, number, lines, text)
         } else {
-            self.take_beside(rt, alloc, gate, number, lines, text)
+            self.take_beside(rt, alloc, gate, number, lines, &mut reads.all, text)
         }
     }
 
@@ -68,6 +69,7 @@ impl Replay {
         gate: &G,
         number: u64,
         lines: &[&[u8]],
+        reads: &mut Vec<Read>,
         text: &mut Vec<u8>,
     ) -> Result<(), NoMemory>
         requires begun { (standing_of self.old).fresh ≡ false }
@@ -79,7 +81,7 @@ impl Replay {
         ensures front { OnErr result (BeginsWith text.new.items text.old.items) }
     {
         let most = lines.len().div_ceil(self.lists.workers()).max(1);
-        let mut reads = read_lines(rt, alloc, number, lines, most)?;
+        read_lines(rt, alloc, number, lines, most, reads)?;
         let others = reads.split_off(aside_len(reads.as_slice()))?;
         self.answer_reads(rt, alloc, gate, reads.as_slice(), text)?;
         self.take_reads(alloc, others, text)
@@ -144,6 +146,7 @@ impl Replay {
         requires { AreLater reads.items }
         ensures takes { OnOk result (Takes (reads_line reads.items (standing_of self.old))
             self.new text.old.items text.new.items) }
+        ensures read { OnOk result (WereRead reads.items) }
         ensures kept { OnErr result (LosesNothing (standing_of self.old) (standing_of self.new)) }
         ensures front { OnErr result (BeginsWith text.new.items text.old.items) }
     {
@@ -160,6 +163,7 @@ impl Replay {
         requires { says_later read.said ≡ true }
         ensures takes { OnOk result (Takes (read_line read (standing_of self.old))
             self.new (string_bytes text.old) (string_bytes text.new)) }
+        ensures read { OnOk result (was_read read.said ≡ true) }
         ensures kept { OnErr result (LosesNothing (standing_of self.old) (standing_of self.new)) }
         ensures front { OnErr result (HasFront text.new text.old) }
     {
@@ -168,6 +172,7 @@ impl Replay {
             Said::Nothing => Ok(()),
             Said::Asks(op) => self.take_op(alloc, number, op, text),
             Said::Refused(refusal) => self.refuse(alloc, number, &refusal, text),
+            Said::Unread(refused) => Err(refused),
         }
     }
 }
@@ -190,7 +195,7 @@ fn is_refused(read: &Read) -> bool
     ensures { result ≡ is_refused read.now }
 {
     match read.said {
-        Said::Nothing | Said::Asks(_) => false,
+        Said::Nothing | Said::Asks(_) | Said::Unread(_) => false,
         Said::Refused(_) => true,
     }
 }
@@ -202,6 +207,7 @@ fn is_aside(read: &Read) -> bool
     match &read.said {
         Said::Nothing | Said::Refused(_) => true,
         Said::Asks(op) => is_packet(op),
+        Said::Unread(_) => false,
     }
 }
 

@@ -246,15 +246,6 @@ EndsLive InputTooLong old new =
 
 -- ---- By words
 
--- the words ask for a replay
-abbrev pub asks_replay : Option Mode → Bool
-asks_replay None = false
-asks_replay (Some (mode.Replay workers)) = true
-asks_replay (Some mode.Changes) = false
-asks_replay (Some mode.Health) = false
-asks_replay (Some mode.Live) = false
-asks_replay (Some (mode.Gen seed services pods)) = false
-
 -- the words ask for a run that reads the source
 abbrev pub reads_source : Option Mode → Bool
 reads_source None = false

@@ -12,7 +12,7 @@ use crate::ending::{Stop, write_text};
 use kp_base::NoMemory;
 use kp_gate::Gate;
 use kp_io::{LineReader, Sink};
-use kp_replay::{Replay, group_of};
+use kp_replay::{Reads, Replay, group_of};
 use std::alloc::Global;
 use std::thread::Threads;
 
@@ -21,6 +21,7 @@ use std::thread::Threads;
 pub(crate) struct Beside<'a, R, G> {
     rt: &'a R,
     gate: &'a G,
+    reads: Reads,
     /// What a group prints. Its memory serves the next one.
     text: Vec<u8>,
 }
@@ -31,6 +32,7 @@ impl<'a, R: Threads + Sync, G: Gate<R> + Sync> Beside<'a, R, G> {
         Beside {
             rt,
             gate,
+            reads: Reads::new(alloc),
             text: Vec::new(alloc),
         }
     }
@@ -115,7 +117,15 @@ impl<'a, R: Threads + Sync, G: Gate<R> + Sync> Beside<'a, R, G> {
         self.text.clear();
         let group = group_of(alloc, held)?;
         let lines = group.lines.as_slice();
-        replay.take_group(self.rt, alloc, self.gate, number, lines, &mut self.text)?;
+        replay.take_group(
+            self.rt,
+            alloc,
+            self.gate,
+            number,
+            lines,
+            &mut self.reads,
+            &mut self.text,
+        )?;
         Ok((group.bytes, lines.len() as u64))
     }
 }

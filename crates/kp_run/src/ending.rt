@@ -95,8 +95,8 @@ pub(crate) fn flushed<K: Sink>(sink: &mut K, status: Status) -> Status
     }
 }
 
-/// Ends a replay that has come to the end of its input, of which this is whether a line was refused,
-/// or was stopped.
+/// Ends a replay that has come to the end of its input, of which this is whether a line was
+/// refused, or was stopped.
 pub(crate) fn ended<K: Sink>(sink: &mut K, refused: bool, all: Result<(), Stop>) -> Status
     ensures out { outcome.IsHandedOn result (K.kept_back sink.new) }
     ensures ends { (t : Texts) (first : outcome.Outside) (input : outcome.Input)

@@ -1,5 +1,6 @@
 //! The program as a library: its words choose what is done over any source and sink. It replays
-//! lines, runs their streams beside each other, counts a generated script, or writes the usage line.
+//! lines, runs their streams beside each other, counts a generated script, or writes the usage
+//! line.
 #![tactic(auto)]
 
 mod beside;

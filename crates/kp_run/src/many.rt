@@ -19,8 +19,9 @@ use kp_replay::Replay;
 use std::alloc::Global;
 use std::thread::Threads;
 
-/// How many bytes are asked for at a time, for groups of many lines.
-const GROUP_ROOM: usize = 524_288;
+/// How many bytes are asked for at a time, which are some groups of as many lines as a group may
+/// have.
+const GROUP_ROOM: usize = 2_097_152;
 
 /// How many workers there are at most, one for each part of the recent lists.
 const MOST_WORKERS: u64 = 16;

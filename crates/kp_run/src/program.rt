@@ -22,11 +22,11 @@ use std::thread::Threads;
 /// of the source to its end, and writes what they print to the sink; for `changes` and `health` it
 /// does so too, and adds what each sync changed or what health ports answer; for `live` it reads
 /// them, runs their streams beside each other, and writes the text of that run; for `gen` it writes
-/// the one line of a generated script; where the words don't fit, it writes the usage line. It reads
-/// no source for `gen` and for words that don't fit, and hands on what is known before it asks for
-/// more. Without memory for such words it writes nothing. For `live` alone it waits by its runtime;
-/// for `live`, and for `replay` with more than one worker, it starts threads by it, and calls of
-/// streams and workers pass the gate.
+/// the one line of a generated script; where the words don't fit, it writes the usage line. It
+/// reads no source for `gen` and for words that don't fit, and hands on what is known before it
+/// asks for more. Without memory for such words it writes nothing. For `live` alone it waits by its
+/// runtime; for `live`, and for `replay` with more than one worker, it starts threads by it, and
+/// calls of streams and workers pass the gate.
 pub fn run<S: Source, K: Sink, R: Threads + Wait + Sync, G: Gate<R> + Sync>(
     rt: &R,
     alloc: Global,

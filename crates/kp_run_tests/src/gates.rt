@@ -62,8 +62,8 @@ fn a_call_waits_until_another_has_left(rt: HostRuntime) -> Result<(), Fail> {
     Ok(())
 }
 
-/// Passes the calls of workers whose digits stand in a text: `+` before a digit is the arrival of its
-/// next call, `-` its leaving. Whether a hold has run out of its turns.
+/// Passes the calls of workers whose digits stand in a text: `+` before a digit is the arrival of
+/// its next call, `-` its leaving. Whether a hold has run out of its turns.
 fn runs_out<R>(rt: &R, gate: &HoldGate, calls: &str) -> bool {
     let mut arrives = true;
     let mut first = 0u64;

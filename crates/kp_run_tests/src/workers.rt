@@ -1,5 +1,5 @@
-//! Workers of a replay: they wait for each other at a gate, any lines stand among their packets, and
-//! reads and writes fail between groups.
+//! Workers of a replay: they wait for each other at a gate, any lines stand among their packets,
+//! and reads and writes fail between groups.
 use crate::ends::{Ended, gated_run, is_end, sure_run};
 use crate::faults::lines_in;
 use crate::inputs::{Case, ENDPOINTS, case_of};
@@ -15,7 +15,7 @@ use std::test::Fail;
 use std::thread::Threads;
 
 /// How many bytes a read gives at most: more than two groups need, and no whole number of lines.
-const READ: u64 = 24_001;
+const READ: u64 = 48_001;
 
 /// More calls than a run of these inputs makes.
 const CALLS: u64 = 100;
@@ -50,10 +50,13 @@ fn push_packet(script: &mut String, number: u64) -> Result<(), Fail> {
     Ok(())
 }
 
-/// The first lines, so many, of a Service's objects, a sync and 900 packets, with what they print.
+/// The lines of a Service's objects, a sync and 1,800 packets.
+const LINES: u64 = 1804;
+
+/// The first of these lines, so many, with what they print.
 fn packets_up_to(alloc: Global, most: u64) -> Result<Case, Fail> {
     let mut case = case_of(alloc, ENDPOINTS, most.min(4))?;
-    for number in 5..most.min(904).saturating_add(1) {
+    for number in 5..most.min(LINES).saturating_add(1) {
         push_packet(&mut case.input, number)?;
         case.printed.push_str("packet ")?;
         push_number(&mut case.printed, number)?;
@@ -80,7 +83,7 @@ fn grouped_run<R: Threads + Wait + Sync + AllocGlobal>(
 /// Each read fails in turn: exactly the text of the lines that were read to their ends is written.
 #[test]
 fn a_failed_read_leaves_the_groups_before(rt: HostRuntime) -> Result<(), Fail> {
-    let case = packets_up_to(rt.alloc(), 904)?;
+    let case = packets_up_to(rt.alloc(), LINES)?;
     for call in 1..CALLS {
         let (ended, grouped) = grouped_run(&rt, &case.input, (call, 0))?;
         assert!(rt; grouped == (call > 1), "{call}");
@@ -101,7 +104,7 @@ fn a_failed_read_leaves_the_groups_before(rt: HostRuntime) -> Result<(), Fail> {
 /// Each write fails in turn, and the flush: a front is written, which grows from one to the next.
 #[test]
 fn a_failed_write_leaves_a_front_of_the_groups(rt: HostRuntime) -> Result<(), Fail> {
-    let case = packets_up_to(rt.alloc(), 904)?;
+    let case = packets_up_to(rt.alloc(), LINES)?;
     let mut before = 0;
     for call in 1..CALLS {
         let (ended, grouped) = grouped_run(&rt, &case.input, (0, call))?;
@@ -175,7 +178,7 @@ fn packets_and_others(alloc: Global) -> Result<Case, Fail> {
     push_packets(&mut case.input, 5000)?;
     for other in OTHERS.lines() {
         push_line(&mut case.input, other)?;
-        push_packets(&mut case.input, 300)?;
+        push_packets(&mut case.input, 600)?;
     }
     Ok(case)
 }
@@ -191,7 +194,7 @@ fn groups_end_at_any_line(rt: HostRuntime) -> Result<(), Fail> {
         "kproxy replay --workers=3",
         "kproxy replay --workers=64",
     ] {
-        for piece in [30_011, 1_048_576] {
+        for piece in [60_011, 1_048_576] {
             let many = sure_run(&rt, words, &case.input, piece, &OpenGate)?;
             assert!(rt; many.status == Status::LinesRefused, "{words} {piece}");
             assert!(rt;

@@ -4,7 +4,7 @@ use Rattle.std.specs.FinMap.{empty, get}
 use Rattle.std.specs.Prelude.{Result, Ok, Err, IfOk, OnOk}
 use Rattle.std.proofs.lemmas.Bool.Decides.{nat_tests}
 use Rattle.std.proofs.Math.ListN.{get_or-map}
-use Rattle.std.proofs.lemmas.List.{length-map, length-replicate, length-set, map-set}
+use Rattle.std.proofs.lemmas.List.{length-map, length-set, map-set}
 use Rattle.std.proofs.lemmas.Nat.{mod_below}
 use Rattle.std.proofs.lemmas.Option.{slice_get-get_or}
 use Rattle.kp_base.specs.Net.{AddressParts}
@@ -28,19 +28,6 @@ repeated (suc n) (suc w) x P p = repeated n w x P p
 first_size : (n : ℕ) (x : RecentParts) → 0 < n → size_in (replicate n x) ≡ x.size
 first_size zero x some = absurd (omega (arith, some))
 first_size (suc n) x some = refl
-
--- workers without sources are alike, and have none together
-pub none_alike : (values : List RecentParts) (n size : ℕ) → 0 < n
-    → values ≡ replicate n (no_sources size) → AreLike values
-none_alike values n size some is =
-    subst AreLike (sym is)
-    (record {
-      some = subst (λ m. 0 < m) (sym (length-replicate n (no_sources size))) some;
-      sized = λ w.
-          repeated n w (no_sources size)
-          (λ x. x.size ≡ size_in (replicate n (no_sources size)))
-          (sym (first_size n (no_sources size) some));
-    })
 
 pub none_together : (values : List RecentParts) (n size : ℕ) → 0 < n
     → values ≡ replicate n (no_sources size) → together values ≡ no_sources size

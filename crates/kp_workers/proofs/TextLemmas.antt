@@ -1,7 +1,6 @@
 -- Texts in a row.
-use Rattle.std.proofs.Common.{◌≡◌, ◌-◌, ℕ, min, List, [], ◌∷◌, ◌++◌, map, length, take, drop, ap, sym, ◌∙◌, arith, append-nil}
+use Rattle.std.proofs.Common.{◌≡◌, ◌-◌, ℕ, List, [], ◌∷◌, ◌++◌, map, length, ap, sym, ◌∙◌, arith, append-nil}
 use Rattle.std.specs.List.{concat}
-use Rattle.std.proofs.Math.Seq.{take-append_seam, drop-append_seam}
 use Rattle.std.proofs.lemmas.List.{length-append, map-append}
 use Rattle.std.proofs.lemmas.List.Folds.{concat-append}
 use Rattle.kp_workers.specs.Texts.{Keeps, Kept}
@@ -22,30 +21,3 @@ keeps_more kept on said told n grown more long keeps =
           more ∙ ap (λ l. l ++ n ∷ []) keeps.lengths_are
           ∙ ap (λ k. map length told ++ k ∷ []) size ∙ sym (map-append length told (said ∷ []));
     }
-
--- the first is told
-pub told_first : (kept : Kept) (others : List ℕ) (n : ℕ) (told : List (List ℕ))
-    → kept.1 ≡ n ∷ others → Keeps kept told
-    → Keeps (drop (min n (length kept.0)) kept.0, others) (drop 1 told)
-    × (take (min n (length kept.0)) kept.0 ≡ concat (take 1 told))
-told_first kept others n [] is keeps =
-    absurd (let none : n ∷ others ≡ [] = sym is ∙ keeps.lengths_are in cc)
-told_first kept others n (x ∷ told) is keeps =
-    let same : n ∷ others ≡ length x ∷ map length told = sym is ∙ keeps.lengths_are in
-    let first : n ≡ length x = cc in
-    let whole : kept.0 ≡ x ++ concat told = keeps.text_is in
-    let sum = ap length whole ∙ length-append x (concat told) in
-    let cut : min n (length kept.0) ≡ length x = omega (arith, first, sum) in (
-      record {
-        text_is = (λ i. drop (cut i) (whole i)) ∙ drop-append_seam x (concat told);
-        lengths_are = cc;
-      },
-      (λ i. take (cut i) (whole i)) ∙ take-append_seam x (concat told) ∙ sym (append-nil x),
-    )
-
--- none is left
-pub told_none : (kept : Kept) (told : List (List ℕ)) → kept.1 ≡ [] → Keeps kept told
-    → Keeps kept (drop 1 told) × (kept.0 ≡ concat (take 1 told))
-told_none kept [] is keeps = (keeps, keeps.text_is)
-told_none kept (x ∷ told) is keeps =
-    absurd (let none : [] ≡ length x ∷ map length told = sym is ∙ keeps.lengths_are in cc)

@@ -1,11 +1,12 @@
-use Rattle.std.proofs.Common.{◌≡◌, ◌+◌, map, take}
-use Rattle.kp_replay.specs.Groups.{reads_from}
+use Rattle.std.proofs.Common.{◌≡◌, ℕ, ◌+◌, ◌<◌, [], length, map, get_or}
+use Rattle.kp_replay.specs.Groups.{IsReadAs}
+use Rattle.kp_replay.specs.declared.reads.Read.{Read}
 use Rattle.kp_replay.proofs.reads.read_piece.Given as goal
 
 -- the first lines were read
-abbrev pub invariant-loop-line : goal.invariant-loop-line
-invariant-loop-line l = record {
-  reads : l.reads.items
-      ≡ reads_from l.number (map (λ line. line.now) (take l.line-index l.lines));
-  next : l.next ≡ l.number + l.line-index;
+abbrev pub invariant-loop-k : goal.invariant-loop-k
+invariant-loop-k l = record {
+  long : length l.reads ≡ length l.initial.reads;
+  each : (j : ℕ) (d : Read) → j < l.k → IsReadAs (l.number + (l.start + j))
+      (get_or (map (λ line. line.now) l.lines) (l.start + j) []) (get_or l.reads j d);
 }

@@ -1,9 +1,9 @@
 use Rattle.std.proofs.Common.{ap, subst, ◌++◌, ◌∙◌}
 use Rattle.std.specs.Option.{option_copied}
+use Rattle.kp_lemmas.proofs.Results.{on_ok}
 use Rattle.kp_io.specs.Told.{Grows}
 use Rattle.kp_replay.specs.Steps.{standing_of}
 use Rattle.kp_run.specs.Given.{given_in}
-use Rattle.kp_replay.proofs.OkLemmas.{on_ok}
 use Rattle.kp_run.proofs.ComeLemmas.{front_as}
 use Rattle.kp_run.proofs.EndLemmas.{by_write, none_written}
 use Rattle.kp_run.proofs.lines.replay_line.Goals as goal

@@ -1,8 +1,8 @@
 use Rattle.std.proofs.Common.{ap, subst, ◌++◌, ◌∙◌}
+use Rattle.kp_lemmas.proofs.Results.{on_ok}
 use Rattle.kp_io.specs.Told.{Grows}
 use Rattle.kp_mode_defs.specs.Mode.{ended}
 use Rattle.kp_replay.specs.Steps.{standing_of}
-use Rattle.kp_replay.proofs.OkLemmas.{on_ok}
 use Rattle.kp_run.proofs.ComeLemmas.{front_as}
 use Rattle.kp_run.proofs.EndLemmas.{by_write, none_written}
 use Rattle.kp_run.proofs.lines.write_ending.Goals as goal

@@ -1,10 +1,10 @@
 use Rattle.std.proofs.Common.{◌∙◌, refl, rules}
 use Rattle.std.specs.Prelude.{string_bytes}
 use Rattle.std.proofs.lemmas.Result.{on_err_weaker}
+use Rattle.kp_lemmas.proofs.Results.{on_ok}
 use Rattle.kp_replay.specs.Steps.{LosesNothing, standing_of}
 use Rattle.kp_replay.proofs.KeptLemmas.{plane_stays}
 use Rattle.kp_run_defs.specs.ReplayText.{draws_at}
-use Rattle.kp_replay.proofs.OkLemmas.{on_ok}
 use Rattle.kp_replay.proofs.OpLemmas.{explained}
 use Rattle.kp_replay.proofs.SeenLemmas.{explained_alike}
 use Rattle.kp_replay.proofs.replay.Replay.explain.Goals as goal

@@ -1,7 +1,7 @@
 use Rattle.std.specs.Prelude.{string_bytes}
 use Rattle.std.proofs.lemmas.Result.{on_err_weaker}
+use Rattle.kp_lemmas.proofs.Results.{on_ok}
 use Rattle.kp_replay.proofs.KeptLemmas.{synced_kept}
-use Rattle.kp_replay.proofs.OkLemmas.{on_ok}
 use Rattle.kp_replay.proofs.OpLemmas.{synced}
 use Rattle.kp_replay.proofs.replay.Replay.sync.Goals as goal
 

@@ -1,13 +1,14 @@
-use Rattle.std.proofs.Common.{◌≡◌, nat_lt, true, false, subst, sym, arith}
+use Rattle.std.proofs.Common.{◌≡◌, nat_lt, true, false, inl, inr, refl, subst, sym, arith}
 use Rattle.std.specs.Prelude.{string_bytes}
 use Rattle.std.specs.Option.{option_copied}
 use Rattle.std.proofs.lemmas.Bool.Decides.{nat_tests}
+use Rattle.std.proofs.lemmas.Result.{on_err_weaker}
+use Rattle.kp_lemmas.proofs.Results.{err_anyhow, on_ok}
 use Rattle.kp_base.specs.declared.config.Config.{Config}
 use Rattle.kp_run_defs.specs.ReplayText.{objects_in, syncs_in}
 use Rattle.kp_replay.specs.Steps.{LosesNothing, given_line, standing_of}
 use Rattle.kp_replay.proofs.ModeLemmas.{all_covered, covered_before, follows_on, led, left_syncs}
-use Rattle.kp_replay.proofs.ModeLemmas.{made_sync, on_err, sync_kept, took_synced}
-use Rattle.kp_replay.proofs.OkLemmas.{on_ok}
+use Rattle.kp_replay.proofs.ModeLemmas.{made_sync, sync_kept, took_synced}
 use Rattle.kp_replay.proofs.replay.Replay.take_line_in.Goals as goal
 
 pub synced-requires-clause-covered : goal.synced-requires-clause-covered
@@ -64,7 +65,7 @@ returns-then-before-after-clause-kept g c =
     let after = c.syncs-after.ensures.count in
     let more : nat_lt (syncs_in s) (syncs_in next) ≡ true =
     grind (arith, nat_tests, c.if-before-after.true) in
-    on_err c.synced.result (LosesNothing s next)
+    err_anyhow c.synced.result (LosesNothing s next)
     (sync_kept s next (made_sync s next
     (led s next c.args.number (option_copied c.args.given) c.requires.ready
     c.in_ok-take_line.ensures.takes.stands) more))
@@ -81,3 +82,10 @@ returns-else-before-after-clause-follows g c =
     c.in_ok-take_line.ensures.takes.stands in
     follows_on s next (left_syncs s next leads none) c.syncs-before.ensures.within
     (g.M.Mode.stands c.args.mode.now) c.requires.follows
+
+pub returns-in_err-take_line-clause-mode : goal.returns-in_err-take_line-clause-mode
+returns-in_err-take_line-clause-mode g c = err_anyhow c.from_residual.result _ (inl refl)
+
+pub returns-then-before-after-clause-mode : goal.returns-then-before-after-clause-mode
+returns-then-before-after-clause-mode g c =
+    on_err_weaker c.synced.result (λ between. inr between) c.synced.ensures.between

@@ -5,7 +5,7 @@ use Rattle.std.specs.Vec.Iter.{into_iter_items}
 use Rattle.kp_replay.specs.Groups.{says_later}
 use Rattle.kp_replay.specs.Steps.{LosesNothing, standing_of}
 use Rattle.kp_replay.proofs.KeptLemmas.{begins_as, goes_on_kept, read_kept}
-use Rattle.kp_replay.proofs.StepLemmas.{first_later, goes_on, rest_later}
+use Rattle.kp_replay.proofs.StepLemmas.{first_later, goes_on, rest_later, rest_read}
 use Rattle.kp_replay.proofs.replay.Replay.take_reads.Goals as goal
 
 pub take_read-requires : goal.take_read-requires
@@ -27,6 +27,10 @@ loop-read-preserved c =
       later =
           rest_later (into_iter_items at.read-iterator) c.in-Some.read
           (into_iter_items c.next.new.self) at.invariant.later is;
+      read =
+          rest_read (into_iter_items at.read-iterator) c.in-Some.read
+          (into_iter_items c.next.new.self) c.args.reads.items is c.in_ok-take_read.ensures.read
+          at.invariant.read;
       kept =
           goes_on_kept (standing_of c.args.self.now) (standing_of at.self)
           (standing_of c.take_read.new.self) at.invariant.kept

@@ -1,7 +1,8 @@
 use Rattle.std.proofs.Common.{◌+◌, ◌∙◌, ◌++◌, ap, add-one, sym, subst}
+use Rattle.kp_lemmas.proofs.Results.{on_ok}
 use Rattle.kp_gen_defs.specs.Script.{line_in}
 use Rattle.kp_replay.specs.Steps.{standing_of, IsReady}
-use Rattle.kp_replay.proofs.OkLemmas.{on_ok, both_ok}
+use Rattle.kp_replay.proofs.OkLemmas.{both_ok}
 use Rattle.kp_run.specs.Sums.{counted_in}
 use Rattle.kp_run.proofs.SumLemmas.{counted_more, line_ready}
 use Rattle.kp_run.proofs.generated.Counting.take.Goals as goal
