@@ -132,7 +132,3 @@ pub counted_in : (entries more : List (Endpoint × Candidate)) (c : Candidate) �
 counted_in entries more c counting same =
     same ∙ insert-put endpoint_matches entries c.endpoint c
     ∙ sym (ap (λ b. cond b (put endpoint_cmp c.endpoint c entries) entries) counting)
-
--- a map as it is, where the candidate doesn't count
-pub counted_out : (entries : List (Endpoint × Candidate)) (c : Candidate) → counts entries c ≡ false → entries ≡ counted_with entries c
-counted_out entries c passed = sym (ap (λ b. cond b (put endpoint_cmp c.endpoint c entries) entries) passed)

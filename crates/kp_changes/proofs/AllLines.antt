@@ -1,5 +1,5 @@
 -- The lines of the dirty ports are the lines of all ports.
-use Rattle.std.proofs.Common.{◌≡◌, ℕ, Bool, true, false, cond, ◌||◌, List, [], ◌∷◌, ◌++◌, map, filter, flat_map, Option, Some, None, refl, sym, ap, ◌∙◌, append-nil}
+use Rattle.std.proofs.Common.{◌≡◌, ℕ, Bool, true, false, cond, List, [], ◌∷◌, ◌++◌, map, flat_map, Option, Some, None, refl, sym, ap, ◌∙◌, append-nil}
 use Rattle.std.specs.FinMap.{find}
 use Rattle.std.specs.List.{list_any}
 use Rattle.std.specs.Ordering.{eq_by_cmp}
@@ -11,20 +11,20 @@ use Rattle.kp_base.specs.declared.address.Family.{Family}
 use Rattle.kp_base.specs.declared.address.Family.TheVariants.{V4, V6}
 use Rattle.kp_base.specs.declared.config.Config.{Config}
 use Rattle.kp_base.specs.declared.key.PortKey.{PortKey}
-use Rattle.kp_types.specs.Setting.{FamilyConfig, both_families, config_for, table_families}
+use Rattle.kp_types.specs.Setting.{both_families, config_for, table_families}
 use Rattle.kp_choice_defs.specs.Names.{chain_name}
 use Rattle.kp_choice_defs.specs.Settings.{setting_of, settings_of}
 use Rattle.kp_object_defs.specs.Objects.{Objects}
 use Rattle.kp_object_defs.specs.OwnKeys.{AreUnderOwnKeys}
 use Rattle.kp_object_defs.specs.PortByKey.{info_at}
-use Rattle.kp_object_defs.specs.PortInfo.{PortInfo, infos_by_family, port_infos}
+use Rattle.kp_object_defs.specs.PortInfo.{PortInfo, infos_by_family}
 use Rattle.kp_history_defs.specs.DirtyPorts.{dirty_keys, dirty_port, dirty_ports}
 use Rattle.kp_history_defs.specs.declared.dirty.DirtyPort.{DirtyPort}
 use Rattle.kp_history_laws.specs.DirtyLaws.{InfosByName}
 use Rattle.kp_history_laws.specs.EventLaws.{has_port}
 use Rattle.kp_history_laws.proofs.DirtyPorts.{clean_infos}
 use Rattle.kp_change_defs.specs.ChangeText.{change_lines, change_text, port_lines}
-use Rattle.kp_change_defs.specs.DoorChanges.{door_changes, info_named, names_of, ports_in}
+use Rattle.kp_change_defs.specs.DoorChanges.{door_changes, names_of}
 use Rattle.kp_changes.specs.Lines.{dirty_in, dirty_lines, dirty_named, dirty_text, lines_named, lines_of}
 use Rattle.kp_changes.proofs.Doors.{unchanged}
 use Rattle.kp_changes.proofs.Pieces.{alike}
@@ -41,7 +41,8 @@ not_named name (x ∷ xs) key h =
     ap (λ b. cond b (Some x) (find port_key_cmp key (map (λ y. (name y, y)) xs))) parts.0
     ∙ not_named name xs key parts.1
 
-module _ (by_name : InfosByName) (config : Config) (before after : Objects) (own : AreUnderOwnKeys before) (own_after : AreUnderOwnKeys after) where
+module _ (by_name : InfosByName) (config : Config) (before after : Objects)
+    (own : AreUnderOwnKeys before) (own_after : AreUnderOwnKeys after) where
   abbrev infos_before : Family → List PortInfo
   infos_before = infos_by_family (settings_of config) before
 
@@ -75,13 +76,18 @@ module _ (by_name : InfosByName) (config : Config) (before after : Objects) (own
   found_dirty : (family : Family) (keys : List PortKey) (key : PortKey)
       → dirty_named (map (dirty_port (setting_of family config) before) keys) key
       ≡ cond (has_port keys key) (Some (dirty_port (setting_of family config) before key)) None
-  found_dirty family keys key = ap (find port_key_cmp key) (paired keys) ∙ found_name (dirty_port (setting_of family config) before) key keys
+  found_dirty family keys key =
+      ap (find port_key_cmp key) (paired keys)
+      ∙ found_name (dirty_port (setting_of family config) before) key keys
     where
       paired : (ks : List PortKey)
-          → map {B = PortKey × DirtyPort} (λ d. (d.key, d)) (map (dirty_port (setting_of family config) before) ks)
-          ≡ map {B = PortKey × DirtyPort} (λ k. (k, dirty_port (setting_of family config) before k)) ks
+          → map {B = PortKey × DirtyPort} (λ d. (d.key, d))
+          (map (dirty_port (setting_of family config) before) ks)
+          ≡ map {B = PortKey × DirtyPort}
+          (λ k. (k, dirty_port (setting_of family config) before k)) ks
       paired [] = refl
-      paired (k ∷ ks) = ap (λ rest. (k, dirty_port (setting_of family config) before k) ∷ rest) (paired ks)
+      paired (k ∷ ks) =
+          ap (λ rest. (k, dirty_port (setting_of family config) before k) ∷ rest) (paired ks)
 
   -- the lines of a port are those of the dirty port of its name
   by_dirty : (family : Family) (key : PortKey)
@@ -121,9 +127,11 @@ module _ (by_name : InfosByName) (config : Config) (before after : Objects) (own
     where
       by : (dual : Bool)
           → dirty_lines V4 config after
-          (dirty_named (cond (list_any (same_family V4) (cond dual both_families (V4 ∷ []))) (dirty V4) []) key)
+          (dirty_named
+          (cond (list_any (same_family V4) (cond dual both_families (V4 ∷ []))) (dirty V4) []) key)
           ++ dirty_lines V6 config after
-          (dirty_named (cond (list_any (same_family V6) (cond dual both_families (V4 ∷ []))) (dirty V6) []) key)
+          (dirty_named
+          (cond (list_any (same_family V6) (cond dual both_families (V4 ∷ []))) (dirty V6) []) key)
           ≡ flat_map (lines key) (cond dual both_families (V4 ∷ []))
       by true =
           (λ i. by_dirty V4 key i ++ by_dirty V6 key i)
@@ -139,8 +147,10 @@ module _ (by_name : InfosByName) (config : Config) (before after : Objects) (own
   -- a port that isn't dirty has no line
   clean : (key : PortKey) → has_port names key ≡ false → told key ≡ []
   clean key none =
-      let parts = or_parts (has_port (map (λ d. d.key) four) key) (has_port (map (λ d. d.key) six) key)
-      (sym (list_any-append (eq_by_cmp port_key_cmp key) (map (λ d. d.key) four) (map (λ d. d.key) six)) ∙ none) in
+      let parts =
+      or_parts (has_port (map (λ d. d.key) four) key) (has_port (map (λ d. d.key) six) key)
+      (sym (list_any-append (eq_by_cmp port_key_cmp key) (map (λ d. d.key) four)
+      (map (λ d. d.key) six)) ∙ none) in
       sym (by_both key)
       ∙ (λ i. dirty_lines V4 config after (not_named (λ (d : DirtyPort). d.key) four key parts.0 i)
       ++ dirty_lines V6 config after (not_named (λ (d : DirtyPort). d.key) six key parts.1 i))
@@ -158,8 +168,11 @@ module _ (by_name : InfosByName) (config : Config) (before after : Objects) (own
       let own_names = names_of (infos_before family) ++ names_of (infos_after family) in
       let parts = or_parts (has_port own_names key) (has_port (known_in families) key)
       (sym (list_any-append test own_names (known_in families)) ∙ none) in
-      let each = or_parts (has_port (names_of (infos_before family)) key) (has_port (names_of (infos_after family)) key)
-      (sym (list_any-append test (names_of (infos_before family)) (names_of (infos_after family))) ∙ parts.0) in
+      let each =
+      or_parts (has_port (names_of (infos_before family)) key)
+      (has_port (names_of (infos_after family)) key)
+      (sym (list_any-append test (names_of (infos_before family)) (names_of (infos_after family)))
+      ∙ parts.0) in
       (λ i. lines_of family config after
       (door_changes (not_named (λ (p : PortInfo). p.key) (infos_before family) key each.0 i)
       (not_named (λ (p : PortInfo). p.key) (infos_after family) key each.1 i))

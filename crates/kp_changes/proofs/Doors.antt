@@ -14,7 +14,7 @@ use Rattle.kp_types.specs.contracts.decision.DoorKindEq.TheImpl.Laws as kind_law
 use Rattle.kp_types.specs.contracts.service.PolicyEq.TheImpl.Laws as policy_laws
 use Rattle.kp_object_defs.specs.PortInfo.{PortInfo}
 use Rattle.kp_door_defs.specs.Doors.{Door}
-use Rattle.kp_change_defs.specs.DoorChanges.{DoorChange, change_from, change_to, differs, door_changes, doors_gone, doors_of_port, same_door, values_or_absent}
+use Rattle.kp_change_defs.specs.DoorChanges.{change_from, change_to, differs, door_changes, doors_gone, doors_of_port, same_door, values_or_absent}
 use Rattle.kp_change_defs.specs.DoorValues.{DoorValues, same_values, values_at, values_of}
 use Rattle.kp_change_defs.specs.contracts.DoorStateEq.TheImpl.Laws as state_laws
 use Rattle.kp_change_laws.proofs.DoorKinds.{found, of_port}

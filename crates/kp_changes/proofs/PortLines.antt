@@ -20,9 +20,11 @@ pub line_added : (name_of : Naming) (infos : List PortInfo) (seen change : DoorC
     → list ≡ states ++ list_text seen.before seen.after
     → kept ≡ list ++ kept_text change → turned ≡ kept ++ turned_text infos change
     → new ≡ turned ++ codes "\n" → new ≡ old ++ change_line name_of infos change
-line_added name_of infos seen change is old head colon states list kept turned new h1 h2 h3 h4 h5 h6 h7 =
+line_added name_of infos seen change is old head colon states list kept turned new
+    h1 h2 h3 h4 h5 h6 h7 =
     two_added old turned new _ _ (two_added old kept turned _ _ (two_added old list kept _ _
-    (two_added old states list _ _ (two_added old colon states _ _ (two_added old head colon _ _ h1 h2)
+    (two_added old states list _ _
+    (two_added old colon states _ _ (two_added old head colon _ _ h1 h2)
     h3) h4) h5) h6) h7
     ∙ ap (λ c. old ++ (head_text name_of c.door ++ codes ": " ++ states_text c.before c.after
     ++ list_text c.before c.after ++ kept_text change ++ turned_text infos change ++ codes "\n")) is

@@ -1,13 +1,12 @@
 -- The doors beside a door are found among the ports that may be there.
-use Rattle.std.proofs.Common.{◌≡◌, ℕ, ◌==◌, ◌&&◌, ◌||◌, Bool, true, false, true≢false, cond, not, List, [], ◌∷◌, ◌++◌, map, filter, filter_map, flat_map, Contains, Option, Some, None, option_and_then, option_map, refl, sym, ap, ◌∙◌, bytes_eq, append-nil, inl, inr}
-use Rattle.std.specs.List as list
+use Rattle.std.proofs.Common.{◌≡◌, ℕ, ◌==◌, ◌&&◌, ◌||◌, Bool, true, false, true≢false, cond, List, [], ◌∷◌, ◌++◌, map, filter, filter_map, flat_map, Contains, Option, Some, None, option_and_then, option_map, refl, sym, ap, ◌∙◌, bytes_eq, append-nil}
 use Rattle.std.specs.List.{cons_option, find, list_any}
 use Rattle.std.specs.Option.{option_eq, option_to_list}
 use Rattle.std.specs.Ordering.{eq_by_cmp}
 use Rattle.std.specs.FinMap as finite
 use Rattle.std.specs.FinMap.{get}
 use Rattle.std.specs.Cmp.{nat_eq_equiv}
-use Rattle.std.proofs.lemmas.Bool.{and_from, and_parts, or_from, or_left, or_parts, or_right, false_from_ne_true}
+use Rattle.std.proofs.lemmas.Bool.{and_from, and_parts, or_parts, or_right, false_from_ne_true}
 use Rattle.std.proofs.lemmas.Grind.{flat_map-append}
 use Rattle.std.proofs.lemmas.List.Folds.{flat_map-map, list_any-append}
 use Rattle.std.proofs.lemmas.Map.Views.{exact_unsigned_eq}
@@ -16,15 +15,14 @@ use Rattle.kp_lemmas.proofs.Equality.{options_exact}
 use Rattle.kp_lemmas.proofs.Members.{any_from, in_filter, in_flat_map, in_map}
 use Rattle.kp_lemmas.proofs.Orders.{tie_of_itself}
 use Rattle.kp_base.specs.Keys.{port_key_cmp}
-use Rattle.kp_base.specs.Net.{AddressParts, same_address, same_family}
+use Rattle.kp_base.specs.Net.{AddressParts, same_address}
 use Rattle.kp_base.specs.contracts.address.AddressPartialEq.TheImpl as address_eq
 use Rattle.kp_base.specs.declared.address.Family.{Family}
-use Rattle.kp_base.specs.declared.address.Family.TheVariants.{V4, V6}
 use Rattle.kp_base.specs.declared.key.PortKey.{PortKey}
 use Rattle.kp_base.specs.declared.port.Proto.{Proto}
 use Rattle.kp_base.specs.declared.port.Proto.TheVariants.{Sctp, Tcp, Udp}
 use Rattle.kp_base.proofs.KeyOrder.{key_total, key_exact, port_key_total}
-use Rattle.kp_base.proofs.SameParts.{address_test_exact, same_proto_exact}
+use Rattle.kp_base.proofs.SameParts.{address_itself, address_test_exact, same_proto_exact}
 use Rattle.kp_types.specs.Ports.{is_port, same_proto}
 use Rattle.kp_types.specs.Setting.{FamilyConfig}
 use Rattle.kp_types.specs.declared.decision.DoorKind.{DoorKind}
@@ -54,19 +52,11 @@ use Rattle.kp_changes.specs.Beside.{address_or, bare_infos_at, may_be_at, names_
 use Rattle.kp_changes.proofs.Pieces.{alike, inner, passed}
 use Rattle.kp_changes.proofs.Sparse.{sparse, told_in}
 
--- ---- What is the same as itself
-
+-- a protocol is itself
 proto_itself : (p : Proto) → same_proto p p ≡ true
 proto_itself Sctp = refl
 proto_itself Tcp = refl
 proto_itself Udp = refl
-
-address_itself : (a : AddressParts) → same_address a a ≡ true
-address_itself a = and_from _ _ (by a.family) (nat_eq_equiv.refl a.number)
-  where
-    by : (f : Family) → same_family f f ≡ true
-    by V4 = refl
-    by V6 = refl
 
 -- ---- A port that may not be there
 
@@ -104,16 +94,21 @@ module _ (d : Door) where
   -- a door beside this one has its protocol, its address and its number
   place_of : (e : Door) → is_beside d e ≡ true → HasPlace e.info e.address e.number
   place_of e h =
-      let outer = and_parts (same_proto d.info.key.proto e.info.key.proto && same_destination d e) _ h in
-      let both = and_parts (same_proto d.info.key.proto e.info.key.proto) (same_destination d e) outer.0 in
-      let place = and_parts (option_eq address_eq.ghosts.eq d.address e.address) (d.number == e.number) both.1 in
+      let outer =
+      and_parts (same_proto d.info.key.proto e.info.key.proto && same_destination d e) _ h in
+      let both =
+      and_parts (same_proto d.info.key.proto e.info.key.proto) (same_destination d e) outer.0 in
+      let place =
+      and_parts (option_eq address_eq.ghosts.eq d.address e.address)
+      (d.number == e.number) both.1 in
       record {
         proto = same_proto_exact d.info.key.proto e.info.key.proto both.0;
         address = options_exact _ address_test_exact d.address e.address place.0;
         number = exact_unsigned_eq d.number e.number place.1;
       }
 
-  module _ (config : FamilyConfig) (family : Family) (s : Service) (p : ServicePort) (i : PortInfo) (shows : Shows family s p i) (miss : port_there s p ≡ false) where
+  module _ (config : FamilyConfig) (family : Family) (s : Service) (p : ServicePort) (i : PortInfo)
+      (shows : Shows family s p i) (miss : port_there s p ≡ false) where
     abbrev fitting : Door → Bool
     fitting = fits config.addresses packet
 
@@ -139,19 +134,23 @@ module _ (d : Door) where
         → flat_map told (map (door_at kind i) xs) ≡ []
     untold_all kind [] h = refl
     untold_all kind (a ∷ xs) h =
-        let parts = or_parts (fitting (door_at kind i a)) (list_any fitting (map (door_at kind i) xs)) h in
+        let parts =
+        or_parts (fitting (door_at kind i a)) (list_any fitting (map (door_at kind i) xs)) h in
         λ j. untold kind a parts.0 j ++ untold_all kind xs parts.1 j
 
     none_at_addresses : at_addresses i ≡ []
     none_at_addresses =
         let external = map (door_at door.External i) i.external in
         let balancer = map (door_at door.Balancer i) i.balancer in
-        let parts = or_parts (fitting (door_at door.Cluster i i.address)) (list_any fitting (external ++ balancer))
+        let parts =
+        or_parts (fitting (door_at door.Cluster i i.address))
+        (list_any fitting (external ++ balancer))
         (misses_addresses family config packet s p i shows miss) in
         let outer = or_parts (list_any fitting external) (list_any fitting balancer)
         (sym (list_any-append fitting external balancer) ∙ parts.1) in
         (λ j. untold door.Cluster i.address parts.0 j ++ flat_map-append told external balancer j)
-        ∙ (λ j. untold_all door.External i.external outer.0 j ++ untold_all door.Balancer i.balancer outer.1 j)
+        ∙ (λ j. untold_all door.External i.external outer.0 j
+        ++ untold_all door.Balancer i.balancer outer.1 j)
 
     own_node_port : (b : Bool) (own : Option ℕ) (n : ℕ) → cond b own None ≡ Some n → own ≡ Some n
     own_node_port true own n h = h
@@ -164,19 +163,25 @@ module _ (d : Door) where
         ap (λ b. cond b (beside_text e) [] ++ [])
         (false_from_ne_true (is_beside d e) (λ beside.
         let place = place_of e beside in
-        let own : p.node_port ≡ Some n = own_node_port (has_node_port s.kind) p.node_port n (sym shows.node_port ∙ is) in
+        let own : p.node_port ≡ Some n =
+        own_node_port (has_node_port s.kind) p.node_port n (sym shows.node_port ∙ is) in
         true≢false (sym (and_from (same_proto p.proto d.info.key.proto)
-        (((p.port == d.number) && is_address_of (target_of d) s) || is_node_port d.number p.node_port)
-        (ap (λ q. same_proto q d.info.key.proto) (sym shows.proto ∙ sym place.proto) ∙ proto_itself d.info.key.proto)
-        (or_right ((p.port == d.number) && is_address_of (target_of d) s) (is_node_port d.number p.node_port)
-        (ap (is_node_port d.number) own ∙ ap (λ m. m == d.number) (sym place.number) ∙ nat_eq_equiv.refl d.number))) ∙ miss)))
+        (((p.port == d.number) && is_address_of (target_of d) s)
+        || is_node_port d.number p.node_port)
+        (ap (λ q. same_proto q d.info.key.proto) (sym shows.proto ∙ sym place.proto)
+        ∙ proto_itself d.info.key.proto)
+        (or_right ((p.port == d.number) && is_address_of (target_of d) s)
+        (is_node_port d.number p.node_port)
+        (ap (is_node_port d.number) own ∙ ap (λ m. m == d.number) (sym place.number)
+        ∙ nat_eq_equiv.refl d.number))) ∙ miss)))
 
     none_at_node : at_node i ≡ []
     none_at_node = none_at i.node_port refl
 
 -- ---- Ports by their names
 
-module _ (family : Family) (config : FamilyConfig) (o : Objects) (own : AreUnderOwnKeys o) (d : Door) where
+module _ (family : Family) (config : FamilyConfig) (o : Objects) (own : AreUnderOwnKeys o)
+    (d : Door) where
   -- the Service and the port that something is known of
   record HasPort (key : PortKey) (i : PortInfo) : Type 0 where
     service : Service
@@ -190,7 +195,9 @@ module _ (family : Family) (config : FamilyConfig) (o : Objects) (own : AreUnder
     where
       of_named : (s : Service) → get o.services key.object ≡ Some s → (found : Option ServicePort)
           → find (is_port key.port_name key.proto) s.ports ≡ found
-          → option_and_then (λ p. info_of family config.node (zone_of o config.node) (sources_of family config o s, p)) found ≡ Some i
+          → option_and_then
+          (λ p. info_of family config.node (zone_of o config.node)
+          (sources_of family config o s, p)) found ≡ Some i
           → HasPort key i
       of_named s at None named k = absurd (cc)
       of_named s at (Some p) named k = record {
@@ -198,7 +205,9 @@ module _ (family : Family) (config : FamilyConfig) (o : Objects) (own : AreUnder
         port = p;
         stored = at;
         named = named;
-        shows = shown_of family config.node (zone_of o config.node) (sources_of family config o s) s p i (sources_service family config o s) k;
+        shows =
+            shown_of family config.node (zone_of o config.node) (sources_of family config o s) s p i
+            (sources_service family config o s) k;
       }
 
       of_service : (found : Option Service) → get o.services key.object ≡ found
@@ -215,12 +224,15 @@ module _ (family : Family) (config : FamilyConfig) (o : Objects) (own : AreUnder
 
     in_services : Contains (finite.values o.services) has.service
     in_services =
-        (found_in key_total key_exact (λ (s : Service). s.key) key.object (finite.values o.services) has.service
-        (found_in_values (λ (s : Service). s.key) o.services own.services key.object ∙ has.stored)).0
+        (found_in key_total key_exact (λ (s : Service). s.key) key.object
+        (finite.values o.services) has.service
+        (found_in_values (λ (s : Service). s.key) o.services own.services key.object
+        ∙ has.stored)).0
 
     is_this : this ≡ key
     is_this =
-        let parts = and_parts (bytes_eq has.port.name key.port_name) (same_proto has.port.proto key.proto)
+        let parts =
+        and_parts (bytes_eq has.port.name key.port_name) (same_proto has.port.proto key.proto)
         (found (is_port key.port_name key.proto) has.service.ports has.port has.named).1 in
         λ j. record {
           object = own.services key.object has.service has.stored j;
@@ -249,10 +261,13 @@ module _ (family : Family) (config : FamilyConfig) (o : Objects) (own : AreUnder
     named_there : port_there d has.service has.port ≡ true → has_port (names_at o d) key ≡ true
     named_there there =
         let numbers = and_parts (same_proto has.port.proto d.info.key.proto)
-        (((has.port.port == d.number) && is_address_of (target_of d) has.service) || is_node_port d.number has.port.node_port) there in
-        let may : may_be_at d has.port ≡ true = and_from (same_proto has.port.proto d.info.key.proto)
+        (((has.port.port == d.number) && is_address_of (target_of d) has.service)
+        || is_node_port d.number has.port.node_port) there in
+        let may : may_be_at d has.port ≡ true =
+        and_from (same_proto has.port.proto d.info.key.proto)
         ((has.port.port == d.number) || is_node_port d.number has.port.node_port) numbers.0
-        (looser (has.port.port == d.number) (is_address_of (target_of d) has.service) (is_node_port d.number has.port.node_port) numbers.1) in
+        (looser (has.port.port == d.number) (is_address_of (target_of d) has.service)
+        (is_node_port d.number has.port.node_port) numbers.1) in
         let may_answer = answers d.info.key.proto (target_of d) d.number in
         has_this (names_at o d)
         (in_flat_map (names_in d) has.service this (filter may_answer (finite.values o.services))
@@ -279,22 +294,27 @@ module _ (family : Family) (config : FamilyConfig) (o : Objects) (own : AreUnder
       }
 
   -- pieces of ports, of which those elsewhere have none, and which don't depend on endpoints
-  module _ (piece : PortInfo → List ℕ) (bare : (i : PortInfo) → piece (without_lists i) ≡ piece i) (empty : (i : PortInfo) → IsElsewhere i → piece i ≡ []) where
+  module _ (piece : PortInfo → List ℕ) (bare : (i : PortInfo) → piece (without_lists i) ≡ piece i)
+      (empty : (i : PortInfo) → IsElsewhere i → piece i ≡ []) where
     abbrev of_key : PortKey → List ℕ
     of_key key = flat_map piece (option_to_list (info_at family config o key))
 
     by_bare : (key : PortKey) → flat_map piece (bare_infos_at family config o key) ≡ of_key key
     by_bare key = by (info_at family config o key)
       where
-        by : (known : Option PortInfo) → flat_map piece (option_to_list (option_map without_lists known)) ≡ flat_map piece (option_to_list known)
+        by : (known : Option PortInfo)
+            → flat_map piece (option_to_list (option_map without_lists known))
+            ≡ flat_map piece (option_to_list known)
         by None = refl
         by (Some i) = ap (λ l. l ++ []) (bare i)
 
-    by_keys : (keys : List PortKey) → flat_map piece (filter_map (info_at family config o) keys) ≡ flat_map of_key keys
+    by_keys : (keys : List PortKey) → flat_map piece (filter_map (info_at family config o) keys)
+        ≡ flat_map of_key keys
     by_keys [] = refl
     by_keys (key ∷ keys) = by (info_at family config o key) (by_keys keys)
       where
-        by : (known : Option PortInfo) → flat_map piece (filter_map (info_at family config o) keys) ≡ flat_map of_key keys
+        by : (known : Option PortInfo) → flat_map piece (filter_map (info_at family config o) keys)
+            ≡ flat_map of_key keys
             → flat_map piece (cons_option known (filter_map (info_at family config o) keys))
             ≡ flat_map piece (option_to_list known) ++ flat_map of_key keys
         by None rest = rest
@@ -320,7 +340,8 @@ module _ (family : Family) (config : FamilyConfig) (o : Objects) (own : AreUnder
         by (Some i) is = absurd (true≢false (sym (listed key i (port_of key i is)) ∙ none))
 
     same_pieces :
-        flat_map piece (flat_map (bare_infos_at family config o) (distinct_in_order port_key_cmp (names_at o d)))
+        flat_map piece
+        (flat_map (bare_infos_at family config o) (distinct_in_order port_key_cmp (names_at o d)))
         ≡ flat_map piece (port_infos family config o)
     same_pieces =
         inner piece (bare_infos_at family config o) (distinct_in_order port_key_cmp (names_at o d))
@@ -335,33 +356,44 @@ module _ (family : Family) (config : FamilyConfig) (o : Objects) (own : AreUnder
 
   bare_addresses : (i : PortInfo) → at_addresses d (without_lists i) ≡ at_addresses d i
   bare_addresses i =
-      ap (λ l. told d (door_at door.Cluster i i.address) ++ l) (spread (without_lists i) ∙ sym (spread i))
+      ap (λ l. told d (door_at door.Cluster i i.address) ++ l)
+      (spread (without_lists i) ∙ sym (spread i))
     where
       spread : (j : PortInfo)
-          → flat_map (told d) (map (door_at door.External j) j.external ++ map (door_at door.Balancer j) j.balancer)
-          ≡ flat_map (λ a. told d (door_at door.External j a)) j.external ++ flat_map (λ a. told d (door_at door.Balancer j a)) j.balancer
+          → flat_map (told d)
+          (map (door_at door.External j) j.external ++ map (door_at door.Balancer j) j.balancer)
+          ≡ flat_map (λ a. told d (door_at door.External j a)) j.external
+          ++ flat_map (λ a. told d (door_at door.Balancer j a)) j.balancer
       spread j =
-          flat_map-append (told d) (map (door_at door.External j) j.external) (map (door_at door.Balancer j) j.balancer)
-          ∙ (λ t. flat_map-map (told d) (door_at door.External j) j.external t ++ flat_map-map (told d) (door_at door.Balancer j) j.balancer t)
+          flat_map-append (told d) (map (door_at door.External j) j.external)
+          (map (door_at door.Balancer j) j.balancer)
+          ∙ (λ t. flat_map-map (told d) (door_at door.External j) j.external t
+          ++ flat_map-map (told d) (door_at door.Balancer j) j.balancer t)
 
   bare_node : (i : PortInfo) → at_node d (without_lists i) ≡ at_node d i
   bare_node i = by i.node_port
     where
-      by : (number : Option ℕ) → flat_map (told d) (node_door (without_lists i) number) ≡ flat_map (told d) (node_door i number)
+      by : (number : Option ℕ) → flat_map (told d) (node_door (without_lists i) number)
+          ≡ flat_map (told d) (node_door i number)
       by None = refl
       by (Some n) = refl
 
-  by_pieces : (infos : List PortInfo) → besides_text infos d ≡ flat_map (at_addresses d) infos ++ flat_map (at_node d) infos
+  by_pieces : (infos : List PortInfo) → besides_text infos d ≡ flat_map (at_addresses d) infos
+      ++ flat_map (at_node d) infos
   by_pieces infos =
       passed (is_beside d) beside_text (doors_of infos)
-      ∙ flat_map-append (told d) (flat_map address_doors infos) (flat_map (λ i. node_door i i.node_port) infos)
-      ∙ (λ j. inner (told d) address_doors infos j ++ inner (told d) (λ i. node_door i i.node_port) infos j)
+      ∙ flat_map-append (told d) (flat_map address_doors infos)
+      (flat_map (λ i. node_door i i.node_port) infos)
+      ∙ (λ j. inner (told d) address_doors infos j
+      ++ inner (told d) (λ i. node_door i i.node_port) infos j)
 
   pub besides :
-      besides_text (flat_map (bare_infos_at family config o) (distinct_in_order port_key_cmp (names_at o d))) d
+      besides_text
+      (flat_map (bare_infos_at family config o) (distinct_in_order port_key_cmp (names_at o d))) d
       ≡ besides_text (port_infos family config o) d
   besides =
-      by_pieces (flat_map (bare_infos_at family config o) (distinct_in_order port_key_cmp (names_at o d)))
+      by_pieces (flat_map (bare_infos_at family config o)
+      (distinct_in_order port_key_cmp (names_at o d)))
       ∙ (λ j. same_pieces (at_addresses d) bare_addresses (λ i e. e.addresses) j
       ++ same_pieces (at_node d) bare_node (λ i e. e.node) j)
       ∙ sym (by_pieces (port_infos family config o))

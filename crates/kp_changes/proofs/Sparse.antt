@@ -1,6 +1,6 @@
 -- Pieces of ports in order: ports without a piece may be left out or added.
 use Rattle.std.proofs.Math.Bool.{and-false, and-true}
-use Rattle.std.proofs.Common.{◌≡◌, Bool, true, false, cond, not, ◌&&◌, ◌||◌, List, [], ◌∷◌, ◌++◌, map, filter, flat_map, Option, Some, None, refl, sym, ap, ◌∙◌}
+use Rattle.std.proofs.Common.{◌≡◌, Bool, true, false, cond, not, ◌&&◌, ◌||◌, List, [], ◌∷◌, ◌++◌, map, filter, flat_map, Some, None, refl, sym, ap, ◌∙◌}
 use Rattle.std.specs.FinMap.{find}
 use Rattle.std.specs.Ordering.{eq_by_cmp}
 use Rattle.kp_lemmas.proofs.Orders.{one_from_tie}
@@ -58,7 +58,8 @@ module _ {Y : Type 0} (f : PortKey → List Y) where
   told_among : (ks : List PortKey) (key : PortKey)
       → has_port (filter tells ks) key ≡ (tells key && has_port ks key)
   told_among [] key = sym (and-false (tells key))
-  told_among (k ∷ ks) key = by (tells k) refl (eq_by_cmp port_key_cmp key k) refl (told_among ks key)
+  told_among (k ∷ ks) key =
+      by (tells k) refl (eq_by_cmp port_key_cmp key k) refl (told_among ks key)
     where
       by : (t : Bool) → tells k ≡ t → (b : Bool) → eq_by_cmp port_key_cmp key k ≡ b
           → has_port (filter tells ks) key ≡ (tells key && has_port ks key)

@@ -30,7 +30,8 @@ target_of d = address_or d.info.address d.address
 -- a port has a door's protocol, and its number as its own or as its node port
 abbrev pub may_be_at : Door → ServicePort → Bool
 may_be_at d p =
-    same_proto p.proto d.info.key.proto && ((p.port == d.number) || is_node_port d.number p.node_port)
+    same_proto p.proto d.info.key.proto
+    && ((p.port == d.number) || is_node_port d.number p.node_port)
 
 -- the names of such ports of a Service
 abbrev pub names_in : Door → Service → List PortKey

@@ -1,5 +1,5 @@
 -- The lines of the doors of one port in one family, and of all dirty ports.
-use Rattle.std.specs.Prelude.{◌≡◌, ℕ, Bool, List, [], ◌++◌, map, cond, not, Option, Some, None}
+use Rattle.std.specs.Prelude.{ℕ, List, [], ◌++◌, map, cond, Option, Some, None}
 use Rattle.std.specs.List.{flat_map, list_any}
 use Rattle.std.specs.FinMap.{find}
 use Rattle.kp_base.specs.Keys.{port_key_cmp}
@@ -12,7 +12,6 @@ use Rattle.kp_choice_defs.specs.Names.{chain_name}
 use Rattle.kp_choice_defs.specs.Settings.{setting_of, settings_of}
 use Rattle.kp_object_defs.specs.Objects.{Objects}
 use Rattle.kp_object_defs.specs.Order.{distinct_in_order}
-use Rattle.kp_object_defs.specs.OwnKeys.{AreUnderOwnKeys}
 use Rattle.kp_object_defs.specs.PortByKey.{info_at}
 use Rattle.kp_object_defs.specs.PortInfo.{port_infos}
 use Rattle.kp_door_defs.specs.Doors.{Door}
@@ -43,7 +42,8 @@ line_if_gone family config o after d =
 abbrev pub dirty_lines : Family → Config → Objects → Option DirtyPort → List ℕ
 dirty_lines family config o None = []
 dirty_lines family config o (Some d) =
-    lines_of family config o (door_changes d.before (info_at family (config_for family config) o d.key))
+    lines_of family config o
+    (door_changes d.before (info_at family (config_for family config) o d.key))
 
 -- the dirty port of a name
 abbrev pub dirty_named : List DirtyPort → PortKey → Option DirtyPort

@@ -206,7 +206,8 @@ fn push_inside_unless(
     push_inside_lists(alloc, text, comes(change), before, after)
 }
 
-/// Adds how many endpoints sources inside have, those that came into their list and those that went.
+/// Adds how many endpoints sources inside have, those that came into their list, and those that
+/// went.
 fn push_inside_lists(
     alloc: Global,
     text: &mut String,

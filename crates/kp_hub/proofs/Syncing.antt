@@ -1,9 +1,7 @@
 -- What a sync does by its answer, from its steps.
-use Rattle.std.proofs.Common.{◌≡◌, ℕ, ◌+◌, ◌≤◌, ◌<◌, ◌⊎◌, inl, inr, List, [], ◌∷◌, ◌++◌, Some, None, length, ap, sym, subst, ◌∙◌, arith}
+use Rattle.std.proofs.Common.{◌≡◌, ℕ, ◌+◌, ◌≤◌, ◌<◌, List, None, length, ap, sym, subst, ◌∙◌, arith}
 use mathlib.Core.List.{IsPrefix}
 use Rattle.kp_base.specs.declared.config.Config.{Config}
-use Rattle.kp_types.specs.declared.chain.Clash.{Clash}
-use Rattle.kp_io.specs.Faults.{Rose}
 use Rattle.kp_publish.specs.Entries.{records_of}
 use Rattle.kp_publish.specs.Pending.{Keeps}
 use Rattle.kp_publish.specs.declared.entry.Entry.{Entry}
@@ -11,7 +9,7 @@ use Rattle.kp_full_table.specs.declared.fault.TableFault.{TableFault}
 use Rattle.kp_full_table.specs.declared.fault.TableFault.TheVariants.{ChainClash, NoMemory}
 use Rattle.kp_hub.specs.Known.{Worker, known}
 use Rattle.kp_hub.specs.State.{HubState}
-use Rattle.kp_hub.specs.Syncs.{Accepts, Fails, GivesUp, IsClashOfSome, IsTold, IsUnpublished, Refuses, clash_after, counts_with_sync, with_refusal}
+use Rattle.kp_hub.specs.Syncs.{Accepts, Fails, IsClashOfSome, IsTold, clash_after, counts_with_sync}
 use Rattle.kp_hub.specs.Taken.{Taken, records_at, with_sync}
 use Rattle.kp_hub.proofs.States.{records_length}
 
@@ -48,38 +46,7 @@ module _ (config : Config) (before made after : HubState)
     refusals = refusals_are;
   }
 
-  pub gives_up_made : Rose made.outlet.refusals after.outlet.refusals → GivesUp config before after
-  gives_up_made rose = record {
-    counts = inr (record {
-      no_clash = no_clash_after;
-      counts = counts_are;
-      cause = subst (λ (h : HubState). Rose h.outlet.refusals after.outlet.refusals) makes rose;
-    });
-    refusals = refusals_are;
-  }
-
--- ---- It is refused
-
-pub refuses : (config : Config) (clash : Clash) (before made after : HubState) → made ≡ before
-    → clash_after config before.taken.journal ≡ Some clash → after ≡ with_refusal made clash
-    → Refuses config clash before after
-refuses config clash before made after same found keeps =
-    let all : after ≡ with_refusal before clash = keeps ∙ ap (λ (h : HubState). with_refusal h clash) same in
-    record {
-      is_clash = ap (λ (h : HubState). clash_after config h.taken.journal) all ∙ found;
-      counts = ap (λ (h : HubState). h.taken.counts) all;
-      outlet = ap (λ (h : HubState). h.outlet) all;
-      refusals = ap (λ (h : HubState). h.refusals) all
-          ∙ ap (λ n. before.refusals ++ record { events = n; clash = clash } ∷ [])
-          (sym (ap (λ (h : HubState). length h.taken.journal) all));
-    }
-
-pub gives_up_same : (config : Config) (before after : HubState) → after ≡ before
-    → GivesUp config before after
-gives_up_same config before after same = record {
-  counts = inl (ap (λ (h : HubState). h.taken.counts) same);
-  refusals = ap (λ (h : HubState). h.refusals) same;
-}
+-- ---- Its fault
 
 -- which of the two it was, its fault tells
 pub tells_some : (config : Config) (before after : HubState) (fault : TableFault)
@@ -95,12 +62,6 @@ module _ (config : Config) (before first after : HubState)
   refusals_stay : first.refusals ≡ before.refusals
   refusals_stay = ap (λ (h : HubState). h.refusals) takes
 
-  pub gives_up_taken : first ≡ after → GivesUp config before after
-  gives_up_taken same = record {
-    counts = inl (ap (λ (h : HubState). h.taken.counts) (sym same) ∙ counts);
-    refusals = ap (λ (h : HubState). h.refusals) (sym same) ∙ refusals_stay;
-  }
-
   pub accepts_taken : (n : ℕ) → Accepts config n first after → Accepts config n before after
   accepts_taken n is = record {
     no_clash = is.no_clash;
@@ -110,30 +71,6 @@ module _ (config : Config) (before first after : HubState)
     records = is.records;
     refusals = is.refusals ∙ refusals_stay;
   }
-
-  pub fails_taken : (fault : TableFault) → Fails config fault first after
-      → Fails config fault before after
-  fails_taken (ChainClash clash) is = record {
-    is_clash = is.is_clash;
-    counts = is.counts ∙ counts;
-    outlet = is.outlet ∙ ap (λ (h : HubState). h.outlet) takes;
-    refusals = is.refusals
-        ∙ ap (λ rs. rs ++ record { events = length after.taken.journal; clash = clash } ∷ []) refusals_stay;
-  }
-  fails_taken (NoMemory refused) is = record {
-    counts = given is.counts;
-    refusals = is.refusals ∙ refusals_stay;
-  }
-    where
-      given : (after.taken.counts ≡ first.taken.counts) ⊎ IsUnpublished config first after
-          → (after.taken.counts ≡ before.taken.counts) ⊎ IsUnpublished config before after
-      given (inl same) = inl (same ∙ counts)
-      given (inr more) = inr (record {
-        no_clash = more.no_clash;
-        counts = more.counts ∙ ap (λ cs. counts_with_sync config cs after.taken) counts;
-        cause = subst (λ (k : Keeps). Rose k.refusals after.outlet.refusals)
-            (ap (λ (h : HubState). h.outlet) takes) more.cause;
-      })
 
 -- ---- A pass is told of it
 

@@ -82,10 +82,9 @@ impl<J: Sharing, A: Ledger, C: Ledger> Hub<J, A, C> {
             &mut all_refused,
         ) {
             Ok((publisher, workers)) => {
-                let intake = Intake::new(alloc, plane, taker);
                 let held = Held::new(
                     alloc,
-                    intake,
+                    Intake::new(alloc, plane, taker),
                     publisher,
                     (accepted, all_accepted),
                     (refused, all_refused),

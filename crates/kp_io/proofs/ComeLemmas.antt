@@ -1,20 +1,18 @@
 -- What a reader's call answers, from what the search for the end of a line found.
-use Rattle.std.proofs.Common.{◌≡◌, ℕ, ◌+◌, ◌-◌, ◌<◌, ◌≤◌, Bool, true, false, cond, List, [], ◌∷◌, ◌++◌, length, take, drop, Option, None, Some, Ok, Err, Result, refl, ap, sym, ◌∙◌, append_assoc, append-nil, length-append, subst, arith}
-use Rattle.std.specs.Prelude.{if◌then◌else◌, ◌||◌, nat_lt}
+use Rattle.std.proofs.Common.{◌≡◌, ℕ, ◌+◌, ◌-◌, ◌<◌, ◌≤◌, Bool, true, false, cond, List, [], ◌∷◌, ◌++◌, length, Option, None, Some, Ok, Err, Result, refl, ap, sym, ◌∙◌, append_assoc, subst, arith}
+use Rattle.std.specs.Prelude.{if◌then◌else◌, nat_lt}
 use Rattle.std.specs.List.{list_any}
-use Rattle.std.proofs.Math.Seq.{take-append_seam}
 use Rattle.std.proofs.lemmas.Bool.Decides.{nat_tests}
 use Rattle.kp_io.specs.Gather.{LinePart, IsPart, no_part, part_size, given_part, given_from, told_from, feeds_of, Gathers}
 use Rattle.kp_io.specs.Lines.{is_line_feed}
-use Rattle.kp_io.specs.Reader.{ReaderState, given_behind, to_come, up_to, feeds_up_to, Answers, Counts, Stays, AsksUntilFeed}
+use Rattle.kp_io.specs.Reader.{ReaderState, given_behind, to_come, feeds_up_to, Answers, AsksUntilFeed}
 use Rattle.kp_io.specs.Told.{FromTold}
 use Rattle.kp_io.specs.declared.next_line.LineFault.{LineFault}
-use Rattle.kp_io.specs.declared.next_line.LineFault.TheVariants.{TooLongLine, ReadFault, InputTooLong, NoMemory}
+use Rattle.kp_io.specs.declared.next_line.LineFault.TheVariants.{TooLongLine}
 use Rattle.kp_io.specs.declared.next_line.NextLine.{NextLine}
 use Rattle.kp_io.specs.declared.next_line.NextLine.TheVariants.{Line}
 use Rattle.kp_io.proofs.FeedLemmas.{feeds_behind}
 use Rattle.kp_io.proofs.GatherLemmas.{given_last, no_feed_first}
-use Rattle.kp_io.proofs.LineLemmas.{feedless-take}
 use Rattle.kp_io.proofs.Told.{FromTold-map}
 
 -- a reader that holds a part and a chunk, and has not met the end
@@ -41,15 +39,6 @@ line_answers true was now old part was_chunk chunk one (Some x) (Some y) is hold
 line_answers false was now old part was_chunk chunk one (Some x) (Some y) is holds next end some given p =
     come_of was old was_chunk x holds ∙ p ∙ given_last part is (some refl) ∙ (λ i. sym given i ∷ sym (come_none now y (end refl)) i)
 
--- none was to come at the end
-pub end_answers : (was now : ReaderState) (old part : LinePart) (was_chunk chunk : List ℕ) (before left : Option (List ℕ)) → part ≡ no_part → Holds was old was_chunk → now.ended ≡ true → Gathers (Ok false) part chunk (told_from old was_chunk before) left → FromTold (λ come rest. (come ≡ []) × (rest ≡ [])) (to_come was before) (to_come now left)
-end_answers was now old part was_chunk chunk None left none holds end p = tt
-end_answers was now old part was_chunk chunk (Some x) None none holds end p = absurd p
-end_answers was now old part was_chunk chunk (Some x) (Some y) none holds end p = (
-  come_of was old was_chunk x holds ∙ p ∙ ap (λ l. given_from l []) none,
-  come_none now y end,
-)
-
 -- a line is handed out where it may have so many bytes
 pub short_answers : (result : Result NextLine LineFault) (part : LinePart) (line : List ℕ) (number : ℕ) (before after : Option (List (Option (List ℕ)))) → FromTold (λ come rest. come ≡ given_part part ∷ rest) before after → line ≡ part.bytes → part.skipping ≡ false → result ≡ Ok (Line number) → Answers result line before after
 short_answers result part line number before after come line_is short result_is =
@@ -61,35 +50,6 @@ pub long_answers : (result : Result NextLine LineFault) (part : LinePart) (line 
 long_answers result part line number before after come long result_is =
     subst (λ r. Answers r line before after) (sym result_is)
     (subst (λ one. FromTold (λ come rest. come ≡ one ∷ rest) before after) (λ i. cond (long i) None (Some part.bytes)) come)
-
--- after a fault the same is to come
-fault_keeps : (fault : LineFault) (was now : ReaderState) (old part : LinePart) (was_chunk chunk : List ℕ) (before left : Option (List ℕ)) → Holds was old was_chunk → Holds now part chunk → Gathers (Err fault) part chunk (told_from old was_chunk before) left → FromTold (λ come rest. rest ≡ come) (to_come was before) (to_come now left)
-fault_keeps fault was now old part was_chunk chunk None left holds next p = tt
-fault_keeps fault was now old part was_chunk chunk (Some x) None holds next p = absurd p
-fault_keeps fault was now old part was_chunk chunk (Some x) (Some y) holds next p =
-    come_of now part chunk y next ∙ sym p ∙ sym (come_of was old was_chunk x holds)
-
-by_fault : (fault : LineFault) (line : List ℕ) (before after : Option (List (Option (List ℕ)))) → ((number : ℕ) → fault ≡ TooLongLine number → ⊥) → FromTold (λ come rest. rest ≡ come) before after → Answers (Err fault) line before after
-by_fault (TooLongLine number) line before after other p = absurd (other number refl)
-by_fault ReadFault line before after other p = p
-by_fault InputTooLong line before after other p = p
-by_fault (NoMemory refused) line before after other p = p
-
-pub fault_answers : (fault : LineFault) (line : List ℕ) (was now : ReaderState) (old part : LinePart) (was_chunk chunk : List ℕ) (before left : Option (List ℕ)) → ((number : ℕ) → fault ≡ TooLongLine number → ⊥) → Holds was old was_chunk → Holds now part chunk → Gathers (Err fault) part chunk (told_from old was_chunk before) left → Answers (Err fault) line (to_come was before) (to_come now left)
-fault_answers fault line was now old part was_chunk chunk before left other holds next p =
-    by_fault fault line (to_come was before) (to_come now left) other (fault_keeps fault was now old part was_chunk chunk before left holds next p)
-
--- a fault counts no line
-pub fault_counts : (fault : LineFault) (old new : ReaderState) → ((number : ℕ) → fault ≡ TooLongLine number → ⊥) → Stays old new → Counts (Err fault) old new
-fault_counts (TooLongLine number) old new other p = absurd (other number refl)
-fault_counts ReadFault old new other p = p
-fault_counts InputTooLong old new other p = p
-fault_counts (NoMemory refused) old new other p = p
-
--- a text that is not read stays
-pub told_same : {X : Type 0} (a : Option X) → FromTold (λ old new. new ≡ old) a a
-told_same None = tt
-told_same (Some x) = refl
 
 -- a source that was not asked
 pub unasked_source : {S : Type 0} (left : S → Option (List ℕ)) (asked : S → ℕ) (source : S) → AsksUntilFeed left asked source source
@@ -112,23 +72,6 @@ one_feed true h = refl
 one_feed false h = absurd (cc)
 
 module _ (limit : ℕ) where
-  -- no line is held where nothing is held behind a part of one
-  pub holds_none_read : (bytes : List ℕ) (taken : ℕ) → list_any is_line_feed bytes ≡ false → list_any is_line_feed (up_to limit (bytes ++ []) taken []) ≡ false
-  holds_none_read bytes taken h =
-      let all = (bytes ++ []) ++ [] in
-      let room = limit + length (bytes ++ []) - taken in
-      let same : all ≡ bytes = append-nil (bytes ++ []) ∙ append-nil bytes in
-      feedless-take room all (ap (list_any is_line_feed) same ∙ h)
-
-  -- nor where one byte goes past the limit
-  pub holds_none_over : (bytes chunk : List ℕ) (taken : ℕ) → list_any is_line_feed bytes ≡ false → length chunk ≡ 1 → taken ≡ limit + 1 → list_any is_line_feed (up_to limit (bytes ++ chunk) taken []) ≡ false
-  holds_none_over bytes chunk taken h one over =
-      let room : limit + length (bytes ++ chunk) - taken ≡ length bytes = omega (arith, length-append bytes chunk, one, over) in
-      ap (λ n. list_any is_line_feed (take n ((bytes ++ chunk) ++ []))) room
-      ∙ ap (λ l. list_any is_line_feed (take (length bytes) l)) (append_assoc bytes chunk [])
-      ∙ ap (list_any is_line_feed) (take-append_seam bytes (chunk ++ []))
-      ∙ h
-
   -- the line feeds that are to come, and the lines
   pub feeds_answer : (b c b' c' : List ℕ) (taken now more number next : ℕ) (before left : Option (List ℕ)) → list_any is_line_feed b ≡ false → list_any is_line_feed b' ≡ false → taken ≤ limit + length c → now ≤ limit + length c' → next ≡ number + more → FromTold (λ xs ys. feeds_up_to limit c taken xs ≡ feeds_up_to limit c' now ys + more) before left → FromTold (λ xs ys. feeds_up_to limit (b ++ c) taken xs + number ≡ feeds_up_to limit (b' ++ c') now ys + next) before left
   feeds_answer b c b' c' taken now more number next before left h h' fits fits' one =

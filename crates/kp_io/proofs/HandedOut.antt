@@ -26,13 +26,6 @@ handed_given given one (Some x) None c p q = absurd p
 handed_given given one (Some x) (Some y) None p q = absurd q
 handed_given given one (Some x) (Some y) (Some z) p q = p ∙ ap (λ rest. given ++ rest) q ∙ sym (append_assoc given (one ∷ []) z)
 
--- another fault changes nothing
-pub handed_kept : (given : List (Option (List ℕ))) (a : Option (List ℕ)) (b c : Option (List (Option (List ℕ)))) → HandedOut given a b → FromTold (λ old new. new ≡ old) b c → HandedOut given a c
-handed_kept given None b c p q = tt
-handed_kept given (Some x) None c p q = absurd p
-handed_kept given (Some x) (Some y) None p q = absurd q
-handed_kept given (Some x) (Some y) (Some z) p q = p ∙ ap (λ rest. given ++ rest) (sym q)
-
 -- at the end all was given
 pub handed_all : (given : List (Option (List ℕ))) (a : Option (List ℕ)) (b c : Option (List (Option (List ℕ)))) → HandedOut given a b → FromTold (λ old new. (old ≡ []) × (new ≡ [])) b c → IfSome a (λ text. given_lines text ≡ given)
 handed_all given None b c p q = tt

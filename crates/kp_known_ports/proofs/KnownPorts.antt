@@ -12,9 +12,8 @@ use Rattle.kp_types.specs.declared.service.ServicePort.{ServicePort}
 use Rattle.kp_object_defs.specs.Entries.{sources_of}
 use Rattle.kp_object_defs.specs.Objects.{Objects, zone_of}
 use Rattle.kp_object_defs.specs.Order.{by_key}
-use Rattle.kp_object_defs.specs.PortInfo.{info_of, name_of_port, port_key_of, ports_of}
+use Rattle.kp_object_defs.specs.PortInfo.{info_of, name_of_port, port_key_of}
 use Rattle.kp_object_defs.proofs.InOrder.{insert-put, insert-through, by_key-push}
-use Rattle.kp_object_laws.proofs.PortByKey.{sources_service}
 use Rattle.kp_known_ports.specs.Known.{known_ports}
 
 -- of the values of known ports, those that are there
@@ -42,7 +41,3 @@ module _ (family : Family) (config : FamilyConfig) (o : Objects) (s : Service) w
       ∙ ap (known_ports family config.node (zone_of o config.node))
       (append_assoc before (with_ports ps) (with_ports (p ∷ []))
       ∙ ap (λ rest. before ++ rest) (sym (map-append (λ q. (from, q)) ps (p ∷ []))))
-
-  -- all of them
-  pub all_ports : (before : List (ServiceSources × ServicePort)) → before ++ with_ports s.ports ≡ before ++ ports_of (sources_of family config o s)
-  all_ports before = ap (λ (t : Service). before ++ with_ports t.ports) (sym (sources_service family config o s))

@@ -1,11 +1,11 @@
 -- A Service without a cluster address of a family has no port that is known in it.
-use Rattle.std.proofs.Common.{◌≡◌, ℕ, Bool, true, false, cond, List, [], ◌∷◌, ◌++◌, map, filter, filter_map, flat_map, Contains, Option, Some, None, is_some, option_map, option_and_then, refl, sym, ap, ◌∙◌}
+use Rattle.std.proofs.Common.{◌≡◌, Bool, true, false, cond, List, [], ◌∷◌, ◌++◌, map, filter, filter_map, flat_map, Option, Some, None, is_some, option_map, option_and_then, refl, sym, ap, ◌∙◌}
 use Rattle.std.specs.List.{cons_option}
 use Rattle.std.specs.FinMap.{get}
 use Rattle.std.proofs.lemmas.List.Elements.{filter-append}
 use Rattle.kp_lemmas.proofs.Members.{first_in, later_in, from_filter}
+use Rattle.kp_lemmas.proofs.Options.{none_of}
 use Rattle.kp_base.specs.Keys.{port_key_cmp}
-use Rattle.kp_base.specs.Net.{AddressParts}
 use Rattle.kp_base.specs.declared.address.Family.{Family}
 use Rattle.kp_base.specs.declared.key.PortKey.{PortKey}
 use Rattle.kp_types.specs.Setting.{FamilyConfig}
@@ -55,16 +55,12 @@ module _ (family : Family) (config : FamilyConfig) (o : Objects) where
   unknown : (s : Service) → takes s ≡ false → (key : PortKey) → info_in family config o key s ≡ None
   unknown s out key = by (port_named key s)
     where
-      missing : (address : Option AddressParts) → is_some address ≡ false → address ≡ None
-      missing None h = refl
-      missing (Some a) h = absurd (cc)
-
       by : (found : Option ServicePort) → option_and_then (λ p. info_of family config.node (zone_of o config.node) (sources_of family config o s, p)) found ≡ None
       by None = refl
       by (Some p) =
           let from : ServiceSources = sources_of family config o s in
           ap (option_map (info_from family from.service p (zone_of o config.node) (entries_from family config.node from (port_key_of from.service p))))
-          (ap (cluster_address_in family) (sources_service family config o s) ∙ missing (cluster_address_in family s) out)
+          (ap (cluster_address_in family) (sources_service family config o s) ∙ none_of (cluster_address_in family s) out)
 
   abbrev is_known : PortKey → Bool
   is_known key = is_some (info_at family config o key)

@@ -1,12 +1,12 @@
 -- What a hub hands out of streams that have ended is a legal run.
 use Rattle.std.proofs.Common.{◌≡◌, ◌<◌, ◌≤◌, ◌+◌, ◌==◌, ◌&&◌, ◌||◌, ◌⊎◌, not, inl, inr, ℕ, zero, suc, Bool, true, false, cond, nat_lt, List, [], ◌∷◌, ◌++◌, map, length, refl, ap, sym, subst, ◌∙◌, arith, append_assoc}
 use Rattle.std.specs.Prelude.{Option, Some, None, IfSome, is_some, count_by, slice_get, get_or, sum, option_map, codes, bytes_eq}
-use Rattle.std.specs.List.{AllByRecursion, filter, flat_map, fold, list_all, list_any, range_with_len, sum_by}
-use Rattle.std.proofs.lemmas.Bool.{eqb-true, eq-eqb, lt-leb, leb-true, le-leb}
+use Rattle.std.specs.List.{AllByRecursion, filter, flat_map, fold, list_all, list_any, range_with_len}
+use Rattle.std.proofs.lemmas.Bool.{eqb-true, eq-eqb}
 use Rattle.std.proofs.lemmas.Bool.Decides.{nat_tests}
 use Rattle.std.proofs.lemmas.List.{length-map}
 use Rattle.std.proofs.lemmas.Slice.Eq.{bytes_eq-Decides}
-use Rattle.std.proofs.lemmas.Option.{get_or_from_slice_get, slice_get_cases, slice_get-get_or, slice_get-map}
+use Rattle.std.proofs.lemmas.Option.{get_or_from_slice_get, slice_get_cases, slice_get-map}
 use Rattle.kp_lemmas.proofs.ListFacts.{all_weaker}
 use Rattle.kp_pack_laws.proofs.Shuffles.{all_unmapped}
 use Rattle.kp_types.specs.Setting.{table_families}
@@ -24,31 +24,28 @@ use Rattle.kp_text_defs.specs.Live.{final_text}
 use Rattle.kp_feed.specs.Feeding.{Delivers}
 use Rattle.kp_feed.specs.Passes.{Feeder, QueueId}
 use Rattle.kp_run_defs.specs.LegalRuns as legal
-use Rattle.kp_run_defs.specs.LegalRuns.{LiveRun, Mark, Shows, Refuses, IsLegalRun, IsWholeJournal, HasWholeStream, final_clash, is_accepted_sync, is_of_some_stream, is_shown, is_sync, last_syncs, nothing_seen, records_in}
-use Rattle.kp_run_defs.specs.LiveLines.{Reading, events_fed, events_of_stream, is_line_of, lines_of_stream, places_of, running_streams}
+use Rattle.kp_run_defs.specs.LegalRuns.{LiveRun, Mark, Shows, Refuses, IsLegalRun, HasWholeStream, final_clash, is_accepted_sync, is_shown, is_sync, last_syncs, nothing_seen, records_in}
+use Rattle.kp_run_defs.specs.LiveLines.{Reading, events_fed, events_of_stream, is_line_of, running_streams}
 use Rattle.kp_run_defs.specs.LiveText as text
 use Rattle.kp_run_defs.specs.declared.live.StreamLine.{StreamLine}
-use Rattle.kp_run_defs.specs.declared.live.Work.{Work}
-use Rattle.kp_run_defs.specs.declared.live.Work.TheVariants.{Feeds, Syncs, Sends}
 use Rattle.kp_run_defs.specs.ReplayText.{no_sources}
-use Rattle.kp_hub.specs.Finishing.{IsEnd, records_told}
+use Rattle.kp_hub.specs.Finishing.{records_told}
 use Rattle.kp_hub.specs.Known.{Worker}
 use Rattle.kp_hub.specs.State.{IsRefusal, first_table}
 use Rattle.kp_hub.specs.declared.notes.RecordNote.{RecordNote}
 use Rattle.kp_hub.specs.declared.notes.Refusal.{Refusal}
 use Rattle.kp_live.specs.Handed.{HandsOut, IsRunOf}
-use Rattle.kp_live.specs.Runs.{AreOf, HaveEnded, end_text, head_text, notes_text, StandsAtEnd, kept_clash, same_clash, clash_of_first, telling, nothing_printed}
+use Rattle.kp_live.specs.Runs.{AreOf, end_text, head_text, notes_text, StandsAtEnd, kept_clash, same_clash, clash_of_first, telling, nothing_printed}
 use Rattle.kp_live.specs.Stands.{Stand}
-use Rattle.kp_live.specs.Streams.{Shown, GoesOnFromAll, answering, is_accepted, is_denied, nothing_told, seen_from}
+use Rattle.kp_live.specs.Streams.{Shown, GoesOnFromAll, is_accepted, is_denied, nothing_told, seen_from}
 use Rattle.kp_live.specs.Told.{Told, Holds}
-use Rattle.kp_live.specs.declared.answers.Answers.{Answers}
 use Rattle.kp_live.proofs.Journals.{all_delivered, all_below}
 use Rattle.kp_live.proofs.Legal.{all_both, all_by_stream, all_filter, count_cons, first_true, fits_has, second_true, any_refused, count_accepted, mark_at, marks_found, seen_fits, ShowsIt}
 use Rattle.kp_live.proofs.Merging.{line_of, is_shown_of, merge, Merges}
 use Rattle.kp_live.proofs.Readings.{AreRising, IsRead}
 use Rattle.kp_live.proofs.Records.{run_of, have_tables, cover_journal, records_count, walks_decide, notes_print}
-use Rattle.kp_live.proofs.Telling.{HasRecord, IsOfRun, Walks, all_alike, settled, told_from, told_is}
-use Rattle.kp_live.proofs.Totals.{total, total_same, list_total, sum_by_key}
+use Rattle.kp_live.proofs.Telling.{HasRecord, IsOfRun, all_alike, settled, told_from, told_is}
+use Rattle.kp_live.proofs.Totals.{total_same, list_total, sum_by_key}
 
 -- a fact of each element, at a place
 pub all_at : {A : Type 0} (P : A → Type 0) (xs : List A) (i : ℕ) (x : A) → AllByRecursion P xs

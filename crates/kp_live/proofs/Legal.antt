@@ -1,14 +1,11 @@
 -- What streams were answered, and what their hub handed out, is a run that the rules allow.
-use Rattle.std.proofs.Common.{◌≡◌, ◌<◌, ◌≤◌, ◌+◌, ◌==◌, ◌&&◌, ◌||◌, ◌⊎◌, inl, inr, ℕ, zero, suc, Bool, true, false, cond, not, nat_lt, List, [], ◌∷◌, ◌++◌, map, length, refl, ap, sym, subst, ◌∙◌, arith}
+use Rattle.std.proofs.Common.{◌≡◌, ◌<◌, ◌+◌, ◌==◌, ◌&&◌, ◌||◌, ℕ, suc, Bool, true, false, cond, not, List, [], ◌∷◌, map, refl, ap, sym, subst, ◌∙◌, arith}
 use Rattle.std.specs.Prelude.{count_by, nat_le}
-use Rattle.std.specs.List.{AllByRecursion, filter, fold, list_all, list_any, range_with_len, sum_by}
-use Rattle.std.proofs.lemmas.Bool.{eqb-true, eq-eqb, lt-leb, leb-true, le-leb}
+use Rattle.std.specs.List.{AllByRecursion, filter, fold, list_any}
+use Rattle.std.proofs.lemmas.Bool.{eqb-true, eq-eqb, leb-true}
 use Rattle.std.proofs.lemmas.List.Sums.{sum_by-cons}
-use Rattle.kp_types.specs.declared.chain.Clash.{Clash}
-use Rattle.kp_types.specs.declared.sync.SyncRecord.{SyncRecord}
-use Rattle.kp_table_defs.specs.Rebuild.{TableParts}
-use Rattle.kp_run_defs.specs.LegalRuns.{LiveRun, Mark, Shows, Refuses, Seen, nothing_seen, seen_line, seen_by, seen_work, seen_sync, seen_packet, is_sync, is_shown, is_accepted_sync, records_in}
-use Rattle.kp_run_defs.specs.LiveLines.{Reading, is_line_of, lines_of_stream}
+use Rattle.kp_run_defs.specs.LegalRuns.{LiveRun, Mark, Shows, Refuses, Seen, nothing_seen, seen_line, seen_by, seen_work, is_sync, is_shown, is_accepted_sync, records_in}
+use Rattle.kp_run_defs.specs.LiveLines.{lines_of_stream}
 use Rattle.kp_run_defs.specs.LiveText.{is_refused_sync}
 use Rattle.kp_run_defs.specs.declared.live.StreamLine.{StreamLine}
 use Rattle.kp_run_defs.specs.declared.live.Work.{Work}

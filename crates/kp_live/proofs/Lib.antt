@@ -2,7 +2,6 @@ pub mod Closing
 pub mod Cutting
 pub mod Ending
 pub mod Journals
-pub mod Keeping
 pub mod Legal
 pub mod Lines
 pub mod Meeting

@@ -1,6 +1,6 @@
 -- One more line that is printed.
-use Rattle.std.proofs.Common.{◌≡◌, ◌≢◌, ◌<◌, ◌≤◌, ◌+◌, ◌==◌, ◌||◌, ℕ, zero, suc, Bool, true, false, cond, List, [], ◌∷◌, ◌++◌, length, take, drop, get_or, set, length-set, refl, ap, sym, subst, ◌∙◌, arith, add-one, append-nil, append_assoc, eq-eqb, ne_eqb}
-use Rattle.std.specs.Prelude.{Option, Some, Result, Ok, Err, IfOk, IfSome, slice_get}
+use Rattle.std.proofs.Common.{◌≡◌, ◌≢◌, ◌<◌, ◌+◌, ◌||◌, ℕ, zero, suc, Bool, true, false, cond, List, [], ◌∷◌, ◌++◌, length, take, drop, get_or, set, length-set, refl, ap, sym, subst, ◌∙◌, arith, add-one, append-nil, append_assoc, eq-eqb, ne_eqb}
+use Rattle.std.specs.Prelude.{Option, Result, Ok, Err, IfOk, IfSome, slice_get}
 use Rattle.std.specs.List.{fold}
 use Rattle.std.proofs.Math.Seq.{take-suc}
 use Rattle.std.proofs.lemmas.List.{take-append-drop}
@@ -78,31 +78,11 @@ none_left refusals t line work true is none =
     printed_next refusals t line work is ∙ ap (λ l. with_next refusals line l t) none
 none_left refusals t line work false is none = not_printed refusals t line work is
 
--- a line whose stream there isn't
-pub past_streams : (refusals : List Refusal) (t : Telling) (line : StreamLine)
-    (told : List ToldOn) → AreLeft t.left told → length told ≤ line.stream
-    → after_line refusals t line ≡ t
-past_streams refusals t line told are le =
-    none_left refusals t line line.work (is_answered line.work) refl (are.none line.stream le)
-
 -- what a line leaves and prints
 pub record Printed (refusals : List Refusal) (t next : Telling) (told : List ToldOn)
     (result : Result Bool LiveFault) (w0 w1 : Option (List ℕ)) (f0 f1 : ℕ) : Type 0 where
   pub left : IfOk result (λ denied. AreLeft next.left told × ((t.denied || denied) ≡ next.denied))
   pub printed : (bytes : List ℕ) × (next.text ≡ t.text ++ bytes) × Prints result bytes w0 w1 f0 f1
-
--- a line that prints nothing
-pub printed_none : (refusals : List Refusal) (t next : Telling) (told : List ToldOn)
-    (w : Option (List ℕ)) (f : ℕ) → next ≡ t → AreLeft t.left told
-    → Printed refusals t next told (Ok false) w w f f
-printed_none refusals t next told w f is are = record {
-  left = (
-    subst (λ (n : Telling). AreLeft n.left told) (sym is) are,
-    or_false t.denied ∙ ap (λ (n : Telling). n.denied) (sym is),
-  );
-  printed =
-      ([], ap (λ (n : Telling). n.text) is ∙ sym (append-nil t.text), prints_nothing false w f);
-}
 
 ok_map : {E : Type 0} (P Q : Bool → Type 0) → ((b : Bool) → P b → Q b) → (r : Result Bool E)
     → IfOk r P → IfOk r Q

@@ -1,9 +1,8 @@
 -- The lines of all streams, with what each shows, in the order of the input.
-use Rattle.std.proofs.Common.{◌≡◌, ◌≢◌, ◌==◌, ℕ, Bool, true, false, cond, List, [], ◌∷◌, ◌++◌, map, refl, ap, sym, subst, ◌∙◌, true≢false}
+use Rattle.std.proofs.Common.{◌≡◌, ◌==◌, ℕ, Bool, true, false, cond, List, [], ◌∷◌, map, refl, ap, sym, ◌∙◌}
 use Rattle.std.specs.List.{filter}
 use Rattle.std.proofs.lemmas.Bool.{eqb-true, eq-eqb}
 use Rattle.kp_history_defs.specs.Runs.{at_number}
-use Rattle.kp_run_defs.specs.LegalRuns.{Mark}
 use Rattle.kp_run_defs.specs.LiveLines.{is_line_of}
 use Rattle.kp_run_defs.specs.declared.live.StreamLine.{StreamLine}
 use Rattle.kp_live.specs.Streams.{Shown}

@@ -1,17 +1,15 @@
 -- Pieces that are written one behind another.
-use Rattle.std.proofs.Common.{◌≡◌, ◌<◌, ◌≤◌, ◌+◌, ℕ, zero, suc, Bool, true, false, List, [], ◌∷◌, ◌++◌, length, take, drop, get_or, refl, ap, sym, subst, ◌∙◌, arith, add-one, add-zero, append_assoc, append-nil}
+use Rattle.std.proofs.Common.{◌≡◌, ◌<◌, ◌+◌, ℕ, zero, suc, Bool, true, false, List, [], ◌∷◌, ◌++◌, length, take, drop, get_or, refl, ap, sym, subst, ◌∙◌, arith, add-one, add-zero, append_assoc, append-nil}
 use Rattle.std.specs.Prelude.{Option, Result, Ok, Err, IfSome, OnOk, OnErr, nat_le, slice_get}
 use Rattle.std.specs.List.{flat_map}
 use Rattle.std.proofs.lemmas.Bool.{leb-true, leb-false}
 use Rattle.std.proofs.Math.Seq.{take-append-add, take-append_seam, take-suc}
 use Rattle.std.proofs.lemmas.Grind.{flat_map-append}
 use Rattle.std.proofs.lemmas.List.{flat_map_more, length-take-le, take-append-drop, take-append-le, take_all}
-use Rattle.kp_base.specs.declared.memory.NoMemory as memory
 use Rattle.kp_io.specs.Faults.{Rose}
 use Rattle.kp_io.specs.Told.{Grows}
 use Rattle.kp_io.proofs.Told.{Grows-nil, Grows-trans}
 use Rattle.kp_live.specs.declared.fault.LiveFault.{LiveFault}
-use Rattle.kp_live.specs.declared.fault.LiveFault.TheVariants.{NoMemory}
 use Rattle.kp_history_defs.specs.declared.fed.Fed.{Fed}
 use Rattle.kp_text_defs.specs.Live.{event_text, record_text}
 use Rattle.kp_run_defs.specs.LiveText.{journal_text}
@@ -54,20 +52,6 @@ prints_nothing x written faults = record {
   sure = refl;
   failed = λ is. absurd (cc is);
   wanted = λ refused is. absurd (cc is);
-  other = tt;
-}
-
--- there was no memory before anything was written
-pub prints_unmade : {T : Type 0} (text : List ℕ) (written : Option (List ℕ)) (faults : ℕ)
-    (refused : memory.NoMemory)
-    → Prints {T = T} (Err (NoMemory refused)) text written written faults faults
-prints_unmade text written faults refused = record {
-  whole = tt;
-  front = (0, Grows-nil written);
-  later = omega arith;
-  sure = tt;
-  failed = λ is. absurd (cc is);
-  wanted = λ again is. refl;
   other = tt;
 }
 

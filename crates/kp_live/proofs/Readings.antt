@@ -1,13 +1,12 @@
 -- What holds of the lines that were read: they are numbered in their order, each is of a stream that
 -- there is, and no more events were accepted than the journal may hold.
-use Rattle.std.proofs.Common.{◌≡◌, ◌<◌, ◌≤◌, ◌+◌, ◌&&◌, ℕ, suc, Bool, true, false, cond, not, nat_lt, List, [], ◌∷◌, ◌++◌, length, refl, ap, sym, subst, ◌∙◌, arith, length-append}
-use Rattle.std.specs.Prelude.{Option, Some, None, is_none, position, bytes_eq, codes, Result, Ok, Err}
+use Rattle.std.proofs.Common.{◌≡◌, ◌<◌, ◌≤◌, ◌+◌, ◌&&◌, ℕ, suc, Bool, true, false, cond, not, nat_lt, List, [], ◌∷◌, ◌++◌, length, refl, arith, length-append}
+use Rattle.std.specs.Prelude.{Option, Some, None, is_none, bytes_eq, codes, Result, Ok, Err}
 use Rattle.std.specs.List.{AllByRecursion, fold, sum_by}
 use Rattle.std.proofs.lemmas.Bool.Decides.{nat_tests}
 use Rattle.std.proofs.lemmas.List.Quantifiers.{position-Some}
 use Rattle.std.proofs.lemmas.List.Sums.{sum_by-append}
 use Rattle.kp_lemmas.proofs.ListFacts.{all_weaker}
-use Rattle.kp_types.specs.declared.event.Event.{Event}
 use Rattle.kp_text_defs.specs.ScriptLines.{line_of}
 use Rattle.kp_text_defs.specs.StreamNames.{stream_name}
 use Rattle.kp_text_defs.specs.declared.line_refusal.LineRefusal.{LineRefusal}
@@ -15,12 +14,12 @@ use Rattle.kp_text_defs.specs.declared.line_refusal.LineRefusal.TheVariants.{Too
 use Rattle.kp_text_defs.specs.declared.script.Op.{Op}
 use Rattle.kp_text_defs.specs.declared.script.Op.TheVariants as op
 use Rattle.kp_text_defs.specs.declared.script.ScriptLine.{ScriptLine}
-use Rattle.kp_run_defs.specs.LiveLines.{Reading, nothing_read, reading_of, after_live_line, after_short, after_script, add_script, add_op, add_work, accept_within, accept_at, accept_line, refuse_line, next_line, events_fed, stream_at, stream_limit, is_past_streams}
+use Rattle.kp_run_defs.specs.LiveLines.{Reading, nothing_read, reading_of, after_live_line, after_short, after_script, add_op, accept_within, accept_at, accept_line, refuse_line, next_line, events_fed, stream_at, stream_limit, is_past_streams}
 use Rattle.kp_run_defs.specs.ReplayText.{Standing, beginning, is_blank, is_too_long}
 use Rattle.kp_run_defs.specs.declared.live.StreamLine.{StreamLine}
 use Rattle.kp_run_defs.specs.declared.live.Work.{Work}
 use Rattle.kp_run_defs.specs.declared.live.Work.TheVariants.{Feeds, Syncs, Sends}
-use Rattle.kp_line_laws.specs.Lines.{MayTake, HasNoEvents}
+use Rattle.kp_line_laws.specs.Lines.{MayTake}
 use Rattle.kp_line_laws.proofs.FirstLines.{may_take}
 
 -- ---- Lists

@@ -1,51 +1,39 @@
 -- The records that a hub handed out, and what is answered from them.
-use Rattle.std.proofs.Common.{◌≡◌, ◌<◌, ◌≤◌, ◌+◌, ℕ, zero, suc, false, List, [], ◌∷◌, ◌++◌, map, length, take, get_or, refl, ap, sym, subst, ◌∙◌, arith}
-use Rattle.std.specs.Prelude.{Option, Some, None, is_some, sum, count_by, slice_get, not}
+use Rattle.std.proofs.Common.{◌≡◌, ◌<◌, ◌≤◌, ◌+◌, ℕ, zero, suc, List, ◌++◌, map, length, take, get_or, refl, ap, sym, ◌∙◌, arith}
+use Rattle.std.specs.Prelude.{Option, None, sum}
 use Rattle.std.specs.List.{flat_map, range_with_len}
 use Rattle.std.specs.FinMap.{get}
 use Rattle.std.proofs.lemmas.List.{length-map}
 use Rattle.std.proofs.lemmas.List.FromFn.{length-map-range_with_len}
 use Rattle.std.proofs.lemmas.Option.{slice_get-get_or}
-use Rattle.kp_base.specs.declared.config.Config.{Config}
+use Rattle.std.proofs.lemmas.Simd.{map-map}
+use Rattle.kp_lemmas.proofs.Options.{none_of}
 use Rattle.kp_types.specs.Setting.{Settings}
 use Rattle.kp_types.specs.declared.chain.Clash.{Clash}
 use Rattle.kp_types.specs.declared.event.Event.{Event}
 use Rattle.kp_types.specs.declared.sync.SyncRecord.{SyncRecord}
 use Rattle.kp_choice_defs.specs.Recent.{RecentParts}
 use Rattle.kp_choice_defs.specs.Settings.{settings_of}
-use Rattle.kp_door_defs.specs.Decision.{decision_of}
-use Rattle.kp_object_defs.specs.Objects.{objects_after}
 use Rattle.kp_table_defs.specs.Rebuild.{Chains, TableParts, clash_of}
 use Rattle.kp_history_defs.specs.declared.fed.Fed.{Fed}
-use Rattle.kp_history_defs.specs.History.{chains_covered, counts_of, objects_covered, record_at, table_after, table_from}
+use Rattle.kp_history_defs.specs.History.{chains_covered, objects_covered, record_at, table_from}
 use Rattle.kp_history_defs.specs.Runs.{events_of}
-use Rattle.kp_history.specs.Parts.{HasExactHistory, PlaneParts}
+use Rattle.kp_history.specs.Parts.{HasExactHistory}
 use Rattle.kp_history_laws.proofs.Histories.{first_no_clash}
 use Rattle.kp_history_laws.specs.HistoryLaws.{ExactTables}
 use Rattle.kp_walk_laws.specs.Laws.{Agree, ProductDecides}
-use Rattle.kp_text_defs.specs.Live.{record_text}
 use Rattle.kp_text_defs.specs.declared.packet.PacketLine.{PacketLine}
 use Rattle.kp_run_defs.specs.AnswerText.{draws_at, walk_at}
-use Rattle.kp_run_defs.specs.LegalRuns.{LiveRun, Mark, HasTable, CoverJournal, final_clash, records_in, chains_at}
+use Rattle.kp_run_defs.specs.LegalRuns.{LiveRun, Mark, HasTable, CoverJournal, final_clash, records_in}
 use Rattle.kp_run_defs.specs.LiveLines.{Reading}
 use Rattle.kp_run_defs.specs.LiveText.{decided_at, walked_at, record_text_at, records_text}
-use Rattle.kp_hub.specs.Finishing.{IsEnd, plane_told, records_told}
+use Rattle.kp_hub.specs.Finishing.{plane_told, records_told}
 use Rattle.kp_hub.specs.State.{first_table}
 use Rattle.kp_hub.specs.Taken.{note_of}
 use Rattle.kp_hub.specs.declared.notes.RecordNote.{RecordNote}
-use Rattle.kp_hub.specs.declared.notes.Refusal.{Refusal}
 use Rattle.kp_live.specs.Runs.{note_text, notes_text}
 use Rattle.kp_live.specs.Streams.{walk_from}
 use Rattle.kp_live.proofs.Telling.{Walks}
-
-not_some : {A : Type 0} (o : Option A) → is_some o ≡ false → o ≡ None
-not_some None is = refl
-not_some (Some x) is = absurd (cc is)
-
-pub map_twice : {A B C : Type 0} (g : B → C) (f : A → B) (xs : List A)
-    → map g (map f xs) ≡ map (λ x. g (f x)) xs
-map_twice g f [] = refl
-map_twice g f (x ∷ xs) = ap (λ l. g (f x) ∷ l) (map_twice g f xs)
 
 -- notes of records in a row
 noted_by : (note : ℕ → RecordNote) (text : ℕ → List ℕ) → ((n : ℕ) → note_text n (note n) ≡ text n)
@@ -113,7 +101,7 @@ module _ (reading : Reading) (journal : List Fed) (notes : List RecordNote)
       let long = length-map journal (λ (f : Fed). f.event) in record {
         within =
             omega (arith, ap sum (sym exact.counted), exact.exact.within, long);
-        all = λ none. covers (is ∙ not_some (final_clash (run_of reading journal notes marks)) none);
+        all = λ none. covers (is ∙ none_of (final_clash (run_of reading journal notes marks)) none);
       }
 
   -- ---- Walks
@@ -154,6 +142,6 @@ module _ (reading : Reading) (journal : List Fed) (notes : List RecordNote)
       → notes_text 0 notes ≡ records_text (run_of reading journal notes marks)
   notes_print marks are =
       ap (notes_text 0)
-      (are ∙ map_twice note_of (record_at settings events counts) (range_with_len 0 (length counts)))
+      (are ∙ map-map note_of (record_at settings events counts) (range_with_len 0 (length counts)))
       ∙ noted_by (λ n. note_of (record_at settings events counts n))
       (record_text_at (run_of reading journal notes marks)) (λ n. refl) 0 (length counts)

@@ -1,13 +1,13 @@
 -- One more line of a stream.
-use Rattle.std.proofs.Common.{◌≡◌, ◌≤◌, ◌+◌, ℕ, suc, max, Bool, true, false, cond, List, [], ◌∷◌, ◌++◌, map, length, take, not, ◌&&◌, refl, ap, sym, subst, ◌∙◌, arith, append_assoc, append-nil, inl, inr}
+use Rattle.std.proofs.Common.{◌≡◌, ◌≤◌, ◌+◌, ℕ, suc, max, Bool, true, false, cond, List, [], ◌∷◌, ◌++◌, map, length, take, ◌&&◌, refl, ap, sym, subst, ◌∙◌, arith, append-nil, inl, inr}
 use Rattle.std.specs.Prelude.{nat_le, count_by}
-use Rattle.std.specs.List.{fold, flat_map}
 use Rattle.std.specs.FinMap.{get}
 use Rattle.std.proofs.Math.Seq.{take-append_seam}
-use Rattle.std.proofs.lemmas.Bool.{le-leb}
+use Rattle.std.proofs.lemmas.Bool.{and_from, le-leb}
 use Rattle.std.proofs.lemmas.List.Sums.{fold-append, sum_by-append}
 use Rattle.std.proofs.lemmas.List.{flat_map_more, map-append}
 use mathlib.Core.List.{IsPrefix}
+use Rattle.kp_lemmas.proofs.ListFacts.{prefix_through}
 use Rattle.kp_base.specs.declared.config.Config.{Config}
 use Rattle.kp_types.specs.declared.chain.Clash.{Clash}
 use Rattle.kp_types.specs.declared.event.Event.{Event}
@@ -18,13 +18,12 @@ use Rattle.kp_history_defs.specs.History.{table_from}
 use Rattle.kp_text_defs.specs.Live.{live_sync_text}
 use Rattle.kp_text_defs.specs.declared.packet.PacketLine.{PacketLine}
 use Rattle.kp_run_defs.specs.AnswerText.{walk_at}
-use Rattle.kp_run_defs.specs.LegalRuns.{Mark, Shows, Refuses, Seen, nothing_seen, seen_work, is_sync, is_shown}
+use Rattle.kp_run_defs.specs.LegalRuns.{Mark, Shows, Refuses, Seen, nothing_seen, seen_work, is_sync}
 use Rattle.kp_run_defs.specs.LiveLines.{events_fed}
 use Rattle.kp_run_defs.specs.declared.live.StreamLine.{StreamLine}
-use Rattle.kp_run_defs.specs.declared.live.Work.{Work}
 use Rattle.kp_run_defs.specs.declared.live.Work.TheVariants.{Feeds, Syncs, Sends}
 use Rattle.kp_publish.specs.declared.entry.Entry.{Entry}
-use Rattle.kp_publish.specs.Entries.{records_of, table_of, GoesOnFrom}
+use Rattle.kp_publish.specs.Entries.{records_of}
 use Rattle.kp_publish.proofs.Beginnings.{begins_records, prefix_length}
 use Rattle.kp_hub.specs.Known.{Worker}
 use Rattle.kp_hub.specs.Reading.{Reads, walk_after}
@@ -35,26 +34,16 @@ use Rattle.kp_live.specs.Streams.{Shown, Answering, GoesOnFromAll, known, FitsRe
 
 -- ---- Beginnings
 
--- what begins a list that begins another begins this one
-pub begins_through : {A : Type 0} (xs ys zs : List A) → IsPrefix xs ys → IsPrefix ys zs
-    → IsPrefix xs zs
-begins_through xs ys zs p q =
-    (p.0 ++ q.0, sym (append_assoc xs p.0 q.0) ∙ ap (λ l. l ++ q.0) p.1 ∙ q.1)
-
 -- the first elements that a list begins with
 pub take_beginning : {A : Type 0} (xs zs : List A) → IsPrefix xs zs → take (length xs) zs ≡ xs
 take_beginning xs zs p = ap (take (length xs)) (sym p.1) ∙ take-append_seam xs p.0
-
--- two tests that are met
-both : (a b : Bool) → a ≡ true → b ≡ true → (a && b) ≡ true
-both a b p q = ap (λ x. x && b) p ∙ q
 
 -- a line that could show what it does, as those before it could
 all_fit : (fits : Bool) (least n most : ℕ) → fits ≡ true → least ≤ n → n ≤ most
     → (fits && (nat_le least n && nat_le n most)) ≡ true
 all_fit fits least n most f low high =
-    both fits (nat_le least n && nat_le n most) f
-    (both (nat_le least n) (nat_le n most) (le-leb least n low) (le-leb n most high))
+    and_from fits (nat_le least n && nat_le n most) f
+    (and_from (nat_le least n) (nat_le n most) (le-leb least n low) (le-leb n most high))
 
 -- how many pass, with one more
 count_more : {A : Type 0} (p : A → Bool) (xs : List A) (x : A)
@@ -122,7 +111,7 @@ module _ (start : TableParts) (config : Config) where
       → GoesOnFromAll records v → GoesOnFromAll records w
   told_on records w v n told on = (
     subst (λ l. IsPrefix (records_of l) records) told.seen on.0,
-    begins_through (records_of w.told) (records_of v.told) records
+    prefix_through (records_of w.told) (records_of v.told) records
         (begins_records w.told v.told told.told) on.1,
   )
 
@@ -181,8 +170,8 @@ module _ (start : TableParts) (config : Config) where
   read_on : (records : List SyncRecord) (w v : Worker) → Reads w v → GoesOnFromAll records v
       → GoesOnFromAll records w
   read_on records w v reads on = (
-    begins_through (records_of w.seen) (records_of v.seen) records reads.seen.begins on.0,
-    begins_through (records_of w.told) (records_of v.seen) records reads.told.begins on.0,
+    prefix_through (records_of w.seen) (records_of v.seen) records reads.seen.begins on.0,
+    prefix_through (records_of w.told) (records_of v.seen) records reads.told.begins on.0,
   )
 
   sent_fits : (records : List SyncRecord) (shown : List Shown) (line : StreamLine)

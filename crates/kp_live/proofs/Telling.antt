@@ -5,7 +5,6 @@ use Rattle.std.proofs.lemmas.Bool.{eqb-true, eq-eqb}
 use Rattle.kp_base.specs.declared.config.Config.{Config}
 use Rattle.kp_types.specs.declared.event.Event.{Event}
 use Rattle.kp_types.specs.declared.sync.SyncRecord.{SyncRecord}
-use Rattle.kp_types.specs.declared.chain.Clash.{Clash}
 use Rattle.kp_types.specs.declared.verdict.Verdict.{Verdict}
 use Rattle.kp_choice_defs.specs.Recent.{RecentParts}
 use Rattle.kp_table_defs.specs.Rebuild.{TableParts}
@@ -16,8 +15,7 @@ use Rattle.kp_text_defs.specs.Printed.{packet_text}
 use Rattle.kp_text_defs.specs.declared.packet.PacketLine.{PacketLine}
 use Rattle.kp_run_defs.specs.AnswerText.{answer_text, trail_if}
 use Rattle.kp_run_defs.specs.LegalRuns.{LiveRun, Mark, Shows, Refuses, is_sync, is_shown}
-use Rattle.kp_run_defs.specs.LiveText.{Answered, after_answer, with_packet, with_work, decided_at, walked_at, sync_answer, packet_answer, is_refused_sync}
-use Rattle.kp_run_defs.specs.declared.live.StreamLine.{StreamLine}
+use Rattle.kp_run_defs.specs.LiveText.{Answered, after_answer, with_packet, with_work, decided_at, walked_at, sync_answer, packet_answer}
 use Rattle.kp_run_defs.specs.declared.live.Work.{Work}
 use Rattle.kp_run_defs.specs.declared.live.Work.TheVariants.{Feeds, Syncs, Sends}
 use Rattle.kp_hub.specs.declared.notes.Refusal.{Refusal}

@@ -6,13 +6,14 @@ use Rattle.std.proofs.Math.Seq.{take-append_seam}
 use Rattle.std.proofs.lemmas.List.{length-append, length-map}
 use Rattle.std.proofs.lemmas.List.Elements.{All-from_recursion}
 use Rattle.std.proofs.lemmas.Option.{none-some, same_Some, slice_get-get_or, slice_get-map, slice_get_cases}
+use Rattle.std.proofs.lemmas.Simd.{map-map}
 use Rattle.kp_base.specs.declared.config.Config.{Config}
 use Rattle.kp_base.specs.declared.memory.NoMemory.{NoMemory}
 use Rattle.kp_table_defs.specs.Rebuild.{TableParts}
 use Rattle.kp_feed.specs.Calls.{new_feeder, new_feeders}
 use Rattle.kp_feed.specs.Passes.{Feeder, QueueId}
 use Rattle.kp_pack_laws.proofs.Shuffles.{all_unmapped}
-use Rattle.kp_hub.specs.Known.{Worker, new_worker}
+use Rattle.kp_hub.specs.Known.{Worker}
 use Rattle.kp_run_defs.specs.LiveLines.{Reading, is_line_of}
 use Rattle.kp_run_defs.specs.declared.live.StreamLine.{StreamLine}
 use Rattle.kp_live.specs.Runs.{HaveEnded, StandsAtEnd}
@@ -21,7 +22,6 @@ use Rattle.kp_live.specs.Streams.{IsAtStart, RunsOn, StandsBehind}
 use Rattle.kp_live.specs.declared.answers.Answers.{Answers}
 use Rattle.kp_live.proofs.Ending.{all_at}
 use Rattle.kp_live.proofs.Printing.{pushed_each}
-use Rattle.kp_live.proofs.Records.{map_twice}
 
 -- ---- Lists by their places
 
@@ -99,9 +99,9 @@ module _ {X : Type 0} (standing : X → Stand) (lines : X → List StreamLine) (
     (kept : map standing cs ≡ map standing ss) where
   feeders_kept : map (λ x. (standing x).feeder) cs ≡ new_feeders queue n
   feeders_kept =
-      sym (map_twice (λ (s : Stand). s.feeder) standing cs)
+      sym (map-map (λ (s : Stand). s.feeder) standing cs)
       ∙ ap (map (λ (s : Stand). s.feeder)) kept
-      ∙ map_twice (λ (s : Stand). s.feeder) standing ss ∙ feeders
+      ∙ map-map (λ (s : Stand). s.feeder) standing ss ∙ feeders
 
   queues_new : AllByRecursion (λ (f : Feeder). f.queue ≡ queue) (new_feeders queue n)
   queues_new =
@@ -184,8 +184,8 @@ module _ {X : Type 0} (standing : X → Stand) (lines : X → List StreamLine) (
     have_ended fed ws told fed_are ws_are as_are = record {
       stands = map standing fs;
       count = length-map fs standing ∙ count ∙ counts.1;
-      feeders_are = fed_are ∙ sym (map_twice (λ (s : Stand). s.feeder) standing fs);
-      workers_are = ws_are ∙ sym (map_twice (λ (s : Stand). s.worker) standing fs);
-      answers_are = as_are ∙ sym (map_twice (λ (s : Stand). s.answers) standing fs);
+      feeders_are = fed_are ∙ sym (map-map (λ (s : Stand). s.feeder) standing fs);
+      workers_are = ws_are ∙ sym (map-map (λ (s : Stand). s.worker) standing fs);
+      answers_are = as_are ∙ sym (map-map (λ (s : Stand). s.answers) standing fs);
       each = λ i s is. each_by i s is (slice_get_cases fs i).1;
     }

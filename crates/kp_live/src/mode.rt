@@ -34,9 +34,9 @@ use std::sync::ledger::Ledger;
 use std::thread::Threads;
 
 /// Reads the lines of a source to its end, runs its streams beside each other, each in a thread of
-/// its own, and writes the text of the run. Answers whether a line or the sync that ends the run was
-/// refused. Each call of the hub passes the gate. Nothing is written before all streams have ended
-/// and the hub has.
+/// its own, and writes the text of the run. Answers whether a line or the sync that ends the run
+/// was refused. Each call of the hub passes the gate. Nothing is written before all streams have
+/// ended and the hub has.
 pub fn live<S: Source, K: Sink, R: Threads + Wait + Sync, G: Gate<R> + Sync>(
     rt: &R,
     alloc: Global,

@@ -310,8 +310,8 @@ fn print_line<K: Sink>(
     print_next(alloc, line.number, &mut told[place], refusals, text, sink)
 }
 
-/// Writes the next answer of a stream, which is that of the line of this number, and answers whether
-/// it is a sync that was refused.
+/// Writes the next answer of a stream, which is that of the line of this number, and answers
+/// whether it is a sync that was refused.
 fn print_next<K: Sink>(
     alloc: Global,
     number: u64,

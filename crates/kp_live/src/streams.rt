@@ -1,5 +1,6 @@
 //! All streams at once.
-ghost use Rattle.std.specs.Prelude.{◌≡◌, ◌++◌, ◌∷◌, [], ℕ, None, map, replicate, length, All, slice_get};
+ghost use Rattle.std.specs.Prelude.{◌≡◌, ◌++◌, ◌∷◌, [], ℕ, None, map};
+ghost use Rattle.std.specs.Prelude.{replicate, length, All, slice_get};
 ghost use Rattle.std.specs.Prelude.{IfOk, IfSome, OnOk};
 ghost use Rattle.std.specs.List.{AllByRecursion, filter};
 ghost use Rattle.kp_hub.specs.Known.{new_worker};
@@ -127,7 +128,8 @@ pub(crate) fn take_apart<J: Sharing, A: Ledger, C: Ledger>(
     alloc: Global,
     streams: Vec<Stream<'_, J, A, C>>,
 ) -> Result<Ended<J, A, C>, NoMemory>
-    ensures feeders { IfOk result (λ e. e.feeders ≡ map (λ s. s.standing.feeder) streams.entry.items) }
+    ensures feeders { IfOk result
+        (λ e. e.feeders ≡ map (λ s. s.standing.feeder) streams.entry.items) }
     ensures workers { IfOk result
         (λ e. e.workers.items ≡ map (λ s. s.standing.worker) streams.entry.items) }
     ensures answers { IfOk result

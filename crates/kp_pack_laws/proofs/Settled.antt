@@ -1,5 +1,5 @@
 -- Slices of a group that have its wanted endpoints: packing finds each entry where it stands.
-use Rattle.std.proofs.Common.{◌≡◌, ℕ, ◌+◌, ◌-◌, ◌<◌, ◌≤◌, Bool, true, false, cond, not, ◌&&◌, List, [], ◌∷◌, ◌++◌, map, length, bytes_eq, Option, Some, None, refl, sym, ap, ◌∙◌, append_assoc, append-nil, length-append, arith, lt-ltb, eq-eqb}
+use Rattle.std.proofs.Common.{◌≡◌, ℕ, ◌+◌, ◌-◌, ◌<◌, ◌≤◌, Bool, true, false, cond, not, ◌&&◌, List, [], ◌∷◌, ◌++◌, map, length, bytes_eq, Option, Some, None, refl, sym, ap, ◌∙◌, append_assoc, append-nil, length-append, arith, lt-ltb}
 use Rattle.std.proofs.lemmas.Option.{none-some}
 use Rattle.std.specs.List.{find, filter, fold, flat_map, AllByRecursion, IsDistinct}
 use Rattle.std.specs.Cmp.Lexicographic.{pointwise, nat_list_eq_equiv}
@@ -7,7 +7,7 @@ use Rattle.std.proofs.lemmas.Bool.{and_parts, and_from, cond_both}
 use Rattle.std.proofs.lemmas.Cmp.{lists_equiv}
 use Rattle.std.proofs.lemmas.List.{nil_from_length}
 use Rattle.kp_base.specs.Net.{AddressParts, same_address}
-use Rattle.kp_base.proofs.SameParts.{family_itself}
+use Rattle.kp_base.proofs.SameParts.{address_itself}
 use Rattle.kp_types.specs.declared.slice.SliceEndpoint.{SliceEndpoint}
 use Rattle.kp_types.specs.declared.slice.Slice.{Slice}
 use Rattle.kp_types.specs.declared.slice.Wanted.{Wanted}
@@ -21,7 +21,7 @@ use Rattle.kp_pack_laws.proofs.Pods.{object_turned, same_pod, pod_exact, pod_sam
 
 address_same : (a : Option AddressParts) → same_option same_address a a ≡ true
 address_same None = refl
-address_same (Some a) = and_from _ _ (family_itself a.family) (eq-eqb a.number a.number refl)
+address_same (Some a) = address_itself a
 
 flag_same : (b : Bool) → same_flag b b ≡ true
 flag_same true = refl

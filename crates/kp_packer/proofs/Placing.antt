@@ -67,10 +67,6 @@ last_alone most fs left some few room made =
     ap (with_made made) (last_by most fs left false some few room)
     ∙ (λ i. record { fillings = fs; made = made ++ take_all most left (omega (arith, few)) i ∷ [] })
 
-pub last_none : (most : ℕ) (fs : List Filling) (left : List Wanted) → length left ≡ 0 → (made : List (List Wanted)) → with_made made (place_left (length left) most fs left) ≡ record { fillings = fs; made = made }
-last_none most fs [] none made = λ i. record { fillings = fs; made = append-nil made i }
-last_none most fs (w ∷ ws) none made = absurd (omega (arith, none))
-
 -- ---- the first slice that passes
 
 past_by : (b : Bool) (k n : ℕ) → nat_lt k n ≡ b → cond b (Some k) None ≡ None → n ≤ k

@@ -48,11 +48,6 @@ list_faultless path ns low few =
     ap (λ b. or_then (cond b (Some (too_many_at path (length (places q 0 ns)))) None) (first_in (map (rows_fault draw_rows) (places q 0 ns)))) short
     ∙ all_faultless q 0 ns low
 
--- a member without draws
-pub none_drawn : (ms : Members) → get_member (codes "draws") ms ≡ None
-    → (row_fault (each_up_to 1000 (codes "draws") draw_rows) (object_place ms) ≡ None) × (None ≡ listed_in (object_place ms))
-none_drawn ms none = (rw none, rw none)
-
 -- a member with these draws
 pub all_drawn : (ms : Members) (ns : List ℕ) → get_member (codes "draws") ms ≡ Some (array (whole_items ns)) → All (λ n. n < 2 ^ 31) ns → length ns ≤ 1000
     → (row_fault (each_up_to 1000 (codes "draws") draw_rows) (object_place ms) ≡ None) × (Some ns ≡ listed_in (object_place ms))

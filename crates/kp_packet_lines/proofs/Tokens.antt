@@ -32,9 +32,6 @@ ItemsSoFar first found ts n =
     (js : json.Items) (rest : List Token) (ns : List ℕ) → json.items (json.value 125) n ts ≡ Some (js, rest) → of_items js ≡ Some (whole_items ns)
     → HasItems first (whole_items (found ++ ns)) rest
 
-pub no_item_yet : (ts : List Token) → ItemsSoFar ts [] ts (length ts)
-no_item_yet ts js rest ns is read = (js, is, read)
-
 one_behind : (found : List ℕ) (n : ℕ) (ns : List ℕ) → (found ++ n ∷ []) ++ ns ≡ found ++ n ∷ ns
 one_behind [] n ns = refl
 one_behind (m ∷ found) n ns = ap (λ xs. m ∷ xs) (one_behind found n ns)
@@ -67,9 +64,6 @@ abbrev pub MembersSoFar : List Token → Members → List Token → ℕ → Type
 MembersSoFar first found ts n =
     (js : json.Members) (rest : List Token) (ms : Members) → json.members (json.value 126) n ts ≡ Some (js, rest) → of_members js found ≡ Some ms
     → HasMembers first ms rest
-
-pub no_member_yet : (ts : List Token) → MembersSoFar ts no_members ts (length ts)
-no_member_yet ts js rest ms is read = (js, is, read)
 
 pub one_more_member : (first : List Token) (found : Members) (ts middle after : List Token) (n : ℕ) (name : List ℕ) (d : Data) → 0 < n
     → json.read_key ts ≡ Some (Some name, middle) → BeginsWith 126 middle d after

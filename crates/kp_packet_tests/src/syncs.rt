@@ -25,8 +25,9 @@ const CONFIG: &str = r#"{"op":"config",@node,"nameLength":0}"#;
 /// Ports that are put and dropped, and what is written at each sync, with `|` for a line feed.
 ///
 /// A Service comes; nothing is new; it is put as it was; it goes another way and comes back. A
-/// second one clashes with it, and still does. The first goes: its chains' names pass to the second,
-/// whose endpoint's chain stays as it is. The endpoint changes, and goes; then the Service goes.
+/// second one clashes with it, and still does. The first goes: its chains' names pass to the
+/// second, whose endpoint's chain stays as it is. The endpoint changes, and goes; then the Service
+/// goes.
 const SYNCS: &str = "put web 10.96.0.10 10.244.1.2
 sync *nat|:KUBE-SEP- - [0:0]|:KUBE-SERVICES - [0:0]|:KUBE-SVC- - [0:0]|\
 -A KUBE-SEP- -s 10.244.1.2/32 -j KUBE-MARK-MASQ|\

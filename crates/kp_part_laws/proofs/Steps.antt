@@ -8,19 +8,14 @@ use Rattle.std.proofs.lemmas.Bool.Decides.{nat_tests}
 use Rattle.kp_base.specs.Net.{AddressParts}
 use Rattle.kp_base.specs.declared.address.Family.TheVariants.{V4}
 use Rattle.kp_types.specs.declared.chain.ChainAt.{ChainAt}
-use Rattle.kp_types.specs.declared.decision.Reason.{Reason}
 use Rattle.kp_types.specs.declared.packet.Packet.{Packet}
 use Rattle.kp_types.specs.declared.rule.Rule.{Rule}
 use Rattle.kp_types.specs.declared.verdict.Verdict.{Verdict}
-use Rattle.kp_types.specs.Setting.{Settings}
-use Rattle.kp_object_defs.specs.Objects.{Objects}
-use Rattle.kp_door_defs.specs.Decision.{Decided, decision_of}
 use Rattle.kp_table_defs.specs.Walk.{Walked, walk_of}
 use Rattle.kp_choice_defs.specs.Recent.{RecentParts, Shard, Sighting, shard_cmp}
 use Rattle.kp_choice_defs.specs.Recent.{is_live, reaped, set_at}
 use Rattle.kp_part_laws.specs.Beside.{IsInPart, united}
 use Rattle.kp_part_laws.specs.Unseen.{IsUnseen}
-use Rattle.kp_part_laws.proofs.Decisions.{decides_unseen}
 use Rattle.kp_part_laws.proofs.Pointwise.{Held, one_part, part_total, pointwise_unseen}
 use Rattle.kp_part_laws.proofs.United.{placed, placed_unseen, set_there}
 use Rattle.kp_part_laws.proofs.Walks.{walks_unseen}
@@ -49,16 +44,6 @@ pub walk_in_part : {B : Type 0} (tell : Verdict → List (List (List ℕ)) → B
 walk_in_part tell at node packet draws change lists unseen =
     ap (λ (w : Walked). (tell w.verdict w.trail, w.lists))
     (walks_unseen change at node packet draws lists (unseen packet.source refl))
-
--- a decision, and what is told of it
-pub decision_in_part : {B : Type 0} (tell : Verdict → Reason → B) (settings : Settings)
-    (objects : Objects) (packet : Packet) (draws : ℕ → ℕ)
-    → IsInPart (packet.source.number % 16)
-    (λ lists. let d = decision_of settings objects packet draws lists in
-    (tell d.verdict d.reason, d.lists))
-decision_in_part tell settings objects packet draws change lists unseen =
-    ap (λ (d : Decided). (tell d.verdict d.reason, d.lists))
-    (decides_unseen change settings objects packet draws lists (unseen packet.source refl))
 
 -- ---- Such a step keeps the size, and goes through united lists
 

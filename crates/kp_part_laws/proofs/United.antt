@@ -156,14 +156,6 @@ module _ (owner : ℕ → ℕ) (size : ℕ) where
       united_look owner q size values
       ∙ nothing q (slice_get values (owner q.part)) (none (owner q.part)))
 
-  -- one value that owns all parts is itself
-  pub united_one : (value : RecentParts) → ((part : ℕ) → owner part ≡ 0) → value.size ≡ size
-      → united owner size (value ∷ []) ≡ value
-  united_one value first sized =
-      same_lists _ _ (sym sized) (λ q.
-      united_look owner q size (value ∷ [])
-      ∙ (λ i. look q (slice_get (value ∷ []) (first q.part i))))
-
   -- what is kept of lists by who owns a part is these lists together
   pub united_kept : (lists : RecentParts) (values : List RecentParts) → lists.size ≡ size
       → ((part : ℕ) → owner part < length values)

@@ -8,14 +8,6 @@ use Rattle.kp_publish.specs.Entries.{records_of, is_ended}
 use Rattle.kp_publish.specs.Pending.{Fits, after, newest_of}
 use Rattle.kp_publish.proofs.Beginnings.{records_end, ended_snoc}
 
--- readers take the same, and the same is pending
-pub fits_same : (published newest shown kept shown' kept' : List Entry) → Fits published newest shown kept → shown' ≡ shown → kept' ≡ kept
-    → Fits published newest shown' kept'
-fits_same published newest shown kept shown' kept' fits s k = record {
-  is_open = λ e. ((fits.is_open e).0 ∙ sym s, (fits.is_open e).1 ∙ sym k);
-  records = fits.records ∙ ap records_of (sym s);
-}
-
 -- one record more is pending
 pub fits_more : (published newest shown kept newest' shown' kept' : List Entry) → Fits published newest shown kept → is_ended newest ≡ false
     → shown' ≡ shown → kept' ≡ newest' → Fits published newest' shown' kept'
@@ -24,15 +16,6 @@ fits_more published newest shown kept newest' shown' kept' fits e s k = record {
   records = fits.records ∙ ap records_of (sym s);
 }
 
--- readers take all that was pending
-pub fits_all : (published newest shown kept published' shown' kept' : List Entry) → Fits published newest shown kept → is_ended newest ≡ false
-    → published' ≡ newest → shown' ≡ kept → kept' ≡ shown' → Fits published' newest shown' kept'
-fits_all published newest shown kept published' shown' kept' fits e p s k =
-    let whole : newest ≡ shown' = (fits.is_open e).1 ∙ sym s in record {
-      is_open = λ _. (p ∙ whole, whole ∙ sym k);
-      records = ap records_of (p ∙ whole);
-    }
-
 -- the end is no record
 pub fits_end : (published newest shown kept published' newest' : List Entry) → Fits published newest shown kept → published ≡ newest
     → published' ≡ newest' → newest' ≡ newest ++ End ∷ [] → Fits published' newest' shown kept
@@ -40,19 +23,6 @@ fits_end published newest shown kept published' newest' fits whole p n = record 
   is_open = λ e. absurd (cc (sym (ap is_ended n ∙ ended_snoc newest) ∙ e));
   records = ap records_of (p ∙ n) ∙ (records_end newest ∙ (ap records_of (sym whole) ∙ fits.records));
 }
-
--- nothing is pending yet
-pub fits_first : (published newest shown kept : List Entry) → published ≡ newest → shown ≡ newest → kept ≡ shown → Fits published newest shown kept
-fits_first published newest shown kept p s k = record {
-  is_open = λ _. (p ∙ sym s, sym (k ∙ s));
-  records = ap records_of (p ∙ sym s);
-}
-
--- where nothing is held and nothing logged, readers take all
-pub none_kept : (shown : List Entry) (logged : List (List Entry × List Entry))
-    (held : Option (List Entry × List Entry)) → held ≡ None → logged ≡ []
-    → newest_of after shown logged held ≡ shown
-none_kept shown logged held h l = rw (h, l) refl
 
 pub all_kept : (shown : List Entry) (logged : List (List Entry × List Entry))
     (held : Option (List Entry × List Entry)) → held ≡ None

@@ -27,10 +27,10 @@ use Rattle.kp_restore_defs.specs.BatchText.{place_of, edits_in, edit_cmp, are_in
 use Rattle.kp_restore.specs.BatchSteps.{written, removed, edits_of}
 use Rattle.kp_restore.specs.declared.row.Row.{Row}
 use Rattle.std.specs.Cmp.Lexicographic.{nat_list_eq_equiv}
-use Rattle.kp_restore.proofs.Tests.{all_both, none_of, filter_all, filter_none}
+use Rattle.kp_restore.proofs.Tests.{all_both, none_of, filter_none}
 use Rattle.kp_restore.proofs.Families.{IsTableOf, nat_is_of, filter_is_of, which_table, nat_first, filter_last, nat_is_no_filter, filter_is_no_nat, table_tied}
 use Rattle.kp_restore.proofs.BatchRows.{row_of, put_row, rows_of, is_below, rising, fits, all_rows_of, put_first, less_turned, write_of, remove_of, all_written, all_removed, edits_all, is_in}
-use Rattle.kp_lemmas.proofs.ListFacts.{test_weaker, test_always}
+use Rattle.kp_lemmas.proofs.ListFacts.{filter_all, test_weaker, test_always}
 use Rattle.kp_lemmas.proofs.Orders.{lesser_text_differs}
 use Rattle.kp_types.proofs.ChainOrder.{one_table_from_test}
 

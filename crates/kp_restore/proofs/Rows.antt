@@ -8,6 +8,7 @@ use Rattle.std.proofs.lemmas.Bool.{and_parts, and_from, not-true, or_parts}
 use Rattle.std.proofs.lemmas.Map.Text.{is_eq-slice_cmp}
 use Rattle.std.proofs.lemmas.Option.{same_Some}
 use Rattle.std.specs.Cmp.Lexicographic.{nat_list_eq_equiv}
+use Rattle.kp_lemmas.proofs.Options.{none_of}
 use Rattle.kp_base.specs.Keys.{text_cmp}
 use Rattle.kp_types.specs.Places.{chain_cmp}
 use Rattle.kp_types.specs.declared.chain.TableName.{TableName}
@@ -75,10 +76,6 @@ pub is_some_rules : (rows : List Row) (name : List ℕ) → is_some (rules_in ro
 is_some_rules [] name = refl
 is_some_rules (row ∷ rows) name =
     elim (bytes_eq name row.0) as (λ b. is_some (cond b (Some row.1) (rules_in rows name)) ≡ (b || list_any (bytes_eq name) (names_of rows))) [ true ↦ refl | false ↦ is_some_rules rows name ]
-
-pub none_of : (o : Option (List Rule)) → is_some o ≡ false → o ≡ None
-none_of None h = refl
-none_of (Some x) h = absurd (cc)
 
 pub no_rules : (rows : List Row) (name : List ℕ) → list_any (bytes_eq name) (names_of rows) ≡ false → rules_in rows name ≡ None
 no_rules rows name h = none_of (rules_in rows name) (is_some_rules rows name ∙ h)

@@ -40,10 +40,10 @@ use Rattle.kp_restore.proofs.TableRows.{IsSection, section_distinct, table_apart
 use Rattle.kp_restore.proofs.TableParts.{row_parts, section_parts, parts_of, table_parts, table_texts}
 use Rattle.kp_restore.proofs.TableRuns.{opening, naming, filling, behind, Keeps, keeps_with, jumps_by, all_jump, rows_jump, rows_still_jump, built_in_run, filling_run, with_names, section_run}
 use Rattle.kp_restore.proofs.TableBack.{section_back}
-use Rattle.kp_restore.proofs.Tests.{all_both, all_flat, filter_all}
+use Rattle.kp_restore.proofs.Tests.{all_both, all_flat}
 use Rattle.kp_restore.proofs.Families.{IsTableOf, nat_is_of, filter_is_of, which_table, nat_is_no_filter, filter_is_no_nat, beside}
 use Rattle.kp_restore.proofs.TableFamily.{is_phase_of, run_of}
-use Rattle.kp_lemmas.proofs.ListFacts.{test_weaker}
+use Rattle.kp_lemmas.proofs.ListFacts.{filter_all, test_weaker}
 
 -- ---- What a table with a section has
 

@@ -20,7 +20,8 @@ use Rattle.kp_table_defs.specs.Ranks.{built_in_chains, is_built_in, has_built_in
 use Rattle.kp_table_defs.specs.Rebuild.{Chains}
 use Rattle.kp_restore_defs.specs.TableText.{Row, row_at, built_in_rows, other_rows}
 use Rattle.kp_restore.proofs.Families.{table_tied}
-use Rattle.kp_restore.proofs.Rows.{at, entries_of, rules_in, names_of, distinct, rising, Agree, turned_false, find_rows, is_some_rules, none_of, no_rules, rules_append, agree, agree_front, agree_same, rows_again}
+use Rattle.kp_restore.proofs.Rows.{at, entries_of, rules_in, names_of, distinct, rising, Agree, turned_false, find_rows, is_some_rules, no_rules, rules_append, agree, agree_front, agree_same, rows_again}
+use Rattle.kp_lemmas.proofs.Options.{none_of}
 use Rattle.kp_lemmas.proofs.Orders.{equal_from_test, lesser_text_differs}
 use Rattle.kp_lemmas.proofs.Booleans.{true_from_fact}
 use Rattle.kp_lemmas.proofs.Entries.{entries_found}

@@ -27,13 +27,7 @@ pub all_flat : {A B : Type 0} (p : B → Bool) (f : A → List B) (xs : List A) 
 all_flat p f [] = refl
 all_flat p f (x ∷ xs) = list_all-append p (f x) (flat_map f xs) ∙ ap (λ b. list_all p (f x) && b) (all_flat p f xs)
 
--- what all or none pass
-pub filter_all : {X : Type 0} (p : X → Bool) (xs : List X) → list_all p xs ≡ true → filter p xs ≡ xs
-filter_all p [] h = refl
-filter_all p (x ∷ xs) h =
-    let k = and_parts _ _ h in
-    ap (λ b. cond b (x ∷ filter p xs) (filter p xs)) k.0 ∙ ap (λ l. x ∷ l) (filter_all p xs k.1)
-
+-- what none pass
 pub filter_none : {X : Type 0} (p : X → Bool) (xs : List X) → list_all (λ x. not (p x)) xs ≡ true → filter p xs ≡ []
 filter_none p [] h = refl
 filter_none p (x ∷ xs) h =

@@ -41,9 +41,6 @@ without_last_behind xs y ys =
     let n : length (xs ++ y ∷ ys) - 1 ≡ length xs + (length (y ∷ ys) - 1) = omega (arith, length-append xs (y ∷ ys)) in
     ap (λ k. take k (xs ++ y ∷ ys)) n ∙ take-append-add xs (y ∷ ys) (length (y ∷ ys) - 1)
 
-pub without_one : {A : Type 0} (x : A) → without_last (x ∷ []) ≡ []
-without_one x = refl
-
 -- a text has a piece
 pub some_piece : (text : List ℕ) → (x : List ℕ) × (xs : List (List ℕ)) × (pieces text ≡ x ∷ xs)
 some_piece [] = ([], [], refl)

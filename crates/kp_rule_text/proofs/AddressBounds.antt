@@ -15,8 +15,8 @@ use Rattle.std.proofs.Math.Nat.{pow-le-pow_right}
 use Rattle.std.proofs.NetLemmas.Ipv6.{read_ipv6_sound}
 use Rattle.kp_lemmas.proofs.ListFacts.{all_append}
 use Rattle.kp_lemmas.proofs.Numbers.{cleared}
-use Rattle.kp_base.specs.Net.{AddressParts, RangeParts, v4_address, v6_address, same_family, width, range_size}
-use Rattle.kp_base.specs.Dotted.{is_decimal, decimal_up_to, digits_number, four_numbers, address_of, range_from, range_of_parts, range_of, split_once}
+use Rattle.kp_base.specs.Net.{AddressParts, RangeParts, v4_address, v6_address, width, range_size}
+use Rattle.kp_base.specs.Dotted.{is_decimal, decimal_up_to, digits_number, four_numbers, address_of, range_from, split_once}
 use Rattle.kp_base.specs.Six.{groups_number, six_of, any_address_of, any_range_of_parts, any_range_of}
 use Rattle.kp_base.specs.declared.address.Family.{Family}
 use Rattle.kp_base.specs.declared.address.Family.TheVariants.{V4, V6}
@@ -174,18 +174,3 @@ parts_valid base bits =
 -- a range that a text writes is one of its family
 pub any_range_valid : (text : List ℕ) → IfSome (any_range_of text) IsRange
 any_range_valid text = if_then IsRange (λ (base, length). any_range_of_parts base length) (split_once 47 text) (λ p e. parts_valid p.0 p.1)
-
-v4_from : (a : AddressParts) (bits : ℕ) → IsAddressOf V4 a → bits ≤ 32 → IsRangeOf V4 (range_from a bits)
-v4_from a bits h fits =
-    let both = and_parts (same_family a.family V4) (nat_lt a.number (2 ^ 32)) h in
-    subst (λ f. IsRangeOf V4 (range_from (record { family = f; number = a.number }) bits)) (sym (same_family_exact a.family V4 both.0)) (cleared_fits V4 a.number bits both.1 fits)
-
-v4_parts_valid : (base bits : List ℕ) → IfSome (range_of_parts base bits) (IsRangeOf V4)
-v4_parts_valid base bits =
-    if_then (IsRangeOf V4) (λ a. option_map (range_from a) (decimal_up_to 32 bits)) (address_of base)
-    (λ a e. if_map (IsRangeOf V4) (range_from a) (decimal_up_to 32 bits)
-    (λ n f. v4_from a n (of_some (IsAddressOf V4) (address_of base) a (v4_valid base) e) (of_some (λ n. n ≤ 32) (decimal_up_to 32 bits) n (decimal_low 32 bits) f)))
-
--- an IPv4 range that a text writes is one of IPv4
-pub v4_range_valid : (text : List ℕ) → IfSome (range_of text) (IsRangeOf V4)
-v4_range_valid text = if_then (IsRangeOf V4) (λ (base, length). range_of_parts base length) (split_once 47 text) (λ p e. v4_parts_valid p.0 p.1)

@@ -21,6 +21,7 @@ use Rattle.kp_base.specs.declared.address.Family.{Family}
 use Rattle.kp_base.specs.declared.address.Family.TheVariants.{V4, V6}
 use Rattle.kp_base.specs.declared.key.Endpoint.{Endpoint}
 use Rattle.kp_base.proofs.Groups.{printed_is_read}
+use Rattle.kp_base.proofs.Pieces.{one_short}
 use Rattle.kp_base.proofs.Printed.{decimal_is_read, dotted_is_read}
 use Rattle.kp_base.proofs.SameParts.{same_family_exact}
 use Rattle.kp_choice_defs.specs.AddressText.{octet_at, number_text, address_text, host_text, endpoint_text}
@@ -104,17 +105,12 @@ hex_is_no_dot b (inr h) = grind (arith, nat_tests)
 no_dots : (bs : List ℕ) → All IsHexOrColon bs → All (λ b. (b == 46) ≡ false) bs
 no_dots bs h = λ i d inside. hex_is_no_dot _ (h i d inside)
 
--- one number is no address
-one_number : (o : Option ℕ) → four_numbers (o ∷ []) ≡ None
-one_number None = refl
-one_number (Some n) = refl
-
 -- a text without a dot is no address of IPv4
 not_dotted : (n : ℕ) → address_of (number_text V6 n) ≡ None
 not_dotted n =
     ap (λ texts. four_numbers (map (decimal_up_to 255) texts))
     (slice_split_none (λ b. b == 46) (number_text V6 n) (no_dots (number_text V6 n) (All-hex_groups_text (groups_of n) (segments_low n))))
-    ∙ one_number (decimal_up_to 255 (number_text V6 n))
+    ∙ one_short (decimal_up_to 255 (number_text V6 n))
 
 number_is_read : (family : Family) (n : ℕ) → n < 2 ^ width family → any_address_of (number_text family n) ≡ Some (record { family = family; number = n })
 number_is_read V4 n low = ap (λ o. option_or o (six_of (number_text V4 n))) (v4_is_read n low)

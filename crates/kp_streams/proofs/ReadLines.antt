@@ -5,10 +5,10 @@ use Rattle.std.specs.Io.KnownBytes.{IsAtEnd}
 use Rattle.std.specs.List.{fold}
 use Rattle.std.proofs.lemmas.List.Sums.{fold-append}
 use Rattle.kp_io.specs.Lines.{lines_of, given_of, given_lines}
-use Rattle.kp_io.specs.Reader.{ReaderState, LosesTaken, fresh_reader, to_come}
+use Rattle.kp_io.specs.Reader.{ReaderState, LosesTaken, to_come}
 use Rattle.kp_io.specs.Told.{FromTold}
 use Rattle.kp_io.specs.declared.next_line.TheConstants.{INPUT_LIMIT, LINE_LIMIT}
-use Rattle.kp_io.proofs.HandedOut.{handed_none, handed_given, handed_all, taken_none, taken_more}
+use Rattle.kp_io.proofs.HandedOut.{handed_given, handed_all, taken_none, taken_more}
 use Rattle.kp_text_defs.specs.declared.line_refusal.LineRefusal.{LineRefusal}
 use Rattle.kp_text_defs.specs.declared.line_refusal.LineRefusal.TheVariants.{TooLongLine, JournalFull, StreamsFull}
 use Rattle.kp_text_defs.specs.declared.script.Op.{Op}
@@ -82,21 +82,6 @@ counts_given (Some bytes) r =
     (after_script r (line_of bytes r.fresh)) refl (counts_script (line_of bytes r.fresh) r)
 
 -- ---- From one line to the next
-
--- before the first line
-pub read_none : (r : Reading) (reader : ReaderState) (left : Option (List ℕ)) → r ≡ nothing_read
-    → reader ≡ fresh_reader → HasRead r reader left left
-read_none r reader left start fresh =
-    subst (λ q. HasRead r q left left) (sym fresh)
-    (subst (λ q. HasRead q fresh_reader left left) (sym start)
-    (record {
-      given = [];
-      handed = handed_none left;
-      stands = refl;
-      counted = refl;
-      taken = taken_none left;
-      ended = λ h. absurd (cc);
-    }))
 
 -- one more line, after which the source may have ended
 pub read_more : (r : Reading) (old new : ReaderState) (number : ℕ) (one : Option (List ℕ))

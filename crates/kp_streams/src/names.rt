@@ -1,5 +1,6 @@
 //! The names of streams.
-ghost use Rattle.std.specs.Prelude.{◌≡◌, ◌<◌, ◌≤◌, ◌++◌, [], ◌∷◌, length, not, nat_lt, IfOk, OnErr, OnOk};
+ghost use Rattle.std.specs.Prelude.{◌≡◌, ◌<◌, ◌≤◌, ◌++◌, [], ◌∷◌, length};
+ghost use Rattle.std.specs.Prelude.{not, nat_lt, IfOk, OnErr, OnOk};
 ghost use Rattle.kp_run_defs.specs.LiveLines.{stream_at, stream_limit};
 
 use kp_base::{Items, NoMemory, Text};

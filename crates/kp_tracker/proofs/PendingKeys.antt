@@ -9,10 +9,10 @@ use Rattle.std.specs.List.Sorted.{IsStrictlySortedBy}
 use Rattle.std.specs.Option.{option_eq}
 use Rattle.std.specs.Ordering.{eq_by_cmp, is_eq}
 use Rattle.std.specs.Cmp.{IsTotalOrder}
-use Rattle.std.specs.FinMap.{FinMap, IsAntisymmetric, find, get}
-use Rattle.kp_lemmas.proofs.ListFacts.{all_filter, all_weaker}
+use Rattle.std.specs.FinMap.{IsAntisymmetric, find, get}
+use Rattle.kp_lemmas.proofs.ListFacts.{all_weaker}
 use Rattle.kp_lemmas.proofs.Orders.{one_from_tie}
-use Rattle.kp_tracker.specs.Tracked.{IsPending, Tracked, is_changed, is_other, published}
+use Rattle.kp_tracker.specs.Tracked.{IsPending, Tracked, is_other, published}
 use Rattle.kp_tracker.proofs.Newest.{got_updated, update_or}
 
 -- ---- Keys of the entries that pass a test

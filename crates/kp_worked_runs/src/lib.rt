@@ -41,8 +41,8 @@ pub fn worked_clash_at_end()
     ensures broken { runs.RecordHasClash }
 {}
 
-/// Runs with a sync that is refused: at the end, and before the clash has passed. No sync is refused
-/// by the two chains the other way round, and no record has the clash.
+/// Runs with a sync that is refused: at the end, and before the clash has passed. No sync is
+/// refused by the two chains the other way round, and no record has the clash.
 pub fn worked_refused_syncs()
     ensures at_end { clashes.RefusedAtEnd }
     ensures turned { clashes.TurnedIsBroken }

@@ -1,6 +1,6 @@
 -- The ports that differ, by the keys that are pending, and the ports that stay.
 use Rattle.std.proofs.Common.{◌≡◌, Bool, true, false, cond, List, [], ◌∷◌, map, filter}
-use Rattle.std.proofs.Common.{Option, Some, None, is_some, Contains, refl, sym, ap, ◌∙◌}
+use Rattle.std.proofs.Common.{Option, Some, None, Contains, refl, sym, ap, ◌∙◌}
 use Rattle.std.specs.declared.cmp.Ordering.{Ordering}
 use Rattle.std.specs.List.{AllByRecursion, cons_option, filter_map, list_any}
 use Rattle.std.specs.List.Sorted.{IsStrictlySortedBy}
@@ -8,13 +8,14 @@ use Rattle.std.specs.Ordering.{eq_by_cmp}
 use Rattle.std.specs.FinMap.{FinMap, contains_key-keys, entries, entries_sorted, get, keys, values}
 use Rattle.kp_lemmas.proofs.Entries.{entries_found}
 use Rattle.kp_lemmas.proofs.Members.{any_from, first_in, later_in}
+use Rattle.kp_lemmas.proofs.Options.{none_of}
 use Rattle.kp_lemmas.proofs.Orders.{tie_of_itself}
 use Rattle.kp_base.specs.Keys.{port_key_cmp}
 use Rattle.kp_base.specs.declared.key.PortKey.{PortKey}
 use Rattle.kp_base.proofs.KeyOrder.{port_key_total, port_key_exact}
 use Rattle.kp_object_defs.specs.PortInfo.{PortInfo}
 use Rattle.kp_writer_laws.proofs.KeyLists as key_lists
-use Rattle.kp_writer_laws.proofs.LocalChanges.{same_given}
+use Rattle.kp_writer_laws.proofs.LocalChanges.{in_either, same_given}
 use Rattle.kp_writer.specs.Written.{AreUnderOwnKeys, Ports}
 
 -- ---- Keys of a finite map
@@ -28,22 +29,19 @@ module _ {K X : Type 0} (R : K → K → Ordering) where
   pub not_found : (m : FinMap R X) (k : K) → list_any (eq_by_cmp R k) (keys m) ≡ false
       → get m k ≡ None
   not_found m k h = none_of (get m k) (contains_key-keys m k ∙ h)
-    where
-      none_of : (o : Option X) → is_some o ≡ false → o ≡ None
-      none_of None is = refl
-      none_of (Some x) is = absurd (cc)
 
 -- ---- Ports that pass a test of their keys
+
+-- an element before others where it passes
+pub one_passed : {X : Type 0} (b : Bool) (x : X) (xs : List X)
+    → cons_option (cond b (Some x) None) xs ≡ cond b (x ∷ xs) xs
+one_passed true x xs = refl
+one_passed false x xs = refl
 
 module _ (test : PortKey → Bool) where
   -- a port that passes
   abbrev pub passed : Ports → PortKey → Option PortInfo
   passed m k = cond (test k) (get m k) None
-
-  pub one_passed : (b : Bool) (i : PortInfo) (is : List PortInfo)
-      → cons_option (cond b (Some i) None) is ≡ cond b (i ∷ is) is
-  one_passed true i is = refl
-  one_passed false i is = refl
 
   by_entries : (m : Ports) → AreUnderOwnKeys m → (es : List (PortKey × PortInfo))
       → AllByRecursion (λ e. get m e.0 ≡ Some e.1) es
@@ -59,10 +57,6 @@ module _ (test : PortKey → Bool) where
   pub by_keys : (m : Ports) → AreUnderOwnKeys m
       → filter_map (passed m) (keys m) ≡ filter (λ i. test i.key) (values m)
   by_keys m own = by_entries m own (entries m) (entries_found port_key_total m)
-
-  pub in_either : (b : Bool) {o : Option PortInfo} → o ≡ None → cond b o None ≡ None
-  in_either true h = h
-  in_either false h = refl
 
   fails : (m : Ports) (k : PortKey) → test k ≡ false → passed m k ≡ None
   fails m k h = ap (λ b. cond b (get m k) None) h

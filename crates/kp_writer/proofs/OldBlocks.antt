@@ -1,6 +1,6 @@
 -- The block of what was written of a port is kept while something else is known.
 use Rattle.std.proofs.Common.{◌≡◌, Bool, true, false, true≢false, not, cond, Option, Some, None}
-use Rattle.std.proofs.Common.{is_some, option_map, unwrap_or, [], ◌∷◌, arith, refl, sym, ap, ◌∙◌}
+use Rattle.std.proofs.Common.{is_some, option_map, [], ◌∷◌, arith, refl, sym, ap, ◌∙◌}
 use Rattle.std.proofs.Math.Bool.{not-not}
 use Rattle.std.specs.Option.{option_eq}
 use Rattle.std.specs.Ordering.{eq_by_cmp}
@@ -165,13 +165,6 @@ module _ (v w : WriterParts) (is : v ≡ w) (bs os : BlocksByPort) (kept : IsKep
 -- ---- What a block that is made counts
 
 module _ (b : Bool) (block : Block) where
-  pub some_at_hand : (found : Block) → Some found ≡ cond b (Some block) None → found ≡ block
-  some_at_hand found h = by b h
-    where
-      by : (c : Bool) → Some found ≡ cond c (Some block) None → found ≡ block
-      by true is = ap (λ o. unwrap_or o block) is
-      by false is = absurd (cc)
-
   pub none_at_hand : None ≡ cond b (Some block) None → b ≡ false
   none_at_hand h = by b h
     where

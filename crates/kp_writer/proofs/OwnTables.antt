@@ -15,6 +15,7 @@ use Rattle.kp_types.specs.declared.rule.Edit.{Edit}
 use Rattle.kp_types.specs.declared.rule.Edit.TheVariants.{Remove, Write}
 use Rattle.kp_types.specs.declared.rule.Rule.{Rule}
 use Rattle.kp_types.proofs.ChainOrder.{one_table_from_test}
+use Rattle.kp_types.proofs.TableFamilies.{filter_is_own, nat_is_own}
 use Rattle.kp_object_defs.specs.PortInfo.{PortInfo}
 use Rattle.kp_table_defs.specs.Edits.{is_found_with}
 use Rattle.kp_table_defs.specs.Keys.{own_keys}
@@ -22,7 +23,6 @@ use Rattle.kp_table_defs.specs.Layout.{place_of_key, port_rows, row_of_key, rule
 use Rattle.kp_table_defs.specs.Rebuild.{Chains}
 use Rattle.kp_table_laws.specs.Families.{HasTablesOf}
 use Rattle.kp_rules.specs.Changes.{is_in, write_if_found}
-use Rattle.kp_rules.proofs.OtherFamily.{filter_family, nat_family}
 use Rattle.kp_blocks.specs.Joined.{BlocksByPort}
 use Rattle.kp_writer.specs.Next.{NextParts, Place, edits_of, is_free_by, remove_of, table_edits}
 use Rattle.kp_writer.specs.Next.{write, write_of}
@@ -81,17 +81,17 @@ module _ (was mine : Chains) where
     edits_alike ps =
         λ i.
         table_alike (nat_of s.family)
-        (λ chain. has (record { table = nat_of s.family; chain = chain }) (nat_family s.family))
+        (λ chain. has (record { table = nat_of s.family; chain = chain }) (nat_is_own s.family))
         ps i
         ++ table_alike (filter_of s.family)
         (λ chain.
-        has (record { table = filter_of s.family; chain = chain }) (filter_family s.family)) ps i
+        has (record { table = filter_of s.family; chain = chain }) (filter_is_own s.family)) ps i
 
     free_alike : (k : ChainKey) (o : Option (Option (List Rule)))
         → is_free_by was (place_of_key s k) o ≡ is_free_by mine (place_of_key s k) o
     free_alike k None =
         ap (λ (found : Option (List Rule)). not (is_some found))
-        (has (place_of_key s k) (nat_family s.family))
+        (has (place_of_key s k) (nat_is_own s.family))
     free_alike k (Some chain) = refl
 
     one_alike : (i : PortInfo) (k : ChainKey) (n : NextParts)

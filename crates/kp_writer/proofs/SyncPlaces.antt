@@ -12,6 +12,7 @@ use Rattle.std.proofs.lemmas.List.{map-append}
 use Rattle.std.proofs.lemmas.Simd.{map-map}
 use Rattle.kp_lemmas.proofs.Members.{any_from, from_filter, from_flat_map, in_filter, in_flat_map}
 use Rattle.kp_lemmas.proofs.Members.{in_map}
+use Rattle.kp_lemmas.proofs.Options.{none_of}
 use Rattle.kp_lemmas.proofs.Orders.{one_from_tie, tie_of_itself}
 use Rattle.kp_base.specs.declared.address.Family.{Family}
 use Rattle.kp_base.specs.declared.address.Family.TheVariants.{V4, V6}
@@ -135,10 +136,6 @@ module _ (s : Setting) where
                 (tie_of_itself chain_total q))
                 ∙ unwritten
           ]
-
-      none_of : {X : Type 0} (o : Option X) → is_some o ≡ false → o ≡ None
-      none_of None h = refl
-      none_of (Some x) h = absurd (cc)
 
       stands_nowhere : (q : ChainAt) → Contains olds q
           → list_any (eq_by_cmp chain_cmp q) (map (λ r. r.0) (rows s changed)) ≡ false

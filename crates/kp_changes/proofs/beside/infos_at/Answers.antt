@@ -13,11 +13,14 @@ returns c =
     let config = config_for c.args.family c.args.config.now in
     let o = c.args.objects.now in
     let d = c.args.door.now in
-    let names : map (λ k. k.now) c.as_slice-2.result.now ≡ distinct_in_order port_key_cmp (names_at o d) =
+    let names : map (λ k. k.now) c.as_slice-2.result.now
+    ≡ distinct_in_order port_key_cmp (names_at o d) =
     ap (map (λ k. k.now)) c.as_slice-2.ensures.value ∙ c.in_ok-distinct.ensures
-    ∙ ap (distinct_in_order port_key_cmp) (c.as_slice.ensures.value ∙ c.in_ok-names.ensures.names) in
+    ∙ ap (distinct_in_order port_key_cmp)
+    (c.as_slice.ensures.value ∙ c.in_ok-names.ensures.names) in
     IfOk-weaker c.bare_infos.result _ _
     (λ infos is.
-    ap (λ found. besides_text found d) (is ∙ ap (flat_map (bare_infos_at c.args.family config o)) names)
+    ap (λ found. besides_text found d)
+    (is ∙ ap (flat_map (bare_infos_at c.args.family config o)) names)
     ∙ besides c.args.family config o c.names_at.ensures.own_keys d)
     c.bare_infos.ensures

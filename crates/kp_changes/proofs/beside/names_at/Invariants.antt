@@ -6,4 +6,5 @@ use Rattle.kp_changes.proofs.beside.names_at.Given as goal
 -- the names of the ports of the Services so far
 abbrev pub invariant-loop-service : goal.invariant-loop-service
 invariant-loop-service l =
-    l.names.items ≡ flat_map (names_in l.door) (map (λ s. s.now) (take l.service-index l.service-items))
+    l.names.items
+    ≡ flat_map (names_in l.door) (map (λ s. s.now) (take l.service-index l.service-items))

@@ -15,13 +15,17 @@ loop-name-preserved c =
     let config = c.args.config.now in
     let o = c.args.objects.now in
     let name = c.name-item.result in
-    let four : find port_key_cmp name.now (map deref_pair c.in_ok-four.four.entries) ≡ dirty_named c.args.four.now name.now =
+    let four : find port_key_cmp name.now (map deref_pair c.in_ok-four.four.entries)
+    ≡ dirty_named c.args.four.now name.now =
     ap (find port_key_cmp name.now) c.in_ok-four.ensures
     ∙ find-in_order port_key_total name.now (map (λ (d : DirtyPort). (d.key, d)) c.args.four.now) in
-    let six : find port_key_cmp name.now (map deref_pair c.in_ok-six.six.entries) ≡ dirty_named c.args.six.now name.now =
+    let six : find port_key_cmp name.now (map deref_pair c.in_ok-six.six.entries)
+    ≡ dirty_named c.args.six.now name.now =
     ap (find port_key_cmp name.now) c.in_ok-six.ensures
     ∙ find-in_order port_key_total name.now (map (λ (d : DirtyPort). (d.key, d)) c.args.six.now) in
-    next_seen (lines_named config o c.args.four.now c.args.six.now) c.as_slice-name-items.result.now c.loop-name.name-index name _ _ _
+    next_seen (lines_named config o c.args.four.now c.args.six.now)
+    c.as_slice-name-items.result.now c.loop-name.name-index name _ _ _
     (c.in_ok-push_named.ensures.added
-    ∙ (λ i. string_bytes c.loop-name.text ++ (dirty_lines V4 config o (four i) ++ dirty_lines V6 config o (six i))))
+    ∙ (λ i. string_bytes c.loop-name.text
+    ++ (dirty_lines V4 config o (four i) ++ dirty_lines V6 config o (six i))))
     c.loop-name.invariant c.loop-name-test.true c.name-item.is

@@ -14,5 +14,6 @@ returns-clause-added c =
 pub returns-clause-front : goal.returns-clause-front
 returns-clause-front c =
     on_err_weaker c.push_by.result
-    (λ h. front_on _ _ _ _ c.in_ok-push.ensures.added (front_on _ _ _ _ c.in_ok-push_door.ensures.added h))
+    (λ h. front_on _ _ _ _ c.in_ok-push.ensures.added
+    (front_on _ _ _ _ c.in_ok-push_door.ensures.added h))
     c.push_by.ensures.front

@@ -10,14 +10,17 @@ use Rattle.kp_changes.proofs.line.push_line.Goals as goal
 pub returns-clause-added : goal.returns-clause-added
 returns-clause-added c =
     let name_of = chain_name c.args.config.now.name_length in
-    let infos = port_infos c.args.family (config_for c.args.family c.args.config.now) c.args.objects.now in
+    let infos =
+    port_infos c.args.family (config_for c.args.family c.args.config.now) c.args.objects.now in
     on_ok_weaker c.push-2.result
     (line_added name_of infos _ c.args.change.now c.change.view_is (string_bytes c.args.text.now)
-    (string_bytes c.push_head.new.text) (string_bytes c.push.new.text) (string_bytes c.push_states.new.text)
+    (string_bytes c.push_head.new.text) (string_bytes c.push.new.text)
+    (string_bytes c.push_states.new.text)
     (string_bytes c.push_list.new.text) (string_bytes c.push_kept.new.text)
     (string_bytes c.push_turned.new.text) (string_bytes c.push-2.new.text)
     c.in_ok-push_head.ensures.added c.in_ok-push.ensures.added c.in_ok-push_states.ensures.added
-    c.in_ok-push_list.ensures.added c.in_ok-push_kept.ensures.added c.in_ok-push_turned.ensures.added)
+    c.in_ok-push_list.ensures.added c.in_ok-push_kept.ensures.added
+    c.in_ok-push_turned.ensures.added)
     c.push-2.ensures.added
 
 pub returns-clause-front : goal.returns-clause-front

@@ -18,6 +18,7 @@ loop-place-preserved c =
     let rest : drop i dirty ≡ port ∷ drop c.loop-place.place dirty =
     drop_more dirty i port fits ∙ (λ j. sym c.index-dirty-place.is j ∷ drop (back j) dirty) in
     ap (map deref_pair) c.in_ok-insert.ensures.entries
-    ∙ insert-through port_key_cmp (λ b. b.now) (λ b. b.now) (λ a b. port_key_matches a.now b.now) c.loop-place.named.entries _ _
+    ∙ insert-through port_key_cmp (λ b. b.now) (λ b. b.now)
+    (λ a b. port_key_matches a.now b.now) c.loop-place.named.entries _ _
     ∙ ap (put port_key_cmp port.key port) c.loop-place.invariant
     ∙ sym (ap (λ l. in_order port_key_cmp (map (λ d. (d.key, d)) l)) rest)

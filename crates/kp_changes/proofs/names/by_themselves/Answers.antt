@@ -18,6 +18,7 @@ loop-place-preserved c =
     let rest : drop i names ≡ name ∷ drop c.loop-place.place names =
     drop_more names i name fits ∙ (λ j. sym c.index-names-place.is j ∷ drop (back j) names) in
     ap (map deref_pair) c.in_ok-insert.ensures.entries
-    ∙ insert-through port_key_cmp (λ b. b.now) (λ b. b.now) (λ a b. port_key_matches a.now b.now) c.loop-place.named.entries _ _
+    ∙ insert-through port_key_cmp (λ b. b.now) (λ b. b.now)
+    (λ a b. port_key_matches a.now b.now) c.loop-place.named.entries _ _
     ∙ ap (put port_key_cmp name name) c.loop-place.invariant
     ∙ sym (ap (λ l. in_order port_key_cmp (map (λ k. (k, k)) l)) rest)

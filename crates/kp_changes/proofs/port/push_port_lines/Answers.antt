@@ -11,8 +11,10 @@ returns-clause-added c =
     let line = line_of c.args.family c.args.config.now c.args.objects.now in
     let olds = c.as_slice-before.result.now in
     let news = c.as_slice-after.result.now in
-    let old : olds ≡ doors_of_port (option_copied c.args.before) = c.as_slice-before.ensures.value ∙ c.in_ok-before.ensures in
-    let new : news ≡ doors_of_port (option_copied c.args.after) = c.as_slice-after.ensures.value ∙ c.in_ok-after.ensures in
+    let old : olds ≡ doors_of_port (option_copied c.args.before) =
+    c.as_slice-before.ensures.value ∙ c.in_ok-before.ensures in
+    let new : news ≡ doors_of_port (option_copied c.args.after) =
+    c.as_slice-after.ensures.value ∙ c.in_ok-after.ensures in
     on_ok_weaker c.push_gone.result
     (λ last. two_added _ _ _ _ _ c.in_ok-push_there.ensures.added last
     ∙ ap (λ l. string_bytes c.args.text.now ++ l)

@@ -9,4 +9,5 @@ abbrev pub invariant-loop-door : goal.invariant-loop-door
 invariant-loop-door l =
     string_bytes l.text
     ≡ string_bytes l.initial.text
-    ++ flat_map (λ d. line_if l.family l.config l.objects (change_to l.before d)) (take l.door-index l.after)
+    ++ flat_map (λ d. line_if l.family l.config l.objects (change_to l.before d))
+    (take l.door-index l.after)

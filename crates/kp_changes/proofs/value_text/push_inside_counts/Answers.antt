@@ -1,4 +1,4 @@
-use Rattle.std.proofs.Common.{◌++◌, ◌==◌, ap, cond, sym, ◌∙◌, string_bytes}
+use Rattle.std.proofs.Common.{◌++◌, ◌==◌, ap, sym, ◌∙◌, string_bytes}
 use Rattle.std.proofs.lemmas.Result.{on_err_weaker, on_ok_weaker}
 use Rattle.kp_report.proofs.Pieces.{front_on, two_added}
 use Rattle.kp_change_defs.specs.ValueText.{now_text, unless}
@@ -10,9 +10,11 @@ returns-clause-added c =
     let before = c.args.before in
     let after = c.args.after in
     on_ok_weaker c.push_count_unless.result
-    (λ h. two_added _ _ _ (inside_count before) (unless (before == after) (now_text (inside_count after)))
+    (λ h. two_added _ _ _ (inside_count before)
+    (unless (before == after) (now_text (inside_count after)))
     c.in_ok-push_inside_count.ensures.added h
-    ∙ ap (λ comes. string_bytes c.args.text.now ++ inside_counts comes before after) (sym c.if-comes.false))
+    ∙ ap (λ comes. string_bytes c.args.text.now ++ inside_counts comes before after)
+    (sym c.if-comes.false))
     c.push_count_unless.ensures.added
 
 pub returns-clause-front : goal.returns-clause-front

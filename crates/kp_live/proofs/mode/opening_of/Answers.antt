@@ -1,6 +1,5 @@
-use Rattle.std.proofs.Common.{◌≡◌, ℕ, ◌<◌, List, [], ◌∷◌, length, cond, nat_lt, codes, refl, sym, ap, ◌∙◌, lt-ltb, arith}
+use Rattle.std.proofs.Common.{◌≡◌, ℕ, ◌<◌, List, [], ◌∷◌, length, cond, nat_lt, codes, refl, ap, ◌∙◌, lt-ltb, arith}
 use Rattle.std.proofs.lemmas.Result.{IfOk-weaker}
-use Rattle.kp_run_defs.specs.LiveLines.{running_streams}
 use Rattle.kp_streams.specs.Streams.{reading_in}
 use Rattle.kp_live.proofs.mode.opening_of.Goals as goal
 

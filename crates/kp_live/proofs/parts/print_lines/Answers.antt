@@ -1,6 +1,6 @@
-use Rattle.std.proofs.Common.{◌≡◌, ◌++◌, ◌+◌, ◌||◌, ap, sym, subst, ◌∙◌, take}
+use Rattle.std.proofs.Common.{◌++◌, ◌+◌, ◌||◌, ap, sym, subst, ◌∙◌, take}
 use Rattle.std.specs.Prelude.{Ok}
-use Rattle.kp_live.specs.Runs.{AreLeft, Telling, after_line, telling}
+use Rattle.kp_live.specs.Runs.{AreLeft, Telling, telling}
 use Rattle.kp_live.proofs.Lines.{telling_next, telling_rest}
 use Rattle.kp_live.proofs.Printing.{prints_any, prints_as, prints_broken, prints_then}
 use Rattle.kp_live.proofs.parts.print_lines.Goals as goal

@@ -1,4 +1,4 @@
-use Rattle.std.proofs.Common.{◌≡◌, map, take}
+use Rattle.std.proofs.Common.{map, take}
 use Rattle.kp_live.specs.Streams.{RunsOn}
 use Rattle.kp_live.proofs.stream.take_all.Given as goal
 

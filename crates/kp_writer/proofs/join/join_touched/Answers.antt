@@ -1,7 +1,7 @@
 use Rattle.std.proofs.Common.{ap, ◌∙◌}
 use Rattle.std.proofs.lemmas.Result.{on_ok_weaker}
+use Rattle.kp_types.proofs.TableFamilies.{filter_is_own, nat_is_own}
 use Rattle.kp_table_defs.specs.Layout as layout
-use Rattle.kp_rules.proofs.OtherFamily.{filter_family, nat_family}
 use Rattle.kp_writer.specs.Next.{NextParts}
 use Rattle.kp_writer.specs.Shared.{external, firewall, join_if, node_ports, refusals}
 use Rattle.kp_writer.proofs.SharedPlaces.{join_at}
@@ -12,8 +12,8 @@ returns c =
     let f = c.args.family in
     let bs = c.args.blocks.now in
     let t = c.args.touched.now in
-    let nat = join_at f bs c.nat_of-nat.ensures (nat_family f) in
-    let filter = join_at f bs c.filter_of-filter.ensures (filter_family f) in
+    let nat = join_at f bs c.nat_of-nat.ensures (nat_is_own f) in
+    let filter = join_at f bs c.filter_of-filter.ensures (filter_is_own f) in
     let start = c.args.next.now in
     let first = c.join_if.new.next in
     let second = c.join_if-2.new.next in

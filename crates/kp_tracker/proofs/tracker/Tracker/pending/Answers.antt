@@ -1,4 +1,4 @@
-use Rattle.std.proofs.Common.{map, Bor, ap, subst, ◌∙◌}
+use Rattle.std.proofs.Common.{map, Bor, subst}
 use Rattle.kp_tracker.specs.Tracked as spec
 use Rattle.std.proofs.lemmas.Result.{IfOk-weaker}
 use Rattle.kp_tracker.proofs.PendingKeys.{are_pending}
