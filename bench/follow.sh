@@ -1,111 +1,126 @@
 #!/usr/bin/env bash
 # What it costs to follow a cluster: syncs after one Pod's event each, beside loading the cluster and
-# syncing once, a smaller cluster, and `jq -c .`. Processor time, each the least of seven runs by turns.
-# What 200 syncs of a Pod's event cost is a tenth of what 2,000 cost, which stands out from the loading.
+# syncing once, a smaller cluster, and `jq -c .`. Processor time, each the least of seven runs by
+# turns. The events and syncs are written once the program has answered all that comes before them,
+# so that they are measured by themselves (parts.py).
 #   bench/follow.sh [FIGURE..]
 #   METER=instructions bench/follow.sh size|explain|slices|last|beats
 # FIGURE is `size`, `explain`, `slices`, `last`, `jq`, `beats` or `memory`; all of them if left out.
 # With the second call they are instructions, which other work on the machine doesn't change.
-# KPROXY is the command that is measured, `./kproxy` if left out; of instructions it is a program's
-# path, that of the built one if left out.
+# KPROXY is the path of the program that is measured, that of the built one if left out.
 set -eu
 cd "$(dirname "$0")/.."
-meter=processor_seconds turns=(1 2 3 4 5 6 7)
-read -ra program <<<"${KPROXY:-./kproxy}"
-if [[ ${METER-} == instructions ]]; then
-    meter=instructions turns=(1)
-    read -ra program <<<"${KPROXY:-$(checks/program kproxy)}"
-fi
+meter=nanoseconds turns=7
+[[ ${METER-} != instructions ]] || meter=counted turns=1
+program=${KPROXY:-$(checks/program kproxy)}
 work=$(mktemp -d)
 trap 'rm -rf "$work"' EXIT
 . bench/timing.sh
+declare -A cluster_of=()
 
-cluster() { # $1: Services, $2: Pods
-    [[ -f $work/$1-$2 ]] || bench/cluster.sh "$1" "$2" 0 | awk '/DELETED/ { exit } { print }' >"$work/$1-$2"
-}
-
-changes() { # $1: Services, $2: Pods, $3: the name of the file, then the arguments of changes.sh
-    local services=$1 pods=$2 name=$3
+# a file of changes, and the one of the cluster that they follow
+changes() { # $1: the name of the file, $2: Services, $3: Pods, then the arguments of changes.sh
+    local name=$1 cluster=$work/$2-$3
+    [[ -f $cluster ]] || bench/cluster.sh "$2" "$3" 0 | awk '/DELETED/ { exit } { print }' >"$cluster"
     shift 3
-    cluster "$services" "$pods"
-    bench/changes.sh "$@" <"$work/$services-$pods" >"$work/$name"
+    bench/changes.sh "$@" <"$cluster" | tail -n "+$(($(wc -l <"$cluster") + 1))" >"$work/$name"
+    cluster_of[$name]=$cluster
 }
 
-# the least of seven runs of the program on each of these files, by turns
+# what the program takes for a cluster, and then for the changes
+nanoseconds() { # $1: the cluster, $2: the changes
+    bench/parts.py "$1" "$2" "$program" replay
+}
+
+# the same in instructions
+counted() { # as nanoseconds
+    local before after
+    cat "$1" "$2" >"$work/both"
+    before=$(instructions "$1" "$program" replay)
+    after=$(instructions "$work/both" "$program" replay)
+    echo "$before $((after - before))"
+}
+
+# the least of all runs for each of these changes and its cluster, by turns
 least_by_turns() { # the names of files, each once
-    local run file
-    for run in "${turns[@]}"; do
-        for file in "$@"; do
-            echo "$file $("$meter" "$work/$file" "${program[@]}" replay)"
+    local run name
+    for ((run = 0; run < turns; run++)); do
+        for name in "$@"; do
+            echo "$name $("$meter" "${cluster_of[$name]}" "$work/$name")"
         done
-    done | awk '!($1 in least) || $2 < least[$1] { least[$1] = $2 } END { for (f in least) print f, least[f] }' \
-        >"$work/least"
+    done | awk '
+        !($1 in load) || $2 < load[$1] { load[$1] = $2 }
+        !($1 in after) || $3 < after[$1] { after[$1] = $3 }
+        END { for (name in load) print name, load[name], after[name] }' >"$work/least"
 }
 
-# a figure over the least of the files: a word for each is its name
-figure() { # $1: a sentence, $2: names and an awk expression over t["name"]
-    awk -v sentence="$1" '{ t[$1] = $2 } END { printf "%s: %.3f\n", sentence, '"$2"' }' "$work/least"
+# a figure over what the least of the files is, for the cluster and after it
+figure() { # $1: a sentence, $2: an awk expression over load["name"] and after["name"]
+    awk -v sentence="$1" '{ load[$1] = $2; after[$1] = $3 }
+        END { printf "%s: %.3f\n", sentence, '"$2"' }' "$work/least"
 }
 
 size() {
-    changes 10000 60000 many move 2000
-    changes 1000 6000 few move 2000
-    least_by_turns 10000-60000 many 1000-6000 few
+    changes many 10000 60000 move 200
+    changes few 1000 6000 move 200
+    least_by_turns many few
     figure "200 syncs among 10,000 Services, of loading and syncing once" \
-        '(t["many"] - t["10000-60000"]) / 10 / t["10000-60000"]'
-    figure "200 syncs among 10,000 Services, of those among 1,000" \
-        '(t["many"] - t["10000-60000"]) / (t["few"] - t["1000-6000"])'
-    [[ $meter == instructions ]] ||
-        figure "milliseconds of one sync among 10,000 Services" '(t["many"] - t["10000-60000"]) / 2'
+        'after["many"] / load["many"]'
+    figure "200 syncs among 10,000 Services, of those among 1,000" 'after["many"] / after["few"]'
+    [[ $meter == counted ]] ||
+        figure "milliseconds of one sync among 10,000 Services" 'after["many"] / 200 / 1000000'
 }
 
 explain() {
-    changes 10000 60000 explained move 2000 explain
-    changes 1000 6000 few_explained move 2000 explain
-    least_by_turns 10000-60000 explained 1000-6000 few_explained
+    changes many 10000 60000 move 200 explain
+    changes few 1000 6000 move 200 explain
+    least_by_turns many few
     figure "200 syncs and explains among 10,000 Services, of loading and syncing once" \
-        '(t["explained"] - t["10000-60000"]) / 10 / t["10000-60000"]'
+        'after["many"] / load["many"]'
     figure "200 syncs and explains among 10,000 Services, of those among 1,000" \
-        '(t["explained"] - t["10000-60000"]) / (t["few_explained"] - t["1000-6000"])'
+        'after["many"] / after["few"]'
 }
 
 slices() {
-    changes 1000 6000 shown move 200 slices
-    cluster 1000 6000
-    { cat "$work/1000-6000" && yes '{"op":"show","what":"slices"}' | head -200; } >"$work/shows"
-    least_by_turns 1000-6000 shown shows
-    figure "200 events, syncs and shows of slices, of 200 shows" \
-        '(t["shown"] - t["1000-6000"]) / (t["shows"] - t["1000-6000"])'
+    changes shown 1000 6000 move 200 slices
+    yes '{"op":"show","what":"slices"}' | head -200 >"$work/shows"
+    cluster_of[shows]=${cluster_of[shown]}
+    least_by_turns shown shows
+    figure "200 events, syncs and shows of slices, of 200 shows" 'after["shown"] / after["shows"]'
 }
 
 last() {
-    changes 10000 60000 ends last 200
-    least_by_turns 10000-60000 ends
+    changes ends 10000 60000 last 200
+    least_by_turns ends
     figure "200 syncs of a Service's last endpoint among 10,000, of loading and syncing once" \
-        '(t["ends"] - t["10000-60000"]) / t["10000-60000"]'
+        'after["ends"] / load["ends"]'
 }
 
 jq() {
-    local ours theirs
-    changes 3000 18000 whole move 1500
-    least_by_turns whole
-    ours=$(awk '{ print $2 }' "$work/least")
-    program=(command jq)
-    theirs=$(for run in 1 2 3 4 5 6 7; do processor_seconds "$work/whole" command jq -c .; done | sort -n | sed -n 1p)
-    read -ra program <<<"${KPROXY:-./kproxy}"
+    local ours run theirs
+    changes whole 3000 18000 move 1500
+    cat "${cluster_of[whole]}" "$work/whole" >"$work/lines"
+    for ((run = 0; run < turns; run++)); do
+        processor_seconds "$work/lines" "$program" replay >>"$work/ours"
+        processor_seconds "$work/lines" command jq -c . >>"$work/theirs"
+    done
+    ours=$(sort -n "$work/ours" | sed -n 1p)
+    theirs=$(sort -n "$work/theirs" | sed -n 1p)
     echo "loading 3,000 Services and 1,500 syncs, of jq -c .: $(ratio "$theirs" "$ours")"
 }
 
 beats() {
-    changes 3000 18000 beats beat 20000
-    changes 3000 18000 unsynced beat 20000 unsynced
+    changes beats 3000 18000 beat 20000
+    changes unsynced 3000 18000 beat 20000 unsynced
     least_by_turns beats unsynced
-    figure "20,000 heartbeats with a sync each, of those without" 't["beats"] / t["unsynced"]'
+    figure "20,000 heartbeats with a sync each, of those without" \
+        'after["beats"] / after["unsynced"]'
 }
 
 memory() {
-    changes 10000 60000 held move 200
-    python3 - "$work/held" "${program[@]}" <<'END'
+    changes held 10000 60000 move 200
+    cat "${cluster_of[held]}" "$work/held" >"$work/lines"
+    python3 - "$work/lines" "$program" <<'END'
 import os, resource, subprocess, sys
 with open(sys.argv[1], "rb") as lines:
     subprocess.run(sys.argv[2:] + ["replay"], stdin=lines, stdout=subprocess.DEVNULL, check=True)
@@ -114,7 +129,6 @@ print(f"memory: at most {most / os.path.getsize(sys.argv[1]):.1f} times the inpu
 END
 }
 
-"${program[@]}" replay </dev/null
 [[ $# != 0 ]] || set -- size explain slices last jq beats memory
 for name in "$@"; do
     case $name in

@@ -1,14 +1,15 @@
 #!/usr/bin/env bash
-# What a sync costs in each mode beside one of a replay, among 10,000 Services: after one Pod's event
-# each that gives a ready Pod other addresses, that takes a Service its only endpoint and gives it
-# back, or that says what is known. Each figure is the difference between a run with 2,000 such
-# syncs and one with none, of processor time and the least of five runs by turns.
-#   bench/modes.sh [SERVICES PODS]
+# What a sync costs in each mode beside one of a replay, among 10,000 Services: after one event of a
+# Pod each that gives a ready Pod other addresses, that takes a Service its only endpoint and gives
+# it back, or that says what is known. Each figure is the difference between a run with 2,000 such
+# syncs and one with none, of processor time and the least of some runs by turns, three by default.
+#   bench/modes.sh [SERVICES PODS [RUNS]]
 # KPROXY is the command that is measured: `./kproxy` if left out.
 set -eu
 cd "$(dirname "$0")/.."
 services=${1:-10000}
 pods=${2:-60000}
+runs=${3:-3}
 syncs=2000
 read -ra program <<<"${KPROXY:-./kproxy}"
 work=$(mktemp -d)
@@ -26,7 +27,7 @@ for kind in move last beat; do
     bench/changes.sh $kind $syncs <"$work/none" >"$work/$kind"
 done
 "${program[@]}" replay </dev/null
-for _ in 1 2 3 4 5; do
+for ((run = 0; run < runs; run++)); do
     for mode in replay changes health; do
         for kind in none move last beat; do
             echo "$mode $kind $(processor_seconds "$work/$kind" "${program[@]}" $mode)"

@@ -1,8 +1,8 @@
 #!/usr/bin/env bash
 # Wall time of `kproxy replay` with 1, 2 and 4 workers on the same file, least of seven runs by
 # turns, and from how many lines together on workers gain: packets with seeds to so many Services,
-# packets of one source, and scripts whose packets stand in runs of so many lines with an event
-# between them.
+# of which each has two pods or so, packets of one source, and scripts whose packets stand in runs
+# of so many lines with a command between them.
 #   bench/workers.sh [PACKETS [SERVICES]]
 set -eu
 cd "$(dirname "$0")/.."
@@ -30,13 +30,16 @@ told() { # $1: what it is, $2: the file
         { printf "%s, %s workers: %.2f s, %.2f of one\n", what, $1, $2, $2 / one }'
 }
 
-bench/cluster.sh "$services" 0 0 >"$work/cluster"
+# the last sync changes nothing, so that a batch that is shown is empty
+{ bench/cluster.sh "$services" $((services * 2)) 0; echo '{"op":"sync"}'; } >"$work/cluster"
 packet() { # $1: how many, $2: how many sources
     awk -v many="$1" -v sources="$2" -v services="$services" 'BEGIN {
-        for (i = 0; i < many; i++)
+        for (i = 0; i < many; i++) {
+            to = i % services + 1
             printf "{\"op\":\"packet\",\"src\":\"10.244.%d.%d\",\"dst\":\"10.96.%d.%d\",\"proto\":\"TCP\",\"dport\":80,\"now\":%d,\"seed\":%d}\n",
                 int(i % sources / 250), i % sources % 250 + 1,
-                int(i % services / 250), i % services % 250 + 1, int(i / 1000), i
+                int(to / 256), to % 256, int(i / 1000), i
+        }
     }'
 }
 
@@ -45,7 +48,7 @@ packet() { # $1: how many, $2: how many sources
 told "$packets seeded packets" "$work/many"
 { cat "$work/cluster"; packet "$packets" 1; } >"$work/one"
 told "$packets seeded packets of one source" "$work/one"
-for run in 32 64 128 256 512; do
+for run in 128 256 512 1024 4096; do
     { cat "$work/cluster"; packet 100000 997 | awk -v run="$run" '{ print }
         NR % run == 0 { print "{\"op\":\"show\",\"what\":\"batch\"}" }'; } >"$work/runs"
     told "100000 packets in runs of $run" "$work/runs"
