@@ -9,7 +9,7 @@ type that says no, once. In the last two columns `NAME` is a clause of that call
 row, and *its clause* the only one of a call, without a name.
 
 - A cause names clauses, one of which at least speaks of refusals, or is *free*, where memory was
-  wanted, or **not said**.
+  wanted, or *left*, where a `None` leaves the answer to another reader, or **not said**.
 - What stands is *whole* exactly where the call takes nothing by `&mut` or by value. Of what it
   takes by value one of HANDED is said. All else is said by clauses that speak of refusals, or is
   **not said**. It is nothing where the cause begins with "never:".
@@ -35,7 +35,7 @@ COPIED = set("bool char u8 u16 u32 u64 u128 usize Global".split())
 # what becomes of something that was taken by value
 HANDED = ("*gone*", "handed back", "is kept")
 # room for the next call, of which nothing is shown
-SHOWS_NOTHING = {"Scratch"}
+SHOWS_NOTHING = {"Scratch", "Interner"}
 
 QUOTED = re.compile(
     r"""//[^\n]*|/\*.*?\*/|\bb?r(?P<hash>\#*)".*?"(?P=hash)|"""
@@ -103,7 +103,8 @@ class Call:
         closing = end_of(text, opening)
         self.takes = parts_of(" ".join(text[opening + 1 : closing].split()))
         self.clauses = {}
-        self.result = self.read_rest(text, closing + 1)
+        # what a slice has is no answer
+        self.result = re.sub(r"\[.*\]", "[]", self.read_rest(text, closing + 1))
 
     def read_rest(self, text, at):
         """Reads the clauses after the arguments, and gives the type of the result."""
@@ -145,6 +146,7 @@ class Call:
     def may_change(self):
         """Whether it takes something by `&mut` of which something is shown."""
         changed = [it for it in self.takes if re.search(r"&('\w+ )?mut\b", it)]
+        changed = [it.replace("self", self.owner or "self") for it in changed]
         return any(not SHOWS_NOTHING & set(re.findall(r"\w+", it)) for it in changed)
 
     def takes_over(self, copied):
@@ -229,6 +231,8 @@ class Row:
 
     def cause_faults(self, call):
         if "**not said**" in self.cause or "*free*" in self.cause and self.answers <= WANTS_MEMORY:
+            return []
+        if "*left*" in self.cause and self.answers == {"None"}:
             return []
         # of `None` and `Err` inside an accepted answer the clauses on accepted calls speak
         refuses = {it for it in self.named(self.cause) if not call.is_on_accepted(it)}

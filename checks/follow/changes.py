@@ -3,6 +3,7 @@ policies, to endpoints in slices or pods, to zones of nodes, and to which of the
 same seed makes the same script."""
 
 import random
+from functools import lru_cache
 
 SOURCES = ["10.244.1.2", "10.244.2.3", "192.0.2.7", "198.51.100.7", "10.0.0.1"]
 SOURCES6 = ["fd00:10:244:1::2", "fd00:10:244:2::3", "2001:db8:7::7", "2001:db9::7", "fd00::1"]
@@ -19,6 +20,7 @@ SIZES = [(60, 16), (60, 16), (20, 2), (32, 2)]
 SIX = "vw"
 # how many changes come before a sync
 COUNTS = [0, 1, 1, 1, 1, 1, 2, 2, 3, 8]
+HOLDERS = {dict, list}  # the types of values that have members
 
 # What the members of an object may be. Of None there is no such member.
 SERVICE = {
@@ -127,8 +129,8 @@ class Cluster:
         return setting | {"controller": self.controller}
 
     def put(self, *items):
-        """A line for each object, that it is so."""
-        return [self.put_line(copied(item)) for item in items]
+        """A line for each object, that it is so. Objects that are put aren't changed any more."""
+        return [self.put_line(item) for item in items]
 
     def put_line(self, item):
         self.objects[item["kind"], item["metadata"]["name"]] = item
@@ -164,21 +166,29 @@ def made(kind, name, choices, rng):
 
 
 def copied(value):
-    """A copy of a value that has no other parts than those of JSON, which is quickly made."""
-    if isinstance(value, dict):
-        return {name: copied(it) for name, it in value.items()}
-    return [copied(it) for it in value] if isinstance(value, list) else value
+    """A copy of a value that has no other parts than those of JSON, which is quickly made: of most
+    members nothing is to be copied."""
+    kind = type(value)
+    if kind is dict:
+        return {name: copied(it) if type(it) in HOLDERS else it for name, it in value.items()}
+    return [copied(it) for it in value] if kind is list else value
 
 
 def change(item, path, choices, rng):
     """Gives the member of this path one of its values."""
-    *above, name = path.split(".")
+    above, name = parts_of(path)
     for word in above:
         item = item.setdefault(word, {})
     item.pop(name, None)
     value = rng.choice(choices[path])
     if value is not None:
-        item[name] = copied(value)
+        item[name] = copied(value) if type(value) in HOLDERS else value
+
+
+@lru_cache(maxsize=None)
+def parts_of(path):
+    *above, name = path.split(".")
+    return above, name
 
 
 def change_one(item, choices, rng):

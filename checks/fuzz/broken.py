@@ -6,10 +6,8 @@ on the way. Each is told by one of the first random scripts.
     broken.py PROGRAM ECHO
 """
 
-import os
 import re
 import sys
-from multiprocessing import Pool
 
 import fuzz
 from scripts import random_script
@@ -152,7 +150,7 @@ def told_of(name):
 
 def main(path, echo):
     """Tells the programs that aren't told, or are told otherwise."""
-    with Pool(len(os.sched_getaffinity(0)), fuzz.begin, (path, echo)) as pool:
+    with fuzz.processes(path, echo) as pool:
         wrong = list(filter(None, pool.imap(told_of, PROGRAMS)))
     print(*wrong, sep="\n", end="\n" * bool(wrong))
     return int(bool(wrong))

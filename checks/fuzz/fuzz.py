@@ -23,30 +23,27 @@
     fuzz.py script SEED                       prints the random script of a seed
 """
 
-import fcntl
 import json
 import math
 import os
 import random
 import re
-import signal
-import subprocess
 import sys
 import time
-from functools import lru_cache
-from itertools import islice
+from functools import cached_property, lru_cache
+from itertools import accumulate, islice
 from multiprocessing import Pool
 from pathlib import Path
 
 sys.path.append(str(Path(__file__).resolve().parent.parent / "live"))
 
 import runs
+from runner import PIECE, Wrong, end_of, file_of, pieces_of, pipe_of
 from scripts import MOST_BYTES, random_script, to_door
 from walk import Tables, Unknown, Walk
 
-SECONDS = 60
 MOST_LEVELS = 127
-FEWEST = 256  # lines that workers share
+FEWEST = 512  # lines that workers share
 MOST_FAULTS = 5
 JUDGED = 0.1  # of the live runs are judged, which takes the most time
 WALKED = 10  # packets by the last tables
@@ -55,9 +52,6 @@ IN_MODES = 0.25  # of the scripts run in another mode as well
 RULES_AT_END = r"(?:\*filter\n:KUBE-NODEPORTS .*\n(?:-A .*\n)+COMMIT\n)?"
 MODES = {"changes": ("change", ""), "health": ("health", RULES_AT_END)}
 SHRINKING = 30  # seconds in which a smaller script is looked for
-# a pipe holds so many pieces of at most so many bytes
-PIECES, PIECE = 256, 4096
-F_SETPIPE_SZ = 1031
 
 BLANKS = b" \t\r"
 NO_VALUE = object()
@@ -66,12 +60,13 @@ TABLES = [b'{"op":"show","what":"nat"}', b'{"op":"show","what":"filter"}']
 TABLES6 = [b'{"op":"show","what":"nat6"}', b'{"op":"show","what":"filter6"}']
 REFUSED = re.compile(r"^line (\d+): refused: (.*)\n", re.M)
 
+TOO_LONG = f"longer than {MOST_BYTES} bytes"
 PATH = r' "(?:[^"\\]|\\.)*"'
 WHY = "|".join([
     "bad json|not an event|config is not the first line",
     f"kind{PATH} is not supported|op{PATH} is not known|missing{PATH}|duplicate port at{PATH}",
     f"(?:wrong type|out of range|bad name|bad address|bad range) at{PATH}",
-    rf"too many at{PATH}: \d+|longer than 16777216 bytes|journal full at \d+",
+    rf"too many at{PATH}: \d+|{TOO_LONG}|journal full at \d+",
     "chain name KUBE-.* of .* and of .*",
 ])  # fmt: skip
 ENDPOINT = r"(?:[\d.]+|\[[\da-f:.]+\]):\d+"
@@ -96,11 +91,7 @@ FORMS = {name: re.compile(form) for name, form in FORMS.items()}
 
 
 # what the judge meets where the program reads a line that it should refuse, or ends otherwise later
-UNREAD = (KeyError, TypeError, ValueError, AttributeError, RuntimeError, subprocess.TimeoutExpired)
-
-
-class Wrong(Exception):
-    """What isn't so, a colon, and where."""
+UNREAD = (KeyError, TypeError, ValueError, AttributeError, RuntimeError)
 
 
 def demand(condition, where):
@@ -125,91 +116,42 @@ class Program:
 
     def __init__(self, path, echo):
         self.path, self.echo = path, echo
-        self.judge = runs.Program(path)
+        self.judge = Judge(path)
+        self.echoed = lru_cache(maxsize=64)(self.echoed)  # many scripts have the same few tables
 
     def run(self, words, data, pieces=()):
         """The status and the text of a run whose input comes whole, or in pieces."""
-        return self.ended([self.path, *words], pipe_of(pieces) if pieces else file_of(data))
+        given = pipe_of(pieces) if pieces else file_of(data)
+        return end_of([self.path, *words], given)
 
     def echoed(self, text, *words):
         """What is printed of tables that are read again."""
         given = file_of(text.encode(errors="surrogateescape"))
-        status, said = self.ended([self.echo, *words], given)
+        status, said = end_of([self.echo, *words], given)
         return said if status == 0 else f"{said}status {status}"
 
-    @staticmethod
-    def ended(words, given):
-        """The status of a program and all that it writes."""
-        with os.fdopen(given, "rb") as given, os.fdopen(os.memfd_create("said"), "rb") as said:
-            ends = {"stdin": given, "stdout": said, "stderr": said}
-            process = subprocess.Popen(words, **ends, close_fds=False)
-            signal.alarm(SECONDS)
-            try:
-                status = process.wait()
-            except TimeoutError as fault:
-                process.kill()
-                process.wait()
-                raise Wrong(f"status: there is none after {SECONDS} seconds") from fault
-            finally:
-                signal.alarm(0)
-            said.seek(0)
-            return status, said.read().decode(errors="surrogateescape")
 
+class Judge(runs.Program):
+    """The built program, as those ask it who judge live runs."""
 
-def ring(*_):
-    raise TimeoutError
-
-
-def file_of(data):
-    """A file with these bytes, to be read."""
-    made = os.memfd_create("given")
-    with os.fdopen(os.dup(made), "wb") as file:
-        file.write(data)
-    os.lseek(made, 0, os.SEEK_SET)
-    return made
-
-
-def pipe_of(pieces):
-    """A pipe that has all pieces, of which each read takes one."""
-    end, start = os.pipe2(os.O_DIRECT | os.O_CLOEXEC)
-    fcntl.fcntl(start, F_SETPIPE_SZ, PIECES * PIECE)
-    for piece in pieces:
-        os.write(start, piece)
-    os.close(start)
-    return end
-
-
-def pieces_of(data, rng):
-    """Random pieces of the bytes: some places are beside line feeds, and some beside each other.
-    There are none of bytes that a pipe doesn't hold."""
-    fixed = range(PIECE, len(data), PIECE)
-    room = PIECES - len(fixed) - 1
-    if len(data) > room * PIECE // 2:
-        return ()
-    if len(data) <= room:
-        places = set(range(len(data)))
-    else:
-        feeds = [at.end() for at in islice(re.finditer(b"\n", data), room // 4)]
-        run = rng.randrange(len(data))
-        places = {*feeds, *(it - 1 for it in feeds), *range(run, run + room // 4)}
-        places |= {rng.randrange(len(data)) for _ in range(rng.choice([0, 3, room // 4]))}
-    places = sorted(it for it in {0, *places, *fixed} if it < len(data))
-    return [data[start:end] for start, end in zip(places, [*places[1:], len(data)])]
+    def run(self, mode, data):
+        status, text = end_of([self.path, mode], file_of(data))
+        return text, status
 
 
 # ---- what lines ask for
 
 
-@lru_cache(maxsize=256)
 def value_of(line):
     """The value of a line, or NO_VALUE where it isn't JSON that is read."""
     try:
         text = line.decode()
-        value = json.loads(text, parse_constant=finite, parse_float=finite, parse_int=whole)
-        # few lines are so deep or have such characters that all of a value is looked at
-        is_plain = text.count("[") + text.count("{") <= MOST_LEVELS and "\\u" not in text
-        if not is_plain and levels_of(json.loads(text, object_pairs_hook=tuple)) > MOST_LEVELS:
+        value = (READER_OF_LONG if len(text) > LONG else READER).decode(text)
+        if text.count("[") + text.count("{") > MOST_LEVELS and levels_of(text) > MOST_LEVELS:
             return NO_VALUE
+        if HALF.search(text):  # no text of all members has half a character
+            pairs = json.loads(text, object_pairs_hook=tuple)
+            json.dumps(pairs, ensure_ascii=False).encode()
         return value
     except (ValueError, RecursionError):
         return NO_VALUE
@@ -228,13 +170,44 @@ def whole(text):
     return int(text)
 
 
-def levels_of(value):
-    """How deep a value is, in which objects are tuples of pairs; no text has half a character."""
-    if isinstance(value, str):
-        value.encode()
-    if isinstance(value, tuple):
-        return 1 + max((max(levels_of(name), levels_of(it)) for name, it in value), default=0)
-    return 1 + max(map(levels_of, value), default=0) if isinstance(value, list) else 0
+# a whole number of at most so many digits is finite, so that it is read as it is
+LONG = 308
+READER = json.JSONDecoder(parse_constant=finite, parse_float=finite)
+READER_OF_LONG = json.JSONDecoder(parse_constant=finite, parse_float=finite, parse_int=whole)
+TEXT = re.compile(r'"(?:[^"\\]|\\.)*"')
+HALF = re.compile(r"\\u[dD]")  # how the escape of half a character begins
+
+
+def levels_of(text):
+    """How deep a value is written."""
+    brackets = re.findall(r"[][{}]", TEXT.sub("", text))
+    return max(accumulate(1 if it in "[{" else -1 for it in brackets), default=0)
+
+
+class Line:
+    """What is asked by a line, whatever stands before it."""
+
+    def __init__(self, line):
+        self.is_long = len(line) > MOST_BYTES
+        self.is_blank = not self.is_long and not line.strip(BLANKS)
+        self.value = NO_VALUE if self.is_long or self.is_blank else value_of(line)
+        self.is_bad = self.value is NO_VALUE and not self.is_long
+        self.op = self.value.get("op") if isinstance(self.value, dict) else None
+
+    @cached_property
+    def events(self):
+        """How many events it brings."""
+        return len([runs.told_of(*it) for it in runs.items_of(self.value)])
+
+    @cached_property
+    def packet(self):
+        """What it says of a packet; nothing where that depends on the line's number, as the draws
+        of a seed do."""
+        value = {name: it for name, it in self.value.items() if name not in ("op", "trail")}
+        return value if "draws" in value or "seed" not in value else None
+
+
+asked_by = lru_cache(maxsize=256)(Line)  # crowds have few lines, each of them often
 
 
 class Answers:
@@ -243,46 +216,42 @@ class Answers:
     def __init__(self):
         self.syncs = self.events = 0
         self.has_six = False  # whether there are tables of IPv6
-        self.explained = None, None  # what the line before explains, and its verdict
+        self.explained = None  # what the line before explains, and its verdict
 
     def to(self, number, line, why):
         """The form of the answer to the next line, the beginning of each of its parts and the form
         of the part's rest. The line is refused so, or isn't."""
-        is_long = len(line) > MOST_BYTES
-        demand((why == "longer than 16777216 bytes") == is_long, f"answers: line {number}: {why}")
-        value = NO_VALUE if is_long else value_of(line)
-        is_bad = not is_long and value is NO_VALUE
-        demand((why == "bad json") == is_bad, f"answers: line {number} is bad JSON: {is_bad}")
+        if (why == TOO_LONG) != line.is_long or (why == "bad json") != line.is_bad:
+            told = "too long" if line.is_long else "bad JSON" if line.is_bad else "JSON"
+            raise Wrong(f"answers: line {number} is {told}, and is told as {why}")
         if why:
             return "refused", [(f"line {number}: refused: ", "refused")]
-        op, at = value.get("op"), f"{number} at {self.syncs}"
+        op, value = line.op, line.value
+        if op == "packet":
+            parts = [(f"packet {number} at {self.syncs}: ", op)]
+            return op, parts + [(f"trail {number}: ", "trail")] if value.get("trail") else parts
+        if op == "explain":
+            return op, [(f"explain {number} at {self.syncs}: ", op)]
         if op == "sync":
             self.syncs, events, self.events = self.syncs + 1, self.events, 0
             return op, [(f"sync {self.syncs}: events {events}", op)]
-        if op == "packet":
-            trail = [(f"trail {number}: ", "trail")] if value.get("trail") else []
-            return op, [(f"packet {at}: ", op), *trail]
-        if op == "explain":
-            return op, [(f"explain {at}: ", op)]
         if op == "show":
             table = value["what"].removesuffix("6")
             return op, [("", table if table == value["what"] or self.has_six else "nothing")]
         if op == "config":
             self.has_six = value.get("dualStack") is True
         else:
-            self.events += len(runs.events_of(value))
+            self.events += line.events
         return op, []
 
     def compare(self, op, line, rest):
         """A packet has the verdict of the explanation before it, where both have the same draws."""
-        value = value_of(line) if op in ("packet", "explain") else {}
-        asked = {name: it for name, it in value.items() if name not in ("op", "trail")}
-        verdict = re.split("[;\n]", rest)[0]
-        has_draws = "draws" in asked or "seed" not in asked  # seeds draw by the line's number
-        if op == "packet" and has_draws and asked == self.explained[0]:
-            other = self.explained[1]
+        before, self.explained = self.explained, None
+        if op == "explain":
+            self.explained = line.packet, re.split("[;\n]", rest)[0]
+        elif op == "packet" and before and line.packet is not None and line.packet == before[0]:
+            verdict, other = rest.partition("\n")[0], before[1]
             demand(verdict == other, f"verdict: {verdict!r}, and it is explained as {other!r}")
-        self.explained = (asked, verdict) if op == "explain" else (None, None)
 
 
 def check_answers(lines, refused, text):
@@ -290,18 +259,20 @@ def check_answers(lines, refused, text):
     that changes nothing, and what the others print."""
     answers, place, marked, printed = Answers(), 0, [], []
     for number, line in enumerate(lines, 1):
-        if len(line) <= MOST_BYTES and not line.strip(BLANKS):
+        asked = asked_by(line)
+        if asked.is_blank:
             demand(number not in refused, f"answers: line {number} is blank")
             marked.append(line)
             continue
-        op, parts = answers.to(number, line, refused.get(number))
+        op, parts = answers.to(number, asked, refused.get(number))
         start = place
         for beginning, form in parts:
-            begins = text.startswith(beginning, place)
-            found = begins and FORMS[form].match(text, place + len(beginning))
-            demand(found, f"answers: line {number}: {text[place : place + 200]!r} is no {form}")
+            end = place + len(beginning)
+            found = text.startswith(beginning, place) and FORMS[form].match(text, end)
+            if not found:
+                raise Wrong(f"answers: line {number}: {text[place : place + 200]!r} is no {form}")
             if place == start:
-                answers.compare(op, line, text[place + len(beginning) : found.end()])
+                answers.compare(op, asked, text[end : found.end()])
             place = found.end()
         is_asking = op in ("refused", "explain", "show")
         marked.append(BOOKMARK if is_asking else line)
@@ -321,7 +292,7 @@ def lines_of(data):
 def check_status(mode, ended):
     """The program ended well; its text."""
     status, text = ended
-    is_refused = re.search("^(?:line|final).*: refused: ", text, re.M)
+    is_refused = ": refused: " in text and re.search("^(?:line|final).*: refused: ", text, re.M)
     wanted = 3 if is_refused else 0
     demand(status == wanted, f"status: {mode} ends with {status}, not {wanted}: {text[-200:]!r}")
     return text
@@ -363,9 +334,8 @@ def check_mode(program, data, replayed, mode):
 def check_marked(program, marked, wanted, rng):
     """The lines that are marked changed nothing. After all lines and a sync packets go where the
     tables say. The tables of each family then."""
-    first = next((line for line in marked if line.strip(BLANKS)), b"")
-    value = value_of(first) if first else {}
-    setting = value if value is not NO_VALUE and value.get("op") == "config" else {}
+    first = next((line for line in map(asked_by, marked) if not line.is_blank), None)
+    setting = first.value if first and first.op == "config" else {}
     packets = [to_door(setting, rng) for _ in range(WALKED)]
     asked = [json.dumps(it).encode() for it in packets]
     data = b"\n".join([*marked, b'{"op":"sync"}', *TABLES, *TABLES6, *asked, b""])
@@ -457,7 +427,11 @@ def begin(path, echo):
     """Makes a process of the check ready."""
     global built
     built = Program(path, echo)
-    signal.signal(signal.SIGALRM, ring)
+
+
+def processes(path, echo):
+    """Processes of the check, one for each processor."""
+    return Pool(len(os.sched_getaffinity(0)), begin, (path, echo))
 
 
 def told(seed):
@@ -475,7 +449,7 @@ def told(seed):
 def check(path, echo, count, first):
     """Tells what isn't so of random scripts, up to some."""
     seeds = range(first, first + count)
-    with Pool(len(os.sched_getaffinity(0)), begin, (path, echo)) as pool:
+    with processes(path, echo) as pool:
         faults = filter(None, pool.imap_unordered(told, seeds, chunksize=20))
         faults = list(islice(faults, MOST_FAULTS))
     print(*faults, sep="\n", end="\n" * bool(faults))
@@ -490,7 +464,7 @@ def shown(seed):
 def find(path, echo, count, first):
     """Tells which random script is the first that shows a fault."""
     seeds = range(first, first + count)
-    with Pool(len(os.sched_getaffinity(0)), begin, (path, echo)) as pool:
+    with processes(path, echo) as pool:
         faults = enumerate(pool.imap(shown, seeds), 1)
         place, fault = next(((place, it) for place, it in faults if it), (0, ""))
     if fault:

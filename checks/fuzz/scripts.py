@@ -1,5 +1,5 @@
 """Random scripts of every form of line. A third has faults in members, a third in bytes, and one of
-twenty has crowds of packets. The same seed makes the same script. Their objects are those of
+forty has crowds of packets. The same seed makes the same script. Their objects are those of
 ../follow, a few of each kind."""
 
 import json
@@ -17,7 +17,7 @@ LENGTHS = [2, 5, 10, 20, 40]
 LONG, MOST_BYTES = 500, 16_777_216
 MORE = [-1, 0, 0, 1, 1, 2, 600_000]
 # of every so many scripts one has packets in crowds of so many lines, which workers share
-CROWDED, CROWD, CROWDS = 20, 600, 3
+CROWDED, CROWD, CROWDS = 40, 1000, 2
 # a Service that others are beside, and its doors: a cluster's, an external and a load balancer's
 SERVED = "s9"
 DOORS = ["10.96.0.19", "203.0.113.5", "203.0.113.9"]
@@ -41,6 +41,13 @@ WORDS += ["DELETED", "BOOKMARK", "ERROR", "sync", "config", "event", "packet", "
 WORDS += ["nat6", "filter6", "batch6", "nat"]
 OTHERS = [None, True, False, [], {}, [None], [[]], [{}], {"": {}}, ["a", 1], {"a": None}]
 VALUES = [NUMBERS, NAMES, ADDRESSES, RANGES, WORDS, OTHERS]
+
+# Ways in which a value is written, for each the one with other characters and that with escapes.
+SEPARATORS = [(",", ":"), (", ", ": "), (" ,\t", " : ")]
+ENCODERS = [
+    [json.JSONEncoder(separators=them, ensure_ascii=it).encode for it in (False, True)]
+    for them in SEPARATORS
+]
 
 SHOWN = ["slices", "endpoints", "nat", "filter", "batch", "nat6", "filter6", "batch6"]
 
@@ -103,9 +110,8 @@ def text_of(value, rng):
     """A value as a line, in one of the ways in which it may be written."""
     if isinstance(value, dict) and rng.random() < 0.2:
         value = dict(rng.sample(list(value.items()), len(value)))
-    separators = rng.choice([(",", ":"), (", ", ": "), (" ,\t", " : ")])
-    text = json.dumps(value, separators=separators, ensure_ascii=rng.random() < 0.5)
-    return rng.choice(["", "", "", " "]).encode() + text.encode() + rng.choice([b"", b"", b"\r"])
+    text = ENCODERS[rng.randrange(3)][rng.random() < 0.5](value)
+    return rng.choice([b"", b"", b"", b" "]) + text.encode() + rng.choice([b"", b"", b"\r"])
 
 
 # ---- lines

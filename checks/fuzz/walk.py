@@ -1,11 +1,16 @@
 """Where packets go by printed tables: rules of iptables as its manual has them, for the few forms
 that are printed. A packet that meets a rule on recent sources goes nowhere that can be told."""
 
-import ipaddress
+from functools import lru_cache
+from ipaddress import ip_address, ip_network
 
-LOOPBACK = [ipaddress.ip_network("127.0.0.0/8"), ipaddress.ip_network("::1/128")]
 MARK = 0x4000
 MOST = 2**31 - 1  # a draw that isn't given
+
+# there are few addresses and networks, and packets meet each of them often
+address_of = lru_cache(maxsize=4096)(ip_address)
+network_of = lru_cache(maxsize=4096)(ip_network)
+LOOPBACK = {4: network_of("127.0.0.0/8"), 6: network_of("::1/128")}
 
 
 class Unknown(Exception):
@@ -13,18 +18,55 @@ class Unknown(Exception):
 
 
 class Tables:
-    """The tables of one family, of which each chain has its rules, as words."""
+    """The tables of one family, of which each chain has its rules. Rules are read where a packet
+    comes to them, since packets come to few."""
 
     def __init__(self, text):
-        self.chains, table = {}, ""
+        self.lines, self.read, table = {}, {}, ""
         for line in text.splitlines():
-            if line.startswith("*"):
+            if line.startswith("-A"):
+                _, chain, rest = line.split(" ", 2)
+                self.lines.setdefault((table, chain), []).append(rest)
+            elif line.startswith("*"):
                 table = line[1:]
-            elif line.startswith(":"):
-                self.chains[table, line[1:].split()[0]] = []
-            elif line.startswith("-A"):
-                _, chain, *words = line.split()
-                self.chains[table, chain].append(words)
+
+    def rules(self, table, chain):
+        """The rules of a chain."""
+        key = table, chain
+        if key not in self.read:
+            self.read[key] = [rule_of(rest.split()) for rest in self.lines.get(key, [])]
+        return self.read[key]
+
+
+def rule_of(words):
+    """A rule's tests from the left, each as its word, its value and whether it has to hold; its
+    target and the options of that."""
+    place = words.index("-j")
+    tests, wanted, left = [], True, iter(words[:place])
+    for word in left:
+        if word == "!":
+            wanted = False
+            continue
+        value = "" if word in FLAGS else next(left)
+        if word in TESTS:
+            tests.append((word, TESTS[word](value), wanted))
+            wanted = True
+    return tests, words[place + 1], words[place + 2 :]
+
+
+# options that have no value, and those that test something, with what their value is read as
+FLAGS = {"--rcheck", "--reap", "--set"}
+TESTS = {
+    "-s": network_of,
+    "-d": network_of,
+    "-p": str,
+    "--dport": int,
+    "--src-type": str,
+    "--dst-type": str,
+    "--mark": lambda value: int(value.partition("/")[0], 16),
+    "--probability": lambda value: int(value.replace(".", "")),
+    "--rcheck": str,
+}
 
 
 class Walk:
@@ -32,16 +74,15 @@ class Walk:
 
     def __init__(self, tables, setting, packet):
         self.tables, self.draws = tables, packet.get("draws", [])
-        self.source = ipaddress.ip_address(packet["src"])
-        self.target = ipaddress.ip_address(packet["dst"])
+        self.source, self.target = address_of(packet["src"]), address_of(packet["dst"])
         self.proto, self.port = packet["proto"].lower(), packet["dport"]
         self.is_of_node = packet.get("from") == "node"
-        self.own = [ipaddress.ip_address(it) for it in setting.get("nodeAddresses") or []]
+        self.own = [address_of(it) for it in setting.get("nodeAddresses") or []]
         self.mark = self.used = 0
         self.sent_to, self.masked = "", False
 
     def is_local(self, address):
-        return address in self.own or any(address in it for it in LOOPBACK)
+        return address in self.own or address in LOOPBACK[address.version]
 
     def verdict(self):
         """What becomes of the packet, as it is printed."""
@@ -67,11 +108,9 @@ class Walk:
 
     def run(self, table, chain):
         """What ends the way through a chain, or nothing where it comes to its end."""
-        for words in self.tables.chains.get((table, chain), []):
-            place = words.index("-j")
-            if not self.matches(words[:place]):
+        for tests, target, options in self.tables.rules(table, chain):
+            if not self.meets(tests):
                 continue
-            target, *options = words[place + 1 :]
             if target == "MARK":
                 mark = int(options[1], 16)
                 self.mark = self.mark | mark if options[0] == "--or-mark" else self.mark ^ mark
@@ -94,42 +133,34 @@ class Walk:
     def send_to(self, place):
         address, _, port = place.rpartition(":")
         self.sent_to = place
-        self.target, self.port = ipaddress.ip_address(address.strip("[]")), int(port)
+        self.target, self.port = address_of(address.strip("[]")), int(port)
 
-    def matches(self, words):
-        """Whether all of a rule's matches hold, which are tried from the left."""
-        words, wanted = list(words), True
-        while words:
-            word = words.pop(0)
-            if word == "!":
-                wanted = False
-            elif word != "-m":
-                holds = self.match(word, words)
-                if holds is not None and holds != wanted:
-                    return False
-                wanted = True if holds is not None else wanted
-            elif words.pop(0) == "mark" and words[0] == "!":
-                pass
+    def meets(self, tests):
+        """Whether all tests come out as they have to, which are tried from the left."""
+        for word, value, wanted in tests:
+            if self.holds(word, value) != wanted:
+                return False
         return True
 
-    def match(self, word, words):
-        """Whether a match holds, whose words are taken; of an option that says how, nothing."""
-        value = words.pop(0) if word not in ("--rcheck", "--reap", "--set") else ""
-        if word in ("-s", "-d"):
-            return (self.source if word == "-s" else self.target) in ipaddress.ip_network(value)
+    def holds(self, word, value):
+        """Whether what a test asks is so of the packet."""
+        if word == "-s":
+            return self.source in value
+        if word == "-d":
+            return self.target in value
         if word == "-p":
             return self.proto == value
         if word == "--dport":
-            return self.port == int(value)
-        if word in ("--src-type", "--dst-type"):
-            return self.is_local(self.source if word == "--src-type" else self.target)
+            return self.port == value
+        if word == "--src-type":
+            return self.is_local(self.source)
+        if word == "--dst-type":
+            return self.is_local(self.target)
         if word == "--mark":
-            return self.mark & MARK == int(value.partition("/")[0], 16)
+            return self.mark & MARK == value
         if word == "--probability":
-            return self.drawn(int(value.replace(".", "")))
-        if word == "--rcheck":
-            raise Unknown
-        return None
+            return self.drawn(value)
+        raise Unknown
 
     def drawn(self, probability):
         draw = self.draws[self.used] if self.used < len(self.draws) else MOST

@@ -75,9 +75,13 @@ class Script:
     config: list = field(default_factory=list)
     refused: dict = field(default_factory=dict)
     streams: dict = field(default_factory=dict)
+    fed: dict = field(default_factory=dict)
 
     def events(self, stream):
-        return [step for step in self.streams[stream] if step.kind == "event"]
+        """The events of a stream, which aren't asked for before all of them are there."""
+        if stream not in self.fed:
+            self.fed[stream] = [it for it in self.streams[stream] if it.kind == "event"]
+        return self.fed[stream]
 
     def steps(self, kind):
         """The steps of this kind, by line."""
@@ -142,27 +146,36 @@ def read_script(program, data):
 
 def events_of(value):
     """The events of a line that is read, each in the journal's words and as a line of its own."""
+    return [event_of(*it) for it in items_of(value)]
+
+
+def items_of(value):
+    """The objects that a line brings that is read, each with whether it is deleted."""
     op = value.get("op")
     if op is not None and op != "event":
         return []
     text = value if op is None else value["event"]
     watched, item = text.get("type"), text.get("object")
     if watched is not None and item is not None:
-        return [] if watched == "BOOKMARK" else [event_of(item, watched == "DELETED")]
+        return [] if watched == "BOOKMARK" else [(item, watched == "DELETED")]
     if text["kind"] == "List":
-        return [event_of(item, False) for item in text["items"]]
-    return [event_of(text, False)]
+        return [(item, False) for item in text["items"]]
+    return [(text, False)]
 
 
 def event_of(item, deletes):
     """The event of an object: that it is there, or that it is gone."""
+    watched = "DELETED" if deletes else "MODIFIED"
+    return told_of(item, deletes), json.dumps({"type": watched, "object": item}).encode()
+
+
+def told_of(item, deletes):
+    """An event in the journal's words."""
     kind, named = item["kind"], item["metadata"]
     name = named["name"]
     if kind != "Node":
         name = f"{named.get('namespace') or 'default'}/{name}"
-    watched = "DELETED" if deletes else "MODIFIED"
-    alone = json.dumps({"type": watched, "object": item}).encode()
-    return f"{'delete' if deletes else 'apply'} {kind} {name}", alone
+    return f"{'delete' if deletes else 'apply'} {kind} {name}"
 
 
 # ---- the run that a text tells of
@@ -350,7 +363,7 @@ def packets_of(program, script, run, group):
         put_packet(script, step.line, lines)
         line_of[str(len(lines))] = step.line
     answers = {}
-    said = re.findall(r"^(packet|trail) (\d+)(.*)$", program.replay(lines) if lines else "", re.M)
+    said = re.findall(r"^(packet|trail) (\d+)(.*)$", program.replay(lines) if packets else "", re.M)
     for word, number, rest in said:
         answers.setdefault(line_of[number], []).append(f"{word} {line_of[number]}{rest}")
     return answers
