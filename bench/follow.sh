@@ -113,7 +113,9 @@ beats() {
     changes beats 3000 18000 beat 20000
     changes unsynced 3000 18000 beat 20000 unsynced
     least_by_turns beats unsynced
-    figure "20,000 heartbeats with a sync each, of those without" \
+    figure "loading 3,000 Services and 20,000 heartbeats with a sync each, of the same without syncs" \
+        '(load["beats"] + after["beats"]) / (load["unsynced"] + after["unsynced"])'
+    figure "the heartbeats with a sync each alone, of those without" \
         'after["beats"] / after["unsynced"]'
 }
 

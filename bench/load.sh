@@ -6,9 +6,9 @@
 # Each load has so many times a thousandth of its lines, 1,000 by default. The loads:
 #   packets   10,000,000 packet lines of sources by turns, with affinity
 #   bytes     10,000,000 packet lines that fill 4 GiB, and the same with 4 workers
-#   events    1,000,000 events of 20,000 Pods, with a sync after each 10,000
+#   events    1,000,000 events, nearly all of 20,000 Pods, with a sync after each 10,000
 #   limit     4,294,967,296 bytes, which are all read, and one more, which is too long an input
-#   long      200 lines of 16 MiB: packets and Lists by turns
+#   long      200 lines of 16 MiB: packets, and of every 20 lines a List of 30,000 Nodes
 #   live      64 streams of 100 MB together, which feed 2,600 Services each, sync and send packets
 # KPROXY is the command that is measured: `./kproxy` if left out.
 set -eu
@@ -33,9 +33,10 @@ packets() { # $1: how many, $2: the length
     }'
 }
 
-events() { # $1: how many
+# events of a cluster with 1,000 Services and 3 Nodes, which are among them
+events() { # $1: how many, which are no more than a journal holds
     bench/cluster.sh 1000 0 0
-    awk -v many="$1" 'BEGIN {
+    awk -v many="$(($1 - 1003))" 'BEGIN {
         for (i = 0; i < many; i++) {
             printf "{\"apiVersion\":\"v1\",\"kind\":\"Pod\",\"metadata\":{\"name\":\"p%d\"," \
                 "\"labels\":{\"app\":\"s%d\"}},\"spec\":{\"nodeName\":\"n%d\"},\"status\":{" \
@@ -52,11 +53,11 @@ long_lines() { # $1: how many
     python3 -c 'import sys
 most = 16_777_216
 packet = """{"op":"packet","src":"10.0.0.1","dst":"10.0.0.2","dport":80}""".ljust(most)
-node = """{"kind":"Node","metadata":{"name":"n%d"}}"""
-nodes = ",".join(node % (number % 1000) for number in range(most // 45))
+node = """{"kind":"Node","metadata":{"name":"n%d","annotations":{"a":"%s"}}}"""
+nodes = ",".join(node % (number % 1000, "a" * 490) for number in range(30_000))
 listed = ("""{"kind":"List","items":[%s]}""" % nodes).ljust(most)
 for number in range(int(sys.argv[1])):
-    print(listed if number % 100 == 50 else packet)' "$1"
+    print(listed if number % 20 == 10 else packet)' "$1"
 }
 
 streams() { # $1: how many packets
