@@ -3,11 +3,12 @@ ghost use Rattle.std.specs.Prelude.{◌≡◌, IfOk};
 
 use crate::interner::Interner;
 use kp_base::{Copied, Items, Kept, NoMemory};
-use kp_types::{Event, Object, Pod};
+use kp_types::{Event, Object, Pod, Service};
 use std::alloc::Global;
 
 impl Interner {
-    /// The same events, whose Pods and slices have the texts that are known in place of their own.
+    /// The same events, whose objects have the texts that are known in place of their own: Pods and
+    /// slices all of them, Services their namespace and selector.
     pub fn events(&mut self, alloc: Global, events: &Items<Event>) -> Result<Items<Event>, NoMemory>
         ensures { IfOk result (λ es. es ≡ events.now) }
     {
@@ -31,8 +32,22 @@ impl Interner {
                 let slice = Kept::of(alloc, self.slice(alloc, slice.get())?)?;
                 Ok(Event::Apply(Object::EndpointSlice(slice)))
             }
+            Event::Apply(Object::Service(service)) => {
+                let service = Kept::of(alloc, self.service(alloc, service.get())?)?;
+                Ok(Event::Apply(Object::Service(service)))
+            }
             _ => event.copy(alloc),
         }
+    }
+
+    /// The same Service.
+    fn service(&mut self, alloc: Global, service: &Service) -> Result<Service, NoMemory>
+        ensures { IfOk result (λ s. s ≡ service.now) }
+    {
+        let mut same = service.copy(alloc)?;
+        same.key = self.key(alloc, &service.key)?;
+        same.selector = self.pairs(alloc, &service.selector)?;
+        Ok(same)
     }
 
     /// The same Pod.
