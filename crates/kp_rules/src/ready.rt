@@ -65,8 +65,20 @@ pub fn make_all(edits: Vec<ReadyEdit>, chains: &mut ChainMap)
     }
 }
 
+/// Finds where the jumps of the chains lead that these edits write, or of all chains where no batch
+/// came before them, since the built-in chains stand already.
+pub fn link_made(edits: &[Edit], syncs: u64, chains: &mut ChainMap)
+    ensures { chains.new ≡ chains.old }
+{
+    if syncs == 0 {
+        chains.link_all();
+    } else {
+        link_written(edits, chains);
+    }
+}
+
 /// Finds where the jumps of the chains lead that these edits write.
-pub fn link_written(edits: &[Edit], chains: &mut ChainMap)
+fn link_written(edits: &[Edit], chains: &mut ChainMap)
     ensures { chains.new ≡ chains.old }
 {
     for edit in edits {

@@ -12,7 +12,7 @@ use crate::destination::Destination;
 use crate::new_chain::NewChain;
 use crate::places::{add_written, copied, remove_empty};
 use crate::ranks::are_ranked;
-use crate::ready::{link_written, make_all, ready_edits};
+use crate::ready::{link_made, make_all, ready_edits};
 use kp_base::{Address, Copied, Items, NoMemory, PortNo, Proto, Shared};
 use kp_types::{Batch, ChainAt, ChainName, Rule, TableName};
 use std::alloc::Global;
@@ -217,7 +217,7 @@ impl Table {
         }
         make_all(ready, &mut self.chains);
         remove_empty(&mut self.places, edits, &self.chains);
-        link_written(edits, &mut self.chains);
+        link_made(edits, self.syncs, &mut self.chains);
         self.syncs = self.syncs.saturating_add(1);
         Ok(())
     }
