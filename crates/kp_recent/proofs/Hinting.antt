@@ -1,5 +1,5 @@
 -- What hints at a part's sources tell, and what stays of them.
-use Rattle.std.proofs.Common.{◌≡◌, ◌≢◌, ◌≤◌, bit_or, ◌-◌, ◌+◌, ◌*◌, ◌%◌, ◌<◌, ◌^◌, ℕ, zero, suc, Bool, true, false, cond, [], ◌∷◌, ◌++◌, filter, take, length, Some, min, refl, ap, sym, subst, ◌∙◌, arith}
+use Rattle.std.proofs.Common.{◌≡◌, ◌≢◌, ◌≤◌, bit_or, ◌-◌, ◌*◌, ◌%◌, ◌<◌, ◌^◌, ℕ, zero, suc, Bool, true, false, cond, [], ◌∷◌, ◌++◌, filter, take, length, Some, min, refl, ap, sym, subst, ◌∙◌, arith}
 use Rattle.std.specs.Int.{bit_at}
 use Rattle.std.specs.List.{list_any}
 use Rattle.std.specs.Map.{remove_entry}

@@ -1,5 +1,6 @@
 pub mod Falling
 pub mod Hinting
+pub mod Marking
 pub mod Parts
 pub mod Put
 pub mod Shelves

@@ -41,7 +41,7 @@ part_matches a b = refl
 abbrev pub same_part : Shard → Shard → Bool
 same_part = part_eq.ghosts.eq
 
-part_ties : (a b : Shard) → same_part a b ≡ eq_by_cmp shard_cmp a b
+pub part_ties : (a b : Shard) → same_part a b ≡ eq_by_cmp shard_cmp a b
 part_ties a b = part_laws.matches_eq-law a b ∙ ap is_eq (part_matches a b)
 
 part_test : (a : Shard) → ◌≡◌ {A = Shard → Bool} (same_part a) (eq_by_cmp shard_cmp a)

@@ -14,7 +14,7 @@ use std::marker::Model;
 /// A part of the list with this name, from 0 to 15.
 #[derive(PartialEq, Eq, PartialOrd, Ord, Drop)]
 pub struct ListPart {
-    list: ChainName,
+    pub(crate) list: ChainName,
     part: u8,
 }
 

@@ -4,6 +4,8 @@
 mod hints;
 mod key;
 mod lists;
+mod marked;
+mod marks;
 mod part;
 mod shelf;
 

@@ -10,7 +10,7 @@ ghost use Rattle.kp_part_laws.specs.Unseen.{kept_parts};
 ghost use Rattle.kp_recent.specs.Held.{no_sources};
 ghost use Rattle.kp_recent.specs.Shelves.{HasShelfOf, shelf_of};
 
-use crate::shelf::Shelf;
+use crate::marked::MarkedShelf;
 use kp_base::{Address, Items, NoMemory};
 use kp_types::ChainName;
 use std::alloc::Global;
@@ -29,7 +29,7 @@ pub struct RecentLists {
     alloc: Global,
     /// How many sources a part remembers.
     size: NonZeroUsize,
-    shelves: Vec<Shelf>,
+    shelves: Vec<MarkedShelf>,
 }
 
 impl Model for RecentLists {
@@ -94,7 +94,7 @@ impl RecentLists {
 
     /// Whether the source is in the list, with an age of at most so many seconds, as a match of
     /// `--rcheck --seconds --reap` tells it. Sources of greater age are dropped from the part of
-    /// the list that this source is in. It takes no memory.
+    /// the list that this source is in. It needs no memory, but may take some for marks.
     pub fn look(&mut self, list: &ChainName, source: &Address, now: u64, seconds: u32) -> bool
         ensures live { result ≡ spec.is_live self.old list.now source.now now seconds }
         ensures lists { self.new ≡ reaped self.old list.now source.now now seconds }
@@ -103,7 +103,7 @@ impl RecentLists {
     }
 
     /// Drops the sources of an age of more than so many seconds from the part of the list that
-    /// this source is in: `--reap`. It takes no memory.
+    /// this source is in: `--reap`. It needs no memory, but may take some for marks.
     pub fn reap(&mut self, list: &ChainName, source: &Address, now: u64, seconds: u32)
         ensures { self.new ≡ reaped self.old list.now source.now now seconds }
     {
@@ -174,13 +174,13 @@ fn shelf_at(source: &Address) -> usize
 }
 
 /// Sixteen shelves without a source.
-fn shelves(alloc: Global, size: NonZeroUsize) -> Result<Vec<Shelf>, NoMemory>
+fn shelves(alloc: Global, size: NonZeroUsize) -> Result<Vec<MarkedShelf>, NoMemory>
     ensures { IfOk result
         (λ shelves. shelves.items ≡ replicate 16 (no_sources (non_zero_usize_get size))) }
 {
     let mut shelves = Vec::new(alloc);
     for _part in 0..PARTS {
-        shelves.push(Shelf::new(alloc, size))?;
+        shelves.push(MarkedShelf::new(alloc, size))?;
     }
     Ok(shelves)
 }

@@ -1,16 +1,19 @@
 //! One part of a list: the sources of it, the most recently set first.
-ghost use Rattle.std.specs.Prelude.{◌≡◌, ◌==◌, ◌<◌, ℕ, ◌≤◌, [], IfOk, OnOk, OnErr, IsOk, IsTrue, length, take, true, IfSome, IfNone, if◌then◌else◌};
+ghost use Rattle.std.specs.Prelude.{◌≡◌, ◌==◌, ◌<◌, ℕ, ◌≤◌, [], IfOk, OnOk, OnErr, IsOk, IsTrue, List, length, take, true, IfSome, IfNone, if◌then◌else◌};
 ghost use Rattle.std.specs.List.{IsDistinct, list_any};
 ghost use Rattle.std.specs.Map.{keys_of};
 ghost use Rattle.std.specs.Int.NonZero.{non_zero_usize_get};
 ghost use Rattle.kp_base.specs.Net.{same_address};
 ghost use Rattle.lru.specs.LruCache.{lru_cache, last_entry};
-ghost use Rattle.kp_choice_defs.specs.Recent.{is_of};
+ghost use Rattle.kp_choice_defs.specs.Recent.{Sighting, is_of};
 ghost use Rattle.kp_recent.specs.Hinted.{AreHinted};
+ghost use Rattle.kp_recent.specs.Marked.{AreMarked, IsMarked};
 ghost use Rattle.kp_recent.specs.Moments.{AreUpTo, AreFalling, shown_in, has_recent, recent, recent_pairs, is_recent, turned, with_set};
 
 use crate::hints::Hints;
+use crate::marks::Marks;
 use kp_base::{Address, NoMemory};
+use kp_types::ChainName;
 use lru::LruCache;
 use std::alloc::Global;
 use std::marker::Model;
@@ -56,6 +59,22 @@ impl Part {
         ensures { result ≡ (length self.now.entries == 0) }
     {
         self.seen.is_empty()
+    }
+
+    /// How many sources it has.
+    pub fn len(&self) -> usize {
+        self.seen.len()
+    }
+
+    /// Marks all its sources, which are those of a part of the list.
+    pub(crate) fn mark_all(&self, list: &ChainName, marks: &mut Marks)
+        ensures own { AreMarked marks.new list.now (shown_in self.now) }
+        ensures others { (list : List ℕ) (s : Sighting) → IsMarked marks.old list s
+            → IsMarked marks.new list s }
+    {
+        for (source, moment) in self.seen.iter() {
+            marks.set(list, source, *moment);
+        }
     }
 
     /// Whether the source is there, with at most this age.

@@ -3,10 +3,12 @@ ghost use Rattle.std.specs.Prelude.{◌≡◌, true, OnOk, OnErr, IsOk};
 ghost use Rattle.std.specs.Int.NonZero.{non_zero_usize_get};
 ghost use Rattle.std.specs.List.{list_any};
 ghost use Rattle.kp_choice_defs.specs.Recent as spec;
-ghost use Rattle.kp_choice_defs.specs.Recent.{is_of, reaped, set_at, shard_of, sightings};
+ghost use Rattle.kp_choice_defs.specs.Recent.{Shard, is_of, reaped, set_at, shard_of, sightings};
 ghost use Rattle.kp_recent.specs.Held.{no_sources};
+ghost use Rattle.kp_recent.specs.Marked.{AreMarked};
 
 use crate::key::ListPart;
+use crate::marks::Marks;
 use crate::part::Part;
 use indexmap::IndexMap;
 use kp_base::{Address, NoMemory};
@@ -103,5 +105,17 @@ impl Shelf {
             self.parts.swap_remove(&key);
         }
         is_live
+    }
+
+    /// Marks all sources of the shelf, and says how many there are.
+    pub(crate) fn mark_all(&self, marks: &mut Marks) -> usize
+        ensures { (q : Shard) → AreMarked marks.new q.list (sightings self.now q) }
+    {
+        let mut count: usize = 0;
+        for (key, part) in self.parts.iter() {
+            part.mark_all(&key.list, marks);
+            count = count.saturating_add(part.len());
+        }
+        count
     }
 }

@@ -1,4 +1,4 @@
-use Rattle.std.proofs.Common.{◌≡◌, ◌∙◌, ◌^◌, ◌/◌, true, false, bit_and, nat_eq, sym, ap}
+use Rattle.std.proofs.Common.{◌∙◌, ◌^◌, ◌/◌, bit_and, nat_eq, sym, ap}
 use Rattle.std.proofs.lemmas.Bool.{true≢false}
 use Rattle.std.proofs.lemmas.Nat.Bits.{shr_and_one}
 use Rattle.kp_recent.specs.Hinted.{mark_of}

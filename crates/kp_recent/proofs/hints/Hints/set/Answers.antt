@@ -1,4 +1,4 @@
-use Rattle.std.proofs.Common.{◌≡◌, ◌*◌, ◌%◌, ◌^◌, ◌<◌, ◌∙◌, bit_or, min, sym, ap, subst}
+use Rattle.std.proofs.Common.{◌≡◌, ◌*◌, ◌%◌, ◌^◌, ◌∙◌, bit_or, min, sym, ap, subst}
 use Rattle.kp_recent.specs.Hinted.{AreHinted, mark_of}
 use Rattle.kp_recent.specs.Moments.{with_source}
 use Rattle.kp_recent.proofs.Hinting.{hinted_set, shifted_one}
