@@ -139,7 +139,7 @@ module _ {F : Type 0} (h : Hook F) (draws : ℕ → ℕ) (depth : ℕ) (rules : 
             (inr (subst (λ (z : Tried). OnHeld z.holds (TargetSets to_set r.target z.state left)) is set)))
         by u is left (inr set) = sets_after (tried_as u true) left is set
 
-    -- they come to a set that takes memory
+    -- they come to a set that needs memory
     pub rule_refused : (left : RecentParts) → MatchesSet e r.matches.items s left
         → sets_at h draws depth rules place s left
     rule_refused left set = sets_here left (inl (inl set))

@@ -1,4 +1,4 @@
--- Where a walk comes to a set that takes memory, one step at a time.
+-- Where a walk comes to a set that needs memory, one step at a time.
 use Rattle.std.proofs.Common.{◌≡◌, ℕ, zero, suc, ◌+◌, ◌<◌, true, false, Bool, List, Option, Some, None, drop, length, get_or, sym, ap, subst, ◌∙◌, arith, inl, inr, Result, Ok, Err, OnErr, is_some}
 use Rattle.std.proofs.lemmas.List.{at_drop_more}
 use Rattle.kp_types.specs.declared.chain.ChainAt.{ChainAt}

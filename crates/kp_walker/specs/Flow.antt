@@ -32,7 +32,7 @@ abbrev pub jump_of : {F : Type 0} → Hook F → (ℕ → ℕ) → ℕ → List 
 jump_of h draws depth =
     walk.chain_outcome (surroundings_of h.around.now draws) (chains_of h.around.now) h.table depth
 
--- what of a jump comes to a set that takes memory
+-- what of a jump comes to a set that needs memory
 abbrev pub sets_of : {F : Type 0} → Hook F → (ℕ → ℕ) → ℕ → List ℕ → WalkState → RecentParts → Type 0
 sets_of h draws depth =
     ChainSets (surroundings_of h.around.now draws) (chains_of h.around.now) h.table depth

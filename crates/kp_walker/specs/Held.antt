@@ -16,7 +16,7 @@ abbrev pub outcome_at : {F : Type 0} → Hook F → (ℕ → ℕ) → ℕ → Li
 outcome_at h draws depth rules place =
     rules_outcome (surroundings_of h.around.now draws) (jump_of h draws depth) (drop place rules)
 
--- what of it comes to a set that takes memory
+-- what of it comes to a set that needs memory
 abbrev pub sets_at : {F : Type 0} → Hook F → (ℕ → ℕ) → ℕ → List Rule → ℕ → WalkState → RecentParts → Type 0
 sets_at h draws depth rules place =
     RulesSet (surroundings_of h.around.now draws) (jump_of h draws depth) (sets_of h draws depth) (drop place rules)

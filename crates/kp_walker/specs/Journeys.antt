@@ -47,6 +47,6 @@ beginning packet lists = record {
 abbrev pub MovesAs : Bool → walk.Journey → walk.Journey → (walk.Journey → walk.Journey) → Type 0
 MovesAs keeps old new moving = (j : walk.Journey) → old ≡ told keeps j → new ≡ told keeps (moving j)
 
--- the journey stopped at a set that takes memory, and these are the recent lists by then
+-- the journey stopped at a set that needs memory, and these are the recent lists by then
 abbrev pub StopsAs : Bool → walk.Journey → RecentParts → (walk.Journey → RecentParts → Type 0) → Type 0
 StopsAs keeps old lists sets = (j : walk.Journey) → old ≡ told keeps j → sets j lists

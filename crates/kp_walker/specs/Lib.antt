@@ -1,5 +1,4 @@
 pub mod Answers
-pub mod Drawing
 pub mod Flow
 pub mod Held
 pub mod Journeys
@@ -8,3 +7,4 @@ pub mod Progress
 pub mod Sets
 pub mod Shorn
 pub mod Surroundings
+pub mod Tried

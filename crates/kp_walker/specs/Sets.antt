@@ -1,4 +1,4 @@
--- Where a walk sets a source that its list lacks (iptables-extensions(8), recent): nothing else takes memory.
+-- Where a walk sets a source that its list lacks (iptables-extensions(8), recent): nothing else needs memory.
 -- Each of these says that the walk from a state comes to such a set, and that these are the recent lists by then.
 use Rattle.std.specs.Prelude.{◌≡◌, ℕ, zero, suc, Bool, true, false, List, [], ◌∷◌, Option, Some, None, ◌⊎◌, codes}
 use Rattle.std.specs.List.{list_any}

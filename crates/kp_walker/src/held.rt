@@ -7,18 +7,18 @@ ghost use Rattle.kp_walker.specs.Progress.{state_of};
 ghost use Rattle.kp_walker.specs.Sets.{RulesSet};
 ghost use Rattle.kp_walker.specs.Surroundings.{surroundings_of};
 
-use crate::drawing::Drawn;
 use crate::hook::Hook;
 use crate::next::{NextRule, next_rule};
 use crate::progress::Progress;
+use crate::tried::TriedRun;
 use kp_base::NoMemory;
 use kp_recent::RecentLists;
 use kp_rules::{Chain, Destination};
 
 impl<F: Fn(u64, u32) -> u32> Hook<'_, F> {
     /// The first rule at or after a place whose matches hold. Those before it are tried in one
-    /// loop, and those that only draw in a smaller one, since long lists of endpoints are rules
-    /// that fail.
+    /// loop, and those that only draw or look in a smaller one, since long lists of endpoints are
+    /// rules that fail.
     pub(crate) fn next_held<'a>(
         &self,
         chain: &'a Chain,
@@ -48,9 +48,9 @@ impl<F: Fn(u64, u32) -> u32> Hook<'_, F> {
     {
         let mut place = from;
         loop {
-            let after = match self.draw_on(chain, place, progress) {
-                Drawn::Matched(next) => return Ok(Some(next)),
-                Drawn::Over(after) => after,
+            let after = match self.try_run(chain, place, progress, lists) {
+                TriedRun::Matched(next) => return Ok(Some(next)),
+                TriedRun::Over(after) => after,
             };
             let Some(next) = next_rule(chain, after, to) else {
                 return Ok(None);

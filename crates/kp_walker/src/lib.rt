@@ -2,7 +2,6 @@
 #![tactic(auto)]
 
 mod chains;
-mod drawing;
 mod flow;
 mod header;
 mod held;
@@ -15,6 +14,7 @@ mod next;
 mod progress;
 mod recorder;
 mod sound;
+mod tried;
 mod walking;
 
 pub use kp_types::{Answer, Origin, Packet, Pass, Trail, Verdict};

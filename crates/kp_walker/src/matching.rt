@@ -65,7 +65,7 @@ impl<F: Fn(u64, u32) -> u32> Hook<'_, F> {
     }
 
     /// Tries one match. A draw counts as used whether or not the test holds. Only a set of a source
-    /// that its list lacks takes memory.
+    /// that its list lacks needs memory.
     fn try_match(
         &self,
         matched: &Match,
@@ -117,7 +117,7 @@ impl<F: Fn(u64, u32) -> u32> Hook<'_, F> {
     }
 
     /// Whether the source is in the list within the timeout. What is past it is dropped.
-    fn look_up(&self, list: &ChainName, seconds: u32, lists: &mut RecentLists) -> bool
+    pub(crate) fn look_up(&self, list: &ChainName, seconds: u32, lists: &mut RecentLists) -> bool
         ensures live { result ≡ recent.is_live lists.old list.now self.now.header.source
             self.now.around.now.packet.now.now seconds }
         ensures lists { lists.new ≡ recent.reaped lists.old list.now self.now.header.source

@@ -18,8 +18,8 @@ use kp_types::{Answer, Packet, Verdict};
 
 /// Walks a packet of this number through the rules that a table has for its address family, on the
 /// node with these addresses: what becomes of it, and on which way. Where the table has none, the
-/// packet is left alone. Only a set of a source that its recent list lacks takes
-/// memory, and where it gets none the lists stay as they are by then.
+/// packet is left alone. Only a set of a source that its recent list lacks needs memory, and where it
+/// gets none the lists stay as they are by then.
 pub fn walk<F: Fn(u64, u32) -> u32>(
     table: &Table,
     node: &Items<Address>,

@@ -1,6 +1,6 @@
 use Rattle.std.proofs.Common.{◌+◌, ◌∙◌, sym, ap, arith}
 use Rattle.kp_walker.specs.Progress.{state_of, tried_of}
-use Rattle.kp_walker.proofs.DrawnRules.{matched_on, over_on, run_matched, run_over}
+use Rattle.kp_walker.proofs.TriedRules.{matched_on, over_on, run_matched, run_over}
 use Rattle.kp_walker.proofs.HeldSteps.{meets_on, none_held, passes_none, passes_on, passes_to, rule_fails, rule_holds, rule_refused}
 use Rattle.kp_walker.proofs.SetSteps.{on_err}
 use Rattle.kp_walker.proofs.hook.Hook.next_held.Goals as goal
@@ -14,23 +14,23 @@ loop-next-init g c = record {
   on = omega arith;
 }
 
--- the draw of a rule matches
+-- the only match of a rule holds
 pub returns-in-Matched-clause-met : goal.returns-in-Matched-clause-met
 returns-in-Matched-clause-met g c draws depth drawn =
     let h = c.args.self.now in
     let n = c.in-Matched.next in
     let s = state_of h.header c.args.progress.now c.args.lists.now in
     let t = state_of h.header c.loop-next.progress c.loop-next.lists in
-    let u = state_of h.header c.draw_on.new.progress c.loop-next.lists in
+    let u = state_of h.header c.try_run.new.progress c.try_run.new.lists in
     meets_on h draws depth c.args.chain.now c.args.from c.loop-next.place n.place n.rule.now s t u
     (c.loop-next.invariant.run draws depth drawn)
-    (run_matched h draws depth c.args.chain.now c.loop-next.place t u c.draw_on.result n
-    c.in-Matched.is (c.draw_on.ensures.drawn draws depth c.loop-next.lists drawn))
+    (run_matched h draws depth c.args.chain.now c.loop-next.place t u c.try_run.result n
+    c.in-Matched.is (c.try_run.ensures.tried draws depth drawn))
 
 pub returns-in-Matched-clause-placed : goal.returns-in-Matched-clause-placed
 returns-in-Matched-clause-placed g c =
-    let at = matched_on c.args.chain.now c.loop-next.place c.draw_on.result c.in-Matched.next
-    c.in-Matched.is c.draw_on.ensures.placed in
+    let at = matched_on c.args.chain.now c.loop-next.place c.try_run.result c.in-Matched.next
+    c.in-Matched.is c.try_run.ensures.placed in
     record {
       on = omega (arith, c.loop-next.invariant.on, at.on);
       within = at.within;
@@ -45,12 +45,12 @@ returns-in_err-try_rule-clause-refused g c = on_err c.from_residual.result (λ d
     let next = c.in-Some.ensures.next in
     let s = state_of h.header c.args.progress.now c.args.lists.now in
     let t = state_of h.header c.loop-next.progress c.loop-next.lists in
-    let u = state_of h.header c.draw_on.new.progress c.loop-next.lists in
+    let u = state_of h.header c.try_run.new.progress c.try_run.new.lists in
     let left = c.try_rule.new.lists in
     (passes_to h draws depth c.args.chain.now c.args.to.now c.args.from c.loop-next.place
     c.in-Over.after n.place s t u c.requires.heading next.next (c.loop-next.invariant.run draws depth drawn)
-    (run_over h draws depth c.args.chain.now c.loop-next.place t u c.draw_on.result c.in-Over.after
-    c.in-Over.is (c.draw_on.ensures.drawn draws depth c.loop-next.lists drawn))).sets left
+    (run_over h draws depth c.args.chain.now c.loop-next.place t u c.try_run.result c.in-Over.after
+    c.in-Over.is (c.try_run.ensures.tried draws depth drawn))).sets left
     (rule_refused h draws depth c.args.chain.now n.place n.rule.now next.within next.here u left
     (c.in_err-try_rule.ensures.err draws drawn)))
 
@@ -62,13 +62,13 @@ returns-then-branch-clause-met g c draws depth drawn =
     let next = c.in-Some.ensures.next in
     let s = state_of h.header c.args.progress.now c.args.lists.now in
     let t = state_of h.header c.loop-next.progress c.loop-next.lists in
-    let u = state_of h.header c.draw_on.new.progress c.loop-next.lists in
+    let u = state_of h.header c.try_run.new.progress c.try_run.new.lists in
     let v = state_of h.header c.try_rule.new.progress c.try_rule.new.lists in
     meets_on h draws depth c.args.chain.now c.args.from n.place n.place n.rule.now s u v
     (passes_to h draws depth c.args.chain.now c.args.to.now c.args.from c.loop-next.place
     c.in-Over.after n.place s t u c.requires.heading next.next (c.loop-next.invariant.run draws depth drawn)
-    (run_over h draws depth c.args.chain.now c.loop-next.place t u c.draw_on.result c.in-Over.after
-    c.in-Over.is (c.draw_on.ensures.drawn draws depth c.loop-next.lists drawn)))
+    (run_over h draws depth c.args.chain.now c.loop-next.place t u c.try_run.result c.in-Over.after
+    c.in-Over.is (c.try_run.ensures.tried draws depth drawn)))
     (rule_holds h draws depth c.args.chain.now n.place n.rule.now next.within next.here u v
     (ap (λ b. tried_of h.header b c.try_rule.new.progress c.try_rule.new.lists) (sym c.if-branch.true)
     ∙ c.in_ok-try_rule.ensures.ok draws drawn))
@@ -81,7 +81,7 @@ returns-then-branch-clause-placed g c =
         arith,
         c.loop-next.invariant.on,
         next.on,
-        over_on c.args.chain.now c.loop-next.place c.draw_on.result c.in-Over.after c.in-Over.is c.draw_on.ensures.placed,
+        over_on c.args.chain.now c.loop-next.place c.try_run.result c.in-Over.after c.in-Over.is c.try_run.ensures.placed,
       );
       within = next.within;
       fits = next.fits;
@@ -98,13 +98,13 @@ loop-next-preserved g c =
       run = λ draws depth drawn.
           let s = state_of h.header c.args.progress.now c.args.lists.now in
           let t = state_of h.header c.loop-next.progress c.loop-next.lists in
-          let u = state_of h.header c.draw_on.new.progress c.loop-next.lists in
+          let u = state_of h.header c.try_run.new.progress c.try_run.new.lists in
           passes_on h draws depth c.args.chain.now c.args.from n.place (n.place + 1) s u v
           (passes_to h draws depth c.args.chain.now c.args.to.now c.args.from c.loop-next.place
           c.in-Over.after n.place s t u c.requires.heading next.next
           (c.loop-next.invariant.run draws depth drawn)
-          (run_over h draws depth c.args.chain.now c.loop-next.place t u c.draw_on.result c.in-Over.after
-          c.in-Over.is (c.draw_on.ensures.drawn draws depth c.loop-next.lists drawn)))
+          (run_over h draws depth c.args.chain.now c.loop-next.place t u c.try_run.result c.in-Over.after
+          c.in-Over.is (c.try_run.ensures.tried draws depth drawn)))
           (rule_fails h draws depth c.args.chain.now n.place n.rule.now next.within next.here u v
           (ap (λ b. tried_of h.header b c.try_rule.new.progress c.try_rule.new.lists) (sym c.if-branch.false)
           ∙ c.in_ok-try_rule.ensures.ok draws drawn));
@@ -112,7 +112,7 @@ loop-next-preserved g c =
         arith,
         c.loop-next.invariant.on,
         next.on,
-        over_on c.args.chain.now c.loop-next.place c.draw_on.result c.in-Over.after c.in-Over.is c.draw_on.ensures.placed,
+        over_on c.args.chain.now c.loop-next.place c.try_run.result c.in-Over.after c.in-Over.is c.try_run.ensures.placed,
       );
     }
 
@@ -122,13 +122,13 @@ returns-in_default-clause-met g c draws depth drawn =
     let h = c.args.self.now in
     let s = state_of h.header c.args.progress.now c.args.lists.now in
     let t = state_of h.header c.loop-next.progress c.loop-next.lists in
-    let u = state_of h.header c.draw_on.new.progress c.loop-next.lists in
+    let u = state_of h.header c.try_run.new.progress c.try_run.new.lists in
     none_held h draws depth c.args.chain.now c.args.to.now c.args.from c.in-Over.after s u
     c.requires.heading (c.next_rule.ensures.none c.in_default.is)
     (passes_on h draws depth c.args.chain.now c.args.from c.loop-next.place c.in-Over.after s t u
     (c.loop-next.invariant.run draws depth drawn)
-    (run_over h draws depth c.args.chain.now c.loop-next.place t u c.draw_on.result c.in-Over.after
-    c.in-Over.is (c.draw_on.ensures.drawn draws depth c.loop-next.lists drawn)))
+    (run_over h draws depth c.args.chain.now c.loop-next.place t u c.try_run.result c.in-Over.after
+    c.in-Over.is (c.try_run.ensures.tried draws depth drawn)))
 
 pub loop-next-smaller : goal.loop-next-smaller
 loop-next-smaller g c =
@@ -137,5 +137,5 @@ loop-next-smaller g c =
       arith,
       next.on,
       next.within,
-      over_on c.args.chain.now c.loop-next.place c.draw_on.result c.in-Over.after c.in-Over.is c.draw_on.ensures.placed,
+      over_on c.args.chain.now c.loop-next.place c.try_run.result c.in-Over.after c.in-Over.is c.try_run.ensures.placed,
     )
