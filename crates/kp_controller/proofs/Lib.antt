@@ -1,5 +1,6 @@
 mod AllSettled
 mod BothFamilies
+mod Gone
 mod Kept
 mod Labels
 mod LeftNear

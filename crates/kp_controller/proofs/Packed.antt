@@ -8,7 +8,8 @@ use Rattle.kp_base.specs.declared.address.Family.{Family}
 use Rattle.kp_object_defs.specs.OwnKeys.{IsUnderOwnKeys}
 use Rattle.kp_object_defs.specs.PackingLaws.{is_managed_for}
 use Rattle.kp_object_defs.specs.SlicesNow.{Slices, managed_slices, with_managed}
-use Rattle.kp_controller.specs.Replaced.{with_slices, without_keys}
+use Rattle.kp_controller.specs.Replaced.{AreGone, with_slices, without_keys}
+use Rattle.kp_controller.proofs.Gone.{gone_enough}
 use Rattle.kp_controller.proofs.Kept.{without_passing}
 
 -- the last of them may be put in first
@@ -22,11 +23,14 @@ before_entries [] es = refl
 before_entries (s ∷ more) es = ap (λ m. finite.insert m s.key s) (before_entries more es)
 
 -- what packing makes stands in place of the managed slices
-pub repacked : (family : Family) (service : ObjectKey) (packed : List Slice) (old rest : Slices)
+pub repacked : (family : Family) (service : ObjectKey) (packed : List Slice) (gone : List ObjectKey) (old rest : Slices)
     → IsUnderOwnKeys (λ (s : Slice). s.key) old
-    → rest ≡ without_keys (map (λ s. s.key) (managed_slices family service old)) old
+    → AreGone (managed_slices family service old) packed gone
+    → rest ≡ without_keys gone old
     → with_slices packed rest ≡ with_managed family service packed old
-repacked family service packed old rest own is =
-    ap (with_slices packed) (is ∙ without_passing (is_managed_for family service) old own)
+repacked family service packed gone old rest own are is =
+    ap (with_slices packed) is
+    ∙ gone_enough (managed_slices family service old) packed gone old are
+    ∙ ap (with_slices packed) (without_passing (is_managed_for family service) old own)
     ∙ before_entries packed
     (filter (λ e. not (is_managed_for family service e.1)) (finite.entries old))

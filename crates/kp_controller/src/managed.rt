@@ -16,7 +16,7 @@ ghost use Rattle.kp_settle_laws.specs.Settled.{IsSettled, after_each};
 ghost use Rattle.kp_types.specs.Setting.{both_families};
 ghost use Rattle.kp_controller.specs.Clashing as clashing;
 
-use crate::replaced::{put_all, take_all};
+use crate::replaced::{keys_gone, put_all, take_all};
 use crate::slice_map::SliceMap;
 use kp_base::{Config, Copied, Family, Items, NoMemory, ObjectKey, Text, fits_memory};
 use kp_desired::has_family;
@@ -115,8 +115,8 @@ fn pack_family(
     packing_settles();
     slices.own_keys();
     let packed = packed_now(alloc, config, objects, service, before, slices)?;
-    let managed = keys_of(alloc, before.managed.as_slice())?;
-    take_all(alloc, managed.as_slice(), slices)?;
+    let gone = keys_gone(alloc, before.managed.as_slice(), packed.as_slice())?;
+    take_all(alloc, gone.as_slice(), slices)?;
     put_all(alloc, packed, slices)
 }
 
@@ -246,15 +246,4 @@ fn names_of<'a>(alloc: Global, slices: &[&'a Slice]) -> Result<Items<Text>, NoMe
         names.push(slice.key.name.copy(alloc)?)?;
     }
     Ok(Items::from_vec(names))
-}
-
-/// The keys of slices.
-fn keys_of(alloc: Global, slices: &[Slice]) -> Result<Items<ObjectKey>, NoMemory>
-    ensures { IfOk result (λ ks. ks ≡ map (λ s. s.key) slices.now) }
-{
-    let mut keys = Vec::new(alloc);
-    for slice in slices {
-        keys.push(slice.key.copy(alloc)?)?;
-    }
-    Ok(Items::from_vec(keys))
 }
