@@ -72,7 +72,8 @@ impl History {
         self.covered = covered;
         let made = batch.edits.as_slice().len();
         let before = replace(&mut self.last, Some(batch));
-        self.stale.take_in(made, edits_of(alloc, before));
+        // Where memory is out, these edits go at once.
+        let _ = self.stale.take_in(made, edits_of(alloc, before));
         Ok(())
     }
 

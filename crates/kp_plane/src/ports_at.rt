@@ -217,9 +217,10 @@ fn count(lists: &[Items<Pending>]) -> usize {
     count
 }
 
-/// Takes in the dirty ports of the sync before, where those of the last one are so many.
+/// Takes in the dirty ports of the sync before, where those of the last one are so many. Where
+/// memory is out, they go at once.
 fn take_in_all(stale: &mut Stale<Pending>, made: usize, before: Vec<Items<Pending>>) {
     for list in before {
-        stale.take_in(made, list);
+        let _ = stale.take_in(made, list);
     }
 }
