@@ -1,5 +1,6 @@
 pub mod ComeLemmas
 pub mod FeedLemmas
+pub mod FirstFeed
 pub mod GatherLemmas
 pub mod HandedOut
 pub mod LineLemmas

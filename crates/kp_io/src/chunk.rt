@@ -7,6 +7,7 @@ ghost use Rattle.kp_io.specs.Lines.{IsFront, IsWhole, is_line_feed};
 
 use crate::source::{Failed, Source};
 use kp_base::NoMemory;
+use memchr::memchr;
 use std::alloc::Global;
 use std::marker::Model;
 
@@ -121,11 +122,11 @@ impl Chunk {
     }
 }
 
-/// Where the first line feed stands, if there is one.
-fn line_feed_at(bytes: &[u8]) -> Option<usize>
+/// Where the first line feed stands, from 0, if there is one.
+pub fn line_feed_at(bytes: &[u8]) -> Option<usize>
     ensures { result ≡ position is_line_feed bytes.now }
 {
-    bytes.iter().position(|byte| *byte == b'\n')
+    memchr(b'\n', bytes)
 }
 
 /// How many bytes there are up to the last line feed.

@@ -19,7 +19,7 @@ mod sure_sink;
 mod sure_source;
 
 pub use buffered_sink::BufferedSink;
-pub use chunk::BUFFER_SIZE;
+pub use chunk::{BUFFER_SIZE, line_feed_at};
 pub use laws::limits_are_numbers;
 pub use line_reader::LineReader;
 pub use memory_sink::MemorySink;

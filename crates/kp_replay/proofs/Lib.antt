@@ -1,5 +1,5 @@
+pub mod AheadLemmas
 pub mod AnsweringLemmas
-pub mod FeedLemmas
 pub mod GroupLemmas
 pub mod ModeLemmas
 pub mod KeptLemmas

@@ -60,7 +60,7 @@ rest_read left read rest reads is one then were =
     then (ap (list_all (λ r. was_read r.said)) is ∙ (λ i. one i && were i))
 
 -- lines, and then more lines
-lines_both : (number : ℕ) (xs ys : List (List ℕ)) (s : Standing) → lines_from number (xs ++ ys) s
+pub lines_both : (number : ℕ) (xs ys : List (List ℕ)) (s : Standing) → lines_from number (xs ++ ys) s
     ≡ and_then (lines_from number xs s) (lines_from (number + length xs) ys)
 lines_both number [] ys s = ap (λ n. lines_from n ys s) (sym (add-zero number))
 lines_both number (x ∷ xs) ys s =

@@ -6,10 +6,10 @@ use Rattle.std.proofs.lemmas.List.{take-append-drop}
 use Rattle.kp_run_defs.specs.ReplayText.{Standing, short_line}
 use Rattle.kp_text_defs.specs.declared.script.Op.{Op}
 use Rattle.kp_text_defs.specs.declared.script.Op.TheVariants as op
-use Rattle.kp_replay.specs.Groups.{lines_from, may_come_later, reads_from, reads_line, said_by}
+use Rattle.kp_replay.specs.Groups.{and_then, lines_from, may_come_later, reads_line, said_by}
 use Rattle.kp_replay.specs.Steps.{MayTake}
 use Rattle.kp_replay.specs.declared.reads.Read.{Read}
-use Rattle.kp_replay.proofs.GroupLemmas.{line_says, lines_say, reads_both, still_begun}
+use Rattle.kp_replay.proofs.GroupLemmas.{line_says, reads_both, still_begun}
 
 -- ---- What may come
 
@@ -44,29 +44,28 @@ lines_begun number [] s begun = begun
 lines_begun number (bytes ∷ lines) s begun =
     lines_begun (suc number) lines (short_line number bytes s).next (short_begun number bytes s begun)
 
--- ---- The lines of a group
+-- ---- Lines that were read
 
-module _ (number : ℕ) (lines : List (List ℕ)) (s mid end : Standing) (reads : List Read) (n : ℕ)
-    (before first last : List ℕ) (begun : s.fresh ≡ false) (are : reads ≡ reads_from number lines)
+module _ (s mid end : Standing) (reads : List Read) (n : ℕ) (before first last : List ℕ)
     (stands : mid ≡ (reads_line (take n reads) s).next)
     (text : first ≡ before ++ (reads_line (take n reads) s).text)
     (stands_last : end ≡ (reads_line (drop n reads) mid).next)
     (text_last : last ≡ first ++ (reads_line (drop n reads) mid).text) where
-  whole : lines_from number lines s ≡ reads_line (take n reads ++ drop n reads) s
+  whole : reads_line reads s ≡ and_then (reads_line (take n reads) s) (reads_line (drop n reads))
   whole =
-      lines_say number lines s begun
-      ∙ ap (λ rs. reads_line rs s) (sym are ∙ sym (take-append-drop n reads))
+      ap (λ rs. reads_line rs s) (sym (take-append-drop n reads))
+      ∙ reads_both (take n reads) (drop n reads) s
 
   -- those that are answered together, and then the others, are all
-  pub group_stands : end ≡ (lines_from number lines s).next
+  pub group_stands : end ≡ (reads_line reads s).next
   group_stands =
       stands_last ∙ ap (λ u. (reads_line (drop n reads) u).next) stands
-      ∙ ap (λ line. line.next) (sym (whole ∙ reads_both (take n reads) (drop n reads) s))
+      ∙ ap (λ line. line.next) (sym whole)
 
-  pub group_text : last ≡ before ++ (lines_from number lines s).text
+  pub group_text : last ≡ before ++ (reads_line reads s).text
   group_text =
       let front = reads_line (take n reads) s in
       let back = reads_line (drop n reads) front.next in
       text_last ∙ (λ i. text i ++ (reads_line (drop n reads) (stands i)).text)
       ∙ append_assoc before front.text back.text
-      ∙ ap (λ line. before ++ line.text) (sym (whole ∙ reads_both (take n reads) (drop n reads) s))
+      ∙ ap (λ line. before ++ line.text) (sym whole)

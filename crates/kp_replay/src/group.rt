@@ -1,15 +1,15 @@
 //! The lines that may be answered beside each other.
-ghost use Rattle.std.specs.Prelude.{◌≡◌, ◌==◌, ◌≤◌, ◌∷◌, ◌++◌, true, map, take, length, position, IfOk, IfSome};
+ghost use Rattle.std.specs.Prelude.{◌≡◌, ◌≤◌, ◌∷◌, ◌++◌, true, map, take, length, IfOk, IfSome};
 ghost use Rattle.std.specs.List.{list_all};
 ghost use Rattle.kp_restore_defs.specs.TableText.{text_of_lines};
 ghost use Rattle.kp_restore.specs.Pieces.{no_line_feed};
 
 use kp_base::NoMemory;
-use memchr::memchr;
+use kp_io::line_feed_at;
 use std::alloc::Global;
 
 /// The most lines of a group.
-const GROUP_LINES: usize = 4096;
+const GROUP_LINES: usize = 32_768;
 
 /// How a packet's line mostly begins.
 const PACKET_START: &[u8] = b"{\"op\":\"packet\"";
@@ -30,7 +30,7 @@ pub fn group_of<'a>(alloc: Global, bytes: &'a [u8]) -> Result<Group<'a>, NoMemor
         take g.bytes bytes.now ≡ text_of_lines (map (λ line. line.now) g.lines.items)) }
     ensures feedless { IfOk result (λ g.
         list_all no_line_feed (map (λ line. line.now) g.lines.items) ≡ true) }
-    ensures few { IfOk result (λ g. length g.lines.items ≤ 4096) }
+    ensures few { IfOk result (λ g. length g.lines.items ≤ 32768) }
 {
     let mut lines = Vec::new(alloc);
     let mut rest = bytes;
@@ -57,17 +57,10 @@ fn packet_like(bytes: &[u8]) -> Option<(&[u8], &[u8])>
     if !may_be_packet(bytes) {
         return None;
     }
-    let at = line_feed(bytes)?;
+    let at = line_feed_at(bytes)?;
     let (line, others) = bytes.split_at(at);
     let (_, rest) = others.split_at(1);
     Some((line, rest))
-}
-
-/// The first place of a line feed.
-fn line_feed(bytes: &[u8]) -> Option<usize>
-    ensures { result ≡ position (λ byte. byte == 10) bytes.now }
-{
-    memchr(b'\n', bytes)
 }
 
 /// Whether bytes begin as a packet's line, or a blank one.

@@ -1,7 +1,8 @@
 //! Where a replay of lines stands, and the lines that it takes to the plane: printed, counted, or in
-//! groups that workers read and answer beside each other.
+//! groups that workers answer beside each other, while the next lines are read.
 #![tactic(auto)]
 
+mod ahead;
 mod answering;
 mod counted;
 mod group;

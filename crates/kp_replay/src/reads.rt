@@ -28,17 +28,20 @@ pub(crate) struct Read {
     pub(crate) said: Said,
 }
 
-/// The lines of a group as they were read. Their memory serves the next group.
+/// Lines as they were read that are answered at once, and those that are read meanwhile. Their
+/// memory serves later lines.
 #[derive(Drop)]
 pub struct Reads {
-    pub(crate) all: Vec<Read>,
+    pub(crate) current: Vec<Read>,
+    pub(crate) next: Vec<Read>,
 }
 
 impl Reads {
     /// None.
     pub fn new(alloc: Global) -> Reads {
         Reads {
-            all: Vec::new(alloc),
+            current: Vec::new(alloc),
+            next: Vec::new(alloc),
         }
     }
 }

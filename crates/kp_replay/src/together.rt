@@ -6,6 +6,7 @@ ghost use Rattle.kp_print.specs.Fronts.{HasFront};
 ghost use Rattle.kp_replay.specs.Groups.{AreAside, is_aside, is_packet, is_refused};
 ghost use Rattle.kp_workers.specs.Texts.{BeginsWith};
 
+use crate::ahead::answer_ahead;
 use crate::answering::Answering;
 use crate::packets::snapshot_of;
 use crate::reads::{Read, Reads, Said, read_lines};
@@ -13,16 +14,19 @@ use crate::replay::Replay;
 use kp_base::NoMemory;
 use kp_gate::Gate;
 use kp_script::Op;
-use kp_workers::answer_all;
 use std::alloc::Global;
+use std::mem::swap;
 use std::thread::Threads;
 
 /// The fewest lines that are answered beside each other.
 const FEWEST: usize = 512;
 
+/// The most lines that are answered at once, while as many of the next ones are read.
+const AT_ONCE: usize = 4096;
+
 impl Replay {
     ghost use Rattle.kp_replay.specs.Groups.{lines_from, read_line, reads_line, says_later};
-    ghost use Rattle.kp_replay.specs.Groups.{AreAside, AreLater, WereRead, was_read};
+    ghost use Rattle.kp_replay.specs.Groups.{AreAside, AreLater, AreReadAs, WereRead, was_read};
     ghost use Rattle.kp_replay.specs.Steps.{standing_of, LosesNothing, Takes};
 
     /// Whether a line was read that isn't blank.
@@ -34,8 +38,8 @@ impl Replay {
 
     /// Takes lines, of which the first has this number, as one after the other. They are read beside
     /// each other, in memory that serves the next group too, and so are packets answered up to the
-    /// first line that asks for something else. Without memory no event and no record is lost, and
-    /// some of what they print may stand in the text.
+    /// first line that asks for something else, while the next lines are read. Without memory no
+    /// event and no record is lost, and some of what they print may stand in the text.
     pub fn take_group<R: Threads + Sync, G: Gate<R> + Sync>(
         &mut self,
         rt: &R,
@@ -57,11 +61,11 @@ impl Replay {
         if lines.len() < FEWEST {
             self.take_lines(alloc, number, lines, text)
         } else {
-            self.take_beside(rt, alloc, gate, number, lines, &mut reads.all, text)
+            self.take_beside(rt, alloc, gate, number, lines, reads, text)
         }
     }
 
-    /// Takes lines beside each other, as far as they ask for packets or are refused.
+    /// Takes lines beside each other: while some are answered, the next ones are read.
     fn take_beside<R: Threads + Sync, G: Gate<R> + Sync>(
         &mut self,
         rt: &R,
@@ -69,7 +73,7 @@ impl Replay {
         gate: &G,
         number: u64,
         lines: &[&[u8]],
-        reads: &mut Vec<Read>,
+        reads: &mut Reads,
         text: &mut Vec<u8>,
     ) -> Result<(), NoMemory>
         requires begun { (standing_of self.old).fresh ≡ false }
@@ -80,11 +84,51 @@ impl Replay {
         ensures kept { OnErr result (LosesNothing (standing_of self.old) (standing_of self.new)) }
         ensures front { OnErr result (BeginsWith text.new.items text.old.items) }
     {
-        let most = lines.len().div_ceil(self.lists.workers()).max(1);
-        read_lines(rt, alloc, number, lines, most, reads)?;
-        let others = reads.split_off(aside_len(reads.as_slice()))?;
-        self.answer_reads(rt, alloc, gate, reads.as_slice(), text)?;
-        self.take_reads(alloc, others, text)
+        let (first, mut rest) = lines.split_at(AT_ONCE.min(lines.len()));
+        let most = first.len().div_ceil(self.lists.workers()).max(1);
+        read_lines(rt, alloc, number, first, most, &mut reads.current)?;
+        let mut next = number + first.len() as u64;
+        while !rest.is_empty() {
+            let (ahead, later) = rest.split_at(AT_ONCE.min(rest.len()));
+            self.take_ahead(rt, alloc, gate, next, ahead, reads, text)?;
+            next += ahead.len() as u64;
+            rest = later;
+        }
+        self.take_ahead(rt, alloc, gate, next, rest, reads, text)
+    }
+
+    /// Takes lines that were read, of which those at the front that ask for packets or are refused
+    /// are answered beside each other. Meanwhile the next ones are read, of which the first has this
+    /// number.
+    fn take_ahead<R: Threads + Sync, G: Gate<R> + Sync>(
+        &mut self,
+        rt: &R,
+        alloc: Global,
+        gate: &G,
+        number: u64,
+        ahead: &[&[u8]],
+        reads: &mut Reads,
+        text: &mut Vec<u8>,
+    ) -> Result<(), NoMemory>
+        requires few { number + length ahead.now < 2 ^ 64 }
+        requires later { AreLater reads.old.current.items }
+        ensures takes { OnOk result (Takes
+            (reads_line reads.old.current.items (standing_of self.old))
+            self.new text.old.items text.new.items) }
+        ensures read { OnOk result (WereRead reads.old.current.items) }
+        ensures next { OnOk result
+            (AreReadAs number (map (λ line. line.now) ahead.now) reads.new.current.items) }
+        ensures kept { OnErr result (LosesNothing (standing_of self.old) (standing_of self.new)) }
+        ensures front { OnErr result (BeginsWith text.new.items text.old.items) }
+    {
+        let others = reads
+            .current
+            .split_off(aside_len(reads.current.as_slice()))?;
+        let front = reads.current.as_slice();
+        self.answer_reads(rt, alloc, gate, front, number, ahead, &mut reads.next, text)?;
+        self.take_reads(alloc, others, text)?;
+        swap(&mut reads.current, &mut reads.next);
+        Ok(())
     }
 
     /// Takes lines one after the other.
@@ -113,18 +157,25 @@ impl Replay {
         Ok(())
     }
 
-    /// Answers lines that ask for packets or are refused, beside each other.
+    /// Answers lines that ask for packets or are refused, beside each other. Meanwhile the next ones
+    /// are read, of which the first has this number.
     fn answer_reads<R: Threads + Sync, G: Gate<R> + Sync>(
         &mut self,
         rt: &R,
         alloc: Global,
         gate: &G,
         reads: &[Read],
+        number: u64,
+        ahead: &[&[u8]],
+        next: &mut Vec<Read>,
         text: &mut Vec<u8>,
     ) -> Result<(), NoMemory>
+        requires few { number + length ahead.now < 2 ^ 64 }
         requires aside { AreAside reads.now }
         ensures takes { OnOk result (Takes (reads_line reads.now (standing_of self.old))
             self.new text.old.items text.new.items) }
+        ensures next { OnOk result
+            (AreReadAs number (map (λ line. line.now) ahead.now) next.new.items) }
         ensures kept { LosesNothing (standing_of self.old) (standing_of self.new) }
         ensures front { OnErr result (BeginsWith text.new.items text.old.items) }
     {
@@ -133,7 +184,18 @@ impl Replay {
             alloc,
             snapshot: snapshot_of(&self.plane),
         };
-        answer_all(rt, alloc, gate, &work, reads, &mut self.lists, text)
+        answer_ahead(
+            rt,
+            alloc,
+            gate,
+            &work,
+            reads,
+            number,
+            ahead,
+            next,
+            &mut self.lists,
+            text,
+        )
     }
 
     /// Does what lines ask for, one after the other.

@@ -110,7 +110,7 @@ impl<'a, R: Threads + Sync, G: Gate<R> + Sync> Beside<'a, R, G> {
         held: &[u8],
     ) -> Result<(usize, u64), NoMemory>
         requires begun { (standing_of replay.old).fresh ≡ false }
-        requires few { number + 4096 < 2 ^ 64 }
+        requires few { number + 32768 < 2 ^ 64 }
         ensures { IfOk result (λ r. AnswersGroup number held.now r.0 r.1
             (standing_of replay.old) (standing_of replay.new) self.new.text.items) }
     {

@@ -171,8 +171,8 @@ fn push_packets(script: &mut String, count: u64) -> Result<(), Fail> {
     Ok(())
 }
 
-/// A Service's objects and a sync, more packets than a group has, and the others, each between
-/// packets of a group.
+/// A Service's objects and a sync, more packets than are answered at once, and the others, each
+/// between packets of a group.
 fn packets_and_others(alloc: Global) -> Result<Case, Fail> {
     let mut case = case_of(alloc, ENDPOINTS, 4)?;
     push_packets(&mut case.input, 5000)?;

@@ -1,21 +1,18 @@
 use Rattle.std.proofs.Common.{◌≡◌, ◌∙◌, ◌||◌, ap, refl}
 use Rattle.kp_replay.proofs.KeptLemmas.{stays}
-use Rattle.kp_replay.proofs.AnsweringLemmas.{answered_all, read_in_part}
+use Rattle.kp_replay.proofs.AnsweringLemmas.{answered_all}
 use Rattle.kp_replay.proofs.OkLemmas.{both_ok}
 use Rattle.kp_replay.proofs.replay.Replay.answer_reads.Goals as goal
-
-pub answer_all-requires-clause-local : goal.answer_all-requires-clause-local
-answer_all-requires-clause-local g c κs within = read_in_part c.snapshot_of.result
 
 pub returns-clause-takes : goal.returns-clause-takes
 returns-clause-takes g c =
     let snapshot = c.snapshot_of.ensures in
-    both_ok _ _ _ c.answer_all.result c.answer_all.ensures.lists c.answer_all.ensures.text (λ lists text.
+    both_ok _ _ _ c.answer_ahead.result c.answer_ahead.ensures.lists c.answer_ahead.ensures.text (λ lists text.
     answered_all c.args.self.now c.snapshot_of.result snapshot.sync
     (λ number line all. snapshot.walked number line all)
     (λ number line all. snapshot.decided number line all)
-    c.args.reads.now c.requires.aside c.answer_all.new.lists c.either-self.result
-    c.args.text.now.items c.answer_all.new.out.items
+    c.args.reads.now c.requires.aside c.answer_ahead.new.lists c.either-self.result
+    c.args.text.now.items c.answer_ahead.new.text.items
     (c.either-self.ensures ∙ ap (λ refused. c.args.self.now.refused || refused) c.any_refused.ensures)
     lists text)
 

@@ -1,70 +1,94 @@
-use Rattle.std.proofs.Common.{◌≡◌, ◌++◌, true, map, take, ap, sym, ◌∙◌, rules}
-use Rattle.std.specs.List.{list_all}
+use Rattle.std.proofs.Common.{◌≡◌, ◌+◌, ℕ, List, [], length, map, append-nil, ap, sym, refl, subst, ◌∙◌, arith, rules}
 use Rattle.std.proofs.lemmas.Result.{on_err_weaker}
-use Rattle.kp_replay.proofs.KeptLemmas.{begins_on, goes_on_kept}
-use Rattle.kp_replay.specs.Groups.{is_aside, reads_line, says_later, was_read}
+use Rattle.kp_replay.specs.Groups.{AreReadAs}
 use Rattle.kp_replay.specs.Steps.{standing_of}
-use Rattle.kp_replay.specs.declared.reads.Read.{Read}
+use Rattle.kp_replay.proofs.AheadLemmas.{ends_there, ends_with, goes_further, kept_between, later_between, texts_cut, texts_none}
+use Rattle.kp_replay.proofs.KeptLemmas.{goes_on_kept}
 use Rattle.kp_replay.proofs.OkLemmas.{both_ok}
-use Rattle.kp_replay.proofs.ReadLemmas.{all_read, both_read, reads_later}
-use Rattle.kp_replay.proofs.TogetherLemmas.{all_dropped, group_stands, group_text}
+use Rattle.kp_replay.proofs.StepLemmas.{length-map}
 use Rattle.kp_replay.proofs.replay.Replay.take_beside.Goals as goal
 
-pub answer_reads-requires-clause-aside : goal.answer_reads-requires-clause-aside
-answer_reads-requires-clause-aside g c κs within =
-    let reads = c.read_lines.new.reads.items in
-    let items : c.as_slice-2.result.now ≡ take c.aside_len.result reads = search rules in
-    let front : list_all is_aside (take c.aside_len.result reads) ≡ true = search rules in
-    ap (list_all is_aside) items ∙ front
+pub take_ahead-requires-clause-later : goal.take_ahead-requires-clause-later
+take_ahead-requires-clause-later g c κs within =
+    later_between _ _ _ _ _ _ _ _ _ c.loop-rest.invariant.between
 
-pub take_reads-requires : goal.take_reads-requires
-take_reads-requires g c =
-    let later = λ (r : Read). says_later r.said in
-    let reads = c.read_lines.new.reads.items in
-    ap (list_all later) c.in_ok-others.ensures.tail
-    ∙ all_dropped later c.aside_len.result reads
-    (reads_later c.args.number (map (λ line. line.now) c.args.lines.now) reads
-    c.in_ok-read_lines.ensures)
+pub take_ahead-requires-2-clause-later : goal.take_ahead-requires-2-clause-later
+take_ahead-requires-2-clause-later g c κs within =
+    later_between _ _ _ _ _ _ _ _ _ c.loop-rest.invariant.between
 
+-- the first lines were read
+pub loop-rest-init : goal.loop-rest-init
+loop-rest-init g c =
+    let cut = c.split_at in
+    let first = map (λ line. line.now) cut.result.0.now in
+    let number = c.args.number in
+    let none : number ≡ number + length {A = List ℕ} [] = omega arith in
+    record {
+      between = record {
+        done = [];
+        held = first;
+        whole =
+            texts_cut (λ line. line.now) _ c.args.lines.now cut.result.0.now cut.result.1.now
+            cut.ensures.front cut.ensures.back;
+        are = subst (λ n. AreReadAs n first c.read_lines.new.reads.items) none c.in_ok-read_lines.ensures;
+        place = omega (arith, none, length-map (λ line. line.now) cut.result.0.now);
+        stands = refl;
+        text = sym (append-nil c.args.text.now.items);
+      };
+      all = omega (arith, cut.ensures.front_len, cut.ensures.back_len);
+    }
+
+-- some more were taken, and the next ones were read
+pub loop-rest-preserved : goal.loop-rest-preserved
+loop-rest-preserved g c =
+    let at = c.loop-rest in
+    let cut = c.split_at-in-loop-rest in
+    let ahead = cut.result.0.now in
+    let later = cut.result.1.now in
+    let took = c.in_ok-take_ahead.ensures in
+    record {
+      between =
+          goes_further _ _ _ _ _ _ _ _ _ at.invariant.between c.requires.begun
+          (standing_of c.take_ahead.new.self) c.take_ahead.new.text.items took.read
+          took.takes.stands took.takes.text (map (λ line. line.now) ahead)
+          (map (λ line. line.now) later) c.take_ahead.new.reads.current.items
+          (at.next + length ahead)
+          (texts_cut (λ line. line.now) _ at.rest.now ahead later cut.ensures.front cut.ensures.back)
+          took.next (ap (λ n. at.next + n) (sym (length-map (λ line. line.now) ahead)));
+      all = omega (arith, at.invariant.all, cut.ensures.front_len, cut.ensures.back_len);
+    }
+
+pub returns-in_err-take_ahead-clause-kept : goal.returns-in_err-take_ahead-clause-kept
+returns-in_err-take_ahead-clause-kept g c =
+    let at = c.loop-rest in
+    let start = standing_of c.args.self.now in
+    let kept = goes_on_kept start (standing_of at.self) (standing_of c.take_ahead.new.self)
+    (kept_between _ _ _ _ _ _ _ _ _ at.invariant.between c.requires.begun)
+    c.in_err-take_ahead.ensures.kept in
+    search rules
+
+-- no more were left
 pub returns-clause-takes : goal.returns-clause-takes
 returns-clause-takes g c =
-    let reads = c.read_lines.new.reads.items in
-    let lines = map (λ line. line.now) c.args.lines.now in
-    let n = c.aside_len.result in
-    let s = standing_of c.args.self.now in
-    let mid = standing_of c.answer_reads.new.self in
-    let end = standing_of c.take_reads.new.self in
-    let before = c.args.text.now.items in
-    let first = c.answer_reads.new.text.items in
-    let last = c.take_reads.new.text.items in
-    let items : c.as_slice-2.result.now ≡ take n reads = search rules in
-    let front : list_all is_aside (take n reads) ≡ true = search rules in
-    let rest = c.in_ok-others.ensures.tail in
-    let took = c.in_ok-answer_reads.ensures.takes in
-    let stands = took.stands ∙ ap (λ rs. (reads_line rs s).next) items in
-    let text = took.text ∙ ap (λ rs. before ++ (reads_line rs s).text) items in
-    both_ok _ _ _ c.take_reads.result c.take_reads.ensures.takes c.take_reads.ensures.read
-    (λ others were.
-    let stands_last = others.stands ∙ ap (λ rs. (reads_line rs mid).next) rest in
-    let text_last = others.text ∙ ap (λ rs. first ++ (reads_line rs mid).text) rest in
-    let are = all_read c.args.number lines reads c.in_ok-read_lines.ensures
-    (both_read n reads front (ap (list_all (λ r. was_read r.said)) (sym rest) ∙ were)) in
+    let at = c.loop-rest in
+    let left : length at.rest.now ≡ 0 = search rules in
+    let none = texts_none (λ line. line.now) at.rest.now left in
+    let end = standing_of c.take_ahead-2.new.self in
+    let last = c.take_ahead-2.new.text.items in
+    both_ok _ _ _ c.take_ahead-2.result c.take_ahead-2.ensures.takes c.take_ahead-2.ensures.read (λ took were.
     record {
       stands =
-          group_stands c.args.number lines s mid end reads n before first last c.requires.begun
-          are stands text stands_last text_last;
+          ends_there _ _ _ _ _ _ _ _ _ at.invariant.between c.requires.begun end last were
+          took.stands took.text none;
       text =
-          group_text c.args.number lines s mid end reads n before first last c.requires.begun
-          are stands text stands_last text_last;
+          ends_with _ _ _ _ _ _ _ _ _ at.invariant.between c.requires.begun end last were
+          took.stands took.text none;
     })
 
 pub returns-clause-kept : goal.returns-clause-kept
 returns-clause-kept g c =
-    on_err_weaker c.take_reads.result (goes_on_kept (standing_of c.args.self.now)
-    (standing_of c.answer_reads.new.self) (standing_of c.take_reads.new.self)
-    c.in_ok-answer_reads.ensures.kept) c.take_reads.ensures.kept
-
-pub returns-clause-front : goal.returns-clause-front
-returns-clause-front g c =
-    on_err_weaker c.take_reads.result (begins_on c.args.text.now.items c.answer_reads.new.text.items
-    c.take_reads.new.text.items (_, c.in_ok-answer_reads.ensures.takes.text)) c.take_reads.ensures.front
+    let at = c.loop-rest in
+    on_err_weaker c.take_ahead-2.result (goes_on_kept (standing_of c.args.self.now)
+    (standing_of at.self) (standing_of c.take_ahead-2.new.self)
+    (kept_between _ _ _ _ _ _ _ _ _ at.invariant.between c.requires.begun))
+    c.take_ahead-2.ensures.kept
