@@ -1,1 +1,1 @@
-"""What the tools share: lines of an input, objects in them, calls of the program, and its tables."""
+"""What the tools share: lines and their objects, members, calls of the program, printed tables."""

@@ -5,7 +5,9 @@ import json
 import math
 import os
 import re
+import sys
 from bisect import bisect_right
+from typing import NamedTuple
 
 MOST_BYTES = 16_777_216  # of a line
 MOST_LEVELS = 127
@@ -94,34 +96,39 @@ def is_blank(line):
 
 
 _decode = json.JSONDecoder().decode
+# a number that takes an older Python minutes, and that newer ones refuse
+_LONG = None if hasattr(sys, "get_int_max_str_digits") else re.compile(rb"\d{4301}")
 
 
 def value_of(line):
     """The value of a line, or NO_VALUE. It reads some lines that the program refuses, such as
     numbers that are not finite: which lines are refused is the program's to say."""
     try:
+        if _LONG and len(line) > 4300 and _LONG.search(line):
+            return NO_VALUE
         return _decode(line.decode())
     except (ValueError, RecursionError):
         return NO_VALUE
 
 
-def levels_of(text):
-    """How deep a value is written."""
-    deepest = level = 0
+def is_too_deep(text):
+    """Whether a value is written in more levels than the program reads."""
+    level = 0
     for part in PARTS.findall(text):
         if part[0] != '"':
             for it in part:
                 if it in "[{":
                     level += 1
-                    deepest = max(deepest, level)
+                    if level > MOST_LEVELS:
+                        return True
                 elif it in "]}":
                     level -= 1
-    return deepest
+    return False
 
 
 def _finite(text):
     if not math.isfinite(float(text)):
-        raise ValueError(f"{shown_text(text)} is past the greatest number")
+        raise ValueError(f"the number {text[:12]}{'..' if len(text) > 12 else ''} is too large")
     return 0
 
 
@@ -130,42 +137,66 @@ def _constant(text):
 
 
 _strict = json.JSONDecoder(parse_int=_finite, parse_float=_finite, parse_constant=_constant)
+# what the readers of several versions of Python say, in words for those who wrote the line
+FAULTS = (
+    ("Expecting ',' delimiter", 'a "," or a closing bracket is missing'),
+    ("Expecting ':' delimiter", 'a ":" is missing'),
+    ("Expecting property name", "the name of a member in double quotes is missing"),
+    ("Illegal trailing comma", 'a "," stands before a closing bracket'),
+    ("Expecting value", "a value is missing"),
+    ("Unterminated string", "a text has no end"),
+    ("Invalid control character", "a text has a control character, such as a tab"),
+    ("Invalid \\", "a text has an escape that JSON doesn't know"),
+    ("Extra data", "more follows after a value"),
+)
+
+
+class Fault(NamedTuple):
+    """Why a text is no value of JSON: at which character, from 1 on (0: no certain one), and
+    whether it only ends too early."""
+
+    says: str
+    at: int = 0
+    is_cut: bool = False
 
 
 def fault_of(line):
-    """Why a line is no JSON value that the program reads, as a sentence; "" where that isn't
-    found."""
+    """Why a line is no JSON value that the program reads; None where that isn't found."""
     if len(line) > MOST_BYTES:
-        return f"it has {len(line)} bytes, and {MOST_BYTES} are the most"
+        return Fault(f"it has {len(line)} bytes, and {MOST_BYTES} are the most")
     if line.startswith(BYTE_ORDER_MARK):
-        return "it begins with a byte order mark"
+        return Fault("it begins with a byte order mark")
     try:
-        text = line.decode()
+        return fault_in(line.decode())
     except UnicodeDecodeError as error:
-        return f"byte {error.start + 1} is no UTF-8"
-    if text.count("[") + text.count("{") > MOST_LEVELS and levels_of(text) > MOST_LEVELS:
-        return f"it has {levels_of(text)} levels, and {MOST_LEVELS} are the most"
+        return Fault(f"byte {error.start + 1} is no UTF-8")
+
+
+def fault_in(text):
+    """The same of a text."""
+    if text.count("[") + text.count("{") > MOST_LEVELS and is_too_deep(text):
+        return Fault(f"it has more than {MOST_LEVELS} levels")
     try:
         value = _strict.decode(text)
         if HALF.search(text):
             json.dumps(value, ensure_ascii=False).encode()
     except json.JSONDecodeError as error:
-        return _told(error)
+        return _fault_of_json(error)
     except UnicodeEncodeError:
-        return "an escape such as \\ud800 is half a character"
+        return Fault("an escape such as \\ud800 is half a character")
     except RecursionError:
-        return "it has too many levels"
+        return Fault(f"it has more than {MOST_LEVELS} levels")
     except ValueError as error:
-        return str(error)
-    return ""
+        return Fault(str(error))
+    return None
 
 
-def _told(error):
-    """Where JSON ends, in the reader's words, and what stands there."""
+def _fault_of_json(error):
     text, at = error.doc, error.pos
+    told = next((says for begins, says in FAULTS if error.msg.startswith(begins)), error.msg)
     if at >= len(text.rstrip(" \t\r\n")):
-        return f"it ends too early: {error.msg}"
-    return f"at character {at + 1}, {shown_text(text[at : at + 12])}: {error.msg}"
+        return Fault("it ends too early: " + told, at + 1, True)
+    return Fault(f"at character {at + 1}, {shown_text(text[at : at + 12])}: {told}", at + 1)
 
 
 def shown_text(text):
@@ -174,17 +205,18 @@ def shown_text(text):
 
 
 def shown(value, most=60):
-    """A value as JSON text for a sentence, cut off where it is long."""
-    if isinstance(value, (dict, list)) and len(value) > most:
-        held = "members" if isinstance(value, dict) else "values"
-        return f"{'an object' if isinstance(value, dict) else 'a list'} of {len(value)} {held}"
-    if isinstance(value, str):
-        text = json.dumps(value[: most + 1], ensure_ascii=False)
-    else:
-        try:
-            text = json.dumps(value, ensure_ascii=False, separators=(",", ":"))
-        except (RecursionError, ValueError):
-            return "a value of many levels"
-    if len(text) > most:
-        text = text[: most - 2] + ('.."' if isinstance(value, str) else "..")
-    return shown_text(text)
+    """A value as JSON text for a sentence; what is long is cut off, or told by its size."""
+    if isinstance(value, dict) and value:
+        return "an object"
+    if isinstance(value, list) and not (len(value) < 4 and all(map(_is_short, value))):
+        return f"a list of {len(value)}" if value else "[]"
+    if isinstance(value, str) and len(value) > most:
+        return shown_text(json.dumps(value[:most], ensure_ascii=False))[:-1] + '.."'
+    try:
+        return shown_text(json.dumps(value, ensure_ascii=False, separators=(",", ":")))
+    except ValueError:
+        return "a long number"
+
+
+def _is_short(value):
+    return not isinstance(value, (dict, list)) and len(str(value)) < 40

@@ -61,6 +61,7 @@ PROTOCOL = choice("TCP", "UDP", "SCTP")
 POLICY = choice("Cluster", "Local")
 A_PORT = whole(1, 65535)
 A_PORT_OR_NONE = whole(0, 65535)
+DRAWS = Form("at most 1000 whole numbers, 0 to 2147483647", ([], [0, 2**31 - 1], [0] * 1000))
 
 _OF_ANY = {"by": Member(A_STREAM, "main")}
 _OF_PACKET = {
@@ -71,7 +72,7 @@ _OF_PACKET = {
     "sport": Member(A_PORT_OR_NONE, "0"),
     "dport": Member(A_PORT, NEEDED),
     "now": Member(whole(0, 2**64 - 1), "0"),
-    "draws": Member(Form("at most 1000 whole numbers, 0 to 2147483647", ([], [0, 2**31 - 1])), "none"),
+    "draws": Member(DRAWS, "none"),
     "seed": Member(whole(0, 2**64 - 1), "none"),
     "trail": Member(A_TRUTH, "false"),
 }

@@ -42,7 +42,7 @@ class Event(NamedTuple):
 
 
 def member(value, *names):
-    """The member that names lead to; None where it is null, or isn't there, as the program has it."""
+    """The member that names lead to; None where it isn't there or is null, which is the same."""
     for name in names:
         if not isinstance(value, dict):
             return None
@@ -85,7 +85,8 @@ def key_of(item) -> Optional[Key]:
     kind, name = text(item, "kind"), text(item, "metadata", "name")
     if not kind or not name:
         return None
-    return Key(kind, "" if kind == "Node" else text(item, "metadata", "namespace") or "default", name)
+    space = "" if kind == "Node" else text(item, "metadata", "namespace") or "default"
+    return Key(kind, space, name)
 
 
 def is_read(item):
@@ -167,7 +168,8 @@ def address_of(value):
 def range_of(value):
     """A range of either family, or None; bits past its length are cleared."""
     try:
-        return ipaddress.ip_network(value, strict=False) if "/" in value and "%" not in value else None
+        is_one = "/" in value and "%" not in value
+        return ipaddress.ip_network(value, strict=False) if is_one else None
     except (ValueError, TypeError):
         return None
 
