@@ -48,6 +48,7 @@ class Input:
         self.blocks, self.firsts = [], []  # whole lines, and the number of the first of each block
         self.count = 0
         self._rest = []
+        self._split = -1, []  # the block that was asked for last, and its lines
 
     def take(self, piece):
         """Holds more bytes; the lines that they end, each with its number."""
@@ -80,7 +81,13 @@ class Input:
     def line(self, number):
         """The line of this number, from 1 to `count`."""
         at = bisect_right(self.firsts, number) - 1
-        return _lines(self.blocks[at])[number - self.firsts[at]]
+        if at != self._split[0]:
+            self._split = at, _lines(self.blocks[at])
+        return self._split[1][number - self.firsts[at]]
+
+    def is_open(self):
+        """Whether the last line so far has no line feed."""
+        return bool(self._rest)
 
 
 def _lines(block):
@@ -201,6 +208,8 @@ def _fault_of_json(error):
 
 def shown_text(text):
     """A text without characters that a terminal would take as commands."""
+    if text.isprintable():
+        return text
     return "".join(it if it.isprintable() else ascii(it)[1:-1] for it in text)
 
 

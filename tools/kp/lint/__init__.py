@@ -1,0 +1,1 @@
+"""What is told of an input that isn't what its author may have meant."""

@@ -1,0 +1,388 @@
+"""Notes on lines that are no lines as the program reads them: values over several lines, YAML,
+lists, and what isn't JSON at all; with what makes lines of it."""
+
+import json
+import re
+
+from ..lines import (
+    BLANKS,
+    BYTE_ORDER_MARK,
+    MOST_BYTES,
+    NO_VALUE,
+    fault_in,
+    fault_of,
+    is_blank,
+    shown,
+    value_of,
+)
+from ..objects import KINDS, VERBS, events_of, is_read, key_of, member, members, text
+from .notes import Note
+
+BAD_JSON, NOT_EVENT = "bad json", "not an event"
+UNREAD = (BAD_JSON, NOT_EVENT)
+JQ = "jq -c ."
+READ_ITEMS = "jq -c '.items[] | select(.kind | IN(\"" + '","'.join(KINDS) + "\"))'"
+YQ = "yq -c . (or yq -o json -I 0 . by the other program of this name)"
+SEVERAL = 5  # lines in a row that aren't JSON have a note each, and more have one
+
+TEXTS = re.compile(rb'"(?:[^"\\]|\\.)*"')
+BRACKETS = re.compile(rb"[][{}]")
+YAML_LINE = re.compile(rb"(?:---|\.\.\.|%YAML|#|\s*- |\s*(?:- +)*[\w./\"'-]+:(?:\s|$))")
+YAML_NAME = re.compile(rb"\s*(?:- +)?(?:apiVersion|kind|metadata|spec|items|op|type)\s*:(?:\s|$)")
+
+
+def brackets(line):
+    """How many more brackets a line opens than it closes; None where a text isn't closed."""
+    if not BRACKETS.search(line):
+        return 0
+    if b'"' in line:
+        line = TEXTS.sub(b"", line)
+        if b'"' in line:
+            return None
+    opened = line.count(b"{") + line.count(b"[")
+    return opened - line.count(b"}") - line.count(b"]")
+
+
+class Forms:
+    """Notes on the lines that aren't JSON or no event, of an input that is held."""
+
+    def __init__(self, held, refused):
+        self.held, self.refused = held, refused  # texts of refusals, by number
+        # how many lines may be looked at for values that turn out to be none
+        self._left = 4 * held.count + 10_000
+
+    def note_at(self, number):
+        """The note on a line that was refused so, and maybe on those behind it; its last line."""
+        line = self.held.line(number)
+        if b"\0" in line[:200]:
+            return self._sixteen(number)
+        bare = line[3:] if line.startswith(BYTE_ORDER_MARK) else line
+        if self.refused[number] == NOT_EVENT:
+            return self._not_event(number, line), number
+        if bare.lstrip(BLANKS)[:1] in (b"{", b"["):
+            note = self._several(number)
+            if note:
+                return note, note.last
+        elif YAML_LINE.match(bare):
+            last = self._last_refused(number)
+            if any(YAML_NAME.match(self.held.line(it)) for it in range(number, last + 1)):
+                return self._yaml(number, last), last
+        return self._bad(number, line)
+
+    # ---- several lines
+
+    def _last_refused(self, first):
+        """The last line of those in a row that were refused as no JSON or no event."""
+        last = number = first
+        while number < self.held.count:
+            number += 1
+            if self.refused.get(number) in UNREAD:
+                last = number
+            elif not is_blank(self.held.line(number)):
+                break
+        return last
+
+    def _several(self, first):
+        """A note on a value that begins in a line and goes on in others, or None."""
+        last = self._extent(first)
+        is_cut = last == 0
+        if is_cut:
+            last = self._last_refused(first)
+        if last <= first:
+            return None
+        data = b"\n".join(self.held.line(it) for it in range(first, last + 1))
+        if len(data) > MOST_BYTES:
+            return self._of_value(first, last, len(data), None, "")
+        whole = data.decode(errors="replace").lstrip("\ufeff")
+        fault = fault_in(whole)
+        if is_cut != bool(fault and fault.is_cut):
+            if is_cut or not all(map(self._is_unread, range(first, last + 1))):
+                return None
+        return self._of_value(first, last, len(data), fault, whole)
+
+    def _extent(self, first):
+        """The line in which the brackets are closed that this one opens; 0 where none is, and the
+        line itself where its value goes no further."""
+        depth = 0
+        for number in range(first, self.held.count + 1):
+            change = brackets(self.held.line(number))
+            if change is None:
+                return first
+            depth += change
+            if depth <= 0:
+                return number if depth == 0 else first
+            self._left -= 1
+            if self._left < 0:
+                return first
+        return 0
+
+    def _of_value(self, first, last, size, fault, whole):
+        count = last - first + 1
+        says = f"one value over {count} lines"
+        mends = JQ
+        if fault and fault.is_cut:
+            says += f", and its end is missing: {fault.says.partition(': ')[2]}"
+            mends = "write the rest of it"
+        elif fault:
+            at = first + whole.count("\n", 0, max(fault.at - 1, 0))
+            begin = whole.rfind("\n", 0, max(fault.at - 1, 0)) + 1
+            where = f"character {fault.at - begin}, " if fault.at else ""
+            told = fault.says.partition(", ")[2] if fault.at else fault.says
+            says += f", with a fault in line {at}: {where}{told}"
+            mends = f"mend line {at}, and then {JQ}"
+        elif size > MOST_BYTES:
+            mends = "jq -c '.items[]'"
+            says += f" and {size} bytes, too many for a line: {mends} makes a line of each object"
+        else:
+            says += f": {JQ} makes one line of it"
+        taken = [it for it in range(first, last + 1) if not self._is_unread(it)]
+        if taken:
+            says += f"; line {taken[0]}" + (f" and {len(taken) - 1} more" if taken[1:] else "")
+            says += " of it counted by itself"
+        becomes = "each line is refused" if not taken else "some of its lines count by themselves"
+        return Note("several-lines", says, first, last, becomes=becomes, mends=mends)
+
+    def _is_unread(self, number):
+        return self.refused.get(number) is not None or is_blank(self.held.line(number))
+
+    def _yaml(self, first, last):
+        says = f"YAML: {YQ} makes lines of it, and tools/cluster takes it as it is"
+        return Note("yaml", says, first, last, becomes="each line is refused", mends=YQ)
+
+    def _sixteen(self, first):
+        last = self._last_refused(first)
+        says = "UTF-16, or no text: iconv -f utf-16 -t utf-8 makes UTF-8 of the former"
+        note = Note(
+            "not-utf-8",
+            says,
+            first,
+            last,
+            becomes="each line is refused",
+            mends="iconv -f utf-16 -t utf-8",
+        )
+        return note, last
+
+    # ---- single lines
+
+    def _bad(self, first, line):
+        last = first
+        while (
+            last < self.held.count
+            and self.refused.get(last + 1) == BAD_JSON
+            and self._is_plain(self.held.line(last + 1))
+        ):
+            last += 1
+        if last - first < SEVERAL:
+            return self._bad_line(first, line), first
+        found = fault_of(line)
+        says = f"{last - first + 1} lines are no JSON"
+        says += f"; of line {first}: {found.says}" if found else ""
+        note = Note("bad-json", says, first, last, becomes="each line is refused", mends="write JSON")
+        return note, last
+
+    @staticmethod
+    def _is_plain(line):
+        """Whether a line begins no form of several lines."""
+        return not line.lstrip(BLANKS)[:1] in (b"{", b"[") and not YAML_LINE.match(line)
+
+    def _bad_line(self, number, line):
+        refused = "the line is refused: bad json"
+        if line.startswith(BYTE_ORDER_MARK) and value_of(line[3:]) is not NO_VALUE:
+            mends = JQ if number == 1 else r"sed 's/^\xef\xbb\xbf//'"
+            says = f"it begins with a byte order mark: {mends} takes it away"
+            return Note("byte-order-mark", says, number, becomes=refused, mends=mends)
+        values = values_in(line)
+        if values > 1:
+            says = f"{values} values on one line: {JQ} makes a line of each"
+            return Note("several-values", says, number, becomes=refused, mends=JQ)
+        fault = fault_of(line)
+        says = "bad JSON: " + (fault.says if fault else "the program doesn't read it")
+        return Note("bad-json", says, number, becomes=refused, mends="write it as JSON")
+
+    def _not_event(self, number, line):
+        value = value_of(line)
+        refused = "the line is refused: not an event"
+        if isinstance(value, list):
+            says = f"a list of {len(value)}: jq -c '.[]' makes a line of each of its values"
+            return Note("list", says, number, becomes=refused, mends="jq -c '.[]'")
+        if not isinstance(value, dict):
+            says = f"{shown(value)} is no object: a line is an object of the cluster, or a command"
+            return Note("not-an-event", says, number, value=value, becomes=refused)
+        return self._object(number, value, refused)
+
+    @staticmethod
+    def _object(number, value, refused):
+        """A note on an object, or on one inside, that is neither an event nor a command."""
+        inner = value.get("event") if value.get("op") == "event" else value
+        if isinstance(inner, dict) and inner.get("type") is not None and inner.get("object"):
+            form = inner["type"]
+            if isinstance(form, str) and form not in VERBS:
+                allowed = tuple(VERBS)
+                says = f"watch event: type {shown(form)} ({', '.join(allowed)})"
+                said = text(inner, "object", "message")
+                says += f"; it says {shown(said)}" if said else ""
+                return Note(
+                    "not-an-event",
+                    says,
+                    number,
+                    member="type",
+                    value=form,
+                    allowed=allowed,
+                    becomes=refused,
+                    mends=", ".join(allowed),
+                )
+        for event in events_of(value):
+            if isinstance(event.object, dict) and event.object.get("kind") is None:
+                where = event.path.rstrip(".")
+                says = f"{where} has no kind ({', '.join(KINDS)}){near_kind(event.object)}"
+                return _without_kind(says, number, f"{event.path}kind", refused)
+        if not isinstance(inner, dict):
+            says = f"event {shown(inner)} is no object of the cluster"
+            return Note("not-an-event", says, number, member="event", value=inner, becomes=refused)
+        says = f'it has neither "op", as commands do, nor "kind", as objects do{near_kind(inner)}'
+        return _without_kind(says, number, "kind", refused)
+
+
+def _without_kind(says, number, name, refused):
+    return Note(
+        "not-an-event",
+        says,
+        number,
+        member=name,
+        allowed=tuple(KINDS),
+        becomes=refused,
+        mends=f"kind: {', '.join(KINDS)}",
+    )
+
+
+def near_kind(value):
+    """Of an object without a kind, the member that may be meant as it or as a command."""
+    for name in value:
+        if name not in ("op", "kind") and name.strip().lower() in ("op", "kind", "cmd", "command"):
+            return f"; {shown(name)} isn't read"
+    return ""
+
+
+def values_in(line):
+    """How many values of JSON stand on a line; 0 where it has something else too."""
+    try:
+        rest, count = line.decode().strip(), 0
+    except UnicodeDecodeError:
+        return 0
+    while rest and count < 1000:
+        found = _value_at_begin(rest)
+        if found is None:
+            return 0
+        rest, count = rest[found:].lstrip(), count + 1
+    return count
+
+
+def _value_at_begin(text):
+    try:
+        return _scan(text)[1]
+    except (ValueError, RecursionError):
+        return None
+
+
+_scan = json.JSONDecoder().raw_decode
+
+
+# ---- kinds
+
+
+def of_kind(number, value):
+    """A note on a line that was refused for the kind of an object, or its version."""
+    listed = next((it for it in _wholes(value) if is_typed_list(it)), None)
+    if listed:
+        return _typed_list(number, listed)
+    events = list(events_of(value))
+    for event in events:
+        if isinstance(event.object, dict) and not is_read(event.object):
+            if "items[" in event.path:
+                return _in_list(number, event, len(events))
+            return _other_kind(number, event.object)
+    return Note("unsupported-kind", "its kind isn't read", number, becomes="the line is refused")
+
+
+def _wholes(value):
+    """A value, and the objects that it brings as an event."""
+    yield value
+    yield member(value, "event")
+    yield member(value, "object")
+    yield member(value, "event", "object")
+
+
+def is_typed_list(value):
+    kind = text(value, "kind")
+    return kind.endswith("List") and kind != "List" and isinstance(member(value, "items"), list)
+
+
+def _typed_list(number, value):
+    kind = text(value, "kind")
+    item = kind[: -len("List")]
+    count = len(members(value, "items"))
+    version = shown(KINDS.get(item, text(value, "apiVersion")))
+    mends = f"jq -c '.items[] | {{apiVersion:{version},kind:{shown(item)}}} + .'"
+    says = f"{count} in one: {mends} makes a line of each"
+    if item not in KINDS:
+        says, mends = f"its kind ({', '.join(KINDS)}): leave it out", "leave it out"
+    return Note(
+        "typed-list",
+        says,
+        number,
+        about=kind,
+        member="kind",
+        value=kind,
+        becomes=f"the line is refused: kind {shown(kind)} is not supported",
+        mends=mends,
+    )
+
+
+def _in_list(number, event, count):
+    """A note on an object of a List that isn't read, which refuses all of it."""
+    key, kind = key_of(event.object), text(event.object, "kind")
+    version = member(event.object, "apiVersion")
+    what = str(key or kind or "an object")
+    if kind in KINDS:
+        what += f" of apiVersion {shown(version)} ({KINDS[kind]})"
+        mends = f"write {KINDS[kind]}"
+        says = f"{event.path.rstrip('.')} is {what}, so none of its {count} objects counts"
+    else:
+        mends = READ_ITEMS
+        says = f"{event.path.rstrip('.')} is {what}, which isn't read, so none of its {count} "
+        says += f"objects counts: {mends} makes a line of each that is"
+    return Note(
+        "kind-in-list",
+        says,
+        number,
+        about="List",
+        key=key,
+        member=event.path + ("apiVersion" if kind in KINDS else "kind"),
+        value=version if kind in KINDS else kind,
+        allowed=(KINDS[kind],) if kind in KINDS else tuple(KINDS),
+        becomes="the line is refused, with all objects of the List",
+        mends=mends,
+    )
+
+
+def _other_kind(number, value):
+    key, kind = key_of(value), text(value, "kind")
+    about = "" if key else kind or "object"
+    if kind in KINDS:
+        name, found, allowed = "apiVersion", member(value, "apiVersion"), (KINDS[kind],)
+        says = f"apiVersion {shown(found)} ({KINDS[kind]})"
+    else:
+        name, found, allowed = "kind", kind, tuple(KINDS)
+        says = f"its kind isn't read ({', '.join(KINDS)}): leave it out"
+    return Note(
+        "unsupported-kind",
+        says,
+        number,
+        about=about,
+        key=key,
+        member=name,
+        value=found,
+        allowed=allowed,
+        becomes=f"the line is refused: kind {shown(kind)} is not supported",
+        mends=", ".join(allowed),
+    )
