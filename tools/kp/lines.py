@@ -203,7 +203,8 @@ def _fault_of_json(error):
     told = next((says for begins, says in FAULTS if error.msg.startswith(begins)), error.msg)
     if at >= len(text.rstrip(" \t\r\n")):
         return Fault("it ends too early: " + told, at + 1, True)
-    return Fault(f"at character {at + 1}, {shown_text(text[at : at + 12])}: {told}", at + 1)
+    rest = shown_text(text[at : at + 12].partition("\n")[0])
+    return Fault(f"at character {at + 1}, {rest or 'a line feed'}: {told}", at + 1)
 
 
 def shown_text(text):

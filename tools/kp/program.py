@@ -57,7 +57,8 @@ class Run:
         self._pieces, self._waiting, self._said = deque(), 0, []
         self._input, self._is_ended = self._process.stdin, False
         self._poll = selectors.DefaultSelector()
-        for end, taken in ((self._process.stdout, printed), (self._process.stderr, self._said.append)):
+        ends = [(self._process.stdout, printed), (self._process.stderr, self._said.append)]
+        for end, taken in ends:
             os.set_blocking(end.fileno(), False)
             self._poll.register(end, selectors.EVENT_READ, taken)
         os.set_blocking(self._input.fileno(), False)

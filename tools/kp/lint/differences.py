@@ -149,10 +149,8 @@ def _endpoints(key, item):
         yield _note("hints-for-nodes", key, name, [], says)
     if silent:
         name = f"endpoints[{silent[0]}].conditions.serving"
-        says = (
-            f"serving is absent, of {_some(silent)} that terminates: it doesn't serve here; "
-            'by kube-proxy it does: "serving":true says so'
-        )
+        says = f"serving is absent of {_some(silent)}, which terminates: it doesn't serve here, "
+        says += 'and does by kube-proxy: "serving":true says so'
         yield _note("serving-absent", key, name, None, says)
 
 

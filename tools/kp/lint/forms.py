@@ -121,7 +121,7 @@ class Forms:
         says = f"one value over {count} lines"
         mends = JQ
         if fault and fault.is_cut:
-            says += f", and its end is missing: {fault.says.partition(': ')[2]}"
+            says += ", and its end is missing"
             mends = "write the rest of it"
         elif fault:
             at = first + whole.count("\n", 0, max(fault.at - 1, 0))
@@ -145,7 +145,8 @@ class Forms:
     def _is_unread(self, number):
         return self.refused.get(number) is not None or is_blank(self.held.line(number))
 
-    def _yaml(self, first, last):
+    @staticmethod
+    def _yaml(first, last):
         says = f"YAML: {YQ} makes lines of it, and tools/cluster takes it as it is"
         return Note("yaml", says, first, last, becomes="each line is refused", mends=YQ)
 
@@ -153,7 +154,7 @@ class Forms:
         last = self._last_refused(first)
         says = "UTF-16, or no text: iconv -f utf-16 -t utf-8 makes UTF-8 of the former"
         note = Note(
-            "not-utf-8",
+            "utf-16",
             says,
             first,
             last,
@@ -177,8 +178,8 @@ class Forms:
         found = fault_of(line)
         says = f"{last - first + 1} lines are no JSON"
         says += f"; of line {first}: {found.says}" if found else ""
-        note = Note("bad-json", says, first, last, becomes="each line is refused", mends="write JSON")
-        return note, last
+        becomes, mends = "each line is refused", "write each as JSON"
+        return Note("bad-json", says, first, last, becomes=becomes, mends=mends), last
 
     @staticmethod
     def _is_plain(line):

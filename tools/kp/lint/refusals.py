@@ -20,6 +20,7 @@ from ..objects import (
 )
 from .commands import not_read
 from .forms import UNREAD, Forms, of_kind
+from .near import misnamed
 from .notes import Note
 
 QUOTED = r'("(?:[^"\\]|\\.)*")'
@@ -83,9 +84,8 @@ class Refused:
         if found := OF_MEMBER.match(why):
             path = json.loads(found[2])
             yield self._of_member(number, value, why, found[1], path, found[3])
-            op = text(value, "op")
-            if found[1] == "missing" and op in COMMANDS:
-                yield from not_read(number, op, value)
+            if found[1] == "missing":
+                yield from _misnamed(number, value, path)
         elif OF_KIND.match(why):
             yield of_kind(number, value)
         elif found := OF_OP.match(why):
@@ -195,6 +195,16 @@ class Refused:
         )
 
 
+def _misnamed(number, value, path):
+    """What may be meant as a member that is missing."""
+    event, _ = owner_of(value, path)
+    op = text(value, "op")
+    if event is not None:
+        yield from misnamed(number, event.object)
+    elif op in COMMANDS:
+        yield from not_read(number, op, value)
+
+
 def _says(form, name, found, allowed, count):
     may = f" ({allowed.says})" if allowed else ""
     if form == "missing":
@@ -204,7 +214,7 @@ def _says(form, name, found, allowed, count):
     if form == "duplicate port at":
         port = f"name {shown(text(found, 'name'))}" if text(found, "name") else "no name"
         protocol = text(found, "protocol") or "TCP"
-        return f"{name} has {port} and {protocol}, as a port before it: each needs a name of its own"
+        return f"{name} has {port} and {protocol}, as a port before it: give each a name of its own"
     return f"{name} {shown(found)}{may}"
 
 

@@ -1,4 +1,4 @@
-"""How notes are put in order and written."""
+"""How notes are written."""
 
 import os
 import signal
@@ -7,23 +7,10 @@ from collections import Counter
 MOST = 10  # notes of a code that a text has
 
 
-def in_order(source, refused):
-    """All notes: on the setting, on lines by their number, on objects as they came."""
-    told = [*source.seen.end(), *source.joined, *refused.notes()]
-    of_objects = [it for it in told if it.is_of_object()]
-    of_lines = [it for it in told if not it.is_of_object()]
-    on_setting = source.seen.on_setting(refused.is_of_setting())
-    return [
-        *on_setting,
-        *sorted(of_lines, key=lambda it: it.line),
-        *sorted(of_objects, key=lambda it: it.line),
-    ]
-
-
-def tell(told, words, end):
+def tell(notes, is_json, are_all, end):
     """Writes notes to standard output or error."""
     held, size = [], 0
-    for text in _texts(told, words):
+    for text in (it.json() for it in notes) if is_json else _texts(notes, are_all):
         held.append(text)
         size += len(text)
         if size > 1 << 16:
@@ -32,19 +19,15 @@ def tell(told, words, end):
     write(end, _bytes(held))
 
 
-def _texts(told, words):
-    if words.form == "json":
-        for note in told:
-            yield note.json()
-        return
+def _texts(notes, are_all):
     counts = Counter()
-    for note in told:
+    for note in notes:
         counts[note.code] += 1
-        if words.all or counts[note.code] <= MOST:
+        if are_all or counts[note.code] <= MOST:
             yield note.text()
     for code, count in counts.items():
-        if count > MOST and not words.all:
-            yield f"{code}: {count - MOST} more like these; --all has each"
+        if count > MOST and not are_all:
+            yield f"{code}: {count - MOST} more like these: --all has each"
 
 
 def _bytes(texts):

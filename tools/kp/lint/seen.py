@@ -4,7 +4,7 @@ from .. import objects
 from ..lines import NO_VALUE, value_of
 from ..members import COMMANDS
 from ..objects import APPLIES, DELETES, PASSES, events_of, key_of, label, member, members, text
-from . import differences
+from . import differences, near
 from .commands import Doors, not_read, without_effect
 from .notes import Note
 from .setting import Setting, notes_on
@@ -27,8 +27,8 @@ class Questions:
             becomes = "it is asked of the tables of the last sync"
             says = f"the change of line {changed} came after the last sync, and doesn't count yet"
             if count > 1:
-                says = f"{count} changes from line {changed} on came after the last sync, and don't "
-                says += "count yet"
+                says = f"{count} changes from line {changed} on came after the last sync, and "
+                says += "don't count yet"
         return Note(
             self.code,
             f'{says}: {{"op":"sync"}} on a line before makes the tables',
@@ -56,6 +56,7 @@ class Seen:
         self._pods, self._endpoints = {}, {}  # addresses as texts, by key
         self._selecting, self._sliced = {}, {}  # Services with a selector; Services of slices
         self._doors = Doors()
+        self._names = near.Names()
         self._is_synced = False
         self._changed, self._changes = 0, 0  # since the last sync
         self._questions = None
@@ -68,8 +69,11 @@ class Seen:
             return
         op = value.get("op")
         if op is None or op == "event":
+            are_near = self._names.are_near(line)
             for event in events_of(value):
                 self._event(number, event)
+                if are_near:
+                    self.notes += near.misnamed(number, event.object)
         if op is not None:
             self._command(number, op, value)
         self.is_empty = False

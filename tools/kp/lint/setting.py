@@ -1,5 +1,6 @@
 """The setting, and notes on it beside all that an input has."""
 
+import json
 from typing import NamedTuple
 
 from ..lines import shown
@@ -74,11 +75,10 @@ def _some(names, most=5):
 def _none(seen):
     node = next(iter(seen.nodes), "") or next(iter(seen.named_nodes), "n1")
     given = [str(it) for it in seen.nodes.get(node, {}).get("InternalIP", [])] or ["192.0.2.1"]
-    line = f'{{"op":"config","node":{shown(node)},"nodeAddresses":{shown(given)},..}}'
+    line = json.dumps({"op": "config", "node": node, "nodeAddresses": given}, separators=(",", ":"))
     yield _note(
         "no-setting",
-        f'there is none, so the node is "node", without addresses or a range: {line} as the first '
-        "line gives one, and tools/cluster writes it",
+        f'there is none, so the node is "node" and has no addresses: begin with {line}',
         becomes="the defaults count",
         mends=f"begin with {line}",
     )
@@ -156,12 +156,13 @@ def _node_ports(setting, seen):
         if not found:
             continue
         key, port = next(iter(found.items()))
-        more = f", and those of {len(found) - 1} more" if len(found) > 1 else ""
-        none = f"have none of IPv{version}" if setting.addresses else "are none"
+        none, by = "are none", ""
+        if setting.addresses:
+            none, by = f"have none of IPv{version}", f" by IPv{version}"
         yield _note(
             "no-node-addresses",
-            f"nodeAddresses {none}, so node port {port} of {key}{more} is open nowhere: write the "
-            "node's addresses",
+            f"nodeAddresses {none}, so node ports are open nowhere{by}, as {port} of {key}: write "
+            "the node's addresses",
             "nodeAddresses",
             None,
             "node ports are open nowhere",
@@ -180,7 +181,7 @@ def _six(seen):
         parts.append(f"{key} has {address}{more}")
     if seen.six_questions:
         count, line = seen.six_questions
-        more = f", and {count - 1} more are" if count > 1 else ""
+        more = f", and {count - 1} more" if count > 1 else ""
         parts.append(f"the question of line {line} is of it{more}")
     yield _note(
         "no-dual-stack",
@@ -196,12 +197,12 @@ def _controller(setting, seen):
     found = seen.slices_of_selecting()
     if not found:
         return
-    given = "controller is true" if setting.is_controller_given else "controller is absent, so true"
+    given = "true" if setting.is_controller_given else "absent, so true"
     more = f" and {len(found) - 1} more" if len(found) > 1 else ""
     yield _note(
         "controller-beside-slices",
-        f"{given}, and makes slices from Pods for Services with a selector, beside {found[0]}{more} "
-        'of the input: "controller":false takes those alone',
+        f"controller is {given}, and makes slices of Services with a selector from Pods, beside "
+        f'{found[0]}{more}: "controller":false takes those alone',
         "controller",
         True,
         "the slices of Services with a selector are made from Pods",
