@@ -101,11 +101,8 @@ COMMANDS = {
 }
 ELEMENTS = {"nodeAddresses[]": AN_ADDRESS, "draws[]": whole(0, 2**31 - 1)}
 
-_META = {
-    "metadata": AN_OBJECT,
-    "metadata.name": A_NAME,
-    "metadata.namespace": A_NAME,
-}
+_NAMED = {"metadata": AN_OBJECT, "metadata.name": A_NAME}
+_META = {**_NAMED, "metadata.namespace": A_NAME}
 _LABELS = {"metadata.labels": Form("an object of texts"), "metadata.labels.*": A_TEXT}
 _TRUTHS = ("ready", "serving", "terminating")
 
@@ -201,7 +198,7 @@ OBJECTS = {
         "status.conditions[].status": A_TEXT,
     },
     "Node": {
-        **_META,
+        **_NAMED,
         **_LABELS,
         f"metadata.labels.{ZONE}": A_LABEL_VALUE,
     },

@@ -95,9 +95,10 @@ class Forms:
             return self._of_value(first, last, len(data), None, "")
         whole = data.decode(errors="replace").lstrip("\ufeff")
         fault = fault_in(whole)
-        if is_cut != bool(fault and fault.is_cut):
-            if is_cut or not all(map(self._is_unread, range(first, last + 1))):
-                return None
+        if is_cut and not (fault and fault.is_cut):
+            return None
+        if fault and not all(map(self._is_unread, range(first, last + 1))):
+            return None
         return self._of_value(first, last, len(data), fault, whole)
 
     def _extent(self, first):
@@ -135,7 +136,8 @@ class Forms:
             says += f" and {size} bytes, too many for a line: {mends} makes a line of each object"
         else:
             says += f": {JQ} makes one line of it"
-        taken = [it for it in range(first, last + 1) if not self._is_unread(it)]
+        taken = [it for it in range(first, last + 1) if it not in self.refused]
+        taken = [it for it in taken if not is_blank(self.held.line(it))]
         if taken:
             says += f"; line {taken[0]}" + (f" and {len(taken) - 1} more" if taken[1:] else "")
             says += " of it counted by itself"
@@ -143,7 +145,7 @@ class Forms:
         return Note("several-lines", says, first, last, becomes=becomes, mends=mends)
 
     def _is_unread(self, number):
-        return self.refused.get(number) is not None or is_blank(self.held.line(number))
+        return self.refused.get(number) in UNREAD or is_blank(self.held.line(number))
 
     @staticmethod
     def _yaml(first, last):
@@ -238,8 +240,18 @@ class Forms:
                 says = f"{where} has no kind ({', '.join(KINDS)}){near_kind(event.object)}"
                 return _without_kind(says, number, f"{event.path}kind", refused)
         if not isinstance(inner, dict):
-            says = f"event {shown(inner)} is no object of the cluster"
-            return Note("not-an-event", says, number, member="event", value=inner, becomes=refused)
+            mends = "an object of the cluster, or a watch event"
+            says = f"event {shown(inner)} ({mends})"
+            return Note(
+                "not-an-event",
+                says,
+                number,
+                about="event",
+                member="event",
+                value=inner,
+                becomes=refused,
+                mends=mends,
+            )
         says = f'it has neither "op", as commands do, nor "kind", as objects do{near_kind(inner)}'
         return _without_kind(says, number, "kind", refused)
 

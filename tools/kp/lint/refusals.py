@@ -5,7 +5,7 @@ import json
 import re
 
 from ..lines import MOST_BYTES, NO_VALUE, is_blank, shown, value_of
-from ..members import A_STREAM, COMMANDS, Form, choice, form_in_command, form_of
+from ..members import A_STREAM, AN_ADDRESS, COMMANDS, Form, choice, form_in_command, form_of
 from ..objects import (
     KINDS,
     VERBS,
@@ -116,10 +116,6 @@ class Refused:
             found = at(value, steps_of(value, path))
         name = rest or path
         says = _says(form, name, found, allowed, count)
-        if form == "bad address at" and path == "dst" and address_of(found):
-            version = address_of(value.get("src")).version
-            says = f"dst {shown(found)} (an address of IPv{version}, as src is)"
-            allowed = Form(f"an address of IPv{version}, as src is")
         if text(value, "op") == "config":
             says += "; the defaults count"
         items = len(list(events_of(value))) if "items[" in path else 0
@@ -248,6 +244,10 @@ def _allowed_in_line(value, path):
         return choice(*VERBS)
     if path == "items" or path.endswith(".items"):
         return Form("a list of objects")
+    source = address_of(value.get("src")) if path == "dst" else None
+    if source:
+        accepted = [it for it in AN_ADDRESS.accepted if address_of(it).version == source.version]
+        return Form(f"an address of IPv{source.version}, as src is", tuple(accepted))
     return form_in_command(text(value, "op"), path)
 
 
