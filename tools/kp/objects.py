@@ -58,8 +58,11 @@ def members(value, *names):
 
 def text(value, *names):
     """The text that names lead to; "" where there is none."""
-    found = member(value, *names)
-    return found if isinstance(found, str) else ""
+    for name in names:
+        if not isinstance(value, dict):
+            return ""
+        value = value.get(name)
+    return value if isinstance(value, str) else ""
 
 
 def events_of(value, path=""):
@@ -82,11 +85,11 @@ def events_of(value, path=""):
 
 def key_of(item) -> Optional[Key]:
     """The key of an object, or None where it has no kind or no name."""
-    kind, name = text(item, "kind"), text(item, "metadata", "name")
+    kind, meta = text(item, "kind"), member(item, "metadata")
+    name = text(meta, "name")
     if not kind or not name:
         return None
-    space = "" if kind == "Node" else text(item, "metadata", "namespace") or "default"
-    return Key(kind, space, name)
+    return Key(kind, "" if kind == "Node" else text(meta, "namespace") or "default", name)
 
 
 def is_read(item):

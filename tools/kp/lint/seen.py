@@ -161,13 +161,13 @@ class Seen:
         self.nodes[key.name] = {form: objects.node_addresses(item, form) for form in forms}
 
     def _pod(self, key, item):
-        node = text(item, "spec", "nodeName")
+        spec, status = member(item, "spec"), member(item, "status")
+        node = text(spec, "nodeName")
         if node:
             self.named_nodes[node] = True
-        status = member(item, "status")
         listed = [text(it, "ip") for it in members(status, "podIPs")]
         found = tuple(filter(None, listed)) or (text(status, "podIP"),)
-        is_of_host = member(item, "spec", "hostNetwork") is True
+        is_of_host = member(spec, "hostNetwork") is True
         if found[0] and not is_of_host and text(status, "hostIP") not in found:
             self._pods[key] = found
 

@@ -1,10 +1,14 @@
 """An input that is read: the program and the notes see it as it comes."""
 
+import signal
+
 from ..lines import Input, pieces_of
 from ..program import Refusals, Run
 from .notes import Note
 from .refusals import Refused
 from .seen import Seen
+
+INTERRUPT = {signal.SIGINT}
 
 
 class Source:
@@ -18,12 +22,19 @@ class Source:
         self._joined = []  # notes on files without a line feed at their end
 
     def read(self, names):
-        """Reads files, one after the other."""
-        for at, name in enumerate(names):
-            for piece in pieces_of([name]):
-                self.take(piece)
-            if self._held.is_open() and at + 1 < len(names):
-                self._joined.append(_joined(self._held.count + 1, name, names[at + 1]))
+        """Reads files, one after the other. Ctrl-C is heard while one is waited for, and raises."""
+        signal.pthread_sigmask(signal.SIG_BLOCK, INTERRUPT)
+        before = signal.signal(signal.SIGINT, signal.default_int_handler)
+        try:
+            for at, name in enumerate(names):
+                pieces = pieces_of([name])
+                while piece := _next(pieces):
+                    self.take(piece)
+                if self._held.is_open() and at + 1 < len(names):
+                    self._joined.append(_joined(self._held.count + 1, name, names[at + 1]))
+        finally:
+            signal.pthread_sigmask(signal.SIG_UNBLOCK, INTERRUPT)
+            signal.signal(signal.SIGINT, before)
 
     def take(self, piece):
         """Takes more of the input."""
@@ -54,6 +65,15 @@ class Source:
             *sorted(of_lines, key=lambda it: it.line),
             *sorted(of_objects, key=lambda it: it.line),
         ]
+
+
+def _next(pieces):
+    """The next piece; a signal comes here alone, so that no piece is taken by halves."""
+    signal.pthread_sigmask(signal.SIG_UNBLOCK, INTERRUPT)
+    try:
+        return next(pieces, None)
+    finally:
+        signal.pthread_sigmask(signal.SIG_BLOCK, INTERRUPT)
 
 
 def _joined(number, name, next_name):
