@@ -24,7 +24,7 @@ sys.path += [str(HERE.parent / "hostile"), str(HERE.parent.parent / "tools")]
 from hostile import bytes_of
 from kp.lint.source import notes_on
 
-TABLES = ("refusals", "forms", "commands", "setting", "differences")
+TABLES = ("refusals", "forms", "commands", "setting", "objects", "differences")
 WORDS = ("has", "not", "says", "else")
 
 

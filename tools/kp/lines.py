@@ -204,7 +204,7 @@ def _fault_of_json(error):
     if at >= len(text.rstrip(" \t\r\n")):
         return Fault("it ends too early: " + told, at + 1, True)
     rest = shown_text(text[at : at + 12].partition("\n")[0])
-    return Fault(f"at character {at + 1}, {rest or 'a line feed'}: {told}", at + 1)
+    return Fault(f"at character {at + 1} ({rest or 'a line feed'}): {told}", at + 1)
 
 
 def shown_text(text):

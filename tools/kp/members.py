@@ -82,7 +82,7 @@ SHOWN = ("slices", "endpoints", "nat", "filter", "batch", "nat6", "filter6", "ba
 COMMANDS = {
     "config": {
         **_OF_ANY,
-        "node": Member(A_NAME, '"node"'),
+        "node": Member(A_NAME, 'the name "node"'),
         "nodeAddresses": Member(Form("a list of addresses of IPv4 or IPv6", ([],)), "none"),
         "clusterCIDR": Member(CLUSTER_RANGES, "none"),
         "masqueradeAll": Member(A_TRUTH, "false"),

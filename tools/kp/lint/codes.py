@@ -63,11 +63,19 @@ SETTING = (
     Code("no-dual-stack", "IPv6 without `dualStack`", '`"dualStack":true`'),
     Code("controller-beside-slices", "`controller` beside slices", '`"controller":false`'),
 )
+OBJECTS = (
+    Code(
+        "slice-of-no-service",
+        "a slice without the label of its Service, or of one that isn't in the input",
+        "the label `kubernetes.io/service-name`, or the Service",
+    ),
+)
 GROUPS = {
     "Refusals": REFUSALS,
     "Form": FORMS,
     "Commands": COMMANDS,
     "The setting": SETTING,
+    "Objects": OBJECTS,
     "Otherwise than kube-proxy": tuple(Code(it.code, it.what, it.mends) for it in TABLE),
 }
 CODES = {it.code: it for group in GROUPS.values() for it in group}

@@ -118,7 +118,7 @@ class Forms:
         return 0
 
     def _of_value(self, first, last, size, fault, whole):
-        count = last - first + 1
+        count, is_list = last - first + 1, whole.lstrip()[:1] == "["
         says = f"one value over {count} lines"
         mends = JQ
         if fault and fault.is_cut:
@@ -127,13 +127,15 @@ class Forms:
         elif fault:
             at = first + whole.count("\n", 0, max(fault.at - 1, 0))
             begin = whole.rfind("\n", 0, max(fault.at - 1, 0)) + 1
-            where = f"character {fault.at - begin}, " if fault.at else ""
-            told = fault.says.partition(", ")[2] if fault.at else fault.says
-            says += f", with a fault in line {at}: {where}{told}"
+            told = re.sub(r"^at character \d+", f"at character {fault.at - begin}", fault.says)
+            says += f", with a fault in line {at}: {told}"
             mends = f"mend line {at}, and then {JQ}"
         elif size > MOST_BYTES:
             mends = "jq -c '.items[]'"
             says += f" and {size} bytes, too many for a line: {mends} makes a line of each object"
+        elif is_list:
+            mends = "jq -c '.[]'"
+            says += f", a list: {mends} makes a line of each of its values"
         else:
             says += f": {JQ} makes one line of it"
         taken = [it for it in range(first, last + 1) if it not in self.refused]
@@ -179,7 +181,7 @@ class Forms:
             return self._bad_line(first, line), first
         found = fault_of(line)
         says = f"{last - first + 1} lines are no JSON"
-        says += f"; of line {first}: {found.says}" if found else ""
+        says += f"; line {first}: {found.says}" if found else ""
         becomes, mends = "each line is refused", "write each as JSON"
         return Note("bad-json", says, first, last, becomes=becomes, mends=mends), last
 
@@ -359,11 +361,11 @@ def _in_list(number, event, count):
     if kind in KINDS:
         what += f" of apiVersion {shown(version)} ({KINDS[kind]})"
         mends = f"write {KINDS[kind]}"
-        says = f"{event.path.rstrip('.')} is {what}, so none of its {count} objects counts"
+        says = f"{event.path.rstrip('.')} is {what}, so {_none_of(count)}"
     else:
         mends = READ_ITEMS
-        says = f"{event.path.rstrip('.')} is {what}, which isn't read, so none of its {count} "
-        says += f"objects counts: {mends} makes a line of each that is"
+        says = f"{event.path.rstrip('.')} is {what}, which isn't read, so {_none_of(count)}: "
+        says += f"{mends} makes a line of each that is"
     return Note(
         "kind-in-list",
         says,
@@ -376,6 +378,10 @@ def _in_list(number, event, count):
         becomes="the line is refused, with all objects of the List",
         mends=mends,
     )
+
+
+def _none_of(count):
+    return f"none of its {count} objects counts" if count > 1 else "it brings nothing"
 
 
 def _other_kind(number, value):

@@ -57,7 +57,7 @@ class Note(NamedTuple):
         return json.dumps({**made, "text": self.text()})
 
 
-OF_OBJECTS = set()  # codes; `differences` adds its own
+OF_OBJECTS = {"slice-of-no-service"}  # codes; `differences` adds its own
 
 
 def is_short(value):

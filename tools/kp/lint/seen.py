@@ -54,7 +54,8 @@ class Seen:
         self.six_services = {}  # by key, a cluster address of IPv6
         self.six_questions = None  # how many, and the line of the first
         self._pods, self._endpoints = {}, {}  # addresses as texts, by key
-        self._selecting, self._sliced = {}, {}  # Services with a selector; Services of slices
+        self._services = {}  # whether it has a selector, by namespace and name
+        self._sliced = {}  # the line of a slice and its Service's name, by key
         self._doors = Doors()
         self._names = near.Names()
         self._is_synced = False
@@ -81,7 +82,7 @@ class Seen:
     def end(self):
         """All notes but those on the setting: of lines, and then of objects."""
         self._asked()
-        return [*self.notes, *self.of_objects.values()]
+        return [*self.notes, *self.of_objects.values(), *self._slices_of_none()]
 
     def on_setting(self, is_refused):
         return [] if self.is_empty else list(notes_on(self.setting, self, is_refused))
@@ -147,20 +148,21 @@ class Seen:
             self._apply(number, key, event.object)
         elif event.verb == DELETES:
             self._doors.drop(key)
+            self._sliced.pop(key, None)
 
     def _apply(self, number, key, item):
         taken = TAKES.get(key.kind)
         if taken is None:
             return
-        taken(self, key, item)
+        taken(self, key, item, number)
         for note in differences.of_object(key, item, self.setting):
             self.of_objects.setdefault((note.code, key), note._replace(line=number))
 
-    def _node(self, key, item):
+    def _node(self, key, item, _):
         forms = {text(it, "type") for it in members(item, "status", "addresses")}
         self.nodes[key.name] = {form: objects.node_addresses(item, form) for form in forms}
 
-    def _pod(self, key, item):
+    def _pod(self, key, item, _):
         spec, status = member(item, "spec"), member(item, "status")
         node = text(spec, "nodeName")
         if node:
@@ -171,10 +173,8 @@ class Seen:
         if found[0] and not is_of_host and text(status, "hostIP") not in found:
             self._pods[key] = found
 
-    def _slice(self, key, item):
-        service = label(item, objects.OF_SERVICE)
-        if service:
-            self._sliced[key] = service
+    def _slice(self, key, item, number):
+        self._sliced[key] = number, label(item, objects.OF_SERVICE)
         found = []
         for endpoint in members(item, "endpoints"):
             node = text(endpoint, "nodeName")
@@ -184,9 +184,8 @@ class Seen:
         if found:
             self._endpoints[key] = found
 
-    def _service(self, key, item):
-        if objects.has_selector(item):
-            self._selecting[key.namespace, key.name] = True
+    def _service(self, key, item, _):
+        self._services[key.namespace, key.name] = objects.has_selector(item)
         found = objects.cluster_addresses(item)
         if 6 in found:
             self.six_services[key] = found[6]
@@ -209,7 +208,29 @@ class Seen:
     def slices_of_selecting(self):
         """The slices of Services with a selector."""
         slices = self._sliced.items()
-        return [str(key) for key, name in slices if (key.namespace, name) in self._selecting]
+        return [str(key) for key, (_, name) in slices if self._services.get((key.namespace, name))]
+
+    def _slices_of_none(self):
+        """Notes on slices of no Service that came."""
+        for key, (number, name) in self._sliced.items():
+            says = ""
+            if not name:
+                says = f"it has no label {objects.OF_SERVICE}, so it is of no Service"
+                mends = f"the label {objects.OF_SERVICE} with the Service's name"
+            elif (key.namespace, name) not in self._services:
+                says = f"it is of Service {key.namespace}/{name}, which isn't in the input"
+                mends = f"give the Service, or write another name as {objects.OF_SERVICE}"
+            if says:
+                yield Note(
+                    "slice-of-no-service",
+                    says,
+                    line=number,
+                    key=key,
+                    member=f"metadata.labels.{objects.OF_SERVICE}",
+                    value=name or None,
+                    becomes="no Service has its endpoints",
+                    mends=mends,
+                )
 
 
 TAKES = {
