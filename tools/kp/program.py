@@ -13,7 +13,8 @@ from pathlib import Path
 TOP = Path(__file__).resolve().parent.parent.parent
 OK, OUT_OF_MEMORY, MISUSED, REFUSED, READ, WRITE, TOO_LONG = range(7)
 MODES = ("replay", "changes", "health", "live")
-REFUSAL = re.compile(rb"^line (\d+): refused: (.*)$", re.M)
+# of a line, and of the sync that ends a live run
+REFUSAL = re.compile(rb"^(?:line (\d+)|final): refused: (.*)$", re.M)
 PIECE = 1 << 16
 ROOM, MOST_WAITING = 1 << 20, 1 << 22  # of a pipe, and of what waits for the program
 F_SETPIPE_SZ = 1031
@@ -136,7 +137,8 @@ class Refusals:
 
     def __init__(self):
         self.texts = {}  # by the number of the line
-        self._rest = b""
+        self.final = ""  # why a live run's last sync was refused
+        self._rest, self._known = b"", {}
 
     def take(self, piece):
         cut = piece.rfind(b"\n") + 1
@@ -144,5 +146,10 @@ class Refusals:
             self._rest += piece
             return
         for number, why in REFUSAL.findall(self._rest + piece[:cut]):
-            self.texts[int(number)] = why.decode(errors="replace")
+            # many lines have few texts
+            text = self._known.setdefault(why, why.decode(errors="replace"))
+            if number:
+                self.texts[int(number)] = text
+            else:
+                self.final = text
         self._rest = piece[cut:]

@@ -49,8 +49,8 @@ CODES = {
 class Refused:
     """The refusals of an input that is held."""
 
-    def __init__(self, held, texts, setting):
-        self.held, self.texts, self.setting = held, texts, setting
+    def __init__(self, held, texts, setting, final=""):
+        self.held, self.texts, self.setting, self.final = held, texts, setting, final
 
     def notes(self):
         """Notes on all lines that were refused, in order."""
@@ -64,6 +64,8 @@ class Refused:
                 yield note
             else:
                 yield from self._of_line(number, why)
+        if found := OF_CHAIN.match(self.final):
+            yield self._clash(self.held.count, *found.groups())._replace(about="the last sync")
 
     def is_of_setting(self):
         """Whether a line that was refused is one of a setting."""

@@ -56,7 +56,7 @@ class Source:
         if texts:  # what was refused isn't there
             self._seen = Seen()
             self._see(it for it in self._held.lines() if it[0] not in texts)
-        refused = Refused(self._held, texts, self._seen.setting)
+        refused = Refused(self._held, texts, self._seen.setting, self._refusals.final)
         told = [*self._seen.end(), *self._joined, *refused.notes()]
         of_lines = [it for it in told if not it.is_of_object()]
         of_objects = [it for it in told if it.is_of_object()]
