@@ -207,6 +207,8 @@ def external_addresses(service):
 
 def balancer_addresses(service):
     """The addresses of its load balancer that are doors."""
+    if text(service, "spec", "type") != "LoadBalancer":
+        return []
     given = members(service, "status", "loadBalancer", "ingress")
     return addresses_in(member(it, "ip") for it in given if text(it, "ipMode") != "Proxy")
 

@@ -28,7 +28,7 @@ TABLE = (
         "answered as any other",
         "passed over, for another proxy",
         "leave it out, as `tools/cluster` does",
-        "R",
+        "S: `cmd/kube-proxy/app/server.go`, `Run`",
     ),
     Difference(
         "headless-label",
@@ -36,7 +36,7 @@ TABLE = (
         "answered as any other",
         "passed over",
         "leave it out, as `tools/cluster` does",
-        "R",
+        "S: `cmd/kube-proxy/app/server.go`, `Run`",
     ),
     Difference(
         "hints-for-nodes",
@@ -76,7 +76,7 @@ TABLE = (
         "the load balancer's addresses of this family are closed",
         "open: ranges of the other family are dropped first",
         "add `::/0` or `0.0.0.0/0`, as `tools/cluster` does",
-        "R",
+        "S: `proxy/service.go`, `newBaseServiceInfo`",
     ),
     Difference(
         "serving-absent",
@@ -181,9 +181,9 @@ def _distribution(key, item, setting):
 
 def _ranges(key, item, setting):
     given = objects.source_ranges(item)
-    balancers = {it.version for it in objects.balancer_addresses(item)}
-    if not given:
+    if not given or text(item, "spec", "type") != "LoadBalancer":
         return
+    balancers = {it.version for it in objects.balancer_addresses(item)}
     for version in objects.cluster_addresses(item):
         is_open = not balancers or version in balancers
         if version in setting.versions and is_open and all(it.version != version for it in given):
