@@ -15,7 +15,10 @@ In a line <c3 a4> are bytes, <127*[> is a text so many times, and <n> is a line 
 ../hostile.
 """
 
+import shutil
+import subprocess
 import sys
+from functools import lru_cache
 from pathlib import Path
 
 HERE = Path(__file__).resolve().parent
@@ -25,6 +28,7 @@ from hostile import bytes_of
 from kp.lint.source import notes_on
 
 TABLES = ("refusals", "forms", "commands", "setting", "objects", "differences")
+OF_LISTS = ("line-too-long",)  # what mends them is for a List
 WORDS = ("has", "not", "says", "else")
 
 
@@ -82,6 +86,33 @@ def faults_of(case):
             yield f"{case.table}: {case.code}: {word}: codes {[it.code for it in notes]}"
 
 
+def mended(case):
+    """What isn't so of the commands that notes on an input name: what they make of its lines is
+    read."""
+    lines = case.data("has").split(b"\n")
+    for note in notes_on(case.data("has"), case.mode):
+        command = note.mends.partition(" (")[0]
+        tool = command.partition(" ")[0]
+        if tool not in ("jq", "sed", "iconv", "yq") or note.code in OF_LISTS:
+            continue
+        if not shutil.which(tool) or (tool == "yq" and not is_of_jq()):
+            continue
+        part = b"\n".join(lines[note.line - 1 : max(note.line, note.last)])
+        part += b"" if tool == "iconv" else b"\n"
+        ran = subprocess.run(["sh", "-c", command], input=part, capture_output=True, check=False)
+        refused = [it for it in notes_on(ran.stdout) if "refused" in it.becomes]
+        if ran.returncode or refused:
+            said = refused[0].text() if refused else ran.stderr.decode(errors="replace")
+            yield f"{case.table}: {case.code}: by {command}: {said}"
+
+
+@lru_cache(maxsize=1)
+def is_of_jq():
+    """Whether yq is the program that hands its words on to jq."""
+    ran = subprocess.run(["yq", "-c", "."], input=b"a: 1\n", capture_output=True, check=False)
+    return ran.stdout == b'{"a":1}\n'
+
+
 def all_cases():
     return [case for name in TABLES for case in cases_of(name)]
 
@@ -90,6 +121,7 @@ def faults():
     """What isn't so of all cases."""
     for case in all_cases():
         yield from faults_of(case)
+        yield from mended(case)
 
 
 def main():
