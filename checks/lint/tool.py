@@ -4,6 +4,7 @@ that end otherwise than they should."""
 import json
 import os
 import random
+import shutil
 import signal
 import subprocess
 import tempfile
@@ -41,6 +42,7 @@ def faults(program):
         yield from of_hostile()
         yield from of_pipes()
         yield from of_programs(work)
+        yield from of_script(work, program)
         yield from of_size(work, program)
 
 
@@ -206,6 +208,28 @@ def of_programs(work):
     found = run_with("exit 0", KPROXY="/there/is/none")
     said = b"lint: /there/is/none can't be run: No such file or directory\n"
     yield from expect("no program", found, (2, b"", said))
+
+
+def of_script(work, program):
+    """Without KPROXY the script beside the tools gives the program, and may speak meanwhile."""
+    shutil.copytree(TOP / "tools", work / "tools")
+    script = work / "kproxy"
+    more = {name: it for name, it in os.environ.items() if name != "KPROXY"}
+
+    def run_beside(text):
+        script.write_text(f"#!/bin/sh\n{text}\n", encoding="utf-8")
+        script.chmod(0o755)
+        ran = subprocess.run(
+            [work / "tools" / "lint"], input=b"{}\n", capture_output=True, check=False, env=more
+        )
+        return ran.returncode, ran.stdout, ran.stderr
+
+    said = b'line 1: it has neither "op", as commands do, nor "kind", as objects do\n'
+    found = run_beside(f'[ "$*" = build ] || exit 2; echo compiling >&2; echo {program}')
+    yield from expect("the script", found, (1, said, b"compiling\n"))
+    found = run_beside("echo no rt >&2; exit 7")
+    said = f"no rt\nlint: {script} build gave no program: set KPROXY to the path of one\n"
+    yield from expect("a script that fails", found, (2, b"", said.encode()))
 
 
 def of_size(work, program):

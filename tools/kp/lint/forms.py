@@ -16,9 +16,11 @@ from ..lines import (
     value_of,
 )
 from ..objects import KINDS, VERBS, events_of, is_read, key_of, member, members, text
+from .commands import plain
 from .notes import Note
 
 BAD_JSON, NOT_EVENT = "bad json", "not an event"
+NEEDED = ("op", "kind", "object")  # one of them is in each line
 UNREAD = (BAD_JSON, NOT_EVENT)
 JQ = "jq -c ."
 READ_ITEMS = "jq -c '.items[] | select(.kind | IN(\"" + '","'.join(KINDS) + "\"))'"
@@ -254,7 +256,10 @@ class Forms:
                 becomes=refused,
                 mends=mends,
             )
-        says = f'it has neither "op", as commands do, nor "kind", as objects do{near_kind(inner)}'
+        says = 'it has neither "op", as commands do, nor "kind", as objects do'
+        if inner.get("type") is not None:
+            says = 'it has "type" and no "object", as watch events have, and no "kind" or "op"'
+        says += near_kind(inner)
         return _without_kind(says, number, "kind", refused)
 
 
@@ -273,7 +278,7 @@ def _without_kind(says, number, name, refused):
 def near_kind(value):
     """Of an object without a kind, the member that may be meant as it or as a command."""
     for name in value:
-        if name not in ("op", "kind") and name.strip().lower() in ("op", "kind", "cmd", "command"):
+        if name not in NEEDED and plain(name.strip()) in (*NEEDED, "cmd", "command", "obj"):
             return f"; {shown(name)} isn't read"
     return ""
 

@@ -254,15 +254,19 @@ def _allowed_in_line(value, path):
 
 
 def _unknown_op(number, op):
+    says, mends = f"op {shown(op)} ({', '.join(COMMANDS)})", ", ".join(COMMANDS)
+    if op.lower() in ("delete", "deleted", "remove"):
+        mends = '{"type":"DELETED","object":..} deletes an object'
+        says += f"; {mends}"
     return Note(
         "unknown-op",
-        f"op {shown(op)} ({', '.join(COMMANDS)})",
+        says,
         number,
         member="op",
         value=op,
         allowed=tuple(COMMANDS),
         becomes="the line is refused: the op is not known",
-        mends=", ".join(COMMANDS),
+        mends=mends,
     )
 
 
