@@ -136,6 +136,7 @@ def hostile():
     yield "lines that open and are read", (b"{\n" + SYNC) * 5_000
     yield "lines that open one value", b'{"a":\n' * 2000 + b"1\n" + b"}\n" * 2000
     yield "texts that stay open", b'{"a\n' * 5_000
+    yield "a log", b"INFO: a line of a log\n" * 20_000
     yield "objects of nothing", b"{}\n" * 10_000
     yield "names", b'{"op":"sync","' + b'":1,"'.join(b"n%d" % it for it in range(9_000)) + b'":1}'
     yield "commands of a terminal", b'{"op":"\\u001b[31m\\u009b\\u202e"}\n\x1b[31m\n'

@@ -15,7 +15,7 @@ from ..lines import (
     shown,
     value_of,
 )
-from ..objects import KINDS, VERBS, events_of, is_read, key_of, member, members, text
+from ..objects import KINDS, VERBS, events_of, text
 from .commands import plain
 from .notes import Note
 
@@ -23,7 +23,6 @@ BAD_JSON, NOT_EVENT = "bad json", "not an event"
 NEEDED = ("op", "kind", "object")  # one of them is in each line
 UNREAD = (BAD_JSON, NOT_EVENT)
 JQ = "jq -c ."
-READ_ITEMS = "jq -c '.items[] | select(.kind | IN(\"" + '","'.join(KINDS) + "\"))'"
 YQ = "yq -c . (or yq -o json -I 0 . by the other program of this name)"
 SEVERAL = 5  # lines in a row that aren't JSON have a note each, and more have one
 
@@ -52,6 +51,7 @@ class Forms:
         self.held, self.refused = held, refused  # texts of refusals, by number
         # how many lines may be looked at for values that turn out to be none
         self._left = 4 * held.count + 10_000
+        self._no_yaml = 0  # lines up to this one are none of YAML
 
     def note_at(self, number):
         """The note on a line that was refused so, and maybe on those behind it; its last line."""
@@ -65,11 +65,15 @@ class Forms:
             note = self._several(number)
             if note:
                 return note, note.last
-        elif YAML_LINE.match(bare):
+        elif self._may_be_yaml(number, bare):
             last = self._last_refused(number)
             if any(YAML_NAME.match(self.held.line(it)) for it in range(number, last + 1)):
                 return self._yaml(number, last), last
+            self._no_yaml = last
         return self._bad(number, line)
+
+    def _may_be_yaml(self, number, line):
+        return number > self._no_yaml and YAML_LINE.match(line)
 
     # ---- several lines
 
@@ -176,7 +180,7 @@ class Forms:
         while (
             last < self.held.count
             and self.refused.get(last + 1) == BAD_JSON
-            and self._is_plain(self.held.line(last + 1))
+            and self._is_plain(last + 1)
         ):
             last += 1
         if last - first < SEVERAL:
@@ -187,10 +191,11 @@ class Forms:
         becomes, mends = "each line is refused", "write each as JSON"
         return Note("bad-json", says, first, last, becomes=becomes, mends=mends), last
 
-    @staticmethod
-    def _is_plain(line):
+    def _is_plain(self, number):
         """Whether a line begins no form of several lines."""
-        return not line.lstrip(BLANKS)[:1] in (b"{", b"[") and not YAML_LINE.match(line)
+        line = self.held.line(number)
+        is_json = line.lstrip(BLANKS)[:1] in (b"{", b"[")
+        return not is_json and not self._may_be_yaml(number, line)
 
     def _bad_line(self, number, line):
         refused = "the line is refused: bad json"
@@ -305,108 +310,3 @@ def _value_at_begin(text):
 
 
 _scan = json.JSONDecoder().raw_decode
-
-
-# ---- kinds
-
-
-def of_kind(number, value):
-    """A note on a line that was refused for the kind of an object, or its version."""
-    listed = next((it for it in _wholes(value) if is_typed_list(it)), None)
-    if listed:
-        return _typed_list(number, listed)
-    events = list(events_of(value))
-    for event in events:
-        if isinstance(event.object, dict) and not is_read(event.object):
-            if "items[" in event.path:
-                return _in_list(number, event, len(events))
-            return _other_kind(number, event.object)
-    return Note("unsupported-kind", "its kind isn't read", number, becomes="the line is refused")
-
-
-def _wholes(value):
-    """A value, and the objects that it brings as an event."""
-    yield value
-    yield member(value, "event")
-    yield member(value, "object")
-    yield member(value, "event", "object")
-
-
-def is_typed_list(value):
-    kind = text(value, "kind")
-    return kind.endswith("List") and kind != "List" and isinstance(member(value, "items"), list)
-
-
-def _typed_list(number, value):
-    kind = text(value, "kind")
-    item = kind[: -len("List")]
-    count = len(members(value, "items"))
-    version = shown(KINDS.get(item, text(value, "apiVersion")))
-    mends = f"jq -c '.items[] | {{apiVersion:{version},kind:{shown(item)}}} + .'"
-    says = f"{count} in one: {mends} makes a line of each"
-    if item not in KINDS:
-        says, mends = f"its kind ({', '.join(KINDS)}): leave it out", "leave it out"
-    return Note(
-        "typed-list",
-        says,
-        number,
-        about=kind,
-        member="kind",
-        value=kind,
-        becomes=f"the line is refused: kind {shown(kind)} is not supported",
-        mends=mends,
-    )
-
-
-def _in_list(number, event, count):
-    """A note on an object of a List that isn't read, which refuses all of it."""
-    key, kind = key_of(event.object), text(event.object, "kind")
-    version = member(event.object, "apiVersion")
-    what = str(key or kind or "an object")
-    if kind in KINDS:
-        what += f" of apiVersion {shown(version)} ({KINDS[kind]})"
-        mends = f"write {KINDS[kind]}"
-        says = f"{event.path.rstrip('.')} is {what}, so {_none_of(count)}"
-    else:
-        mends = READ_ITEMS
-        says = f"{event.path.rstrip('.')} is {what}, which isn't read, so {_none_of(count)}: "
-        says += f"{mends} makes a line of each that is"
-    return Note(
-        "kind-in-list",
-        says,
-        number,
-        about="List",
-        key=key,
-        member=event.path + ("apiVersion" if kind in KINDS else "kind"),
-        value=version if kind in KINDS else kind,
-        allowed=(KINDS[kind],) if kind in KINDS else tuple(KINDS),
-        becomes="the line is refused, with all objects of the List",
-        mends=mends,
-    )
-
-
-def _none_of(count):
-    return f"none of its {count} objects counts" if count > 1 else "it brings nothing"
-
-
-def _other_kind(number, value):
-    key, kind = key_of(value), text(value, "kind")
-    about = "" if key else kind or "object"
-    if kind in KINDS:
-        name, found, allowed = "apiVersion", member(value, "apiVersion"), (KINDS[kind],)
-        says = f"apiVersion {shown(found)} ({KINDS[kind]})"
-    else:
-        name, found, allowed = "kind", kind, tuple(KINDS)
-        says = f"its kind isn't read ({', '.join(KINDS)}): leave it out"
-    return Note(
-        "unsupported-kind",
-        says,
-        number,
-        about=about,
-        key=key,
-        member=name,
-        value=found,
-        allowed=allowed,
-        becomes=f"the line is refused: kind {shown(kind)} is not supported",
-        mends=", ".join(allowed),
-    )

@@ -19,7 +19,8 @@ from ..objects import (
     text,
 )
 from .commands import not_read
-from .forms import UNREAD, Forms, of_kind
+from .forms import UNREAD, Forms
+from .kinds import of_kind
 from .near import misnamed
 from .notes import Note
 
