@@ -39,6 +39,7 @@ def faults(program):
         yield from of_files(work)
         yield from of_options()
         yield from of_passing()
+        yield from of_terminal()
         yield from of_hostile()
         yield from of_pipes()
         yield from of_programs(work)
@@ -117,6 +118,22 @@ def of_passing():
         text = b'line 2: op "pull" (config, event, sync, packet, explain, show)\n'
         yield from expect("Ctrl-C", process.stderr.read(), text)
         yield from expect("Ctrl-C: status", process.wait(), -signal.SIGINT)
+
+
+def of_terminal():
+    """On a terminal it says that it waits, and Ctrl-D ends the input."""
+    own, other = os.openpty()
+    with os.fdopen(own, "wb", buffering=0) as terminal:
+        process = subprocess.Popen(
+            [TOOL], stdin=other, stdout=subprocess.PIPE, stderr=subprocess.PIPE
+        )
+        os.close(other)
+        terminal.write(b'{"op":"pull"}\n\x04')
+        printed, said = process.communicate(timeout=SECONDS)
+    text = b'line 1: op "pull" (config, event, sync, packet, explain, show)\n'
+    found = process.returncode, printed, said
+    waits = b"lint: lines are awaited here; Ctrl-D ends them\n"
+    yield from expect("a terminal", found, (1, text, waits))
 
 
 def hostile():
