@@ -77,6 +77,9 @@ def of_options():
     status, printed, said = run("--nonsense")
     yield from expect("an option", (status, printed, said[:6]), (2, b"", b"usage:"))
     yield from expect("help", run("--help")[0], 0)
+    data = SETTING + b'{"op":"packet","src":"10.0.0.1","dst":"10.0.0.2","dport":1}\n' + SYNC
+    yield from expect("an order of lines", run(data=data)[0], 1)
+    yield from expect("no order of lines", run("--live", data=data), (0, b"", b""))
     data = SETTING + SYNC + b'{"op":"show"}\n' * 12
     what = b"show: what is missing (slices, endpoints, nat, filter, batch, nat6, filter6, batch6)"
     lines = [b"line %d: %s" % (number, what) for number in range(3, 15)]

@@ -41,9 +41,11 @@ class Questions:
 
 
 class Seen:
-    """All that was seen of an input so far. Lines that were refused aren't given."""
+    """All that was seen of an input so far. Lines that were refused aren't given. Where streams run
+    at once the order of lines says little of what a question is asked of."""
 
-    def __init__(self):
+    def __init__(self, is_live=False):
+        self._is_live = is_live
         self.setting = Setting()
         self.notes = []  # of lines, by line
         self.of_objects = {}  # by code and key
@@ -116,7 +118,7 @@ class Seen:
             self.six_questions = count + 1, line
 
     def _question(self, number, op):
-        if self._is_synced and not self._changes:
+        if self._is_live or (self._is_synced and not self._changes):
             return
         if self._questions:
             self._questions.last = number

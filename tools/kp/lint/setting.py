@@ -139,8 +139,8 @@ def _addresses(setting, seen):
         if given and listed and not set(given) & set(listed):
             yield _note(
                 "unknown-address",
-                f"nodeAddresses {_some(given)} {'is' if len(given) == 1 else 'are'} in no Node; "
-                f"Node {setting.node} has {_some(listed)}",
+                f"nodeAddresses {_some(given)} {'is' if len(given) == 1 else 'are'} none of Node "
+                f"{setting.node}'s, which has {_some(listed)}",
                 "nodeAddresses",
                 str(given[0]),
                 f"packets to {listed[0]} don't count as the node's",

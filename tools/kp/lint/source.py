@@ -18,7 +18,8 @@ class Source:
         self.status, self.said = None, ""  # of the program, at the end
         self._refusals, self._copied = Refusals(), copied
         self._run = Run(self._refusals.take, mode)
-        self._held, self._seen = Input(), Seen()
+        self._is_live = mode == "live"
+        self._held, self._seen = Input(), Seen(self._is_live)
         self._joined = []  # notes on files without a line feed at their end
 
     def read(self, names):
@@ -54,7 +55,7 @@ class Source:
         self.status, self.said = self._run.end()
         texts = self._refusals.texts
         if texts:  # what was refused isn't there
-            self._seen = Seen()
+            self._seen = Seen(self._is_live)
             self._see(it for it in self._held.lines() if it[0] not in texts)
         refused = Refused(self._held, texts, self._seen.setting, self._refusals.final)
         told = [*self._seen.end(), *self._joined, *refused.notes()]
