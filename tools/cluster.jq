@@ -1,6 +1,9 @@
 # What tools/cluster makes of kubectl's JSON: lines for the objects and events that the program
 # reads, and notes, which are arrays, on what the setting and the messages need.
 
+# a name in a sentence: as JSON text where it isn't plain
+def shown: if test("^[A-Za-z0-9./_:-]+$") then . else tojson end;
+
 def key: "\(.metadata.namespace? // "default")/\(.metadata.name? // "")";
 
 # without a part, where the object has the API's shape; another one stays for the program to refuse
@@ -96,7 +99,7 @@ def lines_of($type; $as_written):
     | if $as_written or $type == "DELETED" then line($type)
       elif $passed_over != null then
         # who passes over a label sees an object that gets it as one that is deleted
-        (select($type == "MODIFIED") | line("DELETED")), ["label", $passed_over, "\(.kind) \(key)"]
+        (select($type == "MODIFIED") | line("DELETED")), ["label", $passed_over, "\(.kind) \(key | shown)"]
       else
         as_proxy_takes_it
         | (.object | line($type)), (.changed[] as $what | ["changed", $what, (.object | key)])
@@ -196,8 +199,9 @@ def setting_of_proxy($source):
 
 # ---- documents
 
-# what the setting and the messages need of an object that is read
-def note_of_read:
+# What the setting and the messages need of an object that is read. A Service that is passed over
+# isn't there; the slices of one that isn't may be.
+def note_of_read($as_written):
     if .kind == "Node" then
         ([.status.addresses? | arrays | .[] | objects | select(.address | type == "string")]) as $all
         | ["node", (.metadata.name? // null),
@@ -206,6 +210,8 @@ def note_of_read:
     elif .kind == "EndpointSlice" then
         ["slice", "\(.metadata.namespace? // "default")/\(
             (.metadata.labels["kubernetes.io/service-name"])? // "")", key]
+    elif .kind == "Service" and ($as_written | not) and label_passed_over != null then
+        ["gone", .kind, key]
     elif .kind == "Service" then
         ["service", key, (.spec | objects // {}
             | {type, addresses: cluster_addresses, selects: ((.selector | length > 0)? // false)})]
@@ -228,18 +234,17 @@ def taken_of_event($as_written):
       elif .object | is_read | not then .object | note_of_other
       else
         .object
-        | (if $type == "DELETED" then ["gone", .kind, key] else note_of_read end),
+        | (if $type == "DELETED" then ["gone", .kind, key] else note_of_read($as_written) end),
           lines_of($type; $as_written)
       end;
 
 # All that a document gives: the version of a list and the rest of its pages, then lines and notes.
-# An object that is passed over isn't missed.
 def taken($as_written):
     ((select(type == "object" and has("items") and (is_event | not))
         | ["list", (.metadata.resourceVersion? // ""), (.metadata.continue? // "")]),
     (each_object
         | if is_event then taken_of_event($as_written)
-          elif is_read then note_of_read, lines_of(null; $as_written)
+          elif is_read then note_of_read($as_written), lines_of(null; $as_written)
           else note_of_other end))
     | if type == "array" then tojson else . end;
 
@@ -257,12 +262,9 @@ def given($addresses; $range; $masquerade_all; $controller):
         ($range | select(. != "") | split(",")[] | select(is_range | not)
             | "\(.) is no range of addresses")] | first);
 
-# a name in a sentence: as JSON text where it isn't plain
-def shown: if test("^[A-Za-z0-9./_:-]+$") then . else tojson end;
-
-# at most ten of a list, as text
-def some_of: (.[:10] | map(shown) | join(", "))
-    + (if length > 10 then " and \(length - 10) more" else "" end);
+# at most ten of a list of texts, and of one of names
+def ten_of: (.[:10] | join(", ")) + (if length > 10 then " and \(length - 10) more" else "" end);
+def some_of: map(shown) | ten_of;
 
 def notes_of(kind): map(select(.[0] == kind));
 
@@ -355,7 +357,7 @@ def said_of_change:
         "source ranges of IPv6 alone get 0.0.0.0/0 beside them, as kube-proxy leaves IPv4 open"
     end;
 
-def said_of_label: "left out: \(map(.[2]) | unique | some_of): kube-proxy passes over the label \(.[0][1])";
+def said_of_label: "left out: \(map(.[2]) | unique | ten_of): kube-proxy passes over the label \(.[0][1])";
 
 def said_of_changes:
     (notes_of("changed") | group_by(.[1])[]
@@ -395,16 +397,16 @@ def setting($node; $given):
     | ($addresses + $ranges + (notes_of("service") | map(.[2].addresses[]))
         | any(contains(":"))) as $dual
     | if $nodes | has($node) | not then
-        {failure: (if $nodes == {} then "no Node came, so \($node) isn't there"
-            else "there is no Node \($node); there are: \($nodes | keys | some_of)" end)}
+        "F" + (if $nodes == {} then "no Node came, so \($node) isn't there"
+            else "there is no Node \($node); there are: \($nodes | keys | some_of)" end)
       else
-        {line: ({op: "config", node: $node, nodeAddresses: $addresses}
+        "L" + ({op: "config", node: $node, nodeAddresses: $addresses}
             + (if $ranges == [] then {} else {clusterCIDR: ($ranges | join(","))} end)
             + (if $given.masquerade_all or $proxy.masqueradeAll? == "true"
                 then {masqueradeAll: true} else {} end)
             + (if $dual then {dualStack: true} else {} end)
-            + (if $controller then {} else {controller: false} end)),
-         said: [
+            + (if $controller then {} else {controller: false} end) | tojson),
+        "S" + (
             said_of_addresses($node; $internal; $external; $given),
             $source.said[],
             said_of_ranges($proxy; $chosen; $dual),
@@ -412,7 +414,7 @@ def setting($node; $given):
             (select(notes_of("slice") == []) | "no EndpointSlices came: endpoints come from Pods"),
             ($services | said_of_services($sliced; $controller)),
             said_of_changes,
-            said_of_others]}
+            said_of_others)
       end;
 
 # ---- watch events
