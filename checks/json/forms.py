@@ -22,7 +22,6 @@ HERE = Path(__file__).resolve().parent
 TOP = HERE.parent.parent
 sys.path.append(str(HERE.parent / "fuzz"))
 
-from runner import Wrong, end_of, file_of
 from scripts import random_script
 
 try:
@@ -43,14 +42,13 @@ faults = []
 
 def fault(text):
     faults.append(text)
-    if len(faults) == MOST_FAULTS:
-        tell()
 
 
 def tell():
-    for it in faults:
+    """Tells some of the faults; the status of the check."""
+    for it in faults[:MOST_FAULTS]:
         print(f"checks: json: {it}")
-    sys.exit(bool(faults))
+    return int(bool(faults))
 
 
 def expect(holds, text):
@@ -162,6 +160,17 @@ def check_lines():
 # ---- texts
 
 
+def check_texts(texts):
+    """All texts as one, so that the tool is begun once; where that shows a fault, each by itself."""
+    before = len(faults)
+    check_text("all texts", b"".join(text for _, text in texts))
+    if len(faults) > before:
+        del faults[before:]
+        for name, text in texts:
+            check_text(name, text)
+        expect(len(faults) > before, "all texts as one show a fault, and none by itself")
+
+
 def worked_texts(program):
     for folder in ("replays", "changes", "health", "live"):
         for path in sorted((HERE.parent / folder).glob("*.txt")):
@@ -171,29 +180,32 @@ def worked_texts(program):
     for mode in MODES:
         for path in sorted((TOP / "examples").glob("*.jsonl")):
             data = path.read_bytes()
-            yield f"{mode} of {path.name}", end_of([program, mode], file_of(data))[1].encode()
+            yield f"{mode} of {path.name}", text_of([program, mode], data)
 
 
-def random_text(seed):
-    """The text that a mode prints for a random script, without what is said beside it."""
-    if seed % GENERATED == 0:
-        words, data = ["gen", str(seed), str(1 + seed % 3), str(seed % 40)], b""
-    else:
-        words, data = [MODES[seed % len(MODES)]], random_script(seed)
-    if len(data) > MOST_BYTES:
-        return b""
+def text_of(words, data):
+    """What the program writes, without what it says beside it."""
     with tempfile.TemporaryFile() as out:
-        subprocess.run([PROGRAM, *words], input=data, stdout=out, stderr=subprocess.DEVNULL)
+        subprocess.run(words, input=data, stdout=out, stderr=subprocess.DEVNULL)
         out.seek(0)
         return out.read(MOST_BYTES + 1)
 
 
+def random_text(seed):
+    """The text that a mode prints for a random script; none where one of them is too long."""
+    if seed % GENERATED == 0:
+        words, data = ["gen", str(seed), str(1 + seed % 3), str(seed % 40)], b""
+    else:
+        words, data = [MODES[seed % len(MODES)]], random_script(seed)
+    text = b"" if len(data) > MOST_BYTES else text_of([PROGRAM, *words], data)
+    return text if len(text) <= MOST_BYTES else b""
+
+
 def check_random(seeds):
     """The random texts of seeds, as one: the tool is begun once for many."""
-    texts = [text for text in map(random_text, seeds) if len(text) <= MOST_BYTES]
     del faults[:]
-    check_text(f"the texts of seeds {seeds[0]} to {seeds[-1]}", b"".join(texts))
-    return list(faults)
+    check_texts([(f"the text of seed {seed}", random_text(seed)) for seed in seeds])
+    return faults[:MOST_FAULTS]
 
 
 def begin(program):
@@ -249,8 +261,7 @@ def check_beside(program):
     with tempfile.NamedTemporaryFile() as file:
         file.write(lines.encode())
         file.flush()
-        text = end_of([program, "replay"], file_of(lines.encode()))[1]
-        text = "".join(it + "\n" for it in text.splitlines() if not it.startswith("kproxy: ")).encode()
+        text = text_of([program, "replay"], lines.encode())
         status, made, said = run([file.name], text)
         expect(status == 0, f"beside the lines: {said.strip()}")
         found = {it["line"]: it for it in map(json.loads, made.splitlines()) if "line" in it}
@@ -371,14 +382,12 @@ def check_streams():
 def main(program, count, first):
     check_streams()
     check_lines()
-    for name, text in worked_texts(program):
-        text = b"".join(it for it in text.splitlines(True) if not it.startswith(b"kproxy: "))
-        check_text(name, text)
+    check_texts(list(worked_texts(program)))
     check_beside(program)
     check_faults()
     check_all_random(program, count, first)
-    tell()
+    return tell()
 
 
 if __name__ == "__main__":
-    main(sys.argv[1], int(sys.argv[2]), int(sys.argv[3]))
+    sys.exit(main(sys.argv[1], int(sys.argv[2]), int(sys.argv[3])))
