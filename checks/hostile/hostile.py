@@ -10,6 +10,7 @@ before. The other lines of a table:
     mode WORDS    the words of the program for the rows from here on
     in FORM       where the rows from here on stand: in the place of its @
     gives WHAT    what the program gives for the rows from here on that don't say
+    prints FORM   where what is given stands for the rows from here on: in the place of its @
 
     hostile.py PROGRAM TABLE..
 """
@@ -52,7 +53,7 @@ def given(wanted, data):
 
 def rows_of(table):
     """The rows of a table: the words of the program, the input, the status and the text."""
-    mode, form, gives = ["replay"], "@", ""
+    mode, form, gives, prints = ["replay"], "@", "", "@"
     for row in table.read_text().replace("\n  ", "").splitlines():
         word, _, rest = row.partition(" ")
         if not row or word == "#":
@@ -63,10 +64,12 @@ def rows_of(table):
             form = rest
         elif word == "gives":
             gives = rest
+        elif word == "prints":
+            prints = rest
         else:
             part, _, wanted = row.partition(" => ")
             data = bytes_of(form.replace("@", part, 1))
-            yield mode, row, data, given(wanted or gives, data)
+            yield mode, row, data, given(prints.replace("@", wanted or gives, 1), data)
 
 
 def fault_of(program, table, row):
