@@ -8,7 +8,7 @@
 set -eu
 cd "$(dirname "$0")/.."
 services=${1:-1000} pods=${2:-6000} packets=${3:-200000} syncs=${4:-500} other=${5-}
-program=${KPROXY:-crates/kproxy/out/kproxy}
+program=${KPROXY:-$(checks/program kproxy)}
 work=$(mktemp -d)
 trap 'rm -rf "$work"' EXIT
 . bench/timing.sh

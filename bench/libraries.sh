@@ -11,6 +11,7 @@ services=${1:-10000}
 chains=${2:-50000}
 meter=${METER:-seconds}
 program=crates/kp_bench/out/kp_bench
+kproxy=${KPROXY:-$(checks/program kproxy)}
 work=$(mktemp -d)
 trap 'rm -rf "$work"' EXIT
 . bench/timing.sh
@@ -19,7 +20,6 @@ if ! (cd crates/kp_bench && rt run -- lines 0 </dev/null >/dev/null 2>"$work/bui
     cat "$work/built" >&2
     exit 1
 fi
-./kproxy replay </dev/null
 case $meter in
     seconds) fewer=1 ;;
     instructions) fewer=100 ;;
@@ -67,7 +67,7 @@ to_the_last() { # $1: the Services
 # the table's text of so many Services with three endpoints each
 table() { # $1: the Services
     { bench/served.sh "$1"; printf '{"op":"%s\n' 'sync"}' 'show","what":"nat"}' \
-        'show","what":"filter"}'; } | ./kproxy replay | tail -n +2
+        'show","what":"filter"}'; } | "$kproxy" replay | tail -n +2
 }
 
 # the objects of a cluster
@@ -103,7 +103,7 @@ with_batch() { # $1: the chains, $2: the file
         printf '{"op":"%s\n' 'sync"}' 'show","what":"nat"}' 'show","what":"filter"}'
         tail -n 1 "$work/served" | sed 's/"10\.244/"10.9/; s/"10\.244/"10.9/'
         printf '{"op":"%s\n' 'sync"}' 'show","what":"batch"}'
-    } | ./kproxy replay | awk 'NR > 1 { print /^sync/ ? "" : $0 }' >"$work/$2"
+    } | "$kproxy" replay | awk 'NR > 1 { print /^sync/ ? "" : $0 }' >"$work/$2"
 }
 
 with_batch "$chains" chains.large

@@ -8,6 +8,7 @@ cd "$(dirname "$0")/.."
 services=${1:-2000}
 pods=${2:-20000}
 other=${3-}
+program=${KPROXY:-$(checks/program kproxy)}
 work=$(mktemp -d)
 trap 'rm -rf "$work"' EXIT
 . bench/timing.sh
@@ -15,11 +16,10 @@ trap 'rm -rf "$work"' EXIT
 bench/cluster.sh "$services" "$pods" 0 1 0 >"$work/without"
 bench/cluster.sh "$services" "$pods" 0 1 1 >"$work/with"
 echo "input: bench/cluster.sh $services $pods 0 1 0, and 1 at its end; processor time"
-./kproxy replay </dev/null
 
 for ((run = 0; run < 7; run++)); do
     for lists in without with; do
-        processor_seconds "$work/$lists" ./kproxy replay >>"$work/ours_$lists"
+        processor_seconds "$work/$lists" "$program" replay >>"$work/ours_$lists"
     done
     [[ -z $other ]] || processor_seconds "$work/without" "$other" replay >>"$work/other"
 done

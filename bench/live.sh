@@ -5,14 +5,14 @@
 # its runs, less what a run without lines takes. Then the most memory that three of them held, and
 # how much of it one packet more takes, with its line.
 #   bench/live.sh [PACKETS [RUNS]]
-# KPROXY is the command that is measured: `./kproxy` if left out.
+# KPROXY is the command that is measured, the proved program if left out.
 set -eu
 cd "$(dirname "$0")/.."
 packets=${1:-1000000}
 runs=${2:-5}
 services=1000
 changes=2000
-read -ra program <<<"${KPROXY:-./kproxy}"
+read -ra program <<<"${KPROXY:-$(checks/program kproxy)}"
 program+=(live)
 work=$(mktemp -d)
 trap 'rm -rf "$work"' EXIT

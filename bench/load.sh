@@ -10,13 +10,13 @@
 #   limit     4,294,967,296 bytes, which are all read, and one more, which is too long an input
 #   long      200 lines of 16 MiB: packets, and of every 20 lines a List of 30,000 Nodes
 #   live      64 streams of 100 MB together, which feed 2,600 Services each, sync and send packets
-# KPROXY is the command that is measured: `./kproxy` if left out.
+# KPROXY is the command that is measured, the proved program if left out.
 set -eu
 cd "$(dirname "$0")/.."
 times=${1:-1000}
 loads=("${@:2}")
 [[ ${#loads[@]} != 0 ]] || loads=(packets bytes limit events long live)
-read -ra program <<<"${KPROXY:-./kproxy}"
+read -ra program <<<"${KPROXY:-$(checks/program kproxy)}"
 work=$(mktemp -d)
 trap 'rm -rf "$work"' EXIT
 
@@ -87,7 +87,6 @@ sys.stdout.write(" " * int(sys.argv[1]))' "$1" | "${program[@]}" replay 2>&1) ||
     echo "4294967296 bytes and $1 more: status $status${said:+, $said}"
 }
 
-"${program[@]}" replay </dev/null
 for load in "${loads[@]}"; do
     case $load in
         packets) run packets replay packets 10000000 1 ;;

@@ -4,14 +4,14 @@
 # it back, or that says what is known. Each figure is the difference between a run with 2,000 such
 # syncs and one with none, of processor time and the least of some runs by turns, three by default.
 #   bench/modes.sh [SERVICES PODS [RUNS]]
-# KPROXY is the command that is measured: `./kproxy` if left out.
+# KPROXY is the command that is measured, the proved program if left out.
 set -eu
 cd "$(dirname "$0")/.."
 services=${1:-10000}
 pods=${2:-60000}
 runs=${3:-3}
 syncs=2000
-read -ra program <<<"${KPROXY:-./kproxy}"
+read -ra program <<<"${KPROXY:-$(checks/program kproxy)}"
 work=$(mktemp -d)
 trap 'rm -rf "$work"' EXIT
 . bench/timing.sh
@@ -26,7 +26,6 @@ bench/cluster.sh "$services" "$pods" 0 | awk '/DELETED/ { exit }
 for kind in move last beat; do
     bench/changes.sh $kind $syncs <"$work/none" >"$work/$kind"
 done
-"${program[@]}" replay </dev/null
 for ((run = 0; run < runs; run++)); do
     for mode in replay changes health; do
         for kind in none move last beat; do

@@ -6,6 +6,7 @@ set -eu
 cd "$(dirname "$0")/.."
 many=${1:-200000}
 few=$((many / 2))
+program=${KPROXY:-$(checks/program kproxy)}
 work=$(mktemp -d)
 trap 'rm -rf "$work"' EXIT
 . bench/timing.sh
@@ -13,7 +14,6 @@ trap 'rm -rf "$work"' EXIT
 bench/one_service.sh 1000 "$few" >"$work/less"
 bench/one_service.sh 1000 "$many" >"$work/more"
 echo "input: bench/one_service.sh 1000 PACKETS, with $few and $many packets; processor time"
-./kproxy replay </dev/null
 
 measure() { # $1: its name, then the command
     local name=$1
@@ -22,7 +22,7 @@ measure() { # $1: its name, then the command
     echo "$name: $(a_second "$each") packet lines a second"
 }
 
-measure "kproxy replay" ./kproxy replay
+measure "kproxy replay" "$program" replay
 ours=$each
 if command -v jq >/dev/null; then
     measure "jq -c ." jq -c .

@@ -8,6 +8,7 @@ set -eu
 cd "$(dirname "$0")/.."
 packets=${1:-1000000}
 services=${2:-1000}
+program=${KPROXY:-$(checks/program kproxy)}
 work=$(mktemp -d)
 trap 'rm -rf "$work"' EXIT
 . bench/timing.sh
@@ -18,7 +19,7 @@ by_turns() { # $1: the file, then the numbers
     shift
     for turn in 1 2 3 4 5 6 7; do
         for workers in "$@"; do
-            echo "$workers $(wall_seconds "$file" ./kproxy replay --workers "$workers")"
+            echo "$workers $(wall_seconds "$file" "$program" replay --workers "$workers")"
         done
     done | awk '{ if (!($1 in least) || $2 < least[$1]) least[$1] = $2 }
         END { for (w in least) print w, least[w] }' | sort -n
@@ -43,7 +44,6 @@ packet() { # $1: how many, $2: how many sources
     }'
 }
 
-./kproxy replay </dev/null
 { cat "$work/cluster"; packet "$packets" 997; } >"$work/many"
 told "$packets seeded packets" "$work/many"
 { cat "$work/cluster"; packet "$packets" 1; } >"$work/one"
