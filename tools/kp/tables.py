@@ -1,4 +1,4 @@
-"""The tables that the program prints: sections, chains and rules, and the names of chains."""
+"""The tables that the program prints: rules, and the names of chains."""
 
 import base64
 import hashlib
@@ -48,26 +48,17 @@ class PortKey(NamedTuple):
     protocol: str
 
     def __str__(self):
-        return f"{self._name()}/{self.protocol}"
+        return f"{self._text()}/{self.protocol}"
 
-    def _name(self):
-        return f"{self.namespace}/{self.name}{':' + self.port if self.port else ''}"
+    @property
+    def service(self):
+        return f"{self.namespace}/{self.name}"
+
+    def _text(self):
+        return f"{self.service}{':' + self.port if self.port else ''}"
 
     def chain(self, prefix, endpoint="", length=16):
         """The name of its chain of this prefix; `endpoint` is ADDRESS:PORT in one of KUBE-SEP-."""
-        text = f"{self._name()}{self.protocol.lower()}{endpoint}"
+        text = f"{self._text()}{self.protocol.lower()}{endpoint}"
         digest = hashlib.sha256(text.encode()).digest()
         return prefix + base64.b32encode(digest).decode()[:length]
-
-
-def sections(lines):
-    """The lines of each section that stands among printed lines, with the name of its table."""
-    name, held = "", []
-    for line in lines:
-        if line.startswith("*"):
-            name, held = line[1:], []
-        elif name and line == "COMMIT":
-            yield name, held
-            name = ""
-        elif name:
-            held.append(line)
