@@ -82,6 +82,9 @@ def faults_of(case):
                 yield f"{case.table}: {case.code}: {word}: it doesn't say: {text}"
         if sorted(texts) == sorted(case.lines[said]) and texts != case.lines[said]:
             yield f"{case.table}: {case.code}: {word}: the notes come in another order"
+        for note in notes:
+            if not note.becomes or not note.mends:
+                yield f"{case.table}: {case.code}: what becomes of it, or what mends it: {note}"
         if (case.code in {it.code for it in notes}) != (word == "has"):
             yield f"{case.table}: {case.code}: {word}: codes {[it.code for it in notes]}"
 

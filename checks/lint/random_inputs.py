@@ -10,6 +10,7 @@ from functools import partial
 from multiprocessing import Pool
 
 from kp.lines import shown_text
+from kp.lint.refusals import UNKNOWN
 from kp.lint.source import notes_on
 from scripts import random_script
 
@@ -109,7 +110,7 @@ def fault_of(why, value, notes):
         return fault_of_kind(why, value, note)
     path = json.loads(member[2])
     item, rest = object_of(value, path)
-    if note.becomes != f"the line is refused: {why}" or not note.mends:
+    if note.becomes != f"the line is refused: {why}" or note.mends in ("", UNKNOWN):
         return f"it becomes {note.becomes!r}, and {note.mends!r} mends it"
     if item is None:
         wanted, found = None, value_at(value, path)

@@ -218,8 +218,9 @@ class Forms:
             says = f"a list of {len(value)}: jq -c '.[]' makes a line of each of its values"
             return Note("list", says, number, becomes=refused, mends="jq -c '.[]'")
         if not isinstance(value, dict):
-            says = f"{shown(value)} is no object: a line is an object of the cluster, or a command"
-            return Note("not-an-event", says, number, value=value, becomes=refused)
+            mends = "a line is an object of the cluster, or a command"
+            says = f"{shown(value)} is no object: {mends}"
+            return Note("not-an-event", says, number, value=value, becomes=refused, mends=mends)
         return self._object(number, value, refused)
 
     @staticmethod

@@ -19,7 +19,9 @@ def of_kind(number, value):
             if "items[" in event.path:
                 return _in_list(number, event, len(events))
             return _other_kind(number, event.object)
-    return Note("unsupported-kind", "its kind isn't read", number, becomes="the line is refused")
+    becomes, mends = "the line is refused", ", ".join(KINDS)
+    says = f"its kind isn't read ({mends})"
+    return Note("unsupported-kind", says, number, becomes=becomes, mends=mends)
 
 
 def _wholes(value):

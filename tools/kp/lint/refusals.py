@@ -35,6 +35,7 @@ OF_JOURNAL = re.compile(r"journal full at (\d+)$")
 OF_CHAIN = re.compile(r"chain name (\S+) of (.*) and of (.*)$")
 LATE = "config is not the first line"
 STREAMS = "more than 64 streams"
+UNKNOWN = "docs/FORMAT.md says what is read"  # of refusals that aren't known here
 CODES = {
     "missing": "missing",
     "wrong type at": "wrong-type",
@@ -103,7 +104,9 @@ class Refused:
         elif why == STREAMS:
             yield _streams(number, value)
         else:
-            yield Note("refused", why, number, becomes=f"the line is refused: {why}")
+            yield Note(
+                "refused", why, number, becomes=f"the line is refused: {why}", mends=UNKNOWN
+            )
 
     # ---- members
 
@@ -112,6 +115,8 @@ class Refused:
         if event is not None:
             about, key = _about(event.object), key_of(event.object)
             allowed = _allowed_of(event.object, rest)
+            if form == "duplicate port at":
+                allowed = Form("a name of its own for each port")
             found = at(event.object, steps_of(event.object, rest)) if rest else event.object
         else:
             about, key, rest = _about_line(value), None, path
@@ -134,7 +139,7 @@ class Refused:
             value=NO_VALUE if form == "missing" else found,
             allowed=allowed.accepted if allowed else (),
             becomes=f"the line is refused: {why}",
-            mends=allowed.says if allowed else "",
+            mends=allowed.says if allowed else UNKNOWN,
         )
 
     # ---- lines
