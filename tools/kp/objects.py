@@ -104,32 +104,37 @@ def is_read(item):
 
 def steps_of(value, path):
     """The names and indexes that a path of a refusal stands for. A member's name may hold dots and
-    brackets, so the value decides; the last step may lead to what isn't there."""
-    return _steps(value, path, True) or _steps(value, path, False) or []
+    brackets, or nothing, so the value decides; the last step may lead to what isn't there."""
+    if path == "":
+        return []
+    return _steps(value, path, True) or _steps(value, path, False)
 
 
 def _steps(value, path, is_there):
-    if path == "":
-        return []
-    if found := re.match(r"\[(\d+)\]\.?", path):
+    if found := re.match(r"\[(\d+)\]", path):
         at = int(found[1])
         has = isinstance(value, list) and at < len(value)
-        if is_there and not has:
-            return None
-        rest = _steps(value[at] if has else None, path[found.end() :], is_there)
-        return None if rest is None else [at, *rest]
+        inner = value[at] if has else None
+        return _on(at, inner, path[found.end() :], is_there) if has or not is_there else None
     names = value if isinstance(value, dict) else ()
     for name in sorted((it for it in names if path.startswith(it)), key=len):
-        after = path[len(name) :]
-        if after[:1] in ("", ".", "["):
-            rest = _steps(value[name], after[after[:1] == "." :], is_there)
-            if rest is not None:
-                return [name, *rest]
+        steps = _on(name, value[name], path[len(name) :], is_there)
+        if steps is not None:
+            return steps
     if is_there:
         return None
-    name = re.match(r"[^.[]*", path)[0] or path
-    after = path[len(name) :]
-    return [name, *(_steps(None, after[after[:1] == "." :], False) or [])]
+    name = re.match(r"[^.[]*", path)[0]
+    return _on(name, None, path[len(name) :], False) or [path]
+
+
+def _on(step, inner, rest, is_there):
+    """A step and those of the rest of its path, or None where the path goes on otherwise."""
+    if rest == "":
+        return [step]
+    if rest[0] not in ".[":
+        return None
+    steps = _steps(inner, rest[rest[0] == "." :], is_there)
+    return None if steps is None else [step, *steps]
 
 
 def at(value, steps):
