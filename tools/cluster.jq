@@ -223,7 +223,9 @@ def note_of_other:
     | if $source != null then ["proxy", $source, setting_of_proxy($source)]
       else ["other", (select(type == "object") | .kind, .apiVersion | . // "none" | tostring)] end;
 
-def said_of_error: "\(.object.message? // "an error") (\(.object.code? // "no code"))";
+def said_of_error:
+    (.object.message? // "an error" | tostring | if test("[[:cntrl:]]") then tojson else . end)
+    + " (\(.object.code? // "no code"))";
 
 # all that an event gives
 def taken_of_event($as_written):

@@ -190,14 +190,16 @@ def refusal_text(value):
 # ---- answers
 
 
+is_sent_to = pattern(f"to ({HOST}):{NUMBER}( masked)?")
+
+
 @lru_cache(maxsize=4096)
 def verdict_of(text):
     """What becomes of a packet. The value is shared: nobody changes it."""
     if text in ("rejected", "dropped", "left alone"):
         return {"verdict": text}
-    masked = text.endswith(" masked")
-    end = known(is_endpoint(text[3:-7] if masked else text[3:])) if text[:3] == "to " else known(None)
-    return {"verdict": "to", "endpoint": endpoint_of(*end.groups()), "masked": masked}
+    end = known(is_sent_to(text))
+    return {"verdict": "to", "endpoint": endpoint_of(end[1], end[2]), "masked": bool(end[3])}
 
 
 def verdict_text(value):
@@ -215,7 +217,8 @@ SHUT_WORDS = {reason: words for words, reason in SHUT.items()}
 CHOSEN, NO_DOOR = "chosen", "no door"
 is_reason = pattern(
     f"door ({KINDS_OF_DOORS}) {PORT_KEY}"
-    f"(?: ({'|'.join(SHUT)})| list (cluster|local) size {NUMBER} by (affinity|draws) place {NUMBER})"
+    f"(?: ({'|'.join(SHUT)})"
+    f"| list (cluster|local) size {NUMBER} by (affinity|draws) place {NUMBER})"
 )
 
 
@@ -242,8 +245,8 @@ def reason_text(value):
         return "no door decides"
     if reason in SHUT_WORDS:
         return f"{door_text(value['door'])} {SHUT_WORDS[reason]}"
-    size, place = value["size"], value["place"]
-    return f"{door_text(value['door'])} list {value['list']} size {size} by {value['by']} place {place}"
+    chosen = f"size {value['size']} by {value['by']} place {value['place']}"
+    return f"{door_text(value['door'])} list {value['list']} {chosen}"
 
 
 is_answer = pattern(f"(packet|explain) {NUMBER} at {NUMBER}: (.+)")
@@ -803,7 +806,7 @@ class Reader:
             return {"form": "table", "table": self.table}
         read = IN_TABLES.get(word) or (read_chain if word[:1] == ":" else None)
         if read is None or self.table is None:
-            raise Unknown(f"no such line stands {'in' if self.table else 'outside'} a table")
+            raise Unknown("in a table no line begins so" if self.table else "no line begins so")
         said = read(line)
         said = {"form": said.pop("form"), "table": self.table, **said}
         if word == "COMMIT":
