@@ -21,8 +21,8 @@ PORT_NAME = "[a-z0-9-]{1,63}"
 LABEL = "[A-Za-z0-9_.-]{1,63}"
 PROTOCOL = "TCP|UDP|SCTP"
 CHAIN = "[A-Za-z0-9-]{1,28}"
-HOST = r"[0-9]{1,3}(?:\.[0-9]{1,3}){3}|\[[0-9a-f:]{2,39}\]"
-ADDRESS = r"[0-9]{1,3}(?:\.[0-9]{1,3}){3}|[0-9a-f:]{2,39}"
+IPV4, IPV6 = r"[0-9]{1,3}(?:\.[0-9]{1,3}){3}", "[0-9a-f]{0,4}:[0-9a-f:]{1,38}"
+HOST, ADDRESS = rf"{IPV4}|\[{IPV6}\]", f"{IPV4}|{IPV6}"
 RANGE = f"(?:{ADDRESS})/[0-9]{{1,3}}"
 PORT_KEY = f"({NAME})/({NAME})(?::({PORT_NAME}))?/({PROTOCOL})"
 KINDS_OF_DOORS = "cluster|external|balancer|node"
@@ -570,6 +570,9 @@ def read_change(line):
     parts = Parts(rest)
     before, _, now = states.partition(NOW)
     before = state_of(before)
+    after = state_of(now) if now else None
+    if after == before:
+        raise Unknown("its states don't differ")
     said = {
         "form": "change",
         "door": {
@@ -581,7 +584,7 @@ def read_change(line):
         },
         "by": by,
         "before": before,
-        "now": state_of(now) if now else before,
+        "now": after or before,
         "new": parts.endpoints("new "),
         "gone": parts.endpoints("gone "),
     }
