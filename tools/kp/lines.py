@@ -25,6 +25,16 @@ class Unreadable(Exception):
     """A file that can't be read: its name and why."""
 
 
+def need(paths):
+    """Raises where one of these files isn't there, and opens none."""
+    for path in paths:
+        try:
+            if path != "-":
+                os.stat(path)
+        except OSError as error:
+            raise Unreadable(f"{path} can't be read: {error.strerror}") from error
+
+
 def pieces_of(paths):
     """The bytes of files, one after the other, as they come; `-` is standard input."""
     for path in paths:
