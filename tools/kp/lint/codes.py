@@ -66,7 +66,7 @@ SETTING = (
 OBJECTS = (
     Code(
         "slice-of-no-service",
-        "a slice without the label of its Service, or of one that isn't in the input",
+        "a slice without the label of its Service, or of one that no accepted line gives",
         "the label `kubernetes.io/service-name`, or the Service",
     ),
 )

@@ -220,7 +220,7 @@ class Seen:
                 says = f"it has no label {objects.OF_SERVICE}, so it is of no Service"
                 mends = f"the label {objects.OF_SERVICE} with the Service's name"
             elif (key.namespace, name) not in self._services:
-                says = f"it is of Service {key.namespace}/{name}, which isn't in the input"
+                says = f"it is of Service {key.namespace}/{name}, which no accepted line gives"
                 mends = f"give the Service, or write another name as {objects.OF_SERVICE}"
             if says:
                 yield Note(
