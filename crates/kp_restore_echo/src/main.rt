@@ -1,6 +1,7 @@
 //! Reads a table as `iptables-restore` takes it and prints it again, or with `-n` a batch as
 //! `iptables-restore --noflush` takes it; with `-6` those of `ip6tables-restore`. A text that is none
-//! ends with status 1, and its first bad line is told. Words that don't fit end with status 2.
+//! ends with status 1, and its first bad line is told. Words that don't fit end with status 2, and
+//! want of memory with status 3.
 #![tactic(auto)]
 
 use kp_base::{Family, Text};

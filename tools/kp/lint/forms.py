@@ -157,7 +157,7 @@ class Forms:
 
     @staticmethod
     def _yaml(first, last):
-        says = f"YAML: {YQ} makes lines of it, and tools/cluster takes it as it is"
+        says = f"YAML: of this alone {YQ} makes lines, and tools/cluster takes it as it is"
         return Note("yaml", says, first, last, becomes="each line is refused", mends=YQ)
 
     def _sixteen(self, first):

@@ -43,7 +43,7 @@ def _typed_list(number, value):
     count = len(members(value, "items"))
     version = shown(KINDS.get(item, text(value, "apiVersion")))
     mends = f"jq -c '.items[] | {{apiVersion:{version},kind:{shown(item)}}} + .'"
-    says = f"{count} in one: {mends} makes a line of each"
+    says = f"{count} in one: of this line alone {mends} makes a line of each"
     if item not in KINDS:
         says, mends = f"its kind ({', '.join(KINDS)}): leave it out", "leave it out"
     return Note(
