@@ -1,8 +1,9 @@
 -- What a reader's call answers, from what the search for the end of a line found.
-use Rattle.std.proofs.Common.{◌≡◌, ℕ, ◌+◌, ◌-◌, ◌<◌, ◌≤◌, Bool, true, false, cond, List, [], ◌∷◌, ◌++◌, length, Option, None, Some, Ok, Err, Result, refl, ap, sym, ◌∙◌, append_assoc, subst, arith}
+use Rattle.std.proofs.Common.{◌≡◌, ℕ, ◌+◌, ◌<◌, ◌≤◌, Bool, true, false, cond, List, [], ◌∷◌, ◌++◌, length, Option, None, Some, Ok, Err, Result, refl, ap, sym, ◌∙◌, append_assoc, subst, arith}
 use Rattle.std.specs.Prelude.{if◌then◌else◌, nat_lt}
 use Rattle.std.specs.List.{list_any}
 use Rattle.std.proofs.lemmas.Bool.Decides.{nat_tests}
+use Rattle.kp_io.specs.Ends.{Input}
 use Rattle.kp_io.specs.Gather.{LinePart, IsPart, no_part, part_size, given_part, given_from, told_from, feeds_of, Gathers}
 use Rattle.kp_io.specs.Lines.{is_line_feed}
 use Rattle.kp_io.specs.Reader.{ReaderState, given_behind, to_come, feeds_up_to, Answers, AsksUntilFeed}
@@ -52,8 +53,8 @@ long_answers result part line number before after come long result_is =
     (subst (λ one. FromTold (λ come rest. come ≡ one ∷ rest) before after) (λ i. cond (long i) None (Some part.bytes)) come)
 
 -- a source that was not asked
-pub unasked_source : {S : Type 0} (left : S → Option (List ℕ)) (asked : S → ℕ) (source : S) → AsksUntilFeed left asked source source
-unasked_source left asked source = record { last = source; once = omega arith; none = no_feed_first (left source) }
+pub unasked_source : {S : Type 0} (input : S → Input) (source : S) → AsksUntilFeed input source source
+unasked_source input source = record { last = source; once = omega arith; none = no_feed_first (input source).left }
 
 -- one byte at most goes past the limit
 pub over_fits : (limit taken n : ℕ) → (limit < taken → (taken ≡ limit + 1) × (n ≡ 1)) → taken ≤ limit + n

@@ -1,5 +1,5 @@
 -- Whole lines that are passed over: what comes after them, and how many line feeds are to come.
-use Rattle.std.proofs.Common.{◌≡◌, ℕ, zero, suc, ◌+◌, ◌-◌, ◌<◌, ◌≤◌, Bool, true, false, cond, List, [], ◌∷◌, ◌++◌, length, take, drop, Option, None, Some, refl, ap, sym, ◌∙◌, append_assoc, append-nil, length-append, subst, inl, inr, arith}
+use Rattle.std.proofs.Common.{◌≡◌, ℕ, zero, suc, ◌+◌, ◌-◌, ◌<◌, ◌≤◌, Bool, true, false, cond, List, [], ◌∷◌, ◌++◌, length, take, drop, Option, None, Some, refl, ap, sym, ◌∙◌, append_assoc, length-append, subst, inl, inr, arith}
 use Rattle.std.specs.Prelude.{map, count_by, ⊤, ◌||◌, if◌then◌else◌, nat_le, nat_lt, slice_index}
 use Rattle.std.specs.List.{list_any, slice_split, onto_first}
 use Rattle.std.proofs.Math.Seq.{take-append_seam, take-append-add, take-suc, drop-append-add}
@@ -9,7 +9,6 @@ use Rattle.std.proofs.lemmas.List.Folds.{list_any-append}
 use Rattle.std.proofs.lemmas.List.Splits.{slice_split-cons_yes, slice_split-cons_no, length-slice_split}
 use Rattle.kp_io.specs.Lines.{IsWhole, is_line_feed, without_empty_last, lines_of, ended_lines, given_of, given_lines}
 use Rattle.kp_io.specs.Reader.{ReaderState, GivesShort, TakesFeeds, passed, to_come, feeds_up_to}
-use Rattle.kp_io.specs.Told.{FromTold}
 use Rattle.kp_io.specs.declared.next_line.TheConstants.{INPUT_LIMIT, LINE_LIMIT}
 use Rattle.kp_io.proofs.FeedLemmas.{feeds-append}
 use Rattle.kp_io.proofs.LineLemmas.{feedless-take, without_empty_last-more}

@@ -1,5 +1,6 @@
 -- A sink that keeps small writes together, before another one (this project's choice).
-use Rattle.std.specs.Prelude.{ℕ, List, [], ◌∷◌, ◌++◌, length, min, Option, None, Some, option_map}
+use Rattle.std.specs.Prelude.{ℕ, List, [], ◌∷◌, ◌++◌, length, min, Option, None, Some, option_map, ◌+◌}
+use Rattle.kp_io.specs.Ends.{Output}
 
 -- the sink that comes next, and the bytes that it was not given yet
 pub record Buffered (X : Type 0) : Type 0 where
@@ -24,3 +25,12 @@ flushed_of (Some count) (Some written) = Some (min count (length written))
 abbrev pub flushed_behind : List ℕ → Option ℕ → Option (List ℕ) → Option ℕ
 flushed_behind [] flushed written = flushed_of flushed written
 flushed_behind (x ∷ xs) flushed written = None
+
+-- what a sink shows that keeps these bytes before another
+abbrev pub shown_behind : List ℕ → Output → Output
+shown_behind kept output = record {
+  written = written_behind kept output.written;
+  flushed = flushed_behind kept output.flushed output.written;
+  kept_back = length kept + output.kept_back;
+  faults = output.faults;
+}

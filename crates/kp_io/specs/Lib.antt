@@ -1,4 +1,5 @@
 pub mod Buffered
+pub mod Ends
 pub mod Faults
 pub mod Gather
 pub mod Lines

@@ -1,6 +1,7 @@
 -- Sources and sinks in memory (this project's choice), which tests hand to the program: they cut
 -- what they give and take into pieces, and fail where they are told to.
 use Rattle.std.specs.Prelude.{◌≡◌, ℕ, ◌+◌, ◌≤◌, ◌↔◌, Bool, true, if◌then◌else◌, List, [], length, Option, None, Some, Result, is_err, IsErr, Contains}
+use Rattle.kp_io.specs.Ends.{Input, Output}
 use Rattle.kp_io.specs.Faults.{one_more}
 
 -- the calls, from 1, that are to fail, and how many there were and how many of them failed
@@ -42,6 +43,15 @@ told_bytes sink = if sink.complete then Some sink.kept else None
 -- how much of it was flushed
 abbrev pub told_flushed : SinkParts → Option ℕ
 told_flushed sink = if sink.complete then Some sink.flushed else None
+
+-- what a source shows that has these bytes left
+abbrev pub shown_left : List ℕ → ℕ → ℕ → Input
+shown_left left faults asked = record { left = Some left; faults = faults; asked = asked }
+
+-- what a sink shows, of which so many calls have failed; it keeps nothing back
+abbrev pub shown_sink : SinkParts → ℕ → Output
+shown_sink sink faults =
+    record { written = told_bytes sink; flushed = told_flushed sink; kept_back = 0; faults = faults }
 
 -- a sink that nothing was written to
 abbrev pub fresh_sink : ℕ → ℕ → SinkParts

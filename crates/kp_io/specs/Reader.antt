@@ -1,6 +1,7 @@
 -- A reader of lines, over a source of bytes (this project's choice).
 use Rattle.std.specs.Prelude.{◌≡◌, ℕ, ◌+◌, ◌-◌, ◌≤◌, ◌<◌, ◌↔◌, ◌||◌, nat_lt, Bool, true, false, if◌then◌else◌, List, [], ◌∷◌, ◌++◌, length, map, take, drop, count_by, Option, None, Some, option_map, Result, Ok, Err, IsErrOf}
 use Rattle.std.specs.List.{list_any, after_first}
+use Rattle.kp_io.specs.Ends.{Input}
 use Rattle.kp_io.specs.Faults.{Rose}
 use Rattle.kp_io.specs.Lines.{is_line_feed, ended_lines, given_of, given_lines}
 use Rattle.kp_io.specs.Told.{FromTold}
@@ -166,7 +167,7 @@ pub record LosesNoFeed (xs ys : List ℕ) : Type 0 where
 
 -- The source is asked only as long as no line feed has come: there is a point, at most one read before the
 -- end of the call, up to which none came.
-pub record AsksUntilFeed {S : Type 0} (left : S → Option (List ℕ)) (asked : S → ℕ) (old new : S) : Type 0 where
+pub record AsksUntilFeed {S : Type 0} (input : S → Input) (old new : S) : Type 0 where
   pub last : S
-  pub once : asked new ≤ asked last + 1
-  pub none : FromTold LosesNoFeed (left old) (left last)
+  pub once : (input new).asked ≤ (input last).asked + 1
+  pub none : FromTold LosesNoFeed (input old).left (input last).left

@@ -1,6 +1,6 @@
 //! A sink that keeps small writes together.
-ghost use Rattle.std.specs.Prelude.{◌≡◌, ◌<◌, ◌+◌, [], length, IfOk, OnOk, OnErr};
-ghost use Rattle.kp_io.specs.Buffered.{fresh_buffer, written_behind, flushed_behind};
+ghost use Rattle.std.specs.Prelude.{◌≡◌, ◌<◌, [], length, IfOk, OnOk, OnErr};
+ghost use Rattle.kp_io.specs.Buffered.{fresh_buffer, shown_behind, written_behind};
 ghost use Rattle.kp_io.specs.Faults.{HasCause};
 ghost use Rattle.kp_io.specs.Told.{Grows};
 
@@ -54,11 +54,11 @@ impl<K: Sink> BufferedSink<K> {
     fn write_on(&mut self) -> Result<(), Failed>
         requires some { 0 < length self.old.kept }
         ensures fewer { OnOk result (length self.new.kept < length self.old.kept) }
-        ensures kept { Grows (written_behind self.old.kept (K.written self.old.sink))
-            (written_behind self.new.kept (K.written self.new.sink)) [] }
-        ensures cause { HasCause (K.faults self.old.sink) (K.faults self.new.sink) result }
+        ensures kept { Grows (written_behind self.old.kept (K.output self.old.sink).written)
+            (written_behind self.new.kept (K.output self.new.sink).written) [] }
+        ensures cause { HasCause (K.output self.old.sink).faults (K.output self.new.sink).faults result }
         ensures err { OnErr result ((self.new.kept ≡ self.old.kept)
-            × (K.written self.new.sink ≡ K.written self.old.sink)) }
+            × ((K.output self.new.sink).written ≡ (K.output self.old.sink).written)) }
     {
         let count = self.sink.write(&self.kept)?;
         // A whole write is by far the most common, and moves nothing.
@@ -74,10 +74,10 @@ impl<K: Sink> BufferedSink<K> {
     /// Hands on all that is kept.
     fn write_all_on(&mut self) -> Result<(), Failed>
         ensures out { OnOk result (self.new.kept ≡ []) }
-        ensures kept { Grows (written_behind self.old.kept (K.written self.old.sink))
-            (written_behind self.new.kept (K.written self.new.sink)) [] }
+        ensures kept { Grows (written_behind self.old.kept (K.output self.old.sink).written)
+            (written_behind self.new.kept (K.output self.new.sink).written) [] }
         ensures unasked { self.old.kept ≡ [] → self.new ≡ self.old }
-        ensures cause { HasCause (K.faults self.old.sink) (K.faults self.new.sink) result }
+        ensures cause { HasCause (K.output self.old.sink).faults (K.output self.new.sink).faults result }
     {
         while !self.kept.is_empty() {
             self.write_on()?;
@@ -87,13 +87,7 @@ impl<K: Sink> BufferedSink<K> {
 }
 
 impl<K: Sink> Sink for BufferedSink<K> {
-    ghost written = { λ s. written_behind s.kept (K.written s.sink) };
-
-    ghost flushed = { λ s. flushed_behind s.kept (K.flushed s.sink) (K.written s.sink) };
-
-    ghost kept_back = { λ s. length s.kept + K.kept_back s.sink };
-
-    ghost faults = { λ s. K.faults s.sink };
+    ghost output = { λ s. shown_behind s.kept (K.output s.sink) };
 
     fn write(&mut self, bytes: &[u8]) -> Result<usize, Failed> {
         if self.kept.len() == BUFFER_SIZE {

@@ -103,11 +103,11 @@ impl Chunk {
         requires empty { self.old ≡ [] }
         requires some { 0 < most }
         ensures count { IfOk result (λ n. (n ≡ length self.new) × (n ≤ most)) }
-        ensures bytes { Consumes (S.left source.old) (S.left source.new) self.new }
-        ensures ended { IfOk result (λ n. n ≡ 0 → IsAtEnd (S.left source.new)) }
+        ensures bytes { Consumes (S.input source.old).left (S.input source.new).left self.new }
+        ensures ended { IfOk result (λ n. n ≡ 0 → IsAtEnd (S.input source.new).left) }
         ensures err { OnErr result (self.new ≡ []) }
-        ensures cause { HasCause (S.faults source.old) (S.faults source.new) result }
-        ensures asked { S.asked source.new ≡ one_more (S.asked source.old) }
+        ensures cause { HasCause (S.input source.old).faults (S.input source.new).faults result }
+        ensures asked { (S.input source.new).asked ≡ one_more (S.input source.old).asked }
     {
         self.start = 0;
         self.end = 0;

@@ -73,21 +73,21 @@ pub(crate) fn gather_line<S: Source>(
     ensures part { IsPart part.new }
     ensures chunk { length chunk.new ≤ room }
     ensures gathers { Gathers result part.new chunk.new
-        (told_from part.old chunk.old (S.left source.old)) (S.left source.new) }
+        (told_from part.old chunk.old (S.input source.old).left) (S.input source.new).left }
     ensures size { feeds_of result + part_size part.new + length chunk.new + taken.old
         ≤ part_size part.old + length chunk.old + taken.new }
     ensures feeds { FromTold (λ xs ys. feeds_up_to INPUT_LIMIT chunk.old taken.old xs
         ≡ feeds_up_to INPUT_LIMIT chunk.new taken.new ys + feeds_of result)
-        (S.left source.old) (S.left source.new) }
-    ensures input { TakesInput result taken.old taken.new (S.left source.old) (S.left source.new) }
+        (S.input source.old).left (S.input source.new).left }
+    ensures input { TakesInput result taken.old taken.new (S.input source.old).left (S.input source.new).left }
     ensures over { INPUT_LIMIT < taken.new
         → (taken.new ≡ INPUT_LIMIT + 1) × (length chunk.new ≡ 1) }
-    ensures cause { HasReadCause result (S.faults source.old) (S.faults source.new) }
+    ensures cause { HasReadCause result (S.input source.old).faults (S.input source.new).faults }
     ensures read { IsErrOf result ReadFault → chunk.new ≡ [] }
     ensures other { (number : ℕ) → result ≡ Err (TooLongLine number) → ⊥ }
     ensures unasked { list_any is_line_feed chunk.old ≡ true → source.new ≡ source.old }
-    ensures asked { AsksUntilFeed S.left S.asked source.old source.new }
-    ensures ended { result ≡ Ok false → IsAtEnd (S.left source.new) × (chunk.new ≡ []) }
+    ensures asked { AsksUntilFeed S.input source.old source.new }
+    ensures ended { result ≡ Ok false → IsAtEnd (S.input source.new).left × (chunk.new ≡ []) }
 {
     loop {
         if gather(part, chunk)? {

@@ -89,22 +89,22 @@ impl LineReader {
     /// The next line of the source. Each call is to be given the same source.
     pub fn next_line<S: Source>(&mut self, source: &mut S) -> Result<NextLine, LineFault>
         ensures answer { Answers result self.new.line
-            (to_come self.old (S.left source.old)) (to_come self.new (S.left source.new)) }
+            (to_come self.old (S.input source.old).left) (to_come self.new (S.input source.new).left) }
         ensures counts { Counts result self.old self.new }
         ensures line { IsShortLine self.new.line }
         ensures again { self.old.ended ≡ true → result ≡ Ok (NextLine.End self.old.number) }
         ensures input { TakesInput result self.old.taken self.new.taken
-            (S.left source.old) (S.left source.new) }
+            (S.input source.old).left (S.input source.new).left }
         ensures bounded { IsBounded self.new }
         ensures room { self.new.room ≡ self.old.room }
         ensures feeds { self.new.ended ≡ false
-            → TakesFeeds self.old self.new (S.left source.old) (S.left source.new) }
+            → TakesFeeds self.old self.new (S.input source.old).left (S.input source.new).left }
         ensures handed { HandsOutBefore result self.new.held self.new.taken }
         ensures ended { self.old.ended ≡ false → self.new.ended ≡ true
-            → IsAtEnd (S.left source.new) }
+            → IsAtEnd (S.input source.new).left }
         ensures unasked { answers_unasked self.old ≡ true → source.new ≡ source.old }
-        ensures asked { AsksUntilFeed S.left S.asked source.old source.new }
-        ensures cause { HasReadCause result (S.faults source.old) (S.faults source.new) }
+        ensures asked { AsksUntilFeed S.input source.old source.new }
+        ensures cause { HasReadCause result (S.input source.old).faults (S.input source.new).faults }
     {
         self.line.clear();
         if self.taken > INPUT_LIMIT {

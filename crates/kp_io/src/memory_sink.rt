@@ -1,8 +1,7 @@
 //! A sink in memory that fails by plan.
-ghost use Rattle.std.specs.Prelude.{◌≡◌, ◌≤◌, [], min, length, IfOk, OnOk, OnErr};
-ghost use Rattle.kp_io.specs.Faults.{HasCause};
-ghost use Rattle.kp_io.specs.Memory.{told_bytes, told_flushed, fresh_sink, fresh_plan, KeepsTelling, Meets};
-ghost use Rattle.kp_io.specs.Told.{Grows, NoLess, TakesFront, FlushesOn, IsFlushed};
+ghost use Rattle.std.specs.Prelude.{◌≡◌, ◌≤◌, min, length, IfOk, OnErr};
+ghost use Rattle.kp_io.specs.Ends.{AfterWrite, AfterHandOn, AfterFlush};
+ghost use Rattle.kp_io.specs.Memory.{shown_sink, fresh_sink, fresh_plan, KeepsTelling, Meets};
 
 use crate::plan::Plan;
 use crate::sink::Sink;
@@ -61,20 +60,12 @@ impl MemorySink {
 }
 
 impl Sink for MemorySink {
-    ghost written = { λ s. told_bytes s.sink };
-
-    ghost flushed = { λ s. told_flushed s.sink };
-
-    ghost kept_back = { λ s. 0 };
-
-    ghost faults = { λ s. s.plan.faults };
+    ghost output = { λ s. shown_sink s.sink s.plan.faults };
 
     fn write(&mut self, bytes: &[u8]) -> Result<usize, Failed>
-        ensures bytes { TakesFront result bytes.now
-            (told_bytes self.old.sink) (told_bytes self.new.sink) }
-        ensures flushed { FlushesOn (told_flushed self.old.sink) (told_flushed self.new.sink)
-            (told_bytes self.new.sink) }
-        ensures cause { HasCause self.old.plan.faults self.new.plan.faults result }
+        ensures writes { AfterWrite result bytes.now
+            (shown_sink self.old.sink self.old.plan.faults)
+            (shown_sink self.new.sink self.new.plan.faults) }
         ensures planned { Meets result self.old.plan self.new.plan }
         ensures count { IfOk result (λ n. n ≡ min self.old.sink.piece (length bytes.now)) }
         ensures tells { IfOk result (λ n. KeepsTelling self.old.sink self.new.sink n) }
@@ -85,9 +76,8 @@ impl Sink for MemorySink {
     }
 
     fn hand_on(&mut self) -> Result<(), Failed>
-        ensures kept { Grows (told_bytes self.old.sink) (told_bytes self.new.sink) [] }
-        ensures flushed { NoLess (told_flushed self.old.sink) (told_flushed self.new.sink) }
-        ensures cause { HasCause self.old.plan.faults self.new.plan.faults result }
+        ensures hands_on { AfterHandOn result (shown_sink self.old.sink self.old.plan.faults)
+            (shown_sink self.new.sink self.new.plan.faults) }
         ensures sure { result ≡ Ok tt }
         ensures same { self.new ≡ self.old }
     {
@@ -95,12 +85,8 @@ impl Sink for MemorySink {
     }
 
     fn flush(&mut self) -> Result<(), Failed>
-        ensures whole { OnOk result
-            (IsFlushed (told_flushed self.new.sink) (told_bytes self.new.sink)) }
-        ensures kept { Grows (told_bytes self.old.sink) (told_bytes self.new.sink) [] }
-        ensures flushed { FlushesOn (told_flushed self.old.sink) (told_flushed self.new.sink)
-            (told_bytes self.new.sink) }
-        ensures cause { HasCause self.old.plan.faults self.new.plan.faults result }
+        ensures flushes { AfterFlush result (shown_sink self.old.sink self.old.plan.faults)
+            (shown_sink self.new.sink self.new.plan.faults) }
         ensures planned { Meets result self.old.plan self.new.plan }
         ensures same { OnErr result (self.new.sink ≡ self.old.sink) }
     {

@@ -1,9 +1,7 @@
 //! A source in memory that fails by plan.
-ghost use Rattle.std.specs.Prelude.{◌≡◌, ◌≤◌, Some, min, length, IfOk, OnErr};
-ghost use Rattle.std.specs.Io.{ReadsAtMost};
-ghost use Rattle.std.specs.Io.KnownBytes.{ReadConsumes};
-ghost use Rattle.kp_io.specs.Faults.{HasCause, one_more};
-ghost use Rattle.kp_io.specs.Memory.{fresh_plan, Meets};
+ghost use Rattle.std.specs.Prelude.{◌≡◌, ◌≤◌, min, length, IfOk};
+ghost use Rattle.kp_io.specs.Ends.{AfterRead};
+ghost use Rattle.kp_io.specs.Memory.{shown_left, fresh_plan, Meets};
 
 use crate::plan::Plan;
 use crate::source::{Failed, Source};
@@ -42,18 +40,12 @@ impl MemorySource {
 }
 
 impl Source for MemorySource {
-    ghost left = { λ s. Some s.source.left };
-
-    ghost faults = { λ s. s.plan.faults };
-
-    ghost asked = { λ s. s.plan.calls };
+    ghost input = { λ s. shown_left s.source.left s.plan.faults s.plan.calls };
 
     fn read(&mut self, buf: &mut [u8]) -> Result<usize, Failed>
-        ensures bound { ReadsAtMost result buf.new }
-        ensures bytes { ReadConsumes
-            (Some self.old.source.left) (Some self.new.source.left) result buf.new }
-        ensures cause { HasCause self.old.plan.faults self.new.plan.faults result }
-        ensures asked { self.new.plan.calls ≡ one_more self.old.plan.calls }
+        ensures reads { AfterRead result buf.new
+            (shown_left self.old.source.left self.old.plan.faults self.old.plan.calls)
+            (shown_left self.new.source.left self.new.plan.faults self.new.plan.calls) }
         ensures planned { Meets result self.old.plan self.new.plan }
         ensures count { IfOk result (λ n. n
             ≡ min self.old.source.piece (min (length buf.old) (length self.old.source.left))) }

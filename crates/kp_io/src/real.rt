@@ -1,11 +1,12 @@
 //! The real ends: std's readers and writers. What they give and take is the outside, of which
 //! nothing is told; their failures are counted.
-ghost use Rattle.std.specs.Prelude.{◌≡◌, ◌≢◌, ◌≤◌, ◌⊎◌, Ok, None, true, false, length, IfErr, IfOk, IsErr};
+ghost use Rattle.std.specs.Prelude.{◌≡◌, ◌≢◌, ◌≤◌, ◌⊎◌, Ok, true, false, length, IfErr, IfOk, IsErr};
 ghost use Rattle.std.specs.Io.{ReadsAtMost};
 ghost use Rattle.std.specs.Io.KnownBytes.{Keeps, ReadConsumes, WriteAppends};
 ghost use Rattle.std.specs.IoError.{error_kind};
-ghost use Rattle.kp_io.specs.Faults.{Rose, HasCause, one_more};
-ghost use Rattle.kp_io.specs.Told.{TakesFront};
+ghost use Rattle.kp_io.specs.Ends.{AfterWrite, AfterHandOn, AfterFlush};
+ghost use Rattle.kp_io.specs.Faults.{Rose};
+ghost use Rattle.kp_io.specs.Real.{shown_reader, shown_writer};
 
 use crate::sink::Sink;
 use crate::source::{Failed, Source};
@@ -49,11 +50,7 @@ impl<R: Read> RealSource<R> {
 }
 
 impl<R: Read> Source for RealSource<R> {
-    ghost left = { λ s. R.remaining s.inner };
-
-    ghost faults = { λ s. s.faults };
-
-    ghost asked = { λ s. s.asked };
+    ghost input = { λ s. shown_reader (R.remaining s.inner) s };
 
     fn read(&mut self, buf: &mut [u8]) -> Result<usize, Failed> {
         self.asked = self.asked.saturating_add(1);
@@ -153,17 +150,10 @@ impl<W: Write> RealSink<W> {
 }
 
 impl<W: Write> Sink for RealSink<W> {
-    ghost written = { λ s. None };
-
-    ghost flushed = { λ s. None };
-
-    ghost kept_back = { λ s. 0 };
-
-    ghost faults = { λ s. s.faults };
+    ghost output = { shown_writer };
 
     fn write(&mut self, bytes: &[u8]) -> Result<usize, Failed>
-        ensures bytes { TakesFront result bytes.now None None }
-        ensures cause { HasCause self.old.faults self.new.faults result }
+        ensures writes { AfterWrite result bytes.now (shown_writer self.old) (shown_writer self.new) }
         ensures passed { WriteAppends (W.contents self.old.inner) (W.contents self.new.inner)
             result bytes.now }
         ensures closed { self.new.closed ≡ true → (self.old.closed ≡ true) ⊎ IsErr result }
@@ -176,7 +166,7 @@ impl<W: Write> Sink for RealSink<W> {
     }
 
     fn hand_on(&mut self) -> Result<(), Failed>
-        ensures cause { HasCause self.old.faults self.new.faults result }
+        ensures hands_on { AfterHandOn result (shown_writer self.old) (shown_writer self.new) }
         ensures sure { result ≡ Ok tt }
         ensures same { self.new ≡ self.old }
     {
@@ -184,7 +174,7 @@ impl<W: Write> Sink for RealSink<W> {
     }
 
     fn flush(&mut self) -> Result<(), Failed>
-        ensures cause { HasCause self.old.faults self.new.faults result }
+        ensures flushes { AfterFlush result (shown_writer self.old) (shown_writer self.new) }
         ensures passed { Keeps (W.contents self.old.inner) (W.contents self.new.inner) }
         ensures closed { self.new.closed ≡ true → (self.old.closed ≡ true) ⊎ IsErr result }
     {

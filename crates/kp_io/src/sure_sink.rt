@@ -1,8 +1,7 @@
 //! A sink in memory that never fails.
-ghost use Rattle.std.specs.Prelude.{◌≡◌, ◌≤◌, Ok, [], min, length, IfOk, OnOk};
-ghost use Rattle.kp_io.specs.Faults.{HasCause};
-ghost use Rattle.kp_io.specs.Memory.{told_bytes, told_flushed, fresh_sink, KeepsTelling};
-ghost use Rattle.kp_io.specs.Told.{Grows, NoLess, TakesFront, FlushesOn, IsFlushed};
+ghost use Rattle.std.specs.Prelude.{◌≡◌, ◌≤◌, Ok, min, length, IfOk};
+ghost use Rattle.kp_io.specs.Ends.{AfterWrite, AfterHandOn, AfterFlush};
+ghost use Rattle.kp_io.specs.Memory.{shown_sink, fresh_sink, KeepsTelling};
 
 use crate::sink::Sink;
 use crate::source::Failed;
@@ -64,19 +63,10 @@ impl SureSink {
 }
 
 impl Sink for SureSink {
-    ghost written = { told_bytes };
-
-    ghost flushed = { told_flushed };
-
-    ghost kept_back = { λ s. 0 };
-
-    ghost faults = { λ s. 0 };
+    ghost output = { λ s. shown_sink s 0 };
 
     fn write(&mut self, bytes: &[u8]) -> Result<usize, Failed>
-        ensures bytes { TakesFront result bytes.now (told_bytes self.old) (told_bytes self.new) }
-        ensures flushed { FlushesOn (told_flushed self.old) (told_flushed self.new)
-            (told_bytes self.new) }
-        ensures cause { HasCause 0 0 result }
+        ensures writes { AfterWrite result bytes.now (shown_sink self.old 0) (shown_sink self.new 0) }
         ensures sure { result ≡ Ok (min self.old.piece (length bytes.now)) }
         ensures tells { KeepsTelling self.old self.new (min self.old.piece (length bytes.now)) }
         ensures piece { (self.new.piece ≡ self.old.piece) × (self.new.room ≡ self.old.room) }
@@ -90,9 +80,7 @@ impl Sink for SureSink {
     }
 
     fn hand_on(&mut self) -> Result<(), Failed>
-        ensures kept { Grows (told_bytes self.old) (told_bytes self.new) [] }
-        ensures flushed { NoLess (told_flushed self.old) (told_flushed self.new) }
-        ensures cause { HasCause 0 0 result }
+        ensures hands_on { AfterHandOn result (shown_sink self.old 0) (shown_sink self.new 0) }
         ensures sure { result ≡ Ok tt }
         ensures same { self.new ≡ self.old }
     {
@@ -100,11 +88,7 @@ impl Sink for SureSink {
     }
 
     fn flush(&mut self) -> Result<(), Failed>
-        ensures whole { OnOk result (IsFlushed (told_flushed self.new) (told_bytes self.new)) }
-        ensures kept { Grows (told_bytes self.old) (told_bytes self.new) [] }
-        ensures flushed { FlushesOn (told_flushed self.old) (told_flushed self.new)
-            (told_bytes self.new) }
-        ensures cause { HasCause 0 0 result }
+        ensures flushes { AfterFlush result (shown_sink self.old 0) (shown_sink self.new 0) }
         ensures sure { result ≡ Ok tt }
         ensures same { (self.new.kept ≡ self.old.kept) × (self.new.complete ≡ self.old.complete) }
         ensures piece { (self.new.piece ≡ self.old.piece) × (self.new.room ≡ self.old.room) }

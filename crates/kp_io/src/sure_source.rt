@@ -1,8 +1,7 @@
 //! A source in memory that never fails.
-ghost use Rattle.std.specs.Prelude.{◌≡◌, ◌≤◌, Ok, Some, min, length};
-ghost use Rattle.std.specs.Io.{ReadsAtMost};
-ghost use Rattle.std.specs.Io.KnownBytes.{ReadConsumes};
-ghost use Rattle.kp_io.specs.Faults.{HasCause, one_more};
+ghost use Rattle.std.specs.Prelude.{◌≡◌, ◌≤◌, Ok, min, length};
+ghost use Rattle.kp_io.specs.Ends.{AfterRead};
+ghost use Rattle.kp_io.specs.Memory.{shown_left};
 
 use crate::source::{Failed, Source};
 use kp_base::Items;
@@ -50,17 +49,11 @@ impl SureSource {
 }
 
 impl Source for SureSource {
-    ghost left = { λ s. Some s.left };
-
-    ghost faults = { λ s. 0 };
-
-    ghost asked = { λ s. s.asked };
+    ghost input = { λ s. shown_left s.left 0 s.asked };
 
     fn read(&mut self, buf: &mut [u8]) -> Result<usize, Failed>
-        ensures bound { ReadsAtMost result buf.new }
-        ensures bytes { ReadConsumes (Some self.old.left) (Some self.new.left) result buf.new }
-        ensures cause { HasCause 0 0 result }
-        ensures asked { self.new.asked ≡ one_more self.old.asked }
+        ensures reads { AfterRead result buf.new (shown_left self.old.left 0 self.old.asked)
+            (shown_left self.new.left 0 self.new.asked) }
         ensures sure { result
             ≡ Ok (min self.old.piece (min (length buf.old) (length self.old.left))) }
         ensures piece { self.new.piece ≡ self.old.piece }

@@ -12,6 +12,7 @@ use Rattle.kp_history_laws.specs.HistoryLaws.{ExactTables}
 use Rattle.kp_walk_laws.specs.Laws.{ProductDecides}
 use Rattle.kp_feed.specs.Feeding.{Delivers}
 use Rattle.kp_feed.specs.Passes.{Feeder, QueueId}
+use Rattle.kp_io.specs.Ends.{Output}
 use Rattle.kp_io.specs.Lines.{lines_of}
 use Rattle.kp_io.specs.Told.{Grows}
 use Rattle.kp_streams.specs.WholeInput.{ReadsWhole}
@@ -120,45 +121,45 @@ module _ (reading : Reading) (start : TableParts) (queue : QueueId) (n : ℕ)
       head_text reading journal notes ++ (telling refusals told reading.lines).text
       ++ end_text reading.config (length notes) clash table
 
-  module _ (w0 w1 : Option (List ℕ)) (f0 f1 : ℕ) where
+  module _ (o0 o1 : Output) where
     whole_by : (result : Result Bool LiveFault)
         → ((told : ℕ → List Told) → AreOf told answers
-        → Prints result (whole_text told) w0 w1 f0 f1)
+        → Prints result (whole_text told) o0 o1)
         → ((told : ℕ → List Told) → AreOf told answers
         → IfOk result (λ refused. refused
         ≡ prints_refusal reading (telling refusals told reading.lines).denied clash))
         → IfOk result (λ refused. (input : List (List ℕ)) → reading ≡ reading_of input
-        → WritesRun refused reading w0 w1)
+        → WritesRun refused reading o0 o1)
     whole_by (Ok refused) printed told_is = λ input is.
         let r = legal input is in record {
           run = r.run;
           runs = r.runs;
-          grown = subst (Grows w0 w1) (sym r.text) (printed r.told r.answers_are).whole;
+          grown = subst (Grows o0.written o1.written) (sym r.text) (printed r.told r.answers_are).whole;
           told = told_is r.told r.answers_are ∙ sym r.refused;
         }
     whole_by (Err fault) printed told_is = tt
 
     front_by : (result : Result Bool LiveFault)
         → ((told : ℕ → List Told) → AreOf told answers
-        → Prints result (whole_text told) w0 w1 f0 f1)
+        → Prints result (whole_text told) o0 o1)
         → OnErr result ((input : List (List ℕ)) → reading ≡ reading_of input
-        → WritesFront reading w0 w1)
+        → WritesFront reading o0 o1)
     front_by (Ok refused) printed = tt
     front_by (Err fault) printed = λ input is.
         let r = legal input is in
         inr (
           r.run,
           r.runs,
-          subst (GrowsFront w0 w1) (sym r.text) (printed r.told r.answers_are).front,
+          subst (GrowsFront o0 o1) (sym r.text) (printed r.told r.answers_are).front,
         )
 
     pub ends_run : (result : Result Bool LiveFault)
         → ((told : ℕ → List Told) → AreOf told answers
-        → Prints result (whole_text told) w0 w1 f0 f1)
+        → Prints result (whole_text told) o0 o1)
         → ((told : ℕ → List Told) → AreOf told answers
         → IfOk result (λ refused. refused
         ≡ prints_refusal reading (telling refusals told reading.lines).denied clash))
-        → EndsRun result reading w0 w1 f0 f1
+        → EndsRun result reading o0 o1
     ends_run result printed told_is =
         let told = told_at reading start queue e.stands e.each in
         let p = printed told
@@ -175,12 +176,12 @@ module _ (reading : Reading) (start : TableParts) (queue : QueueId) (n : ℕ)
 
 -- what was written of a run that failed, where its input is told
 pub front_told : (result : Result Bool LiveFault) (left : Option (List ℕ)) (reading : Reading)
-    (w0 w1 : Option (List ℕ))
+    (o0 o1 : Output)
     → OnErr result ((input : List (List ℕ)) → reading ≡ reading_of input
-    → WritesFront reading w0 w1)
+    → WritesFront reading o0 o1)
     → IfSome left (ReadsWhole reading)
-    → OnErr result (IfSome left (λ text. WritesFront (reading_of (lines_of text)) w0 w1))
-front_told (Ok refused) left reading w0 w1 front read = tt
-front_told (Err fault) None reading w0 w1 front read = tt
-front_told (Err fault) (Some text) reading w0 w1 front read =
-    subst (λ r. WritesFront r w0 w1) read.reads (front (lines_of text) read.reads)
+    → OnErr result (IfSome left (λ text. WritesFront (reading_of (lines_of text)) o0 o1))
+front_told (Ok refused) left reading o0 o1 front read = tt
+front_told (Err fault) None reading o0 o1 front read = tt
+front_told (Err fault) (Some text) reading o0 o1 front read =
+    subst (λ r. WritesFront r o0 o1) read.reads (front (lines_of text) read.reads)

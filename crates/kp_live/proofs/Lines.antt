@@ -1,6 +1,6 @@
 -- One more line that is printed.
 use Rattle.std.proofs.Common.{◌≡◌, ◌≢◌, ◌<◌, ◌+◌, ◌||◌, ℕ, zero, suc, Bool, true, false, cond, List, [], ◌∷◌, ◌++◌, length, take, drop, get_or, set, length-set, refl, ap, sym, subst, ◌∙◌, arith, add-one, append-nil, append_assoc, eq-eqb, ne_eqb}
-use Rattle.std.specs.Prelude.{Option, Result, Ok, Err, IfOk, IfSome, slice_get}
+use Rattle.std.specs.Prelude.{Result, Ok, Err, IfOk, IfSome, slice_get}
 use Rattle.std.specs.List.{fold}
 use Rattle.std.proofs.Math.Seq.{take-suc}
 use Rattle.std.proofs.lemmas.List.{take-append-drop}
@@ -11,12 +11,13 @@ use Rattle.kp_run_defs.specs.declared.live.StreamLine.{StreamLine}
 use Rattle.kp_run_defs.specs.declared.live.Work.{Work}
 use Rattle.kp_run_defs.specs.declared.live.Work.TheVariants.{Feeds, Syncs, Sends}
 use Rattle.kp_hub.specs.declared.notes.Refusal.{Refusal}
+use Rattle.kp_io.specs.Ends.{Output}
 use Rattle.kp_live.specs.declared.answers.ToldOn.{ToldOn}
 use Rattle.kp_live.specs.declared.fault.LiveFault.{LiveFault}
 use Rattle.kp_live.specs.Runs.{AreLeft, Telling, after_line, is_answered, is_denial, nothing_printed, telling, told_text, with_line, with_next}
 use Rattle.kp_live.specs.Told.{Told, HoldsOn}
-use Rattle.kp_live.specs.Written.{Prints}
-use Rattle.kp_live.proofs.Printing.{prints_nothing}
+use Rattle.kp_live.specs.Written.{Prints, said_of}
+use Rattle.kp_live.proofs.Printing.{prints_as, prints_flag, prints_nothing}
 use Rattle.kp_live.proofs.Telling.{or_false}
 
 -- ---- One element of a list
@@ -80,9 +81,9 @@ none_left refusals t line work false is none = not_printed refusals t line work 
 
 -- what a line leaves and prints
 pub record Printed (refusals : List Refusal) (t next : Telling) (told : List ToldOn)
-    (result : Result Bool LiveFault) (w0 w1 : Option (List ℕ)) (f0 f1 : ℕ) : Type 0 where
+    (result : Result Bool LiveFault) (o0 o1 : Output) : Type 0 where
   pub left : IfOk result (λ denied. AreLeft next.left told × ((t.denied || denied) ≡ next.denied))
-  pub printed : (bytes : List ℕ) × (next.text ≡ t.text ++ bytes) × Prints result bytes w0 w1 f0 f1
+  pub printed : (bytes : List ℕ) × (next.text ≡ t.text ++ bytes) × Prints result bytes o0 o1
 
 ok_map : {E : Type 0} (P Q : Bool → Type 0) → ((b : Bool) → P b → Q b) → (r : Result Bool E)
     → IfOk r P → IfOk r Q
@@ -92,13 +93,13 @@ ok_map P Q h (Err e) p = tt
 -- the next answer of its stream
 pub printed_some : (refusals : List Refusal) (t : Telling) (line : StreamLine)
     (told : List ToldOn) (new : ToldOn) (result : Result Bool LiveFault)
-    (w0 w1 : Option (List ℕ)) (f0 f1 : ℕ) (one : Told) (rest : List Told)
+    (o0 o1 : Output) (one : Told) (rest : List Told)
     → line.stream < length told → AreLeft t.left told → HoldsOn new rest
     → IfOk result (λ denied. denied ≡ is_denial one)
-    → Prints result (told_text refusals line.number one) w0 w1 f0 f1
+    → Prints result (told_text refusals line.number one) o0 o1
     → Printed refusals t (with_next refusals line (one ∷ rest) t) (set told line.stream new) result
-    w0 w1 f0 f1
-printed_some refusals t line told new result w0 w1 f0 f1 one rest lt are holds denied printed =
+    o0 o1
+printed_some refusals t line told new result o0 o1 one rest lt are holds denied printed =
     record {
       left =
           ok_map (λ d. d ≡ is_denial one)
@@ -119,26 +120,25 @@ left_at left told i d lt are =
 
 -- the next answer is written, if there is one
 pub record PrintsNext (refusals : List Refusal) (number : ℕ) (old new : ToldOn)
-    (result : Result Bool LiveFault) (w0 w1 : Option (List ℕ)) (f0 f1 : ℕ) : Type 0 where
+    (result : Result Bool LiveFault) (o0 o1 : Output) : Type 0 where
   pub next : (one : Told) (rest : List Told) → HoldsOn old (one ∷ rest)
       → HoldsOn new rest × IfOk result (λ d. d ≡ is_denial one)
-      × Prints result (told_text refusals number one) w0 w1 f0 f1
+      × Prints result (told_text refusals number one) o0 o1
   pub none : HoldsOn old []
-      → HoldsOn new [] × (result ≡ Ok false) × (w1 ≡ w0) × (f1 ≡ f0)
+      → HoldsOn new [] × (result ≡ Ok false) × (o1 ≡ o0)
 
-kept_nothing : (result : Result Bool LiveFault) (w0 w1 : Option (List ℕ)) (f0 f1 : ℕ)
-    → result ≡ Ok false → w1 ≡ w0 → f1 ≡ f0 → Prints result [] w0 w1 f0 f1
-kept_nothing result w0 w1 f0 f1 is ws fs =
-    subst (λ r. Prints r [] w0 w1 f0 f1) (sym is)
-    (subst (λ w. Prints (Ok false) [] w0 w f0 f1) (sym ws)
-    (subst (λ f. Prints (Ok false) [] w0 w0 f0 f) (sym fs) (prints_nothing false w0 f0)))
+kept_nothing : (result : Result Bool LiveFault) (o0 o1 : Output) → result ≡ Ok false → o1 ≡ o0
+    → Prints result [] o0 o1
+kept_nothing result o0 o1 is same =
+    subst (λ r. Prints r [] o0 o1) (sym is)
+    (subst (Prints (Ok false) [] o0) (sym same) (prints_nothing false o0))
 
 printed_by : (refusals : List Refusal) (t : Telling) (line : StreamLine) (told : List ToldOn)
-    (old new : ToldOn) (result : Result Bool LiveFault) (w0 w1 : Option (List ℕ)) (f0 f1 : ℕ)
+    (old new : ToldOn) (result : Result Bool LiveFault) (o0 o1 : Output)
     (l : List Told) → line.stream < length told → AreLeft t.left told → t.left line.stream ≡ l
-    → HoldsOn old l → PrintsNext refusals line.number old new result w0 w1 f0 f1
-    → Printed refusals t (with_next refusals line l t) (set told line.stream new) result w0 w1 f0 f1
-printed_by refusals t line told old new result w0 w1 f0 f1 [] lt are is holds by =
+    → HoldsOn old l → PrintsNext refusals line.number old new result o0 o1
+    → Printed refusals t (with_next refusals line l t) (set told line.stream new) result o0 o1
+printed_by refusals t line told old new result o0 o1 [] lt are is holds by =
     let n = by.none holds in record {
       left =
           subst (λ r. IfOk r (λ d. AreLeft t.left (set told line.stream new)
@@ -147,25 +147,46 @@ printed_by refusals t line told old new result w0 w1 f0 f1 [] lt are is holds by
             or_false t.denied,
           );
       printed =
-          ([], sym (append-nil t.text), kept_nothing result w0 w1 f0 f1 n.1 n.2 n.3);
+          ([], sym (append-nil t.text), kept_nothing result o0 o1 n.1 n.2);
     }
-printed_by refusals t line told old new result w0 w1 f0 f1 (one ∷ rest) lt are is holds by =
+printed_by refusals t line told old new result o0 o1 (one ∷ rest) lt are is holds by =
     let n = by.next one rest holds in
-    printed_some refusals t line told new result w0 w1 f0 f1 one rest lt are n.0 n.1 n.2
+    printed_some refusals t line told new result o0 o1 one rest lt are n.0 n.1 n.2
 
 -- a line that is answered
 pub printed_line : (refusals : List Refusal) (t : Telling) (line : StreamLine)
     (told : List ToldOn) (d new : ToldOn) (result : Result Bool LiveFault)
-    (w0 w1 : Option (List ℕ)) (f0 f1 : ℕ) → is_answered line.work ≡ true
+    (o0 o1 : Output) → is_answered line.work ≡ true
     → line.stream < length told
-    → PrintsNext refusals line.number (get_or told line.stream d) new result w0 w1 f0 f1
+    → PrintsNext refusals line.number (get_or told line.stream d) new result o0 o1
     → AreLeft t.left told
-    → Printed refusals t (after_line refusals t line) (set told line.stream new) result w0 w1 f0 f1
-printed_line refusals t line told d new result w0 w1 f0 f1 answered lt by are =
-    subst (λ n. Printed refusals t n (set told line.stream new) result w0 w1 f0 f1)
+    → Printed refusals t (after_line refusals t line) (set told line.stream new) result o0 o1
+printed_line refusals t line told d new result o0 o1 answered lt by are =
+    subst (λ n. Printed refusals t n (set told line.stream new) result o0 o1)
     (sym (printed_next refusals t line line.work answered))
-    (printed_by refusals t line told (get_or told line.stream d) new result w0 w1 f0 f1
+    (printed_by refusals t line told (get_or told line.stream d) new result o0 o1
     (t.left line.stream) lt are refl (left_at t.left told line.stream d lt are) by)
+
+-- ---- One answer
+
+said_is : (r : Result (Unit {0}) LiveFault) (b : Bool) → IfOk (said_of r b) (λ d. d ≡ b)
+said_is (Ok u) b = refl
+said_is (Err e) b = tt
+
+-- a text of an answer, and whether it is a refusal
+pub told_prints : (refusals : List Refusal) (number : ℕ) (one t : Told) (b : Bool)
+    (q : Result Bool LiveFault) (r : Result (Unit {0}) LiveFault) (text : List ℕ) (o0 o1 : Output)
+    → one ≡ t → is_denial t ≡ b → told_text refusals number t ≡ text → q ≡ said_of r b
+    → Prints r text o0 o1
+    → IfOk q (λ d. d ≡ is_denial one) × Prints q (told_text refusals number one) o0 o1
+told_prints refusals number one t b q r text o0 o1 is denies shows said all =
+    subst (λ x. IfOk q (λ d. d ≡ is_denial x) × Prints q (told_text refusals number x) o0 o1)
+    (sym is) (
+      subst (λ x. IfOk x (λ d. d ≡ is_denial t)) (sym said)
+          (subst (λ y. IfOk (said_of r b) (λ d. d ≡ y)) (sym denies) (said_is r b)),
+      prints_flag q r b (told_text refusals number t) o0 o1 said
+          (prints_as r text (told_text refusals number t) o0 o1 (sym shows) all),
+    )
 
 -- ---- All lines
 

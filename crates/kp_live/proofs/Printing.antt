@@ -1,11 +1,12 @@
 -- Pieces that are written one behind another.
 use Rattle.std.proofs.Common.{◌≡◌, ◌<◌, ◌+◌, ℕ, zero, suc, Bool, true, false, List, [], ◌∷◌, ◌++◌, length, take, drop, get_or, refl, ap, sym, subst, ◌∙◌, arith, add-one, add-zero, append_assoc, append-nil}
-use Rattle.std.specs.Prelude.{Option, Result, Ok, Err, IfSome, OnOk, OnErr, nat_le, slice_get}
+use Rattle.std.specs.Prelude.{Result, Ok, Err, IfSome, OnOk, OnErr, nat_le, slice_get}
 use Rattle.std.specs.List.{flat_map}
 use Rattle.std.proofs.lemmas.Bool.{leb-true, leb-false}
 use Rattle.std.proofs.Math.Seq.{take-append-add, take-append_seam, take-suc}
 use Rattle.std.proofs.lemmas.Grind.{flat_map-append}
 use Rattle.std.proofs.lemmas.List.{flat_map_more, length-take-le, take-append-drop, take-append-le, take_all}
+use Rattle.kp_io.specs.Ends.{Output}
 use Rattle.kp_io.specs.Faults.{Rose}
 use Rattle.kp_io.specs.Told.{Grows}
 use Rattle.kp_io.proofs.Told.{Grows-nil, Grows-trans}
@@ -18,35 +19,36 @@ use Rattle.kp_live.specs.Runs.{note_text, notes_text}
 use Rattle.kp_live.specs.Written.{GrowsFront, Prints, said_of}
 
 -- a front of the first part is one of the whole
-front_by : (a b : List ℕ) (written now : Option (List ℕ)) (n : ℕ) → Grows written now (take n a)
-    → (t : Bool) → nat_le n (length a) ≡ t → GrowsFront written now (a ++ b)
-front_by a b written now n grown true is =
-    (n, subst (Grows written now) (sym (take-append-le n a b (leb-true n (length a) is))) grown)
-front_by a b written now n grown false is = (
+front_by : (a b : List ℕ) (o0 o1 : Output) (n : ℕ) → Grows o0.written o1.written (take n a)
+    → (t : Bool) → nat_le n (length a) ≡ t → GrowsFront o0 o1 (a ++ b)
+front_by a b o0 o1 n grown true is = (
+  n,
+  subst (Grows o0.written o1.written) (sym (take-append-le n a b (leb-true n (length a) is))) grown,
+)
+front_by a b o0 o1 n grown false is = (
   length a,
-  subst (Grows written now) (sym (take-append_seam a b))
-      (subst (Grows written now) (take_all n a (omega (arith, leb-false n (length a) is))) grown),
+  subst (Grows o0.written o1.written) (sym (take-append_seam a b))
+      (subst (Grows o0.written o1.written) (take_all n a (omega (arith, leb-false n (length a) is)))
+      grown),
 )
 
-pub front_of : (a b : List ℕ) (written now : Option (List ℕ)) → GrowsFront written now a
-    → GrowsFront written now (a ++ b)
-front_of a b written now front =
-    front_by a b written now front.0 front.1 (nat_le front.0 (length a)) refl
+pub front_of : (a b : List ℕ) (o0 o1 : Output) → GrowsFront o0 o1 a → GrowsFront o0 o1 (a ++ b)
+front_of a b o0 o1 front =
+    front_by a b o0 o1 front.0 front.1 (nat_le front.0 (length a)) refl
 
 -- the first part, and a front of the second
-pub front_behind : (a b : List ℕ) (before middle now : Option (List ℕ)) → Grows before middle a
-    → GrowsFront middle now b → GrowsFront before now (a ++ b)
-front_behind a b before middle now first second = (
+pub front_behind : (a b : List ℕ) (o0 o1 o2 : Output) → Grows o0.written o1.written a
+    → GrowsFront o1 o2 b → GrowsFront o0 o2 (a ++ b)
+front_behind a b o0 o1 o2 first second = (
   length a + second.0,
-  subst (Grows before now) (sym (take-append-add a b second.0))
-      (Grows-trans before middle now a (take second.0 b) first second.1),
+  subst (Grows o0.written o2.written) (sym (take-append-add a b second.0))
+      (Grows-trans o0.written o1.written o2.written a (take second.0 b) first second.1),
 )
 
 -- nothing was written, and nothing had to be
-pub prints_nothing : {T : Type 0} (x : T) (written : Option (List ℕ)) (faults : ℕ)
-    → Prints (Ok x) [] written written faults faults
-prints_nothing x written faults = record {
-  whole = Grows-nil written;
+pub prints_nothing : {T : Type 0} (x : T) (out : Output) → Prints (Ok x) [] out out
+prints_nothing x out = record {
+  whole = Grows-nil out.written;
   front = tt;
   later = omega arith;
   sure = refl;
@@ -57,10 +59,9 @@ prints_nothing x written faults = record {
 
 -- the rest behind a first part
 pub prints_then : {T U : Type 0} (x : T) (q : Result U LiveFault) (a b : List ℕ)
-    (w0 w1 w2 : Option (List ℕ)) (f0 f1 f2 : ℕ) → Prints (Ok x) a w0 w1 f0 f1
-    → Prints q b w1 w2 f1 f2 → Prints q (a ++ b) w0 w2 f0 f2
-prints_then x (Ok y) a b w0 w1 w2 f0 f1 f2 first second = record {
-  whole = Grows-trans w0 w1 w2 a b first.whole second.whole;
+    (o0 o1 o2 : Output) → Prints (Ok x) a o0 o1 → Prints q b o1 o2 → Prints q (a ++ b) o0 o2
+prints_then x (Ok y) a b o0 o1 o2 first second = record {
+  whole = Grows-trans o0.written o1.written o2.written a b first.whole second.whole;
   front = tt;
   later = omega (arith, first.later, second.later);
   sure = second.sure ∙ first.sure;
@@ -68,22 +69,22 @@ prints_then x (Ok y) a b w0 w1 w2 f0 f1 f2 first second = record {
   wanted = λ refused is. absurd (cc is);
   other = tt;
 }
-prints_then x (Err e) a b w0 w1 w2 f0 f1 f2 first second = record {
+prints_then x (Err e) a b o0 o1 o2 first second = record {
   whole = tt;
-  front = front_behind a b w0 w1 w2 first.whole second.front;
+  front = front_behind a b o0 o1 o2 first.whole second.front;
   later = omega (arith, first.later, second.later);
   sure = tt;
-  failed = λ is. subst (λ f. Rose f f2) first.sure (second.failed is);
+  failed = λ is. subst (λ f. Rose f o2.faults) first.sure (second.failed is);
   wanted = λ refused is. second.wanted refused is ∙ first.sure;
   other = second.other;
 }
 
 -- a first part that wasn't written whole
-pub prints_stopped : {T U : Type 0} (e : LiveFault) (a b : List ℕ) (w0 w1 : Option (List ℕ))
-    (f0 f1 : ℕ) → Prints {T = T} (Err e) a w0 w1 f0 f1 → Prints {T = U} (Err e) (a ++ b) w0 w1 f0 f1
-prints_stopped {T = T} {U = U} e a b w0 w1 f0 f1 first = record {
+pub prints_stopped : {T U : Type 0} (e : LiveFault) (a b : List ℕ) (o0 o1 : Output)
+    → Prints {T = T} (Err e) a o0 o1 → Prints {T = U} (Err e) (a ++ b) o0 o1
+prints_stopped {T = T} {U = U} e a b o0 o1 first = record {
   whole = tt;
-  front = front_of a b w0 w1 first.front;
+  front = front_of a b o0 o1 first.front;
   later = first.later;
   sure = tt;
   failed = λ is. first.failed (same_fault is);
@@ -97,22 +98,20 @@ prints_stopped {T = T} {U = U} e a b w0 w1 f0 f1 first = record {
 
 -- a text that was made, or that there was no memory for
 pub made_prints : {T U E : Type 0} (made : Result U E) (result : Result T LiveFault)
-    (bytes whole : List ℕ) (w0 w1 : Option (List ℕ)) (f0 f1 : ℕ) → OnOk made (bytes ≡ whole)
-    → OnOk made (Prints result bytes w0 w1 f0 f1)
-    → OnErr made ((text : List ℕ) → Prints result text w0 w1 f0 f1)
-    → Prints result whole w0 w1 f0 f1
-made_prints (Ok x) result bytes whole w0 w1 f0 f1 is ok err =
-    subst (λ b. Prints result b w0 w1 f0 f1) is ok
-made_prints (Err e) result bytes whole w0 w1 f0 f1 is ok err = err whole
+    (bytes whole : List ℕ) (o0 o1 : Output) → OnOk made (bytes ≡ whole)
+    → OnOk made (Prints result bytes o0 o1)
+    → OnErr made ((text : List ℕ) → Prints result text o0 o1) → Prints result whole o0 o1
+made_prints (Ok x) result bytes whole o0 o1 is ok err = subst (λ b. Prints result b o0 o1) is ok
+made_prints (Err e) result bytes whole o0 o1 is ok err = err whole
 
 -- the same text, and any answer beside it
-pub prints_as : {T : Type 0} (r : Result T LiveFault) (a b : List ℕ) (w0 w1 : Option (List ℕ))
-    (f0 f1 : ℕ) → a ≡ b → Prints r a w0 w1 f0 f1 → Prints r b w0 w1 f0 f1
-prints_as r a b w0 w1 f0 f1 is all = subst (λ l. Prints r l w0 w1 f0 f1) is all
+pub prints_as : {T : Type 0} (r : Result T LiveFault) (a b : List ℕ) (o0 o1 : Output) → a ≡ b
+    → Prints r a o0 o1 → Prints r b o0 o1
+prints_as r a b o0 o1 is all = subst (λ l. Prints r l o0 o1) is all
 
-pub prints_any : {A B : Type 0} (x : A) (y : B) (text : List ℕ) (w0 w1 : Option (List ℕ))
-    (f0 f1 : ℕ) → Prints {T = A} (Ok x) text w0 w1 f0 f1 → Prints {T = B} (Ok y) text w0 w1 f0 f1
-prints_any x y text w0 w1 f0 f1 all = record {
+pub prints_any : {A B : Type 0} (x : A) (y : B) (text : List ℕ) (o0 o1 : Output)
+    → Prints {T = A} (Ok x) text o0 o1 → Prints {T = B} (Ok y) text o0 o1
+prints_any x y text o0 o1 all = record {
   whole = all.whole;
   front = tt;
   later = all.later;
@@ -123,71 +122,51 @@ prints_any x y text w0 w1 f0 f1 all = record {
 }
 
 -- one more piece was written
-pub prints_next : (before piece after : List ℕ) (u v : Unit {0}) (w0 w1 w2 : Option (List ℕ))
-    (f0 f1 f2 : ℕ) → after ≡ before ++ piece
-    → Prints {T = Unit {0}} (Ok u) before w0 w1 f0 f1
-    → Prints {T = Unit {0}} (Ok v) piece w1 w2 f1 f2
-    → Prints {T = Unit {0}} (Ok v) after w0 w2 f0 f2
-prints_next before piece after u v w0 w1 w2 f0 f1 f2 is first one =
-    subst (λ l. Prints {T = Unit {0}} (Ok v) l w0 w2 f0 f2) (sym is)
-    (prints_then u (Ok v) before piece w0 w1 w2 f0 f1 f2 first one)
+pub prints_next : (before piece after : List ℕ) (u v : Unit {0}) (o0 o1 o2 : Output)
+    → after ≡ before ++ piece → Prints {T = Unit {0}} (Ok u) before o0 o1
+    → Prints {T = Unit {0}} (Ok v) piece o1 o2 → Prints {T = Unit {0}} (Ok v) after o0 o2
+prints_next before piece after u v o0 o1 o2 is first one =
+    subst (λ l. Prints {T = Unit {0}} (Ok v) l o0 o2) (sym is)
+    (prints_then u (Ok v) before piece o0 o1 o2 first one)
 
 -- a piece wasn't written whole
 pub prints_broken : {A B C : Type 0} (before piece rest whole : List ℕ) (u : A) (e : LiveFault)
-    (w0 w1 w2 : Option (List ℕ)) (f0 f1 f2 : ℕ) → whole ≡ before ++ piece ++ rest
-    → Prints {T = A} (Ok u) before w0 w1 f0 f1 → Prints {T = B} (Err e) piece w1 w2 f1 f2
-    → Prints {T = C} (Err e) whole w0 w2 f0 f2
-prints_broken {B = B} {C = C} before piece rest whole u e w0 w1 w2 f0 f1 f2 is first one =
-    subst (λ l. Prints {T = C} (Err e) l w0 w2 f0 f2) (sym is)
-    (prints_stopped {T = B} {U = C} e (before ++ piece) rest w0 w2 f0 f2
-    (prints_then {U = B} u (Err e) before piece w0 w1 w2 f0 f1 f2 first one))
+    (o0 o1 o2 : Output) → whole ≡ before ++ piece ++ rest → Prints {T = A} (Ok u) before o0 o1
+    → Prints {T = B} (Err e) piece o1 o2 → Prints {T = C} (Err e) whole o0 o2
+prints_broken {B = B} {C = C} before piece rest whole u e o0 o1 o2 is first one =
+    subst (λ l. Prints {T = C} (Err e) l o0 o2) (sym is)
+    (prints_stopped {T = B} {U = C} e (before ++ piece) rest o0 o2
+    (prints_then {U = B} u (Err e) before piece o0 o1 o2 first one))
 
 -- of three parts the first was not written whole
-pub prints_first : {A C : Type 0} (a b c whole : List ℕ) (e : LiveFault) (w0 w1 : Option (List ℕ))
-    (f0 f1 : ℕ) → whole ≡ a ++ b ++ c → Prints {T = A} (Err e) a w0 w1 f0 f1
-    → Prints {T = C} (Err e) whole w0 w1 f0 f1
-prints_first {A = A} {C = C} a b c whole e w0 w1 f0 f1 is first =
-    subst (λ l. Prints {T = C} (Err e) l w0 w1 f0 f1) (sym (is ∙ append_assoc a b c))
-    (prints_stopped {T = A} {U = C} e a (b ++ c) w0 w1 f0 f1 first)
+pub prints_first : {A C : Type 0} (a b c whole : List ℕ) (e : LiveFault) (o0 o1 : Output)
+    → whole ≡ a ++ b ++ c → Prints {T = A} (Err e) a o0 o1 → Prints {T = C} (Err e) whole o0 o1
+prints_first {A = A} {C = C} a b c whole e o0 o1 is first =
+    subst (λ l. Prints {T = C} (Err e) l o0 o1) (sym (is ∙ append_assoc a b c))
+    (prints_stopped {T = A} {U = C} e a (b ++ c) o0 o1 first)
 
 -- all three were
 pub prints_three : {A B T : Type 0} (a b c whole : List ℕ) (u : A) (v : B)
-    (q : Result T LiveFault) (w0 w1 w2 w3 : Option (List ℕ)) (f0 f1 f2 f3 : ℕ)
-    → whole ≡ a ++ b ++ c → Prints {T = A} (Ok u) a w0 w1 f0 f1
-    → Prints {T = B} (Ok v) b w1 w2 f1 f2 → Prints q c w2 w3 f2 f3 → Prints q whole w0 w3 f0 f3
-prints_three a b c whole u v q w0 w1 w2 w3 f0 f1 f2 f3 is first second third =
-    subst (λ l. Prints q l w0 w3 f0 f3) (sym is)
-    (prints_then v q (a ++ b) c w0 w2 w3 f0 f2 f3
-    (prints_then u (Ok v) a b w0 w1 w2 f0 f1 f2 first second) third)
+    (q : Result T LiveFault) (o0 o1 o2 o3 : Output) → whole ≡ a ++ b ++ c
+    → Prints {T = A} (Ok u) a o0 o1 → Prints {T = B} (Ok v) b o1 o2 → Prints q c o2 o3
+    → Prints q whole o0 o3
+prints_three a b c whole u v q o0 o1 o2 o3 is first second third =
+    subst (λ l. Prints q l o0 o3) (sym is)
+    (prints_then v q (a ++ b) c o0 o2 o3 (prints_then u (Ok v) a b o0 o1 o2 first second) third)
 
 -- a flag beside what was written
-pub prints_said : (r : Result (Unit {0}) LiveFault) (b : Bool) (text : List ℕ)
-    (w0 w1 : Option (List ℕ)) (f0 f1 : ℕ) → Prints r text w0 w1 f0 f1
-    → Prints (said_of r b) text w0 w1 f0 f1
-prints_said (Ok u) b text w0 w1 f0 f1 all = record {
-  whole = all.whole;
-  front = tt;
-  later = all.later;
-  sure = all.sure;
-  failed = λ is. absurd (cc is);
-  wanted = λ refused is. absurd (cc is);
-  other = tt;
-}
-prints_said (Err e) b text w0 w1 f0 f1 all = record {
-  whole = tt;
-  front = all.front;
-  later = all.later;
-  sure = tt;
-  failed = λ is. all.failed (ap Err (cc is));
-  wanted = λ refused is. all.wanted refused (ap Err (cc is));
-  other = all.other;
-}
+pub prints_said : (r : Result (Unit {0}) LiveFault) (b : Bool) (text : List ℕ) (o0 o1 : Output)
+    → Prints r text o0 o1 → Prints (said_of r b) text o0 o1
+prints_said (Ok u) b text o0 o1 all = prints_any u b text o0 o1 all
+prints_said (Err e) b text o0 o1 all =
+    prints_as (Err e) (text ++ []) text o0 o1 (append-nil text)
+    (prints_stopped {T = Unit {0}} {U = Bool} e text [] o0 o1 all)
 
 pub prints_flag : (q : Result Bool LiveFault) (r : Result (Unit {0}) LiveFault) (b : Bool)
-    (text : List ℕ) (w0 w1 : Option (List ℕ)) (f0 f1 : ℕ) → q ≡ said_of r b
-    → Prints r text w0 w1 f0 f1 → Prints q text w0 w1 f0 f1
-prints_flag q r b text w0 w1 f0 f1 is all =
-    subst (λ x. Prints x text w0 w1 f0 f1) (sym is) (prints_said r b text w0 w1 f0 f1 all)
+    (text : List ℕ) (o0 o1 : Output) → q ≡ said_of r b → Prints r text o0 o1
+    → Prints q text o0 o1
+prints_flag q r b text o0 o1 is all =
+    subst (λ x. Prints x text o0 o1) (sym is) (prints_said r b text o0 o1 all)
 
 -- ---- Texts of lists
 

@@ -7,7 +7,7 @@ use Rattle.kp_history_defs.specs.declared.fed.Fed.{Fed}
 use Rattle.kp_history_defs.specs.Runs.{is_of_stream}
 use Rattle.kp_feed.specs.Feeding.{Delivers}
 use Rattle.kp_feed.specs.Passes.{Feeder}
-use Rattle.kp_run_defs.specs.LegalRuns.{LiveRun, IsLegalRun, last_syncs}
+use Rattle.kp_run_defs.specs.LegalRuns.{LiveRun, last_syncs}
 use Rattle.kp_run_defs.specs.LiveLines.{Reading}
 use Rattle.kp_run_defs.specs.LiveText.{live_text, is_refused_run}
 use Rattle.kp_hub.specs.Finishing.{IsEnd, records_told}

@@ -1,7 +1,7 @@
 -- What one stream does with its lines. Its lines are answered from the tables of records, of which
 -- it knows some first ones. That is said of each list of records which goes on from all that it
 -- knows, and so of those that there are at the end, without a list of what it knew before.
-use Rattle.std.specs.Prelude.{◌≡◌, ◌≤◌, ◌+◌, ℕ, max, Bool, true, false, List, [], ◌∷◌, ◌++◌, map, length, take, count_by, not, ◌&&◌, ◌⊎◌}
+use Rattle.std.specs.Prelude.{◌≡◌, ◌≤◌, ◌+◌, ℕ, max, Bool, true, List, [], ◌∷◌, ◌++◌, map, length, take, count_by, not, ◌&&◌, ◌⊎◌}
 use Rattle.std.specs.List.{flat_map, fold}
 use Rattle.std.specs.FinMap.{get}
 use mathlib.Core.List.{IsPrefix}

@@ -44,26 +44,27 @@ pub fn live<S: Source, K: Sink, R: Threads + Wait + Sync, G: Gate<R> + Sync>(
     sink: &mut K,
     gate: &G,
 ) -> Result<bool, LiveFault>
-    ensures whole { IfOk result (λ refused. IfSome (S.left source.old)
-        (λ text. WritesInput refused text (K.written sink.old) (K.written sink.new))) }
-    ensures front { OnErr result (IfSome (S.left source.old)
-        (λ text. WritesFront (reading_of (lines_of text)) (K.written sink.old)
-        (K.written sink.new))) }
-    ensures ended { OnOk result (IsAtEnd (S.left source.new)) }
-    ensures left { LosesFront (S.left source.old) (S.left source.new) }
-    ensures read { result ≡ Err fault.ReadFault → Rose (S.faults source.old) (S.faults source.new) }
-    ensures long { result ≡ Err fault.InputTooLong → IsTooLong (S.left source.old) }
+    ensures whole { IfOk result (λ refused. IfSome (S.input source.old).left
+        (λ text. WritesInput refused text (K.output sink.old) (K.output sink.new))) }
+    ensures front { OnErr result (IfSome (S.input source.old).left
+        (λ text. WritesFront (reading_of (lines_of text)) (K.output sink.old)
+        (K.output sink.new))) }
+    ensures ended { OnOk result (IsAtEnd (S.input source.new).left) }
+    ensures left { LosesFront (S.input source.old).left (S.input source.new).left }
+    ensures read { result ≡ Err fault.ReadFault
+        → Rose (S.input source.old).faults (S.input source.new).faults }
+    ensures long { result ≡ Err fault.InputTooLong → IsTooLong (S.input source.old).left }
     ensures unwritten { (result ≡ Err fault.ReadFault) ⊎ (result ≡ Err fault.InputTooLong)
         → sink.new ≡ sink.old }
-    ensures later { K.faults sink.old ≤ K.faults sink.new }
+    ensures later { (K.output sink.old).faults ≤ (K.output sink.new).faults }
     ensures failed { result ≡ Err fault.WriteFault
-        → Rose (K.faults sink.old) (K.faults sink.new) }
-    ensures sure { OnOk result (K.faults sink.new ≡ K.faults sink.old) }
+        → Rose (K.output sink.old).faults (K.output sink.new).faults }
+    ensures sure { OnOk result ((K.output sink.new).faults ≡ (K.output sink.old).faults) }
     ensures wanted { (refused : NoMemory) → result ≡ Err (fault.NoMemory refused)
-        → K.faults sink.new ≡ K.faults sink.old }
-    ensures source_sure { OnOk result (S.faults source.new ≡ S.faults source.old) }
+        → (K.output sink.new).faults ≡ (K.output sink.old).faults }
+    ensures source_sure { OnOk result ((S.input source.new).faults ≡ (S.input source.old).faults) }
     ensures source_kept { OnErr result ((result ≡ Err fault.ReadFault)
-        ⊎ (S.faults source.new ≡ S.faults source.old)) }
+        ⊎ ((S.input source.new).faults ≡ (S.input source.old).faults)) }
 {
     let lines = read_input(alloc, source)?;
     let opening = opening_of(alloc, &lines)?;
@@ -115,8 +116,7 @@ fn run_opened<
     requires refused { opening.refused ≡ (C.name, C.parts) }
     requires read_config { opening.config ≡ (reading_in lines.now).config }
     requires read_streams { opening.streams ≡ length (running_streams (reading_in lines.now)) }
-    ensures { EndsRun result (reading_in lines.now) (K.written sink.old) (K.written sink.new)
-        (K.faults sink.old) (K.faults sink.new) }
+    ensures { EndsRun result (reading_in lines.now) (K.output sink.old) (K.output sink.new) }
 {
     let (hub, feeders, workers) = match Hub::<J, A, C>::new(rt, alloc, opening) {
         Ok(parts) => parts,
@@ -173,8 +173,7 @@ fn end_and_print<J: Sharing, A: Ledger, C: Ledger, K: Sink, R: Wait>(
     requires streams { J.streams ≡ length (running_streams (reading_in lines.now)) }
     requires ended { runs.HaveEnded J.start (reading_in lines.now) J.queue J.streams
         ended.feeders ended.workers.items ended.answers.items }
-    ensures { EndsRun result (reading_in lines.now) (K.written sink.old) (K.written sink.new)
-        (K.faults sink.old) (K.faults sink.new) }
+    ensures { EndsRun result (reading_in lines.now) (K.output sink.old) (K.output sink.new) }
 {
     kp_history_laws::exact_tables();
     kp_walk_laws::product_decides();

@@ -8,8 +8,7 @@ use kp_io::{Sink, write_whole};
 
 /// Writes a piece.
 pub(crate) fn write<K: Sink>(sink: &mut K, bytes: &[u8]) -> Result<(), LiveFault>
-    ensures { Prints result bytes.now (K.written sink.old) (K.written sink.new)
-        (K.faults sink.old) (K.faults sink.new) }
+    ensures { Prints result bytes.now (K.output sink.old) (K.output sink.new) }
 {
     match write_whole(sink, bytes) {
         Ok(()) => Ok(()),
@@ -23,10 +22,9 @@ pub(crate) fn write_made<K: Sink>(
     bytes: &[u8],
     sink: &mut K,
 ) -> Result<(), LiveFault>
-    ensures made { OnOk made (Prints result bytes.now (K.written sink.old) (K.written sink.new)
-        (K.faults sink.old) (K.faults sink.new)) }
-    ensures unmade { OnErr made ((text : List ℕ) → Prints result text (K.written sink.old)
-        (K.written sink.new) (K.faults sink.old) (K.faults sink.new)) }
+    ensures made { OnOk made (Prints result bytes.now (K.output sink.old) (K.output sink.new)) }
+    ensures unmade { OnErr made
+        ((text : List ℕ) → Prints result text (K.output sink.old) (K.output sink.new)) }
 {
     match made {
         Ok(()) => write(sink, bytes),

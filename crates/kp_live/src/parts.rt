@@ -41,7 +41,7 @@ pub(crate) fn print<J: Sharing, K: Sink>(
         ++ (runs.telling done.now.refusals told (reading_in lines.now).lines).text
         ++ runs.end_text (reading_in lines.now).config (length done.now.notes) done.now.clash
         done.now.table)
-        (K.written sink.old) (K.written sink.new) (K.faults sink.old) (K.faults sink.new) }
+        (K.output sink.old) (K.output sink.new) }
     ensures refused { (told : ℕ → List Told) → runs.AreOf told answers.now
         → IfOk result (λ refused. refused ≡ runs.prints_refusal (reading_in lines.now)
         (runs.telling done.now.refusals told (reading_in lines.now).lines).denied
@@ -83,7 +83,7 @@ fn print_head<J: Sharing, K: Sink>(
 ) -> Result<(), LiveFault>
     ensures { Prints result
         (runs.head_text (reading_in lines.now) done.now.journal done.now.notes)
-        (K.written sink.old) (K.written sink.new) (K.faults sink.old) (K.faults sink.new) }
+        (K.output sink.old) (K.output sink.new) }
 {
     let mut text = String::new(alloc);
     match print_refused(alloc, lines.refused(), &mut text, sink) {
@@ -105,7 +105,7 @@ fn print_refused<K: Sink>(
     sink: &mut K,
 ) -> Result<(), LiveFault>
     ensures { Prints result (flat_map spec.refused_text refused.now)
-        (K.written sink.old) (K.written sink.new) (K.faults sink.old) (K.faults sink.new) }
+        (K.output sink.old) (K.output sink.new) }
 {
     for line in refused {
         match print_refusal(alloc, line.number, &line.why, text, sink) {
@@ -125,7 +125,7 @@ fn print_refusal<K: Sink>(
     sink: &mut K,
 ) -> Result<(), LiveFault>
     ensures { Prints result (refusal_text number why.now)
-        (K.written sink.old) (K.written sink.new) (K.faults sink.old) (K.faults sink.new) }
+        (K.output sink.old) (K.output sink.new) }
 {
     text.clear();
     let made = push_refusal(alloc, text, number, why);
@@ -140,7 +140,7 @@ fn print_journal<K: Sink>(
     sink: &mut K,
 ) -> Result<(), LiveFault>
     ensures { Prints result (spec.journal_text streams.now 1 journal.now)
-        (K.written sink.old) (K.written sink.new) (K.faults sink.old) (K.faults sink.new) }
+        (K.output sink.old) (K.output sink.new) }
 {
     for at in 0..journal.len() {
         match print_event(streams, at as u64 + 1, &journal[at], text, sink) {
@@ -160,8 +160,7 @@ fn print_event<K: Sink>(
     sink: &mut K,
 ) -> Result<(), LiveFault>
     ensures { Prints result (event_text place (get_or streams.now fed.now.feeder []) fed.now.number
-        fed.now.event) (K.written sink.old) (K.written sink.new) (K.faults sink.old)
-        (K.faults sink.new) }
+        fed.now.event) (K.output sink.old) (K.output sink.new) }
 {
     text.clear();
     let made = push_event(
@@ -191,7 +190,7 @@ fn print_records<K: Sink>(
     sink: &mut K,
 ) -> Result<(), LiveFault>
     ensures { Prints result (runs.notes_text 0 notes.now)
-        (K.written sink.old) (K.written sink.new) (K.faults sink.old) (K.faults sink.new) }
+        (K.output sink.old) (K.output sink.new) }
 {
     for at in 0..notes.len() {
         match print_record(at as u64 + 1, &notes[at], text, sink) {
@@ -210,7 +209,7 @@ fn print_record<K: Sink>(
     sink: &mut K,
 ) -> Result<(), LiveFault>
     ensures { Prints result (record_text number note.now.events note.now.written note.now.removed)
-        (K.written sink.old) (K.written sink.new) (K.faults sink.old) (K.faults sink.new) }
+        (K.output sink.old) (K.output sink.new) }
 {
     text.clear();
     let made = push_record(text, number, note.events, note.written, note.removed);
@@ -227,7 +226,7 @@ fn print_answers<K: Sink>(
 ) -> Result<bool, LiveFault>
     ensures printed { (told : ℕ → List Told) → runs.AreOf told answers.now
         → Prints result (runs.telling refusals.now told lines.now).text
-        (K.written sink.old) (K.written sink.new) (K.faults sink.old) (K.faults sink.new) }
+        (K.output sink.old) (K.output sink.new) }
     ensures denied { (told : ℕ → List Told) → runs.AreOf told answers.now
         → IfOk result (λ denied. denied ≡ (runs.telling refusals.now told lines.now).denied) }
 {
@@ -251,7 +250,7 @@ fn print_lines<K: Sink>(
 ) -> Result<bool, LiveFault>
     ensures printed { (all : ℕ → List Told) → runs.AreLeft all told.old
         → Prints result (runs.telling refusals.now all lines.now).text
-        (K.written sink.old) (K.written sink.new) (K.faults sink.old) (K.faults sink.new) }
+        (K.output sink.old) (K.output sink.new) }
     ensures denied { (all : ℕ → List Told) → runs.AreLeft all told.old
         → IfOk result (λ denied. denied ≡ (runs.telling refusals.now all lines.now).denied) }
 {
@@ -300,8 +299,7 @@ fn print_line<K: Sink>(
         told.new × ((t.denied || denied) ≡ (runs.after_line refusals.now t line.now).denied)) }
     ensures printed { (t : Telling) → runs.AreLeft t.left told.old → (bytes : List ℕ)
         × ((runs.after_line refusals.now t line.now).text ≡ t.text ++ bytes)
-        × Prints result bytes (K.written sink.old) (K.written sink.new) (K.faults sink.old)
-        (K.faults sink.new) }
+        × Prints result bytes (K.output sink.old) (K.output sink.new) }
 {
     let place = line.stream as usize;
     if !is_answered(&line.work) || place >= told.len() {
@@ -323,7 +321,7 @@ fn print_next<K: Sink>(
     ensures next { (t : Told) (rest : List Told) → HoldsOn told.old (t ∷ rest)
         → HoldsOn told.new rest × IfOk result (λ denied. denied ≡ runs.is_denial t)
         × Prints result (runs.told_text refusals.now number t)
-        (K.written sink.old) (K.written sink.new) (K.faults sink.old) (K.faults sink.new) }
+        (K.output sink.old) (K.output sink.new) }
     ensures none { HoldsOn told.old []
         → HoldsOn told.new [] × (result ≡ Ok false) × (sink.new ≡ sink.old) }
 {
@@ -359,7 +357,7 @@ fn print_verdict<K: Sink>(
     sink: &mut K,
 ) -> Result<(), LiveFault>
     ensures { Prints result (packet_text number sync verdict.now)
-        (K.written sink.old) (K.written sink.new) (K.faults sink.old) (K.faults sink.new) }
+        (K.output sink.old) (K.output sink.new) }
 {
     text.clear();
     let made = push_answer(text, number, sync, verdict);
@@ -374,7 +372,7 @@ fn print_denied<K: Sink>(
     sink: &mut K,
 ) -> Result<(), LiveFault>
     ensures { Prints result (refusal_text number (ChainClash clash.now))
-        (K.written sink.old) (K.written sink.new) (K.faults sink.old) (K.faults sink.new) }
+        (K.output sink.old) (K.output sink.new) }
 {
     let mut text = String::new(alloc);
     match clash.copy(alloc) {
@@ -392,7 +390,7 @@ fn print_clash<K: Sink>(
     sink: &mut K,
 ) -> Result<(), LiveFault>
     ensures { Prints result (refusal_text number (ChainClash clash))
-        (K.written sink.old) (K.written sink.new) (K.faults sink.old) (K.faults sink.new) }
+        (K.output sink.old) (K.output sink.new) }
 {
     let why = LineRefusal::ChainClash(clash);
     print_refusal(alloc, number, &why, text, sink)
@@ -407,7 +405,7 @@ fn print_end<J: Sharing, K: Sink>(
 ) -> Result<(), LiveFault>
     ensures { Prints result
         (runs.end_text config.now (length done.now.notes) done.now.clash done.now.table)
-        (K.written sink.old) (K.written sink.new) (K.faults sink.old) (K.faults sink.new) }
+        (K.output sink.old) (K.output sink.new) }
 {
     match print_final(alloc, &done.notes, &done.clash, sink) {
         Ok(()) => print_tables(alloc, table_families(config), &done.table, sink),
@@ -423,7 +421,7 @@ fn print_final<K: Sink>(
     sink: &mut K,
 ) -> Result<(), LiveFault>
     ensures { Prints result (final_text (length notes.now) clash.now)
-        (K.written sink.old) (K.written sink.new) (K.faults sink.old) (K.faults sink.new) }
+        (K.output sink.old) (K.output sink.new) }
 {
     let mut text = String::new(alloc);
     let records = notes.as_slice().len() as u64;

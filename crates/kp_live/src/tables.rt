@@ -8,7 +8,7 @@ use crate::fault::LiveFault;
 use crate::output::write;
 use kp_base::{Family, NoMemory, Text};
 use kp_io::Sink;
-use kp_restore::{Table, table_text, table_text_six};
+use kp_restore_text::{Table, table_text, table_text_six};
 use std::alloc::Global;
 
 /// Writes the tables of these families, one after the other.
@@ -20,7 +20,7 @@ pub(crate) fn print_tables<K: Sink>(
 ) -> Result<(), LiveFault>
     ensures { Prints result
         (flat_map (λ family. table_text_of family table.now.chains) families.now)
-        (K.written sink.old) (K.written sink.new) (K.faults sink.old) (K.faults sink.new) }
+        (K.output sink.old) (K.output sink.new) }
 {
     for family in families {
         match print_table(alloc, *family, table, sink) {
@@ -39,7 +39,7 @@ fn print_table<K: Sink>(
     sink: &mut K,
 ) -> Result<(), LiveFault>
     ensures { Prints result (table_text_of family table.now.chains)
-        (K.written sink.old) (K.written sink.new) (K.faults sink.old) (K.faults sink.new) }
+        (K.output sink.old) (K.output sink.new) }
 {
     match text_of(alloc, family, table) {
         Ok(text) => write(sink, text.as_str().as_bytes()),

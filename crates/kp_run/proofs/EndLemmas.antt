@@ -1,8 +1,9 @@
 -- How a run ends: what was written, and then a flush.
-use Rattle.std.proofs.Common.{◌≡◌, ℕ, Bool, true, false, List, [], ap, refl, sym, ◌∙◌, subst, append-nil, take, inl, inr}
-use Rattle.std.specs.Prelude.{Option, Some, None, IfSome, Result, Ok, Err, IfErr}
+use Rattle.std.proofs.Common.{◌≡◌, ℕ, Bool, true, false, List, [], refl, sym, ◌∙◌, subst, append-nil, take, inl, inr}
+use Rattle.std.specs.Prelude.{◌⊎◌, Option, Some, None, IfSome}
 use Rattle.kp_base.specs.declared.memory.NoMemory as memory
-use Rattle.kp_io.specs.Told.{FromTold, Grows, IsFlushed}
+use Rattle.kp_io.specs.Ends.{Input, Output}
+use Rattle.kp_io.specs.Told.{FromTold, Grows}
 use Rattle.kp_io.specs.Faults.{Rose}
 use Rattle.kp_io.specs.Lines.{lines_of}
 use Rattle.kp_io.specs.declared.next_line.TheConstants.{INPUT_LIMIT}
@@ -11,25 +12,15 @@ use Rattle.kp_text_defs.specs.Printed.{usage_text}
 use Rattle.kp_run_defs.specs.ReplayText.{Progress}
 use Rattle.kp_run.specs.declared.status.Status.{Status}
 use Rattle.kp_run.specs.declared.status.Status.TheVariants.{NoMemory, Usage, ReadFault, WriteFault, InputTooLong}
-use Rattle.kp_run.specs.declared.ending.Stop.{Stop}
 use Rattle.kp_run.specs.declared.ending.Stop.TheVariants as why
-use Rattle.kp_run.specs.Outcome.{Input, Output, Outside, GrowsFront, WritesAll, WritesEnded, WritesFront, WritesRead, EndsFront, EndsOf, EndsRead, EndsWhole, EndsUsage, EndsLine, EndsPrinted, IsOut, IsStatusOr, status_if, ends_of, sink_of}
-use Rattle.kp_run.specs.Stand.{EndsWell, Stops, StopsOutput}
+use Rattle.kp_run.specs.Outcome.{GrowsFront, WritesAll, WritesEnded, WritesFront, WritesRead, EndsFront, EndsOf, EndsRead, EndsWhole, EndsUsage, EndsLine, EndsPrinted, IsOut, IsStatusOr, status_if}
+use Rattle.kp_run.specs.Stand.{Closes, EndsWell, Stops}
 use Rattle.kp_run.specs.Texts.{Texts}
 use Rattle.kp_run.proofs.ComeLemmas.{front_is, grows_on}
 
 -- a count that rose after it had stayed rose since the beginning
 pub same_rose : (w a b : ℕ) → a ≡ w → Rose a b → Rose w b
 same_rose w a b same rose = subst (λ n. Rose n b) same rose
-
--- an output that only a write stops
-pub by_write : {T : Type 0} (result : Result T Stop) (before now : ℕ)
-    → ((stop : Stop) → result ≡ Err stop → stop ≡ why.Write) → (result ≡ Err why.Write → Rose before now)
-    → IfErr result (λ stop. StopsOutput stop before now)
-by_write (Ok x) before now other rose = tt
-by_write (Err stop) before now other rose =
-    let is = other stop refl in
-    subst (λ t. StopsOutput t before now) (sym is) (rose (ap Err is))
 
 -- ---- What is handed on or flushed was written before
 
@@ -45,10 +36,9 @@ front_none t None written = tt
 front_none t (Some text) written = none_written (t.whole (lines_of text)) written
 
 -- memory was wanted before anything was read
-pub stops_unbegun : (t : Texts) (wanted : memory.NoMemory) (first : Outside)
-    → Stops t (why.NoMemory wanted) first first
-stops_unbegun t wanted first =
-    (front_none t first.input.left first.output.written, (refl, refl))
+pub stops_unbegun : (t : Texts) (wanted : memory.NoMemory) (from : Input) (to : Output)
+    → Stops t (why.NoMemory wanted) from to from to
+stops_unbegun t wanted from to = (front_none t from.left to.written, (refl, refl))
 
 fronts_on : (t : Texts) (left written now later : Option (List ℕ)) → WritesFront t left written now → Grows now later [] → WritesFront t left written later
 fronts_on t None written now later front kept = tt
@@ -78,116 +68,130 @@ read_on progress limit left end written now later read kept =
 
 -- ---- A replay
 
-ends_as : (t : Texts) (refused : Bool) (old new : Outside) → EndsWhole t refused old new → EndsOf t (status_if refused) old new
-ends_as t true old new h = h
-ends_as t false old new h = h
+ends_as : (t : Texts) (refused : Bool) (from : Input) (to : Output) (input : Input) (output : Output)
+    → EndsWhole t refused from to input output
+    → EndsOf t (status_if refused) from to input output
+ends_as t true from to input output h = h
+ends_as t false from to input output h = h
 
--- A replay, and then a flush that told this and kept what was written.
-module _ (t : Texts) (result : Status) (first : Outside) (input : Input) (was now : Output)
-    (kept : Grows was.written now.written []) where
-  abbrev Failed : Type 0
-  Failed = Rose was.faults now.faults
-
+-- A replay, and then a call of the sink that told this and kept what was written.
+module _ (t : Texts) (result : Status) (from : Input) (to : Output) (input : Input) (was now : Output) where
   -- a write failed at last, and a front of the text was written
-  failed : result ≡ WriteFault → was.faults ≡ first.output.faults → EndsFront t first (ends_of input was)
-      → Failed → EndsOf t result first (ends_of input now)
-  failed is same front rose =
-      subst (λ s. EndsOf t s first (ends_of input now)) (sym is) (
-        same_rose first.output.faults was.faults now.faults same rose,
-        fronts_on t first.input.left first.output.written was.written now.written front kept,
+  failed : Grows was.written now.written [] → result ≡ WriteFault → was.faults ≡ to.faults
+      → EndsFront t from to was → Rose was.faults now.faults → EndsOf t result from to input now
+  failed kept is same front rose =
+      subst (λ s. EndsOf t s from to input now) (sym is) (
+        same_rose to.faults was.faults now.faults same rose,
+        fronts_on t from.left to.written was.written now.written front kept,
       )
+
+  -- by what the call told
+  by_call : {given : Status} {P : Type 0} → Closes result given P was now → was.faults ≡ to.faults
+      → EndsFront t from to was
+      → (Grows was.written now.written [] → P → now.faults ≡ was.faults → EndsOf t given from to input now)
+      → EndsOf t result from to input now
+  by_call {given = given} {P = P} closes same front ends = by_case closes.cases
+    where
+      by_case : IsStatusOr result given (P × (now.faults ≡ was.faults)) (Rose was.faults now.faults)
+          → EndsOf t result from to input now
+      by_case (inl h) =
+          subst (λ s. EndsOf t s from to input now) (sym h.0) (ends closes.kept h.1.0 h.1.1)
+      by_case (inr h) = failed closes.kept h.0 same front h.1
 
   -- the input was read to its end
   pub ends_whole : (refused : Bool) (told : Status) → told ≡ status_if refused
-      → EndsWell t refused first (ends_of input was)
-      → IsStatusOr result told (IsOut now × (now.faults ≡ was.faults)) Failed
-      → EndsOf t result first (ends_of input now)
-  ends_whole refused told is all (inl h) =
-      subst (λ s. EndsOf t s first (ends_of input now)) (sym (h.0 ∙ is)) (ends_as t refused first (ends_of input now) (
-        all_on t refused first.input.left first.output.written was.written now.written all.0 kept,
-        h.1.0,
-        (all.1.0, h.1.1 ∙ all.1.1),
+      → EndsWell t refused from to input was → Closes result told (IsOut now) was now
+      → EndsOf t result from to input now
+  ends_whole refused told is all closes =
+      by_call closes all.1.1 (all_front t refused from.left to.written was.written all.0) (λ kept out same.
+      subst (λ s. EndsOf t s from to input now) (sym is) (ends_as t refused from to input now (
+        all_on t refused from.left to.written was.written now.written all.0 kept,
+        out,
+        (all.1.0, same ∙ all.1.1),
         all.2,
-      ))
-  ends_whole refused told is all (inr h) =
-      failed h.0 all.1.1 (all_front t refused first.input.left first.output.written was.written all.0) h.1
+      )))
 
   -- memory was wanted
-  pub ends_wanted : (wanted : memory.NoMemory) → Stops t (why.NoMemory wanted) first (ends_of input was)
-      → IsStatusOr result (NoMemory wanted) (now.faults ≡ was.faults) Failed
-      → EndsOf t result first (ends_of input now)
-  ends_wanted wanted stopped (inl h) =
-      subst (λ s. EndsOf t s first (ends_of input now)) (sym h.0) (
-        fronts_on t first.input.left first.output.written was.written now.written stopped.0 kept,
-        (stopped.1.0, h.1 ∙ stopped.1.1),
-      )
-  ends_wanted wanted stopped (inr h) = failed h.0 stopped.1.1 stopped.0 h.1
+  pub ends_wanted : (wanted : memory.NoMemory) → Stops t (why.NoMemory wanted) from to input was
+      → Closes result (NoMemory wanted) (now.kept_back ≡ 0) was now
+      → EndsOf t result from to input now
+  ends_wanted wanted stopped closes = by_call closes stopped.1.1 stopped.0 (λ kept out same. (
+    fronts_on t from.left to.written was.written now.written stopped.0 kept,
+    (stopped.1.0, same ∙ stopped.1.1),
+    out,
+  ))
 
   -- reading stopped
-  read_out : WritesRead t.progress first.input.left input.left first.output.written was.written
-      → was.faults ≡ first.output.faults → IsOut now × (now.faults ≡ was.faults)
-      → EndsRead t first (ends_of input now)
-  read_out read same h = (
-    read_on t.progress INPUT_LIMIT first.input.left input.left first.output.written was.written now.written read kept,
-    h.0,
-    h.1 ∙ same,
+  read_out : WritesRead t.progress from.left input.left to.written was.written
+      → was.faults ≡ to.faults → Grows was.written now.written [] → IsOut now → now.faults ≡ was.faults
+      → EndsRead t from to input now
+  read_out read same kept out wrote = (
+    read_on t.progress INPUT_LIMIT from.left input.left to.written was.written now.written read kept,
+    out,
+    wrote ∙ same,
   )
 
-  pub ends_failed : Stops t why.Read first (ends_of input was)
-      → IsStatusOr result ReadFault (IsOut now × (now.faults ≡ was.faults)) Failed
-      → EndsOf t result first (ends_of input now)
-  ends_failed stopped (inl h) =
-      subst (λ s. EndsOf t s first (ends_of input now)) (sym h.0) (
-        stopped.1,
-        fronts_on t first.input.left first.output.written was.written now.written stopped.0 kept,
-        read_out stopped.3 stopped.2 h.1,
-      )
-  ends_failed stopped (inr h) = failed h.0 stopped.2 stopped.0 h.1
+  pub ends_failed : Stops t why.Read from to input was → Closes result ReadFault (IsOut now) was now
+      → EndsOf t result from to input now
+  ends_failed stopped closes = by_call closes stopped.2 stopped.0 (λ kept out wrote. (
+    stopped.1,
+    fronts_on t from.left to.written was.written now.written stopped.0 kept,
+    read_out stopped.3 stopped.2 kept out wrote,
+  ))
 
-  pub ends_long : Stops t why.InputTooLong first (ends_of input was)
-      → IsStatusOr result InputTooLong (IsOut now × (now.faults ≡ was.faults)) Failed
-      → EndsOf t result first (ends_of input now)
-  ends_long stopped (inl h) =
-      subst (λ s. EndsOf t s first (ends_of input now)) (sym h.0) (
-        stopped.1,
-        stopped.2.0,
-        fronts_on t first.input.left first.output.written was.written now.written stopped.0 kept,
-        read_out stopped.3 stopped.2.1 h.1,
-      )
-  ends_long stopped (inr h) = failed h.0 stopped.2.1 stopped.0 h.1
+  pub ends_long : Stops t why.InputTooLong from to input was
+      → Closes result InputTooLong (IsOut now) was now → EndsOf t result from to input now
+  ends_long stopped closes = by_call closes stopped.2.1 stopped.0 (λ kept out wrote. (
+    stopped.1,
+    stopped.2.0,
+    fronts_on t from.left to.written was.written now.written stopped.0 kept,
+    read_out stopped.3 stopped.2.1 kept out wrote,
+  ))
 
 -- ---- One line
 
-line_as : (refused : Bool) (line : List ℕ) (before after : Output) → EndsPrinted line before after → EndsLine refused line (status_if refused) before after
-line_as true line before after h = (refl, h)
-line_as false line before after h = (refl, h)
+line_as : (refused : Bool) (line : List ℕ) (to output : Output) → EndsPrinted line to output → EndsLine refused line (status_if refused) to output
+line_as true line to output h = (refl, h)
+line_as false line to output h = (refl, h)
 
-module _ (result : Status) (written now later : Option (List ℕ)) (was flushed : Option ℕ) (w a b : ℕ) where
-  abbrev at_first : Output
-  at_first = sink_of written was w
+-- A line was written whole, and then a call of the sink told this.
+module _ (result : Status) (to was now : Output) (line : List ℕ) (grown : Grows to.written was.written line)
+    (same : was.faults ≡ to.faults) where
+  -- it was flushed, or a write failed
+  pub printed : {given : Status} → Closes result given (IsOut now) was now
+      → ((result ≡ given) × EndsPrinted line to now)
+      ⊎ ((result ≡ WriteFault) × Rose to.faults now.faults × GrowsFront to.written now.written line)
+  printed {given = given} closes = by_case closes.cases
+    where
+      on : Grows to.written now.written line
+      on = grows_on to.written was.written now.written line grown closes.kept
 
-  abbrev at_last : Output
-  at_last = sink_of later flushed b
+      by_case : IsStatusOr result given (IsOut now × (now.faults ≡ was.faults)) (Rose was.faults now.faults)
+          → ((result ≡ given) × EndsPrinted line to now)
+          ⊎ ((result ≡ WriteFault) × Rose to.faults now.faults × GrowsFront to.written now.written line)
+      by_case (inl h) = inl (h.0, (on, h.1.0, h.1.1 ∙ same))
+      by_case (inr h) =
+          inr (h.0, same_rose to.faults was.faults now.faults same h.1, whole_front line to.written now.written on)
 
-  -- the usage line was written
-  pub usage_ends : Grows written now usage_text → a ≡ w → Grows now later []
-      → IsStatusOr result Usage (IsFlushed flushed later × (b ≡ a)) (Rose a b)
-      → EndsUsage result at_first at_last
-  usage_ends grown same kept (inl h) =
-      subst (λ s. EndsUsage s at_first at_last) (sym h.0)
-      (grows_on written now later usage_text grown kept, h.1.0, h.1.1 ∙ same)
-  usage_ends grown same kept (inr h) =
-      subst (λ s. EndsUsage s at_first at_last) (sym h.0) (
-        same_rose w a b same h.1,
-        whole_front usage_text written later (grows_on written now later usage_text grown kept),
-      )
+  -- of a run that writes one line
+  pub line_ends : (refused : Bool) (told : Status) → told ≡ status_if refused
+      → Closes result told (IsOut now) was now → EndsLine refused line result to now
+  line_ends refused told is closes = by_case (printed closes)
+    where
+      by_case : ((result ≡ told) × EndsPrinted line to now)
+          ⊎ ((result ≡ WriteFault) × Rose to.faults now.faults × GrowsFront to.written now.written line)
+          → EndsLine refused line result to now
+      by_case (inl h) =
+          subst (λ s. EndsLine refused line s to now) (sym (h.0 ∙ is)) (line_as refused line to now h.1)
+      by_case (inr h) = subst (λ s. EndsLine refused line s to now) (sym h.0) (h.1, h.2)
 
-  -- the one line of a run was written
-  pub line_ends : (refused : Bool) (told : Status) (line : List ℕ) → told ≡ status_if refused → Grows written now line → a ≡ w → Grows now later []
-      → IsStatusOr result told (IsFlushed flushed later × (b ≡ a)) (Rose a b) → EndsLine refused line result at_first at_last
-  line_ends refused told line is grown same kept (inl h) =
-      subst (λ s. EndsLine refused line s at_first at_last) (sym (h.0 ∙ is))
-      (line_as refused line at_first at_last (grows_on written now later line grown kept, h.1.0, h.1.1 ∙ same))
-  line_ends refused told line is grown same kept (inr h) =
-      subst (λ s. EndsLine refused line s at_first at_last) (sym h.0)
-      (same_rose w a b same h.1, whole_front line written later (grows_on written now later line grown kept))
+-- the usage line was written
+pub usage_ends : (result : Status) (to was now : Output) → Grows to.written was.written usage_text
+    → was.faults ≡ to.faults → Closes result Usage (IsOut now) was now → EndsUsage result to now
+usage_ends result to was now grown same closes = by_case (printed result to was now usage_text grown same closes)
+  where
+    by_case : ((result ≡ Usage) × EndsPrinted usage_text to now)
+        ⊎ ((result ≡ WriteFault) × Rose to.faults now.faults × GrowsFront to.written now.written usage_text)
+        → EndsUsage result to now
+    by_case (inl h) = subst (λ s. EndsUsage s to now) (sym h.0) h.1
+    by_case (inr h) = subst (λ s. EndsUsage s to now) (sym h.0) (h.1, h.2)

@@ -1,6 +1,7 @@
 -- A group of the lines that a reader holds: how the replay stands after it.
 use Rattle.std.proofs.Common.{◌≡◌, ◌+◌, ◌≤◌, arith, ℕ, suc, List, length, take, ap, sym, ◌∙◌, subst, add-one, length-append}
-use Rattle.std.specs.Prelude.{Option, Result, Ok, Err, IfErr, OnOk, OnErr, count_by}
+use Rattle.std.specs.Prelude.{Option, Result, Ok, Err, OnOk, count_by}
+use Rattle.kp_io.specs.Ends.{Input, Output}
 use Rattle.kp_io.specs.Lines.{IsFront, IsWhole, ended_lines, is_line_feed}
 use Rattle.kp_io.specs.Reader.{GivesShort, LosesTaken, ReaderState, TakesFeeds, passed, to_come}
 use Rattle.kp_io.specs.Told.{FromTold, Grows}
@@ -9,8 +10,8 @@ use Rattle.kp_restore_defs.specs.TableText.{text_of_lines}
 use Rattle.kp_run_defs.specs.ReplayText.{Standing}
 use Rattle.kp_replay.specs.Groups.{lines_from}
 use Rattle.kp_run.specs.Held.{AnswersGroup}
-use Rattle.kp_run.specs.Outcome.{Come, GrowsFront, Input, Output, Outside, ends_of}
-use Rattle.kp_run.specs.Stand.{GoesOn, Stands, Stops, StopsOutput}
+use Rattle.kp_run.specs.Outcome.{Come, GrowsFront}
+use Rattle.kp_run.specs.Stand.{GoesOn, Stands, WritesOrStops}
 use Rattle.kp_mode_defs.specs.Mode.{replaying}
 use Rattle.kp_run.specs.Texts.{by_lines}
 use Rattle.kp_run.specs.declared.ending.Stop.{Stop}
@@ -51,12 +52,12 @@ module _ (old : ReaderState) (number : ℕ) (held : List ℕ) (bytes count : ℕ
   module _ (new : ReaderState) (passes : new ≡ passed bytes count old)
       (gives : (left : Option (List ℕ)) → GivesShort (ended_lines (take bytes old.held))
       (to_come old left) (to_come new left))
-      (first : Outside) (from : Input) (was now : Output)
-      (stands : Stands replaying first s old (ends_of from was)) where
-    come : GivesShort group.lines (to_come old from.left) (to_come new from.left)
+      (from : Input) (to : Output) (input : Input) (was now : Output)
+      (stands : Stands replaying from to s old input was) where
+    come : GivesShort group.lines (to_come old input.left) (to_come new input.left)
     come =
-        subst (λ lines. GivesShort lines (to_come old from.left) (to_come new from.left))
-        (ap ended_lines same_text ∙ ended_again group.lines group.feedless) (gives from.left)
+        subst (λ lines. GivesShort lines (to_come old input.left) (to_come new input.left))
+        (ap ended_lines same_text ∙ ended_again group.lines group.feedless) (gives input.left)
 
     told : text ≡ (lines_from (suc old.number) group.lines s).text
     told = group.text ∙ ap (λ n. (lines_from n group.lines s).text) next
@@ -64,46 +65,31 @@ module _ (old : ReaderState) (number : ℕ) (held : List ℕ) (bytes count : ℕ
     counted : new.number ≡ old.number + length group.lines
     counted = ap (λ r. r.number) passes ∙ ap (λ n. old.number + n) group.counted
 
-    -- it was taken and written
-    after_group : ((left : Option (List ℕ)) → TakesFeeds old new left left)
-        → Grows was.written now.written text → now.faults ≡ was.faults
-        → Stands replaying first t new (ends_of from now)
-    after_group feeds grown wrote = record {
-      come =
-          subst (λ k. Come replaying t k first.input.left (to_come new from.left) first.output.written now.written) (sym counted)
-          (come_group s old.number group.lines first.input.left (to_come old from.left)
-          (to_come new from.left) first.output.written was.written now.written stands.come come t
-          (record {
-            stands = group.stands ∙ ap (λ n. (lines_from n group.lines s).next) next;
-            grown = subst (Grows was.written now.written) told grown;
-          }));
-      taken =
-          subst (λ n. FromTold (LosesTaken 0 n) first.input.left from.left)
-          (sym (ap (λ r. r.taken) passes)) stands.taken;
-      feeds = λ open_.
-          counts_more old new first.input.left from.left from.left
-          (stands.feeds (sym (ap (λ r. r.ended) passes) ∙ open_)) (feeds from.left);
-      ended = λ ended. stands.ended (sym (ap (λ r. r.ended) passes) ∙ ended);
-      room = subst (λ r. r ≤ LINE_LIMIT) (sym (ap (λ r. r.room) passes)) stands.room;
-      sure = (stands.sure.0, wrote ∙ stands.sure.1);
-    }
-
-    -- it can't be written
-    stops_group : (stop : Stop) → GrowsFront was.written now.written text
-        → StopsOutput stop was.faults now.faults → Stops (by_lines replaying) stop first (ends_of from now)
-    stops_group stop part cause =
-        stops_output (by_lines replaying) stop first from was now stands.sure.0 stands.sure.1
-        (come_part_group s old.number group.lines first.input.left (to_come old from.left)
-        (to_come new from.left) first.output.written was.written now.written stands.come come
-        (subst (GrowsFront was.written now.written) told part)) cause
-
-    -- by whether it could be
+    -- it was taken, and written or a front of it
     pub goes_group : {T : Type 0} (result : Result T Stop)
         → ((left : Option (List ℕ)) → TakesFeeds old new left left)
-        → OnOk result (Grows was.written now.written text)
-        → OnErr result (GrowsFront was.written now.written text)
-        → OnOk result (now.faults ≡ was.faults)
-        → IfErr result (λ stop. StopsOutput stop was.faults now.faults)
-        → GoesOn replaying first result t new (ends_of from now)
-    goes_group (Ok done) feeds grown part wrote cause = after_group feeds grown wrote
-    goes_group (Err stop) feeds grown part wrote cause = stops_group stop part cause
+        → WritesOrStops result text was now → GoesOn replaying from to result t new input now
+    goes_group (Ok done) feeds writes = record {
+      come =
+          subst (λ k. Come replaying t k from.left (to_come new input.left) to.written now.written) (sym counted)
+          (come_group s old.number group.lines from.left (to_come old input.left)
+          (to_come new input.left) to.written was.written now.written stands.come come t
+          (record {
+            stands = group.stands ∙ ap (λ n. (lines_from n group.lines s).next) next;
+            grown = subst (Grows was.written now.written) told writes.whole;
+          }));
+      taken =
+          subst (λ n. FromTold (LosesTaken 0 n) from.left input.left)
+          (sym (ap (λ r. r.taken) passes)) stands.taken;
+      feeds = λ open_.
+          counts_more old new from.left input.left input.left
+          (stands.feeds (sym (ap (λ r. r.ended) passes) ∙ open_)) (feeds input.left);
+      ended = λ ended. stands.ended (sym (ap (λ r. r.ended) passes) ∙ ended);
+      room = subst (λ r. r ≤ LINE_LIMIT) (sym (ap (λ r. r.room) passes)) stands.room;
+      sure = (stands.sure.0, writes.sure ∙ stands.sure.1);
+    }
+    goes_group (Err stop) feeds writes =
+        stops_output (by_lines replaying) stop from to input was now stands.sure.0 stands.sure.1
+        (come_part_group s old.number group.lines from.left (to_come old input.left)
+        (to_come new input.left) to.written was.written now.written stands.come come
+        (subst (GrowsFront was.written now.written) told writes.front)) writes.cause

@@ -1,13 +1,13 @@
 -- Texts of whole lines, as a reader holds them.
-use Rattle.std.proofs.Common.{◌≡◌, ℕ, ◌+◌, ◌≤◌, arith, true, List, [], ◌∷◌, ◌++◌, length, take, ap, sym, refl, ◌∙◌, append-nil, append_assoc, length-append, inl, inr}
+use Rattle.std.proofs.Common.{◌≡◌, ℕ, ◌≤◌, arith, true, List, [], ◌∷◌, ◌++◌, length, take, ap, sym, refl, ◌∙◌, append-nil, append_assoc, length-append, inl, inr}
 use Rattle.std.specs.Prelude.{count_by}
 use Rattle.std.specs.List.{list_all}
 use Rattle.std.proofs.Math.Seq.{take-append_seam}
 use Rattle.std.proofs.lemmas.List.{take-append-le}
 use Rattle.std.proofs.lemmas.List.Splits.{length-slice_split}
 use Rattle.kp_io.specs.Lines.{IsFront, IsWhole, ended_lines, is_line_feed}
-use Rattle.kp_restore.specs.Pieces.{no_line_feed}
-use Rattle.kp_restore.proofs.Texts.{pieces, pieces_behind}
+use Rattle.kp_restore_text.specs.Pieces.{no_line_feed}
+use Rattle.kp_restore_text.proofs.Texts.{pieces, pieces_behind}
 use Rattle.kp_restore_defs.specs.TableText.{text_of_lines}
 
 module _ (lines : List (List ℕ)) (feedless : list_all no_line_feed lines ≡ true) where

@@ -15,9 +15,9 @@ last_is_not false true c is = absurd (cc is)
 last_is_not false false c is = sym is
 
 pub last_live_table : LastLiveTable
-last_live_table old new text left ends =
+last_live_table from to input output text left ends =
     let writes =
-    (subst (λ o. IfSome o (λ t. live.WritesInput false t old.output.written new.output.written))
+    (subst (λ o. IfSome o (λ t. live.WritesInput false t to output))
     left ends.0).writes in
     let run = writes.run in (
       run,

@@ -1,9 +1,10 @@
 -- How a run in a mode comes to its end.
 use Rattle.std.proofs.Common.{◌≡◌, ℕ, List, ◌++◌, take, drop, ap, sym, subst, ◌∙◌, append_assoc}
 use Rattle.std.proofs.Common.{take-append-drop}
-use Rattle.std.specs.Prelude.{Option, Some, None, IfErr, IfSome, OnErr, OnOk, Result, Ok, Err}
+use Rattle.std.specs.Prelude.{Option, Some, None, IfSome, Result, Ok, Err}
 use Rattle.kp_base.specs.declared.config.Config.{Config}
 use Rattle.kp_object_defs.specs.Objects.{Objects, no_objects}
+use Rattle.kp_io.specs.Ends.{Input, Output}
 use Rattle.kp_io.specs.Lines.{lines_of}
 use Rattle.kp_io.specs.Told.{Grows}
 use Rattle.kp_io.proofs.Told.{Grows-trans}
@@ -11,9 +12,8 @@ use Rattle.kp_run_defs.specs.ReplayText.{Standing, beginning}
 use Rattle.kp_mode.specs.Follows.{Follows}
 use Rattle.kp_mode_defs.specs.Mode.{Mode, ended, replay_in, replaying}
 use Rattle.kp_mode_defs.proofs.Alike.{adds_nothing, lines_alone}
-use Rattle.kp_run.specs.Outcome.{GrowsFront, Input, Output, Outside, WritesAll, WritesFront, ends_of}
-use Rattle.kp_run.specs.Stand.{ComesOrStops, ComesToEnd, EndsOrStops, EndsWell, Stops, StopsOutput}
-use Rattle.kp_run.specs.Stand.{WritesLines}
+use Rattle.kp_run.specs.Outcome.{GrowsFront, WritesAll, WritesFront}
+use Rattle.kp_run.specs.Stand.{ComesOrStops, ComesToEnd, EndsOrStops, Stops, WritesLines, WritesOrStops}
 use Rattle.kp_run.specs.Texts.{by_lines, in_mode, replayed}
 use Rattle.kp_run.specs.declared.ending.Stop.{Stop}
 use Rattle.kp_run.specs.declared.ending.Stop.TheVariants as why
@@ -52,12 +52,12 @@ module _ (m : Mode) where
   }
 
   -- lines that came to their end are all of a text that ends with them
-  pub ends_by_lines : {T : Type 0} (s : Standing) (result : Result T Stop) (old new : Outside)
-      → ComesOrStops m s result old new
-      → EndsOrStops (by_lines m) s.refused result old new
-  ends_by_lines s (Ok done) old new all =
-      (lines_all s old.input.left old.output.written new.output.written all.0, all.1, all.2)
-  ends_by_lines s (Err stop) old new stopped = stopped
+  pub ends_by_lines : {T : Type 0} (s : Standing) (result : Result T Stop) (from : Input) (to : Output)
+      (input : Input) (output : Output) → ComesOrStops m s result from to input output
+      → EndsOrStops (by_lines m) s.refused result from to input output
+  ends_by_lines s (Ok done) from to input output all =
+      (lines_all s from.left to.written output.written all.0, all.1, all.2)
+  ends_by_lines s (Err stop) from to input output stopped = stopped
 
   -- ---- What is added at the end
 
@@ -73,16 +73,16 @@ module _ (m : Mode) where
       ∙ append_assoc (take front.0 r.text) (drop front.0 r.text) more) front.1
 
   -- so a run that was stopped among the lines was
-  pub stops_among : (stop : Stop) (old new : Outside) → Stops (by_lines m) stop old new
-      → Stops (in_mode m) stop old new
-  stops_among (why.NoMemory wanted) old new h =
-      (fronts_more old.input.left old.output.written new.output.written h.0, h.1)
-  stops_among why.Write old new h =
-      (fronts_more old.input.left old.output.written new.output.written h.0, h.1)
-  stops_among why.Read old new h =
-      (fronts_more old.input.left old.output.written new.output.written h.0, h.1, h.2, h.3)
-  stops_among why.InputTooLong old new h =
-      (fronts_more old.input.left old.output.written new.output.written h.0, h.1, h.2, h.3)
+  pub stops_among : (stop : Stop) (from : Input) (to : Output) (input : Input) (output : Output)
+      → Stops (by_lines m) stop from to input output → Stops (in_mode m) stop from to input output
+  stops_among (why.NoMemory wanted) from to input output h =
+      (fronts_more from.left to.written output.written h.0, h.1)
+  stops_among why.Write from to input output h =
+      (fronts_more from.left to.written output.written h.0, h.1)
+  stops_among why.Read from to input output h =
+      (fronts_more from.left to.written output.written h.0, h.1, h.2, h.3)
+  stops_among why.InputTooLong from to input output h =
+      (fronts_more from.left to.written output.written h.0, h.1, h.2, h.3)
 
   whole : (s : Standing) (left written now later : Option (List ℕ))
       → IfSome left (λ text. WritesLines m s text written now) → Grows now later (ended m s)
@@ -111,34 +111,16 @@ module _ (m : Mode) where
       ∙ sym (append_assoc r.text (take front.0 more) (drop front.0 more)))
       (Grows-trans written now later r.text (take front.0 more) all.grown front.1)
 
-  -- what is added was written
-  ends_well : (s : Standing) (first : Outside) (input : Input) (was now : Output)
-      → ComesToEnd m s first (ends_of input was) → Grows was.written now.written (ended m s)
-      → now.faults ≡ was.faults → EndsWell (in_mode m) s.refused first (ends_of input now)
-  ends_well s first input was now all grown same = (
-    whole s first.input.left first.output.written was.written now.written all.0 grown,
-    (all.1.0, same ∙ all.1.1),
+  -- what is added was written, or a front of it
+  pub ends_adding : {T : Type 0} (result : Result T Stop) (s : Standing) (from : Input) (to : Output)
+      (input : Input) (was now : Output) → ComesToEnd m s from to input was
+      → WritesOrStops result (ended m s) was now
+      → EndsOrStops (in_mode m) s.refused result from to input now
+  ends_adding (Ok done) s from to input was now all writes = (
+    whole s from.left to.written was.written now.written all.0 writes.whole,
+    (all.1.0, writes.sure ∙ all.1.1),
     all.2,
   )
-
-  -- or a front of it
-  stops_adding : (stop : Stop) (s : Standing) (first : Outside) (input : Input)
-      → (was now : Output) → ComesToEnd m s first (ends_of input was)
-      → GrowsFront was.written now.written (ended m s)
-      → StopsOutput stop was.faults now.faults → Stops (in_mode m) stop first (ends_of input now)
-  stops_adding stop s first input was now all front cause =
-      stops_output (in_mode m) stop first input was now all.1.0 all.1.1
-      (part s first.input.left first.output.written was.written now.written all.0 front) cause
-
-  -- by whether it could be
-  pub ends_adding : {T : Type 0} (result : Result T Stop) (s : Standing) (first : Outside)
-      → (input : Input) (was now : Output) → ComesToEnd m s first (ends_of input was)
-      → OnOk result (Grows was.written now.written (ended m s))
-      → OnErr result (GrowsFront was.written now.written (ended m s))
-      → OnOk result (now.faults ≡ was.faults)
-      → IfErr result (λ stop. StopsOutput stop was.faults now.faults)
-      → EndsOrStops (in_mode m) s.refused result first (ends_of input now)
-  ends_adding (Ok done) s first input was now all grown front same cause =
-      ends_well s first input was now all grown same
-  ends_adding (Err stop) s first input was now all grown front same cause =
-      stops_adding stop s first input was now all front cause
+  ends_adding (Err stop) s from to input was now all writes =
+      stops_output (in_mode m) stop from to input was now all.1.0 all.1.1
+      (part s from.left to.written was.written now.written all.0 writes.front) writes.cause

@@ -1,11 +1,12 @@
 -- How a replay stands, from one call of its reader to the next.
-use Rattle.std.proofs.Common.{◌≡◌, ℕ, ◌+◌, ◌<◌, ◌≤◌, Bool, true, false, List, [], ◌∷◌, Ok, Err, Result, Option, Some, None, refl, ap, sym, ◌∙◌, subst, arith}
+use Rattle.std.proofs.Common.{◌≡◌, ℕ, ◌+◌, ◌<◌, ◌≤◌, Bool, true, false, List, ◌∷◌, Ok, Err, Result, Option, Some, None, refl, ap, sym, ◌∙◌, subst, arith}
 use Rattle.std.specs.Prelude.{nat_lt}
 use Rattle.std.specs.Io.KnownBytes.{IsAtEnd}
 use Rattle.std.proofs.lemmas.Bool.Decides.{nat_tests}
+use Rattle.kp_io.specs.Ends.{Input, Output}
 use Rattle.kp_io.specs.Faults.{Rose}
 use Rattle.kp_io.specs.Reader.{ReaderState, Answers, Counts, HoldsNoLine, TakesInput, LosesTaken, fresh_with, to_come}
-use Rattle.kp_io.specs.Told.{FromTold, Grows}
+use Rattle.kp_io.specs.Told.{FromTold}
 use Rattle.kp_io.specs.declared.next_line.LineFault.{LineFault}
 use Rattle.kp_io.specs.declared.next_line.LineFault.TheVariants.{TooLongLine, ReadFault, InputTooLong, NoMemory}
 use Rattle.kp_io.specs.declared.next_line.NextLine.{NextLine}
@@ -17,8 +18,8 @@ use Rattle.kp_run_defs.specs.ReplayText.{Standing, beginning}
 use Rattle.kp_mode_defs.specs.Mode.{Mode as Adds, replay_in}
 use Rattle.kp_run.specs.Given.{given_in}
 use Rattle.kp_run.specs.Next.{TakesNext}
-use Rattle.kp_run.specs.Outcome.{Come, EndsFront, GrowsFront, Input, Output, Outside, TakesLine, WritesRead, ends_of, source_of}
-use Rattle.kp_run.specs.Stand.{ComesToEnd, Stands, Stops, StopsOutput, TakesStep}
+use Rattle.kp_run.specs.Outcome.{Come, EndsFront, WritesRead}
+use Rattle.kp_run.specs.Stand.{ComesToEnd, HandsOn, Stands, Stops, StopsOutput, TakesStep, WritesOrStops}
 use Rattle.kp_run.specs.Texts.{Texts, by_lines}
 use Rattle.kp_run.specs.declared.ending.Stop.{Stop}
 use Rattle.kp_run.specs.declared.ending.Stop.TheVariants as why
@@ -26,14 +27,15 @@ use Rattle.kp_run.proofs.ComeLemmas.{by_end, come_all, come_ended, come_front, c
 use Rattle.kp_run.proofs.EndLemmas.{same_rose}
 
 -- before the first line
-pub stands_first : (m : Adds) (s : Standing) (reader : ReaderState) (first : Outside) → s ≡ beginning
-    → reader ≡ fresh_with reader.room → reader.room ≤ LINE_LIMIT → Stands m first s reader first
-stands_first m s reader first start fresh room = record {
+pub stands_first : (m : Adds) (s : Standing) (reader : ReaderState) (from : Input) (to : Output)
+    → s ≡ beginning → reader ≡ fresh_with reader.room → reader.room ≤ LINE_LIMIT
+    → Stands m from to s reader from to
+stands_first m s reader from to start fresh room = record {
   come =
-      subst (λ r. Come m s r.number first.input.left (to_come r first.input.left) first.output.written first.output.written)
-      (sym fresh) (come_none m s first.input.left first.output.written start);
-  taken = subst (λ r. FromTold (LosesTaken 0 r.taken) first.input.left first.input.left) (sym fresh) (taken_none first.input.left);
-  feeds = λ _open. counts_none reader first.input.left fresh;
+      subst (λ r. Come m s r.number from.left (to_come r from.left) to.written to.written)
+      (sym fresh) (come_none m s from.left to.written start);
+  taken = subst (λ r. FromTold (LosesTaken 0 r.taken) from.left from.left) (sym fresh) (taken_none from.left);
+  feeds = λ _open. counts_none reader from.left fresh;
   ended = λ ended. let h = ap (λ r. r.ended) (sym fresh) ∙ ended in absurd (cc);
   room = room;
   sure = (refl, refl);
@@ -52,35 +54,36 @@ within_limit x old new a b input = by_more (nat_lt INPUT_LIMIT new) refl
     by_more false h = grind (arith, nat_tests)
 
 -- an output that stopped, before which nothing had failed
-pub stops_output : (t : Texts) (stop : Stop) (first : Outside) (input : Input) (was now : Output)
-    → input.faults ≡ first.input.faults → was.faults ≡ first.output.faults
-    → EndsFront t first (ends_of input now) → StopsOutput stop was.faults now.faults
-    → Stops t stop first (ends_of input now)
-stops_output t (why.NoMemory wanted) first input was now read wrote front cause =
+pub stops_output : (t : Texts) (stop : Stop) (from : Input) (to : Output) (input : Input) (was now : Output)
+    → input.faults ≡ from.faults → was.faults ≡ to.faults
+    → EndsFront t from to now → StopsOutput stop was.faults now.faults
+    → Stops t stop from to input now
+stops_output t (why.NoMemory wanted) from to input was now read wrote front cause =
     (front, (read, cause ∙ wrote))
-stops_output t why.Write first input was now read wrote front cause =
-    (front, same_rose first.output.faults was.faults now.faults wrote cause)
-stops_output t why.Read first input was now read wrote front cause = absurd cause
-stops_output t why.InputTooLong first input was now read wrote front cause = absurd cause
+stops_output t why.Write from to input was now read wrote front cause =
+    (front, same_rose to.faults was.faults now.faults wrote cause)
+stops_output t why.Read from to input was now read wrote front cause = absurd cause
+stops_output t why.InputTooLong from to input was now read wrote front cause = absurd cause
 
--- a step that took a line
-pub took : (m : Adds) {first : Outside} {t : Option ℕ} {number : ℕ} {s : Standing} {reader : ReaderState} {now : Outside}
-    → t ≡ Some number → TakesStep m first (Ok t) s reader now → Stands m first s reader now
-took m {first = first} {s = s} {reader = reader} {now = now} is step = subst (λ o. TakesStep m first (Ok o) s reader now) is step
+module _ (m : Adds) (from : Input) (to : Output) (s : Standing) (reader : ReaderState) (input : Input)
+    (output : Output) where
+  -- a step that took a line
+  pub took : {t : Option ℕ} {number : ℕ} → t ≡ Some number
+      → TakesStep m from to (Ok t) s reader input output → Stands m from to s reader input output
+  took is step = subst (λ o. TakesStep m from to (Ok o) s reader input output) is step
 
--- a step that came to the end
-pub came : (m : Adds) (first : Outside) {t : Option ℕ} (s : Standing) (reader : ReaderState) (now : Outside)
-    → t ≡ None → TakesStep m first (Ok t) s reader now → ComesToEnd m s first now
-came m first s reader now is step = subst (λ o. TakesStep m first (Ok o) s reader now) is step
+  -- a step that came to the end
+  pub came : {t : Option ℕ} → t ≡ None → TakesStep m from to (Ok t) s reader input output
+      → ComesToEnd m s from to input output
+  came is step = subst (λ o. TakesStep m from to (Ok o) s reader input output) is step
 
--- memory is wanted where a replay stands
-pub stops_same : (m : Adds) (wanted : memory.NoMemory) {first : Outside} {s : Standing} {reader : ReaderState}
-    {now : Outside} → Stands m first s reader now
-    → Stops (by_lines m) (why.NoMemory wanted) first now
-stops_same m wanted {first = first} {s = s} {reader = reader} {now = now} stands = (
-  come_front m s reader.number first.input.left (to_come reader now.input.left) first.output.written now.output.written stands.come,
-  stands.sure,
-)
+  -- memory is wanted where a replay stands
+  pub stops_same : (wanted : memory.NoMemory) → Stands m from to s reader input output
+      → Stops (by_lines m) (why.NoMemory wanted) from to input output
+  stops_same wanted stands = (
+    come_front m s reader.number from.left (to_come reader input.left) to.written output.written stands.come,
+    stands.sure,
+  )
 
 -- the reader gave this as the next line, and no read has failed
 pub record Gives (old new : ReaderState) (before after : Option (List (Option (List ℕ)))) (failed fails : ℕ) (one : Option (List ℕ)) (number : ℕ) : Type 0 where
@@ -92,34 +95,28 @@ pub record Gives (old new : ReaderState) (before after : Option (List (Option (L
 
 -- ---- A call of the reader, before which what is known was handed on
 
-module _ (m : Adds) {S : Type 0} (left : S → Option (List ℕ)) (faults : S → ℕ) {first : Outside} {s : Standing}
-    {old : ReaderState} {before : S} {was : Output}
-    (stands : Stands m first s old (ends_of (source_of (left before) (faults before)) was)) where
+module _ (m : Adds) {from : Input} {to : Output} {s : Standing} {old : ReaderState} {before : Input}
+    {was : Output} (stands : Stands m from to s old before was) where
   -- what is known can't be handed on
-  pub stops_unread : (stop : Stop) (after : S) (later : Output) → after ≡ before
-      → Grows was.written later.written [] → stop ≡ why.Write → Rose was.faults later.faults
-      → Stops (by_lines m) stop first (ends_of (source_of (left after) (faults after)) later)
-  stops_unread stop after later same kept is rose =
+  pub stops_unread : {T : Type 0} (stop : Stop) (after : Input) (later : Output)
+      → HandsOn {T = T} (Err stop) was later → Stops (by_lines m) stop from to after later
+  stops_unread stop after later hands =
       let come =
-      come_on m s old.number first.input.left (to_come old (left before)) first.output.written was.written later.written stands.come kept in
-      subst (λ t. Stops (by_lines m) t first (ends_of (source_of (left after) (faults after)) later)) (sym is) (
-        come_front m s old.number first.input.left (to_come old (left before)) first.output.written later.written come,
-        same_rose first.output.faults was.faults later.faults stands.sure.1 rose,
+      come_on m s old.number from.left (to_come old before.left) to.written was.written later.written stands.come hands.kept in
+      subst (λ t. Stops (by_lines m) t from to after later) (sym hands.cause.0) (
+        come_front m s old.number from.left (to_come old before.left) to.written later.written come,
+        same_rose to.faults was.faults later.faults stands.sure.1 hands.cause.1,
       )
 
-  module _ {new : ReaderState} {after : S} (later : Output) {told : Result NextLine LineFault}
-      (next : TakesNext left faults told old new before after)
-      (kept : Grows was.written later.written []) (same : later.faults ≡ was.faults) where
-    abbrev pub Now : Output → Outside
-    Now now = ends_of (source_of (left after) (faults after)) now
-
-    on : Come m s old.number first.input.left (to_come old (left before)) first.output.written later.written
+  module _ {new : ReaderState} {after : Input} (later : Output) {told : Result NextLine LineFault}
+      (next : TakesNext told old new before after) (hands : HandsOn (Ok told) was later) where
+    on : Come m s old.number from.left (to_come old before.left) to.written later.written
     on =
-        come_on m s old.number first.input.left (to_come old (left before)) first.output.written was.written later.written stands.come kept
+        come_on m s old.number from.left (to_come old before.left) to.written was.written later.written stands.come hands.kept
 
-    taken_on : FromTold (LosesTaken 0 new.taken) first.input.left (left after)
+    taken_on : FromTold (LosesTaken 0 new.taken) from.left after.left
     taken_on =
-        taken_more old.taken new.taken first.input.left (left before) (left after) stands.taken next.input.all
+        taken_more old.taken new.taken from.left before.left after.left stands.taken next.input.all
 
     not_ended : ((lines : ℕ) → told ≡ Ok (End lines) → ⊥) → old.ended ≡ false
     not_ended other =
@@ -128,30 +125,30 @@ module _ (m : Adds) {S : Type 0} (left : S → Option (List ℕ)) (faults : S �
 
     -- no read failed unless that is told
     read_as : (t : Result NextLine LineFault) → told ≡ t → (t ≡ Err ReadFault → ⊥)
-        → faults after ≡ first.input.faults
+        → after.faults ≡ from.faults
     read_as t is other = next.cause.kept (λ failed. other (sym is ∙ failed)) ∙ stands.sure.0
 
-    wrote_on : later.faults ≡ first.output.faults
-    wrote_on = same ∙ stands.sure.1
+    wrote_on : later.faults ≡ to.faults
+    wrote_on = hands.sure ∙ stands.sure.1
 
     -- nothing more was written
-    front_on : EndsFront (by_lines m) first (Now later)
-    front_on = come_front m s old.number first.input.left (to_come old (left before)) first.output.written later.written on
+    front_on : EndsFront (by_lines m) from to later
+    front_on = come_front m s old.number from.left (to_come old before.left) to.written later.written on
 
     -- exactly what was read is answered
     read_to : old.ended ≡ false → new.number ≡ old.number → new.ended ≡ false
         → HoldsNoLine new.held new.taken
-        → WritesRead (replay_in m) first.input.left (left after) first.output.written later.written
+        → WritesRead (replay_in m) from.left after.left to.written later.written
     read_to open_ number is_open none =
-        come_ended m old new s (to_come old (left before)) first.input.left (left before) (left after)
-        first.output.written later.written on stands.taken (stands.feeds open_) number
+        come_ended m old new s (to_come old before.left) from.left before.left after.left
+        to.written later.written on stands.taken (stands.feeds open_) number
         next.input.all (next.feeds is_open) none
 
     -- ---- A line, or nothing of one that is too long
 
     abbrev pub GivesNow : Option (List ℕ) → ℕ → Type 0
     GivesNow one number =
-        Gives old new (to_come old (left before)) (to_come new (left after)) (faults after) first.input.faults one number
+        Gives old new (to_come old before.left) (to_come new after.left) after.faults from.faults one number
 
     pub gives_line : (number : ℕ) (bytes : List ℕ) → told ≡ Ok (Line number) → bytes ≡ new.line
         → GivesNow (Some bytes) number
@@ -159,9 +156,9 @@ module _ (m : Adds) {S : Type 0} (left : S → Option (List ℕ)) (faults : S �
         let counts = subst (λ t. Counts t old new) is next.counts in record {
           open_ = not_ended (λ lines ended. let clash = sym is ∙ ended in absurd (cc));
           gives =
-              subst (λ b. FromTold (λ xs ys. xs ≡ Some b ∷ ys) (to_come old (left before)) (to_come new (left after)))
+              subst (λ b. FromTold (λ xs ys. xs ≡ Some b ∷ ys) (to_come old before.left) (to_come new after.left))
               (sym line)
-              (subst (λ t. Answers t new.line (to_come old (left before)) (to_come new (left after))) is next.answer);
+              (subst (λ t. Answers t new.line (to_come old before.left) (to_come new after.left)) is next.answer);
           next_one = counts.0;
           counted = counts.1;
           sure = read_as (Ok (Line number)) is (λ e. absurd (cc));
@@ -172,85 +169,86 @@ module _ (m : Adds) {S : Type 0} (left : S → Option (List ℕ)) (faults : S �
         let counts = subst (λ t. Counts t old new) is next.counts in record {
           open_ = not_ended (λ lines ended. let clash = sym is ∙ ended in absurd (cc));
           gives =
-              subst (λ t. Answers t new.line (to_come old (left before)) (to_come new (left after))) is next.answer;
+              subst (λ t. Answers t new.line (to_come old before.left) (to_come new after.left)) is next.answer;
           next_one = counts.0;
           counted = counts.1;
           sure = read_as (Err (TooLongLine number)) is (λ e. absurd (cc));
         }
 
     module _ {one : Option (List ℕ)} {number : ℕ} (given : GivesNow one number) (last : Output) where
+      abbrev text : List ℕ
+      text = (given_in m number one s).text
+
       -- after it
-      pub after_given : (t : Standing)
-          → TakesLine (given_in m number one s) t later.written last.written
-          → last.faults ≡ later.faults → Stands m first t new (Now last)
-      after_given t takes wrote = record {
+      pub after_given : {T : Type 0} {x : T} (t : Standing) → t ≡ (given_in m number one s).next
+          → WritesOrStops (Ok x) text later last → Stands m from to t new after last
+      after_given t leads writes = record {
         come =
-            subst (λ k. Come m t k first.input.left (to_come new (left after)) first.output.written last.written) (sym given.counted)
-            (come_more m s t old.number number one first.input.left (to_come old (left before))
-            (to_come new (left after)) first.output.written later.written last.written on
-            given.next_one given.gives takes);
+            subst (λ k. Come m t k from.left (to_come new after.left) to.written last.written) (sym given.counted)
+            (come_more m s t old.number number one from.left (to_come old before.left)
+            (to_come new after.left) to.written later.written last.written on
+            given.next_one given.gives (record { stands = leads; grown = writes.whole }));
         taken = taken_on;
         feeds = λ is_open.
-            counts_more old new first.input.left (left before) (left after)
+            counts_more old new from.left before.left after.left
             (stands.feeds given.open_) (next.feeds is_open);
         ended = λ ended. next.ended given.open_ ended;
         room = subst (λ r. r ≤ LINE_LIMIT) (sym next.room) stands.room;
-        sure = (given.sure, wrote ∙ wrote_on);
+        sure = (given.sure, writes.sure ∙ wrote_on);
       }
 
       -- within it
-      pub stops_given : (stop : Stop)
-          → GrowsFront later.written last.written (given_in m number one s).text
-          → StopsOutput stop later.faults last.faults → Stops (by_lines m) stop first (Now last)
-      stops_given stop front cause =
-          stops_output (by_lines m) stop first (source_of (left after) (faults after)) later last given.sure wrote_on
-          (come_part m s old.number number one first.input.left (to_come old (left before))
-          (to_come new (left after)) first.output.written later.written last.written on given.next_one given.gives front)
-          cause
+      pub stops_given : {T : Type 0} (stop : Stop) → WritesOrStops {T = T} (Err stop) text later last
+          → Stops (by_lines m) stop from to after last
+      stops_given stop writes =
+          stops_output (by_lines m) stop from to after later last given.sure wrote_on
+          (come_part m s old.number number one from.left (to_come old before.left)
+          (to_come new after.left) to.written later.written last.written on given.next_one given.gives writes.front)
+          writes.cause
 
     -- ---- No line
 
     -- the end
-    pub comes_to_end : (lines : ℕ) → told ≡ Ok (End lines) → ComesToEnd m s first (Now later)
+    pub comes_to_end : (lines : ℕ) → told ≡ Ok (End lines) → ComesToEnd m s from to after later
     comes_to_end lines is =
         let counts = subst (λ t. Counts t old new) is next.counts in
-        let input = subst (λ t. TakesInput t old.taken new.taken (left before) (left after)) is next.input in
+        let input = subst (λ t. TakesInput t old.taken new.taken before.left after.left) is next.input in
         let at_end =
-        by_end (IsAtEnd (left after)) old.ended
-        (λ yes. subst (λ x. IsAtEnd (left x)) (sym (next.unasked (ended_unasked old yes))) (stands.ended yes))
+        by_end (IsAtEnd after.left) old.ended
+        (λ yes. subst (λ x. IsAtEnd x.left) (sym (next.unasked (ended_unasked old yes))) (stands.ended yes))
         (λ no. next.ended no counts.3) in (
-          come_all m s old.number new.taken first.input.left (to_come old (left before))
-              (to_come new (left after)) (left after) first.output.written later.written on
-              (subst (λ t. Answers t new.line (to_come old (left before)) (to_come new (left after))) is next.answer)
-              taken_on at_end (within_limit (End lines) old.taken new.taken (left before) (left after) input),
+          come_all m s old.number new.taken from.left (to_come old before.left)
+              (to_come new after.left) after.left to.written later.written on
+              (subst (λ t. Answers t new.line (to_come old before.left) (to_come new after.left)) is next.answer)
+              taken_on at_end (within_limit (End lines) old.taken new.taken before.left after.left input),
           (read_as (Ok (End lines)) is (λ e. absurd (cc)), wrote_on),
           at_end,
         )
 
     -- a read failed
-    pub stops_read : told ≡ Err ReadFault → Stops (by_lines m) why.Read first (Now later)
+    pub stops_read : told ≡ Err ReadFault → Stops (by_lines m) why.Read from to after later
     stops_read is =
         let counts = subst (λ t. Counts t old new) is next.counts in
         let open_ = not_ended (λ lines ended. let clash = sym is ∙ ended in absurd (cc)) in (
           front_on,
-          subst (λ n. Rose n (faults after)) stands.sure.0 (next.cause.failed is),
+          subst (λ n. Rose n after.faults) stands.sure.0 (next.cause.failed is),
           wrote_on,
           read_to open_ counts.0 counts.2 (next.handed.read is),
         )
 
     -- the input is too long
-    pub stops_long : told ≡ Err InputTooLong → Stops (by_lines m) why.InputTooLong first (Now later)
+    pub stops_long : told ≡ Err InputTooLong → Stops (by_lines m) why.InputTooLong from to after later
     stops_long is =
         let counts = subst (λ t. Counts t old new) is next.counts in
         let open_ = not_ended (λ lines ended. let clash = sym is ∙ ended in absurd (cc)) in (
           front_on,
-          too_long INPUT_LIMIT first.input.left (left after) new.taken taken_on (next.input.limit.0 is),
+          too_long INPUT_LIMIT from.left after.left new.taken taken_on (next.input.limit.0 is),
           (read_as (Err InputTooLong) is (λ e. absurd (cc)), wrote_on),
           read_to open_ counts.0 counts.2 (next.handed.long is),
         )
 
     -- memory is wanted for a line
     pub stops_wanted : (wanted : memory.NoMemory) → told ≡ Err (NoMemory wanted)
-        → Stops (by_lines m) (why.NoMemory wanted) first (Now later)
+        → Stops (by_lines m) (why.NoMemory wanted) from to after later
     stops_wanted wanted is =
         (front_on, (read_as (Err (NoMemory wanted)) is (λ e. absurd (cc)), wrote_on))

@@ -1,7 +1,7 @@
 -- Lines that were taken from what a reader holds.
 use Rattle.std.specs.Prelude.{◌≡◌, ◌≤◌, ℕ, true, List, length, take}
 use Rattle.std.specs.List.{list_all}
-use Rattle.kp_restore.specs.Pieces.{no_line_feed}
+use Rattle.kp_restore_text.specs.Pieces.{no_line_feed}
 use Rattle.kp_restore_defs.specs.TableText.{text_of_lines}
 use Rattle.kp_run_defs.specs.ReplayText.{Standing}
 use Rattle.kp_replay.specs.Groups.{lines_from}

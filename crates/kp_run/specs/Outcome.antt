@@ -1,6 +1,7 @@
 -- What a run has written, and how it ends.
 use Rattle.std.specs.Prelude.{◌≡◌, ◌<◌, ◌≤◌, ◌++◌, ℕ, Bool, true, false, List, [], length, take, Option, Some, None, IfSome, ◌⊎◌}
 use Rattle.std.specs.Io.KnownBytes.{IsAtEnd}
+use Rattle.kp_io.specs.Ends.{Input, Output}
 use Rattle.kp_io.specs.Told.{FromTold, Grows, IsFlushed}
 use Rattle.kp_io.specs.Lines.{lines_of, ended_lines}
 use Rattle.kp_io.specs.Reader.{HandedOut}
@@ -71,84 +72,58 @@ IsTooLong left = IfSome left (λ text. INPUT_LIMIT < length text)
 
 -- ---- Ends
 
--- what a source shows: the bytes that are left, where it tells them, and how often a read has failed
-pub record Input : Type 0 where
-  pub left : Option (List ℕ)
-  pub faults : ℕ
+-- What the ends of the program show is `from` and `to` before a run, and `input` and `output` after it.
 
--- what a sink shows: what it was given and how much of that is flushed, where it tells them, and how often a write
--- or a flush has failed
-pub record Output : Type 0 where
-  pub written : Option (List ℕ)
-  pub flushed : Option ℕ
-  pub faults : ℕ
-
--- what the ends of the program show
-pub record Outside : Type 0 where
-  pub input : Input
-  pub output : Output
-
--- a source that shows these
-abbrev pub source_of : Option (List ℕ) → ℕ → Input
-source_of left faults = record { left = left; faults = faults }
-
--- a sink that shows these
-abbrev pub sink_of : Option (List ℕ) → Option ℕ → ℕ → Output
-sink_of written flushed faults = record { written = written; flushed = flushed; faults = faults }
-
--- the ends that show these
-abbrev pub ends_of : Input → Output → Outside
-ends_of from to = record { input = from; output = to }
-
--- all that was written is flushed
+-- all that was written is flushed, and nothing is kept back
 abbrev pub IsOut : Output → Type 0
-IsOut now = IsFlushed now.flushed now.written
+IsOut now = IsFlushed now.flushed now.written × (now.kept_back ≡ 0)
 
 -- neither reading nor writing has failed since
-abbrev pub IsSure : Outside → Outside → Type 0
-IsSure old new = (new.input.faults ≡ old.input.faults) × (new.output.faults ≡ old.output.faults)
+abbrev pub IsSure : Input → Output → Input → Output → Type 0
+IsSure from to input output = (input.faults ≡ from.faults) × (output.faults ≡ to.faults)
 
 -- the whole text was written and flushed, this is whether a line was refused, nothing failed, and where the source
 -- tells what it has left, that is nothing
-abbrev pub EndsWhole : Texts → Bool → Outside → Outside → Type 0
-EndsWhole t refused old new =
-    IfSome old.input.left (λ text. WritesAll t refused text old.output.written new.output.written) × IsOut new.output
-    × IsSure old new × IsAtEnd new.input.left
+abbrev pub EndsWhole : Texts → Bool → Input → Output → Input → Output → Type 0
+EndsWhole t refused from to input output =
+    IfSome from.left (λ text. WritesAll t refused text to.written output.written) × IsOut output
+    × IsSure from to input output × IsAtEnd input.left
 
 -- a front of the whole text was written
-abbrev pub EndsFront : Texts → Outside → Outside → Type 0
-EndsFront t old new = WritesFront t old.input.left old.output.written new.output.written
+abbrev pub EndsFront : Texts → Input → Output → Output → Type 0
+EndsFront t from to output = WritesFront t from.left to.written output.written
 
 -- exactly the text of the lines was written that ended in what was read, it is flushed, and no write has failed
-abbrev pub EndsRead : Texts → Outside → Outside → Type 0
-EndsRead t old new =
-    WritesRead t.progress old.input.left new.input.left old.output.written new.output.written
-    × IsOut new.output × (new.output.faults ≡ old.output.faults)
+abbrev pub EndsRead : Texts → Input → Output → Input → Output → Type 0
+EndsRead t from to input output =
+    WritesRead t.progress from.left input.left to.written output.written
+    × IsOut output × (output.faults ≡ to.faults)
 
 -- What holds of each status: where the run read its input to its end and wrote all, the whole text was written
 -- and flushed, whether a line was refused is told, and no read or write has failed; else a front of that text was
 -- written, and where reading stopped the run, it is the text of the lines that were read to their end, flushed. A
 -- fault of a read is told only where the count of its faults rose and no write has failed, one of a write only where
 -- the count of its faults rose, an input that is too long only where it is and nothing has failed, and want of
--- memory, which is free else, only where nothing has failed.
-abbrev pub EndsOf : Texts → Status → Outside → Outside → Type 0
-EndsOf t Done old new = EndsWhole t false old new
-EndsOf t LinesRefused old new = EndsWhole t true old new
-EndsOf t (NoMemory refused) old new = EndsFront t old new × IsSure old new
-EndsOf t Usage old new = ⊥
-EndsOf t ReadFault old new =
-    Rose old.input.faults new.input.faults × EndsFront t old new × EndsRead t old new
-EndsOf t WriteFault old new = Rose old.output.faults new.output.faults × EndsFront t old new
-EndsOf t InputTooLong old new =
-    IsTooLong old.input.left × (new.input.faults ≡ old.input.faults) × EndsFront t old new
-    × EndsRead t old new
+-- memory, which is free else, only where nothing has failed. Nothing is kept back, unless a write failed.
+abbrev pub EndsOf : Texts → Status → Input → Output → Input → Output → Type 0
+EndsOf t Done from to input output = EndsWhole t false from to input output
+EndsOf t LinesRefused from to input output = EndsWhole t true from to input output
+EndsOf t (NoMemory refused) from to input output =
+    EndsFront t from to output × IsSure from to input output × (output.kept_back ≡ 0)
+EndsOf t Usage from to input output = ⊥
+EndsOf t ReadFault from to input output =
+    Rose from.faults input.faults × EndsFront t from to output × EndsRead t from to input output
+EndsOf t WriteFault from to input output = Rose to.faults output.faults × EndsFront t from to output
+EndsOf t InputTooLong from to input output =
+    IsTooLong from.left × (input.faults ≡ from.faults) × EndsFront t from to output
+    × EndsRead t from to input output
 
 -- for a replay
-abbrev pub Ends : Status → Outside → Outside → Type 0
+abbrev pub Ends : Status → Input → Output → Input → Output → Type 0
 Ends = EndsOf replayed
 
 -- and for a mode
-abbrev pub EndsIn : Adds → Status → Outside → Outside → Type 0
+abbrev pub EndsIn : Adds → Status → Input → Output → Input → Output → Type 0
 EndsIn m = EndsOf (in_mode m)
 
 -- the status of an input that was read to its end
@@ -160,89 +135,78 @@ status_if false = Done
 abbrev pub IsStatusOr : Status → Status → Type 0 → Type 0 → Type 0
 IsStatusOr result given P Q = ((result ≡ given) × P) ⊎ ((result ≡ WriteFault) × Q)
 
--- a sink keeps nothing back of what it was given, unless a write failed
-abbrev pub IsHandedOn : Status → ℕ → Type 0
-IsHandedOn result back = (result ≡ WriteFault) ⊎ (back ≡ 0)
-
 -- a line was written and flushed, and nothing failed
 abbrev pub EndsPrinted : List ℕ → Output → Output → Type 0
-EndsPrinted line old new = Grows old.written new.written line × IsOut new × (new.faults ≡ old.faults)
+EndsPrinted line to output =
+    Grows to.written output.written line × IsOut output × (output.faults ≡ to.faults)
 
 -- how a run ends that writes the usage line: it was written and flushed, or a write failed after a front of it
 abbrev pub EndsUsage : Status → Output → Output → Type 0
-EndsUsage Usage old new = EndsPrinted usage_text old new
-EndsUsage WriteFault old new =
-    Rose old.faults new.faults × GrowsFront old.written new.written usage_text
-EndsUsage Done old new = ⊥
-EndsUsage (NoMemory refused) old new = ⊥
-EndsUsage LinesRefused old new = ⊥
-EndsUsage ReadFault old new = ⊥
-EndsUsage InputTooLong old new = ⊥
-
--- how a run ends whose words ask for nothing that is served: by the usage line, or with no memory for the
--- words, before anything was written
-abbrev pub EndsUnserved : Status → Output → Output → Type 0
-EndsUnserved (NoMemory refused) old new = new ≡ old
-EndsUnserved status old new = EndsUsage status old new
+EndsUsage Usage to output = EndsPrinted usage_text to output
+EndsUsage WriteFault to output =
+    Rose to.faults output.faults × GrowsFront to.written output.written usage_text
+EndsUsage Done to output = ⊥
+EndsUsage (NoMemory refused) to output = ⊥
+EndsUsage LinesRefused to output = ⊥
+EndsUsage ReadFault to output = ⊥
+EndsUsage InputTooLong to output = ⊥
 
 -- ---- The generator
 
 -- how a run ends that writes one line: it was written and flushed, and whether a line of the script was refused is
--- told, or a write failed, or memory was wanted and no write failed, behind a front of it
+-- told, or a write failed, or memory was wanted and no write failed, behind a front of it; then nothing is kept back
+-- that wasn't before
 abbrev pub EndsLine : Bool → List ℕ → Status → Output → Output → Type 0
-EndsLine refused line Done old new = (refused ≡ false) × EndsPrinted line old new
-EndsLine refused line LinesRefused old new = (refused ≡ true) × EndsPrinted line old new
-EndsLine refused line (NoMemory wanted) old new =
-    GrowsFront old.written new.written line × (new.faults ≡ old.faults)
-EndsLine refused line Usage old new = ⊥
-EndsLine refused line ReadFault old new = ⊥
-EndsLine refused line WriteFault old new =
-    Rose old.faults new.faults × GrowsFront old.written new.written line
-EndsLine refused line InputTooLong old new = ⊥
+EndsLine refused line Done to output = (refused ≡ false) × EndsPrinted line to output
+EndsLine refused line LinesRefused to output = (refused ≡ true) × EndsPrinted line to output
+EndsLine refused line (NoMemory wanted) to output =
+    GrowsFront to.written output.written line × (output.faults ≡ to.faults)
+    × (to.kept_back ≡ 0 → output.kept_back ≡ 0)
+EndsLine refused line Usage to output = ⊥
+EndsLine refused line ReadFault to output = ⊥
+EndsLine refused line WriteFault to output =
+    Rose to.faults output.faults × GrowsFront to.written output.written line
+EndsLine refused line InputTooLong to output = ⊥
 
 -- how a run of the generator ends
 abbrev pub EndsGen : ScriptPlan → Status → Output → Output → Type 0
-EndsGen plan status old new = EndsLine (gen_of plan).at.refused (gen_text plan) status old new
+EndsGen plan status to output = EndsLine (gen_of plan).at.refused (gen_text plan) status to output
 
 -- ---- A live run
-
--- nothing was written
-abbrev pub EndsUnwritten : Outside → Outside → Type 0
-EndsUnwritten old new = Grows old.output.written new.output.written []
 
 -- the whole text of a legal run was written and flushed, this is whether a line or the sync that
 -- ends the run was refused, nothing failed, and where the source tells what it has left, that is
 -- nothing
-abbrev pub EndsLiveWhole : Bool → Outside → Outside → Type 0
-EndsLiveWhole refused old new =
-    IfSome old.input.left
-    (λ text. live.WritesInput refused text old.output.written new.output.written)
-    × IsOut new.output × IsSure old new × IsAtEnd new.input.left
+abbrev pub EndsLiveWhole : Bool → Input → Output → Input → Output → Type 0
+EndsLiveWhole refused from to input output =
+    IfSome from.left (λ text. live.WritesInput refused text to output)
+    × IsOut output × IsSure from to input output × IsAtEnd input.left
 
 -- where the input is told, nothing was written, or a front of the text of a legal run of it
-abbrev pub EndsLiveFront : Outside → Outside → Type 0
-EndsLiveFront old new =
-    IfSome old.input.left (λ text.
-    live.WritesFront (reading_of (lines_of text)) old.output.written new.output.written)
+abbrev pub EndsLiveFront : Input → Output → Output → Type 0
+EndsLiveFront from to output =
+    IfSome from.left (λ text. live.WritesFront (reading_of (lines_of text)) to output)
 
 -- nothing was written, what there is is flushed, and no write has failed
-abbrev pub EndsUnread : Outside → Outside → Type 0
-EndsUnread old new =
-    EndsUnwritten old new × IsOut new.output × (new.output.faults ≡ old.output.faults)
+abbrev pub EndsUnread : Output → Output → Type 0
+EndsUnread to output = EndsPrinted [] to output
 
 -- What holds of each status of a live run: where it read its input to its end and wrote all, the
 -- whole text of a legal run was written and flushed, and whether a line was refused is told. Where
 -- memory was wanted or a write failed, nothing or a front of such a text was written. Where reading
--- stopped it, nothing was run or written, and no write has failed.
-abbrev pub EndsLive : Status → Outside → Outside → Type 0
-EndsLive Done old new = EndsLiveWhole false old new
-EndsLive LinesRefused old new = EndsLiveWhole true old new
-EndsLive (NoMemory refused) old new = EndsLiveFront old new × IsSure old new
-EndsLive Usage old new = ⊥
-EndsLive ReadFault old new = Rose old.input.faults new.input.faults × EndsUnread old new
-EndsLive WriteFault old new = Rose old.output.faults new.output.faults × EndsLiveFront old new
-EndsLive InputTooLong old new =
-    IsTooLong old.input.left × (new.input.faults ≡ old.input.faults) × EndsUnread old new
+-- stopped it, nothing was run or written, and no write has failed. Nothing is kept back, unless a
+-- write failed.
+abbrev pub EndsLive : Status → Input → Output → Input → Output → Type 0
+EndsLive Done from to input output = EndsLiveWhole false from to input output
+EndsLive LinesRefused from to input output = EndsLiveWhole true from to input output
+EndsLive (NoMemory refused) from to input output =
+    EndsLiveFront from to output × IsSure from to input output × (output.kept_back ≡ 0)
+EndsLive Usage from to input output = ⊥
+EndsLive ReadFault from to input output =
+    Rose from.faults input.faults × EndsUnread to output
+EndsLive WriteFault from to input output = Rose to.faults output.faults × EndsLiveFront from to output
+EndsLive InputTooLong from to input output =
+    IsTooLong from.left × (input.faults ≡ from.faults) × EndsUnread to output
 
 -- ---- By words
 
@@ -255,13 +219,23 @@ reads_source (Some mode.Health) = true
 reads_source (Some mode.Live) = true
 reads_source (Some (mode.Gen seed services pods)) = false
 
--- How a run ends, by what the words ask for. Where they fit, want of memory for them is that of the
--- run itself.
-abbrev pub Runs : Option Mode → Status → Outside → Outside → Type 0
-Runs None status old new = EndsUnserved status old.output new.output
-Runs (Some (mode.Replay workers)) status old new = Ends status old new
-Runs (Some mode.Changes) status old new = EndsIn changing status old new
-Runs (Some mode.Health) status old new = EndsIn healthy status old new
-Runs (Some mode.Live) status old new = EndsLive status old new
-Runs (Some (mode.Gen seed services pods)) status old new =
-    EndsGen (record { seed = seed; services = services; pods = pods }) status old.output new.output
+-- how a run ends, by what the words ask for
+abbrev pub EndsBy : Option Mode → Status → Input → Output → Input → Output → Type 0
+EndsBy None status from to input output = EndsUsage status to output
+EndsBy (Some (mode.Replay workers)) status from to input output = Ends status from to input output
+EndsBy (Some mode.Changes) status from to input output = EndsIn changing status from to input output
+EndsBy (Some mode.Health) status from to input output = EndsIn healthy status from to input output
+EndsBy (Some mode.Live) status from to input output = EndsLive status from to input output
+EndsBy (Some (mode.Gen seed services pods)) status from to input output =
+    EndsGen (record { seed = seed; services = services; pods = pods }) status to output
+
+-- memory was wanted before anything was read, written or handed on
+abbrev pub IsUnbegun : Status → Input → Output → Input → Output → Type 0
+IsUnbegun (NoMemory refused) from to input output = (input ≡ from) × (output ≡ to)
+IsUnbegun status from to input output = ⊥
+
+-- A run ends by what the words ask for, or for want of memory for them. So nothing is kept back that
+-- wasn't before, unless a write failed.
+abbrev pub Runs : Option Mode → Status → Input → Output → Input → Output → Type 0
+Runs asked status from to input output =
+    EndsBy asked status from to input output ⊎ IsUnbegun status from to input output

@@ -1,6 +1,7 @@
 -- How a replay stands between its lines, and what a step of it comes to.
-use Rattle.std.specs.Prelude.{◌≡◌, ◌+◌, ◌≤◌, ℕ, Bool, false, true, List, [], length, Option, Some, None, Result, Ok, Err, IfSome, ⊤}
+use Rattle.std.specs.Prelude.{◌≡◌, ◌+◌, ◌≤◌, ℕ, Bool, false, true, List, [], length, Option, Some, None, Result, Ok, Err, IfErr, IfSome, OnErr, OnOk, ⊤}
 use Rattle.std.specs.Io.KnownBytes.{IsAtEnd}
+use Rattle.kp_io.specs.Ends.{Input, Output}
 use Rattle.kp_io.specs.Faults.{Rose}
 use Rattle.kp_io.specs.Reader.{ReaderState, IsBounded, LosesTaken, feeds_up_to, to_come}
 use Rattle.kp_io.specs.Lines.{lines_of}
@@ -8,10 +9,11 @@ use Rattle.kp_io.specs.Told.{FromTold, Grows}
 use Rattle.kp_io.specs.declared.next_line.TheConstants.{INPUT_LIMIT, LINE_LIMIT}
 use Rattle.kp_run_defs.specs.ReplayText.{Standing}
 use Rattle.kp_mode_defs.specs.Mode.{Mode as Adds, replay_in}
-use Rattle.kp_run.specs.Outcome.{Come, EndsFront, IsSure, IsTooLong, Outside, WritesAll, WritesRead}
+use Rattle.kp_run.specs.Outcome.{Come, EndsFront, GrowsFront, IsStatusOr, IsSure, IsTooLong, WritesAll, WritesRead}
 use Rattle.kp_run.specs.Texts.{Texts, by_lines}
 use Rattle.kp_run.specs.declared.ending.Stop.{Stop}
 use Rattle.kp_run.specs.declared.ending.Stop.TheVariants.{NoMemory, Write, Read, InputTooLong}
+use Rattle.kp_run.specs.declared.status.Status.{Status}
 
 -- ---- Between two lines
 
@@ -23,13 +25,13 @@ CountsFeeds reader first left =
 
 -- Where a replay stands that began with such ends: it has come as far as the lines that were handed
 -- out, and nothing has failed.
-pub record Stands (m : Adds) (first : Outside) (s : Standing) (reader : ReaderState) (now : Outside) : Type 0 where
-  pub come : Come m s reader.number first.input.left (to_come reader now.input.left) first.output.written now.output.written
-  pub taken : FromTold (LosesTaken 0 reader.taken) first.input.left now.input.left
-  pub feeds : reader.ended ≡ false → CountsFeeds reader first.input.left now.input.left
-  pub ended : reader.ended ≡ true → IsAtEnd now.input.left
+pub record Stands (m : Adds) (from : Input) (to : Output) (s : Standing) (reader : ReaderState) (input : Input) (output : Output) : Type 0 where
+  pub come : Come m s reader.number from.left (to_come reader input.left) to.written output.written
+  pub taken : FromTold (LosesTaken 0 reader.taken) from.left input.left
+  pub feeds : reader.ended ≡ false → CountsFeeds reader from.left input.left
+  pub ended : reader.ended ≡ true → IsAtEnd input.left
   pub room : reader.room ≤ LINE_LIMIT
-  pub sure : IsSure first now
+  pub sure : IsSure from to input output
 
 -- ---- Stops
 
@@ -40,6 +42,26 @@ StopsOutput Write before now = Rose before now
 StopsOutput Read before now = ⊥
 StopsOutput InputTooLong before now = ⊥
 
+-- a text was written whole, or what stopped the output came behind a front of it
+pub record WritesOrStops {T : Type 0} (result : Result T Stop) (text : List ℕ) (to output : Output)
+    : Type 0 where
+  pub whole : OnOk result (Grows to.written output.written text)
+  pub front : OnErr result (GrowsFront to.written output.written text)
+  pub sure : OnOk result (output.faults ≡ to.faults)
+  pub cause : IfErr result (λ stop. StopsOutput stop to.faults output.faults)
+
+-- nothing was added to what was written, and only a write stops that
+pub record HandsOn {T : Type 0} (result : Result T Stop) (to output : Output) : Type 0 where
+  pub kept : Grows to.written output.written []
+  pub sure : OnOk result (output.faults ≡ to.faults)
+  pub cause : IfErr result (λ stop. (stop ≡ Write) × Rose to.faults output.faults)
+
+-- Nothing was added to what was written at last. The status is the one given, where this holds and
+-- no write failed, or a fault of writing.
+pub record Closes (result given : Status) (P : Type 0) (to output : Output) : Type 0 where
+  pub kept : Grows to.written output.written []
+  pub cases : IsStatusOr result given (P × (output.faults ≡ to.faults)) (Rose to.faults output.faults)
+
 -- The text of all lines of an input was written, and the replay stands where they lead. The input is
 -- no longer than may be read.
 pub record WritesLines (m : Adds) (s : Standing) (text : List ℕ) (written now : Option (List ℕ))
@@ -49,55 +71,54 @@ pub record WritesLines (m : Adds) (s : Standing) (text : List ℕ) (written now 
   pub short : length text ≤ INPUT_LIMIT
 
 -- the input came to its end, and nothing failed
-abbrev pub ComesToEnd : Adds → Standing → Outside → Outside → Type 0
-ComesToEnd m s old new =
-    IfSome old.input.left (λ text. WritesLines m s text old.output.written new.output.written)
-    × IsSure old new × IsAtEnd new.input.left
+abbrev pub ComesToEnd : Adds → Standing → Input → Output → Input → Output → Type 0
+ComesToEnd m s from to input output =
+    IfSome from.left (λ text. WritesLines m s text to.written output.written)
+    × IsSure from to input output × IsAtEnd input.left
 
 -- its whole text was written, this is whether a line of it was refused, and nothing failed
-abbrev pub EndsWell : Texts → Bool → Outside → Outside → Type 0
-EndsWell t refused old new =
-    IfSome old.input.left
-    (λ text. WritesAll t refused text old.output.written new.output.written)
-    × IsSure old new × IsAtEnd new.input.left
+abbrev pub EndsWell : Texts → Bool → Input → Output → Input → Output → Type 0
+EndsWell t refused from to input output =
+    IfSome from.left (λ text. WritesAll t refused text to.written output.written)
+    × IsSure from to input output × IsAtEnd input.left
 
 -- What holds where a replay was stopped: a front of the text was written, and where reading stopped it,
 -- exactly the text of what was read. What is told has failed, and nothing before it.
-abbrev pub Stops : Texts → Stop → Outside → Outside → Type 0
-Stops t (NoMemory wanted) old new = EndsFront t old new × IsSure old new
-Stops t Write old new = EndsFront t old new × Rose old.output.faults new.output.faults
-Stops t Read old new =
-    EndsFront t old new × Rose old.input.faults new.input.faults
-    × (new.output.faults ≡ old.output.faults)
-    × WritesRead t.progress old.input.left new.input.left old.output.written new.output.written
-Stops t InputTooLong old new =
-    EndsFront t old new × IsTooLong old.input.left × IsSure old new
-    × WritesRead t.progress old.input.left new.input.left old.output.written new.output.written
+abbrev pub Stops : Texts → Stop → Input → Output → Input → Output → Type 0
+Stops t (NoMemory wanted) from to input output =
+    EndsFront t from to output × IsSure from to input output
+Stops t Write from to input output = EndsFront t from to output × Rose to.faults output.faults
+Stops t Read from to input output =
+    EndsFront t from to output × Rose from.faults input.faults × (output.faults ≡ to.faults)
+    × WritesRead t.progress from.left input.left to.written output.written
+Stops t InputTooLong from to input output =
+    EndsFront t from to output × IsTooLong from.left × IsSure from to input output
+    × WritesRead t.progress from.left input.left to.written output.written
 
 -- one of the two
 abbrev pub EndsOrStops :
-    {T : Type 0} → Texts → Bool → Result T Stop → Outside → Outside → Type 0
-EndsOrStops t refused (Ok done) old new = EndsWell t refused old new
-EndsOrStops t refused (Err stop) old new = Stops t stop old new
+    {T : Type 0} → Texts → Bool → Result T Stop → Input → Output → Input → Output → Type 0
+EndsOrStops t refused (Ok done) from to input output = EndsWell t refused from to input output
+EndsOrStops t refused (Err stop) from to input output = Stops t stop from to input output
 
 -- the lines of the input came to their end, or the replay was stopped
 abbrev pub ComesOrStops :
-    {T : Type 0} → Adds → Standing → Result T Stop → Outside → Outside → Type 0
-ComesOrStops m s (Ok done) old new = ComesToEnd m s old new
-ComesOrStops m s (Err stop) old new = Stops (by_lines m) stop old new
+    {T : Type 0} → Adds → Standing → Result T Stop → Input → Output → Input → Output → Type 0
+ComesOrStops m s (Ok done) from to input output = ComesToEnd m s from to input output
+ComesOrStops m s (Err stop) from to input output = Stops (by_lines m) stop from to input output
 
 -- ---- Steps
 
 -- the replay goes on, or was stopped
-abbrev pub GoesOn : {T : Type 0} → Adds → Outside → Result T Stop → Standing → ReaderState → Outside → Type 0
-GoesOn m first (Ok done) s reader now = Stands m first s reader now
-GoesOn m first (Err stop) s reader now = Stops (by_lines m) stop first now
+abbrev pub GoesOn : {T : Type 0} → Adds → Input → Output → Result T Stop → Standing → ReaderState → Input → Output → Type 0
+GoesOn m from to (Ok done) s reader input output = Stands m from to s reader input output
+GoesOn m from to (Err stop) s reader input output = Stops (by_lines m) stop from to input output
 
 -- the next line was taken, or the input came to its end, or the replay was stopped
-abbrev pub TakesStep : Adds → Outside → Result (Option ℕ) Stop → Standing → ReaderState → Outside → Type 0
-TakesStep m first (Ok (Some number)) s reader now = Stands m first s reader now
-TakesStep m first (Ok None) s reader now = ComesToEnd m s first now
-TakesStep m first (Err stop) s reader now = Stops (by_lines m) stop first now
+abbrev pub TakesStep : Adds → Input → Output → Result (Option ℕ) Stop → Standing → ReaderState → Input → Output → Type 0
+TakesStep m from to (Ok (Some number)) s reader input output = Stands m from to s reader input output
+TakesStep m from to (Ok None) s reader input output = ComesToEnd m s from to input output
+TakesStep m from to (Err stop) s reader input output = Stops (by_lines m) stop from to input output
 
 -- a line that was taken has the next number
 abbrev pub CountsLine : Option ℕ → ReaderState → ReaderState → Type 0

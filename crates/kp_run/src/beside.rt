@@ -1,11 +1,11 @@
 //! Groups of the whole lines that a reader holds, which workers take beside each other.
 ghost use Rattle.std.specs.Prelude.{◌≡◌, ◌<◌, ◌≤◌, ◌+◌, ◌^◌, false, IfOk, OnOk};
+ghost use Rattle.kp_io.specs.Ends.{Input, Output};
 ghost use Rattle.kp_io.specs.Reader.{IsBounded};
 ghost use Rattle.kp_io.specs.declared.next_line.TheConstants.{INPUT_LIMIT, LINE_LIMIT};
 ghost use Rattle.kp_mode_defs.specs.Mode.{replaying};
 ghost use Rattle.kp_replay.specs.Steps.{standing_of, IsReady};
 ghost use Rattle.kp_run.specs.Held.{AnswersGroup};
-ghost use Rattle.kp_run.specs.Outcome as outcome;
 ghost use Rattle.kp_run.specs.Stand.{GoesOn, Stands};
 
 use crate::ending::{Stop, write_text};
@@ -51,12 +51,10 @@ impl<'a, R: Threads + Sync, G: Gate<R> + Sync> Beside<'a, R, G> {
         requires number { number ≡ reader.old.number }
         requires bounded { IsBounded reader.old }
         requires room { reader.old.room ≤ LINE_LIMIT }
-        ensures goes { (first : outcome.Outside) (from : outcome.Input)
-            → Stands replaying first (standing_of replay.old) reader.old (outcome.ends_of from
-            (outcome.sink_of (K.written sink.old) (K.flushed sink.old) (K.faults sink.old)))
-            → GoesOn replaying first result (standing_of replay.new) reader.new
-            (outcome.ends_of from (outcome.sink_of (K.written sink.new) (K.flushed sink.new)
-            (K.faults sink.new))) }
+        ensures goes { (from : Input) (to : Output) (input : Input)
+            → Stands replaying from to (standing_of replay.old) reader.old input (K.output sink.old)
+            → GoesOn replaying from to result (standing_of replay.new) reader.new input
+            (K.output sink.new) }
         ensures further { OnOk result (reader.old.number ≤ reader.new.number) }
     {
         if !replay.has_begun() {
@@ -83,12 +81,10 @@ impl<'a, R: Threads + Sync, G: Gate<R> + Sync> Beside<'a, R, G> {
         requires room { reader.old.room ≤ LINE_LIMIT }
         requires open { reader.old.skipping ≡ false }
         requires input { reader.old.taken ≤ INPUT_LIMIT }
-        ensures goes { (first : outcome.Outside) (from : outcome.Input)
-            → Stands replaying first (standing_of replay.old) reader.old (outcome.ends_of from
-            (outcome.sink_of (K.written sink.old) (K.flushed sink.old) (K.faults sink.old)))
-            → GoesOn replaying first result (standing_of replay.new) reader.new
-            (outcome.ends_of from (outcome.sink_of (K.written sink.new) (K.flushed sink.new)
-            (K.faults sink.new))) }
+        ensures goes { (from : Input) (to : Output) (input : Input)
+            → Stands replaying from to (standing_of replay.old) reader.old input (K.output sink.old)
+            → GoesOn replaying from to result (standing_of replay.new) reader.new input
+            (K.output sink.new) }
         ensures further { OnOk result (reader.old.number ≤ reader.new.number) }
     {
         match self.answer_group(alloc, number + 1, replay, reader.held_lines()) {

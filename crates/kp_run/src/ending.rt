@@ -1,11 +1,9 @@
 //! Ways to end a run.
-ghost use Rattle.std.specs.Prelude.{◌≡◌, ◌≤◌, [], Err, OnOk, OnErr};
-ghost use Rattle.kp_io.specs.Faults.{Rose};
-ghost use Rattle.kp_io.specs.Told.{Grows, IsFlushed};
+ghost use Rattle.std.specs.Prelude.{◌≡◌, OnOk};
+ghost use Rattle.kp_io.specs.Ends.{Input, Output};
 ghost use Rattle.kp_run.specs.Outcome as outcome;
-ghost use Rattle.kp_run.specs.Stand.{EndsOrStops};
+ghost use Rattle.kp_run.specs.Stand.{Closes, EndsOrStops, HandsOn, WritesOrStops};
 ghost use Rattle.kp_run.specs.Texts.{Texts};
-ghost use Rattle.kp_run.specs.declared.ending.Stop.{Stop};
 ghost use Rattle.kp_run.specs.declared.status.Status.TheVariants as status;
 
 use crate::status::Status;
@@ -24,13 +22,7 @@ pub(crate) enum Stop {
 
 /// Writes a text whole, or a front of it.
 pub(crate) fn write_text<K: Sink>(sink: &mut K, text: &[u8]) -> Result<(), Stop>
-    ensures whole { OnOk result (Grows (K.written sink.old) (K.written sink.new) text.now) }
-    ensures front { OnErr result
-        (outcome.GrowsFront (K.written sink.old) (K.written sink.new) text.now) }
-    ensures later { K.faults sink.old ≤ K.faults sink.new }
-    ensures sure { OnOk result (K.faults sink.new ≡ K.faults sink.old) }
-    ensures write { result ≡ Err Stop.Write → Rose (K.faults sink.old) (K.faults sink.new) }
-    ensures other { (stop : Stop) → result ≡ Err stop → stop ≡ Stop.Write }
+    ensures { WritesOrStops result text.now (K.output sink.old) (K.output sink.new) }
 {
     match write_whole(sink, text) {
         Ok(()) => Ok(()),
@@ -40,12 +32,8 @@ pub(crate) fn write_text<K: Sink>(sink: &mut K, text: &[u8]) -> Result<(), Stop>
 
 /// Hands on what the sink keeps back.
 pub(crate) fn hand_on<K: Sink>(sink: &mut K) -> Result<(), Stop>
-    ensures out { OnOk result (K.kept_back sink.new ≡ 0) }
-    ensures kept { Grows (K.written sink.old) (K.written sink.new) [] }
-    ensures later { K.faults sink.old ≤ K.faults sink.new }
-    ensures sure { OnOk result (K.faults sink.new ≡ K.faults sink.old) }
-    ensures write { OnErr result (Rose (K.faults sink.old) (K.faults sink.new)) }
-    ensures other { (stop : Stop) → result ≡ Err stop → stop ≡ Stop.Write }
+    ensures out { OnOk result ((K.output sink.new).kept_back ≡ 0) }
+    ensures hands { HandsOn result (K.output sink.old) (K.output sink.new) }
 {
     match sink.hand_on() {
         Ok(()) => Ok(()),
@@ -67,11 +55,8 @@ pub(crate) fn if_refused(refused: bool) -> Status
 /// Hands on what the sink keeps back, where memory ran out. The status tells that, or a fault of
 /// the sink.
 pub(crate) fn handed_on<K: Sink>(sink: &mut K, refused: NoMemory) -> Status
-    ensures out { outcome.IsHandedOn result (K.kept_back sink.new) }
-    ensures kept { Grows (K.written sink.old) (K.written sink.new) [] }
-    ensures cases { outcome.IsStatusOr result (status.NoMemory refused)
-        (K.faults sink.new ≡ K.faults sink.old)
-        (Rose (K.faults sink.old) (K.faults sink.new)) }
+    ensures { Closes result (status.NoMemory refused) ((K.output sink.new).kept_back ≡ 0)
+        (K.output sink.old) (K.output sink.new) }
 {
     match sink.hand_on() {
         Ok(()) => Status::NoMemory(refused),
@@ -81,13 +66,8 @@ pub(crate) fn handed_on<K: Sink>(sink: &mut K, refused: NoMemory) -> Status
 
 /// Flushes the sink. The status is the one given, or a fault of the sink.
 pub(crate) fn flushed<K: Sink>(sink: &mut K, status: Status) -> Status
-    ensures out { outcome.IsHandedOn result (K.kept_back sink.new) }
-    ensures kept { Grows (K.written sink.old) (K.written sink.new) [] }
-    ensures later { K.faults sink.old ≤ K.faults sink.new }
-    ensures cases { outcome.IsStatusOr result status
-        (IsFlushed (K.flushed sink.new) (K.written sink.new)
-        × (K.faults sink.new ≡ K.faults sink.old))
-        (Rose (K.faults sink.old) (K.faults sink.new)) }
+    ensures { Closes result status (outcome.IsOut (K.output sink.new))
+        (K.output sink.old) (K.output sink.new) }
 {
     match sink.flush() {
         Ok(()) => status,
@@ -98,12 +78,9 @@ pub(crate) fn flushed<K: Sink>(sink: &mut K, status: Status) -> Status
 /// Ends a replay that has come to the end of its input, of which this is whether a line was
 /// refused, or was stopped.
 pub(crate) fn ended<K: Sink>(sink: &mut K, refused: bool, all: Result<(), Stop>) -> Status
-    ensures out { outcome.IsHandedOn result (K.kept_back sink.new) }
-    ensures ends { (t : Texts) (first : outcome.Outside) (input : outcome.Input)
-        → EndsOrStops t refused all first (outcome.ends_of input
-        (outcome.sink_of (K.written sink.old) (K.flushed sink.old) (K.faults sink.old)))
-        → outcome.EndsOf t result first (outcome.ends_of input
-        (outcome.sink_of (K.written sink.new) (K.flushed sink.new) (K.faults sink.new))) }
+    ensures { (t : Texts) (from : Input) (to : Output) (input : Input)
+        → EndsOrStops t refused all from to input (K.output sink.old)
+        → outcome.EndsOf t result from to input (K.output sink.new) }
 {
     match all {
         Ok(()) => flushed(sink, if_refused(refused)),
@@ -116,12 +93,9 @@ pub(crate) fn ended<K: Sink>(sink: &mut K, refused: bool, all: Result<(), Stop>)
 
 /// Writes the usage line.
 pub fn usage<K: Sink>(sink: &mut K) -> Status
-    ensures out { outcome.IsHandedOn result (K.kept_back sink.new) }
-    ensures ends { outcome.EndsUsage result
-        (outcome.sink_of (K.written sink.old) (K.flushed sink.old) (K.faults sink.old))
-        (outcome.sink_of (K.written sink.new) (K.flushed sink.new) (K.faults sink.new)) }
+    ensures { outcome.EndsUsage result (K.output sink.old) (K.output sink.new) }
 {
-    match write_text(sink, usage_text().as_bytes()) {
+    match write_whole(sink, usage_text().as_bytes()) {
         Ok(()) => flushed(sink, Status::Usage),
         Err(_) => Status::WriteFault,
     }

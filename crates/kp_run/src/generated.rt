@@ -8,11 +8,11 @@ ghost use Rattle.kp_text_defs.specs.Live.{totals_text};
 ghost use Rattle.kp_run.specs.Outcome as outcome;
 ghost use Rattle.kp_run.specs.Sums.{counted_in, sums_of};
 
-use crate::ending::{flushed, if_refused, write_text};
+use crate::ending::{flushed, if_refused};
 use crate::status::Status;
 use kp_base::NoMemory;
 use kp_gen::{ScriptPart, ScriptPlan, lines_in, push_line, script_parts};
-use kp_io::Sink;
+use kp_io::{Sink, write_whole};
 use kp_replay::{Replay, no_totals};
 use kp_report::totals_text;
 use kp_text_defs::Totals;
@@ -142,11 +142,7 @@ fn sums_of_script(alloc: Global, plan: ScriptPlan) -> Result<Sums, NoMemory>
 /// Replays a generated script, and writes the one line of what came of it.
 pub fn generate<K: Sink>(alloc: Global, plan: ScriptPlan, sink: &mut K) -> Status
     requires { script.IsPlan plan }
-    ensures out { K.kept_back sink.old ≡ 0
-        → outcome.IsHandedOn result (K.kept_back sink.new) }
-    ensures ends { outcome.EndsGen plan result
-        (outcome.sink_of (K.written sink.old) (K.flushed sink.old) (K.faults sink.old))
-        (outcome.sink_of (K.written sink.new) (K.flushed sink.new) (K.faults sink.new)) }
+    ensures { outcome.EndsGen plan result (K.output sink.old) (K.output sink.new) }
 {
     match sums_of_script(alloc, plan) {
         Ok(sums) => write_sums(alloc, &sums, sink),
@@ -156,17 +152,14 @@ pub fn generate<K: Sink>(alloc: Global, plan: ScriptPlan, sink: &mut K) -> Statu
 
 /// Writes the line of sums.
 fn write_sums<K: Sink>(alloc: Global, sums: &Sums, sink: &mut K) -> Status
-    ensures out { K.kept_back sink.old ≡ 0
-        → outcome.IsHandedOn result (K.kept_back sink.new) }
-    ensures ends { outcome.EndsLine sums.now.refused (totals_text sums.now.totals) result
-        (outcome.sink_of (K.written sink.old) (K.flushed sink.old) (K.faults sink.old))
-        (outcome.sink_of (K.written sink.new) (K.flushed sink.new) (K.faults sink.new)) }
+    ensures { outcome.EndsLine sums.now.refused (totals_text sums.now.totals) result
+        (K.output sink.old) (K.output sink.new) }
 {
     let text = match totals_text(alloc, &sums.totals) {
         Ok(text) => text,
         Err(refused) => return Status::NoMemory(refused),
     };
-    match write_text(sink, text.as_str().as_bytes()) {
+    match write_whole(sink, text.as_str().as_bytes()) {
         Ok(()) => flushed(sink, if_refused(sums.refused)),
         Err(_) => Status::WriteFault,
     }

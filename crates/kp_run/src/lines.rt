@@ -1,9 +1,8 @@
 //! A replay of lines, one after the other, in any mode.
-ghost use Rattle.std.specs.Prelude.{◌≡◌, ◌<◌, ◌≤◌, ◌⊎◌, [], Err, IfErr, IfOk, OnOk, OnErr};
+ghost use Rattle.std.specs.Prelude.{◌≡◌, ◌<◌, ◌≤◌, ◌⊎◌, IfOk, OnOk, OnErr};
 ghost use Rattle.std.specs.Option.{option_copied};
-ghost use Rattle.kp_io.specs.Faults.{Rose};
+ghost use Rattle.kp_io.specs.Ends.{Input, Output};
 ghost use Rattle.kp_io.specs.Reader.{fresh_with};
-ghost use Rattle.kp_io.specs.Told.{Grows};
 ghost use Rattle.kp_io.specs.declared.next_line.TheConstants.{LINE_LIMIT};
 ghost use Rattle.kp_run_defs.specs.ReplayText as spec;
 ghost use Rattle.kp_base.specs.declared.config.Config.{Config};
@@ -14,10 +13,9 @@ ghost use Rattle.kp_replay.specs.Steps.{standing_of, IsReady};
 ghost use Rattle.kp_run.specs.Given.{given_in};
 ghost use Rattle.kp_run.specs.Next.{TakesNext};
 ghost use Rattle.kp_run.specs.Outcome as outcome;
-ghost use Rattle.kp_run.specs.Stand.{ComesOrStops, CountsLine, EndsOrStops, Stands};
-ghost use Rattle.kp_run.specs.Stand.{StopsOutput, TakesStep};
+ghost use Rattle.kp_run.specs.Stand.{ComesOrStops, CountsLine, EndsOrStops, HandsOn, Stands};
+ghost use Rattle.kp_run.specs.Stand.{TakesStep, WritesOrStops};
 ghost use Rattle.kp_run.specs.Texts.{in_mode};
-ghost use Rattle.kp_run.specs.declared.ending.Stop.{Stop};
 
 use crate::ending::{Stop, ended, hand_on, write_text};
 use crate::status::Status;
@@ -29,12 +27,8 @@ use std::alloc::Global;
 
 /// Replays the lines of a source, and writes what they print to a sink. It waits for nobody.
 pub fn replay_one<S: Source, K: Sink>(alloc: Global, source: &mut S, sink: &mut K) -> Status
-    ensures out { outcome.IsHandedOn result (K.kept_back sink.new) }
-    ensures ends { outcome.Ends result
-        (outcome.ends_of (outcome.source_of (S.left source.old) (S.faults source.old))
-        (outcome.sink_of (K.written sink.old) (K.flushed sink.old) (K.faults sink.old)))
-        (outcome.ends_of (outcome.source_of (S.left source.new) (S.faults source.new))
-        (outcome.sink_of (K.written sink.new) (K.flushed sink.new) (K.faults sink.new))) }
+    ensures { outcome.Ends result (S.input source.old) (K.output sink.old)
+        (S.input source.new) (K.output sink.new) }
 {
     replay_in(alloc, &mut Replaying, source, sink)
 }
@@ -47,12 +41,8 @@ pub fn replay_in<S: Source, K: Sink, M: Mode>(
     sink: &mut K,
 ) -> Status
     requires { (config : Config) → M.stands mode.old config no_objects }
-    ensures out { outcome.IsHandedOn result (K.kept_back sink.new) }
-    ensures ends { outcome.EndsIn M.mode result
-        (outcome.ends_of (outcome.source_of (S.left source.old) (S.faults source.old))
-        (outcome.sink_of (K.written sink.old) (K.flushed sink.old) (K.faults sink.old)))
-        (outcome.ends_of (outcome.source_of (S.left source.new) (S.faults source.new))
-        (outcome.sink_of (K.written sink.new) (K.flushed sink.new) (K.faults sink.new))) }
+    ensures { outcome.EndsIn M.mode result (S.input source.old) (K.output sink.old)
+        (S.input source.new) (K.output sink.new) }
 {
     let (mut replay, mut reader) = match begin(alloc, BUFFER_SIZE, 1) {
         Ok(both) => both,
@@ -93,10 +83,8 @@ fn replay_to_end<S: Source, K: Sink, M: Mode>(
     requires start { standing_of replay.old ≡ spec.beginning }
     requires follows { Follows (M.stands mode.old) (standing_of replay.old) }
     ensures { EndsOrStops (in_mode M.mode) (standing_of replay.new).refused result
-        (outcome.ends_of (outcome.source_of (S.left source.old) (S.faults source.old))
-        (outcome.sink_of (K.written sink.old) (K.flushed sink.old) (K.faults sink.old)))
-        (outcome.ends_of (outcome.source_of (S.left source.new) (S.faults source.new))
-        (outcome.sink_of (K.written sink.new) (K.flushed sink.new) (K.faults sink.new))) }
+        (S.input source.old) (K.output sink.old)
+        (S.input source.new) (K.output sink.new) }
 {
     replay_lines(alloc, mode, replay, reader, source, sink)?;
     write_ending(alloc, mode, replay, sink)
@@ -116,10 +104,8 @@ fn replay_lines<S: Source, K: Sink, M: Mode>(
     requires start { standing_of replay.old ≡ spec.beginning }
     requires follows { Follows (M.stands mode.old) (standing_of replay.old) }
     ensures comes { ComesOrStops M.mode (standing_of replay.new) result
-        (outcome.ends_of (outcome.source_of (S.left source.old) (S.faults source.old))
-        (outcome.sink_of (K.written sink.old) (K.flushed sink.old) (K.faults sink.old)))
-        (outcome.ends_of (outcome.source_of (S.left source.new) (S.faults source.new))
-        (outcome.sink_of (K.written sink.new) (K.flushed sink.new) (K.faults sink.new))) }
+        (S.input source.old) (K.output sink.old)
+        (S.input source.new) (K.output sink.new) }
     ensures follows { OnOk result (Follows (M.stands mode.new) (standing_of replay.new)) }
 {
     let mut text = String::new(alloc);
@@ -144,13 +130,11 @@ pub(crate) fn take_next<S: Source, K: Sink, M: Mode>(
 ) -> Result<Option<u64>, Stop>
     requires ready { IsReady (standing_of replay.old) }
     requires follows { Follows (M.stands mode.old) (standing_of replay.old) }
-    ensures step { (first : outcome.Outside)
-        → Stands M.mode first (standing_of replay.old) reader.old
-        (outcome.ends_of (outcome.source_of (S.left source.old) (S.faults source.old))
-        (outcome.sink_of (K.written sink.old) (K.flushed sink.old) (K.faults sink.old)))
-        → TakesStep M.mode first result (standing_of replay.new) reader.new
-        (outcome.ends_of (outcome.source_of (S.left source.new) (S.faults source.new))
-        (outcome.sink_of (K.written sink.new) (K.flushed sink.new) (K.faults sink.new))) }
+    ensures step { (from : Input) (to : Output)
+        → Stands M.mode from to (standing_of replay.old) reader.old
+        (S.input source.old) (K.output sink.old)
+        → TakesStep M.mode from to result (standing_of replay.new) reader.new
+        (S.input source.new) (K.output sink.new) }
     ensures follows { OnOk result (Follows (M.stands mode.new) (standing_of replay.new)) }
     ensures counts { IfOk result (λ taken. CountsLine taken reader.old reader.new) }
 {
@@ -177,15 +161,11 @@ pub(crate) fn next_known<S: Source, K: Sink>(
     source: &mut S,
     sink: &mut K,
 ) -> Result<Result<NextLine, LineFault>, Stop>
-    ensures known { (source.new ≡ source.old) ⊎ (K.kept_back sink.new ≡ 0) }
-    ensures next { IfOk result (λ told. TakesNext S.left S.faults told
-        reader.old reader.new source.old source.new) }
-    ensures kept { Grows (K.written sink.old) (K.written sink.new) [] }
-    ensures later { K.faults sink.old ≤ K.faults sink.new }
-    ensures sure { OnOk result (K.faults sink.new ≡ K.faults sink.old) }
-    ensures write { OnErr result (Rose (K.faults sink.old) (K.faults sink.new)) }
+    ensures known { (source.new ≡ source.old) ⊎ ((K.output sink.new).kept_back ≡ 0) }
+    ensures next { IfOk result (λ told. TakesNext told reader.old reader.new
+        (S.input source.old) (S.input source.new)) }
+    ensures hands { HandsOn result (K.output sink.old) (K.output sink.new) }
     ensures unread { OnErr result (source.new ≡ source.old) }
-    ensures other { (stop : Stop) → result ≡ Err stop → stop ≡ Stop.Write }
 {
     if !reader.answers_unasked() {
         hand_on(sink)?;
@@ -206,15 +186,12 @@ fn replay_line<K: Sink, M: Mode>(
 ) -> Result<(), Stop>
     requires ready { IsReady (standing_of replay.old) }
     requires follows { Follows (M.stands mode.old) (standing_of replay.old) }
-    ensures whole { OnOk result (outcome.TakesLine
-        (given_in M.mode number (option_copied given.entry) (standing_of replay.old))
-        (standing_of replay.new) (K.written sink.old) (K.written sink.new)) }
-    ensures front { OnErr result (outcome.GrowsFront (K.written sink.old) (K.written sink.new)
-        (given_in M.mode number (option_copied given.entry) (standing_of replay.old)).text) }
+    ensures stands { OnOk result (standing_of replay.new ≡ (given_in M.mode number
+        (option_copied given.entry) (standing_of replay.old)).next) }
+    ensures writes { WritesOrStops result (given_in M.mode number
+        (option_copied given.entry) (standing_of replay.old)).text
+        (K.output sink.old) (K.output sink.new) }
     ensures follows { OnOk result (Follows (M.stands mode.new) (standing_of replay.new)) }
-    ensures sure { OnOk result (K.faults sink.new ≡ K.faults sink.old) }
-    ensures cause { IfErr result (λ stop.
-        StopsOutput stop (K.faults sink.old) (K.faults sink.new)) }
 {
     text.clear();
     match replay.take_line_in(alloc, number, given, mode, text) {
@@ -231,13 +208,8 @@ fn write_ending<K: Sink, M: Mode>(
     sink: &mut K,
 ) -> Result<(), Stop>
     requires { Follows (M.stands mode.old) (standing_of replay.now) }
-    ensures whole { OnOk result (Grows (K.written sink.old) (K.written sink.new)
-        (modes.ended M.mode (standing_of replay.now))) }
-    ensures front { OnErr result (outcome.GrowsFront (K.written sink.old) (K.written sink.new)
-        (modes.ended M.mode (standing_of replay.now))) }
-    ensures sure { OnOk result (K.faults sink.new ≡ K.faults sink.old) }
-    ensures cause { IfErr result (λ stop.
-        StopsOutput stop (K.faults sink.old) (K.faults sink.new)) }
+    ensures { WritesOrStops result (modes.ended M.mode (standing_of replay.now))
+        (K.output sink.old) (K.output sink.new) }
 {
     let mut text = String::new(alloc);
     match replay.end_in(alloc, mode, &mut text) {

@@ -36,12 +36,8 @@ pub fn replay_many<S: Source, K: Sink, R: Threads + Sync, G: Gate<R> + Sync>(
     sink: &mut K,
     gate: &G,
 ) -> Status
-    ensures out { outcome.IsHandedOn result (K.kept_back sink.new) }
-    ensures ends { outcome.Ends result
-        (outcome.ends_of (outcome.source_of (S.left source.old) (S.faults source.old))
-        (outcome.sink_of (K.written sink.old) (K.flushed sink.old) (K.faults sink.old)))
-        (outcome.ends_of (outcome.source_of (S.left source.new) (S.faults source.new))
-        (outcome.sink_of (K.written sink.new) (K.flushed sink.new) (K.faults sink.new))) }
+    ensures { outcome.Ends result (S.input source.old) (K.output sink.old)
+        (S.input source.new) (K.output sink.new) }
 {
     let workers = workers.clamp(1, MOST_WORKERS) as usize;
     let (mut replay, mut reader) = match begin(alloc, GROUP_ROOM, workers) {
@@ -68,10 +64,8 @@ fn replay_groups<S: Source, K: Sink, R: Threads + Sync, G: Gate<R> + Sync>(
     requires room { reader.old.room ≤ LINE_LIMIT }
     requires start { standing_of replay.old ≡ spec.beginning }
     ensures { ComesOrStops replaying (standing_of replay.new) result
-        (outcome.ends_of (outcome.source_of (S.left source.old) (S.faults source.old))
-        (outcome.sink_of (K.written sink.old) (K.flushed sink.old) (K.faults sink.old)))
-        (outcome.ends_of (outcome.source_of (S.left source.new) (S.faults source.new))
-        (outcome.sink_of (K.written sink.new) (K.flushed sink.new) (K.faults sink.new))) }
+        (S.input source.old) (K.output sink.old)
+        (S.input source.new) (K.output sink.new) }
 {
     let mut text = String::new(alloc);
     'lines: loop {

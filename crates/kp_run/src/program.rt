@@ -36,12 +36,8 @@ pub fn run<S: Source, K: Sink, R: Threads + Wait + Sync, G: Gate<R> + Sync>(
     gate: &G,
 ) -> Status
     ensures ends { outcome.Runs (mode_of (map string_bytes words.now)) result
-        (outcome.ends_of (outcome.source_of (S.left source.old) (S.faults source.old))
-        (outcome.sink_of (K.written sink.old) (K.flushed sink.old) (K.faults sink.old)))
-        (outcome.ends_of (outcome.source_of (S.left source.new) (S.faults source.new))
-        (outcome.sink_of (K.written sink.new) (K.flushed sink.new) (K.faults sink.new))) }
-    ensures out { K.kept_back sink.old ≡ 0
-        → outcome.IsHandedOn result (K.kept_back sink.new) }
+        (S.input source.old) (K.output sink.old)
+        (S.input source.new) (K.output sink.new) }
     ensures unread { outcome.reads_source (mode_of (map string_bytes words.now)) ≡ false
         → source.new ≡ source.old }
 {

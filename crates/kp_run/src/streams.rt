@@ -19,12 +19,8 @@ pub(crate) fn run_live<S: Source, K: Sink, R: Threads + Wait + Sync, G: Gate<R> 
     sink: &mut K,
     gate: &G,
 ) -> Status
-    ensures out { outcome.IsHandedOn result (K.kept_back sink.new) }
-    ensures ends { outcome.EndsLive result
-        (outcome.ends_of (outcome.source_of (S.left source.old) (S.faults source.old))
-        (outcome.sink_of (K.written sink.old) (K.flushed sink.old) (K.faults sink.old)))
-        (outcome.ends_of (outcome.source_of (S.left source.new) (S.faults source.new))
-        (outcome.sink_of (K.written sink.new) (K.flushed sink.new) (K.faults sink.new))) }
+    ensures { outcome.EndsLive result (S.input source.old) (K.output sink.old)
+        (S.input source.new) (K.output sink.new) }
 {
     match live(rt, alloc, source, sink, gate) {
         Ok(refused) => flushed(sink, if_refused(refused)),

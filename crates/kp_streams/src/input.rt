@@ -35,11 +35,11 @@ impl From<NoMemory> for InputFault {
 /// behind it. Whatever it answers, the source has lost what was read, and no more.
 #[tactic(auto, using(crate::proofs::ReadLines::lost_none))]
 pub fn read_input<S: Source>(alloc: Global, source: &mut S) -> Result<StreamLines, InputFault>
-    ensures whole { IfOk result (λ s. IfSome (S.left source.old) (ReadsWhole (reading_in s))) }
-    ensures ended { OnOk result (IsAtEnd (S.left source.new)) }
-    ensures left { LosesFront (S.left source.old) (S.left source.new) }
-    ensures cause { HasInputCause result (S.faults source.old) (S.faults source.new) }
-    ensures long { result ≡ Err fault.InputTooLong → IsTooLong (S.left source.old) }
+    ensures whole { IfOk result (λ s. IfSome (S.input source.old).left (ReadsWhole (reading_in s))) }
+    ensures ended { OnOk result (IsAtEnd (S.input source.new).left) }
+    ensures left { LosesFront (S.input source.old).left (S.input source.new).left }
+    ensures cause { HasInputCause result (S.input source.old).faults (S.input source.new).faults }
+    ensures long { result ≡ Err fault.InputTooLong → IsTooLong (S.input source.old).left }
 {
     let (mut lines, mut reader) = begin(alloc)?;
     match take_lines(alloc, &mut lines, &mut reader, source) {
@@ -66,11 +66,11 @@ fn take_lines<S: Source>(
 ) -> Result<(), InputFault>
     requires fresh { reader.old ≡ fresh_reader }
     requires start { reading_in lines.old ≡ nothing_read }
-    ensures whole { OnOk result (IfSome (S.left source.old) (ReadsWhole (reading_in lines.new))) }
-    ensures ended { OnOk result (IsAtEnd (S.left source.new)) }
-    ensures left { LosesFront (S.left source.old) (S.left source.new) }
-    ensures cause { HasInputCause result (S.faults source.old) (S.faults source.new) }
-    ensures long { result ≡ Err fault.InputTooLong → IsTooLong (S.left source.old) }
+    ensures whole { OnOk result (IfSome (S.input source.old).left (ReadsWhole (reading_in lines.new))) }
+    ensures ended { OnOk result (IsAtEnd (S.input source.new).left) }
+    ensures left { LosesFront (S.input source.old).left (S.input source.new).left }
+    ensures cause { HasInputCause result (S.input source.old).faults (S.input source.new).faults }
+    ensures long { result ≡ Err fault.InputTooLong → IsTooLong (S.input source.old).left }
 {
     'lines: loop {
         match reader.next_line(source) {

@@ -11,7 +11,7 @@ use Rattle.kp_io.proofs.gather.gather_line.Goals as goal
 
 pub loop-chunk-init : goal.loop-chunk-init
 loop-chunk-init g c =
-    let left = g.S.Source.left c.args.source.now in
+    let left = (g.S.Source.input c.args.source.now).left in
     record {
       part = c.requires.part;
       room = c.requires.chunk;
@@ -23,7 +23,7 @@ loop-chunk-init g c =
       most = c.requires.taken;
       same = refl;
       unasked = λ _. (refl, refl);
-      asked = unasked_source g.S.Source.left g.S.Source.asked c.args.source.now;
+      asked = unasked_source g.S.Source.input c.args.source.now;
     }
 
 pub returns-then-branch-clause-part : goal.returns-then-branch-clause-part
@@ -33,7 +33,7 @@ returns-then-branch-clause-part g c =
 pub returns-then-branch-clause-gathers : goal.returns-then-branch-clause-gathers
 returns-then-branch-clause-gathers g c =
     kept_found c.loop-chunk.part c.gather.new.part c.loop-chunk.chunk c.gather.new.chunk
-    (told_from c.args.part.now c.args.chunk.now (g.S.Source.left c.args.source.now)) (g.S.Source.left c.loop-chunk.source)
+    (told_from c.args.part.now c.args.chunk.now (g.S.Source.input c.args.source.now).left) (g.S.Source.input c.loop-chunk.source).left
     c.loop-chunk.invariant.part (sym c.in_ok-gather.ensures.whole ∙ c.if-branch.true) c.in_ok-gather.ensures.part c.in_ok-gather.ensures.rest c.loop-chunk.invariant.kept
 
 pub returns-then-branch-clause-size : goal.returns-then-branch-clause-size
@@ -44,7 +44,7 @@ returns-then-branch-clause-size g c =
 pub returns-then-branch-clause-feeds : goal.returns-then-branch-clause-feeds
 returns-then-branch-clause-feeds g c =
     feeds_line INPUT_LIMIT c.args.chunk.now c.loop-chunk.chunk c.gather.new.chunk c.args.taken.now c.loop-chunk.taken
-    (g.S.Source.left c.args.source.now) (g.S.Source.left c.loop-chunk.source)
+    (g.S.Source.input c.args.source.now).left (g.S.Source.input c.loop-chunk.source).left
     (sym c.in_ok-gather.ensures.whole ∙ c.if-branch.true) c.loop-chunk.invariant.most c.in_ok-gather.ensures.rest c.loop-chunk.invariant.feeds
 
 pub fill-requires-clause-empty : goal.fill-requires-clause-empty
@@ -58,11 +58,11 @@ returns-in_err-count-clause-part g c =
 pub returns-in_err-count-clause-gathers : goal.returns-in_err-count-clause-gathers
 returns-in_err-count-clause-gathers g c =
     let fault = err_from_is_err_and c.from_residual-in_err-count.result c.from_residual-in_err-count.ensures.1 in
-    let told = told_from c.args.part.now c.args.chunk.now (g.S.Source.left c.args.source.now) in
-    let left = g.S.Source.left c.loop-chunk.source in
+    let told = told_from c.args.part.now c.args.chunk.now (g.S.Source.input c.args.source.now).left in
+    let left = (g.S.Source.input c.loop-chunk.source).left in
     let unfound = sym c.in_ok-gather.ensures.whole ∙ c.if-branch.false in
     rw fault.1
-    (kept_read c.gather.new.part c.gather.new.chunk c.fill.new.self told left (g.S.Source.left c.fill.new.source)
+    (kept_read c.gather.new.part c.gather.new.chunk c.fill.new.self told left (g.S.Source.input c.fill.new.source).left
     (c.in_ok-gather.ensures.rest ∙ after_first-none c.loop-chunk.chunk unfound)
     (kept_none c.loop-chunk.part c.gather.new.part c.loop-chunk.chunk c.gather.new.chunk told left c.loop-chunk.invariant.part unfound c.in_ok-gather.ensures.part c.in_ok-gather.ensures.rest c.loop-chunk.invariant.kept)
     c.fill.ensures.bytes)
@@ -72,7 +72,7 @@ returns-in_err-count-clause-feeds g c =
     let fault = err_from_is_err_and c.from_residual-in_err-count.result c.from_residual-in_err-count.ensures.1 in
     rw fault.1
     (feeds_stop INPUT_LIMIT c.args.chunk.now c.loop-chunk.chunk c.fill.new.self c.args.taken.now c.loop-chunk.taken c.loop-chunk.taken
-    (g.S.Source.left c.args.source.now) (g.S.Source.left c.loop-chunk.source) (g.S.Source.left c.fill.new.source)
+    (g.S.Source.input c.args.source.now).left (g.S.Source.input c.loop-chunk.source).left (g.S.Source.input c.fill.new.source).left
     (sym c.in_ok-gather.ensures.whole ∙ c.if-branch.false) c.loop-chunk.invariant.most (omega (arith, ap length c.in_err-count.ensures.err))
     c.loop-chunk.invariant.feeds c.fill.ensures.bytes)
 
@@ -82,9 +82,9 @@ returns-then-count-eq0-clause-part g c =
 
 pub returns-then-count-eq0-clause-gathers : goal.returns-then-count-eq0-clause-gathers
 returns-then-count-eq0-clause-gathers g c =
-    let told = told_from c.args.part.now c.args.chunk.now (g.S.Source.left c.args.source.now) in
-    let left = g.S.Source.left c.loop-chunk.source in
-    let now = g.S.Source.left c.fill.new.source in
+    let told = told_from c.args.part.now c.args.chunk.now (g.S.Source.input c.args.source.now).left in
+    let left = (g.S.Source.input c.loop-chunk.source).left in
+    let now = (g.S.Source.input c.fill.new.source).left in
     let unfound = sym c.in_ok-gather.ensures.whole ∙ c.if-branch.false in
     let none : length c.fill.new.self ≡ 0 = sym c.in_ok-count.ensures.count.0 ∙ c.if-count-eq0.true in
     kept_end c.gather.new.part c.fill.new.self told now (nil_from_length c.fill.new.self none) (c.in_ok-count.ensures.ended c.if-count-eq0.true)
@@ -96,7 +96,7 @@ returns-then-count-eq0-clause-gathers g c =
 pub returns-then-count-eq0-clause-feeds : goal.returns-then-count-eq0-clause-feeds
 returns-then-count-eq0-clause-feeds g c =
     feeds_stop INPUT_LIMIT c.args.chunk.now c.loop-chunk.chunk c.fill.new.self c.args.taken.now c.loop-chunk.taken c.loop-chunk.taken
-    (g.S.Source.left c.args.source.now) (g.S.Source.left c.loop-chunk.source) (g.S.Source.left c.fill.new.source)
+    (g.S.Source.input c.args.source.now).left (g.S.Source.input c.loop-chunk.source).left (g.S.Source.input c.fill.new.source).left
     (sym c.in_ok-gather.ensures.whole ∙ c.if-branch.false) c.loop-chunk.invariant.most (omega (arith, c.in_ok-count.ensures.count.0, c.if-count-eq0.true))
     c.loop-chunk.invariant.feeds c.fill.ensures.bytes
 
@@ -108,10 +108,10 @@ returns-then-taken-gt-INPUT_LIMIT-clause-part g c =
 pub returns-then-taken-gt-INPUT_LIMIT-clause-gathers :
     goal.returns-then-taken-gt-INPUT_LIMIT-clause-gathers
 returns-then-taken-gt-INPUT_LIMIT-clause-gathers g c =
-    let told = told_from c.args.part.now c.args.chunk.now (g.S.Source.left c.args.source.now) in
-    let left = g.S.Source.left c.loop-chunk.source in
+    let told = told_from c.args.part.now c.args.chunk.now (g.S.Source.input c.args.source.now).left in
+    let left = (g.S.Source.input c.loop-chunk.source).left in
     let unfound = sym c.in_ok-gather.ensures.whole ∙ c.if-branch.false in
-    kept_read c.gather.new.part c.gather.new.chunk c.fill.new.self told left (g.S.Source.left c.fill.new.source)
+    kept_read c.gather.new.part c.gather.new.chunk c.fill.new.self told left (g.S.Source.input c.fill.new.source).left
     (c.in_ok-gather.ensures.rest ∙ after_first-none c.loop-chunk.chunk unfound)
     (kept_none c.loop-chunk.part c.gather.new.part c.loop-chunk.chunk c.gather.new.chunk told left c.loop-chunk.invariant.part unfound c.in_ok-gather.ensures.part c.in_ok-gather.ensures.rest c.loop-chunk.invariant.kept)
     c.fill.ensures.bytes
@@ -120,16 +120,16 @@ pub returns-then-taken-gt-INPUT_LIMIT-clause-feeds :
     goal.returns-then-taken-gt-INPUT_LIMIT-clause-feeds
 returns-then-taken-gt-INPUT_LIMIT-clause-feeds g c =
     feeds_stop INPUT_LIMIT c.args.chunk.now c.loop-chunk.chunk c.fill.new.self c.args.taken.now c.loop-chunk.taken (c.loop-chunk.taken + c.in_ok-count.count)
-    (g.S.Source.left c.args.source.now) (g.S.Source.left c.loop-chunk.source) (g.S.Source.left c.fill.new.source)
+    (g.S.Source.input c.args.source.now).left (g.S.Source.input c.loop-chunk.source).left (g.S.Source.input c.fill.new.source).left
     (sym c.in_ok-gather.ensures.whole ∙ c.if-branch.false) c.loop-chunk.invariant.most (ap (λ n. c.loop-chunk.taken + n) c.in_ok-count.ensures.count.0)
     c.loop-chunk.invariant.feeds c.fill.ensures.bytes
 
 pub returns-then-taken-gt-INPUT_LIMIT-clause-input :
     goal.returns-then-taken-gt-INPUT_LIMIT-clause-input
 returns-then-taken-gt-INPUT_LIMIT-clause-input g c =
-    let first = g.S.Source.left c.args.source.now in
-    let left = g.S.Source.left c.loop-chunk.source in
-    let now = g.S.Source.left c.fill.new.source in
+    let first = (g.S.Source.input c.args.source.now).left in
+    let left = (g.S.Source.input c.loop-chunk.source).left in
+    let now = (g.S.Source.input c.fill.new.source).left in
     let taken = c.loop-chunk.taken + c.in_ok-count.count in
     record {
       more = omega (arith, c.loop-chunk.invariant.more);
@@ -143,10 +143,10 @@ returns-then-taken-gt-INPUT_LIMIT-clause-input g c =
 pub loop-chunk-preserved : goal.loop-chunk-preserved
 loop-chunk-preserved g c =
     let was = c.loop-chunk.invariant in
-    let told = told_from c.args.part.now c.args.chunk.now (g.S.Source.left c.args.source.now) in
-    let first = g.S.Source.left c.args.source.now in
-    let left = g.S.Source.left c.loop-chunk.source in
-    let now = g.S.Source.left c.fill.new.source in
+    let told = told_from c.args.part.now c.args.chunk.now (g.S.Source.input c.args.source.now).left in
+    let first = (g.S.Source.input c.args.source.now).left in
+    let left = (g.S.Source.input c.loop-chunk.source).left in
+    let now = (g.S.Source.input c.fill.new.source).left in
     let taken = c.loop-chunk.taken + c.in_ok-count.count in
     let more : taken ≡ c.loop-chunk.taken + length c.fill.new.self = ap (λ n. c.loop-chunk.taken + n) c.in_ok-count.ensures.count.0 in
     let unfound = sym c.in_ok-gather.ensures.whole ∙ c.if-branch.false in
@@ -167,7 +167,7 @@ loop-chunk-preserved g c =
       unasked = λ yes. absurd (feed_clash c.loop-chunk.chunk c.args.chunk.now (was.unasked yes).1 unfound yes);
       asked = record {
         last = c.loop-chunk.source;
-        once = asked_once (g.S.Source.asked c.loop-chunk.source) (g.S.Source.asked c.fill.new.source) c.fill.ensures.asked;
+        once = asked_once (g.S.Source.input c.loop-chunk.source).asked (g.S.Source.input c.fill.new.source).asked c.fill.ensures.asked;
         none = read_no_feed c.args.taken.now c.loop-chunk.taken c.loop-chunk.chunk first left unfound was.read;
       };
     }

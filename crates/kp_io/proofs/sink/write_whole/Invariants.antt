@@ -6,8 +6,8 @@ use Rattle.kp_io.proofs.sink.write_whole.Given as goal
 abbrev pub invariant-loop-done : goal.invariant-loop-done
 invariant-loop-done g l = record {
   within : l.done ≤ length l.bytes;
-  grown : Grows (g.K.Sink.written l.initial.sink) (g.K.Sink.written l.sink) (take l.done l.bytes);
-  same : g.K.Sink.faults l.sink ≡ g.K.Sink.faults l.initial.sink;
+  grown : Grows (g.K.Sink.output l.initial.sink).written (g.K.Sink.output l.sink).written (take l.done l.bytes);
+  same : (g.K.Sink.output l.sink).faults ≡ (g.K.Sink.output l.initial.sink).faults;
 }
 
 abbrev pub decreases-loop-done : goal.decreases-loop-done

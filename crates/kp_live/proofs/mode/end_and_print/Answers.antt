@@ -36,7 +36,7 @@ returns g c =
     ended.workers.len c.as_mut_slice.ensures.len
     (ap (λ l. length l) by.workers ∙ length-map c.as_mut_slice.result.now uncounted)
     ∙ by.workers) by.end by.order by.whole by.made by.accepted by.refused c.meet.ensures)
-    c.exact_tables.ensures.full c.product_decides.ensures _ _ _ _ c.print-printed.result
+    c.exact_tables.ensures.full c.product_decides.ensures _ _ c.print-printed.result
     (λ told of. c.print-printed.ensures.printed told
     (subst (AreOf told) (sym c.as_slice.ensures.value) of))
     (λ told of. c.print-printed.ensures.refused told

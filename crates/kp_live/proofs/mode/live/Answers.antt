@@ -10,8 +10,9 @@ use Rattle.kp_live.proofs.mode.live.Goals as goal
 -- a front of the text was written
 pub returns-clause-front : goal.returns-clause-front
 returns-clause-front g c =
-    front_told c.run_opened.result (g.S.Source.left c.args.source.now)
-    (reading_in c.in_ok-lines.lines) _ _ c.run_opened.ensures.front c.in_ok-lines.ensures.whole
+    front_told c.run_opened.result (g.S.Source.input c.args.source.now).left
+    (reading_in c.in_ok-lines.lines) (g.K.Sink.output c.args.sink.now)
+    (g.K.Sink.output c.run_opened.new.sink) c.run_opened.ensures.front c.in_ok-lines.ensures.whole
 
 -- what is printed once the input was read isn't told as a fault of the input
 never : {P : Type 0} (result : Result Bool LiveFault) → IfErr result IsOfPrinting

@@ -8,5 +8,5 @@ use Rattle.kp_live.proofs.parts.print_denied.Goals as goal
 pub returns-in-Ok : goal.returns-in-Ok
 returns-in-Ok g c =
     prints_as c.print_clash.result (refusal_text c.args.number (ChainClash c.in-Ok.clash))
-    (refusal_text c.args.number (ChainClash c.args.clash.now)) _ _ _ _
+    (refusal_text c.args.number (ChainClash c.args.clash.now)) _ _
     (ap (λ x. refusal_text c.args.number (ChainClash x)) c.in-Ok.ensures) c.print_clash.ensures

@@ -13,9 +13,9 @@ returns-in-Ok g c =
     let done = c.args.done.now in
     let text : Family → List ℕ = λ family. table_text_of family done.table.chains in
     prints_then c.in-Ok.field-0 c.print_tables.result (final_text (length done.notes) done.clash)
-    (flat_map text (table_families c.args.config.now)) _ _ _ _ _ _ c.in-Ok.ensures
+    (flat_map text (table_families c.args.config.now)) _ _ _ c.in-Ok.ensures
     (prints_as c.print_tables.result (flat_map text c.table_families.result.now)
-    (flat_map text (table_families c.args.config.now)) _ _ _ _
+    (flat_map text (table_families c.args.config.now)) _ _
     (λ i. flat_map text (c.table_families.ensures i)) c.print_tables.ensures)
 
 pub returns-in-Err : goal.returns-in-Err
@@ -23,4 +23,4 @@ returns-in-Err g c =
     let done = c.args.done.now in
     prints_stopped {T = Unit {0}} c.in-Err.fault (final_text (length done.notes) done.clash)
     (flat_map (λ family. table_text_of family done.table.chains)
-    (table_families c.args.config.now)) _ _ _ _ c.in-Err.ensures
+    (table_families c.args.config.now)) _ _ c.in-Err.ensures

@@ -12,7 +12,7 @@ returns-in-Err g c =
     let r = reading_in c.args.lines.now in
     let done = c.args.done.now in
     prints_first (flat_map refused_text c.refused.result.now) (journal_text r.streams 1 done.journal)
-    (notes_text 0 done.notes) (head_text r done.journal done.notes) c.in-Err.fault _ _ _ _
+    (notes_text 0 done.notes) (head_text r done.journal done.notes) c.in-Err.fault _ _
     (λ k. flat_map refused_text (sym c.refused.ensures k) ++ journal_text r.streams 1 done.journal
     ++ notes_text 0 done.notes)
     c.in-Err.ensures
@@ -25,7 +25,7 @@ returns-in-Err-print_journal g c =
     prints_broken (flat_map refused_text c.refused.result.now)
     (journal_text c.streams.result.now 1 c.as_slice.result.now) (notes_text 0 done.notes)
     (head_text r done.journal done.notes) c.in-Ok.field-0 c.in-Err-print_journal.fault
-    _ _ _ _ _ _
+    _ _ _
     (λ k. flat_map refused_text (sym c.refused.ensures k)
     ++ journal_text (sym c.streams.ensures.names k) 1 (sym c.as_slice.ensures k)
     ++ notes_text 0 done.notes)
@@ -39,7 +39,7 @@ returns g c =
     prints_three (flat_map refused_text c.refused.result.now)
     (journal_text c.streams.result.now 1 c.as_slice.result.now)
     (notes_text 0 c.as_slice-2.result.now) (head_text r done.journal done.notes) c.in-Ok.field-0
-    c.in-Ok-print_journal.field-0 c.print_records.result _ _ _ _ _ _ _ _
+    c.in-Ok-print_journal.field-0 c.print_records.result _ _ _ _
     (λ k. flat_map refused_text (sym c.refused.ensures k)
     ++ journal_text (sym c.streams.ensures.names k) 1 (sym c.as_slice.ensures k)
     ++ notes_text 0 (sym c.as_slice-2.ensures k))

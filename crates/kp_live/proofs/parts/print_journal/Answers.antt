@@ -13,7 +13,7 @@ loop-at-preserved g c =
     let x = c.index-journal-at.result in
     prints_next (journal_text streams 1 (take i xs))
     (event_text (i + 1) (get_or streams x.feeder []) x.number x.event)
-    (journal_text streams 1 (take (i + 1) xs)) tt c.in-Ok.field-0 _ _ _ _ _ _
+    (journal_text streams 1 (take (i + 1) xs)) tt c.in-Ok.field-0 _ _ _
     (next_event streams xs i x c.loop-at-test.true c.index-journal-at.is)
     c.loop-at.invariant c.in-Ok.ensures
 
@@ -26,6 +26,6 @@ returns-in-Err g c =
     prints_broken (journal_text streams 1 (take i xs))
     (event_text (i + 1) (get_or streams x.feeder []) x.number x.event)
     (journal_text streams (1 + length (take (i + 1) xs)) (drop (i + 1) xs))
-    (journal_text streams 1 xs) tt c.in-Err.fault _ _ _ _ _ _
+    (journal_text streams 1 xs) tt c.in-Err.fault _ _ _
     (rest_events streams xs i x c.loop-at-test.true c.index-journal-at.is)
     c.loop-at.invariant c.in-Err.ensures

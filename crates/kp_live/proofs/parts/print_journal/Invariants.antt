@@ -8,5 +8,4 @@ use Rattle.kp_live.proofs.parts.print_journal.Given as goal
 abbrev pub invariant-loop-at : goal.invariant-loop-at
 invariant-loop-at g l =
     Prints {T = Unit {0}} (Ok tt) (journal_text l.streams 1 (take l.at l.journal))
-    (g.K.Sink.written l.initial.sink) (g.K.Sink.written l.sink) (g.K.Sink.faults l.initial.sink)
-    (g.K.Sink.faults l.sink)
+    (g.K.Sink.output l.initial.sink) (g.K.Sink.output l.sink)

@@ -23,10 +23,10 @@ loop-line-preserved g c = λ all are.
           ∙ ap (λ (n : Telling). n.denied) (sym next);
       printed =
           prints_as (Ok tt) (now.text ++ printed.0)
-          (telling refusals all (take (i + 1) lines)).text _ _ _ _
+          (telling refusals all (take (i + 1) lines)).text _ _
           (sym printed.1 ∙ ap (λ (n : Telling). n.text) (sym next))
-          (prints_any c.in-Ok.more tt (now.text ++ printed.0) _ _ _ _
-          (prints_then tt (Ok c.in-Ok.more) now.text printed.0 _ _ _ _ _ _ inv.printed printed.2));
+          (prints_any c.in-Ok.more tt (now.text ++ printed.0) _ _
+          (prints_then tt (Ok c.in-Ok.more) now.text printed.0 _ _ _ inv.printed printed.2));
     }
 
 -- a line wasn't written whole
@@ -41,4 +41,4 @@ returns-in-Err-clause-printed g c = λ all are.
     let rest = telling_rest refusals all lines i line c.loop-line-test.true c.line-item.is in
     let printed = c.in-Err.ensures.printed now inv.left in
     prints_broken now.text printed.0 rest.0 (telling refusals all lines).text tt c.in-Err.fault
-    _ _ _ _ _ _ (rest.1 ∙ ap (λ l. l ++ rest.0) printed.1) inv.printed printed.2
+    _ _ _ (rest.1 ∙ ap (λ l. l ++ rest.0) printed.1) inv.printed printed.2

@@ -13,6 +13,5 @@ invariant-loop-line g l =
       denied : l.denied ≡ (telling l.refusals all (take l.line-index l.lines)).denied;
       printed :
           Prints {T = Unit {0}} (Ok tt) (telling l.refusals all (take l.line-index l.lines)).text
-          (g.K.Sink.written l.initial.sink) (g.K.Sink.written l.sink)
-          (g.K.Sink.faults l.initial.sink) (g.K.Sink.faults l.sink);
+          (g.K.Sink.output l.initial.sink) (g.K.Sink.output l.sink);
     }

@@ -18,7 +18,7 @@ loop-at-preserved g c =
     prints_next (notes_text 0 (take i xs))
     (record_text (i + 1) (get_or xs i none).events (get_or xs i none).written
     (get_or xs i none).removed)
-    (notes_text 0 (take (i + 1) xs)) tt c.in-Ok.field-0 _ _ _ _ _ _
+    (notes_text 0 (take (i + 1) xs)) tt c.in-Ok.field-0 _ _ _
     (next_note xs i none c.loop-at-test.true) c.loop-at.invariant c.in-Ok.ensures
 
 pub returns-in-Err : goal.returns-in-Err
@@ -30,5 +30,5 @@ returns-in-Err g c =
     (record_text (i + 1) (get_or xs i none).events (get_or xs i none).written
     (get_or xs i none).removed)
     (notes_text (0 + length (take (i + 1) xs)) (drop (i + 1) xs)) (notes_text 0 xs) tt
-    c.in-Err.fault _ _ _ _ _ _ (rest_notes xs i none c.loop-at-test.true)
+    c.in-Err.fault _ _ _ (rest_notes xs i none c.loop-at-test.true)
     c.loop-at.invariant c.in-Err.ensures

@@ -8,5 +8,4 @@ use Rattle.kp_live.proofs.parts.print_records.Given as goal
 abbrev pub invariant-loop-at : goal.invariant-loop-at
 invariant-loop-at g l =
     Prints {T = Unit {0}} (Ok tt) (notes_text 0 (take l.at l.notes))
-    (g.K.Sink.written l.initial.sink) (g.K.Sink.written l.sink) (g.K.Sink.faults l.initial.sink)
-    (g.K.Sink.faults l.sink)
+    (g.K.Sink.output l.initial.sink) (g.K.Sink.output l.sink)

@@ -5,5 +5,5 @@ use Rattle.kp_live.proofs.parts.print_refusal.Goals as goal
 -- the text that was made was written
 pub returns : goal.returns
 returns g c =
-    made_prints c.push_refusal-made.result c.write_made.result c.as_bytes.result.now _ _ _ _ _
+    made_prints c.push_refusal-made.result c.write_made.result c.as_bytes.result.now _ _ _
     (search rules) c.write_made.ensures.made c.write_made.ensures.unmade

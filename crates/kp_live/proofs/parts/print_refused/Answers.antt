@@ -10,7 +10,7 @@ loop-line-preserved g c =
     let xs = c.args.refused.now in
     let i = c.loop-line.line-index in
     prints_next (flat_map refused_text (take i xs)) (refused_text c.line-item.result)
-    (flat_map refused_text (take (i + 1) xs)) tt c.in-Ok.field-0 _ _ _ _ _ _
+    (flat_map refused_text (take (i + 1) xs)) tt c.in-Ok.field-0 _ _ _
     (next_text refused_text xs i c.line-item.result c.loop-line-test.true c.line-item.is)
     c.loop-line.invariant c.in-Ok.ensures
 
@@ -20,6 +20,6 @@ returns-in-Err g c =
     let i = c.loop-line.line-index in
     prints_broken (flat_map refused_text (take i xs)) (refused_text c.line-item.result)
     (flat_map refused_text (drop (i + 1) xs)) (flat_map refused_text xs) tt c.in-Err.fault
-    _ _ _ _ _ _
+    _ _ _
     (rest_text refused_text xs i c.line-item.result c.loop-line-test.true c.line-item.is)
     c.loop-line.invariant c.in-Err.ensures

@@ -9,5 +9,4 @@ use Rattle.kp_live.proofs.parts.print_refused.Given as goal
 abbrev pub invariant-loop-line : goal.invariant-loop-line
 invariant-loop-line g l =
     Prints {T = Unit {0}} (Ok tt) (flat_map refused_text (take l.line-index l.refused))
-    (g.K.Sink.written l.initial.sink) (g.K.Sink.written l.sink) (g.K.Sink.faults l.initial.sink)
-    (g.K.Sink.faults l.sink)
+    (g.K.Sink.output l.initial.sink) (g.K.Sink.output l.sink)

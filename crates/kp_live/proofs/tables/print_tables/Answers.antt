@@ -15,7 +15,7 @@ loop-family-preserved g c =
     let text : Family → List ℕ = λ f. table_text_of f c.args.table.now.chains in
     let family = get_or xs i V4 in
     prints_next (flat_map text (take i xs)) (text family) (flat_map text (take (i + 1) xs)) tt
-    c.in-Ok.field-0 _ _ _ _ _ _
+    c.in-Ok.field-0 _ _ _
     (next_text text xs i family c.loop-family-test.true
     (get_or_default xs i V4 family c.loop-family-test.true))
     c.loop-family.invariant c.in-Ok.ensures
@@ -27,7 +27,7 @@ returns-in-Err g c =
     let text : Family → List ℕ = λ f. table_text_of f c.args.table.now.chains in
     let family = get_or xs i V4 in
     prints_broken (flat_map text (take i xs)) (text family) (flat_map text (drop (i + 1) xs))
-    (flat_map text xs) tt c.in-Err.fault _ _ _ _ _ _
+    (flat_map text xs) tt c.in-Err.fault _ _ _
     (rest_text text xs i family c.loop-family-test.true
     (get_or_default xs i V4 family c.loop-family-test.true))
     c.loop-family.invariant c.in-Err.ensures

@@ -10,5 +10,4 @@ abbrev pub invariant-loop-family : goal.invariant-loop-family
 invariant-loop-family g l =
     Prints {T = Unit {0}} (Ok tt)
     (flat_map (λ family. table_text_of family l.table.chains) (take l.family-index l.families))
-    (g.K.Sink.written l.initial.sink) (g.K.Sink.written l.sink) (g.K.Sink.faults l.initial.sink)
-    (g.K.Sink.faults l.sink)
+    (g.K.Sink.output l.initial.sink) (g.K.Sink.output l.sink)

@@ -1,16 +1,13 @@
 use Rattle.kp_replay.specs.Steps.{standing_of}
-use Rattle.kp_run.specs.Outcome.{ends_of, sink_of, source_of}
 use Rattle.kp_run.proofs.StandLemmas.{came, stands_first, took}
 use Rattle.kp_run.proofs.lines.replay_lines.Goals as goal
 
 -- before the first line
 pub lines-init : goal.lines-init
 lines-init g c = record {
-  stands = stands_first g.M.Mode.mode (standing_of c.args.replay.now) c.args.reader.now
-      (ends_of (source_of (g.S.Source.left c.args.source.now) (g.S.Source.faults c.args.source.now))
-      (sink_of (g.K.Sink.written c.args.sink.now) (g.K.Sink.flushed c.args.sink.now)
-      (g.K.Sink.faults c.args.sink.now)))
-      c.requires.start c.requires.fresh c.requires.room;
+  stands =
+      stands_first g.M.Mode.mode (standing_of c.args.replay.now) c.args.reader.now (g.S.Source.input c.args.source.now)
+      (g.K.Sink.output c.args.sink.now) c.requires.start c.requires.fresh c.requires.room;
   follows = c.requires.follows;
 }
 
@@ -20,13 +17,11 @@ take_next-requires-clause-ready g c = c.lines.invariant.stands.come.ready
 -- a line was taken
 pub lines-preserved : goal.lines-preserved
 lines-preserved g c = record {
-  stands = took g.M.Mode.mode c.in-Some.is
-      (c.in_ok-take_next.ensures.step _ c.lines.invariant.stands);
+  stands = took g.M.Mode.mode _ _ _ _ _ _ c.in-Some.is (c.in_ok-take_next.ensures.step _ _ c.lines.invariant.stands);
   follows = c.in_ok-take_next.ensures.follows;
 }
 
 -- the input is at its end
 pub returns-in-None-clause-comes : goal.returns-in-None-clause-comes
 returns-in-None-clause-comes g c =
-    came g.M.Mode.mode _ _ _ _ c.in-None.is
-    (c.in_ok-take_next.ensures.step _ c.lines.invariant.stands)
+    came g.M.Mode.mode _ _ _ _ _ _ c.in-None.is (c.in_ok-take_next.ensures.step _ _ c.lines.invariant.stands)

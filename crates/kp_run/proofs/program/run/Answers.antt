@@ -1,4 +1,4 @@
-use Rattle.std.proofs.Common.{map, string_bytes, sym, subst}
+use Rattle.std.proofs.Common.{inr, map, refl, string_bytes, sym, subst}
 use Rattle.kp_run.proofs.PlanLemmas.{Fits, mode_fits}
 use Rattle.kp_run.proofs.program.run.Goals as goal
 
@@ -8,3 +8,7 @@ generate-requires g c =
     let some = rw c.in-Ok-Some-Gen.field-0-is at c.in-Ok-Some-Gen.ensures in
     let told = rw c.in-Ok-Some-Gen.field-0-0-is at some in
     subst Fits (sym told) (mode_fits (map string_bytes c.args.words.now))
+
+-- there was no memory for the words
+pub returns-in-Err-clause-ends : goal.returns-in-Err-clause-ends
+returns-in-Err-clause-ends g c = inr (refl, refl)

@@ -19,9 +19,9 @@ lines-preserved-in-Continue-1 g c =
     let again = rw c.in-Ok-Line.field-0-is at c.in-Ok-Line.ensures.again in
     let reader = c.lines.reader in
     let new = c.next_line.new.self in
-    let first = g.S.Source.left c.args.source.now in
-    let left = g.S.Source.left c.lines.source in
-    let end = g.S.Source.left c.next_line.new.source in
+    let first = (g.S.Source.input c.args.source.now).left in
+    let left = (g.S.Source.input c.lines.source).left in
+    let end = (g.S.Source.input c.next_line.new.source).left in
     let given =
     subst (λ b. FromTold (λ xs ys. xs ≡ Some b ∷ ys) (to_come reader left) (to_come new end))
     (sym c.bytes.ensures) answer in
@@ -47,9 +47,9 @@ lines-preserved g c =
     let cause = rw c.in-Err-TooLongLine.field-0-is at c.in-Err-TooLongLine.ensures.cause in
     let reader = c.lines.reader in
     let new = c.next_line.new.self in
-    let first = g.S.Source.left c.args.source.now in
-    let left = g.S.Source.left c.lines.source in
-    let end = g.S.Source.left c.next_line.new.source in
+    let first = (g.S.Source.input c.args.source.now).left in
+    let left = (g.S.Source.input c.lines.source).left in
+    let end = (g.S.Source.input c.next_line.new.source).left in
     record {
       read =
           subst (λ r. HasRead r new first end) (sym c.in_ok-take_line-in-Err-TooLongLine.ensures.ok)
@@ -70,14 +70,14 @@ returns-in-Ok-End-clause-whole g c =
     let answer = rw c.in-Ok-End.field-0-is at c.in-Ok-End.ensures.answer in
     let reader = c.lines.reader in
     let taken = c.next_line.new.self.taken in
-    let left = g.S.Source.left c.lines.source in
-    let end = g.S.Source.left c.next_line.new.source in
+    let left = (g.S.Source.input c.lines.source).left in
+    let end = (g.S.Source.input c.next_line.new.source).left in
     let limit : c.next_line.new.self.taken ≤ INPUT_LIMIT = search rules in
-    read_all (reading_in c.lines.lines) reader taken (g.S.Source.left c.args.source.now) left end
+    read_all (reading_in c.lines.lines) reader taken (g.S.Source.input c.args.source.now).left left end
     (to_come c.next_line.new.self end) c.lines.invariant.read answer c.in-Ok-End.ensures.input.all
     (at_end reader.ended left end c.lines.invariant.read.ended
     (λ was.
-    ap g.S.Source.left
+    ap (λ s. (g.S.Source.input s).left)
     (c.in-Ok-End.ensures.unasked
     (or_right (list_any is_line_feed reader.held) (reader.ended || nat_lt INPUT_LIMIT reader.taken)
     (or_left reader.ended (nat_lt INPUT_LIMIT reader.taken) was))))
@@ -88,41 +88,41 @@ returns-in-Ok-End-clause-whole g c =
 pub returns-in-Ok-End-clause-left : goal.returns-in-Ok-End-clause-left
 returns-in-Ok-End-clause-left g c =
     lost_more c.lines.reader.taken c.next_line.new.self.taken
-    (g.S.Source.left c.args.source.now) (g.S.Source.left c.lines.source)
-    (g.S.Source.left c.next_line.new.source) c.in-Ok-End.ensures.bounded.input
+    (g.S.Source.input c.args.source.now).left (g.S.Source.input c.lines.source).left
+    (g.S.Source.input c.next_line.new.source).left c.in-Ok-End.ensures.bounded.input
     c.lines.invariant.read.taken c.in-Ok-End.ensures.input.all
 
 pub returns-in-Err-ReadFault-clause-left : goal.returns-in-Err-ReadFault-clause-left
 returns-in-Err-ReadFault-clause-left g c =
     lost_more c.lines.reader.taken c.next_line.new.self.taken
-    (g.S.Source.left c.args.source.now) (g.S.Source.left c.lines.source)
-    (g.S.Source.left c.next_line.new.source) c.in-Err-ReadFault.ensures.bounded.input
+    (g.S.Source.input c.args.source.now).left (g.S.Source.input c.lines.source).left
+    (g.S.Source.input c.next_line.new.source).left c.in-Err-ReadFault.ensures.bounded.input
     c.lines.invariant.read.taken c.in-Err-ReadFault.ensures.input.all
 
 pub returns-in-Err-InputTooLong-clause-left : goal.returns-in-Err-InputTooLong-clause-left
 returns-in-Err-InputTooLong-clause-left g c =
     lost_more c.lines.reader.taken c.next_line.new.self.taken
-    (g.S.Source.left c.args.source.now) (g.S.Source.left c.lines.source)
-    (g.S.Source.left c.next_line.new.source) c.in-Err-InputTooLong.ensures.bounded.input
+    (g.S.Source.input c.args.source.now).left (g.S.Source.input c.lines.source).left
+    (g.S.Source.input c.next_line.new.source).left c.in-Err-InputTooLong.ensures.bounded.input
     c.lines.invariant.read.taken c.in-Err-InputTooLong.ensures.input.all
 
 pub returns-in-Err-NoMemory-clause-left : goal.returns-in-Err-NoMemory-clause-left
 returns-in-Err-NoMemory-clause-left g c =
     lost_more c.lines.reader.taken c.next_line.new.self.taken
-    (g.S.Source.left c.args.source.now) (g.S.Source.left c.lines.source)
-    (g.S.Source.left c.next_line.new.source) c.in-Err-NoMemory.ensures.bounded.input
+    (g.S.Source.input c.args.source.now).left (g.S.Source.input c.lines.source).left
+    (g.S.Source.input c.next_line.new.source).left c.in-Err-NoMemory.ensures.bounded.input
     c.lines.invariant.read.taken c.in-Err-NoMemory.ensures.input.all
 
 pub returns-in_err-take_line-in-Ok-Line-clause-left : goal.returns-in_err-take_line-in-Ok-Line-clause-left
 returns-in_err-take_line-in-Ok-Line-clause-left g c =
     lost_more c.lines.reader.taken c.next_line.new.self.taken
-    (g.S.Source.left c.args.source.now) (g.S.Source.left c.lines.source)
-    (g.S.Source.left c.next_line.new.source) c.in-Ok-Line.ensures.bounded.input
+    (g.S.Source.input c.args.source.now).left (g.S.Source.input c.lines.source).left
+    (g.S.Source.input c.next_line.new.source).left c.in-Ok-Line.ensures.bounded.input
     c.lines.invariant.read.taken c.in-Ok-Line.ensures.input.all
 
 pub returns-in_err-take_line-in-Err-TooLongLine-clause-left : goal.returns-in_err-take_line-in-Err-TooLongLine-clause-left
 returns-in_err-take_line-in-Err-TooLongLine-clause-left g c =
     lost_more c.lines.reader.taken c.next_line.new.self.taken
-    (g.S.Source.left c.args.source.now) (g.S.Source.left c.lines.source)
-    (g.S.Source.left c.next_line.new.source) c.in-Err-TooLongLine.ensures.bounded.input
+    (g.S.Source.input c.args.source.now).left (g.S.Source.input c.lines.source).left
+    (g.S.Source.input c.next_line.new.source).left c.in-Err-TooLongLine.ensures.bounded.input
     c.lines.invariant.read.taken c.in-Err-TooLongLine.ensures.input.all

@@ -8,9 +8,9 @@ use Rattle.kp_streams.proofs.input.take_lines.Given as goal
 -- what the reader gave was read, and no read has failed
 abbrev pub invariant-lines : goal.invariant-lines
 invariant-lines g l = record {
-  read : HasRead (reading_in l.lines) l.reader (g.S.Source.left l.initial.source)
-      (g.S.Source.left l.source);
-  sure : g.S.Source.faults l.source ≡ g.S.Source.faults l.initial.source;
+  read : HasRead (reading_in l.lines) l.reader (g.S.Source.input l.initial.source).left
+      (g.S.Source.input l.source).left;
+  sure : (g.S.Source.input l.source).faults ≡ (g.S.Source.input l.initial.source).faults;
 }
 
 -- no more lines come than bytes may be taken

@@ -7,10 +7,10 @@ use Rattle.kp_io.proofs.buffered_sink.BufferedSink.write_all_on.Given as goal
 abbrev pub invariant-loop-self : goal.invariant-loop-self
 invariant-loop-self g l = record {
   grown :
-      Grows (written_behind l.initial.self.kept (g.K.Sink.written l.initial.self.sink))
-      (written_behind l.self.kept (g.K.Sink.written l.self.sink)) [];
+      Grows (written_behind l.initial.self.kept (g.K.Sink.output l.initial.self.sink).written)
+      (written_behind l.self.kept (g.K.Sink.output l.self.sink).written) [];
   unasked : l.initial.self.kept ≡ [] → l.self ≡ l.initial.self;
-  same : g.K.Sink.faults l.self.sink ≡ g.K.Sink.faults l.initial.self.sink;
+  same : (g.K.Sink.output l.self.sink).faults ≡ (g.K.Sink.output l.initial.self.sink).faults;
 }
 
 -- each write hands on at least one byte

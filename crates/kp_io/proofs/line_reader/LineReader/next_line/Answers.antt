@@ -11,10 +11,10 @@ use Rattle.kp_io.proofs.line_reader.LineReader.next_line.Goals.{else-not-whole-v
 
 pub returns-then-self-gt-INPUT_LIMIT-clause-asked :
     goal.returns-then-self-gt-INPUT_LIMIT-clause-asked
-returns-then-self-gt-INPUT_LIMIT-clause-asked g c = unasked_source g.S.Source.left g.S.Source.asked c.args.source.now
+returns-then-self-gt-INPUT_LIMIT-clause-asked g c = unasked_source g.S.Source.input c.args.source.now
 
 pub returns-then-self-clause-asked : goal.returns-then-self-clause-asked
-returns-then-self-clause-asked g c = unasked_source g.S.Source.left g.S.Source.asked c.args.source.now
+returns-then-self-clause-asked g c = unasked_source g.S.Source.input c.args.source.now
 
 pub returns-in_err-whole-clause-feeds : goal.returns-in_err-whole-clause-feeds
 returns-in_err-whole-clause-feeds g c = λ open_.
@@ -22,7 +22,7 @@ returns-in_err-whole-clause-feeds g c = λ open_.
     let low : inside.taken ≤ INPUT_LIMIT = search rules in
     rw (← c.self.view_is)
     (feeds_answer INPUT_LIMIT inside.part.bytes inside.chunk c.gather_line.new.part.bytes c.gather_line.new.chunk inside.taken c.gather_line.new.taken 0 inside.number inside.number
-    (g.S.Source.left c.args.source.now) (g.S.Source.left c.gather_line.new.source) c.self.invariant.0.feedless c.in_err-whole.ensures.part.feedless
+    (g.S.Source.input c.args.source.now).left (g.S.Source.input c.gather_line.new.source).left c.self.invariant.0.feedless c.in_err-whole.ensures.part.feedless
     (omega (arith, low)) (over_fits INPUT_LIMIT c.gather_line.new.taken (length c.gather_line.new.chunk) c.in_err-whole.ensures.over) (omega arith) c.in_err-whole.ensures.feeds)
 
 -- the line that was gathered is the first that was to come
@@ -34,10 +34,10 @@ returns-clause-answer g c =
     let next = c.hand_out.ensures.next c.in_ok-whole.ensures.part in
     let was : ReaderState = record { held = inside.part.bytes ++ inside.chunk; skipping = inside.part.skipping; line = inside.line.items; room = inside.room; number = inside.number; taken = inside.taken; ended = inside.ended } in
     let now : ReaderState = record { held = c.hand_out.new.self.bytes ++ chunk; skipping = c.hand_out.new.self.skipping; line = c.hand_out.new.line.items; room = inside.room; number = inside.number + 1; taken = c.gather_line.new.taken; ended = not c.in_ok-whole.whole } in
-    let before = to_come was (g.S.Source.left c.args.source.now) in
-    let after = to_come now (g.S.Source.left c.gather_line.new.source) in
+    let before = to_come was (g.S.Source.input c.args.source.now).left in
+    let after = to_come now (g.S.Source.input c.gather_line.new.source).left in
     let come : FromTold (λ come rest. come ≡ given_part part ∷ rest) before after =
-    line_answers c.in_ok-whole.whole was now inside.part part inside.chunk chunk (given_part part) (g.S.Source.left c.args.source.now) (g.S.Source.left c.gather_line.new.source)
+    line_answers c.in_ok-whole.whole was now inside.part part inside.chunk chunk (given_part part) (g.S.Source.input c.args.source.now).left (g.S.Source.input c.gather_line.new.source).left
     c.in_ok-whole.ensures.part (record { open_ = c.if-self.false; held = refl; skips = refl })
     (λ yes. record { open_ = ap not yes; held = ap (λ p. p.bytes ++ chunk) next; skips = ap (λ p. p.skipping) next })
     (λ no. ap not no)
@@ -57,6 +57,6 @@ returns-clause-feeds g c = λ open_.
     let next = c.hand_out.ensures.next c.in_ok-whole.ensures.part in
     rw (← c.self.view_is)
     (feeds_answer INPUT_LIMIT inside.part.bytes inside.chunk c.hand_out.new.self.bytes c.gather_line.new.chunk inside.taken c.gather_line.new.taken (feeds_of (Ok c.in_ok-whole.whole)) inside.number (inside.number + 1)
-    (g.S.Source.left c.args.source.now) (g.S.Source.left c.gather_line.new.source) c.self.invariant.0.feedless (ap (λ p. list_any is_line_feed p.bytes) next)
+    (g.S.Source.input c.args.source.now).left (g.S.Source.input c.gather_line.new.source).left c.self.invariant.0.feedless (ap (λ p. list_any is_line_feed p.bytes) next)
     (omega (arith, low)) (over_fits INPUT_LIMIT c.gather_line.new.taken (length c.gather_line.new.chunk) c.in_ok-whole.ensures.over)
     (sym (ap (λ n. inside.number + n) (one_feed c.in_ok-whole.whole whole))) c.in_ok-whole.ensures.feeds)

@@ -1,6 +1,6 @@
-use Rattle.kp_io.specs.Memory.{told_flushed}
+use Rattle.std.proofs.Common.{rules}
 use Rattle.kp_io.proofs.Told.{NoLess-same}
 use Rattle.kp_io.proofs.sure_sink.SureSinkSink.hand_on.Goals as goal
 
-pub returns-clause-flushed : goal.returns-clause-flushed
-returns-clause-flushed c = NoLess-same (told_flushed c.args.self.now)
+pub returns-clause-hands_on : goal.returns-clause-hands_on
+returns-clause-hands_on c = search (rules, NoLess-same)
