@@ -9,7 +9,7 @@ use kp_health::HealthCounts;
 use kp_mode::Mode;
 use kp_plane::Plane;
 use kp_print::push;
-use kp_restore::batch_text;
+use kp_restore_text::batch_text;
 use std::alloc::Global;
 use std::marker::Model;
 

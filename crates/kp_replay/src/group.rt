@@ -2,7 +2,7 @@
 ghost use Rattle.std.specs.Prelude.{◌≡◌, ◌≤◌, ◌∷◌, ◌++◌, true, map, take, length, IfOk, IfSome};
 ghost use Rattle.std.specs.List.{list_all};
 ghost use Rattle.kp_restore_defs.specs.TableText.{text_of_lines};
-ghost use Rattle.kp_restore.specs.Pieces.{no_line_feed};
+ghost use Rattle.kp_restore_text.specs.Pieces.{no_line_feed};
 
 use kp_base::NoMemory;
 use kp_io::line_feed_at;

@@ -8,7 +8,7 @@ use crate::replay::Replay;
 use kp_base::{Family, NoMemory, Text};
 use kp_print::push;
 use kp_report::push_slices;
-use kp_restore::{batch_text, batch_text_six, section_text};
+use kp_restore_text::{batch_text, batch_text_six, section_text};
 use kp_script::Shown;
 use kp_types::{Batch, TableName};
 use std::alloc::Global;

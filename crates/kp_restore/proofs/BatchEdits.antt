@@ -24,11 +24,12 @@ use Rattle.kp_object_defs.proofs.AllOf.{all_filter}
 use Rattle.kp_table_defs.specs.Ranks.{is_built_in}
 use Rattle.kp_restore_defs.specs.RuleText.{is_canonical_rule}
 use Rattle.kp_restore_defs.specs.BatchText.{place_of, edits_in, edit_cmp, are_in_order, is_same_place, edit_each_once, kind_place, is_canonical_edit, is_canonical_batch}
-use Rattle.kp_restore.specs.BatchSteps.{written, removed, edits_of}
-use Rattle.kp_restore.specs.declared.row.Row.{Row}
+use Rattle.kp_restore.specs.Steps.{written, removed, edits_of}
+use Rattle.kp_restore.specs.declared.section.Row.{Row}
 use Rattle.std.specs.Cmp.Lexicographic.{nat_list_eq_equiv}
 use Rattle.kp_restore.proofs.Tests.{all_both, none_of, filter_none}
 use Rattle.kp_restore.proofs.Families.{IsTableOf, nat_is_of, filter_is_of, which_table, nat_first, filter_last, nat_is_no_filter, filter_is_no_nat, table_tied}
+use Rattle.kp_restore.proofs.SectionShapes.{is_good}
 use Rattle.kp_restore.proofs.BatchRows.{row_of, put_row, rows_of, is_below, rising, fits, all_rows_of, put_first, less_turned, write_of, remove_of, all_written, all_removed, edits_all, is_in}
 use Rattle.kp_lemmas.proofs.ListFacts.{filter_all, test_weaker, test_always}
 use Rattle.kp_lemmas.proofs.Orders.{lesser_text_differs}
@@ -175,10 +176,6 @@ module _ (t : TableName) where
   within_alone : (name rules built clear : Bool) → (not built && clear) ≡ true → (name && rules) ≡ true → (name && (not built && true)) ≡ true
   within_alone name rules built clear k l = and_from name (not built && true) (and_parts name rules l).0 (and_from (not built) true (and_parts (not built) clear k).0 refl)
 
-  -- names and rules within their bounds
-  abbrev pub is_good : Family → Row → Bool
-  is_good family row = is_chain_name row.chain && list_all (is_canonical_rule family) row.rules
-
   pub canonical_edits : (family : Family) → IsTableOf family t → (rows : List Row) → list_all (fits t) rows ≡ true → list_all (is_good family) rows ≡ true → list_all (is_canonical_edit family) (edits_of t rows) ≡ true
   canonical_edits family of rows f g =
       edits_all (is_canonical_edit family) t rows
@@ -237,8 +234,8 @@ module _ (family : Family) where
       n
 
   -- the edits of both sections
-  pub canonical_batch : (n f : List Row) → rising n ≡ true → list_all (fits first) n ≡ true → list_all (is_good first family) n ≡ true
-      → rising f ≡ true → list_all (fits second) f ≡ true → list_all (is_good second family) f ≡ true
+  pub canonical_batch : (n f : List Row) → rising n ≡ true → list_all (fits first) n ≡ true → list_all (is_good family) n ≡ true
+      → rising f ≡ true → list_all (fits second) f ≡ true → list_all (is_good family) f ≡ true
       → is_canonical_batch family (edits_of first n ++ edits_of second f) ≡ true
   canonical_batch n f rn fn gn rf ff gf =
       and_from _ _

@@ -21,8 +21,8 @@ use Rattle.kp_types.specs.declared.rule.Edit.TheVariants.{Write, Remove}
 use Rattle.kp_object_defs.specs.Desired.{is_empty}
 use Rattle.kp_table_defs.specs.Ranks.{is_built_in}
 use Rattle.kp_restore_defs.specs.BatchText.{place_of, edit_cmp, are_in_order, is_same_place, edit_each_once}
-use Rattle.kp_restore.specs.BatchSteps.{written, removed, edits_of}
-use Rattle.kp_restore.specs.declared.row.Row.{Row}
+use Rattle.kp_restore.specs.Steps.{written, removed, edits_of}
+use Rattle.kp_restore.specs.declared.section.Row.{Row}
 use Rattle.kp_restore.proofs.Tests.{all_both, none_of}
 use Rattle.kp_lemmas.proofs.ListFacts.{test_weaker}
 use Rattle.kp_lemmas.proofs.Orders.{less_from_test, less_through}

@@ -32,7 +32,7 @@ use Rattle.kp_restore_defs.specs.BatchesBetween.{HaveSameBuiltIn, ChangesAreCano
 use Rattle.kp_restore.proofs.Tests.{all_true, none_of}
 use Rattle.kp_restore.proofs.BatchEdits.{tied_table, stands_before, stands_apart}
 use Rattle.kp_restore.proofs.BatchTexts.{batch_texts_differ}
-use Rattle.kp_restore.proofs.TableReading.{canonical_parts}
+use Rattle.kp_restore.proofs.TableTexts.{canonical_parts}
 use Rattle.kp_lemmas.proofs.ListFacts.{test_weaker, all_append, all_both, all_filter, all_tested, all_weaker}
 use Rattle.kp_lemmas.proofs.Booleans.{both_facts}
 use Rattle.kp_lemmas.proofs.Orders.{less_from_fact}

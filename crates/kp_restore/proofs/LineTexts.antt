@@ -13,7 +13,7 @@ use Rattle.kp_restore_defs.specs.TableText.{table_line}
 use Rattle.kp_restore.specs.declared.line.Line.{Line}
 use Rattle.kp_restore.specs.declared.line.Line.TheVariants.{Section, BuiltIn, Declared, Ruled, Removed, Commit}
 use Rattle.kp_restore.specs.Lines.{line_text, is_canonical_line}
-use Rattle.kp_restore.specs.Pieces.{no_line_feed}
+use Rattle.kp_restore_text.specs.Pieces.{no_line_feed}
 use Rattle.kp_rule_text.proofs.Rules.{lines_differ}
 use Rattle.kp_restore.proofs.Families.{IsTableOf, which_table}
 use Rattle.kp_restore.proofs.RuleLines.{name_plain, both_plain, rule_plain}

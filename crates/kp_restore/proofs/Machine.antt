@@ -9,7 +9,7 @@ use Rattle.std.proofs.lemmas.Option.{none-some, same_Some}
 use Rattle.kp_restore_defs.specs.FirstBadLine.{ended_lines}
 use Rattle.kp_restore_defs.specs.TableText.{text_of_lines}
 use Rattle.kp_restore.specs.Machine.{run}
-use Rattle.kp_restore.specs.Pieces.{no_line_feed}
+use Rattle.kp_restore_text.specs.Pieces.{no_line_feed}
 use Rattle.kp_restore.proofs.Texts.{lines_again}
 use Rattle.kp_lemmas.proofs.ListFacts.{test_weaker}
 
@@ -57,6 +57,22 @@ pub record IsReader {S X V : Type 0} (step : S → X → Option S) (start : S) (
   pub sound : (xs : List X) (s : S) → list_all good xs ≡ true → run step start xs ≡ Some s → IsEnd s → has_text (value s) × (parts (value s) ≡ xs)
   pub complete : (v : V) → has_text v → (s : S) × (run step start (parts v) ≡ Some s) × IsEnd s × (value s ≡ v)
   pub ends : (xs : List X) (s : S) → list_all good xs ≡ true → run step start xs ≡ Some s → LeadsToEnd step good IsEnd s
+
+-- a reader of values that have the texts of others, one of each
+pub tied : {S X V W : Type 0} {step : S → X → Option S} {start : S} {IsEnd : S → Type 0} {value : S → V} {text : X → List ℕ} {good : X → Bool}
+    {has_text : V → Type 0} {lines_of : V → List (List ℕ)} {parts : V → List X} → IsReader step start IsEnd value text good has_text lines_of parts
+    → (has : W → Type 0) (lines : W → List (List ℕ)) (from : V → W) (to : W → V) → ((w : W) → has w → has_text (to w)) → ((v : V) → has_text v → has (from v))
+    → ((w : W) → has w → from (to w) ≡ w) → ((v : V) → has_text v → to (from v) ≡ v) → ((w : W) → has w → lines w ≡ lines_of (to w))
+    → IsReader step start IsEnd (λ s. from (value s)) text good has lines (λ w. parts (to w))
+tied {value = value} {parts = parts} reader has lines from to goes comes back again printed = record {
+  exact = reader.exact;
+  plain = reader.plain;
+  printed = λ w h. printed w h ∙ reader.printed (to w) (goes w h);
+  all_good = λ w h. reader.all_good (to w) (goes w h);
+  sound = λ xs s g r end. let k = reader.sound xs s g r end in (comes (value s) k.0, ap parts (again (value s) k.0) ∙ k.1);
+  complete = λ w h. let k = reader.complete (to w) (goes w h) in (k.0, k.1, k.2, ap from k.3 ∙ back w h);
+  ends = reader.ends;
+}
 
 -- the last element of what a map gives
 last_of_map : {A B : Type 0} (f : A → B) (ls : List B) (l : B) (ps : List A) → map f ps ≡ ls ++ l ∷ []

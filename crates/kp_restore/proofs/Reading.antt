@@ -15,7 +15,7 @@ use Rattle.kp_restore.specs.declared.fault.TextFault.TheVariants.{BadText}
 use Rattle.kp_restore.specs.declared.line.Line.{Line}
 use Rattle.kp_restore.specs.Lines.{is_canonical_line, line_text}
 use Rattle.kp_restore.specs.Machine.{run}
-use Rattle.kp_restore.specs.Pieces.{no_line_feed}
+use Rattle.kp_restore_text.specs.Pieces.{no_line_feed}
 use Rattle.kp_restore.specs.Reading.{IsTaken, IsRefused, IsRead, IsStuck, Refused, Unfinished}
 use Rattle.kp_restore.proofs.Machine.{IsReader, run_one, same_parts, all_plain, lines_known, begun, not_with}
 use Rattle.kp_restore.proofs.Texts.{ended_with_line, ended_with_none}

@@ -18,7 +18,7 @@ use Rattle.kp_types.specs.declared.rule.Rule.{Rule}
 use Rattle.kp_types.proofs.ChainOrder.{chain_total}
 use Rattle.kp_table_defs.specs.Rebuild.{TableParts}
 use Rattle.kp_restore_defs.specs.TableText.{Row}
-use Rattle.kp_restore.specs.TableSteps.{put}
+use Rattle.kp_restore.specs.Steps.{put}
 use Rattle.kp_base.proofs.SameParts.{text_test_exact}
 
 -- the place of a chain
@@ -143,10 +143,6 @@ abbrev pub with_rows : TableName → TableParts → List Row → TableParts
 with_rows table t [] = t
 with_rows table t (row ∷ rows) = with_rows table (put t table row.0 row.1) rows
 
--- a chain with no rules
-abbrev pub empty_row : List ℕ → Row
-empty_row name = (name, [])
-
 pub syncs_with : (table : TableName) (t : TableParts) (rows : List Row) → (with_rows table t rows).syncs ≡ t.syncs
 syncs_with table t [] = refl
 syncs_with table t (row ∷ rows) = syncs_with table (put t table row.0 row.1) rows
@@ -173,7 +169,3 @@ get_with table t (row ∷ rows) h q =
 pub get_with_other : (table other : TableName) → ((a b : List ℕ) → eq_by_cmp chain_cmp (at other a) (at table b) ≡ false) → (t : TableParts) (rows : List Row) (q : List ℕ) → get (with_rows table t rows).chains (at other q) ≡ get t.chains (at other q)
 get_with_other table other h t [] q = refl
 get_with_other table other h t (row ∷ rows) q = get_with_other table other h (put t table row.0 row.1) rows q ∙ get_put_other t table other row.0 row.1 q (h q row.0)
-
--- the rows' names with no rules, and then the rows
-abbrev pub with_section : TableName → TableParts → List Row → TableParts
-with_section table t rows = with_rows table (with_rows table t (map empty_row (names_of rows))) rows

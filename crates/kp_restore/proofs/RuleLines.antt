@@ -22,7 +22,7 @@ use Rattle.kp_choice_defs.specs.Draws.{digit_at, probability_text_of}
 use Rattle.kp_restore_defs.specs.RuleText.{joined, range_text, proto_word, not_words, match_words, target_words, rule_line, is_canonical_range, is_port_number, is_canonical_endpoint, is_canonical_match, is_canonical_target, is_canonical_rule}
 use Rattle.kp_rule_text.proofs.AddressWords.{is_host_byte, number_bytes}
 use Rattle.kp_rule_text.proofs.Words.{number_digits, port_digits}
-use Rattle.kp_restore.specs.Pieces.{no_line_feed}
+use Rattle.kp_restore_text.specs.Pieces.{no_line_feed}
 use Rattle.kp_lemmas.proofs.ListFacts.{test_always, test_append, test_weaker}
 use Rattle.kp_restore.proofs.Tests.{all_flat}
 use Rattle.kp_lemmas.proofs.Numbers.{within_32_bits}

@@ -40,7 +40,7 @@ none_alike : (n : List ℕ) (ms : List (List ℕ)) → list_all (λ m. is_lt (te
 none_alike n [] h = refl
 none_alike n (m ∷ ms) h = let p = and_parts _ _ h in λ i. lesser_text_differs n m p.0 i || none_alike n ms p.1 i
 
-rising_distinct : (ns : List (List ℕ)) → rising ns ≡ true → distinct ns ≡ true
+pub rising_distinct : (ns : List (List ℕ)) → rising ns ≡ true → distinct ns ≡ true
 rising_distinct [] h = refl
 rising_distinct (n ∷ ns) h = let p = and_parts _ _ h in λ i. not (none_alike n ns p.0 i) && rising_distinct ns p.1 i
 
@@ -56,14 +56,14 @@ foreign_head n ns (m ∷ ms) h =
     let rest = foreign_head n ns ms p.1 in
     (λ i. turned_false m n q.0 i || rest.0 i, λ i. not (q.1 i) && rest.1 i)
 
-distinct_append : (ns ms : List (List ℕ)) → distinct ns ≡ true → distinct ms ≡ true → foreign ns ms ≡ true → distinct (ns ++ ms) ≡ true
+pub distinct_append : (ns ms : List (List ℕ)) → distinct ns ≡ true → distinct ms ≡ true → foreign ns ms ≡ true → distinct (ns ++ ms) ≡ true
 distinct_append [] ms g h f = h
 distinct_append (n ∷ ns) ms g h f =
     let p = and_parts _ _ g in
     let q = foreign_head n ns ms f in
     λ i. not ((list_any-append (bytes_eq n) ns ms ∙ or_from _ _ (not-true _ p.0) q.0) i) && distinct_append ns ms p.1 h q.1 i
 
-built_in_distinct : (table : TableName) → distinct (built_in_chains table) ≡ true
+pub built_in_distinct : (table : TableName) → distinct (built_in_chains table) ≡ true
 built_in_distinct Nat = refl
 built_in_distinct Filter = refl
 built_in_distinct Nat6 = refl

@@ -6,7 +6,7 @@ use Rattle.kp_restore_defs.specs.TableText.{text_of_lines}
 use Rattle.kp_restore.specs.declared.line.Line.{Line}
 use Rattle.kp_restore.specs.Lines.{is_canonical_line, line_text}
 use Rattle.kp_restore.specs.Machine.{run}
-use Rattle.kp_restore.specs.Pieces.{no_line_feed}
+use Rattle.kp_restore_text.specs.Pieces.{no_line_feed}
 
 -- the line of these bytes in a family's text is taken, and leads to this state
 abbrev pub IsTaken : Family → {S : Type 0} → (S → Line → Option S) → S → List ℕ → S → Type 0

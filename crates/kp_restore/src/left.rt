@@ -49,6 +49,7 @@ impl<T: Drop> Left<T> {
     pub fn pop(&mut self) -> Option<T>
         ensures some { IfSome result (λ item. self.old ≡ item ∷ self.new) }
         ensures none { result ≡ None → self.old ≡ [] }
+        ensures over { result ≡ None → self.new ≡ [] }
     {
         self.backwards.pop()
     }

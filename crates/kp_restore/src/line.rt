@@ -6,8 +6,8 @@ ghost use Rattle.kp_restore_defs.specs.RuleText.{is_canonical_rule, rule_line};
 ghost use Rattle.kp_restore.specs.declared.line.Line as line_row;
 ghost use Rattle.kp_restore.specs.Lines.{is_canonical_line, line_text, IsFixed};
 
-use crate::tables::{filter_of, nat_of};
 use kp_base::Family;
+use kp_restore_text::{filter_of, nat_of};
 use kp_rule_text::read_rule;
 use kp_types::{ChainName, Rule, TableName};
 

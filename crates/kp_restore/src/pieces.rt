@@ -1,7 +1,7 @@
 //! Texts that are cut behind each line feed.
 ghost use Rattle.std.specs.Prelude.{◌≡◌, ◌∷◌, ◌++◌, ◌==◌, true, None, IfSome, position};
 ghost use Rattle.std.specs.List.{list_all};
-ghost use Rattle.kp_restore.specs.Pieces.{no_line_feed};
+ghost use Rattle.kp_restore_text.specs.Pieces.{no_line_feed};
 
 /// The first line, without its line feed, and what stands behind it, if a line is ended.
 pub(crate) fn first_line(bytes: &[u8]) -> Option<(&[u8], &[u8])>

@@ -8,10 +8,10 @@ ghost use Rattle.kp_restore_defs.specs.FirstBadLine.{IsFirstBadLine};
 ghost use Rattle.kp_restore_defs.specs.TableText.{is_canonical_table, table_lines, table_text_of};
 ghost use Rattle.kp_restore.specs.declared.fault.TextFault.TheVariants.{BadText};
 
-use crate::batch_reader::BatchReader;
 use crate::fault::TextFault;
-use crate::line_machine::read_text;
-use crate::table_reader::TableReader;
+use crate::reader::read_text;
+use crate::section::Form;
+use crate::values::{batch_of, table_of};
 use kp_base::Family;
 use kp_rules::Table;
 use kp_types::Batch;
@@ -58,7 +58,8 @@ fn family_table(alloc: Global, family: Family, bytes: &[u8]) -> Result<Table, Te
         → IsFirstBadLine (λ chains. is_canonical_table family chains ≡ true) (table_lines family)
         bytes.now n }
 {
-    read_text::<TableReader>(alloc, family, bytes)
+    let sections = read_text(alloc, Form::Whole, family, bytes)?;
+    Ok(table_of(alloc, sections)?)
 }
 
 /// The batch whose edits have this text (iptables-restore(8) with --noflush): a section for each
@@ -101,5 +102,6 @@ fn family_batch(alloc: Global, family: Family, bytes: &[u8]) -> Result<Batch, Te
         → IsFirstBadLine (λ edits. is_canonical_batch family edits ≡ true) (batch_lines family)
         bytes.now n }
 {
-    read_text::<BatchReader>(alloc, family, bytes)
+    let sections = read_text(alloc, Form::Changes, family, bytes)?;
+    Ok(batch_of(alloc, sections)?)
 }

@@ -1,6 +1,6 @@
 use Rattle.std.proofs.Common.{◌≡◌, ◌≤◌, true, map, length, ◌++◌}
 use Rattle.std.specs.List.{list_all}
-use Rattle.kp_restore.specs.Pieces.{no_line_feed}
+use Rattle.kp_restore_text.specs.Pieces.{no_line_feed}
 use Rattle.kp_restore_defs.specs.TableText.{text_of_lines}
 use Rattle.kp_replay.proofs.group.group_of.Given as goal
 

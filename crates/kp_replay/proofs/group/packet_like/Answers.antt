@@ -1,6 +1,6 @@
 use Rattle.std.proofs.Common.{◌∷◌, ◌++◌, drop, sym, ap, ◌∙◌}
-use Rattle.kp_restore.specs.Pieces.{no_line_feed}
-use Rattle.kp_restore.proofs.Splits.{position_from_start}
+use Rattle.kp_restore_text.specs.Pieces.{no_line_feed}
+use Rattle.kp_restore_text.proofs.Splits.{position_from_start}
 use Rattle.kp_replay.proofs.group.packet_like.Goals as goal
 
 pub returns-clause-cut : goal.returns-clause-cut

@@ -1,5 +1,5 @@
 use Rattle.kp_restore.proofs.Machine.{same_value}
-use Rattle.kp_restore.proofs.TableReading.{table_reader}
+use Rattle.kp_restore.proofs.TableTexts.{table_reader}
 use Rattle.kp_restore.proofs.laws.table_texts_differ.Goals as goal
 
 pub returns : goal.returns

@@ -1,6 +1,6 @@
 use Rattle.std.proofs.Common.{◌∷◌, ◌++◌, drop, sym, ap, ◌∙◌}
-use Rattle.kp_restore.specs.Pieces.{no_line_feed}
-use Rattle.kp_restore.proofs.Splits.{position_from_start, position_none}
+use Rattle.kp_restore_text.specs.Pieces.{no_line_feed}
+use Rattle.kp_restore_text.proofs.Splits.{position_from_start, position_none}
 use Rattle.kp_restore.proofs.pieces.first_line.Goals as goal
 
 pub returns-in_err-at-clause-none : goal.returns-in_err-at-clause-none

@@ -1,0 +1,4 @@
+pub mod EditSections
+pub mod Sections
+pub mod Splits
+pub mod Texts
