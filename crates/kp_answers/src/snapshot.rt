@@ -43,6 +43,7 @@ impl Snapshot<'_> {
         ensures lists { OnOk result (lists.new
             ≡ (walk_in self.now number line.now lists.old).lists) }
         ensures refused { OnErr result (IsPartly self.now number line.now lists.old lists.new) }
+        ensures size { lists.new.size ≡ lists.old.size }
         ensures front { OnErr result (HasFront text.new text.old) }
     {
         if line.trail {
@@ -70,6 +71,7 @@ impl Snapshot<'_> {
         ensures lists { OnOk result (lists.new
             ≡ (walk_in self.now number line.now lists.old).lists) }
         ensures refused { OnErr result (IsOnWay self.now number line.now lists.old lists.new) }
+        ensures size { lists.new.size ≡ lists.old.size }
     {
         let draws = DrawSource::new(
             |number: u64, k: u32| -> u32
@@ -80,8 +82,9 @@ impl Snapshot<'_> {
         kp_walker::verdict_of(self.table, self.node, number, &line.packet, &draws, lists)
     }
 
-    /// What becomes of a line's packet, and on which way.
-    fn walk(
+    /// What becomes of the packet of the line of this number, and on which way, for who prints
+    /// something between the two. Memory as for `verdict_of`.
+    pub fn walk(
         &self,
         number: u64,
         line: &PacketLine,
@@ -91,6 +94,7 @@ impl Snapshot<'_> {
         ensures walk { IfOk result (λ answer. answered answer lists.new
             ≡ walk_in self.now number line.now lists.old) }
         ensures refused { OnErr result (IsOnWay self.now number line.now lists.old lists.new) }
+        ensures size { lists.new.size ≡ lists.old.size }
     {
         let draws = DrawSource::new(
             |number: u64, k: u32| -> u32

@@ -1,17 +1,22 @@
 -- Where a walk comes to a set that needs memory, one step at a time.
-use Rattle.std.proofs.Common.{◌≡◌, ℕ, zero, suc, ◌+◌, ◌<◌, true, false, Bool, List, Option, Some, None, drop, length, get_or, sym, ap, subst, ◌∙◌, arith, inl, inr, Result, Ok, Err, OnErr, is_some}
+use Rattle.std.proofs.Common.{◌≡◌, ℕ, zero, suc, ◌+◌, ◌<◌, true, false, Bool, List, [], ◌∷◌, Option, Some, None, drop, length, get_or, refl, sym, ap, subst, ◌∙◌, arith, inl, inr, Result, Ok, Err, OnErr, is_some}
 use Rattle.std.proofs.lemmas.List.{at_drop_more}
 use Rattle.kp_types.specs.declared.chain.ChainAt.{ChainAt}
 use Rattle.kp_types.specs.declared.chain.TableName.{TableName}
 use Rattle.kp_types.specs.declared.rule.Match.{Match}
 use Rattle.kp_types.specs.declared.rule.Rule.{Rule}
 use Rattle.kp_types.specs.declared.verdict.Verdict.{Verdict}
-use Rattle.kp_choice_defs.specs.Recent.{RecentParts}
+use Rattle.kp_choice_defs.specs.Recent.{RecentParts, Shard, Sighting, with_sightings}
 use Rattle.kp_table_defs.specs.Matching.{WalkState, Surroundings, Tried, try_match}
 use Rattle.kp_table_defs.specs.Walk as walk
 use Rattle.kp_table_defs.specs.Walk.{chain_outcome}
 use Rattle.kp_walker.specs.Journeys.{StopsAs}
 use Rattle.kp_walker.specs.Sets.{OnHeld, MatchSets, MatchesSet, FoundSets, ChainSets, ThroughSets, HookSets}
+
+-- lists keep their size, whatever is to stand in a part of them
+pub with_sized : (lists : RecentParts) (at : Shard) (found : List Sighting) → (with_sightings lists at found).size ≡ lists.size
+with_sized lists at [] = refl
+with_sized lists at (s ∷ ss) = refl
 
 -- what stands behind an error
 pub on_err : {A E P : Type 0} (r : Result A E) → P → OnErr r P

@@ -1,5 +1,5 @@
 -- The next of a chain's rules that may match a packet.
-use Rattle.std.specs.Prelude.{◌≡◌, ℕ, ◌+◌, ◌^◌, ◌<◌, ◌≤◌, List, length, Option, Some, slice_get}
+use Rattle.std.specs.Prelude.{◌≡◌, ℕ, ◌+◌, ◌^◌, ◌<◌, ◌≤◌, List, length, Some, slice_get}
 use Rattle.kp_types.specs.declared.rule.Rule.{Rule}
 use Rattle.kp_rules.specs.Destinations.{next_for}
 use Rattle.kp_rules.specs.declared.destination.Destination.{Destination}

@@ -50,6 +50,7 @@ impl<F: Fn(u64, u32) -> u32> Hook<'_, F> {
             → sets_of self.now draws depth chain.now
             (state_of self.now.header progress.old lists.old) lists.new) }
         ensures trail { R.trail recorder.new ≡ R.trail recorder.old }
+        ensures size { lists.new.size ≡ lists.old.size }
     {
         if depth == 0 {
             return Ok(Flow::Stuck);
@@ -96,6 +97,7 @@ impl<F: Fn(u64, u32) -> u32> Hook<'_, F> {
             (sets_of self.now draws depth) chain.now
             (state_of self.now.header progress.old lists.old) lists.new) }
         ensures trail { R.trail recorder.new ≡ R.trail recorder.old }
+        ensures size { lists.new.size ≡ lists.old.size }
     {
         let to = self.destination();
         let mut from = 0;
@@ -135,6 +137,7 @@ impl<F: Fn(u64, u32) -> u32> Hook<'_, F> {
             → TargetSets (sets_of self.now draws depth) next.now.rule.now.target
             (state_of self.now.header progress.old lists.old) lists.new) }
         ensures trail { R.trail recorder.new ≡ R.trail recorder.old }
+        ensures size { lists.new.size ≡ lists.old.size }
     {
         match &next.rule.target {
             Target::Jump(chain) => {

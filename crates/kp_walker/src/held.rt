@@ -45,6 +45,7 @@ impl<F: Fn(u64, u32) -> u32> Hook<'_, F> {
             → RulesSet (surroundings_of self.now.around.now draws) (jump_of self.now draws depth)
             (sets_of self.now draws depth) (drop from chain.now)
             (state_of self.now.header progress.old lists.old) lists.new) }
+        ensures size { lists.new.size ≡ lists.old.size }
     {
         let mut place = from;
         loop {

@@ -47,6 +47,7 @@ impl<F: Fn(u64, u32) -> u32> Surroundings<'_, F> {
         ensures way { OnOk result (R.way journey.new.recorder ≡ []) }
         ensures room { length (R.trail journey.new.recorder)
             ≤ length (R.trail journey.old.recorder) + 1 }
+        ensures size { lists.new.size ≡ lists.old.size }
     {
         let hook = first_hook(self.packet.from);
         self.through(Stage::Translating, &hook, journey, lists)
@@ -71,6 +72,7 @@ impl<F: Fn(u64, u32) -> u32> Surroundings<'_, F> {
             → AreDraws (F.post self.now.draws.now) self.now.number draws
             → StopsAs R.keeps (journey_of R.trail journey.old lists.old) lists.new
             (sets.OnwardSets (surroundings_of self.now draws) (lookup_of self.now))) }
+        ensures size { lists.new.size ≡ lists.old.size }
     {
         let from = self.packet.from;
         let for_node = is_local(self.node, &journey.header.target);
@@ -98,6 +100,7 @@ impl<F: Fn(u64, u32) -> u32> Surroundings<'_, F> {
             → AreDraws (F.post self.now.draws.now) self.now.number draws
             → StopsAs R.keeps (journey_of R.trail journey.old lists.old) lists.new
             (sets.PostroutingSets leaving (surroundings_of self.now draws) (lookup_of self.now))) }
+        ensures size { lists.new.size ≡ lists.old.size }
     {
         if leaving {
             let hook = ChainName::new("POSTROUTING");
@@ -132,6 +135,7 @@ impl<F: Fn(u64, u32) -> u32> Surroundings<'_, F> {
             (sets.FilterSets from (surroundings_of self.now draws) (lookup_of self.now))) }
         ensures way { OnOk result (R.way journey.new.recorder ≡ []) }
         ensures room { length (R.trail journey.new.recorder) < 4 }
+        ensures size { lists.new.size ≡ lists.old.size }
     {
         match from {
             Origin::Wire => {
@@ -169,6 +173,7 @@ impl<F: Fn(u64, u32) -> u32> Surroundings<'_, F> {
         ensures way { OnOk result (R.way journey.new.recorder ≡ []) }
         ensures room { length (R.trail journey.new.recorder)
             ≤ length (R.trail journey.old.recorder) + 1 }
+        ensures size { lists.new.size ≡ lists.old.size }
     {
         if for_node {
             let hook = ChainName::new("INPUT");
@@ -206,6 +211,7 @@ impl<F: Fn(u64, u32) -> u32> Surroundings<'_, F> {
         ensures way { OnOk result (R.way journey.new.recorder ≡ []) }
         ensures room { length (R.trail journey.new.recorder)
             ≤ length (R.trail journey.old.recorder) + 1 }
+        ensures size { lists.new.size ≡ lists.old.size }
     {
         ranked_walks_end();
         if journey.stopped.is_some() {

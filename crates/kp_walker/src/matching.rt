@@ -33,6 +33,7 @@ impl<F: Fn(u64, u32) -> u32> Hook<'_, F> {
             → AreDraws (F.post self.now.around.now.draws.now) self.now.around.now.number draws
             → MatchesSet (surroundings_of self.now.around.now draws) rule.now.matches.items
             (state_of self.now.header progress.old lists.old) lists.new) }
+        ensures size { lists.new.size ≡ lists.old.size }
     {
         self.try_all(rule.matches.as_slice(), progress, lists)
     }
@@ -55,6 +56,7 @@ impl<F: Fn(u64, u32) -> u32> Hook<'_, F> {
             → AreDraws (F.post self.now.around.now.draws.now) self.now.around.now.number draws
             → MatchesSet (surroundings_of self.now.around.now draws) matches.now
             (state_of self.now.header progress.old lists.old) lists.new) }
+        ensures size { lists.new.size ≡ lists.old.size }
     {
         for matched in matches {
             if !self.try_match(matched, progress, lists)? {
@@ -66,6 +68,7 @@ impl<F: Fn(u64, u32) -> u32> Hook<'_, F> {
 
     /// Tries one match. A draw counts as used whether or not the test holds. Only a set of a source
     /// that its list lacks needs memory.
+    #[tactic(auto, using(crate::proofs::SetSteps::with_sized))]
     fn try_match(
         &self,
         matched: &Match,
@@ -81,6 +84,7 @@ impl<F: Fn(u64, u32) -> u32> Hook<'_, F> {
             (state_of self.now.header progress.old lists.old)) }
         ensures err { OnErr result
             (MatchSets matched.now (state_of self.now.header progress.old lists.old) lists.new) }
+        ensures size { lists.new.size ≡ lists.old.size }
     {
         match matched {
             Match::Statistic { p } => Ok(self.try_draw(*p, progress)),
@@ -117,11 +121,13 @@ impl<F: Fn(u64, u32) -> u32> Hook<'_, F> {
     }
 
     /// Whether the source is in the list within the timeout. What is past it is dropped.
+    #[tactic(auto, using(crate::proofs::SetSteps::with_sized))]
     pub(crate) fn look_up(&self, list: &ChainName, seconds: u32, lists: &mut RecentLists) -> bool
         ensures live { result ≡ recent.is_live lists.old list.now self.now.header.source
             self.now.around.now.packet.now.now seconds }
         ensures lists { lists.new ≡ recent.reaped lists.old list.now self.now.header.source
             self.now.around.now.packet.now.now seconds }
+        ensures size { lists.new.size ≡ lists.old.size }
     {
         lists.look(list, &self.header.source, self.around.packet.now, seconds)
     }

@@ -44,6 +44,7 @@ impl<F: Fn(u64, u32) -> u32> Hook<'_, F> {
             (state_of self.now.header progress.old lists.old)
             (state_of self.now.header progress.new lists.new) result }
         ensures placed { RunEndsAt chain.now from result }
+        ensures size { lists.new.size ≡ lists.old.size }
     {
         let mut place = from;
         while let Some(holds) = self.try_place(chain, place, progress, lists) {
@@ -73,6 +74,7 @@ impl<F: Fn(u64, u32) -> u32> Hook<'_, F> {
             (state_of self.now.header progress.new lists.new) result }
         ensures within { IfSome result (λ holds. place < length chain.now) }
         ensures fits { IfSome result (λ holds. place + 1 < 2 ^ 64) }
+        ensures size { lists.new.size ≡ lists.old.size }
     {
         match limit_at(chain.limits(), place) {
             Some(limit) => Some(self.try_limit(limit, progress)),
@@ -102,6 +104,7 @@ impl<F: Fn(u64, u32) -> u32> Hook<'_, F> {
             ≡ walk.try_all (surroundings_of self.now.around.now draws) rule.now.matches.items
             (state_of self.now.header progress lists.old)) }
         ensures none { result ≡ None → lists.new ≡ lists.old }
+        ensures size { lists.new.size ≡ lists.old.size }
     {
         match rule.matches.as_slice() {
             [Match::Seen { list, seconds }] => Some(self.look_up(list, *seconds, lists)),

@@ -35,6 +35,7 @@ pub fn walk<F: Fn(u64, u32) -> u32>(
         ≡ walk_of (get table.now.chains) node.now packet.entry.now drawn lists.old) }
     ensures refused { OnErr result ((drawn : _) → AreDraws (F.post draws.now) number drawn
         → ComesToSet (get table.now.chains) node.now packet.entry.now drawn lists.old lists.new) }
+    ensures size { lists.new.size ≡ lists.old.size }
 {
     let around = Surroundings {
         chains: table,
@@ -69,6 +70,7 @@ pub fn verdict_of<F: Fn(u64, u32) -> u32>(
         ≡ (walk_of (get table.now.chains) node.now packet.entry.now drawn lists.old).lists) }
     ensures refused { OnErr result ((drawn : _) → AreDraws (F.post draws.now) number drawn
         → ComesToSet (get table.now.chains) node.now packet.entry.now drawn lists.old lists.new) }
+    ensures size { lists.new.size ≡ lists.old.size }
 {
     let around = Surroundings {
         chains: table,
@@ -103,6 +105,7 @@ impl<F: Fn(u64, u32) -> u32> Surroundings<'_, F> {
             → AreDraws (F.post self.now.draws.now) self.now.number drawn
             → ComesToSet (chains_of self.now) self.now.node.now self.now.packet.now drawn
             lists.old lists.new) }
+        ensures size { lists.new.size ≡ lists.old.size }
     {
         let mut journey = Journey::new(self.packet, recorder);
         self.enter(&mut journey, lists)?;

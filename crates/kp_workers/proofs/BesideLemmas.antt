@@ -173,44 +173,49 @@ did_own done (x ∷ xs) (y ∷ ys) each none zero =
 did_own done (x ∷ xs) (y ∷ ys) each none (suc w) =
     did_own (λ v. done (suc v)) xs ys (λ v. each (suc v)) (λ v. none (suc v)) w
 
--- the size of the first stays
-pub size_stays : (befores afters : List Worker) → length afters ≡ length befores
-    → EachKeepsSize befores afters → size_in (lists_of afters) ≡ size_in (lists_of befores)
-size_stays [] [] long each = refl
-size_stays [] (y ∷ ys) long each = absurd (omega (arith, long))
-size_stays (x ∷ xs) [] long each = absurd (omega (arith, long))
-size_stays (x ∷ xs) (y ∷ ys) long each = each 0
+-- the sizes of lists stay
+module _ {W : Type 0} (lists_in : W → RecentParts) where
+  pub size_stays : (befores afters : List W) → length afters ≡ length befores
+      → EachKeepsSize lists_in befores afters
+      → size_in (map lists_in afters) ≡ size_in (map lists_in befores)
+  size_stays [] [] long each = refl
+  size_stays [] (y ∷ ys) long each = absurd (omega (arith, long))
+  size_stays (x ∷ xs) [] long each = absurd (omega (arith, long))
+  size_stays (x ∷ xs) (y ∷ ys) long each = each 0
 
-sizes_stay : (size : ℕ) (befores afters : List Worker) → length afters ≡ length befores
-    → EachKeepsSize befores afters → AreSized size (lists_of befores)
-    → AreSized size (lists_of afters)
-sizes_stay size befores [] long each sized w = tt
-sizes_stay size [] (y ∷ ys) long each sized w = absurd (omega (arith, long))
-sizes_stay size (x ∷ xs) (y ∷ ys) long each sized zero = each 0 ∙ sized 0
-sizes_stay size (x ∷ xs) (y ∷ ys) long each sized (suc w) =
-    sizes_stay size xs ys (omega (arith, long)) (λ v. each (suc v)) (λ v. sized (suc v)) w
+  pub sizes_stay : (size : ℕ) (befores afters : List W) → length afters ≡ length befores
+      → EachKeepsSize lists_in befores afters → AreSized size (map lists_in befores)
+      → AreSized size (map lists_in afters)
+  sizes_stay size befores [] long each sized w = tt
+  sizes_stay size [] (y ∷ ys) long each sized w = absurd (omega (arith, long))
+  sizes_stay size (x ∷ xs) (y ∷ ys) long each sized zero = each 0 ∙ sized 0
+  sizes_stay size (x ∷ xs) (y ∷ ys) long each sized (suc w) =
+      sizes_stay size xs ys (omega (arith, long)) (λ v. each (suc v)) (λ v. sized (suc v)) w
 
--- workers stay alike
+abbrev pub own_lists : Worker → RecentParts
+own_lists worker = worker.lists
+
+-- so workers stay alike
 pub stay_alike : (befores afters : List Worker) → length afters ≡ length befores
-    → EachKeepsSize befores afters → AreLike (lists_of befores) → AreLike (lists_of afters)
+    → EachKeepsSize own_lists befores afters → AreLike (lists_of befores) → AreLike (lists_of afters)
 stay_alike befores afters long each alike = record {
   some =
       subst (λ n. 0 < n)
       (length-map befores (λ x. x.lists) ∙ sym long ∙ sym (length-map afters (λ x. x.lists)))
       alike.some;
   sized =
-      subst (λ size. AreSized size (lists_of afters)) (sym (size_stays befores afters long each))
-      (sizes_stay (size_in (lists_of befores)) befores afters long each alike.sized);
+      subst (λ size. AreSized size (lists_of afters)) (sym (size_stays own_lists befores afters long each))
+      (sizes_stay own_lists (size_in (lists_of befores)) befores afters long each alike.sized);
 }
 
-same_each : (xs : List Worker) → EachKeepsSize xs xs
+same_each : (xs : List Worker) → EachKeepsSize own_lists xs xs
 same_each [] w = tt
 same_each (x ∷ xs) zero = refl
 same_each (x ∷ xs) (suc w) = same_each xs w
 
 -- one with lists of the same size in its place
 pub set_keeps : (xs : List Worker) (place : ℕ) (on d : Worker)
-    → on.lists.size ≡ (get_or xs place d).lists.size → EachKeepsSize xs (set xs place on)
+    → on.lists.size ≡ (get_or xs place d).lists.size → EachKeepsSize own_lists xs (set xs place on)
 set_keeps [] place on d same w = tt
 set_keeps (x ∷ xs) zero on d same zero = same
 set_keeps (x ∷ xs) zero on d same (suc w) = same_each xs w
@@ -222,7 +227,7 @@ set_keeps (x ∷ xs) (suc place) on d same (suc w) = set_keeps xs place on d sam
 module _ {T : Type 0} (part : T → ℕ) (step : T → RecentParts → List ℕ × RecentParts)
     (local : (x : T) → IsInPart (part x) (step x)) (items : List T)
     (befores afters : List Worker) (alike : AreLike (lists_of befores))
-    (long : length afters ≡ length befores) (sizes : EachKeepsSize befores afters)
+    (long : length afters ≡ length befores) (sizes : EachKeepsSize own_lists befores afters)
     (each : EachHasDone (done_own (λ x. worker_of (length befores) (part x)) step items)
     befores afters) where
   abbrev worker : T → ℕ
@@ -258,7 +263,7 @@ module _ {T : Type 0} (part : T → ℕ) (step : T → RecentParts → List ℕ 
       ∙ (λ i. (
         in_turn worker items told,
         united (worker_of (sym (m ∙ long) i))
-            (sym (size_stays befores afters long sizes) i) (lists_of afters),
+            (sym (size_stays own_lists befores afters long sizes) i) (lists_of afters),
       ))
 
   -- so where none was refused memory they have answered all

@@ -1,7 +1,6 @@
 pub mod AnswerLemmas
 pub mod BesideLemmas
 pub mod OwnLemmas
-pub mod SizeLemmas
 pub mod TextLemmas
 pub mod WalkLemmas
 pub mod WorkerLemmas

@@ -13,9 +13,13 @@ use Rattle.kp_recent.specs.Held.{no_sources}
 use Rattle.kp_part_laws.specs.Beside.{IsInPart, united, worker_of}
 use Rattle.kp_part_laws.proofs.Steps.{step_sized, united_step}
 use Rattle.kp_part_laws.proofs.United.{kept_get, look, same_lists, united_look, united_none}
+use Rattle.kp_table_defs.specs.Walk.{Walked}
+use Rattle.kp_types.specs.declared.verdict.Answer.{Answer}
+use Rattle.kp_types.specs.declared.verdict.Verdict.{Verdict}
+use Rattle.kp_walker.specs.Answers.{answered, names_of}
 use Rattle.kp_workers.specs.Workers.{AreLike, SeesAs, lists_of, size_in, together}
 use Rattle.kp_workers.specs.declared.worker.Worker.{Worker}
-use Rattle.kp_workers.proofs.BesideLemmas.{set_keeps, size_stays, stay_alike}
+use Rattle.kp_workers.proofs.BesideLemmas.{own_lists, set_keeps, size_stays, stay_alike}
 
 -- ---- Lists without sources
 
@@ -114,7 +118,7 @@ module _ (workers : List Worker) (alike : AreLike (lists_of workers)) (part : �
     step_own step local is =
         let sized = ap (λ (l : RecentParts). l.size) is ∙ step_sized part step local own in
         let long = length-set workers place on in
-        let stays = size_stays workers others long (set_keeps workers place on d sized) in
+        let stays = size_stays own_lists workers others long (set_keeps workers place on d sized) in
         ap step together_is
         ∙ united_step part step local (worker_of (length workers)) (size_in (lists_of workers))
         (lists_of workers) own within_lists own_there own_sized
@@ -142,57 +146,69 @@ sees_at workers alike source count part place x all many in_part at is whole =
 
 -- ---- A step of one of them
 
+module _ (workers : List Worker) (place : ℕ) (old on : Worker)
+    (here : old ≡ get_or workers place old) (same : on.lists.size ≡ old.lists.size) where
+  -- its lists may change, but not their size
+  pub like_after : AreLike (lists_of workers) → AreLike (lists_of (set workers place on))
+  like_after alike =
+      stay_alike workers (set workers place on) (length-set workers place on)
+      (set_keeps workers place on old (same ∙ ap (λ (y : Worker). y.lists.size) here)) alike
+
+  -- nor that of all lists
+  pub size_after : (all : RecentParts) → all ≡ together (lists_of workers)
+      → (together (lists_of (set workers place on))).size ≡ all.size
+  size_after all whole =
+      size_stays own_lists workers (set workers place on) (length-set workers place on)
+      (set_keeps workers place on old (same ∙ ap (λ (y : Worker). y.lists.size) here))
+      ∙ ap (λ (l : RecentParts). l.size) (sym whole)
+
 module _ (workers : List Worker) (alike : AreLike (lists_of workers)) (count part place : ℕ)
     (old on : Worker) (all : RecentParts) (many : count ≡ length workers)
     (at : place ≡ worker_of count part) (here : old ≡ get_or workers place old)
     (whole : all ≡ together (lists_of workers)) where
-  abbrev renewed : List Worker
-  renewed = set workers place on
+  abbrev after : RecentParts
+  after = together (lists_of (set workers place on))
 
-  -- its lists may change, but not their size
-  pub like_after : on.lists.size ≡ old.lists.size → AreLike (lists_of renewed)
-  like_after same =
-      stay_alike workers renewed (length-set workers place on)
-      (set_keeps workers place on old (same ∙ ap (λ (y : Worker). y.lists.size) here)) alike
+  step_after : {B : Type 0} (step : RecentParts → B × RecentParts) → IsInPart part step
+      → on.lists ≡ (step old.lists).1 → step all ≡ ((step old.lists).0, after)
+  step_after step local is =
+      let there : place ≡ worker_of (length workers) part =
+      at ∙ ap (λ n. worker_of n part) many in
+      let same : (get_or workers (worker_of (length workers) part) old).lists ≡ old.lists =
+      ap (λ (y : Worker). y.lists) (sym (here ∙ ap (λ p. get_or workers p old) there)) in
+      ap step whole
+      ∙ step_own workers alike part old on step local (is ∙ ap (λ l. (step l).1) (sym same))
+      ∙ (λ i. ((step (same i)).0, together (lists_of (set workers (sym there i) on))))
 
-  -- nor that of all lists
-  pub size_after : on.lists.size ≡ old.lists.size
-      → (together (lists_of renewed)).size ≡ all.size
-  size_after same =
-      size_stays workers renewed (length-set workers place on)
-      (set_keeps workers place on old (same ∙ ap (λ (y : Worker). y.lists.size) here))
-      ∙ ap (λ (l : RecentParts). l.size) (sym whole)
-
-  module _ {B : Type 0} (step : RecentParts → B × RecentParts) (local : IsInPart part step) where
-    step_after : on.lists ≡ (step old.lists).1
-        → step all ≡ ((step old.lists).0, together (lists_of renewed))
-    step_after is =
-        let there : place ≡ worker_of (length workers) part =
-        at ∙ ap (λ n. worker_of n part) many in
-        let same : (get_or workers (worker_of (length workers) part) old).lists ≡ old.lists =
-        ap (λ (y : Worker). y.lists) (sym (here ∙ ap (λ p. get_or workers p old) there)) in
-        ap step whole
-        ∙ step_own workers alike part old on step local (is ∙ ap (λ l. (step l).1) (sym same))
-        ∙ (λ i. ((step (same i)).0, together (lists_of (set workers (sym there i) on))))
-
-    -- what it tells is what all of them tell, and so are its lists
-    pub told_after : {A E : Type 0} (tell : A → B) (result : Result A E)
-        → IfOk result (λ a. tell a ≡ (step old.lists).0)
-        → OnOk result (on.lists ≡ (step old.lists).1) → IfOk result (λ a. tell a ≡ (step all).0)
-    told_after tell (Ok a) told is = told ∙ ap (λ r. r.0) (sym (step_after is))
-    told_after tell (Err e) told is = tt
-
-    pub lists_after : {A E : Type 0} (result : Result A E)
-        → OnOk result (on.lists ≡ (step old.lists).1)
-        → OnOk result (together (lists_of renewed) ≡ (step all).1)
-    lists_after (Ok a) is = ap (λ r. r.1) (sym (step_after is))
-    lists_after (Err e) is = tt
+  -- what it tells is what all of them tell, and so are its lists
+  pub told_after : {A B E : Type 0} (step : RecentParts → B × RecentParts) → IsInPart part step
+      → (tell : A → B) (result : Result A E) → IfOk result (λ a. tell a ≡ (step old.lists).0)
+      → OnOk result (on.lists ≡ (step old.lists).1)
+      → IfOk result (λ a. tell a ≡ (step all).0) × OnOk result (after ≡ (step all).1)
+  told_after step local tell (Ok a) told is =
+      let did = sym (step_after step local is) in (told ∙ ap (λ r. r.0) did, ap (λ r. r.1) did)
+  told_after step local tell (Err e) told is = (tt, tt)
 
   -- a text that it adds is that of all of them
   pub text_after : {A E : Type 0} (step : RecentParts → List ℕ × RecentParts) → IsInPart part step
       → (result : Result A E) (before now : List ℕ)
       → OnOk result (now ≡ before ++ (step old.lists).0)
-      → OnOk result (on.lists ≡ (step old.lists).1) → OnOk result (now ≡ before ++ (step all).0)
+      → OnOk result (on.lists ≡ (step old.lists).1)
+      → OnOk result (now ≡ before ++ (step all).0) × OnOk result (after ≡ (step all).1)
   text_after step local (Ok a) before now text is =
-      text ∙ ap (λ r. before ++ r.0) (sym (step_after step local is))
-  text_after step local (Err e) before now text is = tt
+      let did = sym (step_after step local is) in
+      (text ∙ ap (λ r. before ++ r.0) did, ap (λ r. r.1) did)
+  text_after step local (Err e) before now text is = (tt, tt)
+
+  -- and so is a walk
+  pub walked_after : {E : Type 0} (walk : RecentParts → Walked)
+      → IsInPart {B = Verdict × List (List (List ℕ))} part (λ lists. (((walk lists).verdict, (walk lists).trail), (walk lists).lists))
+      → (result : Result Answer E) → IfOk result (λ a. answered a on.lists ≡ walk old.lists)
+      → IfOk result (λ a. answered a after ≡ walk all)
+  walked_after walk local (Ok a) is =
+      let told : ((walk all).verdict, (walk all).trail) ≡ (a.verdict, names_of a.trail) =
+      ap (λ r. r.0) (step_after _ local (ap (λ (w : Walked). w.lists) is))
+      ∙ sym (ap (λ (w : Walked). (w.verdict, w.trail)) is) in
+      let lists = ap (λ r. r.1) (step_after _ local (ap (λ (w : Walked). w.lists) is)) in
+      sym (λ i. record { verdict = (told i).0; trail = (told i).1; lists = lists i })
+  walked_after walk local (Err e) is = tt

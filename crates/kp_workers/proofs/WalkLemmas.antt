@@ -16,12 +16,13 @@ use Rattle.kp_choice_defs.specs.Recent.{RecentParts}
 use Rattle.kp_part_laws.specs.Beside.{AreSized, IsInPart, in_turn, one_by_one, own_items, united, worker_of}
 use Rattle.kp_part_laws.specs.Unseen.{kept_parts}
 use Rattle.kp_part_laws.proofs.Beside.{done_more, side_by_side}
-use Rattle.kp_part_laws.proofs.Steps.{step_sized, walk_in_part}
+use Rattle.kp_part_laws.proofs.Steps.{walk_in_part}
 use Rattle.kp_part_laws.proofs.United.{united_kept}
 use Rattle.kp_workers.specs.Walks.{EachDid, EachHasWalked, HasWalked, HasWalkedAny, HaveDraws, Told, WalksOn, all_told, part_in, told_in, walk_step}
-use Rattle.kp_workers.specs.Workers.{done_own}
+use Rattle.kp_workers.specs.Workers.{EachKeepsSize, done_own}
 use Rattle.kp_workers.specs.declared.walker.Walker.{Walker}
 use Rattle.kp_workers.specs.declared.walks.Numbered.{Numbered}
+use Rattle.kp_workers.proofs.BesideLemmas.{sizes_stay}
 use Rattle.kp_workers.proofs.WorkerLemmas.{own_by}
 
 -- ---- One worker
@@ -220,27 +221,7 @@ walked_own done (x ∷ xs) (y ∷ ys) each none zero =
 walked_own done (x ∷ xs) (y ∷ ys) each none (suc w) =
     walked_own (λ v. done (suc v)) xs ys (λ v. each (suc v)) (λ v. none (suc v)) w
 
--- the sizes of lists stay
-done_sized : (step : Numbered → RecentParts → Told × RecentParts)
-    → ((x : Numbered) → IsInPart (part_in x) (step x)) → (items : List Numbered)
-    (lists : RecentParts) → (one_by_one step items lists).1.size ≡ lists.size
-done_sized step local [] lists = refl
-done_sized step local (x ∷ xs) lists =
-    done_sized step local xs (step x lists).1 ∙ step_sized (part_in x) (step x) (local x) lists
-
-walked_sized : (size : ℕ) (done : ℕ → RecentParts → List Told × RecentParts)
-    → ((w : ℕ) (lists : RecentParts) → (done w lists).1.size ≡ lists.size)
-    → (befores afters : List Walker) → length afters ≡ length befores
-    → EachHasWalked done befores afters → NoneStopped afters
-    → AreSized size (map (λ x. x.lists) befores) → AreSized size (map (λ x. x.lists) afters)
-walked_sized size done sizes befores [] long each none sized w = tt
-walked_sized size done sizes [] (y ∷ ys) long each none sized w = absurd (omega (arith, long))
-walked_sized size done sizes (x ∷ xs) (y ∷ ys) long each none sized zero =
-    ap (λ (l : RecentParts). l.size) (each 0 (none 0)).lists ∙ sizes 0 x.lists ∙ sized 0
-walked_sized size done sizes (x ∷ xs) (y ∷ ys) long each none sized (suc w) =
-    walked_sized size (λ v. done (suc v)) (λ v. sizes (suc v)) xs ys (omega (arith, long))
-    (λ v. each (suc v)) (λ v. none (suc v)) (λ v. sized (suc v)) w
-
+-- lists that are split have the size of those before
 split_sized : (lists : RecentParts) (keeps : ℕ → ℕ → Bool) (values : List RecentParts)
     → ((w : ℕ) → IfSome (slice_get values w) (λ value. value ≡ kept_parts (keeps w) lists))
     → AreSized lists.size values
@@ -248,6 +229,19 @@ split_sized lists keeps [] kept w = tt
 split_sized lists keeps (x ∷ xs) kept zero = ap (λ (l : RecentParts). l.size) (kept 0)
 split_sized lists keeps (x ∷ xs) kept (suc w) =
     split_sized lists (λ v. keeps (suc v)) xs (λ v. kept (suc v)) w
+
+-- and so have those that workers had of them
+pub taken_sized : (lists : RecentParts) (keeps : ℕ → ℕ → Bool) (values : List RecentParts)
+    → ((w : ℕ) → IfSome (slice_get values w) (λ value. value ≡ kept_parts (keeps w) lists))
+    → (befores afters : List Walker) → map (λ x. x.lists) befores ≡ values
+    → length afters ≡ length befores → EachKeepsSize (λ x. x.lists) befores afters
+    → (taken : List RecentParts) (size : ℕ) → taken ≡ map (λ x. x.lists) afters
+    → size ≡ lists.size → AreSized size taken
+taken_sized lists keeps values kept befores afters from long sizes taken size are same w =
+    subst (λ n. IfSome (slice_get taken w) (λ value. value.size ≡ n)) (sym same)
+    (subst (λ vs. AreSized lists.size vs) (sym are)
+    (sizes_stay (λ x. x.lists) lists.size befores afters long sizes
+    (subst (AreSized lists.size) (sym from) (split_sized lists keeps values kept))) w)
 
 module _ (step : Numbered → RecentParts → Told × RecentParts)
     (local : (x : Numbered) → IsInPart (part_in x) (step x)) (packets : List Numbered)
@@ -271,16 +265,6 @@ module _ (step : Numbered → RecentParts → Told × RecentParts)
 
   pub now_long : length now ≡ count
   now_long = length-map afters (λ x. x.lists) ∙ long ∙ wide
-
-  pub now_sized : AreSized lists.size now
-  now_sized =
-      walked_sized lists.size
-      (done_own (λ x. worker_of (length befores) (part_in x)) step packets)
-      (λ w l. done_sized step local
-      (own_items (λ x. worker_of (length befores) (part_in x)) w packets) l)
-      befores afters long each none
-      (subst (AreSized lists.size) (sym from)
-      (split_sized lists (λ w part. worker_of count part == w) values kept))
 
   -- the answers in turn, and the lists together, are those of one thread
   pub walked_all : one_by_one step packets lists
@@ -334,8 +318,3 @@ module _ (step : Numbered → RecentParts → Told × RecentParts)
           sym (joined
               ∙ (λ j. united (worker_of ((ap length are ∙ now_long) j)) (sizes j) (are j))) i,
         ))
-
-    pub taken_sized : (taken : List RecentParts) (size : ℕ) → taken ≡ now → size ≡ lists.size
-        → AreSized size taken
-    taken_sized taken size are sizes =
-        subst (λ vs. AreSized size vs) (sym are) (subst (λ n. AreSized n now) (sym sizes) now_sized)

@@ -63,10 +63,10 @@ EachHasDone done befores afters =
     (λ after. after.refused ≡ None → HasDone (done w before.lists) after))
 
 -- the lists of each worker have the size that they had
-abbrev pub EachKeepsSize : List Worker → List Worker → Type 0
-EachKeepsSize befores afters =
+abbrev pub EachKeepsSize : {W : Type 0} → (W → RecentParts) → List W → List W → Type 0
+EachKeepsSize lists_in befores afters =
     (w : ℕ) → IfSome (slice_get befores w) (λ before. IfSome (slice_get afters w)
-    (λ after. after.lists.size ≡ before.lists.size))
+    (λ after. (lists_in after).size ≡ (lists_in before).size))
 
 -- no worker was refused memory
 abbrev pub NoneRefused : List Worker → Type 0

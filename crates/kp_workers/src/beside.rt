@@ -54,7 +54,7 @@ fn run_all<T: Sync, W: Work<T> + Sync, R: Threads + Sync, G: Gate<R> + Sync>(
     ensures done { EachHasDone (done_own
         (λ x. spec.worker_of (length workers.old.items) (W.part work.now x)) (W.step work.now)
         items.now) workers.old.items workers.new.items }
-    ensures sizes { EachKeepsSize workers.old.items workers.new.items }
+    ensures sizes { EachKeepsSize (λ w. w.lists) workers.old.items workers.new.items }
 {
     if workers.len() == 1 {
         run_beside(rt, &OpenGate, work, items, workers.as_mut_slice());
@@ -75,7 +75,7 @@ fn run_beside<T: Sync, W: Work<T> + Sync, R: Threads + Sync, G: Gate<R> + Sync>(
     ensures done { EachHasDone (done_own
         (λ x. spec.worker_of (length workers.old) (W.part work.now x)) (W.step work.now)
         items.now) workers.old workers.new }
-    ensures sizes { EachKeepsSize workers.old workers.new }
+    ensures sizes { EachKeepsSize (λ w. w.lists) workers.old workers.new }
 {
     let count = workers.len();
     if count == 0 {

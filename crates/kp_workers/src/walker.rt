@@ -62,9 +62,10 @@ impl Walker {
         requires count { 0 < place.count }
         requires ranked { is_ranked ground.now.table.now.chains ≡ true }
         requires stated { IsStated (F.pre ground.now.draws.now) (F.post ground.now.draws.now) }
-        ensures { self.new.refused ≡ None → HasWalkedAny (F.post ground.now.draws.now)
+        ensures walked { self.new.refused ≡ None → HasWalkedAny (F.post ground.now.draws.now)
             (get ground.now.table.now.chains) ground.now.node.now packets.now place.count place.own
             self.old.lists self.new }
+        ensures size { self.new.lists.size ≡ self.old.lists.size }
     {
         self.answers.clear();
         self.calls = 0;
@@ -82,7 +83,7 @@ impl Walker {
     ) -> Result<(), NoMemory>
         requires ranked { is_ranked ground.now.table.now.chains ≡ true }
         requires stated { IsStated (F.pre ground.now.draws.now) (F.post ground.now.draws.now) }
-        ensures { OnOk result ((drawn : ℕ → ℕ → ℕ)
+        ensures walked { OnOk result ((drawn : ℕ → ℕ → ℕ)
             → AreDraws (F.post ground.now.draws.now) packet.now.number (drawn packet.now.number)
             → WalksOn (
               (walk_step (get ground.now.table.now.chains) ground.now.node.now drawn
@@ -90,6 +91,7 @@ impl Walker {
               (walk_step (get ground.now.table.now.chains)
                   ground.now.node.now drawn packet.now self.old.lists).1,
             ) self.old self.new) }
+        ensures size { self.new.lists.size ≡ self.old.lists.size }
     {
         let place = u32::try_from(own).unwrap_or(u32::MAX);
         self.calls = self.calls.saturating_add(1);
@@ -131,11 +133,12 @@ fn walk_own<F: Fn(u64, u32) -> u32, R, G: Gate<R>>(
     requires count { 0 < place.count }
     requires ranked { is_ranked ground.now.table.now.chains ≡ true }
     requires stated { IsStated (F.pre ground.now.draws.now) (F.post ground.now.draws.now) }
-    ensures { OnOk result ((drawn : ℕ → ℕ → ℕ)
+    ensures walked { OnOk result ((drawn : ℕ → ℕ → ℕ)
         → HaveDraws (F.post ground.now.draws.now) packets.now drawn
         → WalksOn (done_own (λ x. spec.worker_of place.count (part_in x))
         (walk_step (get ground.now.table.now.chains) ground.now.node.now drawn) packets.now
         place.own walker.old.lists) walker.old walker.new) }
+    ensures size { walker.new.lists.size ≡ walker.old.lists.size }
 {
     for packet in packets {
         let owner = worker_of(place.count, part_of(&packet.packet.source));

@@ -9,6 +9,7 @@ ghost use Rattle.kp_recent.specs.Held.{no_sources};
 ghost use Rattle.kp_table_defs.specs.Ranks.{is_ranked};
 ghost use Rattle.kp_workers.specs.Walks.{EachDid, HasWalkedAny, HaveDraws};
 ghost use Rattle.kp_workers.specs.Walks.{all_told, part_in, walk_step};
+ghost use Rattle.kp_workers.specs.Workers.{EachKeepsSize};
 ghost use Rattle.kp_part_laws.specs.Beside as spec;
 
 use crate::part_lists::part_of;
@@ -99,6 +100,7 @@ fn run_all<F: Fn(u64, u32) -> u32 + Sync, R: Threads + Sync, G: Gate<R> + Sync>(
     ensures walked { EachDid (λ w before after. HasWalkedAny (F.post ground.now.draws.now)
         (get ground.now.table.now.chains) ground.now.node.now packets.now
         (length walkers.old.items) w before.lists after) walkers.old.items walkers.new.items }
+    ensures sizes { EachKeepsSize (λ w. w.lists) walkers.old.items walkers.new.items }
 {
     if walkers.len() == 1 {
         run_beside(rt, &OpenGate, ground, packets, walkers.as_mut_slice());
@@ -121,6 +123,7 @@ fn run_beside<F: Fn(u64, u32) -> u32 + Sync, R: Threads + Sync, G: Gate<R> + Syn
     ensures walked { EachDid (λ w before after. HasWalkedAny (F.post ground.now.draws.now)
         (get ground.now.table.now.chains) ground.now.node.now packets.now
         (length walkers.old) w before.lists after) walkers.old walkers.new }
+    ensures sizes { EachKeepsSize (λ w. w.lists) walkers.old walkers.new }
 {
     let count = walkers.len();
     if count == 0 {

@@ -1,4 +1,4 @@
-use Rattle.std.proofs.Common.{◌∙◌, sym, subst, ◌≡◌, ◌^◌, ◌+◌, ◌<◌, slice_get, Some}
+use Rattle.std.proofs.Common.{◌∙◌, sym, subst}
 use Rattle.kp_rules.proofs.Skipping.{next_below}
 use Rattle.kp_walker.specs.Next.{IsNext}
 use Rattle.kp_walker.proofs.next.next_rule.Goals as goal

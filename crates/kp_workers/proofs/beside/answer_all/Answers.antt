@@ -1,7 +1,7 @@
 use Rattle.std.proofs.Common.{◌∙◌, ap, sym}
 use Rattle.std.proofs.lemmas.Result.{on_ok_weaker}
 use Rattle.kp_choice_defs.specs.Recent.{RecentParts}
-use Rattle.kp_workers.proofs.BesideLemmas.{answered, size_stays, stay_alike}
+use Rattle.kp_workers.proofs.BesideLemmas.{answered, own_lists, size_stays, stay_alike}
 use Rattle.kp_workers.proofs.beside.answer_all.Goals as goal
 
 pub invariant_of-lists : goal.invariant_of-lists
@@ -31,6 +31,6 @@ returns-clause-lists g c =
 
 pub returns-clause-size : goal.returns-clause-size
 returns-clause-size g c =
-    size_stays c.lists.inside.workers.items c.run_all.new.workers.items c.run_all.ensures.long
+    size_stays own_lists c.lists.inside.workers.items c.run_all.new.workers.items c.run_all.ensures.long
     c.run_all.ensures.sizes
     ∙ ap (λ (l : RecentParts). l.size) c.lists.view_is

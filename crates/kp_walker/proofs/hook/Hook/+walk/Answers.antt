@@ -104,6 +104,7 @@ run_rules-loop-next-preserved g t c =
           (sym went) set)));
       new = subst (λ f. IsThrough f c.args.depth way) c.in-Next.is c.in_ok-flow.ensures.way;
       trail = c.in_ok-flow.ensures.trail ∙ c.loop-next.invariant.trail;
+      size = c.in_ok-flow.ensures.size ∙ c.in_ok-next.ensures.size ∙ c.loop-next.invariant.size;
     }
 
 -- the rule does not go on
@@ -125,6 +126,7 @@ run_rules-returns-in_default-flow g t c = record {
   way = c.in_ok-flow.ensures.way;
   refused = tt;
   trail = c.in_ok-flow.ensures.trail ∙ c.loop-next.invariant.trail;
+  size = c.in_ok-flow.ensures.size ∙ c.in_ok-next.ensures.size ∙ c.loop-next.invariant.size;
 }
 
 -- no rule is left

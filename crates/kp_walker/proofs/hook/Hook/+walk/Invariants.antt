@@ -39,6 +39,7 @@ invariant-run_rules-loop-next g l = record {
       l.chain (state_of l.self.header l.fn.progress l.fn.lists) left;
   new : g.R.Recorder.way l.recorder ≡ [];
   trail : g.R.Recorder.trail l.recorder ≡ g.R.Recorder.trail l.fn.recorder;
+  size : l.lists.size ≡ l.fn.lists.size;
 }
 
 -- and each time fewer of them are left

@@ -1,4 +1,4 @@
-use Rattle.std.proofs.Common.{◌+◌, ◌∙◌, sym, ap, arith}
+use Rattle.std.proofs.Common.{◌+◌, ◌∙◌, refl, sym, ap, arith}
 use Rattle.kp_walker.specs.Progress.{state_of, tried_of}
 use Rattle.kp_walker.proofs.TriedRules.{matched_on, over_on, run_matched, run_over}
 use Rattle.kp_walker.proofs.HeldSteps.{meets_on, none_held, passes_none, passes_on, passes_to, rule_fails, rule_holds, rule_refused}
@@ -12,6 +12,7 @@ loop-next-init g c = record {
       passes_none h draws depth c.args.chain.now c.args.from
       (state_of h.header c.args.progress.now c.args.lists.now);
   on = omega arith;
+  size = refl;
 }
 
 -- the only match of a rule holds
@@ -114,6 +115,7 @@ loop-next-preserved g c =
         next.on,
         over_on c.args.chain.now c.loop-next.place c.try_run.result c.in-Over.after c.in-Over.is c.try_run.ensures.placed,
       );
+      size = c.in_ok-try_rule.ensures.size ∙ c.try_run.ensures.size ∙ c.loop-next.invariant.size;
     }
 
 -- no rule is left

@@ -13,6 +13,7 @@ invariant-loop-next g l = record {
       → Passes l.self draws depth l.chain l.from l.place
       (state_of l.self.header l.fn.progress l.fn.lists) (state_of l.self.header l.progress l.lists);
   on : l.from ≤ l.place;
+  size : l.lists.size ≡ l.fn.lists.size;
 }
 
 -- and each time fewer of them are left

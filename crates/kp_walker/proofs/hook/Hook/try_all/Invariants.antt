@@ -24,4 +24,5 @@ invariant-loop-matched g l = record {
       (drop l.matched-index l.matches) (state_of l.self.header l.progress l.lists) left
       → MatchesSet (surroundings_of l.self.around.now draws) l.matches
       (state_of l.self.header l.fn.progress l.fn.lists) left;
+  size : l.lists.size ≡ l.fn.lists.size;
 }

@@ -1,4 +1,4 @@
-use Rattle.std.proofs.Common.{◌+◌, ◌^◌, ◌<◌, IfSome, length, sym, subst, arith}
+use Rattle.std.proofs.Common.{◌+◌, ◌^◌, ◌<◌, IfSome, length, refl, sym, subst, ◌∙◌, arith}
 use Rattle.kp_walker.specs.Held.{Meets}
 use Rattle.kp_walker.specs.Progress.{state_of}
 use Rattle.kp_walker.proofs.HeldSteps.{passes_none}
@@ -12,6 +12,7 @@ loop-holds-init g c = record {
       passes_none h draws depth c.args.chain.now c.args.from
       (state_of h.header c.args.progress.now c.args.lists.now);
   on = omega arith;
+  size = refl;
 }
 
 -- the place is one of the chain's
@@ -61,6 +62,7 @@ loop-holds-preserved g c = record {
       (subst (λ o. IfSome o (λ holds. c.loop-holds.place < length c.args.chain.now)) c.in-Some.is
       c.try_place.ensures.within);
   on = omega (arith, c.loop-holds.invariant.on);
+  size = c.try_place.ensures.size ∙ c.loop-holds.invariant.size;
 }
 
 -- the rule at the place isn't one of the run

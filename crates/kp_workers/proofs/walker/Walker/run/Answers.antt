@@ -8,8 +8,8 @@ use Rattle.kp_workers.specs.declared.walker.Walker.{Walker}
 use Rattle.kp_workers.proofs.WalkLemmas.{has_walked}
 use Rattle.kp_workers.proofs.walker.Walker.run.Goals as goal
 
-pub returns : goal.returns
-returns g c = λ none. record {
+pub returns-clause-walked : goal.returns-clause-walked
+returns-clause-walked g c = λ none. record {
   by = λ drawn have.
       let before : Walker = record {
         lists = c.args.self.now.lists;
@@ -24,7 +24,7 @@ returns g c = λ none. record {
       (walk_step (get c.args.ground.now.table.now.chains) c.args.ground.now.node.now drawn)
       c.args.packets.now c.args.place.own c.args.self.now.lists) before c.walk_own.new.walker
       c.clear.ensures.items
-      (on_ok_weaker c.walk_own.result (λ all. all drawn have) c.walk_own.ensures)
+      (on_ok_weaker c.walk_own.result (λ all. all drawn have) c.walk_own.ensures.walked)
       (sym c.err-self.ensures.value ∙ none) in
       record { told = walked.told; lists = walked.lists };
 }

@@ -1,0 +1,34 @@
+use Rattle.std.proofs.Common.{◌≡◌, ◌%◌, ◌∙◌, ap, sym, length, rules}
+use Rattle.kp_answers.specs.Walks.{walk_in}
+use Rattle.kp_part_laws.specs.Beside.{worker_of}
+use Rattle.kp_workers.specs.declared.worker.Worker.{Worker}
+use Rattle.kp_workers.proofs.AnswerLemmas.{told_in_part}
+use Rattle.kp_workers.proofs.OwnLemmas.{like_after, size_after, walked_after}
+use Rattle.kp_workers.proofs.part_lists.PartLists.walk.Goals as goal
+
+pub invariant_of-self : goal.invariant_of-self
+invariant_of-self c =
+    like_after c.self.inside.workers.items c.worker_of-place.result c.index_mut.result.now
+    (record c.index_mut.result.now { lists = c.walk.new.lists }) c.index_mut.ensures.value
+    c.walk.ensures.size c.self.invariant
+
+pub returns : goal.returns
+returns c =
+    let s = c.args.snapshot.now in
+    let line = c.args.line.now in
+    let workers = c.self.inside.workers.items in
+    let old = c.index_mut.result.now in
+    let on : Worker = record old { lists = c.walk.new.lists } in
+    let many : c.len.result ≡ length workers = search rules in
+    record {
+      walk =
+          walked_after workers c.self.invariant c.len.result (line.packet.source.number % 16)
+          c.worker_of-place.result old on c.args.self.now many
+          (c.worker_of-place.ensures ∙ ap (worker_of c.len.result) c.part_of.ensures)
+          c.index_mut.ensures.value (sym c.self.view_is) (walk_in s c.args.number line)
+          (told_in_part s c.args.number line (λ verdict trail. (verdict, trail))) c.walk.result
+          c.walk.ensures.walk;
+      size =
+          size_after workers c.worker_of-place.result old on c.index_mut.ensures.value
+          c.walk.ensures.size c.args.self.now (sym c.self.view_is);
+    }
