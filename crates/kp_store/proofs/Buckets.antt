@@ -1,5 +1,5 @@
 -- What stands in which bucket once a key is added to one or removed.
-use Rattle.std.proofs.Common.{◌≡◌, ℕ, zero, suc, ◌+◌, ◌<◌, ◌&&◌, ◌||◌, Bool, true, false, not, cond, List, [], ◌∷◌, take, length, get_or, Option, Some, None, is_some, refl, sym, ap, ◌∙◌}
+use Rattle.std.proofs.Common.{◌≡◌, ℕ, zero, suc, ◌+◌, ◌<◌, ◌&&◌, ◌||◌, Bool, true, false, not, cond, List, [], ◌∷◌, filter, take, length, get_or, Option, Some, None, is_some, refl, sym, ap, ◌∙◌}
 use Rattle.std.specs.Map.{lookup}
 use Rattle.std.specs.Option.{unwrap_or}
 use Rattle.std.specs.Ordering.{eq_by_cmp}
@@ -7,24 +7,21 @@ use Rattle.std.specs.Cmp.{IsEquivalence}
 use Rattle.std.specs.FinMap.{get, get-empty, get-insert, get-remove, insert, remove, empty, contains_key, same_map}
 use Rattle.std.proofs.lemmas.List.Folds.{list_any_more}
 use mathlib.Core.Bool.{and-false}
-use Rattle.kp_lemmas.proofs.Orders.{one_from_tie, tie_of_itself}
+use Rattle.kp_lemmas.proofs.Orders.{one_from_tie}
 use Rattle.kp_base.specs.Keys.{key_cmp}
 use Rattle.kp_base.specs.declared.key.ObjectKey.{ObjectKey}
 use Rattle.kp_base.proofs.KeyOrder.{key_total, key_exact}
-use Rattle.kp_store.specs.Indexes.{Keys, has, is_among, is_pair, is_tag_of, is_lost}
+use Rattle.kp_store.specs.Indexes.{Keys, has, is_among, is_pair, is_tag_of}
 
 -- ---- truth values
 
-one_less : (e b c m n old : Bool) → (e ≡ true → c ≡ n) → not ((e && b) && not c) && (not (b && (m && not n)) && old) ≡ not (b && ((m || e) && not n)) && old
-one_less false b c true n old same = refl
-one_less false b c false n old same = refl
-one_less true false c m n old same = refl
-one_less true true true m false old same = let h : true ≡ false = same refl in absurd (cc)
-one_less true true false m true old same = let h : false ≡ true = same refl in absurd (cc)
-one_less true true true true true old same = refl
-one_less true true true false true old same = refl
-one_less true true false true false old same = refl
-one_less true true false false false old same = refl
+one_less : (s e m old : Bool) → not (s && e) && (not (e && m) && old) ≡ not (e && (m || s)) && old
+one_less true true true old = refl
+one_less true true false old = refl
+one_less true false m old = refl
+one_less false true true old = refl
+one_less false true false old = refl
+one_less false false m old = refl
 
 one_more_tag : (s e m old : Bool) → (s && e) || ((e && m) || old) ≡ (e && (m || s)) || old
 one_more_tag true true true old = refl
@@ -34,17 +31,12 @@ one_more_tag false true true old = refl
 one_more_tag false true false old = refl
 one_more_tag false false m old = refl
 
-pub back : (b m n some old : Bool) → (b ≡ true → old ≡ n) → (some ≡ true → m ≡ true) → not (b && (m && not n)) && ((b && some) || old) ≡ old
-back false m n some old same all = refl
-back true m true some false same all = let h : false ≡ true = same refl in absurd (cc)
-back true m false some true same all = let h : true ≡ false = same refl in absurd (cc)
-back true true true true true same all = refl
-back true true true false true same all = refl
-back true false true true true same all = refl
-back true false true false true same all = refl
-back true true false some false same all = refl
-back true false false true false same all = let h : false ≡ true = all refl in absurd (cc)
-back true false false false false same all = refl
+back : (b m some old : Bool) → (b ≡ true → m ≡ true → old ≡ false) → (some ≡ true → m ≡ true) → not (b && m) && ((b && some) || old) ≡ old
+back false m some old absent all = refl
+back true true some true absent all = let h : true ≡ false = absent refl refl in absurd (cc)
+back true true some false absent all = refl
+back true false true old absent all = let h : false ≡ true = all refl in absurd (cc)
+back true false false old absent all = refl
 
 pub or_later : (a p q : Bool) → (p ≡ true → q ≡ true) → a || p ≡ true → a || q ≡ true
 or_later true p q f h = refl
@@ -52,7 +44,7 @@ or_later false p q f h = f h
 
 -- ---- one bucket
 
-some_or : {X : Type 0} (b : Bool) (x : X) (o : Option X) → is_some (cond b (Some x) o) ≡ b || is_some o
+pub some_or : {X : Type 0} (b : Bool) (x : X) (o : Option X) → is_some (cond b (Some x) o) ≡ b || is_some o
 some_or true x o = refl
 some_or false x o = refl
 
@@ -84,6 +76,17 @@ module _ {T : Type 0} (same : T → T → Bool) (laws : IsEquivalence same) wher
   among_tied : (tag t : T) → same tag t ≡ true → (tags : List T) → is_among same tags t ≡ is_among same tags tag
   among_tied tag t tie [] = refl
   among_tied tag t tie (u ∷ us) = λ i. sym (laws.congr tag t u tie) i || among_tied tag t tie us i
+
+  -- tags without others
+  pub among_others : (others tags : List T) (t : T) → is_among same (filter (λ u. not (is_among same others u)) tags) t ≡ is_among same tags t && not (is_among same others t)
+  among_others others [] t = refl
+  among_others others (u ∷ us) t = by (same t u) (not (is_among same others u)) refl (λ tie. ap not (sym (among_tied u t (laws.symm u t ∙ tie) others))) (among_others others us t)
+    where
+      by : (tie out : Bool) → same t u ≡ tie → (tie ≡ true → out ≡ not (is_among same others t)) → is_among same (filter (λ u. not (is_among same others u)) us) t ≡ is_among same us t && not (is_among same others t) → is_among same (cond out (u ∷ filter (λ u. not (is_among same others u)) us) (filter (λ u. not (is_among same others u)) us)) t ≡ (tie || is_among same us t) && not (is_among same others t)
+      by true true is one rest = ap (λ b. b || is_among same (filter (λ u. not (is_among same others u)) us) t) is ∙ one refl
+      by true false is one rest = rest ∙ ap (λ b. is_among same us t && b) (sym (one refl)) ∙ and-false (is_among same us t) ∙ one refl
+      by false true is one rest = ap (λ b. b || is_among same (filter (λ u. not (is_among same others u)) us) t) is ∙ rest
+      by false false is one rest = rest
 
   module _ (es fs : List (T × Keys)) (tag : T) (w : Keys) (h : (t : T) → lookup (same t) fs ≡ cond (same tag t) (Some w) (lookup (same t) es)) where
     -- what the new bucket is, and that others stay
@@ -178,16 +181,11 @@ module _ {T : Type 0} (same : T → T → Bool) (laws : IsEquivalence same) wher
       one_more_tag (same t tag) (eq_by_cmp key_cmp k key) (is_among same (take i tags) t) old
       ∙ ap (λ b. (eq_by_cmp key_cmp k key && b) || old) (sym (among_more tags i tag t lt is))
 
-  -- where a key stands in the buckets of the tags that are kept, and was added for some
-  pub there_now : (tags kept : List T) (tag : T) (key : ObjectKey) (now was : Bool) → now ≡ is_tag_of same tags key tag key || was → was ≡ is_among same kept tag → now ≡ is_among same tags tag || is_among same kept tag
-  there_now tags kept tag key now was is before =
-      is ∙ (λ i. (tie_of_itself key_total key i && is_among same tags tag) || before i)
-
   -- one more tag that is gone
-  pub trim_step : (gone kept : List T) (i : ℕ) (tag : T) → i < length gone → tag ≡ get_or gone i tag → (key : ObjectKey) (t : T) (k : ObjectKey) (old : Bool) → not (is_pair same tag key t k && not (is_among same kept tag)) && (not (is_lost same (take i gone) kept key t k) && old) ≡ not (is_lost same (take (i + 1) gone) kept key t k) && old
-  trim_step gone kept i tag lt is key t k old =
-      one_less (same t tag) (eq_by_cmp key_cmp k key) (is_among same kept tag) (is_among same (take i gone) t) (is_among same kept t) old (λ e. among_tied t tag e kept)
-      ∙ ap (λ b. not (eq_by_cmp key_cmp k key && (b && not (is_among same kept t))) && old) (sym (among_more gone i tag t lt is))
+  pub trim_step : (tags : List T) (i : ℕ) (tag : T) → i < length tags → tag ≡ get_or tags i tag → (key : ObjectKey) (t : T) (k : ObjectKey) (old : Bool) → not (is_pair same tag key t k) && (not (is_tag_of same (take i tags) key t k) && old) ≡ not (is_tag_of same (take (i + 1) tags) key t k) && old
+  trim_step tags i tag lt is key t k old =
+      one_less (same t tag) (eq_by_cmp key_cmp k key) (is_among same (take i tags) t) old
+      ∙ ap (λ b. not (eq_by_cmp key_cmp k key && b) && old) (sym (among_more tags i tag t lt is))
 
   among_some : (i : ℕ) (tags : List T) (t : T) → is_among same (take i tags) t ≡ true → is_among same tags t ≡ true
   among_some zero tags t h = absurd (cc)
@@ -195,8 +193,12 @@ module _ {T : Type 0} (same : T → T → Bool) (laws : IsEquivalence same) wher
   among_some (suc i) (u ∷ us) t h = or_later (same t u) (is_among same (take i us) t) (is_among same us t) (among_some i us t) h
 
   -- tags that were added in part, and removed again
-  pub undone : (tags kept : List T) (i : ℕ) (key : ObjectKey) (t : T) (k : ObjectKey) (old : Bool) → (eq_by_cmp key_cmp k key ≡ true → old ≡ is_among same kept t) → not (is_lost same tags kept key t k) && (is_tag_of same (take i tags) key t k || old) ≡ old
-  undone tags kept i key t k old at = back (eq_by_cmp key_cmp k key) (is_among same tags t) (is_among same kept t) (is_among same (take i tags) t) old at (among_some i tags t)
+  pub undone : (tags : List T) (i : ℕ) (key : ObjectKey) (t : T) (k : ObjectKey) (old : Bool) → (eq_by_cmp key_cmp k key ≡ true → is_among same tags t ≡ true → old ≡ false) → not (is_tag_of same tags key t k) && (is_tag_of same (take i tags) key t k || old) ≡ old
+  undone tags i key t k old absent = back (eq_by_cmp key_cmp k key) (is_among same tags t) (is_among same (take i tags) t) old absent (among_some i tags t)
+
+  -- and all of them
+  pub undone_all : (tags : List T) (key : ObjectKey) (t : T) (k : ObjectKey) (old : Bool) → (eq_by_cmp key_cmp k key ≡ true → is_among same tags t ≡ true → old ≡ false) → not (is_tag_of same tags key t k) && (is_tag_of same tags key t k || old) ≡ old
+  undone_all tags key t k old absent = back (eq_by_cmp key_cmp k key) (is_among same tags t) (is_among same tags t) old absent (λ e. e)
 
 -- nothing is gone
 pub trim_none : (b old : Bool) → old ≡ not (b && false) && old

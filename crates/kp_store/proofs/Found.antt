@@ -137,6 +137,15 @@ own_of key_of m own [] all = refl
 own_of key_of m own (e ∷ es) all =
     λ i. own e.0 e.1 all.0 i ∷ own_of key_of m own es all.1 i
 
+-- a bucket that has the keys of the objects that pass has these keys in order
+pub keys_passing : {X : Type 0} (key_of : X → ObjectKey) (p : X → Bool) (m : FinMap key_cmp X)
+    → IsUnderOwnKeys key_of m → (keys : Keys) → ((k : ObjectKey) → contains_key keys k ≡ passes p (get m k))
+    → finite.keys keys ≡ map key_of (filter p (finite.values m))
+keys_passing key_of p m own keys has =
+    bucket_keys p m keys has
+    ∙ sym (own_of key_of m own (passing p (entries m)) (all_filter (λ e. get m e.0 ≡ Some e.1) (λ e. p e.1) (entries m) (entries_found key_total m)))
+    ∙ ap (map key_of) (values_passing p (entries m))
+
 among_bare : {X : Type 0} (k : ObjectKey) (es : List (ObjectKey × X))
     → list_any (eq_by_cmp key_cmp k) (map (λ e. e.0) es) ≡ is_some (find key_cmp k (bare es))
 among_bare k [] = refl

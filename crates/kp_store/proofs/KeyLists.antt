@@ -8,8 +8,9 @@ use Rattle.std.proofs.lemmas.List.Folds.{list_any-append}
 use Rattle.kp_lemmas.proofs.Orders.{one_from_tie}
 use Rattle.kp_base.specs.Keys.{key_cmp}
 use Rattle.kp_base.specs.declared.key.ObjectKey.{ObjectKey}
-use Rattle.kp_base.proofs.KeyOrder.{key_total, key_exact}
-use Rattle.kp_store.specs.Indexes.{Keys, with_keys}
+use Rattle.kp_base.specs.contracts.key.ObjectKeyPartialEq.TheImpl as key_eq
+use Rattle.kp_base.proofs.KeyOrder.{key_total, key_exact, key_ties}
+use Rattle.kp_store.specs.Indexes.{Keys, is_among, with_keys}
 use Rattle.kp_store.proofs.Buckets.{in_inserted, in_removed}
 use mathlib.Core.Bool.{or-false, or_assoc}
 
@@ -43,6 +44,14 @@ in_keys (k ∷ ks) m q =
     in_inserted (with_keys ks m) k q
     ∙ ap (λ b. is_key q k || b) (in_keys ks m q)
     ∙ sym (or_assoc (is_key q k) (list_any (is_key q) ks) (contains_key m q))
+
+-- the same by the test of keys
+pub in_bucket : (ks : List ObjectKey) (m : Keys) (q : ObjectKey) → is_among key_eq.ghosts.eq ks q || contains_key m q ≡ contains_key (with_keys ks m) q
+in_bucket ks m q = ap (λ b. b || contains_key m q) (listed ks) ∙ sym (in_keys ks m q)
+  where
+    listed : (ks : List ObjectKey) → is_among key_eq.ghosts.eq ks q ≡ list_any (is_key q) ks
+    listed [] = refl
+    listed (k ∷ ks) = λ i. key_ties q k i || listed ks i
 
 -- a key alone
 pub alone : (key q : ObjectKey) → contains_key (with_keys (key ∷ []) empty) q ≡ is_key q key

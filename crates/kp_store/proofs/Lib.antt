@@ -5,6 +5,7 @@ pub mod Choosing
 pub mod Filled
 pub mod Found
 pub mod KeyLists
+pub mod Leading
 pub mod NamedEntries
 pub mod Once
 pub mod OwnObjects

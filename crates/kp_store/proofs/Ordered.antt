@@ -1,6 +1,7 @@
 -- Keys that are put in order are those of the entries, and the objects found by them are all.
 use Rattle.std.proofs.Common.{◌≡◌, true, false, List, [], ◌∷◌, map, filter, Option, Some, None, is_some, refl, ap, ◌∙◌}
 use Rattle.std.specs.List.{filter_map, list_any}
+use Rattle.std.specs.Option.{unwrap_or}
 use Rattle.std.specs.Ordering.{eq_by_cmp}
 use Rattle.std.specs.FinMap as finite
 use Rattle.std.specs.FinMap.{FinMap, contains_key, empty, entries, from_entries, get, get-empty, get-from_entries}
@@ -14,6 +15,11 @@ use Rattle.kp_store.proofs.Found.{passes, bucket_keys, found_passes}
 -- no key is there before the first
 pub none_before : (k : ObjectKey) → contains_key (empty {X = Unit {0}} {R = key_cmp}) k ≡ false
 none_before k = ap is_some (get-empty {X = Unit {0}} key_cmp k)
+
+-- nor where there is no bucket
+pub unused : (o : Option Keys) (k : ObjectKey) → is_some o ≡ false → contains_key (unwrap_or o empty) k ≡ false
+unused None k h = none_before k
+unused (Some keys) k h = absurd (cc)
 
 -- the keys of a map are those of its entries
 pub has_entries : {X : Type 0} (k : ObjectKey) (es : List (ObjectKey × X))

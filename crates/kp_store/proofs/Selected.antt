@@ -23,11 +23,11 @@ use Rattle.kp_object_defs.specs.Desired.{has_label, has_selector, is_empty, is_e
 use Rattle.kp_object_defs.specs.PortInfo.{balancer_of, external_of}
 use Rattle.kp_store.specs.Destinations.{answers, cluster_addresses, has_address, is_address_in, is_address_of, is_node_port, port_answers}
 use Rattle.kp_store.specs.Indexes.{is_among}
-use Rattle.kp_store.specs.Tags.{label_in, label_tag, node_tag, selected_by, selector_of, selector_tags, tag_at, tags_in, tags_of, tags_of_pod, tags_of_port}
+use Rattle.kp_store.specs.Tags.{label_in, label_tag, node_tag, selector_tags, tag_at, tags_in, tags_of, tags_of_pod, tags_of_port}
 use Rattle.kp_store.specs.declared.tags.PodTag.{PodTag}
 use Rattle.kp_store.specs.declared.tags.PodTag.TheVariants.{Labelled, On}
 use Rattle.kp_store.specs.declared.tags.ServiceTag.{ServiceTag}
-use Rattle.kp_store.specs.declared.tags.ServiceTag.TheVariants.{Selector, At, NodePort}
+use Rattle.kp_store.specs.declared.tags.ServiceTag.TheVariants.{At, NodePort}
 
 -- ---- lists
 
@@ -53,7 +53,7 @@ one_label namespace other l term same h =
     λ i. record { namespace = same i; key = (bytes_eq-Decides l.key term.key).0 parts.0 i; value = (bytes_eq-Decides l.value term.value).0 parts.1 i }
 
 -- what a selection says: the namespace, and the first term
-selected_parts : (s : Service) (pod : Pod) → selects s pod ≡ true → (has_selector s ≡ true) × ((pod.key.namespace ≡ s.key.namespace) × (list_all (has_label pod) s.selector ≡ true))
+pub selected_parts : (s : Service) (pod : Pod) → selects s pod ≡ true → (has_selector s ≡ true) × ((pod.key.namespace ≡ s.key.namespace) × (list_all (has_label pod) s.selector ≡ true))
 selected_parts s pod h =
     let outer = and_parts (has_selector s && bytes_eq s.key.namespace pod.key.namespace) (list_all (has_label pod) s.selector) h in
     let inner = and_parts (has_selector s) (bytes_eq s.key.namespace pod.key.namespace) outer.0 in
@@ -87,24 +87,6 @@ none_selected s i within past pod = by s.selector within past
     by (t ∷ ts) less more = absurd (omega arith)
 
 module _ (same : ServiceTag → ServiceTag → Bool) (laws : IsEquivalence same) where
-  -- a Service that selects a pod begins with one of its labels
-  pub has_label_of : (pod : Pod) (s : Service) → selects s pod ≡ true → list_any (is_among same (tags_of s)) (selected_by pod) ≡ true
-  has_label_of pod s h = by s.selector refl
-    where
-      by : (terms : List Pair) → s.selector ≡ terms → list_any (is_among same (option_to_list (option_map (selector_of s.key.namespace) (slice_get terms 0)) ++ flat_map (tags_of_port s) s.ports)) (selected_by pod) ≡ true
-      by [] is =
-          let parts = selected_parts s pod h in
-          let none : not (is_empty s.selector) && not (is_external_name s.kind) ≡ false = ap (λ ts. not (is_empty ts) && not (is_external_name s.kind)) is in
-          let e : true ≡ false = sym parts.0 ∙ none in absurd (cc)
-      by (first ∷ terms) is =
-          let parts = selected_parts s pod h in
-          let tag = selector_of s.key.namespace first in
-          any_mapped (λ l. bytes_eq l.key first.key && bytes_eq l.value first.value) (selector_of pod.key.namespace) (is_among same (tag ∷ flat_map (tags_of_port s) s.ports))
-          (λ l matches.
-          ap (is_among same (tag ∷ flat_map (tags_of_port s) s.ports)) (ap Selector (one_label s.key.namespace pod.key.namespace l first parts.1.0 matches))
-          ∙ or_left (same tag tag) (is_among same (flat_map (tags_of_port s) s.ports) tag) (laws.refl tag))
-          pod.labels ((and_parts (has_label pod first) (list_all (has_label pod) terms) (ap (list_all (has_label pod)) (sym is) ∙ parts.1.1)).0)
-
   module _ (proto : Proto) (target : AddressParts) (number : ℕ) where
     abbrev here : ServiceTag
     here = At target number proto

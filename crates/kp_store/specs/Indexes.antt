@@ -53,11 +53,6 @@ module _ {T : Type 0} (same : T → T → Bool) where
   abbrev pub is_tag_of : List T → ObjectKey → T → ObjectKey → Bool
   is_tag_of tags key t k = eq_by_cmp key_cmp k key && is_among tags t
 
-  -- k is this key, and t is among the tags that are gone and not among those that are kept
-  abbrev pub is_lost : List T → List T → ObjectKey → T → ObjectKey → Bool
-  is_lost gone kept key t k =
-      eq_by_cmp key_cmp k key && (is_among gone t && not (is_among kept t))
-
   -- the key was added to the buckets of some first tags
   abbrev pub IsPartly : List T → ObjectKey → List (T × Keys) → List (T × Keys) → Type 0
   IsPartly tags key before after =

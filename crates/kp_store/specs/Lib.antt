@@ -3,6 +3,8 @@ pub mod Indexes
 pub mod LookUps
 pub mod Named
 pub mod NodeNames
+pub mod Numbers
+pub mod Paths
 pub mod Rarest
 pub mod SameSlice
 pub mod Stored

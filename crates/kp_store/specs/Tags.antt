@@ -1,5 +1,5 @@
 -- What the objects of each kind are found by.
-use Rattle.std.specs.Prelude.{ℕ, List, ◌++◌, map, option_map, slice_get}
+use Rattle.std.specs.Prelude.{ℕ, List, [], ◌∷◌, ◌++◌, map, option_map}
 use Rattle.std.specs.List.{flat_map}
 use Rattle.std.specs.Option.{option_to_list}
 use Rattle.kp_base.specs.Net.{AddressParts}
@@ -13,11 +13,12 @@ use Rattle.kp_types.specs.declared.service.ServicePort.{ServicePort}
 use Rattle.kp_types.specs.declared.slice.Slice.{Slice}
 use Rattle.kp_object_defs.specs.PortInfo.{balancer_of, external_of}
 use Rattle.kp_store.specs.Destinations.{cluster_addresses}
+use Rattle.kp_store.specs.Numbers.{joined, numbers_of, start_of}
 use Rattle.kp_store.specs.declared.tags.Label.{Label}
 use Rattle.kp_store.specs.declared.tags.PodTag.{PodTag}
 use Rattle.kp_store.specs.declared.tags.PodTag.TheVariants.{Labelled, On}
 use Rattle.kp_store.specs.declared.tags.ServiceTag.{ServiceTag}
-use Rattle.kp_store.specs.declared.tags.ServiceTag.TheVariants.{Selector, At, NodePort}
+use Rattle.kp_store.specs.declared.tags.ServiceTag.TheVariants.{Selector, Prefix, At, NodePort}
 
 -- the key of the Service of this name in the slice's namespace
 abbrev pub owner_key : Slice → List ℕ → ObjectKey
@@ -40,17 +41,19 @@ abbrev pub tags_of_pod : Pod → List PodTag
 tags_of_pod pod =
     map (label_tag pod.key.namespace) pod.labels ++ option_to_list (option_map On pod.node)
 
--- the tag of a selector that begins with a pair
-abbrev pub selector_of : List ℕ → Pair → ServiceTag
-selector_of namespace pair = Selector (label_in namespace pair)
+-- the tag of a path, with the numbers behind it: a selector where there are none
+abbrev pub path_tag : List ℕ → ℕ → ServiceTag
+path_tag [] at = Selector at
+path_tag (n ∷ ns) at = Prefix at
 
--- the tags of the selectors that begin with a label of a pod
-abbrev pub selected_by : Pod → List ServiceTag
-selected_by pod = map (selector_of pod.key.namespace) pod.labels
+-- the tags of a path that goes on with numbers: one for each of them
+abbrev pub path_tags : ℕ → List ℕ → List ServiceTag
+path_tags at [] = []
+path_tags at (n ∷ ns) = path_tag ns (joined at n) ∷ path_tags (joined at n) ns
 
--- the tag of a Service's selector, by its first pair
+-- the tags of a Service's selector: its path, from its namespace on
 abbrev pub selector_tags : Service → List ServiceTag
-selector_tags s = option_to_list (option_map (selector_of s.key.namespace) (slice_get s.selector 0))
+selector_tags s = path_tags (start_of s.key.namespace) (numbers_of s.selector)
 
 -- the tag of a port at an address
 abbrev pub tag_at : ServicePort → AddressParts → ServiceTag
@@ -72,6 +75,6 @@ abbrev pub tags_of_port : Service → ServicePort → List ServiceTag
 tags_of_port s p =
     tags_in V4 s p ++ tags_in V6 s p ++ option_to_list (option_map (node_tag p) p.node_port)
 
--- the tags of a Service: the first pair of its selector, and the destinations of its ports
+-- the tags of a Service: those of its selector, and the destinations of its ports
 abbrev pub tags_of : Service → List ServiceTag
 tags_of s = selector_tags s ++ flat_map (tags_of_port s) s.ports

@@ -5,6 +5,8 @@ ghost use Rattle.std.specs.FinMap as finite;
 ghost use Rattle.std.specs.Ordering.{eq_by_cmp};
 ghost use Rattle.kp_base.specs.Keys.{key_cmp};
 ghost use Rattle.kp_base.specs.declared.key.ObjectKey.{ObjectKey};
+ghost use Rattle.kp_base.specs.contracts.key.ObjectKeyPartialEq.TheImpl as key_eq;
+ghost use Rattle.kp_store.specs.Indexes.{is_among};
 
 use crate::further::FurtherKeys;
 use crate::key_set::KeySet;
@@ -73,6 +75,13 @@ impl Bucket {
         self.few.len() + self.many.len()
     }
 
+    /// Whether a key is there.
+    pub fn has(&self, key: &ObjectKey) -> bool
+        ensures { result ≡ finite.contains_key self.now key.now }
+    {
+        is_listed(key, self.few.as_slice()) || self.many.has(key)
+    }
+
     /// Adds a key that isn't there. Where memory is out, all stays.
     pub fn add(&mut self, alloc: Global, key: &ObjectKey) -> Result<(), NoMemory>
         requires absent { finite.contains_key self.old key.now ≡ false }
@@ -119,4 +128,11 @@ impl Bucket {
         let many = self.many.keys(alloc)?;
         keys.put_all(alloc, many.as_slice())
     }
+}
+
+/// Whether a key is among keys.
+fn is_listed(key: &ObjectKey, keys: &[ObjectKey]) -> bool
+    ensures { result ≡ is_among key_eq.ghosts.eq keys.now key.now }
+{
+    keys.iter().any(|other| *key == *other)
 }

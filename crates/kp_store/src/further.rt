@@ -66,6 +66,16 @@ impl FurtherKeys {
         }
     }
 
+    /// Whether a key is there.
+    pub fn has(&self, key: &ObjectKey) -> bool
+        ensures { result ≡ finite.contains_key self.now key.now }
+    {
+        match &self.keys {
+            None => false,
+            Some(keys) => keys.has(key),
+        }
+    }
+
     /// How many keys there are.
     pub fn len(&self) -> usize
         ensures len { result ≡ finite.len self.now }

@@ -1,12 +1,12 @@
 //! Keys of objects by what the objects are found by.
-ghost use Rattle.std.specs.Prelude.{◌≡◌, ◌&&◌, ◌||◌, not, false, [], map, None, IfOk, OnOk, OnErr};
+ghost use Rattle.std.specs.Prelude.{◌≡◌, ◌&&◌, ◌||◌, not, true, false, [], map, None, IfOk, IsFalse, OnOk, OnErr};
 ghost use Rattle.std.specs.FinMap as finite;
 ghost use Rattle.std.specs.List.{list_any};
 ghost use Rattle.std.specs.Map.{lookup};
 ghost use Rattle.std.specs.Ordering.{eq_by_cmp};
 ghost use Rattle.kp_base.specs.Keys.{key_cmp};
 ghost use Rattle.kp_base.specs.declared.key.ObjectKey.{ObjectKey};
-ghost use Rattle.kp_store.specs.Indexes.{bucket, has, is_among, is_pair, is_tag_of, is_lost};
+ghost use Rattle.kp_store.specs.Indexes.{bucket, has, is_among, is_pair, is_tag_of};
 ghost use Rattle.kp_store.specs.Indexes.{AreFilled, AreFilledBut, IsPartly};
 
 use crate::bucket::Bucket;
@@ -107,24 +107,38 @@ impl<T: Eq + Hash + Drop> Index<T> {
         }
     }
 
-    /// Removes a key from the bucket of a tag, unless the tag is kept.
-    fn remove_unless(&mut self, tag: &T, kept: &[T], key: &ObjectKey)
-        ensures { (t : T) (k : ObjectKey) → has T.eq self.new t k
-            ≡ not (is_pair T.eq tag.now key.now t k && not (is_among T.eq kept.now tag.now))
-            && has T.eq self.old t k }
+    /// Whether a key stands in the bucket of a tag.
+    fn holds(&self, tag: &T, key: &ObjectKey) -> bool
+        ensures { result ≡ has T.eq self.now tag.now key.now }
     {
-        if !is_one_of(tag, kept) {
-            remove_key(&mut self.buckets, tag, key);
+        match self.buckets.get(tag) {
+            Some(bucket) => bucket.has(key),
+            None => false,
         }
     }
 
-    /// Removes a key from the buckets of the tags that are gone and not kept.
-    pub fn trim(&mut self, gone: &[T], kept: &[T], key: &ObjectKey)
-        ensures { (t : T) (k : ObjectKey) → has T.eq self.new t k
-            ≡ not (is_lost T.eq gone.now kept.now key.now t k) && has T.eq self.old t k }
+    /// Whether a tag may have keys: where it has no bucket it has none.
+    pub fn is_used(&self, tag: &T) -> bool
+        ensures { IsFalse result → (k : ObjectKey) → has T.eq self.now tag.now k ≡ false }
     {
-        for tag in gone {
-            self.remove_unless(tag, kept, key);
+        self.buckets.contains_key(tag)
+    }
+
+    /// Removes a key from the bucket of a tag.
+    fn remove(&mut self, tag: &T, key: &ObjectKey)
+        ensures { (t : T) (k : ObjectKey) → has T.eq self.new t k
+            ≡ not (is_pair T.eq tag.now key.now t k) && has T.eq self.old t k }
+    {
+        remove_key(&mut self.buckets, tag, key);
+    }
+
+    /// Removes a key from the buckets of tags.
+    pub fn trim(&mut self, tags: &[T], key: &ObjectKey)
+        ensures { (t : T) (k : ObjectKey) → has T.eq self.new t k
+            ≡ not (is_tag_of T.eq tags.now key.now t k) && has T.eq self.old t k }
+    {
+        for tag in tags {
+            self.remove(tag, key);
         }
     }
 }
@@ -144,90 +158,49 @@ impl<T: Eq + Hash + Copied> Index<T> {
         }
     }
 
-    /// Adds a key to the bucket of a tag, unless it stands there: the tag is kept, or it is among
-    /// those that the key was added for. Where memory is out, all stays.
-    fn add_unless(
-        &mut self,
-        alloc: Global,
-        tag: &T,
-        added: &[T],
-        kept: &[T],
-        key: &ObjectKey,
-    ) -> Result<(), NoMemory>
-        requires there { has T.eq self.old tag.now key.now
-            ≡ is_among T.eq added.now tag.now || is_among T.eq kept.now tag.now }
+    /// Adds a key to the bucket of a tag, unless it stands there. Where memory is out, all stays.
+    fn put(&mut self, alloc: Global, tag: &T, key: &ObjectKey) -> Result<(), NoMemory>
         ensures ok { OnOk result ((t : T) (k : ObjectKey) → has T.eq self.new t k
             ≡ is_pair T.eq tag.now key.now t k || has T.eq self.old t k) }
         ensures err { OnErr result ((t : T) (k : ObjectKey) → has T.eq self.new t k
             ≡ has T.eq self.old t k) }
     {
-        if is_in_either(tag, added, kept) {
+        if self.holds(tag, key) {
             Ok(())
         } else {
             self.add(alloc, tag, key)
         }
     }
 
-    /// Adds a key to the buckets of its tags, where it stands in those of the tags that are kept.
-    /// Where memory is out, it may stand in some of them.
-    fn add_each(
-        &mut self,
-        alloc: Global,
-        tags: &[T],
-        kept: &[T],
-        key: &ObjectKey,
-    ) -> Result<(), NoMemory>
-        requires { (t : T) → has T.eq self.old t key.now ≡ is_among T.eq kept.now t }
+    /// Adds a key to the buckets of its tags. Where memory is out, it may stand in some of them.
+    fn add_each(&mut self, alloc: Global, tags: &[T], key: &ObjectKey) -> Result<(), NoMemory>
         ensures ok { OnOk result ((t : T) (k : ObjectKey) → has T.eq self.new t k
             ≡ is_tag_of T.eq tags.now key.now t k || has T.eq self.old t k) }
         ensures err { OnErr result (IsPartly T.eq tags.now key.now self.old self.new) }
     {
-        let mut place = 0;
         for tag in tags {
-            let (added, _) = tags.split_at(place);
-            self.add_unless(alloc, tag, added, kept, key)?;
-            place += 1;
+            self.put(alloc, tag, key)?;
         }
         Ok(())
     }
 
-    /// Adds a key to the buckets of its tags, where it stands in those of the tags that are kept.
-    /// Where memory is out, all stays.
-    pub fn add_all(
-        &mut self,
-        alloc: Global,
-        tags: &[T],
-        kept: &[T],
-        key: &ObjectKey,
-    ) -> Result<(), NoMemory>
-        requires { (t : T) → has T.eq self.old t key.now ≡ is_among T.eq kept.now t }
+    /// Adds a key to the buckets of its tags, where it is in none of them. Where memory is out, all
+    /// stays.
+    pub fn add_all(&mut self, alloc: Global, tags: &[T], key: &ObjectKey) -> Result<(), NoMemory>
+        requires { (t : T) → is_among T.eq tags.now t ≡ true → has T.eq self.old t key.now ≡ false }
         ensures ok { OnOk result ((t : T) (k : ObjectKey) → has T.eq self.new t k
             ≡ is_tag_of T.eq tags.now key.now t k || has T.eq self.old t k) }
         ensures err { OnErr result ((t : T) (k : ObjectKey) → has T.eq self.new t k
             ≡ has T.eq self.old t k) }
     {
-        match self.add_each(alloc, tags, kept, key) {
+        match self.add_each(alloc, tags, key) {
             Ok(()) => Ok(()),
             Err(refused) => {
-                self.trim(tags, kept, key);
+                self.trim(tags, key);
                 Err(refused)
             }
         }
     }
-}
-
-/// Whether a tag is among tags.
-fn is_one_of<T: Eq>(tag: &T, tags: &[T]) -> bool
-    ensures { result ≡ is_among T.eq tags.now tag.now }
-{
-    tags.iter().any(|other| *tag == *other)
-}
-
-/// Whether a tag is among tags, or among others.
-fn is_in_either<T: Eq>(tag: &T, tags: &[T], others: &[T]) -> bool
-    ensures { result ≡ is_among T.eq tags.now tag.now || is_among T.eq others.now tag.now }
-{
-    is_one_of(tag, tags) || is_one_of(tag, others)
 }
 
 /// Adds a bucket of one key, where there is none of its tag.

@@ -1,5 +1,5 @@
 //! Objects of one kind by their keys, with an index of what they are found by.
-ghost use Rattle.std.specs.Prelude.{◌≡◌, List, false, length, map, IfOk, IsOk, OnOk, OnErr, option_copied};
+ghost use Rattle.std.specs.Prelude.{◌≡◌, List, false, length, map, IfOk, IsFalse, IsOk, OnOk, OnErr, option_copied};
 ghost use Rattle.std.specs.List.{filter, filter_map, list_any};
 ghost use Rattle.std.specs.Ordering.{eq_by_cmp};
 ghost use Rattle.std.specs.FinMap as finite;
@@ -10,6 +10,7 @@ ghost use Rattle.kp_store.specs.Indexes.{is_among, is_tagged};
 use crate::hashed::Hashed;
 use crate::index::Index;
 use crate::key_set::KeySet;
+use crate::without::without;
 use kp_base::{Copied, Items, Kept, NoMemory, ObjectKey};
 use std::alloc::Global;
 use std::hash::Hash;
@@ -109,6 +110,14 @@ impl<X: Tagged<T>, T: Eq + Hash + Copied> Indexed<X, T> {
         self.index.kept(alloc, tag)
     }
 
+    /// Whether an object may have a tag: where this says no, none has it.
+    pub fn is_used(&self, tag: &T) -> bool
+        ensures { IsFalse result → (k : ObjectKey)
+            → is_tagged T.eq X.tags tag.now (finite.get self.now k) ≡ false }
+    {
+        self.index.is_used(tag)
+    }
+
     /// The objects of keys, where they are there, in order of the keys.
     pub fn found_at(&self, alloc: Global, keys: &KeySet) -> Result<Vec<&X>, NoMemory>
         ensures { IfOk result (λ xs. map (λ x. x.now) xs.items
@@ -134,16 +143,17 @@ impl<X: Tagged<T>, T: Eq + Hash + Copied> Indexed<X, T> {
     {
         let new = object.get().tags(alloc)?;
         let old = tags_at(alloc, &self.objects, key)?;
+        let gained = without(alloc, new.as_slice(), old.as_slice())?;
+        let lost = without(alloc, old.as_slice(), new.as_slice())?;
         let copy = key.copy(alloc)?;
-        self.index
-            .add_all(alloc, new.as_slice(), old.as_slice(), key)?;
+        self.index.add_all(alloc, gained.as_slice(), key)?;
         match self.objects.put(copy, object) {
             Ok(()) => {
-                self.index.trim(old.as_slice(), new.as_slice(), key);
+                self.index.trim(lost.as_slice(), key);
                 Ok(())
             }
             Err(refused) => {
-                self.index.trim(new.as_slice(), old.as_slice(), key);
+                self.index.trim(gained.as_slice(), key);
                 Err(refused)
             }
         }
@@ -157,8 +167,7 @@ impl<X: Tagged<T>, T: Eq + Hash + Copied> Indexed<X, T> {
         ensures err { OnErr result (self.new ≡ self.old) }
     {
         let old = tags_at(alloc, &self.objects, key)?;
-        let none = Items::new(alloc);
-        self.index.trim(old.as_slice(), none.as_slice(), key);
+        self.index.trim(old.as_slice(), key);
         self.objects.take(key);
         Ok(())
     }

@@ -10,6 +10,7 @@ mod indexed;
 mod key_set;
 mod loose_keys;
 mod named;
+mod numbers;
 mod objects;
 mod selecting;
 mod selections;
@@ -17,6 +18,7 @@ mod tags;
 mod touched;
 mod touching;
 mod wanted;
+mod without;
 
 pub use indexed::{Indexed, Tagged};
 pub use key_set::KeySet;

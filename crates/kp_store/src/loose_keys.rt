@@ -62,6 +62,13 @@ impl LooseKeys {
         self.entries.is_empty()
     }
 
+    /// Whether a key is there.
+    pub fn has(&self, key: &ObjectKey) -> bool
+        ensures { result ≡ finite.contains_key self.now key.now }
+    {
+        self.entries.contains_key(key)
+    }
+
     /// How many keys there are.
     pub fn len(&self) -> usize
         ensures len { result ≡ finite.len self.now }

@@ -15,9 +15,9 @@ ghost use Rattle.kp_store.specs.Unchanged.{DeletesNothing, is_there};
 
 use crate::hashed::Hashed;
 use crate::indexed::Indexed;
-use crate::selecting::selecting_with;
-use crate::selections::{copies, keys_selecting, pods_selected, services_answering};
-use crate::tags::{PodTag, ServiceTag, label_tag, selected_by};
+use crate::selecting::selecting;
+use crate::selections::{copies, pods_selected, services_answering};
+use crate::tags::{PodTag, ServiceTag, label_tag};
 use kp_base::{Address, Copied, Items, NoMemory, ObjectKey, PortNo, Proto, Text};
 use kp_types::{Event, Kind, Node, Object, Pod, Service, Slice};
 use std::alloc::Global;
@@ -204,11 +204,9 @@ impl Objects {
         ensures found { IfOk result (λ ks. ks ≡ find.services_selecting self.now pod.now) }
         ensures own_keys { AreUnderOwnKeys self.now }
     {
-        let services = &self.services;
-        let tags = selected_by(alloc, pod)?;
-        let keys = selecting_with(alloc, services, tags.as_slice(), pod)?;
-        let found = services.found_at(alloc, &keys)?;
-        keys_selecting(alloc, found.as_slice(), pod)
+        let keys = selecting(alloc, &self.services, pod)?;
+        let keys = keys.keys(alloc)?;
+        copies(alloc, keys.as_slice())
     }
 
     /// The pods of a node, in order of their keys.

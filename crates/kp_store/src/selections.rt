@@ -4,7 +4,7 @@ ghost use Rattle.std.specs.List.{filter};
 ghost use Rattle.kp_object_defs.specs.Desired as Desired;
 ghost use Rattle.kp_store.specs.Destinations as spec;
 
-use kp_base::{Address, Copied, Family, Items, NoMemory, ObjectKey, PortNo, Proto};
+use kp_base::{Address, Copied, Family, Items, NoMemory, PortNo, Proto};
 use kp_desired::selects;
 use kp_port_info::{balancer_of, external_of};
 use kp_types::{ClusterAddress, Pod, Service};
@@ -19,24 +19,6 @@ pub fn copies<'a, X: Copied>(alloc: Global, found: &[&'a X]) -> Result<Items<X>,
         copies.push(object.copy(alloc)?)?;
     }
     Ok(Items::from_vec(copies))
-}
-
-/// The keys of the Services that select a pod.
-pub fn keys_selecting<'a>(
-    alloc: Global,
-    services: &[&'a Service],
-    pod: &Pod,
-) -> Result<Items<ObjectKey>, NoMemory>
-    ensures { IfOk result (λ ks. ks ≡ map (λ s. s.key)
-        (filter (λ s. Desired.selects s pod.now) (map (λ s. s.now) services.now))) }
-{
-    let mut keys = Vec::new(alloc);
-    for service in services {
-        if selects(service, pod) {
-            keys.push(service.key.copy(alloc)?)?;
-        }
-    }
-    Ok(Items::from_vec(keys))
 }
 
 /// The Services that may answer at an address and number, or that have the number as a node port.

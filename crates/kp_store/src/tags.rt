@@ -1,17 +1,19 @@
 //! What the objects of each kind are found by.
-ghost use Rattle.std.specs.Prelude.{◌≡◌, ◌++◌, map, IfOk, OnOk, option_map};
+ghost use Rattle.std.specs.Prelude.{◌≡◌, ◌++◌, cond, map, IfOk, OnOk, option_map};
 ghost use Rattle.std.specs.Option.{option_to_list};
 ghost use Rattle.kp_store.specs.Destinations.{cluster_addresses};
 ghost use Rattle.kp_store.specs.Tags as spec;
 ghost use Rattle.kp_store.specs.declared.tags.PodTag.TheVariants.{On};
+ghost use Rattle.kp_store.specs.declared.tags.ServiceTag.TheVariants.{Selector, Prefix};
 
 use crate::indexed::Tagged;
+use crate::numbers::{joined, numbers_of, start_of};
 use kp_base::{Address, Copied, Family, Items, NoMemory, ObjectKey, Pair, PortNo, Proto, Text};
 use kp_port_info::{balancer_of, external_of};
 use kp_types::{ClusterAddress, Pod, Service, ServicePort, Slice};
 use std::alloc::Global;
 
-/// A label in a namespace, which a pod has or a Service selects by.
+/// A label in a namespace.
 #[derive(PartialEq, Eq, Hash)]
 pub struct Label {
     pub namespace: Text,
@@ -47,25 +49,18 @@ impl Drop for PodTag {
     }
 }
 
-/// What a Service is found by.
-#[derive(PartialEq, Eq, Hash)]
+/// What a Service is found by. The numbers of its selector's pairs, in their order, are a path: its
+/// selector is the whole path, and all the paths that it begins with are prefixes.
+#[derive(Clone, Copy, PartialEq, Eq, Hash)]
 pub enum ServiceTag {
-    /// The first pair of its selector.
-    Selector(Label),
+    /// The path of its selector.
+    Selector(u64),
+    /// A path that its selector goes on from.
+    Prefix(u64),
     /// An address and the number of a port.
     At(Address, PortNo, Proto),
     /// A node port.
     NodePort(PortNo, Proto),
-}
-
-impl Drop for ServiceTag {
-    fn drop(self) {
-        match self {
-            ServiceTag::Selector(_) => {}
-            ServiceTag::At(_, _, _) => {}
-            ServiceTag::NodePort(_, _) => {}
-        }
-    }
 }
 
 impl Copied for Label {
@@ -88,14 +83,8 @@ impl Copied for PodTag {
 }
 
 impl Copied for ServiceTag {
-    fn copy(&self, alloc: Global) -> Result<ServiceTag, NoMemory> {
-        match self {
-            ServiceTag::Selector(label) => Ok(ServiceTag::Selector(label.copy(alloc)?)),
-            ServiceTag::At(address, number, proto) => {
-                Ok(ServiceTag::At(*address, *number, *proto))
-            }
-            ServiceTag::NodePort(number, proto) => Ok(ServiceTag::NodePort(*number, *proto)),
-        }
+    fn copy(&self, _alloc: Global) -> Result<ServiceTag, NoMemory> {
+        Ok(*self)
     }
 }
 
@@ -136,8 +125,8 @@ impl Tagged<PodTag> for Pod {
     }
 }
 
-/// A Service is found by the first pair of its selector, by each address and number that its ports
-/// have, and by its node ports.
+/// A Service is found by its selector, by each address and number that its ports have, and by its node
+/// ports.
 impl Tagged<ServiceTag> for Service {
     ghost use Rattle.kp_store.specs.Tags.{tags_of};
 
@@ -145,7 +134,7 @@ impl Tagged<ServiceTag> for Service {
 
     fn tags(&self, alloc: Global) -> Result<Items<ServiceTag>, NoMemory> {
         let mut tags = Vec::new(alloc);
-        add_selector_tag(alloc, &mut tags, self)?;
+        add_selector_tags(alloc, &mut tags, self)?;
         for port in self.ports.as_slice() {
             add_tags_of_port(&mut tags, self, port)?;
         }
@@ -182,36 +171,40 @@ fn add_tag_of_node(alloc: Global, tags: &mut Vec<PodTag>, pod: &Pod) -> Result<(
     Ok(())
 }
 
-/// The tag of a Service whose selector begins with a pair.
-fn selector_of(alloc: Global, namespace: &Text, pair: &Pair) -> Result<ServiceTag, NoMemory>
-    ensures { IfOk result (λ t. t ≡ spec.selector_of namespace.now pair.now) }
-{
-    Ok(ServiceTag::Selector(label_in(alloc, namespace, pair)?))
-}
-
-/// The tags of the Services whose selector begins with a label of a pod.
-pub fn selected_by(alloc: Global, pod: &Pod) -> Result<Vec<ServiceTag>, NoMemory>
-    ensures { IfOk result (λ ts. ts.items ≡ spec.selected_by pod.now) }
-{
-    let mut tags = Vec::with_capacity(alloc, pod.labels.as_slice().len())?;
-    for pair in pod.labels.as_slice() {
-        tags.push(selector_of(alloc, &pod.key.namespace, pair)?)?;
-    }
-    Ok(tags)
-}
-
-/// Adds the tag of a Service's selector, if it has one.
-fn add_selector_tag(
+/// Adds the tags of a Service's selector.
+fn add_selector_tags(
     alloc: Global,
     tags: &mut Vec<ServiceTag>,
     service: &Service,
 ) -> Result<(), NoMemory>
     ensures { OnOk result (tags.new.items ≡ tags.old.items ++ spec.selector_tags service.now) }
 {
-    if let Some(pair) = service.selector.as_slice().first() {
-        tags.push(selector_of(alloc, &service.key.namespace, pair)?)?;
+    let numbers = numbers_of(alloc, service.selector.as_slice())?;
+    add_path_tags(tags, start_of(&service.key.namespace), numbers.as_slice())
+}
+
+/// Adds the tags of a path that goes on with numbers.
+fn add_path_tags(tags: &mut Vec<ServiceTag>, start: u64, numbers: &[u64]) -> Result<(), NoMemory>
+    ensures { OnOk result (tags.new.items ≡ tags.old.items ++ spec.path_tags start numbers.now) }
+{
+    let mut at = start;
+    for place in 0..numbers.len() {
+        at = joined(at, numbers[place]);
+        let is_last = place + 1 == numbers.len();
+        tags.push(path_tag(is_last, at))?;
     }
     Ok(())
+}
+
+/// The tag of a path: a selector where it is the last.
+fn path_tag(is_last: bool, at: u64) -> ServiceTag
+    ensures { result ≡ cond is_last (Selector at) (Prefix at) }
+{
+    if is_last {
+        ServiceTag::Selector(at)
+    } else {
+        ServiceTag::Prefix(at)
+    }
 }
 
 /// Adds the tags of a port of a Service.

@@ -6,5 +6,4 @@ use Rattle.kp_store.proofs.index.Index.add_each.Given as goal
 
 abbrev pub invariant-loop-tag : goal.invariant-loop-tag
 invariant-loop-tag g l =
-    (l.place ≡ l.tag-index)
-    × ((t : _) (k : ObjectKey) → has g.T.PartialEq.eq l.self t k ≡ is_tag_of g.T.PartialEq.eq (take l.tag-index l.tags) l.key t k || has g.T.PartialEq.eq l.fn.self t k)
+    (t : _) (k : ObjectKey) → has g.T.PartialEq.eq l.self t k ≡ is_tag_of g.T.PartialEq.eq (take l.tag-index l.tags) l.key t k || has g.T.PartialEq.eq l.fn.self t k
