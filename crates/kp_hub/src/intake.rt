@@ -17,12 +17,12 @@ ghost use Rattle.kp_hub.specs.State.{first_table};
 ghost use Rattle.kp_hub.specs.Taken.{fed_of, note_of, plane_of, records_at, taker_of, with_sync};
 
 use crate::next::{accept, next};
-use crate::notes::{Origin, RecordNote, Stop, counts};
+use crate::notes::{Origin, RecordNote, Stop};
 use crate::sharing::Sharing;
 use kp_base::{Items, NoMemory, Steps};
 use kp_feed::{Fed, Feed, FeedPass, TakePass};
 use kp_plane::{Plane, Table, TableFault};
-use kp_types::{Event, SyncRecord};
+use kp_types::{Batch, Event, SyncRecord};
 use std::alloc::Global;
 use std::marker::{Brand, Model, PhantomData};
 use std::sync::Wait;
@@ -171,8 +171,8 @@ impl<J: Sharing> Intake<J> {
         if let Err(refused) = self.notes.reserve(1) {
             return Err(TableFault::NoMemory(NoMemory::from(refused)));
         }
-        let record = sync_for_nobody(alloc, &mut self.plane)?;
-        self.notes.push_reserved(noted(&record));
+        let (note, record) = sync_for_nobody(alloc, &mut self.plane)?;
+        self.notes.push_reserved(note);
         Ok(record)
     }
 
@@ -278,22 +278,11 @@ fn joined(alloc: Global, origins: &[Origin], events: Items<Event>) -> Result<Ite
     Ok(Items::from_vec(journal))
 }
 
-/// The note of a record.
-fn noted(made: &SyncRecord) -> RecordNote
-    ensures { result ≡ note_of made.now }
-{
-    let (written, removed) = counts(made.batch.edits.as_slice());
-    RecordNote {
-        events: made.events,
-        written,
-        removed,
-    }
-}
-
-/// A sync whose steps nobody counts.
-fn sync_for_nobody(alloc: Global, plane: &mut Plane) -> Result<SyncRecord, TableFault>
-    ensures record { IfOk result (parts.IsNextRecord plane.old) }
-    ensures added { IfOk result (λ r. parts.records_in plane.new
+/// A sync whose steps nobody counts: what is kept of it, and its record.
+fn sync_for_nobody(alloc: Global, plane: &mut Plane) -> Result<(RecordNote, SyncRecord), TableFault>
+    ensures note { IfOk result (λ (note, r). note ≡ note_of r) }
+    ensures record { IfOk result (λ (_, r). parts.IsNextRecord plane.old r) }
+    ensures added { IfOk result (λ (_, r). parts.records_in plane.new
         ≡ parts.records_in plane.old ++ r ∷ []) }
     ensures ok { OnOk result (plane.new ≡ parts.synced plane.old) }
     ensures clash { IfErr result (TellsClash (clash_of (parts.settings_in plane.old)
@@ -309,15 +298,16 @@ fn sync_counted<L: Ledger, A: Ledger>(
     plane: &mut Plane,
     rules: Blank,
     ports: Blank,
-) -> Result<SyncRecord, TableFault>
+) -> Result<(RecordNote, SyncRecord), TableFault>
     requires rules_name { rules.name ≡ L.name }
     requires rules_parts { rules.parts ≡ L.parts }
     requires some_rules { 0 < rules.parts }
     requires ports_name { ports.name ≡ A.name }
     requires ports_parts { ports.parts ≡ A.parts }
     requires some_ports { 0 < ports.parts }
-    ensures record { IfOk result (parts.IsNextRecord plane.old) }
-    ensures added { IfOk result (λ r. parts.records_in plane.new
+    ensures note { IfOk result (λ (note, r). note ≡ note_of r) }
+    ensures record { IfOk result (λ (_, r). parts.IsNextRecord plane.old r) }
+    ensures added { IfOk result (λ (_, r). parts.records_in plane.new
         ≡ parts.records_in plane.old ++ r ∷ []) }
     ensures ok { OnOk result (plane.new ≡ parts.synced plane.old) }
     ensures clash { IfErr result (TellsClash (clash_of (parts.settings_in plane.old)
@@ -326,5 +316,16 @@ fn sync_counted<L: Ledger, A: Ledger>(
 {
     let mut steps = Steps::<L>::new(rules);
     let mut asked = Steps::<A>::new(ports);
-    plane.sync(alloc, &mut steps, &mut asked)
+    let (note, batch) = plane.sync_as::<Batch, L, A>(alloc, &mut steps, &mut asked)?;
+    let kept = RecordNote {
+        events: note.events,
+        written: note.written,
+        removed: note.removed,
+    };
+    let record = SyncRecord {
+        sync: note.sync,
+        events: note.events,
+        batch,
+    };
+    Ok((kept, record))
 }

@@ -1,8 +1,5 @@
 //! What is told and kept of syncs and of events.
-ghost use Rattle.std.specs.Prelude.{◌≡◌, count_by, not};
-ghost use Rattle.kp_table_defs.specs.Edits.{is_write};
-
-use kp_types::{Clash, Edit};
+use kp_types::Clash;
 
 /// Who fed an event, and as which of its events, from 1.
 #[derive(Clone, Copy, Debug, PartialEq, Eq)]
@@ -41,19 +38,4 @@ pub enum Stop {
 pub struct Synced {
     pub sync: u64,
     pub stop: Stop,
-}
-
-/// How many edits are writes, and how many are removes.
-pub(crate) fn counts(edits: &[Edit]) -> (u64, u64)
-    ensures written { result.0 ≡ count_by is_write edits.now }
-    ensures removed { result.1 ≡ count_by (λ e. not (is_write e)) edits.now }
-{
-    let (mut written, mut removed) = (0, 0);
-    for edit in edits {
-        match edit {
-            Edit::Write { .. } => written += 1,
-            Edit::Remove { .. } => removed += 1,
-        }
-    }
-    (written, removed)
 }

@@ -1,9 +1,9 @@
 -- More events change nothing of what syncs cover.
-use Rattle.std.proofs.Common.{◌≡◌, ◌≤◌, ◌-◌, ℕ, List, ◌++◌, map, take, length, sum, sym, ap, subst, ◌∙◌, arith, Result, Ok, Err, OnOk, OnErr}
+use Rattle.std.proofs.Common.{◌≡◌, ◌≤◌, ◌-◌, ℕ, List, ◌++◌, take, length, sum, sym, ap, subst, ◌∙◌, arith, Result, Ok, Err, OnOk, OnErr}
 use Rattle.std.proofs.lemmas.List.{take-append-le, length-append}
 use Rattle.std.proofs.lemmas.List.Sums.{sum_by-take-le}
 use Rattle.kp_types.specs.declared.event.Event.{Event}
-use Rattle.kp_types.specs.Setting.{both_families, table_families}
+use Rattle.kp_types.specs.Setting.{both_families}
 use Rattle.kp_choice_defs.specs.Settings.{setting_of}
 use Rattle.kp_object_defs.specs.Objects.{objects_after}
 use Rattle.kp_object_defs.specs.SlicesNow.{slices_now}
@@ -21,7 +21,7 @@ use Rattle.kp_plane.specs.Parts.{objects_before, with_events, records_in}
 use Rattle.kp_plane.specs.Past.{LeadPastOthers}
 use Rattle.kp_store.specs.Touched.{is_touched}
 use Rattle.kp_history_defs.specs.DirtyPorts.{dirty_ports}
-use Rattle.kp_plane.specs.Families.{AreTold, written_of}
+use Rattle.kp_plane.specs.Families.{Both, IsWritten, per_family}
 use Rattle.kp_plane.specs.Invariant.{IsAtPlace, IsPlane, IsPortsAt, IsSlicesAt, may_have_touched}
 use Rattle.kp_plane.specs.declared.place.ObjectsAt.{ObjectsAt}
 use Rattle.kp_plane.specs.declared.ports_at.PortsAt.{PortsAt}
@@ -77,8 +77,8 @@ module _ (p : PlaneParts) (more : List Event) where
   ports_same : HasExactHistory p → (s : PortsAt) → IsPortsAt p s → IsPortsAt (with_events p more) s
   ports_same h s is = record {
     place = place_same s.latest is.place;
-    node = is.node;
-    written = subst (λ o. AreTold p.config o (map written_of s.writers.items))
+    dual = is.dual;
+    written = subst (λ o. Both (IsWritten p.config o) s.writers)
         (sym (covered_same h (syncs_in p))) is.written;
     untouched = is.untouched;
     since = since_accepted (settings_in p) p.events (sum p.counts) s.latest.at s.touched more
@@ -91,9 +91,8 @@ module _ (p : PlaneParts) (more : List Event) where
         (subst (λ o. LeadPastOthers (settings_in p) (objects_before p) o (is_touched s.last))
         (sym (covered_same h (syncs_in p))) is.last);
     dirty = is.dirty
-        ∙ (λ i. map (λ family. dirty_ports (setting_of family p.config)
-        (sym (covered_same h (syncs_in p - 1)) i) (sym (covered_same h (syncs_in p)) i))
-        (table_families p.config));
+        ∙ (λ i. per_family p.config (λ family. dirty_ports (setting_of family p.config)
+        (sym (covered_same h (syncs_in p - 1)) i) (sym (covered_same h (syncs_in p)) i)));
   }
 
   -- what holds of a plane's fields still does where more events are accepted

@@ -1,72 +1,87 @@
--- What holds of each of some elements, and lists that are made of each by what it is of.
-use Rattle.std.proofs.Common.{◌≡◌, ◌<◌, ◌+◌, ◌++◌, ℕ, zero, suc, List, [], ◌∷◌, map, flat_map, set}
-use Rattle.std.proofs.Common.{length, get_or, Option, refl, sym, ◌∙◌, arith}
-use Rattle.std.specs.List.{AllByRecursion, cons_option, filter_map, sum_by}
-use Rattle.std.proofs.lemmas.List.Sums.{sum_by-cons}
+-- What holds of what each family has, and lists that are made of it by the families.
+use Rattle.std.proofs.Common.{◌≡◌, Bool, true, false, cond, [], ◌∷◌, map}
+use Rattle.std.proofs.Common.{Option, Some, None, IfSome, is_some, refl, ap, ◌∙◌}
+use Rattle.std.specs.List.{AllByRecursion}
+use Rattle.std.specs.Option.{option_map, option_to_list}
+use Rattle.kp_base.specs.declared.address.Family.{Family}
+use Rattle.kp_base.specs.declared.address.Family.TheVariants.{V4, V6}
+use Rattle.kp_base.specs.declared.config.Config.{Config}
+use Rattle.kp_types.specs.Setting.{both_families, table_families}
+use Rattle.kp_plane.specs.Families.{Both, listed, map_both, per_family}
+use Rattle.kp_plane.specs.declared.per_family.PerFamily.{PerFamily}
 
-module _ {X : Type 0} (P : X → Type 0) where
-  -- where an element is put in the place of another
-  pub all_set : (xs : List X) (i : ℕ) (y : X) → P y → AllByRecursion P xs
-      → AllByRecursion P (set xs i y)
-  all_set [] i y one all = tt
-  all_set (x ∷ xs) zero y one all = (one, all.1)
-  all_set (x ∷ xs) (suc i) y one all = (all.0, all_set xs i y one all.1)
+module _ {T : Type 0} where
+  -- what follows of each from two others
+  pub both_from : (P Q R : Family → T → Type 0) (x : PerFamily T)
+      → ((family : Family) (t : T) → P family t → Q family t → R family t)
+      → Both P x → Both Q x → Both R x
+  both_from P Q R x follows p q = (follows V4 x.four p.0 q.0, by x.six p.1 q.1)
+    where
+      by : (o : Option T) → IfSome o (P V6) → IfSome o (Q V6) → IfSome o (R V6)
+      by None p q = p
+      by (Some t) p q = follows V6 t p q
 
-  -- of the one at a place
-  pub all_at : (xs : List X) (i : ℕ) (d : X) → i < length xs → AllByRecursion P xs
-      → P (get_or xs i d)
-  all_at [] i d lt all = absurd (omega arith)
-  all_at (x ∷ xs) zero d lt all = all.0
-  all_at (x ∷ xs) (suc i) d lt all = all_at xs i d (omega arith) all.1
+  -- and from one
+  pub both_weaker : (P R : Family → T → Type 0) (x : PerFamily T)
+      → ((family : Family) (t : T) → P family t → R family t) → Both P x → Both R x
+  both_weaker P R x follows p = both_from P P R x (λ family t one two. follows family t one) p p
 
-module _ {X Y : Type 0} (f : X → Y) (P : Y → Type 0) where
-  -- of what each gives, and of each by what it gives
-  pub all_given : (xs : List X) → AllByRecursion (λ x. P (f x)) xs → AllByRecursion P (map f xs)
-  all_given [] all = tt
-  all_given (x ∷ xs) all = (all.0, all_given xs all.1)
+  -- what holds of each holds of each of the list
+  pub all_listed : (P : Family → T → Type 0) (Q : T → Type 0) (x : PerFamily T)
+      → ((family : Family) (t : T) → P family t → Q t) → Both P x → AllByRecursion Q (listed x)
+  all_listed P Q x follows p = (follows V4 x.four p.0, by x.six p.1)
+    where
+      by : (o : Option T) → IfSome o (P V6) → AllByRecursion Q (option_to_list o)
+      by None p = tt
+      by (Some t) p = (follows V6 t p, tt)
 
-  pub all_by_given : (xs : List X) → AllByRecursion P (map f xs)
-      → AllByRecursion (λ x. P (f x)) xs
-  all_by_given [] all = tt
-  all_by_given (x ∷ xs) all = (all.0, all_by_given xs all.1)
+  -- what is made of each
+  module _ {U : Type 0} (f : T → U) where
+    pub both_mapped : (P : Family → U → Type 0) (x : PerFamily T)
+        → Both (λ family t. P family (f t)) x → Both P (map_both f x)
+    both_mapped P x p = (p.0, by x.six p.1)
+      where
+        by : (o : Option T) → IfSome o (λ t. P V6 (f t)) → IfSome (option_map f o) (P V6)
+        by None p = p
+        by (Some t) p = p
 
--- what each gives is one with itself
-pub all_same : {X Z : Type 0} (f : X → Z) (xs : List X) → AllByRecursion (λ x. f x ≡ f x) xs
-all_same f [] = tt
-all_same f (x ∷ xs) = (refl, all_same f xs)
+    -- is what each family gives
+    pub both_are : (config : Config) (g : Family → U) (x : PerFamily T)
+        → is_some x.six ≡ config.dual → Both (λ family t. f t ≡ g family) x
+        → map_both f x ≡ per_family config g
+    both_are config g x dual are = λ i. record { four = are.0 i; six = by x.six dual are.1 i }
+      where
+        by : (o : Option T) → is_some o ≡ config.dual → IfSome o (λ t. f t ≡ g V6)
+            → option_map f o ≡ cond config.dual (Some (g V6)) None
+        by None dual are = ap (λ d. cond d (Some (g V6)) None) dual
+        by (Some t) dual are = ap Some are ∙ ap (λ d. cond d (Some (g V6)) None) dual
 
--- where each gives what that gives which it is of
-module _ {X Y Z : Type 0} (of : X → Y) where
-  pub maps_by : (f : X → Z) (g : Y → Z) (xs : List X) → AllByRecursion (λ x. f x ≡ g (of x)) xs
-      → map f xs ≡ map g (map of xs)
-  maps_by f g [] all = refl
-  maps_by f g (x ∷ xs) all = λ i. all.0 i ∷ maps_by f g xs all.1 i
+  -- the list runs over the node's families
+  pub families_of : (config : Config) (of : T → Family) (x : PerFamily T)
+      → is_some x.six ≡ config.dual → Both (λ family t. of t ≡ family) x
+      → map of (listed x) ≡ table_families config
+  families_of config of x dual are = by x.six dual are.1
+    where
+      by : (o : Option T) → is_some o ≡ config.dual → IfSome o (λ t. of t ≡ V6)
+          → map of (x.four ∷ option_to_list o) ≡ table_families config
+      by None dual six =
+          (λ i. are.0 i ∷ []) ∙ ap (λ d. cond d both_families (V4 ∷ [])) dual
+      by (Some t) dual six =
+          (λ i. are.0 i ∷ six i ∷ []) ∙ ap (λ d. cond d both_families (V4 ∷ [])) dual
 
-  pub flat_maps_by : (f : X → List Z) (g : Y → List Z) (xs : List X)
-      → AllByRecursion (λ x. f x ≡ g (of x)) xs → flat_map f xs ≡ flat_map g (map of xs)
-  flat_maps_by f g [] all = refl
-  flat_maps_by f g (x ∷ xs) all = λ i. all.0 i ++ flat_maps_by f g xs all.1 i
+-- something that is made for each family
+module _ {T : Type 0} (config : Config) (g : Family → T) where
+  pub both_new : (P : Family → T → Type 0) → ((family : Family) → P family (g family))
+      → Both P (per_family config g)
+  both_new P all = (all V4, by config.dual)
+    where
+      by : (b : Bool) → IfSome (cond b (Some (g V6)) None) (P V6)
+      by true = all V6
+      by false = tt
 
-  pub filter_maps_by : (f : X → Option Z) (g : Y → Option Z) (xs : List X)
-      → AllByRecursion (λ x. f x ≡ g (of x)) xs → filter_map f xs ≡ filter_map g (map of xs)
-  filter_maps_by f g [] all = refl
-  filter_maps_by f g (x ∷ xs) all = λ i. cons_option (all.0 i) (filter_maps_by f g xs all.1 i)
-
-pub sums_by : {X Y : Type 0} (of : X → Y) (f : X → ℕ) (g : Y → ℕ) (xs : List X)
-    → AllByRecursion (λ x. f x ≡ g (of x)) xs → sum_by f xs ≡ sum_by g (map of xs)
-sums_by of f g [] all = refl
-sums_by of f g (x ∷ xs) all =
-    sum_by-cons f x xs
-    ∙ (λ i. all.0 i + sums_by of f g xs all.1 i)
-    ∙ sym (sum_by-cons g (of x) (map of xs))
-
--- two sums over one list
-pub sum_of_both : {X : Type 0} (f g : X → ℕ) (xs : List X)
-    → sum_by (λ x. f x + g x) xs ≡ sum_by f xs + sum_by g xs
-sum_of_both f g [] = refl
-sum_of_both f g (x ∷ xs) =
-    let both = sum_by-cons (λ y. f y + g y) x xs in
-    let first = sum_by-cons f x xs in
-    let second = sum_by-cons g x xs in
-    let rest = sum_of_both f g xs in
-    omega (arith, both, first, second, rest)
+  pub dual_new : is_some (per_family config g).six ≡ config.dual
+  dual_new = by config.dual
+    where
+      by : (b : Bool) → is_some (cond b (Some (g V6)) None) ≡ b
+      by true = refl
+      by false = refl

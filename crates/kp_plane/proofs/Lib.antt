@@ -20,4 +20,3 @@ mod Touching
 mod Unchanged
 mod Walks
 mod Writers
-mod WritersBack

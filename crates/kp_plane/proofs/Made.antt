@@ -1,71 +1,45 @@
--- What writers make of a sync, one after the other.
-use Rattle.std.proofs.Common.{◌≡◌, ◌<◌, ◌≤◌, ◌+◌, ◌++◌, ℕ, zero, suc, List, [], ◌∷◌, take, length, get_or}
-use Rattle.std.proofs.Common.{flat_map, filter_map, slice_get, sum_by, Option, Some, None, sym, ap}
-use Rattle.std.proofs.Common.{subst, ◌∙◌, arith, append-nil}
-use Rattle.std.specs.List.{AllByRecursion, cons_option}
-use Rattle.std.proofs.lemmas.List.{take_more}
-use Rattle.std.proofs.lemmas.List.Concat.{flat_map-append}
-use Rattle.std.proofs.lemmas.List.Sums.{sum_by_more, sum_by_more_le}
-use Rattle.kp_lemmas.proofs.ListFacts.{all_append}
-use Rattle.kp_table_defs.specs.Rebuild.{Chains}
+-- What the writers of both families make of a sync.
+use Rattle.std.proofs.Common.{◌≡◌, ◌≤◌, ◌+◌, [], ◌∷◌, None, Some, slice_get, filter_map, ap, ◌∙◌, arith}
+use Rattle.std.specs.List.{cons_option, sum_by}
+use Rattle.std.specs.Option.{option_to_list}
+use Rattle.std.proofs.lemmas.List.Sums.{sum_by-cons}
 use Rattle.kp_full_table.specs.Faults.{TellsClash}
 use Rattle.kp_full_table.specs.declared.fault.TableFault.{TableFault}
 use Rattle.kp_full_table.specs.declared.fault.TableFault.TheVariants.{ChainClash, NoMemory}
-use Rattle.kp_writer.specs.Written as written
-use Rattle.kp_writer.specs.Written.{WriterParts, newest_ports}
-use Rattle.kp_plane.specs.Families.{HasNoClash, Stands, newest_clash, own_dirty_rules}
-use Rattle.kp_plane.proofs.Each.{all_at}
+use Rattle.kp_writer.specs.Written.{WriterParts, clash_of}
+use Rattle.kp_plane.specs.Families.{listed, newest_clash, own_dirty_rules}
+use Rattle.kp_plane.specs.declared.per_family.PerFamily.{PerFamily}
 
--- the first that an option list tells is that of the first element that has one
-first_of : {X Y : Type 0} (f : X → Option Y) (xs : List X) (i : ℕ) (d : X) (y : Y) → i < length xs
-    → AllByRecursion (λ x. f x ≡ None) (take i xs) → f (get_or xs i d) ≡ Some y
-    → slice_get (filter_map f xs) 0 ≡ Some y
-first_of f [] i d y few none is = absurd (omega arith)
-first_of f (x ∷ xs) zero d y few none is =
-    ap (λ o. slice_get (cons_option o (filter_map f xs)) 0) is
-first_of f (x ∷ xs) (suc i) d y few none is =
-    ap (λ o. slice_get (cons_option o (filter_map f xs)) 0) none.0
-    ∙ first_of f xs i d y (omega arith) none.1 is
+module _ (x : PerFamily WriterParts) where
+  -- that of IPv4 is told
+  pub first_told : (fault : TableFault) → TellsClash (clash_of x.four x.four.newest) fault
+      → TellsClash (newest_clash x) fault
+  first_told (ChainClash clash) told =
+      ap (λ o. slice_get (cons_option o (filter_map (λ w. clash_of w w.newest)
+      (option_to_list x.six))) 0) told
+  first_told (NoMemory refused) told = tt
 
-module _ (ws : List WriterParts) (i : ℕ) (w : WriterParts) (few : i < length ws)
-    (is : w ≡ get_or ws i w) where
-  -- its tables stand, as all do
-  pub stands_at : (chains : Chains) → AllByRecursion (Stands chains) ws → Stands chains w
-  stands_at chains all = subst (Stands chains) (sym is) (all_at (Stands chains) ws i w few all)
+  -- and where it has none, that of IPv6
+  pub then_told : (w : WriterParts) → x.six ≡ Some w → clash_of x.four x.four.newest ≡ None
+      → (fault : TableFault) → TellsClash (clash_of w w.newest) fault
+      → TellsClash (newest_clash x) fault
+  then_told w six none (ChainClash clash) told =
+      (λ i. slice_get (cons_option (none i) (filter_map (λ v. clash_of v v.newest)
+      (option_to_list (six i)))) 0)
+      ∙ ap (λ o. slice_get (cons_option o []) 0) told
+  then_told w six none (NoMemory refused) told = tt
 
-  -- one writer more
-  more : take (i + 1) ws ≡ take i ws ++ w ∷ []
-  more = take_more ws i w few ∙ ap (λ v. take i ws ++ v ∷ []) (sym is)
+  -- the rules of the dirty ports of both count
+  pub rules_first : own_dirty_rules x.four ≤ sum_by own_dirty_rules (listed x)
+  rules_first =
+      omega (arith, sum_by-cons own_dirty_rules x.four (option_to_list x.six))
 
-  pub edits_more : flat_map written.next_edits (take (i + 1) ws)
-      ≡ flat_map written.next_edits (take i ws) ++ written.next_edits w
-  edits_more =
-      ap (flat_map written.next_edits) more
-      ∙ flat_map-append written.next_edits (take i ws) (w ∷ [])
-      ∙ ap (λ es. flat_map written.next_edits (take i ws) ++ es) (append-nil (written.next_edits w))
-
-  pub no_clash_more : HasNoClash w → AllByRecursion HasNoClash (take i ws)
-      → AllByRecursion HasNoClash (take (i + 1) ws)
-  no_clash_more one all =
-      subst (AllByRecursion HasNoClash) (sym more)
-      (all_append HasNoClash (take i ws) (w ∷ []) all (one, tt))
-
-  pub rules_more : sum_by own_dirty_rules (take (i + 1) ws)
-      ≡ sum_by own_dirty_rules (take i ws) + own_dirty_rules w
-  rules_more =
-      sum_by_more own_dirty_rules ws i w few
-      ∙ ap (λ v. sum_by own_dirty_rules (take i ws) + own_dirty_rules v) (sym is)
-
-  pub rules_within : sum_by own_dirty_rules (take i ws) + own_dirty_rules w
-      ≤ sum_by own_dirty_rules ws
-  rules_within =
-      subst (λ v. sum_by own_dirty_rules (take i ws) + own_dirty_rules v ≤ sum_by own_dirty_rules ws)
-      (sym is) (sum_by_more_le own_dirty_rules ws i w few)
-
-  -- where those before it have no clash, its clash is the one that is told
-  pub first_told : AllByRecursion HasNoClash (take i ws) → (fault : TableFault)
-      → TellsClash (written.clash_of w (newest_ports w)) fault → TellsClash (newest_clash ws) fault
-  first_told none (ChainClash clash) told =
-      first_of (λ v. written.clash_of v (newest_ports v)) ws i w clash few none
-      (ap (λ v. written.clash_of v (newest_ports v)) (sym is) ∙ told)
-  first_told none (NoMemory refused) told = tt
+  pub rules_both : (w : WriterParts) → x.six ≡ Some w
+      → own_dirty_rules x.four + own_dirty_rules w ≡ sum_by own_dirty_rules (listed x)
+  rules_both w six =
+      omega (
+        arith,
+        sum_by-cons own_dirty_rules x.four (w ∷ []),
+        sum_by-cons own_dirty_rules w [],
+        ap (λ o. sum_by own_dirty_rules (x.four ∷ option_to_list o)) six,
+      )

@@ -1,9 +1,10 @@
 -- What is known of ports once those of Services are made anew.
 use Rattle.std.proofs.Common.{◌≡◌, ◌||◌, ◌+◌, Bool, true, false, List, [], ◌∷◌, ◌++◌, map, refl, sym}
-use Rattle.std.proofs.Common.{ap, ◌∙◌, ◌≤◌, Option, None, cond}
-use Rattle.std.proofs.Common.{Some, ℕ, append-nil, filter, flat_map, inl, inr, ◌⊎◌}
+use Rattle.std.proofs.Common.{ap, subst, ◌∙◌, ◌≤◌, Option, None, cond}
+use Rattle.std.proofs.Common.{Result, Ok, Err, Some, ℕ, append-nil, filter, flat_map, inl, inr, ◌⊎◌}
 use Rattle.std.specs.List.{Contains, filter_map, list_any, sum_by}
 use Rattle.std.specs.Ordering.{eq_by_cmp}
+use Rattle.std.specs.Result.{OnOk}
 use Rattle.std.specs.Option.{option_and_then}
 use Rattle.std.specs.Cmp.{eq_by_cmp_equiv}
 use Rattle.std.specs.FinMap as finite
@@ -25,7 +26,7 @@ use Rattle.kp_base.specs.declared.address.Family.{Family}
 use Rattle.kp_base.specs.declared.config.Config.{Config}
 use Rattle.kp_base.specs.declared.key.ObjectKey.{ObjectKey}
 use Rattle.kp_base.specs.declared.key.PortKey.{PortKey}
-use Rattle.kp_types.specs.Setting.{Setting, config_for}
+use Rattle.kp_types.specs.Setting.{Setting}
 use Rattle.kp_types.specs.declared.service.Service.{Service}
 use Rattle.kp_object_defs.specs.Objects.{Objects}
 use Rattle.kp_object_defs.specs.PortByKey.{info_at, info_in}
@@ -37,22 +38,18 @@ use Rattle.kp_store.specs.declared.touched.Touched.{Touched}
 use Rattle.kp_blocks.specs.Joined.{is_port_of}
 use Rattle.kp_writer_laws.specs.LocalLaws.{info_of}
 use Rattle.kp_writer.specs.Known.{ArePortsOf, KnownOfService, port_keys_at}
-use Rattle.kp_writer.specs.Refresh.{IsRefreshed, OthersStay}
+use Rattle.kp_writer.specs.Refresh.{OthersStay, Refreshes}
 use Rattle.kp_writer.specs.Old.{unwritten}
 use Rattle.kp_writer.specs.Shared.{shared_rule_count}
-use Rattle.kp_writer.specs.Written.{Ports}
+use Rattle.kp_writer.specs.Written.{Ports, WriterParts, with_newest}
 use Rattle.kp_writer.proofs.RuleCounts.{unwritten_parts}
 use Rattle.kp_object_defs.specs.OwnKeys.{AreUnderOwnKeys}
-use Rattle.kp_plane.specs.Known.{IsKnown, KnowsOthers, KnowsService, KnowsUntouched}
-use Rattle.kp_plane.specs.Known.{infos_in, is_port_of_one, made_count}
+use Rattle.kp_plane.specs.Families.{IsWritten}
+use Rattle.kp_plane.specs.Known.{IsKnown, KnowsOthers, KnowsService, infos_in, is_listed}
+use Rattle.kp_plane.specs.Known.{is_port_of_one, made_count}
 use Rattle.kp_plane.proofs.FewAsked.{few_of_all, few_of_passing}
 use Rattle.kp_plane.proofs.Sums.{sum_all, sum_more}
 use Rattle.kp_plane.proofs.Touching.{both_answers}
-
--- some Services are among others
-abbrev pub AreAmong : List ObjectKey → List ObjectKey → Type 0
-AreAmong some all =
-    (key : PortKey) → is_port_of_one all key ≡ false → is_port_of_one some key ≡ false
 
 module _ (old new : List ObjectKey) (k : ObjectKey) (is : old ≡ new ++ k ∷ []) where
   split : (key : PortKey)
@@ -63,31 +60,33 @@ module _ (old new : List ObjectKey) (k : ObjectKey) (is : old ≡ new ++ k ∷ [
       ∙ ap (λ b. is_port_of_one new key || (b || false))
       ((eq_by_cmp_equiv key_total).symm key.object k)
 
-  -- without the last there are no more
-  pub still_among : (all : List ObjectKey) → AreAmong old all → AreAmong new all
-  still_among all among = λ key none. (or_parts _ _ (sym (split key) ∙ among key none)).0
+  module _ (all : ObjectKey → Bool)
+      (among : (key : PortKey) → all key.object ≡ false → is_port_of_one old key ≡ false) where
+    -- without the last there are no more
+    pub still_among : (key : PortKey) → all key.object ≡ false → is_port_of_one new key ≡ false
+    still_among key none = (or_parts _ _ (sym (split key) ∙ among key none)).0
 
-  last_not : (all : List ObjectKey) → AreAmong old all → (key : PortKey)
-      → is_port_of_one all key ≡ false → is_port_of k key ≡ false
-  last_not all among key none =
-      (or_parts _ _ (or_parts _ _ (sym (split key) ∙ among key none)).1).0
-
-  module _ (setting : Setting) (o : Objects) (before after : Ports)
-      (knows : KnowsOthers setting o old before) (others : OthersStay k before after) where
-    -- the ports of one Service more are known
-    pub one_fewer : KnowsService setting o k after → KnowsOthers setting o new after
-    one_fewer made = λ key none. by key none (is_port_of k key) refl
-      where
-        by : (key : PortKey) → is_port_of_one new key ≡ false → (b : Bool) → is_port_of k key ≡ b
-            → IsKnown setting o after key
-        by key none true e = made key e
-        by key none false e =
-            others key e ∙ knows key (split key ∙ (λ i. none i || (e i || false)))
+    last_not : (key : PortKey) → all key.object ≡ false → is_port_of k key ≡ false
+    last_not key none = (or_parts _ _ (or_parts _ _ (sym (split key) ∙ among key none)).1).0
 
     -- and those of other Services than all stay known
-    pub still_others : (all : List ObjectKey) → AreAmong old all → KnowsOthers setting o all after
-    still_others all among = λ key none.
-        others key (last_not all among key none) ∙ knows key (among key none)
+    pub still_others : (setting : Setting) (o : Objects) (before after : Ports)
+        → KnowsOthers setting o (is_listed old) before → OthersStay k before after
+        → KnowsOthers setting o all after
+    still_others setting o before after knows others = λ key none.
+        others key (last_not key none) ∙ knows key (among key none)
+
+  -- the ports of one Service more are known
+  pub one_fewer : (setting : Setting) (o : Objects) (before after : Ports)
+      → KnowsOthers setting o (is_listed old) before → OthersStay k before after
+      → KnowsService setting o k after → KnowsOthers setting o (is_listed new) after
+  one_fewer setting o before after knows others made = λ key none. by key none (is_port_of k key) refl
+    where
+      by : (key : PortKey) → is_port_of_one new key ≡ false → (b : Bool) → is_port_of k key ≡ b
+          → IsKnown setting o after key
+      by key none true e = made key e
+      by key none false e =
+          others key e ∙ knows key (split key ∙ (λ i. none i || (e i || false)))
 
   -- what counts of all counts of the last and of those before it
   pub count_split : (f : Service → ℕ) (o : Objects)
@@ -117,7 +116,7 @@ module _ (old new : List ObjectKey) (k : ObjectKey) (is : old ≡ new ++ k ∷ [
 module _ (setting : Setting) (o : Objects) where
   -- where all are done, all ports are known
   pub all_done : (left : List ObjectKey) (ports : Ports) → left ≡ []
-      → KnowsOthers setting o left ports → ArePortsOf setting o ports
+      → KnowsOthers setting o (is_listed left) ports → ArePortsOf setting o ports
   all_done left ports none knows =
       λ key. knows key (ap (λ (ks : List ObjectKey). is_port_of_one ks key) none)
 
@@ -125,40 +124,40 @@ module _ (setting : Setting) (o : Objects) where
   pub service_done : KnownOfService → AreUnderOwnKeys o → (service : ObjectKey)
       → (infos : List PortInfo) (before after : Ports)
       → infos ≡ filter_map (info_at setting.family setting.config o) (port_keys_at o service)
-      → IsRefreshed service infos before after → KnowsService setting o service after
-  service_done known own service infos before after are made = λ key is.
+      → {X E : Type 0} (r : Result X E) → Refreshes r service infos before after
+      → OnOk r (KnowsService setting o service after)
+  service_done known own service infos before after are (Ok done) made = λ key is.
       made key
       ∙ ap (λ b. cond b (info_of infos key) (finite.get before key)) is
       ∙ ap (λ is. info_of is key) are
       ∙ known setting o service key own is
+  service_done known own service infos before after are (Err fault) made = tt
 
   -- of a port of a Service that isn't there nothing is known
   pub none_known : (ports : Ports) (all : Keys)
       → ((key : PortKey) → finite.contains_key all key.object ≡ false → finite.get ports key ≡ None)
       → ((key : ObjectKey) → finite.contains_key all key ≡ false → finite.get o.services key ≡ None)
-      → KnowsOthers setting o (finite.keys all) ports
+      → KnowsOthers setting o (finite.contains_key all) ports
   none_known ports all by_ports by_services = λ key none.
-      let out = contains_key-keys all key.object ∙ none in
-      by_ports key out
+      by_ports key none
       ∙ sym (ap (option_and_then (info_in setting.family setting.config o key))
-      (by_services key.object out))
+      (by_services key.object none))
 
   module _ (touched : Touched) (ports : Ports) where
     -- where not all Services are touched, these are those of the keys
-    pub by_keys : touched.all ≡ false → KnowsUntouched setting o (is_touched touched) ports
-        → KnowsOthers setting o (finite.keys touched.keys) ports
+    pub by_keys : touched.all ≡ false → KnowsOthers setting o (is_touched touched) ports
+        → KnowsOthers setting o (finite.contains_key touched.keys) ports
     by_keys some knows = λ key none.
-        knows key
-        ((λ i. some i || contains_key-keys touched.keys key.object i) ∙ none)
+        knows key ((λ i. some i || finite.contains_key touched.keys key.object) ∙ none)
 
-    pub from_keys : touched.all ≡ false → KnowsOthers setting o (finite.keys touched.keys) ports
-        → KnowsUntouched setting o (is_touched touched) ports
+    pub from_keys : touched.all ≡ false
+        → KnowsOthers setting o (finite.contains_key touched.keys) ports
+        → KnowsOthers setting o (is_touched touched) ports
     from_keys some knows = λ key none.
-        knows key (sym (contains_key-keys touched.keys key.object)
-        ∙ ap (λ b. b || finite.contains_key touched.keys key.object) (sym some) ∙ none)
+        knows key (ap (λ b. b || finite.contains_key touched.keys key.object) (sym some) ∙ none)
 
     -- where all are, nothing is asked for
-    pub none_left : touched.all ≡ true → KnowsUntouched setting o (is_touched touched) ports
+    pub none_left : touched.all ≡ true → KnowsOthers setting o (is_touched touched) ports
     none_left all = λ key none.
         absurd (both_answers true refl
         (ap (λ b. b || finite.contains_key touched.keys key.object) (sym all) ∙ none))
@@ -208,13 +207,19 @@ module _ (o : Objects) (own : AreUnderOwnKeys o) (service : ObjectKey) (s : Serv
       only_one t (inl e) = e
       only_one t (inr none) = absurd (none_in t none)
 
--- what objects tell one family they tell another that is the same
-pub told_by : (config : Config) (o : Objects) (service : ObjectKey) {f g : Family} → f ≡ g
-    → filter_map (info_at f (config_for f config) o) (port_keys_at o service)
-    ≡ filter_map (info_at g (config_for g config) o) (port_keys_at o service)
-told_by config o service same =
-    ap (λ family. filter_map (info_at family (config_for family config) o) (port_keys_at o service))
-    same
+-- of ports of other Services the same is known, whether or not those of one are made anew
+pub others_stay : {X E : Type 0} (r : Result X E) (service : ObjectKey) (infos : List PortInfo)
+    → (before after : Ports) → Refreshes r service infos before after → OthersStay service before after
+others_stay (Ok done) service infos before after is =
+    λ key out. is key ∙ ap (λ b. cond b (info_of infos key) (finite.get before key)) out
+others_stay (Err fault) service infos before after is = is.1
+
+-- a writer that knows other ports wrote the same
+pub still_written : (config : Config) (o : Objects) (family : Family) (w v : WriterParts)
+    → v ≡ with_newest w v.newest → IsWritten config o family w → IsWritten config o family v
+still_written config o family w v value is =
+    subst (IsWritten config o family) (sym value)
+    (record { family = is.family; config = is.config; written = is.written })
 
 -- what is made of the ports of one Service
 pub made_one : (setting : Setting) (written : Ports) (o : Objects) (service : ObjectKey)

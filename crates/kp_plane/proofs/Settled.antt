@@ -1,8 +1,8 @@
 -- What holds of ports once a sync is kept.
-use Rattle.std.proofs.Common.{◌≡◌, ◌≤◌, ◌<◌, nat_lt, Bool, true, false, List, map, length, sym, subst}
+use Rattle.std.proofs.Common.{◌≡◌, ◌≤◌, ◌<◌, nat_lt, Bool, true, false, cond, Option, Some, None, is_some, length, sym, subst}
 use Rattle.std.proofs.Common.{◌∙◌, ap, arith, sum, refl}
+use Rattle.std.specs.Option.{option_map}
 use Rattle.std.proofs.lemmas.Bool.Decides.{nat_tests}
-use Rattle.kp_types.specs.Setting.{table_families}
 use Rattle.kp_choice_defs.specs.Settings.{setting_of}
 use Rattle.kp_object_defs.specs.Objects.{objects_after}
 use Rattle.kp_history_defs.specs.DirtyPorts.{dirty_ports}
@@ -11,22 +11,24 @@ use Rattle.kp_history.proofs.Synced.{all_counted, before_next, objects_next, wit
 use Rattle.kp_base.specs.declared.key.ObjectKey.{ObjectKey}
 use Rattle.kp_store.specs.Touched.{is_touched}
 use Rattle.kp_store.specs.declared.touched.Touched.{Touched}
-use Rattle.kp_writer.specs.Written.{WriterParts}
+use Rattle.kp_writer.specs.Written.{WriterParts, all_written}
 use Rattle.kp_plane.specs.Collected.{is_collected}
-use Rattle.kp_plane.specs.Families.{AreOfNode, AreTold, KnowUntouched, newest_of, written_of}
+use Rattle.kp_plane.specs.Families.{Both, IsNewest, IsWritten, KnowsRest, map_both}
+use Rattle.kp_plane.specs.Families.{per_family}
 use Rattle.kp_plane.specs.Invariant.{AreTouchedBetween, Holds, IsAtPlace, IsNext, IsPortsAt}
 use Rattle.kp_plane.specs.Invariant.{IsSettled, touched_between}
 use Rattle.kp_plane.specs.Parts.{PlaneParts, objects_in, settings_in, synced, uncovered_in}
 use Rattle.kp_plane.specs.Past.{LeadPastOthers}
 use Rattle.kp_plane.specs.declared.collected.Collected.{Collected}
 use Rattle.kp_plane.specs.declared.next.Next.{Next}
+use Rattle.kp_plane.specs.declared.per_family.PerFamily.{PerFamily}
 use Rattle.kp_plane.specs.declared.place.ObjectsAt.{ObjectsAt}
 use Rattle.kp_plane.specs.declared.ports_at.PortsAt.{PortsAt}
+use Rattle.kp_plane.proofs.Each.{both_from, both_mapped}
 use Rattle.kp_plane.proofs.PastEvents.{neither, past_none, untold}
 use Rattle.kp_plane.proofs.Since.{none_between}
 use Rattle.kp_plane.proofs.Synced.{at_end, nothing_new}
 use Rattle.kp_plane.proofs.Touching.{both_answers}
-use Rattle.kp_plane.proofs.Writers.{newest_node}
 
 module _ (p : PlaneParts) (h : History) (s t : PortsAt) (next : Next) (held : Holds p h s)
     (is : IsNext p s next) where
@@ -47,30 +49,37 @@ module _ (p : PlaneParts) (h : History) (s t : PortsAt) (next : Next) (held : Ho
       let all : length p.events ≤ h.covered = grind (arith, nat_tests) in
       omega (arith, few, covered, all)
 
-  abbrev before : List WriterParts
-  before = s.writers.items
-
-  abbrev after : List WriterParts
-  after = t.writers.items
+  abbrev after : PerFamily WriterParts
+  after = map_both all_written s.writers
 
   -- what is written then is what the objects of all events tell, in the node's families
-  all_written : (is_new : Bool) → is_new ≡ nat_lt h.covered (length p.events)
-      → IsSettled is_new next.dirty.items s t
-      → AreTold p.config (objects_after p.events) (map written_of after)
-  all_written true new settled =
-      subst (AreTold p.config (objects_after p.events)) (sym settled.written)
-      (is.newest (some_new true new refl)).newest
-  all_written false old settled =
-      subst (AreTold p.config (objects_after p.events)) (sym settled.written)
-      (subst (λ o. AreTold p.config o (map written_of before))
-      (nothing_new p h held.history (none_new false old refl)) held.ports.written)
+  wrote : (is_new : Bool) → is_new ≡ nat_lt h.covered (length p.events)
+      → Both (IsWritten p.config (objects_after p.events)) (cond is_new after s.writers)
+  wrote true new =
+      both_mapped all_written (IsWritten p.config (objects_after p.events)) s.writers
+      (both_from (IsWritten p.config (objects_in p)) (IsNewest (objects_after p.events))
+      (λ family w. IsWritten p.config (objects_after p.events) family (all_written w)) s.writers
+      (λ family w is now. record { family = is.family; config = is.config; written = now })
+      held.ports.written (is.newest (some_new true new refl)).newest)
+  wrote false old =
+      subst (λ o. Both (IsWritten p.config o) s.writers)
+      (nothing_new p h held.history (none_new false old refl)) held.ports.written
 
-  all_of_node : (is_new : Bool) → IsSettled is_new next.dirty.items s t
-      → AreOfNode p.config (map written_of after)
-  all_of_node true settled =
-      subst (AreOfNode p.config) (sym settled.written)
-      (newest_node p.config before held.ports.node)
-  all_of_node false settled = subst (AreOfNode p.config) (sym settled.written) held.ports.node
+  -- and as much is known
+  knows : (is_new : Bool) → Both (KnowsRest s.latest.objects (is_collected s.touched))
+      (cond is_new after s.writers)
+  knows true =
+      both_mapped all_written (KnowsRest s.latest.objects (is_collected s.touched)) s.writers
+      held.ports.untouched
+  knows false = held.ports.untouched
+
+  as_many : (is_new : Bool) → is_some (cond is_new after s.writers).six ≡ p.config.dual
+  as_many true = by s.writers.six ∙ held.ports.dual
+    where
+      by : (o : Option WriterParts) → is_some (option_map all_written o) ≡ is_some o
+      by None = refl
+      by (Some w) = refl
+  as_many false = held.ports.dual
 
   -- nothing was touched since this sync
   all_since : (is_new : Bool) → is_new ≡ nat_lt h.covered (length p.events)
@@ -120,7 +129,7 @@ module _ (p : PlaneParts) (h : History) (s t : PortsAt) (next : Next) (held : Ho
 
   -- the events of this sync lead past the others
   last_past : (is_new : Bool) → is_new ≡ nat_lt h.covered (length p.events)
-      → IsSettled is_new next.dirty.items s t
+      → IsSettled is_new next.dirty s t
       → LeadPastOthers (settings_in p) (objects_in p) s.latest.objects (is_touched t.last)
   last_past is_new new settled = λ k none.
       held.ports.past k (neither (is_touched s.since k) (is_collected s.touched k)
@@ -128,18 +137,20 @@ module _ (p : PlaneParts) (h : History) (s t : PortsAt) (next : Next) (held : Ho
       (none_touched is_new new k))
 
   pub settled_ports : (is_new : Bool) → is_new ≡ nat_lt h.covered (length p.events)
-      → IsSettled is_new next.dirty.items s t → IsPortsAt (synced p) t
+      → IsSettled is_new next.dirty s t → IsPortsAt (synced p) t
   settled_ports is_new new settled = record {
     place = subst (IsAtPlace p.events) (sym settled.latest) held.ports.place;
-    node = all_of_node is_new settled;
-    written = subst (λ o. AreTold p.config o (map written_of after))
-        (sym (objects_next p held.history.exact)) (all_written is_new new settled);
-    untouched = subst (λ (l : ObjectsAt). KnowUntouched p.config l.objects
-        (is_collected t.touched) (map newest_of after)) (sym settled.latest)
-        (subst (λ (u : Collected). KnowUntouched p.config s.latest.objects (is_collected u)
-        (map newest_of after)) (sym settled.touched)
-        (subst (KnowUntouched p.config s.latest.objects (is_collected s.touched))
-        (sym settled.newest) held.ports.untouched));
+    dual = ap (λ (x : PerFamily WriterParts). is_some x.six) settled.writers ∙ as_many is_new;
+    written = subst (λ o. Both (IsWritten p.config o) t.writers)
+        (sym (objects_next p held.history.exact))
+        (subst (Both (IsWritten p.config (objects_after p.events))) (sym settled.writers)
+        (wrote is_new new));
+    untouched = subst (λ (l : ObjectsAt). Both (KnowsRest l.objects (is_collected t.touched))
+        t.writers) (sym settled.latest)
+        (subst (λ (u : Collected). Both (KnowsRest s.latest.objects (is_collected u)) t.writers)
+        (sym settled.touched)
+        (subst (Both (KnowsRest s.latest.objects (is_collected s.touched))) (sym settled.writers)
+        (knows is_new)));
     since = subst (λ (u : Collected). AreTouchedBetween (settings_in p) p.events
         (sum (synced p).counts) t.latest.at u) (sym settled.touched)
         (subst (λ (l : ObjectsAt). AreTouchedBetween (settings_in p) p.events
@@ -154,7 +165,6 @@ module _ (p : PlaneParts) (h : History) (s t : PortsAt) (next : Next) (held : Ho
         (latest_all is_new new ∙ sym (objects_next p held.history.exact))
         (last_past is_new new settled));
     dirty = settled.dirty ∙ is.dirty
-        ∙ (λ i. map (λ family. dirty_ports (setting_of family p.config)
-        (sym (before_next p held.history.exact) i) (sym (objects_next p held.history.exact) i))
-        (table_families p.config));
+        ∙ (λ i. per_family p.config (λ family. dirty_ports (setting_of family p.config)
+        (sym (before_next p held.history.exact) i) (sym (objects_next p held.history.exact) i)));
   }

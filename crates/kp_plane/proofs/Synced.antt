@@ -6,6 +6,7 @@ use Rattle.std.proofs.lemmas.Bool.Decides.{nat_tests}
 use Rattle.std.proofs.lemmas.List.{take_all, take-append-le, length_push}
 use Rattle.kp_types.specs.declared.event.Event.{Event}
 use Rattle.kp_types.specs.declared.packet.Packet.{Packet}
+use Rattle.kp_types.specs.declared.rule.Batch.{Batch}
 use Rattle.kp_types.specs.declared.rule.Edit.{Edit}
 use Rattle.kp_types.specs.declared.sync.SyncRecord.{SyncRecord}
 use Rattle.kp_types.specs.Setting.{both_families}
@@ -22,7 +23,9 @@ use Rattle.kp_history.specs.Invariant.{IsHistory, LeadsToNext}
 use Rattle.kp_history.specs.declared.history.History.{History}
 use Rattle.kp_history.proofs.Synced.{all_counted, within}
 use Rattle.kp_plane.specs.Invariant.{Holds, IsAtPlace, IsPlane, IsSlicesAt}
+use Rattle.kp_plane.specs.Notes.{note_of}
 use Rattle.kp_plane.specs.Parts.{IsNextRecord, explained_in, syncs_in, next_record}
+use Rattle.kp_plane.specs.declared.note.SyncNote.{SyncNote}
 use Rattle.kp_plane.specs.declared.place.ObjectsAt.{ObjectsAt}
 use Rattle.kp_plane.specs.declared.ports_at.PortsAt.{PortsAt}
 use Rattle.kp_plane.specs.declared.slices_at.SlicesAt.{SlicesAt}
@@ -153,25 +156,29 @@ same_decision p q same o is packet drawn lists =
 
 -- ---- What a sync tells
 
-module _ (p q : PlaneParts) (r : SyncRecord) (next : q ≡ synced p) (numbered : r.sync ≡ syncs_in q)
-    (counted : r.events ≡ uncovered_in p) (edits : r.batch.edits ≡ next_edits p) where
-  number : r.sync ≡ suc (syncs_in p)
-  number =
-      let longer = length_push p.counts (uncovered_in p) in
-      let one : syncs_in (synced p) ≡ suc (syncs_in p) = omega arith in
-      numbered ∙ ap syncs_in next ∙ one
+-- its number is the next one
+pub next_number : (p q : PlaneParts) → q ≡ synced p → {n : ℕ} → n ≡ syncs_in q
+    → n ≡ suc (syncs_in p)
+next_number p q next numbered =
+    let longer = length_push p.counts (uncovered_in p) in
+    let one : syncs_in (synced p) ≡ suc (syncs_in p) = omega arith in
+    numbered ∙ ap syncs_in next ∙ one
 
-  -- a record with these counts and edits is the one that is added
-  pub record_added : r ≡ next_record p
-  record_added = λ i. record {
-    sync = number i;
-    events = counted i;
-    batch = record { edits = edits i };
-  }
+-- so its record is the next one
+pub record_next : (p : PlaneParts) → clash_of (settings_in p) (objects_after p.events) ≡ None
+    → IsNextRecord p (next_record p)
+record_next p no_clash = record {
+  events = refl;
+  exact = record { is_numbered = refl; has_no_clash = no_clash; is_changes = refl };
+}
 
-  -- and the next one
-  pub record_next : clash_of (settings_in p) (objects_after p.events) ≡ None → IsNextRecord p r
-  record_next no_clash = record {
-    events = counted;
-    exact = record { is_numbered = number; has_no_clash = no_clash; is_changes = edits };
-  }
+-- a record by its note and its edits
+pub record_told : (p : PlaneParts) (note : SyncNote) (batch : Batch) → note ≡ note_of (next_record p)
+    → batch.edits ≡ next_edits p
+    → ◌≡◌ {A = SyncRecord} (record { sync = note.sync; events = note.events; batch = batch })
+    (next_record p)
+record_told p note batch is edits = λ i. record {
+  sync = (is i).sync;
+  events = (is i).events;
+  batch = record { edits = edits i };
+}

@@ -1,17 +1,22 @@
 -- Events leave what is known of the ports of each Service that they don't touch.
-use Rattle.std.proofs.Common.{◌≡◌, ◌&&◌, ◌||◌, ◌↔◌, Bool, true, false, refl, sym, ap, ◌∙◌}
+use Rattle.std.proofs.Common.{◌≡◌, ◌&&◌, ◌||◌, ◌↔◌, Bool, true, false, refl, sym, ap, subst, ◌∙◌}
 use Rattle.std.specs.Prelude.{IsFalse}
 use Rattle.std.proofs.lemmas.Bool.{or_parts}
 use Rattle.kp_base.specs.declared.address.Family.{Family}
+use Rattle.kp_base.specs.declared.config.Config.{Config}
 use Rattle.kp_base.specs.declared.key.ObjectKey.{ObjectKey}
 use Rattle.kp_types.specs.Setting.{Setting, Settings, view_of}
 use Rattle.kp_types.specs.declared.event.Event.{Event}
+use Rattle.kp_choice_defs.specs.Settings.{setting_of}
 use Rattle.kp_object_defs.specs.Objects.{Objects, objects_step}
 use Rattle.kp_object_defs.specs.OwnKeys.{AreUnderOwnKeys}
 use Rattle.kp_object_defs.specs.PortByKey.{info_at}
 use Rattle.kp_touch_laws.specs.TouchLaws.{UntouchedInfos, known_at, touches_in}
-use Rattle.kp_writer.specs.Written.{Ports}
-use Rattle.kp_plane.specs.Known.{KnowsUntouched, LeavesUntouched}
+use Rattle.kp_writer.specs.Written.{WriterParts}
+use Rattle.kp_plane.specs.Families.{Both, KnowsRest}
+use Rattle.kp_plane.specs.Known.{LeavesUntouched}
+use Rattle.kp_plane.specs.declared.per_family.PerFamily.{PerFamily}
+use Rattle.kp_plane.proofs.Each.{both_from}
 
 -- no test has both answers
 pub both_answers : (b : Bool) → b ≡ true → b ≡ false → ⊥
@@ -38,18 +43,24 @@ module _ (setting : Setting) where
       let left = leaves key (sym (same key.object) ∙ none) in
       (left.0, ap (λ o. info_at setting.family setting.config o key) is ∙ left.1)
 
-  -- what is known of the ports that are left stays known
-  pub knows_on : (o p : Objects) (t u : ObjectKey → Bool) (ports : Ports)
-      → KnowsUntouched setting o t ports → LeavesUntouched setting o t p u
-      → KnowsUntouched setting p u ports
-  knows_on o p t u ports knows leaves = λ key none.
-      let left = leaves key none in knows key left.0 ∙ sym left.1
+-- ---- What writers know of the ports that are left
 
-  -- and where the same Services were touched
-  pub knows_same : (o : Objects) (t u : ObjectKey → Bool) (ports : Ports)
-      → ((k : ObjectKey) → t k ≡ u k) → KnowsUntouched setting o t ports
-      → KnowsUntouched setting o u ports
-  knows_same o t u ports same knows = λ key none. knows key (same key.object ∙ none)
+-- it is still so
+pub all_know_on : (config : Config) (o p : Objects) (t u : ObjectKey → Bool)
+    → ((family : Family) → LeavesUntouched (setting_of family config) o t p u)
+    → (x : PerFamily WriterParts) → Both (λ family w. w.config ≡ config) x
+    → Both (KnowsRest o t) x → Both (KnowsRest p u) x
+all_know_on config o p t u leaves x =
+    both_from (λ family w. w.config ≡ config) (KnowsRest o t) (KnowsRest p u) x
+    (λ family w is knows key none.
+    let left = subst (λ c. LeavesUntouched (setting_of w.family c) o t p u) (sym is)
+    (leaves w.family) key none in
+    knows key left.0 ∙ sym left.1)
+
+-- and where the same Services were touched
+pub knows_same : (o : Objects) (t u : ObjectKey → Bool) (family : Family) (w : WriterParts)
+    → ((k : ObjectKey) → t k ≡ u k) → KnowsRest o t family w → KnowsRest o u family w
+knows_same o t u family w same knows = λ key none. knows key (same key.object ∙ none)
 
 module _ (settings : Settings) (family : Family) where
   -- what an event leaves in a family, where the Services that it touches are added

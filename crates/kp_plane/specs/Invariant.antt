@@ -1,13 +1,13 @@
 -- What holds of a plane's fields, by the parts that contracts see.
 use Rattle.std.specs.Prelude.{◌≡◌, ◌≤◌, ◌<◌, ◌+◌, ℕ, List, length, sum, take, drop}
-use Rattle.std.specs.Prelude.{◌||◌, Bool, true, false, cond, map, None}
-use Rattle.std.specs.List.{AllByRecursion, flat_map}
+use Rattle.std.specs.Prelude.{◌||◌, Bool, true, false, cond, is_some}
+use Rattle.std.specs.List.{flat_map}
 use Rattle.kp_base.specs.declared.config.Config.{Config}
 use Rattle.kp_base.specs.declared.key.ObjectKey.{ObjectKey}
 use Rattle.kp_types.specs.declared.event.Event.{Event}
-use Rattle.kp_types.specs.Setting.{Settings, both_families, table_families}
+use Rattle.kp_types.specs.Setting.{Settings, both_families}
 use Rattle.kp_choice_defs.specs.Settings.{setting_of, settings_of}
-use Rattle.kp_object_defs.specs.Objects.{objects_after}
+use Rattle.kp_object_defs.specs.Objects.{Objects, objects_after}
 use Rattle.kp_object_defs.specs.SlicesNow.{slices_now}
 use Rattle.kp_events.specs.JournalContents.{Contents}
 use Rattle.kp_history_defs.specs.DirtyPorts.{dirty_ports}
@@ -21,13 +21,14 @@ use Rattle.kp_writer.specs.Known.{pending_ports}
 use Rattle.kp_writer.specs.Written as written
 use Rattle.kp_writer.specs.Written.{WriterParts}
 use Rattle.kp_plane.specs.Collected.{is_collected}
-use Rattle.kp_plane.specs.Families.{AreOfNode, AreTold, HasNoClash, KnowUntouched}
-use Rattle.kp_plane.specs.Families.{newest_of, written_of}
+use Rattle.kp_plane.specs.Families.{Both, HasNoClash, IsNewest, IsWritten, KnowsRest, listed}
+use Rattle.kp_plane.specs.Families.{map_both, per_family}
 use Rattle.kp_plane.specs.Parts.{PlaneParts, dirty_after, objects_before, objects_in, settings_in}
 use Rattle.kp_plane.specs.Parts.{uncovered_in}
 use Rattle.kp_plane.specs.Past.{GoesOnPast, LeadPastOthers}
 use Rattle.kp_plane.specs.declared.collected.Collected.{Collected}
 use Rattle.kp_plane.specs.declared.next.Next.{Next}
+use Rattle.kp_plane.specs.declared.per_family.PerFamily.{PerFamily}
 use Rattle.kp_plane.specs.declared.place.ObjectsAt.{ObjectsAt}
 use Rattle.kp_plane.specs.declared.ports_at.PortsAt.{PortsAt}
 use Rattle.kp_plane.specs.declared.slices_at.SlicesAt.{SlicesAt}
@@ -108,46 +109,45 @@ may_have_touched s service = is_touched s.since service || is_collected s.touche
 -- lead past all Services but some, and those of the last sync past all but others.
 pub record IsPortsAt (p : PlaneParts) (s : PortsAt) : Type 0 where
   pub place : IsAtPlace p.events s.latest
-  pub node : AreOfNode p.config (map written_of s.writers.items)
-  pub written : AreTold p.config (objects_in p) (map written_of s.writers.items)
-  pub untouched : KnowUntouched p.config s.latest.objects (is_collected s.touched)
-      (map newest_of s.writers.items)
+  pub dual : is_some s.writers.six ≡ p.config.dual
+  pub written : Both (IsWritten p.config (objects_in p)) s.writers
+  pub untouched : Both (KnowsRest s.latest.objects (is_collected s.touched)) s.writers
   pub since : AreTouchedBetween (settings_in p) p.events (sum p.counts) s.latest.at s.touched
   pub past : LeadPastOthers (settings_in p) (objects_in p) s.latest.objects (may_have_touched s)
   pub last : LeadPastOthers (settings_in p) (objects_before p) (objects_in p) (is_touched s.last)
-  pub dirty : s.dirty.items ≡ map (λ family. dirty_after family p) (table_families p.config)
+  pub dirty : s.dirty ≡ per_family p.config (λ family. dirty_after family p)
 
 -- what is known of ports at a later place of the journal, where nothing was written
 pub record IsBroughtOn
     (config : Config) (events : List Event) (before after : PortsAt) : Type 0 where
   pub place : IsAtPlace events after.latest
-  pub untouched : KnowUntouched config after.latest.objects (is_collected after.touched)
-      (map newest_of after.writers.items)
+  pub untouched : Both (KnowsRest after.latest.objects (is_collected after.touched)) after.writers
   pub since : GoesOnTouching (settings_of config) events before.latest.at before.touched
       after.latest.at after.touched
   pub past : GoesOnPast (settings_of config) before.latest.objects (may_have_touched before)
       after.latest.objects (may_have_touched after)
   pub last : after.last ≡ before.last
-  pub written : map written_of after.writers.items ≡ map written_of before.writers.items
-  pub dirty : after.dirty.items ≡ before.dirty.items
+  pub dual : is_some after.writers.six ≡ is_some before.writers.six
+  pub written : (o : Objects) → Both (IsWritten config o) before.writers
+      → Both (IsWritten config o) after.writers
+  pub dirty : after.dirty ≡ before.dirty
 
 -- what is known of ports is brought up to all events, so that no Service is touched any more
-pub record IsUpToDate (config : Config) (events : List Event) (s : PortsAt) : Type 0 where
+pub record IsUpToDate (events : List Event) (s : PortsAt) : Type 0 where
   pub at : s.latest.at ≡ length events
   pub none : (key : ObjectKey) → is_collected s.touched key ≡ false
-  pub newest : AreTold config (objects_after events) (map newest_of s.writers.items)
+  pub newest : Both (IsNewest (objects_after events)) s.writers
 
 -- what is known of ports once a sync is kept, which covers new events or none
-pub record IsSettled (is_new : Bool) (told : List (List DirtyPort)) (before after : PortsAt)
+pub record IsSettled (is_new : Bool) (told : PerFamily (List DirtyPort)) (before after : PortsAt)
     : Type 0 where
   pub latest : after.latest ≡ before.latest
   pub touched : after.touched ≡ before.touched
   pub since : (key : ObjectKey) → is_touched after.since key ≡ false
   pub last : after.last ≡ before.since
-  pub written : map written_of after.writers.items
-      ≡ cond is_new (map newest_of before.writers.items) (map written_of before.writers.items)
-  pub newest : map newest_of after.writers.items ≡ map newest_of before.writers.items
-  pub dirty : after.dirty.items ≡ told
+  pub writers : after.writers
+      ≡ cond is_new (map_both written.all_written before.writers) before.writers
+  pub dirty : after.dirty ≡ told
 
 -- what is held of the syncs, and what is known of ports
 pub record Holds (p : PlaneParts) (h : History) (s : PortsAt) : Type 0 where
@@ -155,19 +155,19 @@ pub record Holds (p : PlaneParts) (h : History) (s : PortsAt) : Type 0 where
   pub ports : IsPortsAt p s
 
 -- what writers make of a sync: the edits of each, one after the other, and its dirty ports
-pub record IsMade (writers : List WriterParts) (next : Next) : Type 0 where
-  pub edits : next.batch.edits ≡ flat_map written.next_edits writers
-  pub dirty : next.dirty.items ≡ map pending_ports writers
-  pub no_clash : AllByRecursion HasNoClash writers
+pub record IsMade (writers : PerFamily WriterParts) (next : Next) : Type 0 where
+  pub edits : next.batch.edits ≡ flat_map written.next_edits (listed writers)
+  pub dirty : next.dirty ≡ map_both pending_ports writers
+  pub no_clash : Both HasNoClash writers
 
 -- What one more sync keeps: the batch, and the ports of which something else is known. Where it
 -- covers new events the ports that are known are those of all events' objects.
 pub record IsNext (p : PlaneParts) (s : PortsAt) (next : Next) : Type 0 where
   pub leads : LeadsToNext p next.batch
-  pub dirty : next.dirty.items
-      ≡ map (λ family. dirty_ports (setting_of family p.config) (objects_in p)
-      (objects_after p.events)) (table_families p.config)
-  pub newest : 0 < uncovered_in p → IsUpToDate p.config p.events s
+  pub dirty : next.dirty
+      ≡ per_family p.config (λ family. dirty_ports (setting_of family p.config) (objects_in p)
+      (objects_after p.events))
+  pub newest : 0 < uncovered_in p → IsUpToDate p.events s
 
 -- what holds of all fields: the objects for explanations stand at or before what the last sync
 -- covers

@@ -23,19 +23,18 @@ use Rattle.kp_writer.specs.Written.{Ports}
 abbrev pub IsKnown : Setting → Objects → Ports → PortKey → Type 0
 IsKnown setting o ports key = finite.get ports key ≡ info_at setting.family setting.config o key
 
--- of each port whose Service wasn't touched, which a test tells
-abbrev pub KnowsUntouched : Setting → Objects → (ObjectKey → Bool) → Ports → Type 0
-KnowsUntouched setting o touched ports =
-    (key : PortKey) → touched key.object ≡ false → IsKnown setting o ports key
+-- of each port of other Services than those that a test tells
+abbrev pub KnowsOthers : Setting → Objects → (ObjectKey → Bool) → Ports → Type 0
+KnowsOthers setting o told ports =
+    (key : PortKey) → told key.object ≡ false → IsKnown setting o ports key
 
--- whether a port is one of some Services
+-- whether a Service is one of some
+abbrev pub is_listed : List ObjectKey → ObjectKey → Bool
+is_listed services service = list_any (eq_by_cmp key_cmp service) services
+
+-- whether a port is one of theirs
 abbrev pub is_port_of_one : List ObjectKey → PortKey → Bool
-is_port_of_one services key = list_any (eq_by_cmp key_cmp key.object) services
-
--- of each port of other Services than these
-abbrev pub KnowsOthers : Setting → Objects → List ObjectKey → Ports → Type 0
-KnowsOthers setting o services ports =
-    (key : PortKey) → is_port_of_one services key ≡ false → IsKnown setting o ports key
+is_port_of_one services key = is_listed services key.object
 
 -- of each port of a Service
 abbrev pub KnowsService : Setting → Objects → ObjectKey → Ports → Type 0

@@ -1,7 +1,6 @@
 //! What one more sync keeps.
-ghost use Rattle.std.specs.Prelude.{◌≡◌, ◌+◌, ◌++◌, ◌≤◌, [], length, map, IfOk, IfErr, OnOk, OnErr};
-ghost use Rattle.std.specs.List.{AllByRecursion, flat_map, sum_by};
-ghost use Rattle.kp_types.specs.Setting.{table_families};
+ghost use Rattle.std.specs.Prelude.{◌≡◌, ◌+◌, ◌++◌, ◌≤◌, [], length, IfOk, IfErr, OnOk, OnErr};
+ghost use Rattle.std.specs.List.{flat_map, sum_by};
 ghost use Rattle.kp_choice_defs.specs.Settings.{settings_of};
 ghost use Rattle.kp_full_table.specs.Faults.{TellsClash};
 ghost use Rattle.kp_object_defs.specs.Objects.{objects_after};
@@ -10,18 +9,20 @@ ghost use Rattle.kp_writer.specs.Batch.{own_rules_written};
 ghost use Rattle.kp_writer.specs.Known.{pending_ports};
 ghost use Rattle.kp_writer.specs.Written as written;
 ghost use Rattle.kp_plane.specs.Counts.{IsCounted};
-ghost use Rattle.kp_plane.specs.Families.{HasNoClash, Stands, newest_clash, own_dirty_rules};
+ghost use Rattle.kp_plane.specs.Families.{Both, HasNoClash, Stands, listed, map_both};
+ghost use Rattle.kp_plane.specs.Families.{newest_clash, own_dirty_rules, per_family};
 ghost use Rattle.kp_plane.specs.Invariant.{Holds, IsMade, IsNext, IsPortsAt, parts_of};
 ghost use Rattle.kp_plane.specs.Parts as parts;
 ghost use Rattle.kp_plane.specs.Parts.{PlaneParts as Parts};
 
+use crate::per_family::PerFamily;
 use crate::ports_at::{PortsAt, none_dirty};
 use kp_base::{Config, Items, NoMemory, Steps};
 use kp_events::Journal;
 use kp_full_table::TableFault;
 use kp_history::History;
 use kp_rules::Table;
-use kp_types::{Batch, Edit};
+use kp_types::Batch;
 use kp_writer::{Pending, Writer};
 use std::alloc::Global;
 use std::mem::replace;
@@ -32,7 +33,7 @@ use std::sync::ledger::Ledger;
 #[derive(Drop)]
 pub(crate) struct Next {
     pub(crate) batch: Batch,
-    pub(crate) dirty: Vec<Items<Pending>>,
+    pub(crate) dirty: PerFamily<Items<Pending>>,
 }
 
 /// What a sync of all events keeps. Where no event came since the last sync it is nothing, and
@@ -69,95 +70,95 @@ pub(crate) fn next_sync<L: Ledger, A: Ledger>(
     kp_writer::known_dirty_ports();
     let events = journal.events();
     if events.len() as u64 == history.covered {
-        let next = nothing(alloc, config)?;
-        return Ok(next);
+        return Ok(nothing(alloc, config));
     }
     ports.bring_on(alloc, config, events, steps, asked)?;
     made(alloc, &ports.writers, &history.table, steps)
 }
 
 /// No edit and no dirty port.
-fn nothing(alloc: Global, config: &Config) -> Result<Next, NoMemory>
-    ensures edits { IfOk result (λ n. n.batch.edits ≡ []) }
-    ensures dirty { IfOk result (λ n. n.dirty.items
-        ≡ map (λ family. []) (table_families config.now)) }
+fn nothing(alloc: Global, config: &Config) -> Next
+    ensures edits { result.batch.edits ≡ [] }
+    ensures dirty { result.dirty ≡ per_family config.now (λ family. []) }
 {
-    let dirty = none_dirty(alloc, config)?;
-    Ok(Next {
+    Next {
         batch: Batch {
             edits: Items::new(alloc),
         },
-        dirty,
-    })
+        dirty: none_dirty(alloc, config),
+    }
 }
 
 /// What all writers make of a sync, where the table of what they have written is given. Nothing is
 /// kept, so that where one is refused all stay as they were.
 fn made<L: Ledger>(
     alloc: Global,
-    writers: &[Writer],
+    writers: &PerFamily<Writer>,
     table: &Table,
     steps: &mut Steps<L>,
 ) -> Result<Next, TableFault>
-    requires { AllByRecursion (Stands table.now.chains) writers.now }
+    requires { Both (Stands table.now.chains) writers.now }
     ensures next { IfOk result (IsMade writers.now) }
     ensures clash { IfErr result (TellsClash (newest_clash writers.now)) }
     ensures made { IfOk result (λ n. steps.old + own_rules_written n.batch.edits ≤ steps.new) }
-    ensures steps { steps.new ≤ steps.old + sum_by own_dirty_rules writers.now }
+    ensures steps { steps.new ≤ steps.old + sum_by own_dirty_rules (listed writers.now) }
 {
     let dirty = all_dirty(alloc, writers)?;
-    let edits = all_edits(alloc, writers, table, steps)?;
-    Ok(Next {
-        batch: Batch { edits },
-        dirty,
-    })
+    let batch = all_edits(alloc, writers, table, steps)?;
+    Ok(Next { batch, dirty })
 }
 
 /// The ports of which each writer knows something else than it has written.
-fn all_dirty(alloc: Global, writers: &[Writer]) -> Result<Vec<Items<Pending>>, NoMemory>
-    ensures { IfOk result (λ dirty. dirty.items ≡ map pending_ports writers.now) }
+fn all_dirty(
+    alloc: Global,
+    writers: &PerFamily<Writer>,
+) -> Result<PerFamily<Items<Pending>>, NoMemory>
+    ensures { IfOk result (λ dirty. dirty ≡ map_both pending_ports writers.now) }
 {
-    let mut dirty = Vec::new(alloc);
-    for writer in writers {
-        dirty.push(writer.dirty(alloc)?)?;
+    let four = writers.four.dirty(alloc)?;
+    match &writers.six {
+        Some(six) => Ok(PerFamily {
+            four,
+            six: Some(six.dirty(alloc)?),
+        }),
+        None => Ok(PerFamily { four, six: None }),
     }
-    Ok(dirty)
 }
 
-/// The edits of each writer, which lead from what it has written to what it knows now, one after
-/// the other.
+/// The edits of each writer, which lead from what it has written to what it knows now: those of
+/// IPv4, and then those of IPv6.
 fn all_edits<L: Ledger>(
     alloc: Global,
-    writers: &[Writer],
+    writers: &PerFamily<Writer>,
     table: &Table,
     steps: &mut Steps<L>,
-) -> Result<Items<Edit>, TableFault>
-    requires { AllByRecursion (Stands table.now.chains) writers.now }
-    ensures edits { IfOk result (λ edits. edits ≡ flat_map written.next_edits writers.now) }
-    ensures no_clash { OnOk result (AllByRecursion HasNoClash writers.now) }
+) -> Result<Batch, TableFault>
+    requires { Both (Stands table.now.chains) writers.now }
+    ensures edits { IfOk result
+        (λ b. b.edits ≡ flat_map written.next_edits (listed writers.now)) }
+    ensures no_clash { OnOk result (Both HasNoClash writers.now) }
     ensures clash { IfErr result (TellsClash (newest_clash writers.now)) }
-    ensures made { IfOk result (λ edits. steps.old + own_rules_written edits ≤ steps.new) }
-    ensures steps { steps.new ≤ steps.old + sum_by own_dirty_rules writers.now }
+    ensures made { IfOk result (λ b. steps.old + own_rules_written b.edits ≤ steps.new) }
+    ensures steps { steps.new ≤ steps.old + sum_by own_dirty_rules (listed writers.now) }
 {
-    let mut edits = Items::new(alloc);
-    for writer in writers {
-        let mut batch = writer.edits(alloc, table, steps)?;
-        let more = replace(&mut batch.edits, Items::new(alloc));
-        edits = joined(edits, more)?;
-    }
-    Ok(edits)
+    let four = writers.four.edits(alloc, table, steps)?;
+    let Some(six) = &writers.six else {
+        return Ok(four);
+    };
+    let six = six.edits(alloc, table, steps)?;
+    Ok(joined(alloc, four, six)?)
 }
 
-/// Edits and then others. The first of a list cost nothing.
-fn joined(edits: Items<Edit>, more: Items<Edit>) -> Result<Items<Edit>, NoMemory>
-    ensures { IfOk result (λ all. all ≡ edits ++ more) }
+/// Edits and then others.
+fn joined(alloc: Global, mut first: Batch, mut more: Batch) -> Result<Batch, NoMemory>
+    ensures { IfOk result (λ all. all.edits ≡ first.edits ++ more.edits) }
 {
-    if edits.as_slice().is_empty() {
-        return Ok(more);
-    }
-    let mut all = edits.into_vec();
-    all.append(&mut more.into_vec())?;
-    Ok(Items::from_vec(all))
+    let mut edits = replace(&mut first.edits, Items::new(alloc)).into_vec();
+    let more = replace(&mut more.edits, Items::new(alloc));
+    edits.append(&mut more.into_vec())?;
+    Ok(Batch {
+        edits: Items::from_vec(edits),
+    })
 }
 
 /// Keeps what a sync of all events keeps. Where memory is out, all stays.

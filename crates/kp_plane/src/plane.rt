@@ -10,7 +10,8 @@ ghost use Rattle.kp_full_table.specs.Faults.{TellsClash};
 ghost use Rattle.kp_object_defs.specs.Objects.{objects_after};
 ghost use Rattle.kp_types.specs.Setting.{has_tables_of};
 ghost use Rattle.kp_types.specs.declared.packet.Packet.{Packet};
-ghost use Rattle.kp_plane.specs.Notes.{last_note};
+ghost use Rattle.kp_plane.specs.Counts.{IsCounted};
+ghost use Rattle.kp_plane.specs.Notes.{last_note, note_of};
 ghost use Rattle.kp_plane.specs.Parts as parts;
 ghost use Rattle.kp_plane.specs.Parts.{HasExactHistory, IsNextRecord, settings_in};
 ghost use Rattle.kp_plane.specs.Parts.{decided_in, explained_in, walked_in};
@@ -26,8 +27,8 @@ use crate::note::SyncNote;
 use crate::place::ObjectsAt;
 use crate::ports_at::PortsAt;
 use crate::slices_at::SlicesAt;
-use crate::sync::{sync_copied, sync_counted};
-use kp_base::{Config, Copied, Family, Items, NoMemory, Steps};
+use crate::sync::{OfBatch, sync_as};
+use kp_base::{Config, Family, Items, NoMemory, Steps};
 use kp_decide::decide;
 use kp_draws::DrawSource;
 use kp_events::{Journal, JournalFault};
@@ -221,20 +222,10 @@ impl Plane {
         ensures unchanged { parts.uncovered_in self.old ≡ 0 → steps.new ≡ steps.old }
         ensures unasked { parts.uncovered_in self.old ≡ 0 → asked.new ≡ asked.old }
     {
-        self.records_grow();
-        let events = self.uncovered();
-        let batch = sync_copied(
-            alloc,
-            &self.config,
-            &self.journal,
-            &mut self.history,
-            &mut self.ports,
-            steps,
-            asked,
-        )?;
+        let (note, batch) = self.sync_as::<Batch, L, A>(alloc, steps, asked)?;
         Ok(SyncRecord {
-            sync: self.syncs(),
-            events,
+            sync: note.sync,
+            events: note.events,
             batch,
         })
     }
@@ -261,8 +252,41 @@ impl Plane {
         ensures unchanged { parts.uncovered_in self.old ≡ 0 → steps.new ≡ steps.old }
         ensures unasked { parts.uncovered_in self.old ≡ 0 → asked.new ≡ asked.old }
     {
+        let (note, ()) = self.sync_as::<(), L, A>(alloc, steps, asked)?;
+        Ok(note)
+    }
+
+    /// Does what `sync` does, and answers its record's note with what is made of its batch. Nothing
+    /// is kept where this can't be made for want of memory.
+    pub fn sync_as<T: OfBatch, L: Ledger, A: Ledger>(
+        &mut self,
+        alloc: Global,
+        steps: &mut Steps<L>,
+        asked: &mut Steps<A>,
+    ) -> Result<(SyncNote, T), TableFault>
+        ensures note { IfOk result (λ (note, _). note ≡ note_of (parts.next_record self.old)) }
+        ensures last { IfOk result (λ (note, _). note
+            ≡ last_note (parts.uncovered_in self.old) self.new) }
+        ensures told { IfOk result (λ (_, made). T.told (parts.next_edits self.old) made) }
+        ensures record { OnOk result (IsNextRecord self.old (parts.next_record self.old)) }
+        ensures added { OnOk result (parts.records_in self.new
+            ≡ parts.records_in self.old ++ parts.next_record self.old ∷ []) }
+        ensures ok { OnOk result (self.new ≡ parts.synced self.old) }
+        ensures clash { IfErr result (TellsClash
+            (clash_of (settings_in self.old) (objects_after self.old.events))) }
+        ensures err { OnErr result (self.new ≡ self.old) }
+
+        // It costs what `sync` does.
+        ensures steps { IsCounted (parts.uncovered_in self.old) (parts.most_steps self.old)
+            steps.old steps.new }
+        ensures asked { IsCounted (parts.uncovered_in self.old) (parts.most_asked self.old)
+            asked.old asked.new }
+        ensures made { OnOk result (
+            steps.old + own_rules_written (parts.next_edits self.old) ≤ steps.new) }
+    {
+        self.records_grow();
         let events = self.uncovered();
-        let (written, removed) = sync_counted(
+        let (written, removed, made) = sync_as::<T, L, A>(
             alloc,
             &self.config,
             &self.journal,
@@ -271,12 +295,13 @@ impl Plane {
             steps,
             asked,
         )?;
-        Ok(SyncNote {
+        let note = SyncNote {
             sync: self.syncs(),
             events,
             written,
             removed,
-        })
+        };
+        Ok((note, made))
     }
 
     /// The decision on a packet by the objects that the last sync covers, with its reason. The

@@ -1,28 +1,27 @@
 //! What is known of ports at a place of the journal.
-ghost use Rattle.std.specs.Prelude.{◌≡◌, ◌+◌, ◌*◌, ◌≤◌, ℕ, [], List, length, map, slice_get};
-ghost use Rattle.std.specs.Prelude.{IfOk, OnOk};
+ghost use Rattle.std.specs.Prelude.{◌≡◌, ◌+◌, ◌*◌, ◌≤◌, ℕ, [], List, length, IfOk, OnOk};
 ghost use Rattle.std.specs.Option.{option_copied};
-ghost use Rattle.kp_base.specs.Keys.{family_place};
 ghost use Rattle.kp_base.specs.declared.address.Family.{Family as OneFamily};
 ghost use Rattle.kp_base.specs.declared.key.PortKey.{PortKey as Port};
 ghost use Rattle.kp_types.specs.declared.event.Event.{Event as OneEvent};
-ghost use Rattle.kp_types.specs.Setting as setting;
 ghost use Rattle.kp_choice_defs.specs.Settings.{settings_of};
 ghost use Rattle.kp_object_defs.specs.Objects.{objects_after};
 ghost use Rattle.kp_plane.specs.Collected.{is_collected};
-ghost use Rattle.kp_plane.specs.Families.{AreNew, AreOfNode, HaveDirty, KnowUntouched, newest_of};
-ghost use Rattle.kp_plane.specs.Families.{rules_in, written_of};
+ghost use Rattle.kp_writer.specs.Written.{all_written, new_writer};
+ghost use Rattle.kp_plane.specs.Families.{Both, HasDirty, KnowsRest, listed, map_both, of_family};
+ghost use Rattle.kp_plane.specs.Families.{per_family, rules_in};
 ghost use Rattle.kp_plane.specs.Known.{touched_count};
 ghost use Rattle.kp_plane.specs.Invariant.{AreTouchedBetween, IsAtPlace, IsBroughtOn, IsPortsAt};
 ghost use Rattle.kp_plane.specs.Invariant.{IsSettled, IsUpToDate, touched_between};
 
 use crate::collected::Collected;
+use crate::per_family::PerFamily;
 use crate::place::ObjectsAt;
-use crate::refresh::refresh_families;
+use crate::refresh::refresh_both;
 use kp_base::{Config, Family, Items, NoMemory, Steps};
 use kp_history::Stale;
 use kp_store::Touched;
-use kp_types::{Event, table_families};
+use kp_types::Event;
 use kp_writer::{Pending, Writer};
 use std::alloc::Global;
 use std::mem::{replace, swap};
@@ -38,12 +37,12 @@ pub(crate) struct PortsAt {
     pub(crate) since: Touched,
     /// Those that events touched between this sync and the one before it.
     pub(crate) last: Touched,
-    /// What was written of each port at the last sync, and what is known of it now: by one writer
-    /// of each family that the node has tables of, in their order.
-    pub(crate) writers: Vec<Writer>,
+    /// What was written of each port at the last sync, and what is known of it now: by the writer
+    /// of each family that the node has tables of.
+    pub(crate) writers: PerFamily<Writer>,
     /// The ports of which each of these families knows something else after the last sync than
     /// before it.
-    pub(crate) dirty: Vec<Items<Pending>>,
+    pub(crate) dirty: PerFamily<Items<Pending>>,
     /// Such ports of the syncs before it.
     pub(crate) stale: Stale<Pending>,
 }
@@ -74,7 +73,7 @@ impl PortsAt {
         let since = Touched::new(alloc);
         let last = Touched::new(alloc);
         let writers = new_writers(alloc, config)?;
-        let dirty = none_dirty(alloc, config)?;
+        let dirty = none_dirty(alloc, config);
         let stale = Stale::new(alloc);
         Ok(PortsAt {
             latest,
@@ -101,20 +100,20 @@ impl PortsAt {
         steps: &mut Steps<L>,
         asked: &mut Steps<A>,
     ) -> Result<(), NoMemory>
-        requires node { AreOfNode config.now (map written_of self.old.writers.items) }
+        requires config { Both (λ family w. w.config ≡ config.now) self.old.writers }
         requires place { IsAtPlace events.now self.old.latest }
-        requires untouched { KnowUntouched config.now self.old.latest.objects
-            (is_collected self.old.touched) (map newest_of self.old.writers.items) }
+        requires untouched { Both (KnowsRest self.old.latest.objects
+            (is_collected self.old.touched)) self.old.writers }
         ensures goes_on { IsBroughtOn config.now events.now self.old self.new }
-        ensures ok { OnOk result (IsUpToDate config.now events.now self.new) }
+        ensures ok { OnOk result (IsUpToDate events.now self.new) }
         ensures more { steps.old ≤ steps.new }
-        ensures steps { (dirty : OneFamily → List Port) → HaveDirty config.now
-            (map written_of self.old.writers.items) (objects_after events.now) dirty
-            → steps.new ≤ steps.old + rules_in config.now (objects_after events.now) dirty
-            (setting.table_families config.now) }
+        ensures steps { (dirty : OneFamily → List Port)
+            → Both (HasDirty (objects_after events.now) dirty) self.old.writers
+            → steps.new ≤ steps.old
+            + rules_in (objects_after events.now) dirty self.old.writers }
         ensures asked { (from : ℕ) → AreTouchedBetween (settings_of config.now) events.now from
             self.old.latest.at self.old.touched
-            → asked.new ≤ asked.old + length (setting.table_families config.now)
+            → asked.new ≤ asked.old + length (listed self.old.writers)
             * touched_count (objects_after events.now)
             (touched_between (settings_of config.now) events.now from (length events.now)) }
     {
@@ -122,9 +121,8 @@ impl PortsAt {
         self.latest
             .advance_touching(alloc, config, events, &mut self.touched)?;
         self.since.join(alloc, &self.touched.joined)?;
-        refresh_families(
+        refresh_both(
             alloc,
-            config,
             &self.latest.objects,
             &self.touched.joined,
             &mut self.writers,
@@ -138,89 +136,89 @@ impl PortsAt {
     /// The ports of which a family knows something else after the last sync than before it, where
     /// the node has tables of the family.
     pub(crate) fn dirty_of(&self, family: Family) -> Option<&Items<Pending>>
-        ensures { option_copied result ≡ slice_get self.now.dirty.items (family_place family) }
+        ensures { option_copied result ≡ of_family family self.now.dirty }
     {
-        self.dirty.get(place_of(family))
+        self.dirty.get(family)
     }
 
     /// Takes over which ports were dirty at a sync, which Services were touched before it and,
     /// where it covers new events, that what is known now is written. It is never refused.
-    pub(crate) fn settle(&mut self, alloc: Global, is_new: bool, dirty: Vec<Items<Pending>>)
-        ensures { IsSettled is_new dirty.items self.old self.new }
+    pub(crate) fn settle(&mut self, alloc: Global, is_new: bool, dirty: PerFamily<Items<Pending>>)
+        ensures { IsSettled is_new dirty self.old self.new }
     {
         swap(&mut self.last, &mut self.since);
         self.since = Touched::new(alloc);
         take_over(&mut self.dirty, &mut self.stale, dirty);
         if is_new {
-            keep_all(alloc, &mut self.writers);
+            keep_both(alloc, &mut self.writers);
         }
     }
 }
 
 /// A writer of each family that the node has tables of, which has written nothing and knows of no
 /// port.
-fn new_writers(alloc: Global, config: &Config) -> Result<Vec<Writer>, NoMemory>
-    ensures { IfOk result (λ writers. AreNew config.now writers.items) }
+fn new_writers(alloc: Global, config: &Config) -> Result<PerFamily<Writer>, NoMemory>
+    ensures { IfOk result (λ writers. writers
+        ≡ per_family config.now (λ family. new_writer family config.now)) }
 {
-    let families = table_families(config);
-    let mut writers = Vec::new(alloc);
-    for family in families {
-        writers.push(Writer::new(alloc, *family, config)?)?;
+    let four = Writer::new(alloc, Family::V4, config)?;
+    if config.dual {
+        let six = Writer::new(alloc, Family::V6, config)?;
+        Ok(PerFamily {
+            four,
+            six: Some(six),
+        })
+    } else {
+        Ok(PerFamily { four, six: None })
     }
-    Ok(writers)
 }
 
 /// No dirty port in any family that the node has tables of.
-pub(crate) fn none_dirty(alloc: Global, config: &Config) -> Result<Vec<Items<Pending>>, NoMemory>
-    ensures { IfOk result (λ dirty. dirty.items
-        ≡ map (λ family. []) (setting.table_families config.now)) }
+pub(crate) fn none_dirty(alloc: Global, config: &Config) -> PerFamily<Items<Pending>>
+    ensures { result ≡ per_family config.now (λ family. []) }
 {
-    let families = table_families(config);
-    Ok(families.iter().map(|_| Items::new(alloc)).collect(alloc)?)
-}
-
-/// The place of a family among those that a node has tables of.
-fn place_of(family: Family) -> usize
-    ensures { result ≡ family_place family }
-{
-    match family {
-        Family::V4 => 0,
-        Family::V6 => 1,
+    PerFamily {
+        four: Items::new(alloc),
+        six: if config.dual {
+            Some(Items::new(alloc))
+        } else {
+            None
+        },
     }
 }
 
 /// Takes over that what writers know now is written.
-fn keep_all(alloc: Global, writers: &mut [Writer])
-    ensures written { map written_of writers.new ≡ map newest_of writers.old }
-    ensures newest { map newest_of writers.new ≡ map newest_of writers.old }
+fn keep_both(alloc: Global, writers: &mut PerFamily<Writer>)
+    ensures { writers.new ≡ map_both all_written writers.old }
 {
-    for writer in writers.iter_mut() {
-        writer.keep(alloc);
+    writers.four.keep(alloc);
+    if let Some(six) = &mut writers.six {
+        six.keep(alloc);
     }
 }
 
-/// Takes over which ports were dirty at a sync. Those of the one before are let go little by little.
-fn take_over(dirty: &mut Vec<Items<Pending>>, stale: &mut Stale<Pending>, next: Vec<Items<Pending>>)
+/// Takes over which ports were dirty at a sync. Those of the one before are let go little by little;
+/// where memory is out, they go at once.
+fn take_over(
+    dirty: &mut PerFamily<Items<Pending>>,
+    stale: &mut Stale<Pending>,
+    next: PerFamily<Items<Pending>>,
+)
     ensures { dirty.new ≡ next }
 {
     let made = count(&next);
-    let before = replace(dirty, next);
-    take_in_all(stale, made, before);
-}
-
-/// How many ports stand in lists.
-fn count(lists: &[Items<Pending>]) -> usize {
-    let mut count: usize = 0;
-    for list in lists {
-        count = count.saturating_add(list.as_slice().len());
+    let PerFamily { four, six } = replace(dirty, next);
+    let _ = stale.take_in(made, four);
+    if let Some(six) = six {
+        let _ = stale.take_in(made, six);
     }
-    count
 }
 
-/// Takes in the dirty ports of the sync before, where those of the last one are so many. Where
-/// memory is out, they go at once.
-fn take_in_all(stale: &mut Stale<Pending>, made: usize, before: Vec<Items<Pending>>) {
-    for list in before {
-        let _ = stale.take_in(made, list);
+/// How many ports both families have.
+fn count(dirty: &PerFamily<Items<Pending>>) -> usize {
+    let four = dirty.four.as_slice().len();
+    match &dirty.six {
+        None => four,
+        Some(six) => four.saturating_add(six.as_slice().len()),
     }
 }

@@ -1,11 +1,13 @@
 -- The block of a port that is kept has its rules in each shared chain.
-use Rattle.std.proofs.Common.{◌≡◌, Bool, true, false, cond, List, [], ◌∷◌, filter, Option, Some}
-use Rattle.std.proofs.Common.{None, option_map, refl, ap, ◌∙◌}
-use Rattle.std.specs.List.{find}
+use Rattle.std.proofs.Common.{◌≡◌, Bool, true, false, not, cond, List, [], ◌∷◌, filter, Option, Some}
+use Rattle.std.proofs.Common.{None, option_map, refl, sym, ap, ◌∙◌}
+use Rattle.std.proofs.Math.Bool.{not-not}
+use Rattle.std.proofs.lemmas.Bool.{or_parts}
+use Rattle.std.specs.List.{find, list_any}
+use Rattle.kp_lemmas.specs.Lists.{is_empty}
 use Rattle.kp_base.specs.declared.address.Family.{Family}
 use Rattle.kp_base.specs.declared.address.Family.TheVariants.{V4, V6}
 use Rattle.kp_types.specs.Setting.{Setting}
-use Rattle.kp_types.specs.contracts.chain.ChainAtPartialEq.TheImpl as same
 use Rattle.kp_types.specs.declared.chain.ChainAt.{ChainAt}
 use Rattle.kp_types.specs.declared.rule.ChainText.{ChainText}
 use Rattle.kp_types.specs.declared.rule.Rule.{Rule}
@@ -14,94 +16,83 @@ use Rattle.kp_table_defs.specs.Layout as layout
 use Rattle.kp_blocks.specs.Joined.{has_rules, port_block, text_of}
 use Rattle.kp_writer.specs.Shared.{block_found, blocks_if, blocks_in, chain_rules, rules_found}
 use Rattle.kp_writer.specs.Shared.{external, firewall, node_ports, refusals, services, stands_at}
-use Rattle.kp_writer.proofs.Families.{in_each}
 
 -- ---- Chains without rules are left out
 
 module _ (at : ChainAt) where
-  -- a chain at the place has its rules, where no later one stands there
-  here : (a : ChainAt) (rules : List Rule) (cs : List ChainText)
-      → stands_at at (text_of (a, rules)) ≡ true → chain_rules at cs ≡ []
-      → chain_rules at (cond (has_rules (text_of (a, rules))) (text_of (a, rules) ∷ cs) cs) ≡ rules
-  here a [] cs is none = none
-  here a (r ∷ rs) cs is none =
-      ap (λ b. rules_found (cond b (Some (text_of (a, r ∷ rs))) (find (stands_at at) cs))) is
+  -- whether at most one chain stands at the place
+  abbrev once : List ChainText → Bool
+  once [] = true
+  once (c ∷ cs) = cond (stands_at at c) (not (list_any (stands_at at) cs)) (once cs)
 
-  -- a chain elsewhere has none
-  elsewhere : (a : ChainAt) (rules : List Rule) (cs : List ChainText)
-      → stands_at at (text_of (a, rules)) ≡ false
-      → chain_rules at (cond (has_rules (text_of (a, rules))) (text_of (a, rules) ∷ cs) cs)
-      ≡ chain_rules at cs
-  elsewhere a [] cs is = refl
-  elsewhere a (r ∷ rs) cs is =
-      ap (λ b. rules_found (cond b (Some (text_of (a, r ∷ rs))) (find (stands_at at) cs))) is
+  -- a chain elsewhere tells nothing
+  passed : (c : ChainText) (cs : List ChainText) → stands_at at c ≡ false → (b : Bool)
+      → chain_rules at (cond b (c ∷ cs) cs) ≡ chain_rules at cs
+  passed c cs other true = ap (λ b. rules_found (cond b (Some c) (find (stands_at at) cs))) other
+  passed c cs other false = refl
+
+  nothing : (cs : List ChainText) → list_any (stands_at at) cs ≡ false
+      → chain_rules at (filter has_rules cs) ≡ []
+  nothing [] none = refl
+  nothing (c ∷ cs) none =
+      let parts = or_parts (stands_at at c) (list_any (stands_at at) cs) none in
+      passed c (filter has_rules cs) parts.0 (has_rules c) ∙ nothing cs parts.1
+
+  here : (c : ChainText) (cs : List ChainText) → stands_at at c ≡ true
+      → list_any (stands_at at) cs ≡ false → (rules : List Rule) → c.rules ≡ rules
+      → chain_rules at (cond (not (is_empty rules)) (c ∷ filter has_rules cs) (filter has_rules cs))
+      ≡ rules
+  here c cs is none [] rules = nothing cs none
+  here c cs is none (r ∷ rs) rules =
+      ap (λ b. rules_found (cond b (Some c) (find (stands_at at) (filter has_rules cs)))) is ∙ rules
+
+  -- where it is one, it is found among those with rules
+  kept : (cs : List ChainText) → once cs ≡ true
+      → chain_rules at (filter has_rules cs) ≡ chain_rules at cs
+  kept [] one = refl
+  kept (c ∷ cs) one = by (kept cs) (stands_at at c) refl one
+    where
+      by : (once cs ≡ true → chain_rules at (filter has_rules cs) ≡ chain_rules at cs)
+          → (b : Bool) → stands_at at c ≡ b
+          → cond b (not (list_any (stands_at at) cs)) (once cs) ≡ true
+          → chain_rules at (filter has_rules (c ∷ cs))
+          ≡ rules_found (cond (stands_at at c) (Some c) (find (stands_at at) cs))
+      by rest true is one =
+          here c cs is (sym (not-not _) ∙ ap not one) c.rules refl
+          ∙ sym (ap (λ b. rules_found (cond b (Some c) (find (stands_at at) cs))) is)
+      by rest false is one =
+          passed c (filter has_rules cs) is (has_rules c) ∙ rest one
+          ∙ sym (ap (λ b. rules_found (cond b (Some c) (find (stands_at at) cs))) is)
 
 -- ---- The shared chains
 
-module _ (family : Family) where
-  -- whether two chains stand at one place, where both families tell the same
-  told : (p q : Family → ChainAt) (b : Bool) → same.ghosts.eq (p V4) (q V4) ≡ b
-      → same.ghosts.eq (p V6) (q V6) ≡ b → same.ghosts.eq (p family) (q family) ≡ b
-  told p q b four six = in_each (λ f. same.ghosts.eq (p f) (q f) ≡ b) four six family
+module _ (a b c d e : List Rule) where
+  abbrev texts : Family → List ChainText
+  texts f =
+      text_of (services f, a) ∷ text_of (node_ports f, b) ∷ text_of (firewall f, c)
+      ∷ text_of (external f, d) ∷ text_of (refusals f, e) ∷ []
 
-  own : (p : Family → ChainAt) (rules : List Rule) (cs : List ChainText)
-      → same.ghosts.eq (p V4) (p V4) ≡ true → same.ghosts.eq (p V6) (p V6) ≡ true
-      → chain_rules (p family) cs ≡ []
-      → chain_rules (p family)
-      (cond (has_rules (text_of (p family, rules))) (text_of (p family, rules) ∷ cs) cs)
-      ≡ rules
-  own p rules cs four six none =
-      here (p family) (p family) rules cs (told p p true four six) none
+  one : (p : Family → ChainAt) (rules : List Rule)
+      → once (p V4) (texts V4) ≡ true → chain_rules (p V4) (texts V4) ≡ rules
+      → once (p V6) (texts V6) ≡ true → chain_rules (p V6) (texts V6) ≡ rules
+      → (f : Family) → chain_rules (p f) (filter has_rules (texts f)) ≡ rules
+  one p rules four is six has V4 = kept (p V4) (texts V4) four ∙ is
+  one p rules four is six has V6 = kept (p V6) (texts V6) six ∙ has
 
-  away : (p q : Family → ChainAt) (rules : List Rule) (cs : List ChainText)
-      → same.ghosts.eq (q V4) (p V4) ≡ false → same.ghosts.eq (q V6) (p V6) ≡ false
-      → chain_rules (p family)
-      (cond (has_rules (text_of (q family, rules))) (text_of (q family, rules) ∷ cs) cs)
-      ≡ chain_rules (p family) cs
-  away p q rules cs four six =
-      elsewhere (p family) (q family) rules cs (told q p false four six)
-
-  five : (a b c d e : List Rule)
-      → blocks_in family (filter has_rules (text_of (services family, a)
-      ∷ text_of (node_ports family, b) ∷ text_of (firewall family, c)
-      ∷ text_of (external family, d) ∷ text_of (refusals family, e) ∷ []))
+  five : (f : Family) → blocks_in f (filter has_rules (texts f))
       ≡ record { services = a; node_ports = b; firewall = c; external = d; refusals = e }
-  five a b c d e =
-      let es = filter has_rules (text_of (refusals family, e) ∷ []) in
-      let ds = filter has_rules (text_of (external family, d) ∷ text_of (refusals family, e)
-      ∷ []) in
-      let cs = filter has_rules (text_of (firewall family, c) ∷ text_of (external family, d)
-      ∷ text_of (refusals family, e) ∷ []) in
-      let bs = filter has_rules (text_of (node_ports family, b) ∷ text_of (firewall family, c)
-      ∷ text_of (external family, d) ∷ text_of (refusals family, e) ∷ []) in
-      λ i. record {
-        services =
-            own services a bs refl refl (
-            away services node_ports b cs refl refl ∙ away services firewall c ds refl refl
-            ∙ away services external d es refl refl ∙ away services refusals e [] refl refl) i;
-        node_ports =
-            (away node_ports services a bs refl refl
-            ∙ own node_ports b cs refl refl (
-            away node_ports firewall c ds refl refl ∙ away node_ports external d es refl refl
-            ∙ away node_ports refusals e [] refl refl)) i;
-        firewall =
-            (away firewall services a bs refl refl ∙ away firewall node_ports b cs refl refl
-            ∙ own firewall c ds refl refl (
-            away firewall external d es refl refl ∙ away firewall refusals e [] refl refl)) i;
-        external =
-            (away external services a bs refl refl ∙ away external node_ports b cs refl refl
-            ∙ away external firewall c ds refl refl
-            ∙ own external d es refl refl (away external refusals e [] refl refl)) i;
-        refusals =
-            (away refusals services a bs refl refl ∙ away refusals node_ports b cs refl refl
-            ∙ away refusals firewall c ds refl refl ∙ away refusals external d es refl refl
-            ∙ own refusals e [] refl refl refl) i;
-      }
+  five f = λ i. record {
+    services = one services a refl refl refl refl f i;
+    node_ports = one node_ports b refl refl refl refl f i;
+    firewall = one firewall c refl refl refl refl f i;
+    external = one external d refl refl refl refl f i;
+    refusals = one refusals e refl refl refl refl f i;
+  }
 
 -- so a port's block has the rules of each
 pub kept_blocks : (s : Setting) (o : Option PortInfo)
     → blocks_in s.family (block_found (option_map (port_block s) o)) ≡ blocks_if s o
 kept_blocks s None = refl
 kept_blocks s (Some i) =
-    five s.family (layout.service_block s i) (layout.node_port_block s i)
-    (layout.firewall_block i) (layout.external_block s.family i) (layout.refusal_block i)
+    five (layout.service_block s i) (layout.node_port_block s i)
+    (layout.firewall_block i) (layout.external_block s.family i) (layout.refusal_block i) s.family

@@ -26,12 +26,10 @@ use Rattle.kp_history_defs.specs.DirtyPorts.{dirty_keys, keeps_info, same_info}
 use Rattle.kp_history_defs.specs.Inputs.{ports_of_either}
 use Rattle.kp_history_laws.specs.DirtyLaws.{CleanInfos, DirtyInfos, InfosByName}
 use Rattle.kp_history_laws.proofs.DirtyPorts.{info_itself, infos_exact}
-use Rattle.kp_tracker.specs.Tracked.{is_changed}
 use Rattle.kp_writer_laws.specs.LocalLaws.{is_one_of}
 use Rattle.kp_writer.specs.Known.{ArePortsOf, DirtyNewest, DirtyWritten, IsBetween, KnownDirtyPorts}
 use Rattle.kp_writer.specs.Known.{KnownPorts, pending_keys, with_written}
-use Rattle.kp_writer.specs.Written.{AreUnderOwnKeys, Ports, WriterParts, newest_ports}
-use Rattle.kp_writer.specs.Written.{written_ports}
+use Rattle.kp_writer.specs.Written.{AreUnderOwnKeys, Ports, WriterParts, is_pending}
 use Rattle.kp_writer.proofs.DirtyLists.{of_keys}
 use Rattle.kp_writer.proofs.OneList.{distinct_rise, one_list}
 use Rattle.kp_writer.proofs.PendingPorts.{pending_has, pending_rise}
@@ -59,7 +57,7 @@ module _ (setting : Setting) (before after : Objects) (w : WriterParts)
     (between : IsBetween setting before after w) where
   -- whether a port differs
   abbrev changed : PortKey → Bool
-  changed = is_changed port_key_cmp same_info w.ports
+  changed = is_pending w.written w.newest
 
   abbrev dirty : List PortKey
   dirty = dirty_keys setting before after
@@ -76,8 +74,8 @@ module _ (setting : Setting) (before after : Objects) (w : WriterParts)
       ≡ info_at setting.family setting.config before key
   alike key h =
       sym (between.newest key)
-      ∙ sym (options_exact same_info infos_exact (get (written_ports w) key)
-      (get (newest_ports w) key) (sym (not-not _) ∙ ap not h))
+      ∙ sym (options_exact same_info infos_exact (get w.written key)
+      (get w.newest key) (sym (not-not _) ∙ ap not h))
       ∙ between.written key
 
   -- and the other way round
@@ -86,9 +84,9 @@ module _ (setting : Setting) (before after : Objects) (w : WriterParts)
       ≡ info_at setting.family setting.config before key
       → changed key ≡ false
   unchanged key same =
-      ap (λ o. not (option_eq same_info (get (written_ports w) key) o))
+      ap (λ o. not (option_eq same_info (get w.written key) o))
       (between.newest key ∙ same ∙ sym (between.written key))
-      ∙ ap not (itself (get (written_ports w) key))
+      ∙ ap not (itself (get w.written key))
 
   module _ (differ : DirtyInfos) (clean : CleanInfos) where
     changed_by : (key : PortKey) → is_one_of dirty key ≡ true → (b : Bool) → changed key ≡ b
@@ -129,12 +127,12 @@ own_ports has_key setting o ports its are key i is =
 
 pub dirty_written : DirtyInfos → CleanInfos → InfoHasKey → DirtyWritten
 dirty_written differ clean has_key setting before after w between =
-    of_dirty setting before after w between differ clean (written_ports w)
-    (own_ports has_key setting before (written_ports w) between.own_before between.written)
+    of_dirty setting before after w between differ clean w.written
+    (own_ports has_key setting before w.written between.own_before between.written)
     ∙ ap (λ f. filter_map f (dirty_keys setting before after)) (λ i key. between.written key i)
 
 pub dirty_newest : DirtyInfos → CleanInfos → InfoHasKey → DirtyNewest
 dirty_newest differ clean has_key setting before after w between =
-    of_dirty setting before after w between differ clean (newest_ports w)
-    (own_ports has_key setting after (newest_ports w) between.own_after between.newest)
+    of_dirty setting before after w between differ clean w.newest
+    (own_ports has_key setting after w.newest between.own_after between.newest)
     ∙ ap (λ f. filter_map f (dirty_keys setting before after)) (λ i key. between.newest key i)

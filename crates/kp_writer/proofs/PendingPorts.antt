@@ -12,30 +12,33 @@ use Rattle.std.proofs.lemmas.List.Folds.{list_any-append}
 use Rattle.std.proofs.lemmas.List.Kept.{IsStrictlySortedBy-filter}
 use Rattle.std.proofs.lemmas.Simd.{map-map}
 use Rattle.kp_base.specs.Keys.{port_key_cmp}
+use Rattle.kp_base.specs.declared.address.Family.{Family}
+use Rattle.kp_base.specs.declared.config.Config.{Config}
 use Rattle.kp_base.specs.declared.key.PortKey.{PortKey}
 use Rattle.kp_base.proofs.KeyOrder.{port_key_total, port_key_exact}
+use Rattle.kp_object_defs.specs.PortInfo.{PortInfo}
 use Rattle.kp_history_defs.specs.DirtyPorts.{same_info}
 use Rattle.kp_history_defs.specs.declared.dirty.DirtyPort.{DirtyPort}
-use Rattle.kp_tracker.specs.Tracked.{IsPending, is_changed}
+use Rattle.kp_tracker.specs.Tracked.{IsPending, Tracked}
 use Rattle.kp_writer_laws.specs.LocalLaws.{is_one_of}
 use Rattle.kp_writer.specs.Known.{either_keys, pending_keys, pending_ports, with_written}
-use Rattle.kp_writer.specs.Written.{WriterParts, newest_ports, written_ports}
+use Rattle.kp_writer.specs.Written.{WriterParts, is_pending, parts}
 use Rattle.kp_writer.proofs.DirtyLists.{not_found}
 use Rattle.kp_writer.proofs.OneList.{distinct_has, distinct_rise, filter_has, one_list}
 
 module _ (w : WriterParts) where
   -- whether a port differs
   abbrev changed : PortKey → Bool
-  changed = is_changed port_key_cmp same_info w.ports
+  changed = is_pending w.written w.newest
 
   -- a port that neither was written nor is known doesn't
   out : (key : PortKey) → is_one_of (either_keys w) key ≡ false → changed key ≡ false
   out key h =
       let parts = or_parts _ _ (sym (list_any-append (eq_by_cmp port_key_cmp key) (keys
-      (written_ports w)) (keys (newest_ports w))) ∙ sym (distinct_has port_key_cmp port_key_total
-      (keys (written_ports w) ++ keys (newest_ports w)) key) ∙ h) in
-      λ i. not (option_eq same_info (not_found port_key_cmp (written_ports w) key parts.0 i)
-      (not_found port_key_cmp (newest_ports w) key parts.1 i))
+      w.written) (keys w.newest)) ∙ sym (distinct_has port_key_cmp port_key_total
+      (keys w.written ++ keys w.newest) key) ∙ h) in
+      λ i. not (option_eq same_info (not_found port_key_cmp w.written key parts.0 i)
+      (not_found port_key_cmp w.newest key parts.1 i))
 
   each_by : (key : PortKey) (b : Bool) → is_one_of (either_keys w) key ≡ b
       → (changed key && b) ≡ changed key
@@ -51,22 +54,19 @@ module _ (w : WriterParts) where
   pub pending_rise : IsStrictlySortedBy port_key_cmp (pending_keys w)
   pending_rise =
       IsStrictlySortedBy-filter port_key_cmp changed (either_keys w) (distinct_rise port_key_cmp
-      port_key_total (keys (written_ports w) ++ keys (newest_ports w)))
-
-  -- so are those that a tracker tells
-  pub pending_found : (ks : List PortKey) → IsPending port_key_cmp same_info w.ports ks
-      → ks ≡ pending_keys w
-  pending_found ks found =
-      one_list port_key_cmp port_key_total port_key_exact ks (pending_keys w) found.in_order
-      pending_rise (λ key. found.each key ∙ sym (pending_has key))
+      port_key_total (keys w.written ++ keys w.newest))
 
 -- the dirty ports by references to the keys that a tracker tells
-pub dirty_are : (v w : WriterParts) → v ≡ w → (refs items : List (Bor PortKey)) → refs ≡ items
-    → IsPending port_key_cmp same_info v.ports (map (λ k. k.now) items) → (dirty : List DirtyPort)
-    → dirty ≡ map (λ k. with_written v k.now) refs → dirty ≡ pending_ports w
-dirty_are v w is refs items same found dirty are =
+pub dirty_are : (family : Family) (config : Config) (t : Tracked PortKey PortInfo) (w : WriterParts)
+    → parts family config t ≡ w → (refs items : List (Bor PortKey)) → refs ≡ items
+    → IsPending port_key_cmp same_info t (map (λ k. k.now) items) → (dirty : List DirtyPort)
+    → dirty ≡ map (λ k. with_written (parts family config t) k.now) refs → dirty ≡ pending_ports w
+dirty_are family config t w is refs items same found dirty are =
+    let v = parts family config t in
     are
     ∙ ap (map (λ (k : Bor PortKey). with_written v k.now)) same
     ∙ sym (map-map (with_written v) (λ (k : Bor PortKey). k.now) items)
-    ∙ ap (map (with_written v)) (pending_found v (map (λ k. k.now) items) found)
+    ∙ ap (map (with_written v)) (one_list port_key_cmp port_key_total port_key_exact
+    (map (λ k. k.now) items) (pending_keys v) found.in_order (pending_rise v)
+    (λ key. found.each key ∙ sym (pending_has v key)))
     ∙ ap pending_ports is

@@ -1,6 +1,7 @@
 -- Ports where those of one Service are made anew.
 use Rattle.std.proofs.Common.{◌≡◌, ℕ, ◌||◌, ◌&&◌, Bool, true, false, cond, List, [], ◌∷◌, drop, length}
-use Rattle.std.proofs.Common.{Option, Some, None, filter, zero, suc, ◌⊎◌, inl, inr, refl, sym, ap, ◌∙◌}
+use Rattle.std.specs.Result.{OnOk}
+use Rattle.std.proofs.Common.{Result, Ok, Err, Option, Some, None, filter, zero, suc, ◌⊎◌, inl, inr, refl, sym, ap, ◌∙◌}
 use Rattle.std.specs.FinMap.{get, get-insert, get-remove, insert, keys}
 use Rattle.std.specs.Ordering.{eq_by_cmp}
 use Rattle.std.proofs.Math.Seq.{drop-length}
@@ -14,7 +15,7 @@ use Rattle.kp_object_defs.specs.PortInfo.{PortInfo}
 use Rattle.kp_object_defs.proofs.InOrder.{first_some}
 use Rattle.kp_writer_laws.specs.LocalLaws.{info_of, is_one_of}
 use Rattle.kp_blocks.specs.Joined.{is_port_of}
-use Rattle.kp_writer.specs.Refresh.{IsPartlyRefreshed, IsRefreshed, OnlyGo, OthersStay, with_infos, without}
+use Rattle.kp_writer.specs.Refresh.{IsPartlyRefreshed, IsRefreshed, OthersStay, Refreshes, with_infos, without}
 use Rattle.kp_writer.specs.Written.{Ports}
 use Rattle.kp_writer.proofs.DirtyLists.{not_found}
 use Rattle.kp_writer.proofs.OneList.{filter_has}
@@ -39,24 +40,6 @@ none_dropped : (n : ℕ) (ks : List PortKey) (key : PortKey) → is_one_of ks ke
 none_dropped zero ks key h = h
 none_dropped (suc n) [] key h = refl
 none_dropped (suc n) (k ∷ ks) key h = none_dropped n ks key (or_parts _ _ h).1
-
--- of other ports the same is known while some are let go
-pub others_known : (m now : Ports) (n : ℕ) (ks : List PortKey) → now ≡ without m (drop n ks)
-    → (key : PortKey) → is_one_of ks key ≡ false → get now key ≡ get m key
-others_known m now n ks is key h =
-    ap (λ p. get p key) is ∙ got_without m (drop n ks) key
-    ∙ ap (λ b. cond b None (get m key)) (none_dropped n ks key h)
-
-either_way : (b : Bool) (now told before : Option PortInfo) → now ≡ cond b told before
-    → (now ≡ before) ⊎ (now ≡ told)
-either_way true now told before h = inr h
-either_way false now told before h = inl h
-
--- none is known otherwise
-pub only_go : (m now : Ports) (ks : List PortKey) → now ≡ without m ks → OnlyGo m now
-only_go m now ks is key =
-    either_way (is_one_of ks key) (get now key) None (get m key)
-    (ap (λ p. get p key) is ∙ got_without m ks key)
 
 -- ---- Ports that are put
 
@@ -103,15 +86,14 @@ module _ (service : ObjectKey) (m : Ports) (key : PortKey) where
       put_by i is (got_infos is) (is_port_of service i.key) refl
       (eq_by_cmp port_key_cmp key i.key) refl
 
--- ports of other Services stay while some are put
-pub others_stay : (service : ObjectKey) (m now : Ports) (is : List PortInfo)
-    → now ≡ with_infos service m is → OthersStay service m now
-others_stay service m now infos is key h =
-    ap (λ p. get p key) is ∙ got_infos service m key infos ∙ ap (known service m key infos) h
-
 -- ---- Both
 
-module _ (service : ObjectKey) (infos : List PortInfo) (old mid new : Ports) where
+either_way : (b : Bool) (now told before : Option PortInfo) → now ≡ cond b told before
+    → (now ≡ before) ⊎ (now ≡ told)
+either_way true now told before h = inr h
+either_way false now told before h = inl h
+
+module _ (service : ObjectKey) (old : Ports) where
   -- the names of its ports
   abbrev gone : List PortKey
   gone = filter (is_port_of service) (keys old)
@@ -131,47 +113,59 @@ module _ (service : ObjectKey) (infos : List PortInfo) (old mid new : Ports) whe
   only_first None = refl
   only_first (Some i) = refl
 
-  -- once its ports are gone the others are there
-  pub others_left : ((key : PortKey) → is_one_of gone key ≡ false → get mid key ≡ get old key)
-      → OthersStay service old mid
-  others_left stay key h = stay key (gone_has key false h)
+  by_key : (infos : List PortInfo) (key : PortKey) (b : Bool) → is_port_of service key ≡ b
+      → known service (without old gone) key infos b ≡ cond b (info_of infos key) (get old key)
+  by_key infos key true is =
+      ap (first_some (info_of infos key)) (got_without old gone key
+      ∙ ap (λ c. cond c None (get old key)) (gone_has key true is)
+      ∙ without_its key (is_one_of (keys old) key) refl)
+      ∙ only_first (info_of infos key)
+  by_key infos key false is =
+      got_without old gone key ∙ ap (λ c. cond c None (get old key)) (gone_has key false is)
 
-  module _ (left : mid ≡ without old gone) (put : new ≡ with_infos service mid infos) where
-    got_mid : (key : PortKey) → get mid key ≡ cond (is_one_of gone key) None (get old key)
-    got_mid key = ap (λ p. get p key) left ∙ got_without old gone key
+  -- all are gone, and those that are given are put
+  refreshed : (infos : List PortInfo)
+      → IsRefreshed service infos old (with_infos service (without old gone) infos)
+  refreshed infos key =
+      got_infos service (without old gone) key infos
+      ∙ by_key infos key (is_port_of service key) refl
 
-    by_key : (key : PortKey) (b : Bool) → is_port_of service key ≡ b
-        → known service mid key infos b ≡ cond b (info_of infos key) (get old key)
-    by_key key true is =
-        ap (first_some (info_of infos key)) (got_mid key
-        ∙ ap (λ c. cond c None (get old key)) (gone_has key true is)
-        ∙ without_its key (is_one_of (keys old) key) refl)
-        ∙ only_first (info_of infos key)
-    by_key key false is =
-        got_mid key ∙ ap (λ c. cond c None (get old key)) (gone_has key false is)
+  -- some are gone, and none is put
+  pub some_gone : (infos : List PortInfo) (n : ℕ) (new : Ports) → new ≡ without old (drop n gone)
+      → IsPartlyRefreshed infos old new × OthersStay service old new
+  some_gone infos n new is = (
+    (
+      length infos,
+      λ key. told key (either_way (is_one_of (drop n gone) key) (get new key) None
+          (get old key) (got key)),
+    ),
+    λ key h. got key ∙ ap (λ b. cond b None (get old key))
+        (none_dropped n gone key (gone_has key false h)),
+  )
+    where
+      got : (key : PortKey) → get new key ≡ cond (is_one_of (drop n gone) key) None (get old key)
+      got key = ap (λ m. get m key) is ∙ got_without old (drop n gone) key
 
-    pub refreshed : IsRefreshed service infos old new
-    refreshed key =
-        ap (λ p. get p key) put ∙ got_infos service mid key infos
-        ∙ by_key key (is_port_of service key) refl
+      told : (key : PortKey) → (get new key ≡ get old key) ⊎ (get new key ≡ None)
+          → (get new key ≡ get old key) ⊎ (get new key ≡ info_of (drop (length infos) infos) key)
+      told key (inl same) = inl same
+      told key (inr none) = inr (none ∙ ap (λ is. info_of is key) (sym (drop-length infos)))
 
--- ---- Some of it
-
--- some ports are gone, and none is put
-pub none_put : (infos : List PortInfo) (old mid : Ports) → OnlyGo old mid
-    → IsPartlyRefreshed infos old mid
-none_put infos old mid only = (length infos, λ key. told key (only key))
-  where
-    told : (key : PortKey) → (get mid key ≡ get old key) ⊎ (get mid key ≡ None)
-        → (get mid key ≡ get old key) ⊎ (get mid key ≡ info_of (drop (length infos) infos) key)
-    told key (inl same) = inl same
-    told key (inr gone) = inr (gone ∙ ap (λ is. info_of is key) (sym (drop-length infos)))
-
--- all are gone, and some are put
-pub some_put : (service : ObjectKey) (infos : List PortInfo) (old new : Ports) (left : ℕ)
-    → IsRefreshed service (drop left infos) old new → IsPartlyRefreshed infos old new
-some_put service infos old new left is = (
-  left,
-  λ key. either_way (is_port_of service key) (get new key) (info_of (drop left infos) key)
-      (get old key) (is key),
-)
+  -- all are gone, and all or some are put
+  pub refreshes : {X E : Type 0} (r : Result X E) (infos : List PortInfo) (new : Ports)
+      → OnOk r (new ≡ with_infos service (without old gone) infos)
+      → (n : ℕ) × (new ≡ with_infos service (without old gone) (drop n infos))
+      → Refreshes r service infos old new
+  refreshes (Ok done) infos new is part =
+      λ key. ap (λ m. get m key) is ∙ refreshed infos key
+  refreshes (Err fault) infos new is (n, part) = (
+    (
+      n,
+      λ key. either_way (is_port_of service key) (get new key) (info_of (drop n infos) key)
+          (get old key) (got key),
+    ),
+    λ key h. got key ∙ ap (λ b. cond b (info_of (drop n infos) key) (get old key)) h,
+  )
+    where
+      got : IsRefreshed service (drop n infos) old new
+      got key = ap (λ m. get m key) part ∙ refreshed (drop n infos) key

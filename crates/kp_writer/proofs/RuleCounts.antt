@@ -1,10 +1,9 @@
 -- Counts of the rules of ports, one port after another.
 use Rattle.std.proofs.Common.{not, ◌≡◌, ◌+◌, arith, List, [], ◌∷◌, ◌++◌, flat_map, append-nil, ap}
-use Rattle.std.proofs.Common.{◌∙◌}
+use Rattle.std.proofs.Common.{sym, ◌∙◌}
 use Rattle.std.specs.FinMap.{get}
 use Rattle.std.proofs.lemmas.List.Concat.{flat_map-append}
 use Rattle.std.proofs.lemmas.List.Elements.{filter-append}
-use Rattle.kp_choice_defs.specs.Settings.{setting_of}
 use Rattle.kp_types.specs.Setting.{Setting}
 use Rattle.kp_object_defs.specs.PortInfo.{PortInfo}
 use Rattle.kp_table_defs.specs.Layout.{port_rows}
@@ -13,7 +12,7 @@ use Rattle.kp_chains.proofs.Counts.{count-append}
 use Rattle.kp_writer.specs.Own.{own_rule_count}
 use Rattle.kp_writer.specs.Old.{is_known, unwritten}
 use Rattle.kp_writer.specs.Shared.{shared_rule_count}
-use Rattle.kp_writer.specs.Written.{Ports, WriterParts, setting_in, written_ports}
+use Rattle.kp_writer.specs.Written.{Ports, WriterParts, setting_in, with_newest}
 
 -- the rules of ports' own chains
 pub own_parts : (setting : Setting) (is js : List PortInfo)
@@ -43,10 +42,14 @@ unwritten_parts setting written is js =
     ap (shared_rule_count setting) (filter-append (λ i. not (is_known (get written i.key) i)) is js)
     ∙ shared_parts setting (unwritten written is) (unwritten written js)
 
--- in the same family and by the same configuration, where the same was written
-pub put_count : (v w : WriterParts) → v.family ≡ w.family → v.config ≡ w.config
-    → written_ports v ≡ written_ports w → (i : PortInfo)
-    → shared_rule_count (setting_in v) (unwritten (written_ports v) (i ∷ []))
-    ≡ shared_rule_count (setting_in w) (unwritten (written_ports w) (i ∷ []))
-put_count v w family config ports i =
-    λ k. shared_rule_count (setting_of (family k) (config k)) (unwritten (ports k) (i ∷ []))
+-- of a port and those before it, by a writer that knows others of its newest ports
+pub put_count : (v w : WriterParts) {m : Ports} → v ≡ with_newest w m → (old new : List PortInfo)
+    → (i : PortInfo) → old ≡ new ++ i ∷ []
+    → shared_rule_count (setting_in w) (unwritten w.written old)
+    ≡ shared_rule_count (setting_in w) (unwritten w.written new)
+    + shared_rule_count (setting_in v) (unwritten v.written (i ∷ []))
+put_count v w value old new i is =
+    ap (λ is. shared_rule_count (setting_in w) (unwritten w.written is)) is
+    ∙ unwritten_parts (setting_in w) w.written new (i ∷ [])
+    ∙ ap (λ u. shared_rule_count (setting_in w) (unwritten w.written new)
+    + shared_rule_count (setting_in u) (unwritten u.written (i ∷ []))) (sym value)

@@ -7,7 +7,7 @@ use Rattle.kp_base.proofs.KeyOrder.{port_key_exact, port_key_total}
 use Rattle.kp_types.specs.Setting.{Setting}
 use Rattle.kp_object_defs.specs.PortInfo.{PortInfo}
 use Rattle.kp_blocks.specs.Joined.{BlocksByPort, port_block}
-use Rattle.kp_writer.specs.Written.{AreBlocksOf, IsKept, Ports, WriterParts, newest_ports}
+use Rattle.kp_writer.specs.Written.{AreBlocksOf, IsKept, Ports, WriterParts}
 use Rattle.kp_writer.specs.Written.{setting_in}
 use Rattle.kp_writer.proofs.DirtyLists.{keys_rise}
 use Rattle.kp_writer.proofs.OneList.{one_list}
@@ -26,7 +26,7 @@ same_keys s m blocks are =
 
 -- as a writer keeps them
 pub newest_keys : (v w : WriterParts) → v ≡ w → (blocks old : BlocksByPort)
-    → IsKept v blocks old → keys blocks ≡ keys (newest_ports w)
+    → IsKept v blocks old → keys blocks ≡ keys w.newest
 newest_keys v w is blocks old kept =
-    same_keys (setting_in v) (newest_ports v) blocks kept.blocks
-    ∙ ap (λ u. keys (newest_ports u)) is
+    same_keys (setting_in v) v.newest blocks kept.blocks
+    ∙ ap (λ u. keys u.newest) is

@@ -25,7 +25,6 @@ use Rattle.kp_writer.specs.Next.{NextParts}
 use Rattle.kp_writer.specs.Shared.{Change, blocks_if, differ, external, firewall, join_if}
 use Rattle.kp_writer.specs.Shared.{node_ports, refusals, services, touch_by, with_shared}
 use Rattle.kp_writer.specs.declared.shared.Touched.{Touched}
-use Rattle.kp_writer.proofs.Families.{in_each}
 
 -- ---- Which chains are touched
 
@@ -113,31 +112,16 @@ fixed_by : (family : Family) (at : ChainAt) → family_of_table at.table ≡ fam
     → is_some (find chain_cmp at (fixed_rows family)) ≡ true → IsFixed family at
 fixed_by family at of h = (of, ap is_some (get-from_entries chain_total (fixed_rows family) at) ∙ h)
 
--- the shared chains are fixed ones
-fixed_services : (family : Family) → IsFixed family (services family)
-fixed_services =
-    in_each (λ f. IsFixed f (services f)) (fixed_by V4 (services V4) refl refl)
-    (fixed_by V6 (services V6) refl refl)
-
-fixed_node_ports : (family : Family) → IsFixed family (node_ports family)
-fixed_node_ports =
-    in_each (λ f. IsFixed f (node_ports f)) (fixed_by V4 (node_ports V4) refl refl)
-    (fixed_by V6 (node_ports V6) refl refl)
-
-fixed_firewall : (family : Family) → IsFixed family (firewall family)
-fixed_firewall =
-    in_each (λ f. IsFixed f (firewall f)) (fixed_by V4 (firewall V4) refl refl)
-    (fixed_by V6 (firewall V6) refl refl)
-
-fixed_external : (family : Family) → IsFixed family (external family)
-fixed_external =
-    in_each (λ f. IsFixed f (external f)) (fixed_by V4 (external V4) refl refl)
-    (fixed_by V6 (external V6) refl refl)
-
-fixed_refusals : (family : Family) → IsFixed family (refusals family)
-fixed_refusals =
-    in_each (λ f. IsFixed f (refusals f)) (fixed_by V4 (refusals V4) refl refl)
-    (fixed_by V6 (refusals V6) refl refl)
+-- the shared chains are fixed ones, the last first
+all_fixed : (f : Family)
+    → IsFixed f (refusals f) × IsFixed f (external f) × IsFixed f (firewall f)
+    × IsFixed f (node_ports f) × IsFixed f (services f)
+all_fixed V4 =
+    let one = fixed_by V4 in
+    (one _ refl refl, one _ refl refl, one _ refl refl, one _ refl refl, one _ refl refl)
+all_fixed V6 =
+    let one = fixed_by V6 in
+    (one _ refl refl, one _ refl refl, one _ refl refl, one _ refl refl, one _ refl refl)
 
 -- the shared chains, the last first, with whether each is touched
 abbrev pub shared_flags : Family → Touched → List (ChainAt × Bool)
@@ -173,11 +157,11 @@ module _ (family : Family) (blocks : BlocksByPort) (start : NextParts) where
       → Joins (with_shared family blocks t start) (shared_flags family t) q
   found_shared t q =
       let flags = shared_flags family t in
-      one_more _ (drop 1 flags) t.refusals _ q (fixed_refusals family)
-      (one_more _ (drop 2 flags) t.external _ q (fixed_external family)
-      (one_more _ (drop 3 flags) t.firewall _ q (fixed_firewall family)
-      (one_more _ (drop 4 flags) t.node_ports _ q (fixed_node_ports family)
-      (one_more start [] t.services _ q (fixed_services family) (inr (tt, refl))))))
+      one_more _ (drop 1 flags) t.refusals _ q (all_fixed family).0
+      (one_more _ (drop 2 flags) t.external _ q (all_fixed family).1
+      (one_more _ (drop 3 flags) t.firewall _ q (all_fixed family).2
+      (one_more _ (drop 4 flags) t.node_ports _ q (all_fixed family).3
+      (one_more start [] t.services _ q (all_fixed family).4 (inr (tt, refl))))))
 
   -- what each join of a fixed chain leaves, all leave
   pub through_joins : (P : NextParts → Type 0)
@@ -185,11 +169,11 @@ module _ (family : Family) (blocks : BlocksByPort) (start : NextParts) where
       → P (join_if family blocks n b at))
       → (t : Touched) → P start → P (with_shared family blocks t start)
   through_joins P one t h =
-      one _ t.refusals (refusals family) (fixed_refusals family)
-      (one _ t.external (external family) (fixed_external family)
-      (one _ t.firewall (firewall family) (fixed_firewall family)
-      (one _ t.node_ports (node_ports family) (fixed_node_ports family)
-      (one start t.services (services family) (fixed_services family) h))))
+      one _ t.refusals (refusals family) (all_fixed family).0
+      (one _ t.external (external family) (all_fixed family).1
+      (one _ t.firewall (firewall family) (all_fixed family).2
+      (one _ t.node_ports (node_ports family) (all_fixed family).3
+      (one start t.services (services family) (all_fixed family).4 h))))
 
   still_free : (n : NextParts) (b : Bool) (at : ChainAt)
       → (join_if family blocks n b at).free ≡ n.free

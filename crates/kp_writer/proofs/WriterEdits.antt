@@ -1,14 +1,15 @@
 -- What the edits of a writer are, from what it keeps.
-use Rattle.std.proofs.Common.{◌≡◌, ◌+◌, ℕ, ◌≤◌, arith, Bool, true, false, true≢false, not, Bor}
-use Rattle.std.proofs.Common.{List, map, filter, Contains, None, sym, ap, subst, ◌∙◌}
+use Rattle.std.proofs.Common.{◌≡◌, arith, Bool, false, true≢false, not, Bor}
+use Rattle.std.proofs.Common.{List, map, filter, Contains, None, refl, sym, ap, subst, ◌∙◌}
 use Rattle.std.proofs.Math.Bool.{not-not}
 use Rattle.std.specs.FinMap.{entries, get, values}
 use Rattle.kp_lemmas.proofs.Equality.{options_exact}
 use Rattle.kp_lemmas.proofs.Members.{from_filter}
 use Rattle.kp_base.specs.Keys.{port_key_cmp}
+use Rattle.kp_base.specs.declared.address.Family.{Family}
+use Rattle.kp_base.specs.declared.config.Config.{Config}
 use Rattle.kp_base.specs.declared.key.PortKey.{PortKey}
 use Rattle.kp_types.specs.Setting.{Setting}
-use Rattle.kp_types.specs.declared.rule.Edit.{Edit}
 use Rattle.kp_object_defs.specs.PortInfo.{PortInfo}
 use Rattle.kp_table_defs.specs.Rebuild.{Chains}
 use Rattle.kp_table_laws.specs.Families.{HasTablesOf}
@@ -16,15 +17,15 @@ use Rattle.kp_walk_laws.specs.Laws.{HashedPrefixed}
 use Rattle.kp_history_defs.specs.DirtyPorts.{same_info}
 use Rattle.kp_history_laws.proofs.DirtyPorts.{infos_exact}
 use Rattle.kp_blocks.specs.Joined.{BlocksByPort}
-use Rattle.kp_tracker.specs.Tracked.{IsPending, is_changed}
+use Rattle.kp_tracker.specs.Tracked.{IsPending, Tracked}
 use Rattle.kp_writer.specs.Batch.{own_rules_written}
 use Rattle.kp_writer.specs.Next.{NextParts, edits_of}
 use Rattle.kp_writer.specs.Own.{own_rule_count, with_own}
 use Rattle.kp_writer.specs.Shared.{touched_by, with_shared}
-use Rattle.kp_writer.specs.Sync.{changes_of, infos_at, sync_next}
-use Rattle.kp_writer.specs.Written.{AreUnderOwnKeys, IsKept, Ports, WriterParts}
-use Rattle.kp_writer.specs.Written.{chains_of, clash_of, dirty_of, newest_ports, next_edits}
-use Rattle.kp_writer.specs.Written.{setting_in, written_ports}
+use Rattle.kp_writer.specs.Sync.{IsNextOf, changes_of, infos_at, sync_next}
+use Rattle.kp_writer.specs.Written.{AreUnderOwnKeys, IsKept, Ports, WriterParts, is_pending, parts}
+use Rattle.kp_writer.specs.Written.{chains_of, clash_of, dirty_of}
+use Rattle.kp_writer.specs.Written.{setting_in}
 use Rattle.kp_writer.proofs.ClashTest.{differs, no_clash}
 use Rattle.kp_writer.proofs.DirtyLists.{of_keys, same_passed}
 use Rattle.kp_writer.proofs.OwnTables.{edits_alike, next_alike}
@@ -33,35 +34,35 @@ use Rattle.kp_writer.proofs.SharedPlaces.{shared_free}
 use Rattle.kp_writer.proofs.SyncLaw.{sync_edits}
 use Rattle.kp_writer.proofs.WrittenRules.{written_rules}
 
--- most steps of a sync
-abbrev pub MostSteps : WriterParts → ℕ → ℕ → Type 0
-MostSteps w old new =
-    new ≤ old + own_rule_count (setting_in w) (dirty_of w (newest_ports w))
+module _ (family : Family) (config : Config) (t : Tracked PortKey PortInfo)
+    (blocks kept_old : BlocksByPort) (kept : IsKept (parts family config t) blocks kept_old)
+    (refs items : List (Bor PortKey)) (same_refs : refs ≡ items)
+    (found : IsPending port_key_cmp same_info t (map (λ k. k.now) items)) where
+  -- the writer
+  abbrev v : WriterParts
+  v = parts family config t
 
-module _ (v w : WriterParts) (is : v ≡ w) (blocks kept_old : BlocksByPort)
-    (kept : IsKept v blocks kept_old) (refs items : List (Bor PortKey)) (same_refs : refs ≡ items)
-    (found : IsPending port_key_cmp same_info v.ports (map (λ k. k.now) items)) where
   -- the ports that differ
   abbrev keys : List PortKey
   keys = map (λ k. k.now) refs
 
-  pending : IsPending port_key_cmp same_info v.ports keys
+  pending : IsPending port_key_cmp same_info t keys
   pending =
-      subst (λ (ks : List (Bor PortKey)). IsPending port_key_cmp same_info v.ports
-      (map (λ k. k.now) ks)) (sym same_refs) found
+      subst (λ (ks : List (Bor PortKey)). IsPending port_key_cmp same_info t (map (λ k. k.now) ks))
+      (sym same_refs) found
 
   abbrev s : Setting
   s = setting_in v
 
   abbrev before : Ports
-  before = written_ports v
+  before = v.written
 
   abbrev after : Ports
-  after = newest_ports v
+  after = v.newest
 
   -- whether a port differs
   abbrev changed : PortKey → Bool
-  changed = is_changed port_key_cmp same_info v.ports
+  changed = is_pending before after
 
   abbrev stays : PortInfo → Bool
   stays i = not (changed i.key)
@@ -69,26 +70,12 @@ module _ (v w : WriterParts) (is : v ≡ w) (blocks kept_old : BlocksByPort)
   dirty : (m : Ports) → AreUnderOwnKeys m → infos_at m keys ≡ dirty_of v m
   dirty m own = of_keys changed m own keys pending.in_order pending.each
 
-  -- ---- Steps
-
-  pub most_steps : (old new : ℕ)
-      → new ≤ old + own_rule_count s (infos_at after keys) → MostSteps w old new
-  most_steps old new h =
-      subst (λ u. MostSteps u old new) is
-      (subst (λ ds. new ≤ old + own_rule_count s ds) (dirty after kept.newest) h)
-
-  pub least_steps : (was : Chains) (next : NextParts) (edits : List Edit) (old new : ℕ)
-      → next ≡ sync_next was blocks s before after keys
-      → edits ≡ edits_of v.family was (entries next.places)
-      → old + own_rule_count s (infos_at after keys) ≤ new → old + own_rules_written edits ≤ new
-  least_steps was next edits old new made are h =
-      omega (
-        arith,
-        h,
-        ap own_rules_written
-            (are ∙ ap (λ (n : NextParts). edits_of v.family was (entries n.places)) made),
-        written_rules was blocks s before after keys,
-      )
+  -- the rules of their own chains
+  pub own_counted : (w : WriterParts) → v ≡ w → own_rule_count s (infos_at after keys)
+      ≡ own_rule_count (setting_in w) (dirty_of w w.newest)
+  own_counted w is =
+      ap (own_rule_count s) (dirty after kept.newest)
+      ∙ ap (λ u. own_rule_count (setting_in u) (dirty_of u u.newest)) is
 
   -- ---- The ports that stay, and those that differ
 
@@ -116,52 +103,53 @@ module _ (v w : WriterParts) (is : v ≡ w) (blocks kept_old : BlocksByPort)
   -- ---- The edits
 
   module _ (hashed : HashedPrefixed) (was : Chains) (next : NextParts)
-      (table : HasTablesOf w.family was (chains_of w (written_ports w)))
-      (none : clash_of w (written_ports w) ≡ None)
       (made : next ≡ sync_next was blocks s before after keys) where
-    abbrev mine : Chains
-    mine = chains_of v before
+    module _ (stood : HasTablesOf v.family was (chains_of v before))
+        (none : clash_of v before ≡ None) where
+      abbrev mine : Chains
+      mine = chains_of v before
 
-    stood : HasTablesOf v.family was mine
-    stood = subst (λ u. HasTablesOf u.family was (chains_of u (written_ports u))) (sym is) table
+      -- what stands once the ports that differ have their chains
+      own_chains : with_own mine s (infos_at before keys) (infos_at after keys)
+          ≡ with_own mine s (filter (differs stays) (values before))
+          (filter (differs stays) (values after))
+      own_chains =
+          λ n. with_own mine s (differing before kept.written n) (differing after kept.newest n)
 
-    none_before : clash_of v before ≡ None
-    none_before = ap (λ u. clash_of u (written_ports u)) is ∙ none
+      -- and once the shared chains are joined
+      next_is : next
+          ≡ with_shared v.family blocks (touched_by s (changes_of before after keys))
+          (with_own mine s (infos_at before keys) (infos_at after keys))
+      next_is = made ∙ next_alike was mine s stood blocks before after keys
 
-    -- what stands once the ports that differ have their chains
-    own_chains : with_own mine s (infos_at before keys) (infos_at after keys)
-        ≡ with_own mine s (filter (differs stays) (values before))
-        (filter (differs stays) (values after))
-    own_chains =
-        λ n. with_own mine s (differing before kept.written n) (differing after kept.newest n)
+      next_of : IsNextOf v was next
+      next_of = record {
+        free = λ free.
+            no_clash s (values before) (values after) stays same apart none
+            (ap (λ (n : NextParts). n.free) (sym own_chains)
+            ∙ sym (shared_free v.family blocks
+            (with_own mine s (infos_at before keys) (infos_at after keys))
+            (touched_by s (changes_of before after keys)))
+            ∙ ap (λ (n : NextParts). n.free) (sym next_is) ∙ free);
+        edits = λ clear.
+            edits_alike was mine s stood (entries next.places)
+            ∙ ap (λ (n : NextParts). edits_of v.family mine (entries n.places)) next_is
+            ∙ (λ n. edits_of v.family mine (entries (with_shared v.family blocks
+            (touched_by s (changes_of before after keys)) (own_chains n)).places))
+            ∙ sync_edits s (hashed v.config.name_length) before after kept.written kept.newest
+            changed alike keys pending.each blocks kept.blocks stays same
+            (own_values after kept.newest) apart none clear;
+        few = omega (
+          arith,
+          own_counted v refl,
+          ap (λ (n : NextParts). own_rules_written (edits_of v.family was (entries n.places))) made,
+          written_rules was blocks s before after keys,
+        );
+      }
 
-    -- and once the shared chains are joined
-    next_is : next
-        ≡ with_shared v.family blocks (touched_by s (changes_of before after keys))
-        (with_own mine s (infos_at before keys) (infos_at after keys))
-    next_is = made ∙ next_alike was mine s stood blocks before after keys
-
-    -- where each port's chain finds its place free, none clash
-    pub free_is_clear : next.free ≡ true → clash_of w (newest_ports w) ≡ None
-    free_is_clear free =
-        ap (λ u. clash_of u (newest_ports u)) (sym is)
-        ∙ no_clash s (values before) (values after) stays same apart none_before
-        (ap (λ (n : NextParts). n.free) (sym own_chains)
-        ∙ sym (shared_free v.family blocks
-        (with_own mine s (infos_at before keys) (infos_at after keys))
-        (touched_by s (changes_of before after keys)))
-        ∙ ap (λ (n : NextParts). n.free) (sym next_is) ∙ free)
-
-    -- and where none clash, the edits are the changes
-    pub next_edits_are : (edits : List Edit) → edits ≡ edits_of v.family was (entries next.places)
-        → clash_of w (newest_ports w) ≡ None → edits ≡ next_edits w
-    next_edits_are edits are clear =
-        are
-        ∙ edits_alike was mine s stood (entries next.places)
-        ∙ ap (λ (n : NextParts). edits_of v.family mine (entries n.places)) next_is
-        ∙ (λ n. edits_of v.family mine (entries (with_shared v.family blocks
-        (touched_by s (changes_of before after keys)) (own_chains n)).places))
-        ∙ sync_edits s (hashed v.config.name_length) before after kept.written kept.newest
-        changed alike keys pending.each blocks kept.blocks stays same (own_values after kept.newest)
-        apart none_before (ap (λ u. clash_of u (newest_ports u)) is ∙ clear)
-        ∙ ap next_edits is
+    -- so it is of what contracts see of the writer
+    pub is_next : (w : WriterParts) → v ≡ w → HasTablesOf w.family was (chains_of w w.written)
+        → clash_of w w.written ≡ None → IsNextOf w was next
+    is_next w is =
+        subst (λ u. HasTablesOf u.family was (chains_of u u.written)
+        → clash_of u u.written ≡ None → IsNextOf u was next) is next_of

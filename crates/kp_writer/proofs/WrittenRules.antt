@@ -134,24 +134,17 @@ in_table was ps t =
       removes was t ps,
     )
 
+in_both : (was : Chains) (ps : List Place) (t u : TableName)
+    → written_in was ps t + written_in was ps u ≤ own_rules_in ps
+    → own_rules_written (table_edits was ps t ++ table_edits was ps u) ≤ own_rules_in ps
+in_both was ps t u few =
+    let both = own_rules_written-append (table_edits was ps t) (table_edits was ps u) in
+    omega (arith, few, both, in_table was ps t, in_table was ps u)
+
 at_places : (family : Family) (was : Chains) (ps : List Place)
     → own_rules_written (edits_of family was ps) ≤ own_rules_in ps
-at_places V4 was ps =
-    omega (
-      arith,
-      own_rules_written-append (table_edits was ps Nat) (table_edits was ps Filter),
-      in_table was ps Nat,
-      in_table was ps Filter,
-      writes was ps,
-    )
-at_places V6 was ps =
-    omega (
-      arith,
-      own_rules_written-append (table_edits was ps Nat6) (table_edits was ps Filter6),
-      in_table was ps Nat6,
-      in_table was ps Filter6,
-      writes was ps,
-    )
+at_places V4 was ps = in_both was ps Nat Filter (omega (arith, writes was ps))
+at_places V6 was ps = in_both was ps Nat6 Filter6 (omega (arith, writes was ps))
 
 -- ---- What stands after
 

@@ -12,26 +12,25 @@ use Rattle.kp_object_defs.specs.Order.{distinct_in_order}
 use Rattle.kp_object_defs.specs.OwnKeys.{AreUnderOwnKeys}
 use Rattle.kp_object_defs.specs.PortByKey.{info_at, port_keys_of}
 use Rattle.kp_object_defs.specs.PortInfo.{port_infos}
-use Rattle.kp_history_defs.specs.DirtyPorts.{dirty_keys, dirty_ports, same_info}
+use Rattle.kp_history_defs.specs.DirtyPorts.{dirty_keys, dirty_ports}
 use Rattle.kp_history_defs.specs.declared.dirty.DirtyPort.{DirtyPort}
 use Rattle.kp_writer_laws.specs.LocalLaws.{info_of}
 use Rattle.kp_blocks.specs.Joined.{is_port_of}
-use Rattle.kp_tracker.specs.Tracked.{is_changed}
-use Rattle.kp_writer.specs.Written.{Ports, WriterParts, dirty_of, newest_ports, written_ports}
+use Rattle.kp_writer.specs.Written.{Ports, WriterParts, dirty_of, is_pending}
 
 -- the names of the ports that were written or are known now, in order
 abbrev pub either_keys : WriterParts → List PortKey
 either_keys w =
     distinct_in_order port_key_cmp
-    (finite.keys (written_ports w) ++ finite.keys (newest_ports w))
+    (finite.keys w.written ++ finite.keys w.newest)
 
 -- the names of those of which something else is known than was written
 abbrev pub pending_keys : WriterParts → List PortKey
-pending_keys w = filter (is_changed port_key_cmp same_info w.ports) (either_keys w)
+pending_keys w = filter (is_pending w.written w.newest) (either_keys w)
 
 -- a port with what was written of it
 abbrev pub with_written : WriterParts → PortKey → DirtyPort
-with_written w key = record { key = key; before = finite.get (written_ports w) key }
+with_written w key = record { key = key; before = finite.get w.written key }
 
 -- the dirty ports, in order of their names, each with what was written of it
 abbrev pub pending_ports : WriterParts → List DirtyPort
@@ -67,8 +66,8 @@ KnownOfService =
 pub record IsBetween (setting : Setting) (before after : Objects) (w : WriterParts) : Type 0 where
   pub own_before : AreUnderOwnKeys before
   pub own_after : AreUnderOwnKeys after
-  pub written : ArePortsOf setting before (written_ports w)
-  pub newest : ArePortsOf setting after (newest_ports w)
+  pub written : ArePortsOf setting before w.written
+  pub newest : ArePortsOf setting after w.newest
 
 -- Then its dirty ports are those of which something else is known after than before.
 abbrev pub KnownDirtyPorts : Type 0
@@ -82,7 +81,7 @@ abbrev pub DirtyWritten : Type 0
 DirtyWritten =
     (setting : Setting) (before after : Objects) (w : WriterParts)
     → IsBetween setting before after w
-    → dirty_of w (written_ports w)
+    → dirty_of w w.written
     ≡ filter_map (info_at setting.family setting.config before) (dirty_keys setting before after)
 
 -- and the newest of these is what is known of them after.
@@ -90,5 +89,5 @@ abbrev pub DirtyNewest : Type 0
 DirtyNewest =
     (setting : Setting) (before after : Objects) (w : WriterParts)
     → IsBetween setting before after w
-    → dirty_of w (newest_ports w)
+    → dirty_of w w.newest
     ≡ filter_map (info_at setting.family setting.config after) (dirty_keys setting before after)

@@ -8,27 +8,27 @@ use Rattle.kp_base.specs.declared.key.PortKey.{PortKey}
 use Rattle.kp_object_defs.specs.PortInfo.{PortInfo}
 use Rattle.kp_history_defs.specs.DirtyPorts.{same_info}
 use Rattle.kp_blocks.specs.Joined.{Block, BlocksByPort}
-use Rattle.kp_tracker.specs.Tracked.{Tracked, published, with_value}
+use Rattle.kp_tracker.specs.Tracked.{with_value}
 use Rattle.kp_writer.specs.Written.{Ports, is_pending}
 
 -- whether something was written of a port
-abbrev pub was_written : Tracked PortKey PortInfo → PortKey → Bool
-was_written ports key = is_some (finite.get (published port_key_cmp ports) key)
+abbrev pub was_written : Ports → PortKey → Bool
+was_written written key = is_some (finite.get written key)
 
 -- the block of what was written of a port: it stands among the old ones where something else is
 -- known now
 abbrev pub written_block :
-    Tracked PortKey PortInfo → BlocksByPort → BlocksByPort → PortKey → Option Block
-written_block ports blocks old key =
-    cond (was_written ports key)
-    (cond (is_pending ports key) (finite.get old key) (finite.get blocks key)) None
+    Ports → Ports → BlocksByPort → BlocksByPort → PortKey → Option Block
+written_block written newest blocks old key =
+    cond (was_written written key)
+    (cond (is_pending written newest key) (finite.get old key) (finite.get blocks key)) None
 
 -- old blocks with that of a port of which something else is known next
 abbrev pub with_old :
-    Tracked PortKey PortInfo → BlocksByPort → BlocksByPort → PortKey → BlocksByPort
-with_old ports blocks old key =
-    cond (was_written ports key)
-    (cond (is_pending ports key) old (with_value port_key_cmp old key (finite.get blocks key)))
+    Ports → Ports → BlocksByPort → BlocksByPort → PortKey → BlocksByPort
+with_old written newest blocks old key =
+    cond (was_written written key)
+    (cond (is_pending written newest key) old (with_value port_key_cmp old key (finite.get blocks key)))
     (finite.remove old key)
 
 -- whether this is what is known of a port

@@ -1,5 +1,5 @@
 -- Ports where those of one Service are made anew.
-use Rattle.std.specs.Prelude.{◌≡◌, ◌⊎◌, ℕ, false, cond, None, List, [], ◌∷◌, drop}
+use Rattle.std.specs.Prelude.{◌≡◌, ◌⊎◌, ℕ, false, cond, List, [], ◌∷◌, drop, Result, Ok, Err}
 use Rattle.std.specs.FinMap as finite
 use Rattle.kp_base.specs.declared.key.ObjectKey.{ObjectKey}
 use Rattle.kp_base.specs.declared.key.PortKey.{PortKey}
@@ -33,12 +33,6 @@ OthersStay service before after =
     (key : PortKey) → is_port_of service key ≡ false
     → finite.get after key ≡ finite.get before key
 
--- Each port is known as before, or is gone.
-abbrev pub OnlyGo : Ports → Ports → Type 0
-OnlyGo before after =
-    (key : PortKey)
-    → (finite.get after key ≡ finite.get before key) ⊎ (finite.get after key ≡ None)
-
 -- Each port is known as before, or as the last of those that are given tell, from one on.
 abbrev pub IsPartlyRefreshed : List PortInfo → Ports → Ports → Type 0
 IsPartlyRefreshed infos before after =
@@ -46,3 +40,10 @@ IsPartlyRefreshed infos before after =
     × ((key : PortKey)
     → (finite.get after key ≡ finite.get before key)
     ⊎ (finite.get after key ≡ info_of (drop left infos) key))
+
+-- The ports of a Service are made anew, or where memory is out, some of them are.
+abbrev pub Refreshes :
+    {X E : Type 0} → Result X E → ObjectKey → List PortInfo → Ports → Ports → Type 0
+Refreshes (Ok done) service infos before after = IsRefreshed service infos before after
+Refreshes (Err fault) service infos before after =
+    IsPartlyRefreshed infos before after × OthersStay service before after

@@ -1,10 +1,10 @@
 -- What a writer keeps of ports: what is known of each in a family as it was written last, and the
 -- newest.
-use Rattle.std.specs.Prelude.{◌≡◌, Bool, true, List, Option, Some, refl}
+use Rattle.std.specs.Prelude.{◌≡◌, Bool, true, not, List, Option, Some, refl}
 use Rattle.std.specs.Coded.{Coded, code_by, coded×}
 use Rattle.std.specs.List.{filter}
 use Rattle.std.specs.FinMap as finite
-use Rattle.std.specs.Option.{option_map}
+use Rattle.std.specs.Option.{option_eq, option_map}
 use Rattle.kp_base.specs.Keys.{port_key_cmp}
 use Rattle.kp_base.specs.contracts.address.Family as family_row
 use Rattle.kp_base.specs.contracts.config.Config as config_row
@@ -23,41 +23,65 @@ use Rattle.kp_table_defs.specs.Rebuild.{Chains, clash_among, full_chains}
 use Rattle.kp_history_defs.specs.DirtyPorts.{same_info}
 use Rattle.kp_blocks.specs.Joined.{BlocksByPort, port_block}
 use Rattle.kp_tracker.specs.Tracked as tracked
-use Rattle.kp_tracker.specs.Tracked.{Tracked, tracked_code}
-
--- the family, the configuration, and what is tracked of ports
-pub record WriterParts : Type 0 where
-  pub family : Family
-  pub config : Config
-  pub ports : Tracked PortKey PortInfo
-
--- the three together
-abbrev pub parts : Family → Config → Tracked PortKey PortInfo → WriterParts
-parts family config ports = record { family = family; config = config; ports = ports }
-
--- it is stored as these three are
-abbrev pub writer_code : Coded WriterParts
-writer_code =
-    code_by _ (coded× family_row.the_row.coded (coded× config_row.the_row.coded
-    (tracked_code key_row.the_row.coded info_row.the_row.coded)))
-    (λ w. (w.family, (w.config, w.ports)))
-    (λ p. parts p.0 p.1.0 p.1.1) (λ _. refl)
-
--- what tables and names are told
-abbrev pub setting_in : WriterParts → Setting
-setting_in w = setting_of w.family w.config
+use Rattle.kp_tracker.specs.Tracked.{Tracked}
 
 -- the ports by name
 abbrev pub Ports : Type 0
 Ports = finite.FinMap port_key_cmp PortInfo
 
--- as they were written last
-abbrev pub written_ports : WriterParts → Ports
-written_ports w = tracked.published port_key_cmp w.ports
+-- the family, the configuration, and what is known of ports: as they were written last, and now
+pub record WriterParts : Type 0 where
+  pub family : Family
+  pub config : Config
+  pub written : Ports
+  pub newest : Ports
 
--- and as they are now
-abbrev pub newest_ports : WriterParts → Ports
-newest_ports w = tracked.newest port_key_cmp w.ports
+-- a writer with other newest ports
+abbrev pub with_newest : WriterParts → Ports → WriterParts
+with_newest w ports = record w { newest = ports }
+
+-- a writer that has written nothing, and knows of no port
+abbrev pub new_writer : Family → Config → WriterParts
+new_writer family config = record {
+  family = family;
+  config = config;
+  written = finite.empty;
+  newest = finite.empty;
+}
+
+-- a writer that has written its newest ports
+abbrev pub all_written : WriterParts → WriterParts
+all_written w = record w { written = w.newest }
+
+-- of ports that are tracked, those that were published
+abbrev pub written_in : Tracked PortKey PortInfo → Ports
+written_in ports = tracked.published port_key_cmp ports
+
+-- and the newest
+abbrev pub newest_in : Tracked PortKey PortInfo → Ports
+newest_in ports = tracked.newest port_key_cmp ports
+
+-- what contracts see of a writer's fields
+abbrev pub parts : Family → Config → Tracked PortKey PortInfo → WriterParts
+parts family config ports = record {
+  family = family;
+  config = config;
+  written = written_in ports;
+  newest = newest_in ports;
+}
+
+-- they are stored as these four are
+abbrev pub writer_code : Coded WriterParts
+writer_code =
+    let ports = finite.code {R = port_key_cmp} key_row.the_row.coded info_row.the_row.coded in
+    code_by _ (coded× family_row.the_row.coded (coded× config_row.the_row.coded
+    (coded× ports ports)))
+    (λ w. (w.family, (w.config, (w.written, w.newest))))
+    (λ p. record { family = p.0; config = p.1.0; written = p.1.1.0; newest = p.1.1.1 }) (λ _. refl)
+
+-- what tables and names are told
+abbrev pub setting_in : WriterParts → Setting
+setting_in w = setting_of w.family w.config
 
 -- the family's full tables of ports
 abbrev pub chains_of : WriterParts → Ports → Chains
@@ -70,16 +94,17 @@ clash_of w ports = clash_among (setting_in w) (finite.values ports)
 -- the edits that lead from what was written to the newest ports
 abbrev pub next_edits : WriterParts → List Edit
 next_edits w =
-    changes_of w.family (chains_of w (written_ports w)) (chains_of w (newest_ports w))
+    changes_of w.family (chains_of w w.written) (chains_of w w.newest)
 
 -- whether something else is known of a port than was written
-abbrev pub is_pending : Tracked PortKey PortInfo → PortKey → Bool
-is_pending ports key = tracked.is_changed port_key_cmp same_info ports key
+abbrev pub is_pending : Ports → Ports → PortKey → Bool
+is_pending written newest key =
+    not (option_eq same_info (finite.get written key) (finite.get newest key))
 
 -- the dirty ones of some ports: those of which something else is known than was written
 abbrev pub dirty_of : WriterParts → Ports → List PortInfo
 dirty_of w ports =
-    filter (λ i. is_pending w.ports i.key) (finite.values ports)
+    filter (λ i. is_pending w.written w.newest i.key) (finite.values ports)
 
 -- each port stands under its own key
 abbrev pub AreUnderOwnKeys : Ports → Type 0
@@ -93,16 +118,15 @@ AreBlocksOf setting ports blocks =
     → finite.get blocks key ≡ option_map (port_block setting) (finite.get ports key)
 
 -- old blocks are those of what was written, of each port of which something else is known
-abbrev pub AreOldBlocks : Setting → Tracked PortKey PortInfo → BlocksByPort → Type 0
-AreOldBlocks setting ports old =
-    (key : PortKey) → is_pending ports key ≡ true
-    → finite.get old key
-    ≡ option_map (port_block setting) (finite.get (tracked.published port_key_cmp ports) key)
+abbrev pub AreOldBlocks : Setting → Ports → Ports → BlocksByPort → Type 0
+AreOldBlocks setting written newest old =
+    (key : PortKey) → is_pending written newest key ≡ true
+    → finite.get old key ≡ option_map (port_block setting) (finite.get written key)
 
 -- what a writer keeps: ports under their own keys, the blocks of the newest, and those of what was
 -- written where these differ
 pub record IsKept (w : WriterParts) (kept aside : BlocksByPort) : Type 0 where
-  pub written : AreUnderOwnKeys (written_ports w)
-  pub newest : AreUnderOwnKeys (newest_ports w)
-  pub blocks : AreBlocksOf (setting_in w) (newest_ports w) kept
-  pub old : AreOldBlocks (setting_in w) w.ports aside
+  pub written : AreUnderOwnKeys w.written
+  pub newest : AreUnderOwnKeys w.newest
+  pub blocks : AreBlocksOf (setting_in w) w.newest kept
+  pub old : AreOldBlocks (setting_in w) w.written w.newest aside

@@ -2,8 +2,7 @@
 ghost use Rattle.std.specs.Prelude.{◌≡◌, map, IfOk};
 ghost use Rattle.std.specs.FinMap as finite;
 ghost use Rattle.std.specs.Option.{option_copied};
-ghost use Rattle.kp_base.specs.Keys.{port_key_cmp};
-ghost use Rattle.kp_tracker.specs.Tracked as tracked;
+ghost use Rattle.kp_writer.specs.Written.{written_in};
 
 use crate::known::Known;
 use crate::pending::Pending;
@@ -19,7 +18,7 @@ pub fn dirty_ports(
 ) -> Result<Items<Pending>, NoMemory>
     ensures { IfOk result (λ dirty. dirty ≡ map (λ k. record {
       key = k.now;
-      before = finite.get (tracked.published port_key_cmp ports.now) k.now;
+      before = finite.get (written_in ports.now) k.now;
     }) keys.now) }
 {
     let mut dirty = Vec::with_capacity(alloc, keys.len())?;

@@ -1,9 +1,8 @@
 //! What is known of some ports.
 ghost use Rattle.std.specs.Prelude.{◌≡◌, ◌++◌, map, IfOk, OnOk};
 ghost use Rattle.std.specs.Option.{option_copied, option_to_list};
-ghost use Rattle.kp_base.specs.Keys.{port_key_cmp};
-ghost use Rattle.kp_tracker.specs.Tracked as tracked;
 ghost use Rattle.kp_writer.specs.Sync.{infos_at};
+ghost use Rattle.kp_writer.specs.Written.{newest_in, written_in};
 
 use crate::known::Known;
 use kp_base::{NoMemory, PortKey};
@@ -18,7 +17,7 @@ pub fn written_infos<'a>(
     keys: &[&PortKey],
 ) -> Result<Vec<&'a PortInfo>, NoMemory>
     ensures { IfOk result (λ infos. map (λ i. i.now) infos.items
-        ≡ infos_at (tracked.published port_key_cmp ports.now) (map (λ k. k.now) keys.now)) }
+        ≡ infos_at (written_in ports.now) (map (λ k. k.now) keys.now)) }
 {
     let mut infos = Vec::new(alloc);
     for key in keys {
@@ -34,7 +33,7 @@ pub fn newest_infos<'a>(
     keys: &[&PortKey],
 ) -> Result<Vec<&'a PortInfo>, NoMemory>
     ensures { IfOk result (λ infos. map (λ i. i.now) infos.items
-        ≡ infos_at (tracked.newest port_key_cmp ports.now) (map (λ k. k.now) keys.now)) }
+        ≡ infos_at (newest_in ports.now) (map (λ k. k.now) keys.now)) }
 {
     let mut infos = Vec::new(alloc);
     for key in keys {

@@ -1,8 +1,7 @@
 //! What is kept of a port: what is known of it, and its block.
 ghost use Rattle.std.specs.Prelude.{◌≡◌, OnOk, OnErr};
 ghost use Rattle.std.specs.FinMap as finite;
-ghost use Rattle.kp_base.specs.Keys.{port_key_cmp};
-ghost use Rattle.kp_tracker.specs.Tracked as tracked;
+ghost use Rattle.kp_writer.specs.Written.{newest_in, written_in};
 
 use crate::known::Known;
 use kp_base::{Copied, Items, NoMemory, PortKey};
@@ -19,13 +18,11 @@ pub fn put(
     info: PortInfo,
     block: Items<ChainText>,
 ) -> Result<(), NoMemory>
-    ensures published { tracked.published port_key_cmp ports.new
-        ≡ tracked.published port_key_cmp ports.old }
-    ensures newest { OnOk result (tracked.newest port_key_cmp ports.new
-        ≡ finite.insert (tracked.newest port_key_cmp ports.old) info.key info) }
+    ensures written { written_in ports.new ≡ written_in ports.old }
+    ensures newest { OnOk result (newest_in ports.new
+        ≡ finite.insert (newest_in ports.old) info.key info) }
     ensures blocks { OnOk result (blocks.new ≡ finite.insert blocks.old info.key block) }
-    ensures stays { OnErr result (tracked.newest port_key_cmp ports.new
-        ≡ tracked.newest port_key_cmp ports.old) }
+    ensures stays { OnErr result (newest_in ports.new ≡ newest_in ports.old) }
     ensures blocks_stay { OnErr result (blocks.new ≡ blocks.old) }
 {
     let key = info.key.copy(alloc)?;
@@ -49,13 +46,11 @@ pub fn drop_port(
     blocks: &mut Blocks,
     port: &PortKey,
 ) -> Result<(), NoMemory>
-    ensures published { tracked.published port_key_cmp ports.new
-        ≡ tracked.published port_key_cmp ports.old }
-    ensures newest { OnOk result (tracked.newest port_key_cmp ports.new
-        ≡ finite.remove (tracked.newest port_key_cmp ports.old) port.now) }
+    ensures written { written_in ports.new ≡ written_in ports.old }
+    ensures newest { OnOk result (newest_in ports.new
+        ≡ finite.remove (newest_in ports.old) port.now) }
     ensures blocks { OnOk result (blocks.new ≡ finite.remove blocks.old port.now) }
-    ensures stays { OnErr result (tracked.newest port_key_cmp ports.new
-        ≡ tracked.newest port_key_cmp ports.old) }
+    ensures stays { OnErr result (newest_in ports.new ≡ newest_in ports.old) }
     ensures blocks_stay { OnErr result (blocks.new ≡ blocks.old) }
 {
     ports.update(port.copy(alloc)?, None)?;

@@ -5,6 +5,7 @@ ghost use Rattle.std.specs.FinMap as finite;
 ghost use Rattle.std.specs.List.{filter_map};
 ghost use Rattle.std.specs.Option.{option_copied, option_to_list};
 ghost use Rattle.kp_table_defs.specs.Edits as Edits;
+ghost use Rattle.kp_types.specs.Places.{chain_cmp};
 ghost use Rattle.kp_types.specs.contracts.chain.ChainAtOrd.TheImpl as order;
 ghost use Rattle.kp_chains.specs.Rows.{row_of};
 ghost use Rattle.kp_rules.specs.Changes as Changes;
@@ -67,7 +68,7 @@ impl NextChains {
     pub fn leave(&mut self, at: ChainAt) -> Result<(), NoMemory>
         ensures { OnOk result (self.new ≡ spec.leave self.old at) }
     {
-        self.places.insert(at, None)?;
+        put(&mut self.places, at, None)?;
         Ok(())
     }
 
@@ -77,7 +78,7 @@ impl NextChains {
     {
         let ChainText { at, rules } = row;
         let place = at.same();
-        let had = self.places.insert(at, Some(Shared::of(alloc, rules)?))?;
+        let had = put(&mut self.places, at, Some(Shared::of(alloc, rules)?))?;
         let free = stays_free(self.free, before, &place, had.as_ref());
         self.free = free;
         Ok(())
@@ -87,7 +88,7 @@ impl NextChains {
     pub fn join(&mut self, alloc: Global, at: ChainAt, rules: Items<Rule>) -> Result<(), NoMemory>
         ensures { OnOk result (self.new ≡ spec.join self.old at rules) }
     {
-        self.places.insert(at, Some(Shared::of(alloc, rules)?))?;
+        put(&mut self.places, at, Some(Shared::of(alloc, rules)?))?;
         Ok(())
     }
 
@@ -100,6 +101,20 @@ impl NextChains {
     {
         edits_of(alloc, family, table, &self.places)
     }
+}
+
+/// Puts what stands at a place, and answers what stood there so far.
+fn put(
+    places: &mut BTreeMap<ChainAt, Option<Shared<Rule>>>,
+    at: ChainAt,
+    chain: Option<Shared<Rule>>,
+) -> Result<Option<Option<Shared<Rule>>>, NoMemory>
+    ensures places { OnOk result (finite.from_entries {R = chain_cmp} places.new.entries
+        ≡ finite.insert (finite.from_entries places.old.entries) at chain) }
+    ensures had { IfOk result (λ had. had
+        ≡ finite.get (finite.from_entries {R = chain_cmp} places.old.entries) at) }
+{
+    Ok(places.insert(at, chain)?)
 }
 
 /// Whether all places so far are free, and this one too.

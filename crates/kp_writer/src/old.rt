@@ -24,7 +24,8 @@ pub fn is_known(known: Option<&Known>, info: &PortInfo) -> bool
 
 /// Whether something else is known of a port than was written.
 fn is_pending(ports: &Tracker<PortKey, Known>, port: &PortKey) -> bool
-    ensures { result ≡ written.is_pending ports.now port.now }
+    ensures { result ≡ written.is_pending
+        (written.written_in ports.now) (written.newest_in ports.now) port.now }
 {
     match (ports.published(port), ports.newest(port)) {
         (None, None) => false,
@@ -42,7 +43,8 @@ pub fn written_block<'a>(
     port: &PortKey,
 ) -> Option<&'a Items<ChainText>>
     ensures { option_copied result
-        ≡ spec.written_block ports.now blocks.now aside.now port.now }
+        ≡ spec.written_block (written.written_in ports.now) (written.newest_in ports.now)
+        blocks.now aside.now port.now }
 {
     if ports.published(port).is_none() {
         return None;
@@ -64,7 +66,8 @@ pub fn set_aside(
     port: &PortKey,
 ) -> Result<(), NoMemory>
     ensures ok { OnOk result (aside.new
-        ≡ spec.with_old ports.now blocks.now aside.old port.now) }
+        ≡ spec.with_old (written.written_in ports.now) (written.newest_in ports.now)
+        blocks.now aside.old port.now) }
     ensures err { OnErr result (aside.new ≡ aside.old) }
 {
     if ports.published(port).is_none() {

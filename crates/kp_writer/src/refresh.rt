@@ -1,14 +1,11 @@
 //! What is known of the ports of one Service, taken over together.
-ghost use Rattle.std.specs.Prelude.{◌≡◌, ◌+◌, ◌≤◌, ◌∷◌, [], ℕ, cond, drop, map, false, IfOk};
-ghost use Rattle.std.specs.Prelude.{OnOk, OnErr};
+ghost use Rattle.std.specs.Prelude.{◌≡◌, ◌+◌, ◌≤◌, ◌∷◌, [], ℕ, cond, drop, map, IfOk, OnOk, OnErr};
 ghost use Rattle.std.specs.FinMap as finite;
-ghost use Rattle.kp_base.specs.declared.key.PortKey.{PortKey as Key};
-ghost use Rattle.kp_writer_laws.specs.LocalLaws.{is_one_of};
 ghost use Rattle.kp_blocks.specs.Joined.{is_port_of};
 ghost use Rattle.kp_writer.specs.Old.{unwritten};
 ghost use Rattle.kp_writer.specs.Refresh as spec;
 ghost use Rattle.kp_writer.specs.Shared.{shared_rule_count};
-ghost use Rattle.kp_writer.specs.Written.{newest_ports, setting_in, written_ports};
+ghost use Rattle.kp_writer.specs.Written.{setting_in, with_newest};
 
 use crate::writer::Writer;
 use kp_base::{Copied, NoMemory, ObjectKey, PortKey, Steps};
@@ -27,16 +24,12 @@ pub fn copies(alloc: Global, ports: &[&PortKey]) -> Result<Vec<PortKey>, NoMemor
     Ok(copies)
 }
 
-/// Takes over that ports are gone.
+/// Takes over that ports are gone. Where memory is out, the last of them are.
 pub fn drop_all(alloc: Global, writer: &mut Writer, mut ports: Vec<PortKey>) -> Result<(), NoMemory>
-    ensures family { writer.new.family ≡ writer.old.family }
-    ensures config { writer.new.config ≡ writer.old.config }
-    ensures written { written_ports writer.new ≡ written_ports writer.old }
-    ensures newest { OnOk result (newest_ports writer.new
-        ≡ spec.without (newest_ports writer.old) ports.items) }
-    ensures others { (key : Key) → is_one_of ports.items key ≡ false
-        → finite.get (newest_ports writer.new) key ≡ finite.get (newest_ports writer.old) key }
-    ensures only { spec.OnlyGo (newest_ports writer.old) (newest_ports writer.new) }
+    ensures ok { OnOk result (writer.new
+        ≡ with_newest writer.old (spec.without writer.old.newest ports.items)) }
+    ensures part { (left : ℕ) × (writer.new
+        ≡ with_newest writer.old (spec.without writer.old.newest (drop left ports.items))) }
 {
     while let Some(port) = ports.pop() {
         writer.drop_port(alloc, &port)?;
@@ -45,7 +38,8 @@ pub fn drop_all(alloc: Global, writer: &mut Writer, mut ports: Vec<PortKey>) -> 
 }
 
 /// Takes over what is known of ports, as far as they are a Service's. It takes at most a step for
-/// each rule in the shared chains that those have of which something else was written.
+/// each rule in the shared chains that those have of which something else was written. Where
+/// memory is out, the last of them are taken over.
 pub fn put_all<L: Ledger>(
     alloc: Global,
     writer: &mut Writer,
@@ -53,19 +47,14 @@ pub fn put_all<L: Ledger>(
     mut infos: Vec<PortInfo>,
     steps: &mut Steps<L>,
 ) -> Result<(), NoMemory>
-    ensures family { writer.new.family ≡ writer.old.family }
-    ensures config { writer.new.config ≡ writer.old.config }
-    ensures written { written_ports writer.new ≡ written_ports writer.old }
-    ensures newest { OnOk result (newest_ports writer.new
-        ≡ spec.with_infos service.now (newest_ports writer.old) infos.items) }
-    ensures part { OnErr result ((left : ℕ) × (newest_ports writer.new
-        ≡ spec.with_infos service.now (newest_ports writer.old) (drop left infos.items))) }
-    ensures others { spec.OthersStay service.now
-        (newest_ports writer.old) (newest_ports writer.new) }
+    ensures ok { OnOk result (writer.new ≡ with_newest writer.old
+        (spec.with_infos service.now writer.old.newest infos.items)) }
+    ensures part { (left : ℕ) × (writer.new ≡ with_newest writer.old
+        (spec.with_infos service.now writer.old.newest (drop left infos.items))) }
     ensures more { steps.old ≤ steps.new }
     ensures steps { steps.new
         ≤ steps.old + shared_rule_count (setting_in writer.old)
-        (unwritten (written_ports writer.old) infos.items) }
+        (unwritten writer.old.written infos.items) }
 {
     while let Some(info) = infos.pop() {
         put_if(alloc, writer, service, info, steps)?;
@@ -81,17 +70,14 @@ fn put_if<L: Ledger>(
     info: PortInfo,
     steps: &mut Steps<L>,
 ) -> Result<(), NoMemory>
-    ensures family { writer.new.family ≡ writer.old.family }
-    ensures config { writer.new.config ≡ writer.old.config }
-    ensures written { written_ports writer.new ≡ written_ports writer.old }
-    ensures newest { OnOk result (newest_ports writer.new
-        ≡ cond (is_port_of service.now info.key)
-        (finite.insert (newest_ports writer.old) info.key info) (newest_ports writer.old)) }
-    ensures err { OnErr result (newest_ports writer.new ≡ newest_ports writer.old) }
+    ensures ok { OnOk result (writer.new ≡ with_newest writer.old
+        (cond (is_port_of service.now info.key)
+        (finite.insert writer.old.newest info.key info) writer.old.newest)) }
+    ensures err { OnErr result (writer.new ≡ writer.old) }
     ensures more { steps.old ≤ steps.new }
     ensures steps { steps.new
         ≤ steps.old + shared_rule_count (setting_in writer.old)
-        (unwritten (written_ports writer.old) (info ∷ [])) }
+        (unwritten writer.old.written (info ∷ [])) }
 {
     if *service == info.key.object {
         writer.put(alloc, info, steps)

@@ -3,14 +3,12 @@ ghost use Rattle.std.specs.Prelude.{◌≡◌, true, map};
 ghost use Rattle.std.specs.FinMap as finite;
 ghost use Rattle.std.specs.List.{find};
 ghost use Rattle.std.specs.Option.{option_copied};
-ghost use Rattle.kp_base.specs.Keys.{port_key_cmp};
 ghost use Rattle.kp_base.specs.declared.config.Config.{Config};
 ghost use Rattle.kp_choice_defs.specs.Settings.{setting_of};
 ghost use Rattle.kp_types.specs.Chains.{is_chain_name};
 ghost use Rattle.kp_types.specs.Places.{filter_of, nat_of};
-ghost use Rattle.kp_tracker.specs.Tracked as tracked;
 ghost use Rattle.kp_writer.specs.Shared as spec;
-ghost use Rattle.kp_writer.specs.Written.{AreBlocksOf, AreOldBlocks};
+ghost use Rattle.kp_writer.specs.Written.{AreBlocksOf, AreOldBlocks, newest_in, written_in};
 
 use crate::known::Known;
 use crate::old::written_block;
@@ -39,11 +37,12 @@ pub fn touched_by(
     keys: &[&PortKey],
 ) -> Touched
     ensures { (config : Config) → AreBlocksOf (setting_of family config)
-        (tracked.newest port_key_cmp ports.now) blocks.now
-        → AreOldBlocks (setting_of family config) ports.now aside.now
+        (newest_in ports.now) blocks.now
+        → AreOldBlocks (setting_of family config)
+        (written_in ports.now) (newest_in ports.now) aside.now
         → result ≡ spec.touched_by (setting_of family config) (map (λ k. (
-          finite.get (tracked.published port_key_cmp ports.now) k.now,
-          finite.get (tracked.newest port_key_cmp ports.now) k.now,
+          finite.get (written_in ports.now) k.now,
+          finite.get (newest_in ports.now) k.now,
         )) keys.now) }
 {
     let mut touched = untouched();

@@ -1,11 +1,9 @@
 //! What stands after a sync, made from the ports that differ.
-ghost use Rattle.std.specs.Prelude.{◌≡◌, ◌+◌, ◌≤◌, map, IfOk, OnOk};
-ghost use Rattle.kp_base.specs.Keys.{port_key_cmp};
+ghost use Rattle.std.specs.Prelude.{◌≡◌, ◌+◌, ◌≤◌, map, IfOk, OnOk, OnErr};
 ghost use Rattle.kp_choice_defs.specs.Settings.{setting_of};
-ghost use Rattle.kp_tracker.specs.Tracked as tracked;
 ghost use Rattle.kp_writer.specs.Own.{own_rule_count, with_own};
 ghost use Rattle.kp_writer.specs.Sync as spec;
-ghost use Rattle.kp_writer.specs.Written.{AreBlocksOf, AreOldBlocks};
+ghost use Rattle.kp_writer.specs.Written.{AreBlocksOf, AreOldBlocks, newest_in, written_in};
 
 use crate::infos::{newest_infos, written_infos};
 use crate::join::join_touched;
@@ -35,16 +33,17 @@ pub fn next_chains<L: Ledger>(
     steps: &mut Steps<L>,
 ) -> Result<NextChains, NoMemory>
     requires blocks { AreBlocksOf (setting_of family config.now)
-        (tracked.newest port_key_cmp ports.now) blocks.now }
-    requires old { AreOldBlocks (setting_of family config.now) ports.now aside.now }
+        (newest_in ports.now) blocks.now }
+    requires old { AreOldBlocks (setting_of family config.now)
+        (written_in ports.now) (newest_in ports.now) aside.now }
     ensures next { IfOk result (λ next. next ≡ spec.sync_next table.now.chains blocks.now
-        (setting_of family config.now) (tracked.published port_key_cmp ports.now)
-        (tracked.newest port_key_cmp ports.now) (map (λ k. k.now) keys.now)) }
+        (setting_of family config.now) (written_in ports.now)
+        (newest_in ports.now) (map (λ k. k.now) keys.now)) }
     ensures made { OnOk result (steps.old + own_rule_count (setting_of family config.now)
-        (spec.infos_at (tracked.newest port_key_cmp ports.now) (map (λ k. k.now) keys.now))
+        (spec.infos_at (newest_in ports.now) (map (λ k. k.now) keys.now))
         ≤ steps.new) }
     ensures steps { steps.new ≤ steps.old + own_rule_count (setting_of family config.now)
-        (spec.infos_at (tracked.newest port_key_cmp ports.now) (map (λ k. k.now) keys.now)) }
+        (spec.infos_at (newest_in ports.now) (map (λ k. k.now) keys.now)) }
 {
     let mut next = own_chains(alloc, family, config, ports, keys, table, steps)?;
     let touched = touched_by(family, ports, blocks, aside, keys);
@@ -64,13 +63,14 @@ fn own_chains<L: Ledger>(
 ) -> Result<NextChains, NoMemory>
     ensures next { IfOk result (λ next. next ≡ with_own table.now.chains
         (setting_of family config.now)
-        (spec.infos_at (tracked.published port_key_cmp ports.now) (map (λ k. k.now) keys.now))
-        (spec.infos_at (tracked.newest port_key_cmp ports.now) (map (λ k. k.now) keys.now))) }
+        (spec.infos_at (written_in ports.now) (map (λ k. k.now) keys.now))
+        (spec.infos_at (newest_in ports.now) (map (λ k. k.now) keys.now))) }
     ensures made { OnOk result (steps.new ≡ steps.old + own_rule_count
         (setting_of family config.now)
-        (spec.infos_at (tracked.newest port_key_cmp ports.now) (map (λ k. k.now) keys.now))) }
-    ensures steps { steps.new ≤ steps.old + own_rule_count (setting_of family config.now)
-        (spec.infos_at (tracked.newest port_key_cmp ports.now) (map (λ k. k.now) keys.now)) }
+        (spec.infos_at (newest_in ports.now) (map (λ k. k.now) keys.now))) }
+    ensures steps { OnErr result (steps.new ≤ steps.old + own_rule_count
+        (setting_of family config.now)
+        (spec.infos_at (newest_in ports.now) (map (λ k. k.now) keys.now))) }
 {
     let gone = written_infos(alloc, ports, keys)?;
     let made = newest_infos(alloc, ports, keys)?;

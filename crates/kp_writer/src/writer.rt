@@ -11,8 +11,9 @@ ghost use Rattle.kp_writer.specs.Batch.{own_rules_written};
 ghost use Rattle.kp_writer.specs.Known.{pending_ports};
 ghost use Rattle.kp_writer.specs.Old.{is_known as is_told, unwritten};
 ghost use Rattle.kp_writer.specs.Own.{own_rule_count};
-ghost use Rattle.kp_writer.specs.Refresh.{IsPartlyRefreshed, IsRefreshed, OthersStay};
+ghost use Rattle.kp_writer.specs.Refresh.{Refreshes};
 ghost use Rattle.kp_writer.specs.Shared.{shared_rule_count};
+ghost use Rattle.kp_writer.specs.Sync.{IsNextOf};
 ghost use Rattle.kp_writer.specs.Written as spec;
 
 use crate::block::block_of;
@@ -20,6 +21,7 @@ use crate::dirty::dirty_ports;
 use crate::infos::newest_infos;
 use crate::kept;
 use crate::known::Known;
+use crate::next::NextChains;
 use crate::old::{is_known, set_aside, written_block};
 use crate::pending::Pending;
 use crate::refresh::{copies, drop_all, put_all};
@@ -75,10 +77,7 @@ impl Model for Writer {
 impl Writer {
     /// Nothing was written, and no port is known.
     pub fn new(alloc: Global, family: Family, config: &Config) -> Result<Writer, NoMemory>
-        ensures family { IfOk result (λ w. w.family ≡ family) }
-        ensures config { IfOk result (λ w. w.config ≡ config.now) }
-        ensures written { IfOk result (λ w. spec.written_ports w ≡ finite.empty) }
-        ensures newest { IfOk result (λ w. spec.newest_ports w ≡ finite.empty) }
+        ensures { IfOk result (λ w. w ≡ spec.new_writer family config.now) }
     {
         Ok(Writer {
             family,
@@ -96,6 +95,13 @@ impl Writer {
         self.family
     }
 
+    /// The configuration.
+    pub fn config(&self) -> &Config
+        ensures { result.now ≡ self.now.config }
+    {
+        &self.config
+    }
+
     /// Takes over what is known of a port. Where something else was written, it takes at most a
     /// step for each rule that the port has in the shared chains, else none. Where memory is out,
     /// all stays.
@@ -105,16 +111,13 @@ impl Writer {
         info: PortInfo,
         steps: &mut Steps<L>,
     ) -> Result<(), NoMemory>
-        ensures family { self.new.family ≡ self.old.family }
-        ensures config { self.new.config ≡ self.old.config }
-        ensures written { spec.written_ports self.new ≡ spec.written_ports self.old }
-        ensures newest { OnOk result (spec.newest_ports self.new
-            ≡ finite.insert (spec.newest_ports self.old) info.key info) }
-        ensures err { OnErr result (spec.newest_ports self.new ≡ spec.newest_ports self.old) }
+        ensures ok { OnOk result (self.new
+            ≡ spec.with_newest self.old (finite.insert self.old.newest info.key info)) }
+        ensures err { OnErr result (self.new ≡ self.old) }
         ensures more { steps.old ≤ steps.new }
         ensures steps { steps.new ≤ steps.old
             + shared_rule_count (spec.setting_in self.old)
-            (unwritten (spec.written_ports self.old) (info ∷ [])) }
+            (unwritten self.old.written (info ∷ [])) }
     {
         let block = self.block_for(alloc, &info, steps)?;
         set_aside(alloc, &self.ports, &self.blocks, &mut self.aside, &info.key)?;
@@ -133,7 +136,7 @@ impl Writer {
         ensures more { steps.old ≤ steps.new }
         ensures steps { steps.new ≤ steps.old
             + shared_rule_count (spec.setting_in self.now)
-            (unwritten (spec.written_ports self.now) (info.now ∷ [])) }
+            (unwritten self.now.written (info.now ∷ [])) }
     {
         match self.block_at_hand(info) {
             Some(block) => block.copy(alloc),
@@ -144,7 +147,7 @@ impl Writer {
     /// A port's block, where the same was written of it.
     fn block_at_hand(&self, info: &PortInfo) -> Option<&Items<ChainText>>
         ensures { option_copied result
-            ≡ cond (is_told (finite.get (spec.written_ports self.now) info.now.key) info.now)
+            ≡ cond (is_told (finite.get self.now.written info.now.key) info.now)
             (Some (port_block (spec.setting_in self.now) info.now)) None }
     {
         if is_known(self.ports.published(&info.key), info) {
@@ -156,12 +159,9 @@ impl Writer {
 
     /// Takes over that a port is gone. Where memory is out, all stays.
     pub fn drop_port(&mut self, alloc: Global, port: &PortKey) -> Result<(), NoMemory>
-        ensures family { self.new.family ≡ self.old.family }
-        ensures config { self.new.config ≡ self.old.config }
-        ensures written { spec.written_ports self.new ≡ spec.written_ports self.old }
-        ensures newest { OnOk result (spec.newest_ports self.new
-            ≡ finite.remove (spec.newest_ports self.old) port.now) }
-        ensures err { OnErr result (spec.newest_ports self.new ≡ spec.newest_ports self.old) }
+        ensures ok { OnOk result (self.new
+            ≡ spec.with_newest self.old (finite.remove self.old.newest port.now)) }
+        ensures err { OnErr result (self.new ≡ self.old) }
     {
         set_aside(alloc, &self.ports, &self.blocks, &mut self.aside, port)?;
         kept::drop_port(alloc, &mut self.ports, &mut self.blocks, port)
@@ -170,7 +170,7 @@ impl Writer {
     /// The newest ports, in order of their names.
     pub fn ports(&self, alloc: Global) -> Result<Vec<&PortKey>, NoMemory>
         ensures { IfOk result (λ ports. map (λ k. k.now) ports.items
-            ≡ finite.keys (spec.newest_ports self.now)) }
+            ≡ finite.keys self.now.newest) }
     {
         self.blocks.ports(alloc)
     }
@@ -179,7 +179,7 @@ impl Writer {
     /// at.
     pub fn ports_of(&self, alloc: Global, service: &ObjectKey) -> Result<Vec<&PortKey>, NoMemory>
         ensures { IfOk result (λ ports. map (λ k. k.now) ports.items
-            ≡ filter (is_port_of service.now) (finite.keys (spec.newest_ports self.now))) }
+            ≡ filter (is_port_of service.now) (finite.keys self.now.newest)) }
     {
         self.blocks.ports_of(alloc, service)
     }
@@ -196,19 +196,13 @@ impl Writer {
         infos: Vec<PortInfo>,
         steps: &mut Steps<L>,
     ) -> Result<(), NoMemory>
-        ensures family { self.new.family ≡ self.old.family }
-        ensures config { self.new.config ≡ self.old.config }
-        ensures written { spec.written_ports self.new ≡ spec.written_ports self.old }
-        ensures newest { OnOk result (IsRefreshed service.now infos.items
-            (spec.newest_ports self.old) (spec.newest_ports self.new)) }
-        ensures part { OnErr result (IsPartlyRefreshed infos.items
-            (spec.newest_ports self.old) (spec.newest_ports self.new)) }
-        ensures others { OthersStay service.now
-            (spec.newest_ports self.old) (spec.newest_ports self.new) }
+        ensures value { self.new ≡ spec.with_newest self.old self.new.newest }
+        ensures ports { Refreshes result service.now infos.items
+            self.old.newest self.new.newest }
         ensures more { steps.old ≤ steps.new }
         ensures steps { steps.new ≤ steps.old
             + shared_rule_count (spec.setting_in self.old)
-            (unwritten (spec.written_ports self.old) infos.items) }
+            (unwritten self.old.written infos.items) }
     {
         let gone = self.copies_of(alloc, service)?;
         drop_all(alloc, self, gone)?;
@@ -218,7 +212,7 @@ impl Writer {
     /// Copies of the names of the newest ports of a Service.
     fn copies_of(&self, alloc: Global, service: &ObjectKey) -> Result<Vec<PortKey>, NoMemory>
         ensures { IfOk result (λ ports. ports.items
-            ≡ filter (is_port_of service.now) (finite.keys (spec.newest_ports self.now))) }
+            ≡ filter (is_port_of service.now) (finite.keys self.now.newest)) }
     {
         let ports = self.ports_of(alloc, service)?;
         copies(alloc, &ports)
@@ -246,21 +240,42 @@ impl Writer {
         steps: &mut Steps<L>,
     ) -> Result<Batch, TableFault>
         requires table { HasTablesOf self.now.family table.now.chains
-            (spec.chains_of self.now (spec.written_ports self.now)) }
-        requires apart { spec.clash_of self.now (spec.written_ports self.now) ≡ None }
+            (spec.chains_of self.now self.now.written) }
+        requires apart { spec.clash_of self.now self.now.written ≡ None }
         ensures batch { IfOk result (λ b. b.edits ≡ spec.next_edits self.now) }
-        ensures no_clash { OnOk result (
-            spec.clash_of self.now (spec.newest_ports self.now) ≡ None) }
-        ensures clash { IfErr result (TellsClash
-            (spec.clash_of self.now (spec.newest_ports self.now))) }
+        ensures no_clash { OnOk result (spec.clash_of self.now self.now.newest ≡ None) }
+        ensures clash { IfErr result (TellsClash (spec.clash_of self.now self.now.newest)) }
         ensures made { IfOk result (λ b. steps.old + own_rules_written b.edits ≤ steps.new) }
         ensures steps { steps.new ≤ steps.old
             + own_rule_count (spec.setting_in self.now)
-            (spec.dirty_of self.now (spec.newest_ports self.now)) }
+            (spec.dirty_of self.now self.now.newest) }
+    {
+        let next = self.next(alloc, table, steps)?;
+        self.check_names(alloc, next.all_free())?;
+        Ok(next.edits(alloc, self.family, table)?)
+    }
+
+    /// What stands after the dirty ports' chains are written, and the shared chains that they
+    /// touch are joined.
+    fn next<L: Ledger>(
+        &self,
+        alloc: Global,
+        table: &Table,
+        steps: &mut Steps<L>,
+    ) -> Result<NextChains, NoMemory>
+        requires table { HasTablesOf self.now.family table.now.chains
+            (spec.chains_of self.now self.now.written) }
+        requires apart { spec.clash_of self.now self.now.written ≡ None }
+        ensures next { IfOk result (IsNextOf self.now table.now.chains) }
+        ensures made { OnOk result (steps.old + own_rule_count (spec.setting_in self.now)
+            (spec.dirty_of self.now self.now.newest) ≤ steps.new) }
+        ensures steps { steps.new ≤ steps.old
+            + own_rule_count (spec.setting_in self.now)
+            (spec.dirty_of self.now self.now.newest) }
     {
         kp_walk_laws::hashed_prefixed();
         let keys = self.ports.pending(alloc)?;
-        let next = next_chains(
+        next_chains(
             alloc,
             self.family,
             &self.config,
@@ -270,35 +285,38 @@ impl Writer {
             &keys,
             table,
             steps,
-        )?;
-        self.check_names(alloc, next.all_free())?;
-        Ok(next.edits(alloc, self.family, table)?)
+        )
     }
 
     /// Checks that no two chains that the newest ports need have one name. Where each chain of a
     /// dirty port found its place free none have, so that the names of all ports are made and
     /// compared only where one didn't.
     fn check_names(&self, alloc: Global, all_free: bool) -> Result<(), TableFault>
-        requires { all_free ≡ true → spec.clash_of self.now (spec.newest_ports self.now) ≡ None }
+        requires { all_free ≡ true → spec.clash_of self.now self.now.newest ≡ None }
         ensures no_clash { OnOk result (
-            spec.clash_of self.now (spec.newest_ports self.now) ≡ None) }
+            spec.clash_of self.now self.now.newest ≡ None) }
         ensures clash { IfErr result (TellsClash
-            (spec.clash_of self.now (spec.newest_ports self.now))) }
+            (spec.clash_of self.now self.now.newest)) }
     {
         if all_free {
             return Ok(());
         }
-        let ports = self.ports(alloc)?;
-        let infos = newest_infos(alloc, &self.ports, &ports)?;
+        let infos = self.infos(alloc)?;
         check_names(alloc, &self.config, &infos)
+    }
+
+    /// What is known of the newest ports, in order of their names.
+    fn infos(&self, alloc: Global) -> Result<Vec<&PortInfo>, NoMemory>
+        ensures { IfOk result (λ infos. map (λ i. i.now) infos.items
+            ≡ finite.values self.now.newest) }
+    {
+        let ports = self.ports(alloc)?;
+        newest_infos(alloc, &self.ports, &ports)
     }
 
     /// Takes over that the newest ports are written. It takes no memory.
     pub fn keep(&mut self, alloc: Global)
-        ensures family { self.new.family ≡ self.old.family }
-        ensures config { self.new.config ≡ self.old.config }
-        ensures written { spec.written_ports self.new ≡ spec.newest_ports self.old }
-        ensures newest { spec.newest_ports self.new ≡ spec.newest_ports self.old }
+        ensures { self.new ≡ spec.all_written self.old }
     {
         self.ports.settle();
         let _ = replace(&mut self.aside, Blocks::new(alloc));

@@ -1,75 +1,104 @@
-use Rattle.std.proofs.Common.{◌≡◌, ◌≤◌, ◌+◌, ◌++◌, ap, sym, ◌∙◌, arith}
+use Rattle.std.proofs.Common.{◌++◌, append-nil, flat_map, IfSome, ap, sym, subst, ◌∙◌, arith}
+use Rattle.std.specs.Option.{option_to_list}
+use Rattle.kp_base.specs.declared.address.Family.TheVariants.{V6}
 use Rattle.kp_full_table.proofs.Clashes.{handed_on}
 use Rattle.kp_writer.specs.Batch.{own_rules_written}
+use Rattle.kp_writer.specs.Written.{next_edits}
 use Rattle.kp_writer.proofs.WrittenRules.{own_rules_written-append}
-use Rattle.kp_plane.specs.Families.{own_dirty_rules}
-use Rattle.kp_plane.proofs.Made.{edits_more, first_told, no_clash_more, rules_more, rules_within, stands_at}
+use Rattle.kp_plane.specs.Families.{HasNoClash, Stands}
+use Rattle.kp_plane.proofs.Made.{first_told, rules_both, rules_first, then_told}
 use Rattle.kp_plane.proofs.next.all_edits.Goals as goal
 
 pub edits-requires-clause-table : goal.edits-requires-clause-table
-edits-requires-clause-table g c =
-    (stands_at c.args.writers.now c.loop-writer.writer-index c.writer-item.result
-    c.loop-writer-test.true c.writer-item.is c.args.table.now.chains c.requires).table
+edits-requires-clause-table g c = c.requires.0.table
 
 pub edits-requires-clause-apart : goal.edits-requires-clause-apart
-edits-requires-clause-apart g c =
-    (stands_at c.args.writers.now c.loop-writer.writer-index c.writer-item.result
-    c.loop-writer-test.true c.writer-item.is c.args.table.now.chains c.requires).apart
+edits-requires-clause-apart g c = c.requires.0.apart
 
--- the first clash is told
-pub returns-in_err-batch-clause-clash : goal.returns-in_err-batch-clause-clash
-returns-in_err-batch-clause-clash g c =
-    let fault = c.in_err-batch.field-0.0 in
+pub edits-requires-2-clause-table : goal.edits-requires-2-clause-table
+edits-requires-2-clause-table g c =
+    (subst (λ o. IfSome o (Stands c.args.table.now.chains V6)) c.in-Some.is c.requires.1).table
+
+pub edits-requires-2-clause-apart : goal.edits-requires-2-clause-apart
+edits-requires-2-clause-apart g c =
+    (subst (λ o. IfSome o (Stands c.args.table.now.chains V6)) c.in-Some.is c.requires.1).apart
+
+-- the clash of IPv4 is told, or else that of IPv6
+pub returns-in_err-four-clause-clash : goal.returns-in_err-four-clause-clash
+returns-in_err-four-clause-clash g c =
+    let fault = c.in_err-four.field-0.0 in
     handed_on _ fault _ c.from_residual.ensures.1
-    (first_told c.args.writers.now c.loop-writer.writer-index c.writer-item.result
-    c.loop-writer-test.true c.writer-item.is c.loop-writer.invariant.no_clash fault
-    c.in_err-batch.ensures.clash)
+    (first_told c.args.writers.now fault c.in_err-four.ensures.clash)
 
--- no more steps than the writers so far and this one take
-pub returns-in_err-batch-clause-steps : goal.returns-in_err-batch-clause-steps
-returns-in_err-batch-clause-steps g c =
-    let w = c.writer-item.result in
-    let one : c.edits.new.steps ≤ c.loop-writer.steps + own_dirty_rules w = c.edits.ensures.steps in
+pub returns-in_err-six-clause-clash : goal.returns-in_err-six-clause-clash
+returns-in_err-six-clause-clash g c =
+    let fault = c.in_err-six.field-0.0 in
+    handed_on _ fault _ c.from_residual-in_err-six.ensures.1
+    (then_told c.args.writers.now c.in-Some.six c.in-Some.is c.in_ok-four.ensures.no_clash fault
+    c.in_err-six.ensures.clash)
+
+pub returns-in_err-four-clause-steps : goal.returns-in_err-four-clause-steps
+returns-in_err-four-clause-steps g c =
+    omega (arith, c.edits.ensures.steps, rules_first c.args.writers.now)
+
+pub returns-in_default-clause-steps : goal.returns-in_default-clause-steps
+returns-in_default-clause-steps g c =
+    omega (arith, c.edits.ensures.steps, rules_first c.args.writers.now)
+
+pub returns-in_default-clause-edits : goal.returns-in_default-clause-edits
+returns-in_default-clause-edits g c =
+    let x = c.args.writers.now in
+    c.in_ok-four.ensures.batch ∙ sym (append-nil (next_edits x.four))
+    ∙ ap (λ o. next_edits x.four ++ flat_map next_edits (option_to_list o)) (sym c.in_default.is)
+
+pub returns-in_default-clause-no_clash : goal.returns-in_default-clause-no_clash
+returns-in_default-clause-no_clash g c =
+    (c.in_ok-four.ensures.no_clash, subst (λ o. IfSome o (HasNoClash V6)) (sym c.in_default.is) tt)
+
+pub returns-in_err-six-clause-steps : goal.returns-in_err-six-clause-steps
+returns-in_err-six-clause-steps g c =
     omega (
       arith,
-      one,
-      c.loop-writer.invariant.steps,
-      rules_within c.args.writers.now
-          c.loop-writer.writer-index w c.loop-writer-test.true c.writer-item.is,
+      c.edits.ensures.steps,
+      c.edits-2.ensures.steps,
+      rules_both c.args.writers.now c.in-Some.six c.in-Some.is,
     )
 
-pub returns-in_err-edits-clause-steps : goal.returns-in_err-edits-clause-steps
-returns-in_err-edits-clause-steps g c =
-    let w = c.writer-item.result in
-    let one : c.edits.new.steps ≤ c.loop-writer.steps + own_dirty_rules w = c.edits.ensures.steps in
+pub returns-in_err-joined-clause-steps : goal.returns-in_err-joined-clause-steps
+returns-in_err-joined-clause-steps g c =
     omega (
       arith,
-      one,
-      c.loop-writer.invariant.steps,
-      rules_within c.args.writers.now
-          c.loop-writer.writer-index w c.loop-writer-test.true c.writer-item.is,
+      c.edits.ensures.steps,
+      c.edits-2.ensures.steps,
+      rules_both c.args.writers.now c.in-Some.six c.in-Some.is,
     )
 
--- one writer more
-pub loop-writer-preserved : goal.loop-writer-preserved
-loop-writer-preserved g c =
-    let ws = c.args.writers.now in
-    let i = c.loop-writer.writer-index in
-    let w = c.writer-item.result in
-    let few = c.loop-writer-test.true in
-    let is = c.writer-item.is in
-    let before = c.loop-writer.invariant in
-    let made = c.in_ok-batch.ensures in
-    let one : c.edits.new.steps ≤ c.loop-writer.steps + own_dirty_rules w = c.edits.ensures.steps in
-    let all : c.in_ok-edits.edits ≡ c.loop-writer.edits ++ c.in_ok-batch.batch.edits =
-    c.in_ok-edits.ensures ∙ ap (λ es. c.loop-writer.edits ++ es) c.replace-more.ensures.value in
-    let rules : own_rules_written c.in_ok-edits.edits
-    ≡ own_rules_written c.loop-writer.edits + own_rules_written c.in_ok-batch.batch.edits =
-    ap own_rules_written all
-    ∙ own_rules_written-append c.loop-writer.edits c.in_ok-batch.batch.edits in
-    record {
-      edits = all ∙ (λ k. before.edits k ++ made.batch k) ∙ sym (edits_more ws i w few is);
-      no_clash = no_clash_more ws i w few is made.no_clash before.no_clash;
-      made = omega (arith, rules, before.made, made.made);
-      steps = omega (arith, one, before.steps, rules_more ws i w few is);
-    }
+pub returns-clause-steps : goal.returns-clause-steps
+returns-clause-steps g c =
+    omega (
+      arith,
+      c.edits.ensures.steps,
+      c.edits-2.ensures.steps,
+      rules_both c.args.writers.now c.in-Some.six c.in-Some.is,
+    )
+
+pub returns-clause-edits : goal.returns-clause-edits
+returns-clause-edits g c =
+    let x = c.args.writers.now in
+    let w = c.in-Some.six in
+    c.in_ok-joined.ensures
+    ∙ (λ i. c.in_ok-four.ensures.batch i ++ c.in_ok-six.ensures.batch i)
+    ∙ ap (λ es. next_edits x.four ++ es) (sym (append-nil (next_edits w)))
+    ∙ ap (λ o. next_edits x.four ++ flat_map next_edits (option_to_list o)) (sym c.in-Some.is)
+
+pub returns-clause-no_clash : goal.returns-clause-no_clash
+returns-clause-no_clash g c = (
+  c.in_ok-four.ensures.no_clash,
+  subst (λ o. IfSome o (HasNoClash V6)) (sym c.in-Some.is) c.in_ok-six.ensures.no_clash,
+)
+
+pub returns-clause-made : goal.returns-clause-made
+returns-clause-made g c =
+    let all = ap own_rules_written c.in_ok-joined.ensures
+    ∙ own_rules_written-append c.in_ok-four.four.edits c.in_ok-six.six.edits in
+    omega (arith, all, c.in_ok-four.ensures.made, c.in_ok-six.ensures.made)

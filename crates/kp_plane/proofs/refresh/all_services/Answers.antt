@@ -7,13 +7,12 @@ use Rattle.kp_base.specs.Keys.{key_cmp}
 use Rattle.kp_base.specs.declared.key.ObjectKey.{ObjectKey}
 use Rattle.kp_base.specs.declared.key.PortKey.{PortKey}
 use Rattle.kp_store.proofs.Unions.{any_shown}
-use Rattle.kp_writer.specs.Written.{newest_ports}
 use Rattle.kp_plane.proofs.Refreshed.{not_listed, other_ports, put_twice}
 use Rattle.kp_plane.proofs.refresh.all_services.Goals as goal
 
 pub returns-clause-ports : goal.returns-clause-ports
 returns-clause-ports c = λ port out.
-    let ports = newest_ports c.args.writer.now in
+    let ports = c.args.writer.now.newest in
     let names : map (λ (q : Bor ObjectKey). q.now) c.deref-2.result.now
     ≡ map (λ (k : PortKey). k.object) (finite.keys ports) =
     ap (map (λ (q : Bor ObjectKey). q.now)) c.deref-2.ensures.value

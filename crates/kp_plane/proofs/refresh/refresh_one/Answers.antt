@@ -1,31 +1,34 @@
-use Rattle.std.proofs.Common.{ap, arith, ◌∙◌}
-use Rattle.std.proofs.lemmas.Result.{on_ok_weaker}
-use Rattle.kp_choice_defs.specs.Settings.{setting_of}
-use Rattle.kp_writer.specs.Old.{unwritten}
-use Rattle.kp_writer.specs.Shared.{shared_rule_count}
-use Rattle.kp_writer.specs.Written.{newest_ports, written_ports}
-use Rattle.kp_plane.proofs.Refreshed.{made_one, service_done, told_by}
+use Rattle.std.proofs.Common.{arith, ◌∙◌}
+use Rattle.std.specs.List.{filter_map}
+use Rattle.kp_types.specs.Setting.{config_for}
+use Rattle.kp_object_defs.specs.PortByKey.{info_at}
+use Rattle.kp_writer.specs.Known.{port_keys_at}
+use Rattle.kp_writer.specs.Written.{setting_in}
+use Rattle.kp_plane.proofs.Refreshed.{made_one, others_stay, service_done}
 use Rattle.kp_plane.proofs.refresh.refresh_one.Goals as goal
+
+pub returns-clause-others : goal.returns-clause-others
+returns-clause-others g c =
+    others_stay c.refresh.result c.args.service.now c.in_ok-infos.infos.items
+    c.args.writer.now.newest c.refresh.new.self.newest c.refresh.ensures.ports
 
 pub returns-clause-ok : goal.returns-clause-ok
 returns-clause-ok g c =
-    on_ok_weaker c.refresh.result
-    (λ made. service_done (setting_of c.args.writer.now.family c.args.config.now) c.args.objects.now
-    c.known_of_service.ensures c.requires.own_keys c.args.service.now c.in_ok-infos.infos.items
-    (newest_ports c.args.writer.now) (newest_ports c.refresh.new.self)
+    let o = c.args.objects.now in
+    service_done (setting_in c.args.writer.now) o c.known_of_service.ensures c.requires
+    c.args.service.now c.in_ok-infos.infos.items c.args.writer.now.newest
+    c.refresh.new.self.newest
     (c.in_ok-infos.ensures.infos
-    ∙ told_by c.args.config.now c.args.objects.now c.args.service.now c.family.ensures) made)
-    c.refresh.ensures.newest
+    ∙ (λ i. filter_map (info_at (c.family.ensures i) (config_for (c.family.ensures i)
+    (c.config.ensures i)) o) (port_keys_at o c.args.service.now)))
+    c.refresh.result c.refresh.ensures.ports
 
 pub returns-clause-steps : goal.returns-clause-steps
 returns-clause-steps g c =
-    let setting = setting_of c.args.writer.now.family c.args.config.now in
-    let written = written_ports c.args.writer.now in
-    let infos = c.in_ok-infos.infos.items in
-    let by = ap (λ config. shared_rule_count (setting_of c.args.writer.now.family config)
-    (unwritten written infos))
-    c.requires.config in
-    let one = made_one setting written c.args.objects.now c.args.service.now infos
+    let o = c.args.objects.now in
+    let one = made_one (setting_in c.args.writer.now) c.args.writer.now.written o
+    c.args.service.now c.in_ok-infos.infos.items
     (c.in_ok-infos.ensures.infos
-    ∙ told_by c.args.config.now c.args.objects.now c.args.service.now c.family.ensures) in
-    omega (arith, by, one, c.refresh.ensures.steps)
+    ∙ (λ i. filter_map (info_at (c.family.ensures i) (config_for (c.family.ensures i)
+    (c.config.ensures i)) o) (port_keys_at o c.args.service.now))) in
+    omega (arith, one, c.refresh.ensures.steps)

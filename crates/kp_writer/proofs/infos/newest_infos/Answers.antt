@@ -1,9 +1,8 @@
 use Rattle.std.proofs.Common.{◌++◌, ◌∙◌}
 use Rattle.std.specs.FinMap.{get}
 use Rattle.std.specs.Option.{option_to_list}
-use Rattle.kp_base.specs.Keys.{port_key_cmp}
 use Rattle.kp_desired.proofs.Steps.{filter_map_now_step}
-use Rattle.kp_tracker.specs.Tracked as tracked
+use Rattle.kp_writer.specs.Written.{newest_in}
 use Rattle.kp_writer.proofs.infos.newest_infos.Goals as goal
 
 -- one port more
@@ -11,5 +10,5 @@ pub loop-key-preserved : goal.loop-key-preserved
 loop-key-preserved c =
     c.in_ok-add_if.ensures
     ∙ (λ i. c.loop-key.invariant i ++ option_to_list (c.newest.ensures i))
-    ∙ filter_map_now_step (get (tracked.newest port_key_cmp c.args.ports.now)) c.args.keys.now
+    ∙ filter_map_now_step (get (newest_in c.args.ports.now)) c.args.keys.now
     c.loop-key.key-index c.key-item.result c.loop-key-test.true c.key-item.is

@@ -1,7 +1,6 @@
 use Rattle.std.proofs.Common.{sym, ◌∙◌}
 use Rattle.std.specs.FinMap as finite
-use Rattle.kp_base.specs.Keys.{port_key_cmp}
-use Rattle.kp_tracker.specs.Tracked as tracked
+use Rattle.kp_writer.specs.Written.{newest_in}
 use Rattle.kp_writer.proofs.Present.{present}
 use Rattle.kp_writer.proofs.kept.put.Goals as goal
 
@@ -13,5 +12,5 @@ put_back-requires c =
 pub returns-in-Ok-clause-newest : goal.returns-in-Ok-clause-newest
 returns-in-Ok-clause-newest c =
     c.in-Ok.ensures.newest
-    ∙ (λ i. finite.insert (tracked.newest port_key_cmp c.args.ports.now) (c.in_ok-key.ensures i)
+    ∙ (λ i. finite.insert (newest_in c.args.ports.now) (c.in_ok-key.ensures i)
     (c.in_ok-known.ensures i))

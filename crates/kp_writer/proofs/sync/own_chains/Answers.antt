@@ -1,7 +1,9 @@
-use Rattle.std.proofs.Common.{Bor, arith, map, ap, ◌∙◌}
+use Rattle.std.proofs.Common.{◌+◌, ◌≤◌, rules, Bor, arith, map, ap, ◌∙◌}
 use Rattle.kp_choice_defs.specs.Settings.{setting_of}
 use Rattle.kp_object_defs.specs.PortInfo.{PortInfo}
 use Rattle.kp_writer.specs.Own.{left, own_rule_count, written}
+use Rattle.kp_writer.specs.Sync.{infos_at}
+use Rattle.kp_writer.specs.Written.{newest_in}
 use Rattle.kp_writer.proofs.sync.own_chains.Goals as goal
 
 pub returns-clause-next : goal.returns-clause-next
@@ -22,16 +24,12 @@ returns-clause-made g c =
     ∙ c.in_ok-made.ensures in
     omega (arith, c.in_ok-write_all.ensures.made, ap (own_rule_count s) made)
 
-pub returns-clause-steps : goal.returns-clause-steps
-returns-clause-steps g c =
-    let s = setting_of c.args.family c.args.config.now in
-    let made = ap (map (λ (i : Bor PortInfo). i.now)) c.deref-2.ensures.value
-    ∙ c.in_ok-made.ensures in
-    omega (arith, c.in_ok-write_all.ensures.steps, ap (own_rule_count s) made)
-
 pub returns-in_err-write_all-clause-steps : goal.returns-in_err-write_all-clause-steps
 returns-in_err-write_all-clause-steps g c =
     let s = setting_of c.args.family c.args.config.now in
     let made = ap (map (λ (i : Bor PortInfo). i.now)) c.deref-2.ensures.value
     ∙ c.in_ok-made.ensures in
-    omega (arith, c.in_err-write_all.ensures.steps, ap (own_rule_count s) made)
+    let few : c.write_all.new.steps ≤ c.args.steps.now
+    + own_rule_count s (infos_at (newest_in c.args.ports.now) (map (λ k. k.now) c.args.keys.now)) =
+    omega (arith, c.in_err-write_all.ensures.steps, ap (own_rule_count s) made) in
+    search rules

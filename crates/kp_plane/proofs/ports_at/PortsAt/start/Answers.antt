@@ -11,9 +11,9 @@ returns c = λ events.
       since = c.new-since.result;
       last = c.new-last.result;
       writers = c.in_ok-writers.writers;
-      dirty = c.in_ok-dirty.dirty;
+      dirty = c.none_dirty-dirty.result;
       stale = c.new-stale.result;
     } in
     first_ports c.dirty_ports.ensures.none c.args.config.now events s
     (c.start-latest.ensures.place events) c.start-latest.ensures.start c.new-touched.ensures
-    c.in_ok-writers.ensures c.in_ok-dirty.ensures
+    c.in_ok-writers.ensures c.none_dirty-dirty.ensures

@@ -1,7 +1,7 @@
 use Rattle.std.proofs.Common.{refl}
 use Rattle.kp_plane.specs.Invariant.{parts_of}
 use Rattle.kp_plane.proofs.Between.{covers_within, still_held}
-use Rattle.kp_plane.proofs.sync.sync_copied.Goals as goal
+use Rattle.kp_plane.proofs.sync.sync_as.Goals as goal
 
 pub keep-requires : goal.keep-requires
 keep-requires g c =
