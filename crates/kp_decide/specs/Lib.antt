@@ -1,4 +1,5 @@
 pub mod Enough
+pub mod Picks
 pub mod Shown
 pub mod Stored
 pub mod Told

@@ -2,15 +2,15 @@
 ghost use Rattle.std.specs.Prelude.{◌≡◌, ◌<◌, ℕ, length, option_map, IfSome};
 ghost use Rattle.std.specs.List.{position};
 ghost use Rattle.kp_base.specs.declared.address.Family.{Family};
-ghost use Rattle.kp_choice_defs.specs.Draws.{IsStated, AreDraws, selected_index};
 ghost use Rattle.kp_choice_defs.specs.Names.{endpoint_chain_name};
 ghost use Rattle.kp_choice_defs.specs.Recent as recent;
 ghost use Rattle.kp_choice_defs.specs.Settings.{setting_of};
 ghost use Rattle.kp_door_defs.specs.Choice as spec;
+ghost use Rattle.kp_decide.specs.Picks.{with_pick};
 ghost use Rattle.kp_decide.specs.Told.{choice_of};
 
+use crate::picks::Picker;
 use kp_base::{Config, Endpoint, PortKey};
-use kp_draws::DrawSource;
 use kp_names::Namer;
 use kp_recent::RecentLists;
 use kp_types::{ChosenBy, Packet, PortInfo};
@@ -25,18 +25,19 @@ pub struct Choice {
 
 /// The endpoint of a list of a port that a packet goes to, which no family's setting changes. The
 /// recent lists stay as they are.
-pub fn chosen_endpoint<F: Fn(u64, u32) -> u32>(
+pub fn chosen_endpoint<P: Picker>(
     config: &Config,
     number: u64,
     packet: &Packet,
-    draws: &DrawSource<F>,
+    picker: &P,
     lists: &RecentLists,
     info: &PortInfo,
     endpoints: &[Endpoint],
 ) -> Option<Choice>
-    requires { IsStated (F.pre draws.now) (F.post draws.now) }
-    ensures { (family : Family) (drawn : ℕ → ℕ) → AreDraws (F.post draws.now) number drawn
-        → result ≡ option_map choice_of (spec.chosen_endpoint (setting_of family config.now)
+    requires { P.is_stated picker.now }
+    ensures { (family : Family) (drawn : ℕ → ℕ) → P.are_draws picker.now number drawn
+        → result ≡ option_map choice_of (spec.chosen_endpoint
+        (with_pick P.pick (setting_of family config.now))
         info.now.key info.now.affinity packet.entry.now.source packet.entry.now.now drawn
         endpoints.now lists.now) }
 {
@@ -47,9 +48,9 @@ pub fn chosen_endpoint<F: Fn(u64, u32) -> u32>(
                 place: place as u64 + 1,
                 by: ChosenBy::Affinity,
             }),
-            None => drawn(number, draws, endpoints),
+            None => picked(number, picker, endpoints),
         },
-        None => drawn(number, draws, endpoints),
+        None => picked(number, picker, endpoints),
     }
 }
 
@@ -74,21 +75,17 @@ fn live_place(
     })
 }
 
-/// The endpoint of a list that draws choose, if it has any.
-fn drawn<F: Fn(u64, u32) -> u32>(
-    number: u64,
-    draws: &DrawSource<F>,
-    endpoints: &[Endpoint],
-) -> Option<Choice>
-    requires { IsStated (F.pre draws.now) (F.post draws.now) }
-    ensures { (drawn : ℕ → ℕ) → AreDraws (F.post draws.now) number drawn →
+/// The endpoint of a list that is picked by draws, if it has any.
+fn picked<P: Picker>(number: u64, picker: &P, endpoints: &[Endpoint]) -> Option<Choice>
+    requires { P.is_stated picker.now }
+    ensures { (drawn : ℕ → ℕ) → P.are_draws picker.now number drawn →
         (lists : recent.RecentParts) → result ≡ option_map choice_of
-        (spec.drawn_at endpoints.now (selected_index drawn 0 (length endpoints.now)) lists) }
+        (spec.drawn_at endpoints.now (P.pick drawn (length endpoints.now)) lists) }
 {
     if endpoints.is_empty() {
         return None;
     }
-    let place = draws.pick(number, endpoints.len() as u64) as usize;
+    let place = picker.place(number, endpoints.len() as u64) as usize;
     Some(Choice {
         endpoint: endpoints[place],
         place: place as u64 + 1,

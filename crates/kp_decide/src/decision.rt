@@ -16,11 +16,13 @@ ghost use Rattle.kp_types.specs.declared.info.PortInfo.{PortInfo};
 ghost use Rattle.kp_door_defs.specs.Decision as spec;
 ghost use Rattle.kp_known_ports.specs.Known.{AreStored};
 ghost use Rattle.kp_decide.specs.Enough.{AreEnough};
+ghost use Rattle.kp_decide.specs.Picks.{all_with_pick, with_pick};
 ghost use Rattle.kp_decide.specs.Told.{told, translation_told, passed_by};
 
 use crate::filter::filtered;
 use crate::lines::{Line, Refusal};
 use crate::masquerade::is_masqueraded;
+use crate::picks::Picker;
 use crate::translation::{Translation, translation_of};
 use kp_base::{Config, Copied, Endpoint, Family, NoMemory, Steps};
 use kp_draws::DrawSource;
@@ -49,11 +51,31 @@ pub fn decide<F: Fn(u64, u32) -> u32>(
         ≡ told (spec.decision_of (settings_of config.now) objects.now packet.entry.now drawn
         lists.now)) }
 {
+    decide_by(alloc, objects, config, number, packet, draws, lists)
+}
+
+/// The same, with an endpoint picked in another way.
+pub fn decide_by<P: Picker>(
+    alloc: Global,
+    objects: &Objects,
+    config: &Config,
+    number: u64,
+    packet: &Packet,
+    picker: &P,
+    lists: &RecentLists,
+) -> Result<Decision, NoMemory>
+    requires { P.is_stated picker.now }
+    ensures { (drawn : ℕ → ℕ) → P.are_draws picker.now number drawn → IfOk result (λ d. d
+        ≡ told (spec.decision_of (all_with_pick P.pick (settings_of config.now)) objects.now
+        packet.entry.now drawn lists.now)) }
+{
     let family = packet.target.family();
     if !has_tables_of(family, config) {
         return Ok(left_alone());
     }
-    decide_in(alloc, family, objects, config, number, packet, draws, lists)
+    decide_in(
+        alloc, family, objects, config, number, packet, picker, lists,
+    )
 }
 
 /// Whether the node has tables of a family.
@@ -64,24 +86,24 @@ fn has_tables_of(family: Family, config: &Config) -> bool
 }
 
 /// The decision on a packet by what a family knows of the ports.
-fn decide_in<F: Fn(u64, u32) -> u32>(
+fn decide_in<P: Picker>(
     alloc: Global,
     family: Family,
     objects: &Objects,
     config: &Config,
     number: u64,
     packet: &Packet,
-    draws: &DrawSource<F>,
+    picker: &P,
     lists: &RecentLists,
 ) -> Result<Decision, NoMemory>
-    requires { IsStated (F.pre draws.now) (F.post draws.now) }
-    ensures { (drawn : ℕ → ℕ) → AreDraws (F.post draws.now) number drawn → IfOk result (λ d. d
-        ≡ told (spec.decision_in (setting_of family config.now) objects.now packet.entry.now
-        drawn lists.now)) }
+    requires { P.is_stated picker.now }
+    ensures { (drawn : ℕ → ℕ) → P.are_draws picker.now number drawn → IfOk result (λ d. d
+        ≡ told (spec.decision_in (with_pick P.pick (setting_of family config.now)) objects.now
+        packet.entry.now drawn lists.now)) }
 {
     let infos = infos_at(alloc, family, objects, config, packet)?;
     let infos = infos.as_slice();
-    match translation_of(alloc, family, config, infos, number, packet, draws, lists)? {
+    match translation_of(alloc, family, config, infos, number, packet, picker, lists)? {
         Some(translation) => {
             decide_translated(alloc, family, objects, config, packet, translation)
         }

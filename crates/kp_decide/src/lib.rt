@@ -10,8 +10,10 @@ mod lines;
 mod local;
 mod masquerade;
 mod offers;
+mod picks;
 mod translation;
 
-pub use decision::decide;
+pub use decision::{decide, decide_by};
 pub use doors::{Door, add_address_doors, add_doors_of, add_node_door, add_node_doors};
 pub use kp_types::{ChosenBy, Decision, DoorKind, ListKind, Reason};
+pub use picks::{Picker, Remainder};

@@ -1,15 +1,15 @@
 //! The translation of a packet: its door, what that offers, and the endpoint that is chosen.
 ghost use Rattle.std.specs.Prelude.{◌≡◌, ℕ, option_map, IfOk};
-ghost use Rattle.kp_choice_defs.specs.Draws.{IsStated, AreDraws};
 ghost use Rattle.kp_choice_defs.specs.Settings.{setting_of};
 ghost use Rattle.kp_door_defs.specs.Decision as spec;
+ghost use Rattle.kp_decide.specs.Picks.{with_pick};
 ghost use Rattle.kp_decide.specs.Told.{translation_told};
 
 use crate::choice::{Choice, chosen_endpoint};
 use crate::doors::{Door, taking_door};
 use crate::offers::{Offer, offer_of};
+use crate::picks::Picker;
 use kp_base::{Config, Family, NoMemory};
-use kp_draws::DrawSource;
 use kp_recent::RecentLists;
 use kp_types::{Packet, PortInfo};
 use std::alloc::Global;
@@ -23,40 +23,42 @@ pub struct Translation<'a> {
 }
 
 /// The translation of a packet by the first door that takes it. The recent lists stay as they are.
-pub fn translation_of<'a, F: Fn(u64, u32) -> u32>(
+pub fn translation_of<'a, P: Picker>(
     alloc: Global,
     family: Family,
     config: &Config,
     infos: &'a [PortInfo],
     number: u64,
     packet: &Packet,
-    draws: &DrawSource<F>,
+    picker: &P,
     lists: &RecentLists,
 ) -> Result<Option<Translation<'a>>, NoMemory>
-    requires { IsStated (F.pre draws.now) (F.post draws.now) }
-    ensures { (drawn : ℕ → ℕ) → AreDraws (F.post draws.now) number drawn → IfOk result (λ t. t
-        ≡ option_map translation_told (spec.translation_of (setting_of family config.now) infos.now
+    requires { P.is_stated picker.now }
+    ensures { (drawn : ℕ → ℕ) → P.are_draws picker.now number drawn → IfOk result (λ t. t
+        ≡ option_map translation_told (spec.translation_of
+        (with_pick P.pick (setting_of family config.now)) infos.now
         packet.entry.now drawn lists.now)) }
 {
     match taking_door(alloc, family, config, infos, packet)? {
-        Some(door) => Ok(translation_at(family, config, number, packet, draws, lists, door)),
+        Some(door) => Ok(translation_at(family, config, number, packet, picker, lists, door)),
         None => Ok(None),
     }
 }
 
 /// The translation at a door.
-fn translation_at<'a, F: Fn(u64, u32) -> u32>(
+fn translation_at<'a, P: Picker>(
     family: Family,
     config: &Config,
     number: u64,
     packet: &Packet,
-    draws: &DrawSource<F>,
+    picker: &P,
     lists: &RecentLists,
     door: Door<'a>,
 ) -> Option<Translation<'a>>
-    requires { IsStated (F.pre draws.now) (F.post draws.now) }
-    ensures { (drawn : ℕ → ℕ) → AreDraws (F.post draws.now) number drawn → result
-        ≡ option_map translation_told (spec.translation_at (setting_of family config.now)
+    requires { P.is_stated picker.now }
+    ensures { (drawn : ℕ → ℕ) → P.are_draws picker.now number drawn → result
+        ≡ option_map translation_told (spec.translation_at
+        (with_pick P.pick (setting_of family config.now))
         packet.entry.now drawn lists.now door.entry) }
 {
     let offer = offer_of(family, config, packet, &door);
@@ -64,7 +66,7 @@ fn translation_at<'a, F: Fn(u64, u32) -> u32>(
         config,
         number,
         packet,
-        draws,
+        picker,
         lists,
         door.info,
         offer.endpoints,

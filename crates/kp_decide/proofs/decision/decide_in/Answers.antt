@@ -3,6 +3,7 @@ use Rattle.kp_choice_defs.specs.Settings.{setting_of}
 use Rattle.kp_object_defs.specs.PortInfo.{port_infos}
 use Rattle.kp_door_defs.specs.Decision.{decision_by, translation_of}
 use Rattle.kp_decide.specs.Enough.{AreEnough}
+use Rattle.kp_decide.specs.Picks.{with_pick}
 use Rattle.kp_decide.specs.Told.{told, translation_told}
 use Rattle.kp_decide.proofs.Cases.{of_none, of_translation, same_translation}
 use Rattle.kp_decide.proofs.decision.decide_in.Goals as goal
@@ -10,7 +11,7 @@ use Rattle.kp_decide.proofs.decision.decide_in.Goals as goal
 pub returns-in-Some : goal.returns-in-Some
 returns-in-Some g c draws are =
     let family = c.args.family in
-    let setting = setting_of family c.args.config.now in
+    let setting = with_pick g.P.Picker.pick (setting_of family c.args.config.now) in
     let packet = c.args.packet.now in
     let lists = c.args.lists.now in
     let all = port_infos family setting.config c.args.objects.now in
@@ -24,7 +25,7 @@ returns-in-Some g c draws are =
 pub returns : goal.returns
 returns g c draws are =
     let family = c.args.family in
-    let setting = setting_of family c.args.config.now in
+    let setting = with_pick g.P.Picker.pick (setting_of family c.args.config.now) in
     let packet = c.args.packet.now in
     let lists = c.args.lists.now in
     let all = port_infos family setting.config c.args.objects.now in

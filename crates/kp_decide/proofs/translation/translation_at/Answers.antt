@@ -2,13 +2,14 @@ use Rattle.std.proofs.Common.{◌≡◌, Some, option_map, sym, ◌∙◌}
 use Rattle.kp_choice_defs.specs.Settings.{setting_of}
 use Rattle.kp_door_defs.specs.Decision.{choice_at}
 use Rattle.kp_door_defs.specs.Doors.{offer_of}
+use Rattle.kp_decide.specs.Picks.{with_pick}
 use Rattle.kp_decide.specs.Told.{choice_of}
 use Rattle.kp_decide.proofs.Cases.{same_choice, told_none, told_translation}
 use Rattle.kp_decide.proofs.translation.translation_at.Goals as goal
 
 pub returns-in-Some : goal.returns-in-Some
 returns-in-Some g c draws are =
-    let setting = setting_of c.args.family c.args.config.now in
+    let setting = with_pick g.P.Picker.pick (setting_of c.args.family c.args.config.now) in
     let packet = c.args.packet.now in
     let lists = c.args.lists.now in
     let d = c.args.door in
@@ -19,7 +20,7 @@ returns-in-Some g c draws are =
 
 pub returns-in-None : goal.returns-in-None
 returns-in-None g c draws are =
-    let setting = setting_of c.args.family c.args.config.now in
+    let setting = with_pick g.P.Picker.pick (setting_of c.args.family c.args.config.now) in
     let packet = c.args.packet.now in
     let lists = c.args.lists.now in
     let d = c.args.door in
