@@ -1,0 +1,12 @@
+pub mod Added
+pub mod Ages
+pub mod Among
+pub mod Answered
+pub mod Dead
+pub mod Dropped
+pub mod Found
+pub mod Free
+pub mod Heard
+pub mod Removed
+pub mod Renewed
+pub mod Same

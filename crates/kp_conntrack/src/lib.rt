@@ -1,0 +1,12 @@
+//! The connections of a stateful node: which flow belongs to which, in constant time, and without
+//! memory once they are made.
+#![tactic(auto)]
+
+mod buckets;
+mod connections;
+mod index;
+mod rows;
+mod sought;
+
+pub use connections::Connections;
+pub use kp_track_defs::{Connection, Entry, Flow, Owned};

@@ -1,0 +1,4 @@
+pub mod Kit
+pub mod Moved
+pub mod Reached
+pub mod Ringed
