@@ -3,8 +3,7 @@ ghost use Rattle.std.specs.Prelude.{◌≡◌};
 ghost use Rattle.kp_hub.specs.State.{first_table};
 
 use crate::gates::TURNS;
-use crate::lines::{op_of, whole_script};
-use crate::planes::config_of;
+use crate::lines::{config_of, op_of, whole_script};
 use kp_base::Items;
 use kp_hub::{Hub, Opening, Reader, Sharing, WorkerPass};
 use kp_recent::RecentLists;

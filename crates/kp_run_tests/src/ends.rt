@@ -1,7 +1,5 @@
 //! Runs over ends in memory, with their statuses and what was written.
-use crate::inputs::{
-    AFFINITY, CLASHES, Case, ENDPOINTS, RECENT, REFUSED, REJECTED, SHOWN, TERMINATING, case_of,
-};
+use crate::inputs::{CLASHES, ENDPOINTS, LIVE, case_of};
 use crate::lines::words_of;
 use kp_base::Items;
 use kp_gate::{Gate, OpenGate};
@@ -125,79 +123,31 @@ pub(crate) fn is_end(run: &Ended, status: Status, text: &str) -> bool {
     run.status == status && run.written.as_slice() == text.as_bytes()
 }
 
-/// A replay of a worked input prints its text, whatever the pieces.
+/// A worked input prints its text, whatever the pieces.
 fn check_whole<R: Abort + Threads + Wait + Sync + AllocGlobal>(
     rt: &R,
+    words: &str,
     rows: &str,
     status: Status,
 ) -> Result<(), Fail> {
-    let alloc = rt.alloc();
-    let case = case_of(alloc, rows, 100)?;
-    for words in REPLAYS {
-        for piece in [1u64, 7, 4096] {
-            let whole = sure_run(rt, words, &case.input, piece, &OpenGate)?;
-            assert!(rt;
-                is_end(&whole, status, &case.printed),
-                "{words} {piece}: {rows}"
-            );
-        }
-    }
-    Ok(())
-}
-
-#[test]
-fn a_replay_prints_its_text_in_any_pieces(rt: HostRuntime) -> Result<(), Fail> {
-    for rows in [ENDPOINTS, REJECTED, TERMINATING, RECENT, AFFINITY, SHOWN] {
-        check_whole(&rt, rows, Status::Done)?;
-    }
-    for rows in [REFUSED, CLASHES] {
-        check_whole(&rt, rows, Status::LinesRefused)?;
-    }
-    let usage = planned_run(&rt, "kproxy lives", "", (0, 0))?;
-    assert!(rt; usage.status == Status::Usage);
-    Ok(())
-}
-
-/// The call that reads the byte behind a text fails: exactly the text of its lines is written.
-fn check_read<R: Abort + Threads + Wait + Sync + AllocGlobal>(
-    rt: &R,
-    whole: &Case,
-    front: &Case,
-) -> Result<(), Fail> {
-    let call = front.input.len() as u64 + 1;
-    let stopped = planned_run(rt, "kproxy replay", &whole.input, (call, 0))?;
-    assert!(rt;
-        is_end(&stopped, Status::ReadFault, &front.printed),
-        "{call}"
-    );
-    Ok(())
-}
-
-#[test]
-fn a_failed_read_ends_behind_the_lines_before_it(rt: HostRuntime) -> Result<(), Fail> {
-    let whole = case_of(rt.alloc(), ENDPOINTS, 100)?;
-    for lines in 0..8u64 {
-        let front = case_of(rt.alloc(), ENDPOINTS, lines)?;
-        check_read(&rt, &whole, &front)?;
-    }
-    Ok(())
-}
-
-#[test]
-fn a_failed_write_ends_behind_a_front(rt: HostRuntime) -> Result<(), Fail> {
-    let case = case_of(rt.alloc(), TERMINATING, 100)?;
-    // four writes, and the flush
-    for call in 1..6u64 {
-        let stopped = planned_run(&rt, "kproxy replay", &case.input, (0, call))?;
-        assert!(rt; stopped.status == Status::WriteFault, "{call}");
+    let case = case_of(rt.alloc(), rows, 100)?;
+    for piece in [1u64, 7, 4096] {
+        let whole = sure_run(rt, words, &case.input, piece, &OpenGate)?;
         assert!(rt;
-            case.printed.as_bytes().starts_with(&stopped.written),
-            "{call}"
+            is_end(&whole, status, &case.printed),
+            "{words} {piece}: {rows}"
         );
     }
-    let whole = planned_run(&rt, "kproxy replay", &case.input, (0, 6))?;
-    assert!(rt; is_end(&whole, Status::Done, &case.printed));
     Ok(())
+}
+
+#[test]
+fn a_run_prints_its_text_in_any_pieces(rt: HostRuntime) -> Result<(), Fail> {
+    for words in REPLAYS {
+        check_whole(&rt, words, ENDPOINTS, Status::Done)?;
+        check_whole(&rt, words, CLASHES, Status::LinesRefused)?;
+    }
+    check_whole(&rt, "kproxy live", LIVE, Status::LinesRefused)
 }
 
 /// The line that is written where the words don't fit.

@@ -1,8 +1,7 @@
 //! Reads and writes that fail at every call of a run, and what is written then: of a replay, with
 //! one worker and with four, and of a live run.
-use crate::ends::{REPLAYS, buffered_run, failing_run, is_end, sure_run};
+use crate::ends::{REPLAYS, buffered_run, failing_run, is_end};
 use crate::inputs::{CLASHES, Case, ENDPOINTS, LIVE, case_of};
-use kp_gate::OpenGate;
 use kp_run::Status;
 use std::process::Abort;
 use std::sync::Wait;
@@ -135,17 +134,4 @@ fn each_failed_read_of_a_live_run_leaves_nothing(rt: HostRuntime) -> Result<(), 
 #[test]
 fn each_failed_write_of_a_live_run_leaves_a_front(rt: HostRuntime) -> Result<(), Fail> {
     check_writes(&rt, "kproxy live", LIVE, Status::LinesRefused, false)
-}
-
-#[test]
-fn a_live_run_prints_its_text_in_any_pieces(rt: HostRuntime) -> Result<(), Fail> {
-    let case = case_of(rt.alloc(), LIVE, 100)?;
-    for piece in [1u64, 7, 4096] {
-        let ended = sure_run(&rt, "kproxy live", &case.input, piece, &OpenGate)?;
-        assert!(rt;
-            is_end(&ended, Status::LinesRefused, &case.printed),
-            "{piece}"
-        );
-    }
-    Ok(())
 }

@@ -3,8 +3,7 @@ ghost use Rattle.std.specs.Prelude.{◌≡◌};
 ghost use Rattle.std.specs.List.{AllByRecursion};
 ghost use Rattle.kp_hub.specs.State.{first_table};
 
-use crate::lines::{read, whole_script};
-use crate::planes::config_of;
+use crate::lines::{Stuck, config_of, read, whole_script};
 use kp_base::{Items, NoMemory};
 use kp_hub::{FeedPass, Finished, Hub, Opening, Sharing, TableFault, WorkerPass};
 use kp_print::{push, push_labelled};
@@ -49,22 +48,6 @@ record: events 1, written 2, removed 2
 events 4, syncs 3, refusals 1
 ";
 
-/// Why the lines weren't all taken: there was no memory or no number for an event, one isn't read,
-/// or there is no stream.
-#[derive(Clone, Copy, Debug)]
-enum Stuck {
-    NoMemory(NoMemory),
-    NoNumber,
-    NoLine,
-    NoStream,
-}
-
-impl From<NoMemory> for Stuck {
-    fn from(refused: NoMemory) -> Stuck {
-        Stuck::NoMemory(refused)
-    }
-}
-
 /// Feeds the events of a line, and tells their numbers.
 fn feed_all<J: Sharing, A: Ledger, C: Ledger, R: Wait>(
     rt: &R,
@@ -78,11 +61,10 @@ fn feed_all<J: Sharing, A: Ledger, C: Ledger, R: Wait>(
 {
     for event in events.into_vec() {
         if feeder.count() == u64::MAX {
-            return Err(Stuck::NoNumber);
+            return Err(Stuck);
         }
-        let number = match hub.feed(rt, feeder, event) {
-            Ok(number) => number,
-            Err((refused, _)) => return Err(Stuck::NoMemory(refused)),
+        let Ok(number) = hub.feed(rt, feeder, event) else {
+            return Err(Stuck);
         };
         push_labelled(text, "fed ", number)?;
         push(text, "\n")?;
@@ -101,7 +83,7 @@ fn sync<J: Sharing, A: Ledger, C: Ledger, R: Wait>(
     match hub.sync(rt, alloc, worker) {
         Ok(number) => push_labelled(text, "sync ", number)?,
         Err(TableFault::ChainClash(_)) => push(text, "refused")?,
-        Err(TableFault::NoMemory(refused)) => return Err(Stuck::NoMemory(refused)),
+        Err(TableFault::NoMemory(_)) => return Err(Stuck),
     }
     Ok(push(text, "\n")?)
 }
@@ -121,7 +103,7 @@ fn take<J: Sharing, A: Ledger, C: Ledger, R: Wait>(
     ensures { feeder.new.queue ≡ J.queue }
 {
     let Ok(line) = read(alloc, number, line) else {
-        return Err(Stuck::NoLine);
+        return Err(Stuck);
     };
     let ScriptLine { by: _by, op } = line;
     match op {
@@ -172,11 +154,11 @@ fn take_by_first<J: Sharing, A: Ledger, C: Ledger, R: Wait>(
     ensures { AllByRecursion (λ p. p.queue ≡ J.queue) feeders.new }
 {
     let Some(worker) = worker else {
-        return Err(Stuck::NoStream);
+        return Err(Stuck);
     };
     match feeders.first_mut() {
         Some(feeder) => take_all(rt, alloc, hub, feeder, worker, script, text),
-        None => Err(Stuck::NoStream),
+        None => Err(Stuck),
     }
 }
 

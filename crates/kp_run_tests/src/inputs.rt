@@ -49,98 +49,6 @@ pub(crate) const ENDPOINTS: &str = r#"{"op":"config","node":"n1","nodeAddresses"
 {"op":"packet","src":"10.244.9.9","dst":"10.96.0.10","dport":80,"draws":[715827883,1073741824]}
 => packet 7 at 1: to 10.244.3.4:8080"#;
 
-/// A Service with no endpoint.
-pub(crate) const REJECTED: &str = r#"{"op":"config","node":"n1","nodeAddresses":["10.0.0.1"],
- "clusterCIDR":"10.244.0.0/16"}
-{"apiVersion":"v1","kind":"Service","metadata":{"name":"web"},
- "spec":{"clusterIP":"10.96.0.10","ports":[{"port":80,"targetPort":8080}]}}
-{"op":"sync"}
-=> sync 1: events 1, written 1, removed 0
-{"op":"packet","src":"10.244.9.9","dst":"10.96.0.10","dport":80}
-=> packet 4 at 1: rejected
-{"op":"packet","src":"10.0.0.1","dst":"10.96.0.10","dport":80,"from":"node"}
-=> packet 5 at 1: rejected
-{"op":"packet","src":"10.244.9.9","dst":"10.96.0.10","dport":80,"proto":"UDP"}
-=> packet 6 at 1: left alone"#;
-
-/// Endpoints that are terminating, until one is ready.
-pub(crate) const TERMINATING: &str = r#"{"op":"config","node":"n1","nodeAddresses":["10.0.0.1"],
- "clusterCIDR":"10.244.0.0/16"}
-{"apiVersion":"v1","kind":"Service","metadata":{"name":"web"},
- "spec":{"clusterIP":"10.96.0.10","ports":[{"port":80,"targetPort":8080}]}}
-{"apiVersion":"discovery.k8s.io/v1","kind":"EndpointSlice",
- "metadata":{"name":"web-x","labels":{"kubernetes.io/service-name":"web"}},"addressType":"IPv4",
- "ports":[{"port":8080}],"endpoints":[{"addresses":["10.244.1.2"],"nodeName":"n1",
- "conditions":{"ready":false,"serving":true,"terminating":true}},{"addresses":["10.244.2.3"],
- "nodeName":"n2","conditions":{"ready":false,"serving":true,"terminating":true}}]}
-{"op":"sync"}
-=> sync 1: events 2, written 4, removed 0
-{"op":"packet","src":"10.244.9.9","dst":"10.96.0.10","dport":80,"draws":[0]}
-=> packet 5 at 1: to 10.244.1.2:8080
-{"apiVersion":"discovery.k8s.io/v1","kind":"EndpointSlice",
- "metadata":{"name":"web-x","labels":{"kubernetes.io/service-name":"web"}},"addressType":"IPv4",
- "ports":[{"port":8080}],"endpoints":[{"addresses":["10.244.1.2"],"nodeName":"n1",
- "conditions":{"ready":false,"serving":true,"terminating":true}},{"addresses":["10.244.2.3"],
- "nodeName":"n2"}]}
-{"op":"sync"}
-=> sync 2: events 1, written 1, removed 1
-{"op":"packet","src":"10.244.9.9","dst":"10.96.0.10","dport":80,"draws":[0]}
-=> packet 8 at 2: to 10.244.2.3:8080"#;
-
-/// Recent sources, of which a list keeps two.
-pub(crate) const RECENT: &str = r#"{"op":"config","node":"n1","nodeAddresses":["10.0.0.1"],
- "clusterCIDR":"10.244.0.0/16","recentSize":2}
-{"apiVersion":"v1","kind":"Service","metadata":{"name":"web"},
- "spec":{"clusterIP":"10.96.0.10","ports":[{"port":80,"targetPort":8080}],
- "sessionAffinity":"ClientIP"}}
-{"apiVersion":"discovery.k8s.io/v1","kind":"EndpointSlice",
- "metadata":{"name":"web-x","labels":{"kubernetes.io/service-name":"web"}},"addressType":"IPv4",
- "ports":[{"port":8080}],"endpoints":[{"addresses":["10.244.1.2"],"nodeName":"n1"},
- {"addresses":["10.244.2.3"],"nodeName":"n2"}]}
-{"op":"sync"}
-=> sync 1: events 2, written 4, removed 0
-{"op":"packet","src":"10.244.9.1","dst":"10.96.0.10","dport":80,"draws":[0],"now":100}
-=> packet 5 at 1: to 10.244.1.2:8080
-{"op":"packet","src":"10.244.9.17","dst":"10.96.0.10","dport":80,"draws":[0],"now":100}
-=> packet 6 at 1: to 10.244.1.2:8080
-{"op":"packet","src":"10.244.9.33","dst":"10.96.0.10","dport":80,"draws":[0],"now":100}
-=> packet 7 at 1: to 10.244.1.2:8080
-{"op":"packet","src":"10.244.9.1","dst":"10.96.0.10","dport":80,"draws":[],"now":100}
-=> packet 8 at 1: to 10.244.2.3:8080
-{"op":"packet","src":"10.244.9.17","dst":"10.96.0.10","dport":80,"draws":[],"now":100}
-=> packet 9 at 1: to 10.244.1.2:8080"#;
-
-/// Session affinity within its timeout and behind it, explained.
-pub(crate) const AFFINITY: &str = r#"{"op":"config","node":"n1","nodeAddresses":["10.0.0.1"],
- "clusterCIDR":"10.244.0.0/16"}
-{"apiVersion":"v1","kind":"Service","metadata":{"name":"web"},
- "spec":{"clusterIP":"10.96.0.10","ports":[{"port":80,"targetPort":8080}],
- "sessionAffinity":"ClientIP","sessionAffinityConfig":{"clientIP":{"timeoutSeconds":60}}}}
-{"apiVersion":"discovery.k8s.io/v1","kind":"EndpointSlice",
- "metadata":{"name":"web-x","labels":{"kubernetes.io/service-name":"web"}},"addressType":"IPv4",
- "ports":[{"port":8080}],"endpoints":[{"addresses":["10.244.1.2"],"nodeName":"n1"},
- {"addresses":["10.244.2.3"],"nodeName":"n2"}]}
-{"op":"sync"}
-=> sync 1: events 2, written 4, removed 0
-{"op":"packet","src":"10.244.9.9","dst":"10.96.0.10","dport":80,"draws":[0],"now":100}
-=> packet 5 at 1: to 10.244.1.2:8080
-{"op":"explain","src":"10.244.9.9","dst":"10.96.0.10","dport":80,"draws":[],"now":160}
-=> explain 6 at 1: to 10.244.1.2:8080; door cluster default/web/TCP list cluster size 2 by affinity
-  place 1
-{"op":"packet","src":"10.244.9.9","dst":"10.96.0.10","dport":80,"draws":[],"now":160}
-=> packet 7 at 1: to 10.244.1.2:8080
-{"op":"explain","src":"10.244.9.9","dst":"10.96.0.10","dport":80,"draws":[],"now":221}
-=> explain 8 at 1: to 10.244.2.3:8080; door cluster default/web/TCP list cluster size 2 by draws
-  place 2"#;
-
-/// A line that is refused.
-pub(crate) const REFUSED: &str = r#"{"op":"config","node":"n1","nodeAddresses":["10.0.0.1"],
- "clusterCIDR":"10.244.0.0/16"}
-{"op":"sync"}
-=> sync 1: events 0, written 0, removed 0
-{"op":"packet",
-=> line 3: refused: bad json"#;
-
 /// Two endpoints whose chains have one name: syncs of them are refused, and their events stay.
 pub(crate) const CLASHES: &str = r#"{"op":"config","node":"n1","nodeAddresses":["10.0.0.1"],
  "clusterCIDR":"10.244.0.0/16","nameLength":0}
@@ -167,35 +75,6 @@ pub(crate) const CLASHES: &str = r#"{"op":"config","node":"n1","nodeAddresses":[
   default/web/TCP 10.244.2.3:8080
 {"op":"packet","src":"10.244.9.9","dst":"10.96.0.10","dport":80,"draws":[]}
 => packet 9 at 1: to 10.244.1.2:8080"#;
-
-/// A List of a Node, a Service, a Pod of it and a slice that the controller keeps, and what it
-/// makes of them: the slice's second endpoint has no Pod, and goes.
-pub(crate) const SHOWN: &str = r#"{"op":"config","node":"n1","nodeAddresses":["10.0.0.1"],
- "clusterCIDR":"10.244.0.0/16"}
-{"apiVersion":"v1","kind":"List","metadata":{"resourceVersion":""},"items":[
- {"apiVersion":"v1","kind":"Node","metadata":{"name":"n1",
- "labels":{"topology.kubernetes.io/zone":"a"}}},
- {"apiVersion":"v1","kind":"Service","metadata":{"name":"web"},
- "spec":{"clusterIP":"10.96.0.10","ports":[{"port":80,"targetPort":"http"}],
- "selector":{"app":"web"}}},
- {"apiVersion":"v1","kind":"Pod","metadata":{"name":"a","labels":{"app":"web"}},
- "spec":{"nodeName":"n1","containers":[{"name":"c",
- "ports":[{"name":"http","containerPort":8080}]}]},
- "status":{"phase":"Running","podIP":"10.244.1.2",
- "conditions":[{"type":"Ready","status":"True"}]}},
- {"apiVersion":"discovery.k8s.io/v1","kind":"EndpointSlice","metadata":{"name":"web-abc12",
- "labels":{"kubernetes.io/service-name":"web",
- "endpointslice.kubernetes.io/managed-by":"endpointslice-controller.k8s.io"}},
- "addressType":"IPv4","ports":[{"name":"","port":8080,"protocol":"TCP"}],
- "endpoints":[{"addresses":["10.244.1.2"],"nodeName":"n1","zone":"a",
- "targetRef":{"kind":"Pod","name":"a"}},{"addresses":["10.244.1.9"],"nodeName":"n1","zone":"a",
- "targetRef":{"kind":"Pod","name":"z"}}]}]}
-{"op":"sync"}
-=> sync 1: events 4, written 3, removed 0
-{"op":"show","what":"endpoints"}
-=> endpoint default/web-abc12 1: 10.244.1.2 rs- node n1 zone a hints -
-{"op":"packet","src":"10.244.9.9","dst":"10.96.0.10","dport":80,"draws":[]}
-=> packet 5 at 1: to 10.244.1.2:8080"#;
 
 /// A live run of one stream, whose last sync is refused, and all that it prints: no record is made,
 /// and the tables are those of no objects.

@@ -1,20 +1,23 @@
-//! Tests of `run` over ends in memory: worked inputs in any pieces, reads and writes that fail at a
-//! chosen call or at each in turn, a buffer before the sink, live runs whose calls are held by a
-//! gate, so that their texts are told beforehand, and workers of a replay that wait for each other.
-//! And tests of what `run` alone reaches of the other crates: the words that fit, a plane that
-//! takes events one by one, syncs, tells its dirty ports and ends, a hub with one worker, packets
-//! beside a sync that waits, lines that are answered from a table, and gates: what holds keep, in
-//! threads, and for how long.
+//! Tests of `run` over ends in memory: worked inputs in any pieces, reads and writes that fail at each
+//! call in turn, a buffer before the sink, live runs whose calls are held by a gate, and workers of
+//! a replay that wait for each other. And tests of what no run of the built program shows: a hub
+//! with one worker, packets beside a sync that waits, what gates hold, events that four feed and one
+//! takes, published tables with two readers beside the publisher and with one who learns what it
+//! tells, words of a seed, and calls that no run makes.
 #![tactic(auto)]
 
 #[cfg(test)]
-mod answered;
-#[cfg(test)]
 mod beside;
+#[cfg(test)]
+mod calls;
+#[cfg(test)]
+mod draws;
 #[cfg(test)]
 mod ends;
 #[cfg(test)]
 mod faults;
+#[cfg(test)]
+mod feeding;
 #[cfg(test)]
 mod gates;
 #[cfg(test)]
@@ -26,10 +29,10 @@ mod lines;
 #[cfg(test)]
 mod live;
 #[cfg(test)]
-mod modes;
+mod pushing;
 #[cfg(test)]
-mod planes;
+mod reading;
 #[cfg(test)]
-mod words;
+mod telling;
 #[cfg(test)]
 mod workers;

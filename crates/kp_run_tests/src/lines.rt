@@ -1,8 +1,18 @@
 //! Lines of scripts, and the words of a command line.
-use kp_base::NoMemory;
+use kp_base::{Config, NoMemory};
 use kp_script::{Op, ScriptFault, ScriptLine, line_of};
 use std::alloc::Global;
 use std::test::Fail;
+
+/// That a test can't go on. Unlike a `Fail` it is let go while there is something still to end.
+#[derive(Clone, Copy, Debug)]
+pub(crate) struct Stuck;
+
+impl From<NoMemory> for Stuck {
+    fn from(_refused: NoMemory) -> Stuck {
+        Stuck
+    }
+}
 
 /// A text whose lines that begin with a space go on with the line before.
 pub(crate) fn unfolded(alloc: Global, text: &str) -> Result<String, Fail> {
@@ -44,6 +54,14 @@ pub(crate) fn op_of(alloc: Global, number: u64, line: &str) -> Result<Op, Fail> 
     match read(alloc, number, line) {
         Ok(line) => Ok(line.op),
         Err(_) => Err(Fail::from("a line of a script")),
+    }
+}
+
+/// The configuration of a line.
+pub(crate) fn config_of(alloc: Global, line: &str) -> Result<Config, Fail> {
+    match op_of(alloc, 1, line)? {
+        Op::Config(config) => Ok(config),
+        _ => Err(Fail::from("a configuration")),
     }
 }
 

@@ -1,5 +1,4 @@
-//! Workers of a replay: they wait for each other at a gate, any lines stand among their packets,
-//! and reads and writes fail between groups.
+//! Workers of a replay: they wait for each other at a gate, and reads and writes fail between groups.
 use crate::ends::{Ended, gated_run, is_end, sure_run};
 use crate::faults::lines_in;
 use crate::inputs::{Case, ENDPOINTS, case_of};
@@ -151,57 +150,5 @@ fn workers_answer_beside_each_other(rt: HostRuntime) -> Result<(), Fail> {
     assert!(rt; one.status == Status::Done && two.status == Status::Done);
     assert!(rt; one.written.as_slice() == two.written.as_slice());
     assert!(rt; gate.has_passed((500, 500)));
-    Ok(())
-}
-
-/// Lines among packets: blank ones, refused ones, and others that begin as packets do.
-const OTHERS: &str = r#" 
-{"op":"packet"}
-{"op":"packet","op":"sync"}
-{"op":"packet","op":"explain","src":"10.244.9.1","dst":"10.96.0.10","dport":80,"draws":[]}
-{"op":"explain","src":"10.244.9.1","dst":"10.96.0.10","dport":80,"draws":[0]}
-{"op":"sync"}
-"#;
-
-/// Adds so many packets.
-fn push_packets(script: &mut String, count: u64) -> Result<(), Fail> {
-    for number in 0..count {
-        push_packet(script, number)?;
-    }
-    Ok(())
-}
-
-/// A Service's objects and a sync, more packets than are answered at once, and the others, each
-/// between packets of a group.
-fn packets_and_others(alloc: Global) -> Result<Case, Fail> {
-    let mut case = case_of(alloc, ENDPOINTS, 4)?;
-    push_packets(&mut case.input, 5000)?;
-    for other in OTHERS.lines() {
-        push_line(&mut case.input, other)?;
-        push_packets(&mut case.input, 600)?;
-    }
-    Ok(case)
-}
-
-/// Any number of workers, and any pieces, make no difference.
-#[test]
-fn groups_end_at_any_line(rt: HostRuntime) -> Result<(), Fail> {
-    let case = packets_and_others(rt.alloc())?;
-    let one = sure_run(&rt, "kproxy replay", &case.input, 4096, &OpenGate)?;
-    assert!(rt; one.status == Status::LinesRefused);
-    for words in [
-        "kproxy replay --workers=2",
-        "kproxy replay --workers=3",
-        "kproxy replay --workers=64",
-    ] {
-        for piece in [60_011, 1_048_576] {
-            let many = sure_run(&rt, words, &case.input, piece, &OpenGate)?;
-            assert!(rt; many.status == Status::LinesRefused, "{words} {piece}");
-            assert!(rt;
-                many.written.as_slice() == one.written.as_slice(),
-                "{words} {piece}"
-            );
-        }
-    }
     Ok(())
 }

@@ -1,4 +1,6 @@
 pub mod Clashes
+pub mod Destinations
+pub mod Draws
 pub mod Faults
 pub mod Inputs
 pub mod Printed

@@ -1,8 +1,10 @@
-//! Live runs, worked out from their lines to the text that they print. Each example is a clause of
-//! a function that does nothing.
+//! Live runs, worked out from their lines to the text that they print; and draws and walks beside
+//! those of `kp_worked`. Each example is a clause of a function that does nothing.
 #![tactic(auto)]
 
 ghost use Rattle.kp_worked_runs.specs.Clashes as clashes;
+ghost use Rattle.kp_worked_runs.specs.Destinations as destinations;
+ghost use Rattle.kp_worked_runs.specs.Draws as draws;
 ghost use Rattle.kp_worked_runs.specs.Faults as faults;
 ghost use Rattle.kp_worked_runs.specs.Inputs as inputs;
 ghost use Rattle.kp_worked_runs.specs.Readings as readings;
@@ -94,6 +96,24 @@ pub fn worked_statuses()
     ensures sync { clashes.SyncIsRefused }
     ensures at_end { clashes.EndIsRefused }
     ensures none { clashes.NothingIsRefused }
+{}
+
+/// A probability between two that can be printed, and draws that are listed.
+pub fn worked_draws()
+    ensures fraction { draws.Fraction }
+    ensures whole { draws.WholeFraction }
+    ensures threshold { draws.Threshold }
+    ensures first { draws.First }
+    ensures second { draws.Second }
+    ensures behind { draws.Behind }
+{}
+
+/// Walks of packets that the first rule of KUBE-SERVICES isn't for.
+pub fn worked_destinations()
+    ensures port { destinations.OtherPort }
+    ensures protocol { destinations.OtherProtocol }
+    ensures address { destinations.OtherAddress }
+    ensures own { destinations.OwnAddress }
 {}
 
 /// The lines of the runs, as they are typed.
