@@ -351,7 +351,9 @@ def check_marked(program, marked, wanted, rng):
 def check_walks(packets, setting, texts, said):
     """Packets go where the tables of each family say."""
     tables = [Tables(text) for text in texts]
-    for packet, verdict in zip(packets, re.findall(r": (.*)\n", said), strict=True):
+    verdicts = re.findall(r": (.*)\n", said)
+    demand(len(verdicts) == len(packets), f"walk: {len(verdicts)} answers to {len(packets)} packets")
+    for packet, verdict in zip(packets, verdicts):
         try:
             wanted = Walk(tables[":" in packet["dst"]], setting, packet).verdict()
         except Unknown:

@@ -138,10 +138,11 @@ class Forms:
             mends = f"mend line {at}, and then {JQ}"
         elif size > MOST_BYTES:
             mends = "jq -c '.items[]'"
-            says += f" and {size} bytes, too many for a line: {mends} makes a line of each object"
+            says += f" and {size} bytes, too many for a line: "
+            says += f"of this alone {mends} makes a line of each object"
         elif is_list:
             mends = "jq -c '.[]'"
-            says += f", a list: {mends} makes a line of each of its values"
+            says += f", a list: of this alone {mends} makes a line of each of its values"
         else:
             says += f": {JQ} makes one line of it"
         taken = [it for it in range(first, last + 1) if it not in self.refused]
@@ -215,8 +216,10 @@ class Forms:
         value = value_of(line)
         refused = "the line is refused: not an event"
         if isinstance(value, list):
-            says = f"a list of {len(value)}: jq -c '.[]' makes a line of each of its values"
-            return Note("list", says, number, becomes=refused, mends="jq -c '.[]'")
+            mends = "jq -c '.[]'"
+            says = f"a list of {len(value)}: "
+            says += f"of this line alone {mends} makes a line of each of its values"
+            return Note("list", says, number, becomes=refused, mends=mends)
         if not isinstance(value, dict):
             mends = "a line is an object of the cluster, or a command"
             says = f"{shown(value)} is no object: {mends}"

@@ -70,7 +70,7 @@ def _in_list(number, event, count):
     else:
         mends = READ_ITEMS
         says = f"{event.path.rstrip('.')} is {what}, which isn't read, so {_none_of(count)}: "
-        says += f"{mends} makes a line of each that is"
+        says += f"of this line alone {mends} makes a line of each that is"
     return Note(
         "kind-in-list",
         says,

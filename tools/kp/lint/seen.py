@@ -202,10 +202,14 @@ class Seen:
         """Whose addresses of a family these are, and all of them that are no node's."""
         own = {it for forms in self.nodes.values() for form in forms.values() for it in form}
         own |= set(setting.addresses)
-        what, held = ("Pod's", self._pods) if self._pods else ("endpoint's", self._endpoints)
-        texts = dict.fromkeys(it for found in held.values() for it in found)
-        found = [it for it in objects.addresses_in(texts) if it.version == version]
-        return what, [it for it in found if it not in own]
+        found, what = [], ""
+        for what, held in (("Pod's", self._pods), ("endpoint's", self._endpoints)):
+            texts = dict.fromkeys(it for given in held.values() for it in given)
+            found = [it for it in objects.addresses_in(texts) if it.version == version]
+            found = [it for it in found if it not in own]
+            if found:
+                break
+        return what, found
 
     def slices_of_selecting(self):
         """The slices of Services with a selector."""
