@@ -1,5 +1,5 @@
 -- A configuration is read from the first line alone, and before the first line there are no events.
-use Rattle.std.proofs.Common.{◌≡◌, ℕ, List, [], Bool, true, false, cond, refl, subst}
+use Rattle.std.proofs.Common.{◌≡◌, ℕ, List, [], Bool, true, false, cond, refl, ap, subst}
 use Rattle.std.specs.Prelude.{Result, Ok, Err, IfOk, Option, Some, None, codes, ⊤}
 use Rattle.serde_json.specs.Find.{as_object}
 use Rattle.kp_json.specs.Places.{Place, member_at, needed_at, text_at}
@@ -10,13 +10,16 @@ use Rattle.kp_text_defs.specs.JsonText.{json_of}
 use Rattle.kp_text_defs.specs.PacketText.{read_packet}
 use Rattle.kp_text_defs.specs.ScriptLines.{◌>>=◌, or_refusal, of_members, of_events, read_stream, read_shown, Command, config, event, sync, packet, explain, show, op_of, command_of, op_named, op_at, with_stream, read_script, line_of}
 use Rattle.kp_text_defs.specs.declared.line_refusal.LineRefusal.{LineRefusal}
-use Rattle.kp_text_defs.specs.declared.line_refusal.LineRefusal.TheVariants.{BadJson, NotEvent, TooLongLine}
+use Rattle.kp_text_defs.specs.declared.line_refusal.LineRefusal.TheVariants.{BadJson, NotEvent}
 use Rattle.kp_text_defs.specs.declared.script.Op.{Op}
 use Rattle.kp_text_defs.specs.declared.script.Op.TheVariants as op
 use Rattle.kp_text_defs.specs.declared.script.ScriptLine.{ScriptLine}
 use Rattle.kp_text_defs.specs.declared.stream.Stream.{Stream}
-use Rattle.kp_run_defs.specs.ReplayText.{Standing, Line, refuse, quiet, events_line, sync_line, op_line, read_line, script_line, is_blank}
-use Rattle.kp_line_laws.specs.Lines.{HasNoEvents, IsReady, MayTake, given_line}
+use Rattle.kp_text_defs.specs.declared.said.Said.{Said}
+use Rattle.kp_text_defs.specs.declared.said.Said.TheVariants.{Nothing, Asks, Refuses}
+use Rattle.kp_text_defs.specs.SaidLines.{is_blank, said, said_of}
+use Rattle.kp_run_defs.specs.ReplayText.{Standing, events_line, given_line, op_line, said_line, sync_line}
+use Rattle.kp_line_laws.specs.Lines.{HasNoEvents, IsReady, MaySay, MayTake}
 
 -- ---- What is read from a later line
 
@@ -108,20 +111,41 @@ op_fresh number (op.Packet p) s = refl
 op_fresh number (op.Explain p) s = refl
 op_fresh number (op.Show what) s = refl
 
-read_fresh : (number : ℕ) (r : Result ScriptLine LineRefusal) (s : Standing) → (read_line number r s).next.fresh ≡ s.fresh
-read_fresh number (Err refusal) s = refl
-read_fresh number (Ok line) s = op_fresh number line.op s
-
 pub no_longer : (s : Standing) → s.fresh ≡ false → IsReady s
 no_longer s h = λ e. absurd (cc)
 
-either : (b : Bool) (x y : Line) → IsReady x.next → IsReady y.next → IsReady (cond b x y).next
-either true x y h k = h
-either false x y h k = k
+said_ready : (number : ℕ) (says : Said) (s : Standing) → IsReady s → IsReady (said_line number says s).next
+said_ready number Nothing s ready = ready
+said_ready number (Asks line) s ready = no_longer _ (op_fresh number line.op (record s { fresh = false }))
+said_ready number (Refuses refusal) s ready = no_longer (record s { fresh = false; refused = true }) refl
 
 -- behind a line the next one may come
 pub next_ready : (number : ℕ) (given : Option (List ℕ)) (s : Standing) → IsReady s → IsReady (given_line number given s).next
-next_ready number None s ready = no_longer (refuse number TooLongLine (record s { fresh = false })).next refl
-next_ready number (Some bytes) s ready =
-    either (is_blank bytes) (quiet s) (script_line number bytes s) ready
-    (no_longer (script_line number bytes s).next (read_fresh number (line_of bytes s.fresh) (record s { fresh = false })))
+next_ready number given s ready = said_ready number (said given s.fresh) s ready
+
+-- ---- What a line may ask for that is given
+
+asked : (r : Result ScriptLine LineRefusal) (line : ScriptLine) → said_of r ≡ Asks line → r ≡ Ok line
+asked (Ok l) line h = let same : l ≡ line = cc in ap Ok same
+asked (Err e) line h = absurd (cc)
+
+asked_short : (blank : Bool) (r : Result ScriptLine LineRefusal) (line : ScriptLine) → cond blank Nothing (said_of r) ≡ Asks line → r ≡ Ok line
+asked_short true r line h = absurd (cc)
+asked_short false r line h = asked r line h
+
+-- what is asked for was read of its bytes
+pub asked_by : (given : Option (List ℕ)) (first : Bool) (line : ScriptLine) → said given first ≡ Asks line → (bytes : List ℕ) × (line_of bytes first ≡ Ok line)
+asked_by None first line h = absurd (cc)
+asked_by (Some bytes) first line h = (bytes, asked_short (is_blank bytes) (line_of bytes first) line h)
+
+may_by : (s : Standing) (given : Option (List ℕ)) → IsReady s → (says : Said) → said given s.fresh ≡ says → MaySay s says
+may_by s given ready Nothing is = tt
+may_by s given ready (Asks line) is =
+    let read = asked_by given s.fresh line is in
+    may_take (record s { fresh = false }) read.0 s.fresh line
+    (λ first. let none = ready first in record { events = none.events; counts = none.counts }) read.1
+may_by s given ready (Refuses refusal) is = tt
+
+-- and may come
+pub may_say : (s : Standing) (given : Option (List ℕ)) → IsReady s → MaySay s (said given s.fresh)
+may_say s given ready = may_by s given ready (said given s.fresh) refl

@@ -1,26 +1,29 @@
 -- What holds of the lines that were read: they are numbered in their order, each is of a stream that
 -- there is, and no more events were accepted than the journal may hold.
 use Rattle.std.proofs.Common.{◌≡◌, ◌<◌, ◌≤◌, ◌+◌, ◌&&◌, ℕ, suc, Bool, true, false, cond, not, nat_lt, List, [], ◌∷◌, ◌++◌, length, refl, arith, length-append}
-use Rattle.std.specs.Prelude.{Option, Some, None, is_none, bytes_eq, codes, Result, Ok, Err}
+use Rattle.std.specs.Prelude.{Option, Some, None, is_none, bytes_eq, codes, Ok}
 use Rattle.std.specs.List.{AllByRecursion, fold, sum_by}
 use Rattle.std.proofs.lemmas.Bool.Decides.{nat_tests}
 use Rattle.std.proofs.lemmas.List.Quantifiers.{position-Some}
 use Rattle.std.proofs.lemmas.List.Sums.{sum_by-append}
 use Rattle.kp_lemmas.proofs.ListFacts.{all_weaker}
+use Rattle.kp_text_defs.specs.SaidLines.{given_as, said}
 use Rattle.kp_text_defs.specs.ScriptLines.{line_of}
 use Rattle.kp_text_defs.specs.StreamNames.{stream_name}
 use Rattle.kp_text_defs.specs.declared.line_refusal.LineRefusal.{LineRefusal}
-use Rattle.kp_text_defs.specs.declared.line_refusal.LineRefusal.TheVariants.{TooLongLine, JournalFull, NotLive, StreamsFull}
+use Rattle.kp_text_defs.specs.declared.line_refusal.LineRefusal.TheVariants.{JournalFull, NotLive, StreamsFull}
+use Rattle.kp_text_defs.specs.declared.said.Said.{Said}
+use Rattle.kp_text_defs.specs.declared.said.Said.TheVariants.{Nothing, Asks, Refuses}
 use Rattle.kp_text_defs.specs.declared.script.Op.{Op}
 use Rattle.kp_text_defs.specs.declared.script.Op.TheVariants as op
 use Rattle.kp_text_defs.specs.declared.script.ScriptLine.{ScriptLine}
-use Rattle.kp_run_defs.specs.LiveLines.{Reading, nothing_read, reading_of, after_live_line, after_short, after_script, add_op, accept_within, accept_at, accept_line, refuse_line, next_line, events_fed, stream_at, stream_limit, is_past_streams}
-use Rattle.kp_run_defs.specs.ReplayText.{Standing, beginning, is_blank, is_too_long}
+use Rattle.kp_run_defs.specs.LiveLines.{Reading, nothing_read, reading_of, after_live_line, after_said, add_op, accept_within, accept_at, accept_line, refuse_line, next_line, events_fed, stream_at, stream_limit, is_past_streams}
+use Rattle.kp_run_defs.specs.ReplayText.{Standing, beginning}
 use Rattle.kp_run_defs.specs.declared.live.StreamLine.{StreamLine}
 use Rattle.kp_run_defs.specs.declared.live.Work.{Work}
 use Rattle.kp_run_defs.specs.declared.live.Work.TheVariants.{Feeds, Syncs, Sends}
 use Rattle.kp_line_laws.specs.Lines.{MayTake}
-use Rattle.kp_line_laws.proofs.FirstLines.{may_take}
+use Rattle.kp_line_laws.proofs.FirstLines.{asked_by, may_take}
 
 -- ---- Lists
 
@@ -237,14 +240,6 @@ may_read r bytes true line read fresh is = may_be (next_line r) line.op (read.fi
 may_read r bytes false line read fresh is =
     later_may (next_line r) line.op (may_take late bytes false line (λ e. absurd (cc e)) is)
 
-script_is : (r : Reading) (bytes : List ℕ) → IsRead r
-    → (line : Result ScriptLine LineRefusal) → line_of bytes r.fresh ≡ line
-    → IsRead (after_script r line)
-script_is r bytes read (Err why) is = refused_is why (next_line r) (next_is r read)
-script_is r bytes read (Ok line) is =
-    op_is (stream_name line.by) line.op (next_line r) (next_is r read)
-    (may_read r bytes r.fresh line read refl is)
-
 blank_is : (r : Reading) → IsRead r → IsRead (record r { number = suc r.number })
 blank_is r read = record {
   rising = read.rising;
@@ -257,17 +252,18 @@ blank_is r read = record {
   first = read.first;
 }
 
-either : (b : Bool) (x y : Reading) → IsRead x → IsRead y → IsRead (cond b x y)
-either true x y p q = p
-either false x y p q = q
+said_is : (r : Reading) (given : Option (List ℕ)) → IsRead r → (says : Said)
+    → said given r.fresh ≡ says → IsRead (after_said r says)
+said_is r given read Nothing is = blank_is r read
+said_is r given read (Asks line) is =
+    let asked = asked_by given r.fresh line is in
+    op_is (stream_name line.by) line.op (next_line r) (next_is r read)
+    (may_read r asked.0 r.fresh line read refl asked.1)
+said_is r given read (Refuses why) is = refused_is why (next_line r) (next_is r read)
 
 line_is : (r : Reading) (bytes : List ℕ) → IsRead r → IsRead (after_live_line r bytes)
 line_is r bytes read =
-    either (is_too_long bytes) (after_script r (Err TooLongLine)) (after_short r bytes)
-    (refused_is TooLongLine (next_line r) (next_is r read))
-    (either (is_blank bytes) (record r { number = suc r.number })
-    (after_script r (line_of bytes r.fresh)) (blank_is r read)
-    (script_is r bytes read (line_of bytes r.fresh) refl))
+    said_is r (given_as bytes) read (said (given_as bytes) r.fresh) refl
 
 lines_are : (lines : List (List ℕ)) (r : Reading) → IsRead r → IsRead (fold after_live_line r lines)
 lines_are [] r read = read

@@ -2,25 +2,25 @@
 -- Each is refused, passed over, or becomes work of its stream. Of the lines that read, those that
 -- ask for what isn't for live are refused, then those of one stream too many, then those whose
 -- events the journal has no room for. A refused line belongs to no stream.
-use Rattle.std.specs.Prelude.{ℕ, suc, ◌+◌, ◌==◌, ◌&&◌, nat_lt, Bool, true, false, List, [], ◌∷◌, ◌++◌, length, not, cond, codes, bytes_eq, position, unwrap_or, is_none, Option, Some, None, Result, Ok, Err}
+use Rattle.std.specs.Prelude.{ℕ, suc, ◌+◌, ◌==◌, ◌&&◌, nat_lt, Bool, true, false, List, [], ◌∷◌, ◌++◌, length, not, cond, codes, bytes_eq, position, unwrap_or, is_none, Option, Some, None}
 use Rattle.std.specs.List.{filter, flat_map, fold, range_with_len}
 use Rattle.kp_base.specs.declared.config.Config.{Config}
 use Rattle.kp_types.specs.Setting.{Settings}
 use Rattle.kp_types.specs.declared.event.Event.{Event}
 use Rattle.kp_choice_defs.specs.Settings.{settings_of}
 use Rattle.kp_text_defs.specs.declared.line_refusal.LineRefusal.{LineRefusal}
-use Rattle.kp_text_defs.specs.declared.line_refusal.LineRefusal.TheVariants.{TooLongLine, JournalFull, NotLive, StreamsFull}
+use Rattle.kp_text_defs.specs.declared.line_refusal.LineRefusal.TheVariants.{JournalFull, NotLive, StreamsFull}
+use Rattle.kp_text_defs.specs.declared.said.Said.{Said}
+use Rattle.kp_text_defs.specs.declared.said.Said.TheVariants.{Nothing, Asks, Refuses}
 use Rattle.kp_text_defs.specs.declared.script.Op.{Op}
 use Rattle.kp_text_defs.specs.declared.script.Op.TheVariants as op
-use Rattle.kp_text_defs.specs.declared.script.ScriptLine.{ScriptLine}
 use Rattle.kp_text_defs.specs.ConfigText.{default_config}
-use Rattle.kp_text_defs.specs.ScriptLines.{line_of}
+use Rattle.kp_text_defs.specs.SaidLines.{given_as, said}
 use Rattle.kp_text_defs.specs.StreamNames.{stream_name}
 use Rattle.kp_run_defs.specs.declared.live.RefusedLine.{RefusedLine}
 use Rattle.kp_run_defs.specs.declared.live.StreamLine.{StreamLine}
 use Rattle.kp_run_defs.specs.declared.live.Work.{Work}
 use Rattle.kp_run_defs.specs.declared.live.Work.TheVariants.{Feeds, Syncs, Sends}
-use Rattle.kp_run_defs.specs.ReplayText.{is_blank, is_too_long}
 
 -- ---- What is read
 
@@ -118,37 +118,31 @@ add_op name (op.Packet p) r = add_work name (Sends p) r
 add_op name (op.Explain p) r = refuse_line (NotLive (codes "explain")) r
 add_op name (op.Show what) r = refuse_line (NotLive (codes "show")) r
 
--- a line as it was read, or refused by itself
-abbrev pub add_script : Result ScriptLine LineRefusal → Reading → Reading
-add_script (Err why) r = refuse_line why r
-add_script (Ok line) r = add_op (stream_name line.by) line.op r
-
 -- one line more, which isn't blank
 abbrev pub next_line : Reading → Reading
 next_line r = record r { number = suc r.number; fresh = false }
 
--- one more line, as it was read
-abbrev pub after_script : Reading → Result ScriptLine LineRefusal → Reading
-after_script r line = add_script line (next_line r)
+-- one more line that says this; a blank one is counted and passed over
+abbrev pub after_said : Reading → Said → Reading
+after_said r Nothing = record r { number = suc r.number }
+after_said r (Asks line) = add_op (stream_name line.by) line.op (next_line r)
+after_said r (Refuses why) = refuse_line why (next_line r)
 
--- one more line that isn't too long; a blank one is counted and passed over
-abbrev pub after_short : Reading → List ℕ → Reading
-after_short r bytes =
-    cond (is_blank bytes) (record r { number = suc r.number })
-    (after_script r (line_of bytes r.fresh))
+-- one more line as it is given: nothing of one that is too long
+abbrev pub after_given : Reading → Option (List ℕ) → Reading
+after_given r given = after_said r (said given r.fresh)
 
 -- one more line
 abbrev pub after_live_line : Reading → List ℕ → Reading
-after_live_line r bytes =
-    cond (is_too_long bytes) (after_script r (Err TooLongLine)) (after_short r bytes)
+after_live_line r bytes = after_given r (given_as bytes)
 
 -- the lines of an input, as they are read
 abbrev pub reading_of : List (List ℕ) → Reading
 reading_of lines = fold after_live_line nothing_read lines
 
--- lines as they were read, without a blank one
-abbrev pub reading_of_scripts : List (Result ScriptLine LineRefusal) → Reading
-reading_of_scripts lines = fold after_script nothing_read lines
+-- lines that say this
+abbrev pub reading_of_said : List Said → Reading
+reading_of_said lines = fold after_said nothing_read lines
 
 -- ---- What each stream has to do
 

@@ -3,8 +3,8 @@
 -- recent lists. Tables, batches and slices are functions of these. A sync prints how the full table changed; a
 -- packet is answered by the decision on the objects that the last sync covers, and its trail is the walk of
 -- their full table.
-use Rattle.std.specs.Prelude.{ℕ, suc, ◌+◌, ◌-◌, ◌==◌, ◌||◌, nat_lt, Bool, true, false, List, [], ◌∷◌, ◌++◌, length, sum, not, cond, count_by, Option, Some, None, Result, Ok, Err}
-use Rattle.std.specs.List.{list_all, fold}
+use Rattle.std.specs.Prelude.{ℕ, suc, ◌+◌, ◌-◌, nat_lt, Bool, true, false, List, [], ◌∷◌, ◌++◌, length, sum, not, count_by, Option, Some, None}
+use Rattle.std.specs.List.{fold}
 use Rattle.std.specs.FinMap as finite
 use Rattle.kp_base.specs.declared.address.Family.{Family}
 use Rattle.kp_base.specs.declared.address.Family.TheVariants.{V4, V6}
@@ -28,18 +28,19 @@ use Rattle.kp_history_defs.specs.History.{objects_covered, chains_covered}
 use Rattle.kp_restore_defs.specs.BatchText.{batch_text_of}
 use Rattle.kp_restore_defs.specs.TableText.{section_text_of}
 use Rattle.kp_text_defs.specs.declared.line_refusal.LineRefusal.{LineRefusal}
-use Rattle.kp_text_defs.specs.declared.line_refusal.LineRefusal.TheVariants.{TooLongLine, JournalFull, ChainClash}
+use Rattle.kp_text_defs.specs.declared.line_refusal.LineRefusal.TheVariants.{JournalFull, ChainClash}
 use Rattle.kp_text_defs.specs.declared.packet.PacketLine.{PacketLine}
+use Rattle.kp_text_defs.specs.declared.said.Said.{Said}
+use Rattle.kp_text_defs.specs.declared.said.Said.TheVariants.{Nothing, Asks, Refuses}
 use Rattle.kp_text_defs.specs.declared.script.Op.{Op}
 use Rattle.kp_text_defs.specs.declared.script.Op.TheVariants as op
 use Rattle.kp_text_defs.specs.declared.script.Shown.{Shown}
 use Rattle.kp_text_defs.specs.declared.script.Shown.TheVariants as shown
-use Rattle.kp_text_defs.specs.declared.script.ScriptLine.{ScriptLine}
 use Rattle.kp_text_defs.specs.Answers.{explain_text}
 use Rattle.kp_text_defs.specs.ConfigText.{default_config}
 use Rattle.kp_text_defs.specs.Printed.{sync_text}
 use Rattle.kp_text_defs.specs.Refusals.{refusal_text}
-use Rattle.kp_text_defs.specs.ScriptLines.{line_of}
+use Rattle.kp_text_defs.specs.SaidLines.{given_as, said}
 use Rattle.kp_text_defs.specs.Slices.{slices_text}
 pub use Rattle.kp_run_defs.specs.AnswerText.{draws_at, walk_at, answer_text}
 
@@ -199,35 +200,19 @@ op_line number (op.Packet p) s = packet_line number p s
 op_line number (op.Explain p) s = explain_line number p s
 op_line number (op.Show what) s = print (shown_text what s) s
 
--- a line that was read
-abbrev pub read_line : ℕ → Result ScriptLine LineRefusal → Standing → Line
-read_line number (Err refusal) s = refuse number refusal s
-read_line number (Ok line) s = op_line number line.op s
+-- what a line says: a blank one is passed over, and any other is no longer the first
+abbrev pub said_line : ℕ → Said → Standing → Line
+said_line number Nothing s = quiet s
+said_line number (Asks line) s = op_line number line.op (record s { fresh = false })
+said_line number (Refuses refusal) s = refuse number refusal (record s { fresh = false })
 
--- a space, a tab or a carriage return
-abbrev pub is_blank_byte : ℕ → Bool
-is_blank_byte byte = (byte == 32) || ((byte == 9) || (byte == 13))
-
--- a line that is counted and passed over
-abbrev pub is_blank : List ℕ → Bool
-is_blank bytes = list_all is_blank_byte bytes
-
--- more bytes than a line may have, without its line feed
-abbrev pub is_too_long : List ℕ → Bool
-is_too_long bytes = nat_lt 16777216 (length bytes)
-
--- a line that is neither too long nor blank
-abbrev pub script_line : ℕ → List ℕ → Standing → Line
-script_line number bytes s = read_line number (line_of bytes s.fresh) (record s { fresh = false })
-
--- a line that isn't too long: a blank one is passed over, and any other is no longer the first
-abbrev pub short_line : ℕ → List ℕ → Standing → Line
-short_line number bytes s = cond (is_blank bytes) (quiet s) (script_line number bytes s)
+-- a line as it is given: nothing of one that is too long
+abbrev pub given_line : ℕ → Option (List ℕ) → Standing → Line
+given_line number given s = said_line number (said given s.fresh) s
 
 -- a line
 abbrev pub line_at : ℕ → List ℕ → Standing → Line
-line_at number bytes s =
-    cond (is_too_long bytes) (refuse number TooLongLine (record s { fresh = false })) (short_line number bytes s)
+line_at number bytes s = given_line number (given_as bytes) s
 
 -- ---- All lines
 

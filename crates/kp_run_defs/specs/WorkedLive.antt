@@ -1,6 +1,6 @@
 -- Worked examples of live runs: how lines are read, one run that is legal, and for each condition
 -- of a legal run some that break it. The lines are given as they were read.
-use Rattle.std.specs.Prelude.{◌≡◌, ◌<◌, ◌-◌, ◌^◌, ℕ, false, List, [], ◌∷◌, map, get_or, codes, Result, Ok, Err}
+use Rattle.std.specs.Prelude.{◌≡◌, ◌<◌, ◌-◌, ◌^◌, ℕ, false, List, [], ◌∷◌, map, get_or, codes}
 use Rattle.std.proofs.lemmas.List.Elements.{All-nil}
 use Rattle.std.specs.List.{range_with_len}
 use Rattle.kp_base.specs.Net.{v4_address}
@@ -18,25 +18,26 @@ use Rattle.kp_text_defs.specs.declared.draws.Draws.TheVariants as draws
 use Rattle.kp_text_defs.specs.declared.line_refusal.LineRefusal.{LineRefusal}
 use Rattle.kp_text_defs.specs.declared.line_refusal.LineRefusal.TheVariants.{BadJson, JournalFull, NotLive, StreamsFull}
 use Rattle.kp_text_defs.specs.declared.packet.PacketLine.{PacketLine}
+use Rattle.kp_text_defs.specs.declared.said.Said.{Said}
+use Rattle.kp_text_defs.specs.declared.said.Said.TheVariants.{Asks, Refuses}
 use Rattle.kp_text_defs.specs.declared.script.Op.{Op}
 use Rattle.kp_text_defs.specs.declared.script.Op.TheVariants as op
 use Rattle.kp_text_defs.specs.declared.script.Shown.TheVariants.{Nat}
-use Rattle.kp_text_defs.specs.declared.script.ScriptLine.{ScriptLine}
 use Rattle.kp_text_defs.specs.declared.stream.Stream.TheVariants.{Named}
 use Rattle.kp_text_defs.specs.ConfigText.{default_config}
 use Rattle.kp_run_defs.specs.declared.live.RefusedLine.{RefusedLine}
-use Rattle.kp_run_defs.specs.LiveLines.{Reading, nothing_read, after_script, reading_of_scripts, running_streams, stream_limit}
+use Rattle.kp_run_defs.specs.LiveLines.{Reading, nothing_read, after_said, reading_of_said, running_streams, stream_limit}
 use Rattle.kp_run_defs.specs.LegalRuns.{Mark, Shows, Refuses, LiveRun, IsLegalRun}
 
 -- ---- Lines
 
 -- a line as it was read
 abbrev pub Read : Type 0
-Read = Result ScriptLine LineRefusal
+Read = Said
 
 -- a line of a stream
 abbrev pub by : List ℕ → Op → Read
-by name operation = Ok (record { by = Named name; op = operation })
+by name operation = Asks (record { by = Named name; op = operation })
 
 -- a pod is gone
 abbrev pub gone : List ℕ → Event
@@ -68,7 +69,7 @@ refused number why = record { number = number; why = why }
 -- what isn't for live is refused, is of no stream, and a single stream runs
 abbrev pub NotForLive : Type 0
 NotForLive =
-    let r = reading_of_scripts
+    let r = reading_of_said
     (by (codes "a") (op.Show Nat) ∷ by (codes "b") (op.Explain sent) ∷ []) in
     (r.refused
     ≡ refused 1 (NotLive (codes "show")) ∷ refused 2 (NotLive (codes "explain")) ∷ [])
@@ -78,8 +79,8 @@ NotForLive =
 -- and a line without an event makes one
 abbrev pub StreamsInOrder : Type 0
 StreamsInOrder =
-    (reading_of_scripts
-    (by (codes "c") (op.Config default_config) ∷ Err BadJson ∷ by (codes "b") (op.Events [])
+    (reading_of_said
+    (by (codes "c") (op.Config default_config) ∷ Refuses BadJson ∷ by (codes "b") (op.Events [])
     ∷ by (codes "a") op.Sync ∷ by (codes "b") (op.Packet sent) ∷ [])).streams
     ≡ codes "b" ∷ codes "a" ∷ []
 
@@ -93,19 +94,19 @@ full = record nothing_read {
 -- a line of one stream more is refused as that, though its event has no room either
 abbrev pub StreamsBeforeJournal : Type 0
 StreamsBeforeJournal =
-    (after_script full (by (codes "a") (op.Events (gone (codes "x") ∷ [])))).refused
+    (after_said full (by (codes "a") (op.Events (gone (codes "x") ∷ [])))).refused
     ≡ refused 1 StreamsFull ∷ []
 
 -- a line of a stream that is there is refused for its event
 abbrev pub JournalIsFull : Type 0
 JournalIsFull =
-    (after_script full (by (codes "?") (op.Events (gone (codes "x") ∷ [])))).refused
+    (after_said full (by (codes "?") (op.Events (gone (codes "x") ∷ [])))).refused
     ≡ refused 1 (JournalFull 1000000) ∷ []
 
 -- a line that has no room makes no stream
 abbrev pub RefusedMakesNone : Type 0
 RefusedMakesNone =
-    (after_script (record nothing_read { accepted = 1000000 })
+    (after_said (record nothing_read { accepted = 1000000 })
     (by (codes "a") (op.Events (gone (codes "x") ∷ [])))).streams
     ≡ []
 
@@ -114,7 +115,7 @@ RefusedMakesNone =
 -- a run of lines, with the marks of its lines from the first on
 abbrev pub run_of : List Read → List Fed → List ℕ → List Mark → LiveRun
 run_of lines journal counts marks = record {
-  reading = reading_of_scripts lines;
+  reading = reading_of_said lines;
   journal = journal;
   counts = counts;
   marks = λ number. get_or marks (number - 1) (Shows 0);

@@ -1,5 +1,5 @@
 -- How far the reading of an input has come, from one line to the next.
-use Rattle.std.proofs.Common.{◌≡◌, ◌+◌, ◌≤◌, ◌++◌, ℕ, suc, Bool, true, false, cond, List, [], ◌∷◌, length, map, Option, Some, None, IfSome, Result, Ok, Err, refl, ap, sym, subst, ◌∙◌, add-one, length-append, arith}
+use Rattle.std.proofs.Common.{◌≡◌, ◌+◌, ◌≤◌, ◌++◌, ℕ, suc, Bool, true, false, cond, List, [], ◌∷◌, length, map, Option, Some, None, IfSome, refl, ap, sym, subst, ◌∙◌, add-one, length-append, arith}
 use Rattle.std.specs.Prelude.{nat_lt}
 use Rattle.std.specs.Io.KnownBytes.{IsAtEnd}
 use Rattle.std.specs.List.{fold}
@@ -9,38 +9,25 @@ use Rattle.kp_io.specs.Reader.{ReaderState, LosesTaken, to_come}
 use Rattle.kp_io.specs.Told.{FromTold}
 use Rattle.kp_io.specs.declared.next_line.TheConstants.{INPUT_LIMIT, LINE_LIMIT}
 use Rattle.kp_io.proofs.HandedOut.{handed_given, handed_all, taken_none, taken_more}
-use Rattle.kp_text_defs.specs.declared.line_refusal.LineRefusal.{LineRefusal}
-use Rattle.kp_text_defs.specs.declared.line_refusal.LineRefusal.TheVariants.{TooLongLine, JournalFull, StreamsFull}
+use Rattle.kp_text_defs.specs.declared.line_refusal.LineRefusal.TheVariants.{JournalFull, StreamsFull}
+use Rattle.kp_text_defs.specs.declared.said.Said.{Said}
+use Rattle.kp_text_defs.specs.declared.said.Said.TheVariants.{Nothing, Asks, Refuses}
 use Rattle.kp_text_defs.specs.declared.script.Op.{Op}
 use Rattle.kp_text_defs.specs.declared.script.Op.TheVariants as op
-use Rattle.kp_text_defs.specs.declared.script.ScriptLine.{ScriptLine}
-use Rattle.kp_text_defs.specs.ScriptLines.{line_of}
+use Rattle.kp_text_defs.specs.SaidLines.{said}
 use Rattle.kp_text_defs.specs.StreamNames.{stream_name}
 use Rattle.kp_run_defs.specs.declared.live.Work.{Work}
 use Rattle.kp_run_defs.specs.declared.live.Work.TheVariants.{Feeds, Syncs, Sends}
-use Rattle.kp_run_defs.specs.LiveLines.{Reading, nothing_read, is_past_streams, events_fed, refuse_line, accept_line, accept_within, add_work, add_op, next_line, after_script, after_short, after_live_line, reading_of}
-use Rattle.kp_run_defs.specs.ReplayText.{is_blank}
-use Rattle.kp_streams.specs.Streams.{after_given, reading_given}
+use Rattle.kp_run_defs.specs.LiveLines.{Reading, nothing_read, is_past_streams, events_fed, refuse_line, accept_line, accept_within, add_work, add_op, next_line, after_said, after_given, after_live_line, reading_of}
+use Rattle.kp_streams.specs.Streams.{reading_given}
 use Rattle.kp_streams.specs.WholeInput.{HasRead, LosesFront, ReadsWhole}
 
 -- ---- Lines and lines as they are given
 
-by_size : (r : Reading) (bytes : List ℕ) (b : Bool)
-    → cond b (after_script r (Err TooLongLine)) (after_short r bytes)
-    ≡ after_given r (cond b None (Some bytes))
-by_size r bytes true = refl
-by_size r bytes false = refl
-
-line_given : (r : Reading) (bytes : List ℕ)
-    → after_live_line r bytes ≡ after_given r (given_of bytes)
-line_given r bytes = by_size r bytes (nat_lt LINE_LIMIT (length bytes))
-
 lines_given : (r : Reading) (lines : List (List ℕ))
     → fold after_live_line r lines ≡ fold after_given r (map given_of lines)
 lines_given r [] = refl
-lines_given r (bytes ∷ lines) =
-    lines_given (after_live_line r bytes) lines
-    ∙ ap (λ s. fold after_given s (map given_of lines)) (line_given r bytes)
+lines_given r (bytes ∷ lines) = lines_given (after_live_line r bytes) lines
 
 -- the reading of a text whose lines were given so
 whole_text : (text : List ℕ) (given : List (Option (List ℕ))) → given_lines text ≡ given
@@ -70,16 +57,13 @@ counts_op name (op.Packet p) r = counts_work name (Sends p) r
 counts_op name (op.Explain p) r = refl
 counts_op name (op.Show what) r = refl
 
-counts_script : (line : Result ScriptLine LineRefusal) (r : Reading)
-    → (after_script r line).number ≡ suc r.number
-counts_script (Err why) r = refl
-counts_script (Ok line) r = counts_op (stream_name line.by) line.op (next_line r)
+counts_said : (says : Said) (r : Reading) → (after_said r says).number ≡ suc r.number
+counts_said Nothing r = refl
+counts_said (Asks line) r = counts_op (stream_name line.by) line.op (next_line r)
+counts_said (Refuses why) r = refl
 
 counts_given : (one : Option (List ℕ)) (r : Reading) → (after_given r one).number ≡ suc r.number
-counts_given None r = refl
-counts_given (Some bytes) r =
-    counts_either (suc r.number) (is_blank bytes) (record r { number = suc r.number })
-    (after_script r (line_of bytes r.fresh)) refl (counts_script (line_of bytes r.fresh) r)
+counts_given one r = counts_said (said one r.fresh) r
 
 -- ---- From one line to the next
 

@@ -1,8 +1,7 @@
 -- What a reader of a live run's lines shows.
-use Rattle.std.specs.Prelude.{ℕ, List, Option, Some, None, Err}
+use Rattle.std.specs.Prelude.{ℕ, List, Option}
 use Rattle.std.specs.List.{fold}
-use Rattle.kp_text_defs.specs.declared.line_refusal.LineRefusal.TheVariants.{TooLongLine}
-use Rattle.kp_run_defs.specs.LiveLines.{Reading, nothing_read, after_script, after_short}
+use Rattle.kp_run_defs.specs.LiveLines.{Reading, nothing_read, after_given}
 use Rattle.kp_streams.specs.declared.lines.StreamLines.{StreamLines}
 
 -- how far the reading has come
@@ -16,11 +15,6 @@ reading_in s = record {
   lines = s.lines.items;
   refused = s.refused;
 }
-
--- one more line as a reader gives it: nothing of one that is too long
-abbrev pub after_given : Reading → Option (List ℕ) → Reading
-after_given r None = after_script r (Err TooLongLine)
-after_given r (Some bytes) = after_short r bytes
 
 -- lines as a reader gives them
 abbrev pub reading_given : List (Option (List ℕ)) → Reading

@@ -3,17 +3,15 @@ ghost use Rattle.std.specs.Prelude.{◌≡◌, ◌+◌, ◌-◌, ◌<◌, ◌≤
 ghost use Rattle.std.specs.Prelude.{IfOk, None, OnErr, OnOk, Some};
 ghost use Rattle.std.specs.Option.{option_copied};
 ghost use Rattle.kp_run_defs.specs.LiveLines as spec;
-ghost use Rattle.kp_run_defs.specs.ReplayText as replay;
-ghost use Rattle.kp_streams.specs.Streams.{after_given, reading_in};
-ghost use Rattle.kp_text_defs.specs.ScriptLines as script;
+ghost use Rattle.kp_run_defs.specs.LiveLines.{after_given};
+ghost use Rattle.kp_streams.specs.Streams.{reading_in};
 ghost use Rattle.kp_text_defs.specs.declared.line_refusal.LineRefusal.TheVariants.{NotLive};
-ghost use Rattle.kp_text_defs.specs.declared.line_refusal.LineRefusal.TheVariants.{TooLongLine};
 ghost use Rattle.kp_text_defs.specs.StreamNames.{stream_name};
 
 use crate::names::StreamNames;
 use kp_base::{Config, Items, NoMemory, Text};
 use kp_run_defs::{RefusedLine, StreamLine, Work};
-use kp_script::{LineRefusal, Op, Scratch, ScriptFault, ScriptLine, default_config, line_with};
+use kp_script::{LineRefusal, Op, Said, Scratch, ScriptLine, default_config, said_by};
 use std::alloc::Global;
 
 /// How far lines have been read: the configuration, the streams and their lines, and the lines that
@@ -102,8 +100,9 @@ impl StreamLines {
             ≡ after_given (reading_in self.old) (option_copied given.entry)) }
         ensures err { OnErr result (reading_in self.new ≡ reading_in self.old) }
     {
+        let said = said_by(alloc, given, self.fresh, &mut self.scratch)?;
         let (number, fresh) = (self.number, self.fresh);
-        match self.take_next(alloc, given) {
+        match self.take_said(alloc, said) {
             Ok(()) => Ok(()),
             Err(refused) => {
                 self.number = number;
@@ -113,49 +112,28 @@ impl StreamLines {
         }
     }
 
-    /// Reads it. Where memory is out it is counted all the same, and may not be the first any more.
-    fn take_next(&mut self, alloc: Global, given: Option<&[u8]>) -> Result<(), NoMemory>
+    /// Does what the next line says. Where memory is out it is counted all the same, and may not be
+    /// the first any more.
+    fn take_said(&mut self, alloc: Global, said: Said) -> Result<(), NoMemory>
         requires { (reading_in self.old).number < 2 ^ 64 - 1 }
         ensures ok { OnOk result (reading_in self.new
-            ≡ after_given (reading_in self.old) (option_copied given.entry)) }
+            ≡ spec.after_said (reading_in self.old) said) }
         ensures err { OnErr result (reading_in self.new ≡ record (reading_in self.old) {
           number = self.new.number;
           fresh = self.new.fresh;
         }) }
     {
         self.number += 1;
-        match given {
-            None => self.refuse_long(),
-            Some(bytes) if is_blank(bytes) => Ok(()),
-            Some(bytes) => self.take_script(alloc, bytes),
-        }
-    }
-
-    /// Refuses the line as too long.
-    fn refuse_long(&mut self) -> Result<(), NoMemory>
-        ensures ok { OnOk result (reading_in self.new ≡ spec.refuse_line TooLongLine
-            (record (reading_in self.old) { fresh = false })) }
-        ensures err { OnErr result
-            (reading_in self.new ≡ record (reading_in self.old) { fresh = false }) }
-    {
-        self.fresh = false;
-        self.refuse(LineRefusal::TooLongLine)
-    }
-
-    /// Reads a line that is neither too long nor blank.
-    fn take_script(&mut self, alloc: Global, bytes: &[u8]) -> Result<(), NoMemory>
-        ensures ok { OnOk result (reading_in self.new
-            ≡ spec.add_script (script.line_of bytes.now (reading_in self.old).fresh)
-            (record (reading_in self.old) { fresh = false })) }
-        ensures err { OnErr result
-            (reading_in self.new ≡ record (reading_in self.old) { fresh = false }) }
-    {
-        let first = self.fresh;
-        self.fresh = false;
-        match line_with(alloc, bytes, first, &mut self.scratch) {
-            Ok(line) => self.add_line(alloc, line),
-            Err(ScriptFault::Refused(refusal)) => self.refuse(refusal),
-            Err(ScriptFault::NoMemory(refused)) => Err(refused),
+        match said {
+            Said::Nothing => Ok(()),
+            Said::Asks(line) => {
+                self.fresh = false;
+                self.add_line(alloc, line)
+            }
+            Said::Refuses(why) => {
+                self.fresh = false;
+                self.refuse(why)
+            }
         }
     }
 
@@ -271,17 +249,4 @@ fn sum_within(most: u64, accepted: u64, more: u64) -> Option<u64>
 {
     let sum = accepted.checked_add(more)?;
     if sum > most { None } else { Some(sum) }
-}
-
-/// Whether a line has only spaces, tabs and carriage returns.
-fn is_blank(bytes: &[u8]) -> bool
-    ensures { result ≡ replay.is_blank bytes.now }
-{
-    bytes.iter().all(|byte: &u8| is_blank_byte(*byte))
-}
-
-fn is_blank_byte(byte: u8) -> bool
-    ensures { result ≡ replay.is_blank_byte byte }
-{
-    byte == b' ' || byte == b'\t' || byte == b'\r'
 }

@@ -8,6 +8,7 @@ pub mod Live
 pub mod PacketText
 pub mod Printed
 pub mod Refusals
+pub mod SaidLines
 pub mod ScriptLines
 pub mod Slices
 pub mod StreamNames

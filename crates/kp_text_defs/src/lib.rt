@@ -5,6 +5,7 @@
 mod draws;
 mod line_refusal;
 mod packet;
+mod said;
 mod script;
 mod stream;
 mod totals;
@@ -13,6 +14,7 @@ pub mod worked;
 pub use draws::Draws;
 pub use line_refusal::LineRefusal;
 pub use packet::PacketLine;
+pub use said::Said;
 pub use script::{Op, ScriptLine, Shown};
 pub use stream::Stream;
 pub use totals::Totals;

@@ -14,14 +14,16 @@ use Rattle.kp_event_defs.specs.EventText.{Refused, read_events}
 use Rattle.kp_row_defs.specs.Fields.{ranges_in}
 use Rattle.kp_text_defs.specs.JsonText.{json_of}
 use Rattle.kp_text_defs.specs.PacketText.{needed_address_in, packet_rows}
-use Rattle.kp_text_defs.specs.ScriptLines.{Command, as_op, command_of, config, config_op, event, explain, of_events, of_members, op_at, op_named, op_of, or_refusal, packet, read_script, read_stream, show, sync, with_stream, ◌>>=◌}
+use Rattle.kp_text_defs.specs.ScriptLines.{Command, as_op, command_of, config, config_op, event, explain, line_of, of_events, of_members, op_at, op_named, op_of, or_refusal, packet, read_script, read_stream, show, sync, with_stream, ◌>>=◌}
 use Rattle.kp_text_defs.specs.declared.line_refusal.LineRefusal.{LineRefusal}
-use Rattle.kp_text_defs.specs.declared.line_refusal.LineRefusal.TheVariants.{BadJson, TooLongLine}
+use Rattle.kp_text_defs.specs.declared.line_refusal.LineRefusal.TheVariants.{BadJson}
+use Rattle.kp_text_defs.specs.SaidLines.{said_of}
+use Rattle.kp_text_defs.specs.declared.said.Said.TheVariants.{Nothing}
 use Rattle.kp_text_defs.specs.declared.script.Op.{Op}
 use Rattle.kp_text_defs.specs.declared.script.Op.TheVariants as op
 use Rattle.kp_text_defs.specs.declared.script.ScriptLine.{ScriptLine}
 use Rattle.kp_text_defs.specs.declared.stream.Stream.{Stream}
-use Rattle.kp_run_defs.specs.ReplayText.{Progress, Standing, after_line, at_start, events_line, op_line, quiet, read_line, refuse, script_line, short_line, sync_line}
+use Rattle.kp_run_defs.specs.ReplayText.{Progress, Standing, after_line, at_start, events_line, given_line, op_line, said_line, sync_line}
 use Rattle.kp_text_laws.specs.Bounds.{AreBoundedEvents, IsBoundedConfig, is_bounded_address}
 use Rattle.kp_text_laws.specs.BoundLaws.{ReadIsBounded}
 use Rattle.kp_text_laws.specs.ShownLaws.{ConfigIsBounded, IsBoundedOp, IsBoundedPacket, IsBoundedStanding, LinesAreBounded, PacketIsBounded, ReplaysAreBounded}
@@ -154,21 +156,19 @@ module _ (read_is_bounded : ReadIsBounded) where
 
   read_keeps : (number : ℕ) (r : Result ScriptLine LineRefusal) (s : Standing)
       → IsBoundedStanding s → ((line : ScriptLine) → r ≡ Ok line → IsBoundedOp line.op)
-      → IsBoundedStanding (read_line number r s).next
+      → IsBoundedStanding (said_line number (said_of r) s).next
   read_keeps number (Err why) s h k = record { config = h.config; events = h.events }
-  read_keeps number (Ok line) s h k = op_keeps number line.op s h (k line refl)
+  read_keeps number (Ok line) s h k =
+      op_keeps number line.op _ (record { config = h.config; events = h.events }) (k line refl)
 
   short_keeps : (number : ℕ) (bytes : List ℕ) (s : Standing) (blank : Bool)
       → IsBoundedStanding s
-      → IsBoundedStanding (cond blank (quiet s) (script_line number bytes s)).next
+      → IsBoundedStanding (said_line number (cond blank Nothing (said_of (line_of bytes s.fresh))) s).next
   short_keeps number bytes s true h = h
-  short_keeps number bytes s false h =
-      read_keeps number _ _
-      (record { config = h.config; events = h.events }) (lines_are_bounded bytes s.fresh)
+  short_keeps number bytes s false h = read_keeps number _ s h (lines_are_bounded bytes s.fresh)
 
   line_keeps : (number : ℕ) (bytes : List ℕ) (s : Standing) (long : Bool) → IsBoundedStanding s
-      → IsBoundedStanding (cond long (refuse number TooLongLine (record s { fresh = false }))
-      (short_line number bytes s)).next
+      → IsBoundedStanding (given_line number (cond long None (Some bytes)) s).next
   line_keeps number bytes s true h = record { config = h.config; events = h.events }
   line_keeps number bytes s false h = short_keeps number bytes s _ h
 

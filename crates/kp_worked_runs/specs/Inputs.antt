@@ -1,5 +1,5 @@
 -- The lines of the worked runs as they are typed, and what they read as.
-use Rattle.std.specs.Prelude.{◌≡◌, ℕ, Bool, true, false, List, [], ◌∷◌, ◌++◌, codes, Option, Some, None, Ok, Err}
+use Rattle.std.specs.Prelude.{◌≡◌, ℕ, Bool, true, false, List, [], ◌∷◌, ◌++◌, codes, Option, Some, None}
 use Rattle.kp_base.specs.declared.address.Family.TheVariants.{V4}
 use Rattle.kp_base.specs.declared.config.Config.{Config}
 use Rattle.kp_types.specs.Setting.{FamilyConfig, config_for}
@@ -8,7 +8,8 @@ use Rattle.kp_text_defs.specs.declared.draws.Draws.{Draws}
 use Rattle.kp_text_defs.specs.declared.script.Op.{Op}
 use Rattle.kp_text_defs.specs.declared.script.Op.TheVariants as op
 use Rattle.kp_text_defs.specs.declared.script.Shown.TheVariants.{Nat}
-use Rattle.kp_text_defs.specs.ScriptLines.{line_of}
+use Rattle.kp_text_defs.specs.SaidLines.{said}
+use Rattle.kp_text_defs.specs.declared.said.Said.TheVariants.{Nothing, Asks, Refuses}
 use Rattle.kp_run_defs.specs.LiveLines.{reading_of}
 use Rattle.kp_run_defs.specs.LegalRuns.{LiveRun}
 use Rattle.kp_run_defs.specs.WorkedLive.{Read}
@@ -66,23 +67,23 @@ sent_text =
 
 -- the line of a sync
 abbrev pub SyncReads : Type 0
-SyncReads = line_of sync_text false ≡ main op.Sync
+SyncReads = said (Some sync_text) false ≡ main op.Sync
 
 -- of what is shown
 abbrev pub ShowReads : Type 0
-ShowReads = line_of show_text false ≡ main (op.Show Nat)
+ShowReads = said (Some show_text) false ≡ main (op.Show Nat)
 
 -- of the Service
 abbrev pub WebReads : Type 0
-WebReads = line_of web_text false ≡ feeds apply_web
+WebReads = said (Some web_text) false ≡ feeds apply_web
 
 -- of its slice
 abbrev pub SliceReads : Type 0
-SliceReads = line_of (slice_text first_text) false ≡ feeds (apply_slice (first ∷ []))
+SliceReads = said (Some (slice_text first_text)) false ≡ feeds (apply_slice (first ∷ []))
 
 -- of its slice with the other endpoint
 abbrev pub OtherSliceReads : Type 0
-OtherSliceReads = line_of (slice_text second_text) false ≡ feeds (apply_slice (second ∷ []))
+OtherSliceReads = said (Some (slice_text second_text)) false ≡ feeds (apply_slice (second ∷ []))
 
 -- ---- Lines with bounds of numbers, beside these
 
@@ -111,21 +112,22 @@ config_in (op.Show what) = None
 
 -- the operation of a line that reads
 abbrev pub op_in : {A : Type 0} → (Op → Option A) → Read → Option A
-op_in of (Ok line) = of line.op
-op_in of (Err why) = None
+op_in of Nothing = None
+op_in of (Asks line) = of line.op
+op_in of (Refuses why) = None
 
 -- the line of a packet
 abbrev pub SentReads : Type 0
 SentReads =
-    op_in packet_in (line_of sent_text false) ≡ Some (sent.packet, (sent.draws, sent.trail))
+    op_in packet_in (said (Some sent_text) false) ≡ Some (sent.packet, (sent.draws, sent.trail))
 
 -- of the configuration
 abbrev pub ConfigReads : Type 0
-ConfigReads = op_in config_in (line_of (config_with []) true) ≡ Some (told_by config)
+ConfigReads = op_in config_in (said (Some (config_with [])) true) ≡ Some (told_by config)
 
 -- of the same with names of chains of their prefixes alone
 abbrev pub PlainReads : Type 0
-PlainReads = op_in config_in (line_of plain_text true) ≡ Some (told_by plain)
+PlainReads = op_in config_in (said (Some plain_text) true) ≡ Some (told_by plain)
 
 -- ---- Whole inputs
 

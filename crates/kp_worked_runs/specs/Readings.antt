@@ -7,13 +7,13 @@ use Rattle.kp_base.specs.declared.config.Config.{Config}
 use Rattle.kp_text_defs.specs.declared.line_refusal.LineRefusal.TheVariants.{ConfigLate}
 use Rattle.kp_text_defs.specs.declared.line_refusal.LineRefusal.TheVariants.{JournalFull, NotLive}
 use Rattle.kp_text_defs.specs.declared.line_refusal.LineRefusal.TheVariants.{StreamsFull, TooLongLine}
+use Rattle.kp_text_defs.specs.SaidLines.{is_blank}
 use Rattle.kp_text_defs.specs.declared.script.Op.{Op}
 use Rattle.kp_text_defs.specs.declared.script.Op.TheVariants as op
 use Rattle.kp_text_defs.specs.declared.script.Shown.TheVariants.{Nat}
 use Rattle.kp_run_defs.specs.declared.live.Work.TheVariants.{Feeds, Syncs}
-use Rattle.kp_run_defs.specs.LiveLines.{Reading, after_script, nothing_read, reading_of}
-use Rattle.kp_run_defs.specs.LiveLines.{reading_of_scripts}
-use Rattle.kp_run_defs.specs.ReplayText.{is_blank}
+use Rattle.kp_run_defs.specs.LiveLines.{Reading, after_said, nothing_read, reading_of}
+use Rattle.kp_run_defs.specs.LiveLines.{reading_of_said}
 use Rattle.kp_run_defs.specs.WorkedLive.{by, full, gone, refused}
 use Rattle.kp_worked.specs.Setting.{config}
 use Rattle.kp_worked_runs.specs.Inputs.{config_with, sync_text, told_by}
@@ -28,12 +28,12 @@ streams n = map (λ byte. byte ∷ []) (range_with_len 0 n)
 -- what a line of the stream @, whose byte is 64, becomes where there are these
 abbrev pub behind : List (List ℕ) → Op → Reading
 behind names operation =
-    after_script (record nothing_read { streams = names }) (by (codes "@") operation)
+    after_said (record nothing_read { streams = names }) (by (codes "@") operation)
 
 -- the 64th stream is taken,
 abbrev pub LastIsTaken : Type 0
 LastIsTaken =
-    let r = after_script (record nothing_read { streams = streams 63 }) (by (codes "?") op.Sync) in
+    let r = after_said (record nothing_read { streams = streams 63 }) (by (codes "?") op.Sync) in
     (r.streams ≡ streams 64) × (r.refused ≡ [])
 
 -- of which there are no more,
@@ -59,7 +59,7 @@ small = record config { max_events = 2; events_from = lit≤ tt; events_to = lit
 -- a line of one event, one of two, which has no room, one of one again, and a sync
 abbrev pub SmallReads : Type 0
 SmallReads =
-    let r = reading_of_scripts
+    let r = reading_of_said
     (main (op.Config small) ∷ main (op.Events (gone (codes "x") ∷ []))
     ∷ main (op.Events (gone (codes "y") ∷ gone (codes "z") ∷ []))
     ∷ main (op.Events (gone (codes "w") ∷ [])) ∷ main op.Sync ∷ []) in
@@ -71,7 +71,7 @@ SmallReads =
 -- two events of one line have room, and then none has
 abbrev pub SmallAtOnce : Type 0
 SmallAtOnce =
-    let r = reading_of_scripts
+    let r = reading_of_said
     (main (op.Config small) ∷ main (op.Events (gone (codes "x") ∷ gone (codes "y") ∷ []))
     ∷ main (op.Events (gone (codes "z") ∷ [])) ∷ []) in
     (r.refused ≡ refused 3 (JournalFull 2) ∷ []) × (r.accepted ≡ 2)

@@ -2,7 +2,7 @@
 -- print: of each one run that the rules allow, and one that they don't, since the objects of its
 -- record have a clash. The lines are given as they were read. All are of the stream main but those
 -- of the last run.
-use Rattle.std.specs.Prelude.{◌≡◌, ◌<◌, ◌^◌, ℕ, false, List, [], ◌∷◌, ◌++◌, codes, Ok}
+use Rattle.std.specs.Prelude.{◌≡◌, ◌<◌, ◌^◌, ℕ, false, List, [], ◌∷◌, ◌++◌, codes}
 use Rattle.std.proofs.Common.{lit≤}
 use Rattle.std.proofs.lemmas.List.Elements.{All-nil}
 use Rattle.kp_base.specs.declared.config.Config.{Config}
@@ -14,6 +14,7 @@ use Rattle.kp_restore_defs.specs.TableText.{text_of_lines}
 use Rattle.kp_text_defs.specs.declared.draws.Draws.TheVariants as draws
 use Rattle.kp_text_defs.specs.declared.line_refusal.LineRefusal.TheVariants.{NotLive}
 use Rattle.kp_text_defs.specs.declared.packet.PacketLine.{PacketLine}
+use Rattle.kp_text_defs.specs.declared.said.Said.TheVariants.{Asks}
 use Rattle.kp_text_defs.specs.declared.script.Op.{Op}
 use Rattle.kp_text_defs.specs.declared.script.Op.TheVariants as op
 use Rattle.kp_text_defs.specs.declared.script.Shown.TheVariants.{Nat}
@@ -32,7 +33,7 @@ use Rattle.kp_worked_runs.specs.Printed.{nat_of_none, nat_of_one, filter_with}
 
 -- a line of the stream main
 abbrev pub main : Op → Read
-main operation = Ok (record { by = Main; op = operation })
+main operation = Asks (record { by = Main; op = operation })
 
 -- the node's configuration, with names of chains of their prefixes alone
 abbrev pub plain : Config

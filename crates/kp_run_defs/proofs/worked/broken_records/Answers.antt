@@ -1,5 +1,5 @@
 use Rattle.std.proofs.Common.{◌≡◌, ◌≤◌, ◌+◌, ℕ, [], ◌∷◌, codes, is_some, ap, subst, arith}
-use Rattle.kp_run_defs.specs.LiveLines.{settings_read, reading_of_scripts}
+use Rattle.kp_run_defs.specs.LiveLines.{settings_read, reading_of_said}
 use Rattle.kp_run_defs.specs.LegalRuns.{last_syncs}
 use Rattle.kp_run_defs.specs.WorkedLive.{two_streams}
 use Rattle.kp_run_defs.proofs.PodRuns.{no_clash_at_end}
@@ -10,17 +10,17 @@ returns-clause-too_much c legal = let h : 4 ≤ 3 = legal.covered.within in omeg
 
 pub returns-clause-too_little : goal.returns-clause-too_little
 returns-clause-too_little c legal =
-    let none = no_clash_at_end (settings_read (reading_of_scripts two_streams))
+    let none = no_clash_at_end (settings_read (reading_of_said two_streams))
     (codes "x" ∷ codes "z" ∷ codes "y" ∷ []) in
     let h : ◌≡◌ {A = ℕ} 2 3 = legal.covered.all (ap is_some none) in omega (arith, h)
 
 pub returns-clause-no_last : goal.returns-clause-no_last
 returns-clause-no_last c legal =
-    let none = no_clash_at_end (settings_read (reading_of_scripts two_streams))
+    let none = no_clash_at_end (settings_read (reading_of_said two_streams))
     (codes "x" ∷ codes "z" ∷ codes "y" ∷ []) in
     let h : 3 ≤ 2 = subst (λ clash. 2 + last_syncs clash ≤ 2) none legal.enough in omega (arith, h)
 
 pub returns-clause-one_for_two : goal.returns-clause-one_for_two
 returns-clause-one_for_two c legal =
-    let none = no_clash_at_end (settings_read (reading_of_scripts [])) [] in
+    let none = no_clash_at_end (settings_read (reading_of_said [])) [] in
     let h : 3 ≤ 1 = subst (λ clash. 2 + last_syncs clash ≤ 1) none legal.enough in omega (arith, h)
