@@ -1,5 +1,5 @@
-//! Modes: what the program adds to a replay. Beside two laws there are only definitions here, in
-//! `specs/`.
+//! Modes: where the program answers otherwise than a replay, or adds to it. Beside their laws there
+//! are only definitions here, in `specs/`.
 #![tactic(auto)]
 
 pub mod laws;

@@ -1,5 +1,5 @@
 -- What each mode makes of a sync.
-use Rattle.std.proofs.Common.{◌≡◌, ◌-◌, ◌⊎◌, inl, inr, ℕ, Bool, false, List, ◌++◌, ap, sym}
+use Rattle.std.proofs.Common.{◌≡◌, ◌-◌, ◌⊎◌, inl, inr, ℕ, Bool, List, ◌++◌, ap, sym}
 use Rattle.std.proofs.Common.{subst, ◌∙◌}
 use Rattle.std.specs.FinMap.{get}
 use Rattle.std.specs.Prelude.{OnOk, Result}
@@ -7,15 +7,11 @@ use Rattle.std.proofs.lemmas.Result.{on_ok_weaker}
 use Rattle.kp_base.specs.declared.address.Family.TheVariants.{V4, V6}
 use Rattle.kp_base.specs.declared.config.Config.{Config}
 use Rattle.kp_base.specs.declared.key.ObjectKey.{ObjectKey}
-use Rattle.kp_base.specs.declared.memory.NoMemory.{NoMemory}
-use Rattle.kp_choice_defs.specs.Settings.{settings_of}
 use Rattle.kp_object_defs.specs.Objects.{Objects}
 use Rattle.kp_object_defs.specs.OwnKeys.{AreUnderOwnKeys}
-use Rattle.kp_object_defs.specs.PortInfo.{infos_by_family}
 use Rattle.kp_object_laws.specs.ObjectLaws.{OwnKeysAfterEvents}
 use Rattle.kp_history_defs.specs.History.{covered, objects_covered}
 use Rattle.kp_history_defs.specs.declared.dirty.DirtyPort.{DirtyPort}
-use Rattle.kp_change_defs.specs.ChangeText.{change_text}
 use Rattle.kp_changes.specs.Lines as changes
 use Rattle.kp_health.specs.Known.{Answers, AreBetween, AreKnown, AreKnownBut, AreNewer, IsKnownAt}
 use Rattle.kp_health_defs.specs.HealthPorts.{health_at}
@@ -23,12 +19,19 @@ use Rattle.kp_health_laws.specs.UntouchedHealth.{HealthByAll}
 use Rattle.kp_plane.specs.Parts.{PlaneParts, dirty_in, objects_before, objects_in, settings_in}
 use Rattle.kp_plane.specs.Parts.{syncs_in}
 use Rattle.kp_plane.specs.Past.{LeadPastOthers}
-use Rattle.kp_modes.specs.Modes.{changing}
+use Rattle.kp_mode.specs.Calls.{before_sync, covered_by}
+use Rattle.kp_mode.proofs.CallLemmas.{covered_then}
+use Rattle.kp_mode_defs.specs.Mode.{objects_at}
+use Rattle.kp_modes.specs.Modes.{change_lines}
 
 -- the objects that syncs cover stand under their own keys
 own_covered : OwnKeysAfterEvents → (p : PlaneParts) (n : ℕ)
     → AreUnderOwnKeys (objects_covered p.events p.counts n)
 own_covered own p n = own (covered p.events p.counts n)
+
+-- the lines of what the last sync changed
+abbrev pub changes_of : PlaneParts → List ℕ
+changes_of p = change_lines p.config (objects_at (covered_by (before_sync p))) (objects_in p)
 
 -- the lines of all dirty ports tell what the sync changed
 pub changed : OwnKeysAfterEvents → (p : PlaneParts) (config : Config) (o : Objects)
@@ -36,12 +39,11 @@ pub changed : OwnKeysAfterEvents → (p : PlaneParts) (config : Config) (o : Obj
     → config ≡ p.config → o ≡ objects_in p → four ≡ dirty_in V4 p → six ≡ dirty_in V6 p
     → ((before : Objects) → AreUnderOwnKeys before → AreUnderOwnKeys o
     → four ≡ changes.dirty_in config before o V4 → six ≡ changes.dirty_in config before o V6
-    → OnOk r (new ≡ old ++ change_text (settings_of config)
-    (infos_by_family (settings_of config) before) (infos_by_family (settings_of config) o)))
-    → OnOk r (new ≡ old ++ changing.synced p.config (objects_before p) (objects_in p))
+    → OnOk r (new ≡ old ++ change_lines config before o))
+    → OnOk r (new ≡ old ++ changes_of p)
 changed own p config o four six r old new is are first second added =
     on_ok_weaker r
-    (λ text. text ∙ (λ i. old ++ changing.synced (is i) (objects_before p) (are i)))
+    (λ text. text ∙ (λ i. old ++ change_lines (is i) (sym (covered_then p) i) (are i)))
     (added (objects_before p) (own_covered own p (syncs_in p - 1))
     (subst AreUnderOwnKeys (sym are) (own_covered own p (syncs_in p)))
     (first ∙ (λ i. changes.dirty_in (sym is i) (objects_before p) (sym are i) V4))

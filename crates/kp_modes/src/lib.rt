@@ -3,7 +3,10 @@
 
 mod changing;
 mod healthy;
+mod summing;
+mod totals;
 
 pub use changing::Changing;
 pub use healthy::Healthy;
 pub use kp_mode::{Mode, Replaying};
+pub use summing::Summing;

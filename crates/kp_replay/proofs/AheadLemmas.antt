@@ -2,7 +2,7 @@
 use Rattle.std.proofs.Common.{◌≡◌, ℕ, ◌+◌, false, List, [], ◌∷◌, ◌++◌, length, take, drop, refl, sym, ap, ◌∙◌, append-nil, append_assoc, subst, arith}
 use Rattle.std.specs.Prelude.{map}
 use Rattle.std.proofs.lemmas.List.{length-append, map-append, take-append-drop}
-use Rattle.kp_run_defs.specs.ReplayText.{Line, Standing}
+use Rattle.kp_run_defs.specs.ReplayText.{Standing}
 use Rattle.kp_replay.specs.Groups.{AreLater, AreReadAs, WereRead, and_then, lines_from, reads_line}
 use Rattle.kp_replay.specs.Steps.{LosesNothing}
 use Rattle.kp_replay.specs.declared.reads.Read.{Read}

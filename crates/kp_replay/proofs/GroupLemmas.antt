@@ -1,46 +1,38 @@
 -- Lines that are taken together do what they do one after the other.
-use Rattle.std.proofs.Common.{◌≡◌, ℕ, suc, Bool, true, false, cond, ◌&&◌, ◌||◌, List, [], ◌∷◌, ◌++◌, sym, refl, ◌∙◌, append_assoc}
-use Rattle.std.specs.Prelude.{Result, Ok, Err}
+use Rattle.std.proofs.Common.{◌≡◌, ℕ, suc, Bool, true, false, ◌||◌, List, [], ◌∷◌, ◌++◌, ap, sym, refl, ◌∙◌, append_assoc}
+use Rattle.std.specs.Prelude.{Some}
 use Rattle.std.specs.List.{concat, list_all, list_any}
+use Rattle.std.proofs.lemmas.Bool.{and_parts}
 use Rattle.kp_choice_defs.specs.Recent.{RecentParts}
-use Rattle.kp_run_defs.specs.ReplayText as replay
-use Rattle.kp_run_defs.specs.ReplayText.{Line, Standing, is_blank, quiet, script_line, short_line}
-use Rattle.kp_text_defs.specs.ScriptLines.{line_of}
-use Rattle.kp_text_defs.specs.declared.line_refusal.LineRefusal.{LineRefusal}
-use Rattle.kp_text_defs.specs.declared.script.ScriptLine.{ScriptLine}
+use Rattle.kp_run_defs.specs.ReplayText.{Line, Standing, given_line, op_line, refuse, said_line}
+use Rattle.kp_text_defs.specs.SaidLines.{said}
+use Rattle.kp_text_defs.specs.declared.said.Said.{Said}
+use Rattle.kp_text_defs.specs.declared.said.Said.TheVariants.{Nothing, Asks, Refuses}
 use Rattle.kp_part_laws.specs.Beside.{one_by_one}
-use Rattle.kp_replay.specs.Groups.{AreAside, and_then, is_aside, is_refused, lines_from, read_line, reads_from, reads_line, said_by, said_line, said_of}
+use Rattle.kp_replay.specs.Groups.{AreAside, and_then, is_aside, is_refused, later_line, later_said, lines_from, read_line, reads_from, reads_line}
 use Rattle.kp_replay.specs.declared.reads.Read.{Read}
-use Rattle.kp_replay.specs.declared.reads.Said.{Said}
-use Rattle.kp_replay.specs.declared.reads.Said.TheVariants.{Nothing, Asks, Refused, Unread}
 use Rattle.kp_line_laws.proofs.FirstLines.{op_fresh}
 
 -- ---- What lines say
 
-what_is_said : (number : ℕ) (r : Result ScriptLine LineRefusal) (s : Standing)
-    → replay.read_line number r s ≡ said_line number (said_of r) s
-what_is_said number (Ok line) s = refl
-what_is_said number (Err refusal) s = refl
-
-by_blank : (number : ℕ) (blank : Bool) (said : Said) (line : Line) (s : Standing)
-    → line ≡ said_line number said s
-    → cond blank (quiet s) line ≡ said_line number (cond blank Nothing said) s
-by_blank number true said line s h = refl
-by_blank number false said line s h = h
+by_said : (number : ℕ) (says : Said) (s : Standing) → s.fresh ≡ false
+    → said_line number says s ≡ later_line number says s
+by_said number Nothing s begun = refl
+by_said number (Asks line) s begun = λ i. op_line number line.op (record s { fresh = sym begun i })
+by_said number (Refuses refusal) s begun = λ i. refuse number refusal (record s { fresh = sym begun i })
 
 -- a line that isn't the first does what it says
 pub line_says : (number : ℕ) (bytes : List ℕ) (s : Standing) → s.fresh ≡ false
-    → short_line number bytes s ≡ said_line number (said_by bytes) s
+    → given_line number (Some bytes) s ≡ later_line number (later_said bytes) s
 line_says number bytes s begun =
-    by_blank number (is_blank bytes) (said_of (line_of bytes false)) (script_line number bytes s) s
-    ((λ i. replay.read_line number (line_of bytes (begun i)) (record s { fresh = sym begun i }))
-    ∙ what_is_said number (line_of bytes false) s)
+    ap (λ first. said_line number (said (Some bytes) first) s) begun
+    ∙ by_said number (later_said bytes) s begun
 
-pub still_begun : (number : ℕ) (said : Said) (s : Standing) → (said_line number said s).next.fresh ≡ s.fresh
+pub still_begun : (number : ℕ) (says : Said) (s : Standing)
+    → (later_line number says s).next.fresh ≡ s.fresh
 still_begun number Nothing s = refl
-still_begun number (Asks o) s = op_fresh number o s
-still_begun number (Refused refusal) s = refl
-still_begun number (Unread refused) s = refl
+still_begun number (Asks line) s = op_fresh number line.op s
+still_begun number (Refuses refusal) s = refl
 
 -- ---- One after the other
 
@@ -54,11 +46,11 @@ pub lines_say : (number : ℕ) (lines : List (List ℕ)) (s : Standing) → s.fr
     → lines_from number lines s ≡ reads_line (reads_from number lines) s
 lines_say number [] s begun = refl
 lines_say number (bytes ∷ lines) s begun =
-    let said = said_line number (said_by bytes) s in
-    then_same (short_line number bytes s) said
+    let one = later_line number (later_said bytes) s in
+    then_same (given_line number (Some bytes) s) one
     (lines_from (suc number) lines) (reads_line (reads_from (suc number) lines))
     (line_says number bytes s begun)
-    (lines_say (suc number) lines said.next (still_begun number (said_by bytes) s ∙ begun))
+    (lines_say (suc number) lines one.next (still_begun number (later_said bytes) s ∙ begun))
 
 -- lines, and then more lines
 pub reads_both : (xs ys : List Read) (s : Standing)
@@ -82,14 +74,6 @@ or_none false = refl
 or_both : (a b c : Bool) → (a || b) || c ≡ a || (b || c)
 or_both true b c = refl
 or_both false b c = refl
-
-first_of_all : (a b : Bool) → a && b ≡ true → a ≡ true
-first_of_all true b h = refl
-first_of_all false b h = h
-
-rest_of_all : (a b : Bool) → a && b ≡ true → b ≡ true
-rest_of_all true b h = h
-rest_of_all false b h = absurd (cc)
 
 -- a standing with other lists, and whether a line was refused
 abbrev pub with_lists : Standing → RecentParts → Bool → Standing
@@ -115,9 +99,10 @@ module _ (step : Read → RecentParts → List ℕ × RecentParts) (s : Standing
   asides one (x ∷ xs) all lists refused =
       let first = step x lists in
       let others = one_by_one step xs first.1 in
-      (λ i. and_then (one x (first_of_all (is_aside x) (list_all is_aside xs) all) lists refused i) (reads_line xs))
+      let both = and_parts (is_aside x) (list_all is_aside xs) all in
+      (λ i. and_then (one x both.0 lists refused i) (reads_line xs))
       ∙ (λ i.
-      let rest = asides one xs (rest_of_all (is_aside x) (list_all is_aside xs) all) first.1 (refused || is_refused x) i in
+      let rest = asides one xs both.1 first.1 (refused || is_refused x) i in
       record { text = first.0 ++ rest.text; next = rest.next })
       ∙ (λ i. record {
         text = first.0 ++ concat others.0;

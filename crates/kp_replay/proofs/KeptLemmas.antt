@@ -1,6 +1,6 @@
 -- What stands where memory runs out on the way.
 use Rattle.std.proofs.Common.{◌≡◌, ℕ, Bool, true, false, List, [], ◌∷◌, ◌++◌, append-nil, append_assoc, refl, sym, ap, subst, ◌∙◌}
-use Rattle.std.specs.Prelude.{Option, Some, None, length}
+use Rattle.std.specs.Prelude.{Option, Some, None, Ok, Err, length}
 use Rattle.std.specs.List.{list_all}
 use Rattle.std.proofs.lemmas.Bool.{and_parts}
 use Rattle.kp_base.specs.declared.config.Config.{Config}
@@ -10,15 +10,15 @@ use Rattle.kp_plane.specs.Parts.{PlaneParts}
 use Rattle.kp_run_defs.specs.ReplayText.{Standing, events_line, has_room, op_line, settings_in, sync_line, uncovered_in}
 use Rattle.kp_types.specs.declared.chain.Clash.{Clash}
 use Rattle.kp_table_defs.specs.Rebuild.{clash_of}
+use Rattle.kp_text_defs.specs.declared.said.Said.{Said}
+use Rattle.kp_text_defs.specs.declared.said.Said.TheVariants.{Nothing, Asks, Refuses}
 use Rattle.kp_text_defs.specs.declared.script.Op.{Op}
 use Rattle.kp_text_defs.specs.declared.script.Op.TheVariants as op
 use Rattle.kp_types.specs.declared.event.Event.{Event}
 use Rattle.kp_workers.specs.Texts.{BeginsWith}
-use Rattle.kp_replay.specs.Groups.{AreLater, lines_from, may_come_later, read_line, reads_from, reads_line, said_line, says_later}
+use Rattle.kp_replay.specs.Groups.{AreLater, ReadAs, as_read, asks_later, later_line, lines_from, may_come_later, read_line, reads_from, reads_line, says_later}
 use Rattle.kp_replay.specs.Steps.{LosesNothing, standing_of}
 use Rattle.kp_replay.specs.declared.reads.Read.{Read}
-use Rattle.kp_replay.specs.declared.reads.Said.{Said}
-use Rattle.kp_replay.specs.declared.reads.Said.TheVariants.{Nothing, Asks, Refused, Unread}
 use Rattle.kp_replay.specs.declared.replay.Replay.{Replay}
 use Rattle.kp_replay.proofs.GroupLemmas.{lines_say}
 use Rattle.kp_replay.proofs.ReadLemmas.{later_reads}
@@ -42,16 +42,6 @@ pub stays : {config first : Config} {events accepted : List Event} {counts synce
     → config ≡ first → events ≡ accepted → counts ≡ synced
     → (config ≡ first) × BeginsWith events accepted × BeginsWith counts synced
 stays same events counts = (same, begins_as _ _ events, begins_as _ _ counts)
-
--- where the plane stays,
-pub plane_stays : {config : Config} {events : List Event} {counts : List ℕ}
-    (before plane : PlaneParts) → plane ≡ before
-    → config ≡ plane.config → events ≡ plane.events → counts ≡ plane.counts
-    → (config ≡ before.config) × BeginsWith events before.events × BeginsWith counts before.counts
-plane_stays before plane same config events counts =
-    stays (config ∙ ap (λ (p : PlaneParts). p.config) same)
-    (events ∙ ap (λ (p : PlaneParts). p.events) same)
-    (counts ∙ ap (λ (p : PlaneParts). p.counts) same)
 
 -- where it goes on from there,
 pub goes_on_kept : (first mid last : Standing) → LosesNothing first mid → LosesNothing mid last
@@ -97,17 +87,21 @@ op_kept number (op.Packet p) s h = stays refl refl refl
 op_kept number (op.Explain p) s h = stays refl refl refl
 op_kept number (op.Show what) s h = stays refl refl refl
 
-said_kept : (number : ℕ) (said : Said) (s : Standing) → says_later said ≡ true
-    → LosesNothing s (said_line number said s).next
-said_kept number Nothing s h = stays refl refl refl
-said_kept number (Asks o) s h = op_kept number o s h
-said_kept number (Refused refusal) s h = stays refl refl refl
-said_kept number (Unread refused) s h = stays refl refl refl
+later_kept : (number : ℕ) (says : Said) (s : Standing) → asks_later says ≡ true
+    → LosesNothing s (later_line number says s).next
+later_kept number Nothing s h = stays refl refl refl
+later_kept number (Asks line) s h = op_kept number line.op s h
+later_kept number (Refuses refusal) s h = stays refl refl refl
+
+as_kept : (number : ℕ) (said : ReadAs) (s : Standing) → says_later said ≡ true
+    → LosesNothing s (as_read number said s).next
+as_kept number (Ok says) s h = later_kept number says s h
+as_kept number (Err refused) s h = stays refl refl refl
 
 -- lines that were read lose nothing
 pub read_kept : (read : Read) (s : Standing) → says_later read.said ≡ true
     → LosesNothing s (read_line read s).next
-read_kept read s h = said_kept read.number read.said s h
+read_kept read s h = as_kept read.number read.said s h
 
 reads_kept : (reads : List Read) (s : Standing) → AreLater reads
     → LosesNothing s (reads_line reads s).next

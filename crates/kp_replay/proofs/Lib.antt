@@ -4,9 +4,6 @@ pub mod GroupLemmas
 pub mod ModeLemmas
 pub mod KeptLemmas
 pub mod OkLemmas
-pub mod OpLemmas
 pub mod ReadLemmas
-pub mod SeenLemmas
 pub mod StepLemmas
-pub mod SumLemmas
 pub mod TogetherLemmas

@@ -1,19 +1,15 @@
 -- What lines say that were read in the place of others.
-use Rattle.std.proofs.Common.{◌≡◌, ℕ, zero, suc, Bool, true, false, cond, ◌&&◌, List, [], ◌∷◌, take, drop, ap, refl, ◌∙◌, subst, add-zero, arith}
-use Rattle.std.specs.Prelude.{get_or, Result, Ok, Err, IfOk}
+use Rattle.std.proofs.Common.{◌≡◌, ℕ, zero, suc, true, false, ◌&&◌, List, [], ◌∷◌, take, drop, ap, refl, ◌∙◌, subst, add-zero, arith}
+use Rattle.std.specs.Prelude.{Some, get_or, Ok, Err, IfOk}
 use Rattle.std.specs.List.{list_all}
 use Rattle.std.proofs.lemmas.Bool.{and_parts}
-use Rattle.kp_run_defs.specs.ReplayText.{is_blank}
-use Rattle.kp_text_defs.specs.ScriptLines.{line_of}
-use Rattle.kp_text_defs.specs.declared.line_refusal.LineRefusal.{LineRefusal}
+use Rattle.kp_text_defs.specs.declared.said.Said.{Said}
+use Rattle.kp_text_defs.specs.declared.said.Said.TheVariants.{Nothing, Asks, Refuses}
 use Rattle.kp_text_defs.specs.declared.script.Op.{Op}
 use Rattle.kp_text_defs.specs.declared.script.Op.TheVariants as op
-use Rattle.kp_text_defs.specs.declared.script.ScriptLine.{ScriptLine}
-use Rattle.kp_line_laws.proofs.FirstLines.{IsFree, NotConfig, later_free}
-use Rattle.kp_replay.specs.Groups.{AreAside, AreLater, AreReadAs, IsReadAs, WereRead, is_aside, may_come_later, may_go_aside, reads_from, said_by, said_of, says_later, was_read}
+use Rattle.kp_line_laws.proofs.FirstLines.{IsFree, asked_by, NotConfig, later_free}
+use Rattle.kp_replay.specs.Groups.{AreAside, AreLater, AreReadAs, IsReadAs, ReadAs, WereRead, asks_later, is_aside, later_said, may_come_later, may_go_aside, reads_from, says_later, was_read}
 use Rattle.kp_replay.specs.declared.reads.Read.{Read}
-use Rattle.kp_replay.specs.declared.reads.Said.{Said}
-use Rattle.kp_replay.specs.declared.reads.Said.TheVariants.{Nothing, Asks, Refused, Unread}
 
 -- ---- What was read
 
@@ -43,11 +39,9 @@ all_read number (line ∷ lines) (read ∷ reads) are were =
     λ i. first number line lines read reads are parts.0 i
     ∷ all_read (suc number) lines reads (others number line lines read reads are) parts.1 i
 
-aside_read : (said : Said) → may_go_aside said ≡ true → was_read said ≡ true
-aside_read Nothing h = refl
-aside_read (Asks o) h = refl
-aside_read (Refused refusal) h = refl
-aside_read (Unread refused) h = absurd (cc)
+aside_read : (said : ReadAs) → may_go_aside said ≡ true → was_read said ≡ true
+aside_read (Ok says) h = refl
+aside_read (Err refused) h = absurd (cc)
 
 -- lines were read that may be answered beside each other, and so all were where those after them were
 pub both_read : (n : ℕ) (reads : List Read) → AreAside (take n reads) → WereRead (drop n reads)
@@ -68,31 +62,25 @@ op_later (op.Packet p) h = refl
 op_later (op.Explain p) h = refl
 op_later (op.Show what) h = refl
 
-result_later : (r : Result ScriptLine LineRefusal) → IfOk r IsFree → says_later (said_of r) ≡ true
-result_later (Ok line) h = op_later line.op h
-result_later (Err refusal) h = refl
-
-blank_or : (blank : Bool) (said : Said) → says_later said ≡ true
-    → says_later (cond blank Nothing said) ≡ true
-blank_or true said h = refl
-blank_or false said h = h
+said_later : (bytes : List ℕ) (says : Said) → later_said bytes ≡ says → asks_later says ≡ true
+said_later bytes Nothing is = refl
+said_later bytes (Asks line) is =
+    let read = asked_by (Some bytes) false line is in
+    op_later line.op (subst (λ r. IfOk r IsFree) read.1 (later_free read.0))
+said_later bytes (Refuses refusal) is = refl
 
 -- a line that isn't the first asks for no configuration
-line_later : (bytes : List ℕ) → says_later (said_by bytes) ≡ true
-line_later bytes =
-    blank_or (is_blank bytes) (said_of (line_of bytes false))
-    (result_later (line_of bytes false) (later_free bytes))
+line_later : (bytes : List ℕ) → asks_later (later_said bytes) ≡ true
+line_later bytes = said_later bytes (later_said bytes) refl
 
 pub later_reads : (number : ℕ) (lines : List (List ℕ)) → AreLater (reads_from number lines)
 later_reads number [] = refl
 later_reads number (line ∷ lines) = λ i. line_later line i && later_reads (suc number) lines i
 
-said_later : (bytes : List ℕ) (said : Said) → (was_read said ≡ true → said ≡ said_by bytes)
+as_later : (bytes : List ℕ) (said : ReadAs) → (was_read said ≡ true → said ≡ Ok (later_said bytes))
     → says_later said ≡ true
-said_later bytes Nothing is = refl
-said_later bytes (Asks o) is = ap says_later (is refl) ∙ line_later bytes
-said_later bytes (Refused refusal) is = refl
-said_later bytes (Unread refused) is = refl
+as_later bytes (Ok says) is = ap says_later (is refl) ∙ line_later bytes
+as_later bytes (Err refused) is = refl
 
 -- nor do more of them
 pub reads_later : (number : ℕ) (lines : List (List ℕ)) (reads : List Read)
@@ -100,6 +88,6 @@ pub reads_later : (number : ℕ) (lines : List (List ℕ)) (reads : List Read)
 reads_later number lines [] are = refl
 reads_later number [] (read ∷ reads) are = absurd (omega (arith, are.long))
 reads_later number (line ∷ lines) (read ∷ reads) are =
-    let one = said_later line read.said
+    let one = as_later line read.said
     (λ was. ap (λ r. r.said) (first number line lines read reads are was)) in
     λ i. one i && reads_later (suc number) lines reads (others number line lines read reads are) i

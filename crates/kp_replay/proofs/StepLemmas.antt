@@ -1,10 +1,10 @@
 -- One more line of a group, as loops take them.
 use Rattle.std.proofs.Common.{◌≡◌, ℕ, suc, ◌+◌, ◌<◌, true, ◌&&◌, List, [], ◌∷◌, ◌++◌, length, take, ap, refl, sym, ◌∙◌, append-nil, append_assoc, add-zero, arith}
-use Rattle.std.specs.Prelude.{map, get_or}
+use Rattle.std.specs.Prelude.{Some, map, get_or}
 use Rattle.std.specs.List.{list_all}
 use Rattle.std.proofs.lemmas.Bool.{and_parts}
 use Rattle.std.proofs.lemmas.List.{length-take, map-append, take_more}
-use Rattle.kp_run_defs.specs.ReplayText.{Line, Standing, short_line}
+use Rattle.kp_run_defs.specs.ReplayText.{Line, Standing, given_line}
 use Rattle.kp_replay.specs.Groups.{AreLater, and_then, lines_from, read_line, reads_line, says_later, was_read, WereRead}
 use Rattle.kp_replay.specs.declared.reads.Read.{Read}
 
@@ -64,7 +64,7 @@ pub lines_both : (number : ℕ) (xs ys : List (List ℕ)) (s : Standing) → lin
     ≡ and_then (lines_from number xs s) (lines_from (number + length xs) ys)
 lines_both number [] ys s = ap (λ n. lines_from n ys s) (sym (add-zero number))
 lines_both number (x ∷ xs) ys s =
-    let one = short_line number x s in
+    let one = given_line number (Some x) s in
     let some = lines_from (suc number) xs one.next in
     let further : suc number + length xs ≡ number + length (x ∷ xs) = omega arith in
     let rest = lines_from (number + length (x ∷ xs)) ys some.next in
@@ -80,8 +80,8 @@ module _ {X : Type 0} (now : X → List ℕ) (number : ℕ) (xs : List X) (i : �
     (s t new : Standing) (before after : List ℕ) (below : i < length xs) (at : next ≡ number + i)
     (stood : t ≡ (lines_from number (map now (take i xs)) s).next)
     (had : before ≡ (lines_from number (map now (take i xs)) s).text)
-    (stands : new ≡ (short_line next (now (get_or xs i d)) t).next)
-    (text : after ≡ before ++ (short_line next (now (get_or xs i d)) t).text) where
+    (stands : new ≡ (given_line next (Some (now (get_or xs i d))) t).next)
+    (text : after ≡ before ++ (given_line next (Some (now (get_or xs i d))) t).text) where
   abbrev first : List (List ℕ)
   first = map now (take i xs)
 
@@ -102,13 +102,13 @@ module _ {X : Type 0} (now : X → List ℕ) (number : ℕ) (xs : List X) (i : �
   -- one more of them
   pub lines_stand : new ≡ (lines_from number (map now (take (i + 1) xs)) s).next
   lines_stand =
-      stands ∙ (λ j. (short_line (place j) bytes (stood j)).next)
+      stands ∙ (λ j. (given_line (place j) (Some bytes) (stood j)).next)
       ∙ ap (λ line. line.next) (sym all_lines)
 
   pub lines_text : after ≡ (lines_from number (map now (take (i + 1) xs)) s).text
   lines_text =
       let u = (lines_from number first s).next in
-      text ∙ (λ j. had j ++ (short_line (place j) bytes (stood j)).text)
+      text ∙ (λ j. had j ++ (given_line (place j) (Some bytes) (stood j)).text)
       ∙ ap (λ tail. (lines_from number first s).text ++ tail)
-      (sym (append-nil (short_line (number + length first) bytes u).text))
+      (sym (append-nil (given_line (number + length first) (Some bytes) u).text))
       ∙ ap (λ line. line.text) (sym all_lines)

@@ -1,12 +1,13 @@
 -- Groups of lines: which may come, and what their two halves do.
 use Rattle.std.proofs.Common.{◌≡◌, ℕ, zero, suc, Bool, true, false, List, [], ◌∷◌, ◌++◌, take, drop, ap, sym, ◌∙◌, append_assoc}
+use Rattle.std.specs.Prelude.{Some}
 use Rattle.std.specs.List.{list_all}
 use Rattle.std.proofs.lemmas.Bool.{and_parts}
 use Rattle.std.proofs.lemmas.List.{take-append-drop}
-use Rattle.kp_run_defs.specs.ReplayText.{Standing, short_line}
+use Rattle.kp_run_defs.specs.ReplayText.{Standing, given_line}
 use Rattle.kp_text_defs.specs.declared.script.Op.{Op}
 use Rattle.kp_text_defs.specs.declared.script.Op.TheVariants as op
-use Rattle.kp_replay.specs.Groups.{and_then, lines_from, may_come_later, reads_line, said_by}
+use Rattle.kp_replay.specs.Groups.{and_then, lines_from, may_come_later, reads_line, later_said}
 use Rattle.kp_replay.specs.Steps.{MayTake}
 use Rattle.kp_replay.specs.declared.reads.Read.{Read}
 use Rattle.kp_replay.proofs.GroupLemmas.{line_says, reads_both, still_begun}
@@ -31,18 +32,18 @@ all_dropped p (suc n) (x ∷ xs) h =
     all_dropped p n xs (and_parts (p x) (list_all p xs) h).1
 
 -- a line after the first is no longer the first
-short_begun : (number : ℕ) (bytes : List ℕ) (s : Standing) → s.fresh ≡ false
-    → (short_line number bytes s).next.fresh ≡ false
-short_begun number bytes s begun =
+given_begun : (number : ℕ) (bytes : List ℕ) (s : Standing) → s.fresh ≡ false
+    → (given_line number (Some bytes) s).next.fresh ≡ false
+given_begun number bytes s begun =
     ap (λ line. line.next.fresh) (line_says number bytes s begun)
-    ∙ still_begun number (said_by bytes) s ∙ begun
+    ∙ still_begun number (later_said bytes) s ∙ begun
 
 -- nor is it after lines
 pub lines_begun : (number : ℕ) (lines : List (List ℕ)) (s : Standing) → s.fresh ≡ false
     → (lines_from number lines s).next.fresh ≡ false
 lines_begun number [] s begun = begun
 lines_begun number (bytes ∷ lines) s begun =
-    lines_begun (suc number) lines (short_line number bytes s).next (short_begun number bytes s begun)
+    lines_begun (suc number) lines (given_line number (Some bytes) s).next (given_begun number bytes s begun)
 
 -- ---- Lines that were read
 

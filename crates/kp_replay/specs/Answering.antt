@@ -1,15 +1,16 @@
 -- What lines are answered beside each other, from a snapshot.
-use Rattle.std.specs.Prelude.{ℕ, ◌%◌, List, []}
+use Rattle.std.specs.Prelude.{ℕ, ◌%◌, List, [], Result, Ok, Err}
 use Rattle.kp_answers.specs.Walks.{answer_in, walk_in}
 use Rattle.kp_answers.specs.declared.snapshot.Snapshot.{Snapshot}
 use Rattle.kp_choice_defs.specs.Recent.{RecentParts}
 use Rattle.kp_text_defs.specs.Refusals.{refusal_text}
 use Rattle.kp_text_defs.specs.declared.packet.PacketLine.{PacketLine}
+use Rattle.kp_base.specs.declared.memory.NoMemory.{NoMemory}
+use Rattle.kp_text_defs.specs.declared.said.Said.{Said}
+use Rattle.kp_text_defs.specs.declared.said.Said.TheVariants.{Nothing, Asks, Refuses}
 use Rattle.kp_text_defs.specs.declared.script.Op.{Op}
 use Rattle.kp_text_defs.specs.declared.script.Op.TheVariants as op
 use Rattle.kp_replay.specs.declared.reads.Read.{Read}
-use Rattle.kp_replay.specs.declared.reads.Said.{Said}
-use Rattle.kp_replay.specs.declared.reads.Said.TheVariants.{Nothing, Asks, Refused, Unread}
 
 -- the part of recent lists that a packet's line looks at
 abbrev pub part_of_packet : PacketLine → ℕ
@@ -31,12 +32,15 @@ part_of_op (op.Show what) = 0
 
 abbrev pub part_of_said : Said → ℕ
 part_of_said Nothing = 0
-part_of_said (Asks o) = part_of_op o
-part_of_said (Refused refusal) = 0
-part_of_said (Unread refused) = 0
+part_of_said (Asks line) = part_of_op line.op
+part_of_said (Refuses refusal) = 0
+
+abbrev pub part_of_read : Result Said NoMemory → ℕ
+part_of_read (Ok says) = part_of_said says
+part_of_read (Err refused) = 0
 
 abbrev pub part_of : Read → ℕ
-part_of read = part_of_said read.said
+part_of read = part_of_read read.said
 
 -- lines that are answered nothing, and change nothing
 abbrev pub unanswered : RecentParts → List ℕ × RecentParts
@@ -52,9 +56,12 @@ step_of_op s number (op.Show what) = unanswered
 
 abbrev pub step_of_said : Snapshot → ℕ → Said → RecentParts → List ℕ × RecentParts
 step_of_said s number Nothing = unanswered
-step_of_said s number (Asks o) = step_of_op s number o
-step_of_said s number (Refused refusal) = λ lists. (refusal_text number refusal, lists)
-step_of_said s number (Unread refused) = unanswered
+step_of_said s number (Asks line) = step_of_op s number line.op
+step_of_said s number (Refuses refusal) = λ lists. (refusal_text number refusal, lists)
+
+abbrev pub step_of_read : Snapshot → ℕ → Result Said NoMemory → RecentParts → List ℕ × RecentParts
+step_of_read s number (Ok says) = step_of_said s number says
+step_of_read s number (Err refused) = unanswered
 
 abbrev pub step_of : Snapshot → Read → RecentParts → List ℕ × RecentParts
-step_of s read = step_of_said s read.number read.said
+step_of s read = step_of_read s read.number read.said

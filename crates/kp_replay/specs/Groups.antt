@@ -1,30 +1,28 @@
 -- Lines that are taken together: what they say, and what they do one after the other.
-use Rattle.std.specs.Prelude.{◌≡◌, ◌<◌, ℕ, suc, ◌+◌, Bool, true, false, cond, List, [], ◌∷◌, ◌++◌, length, get_or, Result, Ok, Err}
+use Rattle.std.specs.Prelude.{◌≡◌, ◌<◌, ℕ, suc, ◌+◌, Bool, true, false, List, [], ◌∷◌, ◌++◌, length, get_or, Some, Result, Ok, Err}
 use Rattle.std.specs.List.{list_all}
-use Rattle.kp_run_defs.specs.ReplayText.{Line, Standing, is_blank, op_line, quiet, refuse, short_line}
-use Rattle.kp_text_defs.specs.ScriptLines.{line_of}
-use Rattle.kp_text_defs.specs.declared.line_refusal.LineRefusal.{LineRefusal}
+use Rattle.kp_base.specs.declared.memory.NoMemory.{NoMemory}
+use Rattle.kp_run_defs.specs.ReplayText.{Line, Standing, given_line, op_line, quiet, refuse}
+use Rattle.kp_text_defs.specs.SaidLines.{said}
+use Rattle.kp_text_defs.specs.declared.said.Said.{Said}
+use Rattle.kp_text_defs.specs.declared.said.Said.TheVariants.{Nothing, Asks, Refuses}
 use Rattle.kp_text_defs.specs.declared.script.Op.{Op}
 use Rattle.kp_text_defs.specs.declared.script.Op.TheVariants as op
-use Rattle.kp_text_defs.specs.declared.script.ScriptLine.{ScriptLine}
 use Rattle.kp_replay.specs.declared.reads.Read.{Read}
-use Rattle.kp_replay.specs.declared.reads.Said.{Said}
-use Rattle.kp_replay.specs.declared.reads.Said.TheVariants.{Nothing, Asks, Refused, Unread}
 
 -- ---- What lines say
 
--- what is said by a line that was read
-abbrev pub said_of : Result ScriptLine LineRefusal → Said
-said_of (Ok line) = Asks line.op
-said_of (Err refusal) = Refused refusal
+-- what a line says that isn't the first, unless there was no memory to read it
+abbrev pub ReadAs : Type 0
+ReadAs = Result Said NoMemory
 
--- what is said by a line that isn't the first
-abbrev pub said_by : List ℕ → Said
-said_by bytes = cond (is_blank bytes) Nothing (said_of (line_of bytes false))
+-- what a line says that isn't the first
+abbrev pub later_said : List ℕ → Said
+later_said bytes = said (Some bytes) false
 
 -- a line with its number
 abbrev pub read_of : ℕ → List ℕ → Read
-read_of number bytes = record { number = number; said = said_by bytes }
+read_of number bytes = record { number = number; said = Ok (later_said bytes) }
 
 -- lines with their numbers, from the first one's on
 abbrev pub reads_from : ℕ → List (List ℕ) → List Read
@@ -32,16 +30,11 @@ reads_from number [] = []
 reads_from number (bytes ∷ lines) = read_of number bytes ∷ reads_from (suc number) lines
 
 -- there was memory to read it
-abbrev pub was_read : Said → Bool
-was_read Nothing = true
-was_read (Asks o) = true
-was_read (Refused refusal) = true
-was_read (Unread refused) = false
+abbrev pub was_read : ReadAs → Bool
+was_read (Ok says) = true
+was_read (Err refused) = false
 
 -- a line says this, if there was memory to read it
-abbrev pub IsSaidBy : List ℕ → Said → Type 0
-IsSaidBy bytes said = was_read said ≡ true → said ≡ said_by bytes
-
 abbrev pub IsReadAs : ℕ → List ℕ → Read → Type 0
 IsReadAs number bytes read = was_read read.said ≡ true → read ≡ read_of number bytes
 
@@ -56,15 +49,18 @@ WereRead reads = list_all (λ read. was_read read.said) reads ≡ true
 
 -- ---- What lines do
 
--- what is said does this to a replay
-abbrev pub said_line : ℕ → Said → Standing → Line
-said_line number Nothing s = quiet s
-said_line number (Asks o) s = op_line number o s
-said_line number (Refused refusal) s = refuse number refusal s
-said_line number (Unread refused) s = quiet s
+-- what is said behind the first line does this to a replay
+abbrev pub later_line : ℕ → Said → Standing → Line
+later_line number Nothing s = quiet s
+later_line number (Asks line) s = op_line number line.op s
+later_line number (Refuses refusal) s = refuse number refusal s
+
+abbrev pub as_read : ℕ → ReadAs → Standing → Line
+as_read number (Ok says) s = later_line number says s
+as_read number (Err refused) s = quiet s
 
 abbrev pub read_line : Read → Standing → Line
-read_line read s = said_line read.number read.said s
+read_line read s = as_read read.number read.said s
 
 -- a line, and then more
 abbrev pub and_then : Line → (Standing → Line) → Line
@@ -78,7 +74,7 @@ reads_line (read ∷ reads) s = and_then (read_line read s) (reads_line reads)
 -- lines one after the other, of which none is too long
 abbrev pub lines_from : ℕ → List (List ℕ) → Standing → Line
 lines_from number [] s = quiet s
-lines_from number (bytes ∷ lines) s = and_then (short_line number bytes s) (lines_from (suc number) lines)
+lines_from number (bytes ∷ lines) s = and_then (given_line number (Some bytes) s) (lines_from (suc number) lines)
 
 -- nothing asks for a configuration
 abbrev pub may_come_later : Op → Bool
@@ -89,11 +85,14 @@ may_come_later (op.Packet packet) = true
 may_come_later (op.Explain packet) = true
 may_come_later (op.Show what) = true
 
-abbrev pub says_later : Said → Bool
-says_later Nothing = true
-says_later (Asks o) = may_come_later o
-says_later (Refused refusal) = true
-says_later (Unread refused) = true
+abbrev pub asks_later : Said → Bool
+asks_later Nothing = true
+asks_later (Asks line) = may_come_later line.op
+asks_later (Refuses refusal) = true
+
+abbrev pub says_later : ReadAs → Bool
+says_later (Ok says) = asks_later says
+says_later (Err refused) = true
 
 abbrev pub AreLater : List Read → Type 0
 AreLater reads = list_all (λ read. says_later read.said) reads ≡ true
@@ -109,20 +108,26 @@ is_packet (op.Packet packet) = true
 is_packet (op.Explain packet) = false
 is_packet (op.Show what) = false
 
-abbrev pub may_go_aside : Said → Bool
-may_go_aside Nothing = true
-may_go_aside (Asks o) = is_packet o
-may_go_aside (Refused refusal) = true
-may_go_aside (Unread refused) = false
+abbrev pub goes_aside : Said → Bool
+goes_aside Nothing = true
+goes_aside (Asks line) = is_packet line.op
+goes_aside (Refuses refusal) = true
+
+abbrev pub may_go_aside : ReadAs → Bool
+may_go_aside (Ok says) = goes_aside says
+may_go_aside (Err refused) = false
 
 abbrev pub is_aside : Read → Bool
 is_aside read = may_go_aside read.said
 
-abbrev pub is_refusal : Said → Bool
-is_refusal Nothing = false
-is_refusal (Asks o) = false
-is_refusal (Refused refusal) = true
-is_refusal (Unread refused) = false
+abbrev pub refuses : Said → Bool
+refuses Nothing = false
+refuses (Asks line) = false
+refuses (Refuses refusal) = true
+
+abbrev pub is_refusal : ReadAs → Bool
+is_refusal (Ok says) = refuses says
+is_refusal (Err refused) = false
 
 abbrev pub is_refused : Read → Bool
 is_refused read = is_refusal read.said

@@ -4,12 +4,12 @@ ghost use Rattle.kp_print.specs.Fronts.{HasFront};
 ghost use Rattle.kp_replay.specs.Answering.{part_of_op, step_of_op};
 ghost use Rattle.kp_table_defs.specs.Ranks.{is_ranked};
 
-use crate::reads::{Read, Said};
+use crate::reads::Read;
 use kp_answers::Snapshot;
 use kp_base::NoMemory;
 use kp_recent::RecentLists;
 use kp_report::push_refusal;
-use kp_script::Op;
+use kp_script::{Op, Said};
 use kp_workers::{Work, part_of};
 use std::alloc::Global;
 
@@ -30,8 +30,8 @@ impl Work<Read> for Answering<'_> {
 
     fn part(&self, read: &Read) -> usize {
         match &read.said {
-            Said::Nothing | Said::Refused(_) | Said::Unread(_) => 0,
-            Said::Asks(op) => part_of_op(op),
+            Ok(Said::Asks(line)) => part_of_op(&line.op),
+            Ok(Said::Nothing | Said::Refuses(_)) | Err(_) => 0,
         }
     }
 
@@ -42,9 +42,9 @@ impl Work<Read> for Answering<'_> {
         text: &mut String,
     ) -> Result<(), NoMemory> {
         match &read.said {
-            Said::Nothing | Said::Unread(_) => Ok(()),
-            Said::Asks(op) => answer_op(&self.snapshot, read.number, op, lists, text),
-            Said::Refused(refusal) => push_refusal(self.alloc, text, read.number, refusal),
+            Ok(Said::Asks(line)) => answer_op(&self.snapshot, read.number, &line.op, lists, text),
+            Ok(Said::Refuses(refusal)) => push_refusal(self.alloc, text, read.number, refusal),
+            Ok(Said::Nothing) | Err(_) => Ok(()),
         }
     }
 }

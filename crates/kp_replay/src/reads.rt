@@ -1,31 +1,20 @@
 //! Lines that are read beside each other.
 ghost use Rattle.std.specs.Prelude.{◌≡◌, ◌<◌, ◌≤◌, ◌+◌, ◌^◌, [], ℕ, length, map, get_or};
 ghost use Rattle.std.specs.Prelude.{slice_index_or, OnOk};
-ghost use Rattle.kp_replay.specs.Groups.{AreReadAs, IsReadAs, IsSaidBy};
+ghost use Rattle.kp_replay.specs.Groups.{AreReadAs, IsReadAs};
 
-use crate::replay::is_blank;
 use kp_base::NoMemory;
-use kp_script::{LineRefusal, Op, Scratch, ScriptFault, line_with};
+use kp_script::{Said, Scratch, said_by};
 use std::alloc::Global;
 use std::thread;
 use std::thread::Threads;
 
-/// What a line says that isn't the first.
-#[derive(Drop)]
-pub(crate) enum Said {
-    /// The line is blank.
-    Nothing,
-    Asks(Op),
-    Refused(LineRefusal),
-    /// There was no memory to read it.
-    Unread(NoMemory),
-}
-
-/// A line that was read, and its number.
+/// The number of a line, and what it says that isn't the first, unless there was no memory to read
+/// it.
 #[derive(Drop)]
 pub(crate) struct Read {
     pub(crate) number: u64,
-    pub(crate) said: Said,
+    pub(crate) said: Result<Said, NoMemory>,
 }
 
 /// Lines as they were read that are answered at once, and those that are read meanwhile. Their
@@ -60,17 +49,16 @@ pub(crate) fn read_lines<R: Threads + Sync>(
     requires few { number + length lines.now < 2 ^ 64 }
     ensures { OnOk result (AreReadAs number (map (λ line. line.now) lines.now) reads.new.items) }
 {
-    reads.resize_with(lines.len(), || unread_yet())?;
+    // What stands in the place of a line until it is read.
+    reads.resize_with(
+        lines.len(),
+        || Read {
+            number: 0,
+            said: Ok(Said::Nothing),
+        },
+    )?;
     read_all(rt, alloc, number, lines, most, reads.as_mut_slice());
     Ok(())
-}
-
-/// What stands in the place of a line until it is read.
-fn unread_yet() -> Read {
-    Read {
-        number: 0,
-        said: Said::Nothing,
-    }
 }
 
 /// Reads lines in the place of as many others.
@@ -131,20 +119,6 @@ fn put(place: &mut Read, read: Read)
 fn read_line(alloc: Global, number: u64, bytes: &[u8], scratch: &mut Scratch) -> Read
     ensures { IsReadAs number bytes.now result }
 {
-    let said = said_by(alloc, bytes, scratch);
+    let said = said_by(alloc, Some(bytes), false, scratch);
     Read { number, said }
-}
-
-/// What a line says.
-fn said_by(alloc: Global, bytes: &[u8], scratch: &mut Scratch) -> Said
-    ensures { IsSaidBy bytes.now result }
-{
-    if is_blank(bytes) {
-        return Said::Nothing;
-    }
-    match line_with(alloc, bytes, false, scratch) {
-        Ok(line) => Said::Asks(line.op),
-        Err(ScriptFault::Refused(refusal)) => Said::Refused(refusal),
-        Err(ScriptFault::NoMemory(refused)) => Said::Unread(refused),
-    }
 }

@@ -16,7 +16,7 @@ use std::alloc::Global;
 impl Replay {
     ghost use Rattle.kp_text_defs.specs.Slices.{slices_text};
     ghost use Rattle.kp_restore_defs.specs.TableText.{section_text_of};
-    ghost use Rattle.kp_replay.specs.Steps.{standing_of, Takes};
+    ghost use Rattle.kp_replay.specs.Steps.{standing_of};
 
     /// Adds what a line asks to see.
     pub(crate) fn show(
@@ -25,8 +25,8 @@ impl Replay {
         what: Shown,
         text: &mut String,
     ) -> Result<(), NoMemory>
-        ensures takes { OnOk result (Takes (spec.print (spec.shown_text what (standing_of self.old))
-            (standing_of self.old)) self.new (string_bytes text.old) (string_bytes text.new)) }
+        ensures text { OnOk result (string_bytes text.new ≡ string_bytes text.old
+            ++ spec.shown_text what (standing_of self.old)) }
         ensures stays { standing_of self.new ≡ standing_of self.old }
         ensures front { OnErr result (HasFront text.new text.old) }
     {

@@ -2,18 +2,17 @@
 ghost use Rattle.std.specs.Prelude.{◌≡◌, ◌<◌, ◌≤◌, ◌+◌, ◌^◌, ◌||◌, false, true, not, length, map};
 ghost use Rattle.std.specs.Prelude.{take, string_bytes, OnErr, OnOk};
 ghost use Rattle.std.specs.List.{list_any};
-ghost use Rattle.kp_print.specs.Fronts.{HasFront};
 ghost use Rattle.kp_replay.specs.Groups.{AreAside, is_aside, is_packet, is_refused};
 ghost use Rattle.kp_workers.specs.Texts.{BeginsWith};
 
 use crate::ahead::answer_ahead;
 use crate::answering::Answering;
-use crate::packets::snapshot_of;
-use crate::reads::{Read, Reads, Said, read_lines};
+use crate::reads::{Read, Reads, read_lines};
 use crate::replay::Replay;
 use kp_base::NoMemory;
 use kp_gate::Gate;
-use kp_script::Op;
+use kp_mode::snapshot_of;
+use kp_script::{Op, Said};
 use std::alloc::Global;
 use std::mem::swap;
 use std::thread::Threads;
@@ -27,7 +26,7 @@ const AT_ONCE: usize = 4096;
 impl Replay {
     ghost use Rattle.kp_replay.specs.Groups.{lines_from, read_line, reads_line, says_later};
     ghost use Rattle.kp_replay.specs.Groups.{AreAside, AreLater, AreReadAs, WereRead, was_read};
-    ghost use Rattle.kp_replay.specs.Steps.{standing_of, LosesNothing, Takes};
+    ghost use Rattle.kp_replay.specs.Steps.{standing_of, LosesNothing, Takes, Took};
 
     /// Whether a line was read that isn't blank.
     pub fn has_begun(&self) -> bool
@@ -54,7 +53,7 @@ impl Replay {
         requires few { number + length lines.now < 2 ^ 64 }
         ensures takes { OnOk result (Takes
             (lines_from number (map (λ line. line.now) lines.now) (standing_of self.old))
-            self.new text.old.items text.new.items) }
+            (standing_of self.new) text.old.items text.new.items) }
         ensures kept { OnErr result (LosesNothing (standing_of self.old) (standing_of self.new)) }
         ensures front { OnErr result (BeginsWith text.new.items text.old.items) }
     {
@@ -80,7 +79,7 @@ impl Replay {
         requires few { number + length lines.now < 2 ^ 64 }
         ensures takes { OnOk result (Takes
             (lines_from number (map (λ line. line.now) lines.now) (standing_of self.old))
-            self.new text.old.items text.new.items) }
+            (standing_of self.new) text.old.items text.new.items) }
         ensures kept { OnErr result (LosesNothing (standing_of self.old) (standing_of self.new)) }
         ensures front { OnErr result (BeginsWith text.new.items text.old.items) }
     {
@@ -114,7 +113,7 @@ impl Replay {
         requires later { AreLater reads.old.current.items }
         ensures takes { OnOk result (Takes
             (reads_line reads.old.current.items (standing_of self.old))
-            self.new text.old.items text.new.items) }
+            (standing_of self.new) text.old.items text.new.items) }
         ensures read { OnOk result (WereRead reads.old.current.items) }
         ensures next { OnOk result
             (AreReadAs number (map (λ line. line.now) ahead.now) reads.new.current.items) }
@@ -143,7 +142,7 @@ impl Replay {
         requires few { number + length lines.now < 2 ^ 64 }
         ensures takes { OnOk result (Takes
             (lines_from number (map (λ line. line.now) lines.now) (standing_of self.old))
-            self.new text.old.items text.new.items) }
+            (standing_of self.new) text.old.items text.new.items) }
         ensures kept { OnErr result (LosesNothing (standing_of self.old) (standing_of self.new)) }
         ensures front { OnErr result (BeginsWith text.new.items text.old.items) }
     {
@@ -173,13 +172,13 @@ impl Replay {
         requires few { number + length ahead.now < 2 ^ 64 }
         requires aside { AreAside reads.now }
         ensures takes { OnOk result (Takes (reads_line reads.now (standing_of self.old))
-            self.new text.old.items text.new.items) }
+            (standing_of self.new) text.old.items text.new.items) }
         ensures next { OnOk result
             (AreReadAs number (map (λ line. line.now) ahead.now) next.new.items) }
         ensures kept { LosesNothing (standing_of self.old) (standing_of self.new) }
         ensures front { OnErr result (BeginsWith text.new.items text.old.items) }
     {
-        self.refused = either(self.refused, any_refused(reads));
+        self.refused |= any_refused(reads);
         let work = Answering {
             alloc,
             snapshot: snapshot_of(&self.plane),
@@ -207,7 +206,7 @@ impl Replay {
     ) -> Result<(), NoMemory>
         requires { AreLater reads.items }
         ensures takes { OnOk result (Takes (reads_line reads.items (standing_of self.old))
-            self.new text.old.items text.new.items) }
+            (standing_of self.new) text.old.items text.new.items) }
         ensures read { OnOk result (WereRead reads.items) }
         ensures kept { OnErr result (LosesNothing (standing_of self.old) (standing_of self.new)) }
         ensures front { OnErr result (BeginsWith text.new.items text.old.items) }
@@ -223,18 +222,15 @@ impl Replay {
     /// Does what a line asks for.
     fn take_read(&mut self, alloc: Global, read: Read, text: &mut String) -> Result<(), NoMemory>
         requires { says_later read.said ≡ true }
-        ensures takes { OnOk result (Takes (read_line read (standing_of self.old))
-            self.new (string_bytes text.old) (string_bytes text.new)) }
+        ensures took { Took result (read_line read (standing_of self.old))
+            (standing_of self.old) (standing_of self.new) (string_bytes text.old) (string_bytes text.new) }
         ensures read { OnOk result (was_read read.said ≡ true) }
-        ensures kept { OnErr result (LosesNothing (standing_of self.old) (standing_of self.new)) }
-        ensures front { OnErr result (HasFront text.new text.old) }
     {
         let Read { number, said } = read;
-        match said {
+        match said? {
             Said::Nothing => Ok(()),
-            Said::Asks(op) => self.take_op(alloc, number, op, text),
-            Said::Refused(refusal) => self.refuse(alloc, number, &refusal, text),
-            Said::Unread(refused) => Err(refused),
+            Said::Asks(line) => self.take_op(alloc, number, line.op, text),
+            Said::Refuses(refusal) => self.refuse(alloc, number, &refusal, text),
         }
     }
 }
@@ -243,23 +239,9 @@ impl Replay {
 fn any_refused(reads: &[Read]) -> bool
     ensures { result ≡ list_any is_refused reads.now }
 {
-    reads.iter().any(|read: &Read| is_refused(read))
-}
-
-fn either(a: bool, b: bool) -> bool
-    ensures { result ≡ (a || b) }
-{
-    a || b
-}
-
-/// Whether this line is refused.
-fn is_refused(read: &Read) -> bool
-    ensures { result ≡ is_refused read.now }
-{
-    match read.said {
-        Said::Nothing | Said::Asks(_) | Said::Unread(_) => false,
-        Said::Refused(_) => true,
-    }
+    reads
+        .iter()
+        .any(|read: &Read| matches!(read.said, Ok(Said::Refuses(_))))
 }
 
 /// Whether a line may be answered beside others: it changes nothing but the recent lists.
@@ -267,9 +249,9 @@ fn is_aside(read: &Read) -> bool
     ensures { result ≡ is_aside read.now }
 {
     match &read.said {
-        Said::Nothing | Said::Refused(_) => true,
-        Said::Asks(op) => is_packet(op),
-        Said::Unread(_) => false,
+        Ok(Said::Nothing | Said::Refuses(_)) => true,
+        Ok(Said::Asks(line)) => is_packet(&line.op),
+        Err(_) => false,
     }
 }
 

@@ -1,4 +1,4 @@
-use Rattle.std.proofs.Common.{◌≡◌, ◌∙◌, ◌||◌, ap, refl}
+use Rattle.std.proofs.Common.{◌||◌, ap, refl}
 use Rattle.kp_replay.proofs.KeptLemmas.{stays}
 use Rattle.kp_replay.proofs.AnsweringLemmas.{answered_all}
 use Rattle.kp_replay.proofs.OkLemmas.{both_ok}
@@ -11,9 +11,9 @@ returns-clause-takes g c =
     answered_all c.args.self.now c.snapshot_of.result snapshot.sync
     (λ number line all. snapshot.walked number line all)
     (λ number line all. snapshot.decided number line all)
-    c.args.reads.now c.requires.aside c.answer_ahead.new.lists c.either-self.result
+    c.args.reads.now c.requires.aside c.answer_ahead.new.lists (c.args.self.now.refused || c.any_refused.result)
     c.args.text.now.items c.answer_ahead.new.text.items
-    (c.either-self.ensures ∙ ap (λ refused. c.args.self.now.refused || refused) c.any_refused.ensures)
+    (ap (λ refused. c.args.self.now.refused || refused) c.any_refused.ensures)
     lists text)
 
 pub returns-clause-kept : goal.returns-clause-kept

@@ -1,7 +1,5 @@
 use Rattle.std.proofs.Common.{◌≡◌, ◌++◌, true, take, ap, sym, ◌∙◌, rules}
 use Rattle.std.specs.List.{list_all}
-use Rattle.std.proofs.lemmas.Result.{on_err_weaker}
-use Rattle.kp_replay.proofs.KeptLemmas.{begins_on, goes_on_kept}
 use Rattle.kp_replay.specs.Groups.{is_aside, reads_line, says_later, was_read}
 use Rattle.kp_replay.specs.Steps.{standing_of}
 use Rattle.kp_replay.specs.declared.reads.Read.{Read}

@@ -1,4 +1,4 @@
-use Rattle.std.proofs.Common.{◌≡◌, ◌+◌, ℕ, List, [], length, map, append-nil, ap, sym, refl, subst, ◌∙◌, arith, rules}
+use Rattle.std.proofs.Common.{◌≡◌, ◌+◌, ℕ, List, [], length, map, append-nil, ap, sym, refl, subst, arith, rules}
 use Rattle.std.proofs.lemmas.Result.{on_err_weaker}
 use Rattle.kp_replay.specs.Groups.{AreReadAs}
 use Rattle.kp_replay.specs.Steps.{standing_of}

@@ -15,7 +15,7 @@ pub loop-line-preserved : goal.loop-line-preserved
 loop-line-preserved c =
     let at = c.loop-line in
     let had = at.invariant in
-    let took = c.in_ok-take_line.ensures.takes in
+    let took = c.in_ok-take_line.ensures in
     let start = standing_of c.args.self.now in
     let lines = c.args.lines.now in
     let stands =
@@ -44,7 +44,7 @@ returns-in_err-take_line-clause-kept c =
     let kept = goes_on_kept start (standing_of at.self) (standing_of c.take_line.new.self)
     (lines_kept c.args.number (map (λ l. l.now) (take at.line-index c.args.lines.now)) start
     (standing_of at.self) c.requires.begun at.invariant.stands)
-    c.in_err-take_line.ensures.kept in
+    c.in_err-take_line.ensures.0 in
     search rules
 
 pub returns-in_err-extend_from_slice-clause-kept : goal.returns-in_err-extend_from_slice-clause-kept

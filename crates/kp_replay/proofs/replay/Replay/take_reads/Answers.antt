@@ -1,8 +1,6 @@
-use Rattle.std.proofs.Common.{ap, length, refl, sym, subst, ◌∙◌, arith, rules}
+use Rattle.std.proofs.Common.{ap, length, refl, sym, subst, arith, rules}
 use Rattle.std.specs.Prelude.{string_bytes}
-use Rattle.std.specs.List.{list_all}
 use Rattle.std.specs.Vec.Iter.{into_iter_items}
-use Rattle.kp_replay.specs.Groups.{says_later}
 use Rattle.kp_replay.specs.Steps.{LosesNothing, standing_of}
 use Rattle.kp_replay.proofs.KeptLemmas.{begins_as, goes_on_kept, read_kept}
 use Rattle.kp_replay.proofs.StepLemmas.{first_later, goes_on, rest_later, rest_read}
@@ -18,7 +16,7 @@ pub loop-read-preserved : goal.loop-read-preserved
 loop-read-preserved c =
     let at = c.loop-read in
     let is = c.in-Some.ensures.steps.0 in
-    let took = c.in_ok-take_read.ensures.takes in
+    let took = c.in_ok-take_read.ensures.took in
     record {
       lines =
           goes_on (string_bytes at.printed) (string_bytes c.take_read.new.text) (standing_of at.self)
@@ -44,7 +42,7 @@ loop-read-preserved c =
 pub returns-in_err-take_read-clause-kept : goal.returns-in_err-take_read-clause-kept
 returns-in_err-take_read-clause-kept c =
     let kept = goes_on_kept (standing_of c.args.self.now) (standing_of c.loop-read.self)
-    (standing_of c.take_read.new.self) c.loop-read.invariant.kept c.in_err-take_read.ensures.kept in
+    (standing_of c.take_read.new.self) c.loop-read.invariant.kept c.in_err-take_read.ensures.took.0 in
     search rules
 
 pub returns-in_err-take_read-clause-front : goal.returns-in_err-take_read-clause-front
