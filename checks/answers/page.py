@@ -128,7 +128,9 @@ class Call:
         return re.split(r"\bwhere\b", result.partition("->")[2])[0]
 
     def is_on_accepted(self, clause):
-        """Whether a clause says something of accepted calls alone."""
+        """Whether a clause says something of accepted calls alone: a status may itself say no."""
+        if re.match(r"\s*Option<Status>", self.result):
+            return False
         return bool(re.match(r"(If|On)(Ok|Some) result", self.clauses[clause]))
 
     def may_refuse(self):

@@ -7,34 +7,40 @@ use Rattle.kp_io.specs.Reader.{GivesShort, HandedOut}
 use Rattle.kp_io.specs.Told.{Grows}
 use Rattle.kp_io.proofs.Told.{Grows-trans}
 use Rattle.kp_io.specs.Lines.{lines_of}
-use Rattle.kp_run_defs.specs.ReplayText.{Line, Progress, Standing, at_start, short_line}
-use Rattle.kp_mode_defs.specs.Mode.{replay_in, replaying}
-use Rattle.kp_mode_defs.proofs.Alike.{line_alone}
+use Rattle.kp_text_defs.specs.SaidLines.{said}
+use Rattle.kp_run_defs.specs.ReplayText.{Line, Standing, given_line}
+use Rattle.kp_mode_defs.specs.Mode.{ProgressIn, after_given_in, given_in, replay_in, replaying, start_in}
+use Rattle.kp_mode_defs.proofs.Alike.{line_of, said_alone}
 use Rattle.kp_replay.specs.Groups.{lines_from}
 use Rattle.kp_replay.specs.Steps.{IsReady}
 use Rattle.kp_line_laws.proofs.FirstLines.{next_ready}
-use Rattle.kp_run.specs.Given.{after_given, replay_given}
+use Rattle.kp_run.specs.Given.{anywhere, place, replay_given}
 use Rattle.kp_run.specs.Texts.{by_lines}
-use Rattle.kp_run.specs.Outcome.{Come, GrowsFront, TakesLine, WritesFront}
+use Rattle.kp_run.specs.Outcome.{Come, GrowsFront, WritesFront}
 use Rattle.kp_run.proofs.ComeLemmas.{all_text, front_is, numbers, part_is, whole_text}
 
 -- ---- Lines as they are given
 
--- what lines that are given lead to is what they do one after the other
-stands_at : (p : Progress) (lines : List (List ℕ))
-    → (fold (after_given replaying) p (map Some lines)).at ≡ (lines_from (suc p.number) lines p.at).next
-stands_at p [] = refl
-stands_at p (bytes ∷ lines) = stands_at (after_given replaying p (Some bytes)) lines
+-- a line does in the mode that adds nothing what it does in a replay
+alone : (p : ProgressIn (Unit {0})) (bytes : List ℕ)
+    → line_of (given_in replaying (suc p.number) (Some bytes) p.at) ≡ given_line (suc p.number) (Some bytes) p.at.standing
+alone p bytes = said_alone (suc p.number) (said (Some bytes) p.at.standing.fresh) p.at
 
-text_at : (p : Progress) (lines : List (List ℕ)) → (fold (after_given replaying) p (map Some lines)).text
-    ≡ p.text ++ (lines_from (suc p.number) lines p.at).text
+-- what lines that are given lead to is what they do one after the other
+stands_at : (p : ProgressIn (Unit {0})) (lines : List (List ℕ))
+    → (fold (after_given_in replaying) p (map Some lines)).at.standing ≡ (lines_from (suc p.number) lines p.at.standing).next
+stands_at p [] = refl
+stands_at p (bytes ∷ lines) =
+    stands_at (after_given_in replaying p (Some bytes)) lines
+    ∙ ap (λ (l : Line). (lines_from (suc (suc p.number)) lines l.next).next) (alone p bytes)
+
+text_at : (p : ProgressIn (Unit {0})) (lines : List (List ℕ)) → (fold (after_given_in replaying) p (map Some lines)).text
+    ≡ p.text ++ (lines_from (suc p.number) lines p.at.standing).text
 text_at p [] = sym (append-nil p.text)
 text_at p (bytes ∷ lines) =
-    let one = short_line (suc p.number) bytes p.at in
-    text_at (after_given replaying p (Some bytes)) lines
-    ∙ ap (λ (text : List ℕ). (p.text ++ text)
-    ++ (lines_from (suc (suc p.number)) lines one.next).text)
-    (ap (λ (l : Line). l.text) (line_alone p.at one))
+    let one = given_line (suc p.number) (Some bytes) p.at.standing in
+    text_at (after_given_in replaying p (Some bytes)) lines
+    ∙ ap (λ (l : Line). (p.text ++ l.text) ++ (lines_from (suc (suc p.number)) lines l.next).text) (alone p bytes)
     ∙ append_assoc p.text one.text (lines_from (suc (suc p.number)) lines one.next).text
 
 length-some : (lines : List (List ℕ)) → length (map Some lines) ≡ length lines
@@ -46,7 +52,7 @@ ready_after : (number : ℕ) (lines : List (List ℕ)) (s : Standing) → IsRead
     → IsReady (lines_from number lines s).next
 ready_after number [] s ready = ready
 ready_after number (bytes ∷ lines) s ready =
-    ready_after (suc number) lines (short_line number bytes s).next
+    ready_after (suc number) lines (given_line number (Some bytes) s).next
     (next_ready number (Some bytes) s ready)
 
 -- lines are the first that are given
@@ -61,35 +67,38 @@ given_more given lines (Some x) (Some y) (Some z) p q =
 
 module _ (s : Standing) (n : ℕ) (lines : List (List ℕ)) (left : Option (List ℕ))
     (rest after : Option (List (Option (List ℕ)))) (written now later : Option (List ℕ))
-    (come : Come replaying s n left rest written now) (gives : GivesShort lines rest after) where
-  abbrev p : Progress
+    (come : Come replaying anywhere s n left rest written now) (gives : GivesShort lines rest after) where
+  abbrev p : ProgressIn (Unit {0})
   p = replay_given replaying come.given
 
-  abbrev q : Progress
-  q = fold (after_given replaying) p (map Some lines)
+  abbrev q : ProgressIn (Unit {0})
+  q = fold (after_given_in replaying) p (map Some lines)
 
   all_given : replay_given replaying (come.given ++ map Some lines) ≡ q
-  all_given = fold-append (after_given replaying) at_start come.given (map Some lines)
+  all_given = fold-append (after_given_in replaying) (start_in replaying) come.given (map Some lines)
 
-  same : lines_from (suc n) lines s ≡ lines_from (suc p.number) lines p.at
-  same = λ i. lines_from (suc (sym come.counted i)) lines (come.stands i)
+  same : lines_from (suc n) lines s ≡ lines_from (suc p.number) lines p.at.standing
+  same = λ i. lines_from (suc (sym come.counted i)) lines (come.stands i).standing
 
   -- after them
-  pub come_group : (t : Standing) → TakesLine (lines_from (suc n) lines s) t now later
-      → Come replaying t (n + length lines) left after written later
-  come_group t takes = record {
+  pub come_group : (t : Standing) → t ≡ (lines_from (suc n) lines s).next
+      → Grows now later (lines_from (suc n) lines s).text
+      → Come replaying anywhere t (n + length lines) left after written later
+  come_group t leads grown = record {
     given = come.given ++ map Some lines;
     handed = given_more come.given lines left rest after come.handed gives;
+    state = tt;
     stands =
-        takes.stands ∙ ap (λ l. l.next) same ∙ sym (stands_at p lines)
+        ap (λ (t : Standing). place t tt) (leads ∙ ap (λ l. l.next) same ∙ sym (stands_at p lines))
         ∙ ap (λ r. r.at) (sym all_given);
-    ready = subst IsReady (sym takes.stands) (ready_after (suc n) lines s come.ready);
+    kept = tt;
+    ready = subst IsReady (sym leads) (ready_after (suc n) lines s come.ready);
     grown =
         subst (Grows written later)
         (ap (λ l. p.text ++ l.text) same ∙ sym (text_at p lines)
         ∙ ap (λ r. r.text) (sym all_given))
         (Grows-trans written now later p.text (lines_from (suc n) lines s).text
-        come.grown takes.grown);
+        come.grown grown);
     counted =
         ap (λ r. r.number) all_given
         ∙ omega (arith, numbers replaying p (map Some lines), length-some lines, come.counted);

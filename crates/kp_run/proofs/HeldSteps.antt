@@ -9,6 +9,7 @@ use Rattle.kp_io.specs.declared.next_line.TheConstants.{LINE_LIMIT}
 use Rattle.kp_restore_defs.specs.TableText.{text_of_lines}
 use Rattle.kp_run_defs.specs.ReplayText.{Standing}
 use Rattle.kp_replay.specs.Groups.{lines_from}
+use Rattle.kp_run.specs.Given.{anywhere}
 use Rattle.kp_run.specs.Held.{AnswersGroup}
 use Rattle.kp_run.specs.Outcome.{Come, GrowsFront}
 use Rattle.kp_run.specs.Stand.{GoesOn, Stands, WritesOrStops}
@@ -53,7 +54,7 @@ module _ (old : ReaderState) (number : ℕ) (held : List ℕ) (bytes count : ℕ
       (gives : (left : Option (List ℕ)) → GivesShort (ended_lines (take bytes old.held))
       (to_come old left) (to_come new left))
       (from : Input) (to : Output) (input : Input) (was now : Output)
-      (stands : Stands replaying from to s old input was) where
+      (stands : Stands replaying anywhere from to s old input was) where
     come : GivesShort group.lines (to_come old input.left) (to_come new input.left)
     come =
         subst (λ lines. GivesShort lines (to_come old input.left) (to_come new input.left))
@@ -68,16 +69,14 @@ module _ (old : ReaderState) (number : ℕ) (held : List ℕ) (bytes count : ℕ
     -- it was taken, and written or a front of it
     pub goes_group : {T : Type 0} (result : Result T Stop)
         → ((left : Option (List ℕ)) → TakesFeeds old new left left)
-        → WritesOrStops result text was now → GoesOn replaying from to result t new input now
+        → WritesOrStops result text was now → GoesOn replaying anywhere from to result t new input now
     goes_group (Ok done) feeds writes = record {
       come =
-          subst (λ k. Come replaying t k from.left (to_come new input.left) to.written now.written) (sym counted)
+          subst (λ k. Come replaying anywhere t k from.left (to_come new input.left) to.written now.written) (sym counted)
           (come_group s old.number group.lines from.left (to_come old input.left)
           (to_come new input.left) to.written was.written now.written stands.come come t
-          (record {
-            stands = group.stands ∙ ap (λ n. (lines_from n group.lines s).next) next;
-            grown = subst (Grows was.written now.written) told writes.whole;
-          }));
+          (group.stands ∙ ap (λ n. (lines_from n group.lines s).next) next)
+          (subst (Grows was.written now.written) told writes.whole));
       taken =
           subst (λ n. FromTold (LosesTaken 0 n) from.left input.left)
           (sym (ap (λ r. r.taken) passes)) stands.taken;

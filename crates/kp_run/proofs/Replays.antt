@@ -1,11 +1,20 @@
 -- Words that ask for a run which reads the source are never answered by the usage line.
-use Rattle.std.proofs.Common.{◌≡◌, true, Option, Some, None, inl, inr, subst}
+use Rattle.std.proofs.Common.{◌≡◌, true, Option, Some, None, inl, inr, refl, subst}
 use Rattle.kp_io.specs.Ends.{Input, Output}
 use Rattle.kp_words.specs.declared.mode.Mode.{Mode}
 use Rattle.kp_words.specs.declared.mode.Mode.TheVariants as mode
 use Rattle.kp_run.specs.declared.status.Status.{Status}
 use Rattle.kp_run.specs.declared.status.Status.TheVariants.{Usage}
-use Rattle.kp_run.specs.Outcome.{EndsBy, Runs, reads_source}
+use Rattle.kp_run.specs.Outcome.{EndsBy, Runs, needs_threads, reads_source}
+
+-- a run that needs threads reads the source
+pub threads_read : (m : Option Mode) → needs_threads m ≡ true → reads_source m ≡ true
+threads_read None asks = absurd (cc)
+threads_read (Some (mode.Replay workers)) asks = refl
+threads_read (Some mode.Changes) asks = refl
+threads_read (Some mode.Health) asks = refl
+threads_read (Some mode.Live) asks = refl
+threads_read (Some (mode.Gen seed services pods)) asks = absurd (cc)
 
 module _ (from : Input) (to : Output) (input : Input) (output : Output) where
   ends_no_usage : (m : Option Mode) → reads_source m ≡ true → EndsBy m Usage from to input output → ⊥

@@ -15,11 +15,11 @@ use Rattle.kp_io.specs.declared.next_line.TheConstants.{INPUT_LIMIT, LINE_LIMIT}
 use Rattle.kp_io.proofs.HandedOut.{taken_more, taken_none}
 use Rattle.kp_base.specs.declared.memory.NoMemory as memory
 use Rattle.kp_run_defs.specs.ReplayText.{Standing, beginning}
-use Rattle.kp_mode_defs.specs.Mode.{Mode as Adds, replay_in}
-use Rattle.kp_run.specs.Given.{given_in}
+use Rattle.kp_mode_defs.specs.Mode.{LineIn, Mode, Place, given_in, place_at_start}
+use Rattle.kp_run.specs.Given.{place}
 use Rattle.kp_run.specs.Next.{TakesNext}
 use Rattle.kp_run.specs.Outcome.{Come, EndsFront, WritesRead}
-use Rattle.kp_run.specs.Stand.{ComesToEnd, HandsOn, Stands, Stops, StopsOutput, TakesStep, WritesOrStops}
+use Rattle.kp_run.specs.Stand.{ComesToEnd, HandsOn, Stands, Stops, StopsOutput, TakesOrStops, TakesStep}
 use Rattle.kp_run.specs.Texts.{Texts, by_lines}
 use Rattle.kp_run.specs.declared.ending.Stop.{Stop}
 use Rattle.kp_run.specs.declared.ending.Stop.TheVariants as why
@@ -27,13 +27,13 @@ use Rattle.kp_run.proofs.ComeLemmas.{by_end, come_all, come_ended, come_front, c
 use Rattle.kp_run.proofs.EndLemmas.{same_rose}
 
 -- before the first line
-pub stands_first : (m : Adds) (s : Standing) (reader : ReaderState) (from : Input) (to : Output)
-    → s ≡ beginning → reader ≡ fresh_with reader.room → reader.room ≤ LINE_LIMIT
-    → Stands m from to s reader from to
-stands_first m s reader from to start fresh room = record {
+pub stands_first : {S : Type 0} (m : Mode S) (follows : Place S → Type 0) (s : Standing) (reader : ReaderState)
+    (from : Input) (to : Output) → s ≡ beginning → follows (place_at_start m) → reader ≡ fresh_with reader.room
+    → reader.room ≤ LINE_LIMIT → Stands m follows from to s reader from to
+stands_first m follows s reader from to start kept fresh room = record {
   come =
-      subst (λ r. Come m s r.number from.left (to_come r from.left) to.written to.written)
-      (sym fresh) (come_none m s from.left to.written start);
+      subst (λ r. Come m follows s r.number from.left (to_come r from.left) to.written to.written)
+      (sym fresh) (come_none m follows s from.left to.written start kept);
   taken = subst (λ r. FromTold (LosesTaken 0 r.taken) from.left from.left) (sym fresh) (taken_none from.left);
   feeds = λ _open. counts_none reader from.left fresh;
   ended = λ ended. let h = ap (λ r. r.ended) (sym fresh) ∙ ended in absurd (cc);
@@ -65,23 +65,23 @@ stops_output t why.Write from to input was now read wrote front cause =
 stops_output t why.Read from to input was now read wrote front cause = absurd cause
 stops_output t why.InputTooLong from to input was now read wrote front cause = absurd cause
 
-module _ (m : Adds) (from : Input) (to : Output) (s : Standing) (reader : ReaderState) (input : Input)
-    (output : Output) where
+module _ {S : Type 0} (m : Mode S) (follows : Place S → Type 0) (from : Input) (to : Output) (s : Standing)
+    (reader : ReaderState) (input : Input) (output : Output) where
   -- a step that took a line
   pub took : {t : Option ℕ} {number : ℕ} → t ≡ Some number
-      → TakesStep m from to (Ok t) s reader input output → Stands m from to s reader input output
-  took is step = subst (λ o. TakesStep m from to (Ok o) s reader input output) is step
+      → TakesStep m follows from to (Ok t) s reader input output → Stands m follows from to s reader input output
+  took is step = subst (λ o. TakesStep m follows from to (Ok o) s reader input output) is step
 
   -- a step that came to the end
-  pub came : {t : Option ℕ} → t ≡ None → TakesStep m from to (Ok t) s reader input output
-      → ComesToEnd m s from to input output
-  came is step = subst (λ o. TakesStep m from to (Ok o) s reader input output) is step
+  pub came : {t : Option ℕ} → t ≡ None → TakesStep m follows from to (Ok t) s reader input output
+      → ComesToEnd m follows s from to input output
+  came is step = subst (λ o. TakesStep m follows from to (Ok o) s reader input output) is step
 
   -- memory is wanted where a replay stands
-  pub stops_same : (wanted : memory.NoMemory) → Stands m from to s reader input output
+  pub stops_same : (wanted : memory.NoMemory) → Stands m follows from to s reader input output
       → Stops (by_lines m) (why.NoMemory wanted) from to input output
   stops_same wanted stands = (
-    come_front m s reader.number from.left (to_come reader input.left) to.written output.written stands.come,
+    come_front m follows s reader.number from.left (to_come reader input.left) to.written output.written stands.come,
     stands.sure,
   )
 
@@ -95,24 +95,24 @@ pub record Gives (old new : ReaderState) (before after : Option (List (Option (L
 
 -- ---- A call of the reader, before which what is known was handed on
 
-module _ (m : Adds) {from : Input} {to : Output} {s : Standing} {old : ReaderState} {before : Input}
-    {was : Output} (stands : Stands m from to s old before was) where
+module _ {S : Type 0} (m : Mode S) (follows : Place S → Type 0) {from : Input} {to : Output} {s : Standing}
+    {old : ReaderState} {before : Input} {was : Output} (stands : Stands m follows from to s old before was) where
   -- what is known can't be handed on
   pub stops_unread : {T : Type 0} (stop : Stop) (after : Input) (later : Output)
       → HandsOn {T = T} (Err stop) was later → Stops (by_lines m) stop from to after later
   stops_unread stop after later hands =
       let come =
-      come_on m s old.number from.left (to_come old before.left) to.written was.written later.written stands.come hands.kept in
+      come_on m follows s old.number from.left (to_come old before.left) to.written was.written later.written stands.come hands.kept in
       subst (λ t. Stops (by_lines m) t from to after later) (sym hands.cause.0) (
-        come_front m s old.number from.left (to_come old before.left) to.written later.written come,
+        come_front m follows s old.number from.left (to_come old before.left) to.written later.written come,
         same_rose to.faults was.faults later.faults stands.sure.1 hands.cause.1,
       )
 
   module _ {new : ReaderState} {after : Input} (later : Output) {told : Result NextLine LineFault}
       (next : TakesNext told old new before after) (hands : HandsOn (Ok told) was later) where
-    on : Come m s old.number from.left (to_come old before.left) to.written later.written
+    abbrev pub on : Come m follows s old.number from.left (to_come old before.left) to.written later.written
     on =
-        come_on m s old.number from.left (to_come old before.left) to.written was.written later.written stands.come hands.kept
+        come_on m follows s old.number from.left (to_come old before.left) to.written was.written later.written stands.come hands.kept
 
     taken_on : FromTold (LosesTaken 0 new.taken) from.left after.left
     taken_on =
@@ -133,14 +133,14 @@ module _ (m : Adds) {from : Input} {to : Output} {s : Standing} {old : ReaderSta
 
     -- nothing more was written
     front_on : EndsFront (by_lines m) from to later
-    front_on = come_front m s old.number from.left (to_come old before.left) to.written later.written on
+    front_on = come_front m follows s old.number from.left (to_come old before.left) to.written later.written on
 
     -- exactly what was read is answered
     read_to : old.ended ≡ false → new.number ≡ old.number → new.ended ≡ false
         → HoldsNoLine new.held new.taken
-        → WritesRead (replay_in m) from.left after.left to.written later.written
+        → WritesRead (by_lines m).progress from.left after.left to.written later.written
     read_to open_ number is_open none =
-        come_ended m old new s (to_come old before.left) from.left before.left after.left
+        come_ended m follows old new s (to_come old before.left) from.left before.left after.left
         to.written later.written on stands.taken (stands.feeds open_) number
         next.input.all (next.feeds is_open) none
 
@@ -176,54 +176,59 @@ module _ (m : Adds) {from : Input} {to : Output} {s : Standing} {old : ReaderSta
         }
 
     module _ {one : Option (List ℕ)} {number : ℕ} (given : GivesNow one number) (last : Output) where
-      abbrev text : List ℕ
-      text = (given_in m number one s).text
+      -- as it is taken
+      abbrev pub line : LineIn S
+      line = given_in m number one (place s stands.come.state)
 
       -- after it
-      pub after_given : {T : Type 0} {x : T} (t : Standing) → t ≡ (given_in m number one s).next
-          → WritesOrStops (Ok x) text later last → Stands m from to t new after last
-      after_given t leads writes = record {
+      pub after_given : {T : Type 0} {x : T} (keeps : Place S → Type 0) (t : Standing)
+          → TakesOrStops (Ok x) keeps line t later last → Stands m keeps from to t new after last
+      after_given keeps t takes = record {
         come =
-            subst (λ k. Come m t k from.left (to_come new after.left) to.written last.written) (sym given.counted)
-            (come_more m s t old.number number one from.left (to_come old before.left)
-            (to_come new after.left) to.written later.written last.written on
-            given.next_one given.gives (record { stands = leads; grown = writes.whole }));
+            subst (λ k. Come m keeps t k from.left (to_come new after.left) to.written last.written) (sym given.counted)
+            (come_more m follows s old.number from.left (to_come old before.left) to.written later.written on
+            number one (to_come new after.left) last.written given.next_one given.gives keeps t
+            (record { stands = takes.stands; kept = takes.kept; grown = takes.writes.whole }));
         taken = taken_on;
         feeds = λ is_open.
             counts_more old new from.left before.left after.left
             (stands.feeds given.open_) (next.feeds is_open);
         ended = λ ended. next.ended given.open_ ended;
         room = subst (λ r. r ≤ LINE_LIMIT) (sym next.room) stands.room;
-        sure = (given.sure, writes.sure ∙ wrote_on);
+        sure = (given.sure, takes.writes.sure ∙ wrote_on);
       }
 
       -- within it
-      pub stops_given : {T : Type 0} (stop : Stop) → WritesOrStops {T = T} (Err stop) text later last
-          → Stops (by_lines m) stop from to after last
-      stops_given stop writes =
+      pub stops_given : {T : Type 0} (stop : Stop) (keeps : Place S → Type 0) (t : Standing)
+          → TakesOrStops {T = T} (Err stop) keeps line t later last → Stops (by_lines m) stop from to after last
+      stops_given stop keeps t takes =
           stops_output (by_lines m) stop from to after later last given.sure wrote_on
-          (come_part m s old.number number one from.left (to_come old before.left)
-          (to_come new after.left) to.written later.written last.written on given.next_one given.gives writes.front)
-          writes.cause
+          (come_part m follows s old.number from.left (to_come old before.left) to.written later.written on
+          number one (to_come new after.left) last.written given.next_one given.gives takes.writes.front)
+          takes.writes.cause
 
     -- ---- No line
 
     -- the end
-    pub comes_to_end : (lines : ℕ) → told ≡ Ok (End lines) → ComesToEnd m s from to after later
+    pub comes_to_end : (lines : ℕ) → told ≡ Ok (End lines) → ComesToEnd m follows s from to after later
     comes_to_end lines is =
         let counts = subst (λ t. Counts t old new) is next.counts in
         let input = subst (λ t. TakesInput t old.taken new.taken before.left after.left) is next.input in
         let at_end =
         by_end (IsAtEnd after.left) old.ended
         (λ yes. subst (λ x. IsAtEnd x.left) (sym (next.unasked (ended_unasked old yes))) (stands.ended yes))
-        (λ no. next.ended no counts.3) in (
-          come_all m s old.number new.taken from.left (to_come old before.left)
-              (to_come new after.left) after.left to.written later.written on
+        (λ no. next.ended no counts.3) in
+        record {
+          state = stands.come.state;
+          kept = stands.come.kept;
+          all =
+              come_all m follows s old.number from.left (to_come old before.left) to.written later.written on
+              new.taken (to_come new after.left) after.left
               (subst (λ t. Answers t new.line (to_come old before.left) (to_come new after.left)) is next.answer)
-              taken_on at_end (within_limit (End lines) old.taken new.taken before.left after.left input),
-          (read_as (Ok (End lines)) is (λ e. absurd (cc)), wrote_on),
-          at_end,
-        )
+              taken_on at_end (within_limit (End lines) old.taken new.taken before.left after.left input);
+          sure = (read_as (Ok (End lines)) is (λ e. absurd (cc)), wrote_on);
+          ended = at_end;
+        }
 
     -- a read failed
     pub stops_read : told ≡ Err ReadFault → Stops (by_lines m) why.Read from to after later

@@ -1,16 +1,20 @@
 -- Lines of a script that are taken, one more or one part more.
-use Rattle.std.proofs.Common.{◌≡◌, ◌+◌, ℕ, suc, List, [], ◌∷◌, ◌++◌, map, ap, refl, ◌∙◌, append-nil, zero-add, Bool, true, false, cond, Some, None}
+use Rattle.std.proofs.Common.{◌≡◌, ◌+◌, ℕ, suc, List, [], ◌∷◌, ◌++◌, map, ap, refl, ◌∙◌, append-nil, zero-add}
 use Rattle.std.specs.List.{fold, flat_map, range_with_len}
 use Rattle.std.proofs.lemmas.List.Concat.{flat_map-append}
 use Rattle.std.proofs.lemmas.List.FromFn.{map-range_with_len_more}
 use Rattle.std.proofs.lemmas.List.Sums.{fold-append}
-use Rattle.kp_run_defs.specs.GenText.{Counted, after_counted, count_start, line_totals}
-use Rattle.kp_run_defs.specs.ReplayText.{Standing, Progress, line_at, short_line, refuse, is_too_long, after_line, at_start}
+use Rattle.std.specs.Prelude.{Option, OnOk, Result, Ok, Err}
+use Rattle.kp_base.specs.declared.memory.NoMemory.{NoMemory}
+use Rattle.kp_run_defs.specs.ReplayText.{Standing}
+use Rattle.kp_replay.specs.Steps.{TookIn}
+use Rattle.kp_run.specs.Given.{place}
+use Rattle.kp_text_defs.specs.SaidLines.{given_as}
 use Rattle.kp_text_defs.specs.declared.totals.Totals.{Totals}
-use Rattle.kp_text_defs.specs.declared.line_refusal.LineRefusal.TheVariants.{TooLongLine}
-use Rattle.kp_replay.specs.Steps.{IsReady}
-use Rattle.kp_line_laws.proofs.FirstLines.{next_ready}
-use Rattle.kp_run.specs.Sums.{CountsAlongReplay}
+use Rattle.kp_mode_defs.specs.Mode.{LineIn, Place, ProgressIn, after_line_in, given_in, replay_in, start_in}
+use Rattle.kp_mode_defs.specs.Summing.{summing}
+use Rattle.kp_mode_defs.proofs.Alike.{stands_same}
+use Rattle.kp_run.specs.Sums.{Counted, CountsAlongReplay, after_counted, count_start, counted_of}
 
 pub line_more : {A B : Type 0} (f : B → A → B) (a : B) (g : ℕ → A) (n : ℕ) → fold f a (map g (range_with_len 0 (n + 1))) ≡ f (fold f a (map g (range_with_len 0 n))) (g n)
 line_more f a g n =
@@ -21,30 +25,31 @@ part_more f a g xs x =
     ap (fold f a) (flat_map-append g xs (x ∷ []) ∙ ap (λ l. flat_map g xs ++ l) (append-nil (g x)))
     ∙ fold-append f a (flat_map g xs) (g x)
 
--- ---- Counting and printing
-
-same_way : (c : Counted) (p : Progress) (lines : List (List ℕ)) → c.number ≡ p.number → c.at ≡ p.at → (fold after_counted c lines).at ≡ (fold after_line p lines).at
-same_way c p [] number at = at
-same_way c p (l ∷ ls) number at =
-    same_way (after_counted c l) (after_line p l) ls (ap suc number) (λ i. (line_at (suc (number i)) l (at i)).next)
+-- ---- Sums and the replay of a script
 
 pub along : CountsAlongReplay
-along lines = same_way count_start at_start lines refl refl
+along lines = stands_same summing lines (λ c number p lists state. refl)
 
--- ---- The next line
+same_way : (c : Counted) (r : ProgressIn Totals) (lines : List (List ℕ)) → c.number ≡ r.number → c.at ≡ r.at
+    → (fold after_counted c lines).at ≡ (fold (after_line_in summing) r lines).at
+same_way c r [] number at = at
+same_way c r (l ∷ ls) number at =
+    same_way (after_counted c l) (after_line_in summing r l) ls (ap suc number)
+    (λ i. (given_in summing (suc (number i)) (given_as l) (at i)).next)
 
-ready_if : (number : ℕ) (bytes : List ℕ) (s : Standing) → IsReady s → (b : Bool) → IsReady (cond b (refuse number TooLongLine (record s { fresh = false })) (short_line number bytes s)).next
-ready_if number bytes s ready true = next_ready number None s ready
-ready_if number bytes s ready false = next_ready number (Some bytes) s ready
+-- what is counted stands where the replay does
+pub counted_same : (lines : List (List ℕ)) → (counted_of lines).at ≡ (replay_in summing lines).at
+counted_same lines = same_way count_start (start_in summing) lines refl refl
 
--- the next line may come
-pub line_ready : (number : ℕ) (bytes : List ℕ) (s : Standing) → IsReady s → IsReady (line_at number bytes s).next
-line_ready number bytes s ready = ready_if number bytes s ready (is_too_long bytes)
+-- a line that was taken leads there
+pub leads_on : (r : Result (Unit {0}) NoMemory) (partly : Type 0) (line : LineIn Totals) (old new : Standing) (totals : Totals) (before now : List ℕ)
+    → TookIn r (λ config objects state. totals ≡ state) partly line old new before now → OnOk r (place new totals ≡ line.next)
+leads_on (Ok done) partly line old new totals before now took = λ i. record { standing = took.stands i; state = took.follows i }
+leads_on (Err refused) partly line old new totals before now took = tt
 
 -- one more line was counted
-pub counted_more : (c : Counted) (number : ℕ) (bytes line : List ℕ) (at : Standing) (totals : Totals) → number ≡ suc c.number → bytes ≡ line
-    → at ≡ (line_at number bytes c.at).next → totals ≡ line_totals number bytes c.at c.totals → record { number = number; at = at; totals = totals } ≡ after_counted c line
-counted_more c number bytes line at totals next same leads adds =
-    let place = leads ∙ (λ i. (line_at (next i) (same i) c.at).next) in
-    let sums = adds ∙ (λ i. line_totals (next i) (same i) c.at c.totals) in
-    λ i. record { number = next i; at = place i; totals = sums i }
+pub counted_more : (c : Counted) (number : ℕ) (bytes line : List ℕ) (given : Option (List ℕ)) (at : Place Totals) → number ≡ suc c.number → bytes ≡ line
+    → given ≡ given_as bytes → at ≡ (given_in summing number given c.at).next → record { number = number; at = at } ≡ after_counted c line
+counted_more c number bytes line given at next same fits leads =
+    let place = leads ∙ (λ i. (given_in summing (next i) ((fits ∙ ap given_as same) i) c.at).next) in
+    λ i. record { number = next i; at = place i }

@@ -2,7 +2,7 @@
 use Rattle.std.proofs.Common.{ℕ, Bool, List, Some, inl, inr, refl}
 use Rattle.kp_io.specs.Ends.{Input, Output}
 use Rattle.kp_gen_defs.specs.declared.plan.ScriptPlan.{ScriptPlan}
-use Rattle.kp_run_defs.specs.GenText.{gen_of, gen_text}
+use Rattle.kp_mode_defs.specs.Summing.{gen_of, gen_text}
 use Rattle.kp_modes.specs.Modes.{changing, healthy}
 use Rattle.kp_words.specs.declared.mode.Mode.{Mode}
 use Rattle.kp_words.specs.declared.mode.Mode.TheVariants as mode
@@ -51,7 +51,7 @@ by_words mode.Health status free ends = by_text free (in_mode healthy) status en
 by_words mode.Live status free ends = by_live free status ends
 by_words (mode.Gen seed services pods) status free ends =
     let plan : ScriptPlan = record { seed = seed; services = services; pods = pods } in
-    by_script free (gen_of plan).at.refused (gen_text plan) status ends
+    by_script free (gen_of plan).at.standing.refused (gen_text plan) status ends
 
 by_want : (status : Status) (from : Input) (to : Output) (input : Input) (output : Output)
     → IsUnbegun status from to input output → EndsByLines status

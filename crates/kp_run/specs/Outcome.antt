@@ -1,5 +1,5 @@
 -- What a run has written, and how it ends.
-use Rattle.std.specs.Prelude.{◌≡◌, ◌<◌, ◌≤◌, ◌++◌, ℕ, Bool, true, false, List, [], length, take, Option, Some, None, IfSome, ◌⊎◌}
+use Rattle.std.specs.Prelude.{◌≡◌, ◌<◌, ◌≤◌, ◌++◌, ℕ, Bool, true, false, List, [], length, nat_lt, take, Option, Some, None, IfSome, ◌⊎◌}
 use Rattle.std.specs.Io.KnownBytes.{IsAtEnd}
 use Rattle.kp_io.specs.Ends.{Input, Output}
 use Rattle.kp_io.specs.Told.{FromTold, Grows, IsFlushed}
@@ -7,37 +7,40 @@ use Rattle.kp_io.specs.Lines.{lines_of, ended_lines}
 use Rattle.kp_io.specs.Reader.{HandedOut}
 use Rattle.kp_io.specs.Faults.{Rose}
 use Rattle.kp_io.specs.declared.next_line.TheConstants.{INPUT_LIMIT}
-use Rattle.kp_words.specs.declared.mode.Mode.{Mode}
+use Rattle.kp_words.specs.declared.mode.Mode.{Mode as Asked}
 use Rattle.kp_words.specs.declared.mode.Mode.TheVariants as mode
 use Rattle.kp_text_defs.specs.Printed.{usage_text}
 use Rattle.kp_gen_defs.specs.declared.plan.ScriptPlan.{ScriptPlan}
-use Rattle.kp_run_defs.specs.GenText.{gen_of, gen_text}
 use Rattle.kp_run_defs.specs.LiveLines.{reading_of}
-use Rattle.kp_run_defs.specs.ReplayText.{Progress, Standing, Line}
-use Rattle.kp_mode_defs.specs.Mode.{Mode as Adds}
+use Rattle.kp_run_defs.specs.ReplayText.{Progress, Standing}
+use Rattle.kp_mode_defs.specs.Mode.{LineIn, Mode, Place}
+use Rattle.kp_mode_defs.specs.Summing.{gen_of, gen_text}
 use Rattle.kp_live.specs.Written as live
 use Rattle.kp_modes.specs.Modes.{changing, healthy}
 use Rattle.kp_run.specs.declared.status.Status.{Status}
 use Rattle.kp_run.specs.declared.status.Status.TheVariants.{Done, NoMemory, Usage, LinesRefused, ReadFault, WriteFault, InputTooLong}
 use Rattle.kp_replay.specs.Steps.{IsReady}
-use Rattle.kp_run.specs.Given.{replay_given}
+use Rattle.kp_run.specs.Given.{place, replay_given}
 use Rattle.kp_run.specs.Texts.{Texts, in_mode, replayed}
 
 -- ---- On the way
 
 -- How far the program has come in a mode: the lines that were given, where it stands after them, ready for the next
--- one, and what it has written.
-pub record Come (m : Adds) (s : Standing) (number : ℕ) (input : Option (List ℕ)) (rest : Option (List (Option (List ℕ)))) (written now : Option (List ℕ)) : Type 0 where
+-- one, with the state that what the mode keeps stands for, and what it has written.
+pub record Come {S : Type 0} (m : Mode S) (follows : Place S → Type 0) (s : Standing) (number : ℕ) (input : Option (List ℕ)) (rest : Option (List (Option (List ℕ)))) (written now : Option (List ℕ)) : Type 0 where
   pub given : List (Option (List ℕ))
   pub handed : HandedOut given input rest
-  pub stands : s ≡ (replay_given m given).at
+  pub state : S
+  pub stands : place s state ≡ (replay_given m given).at
+  pub kept : follows (place s state)
   pub ready : IsReady s
   pub grown : Grows written now (replay_given m given).text
   pub counted : (replay_given m given).number ≡ number
 
 -- the program stands where a line leads, and has written what the line prints
-pub record TakesLine (line : Line) (new : Standing) (written now : Option (List ℕ)) : Type 0 where
-  pub stands : new ≡ line.next
+pub record TakesLine {S : Type 0} (follows : Place S → Type 0) (line : LineIn S) (new : Standing) (written now : Option (List ℕ)) : Type 0 where
+  pub stands : new ≡ line.next.standing
+  pub kept : follows line.next
   pub grown : Grows written now line.text
 
 -- The whole text of an input was written, and this is whether a line of it was refused. The input is no longer
@@ -123,7 +126,7 @@ abbrev pub Ends : Status → Input → Output → Input → Output → Type 0
 Ends = EndsOf replayed
 
 -- and for a mode
-abbrev pub EndsIn : Adds → Status → Input → Output → Input → Output → Type 0
+abbrev pub EndsIn : {S : Type 0} → Mode S → Status → Input → Output → Input → Output → Type 0
 EndsIn m = EndsOf (in_mode m)
 
 -- the status of an input that was read to its end
@@ -170,7 +173,7 @@ EndsLine refused line InputTooLong to output = ⊥
 
 -- how a run of the generator ends
 abbrev pub EndsGen : ScriptPlan → Status → Output → Output → Type 0
-EndsGen plan status to output = EndsLine (gen_of plan).at.refused (gen_text plan) status to output
+EndsGen plan status to output = EndsLine (gen_of plan).at.standing.refused (gen_text plan) status to output
 
 -- ---- A live run
 
@@ -211,7 +214,7 @@ EndsLive InputTooLong from to input output =
 -- ---- By words
 
 -- the words ask for a run that reads the source
-abbrev pub reads_source : Option Mode → Bool
+abbrev pub reads_source : Option Asked → Bool
 reads_source None = false
 reads_source (Some (mode.Replay workers)) = true
 reads_source (Some mode.Changes) = true
@@ -219,8 +222,17 @@ reads_source (Some mode.Health) = true
 reads_source (Some mode.Live) = true
 reads_source (Some (mode.Gen seed services pods)) = false
 
+-- the words ask for a run that waits, or that starts threads
+abbrev pub needs_threads : Option Asked → Bool
+needs_threads None = false
+needs_threads (Some (mode.Replay workers)) = nat_lt 1 workers
+needs_threads (Some mode.Changes) = false
+needs_threads (Some mode.Health) = false
+needs_threads (Some mode.Live) = true
+needs_threads (Some (mode.Gen seed services pods)) = false
+
 -- how a run ends, by what the words ask for
-abbrev pub EndsBy : Option Mode → Status → Input → Output → Input → Output → Type 0
+abbrev pub EndsBy : Option Asked → Status → Input → Output → Input → Output → Type 0
 EndsBy None status from to input output = EndsUsage status to output
 EndsBy (Some (mode.Replay workers)) status from to input output = Ends status from to input output
 EndsBy (Some mode.Changes) status from to input output = EndsIn changing status from to input output
@@ -236,6 +248,6 @@ IsUnbegun status from to input output = ⊥
 
 -- A run ends by what the words ask for, or for want of memory for them. So nothing is kept back that
 -- wasn't before, unless a write failed.
-abbrev pub Runs : Option Mode → Status → Input → Output → Input → Output → Type 0
+abbrev pub Runs : Option Asked → Status → Input → Output → Input → Output → Type 0
 Runs asked status from to input output =
     EndsBy asked status from to input output ⊎ IsUnbegun status from to input output

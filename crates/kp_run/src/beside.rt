@@ -4,6 +4,7 @@ ghost use Rattle.kp_io.specs.Ends.{Input, Output};
 ghost use Rattle.kp_io.specs.Reader.{IsBounded};
 ghost use Rattle.kp_io.specs.declared.next_line.TheConstants.{INPUT_LIMIT, LINE_LIMIT};
 ghost use Rattle.kp_mode_defs.specs.Mode.{replaying};
+ghost use Rattle.kp_run.specs.Given.{anywhere};
 ghost use Rattle.kp_replay.specs.Steps.{standing_of, IsReady};
 ghost use Rattle.kp_run.specs.Held.{AnswersGroup};
 ghost use Rattle.kp_run.specs.Stand.{GoesOn, Stands};
@@ -52,8 +53,8 @@ impl<'a, R: Threads + Sync, G: Gate<R> + Sync> Beside<'a, R, G> {
         requires bounded { IsBounded reader.old }
         requires room { reader.old.room ≤ LINE_LIMIT }
         ensures goes { (from : Input) (to : Output) (input : Input)
-            → Stands replaying from to (standing_of replay.old) reader.old input (K.output sink.old)
-            → GoesOn replaying from to result (standing_of replay.new) reader.new input
+            → Stands replaying anywhere from to (standing_of replay.old) reader.old input (K.output sink.old)
+            → GoesOn replaying anywhere from to result (standing_of replay.new) reader.new input
             (K.output sink.new) }
         ensures further { OnOk result (reader.old.number ≤ reader.new.number) }
     {
@@ -82,8 +83,8 @@ impl<'a, R: Threads + Sync, G: Gate<R> + Sync> Beside<'a, R, G> {
         requires open { reader.old.skipping ≡ false }
         requires input { reader.old.taken ≤ INPUT_LIMIT }
         ensures goes { (from : Input) (to : Output) (input : Input)
-            → Stands replaying from to (standing_of replay.old) reader.old input (K.output sink.old)
-            → GoesOn replaying from to result (standing_of replay.new) reader.new input
+            → Stands replaying anywhere from to (standing_of replay.old) reader.old input (K.output sink.old)
+            → GoesOn replaying anywhere from to result (standing_of replay.new) reader.new input
             (K.output sink.new) }
         ensures further { OnOk result (reader.old.number ≤ reader.new.number) }
     {

@@ -17,5 +17,5 @@ pub use ending::usage;
 pub use generated::generate;
 pub use lines::{replay_in, replay_one};
 pub use many::replay_many;
-pub use program::run;
+pub use program::{run, run_alone};
 pub use status::Status;

@@ -5,16 +5,12 @@ ghost use Rattle.kp_io.specs.Ends.{Input, Output};
 ghost use Rattle.kp_io.specs.Reader.{fresh_with};
 ghost use Rattle.kp_io.specs.declared.next_line.TheConstants.{LINE_LIMIT};
 ghost use Rattle.kp_run_defs.specs.ReplayText as spec;
-ghost use Rattle.kp_base.specs.declared.config.Config.{Config};
-ghost use Rattle.kp_object_defs.specs.Objects.{no_objects};
-ghost use Rattle.kp_mode.specs.Follows.{Follows};
 ghost use Rattle.kp_mode_defs.specs.Mode as modes;
-ghost use Rattle.kp_replay.specs.Steps.{standing_of, IsReady};
-ghost use Rattle.kp_run.specs.Given.{given_in};
+ghost use Rattle.kp_replay.specs.Steps.{place_of, standing_of, Follows, IsReady};
 ghost use Rattle.kp_run.specs.Next.{TakesNext};
 ghost use Rattle.kp_run.specs.Outcome as outcome;
 ghost use Rattle.kp_run.specs.Stand.{ComesOrStops, CountsLine, EndsOrStops, HandsOn, Stands};
-ghost use Rattle.kp_run.specs.Stand.{TakesStep, WritesOrStops};
+ghost use Rattle.kp_run.specs.Stand.{TakesOrStops, TakesStep, WritesOrStops};
 ghost use Rattle.kp_run.specs.Texts.{in_mode};
 
 use crate::ending::{Stop, ended, hand_on, write_text};
@@ -40,17 +36,27 @@ pub fn replay_in<S: Source, K: Sink, M: Mode>(
     source: &mut S,
     sink: &mut K,
 ) -> Status
-    requires { (config : Config) → M.stands mode.old config no_objects }
     ensures { outcome.EndsIn M.mode result (S.input source.old) (K.output sink.old)
         (S.input source.new) (K.output sink.new) }
 {
-    let (mut replay, mut reader) = match begin(alloc, BUFFER_SIZE, 1) {
+    let (mut replay, mut reader) = match begin_in(alloc, mode) {
         Ok(both) => both,
         Err(refused) => return ended(sink, false, Err(Stop::NoMemory(refused))),
     };
     let all = replay_to_end(alloc, mode, &mut replay, &mut reader, source, sink);
     let refused = replay.end();
     ended(sink, refused, all)
+}
+
+/// A replay and a reader before the first line, in a mode that begins with them.
+fn begin_in<M: Mode>(alloc: Global, mode: &mut M) -> Result<(Replay, LineReader), NoMemory>
+    ensures began { IfOk result (λ b.
+        (standing_of b.0 ≡ spec.beginning) × (b.1 ≡ fresh_with BUFFER_SIZE)) }
+    ensures follows { OnOk result (Follows (M.stands mode.new) (modes.place_at_start M.mode)) }
+{
+    let (replay, reader) = begin(alloc, BUFFER_SIZE, 1)?;
+    replay.begin_in(alloc, mode)?;
+    Ok((replay, reader))
 }
 
 /// A replay and a reader before the first line.
@@ -81,7 +87,7 @@ fn replay_to_end<S: Source, K: Sink, M: Mode>(
     requires fresh { reader.old ≡ fresh_with reader.old.room }
     requires room { reader.old.room ≤ LINE_LIMIT }
     requires start { standing_of replay.old ≡ spec.beginning }
-    requires follows { Follows (M.stands mode.old) (standing_of replay.old) }
+    requires follows { Follows (M.stands mode.old) (modes.place_at_start M.mode) }
     ensures { EndsOrStops (in_mode M.mode) (standing_of replay.new).refused result
         (S.input source.old) (K.output sink.old)
         (S.input source.new) (K.output sink.new) }
@@ -102,11 +108,10 @@ fn replay_lines<S: Source, K: Sink, M: Mode>(
     requires fresh { reader.old ≡ fresh_with reader.old.room }
     requires room { reader.old.room ≤ LINE_LIMIT }
     requires start { standing_of replay.old ≡ spec.beginning }
-    requires follows { Follows (M.stands mode.old) (standing_of replay.old) }
-    ensures comes { ComesOrStops M.mode (standing_of replay.new) result
+    requires follows { Follows (M.stands mode.old) (modes.place_at_start M.mode) }
+    ensures { ComesOrStops M.mode (Follows (M.stands mode.new)) (standing_of replay.new) result
         (S.input source.old) (K.output sink.old)
         (S.input source.new) (K.output sink.new) }
-    ensures follows { OnOk result (Follows (M.stands mode.new) (standing_of replay.new)) }
 {
     let mut text = String::new(alloc);
     'lines: loop {
@@ -128,14 +133,12 @@ pub(crate) fn take_next<S: Source, K: Sink, M: Mode>(
     source: &mut S,
     sink: &mut K,
 ) -> Result<Option<u64>, Stop>
-    requires ready { IsReady (standing_of replay.old) }
-    requires follows { Follows (M.stands mode.old) (standing_of replay.old) }
+    requires { IsReady (standing_of replay.old) }
     ensures step { (from : Input) (to : Output)
-        → Stands M.mode from to (standing_of replay.old) reader.old
+        → Stands M.mode (Follows (M.stands mode.old)) from to (standing_of replay.old) reader.old
         (S.input source.old) (K.output sink.old)
-        → TakesStep M.mode from to result (standing_of replay.new) reader.new
-        (S.input source.new) (K.output sink.new) }
-    ensures follows { OnOk result (Follows (M.stands mode.new) (standing_of replay.new)) }
+        → TakesStep M.mode (Follows (M.stands mode.new)) from to result
+        (standing_of replay.new) reader.new (S.input source.new) (K.output sink.new) }
     ensures counts { IfOk result (λ taken. CountsLine taken reader.old reader.new) }
 {
     match next_known(reader, source, sink)? {
@@ -184,14 +187,11 @@ fn replay_line<K: Sink, M: Mode>(
     text: &mut String,
     sink: &mut K,
 ) -> Result<(), Stop>
-    requires ready { IsReady (standing_of replay.old) }
-    requires follows { Follows (M.stands mode.old) (standing_of replay.old) }
-    ensures stands { OnOk result (standing_of replay.new ≡ (given_in M.mode number
-        (option_copied given.entry) (standing_of replay.old)).next) }
-    ensures writes { WritesOrStops result (given_in M.mode number
-        (option_copied given.entry) (standing_of replay.old)).text
+    requires { IsReady (standing_of replay.old) }
+    ensures { (state : M.State) → Follows (M.stands mode.old) (place_of replay.old state)
+        → TakesOrStops result (Follows (M.stands mode.new)) (modes.given_in M.mode number
+        (option_copied given.entry) (place_of replay.old state)) (standing_of replay.new)
         (K.output sink.old) (K.output sink.new) }
-    ensures follows { OnOk result (Follows (M.stands mode.new) (standing_of replay.new)) }
 {
     text.clear();
     match replay.take_line_in(alloc, number, given, mode, text) {
@@ -207,8 +207,8 @@ fn write_ending<K: Sink, M: Mode>(
     replay: &Replay,
     sink: &mut K,
 ) -> Result<(), Stop>
-    requires { Follows (M.stands mode.old) (standing_of replay.now) }
-    ensures { WritesOrStops result (modes.ended M.mode (standing_of replay.now))
+    ensures { (state : M.State) → Follows (M.stands mode.old) (place_of replay.now state)
+        → WritesOrStops result (modes.ended M.mode (place_of replay.now state))
         (K.output sink.old) (K.output sink.new) }
 {
     let mut text = String::new(alloc);

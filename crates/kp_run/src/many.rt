@@ -6,6 +6,7 @@ ghost use Rattle.kp_run_defs.specs.ReplayText as spec;
 ghost use Rattle.kp_replay.specs.Steps.{standing_of};
 ghost use Rattle.kp_run.specs.Outcome as outcome;
 ghost use Rattle.kp_mode_defs.specs.Mode.{replaying};
+ghost use Rattle.kp_run.specs.Given.{anywhere};
 ghost use Rattle.kp_run.specs.Stand.{ComesOrStops};
 
 use crate::beside::Beside;
@@ -63,7 +64,7 @@ fn replay_groups<S: Source, K: Sink, R: Threads + Sync, G: Gate<R> + Sync>(
     requires fresh { reader.old ≡ fresh_with reader.old.room }
     requires room { reader.old.room ≤ LINE_LIMIT }
     requires start { standing_of replay.old ≡ spec.beginning }
-    ensures { ComesOrStops replaying (standing_of replay.new) result
+    ensures { ComesOrStops replaying anywhere (standing_of replay.new) result
         (S.input source.old) (K.output sink.old)
         (S.input source.new) (K.output sink.new) }
 {

@@ -1,5 +1,5 @@
 //! The program's words.
-ghost use Rattle.std.specs.Prelude.{◌≡◌, map, string_bytes, false};
+ghost use Rattle.std.specs.Prelude.{◌≡◌, map, string_bytes, false, true, IfSome, IsSome, None};
 ghost use Rattle.kp_words.specs.Words.{mode_of};
 ghost use Rattle.kp_run.specs.Outcome as outcome;
 
@@ -9,6 +9,7 @@ use crate::lines::{replay_in, replay_one};
 use crate::many::replay_many;
 use crate::status::Status;
 use crate::streams::run_live;
+use kp_base::NoMemory;
 use kp_gate::Gate;
 use kp_gen::ScriptPlan;
 use kp_io::{Sink, Source};
@@ -41,9 +42,36 @@ pub fn run<S: Source, K: Sink, R: Threads + Wait + Sync, G: Gate<R> + Sync>(
     ensures unread { outcome.reads_source (mode_of (map string_bytes words.now)) ≡ false
         → source.new ≡ source.old }
 {
+    match run_alone(alloc, words, source, sink) {
+        Some(status) => status,
+        None => run_beside(rt, alloc, words, source, sink, gate),
+    }
+}
+
+/// Runs the program on its words as `run` does, where these ask for a run by one thread, and else
+/// does nothing. It waits for nobody.
+pub fn run_alone<S: Source, K: Sink>(
+    alloc: Global,
+    words: &[String],
+    source: &mut S,
+    sink: &mut K,
+) -> Option<Status>
+    ensures some { IfSome result (λ status.
+        outcome.Runs (mode_of (map string_bytes words.now)) status
+        (S.input source.old) (K.output sink.old)
+        (S.input source.new) (K.output sink.new)) }
+    ensures none { result ≡ None
+        → (outcome.needs_threads (mode_of (map string_bytes words.now)) ≡ true)
+        × (source.new ≡ source.old) × (sink.new ≡ sink.old) }
+    ensures asks { outcome.needs_threads (mode_of (map string_bytes words.now)) ≡ false
+        → IsSome result }
+    ensures unread { outcome.reads_source (mode_of (map string_bytes words.now)) ≡ false
+        → source.new ≡ source.old }
+{
     match read_words(alloc, words) {
-        Ok(Some(Mode::Replay { workers: 1 })) => replay_one(alloc, source, sink),
-        Ok(Some(Mode::Replay { workers })) => replay_many(rt, alloc, workers, source, sink, gate),
+        Ok(Some(Mode::Live)) => None,
+        Ok(Some(Mode::Replay { workers })) if workers > 1 => None,
+        Ok(Some(Mode::Replay { workers: _ })) => Some(replay_one(alloc, source, sink)),
         Ok(
             Some(
                 Mode::Gen {
@@ -52,7 +80,7 @@ pub fn run<S: Source, K: Sink, R: Threads + Wait + Sync, G: Gate<R> + Sync>(
                     pods,
                 },
             ),
-        ) => generate(
+        ) => Some(generate(
             alloc,
             ScriptPlan {
                 seed,
@@ -60,11 +88,32 @@ pub fn run<S: Source, K: Sink, R: Threads + Wait + Sync, G: Gate<R> + Sync>(
                 pods,
             },
             sink,
-        ),
-        Ok(Some(Mode::Changes)) => replay_in(alloc, &mut Changing, source, sink),
-        Ok(Some(Mode::Health)) => replay_in(alloc, &mut Healthy::new(alloc), source, sink),
+        )),
+        Ok(Some(Mode::Changes)) => Some(replay_in(alloc, &mut Changing, source, sink)),
+        Ok(Some(Mode::Health)) => Some(replay_in(alloc, &mut Healthy::new(alloc), source, sink)),
+        Ok(None) => Some(usage(sink)),
+        Err(refused) => Some(Status::NoMemory(refused)),
+    }
+}
+
+/// Runs the program on words that ask for threads. Others are answered as by `run_alone` already, so
+/// here they find no memory.
+fn run_beside<S: Source, K: Sink, R: Threads + Wait + Sync, G: Gate<R> + Sync>(
+    rt: &R,
+    alloc: Global,
+    words: &[String],
+    source: &mut S,
+    sink: &mut K,
+    gate: &G,
+) -> Status
+    ensures { outcome.Runs (mode_of (map string_bytes words.now)) result
+        (S.input source.old) (K.output sink.old)
+        (S.input source.new) (K.output sink.new) }
+{
+    match read_words(alloc, words) {
         Ok(Some(Mode::Live)) => run_live(rt, alloc, source, sink, gate),
-        Ok(None) => usage(sink),
+        Ok(Some(Mode::Replay { workers })) => replay_many(rt, alloc, workers, source, sink, gate),
         Err(refused) => Status::NoMemory(refused),
+        Ok(_) => Status::NoMemory(NoMemory::told_by_library()),
     }
 }

@@ -4,7 +4,7 @@ use crate::lines::words_of;
 use kp_base::Items;
 use kp_gate::{Gate, OpenGate};
 use kp_io::{BufferedSink, MemorySink, MemorySource, SureSink, SureSource};
-use kp_run::{Status, run};
+use kp_run::{Status, run, run_alone};
 use std::alloc::Global;
 use std::process::Abort;
 use std::sync::Wait;
@@ -30,30 +30,8 @@ fn failing(alloc: Global, call: u64) -> Result<Items<u64>, Fail> {
     Ok(Items::from_vec(calls))
 }
 
-/// A run whose reads give one byte each and whose writes take at most 64, and of which one read and
-/// one write fail.
-fn planned_run<R: Threads + Wait + Sync + AllocGlobal>(
-    rt: &R,
-    line: &str,
-    input: &str,
-    calls: (u64, u64),
-) -> Result<Ended, Fail> {
-    failing_run(rt, line, input, (1, 64), calls)
-}
-
-/// A run whose reads and writes take at most so many bytes, and of which the read and the write or
-/// flush of these numbers fail, from 1, or none for 0.
-pub(crate) fn failing_run<R: Threads + Wait + Sync + AllocGlobal>(
-    rt: &R,
-    line: &str,
-    input: &str,
-    pieces: (u64, u64),
-    calls: (u64, u64),
-) -> Result<Ended, Fail> {
-    gated_run(rt, line, input, pieces, calls, &OpenGate)
-}
-
-/// The same, whose calls pass a gate.
+/// A run whose reads and writes take at most so many bytes, of which the read and the write or flush
+/// of these numbers fail, from 1, or none for 0, and whose calls pass a gate.
 pub(crate) fn gated_run<R: Threads + Wait + Sync + AllocGlobal, G: Gate<R> + Sync>(
     rt: &R,
     line: &str,
@@ -86,15 +64,8 @@ pub(crate) fn buffered_run<R: Threads + Wait + Sync + AllocGlobal>(
     let mut source = SureSource::new(bytes, pieces.0.max(1));
     let sink = MemorySink::new(alloc, pieces.1.max(1), 4096, failing(alloc, call)?)?;
     let mut sink = BufferedSink::new(alloc, sink)?;
-    let words = words_of(alloc, line)?;
-    let status = run(
-        rt,
-        alloc,
-        words.as_slice(),
-        &mut source,
-        &mut sink,
-        &OpenGate,
-    );
+    let (words, gate) = (words_of(alloc, line)?, OpenGate);
+    let status = run(rt, alloc, words.as_slice(), &mut source, &mut sink, &gate);
     let written = Vec::from_slice(alloc, sink.sink().written())?;
     Ok(Ended { status, written })
 }
@@ -150,6 +121,27 @@ fn a_run_prints_its_text_in_any_pieces(rt: HostRuntime) -> Result<(), Fail> {
     check_whole(&rt, "kproxy live", LIVE, Status::LinesRefused)
 }
 
+/// A run that needs no threads returns with nothing to wait by. Of another one nothing is done.
+#[test]
+fn a_run_by_one_thread_needs_no_runtime(rt: HostRuntime) -> Result<(), Fail> {
+    let alloc = rt.alloc();
+    let case = case_of(alloc, ENDPOINTS, 100)?;
+    let bytes = Items::from_vec(Vec::from_slice(alloc, case.input.as_bytes())?);
+    let mut source = SureSource::new(bytes, 7);
+    let mut sink = SureSink::new(alloc, 7, 4096)?;
+    for line in ["kproxy live", "kproxy replay --workers=2"] {
+        let words = words_of(alloc, line)?;
+        let status = run_alone(alloc, words.as_slice(), &mut source, &mut sink);
+        assert!(rt; status.is_none(), "{line}");
+        assert!(rt; sink.written().is_empty(), "{line}");
+    }
+    let words = words_of(alloc, "kproxy replay")?;
+    let status = run_alone(alloc, words.as_slice(), &mut source, &mut sink);
+    assert!(rt; status == Some(Status::Done));
+    assert!(rt; sink.written() == case.printed.as_bytes());
+    Ok(())
+}
+
 /// The line that is written where the words don't fit.
 const USAGE: &str =
     "usage: kproxy replay [--workers N] | kproxy live | kproxy gen SEED SERVICES PODS\n";
@@ -161,12 +153,12 @@ fn a_failed_flush_is_told_after_any_end(rt: HostRuntime) -> Result<(), Fail> {
     // the line of the sync is one write, so the flush is the second call
     let front = case_of(rt.alloc(), ENDPOINTS, 4)?;
     let read = front.input.len() as u64 + 1;
-    let unread = planned_run(&rt, "kproxy replay", &whole.input, (read, 2))?;
+    let unread = gated_run(&rt, REPLAYS[0], &whole.input, (1, 64), (read, 2), &OpenGate)?;
     assert!(rt; is_end(&unread, Status::WriteFault, &front.printed));
     // the usage line is two writes, of 64 bytes and of 17
-    let usage = planned_run(&rt, "kproxy help", "", (0, 3))?;
+    let usage = gated_run(&rt, "kproxy help", "", (1, 64), (0, 3), &OpenGate)?;
     assert!(rt; is_end(&usage, Status::WriteFault, USAGE));
-    let whole = planned_run(&rt, "kproxy help", "", (0, 4))?;
+    let whole = gated_run(&rt, "kproxy help", "", (1, 64), (0, 4), &OpenGate)?;
     assert!(rt; is_end(&whole, Status::Usage, USAGE));
     Ok(())
 }

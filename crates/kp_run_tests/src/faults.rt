@@ -1,7 +1,8 @@
 //! Reads and writes that fail at every call of a run, and what is written then: of a replay, with
 //! one worker and with four, and of a live run.
-use crate::ends::{REPLAYS, buffered_run, failing_run, is_end};
+use crate::ends::{REPLAYS, buffered_run, gated_run, is_end};
 use crate::inputs::{CLASHES, Case, ENDPOINTS, LIVE, case_of};
+use kp_gate::OpenGate;
 use kp_run::Status;
 use std::process::Abort;
 use std::sync::Wait;
@@ -44,7 +45,7 @@ fn check_reads<R: Abort + Threads + Wait + Sync + AllocGlobal>(
 ) -> Result<(), Fail> {
     let case = case_of(rt.alloc(), rows, 100)?;
     for call in 1..CALLS {
-        let ended = failing_run(rt, words, &case.input, (READ, 64), (call, 0))?;
+        let ended = gated_run(rt, words, &case.input, (READ, 64), (call, 0), &OpenGate)?;
         if ended.status != Status::ReadFault {
             assert!(rt; is_end(&ended, status, &case.printed), "{words} {call}");
             return Ok(());
@@ -71,7 +72,7 @@ fn check_writes<R: Abort + Threads + Wait + Sync + AllocGlobal>(
     for call in 1..CALLS {
         let ended = match buffered {
             true => buffered_run(rt, words, &case.input, (READ, 7), call)?,
-            false => failing_run(rt, words, &case.input, (READ, 7), (0, call))?,
+            false => gated_run(rt, words, &case.input, (READ, 7), (0, call), &OpenGate)?,
         };
         if ended.status != Status::WriteFault {
             assert!(rt; is_end(&ended, status, &case.printed), "{words} {call}");
@@ -116,9 +117,9 @@ fn each_failed_write_after_a_buffer_leaves_a_front(rt: HostRuntime) -> Result<()
 /// written nothing.
 #[test]
 fn each_failed_read_of_a_live_run_leaves_nothing(rt: HostRuntime) -> Result<(), Fail> {
-    let case = case_of(rt.alloc(), LIVE, 100)?;
+    let (words, case) = ("kproxy live", case_of(rt.alloc(), LIVE, 100)?);
     for call in 1..CALLS {
-        let ended = failing_run(&rt, "kproxy live", &case.input, (READ, 64), (call, 0))?;
+        let ended = gated_run(&rt, words, &case.input, (READ, 64), (call, 0), &OpenGate)?;
         if ended.status != Status::ReadFault {
             assert!(rt;
                 is_end(&ended, Status::LinesRefused, &case.printed),

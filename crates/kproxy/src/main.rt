@@ -11,7 +11,7 @@ ghost use Rattle.kp_run.specs.declared.status.Status.TheVariants.{Usage};
 use kp_base::NoMemory;
 use kp_gate::OpenGate;
 use kp_io::{BufferedSink, RealSink, RealSource};
-use kp_run::{Status, run};
+use kp_run::{Status, run, run_alone};
 use std::io::ErrorKind;
 use std::process::ExitCode;
 use std::sync::Wait;
@@ -66,7 +66,10 @@ fn run_on<R: Threads + Wait + Sync>(
     let alloc = rt.alloc();
     let mut source = RealSource::new(rt.reader());
     let mut sink = BufferedSink::new(alloc, RealSink::new(io::writer(rt)))?;
-    let status = run(threads, alloc, words, &mut source, &mut sink, &OpenGate);
+    let status = match run_alone(alloc, words, &mut source, &mut sink) {
+        Some(status) => status,
+        None => run(threads, alloc, words, &mut source, &mut sink, &OpenGate),
+    };
     Ok(Ended {
         status,
         closed: sink.sink().is_closed(),

@@ -1,5 +1,5 @@
 use Rattle.std.proofs.Common.{subst, refl}
-use Rattle.kp_run_defs.specs.GenText.{gen_text}
+use Rattle.kp_mode_defs.specs.Summing.{gen_text}
 use Rattle.kp_text_defs.specs.Live.{totals_text}
 use Rattle.kp_run.specs.Outcome.{EndsLine}
 use Rattle.kp_run.proofs.EndLemmas.{none_written}

@@ -2,12 +2,7 @@ use Rattle.std.proofs.Common.{sym, subst}
 use Rattle.kp_run.specs.Stand.{EndsOrStops}
 use Rattle.kp_run.specs.Texts.{in_mode}
 use Rattle.kp_run.proofs.EndLemmas.{stops_unbegun}
-use Rattle.kp_run.proofs.ModeEnds.{follows_first}
 use Rattle.kp_run.proofs.lines.replay_in.Goals as goal
-
-pub replay_to_end-all-requires-clause-follows : goal.replay_to_end-all-requires-clause-follows
-replay_to_end-all-requires-clause-follows g c =
-    follows_first (g.M.Mode.stands c.args.mode.now) _ c.requires c.in-Ok.ensures.0
 
 -- no line was read
 pub returns-in-Err : goal.returns-in-Err

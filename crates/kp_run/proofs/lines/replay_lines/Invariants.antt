@@ -1,17 +1,14 @@
 use Rattle.std.proofs.Common.{◌+◌, ◌-◌}
 use Rattle.kp_io.specs.declared.next_line.TheConstants.{INPUT_LIMIT}
-use Rattle.kp_mode.specs.Follows.{Follows}
-use Rattle.kp_replay.specs.Steps.{standing_of}
+use Rattle.kp_replay.specs.Steps.{standing_of, Follows}
 use Rattle.kp_run.specs.Stand.{Stands}
 use Rattle.kp_run.proofs.lines.replay_lines.Given as goal
 
 -- the program has come as far as the lines that were handed out
 abbrev pub invariant-lines : goal.invariant-lines
-invariant-lines g l = record {
-  stands : Stands g.M.Mode.mode (g.S.Source.input l.initial.source) (g.K.Sink.output l.initial.sink)
-      (standing_of l.replay) l.reader (g.S.Source.input l.source) (g.K.Sink.output l.sink);
-  follows : Follows (g.M.Mode.stands l.mode) (standing_of l.replay);
-}
+invariant-lines g l =
+    Stands g.M.Mode.mode (Follows (g.M.Mode.stands l.mode)) (g.S.Source.input l.initial.source)
+    (g.K.Sink.output l.initial.sink) (standing_of l.replay) l.reader (g.S.Source.input l.source) (g.K.Sink.output l.sink)
 
 -- no more lines come than bytes may be taken
 abbrev pub decreases-lines : goal.decreases-lines

@@ -1,5 +1,5 @@
 use Rattle.std.proofs.Common.{rules, ◌≡◌, Err, sym, subst}
-use Rattle.kp_replay.specs.Steps.{standing_of}
+use Rattle.kp_replay.specs.Steps.{standing_of, Follows}
 use Rattle.kp_run.specs.Stand.{EndsOrStops}
 use Rattle.kp_run.specs.Texts.{in_mode}
 use Rattle.kp_run.proofs.ModeEnds.{ends_adding, stops_among}
@@ -15,12 +15,13 @@ returns-in_err-replay_lines g c =
     let stop = c.in_err-replay_lines.field-0.0 in
     let is : c.from_residual.result ≡ Err stop = search rules in
     subst (λ r. EndsOrStops (in_mode g.M.Mode.mode) (standing_of c.replay_lines.new.replay).refused r from to input output)
-    (sym is) (stops_among g.M.Mode.mode stop from to input output c.in_err-replay_lines.ensures.comes)
+    (sym is) (stops_among g.M.Mode.mode stop from to input output c.in_err-replay_lines.ensures)
 
 -- the lines came to their end
 pub returns : goal.returns
 returns g c =
-    ends_adding g.M.Mode.mode c.write_ending.result (standing_of c.replay_lines.new.replay)
-    (g.S.Source.input c.args.source.now) (g.K.Sink.output c.args.sink.now)
+    let all = c.in_ok-replay_lines.ensures in
+    ends_adding g.M.Mode.mode (Follows (g.M.Mode.stands c.replay_lines.new.mode)) c.write_ending.result
+    (standing_of c.replay_lines.new.replay) (g.S.Source.input c.args.source.now) (g.K.Sink.output c.args.sink.now)
     (g.S.Source.input c.replay_lines.new.source) (g.K.Sink.output c.replay_lines.new.sink)
-    (g.K.Sink.output c.write_ending.new.sink) c.in_ok-replay_lines.ensures.comes c.write_ending.ensures
+    (g.K.Sink.output c.write_ending.new.sink) all (c.write_ending.ensures all.state all.kept)

@@ -1,6 +1,7 @@
 use Rattle.std.proofs.Common.{sym, subst}
 use Rattle.kp_mode_defs.specs.Mode.{replaying}
 use Rattle.kp_replay.specs.Steps.{standing_of}
+use Rattle.kp_run.specs.Given.{anywhere}
 use Rattle.kp_run.specs.Stand.{EndsOrStops}
 use Rattle.kp_run.specs.Texts.{replayed}
 use Rattle.kp_run.proofs.EndLemmas.{stops_unbegun}
@@ -26,4 +27,4 @@ returns g c =
     c.ended-2.ensures replayed from to input
     (subst (λ refused. EndsOrStops replayed refused all from to input output) (sym c.end-refused.ensures)
     (subst (λ t. EndsOrStops t last.refused all from to input output) lines_as_replay
-    (ends_by_lines replaying last all from to input output c.replay_groups-all.ensures)))
+    (ends_by_lines replaying anywhere last all from to input output c.replay_groups-all.ensures)))

@@ -1,10 +1,10 @@
 use Rattle.std.proofs.Common.{rules, ◌≡◌, ◌++◌, ◌∙◌, true, map, take, ap, sym, subst}
 use Rattle.std.specs.List.{list_all}
+use Rattle.std.proofs.lemmas.List.{length-map}
 use Rattle.kp_restore_text.specs.Pieces.{no_line_feed}
 use Rattle.kp_restore_defs.specs.TableText.{text_of_lines}
 use Rattle.kp_replay.specs.Groups.{lines_from}
 use Rattle.kp_replay.specs.Steps.{standing_of}
-use Rattle.kp_replay.proofs.StepLemmas.{length-map}
 use Rattle.kp_run.proofs.beside.Beside.answer_group.Goals as goal
 
 pub returns : goal.returns
@@ -22,7 +22,7 @@ returns g c =
       within = group.ensures.within;
       feedless =
           subst (λ xs. list_all no_line_feed (map (λ line. line.now) xs) ≡ true) (sym all) group.ensures.feedless;
-      counted = sym (length-map (λ line. line.now) slice);
+      counted = sym (length-map slice (λ line. line.now));
       stands = took.stands;
       text =
           took.text

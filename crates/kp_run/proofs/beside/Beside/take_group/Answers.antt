@@ -1,6 +1,7 @@
 use Rattle.std.proofs.Common.{rules, arith, ◌≡◌, subst}
 use Rattle.kp_mode_defs.specs.Mode.{replaying}
 use Rattle.kp_replay.specs.Steps.{standing_of}
+use Rattle.kp_run.specs.Given.{anywhere}
 use Rattle.kp_run.specs.Stand.{WritesOrStops}
 use Rattle.kp_run.proofs.StandLemmas.{stops_same}
 use Rattle.kp_run.proofs.HeldSteps.{count_held, further_group, goes_group, whole_held, within_held}
@@ -48,4 +49,4 @@ returns-in-Ok-clause-further g c =
 
 -- memory was wanted before it was written
 pub returns-in-Err-clause-goes : goal.returns-in-Err-clause-goes
-returns-in-Err-clause-goes g c = λ from to input stands. stops_same replaying _ _ _ _ _ _ c.in-Err.refused stands
+returns-in-Err-clause-goes g c = λ from to input stands. stops_same replaying anywhere _ _ _ _ _ _ c.in-Err.refused stands

@@ -1,7 +1,6 @@
 use Rattle.std.proofs.Common.{◌≡◌, ◌∙◌, suc, ap, sym, arith}
 use Rattle.kp_gen_defs.specs.Script.{line_in}
-use Rattle.kp_run_defs.specs.GenText.{after_counted}
-use Rattle.kp_run.specs.Sums.{counted_in}
+use Rattle.kp_run.specs.Sums.{after_counted, counted_in}
 use Rattle.kp_run.proofs.SumLemmas.{line_more}
 use Rattle.kp_run.proofs.generated.Counting.take_part.Goals as goal
 

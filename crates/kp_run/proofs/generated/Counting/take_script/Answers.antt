@@ -3,7 +3,7 @@ use Rattle.std.specs.List.{fold, flat_map}
 use Rattle.std.proofs.lemmas.List.{take_more}
 use Rattle.kp_gen_defs.specs.Script.{part_lines}
 use Rattle.kp_gen_defs.specs.declared.plan.ScriptPart.TheVariants.{Config}
-use Rattle.kp_run_defs.specs.GenText.{after_counted, count_start}
+use Rattle.kp_run.specs.Sums.{after_counted, count_start}
 use Rattle.kp_run.proofs.SumLemmas.{part_more}
 use Rattle.kp_run.proofs.generated.Counting.take_script.Goals as goal
 

@@ -1,0 +1,14 @@
+use Rattle.std.proofs.Common.{inr, map, refl, string_bytes, sym, subst}
+use Rattle.kp_run.proofs.PlanLemmas.{Fits, mode_fits}
+use Rattle.kp_run.proofs.program.run_alone.Goals as goal
+
+-- the numbers are within their bounds
+pub generate-requires : goal.generate-requires
+generate-requires g c =
+    let some = rw c.in-Ok-Some-Gen.field-0-is at c.in-Ok-Some-Gen.ensures in
+    let told = rw c.in-Ok-Some-Gen.field-0-0-is at some in
+    subst Fits (sym told) (mode_fits (map string_bytes c.args.words.now))
+
+-- there was no memory for the words
+pub returns-in-Err-clause-some : goal.returns-in-Err-clause-some
+returns-in-Err-clause-some g c = inr (refl, refl)
