@@ -1,14 +1,42 @@
 #!/bin/sh
 # Adds changes to the lines of a made cluster, which standard input has: so many times one Pod's
-# event and a sync.
+# event and a sync. Or writes so many Services that share a destination, and a sync.
 #   bench/cluster.sh SERVICES PODS 0 | bench/changes.sh KIND TIMES [THEN]
+#   bench/changes.sh external|balancer SERVICES
 # KIND says what an event does: `move` gives a ready Pod other addresses, so that its Service keeps
 # an endpoint; `last` makes the only ready Pod of a Service unready, and then ready again; `beat` says
 # what is known, with another version. THEN is `nothing`, `explain` or `slices`: what follows each
 # sync; or `unsynced`, where no sync follows.
+# `external` gives each Service one external address, the same for all; `balancer` gives each that
+# address at its load balancer, and source ranges of its own.
 set -eu
+if [ $# -eq 2 ] && { [ "$1" = external ] || [ "$1" = balancer ]; }; then
+    exec awk -v kind="$1" -v services="$2" '
+# by number: what a Service has beside its cluster address, and its status
+function shared(i) {
+    if (kind == "external") return ",\"externalIPs\":[\"203.0.113.5\"]}"
+    return ",\"type\":\"LoadBalancer\",\"loadBalancerSourceRanges\":[\"192." int(i / 256) % 256 "." i % 256 \
+        ".0/24\"]},\"status\":{\"loadBalancer\":{\"ingress\":[{\"ip\":\"203.0.113.5\"}]}}"
+}
+
+BEGIN {
+    print "{\"op\":\"config\",\"node\":\"n1\",\"nodeAddresses\":[\"10.0.0.1\"],\"clusterCIDR\":\"10.244.0.0/16\"}"
+    for (i = 0; i < services; i++) {
+        name = "s" i
+        print "{\"apiVersion\":\"v1\",\"kind\":\"Service\",\"metadata\":{\"name\":\"" name \
+            "\"},\"spec\":{\"clusterIP\":\"10.96." int(i / 256) % 256 "." i % 256 \
+            "\",\"ports\":[{\"port\":80}]" shared(i) "}"
+        print "{\"apiVersion\":\"discovery.k8s.io/v1\",\"kind\":\"EndpointSlice\",\"metadata\":{\"name\":\"" \
+            name "-x\",\"labels\":{\"kubernetes.io/service-name\":\"" name \
+            "\"}},\"addressType\":\"IPv4\",\"ports\":[{\"port\":80}],\"endpoints\":[{\"addresses\":[\"10.244." \
+            int(i / 256) % 256 "." i % 256 "\"],\"nodeName\":\"n1\"}]}"
+    }
+    print "{\"op\":\"sync\"}"
+}'
+fi
 if [ $# -lt 2 ] || [ $# -gt 3 ]; then
     echo "usage: bench/changes.sh move|last|beat TIMES [nothing|explain|slices|unsynced]" >&2
+    echo "       bench/changes.sh external|balancer SERVICES" >&2
     exit 2
 fi
 exec awk -v kind="$1" -v times="$2" -v after="${3-nothing}" '

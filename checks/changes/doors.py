@@ -31,6 +31,8 @@ from follow import read_script
 HERE = Path(__file__).resolve().parent
 SECONDS = 600
 SYNCED = re.compile(r"sync \d+: ")
+# how many of the doors beside a door its line names
+NAMED = 3
 # what is left out of a line of a door that comes
 USUAL = ["policy Cluster", "affinity none", "sources any"]
 
@@ -157,9 +159,11 @@ class Doors:
 
     def beside(self, door):
         """What is said of the other doors at a door's destination."""
-        others = (it for it in self.at.get(door.destination, []))
-        others = (it for it in others if (it.port, it.kind) != (door.port, door.kind))
-        return [f"beside {port_text(it.port)} {it.kind}" for it in others]
+        there = self.at.get(door.destination, [])
+        others = [it for it in there if (it.port, it.kind) != (door.port, door.kind)]
+        said = [f"beside {port_text(it.port)} {it.kind}" for it in others[:NAMED]]
+        more = len(others) - len(said)
+        return [*said, f"{more} more beside"] if more else said
 
 
 # ---- what a sync changes

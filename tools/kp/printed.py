@@ -478,6 +478,9 @@ is_change = pattern(
     f"(?: by ({CHAIN}))?: ([^;]+)(?:; (.+))?"
 )
 is_beside = pattern(f"{PORT_KEY} ({KINDS_OF_DOORS})")
+# how many doors beside one are named, and how it is said how many more there are
+NAMED = 3
+is_more = pattern("([1-9][0-9]{0,19}) more beside")
 is_policy = pattern("policy (Cluster|Local)")
 is_affinity = pattern(f"affinity (?:none|{NUMBER})")
 is_sources = pattern(f"sources (any|none|{RANGE}(?:, {RANGE})*)")
@@ -596,8 +599,10 @@ def read_change(line):
         said["inside"] |= {"new": parts.endpoints("inside new ")}
         said["inside"] |= {"gone": parts.endpoints("inside gone ")}
     said["beside"] = []
-    while part := parts.next("beside "):
+    while len(said["beside"]) < NAMED and (part := parts.next("beside ")):
         said["beside"].append(beside_of(part[len("beside ") :]))
+    if len(said["beside"]) == NAMED and (part := parts.next("")):
+        said["moreBeside"] = int(known(is_more(part))[1])
     if parts.at < len(parts.parts):
         raise Unknown("a part of it isn't in its form or its place")
     return said
@@ -618,6 +623,7 @@ def change_text(value):
         lists = [it for it in ("new", "gone") if inside[it]]
         parts += [f"inside {it} {endpoints_text(inside[it])}" for it in lists]
     parts += [f"beside {port_key_text(it)} {it['kind']}" for it in value["beside"]]
+    parts += [f"{value[it]} more beside" for it in ("moreBeside",) if it in value]
     head = f"change {port_key_text(door)} {door['kind']} {host}:{door['number']}{by}: {states}"
     return "; ".join([head, *parts])
 

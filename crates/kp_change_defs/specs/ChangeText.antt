@@ -1,6 +1,6 @@
 -- The lines that tell what a sync changed for those who connect, a line for each door that differs
 -- (this project's choice).
-use Rattle.std.specs.Prelude.{ℕ, ◌&&◌, ◌||◌, Bool, List, ◌++◌, not, codes}
+use Rattle.std.specs.Prelude.{ℕ, ◌-◌, ◌==◌, ◌&&◌, ◌||◌, Bool, List, ◌++◌, not, codes, decimal, length, take}
 use Rattle.std.specs.List.{filter, flat_map}
 use Rattle.std.specs.contracts.prelude.BoolPartialEq.TheImpl as bool_eq
 use Rattle.kp_base.specs.contracts.key.PortKeyPartialEq.TheImpl as key_eq
@@ -32,9 +32,21 @@ abbrev pub beside_text : Door → List ℕ
 beside_text d =
     codes "; beside " ++ port_text d.info.key ++ codes " " ++ door_kind_text d.kind
 
+-- so many more doors beside another one, where there are any
+abbrev pub more_text : ℕ → List ℕ
+more_text more = unless (more == 0) (codes "; " ++ decimal more ++ codes " more beside")
+
+-- the first three of some doors, and how many there are besides
+abbrev pub first_text : List Door → List ℕ
+first_text doors = flat_map beside_text (take 3 doors) ++ more_text (length doors - 3)
+
 -- the doors of ports that are beside a door
+abbrev pub doors_beside : List PortInfo → Door → List Door
+doors_beside infos d = filter (is_beside d) (doors_of infos)
+
+-- what a line tells of them
 abbrev pub besides_text : List PortInfo → Door → List ℕ
-besides_text infos d = flat_map beside_text (filter (is_beside d) (doors_of infos))
+besides_text infos d = first_text (doors_beside infos d)
 
 -- a door is open
 abbrev pub is_open : DoorValues → Bool

@@ -1,6 +1,8 @@
 -- Worked lines of changes: what moves and what goes (this project's choice).
-use Rattle.std.specs.Prelude.{◌≡◌, [], ◌∷◌, ◌++◌, codes, Some}
+use Rattle.std.specs.Prelude.{◌≡◌, List, [], ◌∷◌, ◌++◌, codes, Some}
+use Rattle.kp_base.specs.Net.{AddressParts}
 use Rattle.kp_types.specs.declared.service.Policy.TheVariants.{Cluster, Local}
+use Rattle.kp_object_defs.specs.PortInfo.{PortInfo}
 use Rattle.kp_change_laws.specs.WorkedPorts.{at, ipv4, letter, lines, web, web4}
 
 -- a pod takes the place of another
@@ -47,6 +49,22 @@ OneAddress =
     ++ codes " now open 1; new 10.244.1.2:8080\n"
     ++ codes "change default/b/TCP external 203.0.113.6:80 by KUBE-EXT-W2ANRT3464REVKG6: absent,"
     ++ codes " now open 1; new 10.244.1.2:8080; beside default/a/TCP external\n"
+
+-- a Service comes to an external address where four others are
+abbrev pub CrowdedAddress : Type 0
+CrowdedAddress =
+    lines (letter (codes "a") 1 80 [] ∷ others) (letter (codes "a") 1 80 shared ∷ others)
+    ≡ codes "change default/a/TCP external 203.0.113.6:80 by KUBE-EXT-BFAXMEHTCSARXUJS: absent,"
+    ++ codes " now open 1; new 10.244.1.1:8080; beside default/b/TCP external"
+    ++ codes "; beside default/c/TCP external; beside default/d/TCP external; 1 more beside\n"
+  where
+    shared : List AddressParts
+    shared = ipv4 203 0 113 6 ∷ []
+
+    others : List PortInfo
+    others =
+        letter (codes "b") 2 80 shared ∷ letter (codes "c") 3 80 shared
+        ∷ letter (codes "d") 4 80 shared ∷ letter (codes "e") 5 80 shared ∷ []
 
 -- a door moves to another port
 abbrev pub PortMoves : Type 0

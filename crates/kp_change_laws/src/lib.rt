@@ -50,5 +50,6 @@ pub fn worked_moves()
     ensures gone { moves.ServiceGoes }
     ensures moved { moves.AddressMoves }
     ensures one { moves.OneAddress }
+    ensures crowded { moves.CrowdedAddress }
     ensures port { moves.PortMoves }
 {}

@@ -1,7 +1,8 @@
 pub mod AllLines
 pub mod Doors
+pub mod Kept
 pub mod Pieces
 pub mod PortLines
-pub mod SameBesides
+pub mod SameCrowd
 pub mod Shown
 pub mod Sparse

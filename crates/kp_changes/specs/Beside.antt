@@ -1,5 +1,5 @@
 -- The ports that may have a door at the destination of another one.
-use Rattle.std.specs.Prelude.{ℕ, ◌==◌, ◌&&◌, ◌||◌, Bool, List, [], map, cond, Option, Some, None, option_map}
+use Rattle.std.specs.Prelude.{◌==◌, ◌&&◌, ◌||◌, Bool, List, map, Option, Some, None, option_map}
 use Rattle.std.specs.List.{filter, flat_map}
 use Rattle.std.specs.Option.{option_to_list}
 use Rattle.std.specs.FinMap as finite
@@ -15,7 +15,6 @@ use Rattle.kp_object_defs.specs.PortByKey.{info_at}
 use Rattle.kp_object_defs.specs.PortInfo.{PortInfo, port_key_of}
 use Rattle.kp_door_defs.specs.Doors.{Door}
 use Rattle.kp_store.specs.Destinations.{answers, is_node_port}
-use Rattle.kp_change_defs.specs.ChangeText.{beside_text, is_beside}
 use Rattle.kp_changes.specs.Bare.{without_lists}
 
 -- an address, or another one where there is none
@@ -47,7 +46,3 @@ names_at o d =
 abbrev pub bare_infos_at : Family → FamilyConfig → Objects → PortKey → List PortInfo
 bare_infos_at family config o key =
     option_to_list (option_map without_lists (info_at family config o key))
-
--- a door where it is beside another one
-abbrev pub text_if_beside : Door → Door → List ℕ
-text_if_beside d e = cond (is_beside d e) (beside_text e) []

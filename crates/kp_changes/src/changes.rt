@@ -12,6 +12,7 @@ ghost use Rattle.kp_print.specs.Fronts.{HasFront};
 ghost use Rattle.kp_change_defs.specs.ChangeText.{change_text};
 ghost use Rattle.kp_changes.specs.Lines as spec;
 
+use crate::after::After;
 use crate::infos::info_at;
 use crate::names::{by_name, dirty_named, distinct_names, names_of_both};
 use crate::port::push_port_lines;
@@ -41,28 +42,29 @@ pub fn push_changes(
     ensures front { OnErr result (HasFront text.new text.old) }
 {
     kp_history_laws::infos_by_name();
-    push_dirty(alloc, config, objects, four, six, text)
+    let mut now = After::new(alloc, config, objects);
+    push_dirty(alloc, &mut now, four, six, text)
 }
 
 /// Adds the lines of dirty ports of both families, port by port.
 fn push_dirty(
     alloc: Global,
-    config: &Config,
-    objects: &Objects,
+    now: &mut After<'_>,
     four: &[DirtyPort],
     six: &[DirtyPort],
     text: &mut String,
 ) -> Result<(), NoMemory>
     ensures added { OnOk result (string_bytes text.new ≡ string_bytes text.old
-        ++ spec.dirty_text config.now objects.now four.now six.now) }
+        ++ spec.dirty_text now.old.config now.old.objects four.now six.now) }
     ensures front { OnErr result (HasFront text.new text.old) }
+    ensures same { now.new ≡ now.old }
 {
     let names = names_of_both(alloc, four, six)?;
     let distinct = distinct_names(alloc, names.as_slice())?;
     let four = by_name(alloc, four)?;
     let six = by_name(alloc, six)?;
     for name in distinct.as_slice() {
-        push_named(alloc, config, objects, &four, &six, *name, text)?;
+        push_named(alloc, now, &four, &six, *name, text)?;
     }
     Ok(())
 }
@@ -70,23 +72,23 @@ fn push_dirty(
 /// Adds the lines of a port in both families, where it is dirty there.
 fn push_named<'a>(
     alloc: Global,
-    config: &Config,
-    objects: &Objects,
+    now: &mut After<'_>,
     four: &BTreeMap<&'a PortKey, &'a DirtyPort>,
     six: &BTreeMap<&'a PortKey, &'a DirtyPort>,
     name: &'a PortKey,
     text: &mut String,
 ) -> Result<(), NoMemory>
     ensures added { OnOk result (string_bytes text.new ≡ string_bytes text.old
-        ++ (spec.dirty_lines V4 config.now objects.now
+        ++ (spec.dirty_lines V4 now.old.config now.old.objects
         (find port_key_cmp name.now (map deref_pair four.now.entries))
-        ++ spec.dirty_lines V6 config.now objects.now
+        ++ spec.dirty_lines V6 now.old.config now.old.objects
         (find port_key_cmp name.now (map deref_pair six.now.entries)))) }
     ensures front { OnErr result (HasFront text.new text.old) }
+    ensures same { now.new ≡ now.old }
 {
     let (four, six) = (dirty_named(four, name), dirty_named(six, name));
-    push_dirty_port(alloc, text, Family::V4, config, objects, four)?;
-    push_dirty_port(alloc, text, Family::V6, config, objects, six)
+    push_dirty_port(alloc, text, Family::V4, now, four)?;
+    push_dirty_port(alloc, text, Family::V6, now, six)
 }
 
 /// Adds the lines of a port in a family, where it is dirty there.
@@ -94,24 +96,23 @@ fn push_dirty_port(
     alloc: Global,
     text: &mut String,
     family: Family,
-    config: &Config,
-    objects: &Objects,
+    now: &mut After<'_>,
     dirty: Option<&DirtyPort>,
 ) -> Result<(), NoMemory>
     ensures added { OnOk result (string_bytes text.new ≡ string_bytes text.old
-        ++ spec.dirty_lines family config.now objects.now (option_copied dirty.entry)) }
+        ++ spec.dirty_lines family now.old.config now.old.objects (option_copied dirty.entry)) }
     ensures front { OnErr result (HasFront text.new text.old) }
+    ensures same { now.new ≡ now.old }
 {
     let Some(port) = dirty else {
         return Ok(());
     };
-    let after = info_at(alloc, family, config, objects, &port.key)?;
+    let after = info_at(alloc, family, now.config(), now.objects(), &port.key)?;
     push_port_lines(
         alloc,
         text,
         family,
-        config,
-        objects,
+        now,
         port.before.as_ref(),
         after.as_ref(),
     )

@@ -2,13 +2,16 @@
 //! from before, found by the ports of which something else is known than before.
 #![tactic(auto)]
 
+mod after;
 mod beside;
 mod change;
 mod changes;
+mod crowd;
 mod head;
 mod infos;
 mod line;
 mod names;
+mod neighbour;
 mod port;
 mod told;
 mod value_text;

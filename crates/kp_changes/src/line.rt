@@ -1,20 +1,19 @@
 //! The line of a door.
 ghost use Rattle.std.specs.Prelude.{◌≡◌, ◌++◌, OnErr, OnOk, string_bytes};
 ghost use Rattle.kp_choice_defs.specs.Names.{chain_name};
-ghost use Rattle.kp_types.specs.Setting.{config_for};
-ghost use Rattle.kp_object_defs.specs.PortInfo.{port_infos};
 ghost use Rattle.kp_print.specs.Fronts.{HasFront};
 ghost use Rattle.kp_change_defs.specs.ChangeText as spec;
+ghost use Rattle.kp_changes.specs.After.{infos_in};
 
+use crate::after::After;
 use crate::beside::push_besides;
 use crate::change::DoorChange;
 use crate::head::push_head;
 use crate::value_text::{comes, goes, push_inside, push_list, push_states, push_values};
 use crate::values::DoorValues;
-use kp_base::{Config, Family, NoMemory};
+use kp_base::{Family, NoMemory};
 use kp_change_defs::DoorState;
 use kp_print::push;
-use kp_store::Objects;
 use std::alloc::Global;
 
 /// Adds the line of a door that differs, among the ports of its family.
@@ -22,21 +21,21 @@ pub fn push_line(
     alloc: Global,
     text: &mut String,
     family: Family,
-    config: &Config,
-    objects: &Objects,
+    after: &mut After<'_>,
     change: &DoorChange<'_>,
 ) -> Result<(), NoMemory>
     ensures added { OnOk result (string_bytes text.new ≡ string_bytes text.old
-        ++ spec.change_line (chain_name config.now.name_length)
-        (port_infos family (config_for family config.now) objects.now) change.now) }
+        ++ spec.change_line (chain_name after.old.config.name_length)
+        (infos_in family after.old) change.now) }
     ensures front { OnErr result (HasFront text.new text.old) }
+    ensures same { after.new ≡ after.old }
 {
-    push_head(text, config, &change.door)?;
+    push_head(text, after.config(), &change.door)?;
     push(text, ": ")?;
     push_states(text, &change.before, &change.after)?;
     push_list(alloc, text, &change.before, &change.after)?;
     push_kept(alloc, text, change)?;
-    push_turned(alloc, text, family, config, objects, change)?;
+    push_turned(alloc, text, family, after, change)?;
     push(text, "\n")
 }
 
@@ -58,19 +57,18 @@ fn push_turned(
     alloc: Global,
     text: &mut String,
     family: Family,
-    config: &Config,
-    objects: &Objects,
+    after: &mut After<'_>,
     change: &DoorChange<'_>,
 ) -> Result<(), NoMemory>
     ensures added { OnOk result (string_bytes text.new ≡ string_bytes text.old
-        ++ spec.turned_text (port_infos family (config_for family config.now) objects.now)
-        change.now) }
+        ++ spec.turned_text (infos_in family after.old) change.now) }
     ensures front { OnErr result (HasFront text.new text.old) }
+    ensures same { after.new ≡ after.old }
 {
     if !turns(change) {
         return Ok(());
     }
-    push_besides(alloc, text, family, config, objects, &change.door)
+    push_besides(alloc, text, family, after, &change.door)
 }
 
 /// Whether a door comes or goes, opens or shuts.

@@ -19,6 +19,10 @@ pub returns-clause-one : goal.returns-clause-one
 unfolding digits first_words schedule rounds compress hash_after digest_bytes sha256
 returns-clause-one c = refl
 
+pub returns-clause-crowded : goal.returns-clause-crowded
+unfolding digits first_words schedule rounds compress hash_after digest_bytes sha256
+returns-clause-crowded c = refl
+
 pub returns-clause-port : goal.returns-clause-port
 unfolding digits first_words schedule rounds compress hash_after digest_bytes sha256
 returns-clause-port c = refl

@@ -12,8 +12,9 @@ use Rattle.kp_changes.proofs.changes.push_dirty.Goals as goal
 
 pub loop-name-preserved : goal.loop-name-preserved
 loop-name-preserved c =
-    let config = c.args.config.now in
-    let o = c.args.objects.now in
+    let config = c.args.now.now.config in
+    let o = c.args.now.now.objects in
+    let same = c.loop-name.invariant.same in
     let name = c.name-item.result in
     let four : find port_key_cmp name.now (map deref_pair c.in_ok-four.four.entries)
     ≡ dirty_named c.args.four.now name.now =
@@ -23,9 +24,14 @@ loop-name-preserved c =
     ≡ dirty_named c.args.six.now name.now =
     ap (find port_key_cmp name.now) c.in_ok-six.ensures
     ∙ find-in_order port_key_total name.now (map (λ (d : DirtyPort). (d.key, d)) c.args.six.now) in
-    next_seen (lines_named config o c.args.four.now c.args.six.now)
-    c.as_slice-name-items.result.now c.loop-name.name-index name _ _ _
-    (c.in_ok-push_named.ensures.added
-    ∙ (λ i. string_bytes c.loop-name.text
-    ++ (dirty_lines V4 config o (four i) ++ dirty_lines V6 config o (six i))))
-    c.loop-name.invariant c.loop-name-test.true c.name-item.is
+    record {
+      text =
+          next_seen (lines_named config o c.args.four.now c.args.six.now)
+          c.as_slice-name-items.result.now c.loop-name.name-index name _ _ _
+          (c.in_ok-push_named.ensures.added
+          ∙ (λ i. string_bytes c.loop-name.text
+          ++ (dirty_lines V4 (same i).config (same i).objects (four i)
+          ++ dirty_lines V6 (same i).config (same i).objects (six i))))
+          c.loop-name.invariant.text c.loop-name-test.true c.name-item.is;
+      same = c.in_ok-push_named.ensures.same ∙ same;
+    }

@@ -5,8 +5,10 @@ use Rattle.kp_changes.proofs.changes.push_dirty.Given as goal
 
 -- the lines of the ports so far are added
 abbrev pub invariant-loop-name : goal.invariant-loop-name
-invariant-loop-name l =
-    string_bytes l.text
-    ≡ string_bytes l.initial.text
-    ++ flat_map (lines_named l.config l.objects l.fn.four l.fn.six)
-    (map (λ k. k.now) (take l.name-index l.name-items))
+invariant-loop-name l = record {
+  text : string_bytes l.text
+      ≡ string_bytes l.initial.text
+      ++ flat_map (lines_named l.initial.now.config l.initial.now.objects l.fn.four l.fn.six)
+      (map (λ k. k.now) (take l.name-index l.name-items));
+  same : l.now ≡ l.initial.now;
+}

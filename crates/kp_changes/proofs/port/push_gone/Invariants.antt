@@ -5,7 +5,11 @@ use Rattle.kp_changes.proofs.port.push_gone.Given as goal
 
 -- the lines of the doors so far are added, where they went
 abbrev pub invariant-loop-door : goal.invariant-loop-door
-invariant-loop-door l =
-    string_bytes l.text
-    ≡ string_bytes l.initial.text
-    ++ flat_map (line_if_gone l.family l.config l.objects l.after) (take l.door-index l.before)
+invariant-loop-door l = record {
+  text : string_bytes l.text
+      ≡ string_bytes l.initial.text
+      ++ flat_map
+      (line_if_gone l.family l.initial.now.config l.initial.now.objects l.after)
+      (take l.door-index l.before);
+  same : l.now ≡ l.initial.now;
+}

@@ -6,8 +6,11 @@ use Rattle.kp_changes.proofs.port.push_there.Given as goal
 
 -- the lines of the doors so far are added
 abbrev pub invariant-loop-door : goal.invariant-loop-door
-invariant-loop-door l =
-    string_bytes l.text
-    ≡ string_bytes l.initial.text
-    ++ flat_map (λ d. line_if l.family l.config l.objects (change_to l.before d))
-    (take l.door-index l.after)
+invariant-loop-door l = record {
+  text : string_bytes l.text
+      ≡ string_bytes l.initial.text
+      ++ flat_map
+      (λ d. line_if l.family l.initial.now.config l.initial.now.objects (change_to l.before d))
+      (take l.door-index l.after);
+  same : l.now ≡ l.initial.now;
+}

@@ -1,6 +1,6 @@
 use Rattle.std.proofs.lemmas.Result.{on_err_weaker}
 use Rattle.kp_report.proofs.Pieces.{front_on}
-use Rattle.kp_changes.proofs.beside.push_if_beside.Goals as goal
+use Rattle.kp_changes.proofs.beside.push_neighbour.Goals as goal
 
 pub returns-clause-front : goal.returns-clause-front
 returns-clause-front c =

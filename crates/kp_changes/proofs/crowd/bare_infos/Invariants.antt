@@ -2,7 +2,7 @@ use Rattle.std.proofs.Common.{◌≡◌, take, map}
 use Rattle.std.specs.List.{flat_map}
 use Rattle.kp_types.specs.Setting.{config_for}
 use Rattle.kp_changes.specs.Beside.{bare_infos_at}
-use Rattle.kp_changes.proofs.beside.bare_infos.Given as goal
+use Rattle.kp_changes.proofs.crowd.bare_infos.Given as goal
 
 -- what is known of the ports of the names so far
 abbrev pub invariant-loop-name : goal.invariant-loop-name
