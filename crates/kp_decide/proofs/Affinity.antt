@@ -1,10 +1,10 @@
--- Session affinity by lists that stay as they are: dropping what is past the timeout changes no look.
-use Rattle.std.proofs.Common.{◌≡◌, ℕ, zero, suc, ◌+◌, ◌||◌, Bool, true, false, cond, List, [], ◌∷◌, filter, slice_get, Option, Some, None, option_map, option_and_then, refl, sym, ap, ◌∙◌, not, length, nat_lt, ◌<◌, arith}
-use Rattle.std.proofs.lemmas.Bool.Decides.{nat_tests}
+-- Session affinity by lists that stay as they are, or that are changed: dropping what is past the timeout
+-- changes no look.
+use Rattle.std.proofs.Common.{◌≡◌, ℕ, zero, suc, ◌||◌, Bool, true, false, cond, List, [], ◌∷◌, filter, slice_get, drop, length, Option, Some, None, refl, sym, ap, subst, ◌∙◌}
 use Rattle.std.specs.Cmp.{IsTotalOrder}
 use Rattle.std.specs.Ordering.{nat_cmp, eq_by_cmp}
-use Rattle.std.specs.List.{list_any, position, position_or_len}
-use Rattle.std.specs.Option.{unwrap_or, IfSome}
+use Rattle.std.specs.List.{list_any}
+use Rattle.std.specs.Option.{unwrap_or}
 use Rattle.std.proofs.lemmas.Option.{same_Some}
 use Rattle.std.specs.FinMap.{get, get-insert, get-remove, IsAntisymmetric, nat_cmp-IsAntisymmetric}
 use Rattle.std.proofs.lemmas.Cmp.{on_total, then_total, nat_cmp_total}
@@ -13,14 +13,9 @@ use Rattle.kp_lemmas.proofs.Orders.{one_from_tie}
 use Rattle.kp_base.specs.Keys.{text_cmp}
 use Rattle.kp_base.specs.Net.{AddressParts}
 use Rattle.kp_base.specs.declared.key.Endpoint.{Endpoint}
-use Rattle.kp_base.specs.declared.key.PortKey.{PortKey}
 use Rattle.kp_base.proofs.KeyOrder.{text_total, text_exact}
-use Rattle.kp_types.specs.Setting.{Setting}
-use Rattle.kp_types.specs.declared.decision.ChosenBy.TheVariants.{Affinity}
 use Rattle.kp_choice_defs.specs.Recent.{RecentParts, Shard, Sighting, is_live, is_of, is_within, reaped, shard_cmp, shard_of, sightings, with_sightings}
-use Rattle.kp_door_defs.specs.Choice.{Chosen, chosen_endpoint, drawn, drawn_as, drawn_at, found_or, found_or_drawn, live_endpoint, recent_name, remembered}
-use Rattle.kp_decide.specs.declared.choice.Choice.{Choice}
-use Rattle.kp_decide.specs.Told.{choice_of}
+use Rattle.kp_door_defs.specs.Choice.{Look, live_endpoint}
 
 -- ---- one part
 
@@ -86,124 +81,106 @@ module _ (lists : RecentParts) (m n : List ℕ) (source : AddressParts) (now sec
 
 -- ---- all endpoints
 
--- the first place of a list with one more element in front
-position_cons : {X : Type 0} (p : X → Bool) (x : X) (xs : List X) → position p (x ∷ xs) ≡ cond (p x) (Some 0) (option_map suc (position p xs))
-position_cons p x xs = by (p x)
-  where
-    later : (a b : ℕ) (c : Bool) → nat_lt a b ≡ c → cond (nat_lt (1 + a) (suc b)) (Some (1 + a)) None ≡ option_map suc (cond (nat_lt a b) (Some a) None)
-    later a b true is =
-        let more : nat_lt (1 + a) (suc b) ≡ true = grind (arith, nat_tests) in
-        let next : 1 + a ≡ suc a = omega arith in
-        ap (λ d. cond d (Some (1 + a)) None) more ∙ ap Some next ∙ sym (ap (λ d. option_map suc (cond d (Some a) None)) is)
-    later a b false is =
-        let more : nat_lt (1 + a) (suc b) ≡ false = grind (arith, nat_tests) in
-        ap (λ d. cond d (Some (1 + a)) None) more ∙ sym (ap (λ d. option_map suc (cond d (Some a) None)) is)
+-- an element, and those behind it
+drop_at : {X : Type 0} (xs : List X) (i : ℕ) (x : X) → slice_get xs i ≡ Some x → drop i xs ≡ x ∷ drop (suc i) xs
+drop_at [] i x at = absurd (cc)
+drop_at (y ∷ xs) zero x at = ap (λ z. z ∷ xs) (same_Some y x at)
+drop_at (y ∷ xs) (suc i) x at = drop_at xs i x at
 
-    none_before : (n : ℕ) → nat_lt 0 (suc n) ≡ true
-    none_before n = grind (arith, nat_tests)
+none_left : {X : Type 0} (xs : List X) → drop (length xs) xs ≡ []
+none_left [] = refl
+none_left (x ∷ xs) = none_left xs
 
-    by : (b : Bool) → cond (nat_lt (cond (not b) (1 + position_or_len p xs) 0) (suc (length xs))) (Some (cond (not b) (1 + position_or_len p xs) 0)) None ≡ cond b (Some 0) (option_map suc (position p xs))
-    by true = ap (λ d. cond d (Some 0) None) (none_before (length xs))
-    by false = later (position_or_len p xs) (length xs) (nat_lt (position_or_len p xs) (length xs)) refl
+module _ (changes : Bool) (name : Endpoint → List ℕ) (source : AddressParts) (now seconds : ℕ) (es : List Endpoint) (before : RecentParts) where
+  -- the whole look
+  abbrev pub all_looked : Look
+  all_looked = live_endpoint name source now seconds 0 es before
 
-module _ (name : Endpoint → List ℕ) (source : AddressParts) (now seconds : ℕ) (lists : RecentParts) (all : List Endpoint) where
-  -- the source is seen at an endpoint
-  abbrev pub is_seen : Endpoint → Bool
-  is_seen e = is_live lists (name e) source now seconds
+  -- a look up to a place, which found none: what it left, and the lists as they are
+  pub record IsLooking (place : ℕ) (after : RecentParts) : Type 0 where
+    pub left : RecentParts
+    pub rest : all_looked ≡ live_endpoint name source now seconds place (drop place es) left
+    pub alike : (n : List ℕ) → is_live left n source now seconds ≡ is_live after n source now seconds
+    pub kept : after ≡ cond changes left before
 
-  -- the endpoint at a place, with it
-  abbrev pub placed : ℕ → Option (Endpoint × ℕ)
-  placed i = option_map (λ e. (e, i)) (slice_get all i)
+  abbrev gone : RecentParts → Endpoint → RecentParts
+  gone lists e = reaped lists (name e) source now seconds
 
-  -- places counted from the next one
-  shifted : (place : ℕ) (o : Option ℕ) → option_and_then (λ i. placed (suc place + i)) o ≡ option_and_then (λ i. placed (place + i)) (option_map suc o)
-  shifted place None = refl
-  shifted place (Some i) = ap placed (omega arith)
+  -- the look at an endpoint
+  at_one : (place : ℕ) (after : RecentParts) (e : Endpoint) (w : IsLooking place after) → slice_get es place ≡ Some e → all_looked ≡ cond (is_live after (name e) source now seconds) (record { found = Some (e, place); lists = gone w.left e }) (live_endpoint name source now seconds (suc place) (drop (suc place) es) (gone w.left e))
+  at_one place after e w at =
+      w.rest
+      ∙ ap (λ xs. live_endpoint name source now seconds place xs w.left) (drop_at es place e at)
+      ∙ ap (λ b. cond b (record { found = Some (e, place); lists = gone w.left e }) (live_endpoint name source now seconds (suc place) (drop (suc place) es) (gone w.left e))) (w.alike (name e))
 
-  -- one more endpoint, by whether the source is seen there
-  found_by : (place : ℕ) (e : Endpoint) (es : List Endpoint) (left : RecentParts) → slice_get all (place + 0) ≡ Some e → (live_endpoint name source now seconds (suc place) es left).found ≡ option_and_then (λ i. placed (suc place + i)) (position is_seen es) → (a b : Bool) → a ≡ b → (cond a (record { found = Some (e, place); lists = left }) (live_endpoint name source now seconds (suc place) es left)).found ≡ option_and_then (λ i. placed (place + i)) (cond b (Some 0) (option_map suc (position is_seen es)))
-  found_by place e es left first rest true true same = ap (λ i. Some (e, i)) (omega arith) ∙ sym (ap (option_map (λ f. (f, place + 0))) first)
-  found_by place e es left first rest false false same = rest ∙ shifted place (position is_seen es)
-  found_by place e es left first rest true false same = absurd (cc)
-  found_by place e es left first rest false true same = absurd (cc)
+same_both : {X : Type 0} (b : Bool) (x : X) → x ≡ cond b x x
+same_both true x = refl
+same_both false x = refl
 
-  -- a look from a place on, at lists that look like these
-  found_from : (place : ℕ) (es : List Endpoint) (left : RecentParts) → ((n : List ℕ) → is_live left n source now seconds ≡ is_live lists n source now seconds) → ((j : ℕ) → slice_get es j ≡ slice_get all (place + j)) → (live_endpoint name source now seconds place es left).found ≡ option_and_then (λ i. placed (place + i)) (position is_seen es)
-  found_from place [] left agree there = refl
-  found_from place (e ∷ es) left agree there =
-      found_by place e es (reaped left (name e) source now seconds) (sym (there 0))
-      (found_from (suc place) es (reaped left (name e) source now seconds) (λ n. live_still left (name e) n source now seconds ∙ agree n) (λ j. there (suc j) ∙ ap (slice_get all) (omega arith)))
-      (is_live left (name e) source now seconds) (is_seen e) (agree (name e))
-      ∙ ap (option_and_then (λ i. placed (place + i))) (sym (position_cons is_seen e es))
+module _ (name : Endpoint → List ℕ) (source : AddressParts) (now seconds : ℕ) (es : List Endpoint) (before : RecentParts) where
+  -- before the first
+  pub begun : (changes : Bool) → IsLooking changes name source now seconds es before 0 before
+  begun changes = record {
+    left = before;
+    rest = refl;
+    alike = λ n. refl;
+    kept = same_both changes before;
+  }
 
-  -- the endpoint that a look finds is that of the first place at which the source is seen
-  pub found_at_place : (live_endpoint name source now seconds 0 all lists).found ≡ option_and_then placed (position is_seen all)
-  found_at_place = found_from 0 all lists (λ n. refl) (λ j. ap (slice_get all) (omega arith)) ∙ none_before (position is_seen all)
-    where
-      none_before : (o : Option ℕ) → option_and_then (λ i. placed (0 + i)) o ≡ option_and_then placed o
-      none_before None = refl
-      none_before (Some i) = ap placed (omega arith)
+  abbrev lost : RecentParts → Endpoint → RecentParts
+  lost lists e = reaped lists (name e) source now seconds
 
--- ---- the choice
+  -- lists that are changed lose what is past the timeout, and others stay
+  more_kept : (changes : Bool) (left after : RecentParts) (e : Endpoint) → after ≡ cond changes left before → cond changes (lost after e) after ≡ cond changes (lost left e) before
+  more_kept true left after e is = ap (λ l. lost l e) is
+  more_kept false left after e is = is
 
--- which lists there are changes no draw
-pub drawn_alike : (es : List Endpoint) (place : ℕ) (l m : RecentParts) → option_map choice_of (drawn_at es place l) ≡ option_map choice_of (drawn_at es place m)
-drawn_alike es place l m = by (slice_get es place)
-  where
-    by : (o : Option Endpoint) → option_map choice_of (option_map (drawn_as place l) o) ≡ option_map choice_of (option_map (drawn_as place m) o)
-    by None = refl
-    by (Some e) = refl
+  still : (changes : Bool) (after : RecentParts) (e : Endpoint) (n : List ℕ) → is_live after n source now seconds ≡ is_live (cond changes (lost after e) after) n source now seconds
+  still true after e n = sym (live_still after (name e) n source now seconds)
+  still false after e n = refl
 
-remembered_told : (name : Endpoint → List ℕ) (source : AddressParts) (now : ℕ) (c : Option Chosen) → option_map choice_of (remembered name source now c) ≡ option_map choice_of c
-remembered_told name source now None = refl
-remembered_told name source now (Some c) = refl
+  more_looked : (changes : Bool) (place : ℕ) (after next : RecentParts) (e : Endpoint) → IsLooking changes name source now seconds es before place after → slice_get es place ≡ Some e → is_live after (name e) source now seconds ≡ false → next ≡ cond changes (lost after e) after → IsLooking changes name source now seconds es before (suc place) next
+  more_looked changes place after next e w at dead is = record {
+    left = lost w.left e;
+    rest =
+        at_one changes name source now seconds es before place after e w at
+        ∙ ap (λ b. cond b (record { found = Some (e, place); lists = lost w.left e }) (live_endpoint name source now seconds (suc place) (drop (suc place) es) (lost w.left e))) dead;
+    alike = λ n.
+        live_still w.left (name e) n source now seconds ∙ w.alike n ∙ still changes after e n
+        ∙ sym (ap (λ l. is_live l n source now seconds) is);
+    kept = is ∙ more_kept changes w.left after e w.kept;
+  }
 
--- the choice of an endpoint at a place, from 1, that was seen
-abbrev pub seen_at : ℕ → Endpoint → Choice
-seen_at place e = record { endpoint = e; place = place; by = Affinity }
+  -- one more endpoint without the source
+  pub one_more : (changes : Bool) (place n : ℕ) (after next : RecentParts) (e : Endpoint) → n ≡ suc place → IsLooking changes name source now seconds es before place after → slice_get es place ≡ Some e → is_live after (name e) source now seconds ≡ false → next ≡ cond changes (lost after e) after → IsLooking changes name source now seconds es before n next
+  one_more changes place n after next e step w at dead is =
+      subst (λ i. IsLooking changes name source now seconds es before i next) (sym step) (more_looked changes place after next e w at dead is)
 
--- the choice of a place, from 0, that was seen
-abbrev pub seen_choice : List Endpoint → ℕ → Option Choice
-seen_choice es i = option_map (seen_at (suc i)) (slice_get es i)
+  -- the endpoint that has the source
+  module _ (changes : Bool) (place : ℕ) (after next : RecentParts) (e : Endpoint) (w : IsLooking changes name source now seconds es before place after) (at : slice_get es place ≡ Some e) (live : is_live after (name e) source now seconds ≡ true) (is : next ≡ cond changes (lost after e) after) where
+    whole : all_looked changes name source now seconds es before ≡ record { found = Some (e, place); lists = lost w.left e }
+    whole =
+        at_one changes name source now seconds es before place after e w at
+        ∙ ap (λ b. cond b (record { found = Some (e, place); lists = lost w.left e }) (live_endpoint name source now seconds (suc place) (drop (suc place) es) (lost w.left e))) live
 
--- the choice by a place that was seen, or else by draws
-abbrev pub choice_by : Setting → (ℕ → ℕ) → List Endpoint → RecentParts → Option ℕ → Option Choice
-choice_by setting draws es lists None = option_map choice_of (drawn setting draws es lists)
-choice_by setting draws es lists (Some i) = seen_choice es i
+    pub found_there : Some (e, place) ≡ (live_endpoint name source now seconds 0 es before).found
+    found_there = sym (ap (λ (l : Look). l.found) whole)
 
-module _ (setting : Setting) (port : PortKey) (seconds : ℕ) (source : AddressParts) (now : ℕ) (draws : ℕ → ℕ) (es : List Endpoint) (lists : RecentParts) where
-  abbrev name : Endpoint → List ℕ
-  name = recent_name setting port
+    pub lists_there : next ≡ cond changes (live_endpoint name source now seconds 0 es before).lists before
+    lists_there =
+        is ∙ more_kept changes w.left after e w.kept
+        ∙ sym (ap (λ (l : Look). cond changes l.lists before) whole)
 
-  -- a choice that was found, which is in the list
-  of_found : (left : RecentParts) (o : Option ℕ) → ((i : ℕ) → o ≡ Some i → slice_get es i ≡ None → ⊥) → option_map choice_of (found_or setting draws es left (option_and_then (placed (recent_name setting port) source now seconds lists es) o)) ≡ choice_by setting draws es lists o
-  of_found left None within = drawn_alike es _ left lists
-  of_found left (Some i) within = at (slice_get es i) refl
-    where
-      at : (g : Option Endpoint) → slice_get es i ≡ g → option_map choice_of (found_or setting draws es left (option_map (λ e. (e, i)) g)) ≡ option_map (seen_at (suc i)) g
-      at None none = absurd (within i refl none)
-      at (Some e) some = refl
+  -- no endpoint has it
+  module _ (changes : Bool) (place : ℕ) (after : RecentParts) (w : IsLooking changes name source now seconds es before place after) (end : place ≡ length es) where
+    none : all_looked changes name source now seconds es before ≡ record { found = None; lists = w.left }
+    none =
+        w.rest
+        ∙ ap (λ i. live_endpoint name source now seconds place (drop i es) w.left) end
+        ∙ ap (λ xs. live_endpoint name source now seconds place xs w.left) (none_left es)
 
-  -- the choice under an affinity timeout
-  pub choice_is : (o : Option ℕ) → o ≡ position (is_seen (recent_name setting port) source now seconds lists es) es → ((i : ℕ) → o ≡ Some i → slice_get es i ≡ None → ⊥) → option_map choice_of (chosen_endpoint setting port (Some seconds) source now draws es lists) ≡ choice_by setting draws es lists o
-  choice_is o is within =
-      let look = live_endpoint (recent_name setting port) source now seconds 0 es lists in
-      remembered_told (recent_name setting port) source now (found_or_drawn setting draws es look)
-      ∙ ap (λ f. option_map choice_of (found_or setting draws es look.lists f)) (found_at_place (recent_name setting port) source now seconds lists es ∙ ap (option_and_then (placed (recent_name setting port) source now seconds lists es)) (sym is))
-      ∙ of_found look.lists o within
+    pub found_nowhere : None ≡ (live_endpoint name source now seconds 0 es before).found
+    found_nowhere = sym (ap (λ (l : Look). l.found) none)
 
--- a place within a list has an element
-not_past : {X : Type 0} (xs : List X) (i : ℕ) → i < length xs → slice_get xs i ≡ None → ⊥
-not_past [] i below none = omega (arith)
-not_past (x ∷ xs) zero below none = absurd (cc)
-not_past (x ∷ xs) (suc i) below none = not_past xs i (omega (arith)) none
-
--- the choice of a port with an affinity timeout, by the place at which the source was seen
-pub choice_seen : (setting : Setting) (port : PortKey) (affinity : Option ℕ) (seconds : ℕ) → affinity ≡ Some seconds → (source : AddressParts) (now : ℕ) (draws : ℕ → ℕ) (es : List Endpoint) (lists : RecentParts) (o : Option ℕ) → o ≡ position (is_seen (recent_name setting port) source now seconds lists es) es → IfSome o (λ i. i < length es) → option_map choice_of (chosen_endpoint setting port affinity source now draws es lists) ≡ choice_by setting draws es lists o
-choice_seen setting port affinity seconds timeout source now draws es lists o is within =
-    ap (λ a. option_map choice_of (chosen_endpoint setting port a source now draws es lists)) timeout
-    ∙ choice_is setting port seconds source now draws es lists o is (in_list o within)
-  where
-    in_list : (o : Option ℕ) → IfSome o (λ i. i < length es) → (i : ℕ) → o ≡ Some i → slice_get es i ≡ None → ⊥
-    in_list None w i h none = absurd (cc)
-    in_list (Some j) w i h none = not_past es j w (ap (slice_get es) (same_Some j i h) ∙ none)
+    pub lists_nowhere : after ≡ cond changes (live_endpoint name source now seconds 0 es before).lists before
+    lists_nowhere = w.kept ∙ sym (ap (λ (l : Look). cond changes l.lists before) none)

@@ -1,15 +1,20 @@
 -- The decision with a translation, without one, and by ports that are enough.
-use Rattle.std.proofs.Common.{◌≡◌, ℕ, List, Option, Some, None, option_map, option_and_then, refl, sym, ap, ◌∙◌}
+use Rattle.std.proofs.Common.{◌≡◌, ℕ, Bool, List, cond, Option, Some, None, option_map, option_and_then, refl, sym, ap, ◌∙◌}
 use Rattle.std.proofs.lemmas.Option.{same_Some}
-use Rattle.kp_types.specs.Setting.{Setting}
+use Rattle.kp_base.specs.declared.address.Family.{Family}
+use Rattle.kp_base.specs.declared.config.Config.{Config}
+use Rattle.kp_types.specs.Setting.{Pick, Setting, config_for}
 use Rattle.kp_types.specs.declared.packet.Packet.{Packet}
 use Rattle.kp_object_defs.specs.PortInfo.{PortInfo}
 use Rattle.kp_choice_defs.specs.Recent.{RecentParts}
+use Rattle.kp_choice_defs.specs.Settings.{setting_of}
 use Rattle.kp_door_defs.specs.Decision as definition
 use Rattle.kp_door_defs.specs.Decision.{translation_at, translation_of}
 use Rattle.kp_door_defs.specs.Choice.{Chosen, chosen_endpoint}
 use Rattle.kp_door_defs.specs.Doors.{Door, Offer}
 use Rattle.kp_decide.specs.Enough.{AreEnough}
+use Rattle.kp_decide.specs.Looked.{looked_among, looked_at}
+use Rattle.kp_decide.specs.Picks.{with_pick}
 use Rattle.kp_decide.specs.Told.{choice_of, translation_told}
 use Rattle.kp_decide.specs.declared.choice.Choice.{Choice}
 use Rattle.kp_decide.specs.declared.translation.Translation.{Translation}
@@ -55,3 +60,17 @@ of_translation P (Some u) shown h k = k u (same_Some shown (translation_told u) 
 pub of_none : (P : Option definition.Translation → Type 0) (t : Option definition.Translation) → None ≡ option_map translation_told t → P None → P t
 of_none P None h k = k
 of_none P (Some u) h k = absurd (cc)
+
+-- ports that are enough, under the configuration that was handed out
+module _ (family : Family) (packet : Packet) (before : RecentParts) {used config : Config} {some all : List PortInfo} (same : used ≡ config) (enough : AreEnough (config_for family config) packet some all) where
+  -- the same is told of the translation
+  pub enough_told : (pick : Pick) (draws : ℕ → ℕ) → option_map translation_told (translation_of (with_pick pick (setting_of family used)) some packet draws before) ≡ option_map translation_told (translation_of (with_pick pick (setting_of family config)) all packet draws before)
+  enough_told pick draws =
+      (λ j. option_map translation_told (translation_of (with_pick pick (setting_of family (same j))) some packet draws before))
+      ∙ ap (option_map translation_told) (same_translation (with_pick pick (setting_of family config)) packet draws before some all enough)
+
+  -- the same is looked at
+  pub enough_looked : (changes : Bool) → cond changes (looked_among (setting_of family used) some packet before) before ≡ cond changes (looked_among (setting_of family config) all packet before) before
+  enough_looked changes =
+      (λ j. cond changes (looked_among (setting_of family (same j)) some packet before) before)
+      ∙ ap (λ d. cond changes (looked_at (setting_of family config) packet before d) before) enough.door

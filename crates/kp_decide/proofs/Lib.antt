@@ -1,6 +1,9 @@
 pub mod Affinity
 pub mod Cases
+pub mod DoorsInPlace
 pub mod Enough
 pub mod FirstFound
+pub mod FoundSoFar
 pub mod KeptNames
+pub mod LeftLists
 pub mod Missed

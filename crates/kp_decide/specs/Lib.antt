@@ -1,4 +1,6 @@
 pub mod Enough
+pub mod Listed
+pub mod Looked
 pub mod Picks
 pub mod Shown
 pub mod Stored

@@ -1,14 +1,17 @@
 //! The lines of the filter, chain by chain and port by port.
-ghost use Rattle.std.specs.Prelude.{◌≡◌, ◌++◌, map, OnOk};
-ghost use Rattle.std.specs.List.{flat_map};
+ghost use Rattle.std.specs.Prelude.{◌≡◌, ◌++◌, map, option_map};
+ghost use Rattle.std.specs.List.{find, flat_map};
+ghost use Rattle.kp_types.specs.declared.decision.DoorKind.TheVariants as kind;
+ghost use Rattle.kp_door_defs.specs.Doors.{door_at, fits, node_door};
 ghost use Rattle.kp_door_defs.specs.Filter as spec;
+ghost use Rattle.kp_decide.specs.Listed.{chain_lines};
 ghost use Rattle.kp_decide.specs.Shown.{shown_refusal};
 
-use crate::doors::{Door, add_doors_at, add_node_door, door_at};
+use crate::doors::{Door, door_at, fits, fitting_at, fitting_node};
 use crate::offers::offer_by_policy;
-use kp_base::NoMemory;
-use kp_types::{DoorKind, PortInfo};
-use std::alloc::Global;
+use crate::sources::PortRow;
+use kp_base::Config;
+use kp_types::{DoorKind, Packet, PortInfo};
 use std::marker::Model;
 
 /// What a line of the filter does with a packet.
@@ -41,127 +44,119 @@ impl<'a> Model for Line<'a> {
     ghost view = { λ l. record { door = l.door; refusal = shown_refusal l.refusal } };
 }
 
-/// Adds the lines of the firewall.
-pub fn add_firewall<'a>(
-    alloc: Global,
-    lines: &mut Vec<Line<'a>>,
-    infos: &'a [PortInfo],
-) -> Result<(), NoMemory>
-    ensures { OnOk result (lines.new.items
-        ≡ lines.old.items ++ flat_map spec.firewall_lines infos.now) }
-{
-    for info in infos {
-        add_firewall_lines(alloc, lines, info)?;
-    }
-    Ok(())
+/// The chains of the filter.
+#[derive(Clone, Copy)]
+pub enum Chain {
+    /// Load balancers that are closed to sources outside their ranges.
+    Firewall,
+    /// Doors that are reached from outside, without endpoints.
+    External,
+    /// Cluster addresses without endpoints.
+    Services,
 }
 
-/// Adds the lines of doors that are reached from outside.
-pub fn add_external<'a>(
-    alloc: Global,
-    lines: &mut Vec<Line<'a>>,
-    infos: &'a [PortInfo],
-) -> Result<(), NoMemory>
-    ensures { OnOk result (lines.new.items
-        ≡ lines.old.items ++ flat_map spec.external_lines infos.now) }
+/// The first line of a chain that a packet fits, port by port.
+pub fn first_line<'a, R: PortRow>(
+    chain: Chain,
+    config: &Config,
+    ports: &'a R,
+    packet: &Packet,
+) -> Option<Line<'a>>
+    ensures { result ≡ find (λ l. fits config.now.addresses packet.entry.now l.door)
+        (flat_map (chain_lines chain) (R.infos ports.now)) }
 {
-    for info in infos {
-        add_external_lines(alloc, lines, info)?;
+    for port in 0..ports.count() {
+        match line_in(chain, config, ports.info(port), packet) {
+            Some(line) => return Some(line),
+            None => {}
+        }
     }
-    Ok(())
+    None
 }
 
-/// Adds the lines of cluster addresses.
-pub fn add_services<'a>(lines: &mut Vec<Line<'a>>, infos: &'a [PortInfo]) -> Result<(), NoMemory>
-    ensures { OnOk result (lines.new.items
-        ≡ lines.old.items ++ flat_map spec.service_lines infos.now) }
-{
-    for info in infos {
-        add_service_line(lines, info)?;
-    }
-    Ok(())
-}
-
-/// Adds the lines of a port's load-balancer addresses, where there are source ranges and endpoints.
-fn add_firewall_lines<'a>(
-    alloc: Global,
-    lines: &mut Vec<Line<'a>>,
+/// The first line of a chain for a port that a packet fits.
+fn line_in<'a>(
+    chain: Chain,
+    config: &Config,
     info: &'a PortInfo,
-) -> Result<(), NoMemory>
-    ensures { OnOk result (lines.new.items
-        ≡ lines.old.items ++ spec.firewall_lines info.now) }
+    packet: &Packet,
+) -> Option<Line<'a>>
+    ensures { result ≡ find (λ l. fits config.now.addresses packet.entry.now l.door)
+        (chain_lines chain info.now) }
+{
+    match chain {
+        Chain::Firewall => firewall_line(config, info, packet),
+        Chain::External => external_line(config, info, packet),
+        Chain::Services => service_line(config, info, packet),
+    }
+}
+
+/// The line of one of a port's load-balancer addresses, where there are source ranges and endpoints.
+fn firewall_line<'a>(config: &Config, info: &'a PortInfo, packet: &Packet) -> Option<Line<'a>>
+    ensures { result ≡ find (λ l. fits config.now.addresses packet.entry.now l.door)
+        (spec.firewall_lines info.now) }
 {
     if info.ranges.is_some() && info.lists.has_any {
-        let mut doors = Vec::new(alloc);
-        add_doors_at(
-            &mut doors,
-            DoorKind::Balancer,
-            info,
-            info.balancer.as_slice(),
-        )?;
-        add_lines(lines, Refusal::DropsClosed, doors)
+        let balancer = fitting_at(DoorKind::Balancer, info, info.balancer.as_slice(), packet);
+        line_of(balancer, Refusal::DropsClosed)
     } else {
-        Ok(())
+        None
     }
 }
 
-/// Adds the lines of a port's doors that are reached from outside, where the external policy has no
-/// endpoint.
-fn add_external_lines<'a>(
-    alloc: Global,
-    lines: &mut Vec<Line<'a>>,
-    info: &'a PortInfo,
-) -> Result<(), NoMemory>
-    ensures { OnOk result (lines.new.items
-        ≡ lines.old.items ++ spec.external_lines info.now) }
+/// The line of one of a port's doors that are reached from outside, where the external policy has
+/// no endpoint.
+fn external_line<'a>(config: &Config, info: &'a PortInfo, packet: &Packet) -> Option<Line<'a>>
+    ensures { result ≡ find (λ l. fits config.now.addresses packet.entry.now l.door)
+        (spec.external_lines info.now) }
 {
     if offer_by_policy(info, info.outer).endpoints.is_empty() {
-        let mut doors = Vec::new(alloc);
-        add_doors_at(
-            &mut doors,
-            DoorKind::External,
-            info,
-            info.external.as_slice(),
-        )?;
-        add_doors_at(
-            &mut doors,
-            DoorKind::Balancer,
-            info,
-            info.balancer.as_slice(),
-        )?;
-        add_node_door(&mut doors, info)?;
-        add_lines(lines, refusal_by(info.lists.has_any), doors)
+        line_of(
+            outer_door(config, info, packet),
+            refusal_by(info.lists.has_any),
+        )
     } else {
-        Ok(())
+        None
     }
 }
 
-/// Adds the line of a port's cluster address, where the internal policy has no endpoint.
-fn add_service_line<'a>(lines: &mut Vec<Line<'a>>, info: &'a PortInfo) -> Result<(), NoMemory>
-    ensures { OnOk result (lines.new.items ≡ lines.old.items ++ spec.service_lines info.now) }
+/// The first of a port's doors that are reached from outside that a packet fits.
+fn outer_door<'a>(config: &Config, info: &'a PortInfo, packet: &Packet) -> Option<Door<'a>>
+    ensures { result ≡ find (fits config.now.addresses packet.entry.now)
+        (map (door_at kind.External info.now) info.now.external
+        ++ map (door_at kind.Balancer info.now) info.now.balancer
+        ++ node_door info.now info.now.node_port) }
 {
-    if offer_by_policy(info, info.internal).endpoints.is_empty() {
-        lines.push(Line {
-            door: door_at(DoorKind::Cluster, info, info.address),
-            refusal: refusal_by(info.lists.has_any),
-        })?;
+    match fitting_at(DoorKind::External, info, info.external.as_slice(), packet) {
+        Some(door) => Some(door),
+        None => match fitting_at(DoorKind::Balancer, info, info.balancer.as_slice(), packet) {
+            Some(door) => Some(door),
+            None => fitting_node(config, info, packet),
+        },
     }
-    Ok(())
 }
 
-/// Adds a line for each of some doors.
-fn add_lines<'a>(
-    lines: &mut Vec<Line<'a>>,
-    refusal: Refusal,
-    doors: Vec<Door<'a>>,
-) -> Result<(), NoMemory>
-    ensures { OnOk result (lines.new.items
-        ≡ lines.old.items ++ map (spec.line_of (shown_refusal refusal)) doors.entry.items) }
+/// The line of a port's cluster address, where the internal policy has no endpoint.
+fn service_line<'a>(config: &Config, info: &'a PortInfo, packet: &Packet) -> Option<Line<'a>>
+    ensures { result ≡ find (λ l. fits config.now.addresses packet.entry.now l.door)
+        (spec.service_lines info.now) }
 {
-    for door in doors {
-        lines.push(Line { door, refusal })?;
+    let door = door_at(DoorKind::Cluster, info, info.address);
+    if offer_by_policy(info, info.internal).endpoints.is_empty() && fits(config, packet, &door) {
+        line_of(Some(door), refusal_by(info.lists.has_any))
+    } else {
+        None
     }
-    Ok(())
+}
+
+/// The line of a door, if there is one.
+fn line_of<'a>(door: Option<Door<'a>>, refusal: Refusal) -> Option<Line<'a>>
+    ensures { result ≡ option_map (spec.line_of (shown_refusal refusal)) door.entry }
+{
+    Some(Line {
+        door: door?,
+        refusal,
+    })
 }
 
 /// The refusal of a door without endpoints, by whether its port has any.

@@ -1,37 +1,93 @@
-use Rattle.std.proofs.Common.{◌≡◌, IfOk, option_map, sym, ap, subst, ◌∙◌}
+use Rattle.std.proofs.Common.{◌≡◌, cond, inr, None, Option, option_map, sym, ap, subst, ◌∙◌}
+use Rattle.std.specs.Prelude.{IfOk}
+use Rattle.std.proofs.lemmas.Result.{on_err_weaker, on_ok_weaker}
+use Rattle.kp_choice_defs.specs.Names.{endpoint_chain_name}
 use Rattle.kp_choice_defs.specs.Settings.{setting_of}
-use Rattle.kp_object_defs.specs.PortInfo.{port_infos}
+use Rattle.kp_types.specs.Setting.{config_for}
+use Rattle.kp_door_defs.specs.Decision as definition
 use Rattle.kp_door_defs.specs.Decision.{decision_by, translation_of}
+use Rattle.kp_lemmas.proofs.Results.{ok_anyhow}
 use Rattle.kp_decide.specs.Enough.{AreEnough}
+use Rattle.kp_decide.specs.Looked.{set_if}
 use Rattle.kp_decide.specs.Picks.{with_pick}
-use Rattle.kp_decide.specs.Told.{told, translation_told}
-use Rattle.kp_decide.proofs.Cases.{of_none, of_translation, same_translation}
+use Rattle.kp_decide.specs.declared.translation.Placed.{Placed}
+use Rattle.kp_decide.proofs.Cases.{enough_looked, enough_told, of_none, of_translation}
+use Rattle.kp_decide.proofs.LeftLists.{left_told, left_untold}
 use Rattle.kp_decide.proofs.decision.decide_in.Goals as goal
 
-pub returns-in-Some : goal.returns-in-Some
-returns-in-Some g c draws are =
+-- a door takes the packet
+pub returns-in-Some-clause-told : goal.returns-in-Some-clause-told
+returns-in-Some-clause-told g c draws are =
+    let pick = g.P.Picker.pick in
     let family = c.args.family in
-    let setting = with_pick g.P.Picker.pick (setting_of family c.args.config.now) in
     let packet = c.args.packet.now in
-    let lists = c.args.lists.now in
-    let all = port_infos family setting.config c.args.objects.now in
-    let some = c.as_slice-infos.result.now in
-    let enough : AreEnough setting.config packet some all = subst (λ is. AreEnough setting.config packet is all) (sym c.as_slice-infos.ensures.value) c.in_ok-infos.ensures in
-    of_translation (λ t. IfOk c.decide_translated.result (λ d. d ≡ told (decision_by setting.config all packet lists t)))
-    (translation_of setting all packet draws lists) c.in-Some.translation
-    (sym c.in-Some.is ∙ c.in_ok-translation.ensures draws are ∙ ap (option_map translation_told) (same_translation setting packet draws lists some all enough))
-    (λ t is. c.decide_translated.ensures t lists is)
+    let source = c.args.source.now in
+    let before = g.L.Looks.lists c.args.lists.now in
+    let all = g.S.PortSource.infos source family in
+    let setting = with_pick pick (setting_of family (g.S.PortSource.config source)) in
+    of_translation (λ (t : Option definition.Translation). IfOk c.tell_then_remember.result (λ d. d ≡ g.W.Teller.told (decision_by setting.config all packet before t)))
+    (translation_of setting all packet draws before) c.in-Some.placed.translation
+    (sym (ap (option_map (λ (p : Placed). p.translation)) c.in-Some.is) ∙ c.translation_of.ensures.translation draws are
+    ∙ enough_told family packet before c.config-config.ensures c.in_ok-ports.ensures.enough pick draws)
+    (λ t is. c.tell_then_remember.ensures.told t before is)
 
-pub returns : goal.returns
-returns g c draws are =
+pub returns-in-Some-clause-lists : goal.returns-in-Some-clause-lists
+returns-in-Some-clause-lists g c draws are =
+    let pick = g.P.Picker.pick in
+    let changes = g.L.Looks.changes in
     let family = c.args.family in
-    let setting = with_pick g.P.Picker.pick (setting_of family c.args.config.now) in
     let packet = c.args.packet.now in
-    let lists = c.args.lists.now in
-    let all = port_infos family setting.config c.args.objects.now in
-    let some = c.as_slice-infos.result.now in
-    let enough : AreEnough setting.config packet some all = subst (λ is. AreEnough setting.config packet is all) (sym c.as_slice-infos.ensures.value) c.in_ok-infos.ensures in
-    of_none (λ t. IfOk c.decide_untranslated.result (λ d. d ≡ told (decision_by setting.config all packet lists t)))
-    (translation_of setting all packet draws lists)
-    (sym c.in-None.is ∙ c.in_ok-translation.ensures draws are ∙ ap (option_map translation_told) (same_translation setting packet draws lists some all enough))
-    (c.decide_untranslated.ensures family lists all enough)
+    let source = c.args.source.now in
+    let before = g.L.Looks.lists c.args.lists.now in
+    let looked = g.L.Looks.lists c.translation_of.new.lists in
+    let shown = c.in-Some.placed.translation in
+    let same = c.config-config.ensures in
+    let enough = c.in_ok-ports.ensures.enough in
+    on_ok_weaker c.tell_then_remember.result
+    (λ sets. left_told (with_pick pick (setting_of family (g.S.PortSource.config source))) (g.S.PortSource.infos source family) packet draws before changes looked (g.L.Looks.lists c.tell_then_remember.new.lists) shown
+    (sym (ap (option_map (λ (p : Placed). p.translation)) c.in-Some.is) ∙ c.translation_of.ensures.translation draws are
+    ∙ enough_told family packet before same enough pick draws)
+    (c.translation_of.ensures.lists ∙ enough_looked family packet before same enough changes)
+    (sets ∙ (λ j. cond changes (set_if shown.door.info.affinity (endpoint_chain_name (c.in_ok-ports.ensures.names j) shown.door.info.key shown.choice.endpoint) packet.source packet.now looked) looked)))
+    c.tell_then_remember.ensures.ok
+
+pub returns-in-Some-clause-refused : goal.returns-in-Some-clause-refused
+returns-in-Some-clause-refused g c =
+    on_err_weaker c.tell_then_remember.result
+    (λ kept. inr (kept ∙ c.translation_of.ensures.lists
+    ∙ enough_looked c.args.family c.args.packet.now (g.L.Looks.lists c.args.lists.now) c.config-config.ensures c.in_ok-ports.ensures.enough g.L.Looks.changes))
+    c.tell_then_remember.ensures.err
+
+-- none takes it
+pub returns-clause-told : goal.returns-clause-told
+returns-clause-told g c draws are =
+    let pick = g.P.Picker.pick in
+    let family = c.args.family in
+    let packet = c.args.packet.now in
+    let source = c.args.source.now in
+    let before = g.L.Looks.lists c.args.lists.now in
+    let all = g.S.PortSource.infos source family in
+    let some = g.S.Row.PortRow.infos c.in_ok-ports.ports in
+    let setting = with_pick pick (setting_of family (g.S.PortSource.config source)) in
+    let same = c.config-config.ensures in
+    let enough = c.in_ok-ports.ensures.enough in
+    of_none (λ (t : Option definition.Translation). IfOk c.tell_untranslated.result (λ d. d ≡ g.W.Teller.told (decision_by setting.config all packet before t)))
+    (translation_of setting all packet draws before)
+    (sym (ap (option_map (λ (p : Placed). p.translation)) c.in-None.is) ∙ c.translation_of.ensures.translation draws are
+    ∙ enough_told family packet before same enough pick draws)
+    (subst (λ k. IfOk c.tell_untranslated.result (λ d. d ≡ g.W.Teller.told (decision_by (config_for family k) all packet before None))) same
+    (c.tell_untranslated.ensures before all (subst (λ k. AreEnough (config_for family k) packet some all) (sym same) enough)))
+
+pub returns-clause-lists : goal.returns-clause-lists
+returns-clause-lists g c draws are =
+    let pick = g.P.Picker.pick in
+    let family = c.args.family in
+    let packet = c.args.packet.now in
+    let source = c.args.source.now in
+    let before = g.L.Looks.lists c.args.lists.now in
+    let setting = with_pick pick (setting_of family (g.S.PortSource.config source)) in
+    ok_anyhow c.tell_untranslated.result _
+    (c.in-None.ensures.none
+    ∙ left_untold setting (g.S.PortSource.infos source family) packet draws before g.L.Looks.changes
+    (sym (ap (option_map (λ (p : Placed). p.translation)) c.in-None.is) ∙ c.translation_of.ensures.translation draws are
+    ∙ enough_told family packet before c.config-config.ensures c.in_ok-ports.ensures.enough pick draws))
