@@ -13,13 +13,23 @@ use Rattle.kp_track_defs.specs.Entries.{answer_by, change_first, connection_of, 
 use Rattle.kp_track_defs.specs.Kept.{Kept, at_flow, kept_after_owned, kept_answer, kept_heard, kept_owned}
 use Rattle.kp_conntrack.specs.Laid.{as_door, as_later, with_found}
 
-any_is : (test : Entry → Bool) (es : List Entry) → list_any test es ≡ is_some (find test es)
+pub any_is : (test : Entry → Bool) (es : List Entry) → list_any test es ≡ is_some (find test es)
 any_is test [] = refl
 any_is test (e ∷ es) = step (test e) (any_is test es)
   where
     step : (b : Bool) → list_any test es ≡ is_some (find test es) → (b || list_any test es) ≡ is_some (cond b (Some e) (find test es))
     step true more = refl
     step false more = more
+
+-- where nothing is found, nothing changes
+pub unchanged : (test : Entry → Bool) (now : ℕ) (es : List Entry) → find test es ≡ None → change_first test (renewed now) es ≡ es
+unchanged test now [] missed = refl
+unchanged test now (e ∷ es) missed = step (test e) missed (unchanged test now es)
+  where
+    step : (t : Bool) → cond t (Some e) (find test es) ≡ None → (find test es ≡ None → change_first test (renewed now) es ≡ es)
+        → cond t (renewed now e ∷ es) (e ∷ change_first test (renewed now) es) ≡ e ∷ es
+    step true missed more = cc
+    step false missed more = ap (λ xs. e ∷ xs) (more missed)
 
 -- the first of two is answered
 answered_first : (a b : Option Entry) (o : Owned) → option_map as_later a ≡ Some o → answer_by a b ≡ Some o
@@ -76,15 +86,6 @@ module _ (k : Kept) (f : Flow) (a : Kept) (c : Connection) (at : a ≡ at_flow k
   module _ (none : None ≡ option_map as_later (find (has_connection c) a.entries)) (b : Kept) (same : b ≡ with_found (has_connection c) a) where
     none_now : option_map as_later (find (has_connection (connection_of f)) (at_flow k f).entries) ≡ None
     none_now = sym (none ∙ (λ i. option_map as_later (find (has_connection (is i)) (at i).entries)))
-
-    unchanged : (test : Entry → Bool) (now : ℕ) (es : List Entry) → find test es ≡ None → change_first test (renewed now) es ≡ es
-    unchanged test now [] missed = refl
-    unchanged test now (e ∷ es) missed = step (test e) missed (unchanged test now es)
-      where
-        step : (t : Bool) → cond t (Some e) (find test es) ≡ None → (find test es ≡ None → change_first test (renewed now) es ≡ es)
-            → cond t (renewed now e ∷ es) (e ∷ change_first test (renewed now) es) ≡ e ∷ es
-        step true missed more = cc
-        step false missed more = ap (λ xs. e ∷ xs) (more missed)
 
     stays : b ≡ at_flow k f
     stays =

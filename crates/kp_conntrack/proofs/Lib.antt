@@ -7,6 +7,11 @@ pub mod Dropped
 pub mod Found
 pub mod Free
 pub mod Heard
+pub mod Marking
 pub mod Removed
 pub mod Renewed
 pub mod Same
+pub mod Settled
+pub mod Targets
+pub mod Unowned
+pub mod Walked

@@ -1,3 +1,5 @@
 pub mod Buckets
 pub mod KeptCode
 pub mod Laid
+pub mod Marked
+pub mod Standing

@@ -2,19 +2,23 @@
 ghost use Rattle.std.specs.Prelude.{◌≡◌, ◌≤◌, ◌<◌, max, nat_lt, length, option_map, IfOk};
 ghost use Rattle.std.specs.List.{find};
 ghost use Rattle.kp_track_defs.specs.Entries.{has_connection, is_replied_by};
-ghost use Rattle.kp_track_defs.specs.Kept.{keeps, kept_after_opened, kept_after_owned};
+ghost use Rattle.kp_track_defs.specs.Kept.{keeps, kept_after_opened, kept_after_owned, kept_after_sync};
 ghost use Rattle.kp_track_defs.specs.Kept.{kept_owned, nothing_kept};
 ghost use Rattle.kp_track_defs.specs.Tracking.{most_openers};
 ghost use Rattle.kp_track_defs.specs.Kept.{without_endpoint};
 ghost use Rattle.kp_conntrack.specs.Buckets as spec;
+ghost use Rattle.kp_conntrack.specs.Standing.{table_stands};
 ghost use Rattle.kp_conntrack.specs.Laid.{as_door, as_later, kept_at, with_entry, with_found};
 
 use crate::buckets::{ROWS, connection_bucket, connection_of};
 use crate::index::Index;
+use crate::marks::Marks;
 use crate::rows::{FREE, KEPT, blank_rows, drop_all, drop_dead, drop_sent_to, free_order, renew};
 use crate::sought::{OfConnection, OfReply};
+use crate::standing::{drop_unmarked, mark_standing};
 use kp_base::{Endpoint, NoMemory};
 use kp_links::Links;
+use kp_rules::Table;
 use kp_track_defs::{Connection, Entry, Flow, Owned};
 use kp_types::Verdict;
 use std::alloc::Global;
@@ -28,6 +32,8 @@ pub struct Connections {
     // The rows that have an entry, in the order in which they opened, and the free ones.
     order: Links,
     index: Index,
+    // Which rows have an endpoint that stands. What stands here counts within `settle` alone.
+    marks: Marks,
     moment: u64,
 }
 
@@ -55,6 +61,7 @@ impl Connections {
             rows: blank_rows(alloc, ROWS)?,
             order: free_order(alloc, ROWS)?,
             index: Index::new(alloc)?,
+            marks: Marks::new(alloc)?,
             moment: 0,
         })
     }
@@ -104,6 +111,17 @@ impl Connections {
             &mut self.index,
             endpoint,
         );
+    }
+
+    /// Forgets what was sent to an endpoint of UDP that doesn't stand by a table: no rule of nat or
+    /// nat6 matches UDP, with a port or without, and has it as its target. It looks at each rule
+    /// once.
+    pub fn settle(&mut self, table: &Table)
+        ensures { self.new ≡ kept_after_sync (table_stands table.now.chains) self.old }
+    {
+        let rows = self.rows.as_slice();
+        mark_standing(rows, &self.index.endpoints, table, &mut self.marks);
+        drop_unmarked(rows, &mut self.order, &mut self.index, &self.marks);
     }
 
     /// Forgets all connections, and begins at the first moment.

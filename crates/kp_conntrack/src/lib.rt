@@ -5,8 +5,10 @@
 mod buckets;
 mod connections;
 mod index;
+mod marks;
 mod rows;
 mod sought;
+mod standing;
 
 pub use connections::Connections;
 pub use kp_track_defs::{Connection, Entry, Flow, Owned};

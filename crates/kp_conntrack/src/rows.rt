@@ -5,15 +5,16 @@ ghost use Rattle.kp_track_defs.specs.Entries as entries;
 ghost use Rattle.kp_track_defs.specs.Entries.{renewed};
 ghost use Rattle.kp_track_defs.specs.Kept.{is_sent_to};
 ghost use Rattle.kp_conntrack.specs.Buckets.{age_list};
-ghost use Rattle.kp_conntrack.specs.Laid.{AllFree, AreOf, IsLaid, entries_in, entry_at};
+ghost use Rattle.kp_conntrack.specs.Laid.{AllFree, AreAllSized, AreOf, IsLaid, entries_in, entry_at};
+ghost use Rattle.kp_conntrack.specs.Marked.{IsFreedIf};
 ghost use Rattle.kp_conntrack.specs.Laid.{kept_rows};
 ghost use Rattle.std.specs.List.{filter};
 
-use crate::buckets::{age_of, endpoint_bucket, is_within};
+use crate::buckets::{ROWS, age_of, endpoint_bucket, is_within};
 use crate::index::Index;
 use crate::sought::OfEndpoint;
 use kp_base::{Address, Endpoint, NoMemory, PortNo, Proto};
-use kp_links::Links;
+use kp_links::{Links, Test};
 use kp_track_defs::{Connection, Entry};
 use std::alloc::Global;
 
@@ -116,6 +117,19 @@ pub(crate) fn renew(rows: &mut Vec<Entry>, ages: &mut Links, row: u32, now: u64)
     entry
 }
 
+/// Frees a row, where it is to go.
+pub(crate) fn free_if(goes: bool, row: u32, order: &mut Links, index: &mut Index)
+    requires order_in { AreOf order.old 2 65536 }
+    requires sized { AreAllSized index.old }
+    requires row_in { row < 65536 }
+    ensures { IsFreedIf goes order.old order.new index.old index.new row }
+{
+    if goes {
+        order.move_back(FREE, row);
+        index.remove(row);
+    }
+}
+
 /// Frees the rows that are past their timeout.
 pub(crate) fn drop_dead(rows: &[Entry], order: &mut Links, index: &mut Index, now: u64)
     requires { IsLaid rows.now order.old index.old now }
@@ -142,10 +156,15 @@ pub(crate) fn drop_sent_to(
     ensures entries { entries_in rows.now order.new
         ≡ filter (λ e. not (is_sent_to endpoint.now e)) (entries_in rows.now order.old) }
 {
+    let sought = OfEndpoint { rows, endpoint };
     let bucket = endpoint_bucket(endpoint);
-    while let Some(row) = index.endpoints.find(bucket, &OfEndpoint { rows, endpoint }) {
-        order.move_back(FREE, row);
-        index.remove(row);
+    let mut next = index.endpoints.front(bucket);
+    for _turn in 0..ROWS {
+        let Some(row) = next else {
+            return;
+        };
+        next = index.endpoints.after(bucket, row);
+        free_if(sought.passes(row), row, order, index);
     }
 }
 

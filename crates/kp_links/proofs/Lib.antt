@@ -1,3 +1,4 @@
+pub mod Followed
 pub mod Kit
 pub mod Moved
 pub mod Reached

@@ -1,5 +1,5 @@
 //! Lists as rings of rows.
-ghost use Rattle.std.specs.Prelude.{◌≡◌, ◌≢◌, ℕ, ◌+◌, ◌<◌, ◌^◌, [], ◌∷◌, ◌++◌, Bool, slice_get, vec_len, IfOk, IfSome};
+ghost use Rattle.std.specs.Prelude.{◌≡◌, ◌≢◌, ℕ, ◌+◌, ◌<◌, ◌^◌, [], ◌∷◌, ◌++◌, Bool, List, slice_get, vec_len, IfOk, IfSome};
 ghost use Rattle.std.specs.List.{find as first_passing};
 ghost use Rattle.futures.specs.LinkedLists.{IsApart, IsIn};
 ghost use Rattle.kp_links.specs.Lists.{AreEmpty, IsFree, IsMoved, IsPushed, IsUnlinked, list_count, rows_of};
@@ -123,6 +123,22 @@ impl Links {
             None
         } else {
             Some(first - self.heads)
+        }
+    }
+
+    /// The row that follows a row of a list.
+    pub fn after(&self, list: u32, row: u32) -> Option<u32>
+        requires list_in { list < list_count self.now }
+        requires row_in { IsIn row (rows_of self.now list) }
+        ensures value { (before rest : List ℕ) → rows_of self.now list ≡ before ++ row ∷ rest
+            → result ≡ slice_get rest 0 }
+        ensures within { IfSome result (λ row. row < self.now.rows) }
+    {
+        let next = self.links[(self.heads + row) as usize].next;
+        if next == list {
+            None
+        } else {
+            Some(next - self.heads)
         }
     }
 

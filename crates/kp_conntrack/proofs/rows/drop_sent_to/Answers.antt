@@ -1,51 +1,61 @@
-use Rattle.std.proofs.Common.{not, sym, ◌∙◌, arith}
-use Rattle.kp_track_defs.specs.declared.flow.Entry.{Entry}
+use Rattle.std.proofs.Common.{ℕ, not, refl, sym, ap, ◌∙◌, subst, arith}
 use Rattle.kp_track_defs.specs.Kept.{is_sent_to}
 use Rattle.kp_conntrack.proofs.Dead.{all_sized}
-use Rattle.kp_conntrack.proofs.Dropped.{none_sent, one_fewer, same_left, sent_kept, still_laid}
+use Rattle.kp_conntrack.proofs.Marking.{passes_is}
+use Rattle.kp_conntrack.proofs.Settled.{all_unsent, bucket_at, bucket_at_end, bucket_first, bucket_kept, bucket_on}
+use Rattle.kp_conntrack.proofs.Walked.{walk_in, walk_over}
 use Rattle.kp_conntrack.proofs.rows.drop_sent_to.Goals as goal
 
-pub find-requires : goal.find-requires
-find-requires c =
-    let laid = c.loop-row.invariant.0 c.requires.0 c.requires.1 in
+pub loop-turn-init : goal.loop-turn-init
+loop-turn-init c = (
+  λ moment laid. laid,
+  refl,
+  bucket_first c.args.rows.now c.args.order.now c.args.index.now c.requires.0 c.requires.1 c.args.endpoint.now c.endpoint_bucket-bucket.result c.endpoint_bucket-bucket.ensures.value c.front-next.result c.front-next.ensures.value,
+)
+
+pub returns-in_default-clause-entries : goal.returns-in_default-clause-entries
+returns-in_default-clause-entries c =
+    sym (bucket_at_end c.args.rows.now c.loop-turn.order c.loop-turn.index c.requires.0 (c.loop-turn.invariant.0 c.requires.0 c.requires.1) c.args.endpoint.now c.endpoint_bucket-bucket.result c.endpoint_bucket-bucket.ensures.value c.loop-turn.next c.in_default.is c.loop-turn._turn c.loop-turn.invariant.2)
+    ∙ c.loop-turn.invariant.1
+
+pub after-next-requires-clause-list_in : goal.after-next-requires-clause-list_in
+after-next-requires-clause-list_in c =
+    let laid = c.loop-turn.invariant.0 c.requires.0 c.requires.1 in
     omega (arith, laid.found.endpoints.sized.count, c.endpoint_bucket-bucket.ensures.low)
 
-pub move_back-requires-clause-list_in : goal.move_back-requires-clause-list_in
-move_back-requires-clause-list_in c =
-    let laid = c.loop-row.invariant.0 c.requires.0 c.requires.1 in
-    omega (arith, laid.ordered.sized.count)
+pub after-next-requires-clause-row_in : goal.after-next-requires-clause-row_in
+after-next-requires-clause-row_in c =
+    walk_in _ _ c.in-Some.row c.loop-turn._turn (bucket_at c.args.rows.now c.loop-turn.order c.loop-turn.index c.requires.0 (c.loop-turn.invariant.0 c.requires.0 c.requires.1) c.args.endpoint.now c.endpoint_bucket-bucket.result c.endpoint_bucket-bucket.ensures.value c.loop-turn.next c.in-Some.row c.in-Some.is c.loop-turn._turn c.loop-turn.invariant.2)
 
-pub move_back-requires-clause-row_in : goal.move_back-requires-clause-row_in
-move_back-requires-clause-row_in c =
-    let laid = c.loop-row.invariant.0 c.requires.0 c.requires.1 in
-    omega (arith, laid.ordered.sized.rows, laid.found.endpoints.sized.rows, c.in-Some.ensures.within)
+pub free_if-requires-clause-order_in : goal.free_if-requires-clause-order_in
+free_if-requires-clause-order_in c = (c.loop-turn.invariant.0 c.requires.0 c.requires.1).ordered.sized
 
-pub remove-requires-clause-sized : goal.remove-requires-clause-sized
-remove-requires-clause-sized c = all_sized _ _ _ _ (c.loop-row.invariant.0 c.requires.0 c.requires.1)
+pub free_if-requires-clause-sized : goal.free_if-requires-clause-sized
+free_if-requires-clause-sized c = all_sized _ _ _ _ (c.loop-turn.invariant.0 c.requires.0 c.requires.1)
 
-pub remove-requires-clause-row_in : goal.remove-requires-clause-row_in
-remove-requires-clause-row_in c =
-    let laid = c.loop-row.invariant.0 c.requires.0 c.requires.1 in
-    omega (arith, laid.found.endpoints.sized.rows, c.in-Some.ensures.within)
+pub free_if-requires-clause-row_in : goal.free_if-requires-clause-row_in
+free_if-requires-clause-row_in c =
+    let laid = c.loop-turn.invariant.0 c.requires.0 c.requires.1 in
+    let at = bucket_at c.args.rows.now c.loop-turn.order c.loop-turn.index c.requires.0 laid c.args.endpoint.now c.endpoint_bucket-bucket.result c.endpoint_bucket-bucket.ensures.value c.loop-turn.next c.in-Some.row c.in-Some.is c.loop-turn._turn c.loop-turn.invariant.2 in
+    laid.ordered.within c.in-Some.row
+    (bucket_kept c.args.rows.now c.loop-turn.order c.loop-turn.index c.requires.0 laid c.args.endpoint.now c.endpoint_bucket-bucket.result c.endpoint_bucket-bucket.ensures.value c.in-Some.row (walk_in _ _ c.in-Some.row c.loop-turn._turn at))
 
-pub loop-row-smaller : goal.loop-row-smaller
-loop-row-smaller c =
-    let sent = sent_kept c.args.rows.now c.loop-row.order c.loop-row.index c.requires.0 (c.loop-row.invariant.0 c.requires.0 c.requires.1) c.args.endpoint.now c.endpoint_bucket-bucket.result c.endpoint_bucket-bucket.ensures.value c.in-Some.row c.in-Some.ensures.value in
-    one_fewer c.args.rows.now c.loop-row.order c.move_back.new.self c.loop-row.index c.remove.new.self c.in-Some.row c.move_back.ensures c.remove.ensures c.requires.0
-    (c.loop-row.invariant.0 c.requires.0 c.requires.1) sent.0
-
-pub loop-row-preserved : goal.loop-row-preserved
-loop-row-preserved c =
-    let sent = sent_kept c.args.rows.now c.loop-row.order c.loop-row.index c.requires.0 (c.loop-row.invariant.0 c.requires.0 c.requires.1) c.args.endpoint.now c.endpoint_bucket-bucket.result c.endpoint_bucket-bucket.ensures.value c.in-Some.row c.in-Some.ensures.value in (
-      λ moment before.
-          still_laid c.args.rows.now c.loop-row.order c.move_back.new.self c.loop-row.index c.remove.new.self c.in-Some.row c.move_back.ensures c.remove.ensures moment
-          (c.loop-row.invariant.0 moment before) sent.0,
-      same_left c.args.rows.now c.loop-row.order c.move_back.new.self c.loop-row.index c.remove.new.self c.in-Some.row c.move_back.ensures c.remove.ensures c.requires.0
-          (c.loop-row.invariant.0 c.requires.0 c.requires.1) sent.0 (λ (e : Entry). not (is_sent_to c.args.endpoint.now e)) sent.1
-          ∙ c.loop-row.invariant.1,
+pub loop-turn-preserved : goal.loop-turn-preserved
+loop-turn-preserved c =
+    let laid = c.loop-turn.invariant.0 c.requires.0 c.requires.1 in
+    let at = bucket_at c.args.rows.now c.loop-turn.order c.loop-turn.index c.requires.0 laid c.args.endpoint.now c.endpoint_bucket-bucket.result c.endpoint_bucket-bucket.ensures.value c.loop-turn.next c.in-Some.row c.in-Some.is c.loop-turn._turn c.loop-turn.invariant.2 in
+    let kept = bucket_kept c.args.rows.now c.loop-turn.order c.loop-turn.index c.requires.0 laid c.args.endpoint.now c.endpoint_bucket-bucket.result c.endpoint_bucket-bucket.ensures.value c.in-Some.row (walk_in _ _ c.in-Some.row c.loop-turn._turn at) in
+    let within = laid.ordered.within c.in-Some.row kept in
+    let step = bucket_on c.args.rows.now c.loop-turn.order c.loop-turn.index c.requires.0 laid c.args.endpoint.now c.endpoint_bucket-bucket.result c.endpoint_bucket-bucket.ensures.value c.in-Some.row c.loop-turn._turn at c.after-next.result c.after-next.ensures.value c.passes.result
+    (c.passes.ensures ∙ passes_is (is_sent_to c.args.endpoint.now) c.args.rows.now c.in-Some.row (omega (arith, within, laid.len)))
+    c.free_if.new.order c.free_if.new.index c.free_if.ensures in (
+      λ moment before. step.0 moment (c.loop-turn.invariant.0 moment before),
+      step.1 ∙ c.loop-turn.invariant.1,
+      step.2,
     )
 
 pub returns-clause-entries : goal.returns-clause-entries
 returns-clause-entries c =
-    sym (none_sent c.args.rows.now c.loop-row.order c.loop-row.index c.requires.0 (c.loop-row.invariant.0 c.requires.0 c.requires.1) c.args.endpoint.now c.endpoint_bucket-bucket.result c.endpoint_bucket-bucket.ensures.value c.in_default.ensures.value)
-    ∙ c.loop-row.invariant.1
+    sym (all_unsent c.args.rows.now c.loop-turn.order c.loop-turn.index c.requires.0 (c.loop-turn.invariant.0 c.requires.0 c.requires.1) c.args.endpoint.now c.endpoint_bucket-bucket.result c.endpoint_bucket-bucket.ensures.value
+    (walk_over _ _ c.loop-turn.next c.loop-turn._turn c.loop-turn.invariant.2 (omega arith)))
+    ∙ c.loop-turn.invariant.1

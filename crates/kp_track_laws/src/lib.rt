@@ -1,0 +1,4 @@
+//! Which endpoints stand: laws without code.
+#![tactic(auto)]
+
+pub mod laws;
